@@ -1,0 +1,4 @@
+pub mod FormulaText
+pub mod ProblemText
+pub mod Text
+pub mod Forms

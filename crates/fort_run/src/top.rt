@@ -1,0 +1,121 @@
+ghost use Rattle.std.specs.Prelude.{◌≡◌, ◌≤◌, ◌⊎◌, List, map, string_bytes, Err, IfOk, OnOk, IsErrOf};
+ghost use Rattle.std.specs.Io.KnownBytes.{IsAtEnd};
+ghost use Rattle.fort_theory.specs.Formulas.{Name};
+ghost use Rattle.fort_grammar.specs.FormulaText.{normality};
+ghost use Rattle.fort_io.specs.Faults.{FaultCounted};
+ghost use Rattle.fort_answers.specs.Request.{Asks, AsksNothing, AsksSomething, Text};
+ghost use Rattle.fort_answers.specs.Answer.{AnswerFor};
+ghost use Rattle.fort_run.specs.Answered.{Answers, CutsShort, ReadsWhole};
+ghost use Rattle.fort_run.specs.QuestionView.{as_quantifier};
+ghost use Rattle.fort_run.specs.ReplyView.{status_of, text_of};
+
+use crate::decision::is_true;
+use crate::outcome::Outcome;
+use crate::problem::{ProblemFault, read_problem};
+use crate::question::{Quantifier, quantifier_of};
+use crate::reply::Reply;
+use crate::words::formula_word;
+use fort_io::{ReadAll, Sink, Source, read_all, write_all};
+use std::alloc::Global;
+
+/// The most bytes of an input.
+const INPUT_LIMIT: usize = 67_108_864;
+
+/// Why there is no reply.
+#[derive(Clone, Copy, Debug, PartialEq, Eq)]
+pub enum Stop {
+    /// Want of memory.
+    Memory,
+    /// A read failed.
+    Fault,
+}
+
+/// The reply to a formula on what the source gives.
+fn reply_to_formula<S: Source>(
+    alloc: Global,
+    quantifier: Quantifier,
+    input: &mut S,
+) -> Result<Reply, Stop>
+    ensures ok { IfOk result (λ r. (words : List Text) (v : Name) → Asks words (normality (as_quantifier quantifier) v)
+        → AnswerFor words (S.rest input.old) (status_of r) (text_of r)) }
+    ensures whole { OnOk result (ReadsWhole (S.rest input.old) (S.rest input.new)) }
+    ensures fault { IsErrOf result Stop.Fault → FaultCounted (S.faults input.old) (S.faults input.new) }
+    ensures never_falls { S.faults input.old ≤ S.faults input.new }
+{
+    let bytes = match read_all(alloc, input, INPUT_LIMIT) {
+        Ok(bytes) => bytes,
+        Err(ReadAll::TooLong) => return Ok(Reply::InputTooLong),
+        Err(ReadAll::Fault) => return Err(Stop::Fault),
+        Err(ReadAll::Memory) => return Err(Stop::Memory),
+    };
+    let system = match read_problem(alloc, bytes.as_slice()) {
+        Ok(system) => system,
+        Err(ProblemFault::Unbuilt) => return Ok(Reply::ProblemUnbuilt),
+        Err(ProblemFault::Memory) => return Err(Stop::Memory),
+    };
+    if is_true(&system, quantifier) {
+        Ok(Reply::Yes)
+    } else {
+        Ok(Reply::No)
+    }
+}
+
+/// The reply to the words on what the source gives. Where the words ask nothing, nothing is read.
+fn reply_to<S: Source>(alloc: Global, words: &[String], input: &mut S) -> Result<Reply, Stop>
+    ensures ok { IfOk result (λ r. AnswerFor (map string_bytes words.now) (S.rest input.old) (status_of r) (text_of r)) }
+    ensures whole { OnOk result (AsksSomething (map string_bytes words.now) → ReadsWhole (S.rest input.old) (S.rest input.new)) }
+    ensures fault { IsErrOf result Stop.Fault → FaultCounted (S.faults input.old) (S.faults input.new) }
+    ensures asked { IsErrOf result Stop.Fault → AsksSomething (map string_bytes words.now) }
+    ensures unread { AsksNothing (map string_bytes words.now) → input.new ≡ input.old }
+    ensures never_falls { S.faults input.old ≤ S.faults input.new }
+{
+    let Some(formula) = formula_word(words) else {
+        return Ok(Reply::Usage);
+    };
+    let Some(quantifier) = quantifier_of(formula.as_bytes()) else {
+        return Ok(Reply::FormulaUnbuilt);
+    };
+    reply_to_formula(alloc, quantifier, input)
+}
+
+/// Answers the words of a command line, the program's own name first, on what the source gives. The whole answer is
+/// made before its first byte is written.
+pub fn run<S: Source, K: Sink>(
+    alloc: Global,
+    words: &[String],
+    input: &mut S,
+    output: &mut K,
+) -> Outcome
+    // With 0 to 4 the status is the answer's, and its text was written.
+    ensures answered { result.status ≤ 4 → Answers (map string_bytes words.now) (S.rest input.old) (K.taken output.old) (K.taken output.new) result.status }
+    ensures whole { result.status ≤ 4 → AsksSomething (map string_bytes words.now) → ReadsWhole (S.rest input.old) (S.rest input.new) }
+
+    // With 7 a front of the answer's text was written, with 5 and 6 nothing.
+    ensures cut_short { result.status ≡ 7 → CutsShort (map string_bytes words.now) (S.rest input.old) (K.taken output.old) (K.taken output.new) }
+    ensures silent { (result.status ≡ 5) ⊎ (result.status ≡ 6) → output.new ≡ output.old }
+
+    // No other status comes, 6 and 7 only by a fault that was counted, and 6 only after an accepted formula.
+    ensures statuses { (result.status ≤ 3) ⊎ ((result.status ≡ 5) ⊎ ((result.status ≡ 6) ⊎ (result.status ≡ 7))) }
+    ensures read_fault { result.status ≡ 6 → FaultCounted (S.faults input.old) (S.faults input.new) }
+    ensures asked { result.status ≡ 6 → AsksSomething (map string_bytes words.now) }
+    ensures write_fault { result.status ≡ 7 → FaultCounted (K.faults output.old) (K.faults output.new) }
+
+    // Where the words ask nothing, the source is as before.
+    ensures unread { AsksNothing (map string_bytes words.now) → input.new ≡ input.old }
+
+    // Without a fault there is an answer, or want of memory.
+    ensures complete { (FaultCounted (S.faults input.old) (S.faults input.new) → ⊥) → (FaultCounted (K.faults output.old) (K.faults output.new) → ⊥)
+        → (result.status ≤ 3) ⊎ (result.status ≡ 5) }
+{
+    let reply = match reply_to(alloc, words, input) {
+        Ok(reply) => reply,
+        Err(Stop::Memory) => return Outcome { status: 5 },
+        Err(Stop::Fault) => return Outcome { status: 6 },
+    };
+    match write_all(output, reply.text().as_bytes()) {
+        Ok(()) => Outcome {
+            status: reply.status(),
+        },
+        Err(_) => Outcome { status: 7 },
+    }
+}

@@ -1,0 +1,3 @@
+pub mod Views
+pub mod SignatureLaws
+pub mod SignatureLemmas

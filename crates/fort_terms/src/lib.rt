@@ -1,0 +1,20 @@
+//! Signatures, patterns, sides of rules, and systems of rules.
+#![tactic(auto)]
+
+pub mod pattern;
+pub mod side;
+pub mod signature;
+pub mod sym;
+pub mod system;
+
+pub use pattern::{Pattern, Patterns};
+pub use side::{Side, Sides};
+pub use signature::{AddFault, Signature};
+pub use sym::Sym;
+pub use system::{RuleFault, System};
+
+/// Want of memory.
+pub type Memory = std::alloc::AllocError;
+
+#[cfg(test)]
+mod tests;

@@ -1,0 +1,3 @@
+/// A function symbol, by its number in its signature.
+#[derive(Clone, Copy, Debug, PartialEq, Eq, PartialOrd, Ord, Hash)]
+pub struct Sym(pub u16);

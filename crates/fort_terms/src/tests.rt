@@ -1,0 +1,128 @@
+ghost use Rattle.std.specs.Prelude.{◌≡◌, [], ◌∷◌, IfOk, codes};
+ghost use Rattle.fort_theory.specs.Signatures.{symbol};
+ghost use Rattle.fort_theory.specs.Sides as theory;
+ghost use Rattle.fort_terms.specs.SideView.{as_side};
+
+use super::*;
+use std::alloc::Global;
+use std::test::Fail;
+
+/// Symbols of which one's name begins another's, the last two being constants.
+fn four_symbols(alloc: Global) -> Result<Signature, AddFault>
+    ensures { IfOk result (λ s. s ≡ symbol (codes "f") 2 ∷ symbol (codes "ff") 1 ∷ symbol (codes "c") 0 ∷ symbol (codes "d") 0 ∷ []) }
+{
+    let mut signature = Signature::empty(alloc);
+    signature.add(b"f", 2)?;
+    signature.add(b"ff", 1)?;
+    signature.add(b"c", 0)?;
+    signature.add(b"d", 0)?;
+    Ok(signature)
+}
+
+#[test]
+fn symbols_by_name(rt: HostRuntime) -> Result<(), Fail> {
+    let signature = four_symbols(rt.alloc())?;
+    assert_eq!(rt; signature.len(), 4);
+    for (name, found) in [
+        (b"f".as_slice(), Some(Sym(0))),
+        (b"ff".as_slice(), Some(Sym(1))),
+        (b"c".as_slice(), Some(Sym(2))),
+        (b"d".as_slice(), Some(Sym(3))),
+        (b"".as_slice(), None),
+        (b"fff".as_slice(), None),
+        (b"e".as_slice(), None),
+    ] {
+        assert_eq!(rt; signature.find(name), found);
+    }
+    for (number, name, arity) in [
+        (0, b"f".as_slice(), 2),
+        (1, b"ff".as_slice(), 1),
+        (2, b"c".as_slice(), 0),
+        (3, b"d".as_slice(), 0),
+    ] {
+        assert!(rt; (number as usize) < signature.len());
+        assert_eq!(rt; signature.name(Sym(number)), name);
+        assert_eq!(rt; signature.arity(Sym(number)), arity);
+    }
+    Ok(())
+}
+
+#[test]
+fn symbols_added(rt: HostRuntime) {
+    let mut signature = Signature::empty(rt.alloc());
+    assert_eq!(rt; signature.len(), 0);
+    assert_eq!(rt; signature.find(b"f"), None);
+    assert_eq!(rt; signature.add(b"ff", 2), Ok(Sym(0)));
+    assert_eq!(rt; signature.add(b"f", 8), Ok(Sym(1)));
+    assert_eq!(rt; signature.add(b"ff", 0), Err(AddFault::Duplicate));
+    assert_eq!(rt; signature.len(), 2);
+    assert!(rt; !signature.has_constant());
+    assert_eq!(rt; signature.add(b"c", 0), Ok(Sym(2)));
+    assert!(rt; signature.has_constant());
+}
+
+/// The constant of this number.
+fn constant(alloc: Global, number: u16) -> Side
+    ensures { as_side result ≡ theory.App number theory.NoSide }
+{
+    Side::App(Sym(number), Sides::new(Vec::new(alloc)))
+}
+
+/// Whether a pattern is this symbol without arguments.
+fn is_constant(pattern: &Pattern, number: u16) -> bool {
+    match pattern {
+        Pattern::Any => false,
+        Pattern::App(sym, args) => *sym == Sym(number) && args.as_slice().is_empty(),
+    }
+}
+
+#[test]
+fn variables_left_out_of_pattern(rt: HostRuntime) -> Result<(), Fail> {
+    let alloc = rt.alloc();
+    let inner = Side::App(Sym(1), Sides::new(vec![in alloc; Side::Var(7)]?));
+    let outer = Sides::new(vec![in alloc; Side::Var(7), inner, constant(alloc, 2)]?);
+    assert!(rt;
+        matches!(
+            outer.as_slice(),
+            [Side::Var(7), Side::App(_, _), Side::App(_, _)]
+        )
+    );
+    let outer = Sides::new(outer.into_vec());
+    let Pattern::App(sym, args) = Side::App(Sym(0), outer).pattern(alloc)? else {
+        return Err(Fail::from("no symbol at the root"));
+    };
+    assert_eq!(rt; sym, Sym(0));
+    let args = args.into_vec();
+    let [Pattern::Any, Pattern::App(second, inner), last] = args.as_slice() else {
+        return Err(Fail::from("other arguments"));
+    };
+    assert_eq!(rt; *second, Sym(1));
+    assert!(rt; matches!(inner.as_slice(), [Pattern::Any]));
+    assert!(rt; is_constant(last, 2));
+    Ok(())
+}
+
+#[test]
+fn rules_between_constants(rt: HostRuntime) -> Result<(), Fail> {
+    let alloc = rt.alloc();
+    let signature = four_symbols(alloc)?;
+    assert!(rt; signature.has_constant());
+    let mut system = System::new(alloc, signature)?;
+    assert_eq!(rt; system.rules().len(), 0);
+    assert_eq!(rt;
+        system.push(&constant(alloc, 2), &constant(alloc, 3)),
+        Ok(())
+    );
+    assert_eq!(rt;
+        system.push(&constant(alloc, 3), &constant(alloc, 3)),
+        Ok(())
+    );
+    let [(c, d), (d_again, d_still)] = system.rules() else {
+        return Err(Fail::from("other rules"));
+    };
+    assert!(rt; is_constant(c, 2) && is_constant(d, 3));
+    assert!(rt; is_constant(d_again, 3) && is_constant(d_still, 3));
+    assert_eq!(rt; system.signature().len(), 4);
+    assert_eq!(rt; system.signature().find(b"d"), Some(Sym(3)));
+    Ok(())
+}

@@ -1,0 +1,13 @@
+pub mod Logic
+pub mod Trees
+pub mod Signatures
+pub mod Sides
+pub mod Patterns
+pub mod Rewriting
+pub mod RootSteps
+pub mod Formulas
+pub mod Truth
+pub mod TreeCode
+pub mod SideCode
+pub mod PatternCode
+pub mod SymbolCode
