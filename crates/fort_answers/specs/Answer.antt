@@ -3,17 +3,17 @@ use Rattle.std.specs.Prelude.{◌≡◌, ℕ, ◌<◌, ◌≤◌, List, length, 
 use Rattle.fort_theory.specs.Sides.{System}
 use Rattle.fort_theory.specs.Formulas.{Formula}
 use Rattle.fort_theory.specs.Truth.{IsTrueOf, IsFalseOf}
+use Rattle.fort_grammar.specs.Text.{TextFault, IsFirstFault}
+use Rattle.fort_grammar.specs.Forms.{Forms, AreFormsOf}
+use Rattle.fort_grammar.specs.Declarations.{ProblemFault, BadForm, as_list}
+use Rattle.fort_grammar.specs.ProblemForms.{IsProblem, IsFirstProblemFault}
 use Rattle.fort_grammar.specs.ProblemText.{IsProblemText}
 use Rattle.fort_answers.specs.Request.{Text, IsRequest, IsNoRequest, IsNoFormula, Asks}
-use Rattle.fort_answers.specs.Lines.{usage_text, yes_line, no_line, formula_unbuilt, input_too_long, problem_unbuilt}
+use Rattle.fort_answers.specs.Lines.{usage_text, yes_line, no_line, formula_unbuilt, input_too_long, text_fault_line, problem_fault_line}
 
 -- the most bytes of an input
 abbrev pub input_limit : ℕ
 input_limit = 67108864
-
--- the text is no problem
-abbrev pub IsNoProblem : Text → Type 0
-IsNoProblem bytes = (system : System) → IsProblemText bytes system → ⊥
 
 -- status and text are these
 pub record Are (status : ℕ) (text : Text) (their_status : ℕ) (their_text : Text) : Type 0 where
@@ -31,8 +31,14 @@ pub data Answer (words : List Text) (bytes : Text) (status : ℕ) (text : Text) 
   Early : EarlyAnswer words status text → Answer words bytes status text
   TooLong : (f : Formula) → Asks words f → input_limit < length bytes → Are status text 3 input_too_long
       → Answer words bytes status text
-  ProblemRefused : (f : Formula) → Asks words f → length bytes ≤ input_limit → IsNoProblem bytes
-      → Are status text 3 problem_unbuilt → Answer words bytes status text
+  TextRefused : (f : Formula) → Asks words f → length bytes ≤ input_limit → (fault : TextFault) → IsFirstFault bytes fault
+      → Are status text 3 (text_fault_line fault) → Answer words bytes status text
+  ProblemRefused : (f : Formula) → Asks words f → length bytes ≤ input_limit → (forms : Forms) → AreFormsOf bytes forms
+      → (fault : ProblemFault) → IsFirstProblemFault bytes (as_list forms) fault
+      → Are status text 3 (problem_fault_line fault) → Answer words bytes status text
+  FormBehind : (f : Formula) → Asks words f → length bytes ≤ input_limit → (forms : Forms) → AreFormsOf bytes forms
+      → (system : System) (next : ℕ) → IsProblem bytes (as_list forms) system next → next < length (as_list forms)
+      → Are status text 3 (problem_fault_line (BadForm next)) → Answer words bytes status text
   Yes : (f : Formula) → Asks words f → length bytes ≤ input_limit → (system : System) → IsProblemText bytes system
       → IsTrueOf system f → Are status text 0 yes_line → Answer words bytes status text
   No : (f : Formula) → Asks words f → length bytes ≤ input_limit → (system : System) → IsProblemText bytes system

@@ -1,3 +1,6 @@
+pub mod Numerals
+pub mod CommandLine
 pub mod Request
+pub mod CommandGrammar
 pub mod Lines
 pub mod Answer

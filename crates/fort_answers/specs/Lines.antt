@@ -1,6 +1,11 @@
 -- To believe: the texts that the program prints.
-use Rattle.std.specs.Prelude.{ℕ, List, ◌++◌, codes}
-use Rattle.fort_grammar.specs.ProblemText.{line}
+use Rattle.std.specs.Prelude.{ℕ, List, [], ◌∷◌, ◌++◌, codes, decimal}
+use Rattle.fort_grammar.specs.Text.{TextFault, BadByte, ExtraClose, Unclosed, TooDeep}
+use Rattle.fort_grammar.specs.Declarations.{ProblemFault, NoFormat, BadForm, BadName, BadArity, Duplicate, TooManyFunctions, TooManyRules, NoConstant, WrongCount, VariableApplied, LeftRepeats, RightRepeats, Shares}
+
+-- a text and the end of its line
+abbrev pub line : List ℕ → List ℕ
+line text = text ++ 10 ∷ []
 
 abbrev pub usage_text : List ℕ
 usage_text = line (codes "usage: fort decide [--states N] [--certificate] FORMULA")
@@ -20,5 +25,31 @@ formula_unbuilt = line (codes "REFUSED formula unbuilt")
 abbrev pub input_too_long : List ℕ
 input_too_long = line (codes "REFUSED input too long")
 
-abbrev pub problem_unbuilt : List ℕ
-problem_unbuilt = line (codes "REFUSED problem unbuilt")
+-- what is refused, and a number
+abbrev pub numbered : List ℕ → ℕ → List ℕ
+numbered text n = line (text ++ decimal n)
+
+abbrev pub text_fault_line : TextFault → List ℕ
+text_fault_line (BadByte i) = numbered (codes "REFUSED text bad byte at ") i
+text_fault_line (ExtraClose i) = numbered (codes "REFUSED text extra close at ") i
+text_fault_line (Unclosed i) = numbered (codes "REFUSED text unclosed at ") i
+text_fault_line (TooDeep i) = numbered (codes "REFUSED text too deep at ") i
+
+-- what is refused of the form with a number
+abbrev pub form_line : ℕ → List ℕ → List ℕ
+form_line i what = line (codes "REFUSED problem form " ++ decimal i ++ what)
+
+abbrev pub problem_fault_line : ProblemFault → List ℕ
+problem_fault_line NoFormat = line (codes "REFUSED problem no format")
+problem_fault_line TooManyFunctions = line (codes "REFUSED problem too many functions")
+problem_fault_line TooManyRules = line (codes "REFUSED problem too many rules")
+problem_fault_line NoConstant = line (codes "REFUSED problem no constant")
+problem_fault_line (BadForm i) = form_line i (codes " bad form")
+problem_fault_line (BadName i) = form_line i (codes " bad name")
+problem_fault_line (BadArity i) = form_line i (codes " bad arity")
+problem_fault_line (Duplicate i) = form_line i (codes " duplicate")
+problem_fault_line (WrongCount i) = form_line i (codes " wrong count")
+problem_fault_line (VariableApplied i) = form_line i (codes " variable applied")
+problem_fault_line (LeftRepeats i name) = form_line i (codes " left side repeats " ++ name)
+problem_fault_line (RightRepeats i name) = form_line i (codes " right side repeats " ++ name)
+problem_fault_line (Shares i name) = form_line i (codes " sides share " ++ name)

@@ -1,16 +1,71 @@
--- To believe: what the words of a command line ask. For now `decide FORMULA` alone, behind the program's own name, is a request.
-use Rattle.std.specs.Prelude.{◌≡◌, ℕ, List, [], ◌∷◌, codes}
+-- To believe: what the words of a command line ask. For now `decide FORMULA` alone is answered.
+use Rattle.std.specs.Prelude.{◌≡◌, ℕ, Bool, false, List, [], ◌∷◌, Option, Some, None, codes, option_and_then, option_map, if◌then◌else◌}
+use Rattle.std.specs.Option.{option_map_or}
+use Rattle.std.specs.Str.{bytes_eq}
+use Rattle.clap.specs.Words.{App, Kinds, Row, fault_of, first_of, subcommand_of}
 use Rattle.fort_theory.specs.Formulas.{Formula}
 use Rattle.fort_grammar.specs.FormulaText.{IsFormulaText}
+use Rattle.fort_answers.specs.Numerals.{number_in}
+use Rattle.fort_answers.specs.CommandLine.{fort}
 
 abbrev pub Text : Type 0
 Text = List ℕ
 
--- the words ask to decide the formula with this text
-pub record IsRequest (words : List Text) (formula : Text) : Type 0 where
-  pub program : Text
-  pub words_are : words ≡ program ∷ codes "decide" ∷ formula ∷ []
+-- what is asked: the most states, whether the certificate is to be written, the formula's text; for a sample its size
+pub data Request : Type 0 where
+  Decide : ℕ → Bool → Text → Request
+  Witness : ℕ → Text → Request
+  Check : Text → Request
+  Sample : ℕ → Request
 
+-- what the rows of a subcommand's matches ask, numbers by this project's own rule
+
+abbrev pub states_in : List Row → Option ℕ
+states_in rows = option_and_then (number_in 1 1000000) (first_of (codes "states") rows)
+
+abbrev pub formula_in : List Row → Option Text
+formula_in rows = first_of (codes "formula") rows
+
+abbrev pub certificate_in : List Row → Bool
+certificate_in rows = option_map_or (λ text. bytes_eq text (codes "true")) (first_of (codes "certificate") rows) false
+
+abbrev pub decide_in : List Row → Option Request
+decide_in rows = option_and_then (λ states. option_map (Decide states (certificate_in rows)) (formula_in rows)) (states_in rows)
+
+abbrev pub witness_in : List Row → Option Request
+witness_in rows = option_and_then (λ states. option_map (Witness states) (formula_in rows)) (states_in rows)
+
+abbrev pub check_in : List Row → Option Request
+check_in rows = option_map Check (formula_in rows)
+
+abbrev pub sample_in : List Row → Option Request
+sample_in rows = option_map Sample (option_and_then (number_in 1 64) (first_of (codes "count") rows))
+
+-- by the subcommand's name and its rows
+unfoldable pub asked_in : Text × List Row → Option Request
+asked_in found = if bytes_eq found.0 (codes "decide") then decide_in found.1
+    else (if bytes_eq found.0 (codes "witness") then witness_in found.1
+    else (if bytes_eq found.0 (codes "check") then check_in found.1
+    else (if bytes_eq found.0 (codes "sample") then sample_in found.1 else None)))
+
+-- what is read, where the parse finds no fault
+abbrev pub where_faultless : Kinds → Option Request → Option Request
+where_faultless [] read = read
+where_faultless (kind ∷ kinds) read = None
+
+-- what a command reads from the words
+unfoldable pub read_by : App → List Text → Option Request
+read_by app words = where_faultless (fault_of app words) (option_and_then asked_in (subcommand_of app words))
+
+-- what the words ask, the program's own name first: clap finds no fault in them, and the numbers in its matches are in range
+abbrev pub request_in : List Text → Option Request
+request_in words = read_by fort words
+
+-- the words ask to decide the formula with this text, with the number of states where none is given
+pub record IsRequest (words : List Text) (formula : Text) : Type 0 where
+  pub asked : request_in words ≡ Some (Decide 10000 false formula)
+
+-- there is no request, or one that isn't answered yet
 abbrev pub IsNoRequest : List Text → Type 0
 IsNoRequest words = (formula : Text) → IsRequest words formula → ⊥
 

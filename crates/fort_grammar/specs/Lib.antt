@@ -1,4 +1,7 @@
 pub mod FormulaText
-pub mod ProblemText
 pub mod Text
 pub mod Forms
+pub mod Declarations
+pub mod RuleForms
+pub mod ProblemForms
+pub mod ProblemText
