@@ -1,13 +1,13 @@
 -- Laws of signatures: their names, one more symbol.
-use Rattle.std.proofs.Common.{◌≡◌, ℕ, zero, suc, ◌<◌, ◌≤◌, false, List, [], ◌∷◌, ◌++◌, length, get_or, Contains, Some, sym, subst, arith, length-append}
+use Rattle.std.proofs.Common.{◌≡◌, ℕ, zero, suc, ◌<◌, ◌≤◌, false, List, [], ◌∷◌, ◌++◌, length, Contains, Some, arith, length-append}
 use Rattle.std.specs.Prelude.{bytes_eq}
 use Rattle.std.specs.List.{IsDistinct, list_any}
 use Rattle.std.proofs.lemmas.Bool.{false_from_ne_true}
 use Rattle.std.proofs.lemmas.Cmp.{nat_list_eq_equiv}
 use Rattle.std.proofs.lemmas.List.{map-append}
-use Rattle.std.proofs.lemmas.List.Elements.{All-nil, All-push, Contains-get_or}
-use Rattle.std.proofs.lemmas.List.Folds.{list_any_none}
+use Rattle.std.proofs.lemmas.List.Elements.{All-nil, All-push}
 use Rattle.std.proofs.lemmas.Map.Keys.{IsDistinct-push}
+use Rattle.std.proofs.lemmas.Map.Made.{is_member-Decides}
 use Rattle.std.proofs.lemmas.Slice.Eq.{bytes_eq-Decides}
 use Rattle.fort_theory.specs.Signatures.{Signature, IsName, IsSignature, name_of, names_of, symbol}
 
@@ -21,9 +21,7 @@ names_of-push signature name arity = map-append _ signature (symbol name arity �
 
 -- a name that isn't there differs from each that is
 pub list_any-bytes_eq_none : (names : List (List ℕ)) (name : List ℕ) → (Contains names name → ⊥) → list_any (bytes_eq name) names ≡ false
-list_any-bytes_eq_none names name fresh =
-    list_any_none (bytes_eq name) names (λ k d h. false_from_ne_true _ (λ yes.
-    fresh (subst (λ (n : List ℕ). Contains names n) (sym ((bytes_eq-Decides name (get_or names k d)).0 yes)) (Contains-get_or names k d h))))
+list_any-bytes_eq_none names name fresh = false_from_ne_true _ (λ found. fresh ((is_member-Decides bytes_eq-Decides names name).0 found))
 
 -- one more symbol of a new name
 pub IsSignature-push : (signature : Signature) (name : List ℕ) (arity : ℕ) → IsSignature signature → length signature < 255

@@ -3,3 +3,11 @@ pub mod PatternFalls
 pub mod SideView
 pub mod SideFalls
 pub mod SignatureView
+pub mod RuleFaults
+pub mod RuleSteps
+pub mod TermTree
+pub mod Spellings
+pub mod TermKeys
+pub mod TermKeyLaws
+pub mod PatternKeys
+pub mod PatternKeyLaws

@@ -1,20 +1,25 @@
 //! Signatures, patterns, sides of rules, and systems of rules.
 #![tactic(auto)]
 
+mod occurrences;
 pub mod pattern;
 pub mod side;
 pub mod signature;
 pub mod sym;
 pub mod system;
+pub mod term;
 
 pub use pattern::{Pattern, Patterns};
 pub use side::{Side, Sides};
 pub use signature::{AddFault, Signature};
 pub use sym::Sym;
 pub use system::{RuleFault, System};
+pub use term::Term;
 
 /// Want of memory.
 pub type Memory = std::alloc::AllocError;
 
+#[cfg(test)]
+mod key_tests;
 #[cfg(test)]
 mod tests;

@@ -1,5 +1,6 @@
-ghost use Rattle.std.specs.Prelude.{◌≡◌, IfOk};
+ghost use Rattle.std.specs.Prelude.{◌≡◌, ◌++◌, IfOk, OnOk};
 ghost use Rattle.fort_theory.specs.Patterns.{pattern_of};
+ghost use Rattle.fort_theory.specs.Sides.{variables};
 ghost use Rattle.fort_terms.specs.PatternView.{as_pattern};
 ghost use Rattle.fort_terms.specs.SideView.{as_side, as_sides};
 
@@ -83,5 +84,28 @@ impl Side {
                 Ok(Pattern::App(*sym, Patterns::new(patterns)))
             }
         }
+    }
+
+    /// The variables from left to right, each as often as it stands there.
+    pub fn variables(&self, alloc: Global) -> Result<Vec<u32>, AllocError>
+        ensures { IfOk result (λ vs. vs.items ≡ variables (as_side self.now)) }
+    {
+        let mut found = Vec::new(alloc);
+        self.push_variables(&mut found)?;
+        Ok(found)
+    }
+
+    fn push_variables(&self, found: &mut Vec<u32>) -> Result<(), AllocError>
+        ensures { OnOk result (found.new.items ≡ found.old.items ++ variables (as_side self.now)) }
+    {
+        match self {
+            Side::Var(variable) => found.push(*variable)?,
+            Side::App(_, args) => {
+                for arg in &args.items {
+                    arg.push_variables(found)?;
+                }
+            }
+        }
+        Ok(())
     }
 }

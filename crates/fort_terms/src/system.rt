@@ -1,10 +1,13 @@
-ghost use Rattle.std.specs.Prelude.{◌≡◌, ◌<◌, [], ◌∷◌, ◌++◌, length, map, OnOk, OnErr, IfOk, IfErr};
+ghost use Rattle.std.specs.Prelude.{◌≡◌, ℕ, ◌<◌, [], ◌∷◌, ◌++◌, length, map, OnOk, OnErr, IfOk, IsErrOf};
 ghost use Rattle.fort_theory.specs.Signatures.{HasConstant};
-ghost use Rattle.fort_theory.specs.Sides.{FitsSide, IsConstantSide};
+ghost use Rattle.fort_theory.specs.Sides.{FitsSide, IsLinear, IsLinearSeparated, variables};
 ghost use Rattle.fort_theory.specs.Patterns.{pattern_of};
 ghost use Rattle.fort_terms.specs.PatternView.{as_pair};
+ghost use Rattle.fort_terms.specs.RuleFaults.{IsFirstRepeated, IsFirstShared};
+ghost use Rattle.fort_terms.specs.RuleSteps.{HasItsSteps};
 ghost use Rattle.fort_terms.specs.SideView.{as_side};
 
+use crate::occurrences::{first_repeated, first_shared};
 use crate::pattern::Pattern;
 use crate::side::Side;
 use crate::signature::Signature;
@@ -29,6 +32,17 @@ pub enum RuleFault {
     RightRepeats(u32),
     /// A variable stands in both sides: the first of the left side.
     Shares(u32),
+}
+
+impl From<AllocError> for RuleFault {
+    ghost use Rattle.std.specs.Prelude.{◌≡◌};
+    ghost use Rattle.fort_terms.specs.declared.system.RuleFault.TheVariants.{Memory};
+
+    ghost from_gives = { λ _ r. r ≡ Memory };
+
+    fn from(_e: AllocError) -> RuleFault {
+        RuleFault::Memory
+    }
 }
 
 impl Model for System {
@@ -61,23 +75,33 @@ impl System {
         })
     }
 
-    /// Adds a rule after those that are there. Both its sides are constants.
+    /// Adds a rule after those that are there. One that isn't linear and variable-separated is refused, by the
+    /// first reason that it has, in their order; want of memory may come before any of them.
+    #[tactic(auto, using(crate::proofs::RuleSteps::patterns_have_steps))]
     pub fn push(&mut self, left: &Side, right: &Side) -> Result<(), RuleFault>
         requires few { length self.old.rules < 8192 }
         requires left_fits { FitsSide self.old.signature (as_side left.now) }
         requires right_fits { FitsSide self.old.signature (as_side right.now) }
-        requires left_constant { IsConstantSide (as_side left.now) }
-        requires right_constant { IsConstantSide (as_side right.now) }
-        ensures ok { OnOk result (self.new.rules ≡ self.old.rules ++ (pattern_of (as_side left.now), pattern_of (as_side right.now)) ∷ []) }
+        ensures ok { OnOk result (self.new.rules ≡
+            self.old.rules ++ (pattern_of (as_side left.now), pattern_of (as_side right.now)) ∷ []) }
+        ensures separated { OnOk result (IsLinearSeparated
+            (record { left = as_side left.now; right = as_side right.now })) }
+        ensures root_steps { OnOk result (HasItsSteps self.old.signature (record { left = as_side left.now; right = as_side right.now })
+            (pattern_of (as_side left.now), pattern_of (as_side right.now))) }
+        ensures left_repeats { (v : ℕ) → IsErrOf result (RuleFault.LeftRepeats v) →
+            IsFirstRepeated (variables (as_side left.now)) v }
+        ensures right_repeats { (v : ℕ) → IsErrOf result (RuleFault.RightRepeats v) →
+            IsLinear (as_side left.now) × IsFirstRepeated (variables (as_side right.now)) v }
+        ensures shares { (v : ℕ) → IsErrOf result (RuleFault.Shares v) →
+            IsLinear (as_side left.now) × IsLinear (as_side right.now) ×
+            IsFirstShared (variables (as_side left.now)) (variables (as_side right.now)) v }
         ensures same_signature { self.new.signature ≡ self.old.signature }
-        ensures memory_alone { IfErr result (λ e. e ≡ RuleFault.Memory) }
         ensures err { OnErr result (self.new ≡ self.old) }
     {
         let alloc = *self.rules.allocator();
-        let (Ok(left), Ok(right)) = (left.pattern(alloc), right.pattern(alloc)) else {
-            return Err(RuleFault::Memory);
-        };
-        match self.rules.push((left, right)) {
+        check_separated(alloc, left, right)?;
+        let rule = (left.pattern(alloc)?, right.pattern(alloc)?);
+        match self.rules.push(rule) {
             Ok(()) => Ok(()),
             Err(_) => Err(RuleFault::Memory),
         }
@@ -95,5 +119,31 @@ impl System {
         ensures { map as_pair result.now ≡ self.now.rules }
     {
         self.rules.as_slice()
+    }
+}
+
+/// Whether a rule is linear and variable-separated.
+fn check_separated(alloc: Global, left: &Side, right: &Side) -> Result<(), RuleFault>
+    ensures separated { OnOk result (IsLinearSeparated
+        (record { left = as_side left.now; right = as_side right.now })) }
+    ensures left_repeats { (v : ℕ) → IsErrOf result (RuleFault.LeftRepeats v) →
+        IsFirstRepeated (variables (as_side left.now)) v }
+    ensures right_repeats { (v : ℕ) → IsErrOf result (RuleFault.RightRepeats v) →
+        IsLinear (as_side left.now) × IsFirstRepeated (variables (as_side right.now)) v }
+    ensures shares { (v : ℕ) → IsErrOf result (RuleFault.Shares v) →
+        IsLinear (as_side left.now) × IsLinear (as_side right.now) ×
+        IsFirstShared (variables (as_side left.now)) (variables (as_side right.now)) v }
+{
+    let left = left.variables(alloc)?;
+    if let Some(variable) = first_repeated(&left) {
+        return Err(RuleFault::LeftRepeats(variable));
+    }
+    let right = right.variables(alloc)?;
+    if let Some(variable) = first_repeated(&right) {
+        return Err(RuleFault::RightRepeats(variable));
+    }
+    match first_shared(&left, &right) {
+        Some(variable) => Err(RuleFault::Shares(variable)),
+        None => Ok(()),
     }
 }

@@ -1,15 +1,17 @@
-ghost use Rattle.std.specs.Prelude.{◌≡◌, [], ◌∷◌, IfOk, codes};
+ghost use Rattle.std.specs.Prelude.{◌≡◌, [], ◌∷◌, IfOk, codes, slice_index};
 ghost use Rattle.fort_theory.specs.Signatures.{symbol};
 ghost use Rattle.fort_theory.specs.Sides as theory;
 ghost use Rattle.fort_terms.specs.SideView.{as_side};
 
 use super::*;
-use std::alloc::Global;
+use std::alloc::{AllocError, Global};
+use std::process::Abort;
 use std::test::Fail;
 
 /// Symbols of which one's name begins another's, the last two being constants.
 fn four_symbols(alloc: Global) -> Result<Signature, AddFault>
-    ensures { IfOk result (λ s. s ≡ symbol (codes "f") 2 ∷ symbol (codes "ff") 1 ∷ symbol (codes "c") 0 ∷ symbol (codes "d") 0 ∷ []) }
+    ensures { let constants = symbol (codes "c") 0 ∷ symbol (codes "d") 0 ∷ [] in
+        IfOk result (λ s. s ≡ symbol (codes "f") 2 ∷ symbol (codes "ff") 1 ∷ constants) }
 {
     let mut signature = Signature::empty(alloc);
     signature.add(b"f", 2)?;
@@ -68,6 +70,17 @@ fn constant(alloc: Global, number: u16) -> Side
     Side::App(Sym(number), Sides::new(Vec::new(alloc)))
 }
 
+/// The symbol f of two variables.
+fn pair(alloc: Global, variables: [u32; 2]) -> Result<Side, AllocError>
+    ensures { let first = theory.Var (slice_index variables 0) in
+        let second = theory.Var (slice_index variables 1) in
+        IfOk result (λ s. as_side s ≡
+        theory.App 0 (theory.MoreSides first (theory.MoreSides second theory.NoSide))) }
+{
+    let args = vec![in alloc; Side::Var(variables[0]), Side::Var(variables[1])]?;
+    Ok(Side::App(Sym(0), Sides::new(args)))
+}
+
 /// Whether a pattern is this symbol without arguments.
 fn is_constant(pattern: &Pattern, number: u16) -> bool {
     match pattern {
@@ -103,6 +116,16 @@ fn variables_left_out_of_pattern(rt: HostRuntime) -> Result<(), Fail> {
 }
 
 #[test]
+fn variables_from_left_to_right(rt: HostRuntime) -> Result<(), Fail> {
+    let alloc = rt.alloc();
+    let inner = pair(alloc, [7, 3])?;
+    let outer = Sides::new(vec![in alloc; Side::Var(9), inner, constant(alloc, 2), Side::Var(7)]?);
+    let variables = Side::App(Sym(0), outer).variables(alloc)?;
+    assert_eq!(rt; variables.as_slice(), [9, 7, 3, 7].as_slice());
+    Ok(())
+}
+
+#[test]
 fn rules_between_constants(rt: HostRuntime) -> Result<(), Fail> {
     let alloc = rt.alloc();
     let signature = four_symbols(alloc)?;
@@ -124,5 +147,40 @@ fn rules_between_constants(rt: HostRuntime) -> Result<(), Fail> {
     assert!(rt; is_constant(d_again, 3) && is_constant(d_still, 3));
     assert_eq!(rt; system.signature().len(), 4);
     assert_eq!(rt; system.signature().find(b"d"), Some(Sym(3)));
+    Ok(())
+}
+
+/// What a system without rules answers to a rule between two pairs, which it has afterwards if it was taken.
+fn answer_to(
+    rt: &impl Abort,
+    alloc: Global,
+    left: [u32; 2],
+    right: [u32; 2],
+) -> Result<Result<(), RuleFault>, Fail> {
+    let signature = four_symbols(alloc)?;
+    assert!(rt; signature.has_constant());
+    let mut system = System::new(alloc, signature)?;
+    let answer = system.push(&pair(alloc, left)?, &pair(alloc, right)?);
+    assert_eq!(rt; system.rules().len() == 1, answer.is_ok());
+    Ok(answer)
+}
+
+#[test]
+fn rules_with_variables(rt: HostRuntime) -> Result<(), Fail> {
+    for (left, right, answer) in [
+        ([1, 2], [3, 4], Ok(())),
+        ([1, 2], [2, 1], Err(RuleFault::Shares(1))),
+        ([2, 1], [3, 1], Err(RuleFault::Shares(1))),
+        ([1, 2], [2, 2], Err(RuleFault::RightRepeats(2))),
+        ([1, 2], [5, 5], Err(RuleFault::RightRepeats(5))),
+        ([7, 7], [5, 5], Err(RuleFault::LeftRepeats(7))),
+        ([7, 7], [1, 7], Err(RuleFault::LeftRepeats(7))),
+    ] {
+        assert_eq!(rt;
+            answer_to(&rt, rt.alloc(), left, right)?,
+            answer,
+            "{left:?} {right:?}"
+        );
+    }
     Ok(())
 }
