@@ -1,0 +1,10 @@
+pub mod FormLists
+pub mod Comments
+pub mod Depths
+pub mod Bytes
+pub mod OneReading
+pub mod OneFault
+pub mod Steps
+pub mod Ends
+pub mod ReaderLists
+pub mod Spans

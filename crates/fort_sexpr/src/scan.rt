@@ -1,0 +1,44 @@
+ghost use Rattle.std.specs.Prelude.{◌≡◌, ◌<◌, length};
+ghost use Rattle.fort_theory.specs.Signatures as theory;
+ghost use Rattle.fort_grammar.specs.Text as grammar;
+ghost use Rattle.fort_sexpr.specs.Progress.{IsWordEnd, IsLineEnd};
+
+/// Whether a byte is a space, a tab, a CR or an LF.
+pub(crate) fn is_blank(byte: u8) -> bool
+    ensures { result ≡ grammar.is_blank byte }
+{
+    matches!(byte, b' ' | b'\t' | b'\r' | b'\n')
+}
+
+/// Whether a byte is printable ASCII and none of `(`, `)` and `;`.
+pub(crate) fn is_word_byte(byte: u8) -> bool
+    ensures { result ≡ theory.is_word_byte byte }
+{
+    matches!(byte, 0x21..=0x7e) && !matches!(byte, b'(' | b')' | b';')
+}
+
+/// Where the word ends whose bytes stand from an offset on.
+pub(crate) fn end_of_word(bytes: &[u8], from: usize) -> usize
+    requires { from < length bytes.now }
+    ensures { IsWordEnd bytes.now from result }
+{
+    for i in from..bytes.len() {
+        if !is_word_byte(bytes[i]) {
+            return i;
+        }
+    }
+    bytes.len()
+}
+
+/// The offset behind the line of an offset.
+pub(crate) fn end_of_line(bytes: &[u8], from: usize) -> usize
+    requires { from < length bytes.now }
+    ensures { IsLineEnd bytes.now from result }
+{
+    for i in from..bytes.len() {
+        if bytes[i] == b'\n' {
+            return i + 1;
+        }
+    }
+    bytes.len()
+}
