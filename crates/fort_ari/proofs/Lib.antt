@@ -1,0 +1,11 @@
+pub mod FormTexts
+pub mod Words
+pub mod Elements
+pub mod Heads
+pub mod Parts
+pub mod Declared
+pub mod SideLaws
+pub mod Ruled
+pub mod OneAnswerRules
+pub mod OneAnswer
+pub mod OneFault

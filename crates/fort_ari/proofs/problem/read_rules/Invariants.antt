@@ -1,0 +1,11 @@
+use Rattle.std.proofs.Common.{◌-◌}
+use Rattle.fort_grammar.specs.Declarations.{as_list}
+use Rattle.fort_sexpr.specs.FormView.{form_count}
+use Rattle.fort_ari.specs.Reading.{HasRulesUpTo}
+use Rattle.fort_ari.proofs.problem.read_rules.Given as goal
+
+abbrev pub invariant-loop-alloc : goal.invariant-loop-alloc
+invariant-loop-alloc l = HasRulesUpTo l.forms.bytes (as_list l.forms.forms) l.fn.declarations.signature l.fn.declarations.next l.next l.system
+
+abbrev pub decreases-loop-alloc : goal.decreases-loop-alloc
+decreases-loop-alloc l = form_count l.forms.forms - l.next

@@ -1,0 +1,54 @@
+-- To believe: when forms are read up to a number: what they declare, and which rules they are.
+use Rattle.std.specs.Prelude.{◌≡◌, ℕ, ◌+◌, ◌<◌, ◌≤◌, List, [], ◌∷◌, ◌++◌, length, map, drop, codes, Contains}
+use Rattle.std.specs.List.{AllByRecursion}
+use Rattle.fort_theory.specs.Signatures.{Symbol, Signature, names_of}
+use Rattle.fort_theory.specs.Sides.{Rule}
+use Rattle.fort_theory.specs.Patterns.{PatternSystem, pattern_pair}
+use Rattle.fort_grammar.specs.Forms.{Form}
+use Rattle.fort_grammar.specs.Declarations.{Declares, AreDeclarations, IsHeaded, most_functions}
+use Rattle.fort_grammar.specs.ProblemForms.{BeginsOtherwise}
+use Rattle.fort_grammar.specs.RuleForms.{IsRule, AreRules, most_rules}
+
+-- the form declares one more symbol, whose name is new
+pub record DeclaresNext (bytes : List ℕ) (f : Form) (old new : Signature) : Type 0 where
+  pub next : Symbol
+  pub declares : Declares bytes f next
+  pub few : length old < most_functions
+  pub fresh : Contains (names_of old) next.name → ⊥
+  pub is : new ≡ old ++ next ∷ []
+
+-- the forms from number 1 up to this number declare the signature
+pub record DeclareUpTo (bytes : List ℕ) (forms : List Form) (signature : Signature) (next : ℕ) : Type 0 where
+  pub declarations : List Form
+  pub is : drop 1 forms ≡ declarations ++ drop next forms
+  pub count : next ≡ length declarations + 1
+  pub headed : AllByRecursion (IsHeaded bytes (codes "fun")) declarations
+  pub declares : AreDeclarations bytes declarations signature
+
+-- and the next form doesn't begin with `fun`
+pub record AreDeclared (bytes : List ℕ) (forms : List Form) (signature : Signature) (next : ℕ) : Type 0 where
+  pub up_to : DeclareUpTo bytes forms signature next
+  pub ended : BeginsOtherwise bytes (codes "fun") (drop next forms)
+
+-- the system has one more rule, which is the form's
+pub record PushesRule (bytes : List ℕ) (f : Form) (old new : PatternSystem) : Type 0 where
+  pub rule : Rule
+  pub is_rule : IsRule bytes old.signature f rule
+  pub same : new.signature ≡ old.signature
+  pub rules : new.rules ≡ old.rules ++ pattern_pair rule ∷ []
+
+-- the forms from one number up to another are these rules over the signature
+pub record AreRulesUpTo (bytes : List ℕ) (forms : List Form) (signature : Signature) (from next : ℕ) (given : List Rule) : Type 0 where
+  pub rules : List Form
+  pub is : drop from forms ≡ rules ++ drop next forms
+  pub count : next ≡ from + length rules
+  pub headed : AllByRecursion (IsHeaded bytes (codes "rule")) rules
+  pub are_rules : AreRules bytes signature rules given
+  pub few : length rules ≤ most_rules
+
+-- and the system has just these rules
+pub record HasRulesUpTo (bytes : List ℕ) (forms : List Form) (signature : Signature) (from next : ℕ) (system : PatternSystem) : Type 0 where
+  pub given : List Rule
+  pub up_to : AreRulesUpTo bytes forms signature from next given
+  pub same : system.signature ≡ signature
+  pub pairs : system.rules ≡ map pattern_pair given

@@ -1,0 +1,15 @@
+//! Reads a problem, which is a rewrite system, from the forms of a text.
+#![tactic(auto)]
+
+mod declaration;
+mod fault;
+mod form;
+mod problem;
+mod rule;
+mod word;
+
+pub use fault::ProblemFault;
+pub use problem::{Problem, read_problem};
+
+#[cfg(test)]
+mod tests;

@@ -1,0 +1,85 @@
+ghost use Rattle.std.specs.Prelude.{◌≡◌, ◌<◌, ◌^◌, ◌↔◌, IsTrue, length, IfOk, IfErr, IfSome};
+ghost use Rattle.fort_theory.specs.Signatures.{HasConstant};
+ghost use Rattle.fort_theory.specs.Sides as theory;
+ghost use Rattle.fort_theory.specs.Patterns.{pattern_system};
+ghost use Rattle.fort_grammar.specs.Declarations.{as_list};
+ghost use Rattle.fort_grammar.specs.Forms.{AreFormsOf};
+ghost use Rattle.fort_grammar.specs.ProblemForms.{IsProblem, IsFirstProblemFault};
+ghost use Rattle.fort_sexpr.specs.FormView.{form_count};
+ghost use Rattle.fort_sexpr.specs.Within.{LieWithin};
+ghost use Rattle.fort_ari.specs.Faults.{as_fault};
+ghost use Rattle.fort_ari.specs.Parts.{BeginsWithFormat};
+ghost use Rattle.fort_ari.specs.Reading.{AreDeclared};
+
+use crate::declaration::{Declarations, read_declarations};
+use crate::fault::ProblemFault;
+use crate::form::{begins, is_format};
+use crate::rule::push_rule;
+use fort_sexpr::Forms;
+use fort_terms::{Signature, System};
+use std::alloc::Global;
+
+/// A system, and the number of the first form behind it.
+#[derive(Drop)]
+pub struct Problem {
+    pub system: System,
+    pub next: u32,
+}
+
+/// Whether the first form is `(format TRS)`.
+fn begins_with_format(forms: &Forms) -> bool
+    requires { LieWithin (length forms.now.bytes) forms.now.forms }
+    ensures { IsTrue result ↔ BeginsWithFormat forms.now.bytes (as_list forms.now.forms) }
+{
+    if forms.len() == 0 {
+        return false;
+    }
+    is_format(forms, forms.form(0))
+}
+
+/// Reads the rules behind the declarations.
+fn read_rules(
+    alloc: Global,
+    forms: &Forms,
+    declarations: Declarations,
+) -> Result<Problem, ProblemFault>
+    requires few { form_count forms.now.forms < 2 ^ 32 }
+    requires within { LieWithin (length forms.now.bytes) forms.now.forms }
+    requires format { BeginsWithFormat forms.now.bytes (as_list forms.now.forms) }
+    requires constant { HasConstant declarations.signature }
+    requires declared { AreDeclared forms.now.bytes (as_list forms.now.forms) declarations.signature declarations.next }
+    ensures ok { IfOk result (λ p. (s : theory.System) ×
+        IsProblem forms.now.bytes (as_list forms.now.forms) s p.next × (p.system ≡ pattern_system s)) }
+    ensures fault { IfErr result (λ fault.
+        IfSome (as_fault fault) (IsFirstProblemFault forms.now.bytes (as_list forms.now.forms))) }
+{
+    let mut system = System::new(alloc, declarations.signature)?;
+    let mut next = declarations.next;
+    while begins(forms, next, b"rule") {
+        push_rule(alloc, &mut system, forms, forms.form(next), next as u32)?;
+        next += 1;
+    }
+    Ok(Problem {
+        system,
+        next: next as u32,
+    })
+}
+
+/// Reads the problem that the first forms are, or finds their first fault.
+pub fn read_problem(alloc: Global, forms: &Forms) -> Result<Problem, ProblemFault>
+    requires text { AreFormsOf forms.now.bytes forms.now.forms }
+    requires few { form_count forms.now.forms < 2 ^ 32 }
+    ensures ok { IfOk result (λ p. (s : theory.System) ×
+        IsProblem forms.now.bytes (as_list forms.now.forms) s p.next × (p.system ≡ pattern_system s)) }
+    ensures fault { IfErr result (λ fault.
+        IfSome (as_fault fault) (IsFirstProblemFault forms.now.bytes (as_list forms.now.forms))) }
+{
+    if !begins_with_format(forms) {
+        return Err(ProblemFault::NoFormat);
+    }
+    let declarations = read_declarations(alloc, forms)?;
+    if !declarations.signature.has_constant() {
+        return Err(ProblemFault::NoConstant);
+    }
+    read_rules(alloc, forms, declarations)
+}

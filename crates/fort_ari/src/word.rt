@@ -1,0 +1,36 @@
+ghost use Rattle.std.specs.Prelude.{◌≡◌, ℕ, ◌↔◌, IsTrue, IfSome, IfNone};
+ghost use Rattle.fort_theory.specs.Signatures as theory;
+ghost use Rattle.fort_theory.specs.Signatures.{IsName};
+ghost use Rattle.fort_grammar.specs.Declarations.{IsArity};
+
+fn is_word_byte(byte: u8) -> bool
+    ensures { result ≡ theory.is_word_byte byte }
+{
+    matches!(byte, 0x21..=0x7e) && !matches!(byte, b'(' | b')' | b';')
+}
+
+/// Whether bytes are a name.
+pub(crate) fn is_name(word: &[u8]) -> bool
+    ensures { IsTrue result ↔ IsName word.now }
+{
+    match word {
+        [] => false,
+        [first, ..] => {
+            *first != b':' && word.len() <= 255 && word.iter().all(|byte| is_word_byte(*byte))
+        }
+    }
+}
+
+/// The arity that a word is.
+pub(crate) fn arity_of(word: &[u8]) -> Option<u8>
+    ensures some { IfSome result (λ n. IsArity word.now n) }
+    ensures none { IfNone result ((n : ℕ) → IsArity word.now n → ⊥) }
+{
+    let [digit] = word else {
+        return None;
+    };
+    if *digit < b'0' || b'8' < *digit {
+        return None;
+    }
+    Some(*digit - b'0')
+}
