@@ -67,8 +67,8 @@ module _ (bytes : List ℕ) where
   same_until_stop (AList l o d m c e) (AWord w f) s t = let x = kind_word w in let y = kind_stands 40 _ o in absurd (omega arith)
   same_until_stop {i} {j} {k} (AList {k = p} {gs = fs1} {fs = fs2} l o d m c e) (AList {k = q} {gs = gs1} {fs = gs2} l' o' d' m' c' e') s t =
       let r = same_until_stop d d' (record { closes = λ h. c }) (record { closes = λ h. c' }) in
-      let r2 = same_until_stop e (subst (λ x. AreForms bytes (suc x) k gs2) (sym r.0) e') s t in
-      (r2.0, ap (λ x. MoreForms (ListForm i (suc x) fs1) fs2) r.0 ∙ (ap (λ x. MoreForms (ListForm i (suc q) x) fs2) r.1 ∙ ap (MoreForms (ListForm i (suc q) gs1)) r2.1))
+      let later = same_until_stop e (subst (λ x. AreForms bytes (suc x) k gs2) (sym r.0) e') s t in
+      (later.0, ap (λ x. MoreForms (ListForm i (suc x) fs1) fs2) r.0 ∙ (ap (λ x. MoreForms (ListForm i (suc q) x) fs2) r.1 ∙ ap (MoreForms (ListForm i (suc q) gs1)) later.1))
 
 -- one text has one list of forms
 pub same_forms : (bytes : List ℕ) (fs gs : Forms) → AreForms bytes 0 (length bytes) fs → AreForms bytes 0 (length bytes) gs → fs ≡ gs
