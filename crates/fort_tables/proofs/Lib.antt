@@ -1,0 +1,6 @@
+pub mod TupleLaws
+pub mod EntryLaws
+pub mod OrderLaws
+pub mod TableLaws
+pub mod ReachLaws
+pub mod FoldLaws

@@ -1,0 +1,4 @@
+pub mod Tuples
+pub mod Entries
+pub mod Tables
+pub mod Labels
