@@ -1,0 +1,12 @@
+pub mod InLaws
+pub mod DigitLaws
+pub mod WalkLaws
+pub mod KidLaws
+pub mod KidMembers
+pub mod AfterMembers
+pub mod Bounds
+pub mod EntryMembers
+pub mod StepLaws
+pub mod MakingLaws
+pub mod FinishLaws
+pub mod GiveLaws

@@ -1,0 +1,40 @@
+use Rattle.std.proofs.Common.{length, sym, ◌∙◌, subst, arith}
+use Rattle.fort_tables.specs.Tables.{Made, IsMadeDue, IsAllowed, IsGiven}
+use Rattle.fort_lockstep.specs.WalkFacts.{place, entry_at}
+use Rattle.fort_lockstep.specs.MakerInside.{made_in}
+use Rattle.fort_lockstep.proofs.Bounds.{bound-up_to}
+use Rattle.fort_lockstep.specs.Making.{made_of}
+use Rattle.fort_lockstep.proofs.GiveLaws.{pushed_few, at_due, given_grown, given_is, stands_after}
+use Rattle.fort_lockstep.proofs.maker.Maker.give.Goals as goal
+
+pub row-requires-clause-small : goal.row-requires-clause-small
+row-requires-clause-small c = bound-up_to 65536 (length c.self.inside.signature) c.self.inside.walk.digits (omega (arith, c.len-symbols.ensures.lawful.few)) c.self.invariant.placed.digits
+
+pub invariant_of-self-2 : goal.invariant_of-self-2
+invariant_of-self-2 c =
+    let a = c.self.inside in
+    let i = c.self.invariant in
+    let old = place a.walk in
+    let new = place c.next-self-inside.new.self in
+    let g' = c.push.new.self in
+    let allowed : IsAllowed (made_in a) c.requires.allowed.0 c.args.target = subst (λ (m : Made). IsAllowed m c.requires.allowed.0 c.args.target) (sym c.self.view_is) c.requires.allowed.1 in
+    let r = given_grown a.signature a.columns a.given g' c.row.result (entry_at old) c.requires.allowed.0 a.is_due c.args.target i.making i.stands allowed c.row.ensures c.in_ok-push.ensures.pushed in
+    let next = rw c.as_slice.ensures.value at c.next-self-inside.ensures.next in
+    record {
+      some = i.some;
+      narrow = i.narrow;
+      few = pushed_few a.given g' c.row.result c.args.target i.few c.requires.few c.in_ok-push.ensures.pushed;
+      width = c.next-self-inside.ensures.width ∙ i.width;
+      placed = c.next-self-inside.ensures.place;
+      making = r.making;
+      stands = stands_after (made_of a.signature a.columns g') old new c.next-self-inside.result r.up_to i.width next;
+    }
+
+pub returns-clause-given : goal.returns-clause-given
+returns-clause-given c = λ e d.
+    let a = c.self.inside in
+    let g' = c.push.new.self in
+    let due : IsMadeDue (made_in a) e = subst (λ (m : Made). IsMadeDue m e) (sym c.self.view_is) d in
+    let at = at_due (made_in a) (entry_at (place a.walk)) e a.is_due c.self.invariant.stands due in
+    subst (λ (m : Made). IsGiven m e c.args.target (made_of a.signature a.columns g')) c.self.view_is
+    (given_is a.signature a.columns a.given g' c.row.result e c.args.target (c.row.ensures ∙ at.same) c.in_ok-push.ensures.pushed)

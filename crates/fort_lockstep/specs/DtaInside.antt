@@ -1,0 +1,15 @@
+-- To believe: what the fields of a table stand for.
+use Rattle.std.specs.Prelude.{◌≡◌, ℕ, ◌<◌, ◌^◌, length, get_or}
+use Rattle.fort_tables.specs.Tables.{Listed, finished, IsListed}
+use Rattle.fort_lockstep.specs.Making.{made_of, IsFirstPlace}
+use Rattle.fort_lockstep.specs.declared.dta.Dta.TheInside.{Inside}
+
+abbrev pub listed_in : Inside → Listed
+listed_in a = finished (made_of a.signature a.columns a.given) a.finals.items
+
+pub record IsDta (a : Inside) : Type 0 where
+  pub listed : IsListed (listed_in a)
+  pub final_count : length a.finals.items ≡ length a.given.presences.items
+  pub few : length a.given.presences.items < 2 ^ 32
+  pub first_count : length a.given.firsts.items ≡ length a.given.presences.items
+  pub first_place : (q : ℕ) → q < length a.given.presences.items → IsFirstPlace a.given.targets.items q (get_or a.given.firsts.items q 0)

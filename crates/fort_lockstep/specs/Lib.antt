@@ -1,0 +1,10 @@
+pub mod Columns
+pub mod SymbolDigits
+pub mod RowDigits
+pub mod Walks
+pub mod WalkFacts
+pub mod EntriesView
+pub mod EntriesInside
+pub mod Making
+pub mod MakerInside
+pub mod DtaInside

@@ -1,0 +1,96 @@
+-- To believe: the lists through which the search for the next entry goes; no public contract cites them.
+use Rattle.std.specs.Prelude.{◌≡◌, ℕ, zero, suc, ◌+◌, ◌-◌, ◌≤◌, max, List, [], ◌∷◌, ◌++◌, map, length, replicate, get_or, Bool, true, false, ◌||◌, ◌==◌, if◌then◌else◌, Option, None, Some}
+use Rattle.std.specs.List.{flat_map, range_with_len}
+use Rattle.fort_theory.specs.Signatures.{Signature}
+use Rattle.fort_tables.specs.Tuples.{TupleSymbol, symbol_kids, kid_presence}
+use Rattle.fort_tables.specs.Entries.{Entry, entry}
+use Rattle.fort_lockstep.specs.Columns.{symbol_of}
+
+abbrev pub AreUpTo : ℕ → List ℕ → Type 0
+AreUpTo m [] = Unit {0}
+AreUpTo m (k ∷ ks) = (k ≤ m) × AreUpTo m ks
+
+-- of n states from a on those of this presence, in order
+abbrev pub states_with : List ℕ → ℕ → ℕ → ℕ → List ℕ
+states_with ps want a zero = []
+states_with ps want a (suc n) = if get_or ps a 0 == want then a ∷ states_with ps want (a + 1) n else states_with ps want (a + 1) n
+
+-- the lists of states up to m with these presences in which m occurs, or any where it has been seen, from left to right
+abbrev pub kid_lists : List ℕ → ℕ → List ℕ → Bool → List (List ℕ)
+kid_lists ps m [] true = [] ∷ []
+kid_lists ps m [] false = []
+kid_lists ps m (p ∷ wants) seen = flat_map (λ q. map (λ ks. q ∷ ks) (kid_lists ps m wants (seen || (q == m)))) (states_with ps p 0 (m + 1))
+
+-- those whose first state is among these
+abbrev pub kid_lists_from : List ℕ → ℕ → List ℕ → Bool → List ℕ → List (List ℕ)
+kid_lists_from ps m wants seen qs = flat_map (λ q. map (λ ks. q ∷ ks) (kid_lists ps m wants (seen || (q == m)))) qs
+
+-- those of them after one
+abbrev pub kids_after : List ℕ → ℕ → List ℕ → Bool → List ℕ → List (List ℕ)
+kids_after ps m [] seen ks = []
+kids_after ps m (p ∷ wants) seen [] = []
+kids_after ps m (p ∷ wants) seen (k ∷ ks) =
+    (if get_or ps k 0 == p then map (λ r. k ∷ r) (kids_after ps m wants (seen || (k == m)) ks) else [])
+    ++ kid_lists_from ps m wants seen (states_with ps p (k + 1) (m + 1 - (k + 1)))
+
+-- where the last state has to be m, no other one is tried
+abbrev pub first_tried : Bool → List ℕ → ℕ → ℕ → ℕ
+first_tried false [] from m = max from m
+first_tried false (p ∷ wants) from m = from
+first_tried true wants from m = from
+
+-- whether there is one left, and then it is this one
+abbrev pub IsNext : {A : Type 0} → List A → (A → List A) → Option A → Type 0
+IsNext rest after None = rest ≡ []
+IsNext rest after (Some x) = rest ≡ x ∷ after x
+
+-- all lists of this many digits up to n, in order
+abbrev pub digit_lists : ℕ → ℕ → List (List ℕ)
+digit_lists n zero = [] ∷ []
+digit_lists n (suc c) = flat_map (λ d. map (λ ds. d ∷ ds) (digit_lists n c)) (range_with_len 0 (n + 1))
+
+-- those of them after one
+abbrev pub digits_after : ℕ → List ℕ → List (List ℕ)
+digits_after n [] = []
+digits_after n (d ∷ ds) = map (λ es. d ∷ es) (digits_after n ds) ++ flat_map (λ e. map (λ es. e ∷ es) (digit_lists n (length ds))) (range_with_len (d + 1) (n - d))
+
+-- the presences of the children from child j on, n of them
+abbrev pub wants_from : Signature → TupleSymbol → ℕ → ℕ → List ℕ
+wants_from sig f j zero = []
+wants_from sig f j (suc n) = kid_presence sig f j ∷ wants_from sig f (j + 1) n
+
+abbrev pub wants : Signature → TupleSymbol → List ℕ
+wants sig f = wants_from sig f 0 (symbol_kids sig f)
+
+-- at stage 0 the entries without children, at stage m + 1 those whose greatest child state is m
+abbrev pub stage_kids : List ℕ → ℕ → List ℕ → List (List ℕ)
+stage_kids ps zero [] = [] ∷ []
+stage_kids ps zero (p ∷ ws) = []
+stage_kids ps (suc m) ws = kid_lists ps m ws false
+
+abbrev pub stage_kids_after : List ℕ → ℕ → List ℕ → List ℕ → List (List ℕ)
+stage_kids_after ps zero ws ks = []
+stage_kids_after ps (suc m) ws ks = kids_after ps m ws false ks
+
+abbrev pub symbol_entries : Signature → List ℕ → ℕ → List ℕ → List Entry
+symbol_entries sig ps s ds = map (entry (symbol_of ds)) (stage_kids ps s (wants sig (symbol_of ds)))
+
+abbrev pub stage_entries : Signature → List ℕ → ℕ → List (List ℕ) → List Entry
+stage_entries sig ps s dss = flat_map (symbol_entries sig ps s) dss
+
+-- the entries of the stages from s on, k of them
+abbrev pub stages : Signature → ℕ → List ℕ → ℕ → ℕ → List Entry
+stages sig columns ps s zero = []
+stages sig columns ps s (suc k) = stage_entries sig ps s (digits_after (length sig) (replicate columns 0)) ++ stages sig columns ps (s + 1) k
+
+-- where a walk through the entries stands
+pub record Place : Type 0 where
+  pub stage : ℕ
+  pub digits : List ℕ
+  pub kids : List ℕ
+
+-- the entries after it
+abbrev pub entries_after : Signature → List ℕ → Place → List Entry
+entries_after sig ps p =
+    map (entry (symbol_of p.digits)) (stage_kids_after ps p.stage (wants sig (symbol_of p.digits)) p.kids)
+    ++ (stage_entries sig ps p.stage (digits_after (length sig) p.digits) ++ stages sig (length p.digits) ps (p.stage + 1) (length ps - p.stage))

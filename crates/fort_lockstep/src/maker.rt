@@ -1,0 +1,110 @@
+ghost use Rattle.std.specs.Prelude.{◌≡◌, ℕ, ◌+◌, ◌^◌, ◌<◌, ◌≤◌, [], length, IfOk, OnOk, OnErr, IfSome, IfNone};
+ghost use Rattle.fort_tables.specs.Entries.{Entry};
+ghost use Rattle.fort_tables.specs.Tables.{IsMadeDue, IsComplete, IsAllowed, IsGiven, AreFinals, IsListed, finished};
+
+use crate::copy::copy_signature;
+use crate::dta::Dta;
+use crate::given::Given;
+use crate::row::Row;
+use crate::walk::Walk;
+use fort_terms::{Memory, Signature};
+use std::alloc::Global;
+use std::marker::Model;
+
+/// Makes a table, entry by entry in their order.
+#[derive(Drop)]
+pub struct Maker {
+    signature: Signature,
+    columns: usize,
+    given: Given,
+    walk: Walk,
+    is_due: bool,
+}
+
+impl Model for Maker {
+    ghost use Rattle.fort_tables.specs.Tables.{Made};
+
+    ghost Value = { Made };
+
+    ghost use Rattle.fort_lockstep.specs.MakerInside.{made_in, IsMaker};
+
+    ghost view = { made_in };
+
+    ghost invariant = { IsMaker };
+}
+
+impl Maker {
+    /// No states yet; the signature is copied.
+    pub fn new(alloc: Global, sig: &Signature, columns: usize) -> Result<Maker, Memory>
+        requires some { 0 < columns }
+        requires narrow { columns ≤ 16 }
+        ensures signature { IfOk result (λ m. m.signature ≡ sig.now) }
+        ensures columns { IfOk result (λ m. m.columns ≡ columns) }
+        ensures presences { IfOk result (λ m. m.presences ≡ []) }
+        ensures rows { IfOk result (λ m. m.rows ≡ []) }
+        ensures targets { IfOk result (λ m. m.targets ≡ []) }
+    {
+        let signature = copy_signature(alloc, sig)?;
+        let given = Given {
+            presences: Vec::new(alloc),
+            firsts: Vec::new(alloc),
+            rows: Vec::new(alloc),
+            targets: Vec::new(alloc),
+        };
+        let mut walk = Walk::new(columns);
+        let is_due = walk.next(&signature, &[]);
+        Ok(Maker {
+            signature,
+            columns,
+            given,
+            walk,
+            is_due,
+        })
+    }
+
+    /// The first entry over the states so far that has no target.
+    pub fn due(&self) -> Option<Row>
+        ensures some { IfSome result (λ e. IsMadeDue self.now e) }
+        ensures none { IfNone result (IsComplete self.now) }
+        ensures counted { length self.now.targets < 2 ^ 64 }
+    {
+        let _targets = self.given.targets.as_slice();
+        let _symbols = self.signature.len();
+        if !self.is_due {
+            return None;
+        }
+        let walk = &self.walk;
+        Some(walk.row())
+    }
+
+    /// Gives the due entry its target, an earlier state or the next new one.
+    pub fn give(&mut self, target: u32) -> Result<(), Memory>
+        requires allowed { (e : Entry) × IsAllowed self.old e target }
+        requires few { target + 1 < 2 ^ 32 }
+        ensures given { OnOk result ((e : Entry) → IsMadeDue self.old e → IsGiven self.old e
+            target self.new) }
+        ensures err { OnErr result (self.new ≡ self.old) }
+    {
+        let _symbols = self.signature.len();
+        self.given.push(self.walk.row(), target)?;
+        self.is_due = self
+            .walk
+            .next(&self.signature, self.given.presences.as_slice());
+        Ok(())
+    }
+
+    /// The table, whose accepting states are those with a true final.
+    pub fn finish(self, finals: Vec<bool>) -> Dta
+        requires complete { IsComplete self }
+        requires finals { AreFinals self finals.items }
+        ensures table { result ≡ finished self finals.items }
+        ensures lawful { IsListed result }
+    {
+        Dta {
+            signature: self.signature,
+            columns: self.columns,
+            given: self.given,
+            finals,
+        }
+    }
+}

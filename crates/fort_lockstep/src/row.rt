@@ -1,0 +1,82 @@
+ghost use Rattle.std.specs.Prelude.{◌≡◌, ◌≤◌, ◌^◌, ◌<◌, ◌↔◌, length, IsTrue};
+ghost use Rattle.fort_tables.specs.Tuples.{presence};
+ghost use Rattle.fort_tables.specs.Entries.{entry};
+
+use crate::digits::presence_of;
+use crate::symbol::TupleSym;
+use std::marker::Model;
+
+/// A tuple symbol with up to 8 child states.
+#[derive(Clone, Copy)]
+pub struct Row {
+    len: usize,
+    digits: [u32; 16],
+    count: usize,
+    kids: [u32; 8],
+}
+
+impl Model for Row {
+    ghost use Rattle.fort_tables.specs.Entries.{Entry};
+
+    ghost Value = { Entry };
+
+    ghost use Rattle.fort_lockstep.specs.RowDigits.{entry_in, IsCanonical, inside_of, inside_again};
+
+    ghost view = { entry_in };
+
+    ghost invariant = { IsCanonical };
+
+    ghost inverse = { inside_of };
+
+    ghost inverse_ok = { inside_again };
+}
+
+impl Row {
+    pub fn new(sym: TupleSym, kids: &[u32]) -> Row
+        requires { length kids.now ≤ 8 }
+        ensures symbol { result.symbol ≡ sym }
+        ensures kids { result.kids ≡ kids.now }
+    {
+        let mut states = [0u32; 8];
+        states[..kids.len()].copy_from_slice(kids);
+        let digits = sym.digits;
+        Row {
+            len: sym.len,
+            digits,
+            count: kids.len(),
+            kids: states,
+        }
+    }
+
+    pub fn sym(&self) -> TupleSym
+        ensures { result ≡ self.now.symbol }
+    {
+        TupleSym {
+            len: self.len,
+            digits: self.digits,
+        }
+    }
+
+    pub fn kids(&self) -> &[u32]
+        ensures states { result.now ≡ self.now.kids }
+        ensures few { length result.now ≤ 8 }
+    {
+        let kids = &self.kids;
+        &kids[..self.count]
+    }
+
+    /// Bit i for column i.
+    pub(crate) fn presence(&self) -> u16
+        ensures { result ≡ presence self.now.symbol }
+    {
+        let digits = &self.digits;
+        presence_of(&digits[..self.len]) as u16
+    }
+
+    /// Whether it is the entry of this tuple symbol and these states.
+    pub(crate) fn is_entry(&self, sym: &TupleSym, kids: &[u32]) -> bool
+        ensures { IsTrue result ↔ (self.now ≡ entry sym.now kids.now) }
+    {
+        self.sym().is_same(sym) && self.kids() == kids
+    }
+}
