@@ -1,0 +1,9 @@
+pub mod GivenLaws
+pub mod StateLaws
+pub mod CountLaws
+pub mod FullLaws
+pub mod KnownLaws
+pub mod PieceLaws
+pub mod PlaceLaws
+pub mod ExploreLaws
+pub mod TestShapes

@@ -1,0 +1,15 @@
+use Rattle.std.proofs.Common.{◌≡◌, ◌-◌, ◌^◌, ◌≤◌, length}
+use Rattle.fort_explore.specs.Exploring.{IsExploring}
+use Rattle.fort_explore.proofs.table.explore.Given as goal
+
+abbrev pub invariant-entries : goal.invariant-entries
+invariant-entries g l = record {
+  exploring : IsExploring l.sig (g.L.Labeller.column_count l.labeller) (g.L.Labeller.label l.labeller) l.maker l.found.firsts l.found.rows.labels;
+  same : l.found.labels ≡ l.found.rows.labels;
+  width : l.found.rows.width ≡ g.L.Labeller.word_count l.labeller;
+  room : length l.out ≡ g.L.Labeller.word_count l.labeller;
+  few : length l.found.rows.labels ≤ l.cap;
+}
+
+abbrev pub decreases-entries : goal.decreases-entries
+decreases-entries g l = 2 ^ 64 - length l.maker.targets

@@ -1,0 +1,7 @@
+pub mod RowsView
+pub mod RowsInside
+pub mod Given
+pub mod Exploring
+pub mod Answer
+pub mod TestLabels
+pub mod TestLaws

@@ -1,0 +1,89 @@
+ghost use Rattle.std.specs.Prelude.{◌≡◌, ℕ, ◌+◌, ◌*◌, ◌<◌, ◌≤◌, List, [], ◌∷◌, ◌++◌, length, slice_index_or, IfOk, OnOk, OnErr};
+
+use fort_terms::Memory;
+use std::alloc::{AllocError, Global};
+use std::marker::Model;
+
+/// A list of labels of one width.
+#[derive(Drop)]
+pub struct Rows {
+    width: usize,
+    room: usize,
+    count: usize,
+    words: Vec<u64>,
+}
+
+impl Model for Rows {
+    ghost use Rattle.fort_explore.specs.RowsView.{Labels};
+
+    ghost Value = { Labels };
+
+    ghost use Rattle.fort_explore.specs.RowsInside.{labels_in, AreRows};
+
+    ghost view = { labels_in };
+
+    ghost invariant = { AreRows };
+}
+
+impl Rows {
+    /// No labels, and room for `room` of them.
+    pub fn new(alloc: Global, width: usize, room: usize) -> Result<Rows, Memory>
+        requires { 0 < width }
+        ensures width { IfOk result (λ r. r.width ≡ width) }
+        ensures room { IfOk result (λ r. r.room ≡ room) }
+        ensures labels { IfOk result (λ r. r.labels ≡ []) }
+    {
+        match room.checked_mul(width) {
+            Some(size) => Ok(Rows {
+                width,
+                room,
+                count: 0,
+                words: Vec::with_capacity(alloc, size)?,
+            }),
+            None => Err(AllocError),
+        }
+    }
+
+    /// Appends a label, for which there is room.
+    pub fn push(&mut self, label: &[u64])
+        requires width { length label.now ≡ self.old.width }
+        requires room { length self.old.labels < self.old.room }
+        ensures labels { self.new.labels ≡ self.old.labels ++ label.now ∷ [] }
+        ensures width { self.new.width ≡ self.old.width }
+        ensures room { self.new.room ≡ self.old.room }
+    {
+        match self.words.extend_from_slice(label) {
+            Ok(()) => self.count += 1,
+            Err(_) => unreachable!(),
+        }
+    }
+
+    pub fn label(&self, q: u32) -> &[u64]
+        requires { q < length self.now.labels }
+        ensures { result.now ≡ slice_index_or self.now.labels q [] }
+    {
+        let words = self.words.as_slice();
+        let from = q as usize * self.width;
+        &words[from..from + self.width]
+    }
+
+    /// How many labels there are.
+    pub fn len(&self) -> usize
+        ensures { result ≡ length self.now.labels }
+    {
+        self.count
+    }
+
+    /// Makes room for one more.
+    pub(crate) fn make_room(&mut self) -> Result<(), Memory>
+        ensures labels { self.new.labels ≡ self.old.labels }
+        ensures width { self.new.width ≡ self.old.width }
+        ensures room { OnOk result (length self.new.labels < self.new.room) }
+    {
+        if self.count == self.room {
+            self.words.reserve(self.width)?;
+            self.room += 1;
+        }
+        Ok(())
+    }
+}
