@@ -1,11 +1,7 @@
 pub mod Splits
-pub mod Exits
 pub mod Requests
+pub mod NumberTexts
 pub mod Names
-pub mod Fronts
-pub mod LineLaws
-pub mod ConstantLines
-pub mod RuleLines
-pub mod Problems
 pub mod Normality
+pub mod ProblemSystems
 pub mod Replies

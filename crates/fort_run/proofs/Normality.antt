@@ -1,145 +1,177 @@
--- Over a system of constants, a formula on normal forms is true or false by the left sides of the rules.
-use Rattle.std.proofs.Common.{◌≡◌, ℕ, zero, suc, ◌<◌, Bool, true, false, ◌==◌, ◌||◌, List, [], ◌∷◌, length, map, Contains, refl, sym, ap, subst, ◌∙◌, arith}
-use Rattle.std.specs.Prelude.{MatchBool, if◌then◌else◌}
-use Rattle.std.specs.List.{AllByRecursion, list_any}
-use Rattle.std.proofs.lemmas.List.{length-map}
-use Rattle.std.proofs.lemmas.List.Elements.{All-from_recursion, All-contains}
-use Rattle.fort_theory.proofs.Lists.{Contains-map, Contains-map_from}
+-- Where the sides of rules are constants and variables, a formula on normal forms is true or false by the rules' left sides.
+use Rattle.std.proofs.Common.{◌≡◌, ℕ, zero, suc, Bool, true, false, ◌||◌, List, [], ◌∷◌, map, Contains, refl, sym, ap, subst, ◌∙◌, arith}
+use Rattle.std.specs.Prelude.{MatchBool, if◌then◌else◌, Some}
+use Rattle.std.specs.List.{list_any}
 use Rattle.std.proofs.lemmas.Bool.Decides.{Decides-eqb}
 use Rattle.std.proofs.lemmas.Slice.Eq.{bytes_eq-Decides}
-use Rattle.fort_theory.specs.Trees.{Tree, Node, Nil}
-use Rattle.fort_theory.specs.Signatures.{Symbol, symbol}
-use Rattle.fort_theory.specs.Sides.{Rule, System, applied}
-use Rattle.fort_theory.specs.Patterns.{pattern_system, PatternSystem}
-use Rattle.fort_theory.specs.Rewriting.{IsNormalForm}
+use Rattle.fort_theory.specs.Trees.{Tree, Trees, Node, Nil, More}
+use Rattle.fort_theory.specs.Signatures.{Signature, IsGround, HasConstant, arity_of}
+use Rattle.fort_theory.specs.Sides.{Side, Rule, System, Substitution, applied, Var, App, NoSide, MoreSides}
+use Rattle.fort_theory.specs.Patterns.{pattern_system, pattern_pair, pattern_of, PatternSystem}
+use Rattle.fort_theory.specs.Rewriting.{Relation, Rewrites, IsNormalForm}
 use Rattle.fort_theory.specs.RootSteps.{RootStep}
 use Rattle.fort_theory.specs.Formulas.{Name, Formula, Nf, Forall, Exists}
 use Rattle.fort_theory.specs.Truth.{Assignment, with_name, IsTrueOf, IsFalseOf}
-use Rattle.fort_theory.proofs.Constants.{AllConstants, constant, IsGround-constant, constant-from_IsGround, IsNormalForm-constant}
-use Rattle.fort_grammar.specs.ProblemText.{IsProblemText, constants, constant_rule, constant_system}
-use Rattle.fort_run.specs.RedexRoots.{is_left_root}
+use Rattle.fort_theory.proofs.Constants.{constant, IsNormalForm-constant, Rewrites-from_root}
+use Rattle.fort_run.specs.RedexRoots.{takes_root, is_left_root, IsNormalConstant}
 
 pub list_any-map : {X Y : Type 0} (p : Y → Bool) (f : X → Y) (xs : List X) → list_any p (map f xs) ≡ list_any (λ x. p (f x)) xs
 list_any-map p f [] = refl
 list_any-map p f (x ∷ xs) = ap (λ b. p (f x) || b) (list_any-map p f xs)
 
-all_constants : (names : List (List ℕ)) → AllConstants (constants names)
-all_constants names = All-from_recursion (λ (s : Symbol). s.arity ≡ 0) (constants names) (each names)
-  where
-    each : (names : List (List ℕ)) → AllByRecursion (λ (s : Symbol). s.arity ≡ 0) (constants names)
-    each [] = tt
-    each (n ∷ names) = (refl, each names)
+-- a variable, or a constant of the signature
+pub data IsFlat (signature : Signature) : Side → Type 0 where
+  AVariable : (v : ℕ) → IsFlat signature (Var v)
+  AConstant : (f : ℕ) → arity_of signature f ≡ Some 0 → IsFlat signature (App f NoSide)
 
--- an element that passes makes `any` true, and only such a one
+-- both sides of each rule are variables or constants
+pub record AreFlat (signature : Signature) (rule : Rule) : Type 0 where
+  pub left : IsFlat signature rule.left
+  pub right : IsFlat signature rule.right
+
+or_right : (a b : Bool) → b ≡ true → (a || b) ≡ true
+or_right true b h = refl
+or_right false b h = h
+
+-- an element that passes makes `any` true
 any_contains : {X : Type 0} (p : X → Bool) (xs : List X) (x : X) → Contains xs x → p x ≡ true → list_any p xs ≡ true
 any_contains p [] x (k, l, e) h = absurd (omega arith)
 any_contains p (y ∷ xs) x (zero, l, e) h = ap (λ b. b || list_any p xs) (ap p e ∙ h)
 any_contains p (y ∷ xs) x (suc k, l, e) h = or_right (p y) (list_any p xs) (any_contains p xs x (k, omega arith, e) h)
-  where
-    or_right : (a b : Bool) → b ≡ true → (a || b) ≡ true
-    or_right true b h = refl
-    or_right false b h = h
 
--- the first rule from a constant, where some is
-abbrev RuleFrom : ℕ → List (ℕ × ℕ) → Type 0
-RuleFrom f arrows = (a : ℕ × ℕ) × Contains arrows a × (a.0 ≡ f)
+-- a rule whose left side takes the symbol
+abbrev RuleTaking : ℕ → List Rule → Type 0
+RuleTaking f rules = (r : Rule) × Contains rules r × (takes_root f (pattern_of r.left) ≡ true)
 
-rule_among : (f : ℕ) (b : ℕ × ℕ) (arrows : List (ℕ × ℕ)) (others : Bool) → (others ≡ true → RuleFrom f arrows) → (t : Bool) → (b.0 == f) ≡ t → (t || others) ≡ true → RuleFrom f (b ∷ arrows)
-rule_among f b arrows others later true is h = (b, (0, omega arith, refl), (Decides-eqb b.0 f).0 is)
-rule_among f b arrows others later false is h =
-    let r = later h in
-    (r.0, (suc r.1.0, (let l = r.1.1 in omega arith), r.1.2), r.2)
+rule_among : (f : ℕ) (r : Rule) (rules : List Rule) (others : Bool) → (others ≡ true → RuleTaking f rules) → (t : Bool) → takes_root f (pattern_of r.left) ≡ t → (t || others) ≡ true
+    → RuleTaking f (r ∷ rules)
+rule_among f r rules others later true is h = (r, (0, omega arith, refl), is)
+rule_among f r rules others later false is h =
+    let found = later h in
+    (found.0, (suc found.1.0, (let l = found.1.1 in omega arith), found.1.2), found.2)
 
-rule_from : (f : ℕ) (arrows : List (ℕ × ℕ)) → list_any (λ (a : ℕ × ℕ). a.0 == f) arrows ≡ true → RuleFrom f arrows
-rule_from f [] h = cc
-rule_from f (b ∷ arrows) h = rule_among f b arrows (list_any (λ (a : ℕ × ℕ). a.0 == f) arrows) (rule_from f arrows) (b.0 == f) refl h
+rule_taking : (f : ℕ) (rules : List Rule) → list_any (λ (r : Rule). takes_root f (pattern_of r.left)) rules ≡ true → RuleTaking f rules
+rule_taking f [] h = cc
+rule_taking f (r ∷ rules) h =
+    rule_among f r rules (list_any (λ (r : Rule). takes_root f (pattern_of r.left)) rules) (rule_taking f rules) (takes_root f (pattern_of r.left)) refl h
 
-left_roots : (names : List (List ℕ)) (f : ℕ) (arrows : List (ℕ × ℕ)) → is_left_root (pattern_system (constant_system names arrows)) f ≡ list_any (λ (a : ℕ × ℕ). a.0 == f) arrows
-left_roots names f [] = refl
-left_roots names f (a ∷ arrows) = ap (λ b. (a.0 == f) || b) (left_roots names f arrows)
+left_roots : (system : System) (f : ℕ) → is_left_root (pattern_system system) f ≡ list_any (λ (r : Rule). takes_root f (pattern_of r.left)) system.rules
+left_roots system f = list_any-map (λ pair. takes_root f pair.0) pattern_pair system.rules
 
--- the root steps by rules between constants
-abbrev root_of : List (List ℕ) → List (ℕ × ℕ) → Tree → Tree → Type 0
-root_of names arrows = RootStep (constants names) (map constant_rule arrows)
+-- where a flat side becomes a constant by a substitution, its pattern takes the constant
+takes_constant : (signature : Signature) (s : Side) (f : ℕ) (m : Substitution) → IsFlat signature s → constant f ≡ applied m s → takes_root f (pattern_of s) ≡ true
+takes_constant signature (Var v) f m flat h = refl
+takes_constant signature (App g ss) f m flat h = let same : f ≡ g = cc in (Decides-eqb g f).1 (sym same)
 
-normal_constant : (names : List (List ℕ)) (arrows : List (ℕ × ℕ)) (f : ℕ) → is_left_root (pattern_system (constant_system names arrows)) f ≡ false → IsNormalForm (root_of names arrows) (constant f)
-normal_constant names arrows f none = (IsNormalForm-constant (root_of names arrows) f).1 (λ t step.
-    let from = Contains-map_from constant_rule arrows step.rule step.among in
-    let left : constant f ≡ Node from.0.0 Nil = step.left ∙ ap (λ (r : Rule). applied step.substitution r.left) (sym from.2) in
-    let same : f ≡ from.0.0 = cc in
-    let some : list_any (λ (a : ℕ × ℕ). a.0 == f) arrows ≡ true = any_contains (λ (a : ℕ × ℕ). a.0 == f) arrows from.0 from.1 ((Decides-eqb from.0.0 f).1 (sym same)) in
-    let said : false ≡ true = sym none ∙ left_roots names f arrows ∙ some in cc)
+-- a flat side whose pattern takes a constant becomes it, by the substitution of it everywhere
+becomes_constant : (signature : Signature) (s : Side) (f : ℕ) → IsFlat signature s → takes_root f (pattern_of s) ≡ true → constant f ≡ applied (λ v. constant f) s
+becomes_constant signature (Var v) f flat h = refl
+becomes_constant signature (App g NoSide) f (AConstant g' arity) h = ap constant (sym ((Decides-eqb g f).0 h))
+becomes_constant signature (App g (MoreSides s ss)) f flat h = elim flat [ ]
 
-reducible_constant : (names : List (List ℕ)) (arrows : List (ℕ × ℕ)) (f : ℕ) → AllByRecursion (λ arrow. (arrow.0 < length names) × (arrow.1 < length names)) arrows
-    → f < length (constants names) → is_left_root (pattern_system (constant_system names arrows)) f ≡ true → IsNormalForm (root_of names arrows) (constant f) → ⊥
-reducible_constant names arrows f declared below some normal =
-    let from = rule_from f arrows (sym (left_roots names f arrows) ∙ some) in
-    let a = from.0 in
-    let count : length (constants names) ≡ length names = length-map names (λ name. symbol name 0) in
-    let bounds = All-contains (λ (x : ℕ × ℕ). (x.0 < length names) × (x.1 < length names)) arrows a (All-from_recursion (λ (x : ℕ × ℕ). (x.0 < length names) × (x.1 < length names)) arrows declared) from.1 in
-    let target : a.1 < length (constants names) = (let t = bounds.1 in omega (arith, count)) in
-    let source = IsGround-constant (constants names) f (all_constants names) below in
-    (IsNormalForm-constant (root_of names arrows) f).0 normal (constant a.1) (record {
-      rule = constant_rule a;
-      among = Contains-map constant_rule arrows a from.1;
-      substitution = λ v. constant f;
-      by_ground = λ v. source;
-      left = ap constant (sym from.2);
-      right = refl;
-      left_grounded = source;
-      right_grounded = IsGround-constant (constants names) a.1 (all_constants names) target;
-    })
+-- a flat side becomes a ground term by a ground constant
+flat_ground : (signature : Signature) (s : Side) (t : Tree) → IsFlat signature s → IsGround signature t → IsGround signature (applied (λ v. t) s)
+flat_ground signature (Var v) t flat is_ground = is_ground
+flat_ground signature (App g NoSide) t (AConstant g' arity) is_ground = (arity, tt)
+flat_ground signature (App g (MoreSides s ss)) t flat is_ground = elim flat [ ]
+
+abbrev root_of : System → Relation
+root_of system = RootStep system.signature system.rules
+
+-- a flat rule has a root step by a ground term in the place of its variables
+flat_step : (system : System) (r : Rule) (t : Tree) → Contains system.rules r → AreFlat system.signature r → IsGround system.signature t
+    → RootStep system.signature system.rules (applied (λ v. t) r.left) (applied (λ v. t) r.right)
+flat_step system r t among flat is_ground = record {
+  rule = r;
+  among = among;
+  substitution = λ v. t;
+  by_ground = λ v. is_ground;
+  left = refl;
+  right = refl;
+  left_grounded = flat_ground system.signature r.left t flat.left is_ground;
+  right_grounded = flat_ground system.signature r.right t flat.right is_ground;
+}
+
+normal_constant : (system : System) (f : ℕ) → ((r : Rule) → Contains system.rules r → AreFlat system.signature r) → is_left_root (pattern_system system) f ≡ false
+    → IsNormalForm (root_of system) (constant f)
+normal_constant system f flat none = (IsNormalForm-constant (root_of system) f).1 (λ t step.
+    let takes = takes_constant system.signature step.rule.left f step.substitution (flat step.rule step.among).left step.left in
+    let some = any_contains (λ (r : Rule). takes_root f (pattern_of r.left)) system.rules step.rule step.among takes in
+    let said : false ≡ true = sym none ∙ left_roots system f ∙ some in cc)
+
+constant_steps : (system : System) (f : ℕ) → ((r : Rule) → Contains system.rules r → AreFlat system.signature r) → arity_of system.signature f ≡ Some 0
+    → is_left_root (pattern_system system) f ≡ true → (t : Tree) × Rewrites (root_of system) (constant f) t
+constant_steps system f flat arity some =
+    let from = rule_taking f system.rules (sym (left_roots system f) ∙ some) in
+    let is = becomes_constant system.signature from.0.left f (flat from.0 from.1).left from.2 in
+    let step = flat_step system from.0 (constant f) from.1 (flat from.0 from.1) (arity, tt) in (
+      applied (λ v. constant f) from.0.right,
+      Rewrites-from_root (root_of system) (constant f) _ (subst (λ s. RootStep system.signature system.rules s (applied (λ v. constant f) from.0.right)) (sym is) step),
+    )
+
+-- a step of the first child is a step
+first_child : (root : Relation) (f : ℕ) (s : Tree) (ss : Trees) (t : Tree) → Rewrites root s t → Rewrites root (Node f (More s ss)) (Node f (More t ss))
+first_child root f s ss t (p, at) = (
+  0 ∷ p,
+  record {
+    redex = at.redex;
+    contractum = at.contractum;
+    stands = at.stands;
+    contracts = at.contracts;
+    result = ap (λ u. Node f (More u ss)) at.result;
+  },
+)
+
+-- where each constant steps, each ground term does
+ground_steps : (system : System) → ((f : ℕ) → arity_of system.signature f ≡ Some 0 → (t : Tree) × Rewrites (root_of system) (constant f) t)
+    → (s : Tree) → IsGround system.signature s → (t : Tree) × Rewrites (root_of system) s t
+ground_steps system each (Node f Nil) is_ground = each f is_ground.0
+ground_steps system each (Node f (More s ss)) is_ground =
+    let step = ground_steps system each s is_ground.1.0 in
+    (Node f (More step.0 ss), first_child (root_of system) f s ss step.0 step.1)
 
 with_name-same : (m : Assignment) (v : Name) (t : Tree) → with_name m v t v ≡ t
 with_name-same m v t = ap (λ b. if b then t else m v) ((bytes_eq-Decides v v).1 refl)
 
--- what is said of every ground term, or of some, over constants
-abbrev EachNormal : PatternSystem → Type 0
-EachNormal s = (f : ℕ) → f < length s.signature → is_left_root s f ≡ false
-
-abbrev SomeReducible : PatternSystem → Type 0
-SomeReducible s = (f : ℕ) × (f < length s.signature) × (is_left_root s f ≡ true)
-
-abbrev SomeNormal : PatternSystem → Type 0
-SomeNormal s = (f : ℕ) × (f < length s.signature) × (is_left_root s f ≡ false)
-
-abbrev EachReducible : PatternSystem → Type 0
-EachReducible s = (f : ℕ) → f < length s.signature → is_left_root s f ≡ true
-
--- on a system whose rules are between declared constants
-abbrev Verdict : Bool → System → Formula → Type 0
+abbrev pub Verdict : Bool → System → Formula → Type 0
 Verdict b system f = MatchBool b (IsTrueOf system f) (IsFalseOf system f)
 
-verdict_every : (names : List (List ℕ)) (arrows : List (ℕ × ℕ)) (v : Name) → AllByRecursion (λ arrow. (arrow.0 < length names) × (arrow.1 < length names)) arrows
-    → (b : Bool) → MatchBool b (EachNormal (pattern_system (constant_system names arrows))) (SomeReducible (pattern_system (constant_system names arrows)))
-    → Verdict b (constant_system names arrows) (Forall v (Nf v))
-verdict_every names arrows v declared true each = λ m ground_m t is_term.
-    let c = constant-from_IsGround (constants names) t (all_constants names) is_term in
-    subst (IsNormalForm (root_of names arrows)) (sym (with_name-same m v t ∙ c.2)) (normal_constant names arrows c.0 (each c.0 c.1))
-verdict_every names arrows v declared false (f, below, some) = λ m ground_m all.
-    reducible_constant names arrows f declared below some
-    (subst (IsNormalForm (root_of names arrows)) (with_name-same m v (constant f)) (all (constant f) (IsGround-constant (constants names) f (all_constants names) below)))
+no_rule : (rules : List Rule) (r : Rule) → rules ≡ [] → Contains rules r → ⊥
+no_rule [] r empty (k, l, e) = omega arith
+no_rule (x ∷ rules) r empty c = cc
 
-verdict_some : (names : List (List ℕ)) (arrows : List (ℕ × ℕ)) (v : Name) → AllByRecursion (λ arrow. (arrow.0 < length names) × (arrow.1 < length names)) arrows
-    → (b : Bool) → MatchBool b (SomeNormal (pattern_system (constant_system names arrows))) (EachReducible (pattern_system (constant_system names arrows)))
-    → Verdict b (constant_system names arrows) (Exists v (Nf v))
-verdict_some names arrows v declared true (f, below, none) = λ m ground_m no.
-    no (constant f) (
-      IsGround-constant (constants names) f (all_constants names) below,
-      subst (IsNormalForm (root_of names arrows)) (sym (with_name-same m v (constant f))) (normal_constant names arrows f none),
-    )
-verdict_some names arrows v declared false each = λ m ground_m some. some (λ t holds.
-    let c = constant-from_IsGround (constants names) t (all_constants names) holds.0 in
-    reducible_constant names arrows c.0 declared c.1 (each c.0 c.1) (subst (IsNormalForm (root_of names arrows)) (with_name-same m v t ∙ c.2) holds.1))
+first_rule : (rules : List Rule) → (rules ≡ [] → ⊥) → (r : Rule) × Contains rules r
+first_rule [] h = absurd (h refl)
+first_rule (r ∷ rules) h = (r, (0, omega arith, refl))
 
-pub every_of_problem : (s : PatternSystem) (b : Bool) (bytes : List ℕ) (system : System) → MatchBool b (EachNormal s) (SomeReducible s) → (p : IsProblemText bytes system)
-    → s ≡ pattern_system system → (v : Name) → Verdict b system (Forall v (Nf v))
-every_of_problem s b bytes system found p is v =
-    subst (λ x. Verdict b x (Forall v (Nf v))) (sym p.means)
-    (verdict_every p.names p.arrows v p.declared b (subst (λ x. MatchBool b (EachNormal x) (SomeReducible x)) (is ∙ ap pattern_system p.means) found))
+-- every ground term is a normal form exactly where there is no rule
+pub verdict_every : (system : System) (v : Name) → HasConstant system.signature → ((r : Rule) → Contains system.rules r → AreFlat system.signature r)
+    → (b : Bool) → MatchBool b (system.rules ≡ []) (system.rules ≡ [] → ⊥) → Verdict b system (Forall v (Nf v))
+verdict_every system v constant_there flat true empty = λ m ground_m t is_term u step.
+    no_rule system.rules step.1.contracts.rule empty step.1.contracts.among
+verdict_every system v constant_there flat false some = λ m ground_m all.
+    let r = first_rule system.rules some in
+    let c = constant constant_there.0 in
+    let step = flat_step system r.0 c r.1 (flat r.0 r.1) (constant_there.1, tt) in
+    let s = applied (λ x. c) r.0.left in
+    subst (IsNormalForm (root_of system)) (with_name-same m v s) (all s step.left_grounded) (applied (λ x. c) r.0.right)
+    (Rewrites-from_root (root_of system) s (applied (λ x. c) r.0.right) step)
 
-pub some_of_problem : (s : PatternSystem) (b : Bool) (bytes : List ℕ) (system : System) → MatchBool b (SomeNormal s) (EachReducible s) → (p : IsProblemText bytes system)
-    → s ≡ pattern_system system → (v : Name) → Verdict b system (Exists v (Nf v))
-some_of_problem s b bytes system found p is v =
-    subst (λ x. Verdict b x (Exists v (Nf v))) (sym p.means)
-    (verdict_some p.names p.arrows v p.declared b (subst (λ x. MatchBool b (SomeNormal x) (EachReducible x)) (is ∙ ap pattern_system p.means) found))
+-- some constant is the left side of no rule, or none is
+abbrev pub SomeNormal : PatternSystem → Type 0
+SomeNormal s = (f : ℕ) × IsNormalConstant s f
+
+abbrev pub NoneNormal : PatternSystem → Type 0
+NoneNormal s = (f : ℕ) → IsNormalConstant s f → ⊥
+
+true_from_not_false : (b : Bool) → (b ≡ false → ⊥) → b ≡ true
+true_from_not_false true h = refl
+true_from_not_false false h = absurd (h refl)
+
+pub verdict_some : (system : System) (v : Name) → ((r : Rule) → Contains system.rules r → AreFlat system.signature r)
+    → (b : Bool) → MatchBool b (SomeNormal (pattern_system system)) (NoneNormal (pattern_system system)) → Verdict b system (Exists v (Nf v))
+verdict_some system v flat true (f, found) = λ m ground_m no.
+    no (constant f) ((found.0, tt), subst (IsNormalForm (root_of system)) (sym (with_name-same m v (constant f))) (normal_constant system f flat found.1))
+verdict_some system v flat false each = λ m ground_m some. some (λ t holds.
+    let step = ground_steps system (λ f arity. constant_steps system f flat arity (true_from_not_false (is_left_root (pattern_system system) f) (λ none. each f (arity, none)))) t holds.0 in
+    subst (IsNormalForm (root_of system)) (with_name-same m v t) holds.1 step.0 step.1)

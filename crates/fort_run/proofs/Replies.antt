@@ -1,15 +1,44 @@
 -- Lemmas from what was read to the answer that is owed.
-use Rattle.std.proofs.Common.{◌≡◌, ℕ, zero, suc, ◌<◌, ◌≤◌, List, [], ◌∷◌, ◌++◌, length, refl, sym, ap, subst, ◌∙◌, append-nil, arith}
-use Rattle.std.specs.Prelude.{Option, Some, None, IfSome, replicate}
+use Rattle.std.proofs.Common.{◌≡◌, ℕ, zero, suc, ◌+◌, ◌<◌, ◌≤◌, List, [], ◌∷◌, ◌++◌, length, refl, sym, ap, subst, ◌∙◌, append-nil, length-append, arith}
+use Rattle.std.specs.Prelude.{Option, Some, None, IfSome, MatchOption, replicate}
 use Rattle.std.specs.Io.KnownBytes.{Consumes, IsAtEnd}
 use Rattle.fort_theory.specs.Sides.{System}
 use Rattle.fort_theory.specs.Formulas.{Name, Formula}
 use Rattle.fort_theory.specs.Truth.{IsTrueOf, IsFalseOf}
 use Rattle.fort_grammar.specs.FormulaText.{IsVariable, Quantifier, normality, normality_text, IsFormulaText}
+use Rattle.fort_grammar.specs.Text.{BadByte, ExtraClose, Unclosed, TooDeep}
+use Rattle.fort_grammar.specs.Forms.{Forms, NoForm, MoreForms, AreForms, AreFormsOf, End, Skip, AWord, AList}
+use Rattle.fort_grammar.specs.Declarations.{ProblemFault, BadForm, as_list}
+use Rattle.fort_grammar.specs.ProblemForms.{IsProblem, IsFirstProblemFault}
 use Rattle.fort_grammar.specs.ProblemText.{IsProblemText}
+use Rattle.fort_sexpr.specs.FormView.{form_count}
+use Rattle.fort_sexpr.specs.Faults.{IsFirstFaultUnlessMemory}
+use Rattle.fort_sexpr.specs.declared.fault.SFault.{SFault}
+use Rattle.fort_sexpr.specs.declared.fault.SFault.TheVariants as sfaults
+use Rattle.fort_ari.specs.declared.fault.ProblemFault.{ProblemFault as ariFault}
+use Rattle.fort_ari.specs.Faults.{as_fault}
 use Rattle.fort_answers.specs.Request.{Text, IsRequest, IsNoRequest, IsNoFormula, Asks, AsksNothing}
-use Rattle.fort_answers.specs.Lines.{usage_text, formula_unbuilt, input_too_long, problem_unbuilt, yes_line, no_line}
-use Rattle.fort_answers.specs.Answer.{Answer, AnswerFor, EarlyAnswer, Early, NoRequest, FormulaRefused, TooLong, ProblemRefused, Yes, No, IsNoProblem, input_limit}
+use Rattle.fort_answers.specs.Lines.{usage_text, formula_unbuilt, input_too_long, problem_fault_line, yes_line, no_line}
+use Rattle.fort_answers.specs.Answer.{Answer, AnswerFor, EarlyAnswer, Early, NoRequest, FormulaRefused, TooLong, TextRefused, ProblemRefused, FormBehind, Yes, No, input_limit}
+use Rattle.fort_run.specs.Refusals.{SaysProblemFault, SaysTextFault}
+
+-- the forms of a text, counted
+pub count_of : (forms : Forms) → form_count forms ≡ length (as_list forms)
+count_of NoForm = refl
+count_of (MoreForms f fs) = ap suc (count_of fs)
+
+-- each form takes a byte at least
+forms_within : (bytes : Text) (i j : ℕ) (forms : Forms) → AreForms bytes i j forms → i + form_count forms ≤ j
+forms_within bytes i j NoForm End = omega arith
+forms_within bytes i j fs (Skip skipped rest) = let r = forms_within bytes (suc i) j fs rest in omega arith
+forms_within bytes i j (MoreForms f fs) (AWord {k = k} word rest) = let r = forms_within bytes k j fs rest in let some : i < k = word.some in omega arith
+forms_within bytes i j (MoreForms f fs) (AList {k = k} {gs = gs} within opens inner within' closes rest) =
+    let r = forms_within bytes (suc k) j fs rest in
+    let s = forms_within bytes (suc i) k gs inner in
+    omega arith
+
+pub few_forms : (bytes : Text) (forms : Forms) → AreFormsOf bytes forms → form_count forms ≤ length bytes
+few_forms bytes forms are = let r = forms_within bytes 0 (length bytes) forms are.stand in omega arith
 
 -- the answer for the bytes that were read, all of them
 pub answer_told : (words : List Text) (old new : Option Text) (bytes : Text) (status : ℕ) (text : Text) → Consumes old new bytes → IsAtEnd new
@@ -46,16 +75,49 @@ pub formula_refused : (words : List Text) (told : Option Text) (formula : Text) 
 formula_refused words told formula request none =
     early_told words told 3 formula_unbuilt (FormulaRefused formula request none (record { same_status = refl; same_text = refl }))
 
-pub problem_refused : (words : List Text) (bytes : Text) (f : Formula) → Asks words f → length bytes ≤ input_limit → IsNoProblem bytes → Answer words bytes 3 problem_unbuilt
-problem_refused words bytes f asks short none = ProblemRefused f asks short none (record { same_status = refl; same_text = refl })
+-- the lines of a text's faults
+pub text_refused : (words : List Text) (bytes : Text) (f : Formula) (fault : SFault) (line : Text) → Asks words f → length bytes ≤ input_limit
+    → IsFirstFaultUnlessMemory bytes fault → SaysTextFault fault line → Answer words bytes 3 line
+text_refused words bytes f sfaults.Memory line asks short first says = absurd says
+text_refused words bytes f (sfaults.BadByte i) line asks short first says = TextRefused f asks short (BadByte i) first (record { same_status = refl; same_text = says })
+text_refused words bytes f (sfaults.ExtraClose i) line asks short first says = TextRefused f asks short (ExtraClose i) first (record { same_status = refl; same_text = says })
+text_refused words bytes f (sfaults.Unclosed i) line asks short first says = TextRefused f asks short (Unclosed i) first (record { same_status = refl; same_text = says })
+text_refused words bytes f (sfaults.TooDeep i) line asks short first says = TextRefused f asks short (TooDeep i) first (record { same_status = refl; same_text = says })
 
-pub is_yes : (words : List Text) (bytes : Text) (f : Formula) (system : System) → Asks words f → length bytes ≤ input_limit → IsProblemText bytes system → IsTrueOf system f
-    → Answer words bytes 0 yes_line
-is_yes words bytes f system asks short problem holds = Yes f asks short system problem holds (record { same_status = refl; same_text = refl })
+refused_by : (words : List Text) (bytes : Text) (f : Formula) (forms : Forms) (fault : Option ProblemFault) (line : Text) → Asks words f → length bytes ≤ input_limit
+    → AreFormsOf bytes forms → IfSome fault (IsFirstProblemFault bytes (as_list forms)) → MatchOption fault ⊥ (λ x. line ≡ problem_fault_line x) → Answer words bytes 3 line
+refused_by words bytes f forms None line asks short are first says = absurd says
+refused_by words bytes f forms (Some x) line asks short are first says = ProblemRefused f asks short forms are x first (record { same_status = refl; same_text = says })
 
-pub is_no : (words : List Text) (bytes : Text) (f : Formula) (system : System) → Asks words f → length bytes ≤ input_limit → IsProblemText bytes system → IsFalseOf system f
-    → Answer words bytes 1 no_line
-is_no words bytes f system asks short problem fails = No f asks short system problem fails (record { same_status = refl; same_text = refl })
+-- the lines of a problem's faults
+pub problem_refused : (words : List Text) (bytes : Text) (f : Formula) (forms : Forms) (fault : ariFault) (line : Text) → Asks words f → length bytes ≤ input_limit
+    → AreFormsOf bytes forms → IfSome (as_fault fault) (IsFirstProblemFault bytes (as_list forms)) → SaysProblemFault fault line → Answer words bytes 3 line
+problem_refused words bytes f forms fault line asks short are first says = refused_by words bytes f forms (as_fault fault) line asks short are first says
+
+pub form_behind : (words : List Text) (bytes : Text) (f : Formula) (forms : Forms) (system : System) (next : ℕ) (line : Text) → Asks words f → length bytes ≤ input_limit
+    → AreFormsOf bytes forms → IsProblem bytes (as_list forms) system next → next < form_count forms → line ≡ problem_fault_line (BadForm next) → Answer words bytes 3 line
+form_behind words bytes f forms system next line asks short are problem below says =
+    FormBehind f asks short forms are system next problem (let count = count_of forms in omega arith) (record { same_status = refl; same_text = says })
+
+-- a problem that ends with its text
+problem_text : (bytes : Text) (forms : Forms) (system : System) (next : ℕ) → AreFormsOf bytes forms → IsProblem bytes (as_list forms) system next → form_count forms ≤ next
+    → IsProblemText bytes system
+problem_text bytes forms system next are problem end =
+    let all : length (as_list forms) ≡ suc (length problem.declarations + (length problem.rules + length problem.behind)) =
+    ap length problem.parts.is ∙ ap suc (length-append problem.declarations (problem.rules ++ problem.behind) ∙ ap (λ n. length problem.declarations + n) (length-append problem.rules problem.behind)) in
+    let is_next : next ≡ length problem.declarations + length problem.rules + 1 = problem.next_is in
+    let same : next ≡ length (as_list forms) = omega (arith, count_of forms) in
+    record { forms = forms; are_forms = are; problem = subst (λ n. IsProblem bytes (as_list forms) system n) same problem }
+
+pub is_yes : (words : List Text) (bytes : Text) (f : Formula) (forms : Forms) (system : System) (next : ℕ) → Asks words f → length bytes ≤ input_limit → AreFormsOf bytes forms
+    → IsProblem bytes (as_list forms) system next → form_count forms ≤ next → IsTrueOf system f → Answer words bytes 0 yes_line
+is_yes words bytes f forms system next asks short are problem end holds =
+    Yes f asks short system (problem_text bytes forms system next are problem end) holds (record { same_status = refl; same_text = refl })
+
+pub is_no : (words : List Text) (bytes : Text) (f : Formula) (forms : Forms) (system : System) (next : ℕ) → Asks words f → length bytes ≤ input_limit → AreFormsOf bytes forms
+    → IsProblem bytes (as_list forms) system next → form_count forms ≤ next → IsFalseOf system f → Answer words bytes 1 no_line
+is_no words bytes f forms system next asks short are problem end fails =
+    No f asks short system (problem_text bytes forms system next are problem end) fails (record { same_status = refl; same_text = refl })
 
 -- what is asked, from the formula's text
 pub asks_normality : (words : List Text) (formula : Text) (q : Quantifier) → IsRequest words formula → (v : Name) × IsVariable v × (formula ≡ normality_text q v)
@@ -75,9 +137,9 @@ nothing_without_request words none = λ f asks. none asks.formula asks.request
 
 pub nothing_of_refused : (words : List Text) (formula : Text) → IsRequest words formula → IsNoFormula formula → AsksNothing words
 nothing_of_refused words formula request none = λ f asks.
-    let same : asks.formula ≡ formula = third_word words asks.formula formula asks.request request in
+    let same : asks.formula ≡ formula = same_formula words asks.formula formula asks.request request in
     none f (subst (λ t. IsFormulaText t f) same asks.accepted)
   where
-    third_word : (words : List Text) (f g : Text) → IsRequest words f → IsRequest words g → f ≡ g
-    third_word words f g one two =
-        let both = sym one.words_are ∙ two.words_are in cc
+    same_formula : (words : List Text) (f g : Text) → IsRequest words f → IsRequest words g → f ≡ g
+    same_formula words f g one two =
+        let both = sym one.asked ∙ two.asked in cc

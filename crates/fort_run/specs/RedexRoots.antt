@@ -1,12 +1,18 @@
--- To believe: over constants alone, a constant has a step exactly where it is the left side of a rule.
-use Rattle.std.specs.Prelude.{ℕ, Bool, false, ◌==◌}
+-- To believe: where the left sides of rules are constants and variables, a constant has a step exactly where it or a variable is a left side.
+use Rattle.std.specs.Prelude.{◌≡◌, ℕ, Bool, true, false, ◌==◌, Some}
 use Rattle.std.specs.List.{list_any}
+use Rattle.fort_theory.specs.Signatures.{arity_of}
 use Rattle.fort_theory.specs.Patterns.{Pattern, Any, At, PatternSystem}
 
-abbrev pub has_root : ℕ → Pattern → Bool
-has_root f Any = false
-has_root f (At g ps) = g == f
+-- the pattern is for any term, or has the symbol at its root
+abbrev pub takes_root : ℕ → Pattern → Bool
+takes_root f Any = true
+takes_root f (At g ps) = g == f
 
--- some rule has the symbol at the root of its left side
+-- some rule's left side takes the symbol
 abbrev pub is_left_root : PatternSystem → ℕ → Bool
-is_left_root s f = list_any (λ pair. has_root f pair.0) s.rules
+is_left_root s f = list_any (λ pair. takes_root f pair.0) s.rules
+
+-- the symbol has no arguments, and is the left side of no rule
+abbrev pub IsNormalConstant : PatternSystem → ℕ → Type 0
+IsNormalConstant s f = (arity_of s.signature f ≡ Some 0) × (is_left_root s f ≡ false)

@@ -1,14 +1,14 @@
 -- To believe: which status and which text each reply of the program is.
 use Rattle.std.specs.Prelude.{ℕ, List}
-use Rattle.fort_answers.specs.Lines.{usage_text, formula_unbuilt, input_too_long, problem_unbuilt, yes_line, no_line}
+use Rattle.fort_answers.specs.Lines.{usage_text, formula_unbuilt, input_too_long, yes_line, no_line}
 use Rattle.fort_run.specs.declared.reply.Reply.{Reply}
-use Rattle.fort_run.specs.declared.reply.Reply.TheVariants.{Usage, FormulaUnbuilt, InputTooLong, ProblemUnbuilt, Yes, No}
+use Rattle.fort_run.specs.declared.reply.Reply.TheVariants.{Usage, FormulaUnbuilt, InputTooLong, Refused, Yes, No}
 
 abbrev pub status_of : Reply → ℕ
 status_of Usage = 2
 status_of FormulaUnbuilt = 3
 status_of InputTooLong = 3
-status_of ProblemUnbuilt = 3
+status_of (Refused line) = 3
 status_of Yes = 0
 status_of No = 1
 
@@ -16,6 +16,6 @@ abbrev pub text_of : Reply → List ℕ
 text_of Usage = usage_text
 text_of FormulaUnbuilt = formula_unbuilt
 text_of InputTooLong = input_too_long
-text_of ProblemUnbuilt = problem_unbuilt
+text_of (Refused line) = line.items
 text_of Yes = yes_line
 text_of No = no_line

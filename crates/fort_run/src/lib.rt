@@ -3,10 +3,9 @@
 
 mod decision;
 mod outcome;
-mod problem;
 mod question;
+mod refusal;
 mod reply;
-mod rule_text;
 #[cfg(test)]
 mod tests;
 mod text;

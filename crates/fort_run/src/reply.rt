@@ -2,12 +2,13 @@ ghost use Rattle.std.specs.Prelude.{◌≡◌};
 ghost use Rattle.fort_run.specs.ReplyView.{status_of, text_of};
 
 /// What the program answers where neither memory nor a device withholds the answer.
-#[derive(Clone, Copy, Debug, PartialEq, Eq)]
+#[derive(Debug, Drop)]
 pub enum Reply {
     Usage,
     FormulaUnbuilt,
     InputTooLong,
-    ProblemUnbuilt,
+    /// The line that refuses the input.
+    Refused(Vec<u8>),
     Yes,
     No,
 }
@@ -19,27 +20,27 @@ const USAGE: &str = "usage: fort decide [--states N] [--certificate] FORMULA
 ";
 
 impl Reply {
-    pub fn status(self) -> u8
-        ensures { result ≡ status_of self }
+    pub fn status(&self) -> u8
+        ensures { result ≡ status_of self.now }
     {
         match self {
             Reply::Yes => 0,
             Reply::No => 1,
             Reply::Usage => 2,
-            Reply::FormulaUnbuilt | Reply::InputTooLong | Reply::ProblemUnbuilt => 3,
+            Reply::FormulaUnbuilt | Reply::InputTooLong | Reply::Refused(_) => 3,
         }
     }
 
-    pub fn text(self) -> &'static str
-        ensures { result.now ≡ text_of self }
+    pub fn text(&self) -> &[u8]
+        ensures { result.now ≡ text_of self.now }
     {
         match self {
-            Reply::Usage => USAGE,
-            Reply::FormulaUnbuilt => "REFUSED formula unbuilt\n",
-            Reply::InputTooLong => "REFUSED input too long\n",
-            Reply::ProblemUnbuilt => "REFUSED problem unbuilt\n",
-            Reply::Yes => "YES\n",
-            Reply::No => "NO\n",
+            Reply::Usage => USAGE.as_bytes(),
+            Reply::FormulaUnbuilt => b"REFUSED formula unbuilt\n",
+            Reply::InputTooLong => b"REFUSED input too long\n",
+            Reply::Refused(line) => line,
+            Reply::Yes => b"YES\n",
+            Reply::No => b"NO\n",
         }
     }
 }

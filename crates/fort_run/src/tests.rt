@@ -47,10 +47,7 @@ fn problem(alloc: Global, constants: usize, rules: usize) -> Result<String, Allo
 }
 
 #[test]
-fn words_formulas_and_problems(rt: HostRuntime) -> Result<(), Fail> {
-    let every = "forall x (NF(x))";
-    let some = "exists x (NF(x))";
-    let refused = "REFUSED problem unbuilt\n";
+fn words_and_formulas(rt: HostRuntime) -> Result<(), Fail> {
     let table = [
         ("fort|decide|forall x (NF(x))", ONE, 0, "YES\n"),
         ("fort|decide|exists x (NF(x))", ONE, 0, "YES\n"),
@@ -62,12 +59,7 @@ fn words_formulas_and_problems(rt: HostRuntime) -> Result<(), Fail> {
             0,
             "YES\n",
         ),
-        (
-            "fort|decide|exists x (NF(x))",
-            "(format TRS)\n(fun a 0)\n(rule a a)\n",
-            1,
-            "NO\n",
-        ),
+        ("fort|decide|--|forall x (NF(x))", ONE, 0, "YES\n"),
         ("fort|decide|NF(x)", ONE, 3, "REFUSED formula unbuilt\n"),
         (
             "fort|decide|forall x (NF(y))",
@@ -104,56 +96,11 @@ fn words_formulas_and_problems(rt: HostRuntime) -> Result<(), Fail> {
         ("fort", ONE, 2, USAGE),
         ("fort|Decide|forall x (NF(x))", ONE, 2, USAGE),
         ("fort|decide|forall x (NF(x))|more", ONE, 2, USAGE),
-        ("fort|decide|forall x (NF(x))", "", 3, refused),
-        ("fort|decide|forall x (NF(x))", "(format TRS)\n", 3, refused),
-        (
-            "fort|decide|forall x (NF(x))",
-            "(format TRS)\n(fun a 0)",
-            3,
-            refused,
-        ),
-        (
-            "fort|decide|forall x (NF(x))",
-            "(format TRS)\n(fun a 1)\n",
-            3,
-            refused,
-        ),
-        (
-            "fort|decide|forall x (NF(x))",
-            "(format TRS)\n(fun a 0)\n(fun a 0)\n",
-            3,
-            refused,
-        ),
-        (
-            "fort|decide|forall x (NF(x))",
-            "(format TRS)\n(fun :a 0)\n",
-            3,
-            refused,
-        ),
-        (
-            "fort|decide|forall x (NF(x))",
-            "(format TRS)\n(fun a 0)\n(rule a x)\n",
-            3,
-            refused,
-        ),
-        (
-            "fort|decide|forall x (NF(x))",
-            "(format TRS)\n(fun a 0)\n(rule a a)\n(fun b 0)\n",
-            3,
-            refused,
-        ),
-        (
-            "fort|decide|forall x (NF(x))",
-            "(format TRS)\n(fun a 0)\n\n",
-            3,
-            refused,
-        ),
-        (
-            "fort|decide|forall x (NF(x))",
-            "(format TRS)\n(fun a:|-> 0)\n",
-            0,
-            "YES\n",
-        ),
+        ("fort|decide|--states|5|forall x (NF(x))", ONE, 2, USAGE),
+        ("fort|decide|--certificate|forall x (NF(x))", ONE, 2, USAGE),
+        ("fort|witness|NF(x)", ONE, 2, USAGE),
+        ("fort|sample|3", ONE, 2, USAGE),
+        ("fort|--help", ONE, 2, USAGE),
     ];
     for (words, input, status, text) in table {
         let words: Vec<&str> = words.split('|').collect(rt.alloc())?;
@@ -165,16 +112,188 @@ fn words_formulas_and_problems(rt: HostRuntime) -> Result<(), Fail> {
             "the text of {words:?} on {input:?}"
         );
     }
-    for (constants, rules, status) in [(255, 4096, 1), (256, 1, 3), (2, 4097, 3)] {
+    Ok(())
+}
+
+/// The status and the text of a formula on a problem whose format stands before the text, unless it has a `!` first.
+fn decided(alloc: Global, formula: &str, text: &str) -> Result<(u8, Vec<u8>), AllocError> {
+    let input = match text.strip_prefix('!') {
+        Some(whole) => String::from_str(alloc, whole)?,
+        None => format!(in alloc; "(format TRS){text}")?,
+    };
+    answer(alloc, &["fort", "decide", formula], input.as_bytes())
+}
+
+/// Problems, and whether every ground term is a normal form, and whether some is.
+#[test]
+fn normal_forms(rt: HostRuntime) -> Result<(), Fail> {
+    let table = [
+        ("(fun a 0)", "YES\n", "YES\n"),
+        ("(fun a 0)(fun f 2)(fun b 0)", "YES\n", "YES\n"),
+        ("(fun a 0)(fun b 0)(rule a b)", "NO\n", "YES\n"),
+        (
+            "(fun a 0)(fun b 0)(fun f 1)(rule a b)(rule a b)",
+            "NO\n",
+            "YES\n",
+        ),
+        ("(fun a 0)(rule a a)", "NO\n", "NO\n"),
+        ("(fun a 0)(fun f 1)(rule x a)", "NO\n", "NO\n"),
+        ("(fun a 0)(fun b 0)(rule a x)", "NO\n", "YES\n"),
+        ("(fun a 0)(rule x y)", "NO\n", "NO\n"),
+        (
+            " ; a comment ( ) é\n\t(fun ; the name\r\n a|->b 0)\r\n;end",
+            "YES\n",
+            "YES\n",
+        ),
+        ("(fun a:b 0)", "YES\n", "YES\n"),
+    ];
+    for (text, every, some) in table {
+        let (status, printed) = decided(rt.alloc(), "forall x (NF(x))", text)?;
+        assert_eq!(rt; printed.as_slice(), every.as_bytes(), "forall on {text}");
+        assert_eq!(rt; status == 0, every == "YES\n", "forall on {text}");
+        let (status, printed) = decided(rt.alloc(), "exists x (NF(x))", text)?;
+        assert_eq!(rt; printed.as_slice(), some.as_bytes(), "exists on {text}");
+        assert_eq!(rt; status == 0, some == "YES\n", "exists on {text}");
+    }
+    Ok(())
+}
+
+/// Texts that are refused, and the line of each.
+#[test]
+fn refused_problems(rt: HostRuntime) -> Result<(), Fail> {
+    let table = [
+        ("!", "REFUSED problem no format\n"),
+        ("! ; nothing", "REFUSED problem no format\n"),
+        ("!format TRS", "REFUSED problem no format\n"),
+        ("!(format SRS)", "REFUSED problem no format\n"),
+        ("!(format TRS TRS)", "REFUSED problem no format\n"),
+        ("!((format) TRS)", "REFUSED problem no format\n"),
+        ("!(fun a 0)", "REFUSED problem no format\n"),
+        ("!\u{1}(format TRS)", "REFUSED text bad byte at 0\n"),
+        ("!(format\u{7f}TRS)", "REFUSED text bad byte at 7\n"),
+        ("!(format TRS)é", "REFUSED text bad byte at 12\n"),
+        ("!(x\u{b})(", "REFUSED text bad byte at 2\n"),
+        ("!)", "REFUSED text extra close at 0\n"),
+        ("!(format TRS))(", "REFUSED text extra close at 12\n"),
+        ("!(format TRS", "REFUSED text unclosed at 0\n"),
+        (
+            "!(format TRS)(fun a 0 ; (\n;)",
+            "REFUSED text unclosed at 12\n",
+        ),
+        ("!(format (TRS)((x)", "REFUSED text unclosed at 13\n"),
+        ("", "REFUSED problem no constant\n"),
+        ("(fun f 1)", "REFUSED problem no constant\n"),
+        ("(fun f 1)(rule a)", "REFUSED problem no constant\n"),
+        ("word", "REFUSED problem no constant\n"),
+        ("(fun a)", "REFUSED problem form 1 bad form\n"),
+        ("(fun)", "REFUSED problem form 1 bad form\n"),
+        ("(fun a 0 0)", "REFUSED problem form 1 bad form\n"),
+        ("(fun a 0)(fun (b) 0)", "REFUSED problem form 2 bad form\n"),
+        ("(fun :a 9)", "REFUSED problem form 1 bad name\n"),
+        ("(fun a 9)", "REFUSED problem form 1 bad arity\n"),
+        ("(fun a 00)", "REFUSED problem form 1 bad arity\n"),
+        ("(fun a 0)(fun a x)", "REFUSED problem form 2 bad arity\n"),
+        (
+            "(fun a 0)(fun b 8)(fun a 1)",
+            "REFUSED problem form 3 duplicate\n",
+        ),
+        ("(fun a 0)(rule a)", "REFUSED problem form 2 bad form\n"),
+        ("(fun a 0)(rule a a a)", "REFUSED problem form 2 bad form\n"),
+        (
+            "(fun a 0)(fun f 1)(rule (f a) a)",
+            "REFUSED problem form 3 bad form\n",
+        ),
+        ("(fun a 0)(rule a ())", "REFUSED problem form 2 bad form\n"),
+        ("(fun a 0)(rule :x a)", "REFUSED problem form 2 bad name\n"),
+        ("(fun a 0)(rule a :x)", "REFUSED problem form 2 bad name\n"),
+        (
+            "(fun a 0)(fun f 1)(rule f :x)",
+            "REFUSED problem form 3 wrong count\n",
+        ),
+        (
+            "(fun a 0)(fun f 1)(rule x f)",
+            "REFUSED problem form 3 wrong count\n",
+        ),
+        (
+            "(fun a 0)(rule x x)",
+            "REFUSED problem form 2 sides share x\n",
+        ),
+        (
+            "(fun a 0)(rule a a)(rule yes yes)(rule a)",
+            "REFUSED problem form 3 sides share yes\n",
+        ),
+        (
+            "(fun a 0)(rule a a)(fun b 0)",
+            "REFUSED problem form 3 bad form\n",
+        ),
+        ("(fun a 0)word", "REFUSED problem form 2 bad form\n"),
+        ("(fun a 0)()", "REFUSED problem form 2 bad form\n"),
+        (
+            "(fun a 0)(rule a a)(format TRS)",
+            "REFUSED problem form 3 bad form\n",
+        ),
+    ];
+    for (text, line) in table {
+        let (status, printed) = decided(rt.alloc(), "forall x (NF(x))", text)?;
+        assert_eq!(rt; printed.as_slice(), line.as_bytes(), "{text}");
+        assert_eq!(rt; status, 3, "{text}");
+    }
+    Ok(())
+}
+
+#[test]
+fn limits_of_problems(rt: HostRuntime) -> Result<(), Fail> {
+    for (constants, rules, text) in [
+        (255, 4096, "NO\n"),
+        (256, 1, "REFUSED problem too many functions\n"),
+        (2, 4097, "REFUSED problem too many rules\n"),
+    ] {
         let input = problem(rt.alloc(), constants, rules)?;
-        let (got, _) = answer(rt.alloc(), &["fort", "decide", every], input.as_bytes())?;
-        assert_eq!(rt; got, status, "{constants} constants and {rules} rules");
-        let (got, _) = answer(rt.alloc(), &["fort", "decide", some], input.as_bytes())?;
+        let (_, printed) = answer(
+            rt.alloc(),
+            &["fort", "decide", "forall x (NF(x))"],
+            input.as_bytes(),
+        )?;
         assert_eq!(rt;
-            got == 0,
-            status == 1,
+            printed.as_slice(),
+            text.as_bytes(),
             "{constants} constants and {rules} rules"
         );
+    }
+    for (length, text) in [(255, "YES\n"), (256, "REFUSED problem form 1 bad name\n")] {
+        let mut input = String::from_str(rt.alloc(), "(format TRS)(fun ")?;
+        for _ in 0..length {
+            input.push('n')?;
+        }
+        input.push_str(" 0)")?;
+        let (_, printed) = answer(
+            rt.alloc(),
+            &["fort", "decide", "forall x (NF(x))"],
+            input.as_bytes(),
+        )?;
+        assert_eq!(rt;
+            printed.as_slice(),
+            text.as_bytes(),
+            "a name of {length} bytes"
+        );
+    }
+    for (depth, text) in [
+        (200, "REFUSED problem no format\n"),
+        (201, "REFUSED text too deep at 200\n"),
+    ] {
+        let mut input = String::new(rt.alloc());
+        for _ in 0..depth {
+            input.push('(')?;
+        }
+        for _ in 0..depth {
+            input.push(')')?;
+        }
+        let (_, printed) = answer(
+            rt.alloc(),
+            &["fort", "decide", "forall x (NF(x))"],
+            input.as_bytes(),
+        )?;
+        assert_eq!(rt; printed.as_slice(), text.as_bytes(), "a depth of {depth}");
     }
     Ok(())
 }
@@ -182,10 +301,10 @@ fn words_formulas_and_problems(rt: HostRuntime) -> Result<(), Fail> {
 #[test]
 fn inputs_at_the_limit(rt: HostRuntime) -> Result<(), Fail> {
     for (length, text) in [
-        (67_108_864, "REFUSED problem unbuilt\n"),
+        (67_108_864, "REFUSED problem no format\n"),
         (67_108_865, "REFUSED input too long\n"),
     ] {
-        let input = vec![in rt.alloc(); b'x'; length]?;
+        let input = vec![in rt.alloc(); b' '; length]?;
         let (status, printed) = answer(
             rt.alloc(),
             &["fort", "decide", "forall x (NF(x))"],

@@ -1,22 +1,23 @@
-ghost use Rattle.std.specs.Prelude.{◌≡◌, ◌≤◌, ◌⊎◌, List, map, string_bytes, Err, IfOk, OnOk, IsErrOf};
-ghost use Rattle.std.specs.Io.KnownBytes.{IsAtEnd};
+ghost use Rattle.std.specs.Prelude.{◌≡◌, ◌≤◌, ◌⊎◌, List, map, length, string_bytes, Err, IfOk, OnOk, IsErrOf};
 ghost use Rattle.fort_theory.specs.Formulas.{Name};
 ghost use Rattle.fort_grammar.specs.FormulaText.{normality};
 ghost use Rattle.fort_io.specs.Faults.{FaultCounted};
 ghost use Rattle.fort_answers.specs.Request.{Asks, AsksNothing, AsksSomething, Text};
-ghost use Rattle.fort_answers.specs.Answer.{AnswerFor};
+ghost use Rattle.fort_answers.specs.Answer.{Answer, AnswerFor, input_limit};
 ghost use Rattle.fort_run.specs.Answered.{Answers, CutsShort, ReadsWhole};
 ghost use Rattle.fort_run.specs.QuestionView.{as_quantifier};
 ghost use Rattle.fort_run.specs.ReplyView.{status_of, text_of};
 
 use crate::decision::is_true;
 use crate::outcome::Outcome;
-use crate::problem::{ProblemFault, read_problem};
 use crate::question::{Quantifier, quantifier_of};
+use crate::refusal::{form_line, problem_line, text_line};
 use crate::reply::Reply;
 use crate::words::formula_word;
+use fort_ari::read_problem;
 use fort_io::{ReadAll, Sink, Source, read_all, write_all};
-use std::alloc::Global;
+use fort_sexpr::read;
+use std::alloc::{AllocError, Global};
 
 /// The most bytes of an input.
 const INPUT_LIMIT: usize = 67_108_864;
@@ -28,6 +29,31 @@ pub enum Stop {
     Memory,
     /// A read failed.
     Fault,
+}
+
+/// The reply to a formula on an input.
+fn reply_to_bytes(alloc: Global, quantifier: Quantifier, bytes: &[u8]) -> Result<Reply, AllocError>
+    requires { length bytes.now ≤ input_limit }
+    ensures { IfOk result (λ r. (words : List Text) (v : Name) → Asks words (normality (as_quantifier quantifier) v)
+        → Answer words bytes.now (status_of r) (text_of r)) }
+{
+    let forms = match read(alloc, bytes) {
+        Ok(forms) => forms,
+        Err(fault) => return Ok(Reply::Refused(text_line(alloc, &fault)?)),
+    };
+    let problem = match read_problem(alloc, &forms) {
+        Ok(problem) => problem,
+        Err(fault) => return Ok(Reply::Refused(problem_line(alloc, &fault)?)),
+    };
+    if (problem.next as usize) < forms.len() {
+        let line = form_line(alloc, problem.next, b" bad form", b"")?;
+        return Ok(Reply::Refused(line));
+    }
+    if is_true(&problem.system, quantifier) {
+        Ok(Reply::Yes)
+    } else {
+        Ok(Reply::No)
+    }
 }
 
 /// The reply to a formula on what the source gives.
@@ -48,15 +74,9 @@ fn reply_to_formula<S: Source>(
         Err(ReadAll::Fault) => return Err(Stop::Fault),
         Err(ReadAll::Memory) => return Err(Stop::Memory),
     };
-    let system = match read_problem(alloc, bytes.as_slice()) {
-        Ok(system) => system,
-        Err(ProblemFault::Unbuilt) => return Ok(Reply::ProblemUnbuilt),
-        Err(ProblemFault::Memory) => return Err(Stop::Memory),
-    };
-    if is_true(&system, quantifier) {
-        Ok(Reply::Yes)
-    } else {
-        Ok(Reply::No)
+    match reply_to_bytes(alloc, quantifier, bytes.as_slice()) {
+        Ok(reply) => Ok(reply),
+        Err(_) => Err(Stop::Memory),
     }
 }
 
@@ -69,8 +89,10 @@ fn reply_to<S: Source>(alloc: Global, words: &[String], input: &mut S) -> Result
     ensures unread { AsksNothing (map string_bytes words.now) → input.new ≡ input.old }
     ensures never_falls { S.faults input.old ≤ S.faults input.new }
 {
-    let Some(formula) = formula_word(words) else {
-        return Ok(Reply::Usage);
+    let formula = match formula_word(alloc, words) {
+        Ok(Some(formula)) => formula,
+        Ok(None) => return Ok(Reply::Usage),
+        Err(_) => return Err(Stop::Memory),
     };
     let Some(quantifier) = quantifier_of(formula.as_bytes()) else {
         return Ok(Reply::FormulaUnbuilt);
@@ -112,7 +134,7 @@ pub fn run<S: Source, K: Sink>(
         Err(Stop::Memory) => return Outcome { status: 5 },
         Err(Stop::Fault) => return Outcome { status: 6 },
     };
-    match write_all(output, reply.text().as_bytes()) {
+    match write_all(output, reply.text()) {
         Ok(()) => Outcome {
             status: reply.status(),
         },

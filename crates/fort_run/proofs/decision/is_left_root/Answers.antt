@@ -1,10 +1,10 @@
 use Rattle.std.proofs.Common.{◌∙◌, ap, sym}
 use Rattle.std.specs.List.{list_any}
 use Rattle.fort_terms.specs.PatternView.{as_pair}
-use Rattle.fort_run.specs.RedexRoots.{has_root}
+use Rattle.fort_run.specs.RedexRoots.{takes_root}
 use Rattle.fort_run.proofs.Normality.{list_any-map}
 use Rattle.fort_run.proofs.decision.is_left_root.Goals as goal
 
 pub returns : goal.returns
 returns c =
-    c.any_has_root.ensures ∙ sym (list_any-map (λ pair. has_root c.args.f pair.0) as_pair c.rules.result.now) ∙ ap (list_any (λ pair. has_root c.args.f pair.0)) c.rules.ensures
+    c.any_takes_root.ensures ∙ sym (list_any-map (λ pair. takes_root c.args.f pair.0) as_pair c.rules.result.now) ∙ ap (list_any (λ pair. takes_root c.args.f pair.0)) c.rules.ensures
