@@ -1,5 +1,16 @@
 pub mod Stable
+pub mod CorePlaces
+pub mod Binders
+pub mod Abbreviations
+pub mod PropertyTruth
+pub mod ScopeNumbers
+pub mod EachOnceUnique
+pub mod TranslationTruth
 pub mod Lists
+pub mod OnceNames
+pub mod Members
+pub mod ColumnLaws
+pub mod EachOnceLaws
 pub mod Constants
 pub mod PatternSteps
 pub mod GroundSteps

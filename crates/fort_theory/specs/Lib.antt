@@ -11,3 +11,10 @@ pub mod TreeCode
 pub mod SideCode
 pub mod PatternCode
 pub mod SymbolCode
+pub mod Cores
+pub mod CoreTruth
+pub mod EachOnce
+pub mod FreeNames
+pub mod Parts
+pub mod Kinds
+pub mod Translation

@@ -1,0 +1,24 @@
+-- To believe: core formulas: formulas with numbers for variables, and fewer words than those that a user can write.
+use Rattle.std.specs.Prelude.{ℕ}
+
+-- equal; a root step; a step below the root; a step; a parallel step; at least one step; any number of steps; a conversion
+pub data Rel : Type 0 where
+  Eq : Rel
+  Root : Rel
+  Below : Rel
+  Step : Rel
+  Par : Rel
+  Plus : Rel
+  Star : Rel
+  Conv : Rel
+
+pub data Core : Type 0 where
+  True : Core
+  Atom : Rel → ℕ → ℕ → Core
+  Nf : ℕ → Core
+  Not : Core → Core
+  And : Core → Core → Core
+  Or : Core → Core → Core
+  Iff : Core → Core → Core
+  Exists : ℕ → Core → Core
+  Infinite : ℕ → Core → Core

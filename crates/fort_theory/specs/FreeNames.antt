@@ -1,0 +1,32 @@
+-- To believe: which variables are free in a formula, in the order of their first free occurrences.
+use Rattle.std.specs.Prelude.{not, List, [], ◌∷◌, ◌++◌, filter, bytes_eq}
+use Rattle.fort_theory.specs.Formulas.{Name, Formula, True, False, Related, Nf, Join, Has, Not, And, Or, Imp, Iff, Exists, Forall, Infinite}
+
+-- the names other than x
+abbrev pub without : Name → List Name → List Name
+without x xs = filter (λ y. not (bytes_eq y x)) xs
+
+-- the free occurrences of variables from left to right
+abbrev pub occurrences : Formula → List Name
+occurrences True = []
+occurrences False = []
+occurrences (Related rel x y) = x ∷ y ∷ []
+occurrences (Nf x) = x ∷ []
+occurrences (Join x y) = x ∷ y ∷ []
+occurrences (Has property) = []
+occurrences (Not f) = occurrences f
+occurrences (And f g) = occurrences f ++ occurrences g
+occurrences (Or f g) = occurrences f ++ occurrences g
+occurrences (Imp f g) = occurrences f ++ occurrences g
+occurrences (Iff f g) = occurrences f ++ occurrences g
+occurrences (Exists x f) = without x (occurrences f)
+occurrences (Forall x f) = without x (occurrences f)
+occurrences (Infinite x f) = without x (occurrences f)
+
+-- each name once, at its first place
+abbrev pub once : List Name → List Name
+once [] = []
+once (x ∷ xs) = x ∷ without x (once xs)
+
+abbrev pub free_names : Formula → List Name
+free_names f = once (occurrences f)
