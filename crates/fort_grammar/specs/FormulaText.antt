@@ -1,48 +1,58 @@
--- To believe: which text is which formula. For now the two texts `forall V (NF(V))` and `exists V (NF(V))`, V a variable, alone are formulas.
-use Rattle.std.specs.Prelude.{◌≡◌, ℕ, List, [], ◌∷◌, ◌++◌, Bool, false, ◌||◌, ◌==◌, IsTrue, Contains, codes}
-use Rattle.std.specs.Char.{is_ascii_alphabetic, is_ascii_alphanumeric}
-use Rattle.std.specs.List.{AllByRecursion}
-use Rattle.fort_theory.specs.Formulas.{Name, Formula, Nf, Exists, Forall}
+-- To believe: which text is which formula, and which fault of a text is its first.
+use Rattle.std.specs.Prelude.{◌≡◌, ℕ, ◌+◌, ◌-◌, ◌<◌, ◌≤◌, List, [], ◌∷◌, length, take}
+use Rattle.fort_theory.specs.Formulas.{Formula}
+use Rattle.fort_grammar.specs.Tokens.{Token, Open, Close}
+use Rattle.fort_grammar.specs.TokenText.{Reads, AreTokensOf, IsBadByte}
+use Rattle.fort_grammar.specs.FormulaGrammar.{IsFormula}
 
--- a letter, a digit or an underscore
-abbrev pub is_name_byte : ℕ → Bool
-is_name_byte b = is_ascii_alphanumeric b || b == 95
+-- the most tokens of a formula
+abbrev pub most_tokens : ℕ
+most_tokens = 1000
 
-abbrev pub begins_with_letter : Name → Bool
-begins_with_letter [] = false
-begins_with_letter (b ∷ bs) = is_ascii_alphabetic b
+-- the most parentheses that are open at once
+abbrev pub deepest_formula : ℕ
+deepest_formula = 200
 
--- the words that are no variables
-abbrev pub reserved : List Name
-reserved = codes "exists" ∷ codes "forall" ∷ codes "infinite" ∷ codes "true" ∷ codes "false" ∷ codes "NF" ∷ codes "JOIN"
-    ∷ codes "CR" ∷ codes "WCR" ∷ codes "SCR" ∷ codes "WN" ∷ codes "UNR" ∷ codes "UNC" ∷ codes "NFP" ∷ codes "COM" ∷ codes "SN" ∷ []
+-- how many parentheses are open behind these tokens, where n are before; a ) with none open lowers nothing
+abbrev pub open_behind : ℕ → List Token → ℕ
+open_behind n [] = n
+open_behind n (Open ∷ ts) = open_behind (n + 1) ts
+open_behind n (Close ∷ ts) = open_behind (n - 1) ts
+open_behind n (t ∷ ts) = open_behind n ts
 
--- a letter, then letters, digits and underscores, and no reserved word
-pub record IsVariable (name : Name) : Type 0 where
-  pub letter : IsTrue (begins_with_letter name)
-  pub word : AllByRecursion (λ b. IsTrue (is_name_byte b)) name
-  pub free : Contains reserved name → ⊥
+-- never are too many open
+abbrev pub AreShallow : List Token → Type 0
+AreShallow tokens = (k : ℕ) → open_behind 0 (take k tokens) ≤ deepest_formula
 
-pub data Quantifier : Type 0 where
-  Every : Quantifier
-  Some : Quantifier
-
-abbrev pub keyword : Quantifier → List ℕ
-keyword Every = codes "forall"
-keyword Some = codes "exists"
-
--- that every ground term is a normal form, or that some is
-abbrev pub normality : Quantifier → Name → Formula
-normality Every v = Forall v (Nf v)
-normality Some v = Exists v (Nf v)
-
-abbrev pub normality_text : Quantifier → Name → List ℕ
-normality_text q v = keyword q ++ (codes " " ++ (v ++ (codes " (NF(" ++ (v ++ codes "))"))))
+-- at the offset stands the first ( that opens one too many
+pub record OpensTooMany (text : List ℕ) (offset : ℕ) : Type 0 where
+  pub tokens : List Token
+  pub behind : List ℕ
+  pub read : Reads text tokens (40 ∷ behind)
+  pub shallow : AreShallow tokens
+  pub full : open_behind 0 tokens ≡ deepest_formula
+  pub place : offset + length (40 ∷ behind) ≡ length text
 
 -- the text is the formula
-pub record IsFormulaText (text : List ℕ) (formula : Formula) : Type 0 where
-  pub quantifier : Quantifier
-  pub variable : Name
-  pub named : IsVariable variable
-  pub spelled : text ≡ normality_text quantifier variable
-  pub means : formula ≡ normality quantifier variable
+pub record IsFormulaText (text : List ℕ) (f : Formula) : Type 0 where
+  pub tokens : List Token
+  pub read : AreTokensOf text tokens
+  pub few : length tokens ≤ most_tokens
+  pub shallow : AreShallow tokens
+  pub formula : IsFormula tokens f []
+
+-- why a text is no formula; offsets count bytes from 0
+pub data FormulaFault : Type 0 where
+  BadByte : ℕ → FormulaFault
+  TooLong : FormulaFault
+  TooDeep : ℕ → FormulaFault
+  Syntax : FormulaFault
+
+-- the first fault: each over the whole text, where the ones before it aren't there
+pub data IsFirstFormulaFault (text : List ℕ) : FormulaFault → Type 0 where
+  Bad : (offset : ℕ) → IsBadByte text offset → IsFirstFormulaFault text (BadByte offset)
+  Long : (tokens : List Token) → AreTokensOf text tokens → most_tokens < length tokens → IsFirstFormulaFault text TooLong
+  Deep : (tokens : List Token) → AreTokensOf text tokens → length tokens ≤ most_tokens → (offset : ℕ) → OpensTooMany text offset
+      → IsFirstFormulaFault text (TooDeep offset)
+  NoFormula : (tokens : List Token) → AreTokensOf text tokens → length tokens ≤ most_tokens → AreShallow tokens
+      → ((f : Formula) → IsFormula tokens f [] → ⊥) → IsFirstFormulaFault text Syntax

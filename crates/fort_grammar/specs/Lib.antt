@@ -1,3 +1,9 @@
+pub mod Variables
+pub mod Tokens
+pub mod TokenText
+pub mod TokenForms
+pub mod FormulaGrammar
+pub mod Continuations
 pub mod FormulaText
 pub mod Text
 pub mod Forms

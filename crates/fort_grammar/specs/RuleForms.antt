@@ -1,5 +1,5 @@
 -- To believe: which forms are which rules, and what is wrong with a form that is none. For now a side that is a list is a bad form.
-use Rattle.std.specs.Prelude.{◌≡◌, ◌≢◌, ℕ, ◌<◌, ◌≤◌, List, [], ◌∷◌, length, Option, None, Some, Contains, codes}
+use Rattle.std.specs.Prelude.{◌≡◌, ◌≢◌, ℕ, ◌<◌, List, [], ◌∷◌, None, Some, Contains, codes}
 use Rattle.fort_theory.specs.Signatures.{Signature, IsName, arity_of, name_of, names_of}
 use Rattle.fort_theory.specs.Sides.{Side, Var, App, NoSide, Rule}
 use Rattle.fort_grammar.specs.Forms.{Form}

@@ -1,0 +1,11 @@
+pub mod FormulaTails
+pub mod FormulaUnique
+pub mod FormulaNone
+pub mod NextTokens
+pub mod UnaryNone
+pub mod TokenReadings
+pub mod TokenTexts
+pub mod TokenFronts
+pub mod TokenUnique
+pub mod OpenUnique
+pub mod OneFormula

@@ -1,0 +1,76 @@
+-- Nothing to believe: which tokens go on with a reading that could end before them, and that no reading of a kind begins some tokens.
+use Rattle.std.specs.Prelude.{◌≡◌, Bool, true, false, List, [], ◌∷◌}
+use Rattle.fort_theory.specs.Formulas.{Name, Formula, SurfaceRel}
+use Rattle.fort_grammar.specs.Tokens.{Token, Close, Comma, And, Or, Imp, Iff, Related, Com, Sn, Variable}
+use Rattle.fort_grammar.specs.FormulaGrammar.{Quantifier, IsFormula, IsImplication, IsDisjunction, IsConjunction, IsUnary, IsBound}
+
+-- a conjunction that ends before these tokens can be read further
+abbrev pub continues_conjunction : List Token → Bool
+continues_conjunction [] = false
+continues_conjunction (And ∷ ts) = true
+continues_conjunction (t ∷ ts) = false
+
+abbrev pub continues_disjunction : List Token → Bool
+continues_disjunction [] = false
+continues_disjunction (And ∷ ts) = true
+continues_disjunction (Or ∷ ts) = true
+continues_disjunction (t ∷ ts) = false
+
+abbrev pub continues_implication : List Token → Bool
+continues_implication [] = false
+continues_implication (And ∷ ts) = true
+continues_implication (Or ∷ ts) = true
+continues_implication (Imp ∷ ts) = true
+continues_implication (t ∷ ts) = false
+
+abbrev pub continues_formula : List Token → Bool
+continues_formula [] = false
+continues_formula (And ∷ ts) = true
+continues_formula (Or ∷ ts) = true
+continues_formula (Imp ∷ ts) = true
+continues_formula (Iff ∷ ts) = true
+continues_formula (t ∷ ts) = false
+
+-- a unary formula can begin with this token
+abbrev pub begins_unary : Token → Bool
+begins_unary Close = false
+begins_unary Comma = false
+begins_unary And = false
+begins_unary Or = false
+begins_unary Imp = false
+begins_unary Iff = false
+begins_unary (Related rel) = false
+begins_unary Com = false
+begins_unary Sn = false
+begins_unary t = true
+
+-- the next token isn't this one
+abbrev pub HasNoNext : Token → List Token → Type 0
+HasNoNext t ts = (rest : List Token) → ts ≡ t ∷ rest → ⊥
+
+-- the next token is no variable
+abbrev pub HasNoVariable : List Token → Type 0
+HasNoVariable ts = (x : Name) (rest : List Token) → ts ≡ Variable x ∷ rest → ⊥
+
+-- the next token is no relation
+abbrev pub HasNoRelation : List Token → Type 0
+HasNoRelation ts = (rel : SurfaceRel) (rest : List Token) → ts ≡ Related rel ∷ rest → ⊥
+
+abbrev pub HasNoUnary : List Token → Type 0
+HasNoUnary ts = (f : Formula) (us : List Token) → IsUnary ts f us → ⊥
+
+abbrev pub HasNoBound : Quantifier → List Token → Type 0
+HasNoBound q ts = (f : Formula) (us : List Token) → IsBound q ts f us → ⊥
+
+-- the others speak of readings that can't go on
+abbrev pub HasNoConjunction : List Token → Type 0
+HasNoConjunction ts = (f : Formula) (us : List Token) → IsConjunction ts f us → continues_conjunction us ≡ false → ⊥
+
+abbrev pub HasNoDisjunction : List Token → Type 0
+HasNoDisjunction ts = (f : Formula) (us : List Token) → IsDisjunction ts f us → continues_disjunction us ≡ false → ⊥
+
+abbrev pub HasNoImplication : List Token → Type 0
+HasNoImplication ts = (f : Formula) (us : List Token) → IsImplication ts f us → continues_implication us ≡ false → ⊥
+
+abbrev pub HasNoFormula : List Token → Type 0
+HasNoFormula ts = (f : Formula) (us : List Token) → IsFormula ts f us → continues_formula us ≡ false → ⊥

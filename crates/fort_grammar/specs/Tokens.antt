@@ -1,0 +1,94 @@
+-- To believe: what the tokens of formulas are, and how each is written.
+use Rattle.std.specs.Prelude.{ℕ, List, codes}
+use Rattle.fort_theory.specs.Formulas as theory
+use Rattle.fort_theory.specs.Formulas.{Name, SurfaceRel, Property}
+use Rattle.fort_grammar.specs.Variables.{IsVariable}
+
+pub data Token : Type 0 where
+  Open : Token
+  Close : Token
+  Comma : Token
+  Not : Token
+  And : Token
+  Or : Token
+  Imp : Token
+  Iff : Token
+  Related : SurfaceRel → Token
+  Exists : Token
+  Forall : Token
+  Infinite : Token
+  True : Token
+  False : Token
+  Nf : Token
+  Join : Token
+  Has : Property → Token
+  Com : Token
+  Sn : Token
+  Variable : Name → Token
+
+abbrev pub relation_text : SurfaceRel → List ℕ
+relation_text theory.Eq = codes "="
+relation_text theory.Step = codes "->"
+relation_text theory.Star = codes "->*"
+relation_text theory.Plus = codes "->+"
+relation_text theory.Reflexive = codes "->="
+relation_text theory.Normal = codes "->!"
+relation_text theory.Root = codes "->^"
+relation_text theory.Below = codes "->_"
+relation_text theory.Par = codes "-||->"
+relation_text theory.Either = codes "<->"
+relation_text theory.Conv = codes "<->*"
+
+abbrev pub property_text : Property → List ℕ
+property_text theory.Cr = codes "CR"
+property_text theory.Wcr = codes "WCR"
+property_text theory.Scr = codes "SCR"
+property_text theory.Wn = codes "WN"
+property_text theory.Unr = codes "UNR"
+property_text theory.Unc = codes "UNC"
+property_text theory.Nfp = codes "NFP"
+
+abbrev pub token_text : Token → List ℕ
+token_text Open = codes "("
+token_text Close = codes ")"
+token_text Comma = codes ","
+token_text Not = codes "~"
+token_text And = codes "&"
+token_text Or = codes "|"
+token_text Imp = codes "=>"
+token_text Iff = codes "<=>"
+token_text (Related rel) = relation_text rel
+token_text Exists = codes "exists"
+token_text Forall = codes "forall"
+token_text Infinite = codes "infinite"
+token_text True = codes "true"
+token_text False = codes "false"
+token_text Nf = codes "NF"
+token_text Join = codes "JOIN"
+token_text (Has property) = property_text property
+token_text Com = codes "COM"
+token_text Sn = codes "SN"
+token_text (Variable name) = name
+
+-- a name stands for a variable only where it is no reserved word
+abbrev pub IsToken : Token → Type 0
+IsToken (Variable name) = IsVariable name
+IsToken Open = Unit {0}
+IsToken Close = Unit {0}
+IsToken Comma = Unit {0}
+IsToken Not = Unit {0}
+IsToken And = Unit {0}
+IsToken Or = Unit {0}
+IsToken Imp = Unit {0}
+IsToken Iff = Unit {0}
+IsToken (Related rel) = Unit {0}
+IsToken Exists = Unit {0}
+IsToken Forall = Unit {0}
+IsToken Infinite = Unit {0}
+IsToken True = Unit {0}
+IsToken False = Unit {0}
+IsToken Nf = Unit {0}
+IsToken Join = Unit {0}
+IsToken (Has property) = Unit {0}
+IsToken Com = Unit {0}
+IsToken Sn = Unit {0}
