@@ -1,0 +1,26 @@
+-- The subformulas of a core formula of the program, by its shape.
+use Rattle.std.proofs.Common.{◌≡◌, ℕ, ◌++◌, ◌∷◌, [], ◌⊎◌, inl, inr, refl}
+use Rattle.fort_theory.specs.Cores as theory
+use Rattle.fort_theory.specs.Parts.{postorder}
+use Rattle.fort_formulas.specs.declared.core_formula.Rel.{Rel}
+use Rattle.fort_formulas.specs.declared.core_formula.Core.{Core}
+use Rattle.fort_formulas.specs.declared.core_formula.Core.TheVariants.{True, Atom, Nf, Not, And, Or, Iff, Exists, Infinite}
+use Rattle.fort_formulas.specs.CoreView.{as_core}
+
+pub postorder-leaf : (c : Core) → (c ≡ True) ⊎ (((r : Rel) × (x : ℕ) × (y : ℕ) × (c ≡ Atom r x y)) ⊎ ((x : ℕ) × (c ≡ Nf x)))
+    → postorder (as_core c) ≡ as_core c ∷ []
+postorder-leaf c (inl e) = rw e refl
+postorder-leaf c (inr (inl (r, x, y, e))) = rw e refl
+postorder-leaf c (inr (inr (x, e))) = rw e refl
+
+pub postorder-one : (c : Core) (f : theory.Core) → (c ≡ Not f) ⊎ (((n : ℕ) × (c ≡ Exists n f)) ⊎ ((n : ℕ) × (c ≡ Infinite n f)))
+    → postorder (as_core c) ≡ postorder f ++ as_core c ∷ []
+postorder-one c f (inl e) = rw e refl
+postorder-one c f (inr (inl (n, e))) = rw e refl
+postorder-one c f (inr (inr (n, e))) = rw e refl
+
+pub postorder-two : (c : Core) (f g : theory.Core) → (c ≡ And f g) ⊎ ((c ≡ Or f g) ⊎ (c ≡ Iff f g))
+    → postorder (as_core c) ≡ postorder f ++ (postorder g ++ as_core c ∷ [])
+postorder-two c f g (inl e) = rw e refl
+postorder-two c f g (inr (inl e)) = rw e refl
+postorder-two c f g (inr (inr e)) = rw e refl

@@ -1,0 +1,2 @@
+pub mod CoreShapes
+pub mod CoreMembers

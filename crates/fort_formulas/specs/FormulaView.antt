@@ -1,0 +1,64 @@
+-- To believe: which formula of the definitions a formula of the program is.
+use Rattle.std.specs.Prelude.{ℕ, suc, ◌+◌}
+use Rattle.fort_theory.specs.Formulas as theory
+use Rattle.fort_formulas.specs.declared.surface.SurfaceRel.{SurfaceRel}
+use Rattle.fort_formulas.specs.declared.surface.SurfaceRel.TheVariants.{Eq, Step, Star, Plus, Reflexive, Normal, Root, Below, Par, Either, Conv}
+use Rattle.fort_formulas.specs.declared.surface.Macro as property
+use Rattle.fort_formulas.specs.declared.surface.Macro.TheVariants.{Cr, Wcr, Scr, Wn, Unr, Unc, Nfp}
+use Rattle.fort_formulas.specs.declared.surface.Formula.{Formula}
+use Rattle.fort_formulas.specs.declared.surface.Formula.TheVariants.{True, False, Rel, Nf, Join, Macro, Not, And, Or, Imp, Iff, Exists, Forall, Infinite}
+
+abbrev pub as_surface_rel : SurfaceRel → theory.SurfaceRel
+as_surface_rel Eq = theory.Eq
+as_surface_rel Step = theory.Step
+as_surface_rel Star = theory.Star
+as_surface_rel Plus = theory.Plus
+as_surface_rel Reflexive = theory.Reflexive
+as_surface_rel Normal = theory.Normal
+as_surface_rel Root = theory.Root
+as_surface_rel Below = theory.Below
+as_surface_rel Par = theory.Par
+as_surface_rel Either = theory.Either
+as_surface_rel Conv = theory.Conv
+
+abbrev pub as_property : property.Macro → theory.Property
+as_property Cr = theory.Cr
+as_property Wcr = theory.Wcr
+as_property Scr = theory.Scr
+as_property Wn = theory.Wn
+as_property Unr = theory.Unr
+as_property Unc = theory.Unc
+as_property Nfp = theory.Nfp
+
+abbrev pub as_formula : Formula → theory.Formula
+as_formula True = theory.True
+as_formula False = theory.False
+as_formula (Rel rel x y) = theory.Related (as_surface_rel rel) x y
+as_formula (Nf x) = theory.Nf x
+as_formula (Join x y) = theory.Join x y
+as_formula (Macro m) = theory.Has (as_property m)
+as_formula (Not f) = theory.Not f
+as_formula (And f g) = theory.And f g
+as_formula (Or f g) = theory.Or f g
+as_formula (Imp f g) = theory.Imp f g
+as_formula (Iff f g) = theory.Iff f g
+as_formula (Exists x f) = theory.Exists x f
+as_formula (Forall x f) = theory.Forall x f
+as_formula (Infinite x f) = theory.Infinite x f
+
+-- the number of nodes
+abbrev pub node_count : theory.Formula → ℕ
+node_count theory.True = 1
+node_count theory.False = 1
+node_count (theory.Related rel x y) = 1
+node_count (theory.Nf x) = 1
+node_count (theory.Join x y) = 1
+node_count (theory.Has p) = 1
+node_count (theory.Not f) = suc (node_count f)
+node_count (theory.And f g) = suc (node_count f + node_count g)
+node_count (theory.Or f g) = suc (node_count f + node_count g)
+node_count (theory.Imp f g) = suc (node_count f + node_count g)
+node_count (theory.Iff f g) = suc (node_count f + node_count g)
+node_count (theory.Exists x f) = suc (node_count f)
+node_count (theory.Forall x f) = suc (node_count f)
+node_count (theory.Infinite x f) = suc (node_count f)

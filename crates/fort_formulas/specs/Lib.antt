@@ -1,0 +1,13 @@
+pub mod CoreCode
+pub mod CoreView
+pub mod CoreFalls
+pub mod CoreKeys
+pub mod CoreKeyLaws
+pub mod CoreOrderLaws
+pub mod CoreHash
+pub mod CoreHashLaws
+pub mod FormulaCode
+pub mod FormulaView
+pub mod FormulaFalls
+pub mod ScopeView
+pub mod KindView

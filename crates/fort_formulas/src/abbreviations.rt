@@ -1,0 +1,191 @@
+//! Core formulas for the words that core formulas lack.
+
+ghost use Rattle.std.specs.Prelude.{◌≡◌, IfOk};
+ghost use Rattle.fort_theory.specs.Cores as theory;
+ghost use Rattle.fort_theory.specs.Translation.{some, every, infinitely_many, implies, at_most_one_step, normalises, joins, related, forks, property_core};
+ghost use Rattle.fort_formulas.specs.CoreView.{as_core};
+ghost use Rattle.fort_formulas.specs.FormulaView.{as_surface_rel, as_property};
+
+use crate::columns::is_free;
+use crate::core_formula::{Arm, Core, Rel};
+use crate::surface::{Macro, SurfaceRel};
+use std::alloc::{AllocError, Global};
+
+pub fn not(alloc: Global, f: Core) -> Result<Core, AllocError>
+    ensures { IfOk result (λ c. as_core c ≡ theory.Not (as_core f)) }
+{
+    Ok(Core::Not(Arm::new(alloc, f)?))
+}
+
+pub fn and(alloc: Global, f: Core, g: Core) -> Result<Core, AllocError>
+    ensures { IfOk result (λ c. as_core c ≡ theory.And (as_core f) (as_core g)) }
+{
+    Ok(Core::And(Arm::new(alloc, f)?, Arm::new(alloc, g)?))
+}
+
+pub fn or(alloc: Global, f: Core, g: Core) -> Result<Core, AllocError>
+    ensures { IfOk result (λ c. as_core c ≡ theory.Or (as_core f) (as_core g)) }
+{
+    Ok(Core::Or(Arm::new(alloc, f)?, Arm::new(alloc, g)?))
+}
+
+pub fn iff(alloc: Global, f: Core, g: Core) -> Result<Core, AllocError>
+    ensures { IfOk result (λ c. as_core c ≡ theory.Iff (as_core f) (as_core g)) }
+{
+    Ok(Core::Iff(Arm::new(alloc, f)?, Arm::new(alloc, g)?))
+}
+
+pub fn implies(alloc: Global, f: Core, g: Core) -> Result<Core, AllocError>
+    ensures { IfOk result (λ c. as_core c ≡ implies (as_core f) (as_core g)) }
+{
+    or(alloc, not(alloc, f)?, g)
+}
+
+/// A binder of a number that isn't free is left out.
+pub fn some(alloc: Global, n: u32, f: Core) -> Result<Core, AllocError>
+    ensures { IfOk result (λ c. as_core c ≡ some n (as_core f)) }
+{
+    if is_free(n, &f) {
+        Ok(Core::Exists(n, Arm::new(alloc, f)?))
+    } else {
+        Ok(f)
+    }
+}
+
+pub fn every(alloc: Global, n: u32, f: Core) -> Result<Core, AllocError>
+    ensures { IfOk result (λ c. as_core c ≡ every n (as_core f)) }
+{
+    not(alloc, some(alloc, n, not(alloc, f)?)?)
+}
+
+/// Of a number that isn't free: the formula, and that there are infinitely many terms.
+pub fn infinitely_many(alloc: Global, n: u32, f: Core) -> Result<Core, AllocError>
+    ensures { IfOk result (λ c. as_core c ≡ infinitely_many n (as_core f)) }
+{
+    if is_free(n, &f) {
+        Ok(Core::Infinite(n, Arm::new(alloc, f)?))
+    } else {
+        let terms = Arm::new(alloc, Core::Atom(Rel::Eq, n, n))?;
+        and(alloc, f, Core::Infinite(n, terms))
+    }
+}
+
+fn at_most_one_step(alloc: Global, x: u32, y: u32) -> Result<Core, AllocError>
+    ensures { IfOk result (λ c. as_core c ≡ at_most_one_step x y) }
+{
+    or(
+        alloc,
+        Core::Atom(Rel::Eq, x, y),
+        Core::Atom(Rel::Step, x, y),
+    )
+}
+
+fn normalises(alloc: Global, x: u32, y: u32) -> Result<Core, AllocError>
+    ensures { IfOk result (λ c. as_core c ≡ normalises x y) }
+{
+    and(alloc, Core::Atom(Rel::Star, x, y), Core::Nf(y))
+}
+
+/// That these two have a common reduct, which has the number `n`.
+pub fn joins(alloc: Global, n: u32, x: u32, y: u32) -> Result<Core, AllocError>
+    ensures { IfOk result (λ c. as_core c ≡ joins n x y) }
+{
+    let both = and(
+        alloc,
+        Core::Atom(Rel::Star, x, n),
+        Core::Atom(Rel::Star, y, n),
+    )?;
+    some(alloc, n, both)
+}
+
+pub fn related(alloc: Global, rel: SurfaceRel, x: u32, y: u32) -> Result<Core, AllocError>
+    ensures { IfOk result (λ c. as_core c ≡ related (as_surface_rel rel) x y) }
+{
+    match rel {
+        SurfaceRel::Eq => Ok(Core::Atom(Rel::Eq, x, y)),
+        SurfaceRel::Step => Ok(Core::Atom(Rel::Step, x, y)),
+        SurfaceRel::Star => Ok(Core::Atom(Rel::Star, x, y)),
+        SurfaceRel::Plus => Ok(Core::Atom(Rel::Plus, x, y)),
+        SurfaceRel::Reflexive => at_most_one_step(alloc, x, y),
+        SurfaceRel::Normal => normalises(alloc, x, y),
+        SurfaceRel::Root => Ok(Core::Atom(Rel::Root, x, y)),
+        SurfaceRel::Below => Ok(Core::Atom(Rel::Below, x, y)),
+        SurfaceRel::Par => Ok(Core::Atom(Rel::Par, x, y)),
+        SurfaceRel::Either => or(
+            alloc,
+            Core::Atom(Rel::Step, x, y),
+            Core::Atom(Rel::Step, y, x),
+        ),
+        SurfaceRel::Conv => Ok(Core::Atom(Rel::Conv, x, y)),
+    }
+}
+
+/// That some term, of the number `x`, is so related to both `y` and `z`.
+fn forks(alloc: Global, rel: SurfaceRel, x: u32, y: u32, z: u32) -> Result<Core, AllocError>
+    ensures { IfOk result (λ c. as_core c ≡ forks (related (as_surface_rel rel)) x y z) }
+{
+    let both = and(
+        alloc,
+        related(alloc, rel, x, y)?,
+        related(alloc, rel, x, z)?,
+    )?;
+    some(alloc, x, both)
+}
+
+/// That each two values of `n` and `m` that meet the premise meet the conclusion.
+fn each_two(
+    alloc: Global,
+    n: u32,
+    m: u32,
+    premise: Core,
+    conclusion: Core,
+) -> Result<Core, AllocError>
+    ensures { IfOk result (λ c. as_core c ≡ every n (every m (implies (as_core premise) (as_core conclusion)))) }
+{
+    let implication = implies(alloc, premise, conclusion)?;
+    every(alloc, n, every(alloc, m, implication)?)
+}
+
+/// The formula of a property, with numbers from `n` on.
+pub fn property_core(alloc: Global, property: Macro, n: u32) -> Result<Core, AllocError>
+    ensures { IfOk result (λ c. as_core c ≡ property_core (as_property property) n) }
+{
+    let m = n.checked_add(1).ok_or(AllocError)?;
+    let k = n.checked_add(2).ok_or(AllocError)?;
+    match property {
+        Macro::Cr => {
+            let premise = forks(alloc, SurfaceRel::Star, k, n, m)?;
+            each_two(alloc, n, m, premise, joins(alloc, k, n, m)?)
+        }
+        Macro::Wcr => {
+            let premise = forks(alloc, SurfaceRel::Step, k, n, m)?;
+            each_two(alloc, n, m, premise, joins(alloc, k, n, m)?)
+        }
+        Macro::Scr => {
+            let premise = forks(alloc, SurfaceRel::Step, k, n, m)?;
+            let both = and(
+                alloc,
+                at_most_one_step(alloc, n, k)?,
+                Core::Atom(Rel::Star, m, k),
+            )?;
+            each_two(alloc, n, m, premise, some(alloc, k, both)?)
+        }
+        Macro::Wn => {
+            let reduct = some(alloc, m, normalises(alloc, n, m)?)?;
+            every(alloc, n, reduct)
+        }
+        Macro::Unr => {
+            let premise = forks(alloc, SurfaceRel::Normal, k, n, m)?;
+            each_two(alloc, n, m, premise, Core::Atom(Rel::Eq, n, m))
+        }
+        Macro::Unc => {
+            let first = and(alloc, Core::Atom(Rel::Conv, n, m), Core::Nf(n))?;
+            let premise = and(alloc, first, Core::Nf(m))?;
+            each_two(alloc, n, m, premise, Core::Atom(Rel::Eq, n, m))
+        }
+        Macro::Nfp => {
+            let premise = and(alloc, Core::Atom(Rel::Conv, n, m), Core::Nf(m))?;
+            each_two(alloc, n, m, premise, Core::Atom(Rel::Star, n, m))
+        }
+    }
+}

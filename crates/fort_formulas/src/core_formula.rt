@@ -1,0 +1,377 @@
+ghost use Rattle.std.specs.Prelude.{◌≡◌, IfOk};
+ghost use Rattle.std.specs.Ordering.{nat_cmp};
+ghost use Rattle.fort_formulas.specs.CoreCode.{rel_place};
+ghost use Rattle.fort_formulas.specs.CoreView.{as_rel, as_core};
+ghost use Rattle.fort_formulas.specs.CoreKeys.{core_place};
+
+use std::alloc::{AllocError, Global};
+use std::cmp::Ordering;
+use std::hash::{Hash, Hasher};
+use std::marker::Model;
+
+/// A relation between two terms.
+#[derive(Clone, Copy, Debug, PartialEq, Eq, PartialOrd, Ord, Hash)]
+pub enum Rel {
+    /// They are equal.
+    Eq,
+    /// A step at the root.
+    Root,
+    /// A step below the root.
+    Below,
+    /// A step.
+    Step,
+    /// A parallel step.
+    Par,
+    /// At least one step.
+    Plus,
+    /// Any number of steps.
+    Star,
+    /// A conversion.
+    Conv,
+}
+
+impl Rel {
+    /// Their order, by their places in the list of the variants.
+    fn order(self, other: Rel) -> Ordering
+        ensures { result ≡ nat_cmp (rel_place (as_rel self)) (rel_place (as_rel other)) }
+    {
+        self.cmp(&other)
+    }
+}
+
+/// A formula with numbers for variables, and few connectives.
+#[derive(Drop)]
+#[cycle(core)]
+pub enum Core {
+    True,
+    /// These two variables are related.
+    Atom(Rel, u32, u32),
+    /// This variable is a normal form.
+    Nf(u32),
+    Not(Arm),
+    And(Arm, Arm),
+    Or(Arm, Arm),
+    Iff(Arm, Arm),
+    /// Some value of this variable meets the operand.
+    Exists(u32, Arm),
+    /// Infinitely many values of this variable meet the operand.
+    Infinite(u32, Arm),
+}
+
+/// An operand of a core formula.
+#[derive(Drop)]
+#[cycle(core)]
+pub struct Arm {
+    core: Box<Core>,
+}
+
+impl Model for Arm {
+    ghost use Rattle.fort_theory.specs.Cores as theory;
+    ghost use Rattle.fort_formulas.specs.CoreCode.{core_code};
+
+    ghost Value = { theory.Core };
+
+    ghost coded = { core_code };
+
+    ghost use Rattle.fort_formulas.specs.CoreView.{as_core, node_count};
+
+    ghost view = { λ a. as_core a.core.value };
+
+    ghost size = { node_count };
+
+    ghost use Rattle.std.proofs.Common.{arith};
+    ghost use Rattle.fort_formulas.specs.CoreFalls.{deep_below};
+
+    ghost size_decreases = { λ a h. omega (arith, deep_below a.core.value) };
+}
+
+impl Arm {
+    /// This formula as an operand.
+    pub fn new(alloc: Global, core: Core) -> Result<Arm, AllocError>
+        ensures { IfOk result (λ arm. arm ≡ as_core core) }
+    {
+        Ok(Arm {
+            core: Box::new(alloc, core)?,
+        })
+    }
+
+    /// The formula. It takes no memory.
+    pub fn as_core(&self) -> &Core
+        ensures { as_core result.now ≡ self.now }
+    {
+        &self.core
+    }
+
+    /// Gives the formula back. It takes no memory.
+    pub fn into_core(self) -> Core
+        ensures { as_core result ≡ self }
+    {
+        Box::into_inner(self.core)
+    }
+
+    /// An equal operand.
+    #[cycle(core_copy)]
+    pub fn copy(&self, alloc: Global) -> Result<Arm, AllocError>
+        ensures { IfOk result (λ arm. arm ≡ self.now) }
+    {
+        let core = self.core.copy(alloc)?;
+        Ok(Arm {
+            core: Box::new(alloc, core)?,
+        })
+    }
+}
+
+impl Core {
+    /// An equal formula.
+    #[cycle(core_copy)]
+    pub fn copy(&self, alloc: Global) -> Result<Core, AllocError>
+        ensures { IfOk result (λ c. c ≡ self.now) }
+    {
+        match self {
+            Core::True => Ok(Core::True),
+            Core::Atom(rel, x, y) => Ok(Core::Atom(*rel, *x, *y)),
+            Core::Nf(x) => Ok(Core::Nf(*x)),
+            Core::Not(f) => Ok(Core::Not(f.copy(alloc)?)),
+            Core::And(f, g) => Ok(Core::And(f.copy(alloc)?, g.copy(alloc)?)),
+            Core::Or(f, g) => Ok(Core::Or(f.copy(alloc)?, g.copy(alloc)?)),
+            Core::Iff(f, g) => Ok(Core::Iff(f.copy(alloc)?, g.copy(alloc)?)),
+            Core::Exists(n, f) => Ok(Core::Exists(*n, f.copy(alloc)?)),
+            Core::Infinite(n, f) => Ok(Core::Infinite(*n, f.copy(alloc)?)),
+        }
+    }
+}
+
+impl PartialEq for Core {
+    ghost use Rattle.std.specs.Prelude.{nat_eq};
+    ghost use Rattle.std.specs.Ordering.{on};
+    ghost use lib.Pointwise.{pointwise};
+    ghost use Rattle.fort_formulas.specs.CoreKeys.{core_spelled};
+    ghost use Rattle.fort_formulas.specs.CoreKeyLaws.{Core_eq-partial_equiv};
+
+    ghost eq = { on core_spelled (pointwise nat_eq) };
+
+    ghost laws = { Core_eq-partial_equiv };
+
+    fn eq(&self, other: &Core) -> bool {
+        match (self, other) {
+            (Core::True, Core::True) => true,
+            (Core::Atom(rel, x, y), Core::Atom(other_rel, u, v)) => {
+                rel == other_rel && x == u && y == v
+            }
+            (Core::Nf(x), Core::Nf(y)) => x == y,
+            (Core::Not(f), Core::Not(g)) => *f.as_core() == *g.as_core(),
+            (Core::And(f, g), Core::And(h, k)) => *f.as_core() == *h.as_core()
+                && *g.as_core() == *k.as_core(),
+            (Core::Or(f, g), Core::Or(h, k)) => *f.as_core() == *h.as_core()
+                && *g.as_core() == *k.as_core(),
+            (Core::Iff(f, g), Core::Iff(h, k)) => *f.as_core() == *h.as_core()
+                && *g.as_core() == *k.as_core(),
+            (Core::Exists(m, f), Core::Exists(n, g)) => m == n && *f.as_core() == *g.as_core(),
+            (Core::Infinite(m, f), Core::Infinite(n, g)) => m == n && *f.as_core() == *g.as_core(),
+            _ => false,
+        }
+    }
+}
+
+impl PartialEq for Arm {
+    ghost use Rattle.std.specs.Prelude.{nat_eq};
+    ghost use Rattle.std.specs.Ordering.{on};
+    ghost use lib.Pointwise.{pointwise};
+    ghost use Rattle.fort_formulas.specs.CoreCode.{spelled};
+    ghost use Rattle.fort_formulas.specs.CoreKeyLaws.{arm_eq-partial_equiv};
+
+    ghost eq = { on spelled (pointwise nat_eq) };
+
+    ghost laws = { arm_eq-partial_equiv };
+
+    fn eq(&self, other: &Arm) -> bool {
+        *self.as_core() == *other.as_core()
+    }
+}
+
+impl Eq for Core {
+    ghost use Rattle.fort_formulas.specs.CoreKeyLaws.{Core_eq-equiv};
+
+    ghost laws = { Core_eq-equiv };
+}
+
+impl Eq for Arm {
+    ghost use Rattle.fort_formulas.specs.CoreKeyLaws.{arm_eq-equiv};
+
+    ghost laws = { arm_eq-equiv };
+}
+
+impl Core {
+    /// The place of the connective in the list of the variants.
+    fn place(&self) -> u8
+        ensures { result ≡ core_place (as_core self.now) }
+    {
+        match self {
+            Core::True => 0,
+            Core::Atom(_, _, _) => 1,
+            Core::Nf(_) => 2,
+            Core::Not(_) => 3,
+            Core::And(_, _) => 4,
+            Core::Or(_, _) => 5,
+            Core::Iff(_, _) => 6,
+            Core::Exists(_, _) => 7,
+            Core::Infinite(_, _) => 8,
+        }
+    }
+}
+
+impl PartialOrd for Core {
+    ghost use Rattle.std.specs.Prelude.{nat_eq};
+    ghost use Rattle.std.specs.Ordering.{as_partial_cmp, nat_cmp, on};
+    ghost use Rattle.std.specs.Cmp.Lexicographic.{slice_cmp};
+    ghost use Rattle.fort_formulas.specs.CoreKeys.{core_spelled};
+    ghost use Rattle.fort_formulas.specs.CoreOrderLaws.{Core_order-partial};
+
+    ghost partial_cmp = { as_partial_cmp (on core_spelled (slice_cmp nat_cmp)) };
+
+    ghost laws = { Core_order-partial };
+
+    fn partial_cmp(&self, other: &Core) -> Option<Ordering> {
+        Some(self.cmp(other))
+    }
+}
+
+impl PartialOrd for Arm {
+    ghost use Rattle.std.specs.Ordering.{as_partial_cmp, nat_cmp, on};
+    ghost use Rattle.std.specs.Cmp.Lexicographic.{slice_cmp};
+    ghost use Rattle.fort_formulas.specs.CoreCode.{spelled};
+    ghost use Rattle.fort_formulas.specs.CoreOrderLaws.{arm_order-partial};
+
+    ghost partial_cmp = { as_partial_cmp (on spelled (slice_cmp nat_cmp)) };
+
+    ghost laws = { arm_order-partial };
+
+    fn partial_cmp(&self, other: &Arm) -> Option<Ordering> {
+        Some(self.cmp(other))
+    }
+}
+
+impl Ord for Core {
+    ghost use Rattle.std.specs.Prelude.{refl};
+    ghost use Rattle.std.specs.Ordering.{nat_cmp, on};
+    ghost use Rattle.std.specs.Cmp.Lexicographic.{slice_cmp};
+    ghost use Rattle.fort_formulas.specs.CoreKeys.{core_spelled};
+    ghost use Rattle.fort_formulas.specs.CoreOrderLaws.{Core_order-total, Core_eq-ties};
+
+    ghost cmp = { on core_spelled (slice_cmp nat_cmp) };
+
+    ghost total = { Core_order-total };
+
+    ghost matches_partial_cmp = { λ c d. refl };
+
+    ghost matches_eq = { Core_eq-ties };
+
+    fn cmp(&self, other: &Core) -> Ordering {
+        match (self, other) {
+            (Core::True, Core::True) => Ordering::Equal,
+            (Core::Atom(rel, x, y), Core::Atom(other_rel, u, v)) => {
+                rel.order(*other_rel).then(x.cmp(u)).then(y.cmp(v))
+            }
+            (Core::Nf(x), Core::Nf(y)) => x.cmp(y),
+            (Core::Not(f), Core::Not(g)) => f.as_core().cmp(g.as_core()),
+            (Core::And(f, g), Core::And(h, k)) => match f.as_core().cmp(h.as_core()) {
+                Ordering::Equal => g.as_core().cmp(k.as_core()),
+                unequal => unequal,
+            },
+            (Core::Or(f, g), Core::Or(h, k)) => match f.as_core().cmp(h.as_core()) {
+                Ordering::Equal => g.as_core().cmp(k.as_core()),
+                unequal => unequal,
+            },
+            (Core::Iff(f, g), Core::Iff(h, k)) => match f.as_core().cmp(h.as_core()) {
+                Ordering::Equal => g.as_core().cmp(k.as_core()),
+                unequal => unequal,
+            },
+            (Core::Exists(m, f), Core::Exists(n, g)) => match m.cmp(n) {
+                Ordering::Equal => f.as_core().cmp(g.as_core()),
+                unequal => unequal,
+            },
+            (Core::Infinite(m, f), Core::Infinite(n, g)) => match m.cmp(n) {
+                Ordering::Equal => f.as_core().cmp(g.as_core()),
+                unequal => unequal,
+            },
+            _ => self.place().cmp(&other.place()),
+        }
+    }
+}
+
+impl Ord for Arm {
+    ghost use Rattle.std.specs.Prelude.{refl};
+    ghost use Rattle.std.specs.Ordering.{nat_cmp, on};
+    ghost use Rattle.std.specs.Cmp.Lexicographic.{slice_cmp};
+    ghost use Rattle.fort_formulas.specs.CoreCode.{spelled};
+    ghost use Rattle.fort_formulas.specs.CoreOrderLaws.{arm_order-total, arm_eq-ties};
+
+    ghost cmp = { on spelled (slice_cmp nat_cmp) };
+
+    ghost total = { arm_order-total };
+
+    ghost matches_partial_cmp = { λ f g. refl };
+
+    ghost matches_eq = { arm_eq-ties };
+
+    fn cmp(&self, other: &Arm) -> Ordering {
+        self.as_core().cmp(other.as_core())
+    }
+}
+
+impl Hash for Core {
+    ghost use Rattle.fort_formulas.specs.CoreView.{as_core};
+    ghost use Rattle.fort_formulas.specs.CoreHash.{core_hash};
+    ghost use Rattle.fort_formulas.specs.CoreHashLaws.{Core_hash-respects_eq};
+
+    ghost hash_input = { λ c. core_hash (as_core c) };
+
+    ghost respects_eq = { Core_hash-respects_eq };
+
+    fn hash<H: Hasher>(&self, state: &mut H) {
+        state.write_u8(self.place());
+        match self {
+            Core::True => {}
+            Core::Atom(rel, x, y) => {
+                rel.hash(state);
+                x.hash(state);
+                y.hash(state);
+            }
+            Core::Nf(x) => x.hash(state),
+            Core::Not(f) => f.as_core().hash(state),
+            Core::And(f, g) => {
+                f.as_core().hash(state);
+                g.as_core().hash(state);
+            }
+            Core::Or(f, g) => {
+                f.as_core().hash(state);
+                g.as_core().hash(state);
+            }
+            Core::Iff(f, g) => {
+                f.as_core().hash(state);
+                g.as_core().hash(state);
+            }
+            Core::Exists(n, f) => {
+                n.hash(state);
+                f.as_core().hash(state);
+            }
+            Core::Infinite(n, f) => {
+                n.hash(state);
+                f.as_core().hash(state);
+            }
+        }
+    }
+}
+
+impl Hash for Arm {
+    ghost use Rattle.fort_formulas.specs.CoreHash.{core_hash};
+    ghost use Rattle.fort_formulas.specs.CoreHashLaws.{arm_hash-respects_eq};
+
+    ghost hash_input = { core_hash };
+
+    ghost respects_eq = { arm_hash-respects_eq };
+
+    fn hash<H: Hasher>(&self, state: &mut H) {
+        self.as_core().hash(state);
+    }
+}

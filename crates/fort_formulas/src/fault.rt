@@ -1,0 +1,29 @@
+ghost use Rattle.std.specs.Prelude.{◌≡◌};
+ghost use Rattle.fort_formulas.specs.declared.fault.CoreFault.TheVariants.{Memory};
+
+use std::alloc::{AllocError, AllocFailed};
+
+/// Why a formula has no core formula that can be decided.
+#[derive(Clone, Copy, Debug, PartialEq, Eq)]
+pub enum CoreFault {
+    /// There is not enough memory.
+    Memory,
+    /// Some part has too many columns.
+    TooWide,
+}
+
+impl From<AllocError> for CoreFault {
+    ghost from_gives = { λ _ e. e ≡ Memory };
+
+    fn from(_e: AllocError) -> CoreFault {
+        CoreFault::Memory
+    }
+}
+
+impl<T: Drop> From<AllocFailed<T>> for CoreFault {
+    ghost from_gives = { λ _ e. e ≡ Memory };
+
+    fn from(_e: AllocFailed<T>) -> CoreFault {
+        CoreFault::Memory
+    }
+}

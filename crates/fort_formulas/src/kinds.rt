@@ -1,0 +1,20 @@
+/// The root of a core formula.
+#[derive(Clone, Copy, Debug, PartialEq, Eq)]
+pub enum Kind {
+    True,
+    Eq,
+    Root,
+    Below,
+    Step,
+    Par,
+    Plus,
+    Star,
+    Conv,
+    Nf,
+    Not,
+    And,
+    Or,
+    Iff,
+    Exists,
+    Infinite,
+}

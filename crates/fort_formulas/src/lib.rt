@@ -1,0 +1,27 @@
+//! Formulas as users write them, and core formulas: formulas with numbers for variables and few connectives, as keys of maps and sets.
+#![tactic(auto)]
+
+mod abbreviations;
+mod columns;
+pub mod core_formula;
+mod fault;
+mod kinds;
+mod names;
+mod roots;
+mod scope;
+mod subformulas;
+pub mod surface;
+mod translation;
+
+pub use columns::free;
+pub use core_formula::{Arm, Core, Rel};
+pub use fault::CoreFault;
+pub use kinds::Kind;
+pub use names::free_names;
+pub use roots::kind;
+pub use subformulas::parts;
+pub use surface::{Formula, Macro, Name, Operand, SurfaceRel};
+pub use translation::to_core;
+
+#[cfg(test)]
+mod tests;

@@ -1,0 +1,75 @@
+ghost use Rattle.std.specs.Prelude.{◌≡◌, IfOk, IsErrOf};
+ghost use Rattle.fort_theory.specs.Parts.{IsTooWide};
+ghost use Rattle.fort_theory.specs.Translation.{core_in, core_of, KeepsTruth};
+ghost use Rattle.fort_formulas.specs.CoreView.{as_core};
+ghost use Rattle.fort_formulas.specs.FormulaView.{as_formula};
+ghost use Rattle.fort_formulas.specs.ScopeView.{as_scope};
+
+use crate::abbreviations::{
+    and, every, iff, implies, infinitely_many, joins, not, or, property_core, related, some,
+};
+use crate::columns::is_too_wide;
+use crate::core_formula::Core;
+use crate::fault::CoreFault;
+use crate::names::free_names;
+use crate::scope::Scope;
+use crate::surface::Formula;
+use std::alloc::{AllocError, Global};
+
+/// The core formula, in which the free names have the first numbers. More names than numbers are told as want of memory.
+pub fn to_core(alloc: Global, formula: &Formula) -> Result<Core, CoreFault>
+    ensures ok { IfOk result (λ c. as_core c ≡ core_of (as_formula formula.now)) }
+    ensures truth { IfOk result (λ c. KeepsTruth (as_formula formula.now) (as_core c)) }
+    ensures narrow { IfOk result (λ c. IsTooWide (as_core c) → ⊥) }
+    ensures wide { IsErrOf result CoreFault.TooWide → IsTooWide (core_of (as_formula formula.now)) }
+{
+    let names = free_names(alloc, formula)?;
+    let core = core_in(alloc, &Scope::Free(&names), formula)?;
+    if is_too_wide(alloc, &core)? {
+        return Err(CoreFault::TooWide);
+    }
+    Ok(core)
+}
+
+/// The core formula in a scope; a binder has the number of names outside it.
+fn core_in(alloc: Global, scope: &Scope, formula: &Formula) -> Result<Core, AllocError>
+    ensures { IfOk result (λ c. as_core c ≡ core_in (as_scope scope.now) (as_formula formula.now)) }
+{
+    match formula {
+        Formula::True => Ok(Core::True),
+        Formula::False => not(alloc, Core::True),
+        Formula::Rel(rel, x, y) => related(alloc, *rel, scope.number(x)?, scope.number(y)?),
+        Formula::Nf(x) => Ok(Core::Nf(scope.number(x)?)),
+        Formula::Join(x, y) => joins(alloc, scope.depth()?, scope.number(x)?, scope.number(y)?),
+        Formula::Macro(property) => property_core(alloc, *property, scope.depth()?),
+        Formula::Not(f) => not(alloc, core_in(alloc, scope, f.as_formula())?),
+        Formula::And(f, g) => {
+            let f = core_in(alloc, scope, f.as_formula())?;
+            and(alloc, f, core_in(alloc, scope, g.as_formula())?)
+        }
+        Formula::Or(f, g) => {
+            let f = core_in(alloc, scope, f.as_formula())?;
+            or(alloc, f, core_in(alloc, scope, g.as_formula())?)
+        }
+        Formula::Imp(f, g) => {
+            let f = core_in(alloc, scope, f.as_formula())?;
+            implies(alloc, f, core_in(alloc, scope, g.as_formula())?)
+        }
+        Formula::Iff(f, g) => {
+            let f = core_in(alloc, scope, f.as_formula())?;
+            iff(alloc, f, core_in(alloc, scope, g.as_formula())?)
+        }
+        Formula::Exists(x, f) => {
+            let f = core_in(alloc, &Scope::Bound(x, scope), f.as_formula())?;
+            some(alloc, scope.depth()?, f)
+        }
+        Formula::Forall(x, f) => {
+            let f = core_in(alloc, &Scope::Bound(x, scope), f.as_formula())?;
+            every(alloc, scope.depth()?, f)
+        }
+        Formula::Infinite(x, f) => {
+            let f = core_in(alloc, &Scope::Bound(x, scope), f.as_formula())?;
+            infinitely_many(alloc, scope.depth()?, f)
+        }
+    }
+}
