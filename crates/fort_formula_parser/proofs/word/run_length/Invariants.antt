@@ -1,0 +1,6 @@
+use Rattle.std.proofs.Common.{◌≡◌, ℕ, ◌<◌, true, get_or}
+use Rattle.fort_grammar.specs.Variables.{is_name_byte}
+use Rattle.fort_formula_parser.proofs.word.run_length.Given as goal
+
+abbrev pub invariant-loop-i : goal.invariant-loop-i
+invariant-loop-i l = (k : ℕ) → k < l.i → is_name_byte (get_or l.text k 0) ≡ true

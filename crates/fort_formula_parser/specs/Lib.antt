@@ -1,0 +1,5 @@
+pub mod Faults
+pub mod TokenView
+pub mod Spellings
+pub mod Places
+pub mod Parsing

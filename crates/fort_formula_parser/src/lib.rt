@@ -1,0 +1,19 @@
+//! Reads a text into a formula, or finds its first fault.
+#![tactic(auto)]
+
+mod atom;
+mod cursor;
+mod fault;
+mod lexer;
+mod parsed;
+mod parser;
+mod symbol;
+mod token;
+mod top;
+mod word;
+
+pub use fault::FFault;
+pub use top::parse;
+
+#[cfg(test)]
+mod tests;
