@@ -6,3 +6,6 @@ pub mod FlaggedItems
 pub mod FlaggedEnd
 pub mod FlaggedWords
 pub mod TopWords
+pub mod OneVerdict
+pub mod OneRefusal
+pub mod OneRequest

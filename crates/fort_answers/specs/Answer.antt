@@ -8,8 +8,9 @@ use Rattle.fort_grammar.specs.Forms.{Forms, AreFormsOf}
 use Rattle.fort_grammar.specs.Declarations.{ProblemFault, BadForm, as_list}
 use Rattle.fort_grammar.specs.ProblemForms.{IsProblem, IsFirstProblemFault}
 use Rattle.fort_grammar.specs.ProblemText.{IsProblemText}
-use Rattle.fort_answers.specs.Request.{Text, IsRequest, IsNoRequest, IsNoFormula, Asks}
-use Rattle.fort_answers.specs.Lines.{usage_text, yes_line, no_line, formula_unbuilt, input_too_long, text_fault_line, problem_fault_line}
+use Rattle.fort_answers.specs.Request.{Text, IsRequest, IsNoRequest, Asks}
+use Rattle.fort_answers.specs.FormulaAnswer.{IsRefused}
+use Rattle.fort_answers.specs.Lines.{usage_text, yes_line, no_line, input_too_long, text_fault_line, problem_fault_line}
 
 -- the most bytes of an input
 abbrev pub input_limit : ℕ
@@ -23,8 +24,8 @@ pub record Are (status : ℕ) (text : Text) (their_status : ℕ) (their_text : T
 -- the answers for which nothing is read
 pub data EarlyAnswer (words : List Text) (status : ℕ) (text : Text) : Type 0 where
   NoRequest : IsNoRequest words → Are status text 2 usage_text → EarlyAnswer words status text
-  FormulaRefused : (formula : Text) → IsRequest words formula → IsNoFormula formula → Are status text 3 formula_unbuilt
-      → EarlyAnswer words status text
+  FormulaRefused : (formula : Text) → IsRequest words formula → (refusal : Text) → IsRefused formula refusal
+      → Are status text 3 refusal → EarlyAnswer words status text
 
 -- the answer to words and bytes: the cases in their order, each with what the earlier ones leave
 pub data Answer (words : List Text) (bytes : Text) (status : ℕ) (text : Text) : Type 0 where

@@ -1,5 +1,7 @@
 pub mod Numerals
 pub mod CommandLine
+pub mod Built
+pub mod FormulaAnswer
 pub mod Request
 pub mod CommandGrammar
 pub mod Lines

@@ -1,5 +1,8 @@
 -- To believe: the texts that the program prints.
 use Rattle.std.specs.Prelude.{ℕ, List, [], ◌∷◌, ◌++◌, codes, decimal}
+use Rattle.fort_theory.specs.Formulas.{Name}
+use Rattle.fort_grammar.specs.FormulaText as formula
+use Rattle.fort_grammar.specs.FormulaText.{FormulaFault}
 use Rattle.fort_grammar.specs.Text.{TextFault, BadByte, ExtraClose, Unclosed, TooDeep}
 use Rattle.fort_grammar.specs.Declarations.{ProblemFault, NoFormat, BadForm, BadName, BadArity, Duplicate, TooManyFunctions, TooManyRules, NoConstant, WrongCount, VariableApplied, LeftRepeats, RightRepeats, Shares}
 
@@ -19,15 +22,25 @@ yes_line = line (codes "YES")
 abbrev pub no_line : List ℕ
 no_line = line (codes "NO")
 
-abbrev pub formula_unbuilt : List ℕ
-formula_unbuilt = line (codes "REFUSED formula unbuilt")
-
 abbrev pub input_too_long : List ℕ
 input_too_long = line (codes "REFUSED input too long")
 
 -- what is refused, and a number
 abbrev pub numbered : List ℕ → ℕ → List ℕ
 numbered text n = line (text ++ decimal n)
+
+abbrev pub formula_fault_line : FormulaFault → List ℕ
+formula_fault_line (formula.BadByte i) = numbered (codes "REFUSED formula bad byte at ") i
+formula_fault_line formula.TooLong = line (codes "REFUSED formula too long")
+formula_fault_line (formula.TooDeep i) = numbered (codes "REFUSED formula too deep at ") i
+formula_fault_line formula.Syntax = line (codes "REFUSED formula syntax")
+
+abbrev pub formula_too_wide : List ℕ
+formula_too_wide = line (codes "REFUSED formula too wide")
+
+-- the variable is free
+abbrev pub formula_open : Name → List ℕ
+formula_open x = line (codes "REFUSED formula open " ++ x)
 
 abbrev pub text_fault_line : TextFault → List ℕ
 text_fault_line (BadByte i) = numbered (codes "REFUSED text bad byte at ") i

@@ -4,7 +4,7 @@ use Rattle.std.specs.Option.{option_map_or}
 use Rattle.std.specs.Str.{bytes_eq}
 use Rattle.clap.specs.Words.{App, Kinds, Row, fault_of, first_of, subcommand_of}
 use Rattle.fort_theory.specs.Formulas.{Formula}
-use Rattle.fort_grammar.specs.FormulaText.{IsFormulaText}
+use Rattle.fort_answers.specs.FormulaAnswer.{IsAccepted}
 use Rattle.fort_answers.specs.Numerals.{number_in}
 use Rattle.fort_answers.specs.CommandLine.{fort}
 
@@ -69,15 +69,11 @@ pub record IsRequest (words : List Text) (formula : Text) : Type 0 where
 abbrev pub IsNoRequest : List Text → Type 0
 IsNoRequest words = (formula : Text) → IsRequest words formula → ⊥
 
--- the text is no formula
-abbrev pub IsNoFormula : Text → Type 0
-IsNoFormula text = (f : Formula) → IsFormulaText text f → ⊥
-
 -- the words ask whether this formula is true
 pub record Asks (words : List Text) (f : Formula) : Type 0 where
   pub formula : Text
   pub request : IsRequest words formula
-  pub accepted : IsFormulaText formula f
+  pub accepted : IsAccepted formula f
 
 -- no input is needed: there is no request, or its formula is refused
 abbrev pub AsksNothing : List Text → Type 0

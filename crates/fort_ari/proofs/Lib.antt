@@ -9,3 +9,4 @@ pub mod Ruled
 pub mod OneAnswerRules
 pub mod OneAnswer
 pub mod OneFault
+pub mod OneProblem
