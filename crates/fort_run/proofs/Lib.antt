@@ -1,7 +1,11 @@
 pub mod Splits
 pub mod Requests
 pub mod NumberTexts
-pub mod Names
 pub mod Normality
 pub mod ProblemSystems
+pub mod ValueTruth
+pub mod BuiltLaws
+pub mod FormulaRefusals
 pub mod Replies
+pub mod OneInput
+pub mod OneAnswer

@@ -1,18 +1,16 @@
--- Where the sides of rules are constants and variables, a formula on normal forms is true or false by the rules' left sides.
-use Rattle.std.proofs.Common.{◌≡◌, ℕ, zero, suc, Bool, true, false, ◌||◌, List, [], ◌∷◌, map, Contains, refl, sym, ap, subst, ◌∙◌, arith}
-use Rattle.std.specs.Prelude.{MatchBool, if◌then◌else◌, Some}
+-- Where the sides of rules are constants and variables, the rules' left sides tell whether some ground term is a normal form, and whether some isn't.
+use Rattle.std.proofs.Common.{◌≡◌, ℕ, zero, suc, Bool, true, false, not, ◌||◌, List, [], ◌∷◌, map, Contains, refl, sym, ap, subst, ◌∙◌, arith}
+use Rattle.std.specs.Prelude.{MatchBool, Some}
 use Rattle.std.specs.List.{list_any}
 use Rattle.std.proofs.lemmas.Bool.Decides.{Decides-eqb}
-use Rattle.std.proofs.lemmas.Slice.Eq.{bytes_eq-Decides}
 use Rattle.fort_theory.specs.Trees.{Tree, Trees, Node, Nil, More}
 use Rattle.fort_theory.specs.Signatures.{Signature, IsGround, HasConstant, arity_of}
 use Rattle.fort_theory.specs.Sides.{Side, Rule, System, Substitution, applied, Var, App, NoSide, MoreSides}
 use Rattle.fort_theory.specs.Patterns.{pattern_system, pattern_pair, pattern_of, PatternSystem}
 use Rattle.fort_theory.specs.Rewriting.{Relation, Rewrites, IsNormalForm}
 use Rattle.fort_theory.specs.RootSteps.{RootStep}
-use Rattle.fort_theory.specs.Formulas.{Name, Formula, Nf, Forall, Exists}
-use Rattle.fort_theory.specs.Truth.{Assignment, with_name, IsTrueOf, IsFalseOf}
 use Rattle.fort_theory.proofs.Constants.{constant, IsNormalForm-constant, Rewrites-from_root}
+use Rattle.fort_run.specs.GroundTerms.{TellsSome}
 use Rattle.fort_run.specs.RedexRoots.{takes_root, is_left_root, IsNormalConstant}
 
 pub list_any-map : {X Y : Type 0} (p : Y → Bool) (f : X → Y) (xs : List X) → list_any p (map f xs) ≡ list_any (λ x. p (f x)) xs
@@ -75,7 +73,7 @@ flat_ground signature (Var v) t flat is_ground = is_ground
 flat_ground signature (App g NoSide) t (AConstant g' arity) is_ground = (arity, tt)
 flat_ground signature (App g (MoreSides s ss)) t flat is_ground = elim flat [ ]
 
-abbrev root_of : System → Relation
+abbrev pub root_of : System → Relation
 root_of system = RootStep system.signature system.rules
 
 -- a flat rule has a root step by a ground term in the place of its variables
@@ -130,12 +128,6 @@ ground_steps system each (Node f (More s ss)) is_ground =
     let step = ground_steps system each s is_ground.1.0 in
     (Node f (More step.0 ss), first_child (root_of system) f s ss step.0 step.1)
 
-with_name-same : (m : Assignment) (v : Name) (t : Tree) → with_name m v t v ≡ t
-with_name-same m v t = ap (λ b. if b then t else m v) ((bytes_eq-Decides v v).1 refl)
-
-abbrev pub Verdict : Bool → System → Formula → Type 0
-Verdict b system f = MatchBool b (IsTrueOf system f) (IsFalseOf system f)
-
 no_rule : (rules : List Rule) (r : Rule) → rules ≡ [] → Contains rules r → ⊥
 no_rule [] r empty (k, l, e) = omega arith
 no_rule (x ∷ rules) r empty c = cc
@@ -144,18 +136,17 @@ first_rule : (rules : List Rule) → (rules ≡ [] → ⊥) → (r : Rule) × Co
 first_rule [] h = absurd (h refl)
 first_rule (r ∷ rules) h = (r, (0, omega arith, refl))
 
--- every ground term is a normal form exactly where there is no rule
-pub verdict_every : (system : System) (v : Name) → HasConstant system.signature → ((r : Rule) → Contains system.rules r → AreFlat system.signature r)
-    → (b : Bool) → MatchBool b (system.rules ≡ []) (system.rules ≡ [] → ⊥) → Verdict b system (Forall v (Nf v))
-verdict_every system v constant_there flat true empty = λ m ground_m t is_term u step.
-    no_rule system.rules step.1.contracts.rule empty step.1.contracts.among
-verdict_every system v constant_there flat false some = λ m ground_m all.
+-- some ground term isn't a normal form exactly where there is a rule
+pub tells_reducible : (system : System) → HasConstant system.signature → ((r : Rule) → Contains system.rules r → AreFlat system.signature r)
+    → (b : Bool) → MatchBool b (system.rules ≡ []) (system.rules ≡ [] → ⊥) → TellsSome system.signature (not b) (λ t. IsNormalForm (root_of system) t → ⊥)
+tells_reducible system constant_there flat true empty = λ t is_ground reducible. reducible (λ u step.
+    no_rule system.rules step.1.contracts.rule empty step.1.contracts.among)
+tells_reducible system constant_there flat false some =
     let r = first_rule system.rules some in
     let c = constant constant_there.0 in
     let step = flat_step system r.0 c r.1 (flat r.0 r.1) (constant_there.1, tt) in
     let s = applied (λ x. c) r.0.left in
-    subst (IsNormalForm (root_of system)) (with_name-same m v s) (all s step.left_grounded) (applied (λ x. c) r.0.right)
-    (Rewrites-from_root (root_of system) s (applied (λ x. c) r.0.right) step)
+    (s, step.left_grounded, (λ normal. normal (applied (λ x. c) r.0.right) (Rewrites-from_root (root_of system) s (applied (λ x. c) r.0.right) step)))
 
 -- some constant is the left side of no rule, or none is
 abbrev pub SomeNormal : PatternSystem → Type 0
@@ -168,10 +159,10 @@ true_from_not_false : (b : Bool) → (b ≡ false → ⊥) → b ≡ true
 true_from_not_false true h = refl
 true_from_not_false false h = absurd (h refl)
 
-pub verdict_some : (system : System) (v : Name) → ((r : Rule) → Contains system.rules r → AreFlat system.signature r)
-    → (b : Bool) → MatchBool b (SomeNormal (pattern_system system)) (NoneNormal (pattern_system system)) → Verdict b system (Exists v (Nf v))
-verdict_some system v flat true (f, found) = λ m ground_m no.
-    no (constant f) ((found.0, tt), subst (IsNormalForm (root_of system)) (sym (with_name-same m v (constant f))) (normal_constant system f flat found.1))
-verdict_some system v flat false each = λ m ground_m some. some (λ t holds.
-    let step = ground_steps system (λ f arity. constant_steps system f flat arity (true_from_not_false (is_left_root (pattern_system system) f) (λ none. each f (arity, none)))) t holds.0 in
-    subst (IsNormalForm (root_of system)) (with_name-same m v t) holds.1 step.0 step.1)
+-- some ground term is a normal form exactly where some constant is one
+pub tells_normal : (system : System) → ((r : Rule) → Contains system.rules r → AreFlat system.signature r)
+    → (b : Bool) → MatchBool b (SomeNormal (pattern_system system)) (NoneNormal (pattern_system system)) → TellsSome system.signature b (IsNormalForm (root_of system))
+tells_normal system flat true (f, found) = (constant f, (found.0, tt), normal_constant system f flat found.1)
+tells_normal system flat false each = λ t is_ground normal.
+    let step = ground_steps system (λ f arity. constant_steps system f flat arity (true_from_not_false (is_left_root (pattern_system system) f) (λ none. each f (arity, none)))) t is_ground in
+    normal step.0 step.1

@@ -1,15 +1,16 @@
--- What a problem's system keeps, and the verdicts on it.
-use Rattle.std.proofs.Common.{◌≡◌, ℕ, zero, suc, ◌==◌, Bool, true, false, List, [], ◌∷◌, length, Contains, refl, sym, ap, subst, ◌∙◌, arith}
+-- What a problem's system keeps, and what it tells of the ground terms.
+use Rattle.std.proofs.Common.{◌≡◌, ℕ, zero, suc, ◌==◌, Bool, true, false, not, List, [], ◌∷◌, length, Contains, refl, sym, ap, subst, ◌∙◌, arith}
 use Rattle.std.specs.Prelude.{MatchBool}
 use Rattle.std.proofs.lemmas.Bool.Decides.{Decides-eqb}
 use Rattle.fort_theory.specs.Signatures.{Signature}
 use Rattle.fort_theory.specs.Sides.{Side, Rule, System, App, Var}
 use Rattle.fort_theory.specs.Patterns.{pattern_system, PatternSystem}
-use Rattle.fort_theory.specs.Formulas.{Name, Nf, Forall, Exists}
+use Rattle.fort_theory.specs.Rewriting.{IsNormalForm}
 use Rattle.fort_grammar.specs.Forms.{Form}
 use Rattle.fort_grammar.specs.RuleForms.{IsSide, AConstant, AVariable, AreRules}
 use Rattle.fort_grammar.specs.ProblemForms.{IsProblem}
-use Rattle.fort_run.proofs.Normality.{IsFlat, AreFlat, AVariable as FlatVariable, AConstant as FlatConstant, NoneNormal, SomeNormal, Verdict, verdict_every, verdict_some}
+use Rattle.fort_run.proofs.Normality.{IsFlat, AreFlat, AVariable as FlatVariable, AConstant as FlatConstant, NoneNormal, SomeNormal, root_of, tells_reducible, tells_normal}
+use Rattle.fort_run.specs.GroundTerms.{TellsSome}
 
 flat_side : (bytes : List ℕ) (signature : Signature) (number : ℕ) (f : Form) (s : Side) → IsSide bytes signature number f s → IsFlat signature s
 flat_side bytes signature number f (App g ss) (AConstant word named declared arity) = FlatConstant g arity
@@ -37,19 +38,19 @@ pub match_none : (b : Bool) (n m : ℕ) → b ≡ (n == 0) → n ≡ m → Match
 match_none true n m h e = sym e ∙ (Decides-eqb n 0).0 (sym h)
 match_none false n m h e = λ none. (let said : false ≡ true = h ∙ (Decides-eqb n 0).1 (e ∙ none) in cc)
 
-pub every_of_problem : (s : PatternSystem) (b : Bool) (bytes : List ℕ) (forms : List Form) (system : System) (next : ℕ)
-    → MatchBool b (length s.rules ≡ 0) (length s.rules ≡ 0 → ⊥) → IsProblem bytes forms system next → s ≡ pattern_system system → (v : Name)
-    → Verdict b system (Forall v (Nf v))
-every_of_problem s true bytes forms system next found p is v =
-    verdict_every system v p.constant (flat_rules bytes system.signature p.rules system.rules p.are_rules) true
+pub reducible_of_problem : (s : PatternSystem) (b : Bool) (bytes : List ℕ) (forms : List Form) (system : System) (next : ℕ)
+    → MatchBool b (length s.rules ≡ 0) (length s.rules ≡ 0 → ⊥) → IsProblem bytes forms system next → s ≡ pattern_system system
+    → TellsSome system.signature (not b) (λ t. IsNormalForm (root_of system) t → ⊥)
+reducible_of_problem s true bytes forms system next found p is =
+    tells_reducible system p.constant (flat_rules bytes system.signature p.rules system.rules p.are_rules) true
     (no_pairs system.rules (sym (ap (λ (x : PatternSystem). length x.rules) is) ∙ found))
-every_of_problem s false bytes forms system next found p is v =
-    verdict_every system v p.constant (flat_rules bytes system.signature p.rules system.rules p.are_rules) false
+reducible_of_problem s false bytes forms system next found p is =
+    tells_reducible system p.constant (flat_rules bytes system.signature p.rules system.rules p.are_rules) false
     (λ empty. found (ap (λ (x : PatternSystem). length x.rules) is ∙ ap (λ (rs : List Rule). length (pattern_system (record { signature = system.signature; rules = rs })).rules) empty))
 
-pub some_of_problem : (s : PatternSystem) (b : Bool) (bytes : List ℕ) (forms : List Form) (system : System) (next : ℕ)
-    → MatchBool b (SomeNormal s) (NoneNormal s) → IsProblem bytes forms system next → s ≡ pattern_system system → (v : Name)
-    → Verdict b system (Exists v (Nf v))
-some_of_problem s b bytes forms system next found p is v =
-    verdict_some system v (flat_rules bytes system.signature p.rules system.rules p.are_rules) b
+pub normal_of_problem : (s : PatternSystem) (b : Bool) (bytes : List ℕ) (forms : List Form) (system : System) (next : ℕ)
+    → MatchBool b (SomeNormal s) (NoneNormal s) → IsProblem bytes forms system next → s ≡ pattern_system system
+    → TellsSome system.signature b (IsNormalForm (root_of system))
+normal_of_problem s b bytes forms system next found p is =
+    tells_normal system (flat_rules bytes system.signature p.rules system.rules p.are_rules) b
     (subst (λ x. MatchBool b (SomeNormal x) (NoneNormal x)) is found)

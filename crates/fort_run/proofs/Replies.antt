@@ -3,9 +3,8 @@ use Rattle.std.proofs.Common.{◌≡◌, ℕ, zero, suc, ◌+◌, ◌<◌, ◌�
 use Rattle.std.specs.Prelude.{Option, Some, None, IfSome, MatchOption, replicate}
 use Rattle.std.specs.Io.KnownBytes.{Consumes, IsAtEnd}
 use Rattle.fort_theory.specs.Sides.{System}
-use Rattle.fort_theory.specs.Formulas.{Name, Formula}
+use Rattle.fort_theory.specs.Formulas.{Formula}
 use Rattle.fort_theory.specs.Truth.{IsTrueOf, IsFalseOf}
-use Rattle.fort_grammar.specs.FormulaText.{IsVariable, Quantifier, normality, normality_text, IsFormulaText}
 use Rattle.fort_grammar.specs.Text.{BadByte, ExtraClose, Unclosed, TooDeep}
 use Rattle.fort_grammar.specs.Forms.{Forms, NoForm, MoreForms, AreForms, AreFormsOf, End, Skip, AWord, AList}
 use Rattle.fort_grammar.specs.Declarations.{ProblemFault, BadForm, as_list}
@@ -17,8 +16,10 @@ use Rattle.fort_sexpr.specs.declared.fault.SFault.{SFault}
 use Rattle.fort_sexpr.specs.declared.fault.SFault.TheVariants as sfaults
 use Rattle.fort_ari.specs.declared.fault.ProblemFault.{ProblemFault as ariFault}
 use Rattle.fort_ari.specs.Faults.{as_fault}
-use Rattle.fort_answers.specs.Request.{Text, IsRequest, IsNoRequest, IsNoFormula, Asks, AsksNothing}
-use Rattle.fort_answers.specs.Lines.{usage_text, formula_unbuilt, input_too_long, problem_fault_line, yes_line, no_line}
+use Rattle.fort_answers.specs.FormulaAnswer.{IsAccepted, IsRefused}
+use Rattle.fort_answers.proofs.OneVerdict.{accepted-not_refused}
+use Rattle.fort_answers.specs.Request.{Text, IsRequest, IsNoRequest, Asks, AsksNothing}
+use Rattle.fort_answers.specs.Lines.{usage_text, input_too_long, problem_fault_line, yes_line, no_line}
 use Rattle.fort_answers.specs.Answer.{Answer, AnswerFor, EarlyAnswer, Early, NoRequest, FormulaRefused, TooLong, TextRefused, ProblemRefused, FormBehind, Yes, No, input_limit}
 use Rattle.fort_run.specs.Refusals.{SaysProblemFault, SaysTextFault}
 
@@ -71,9 +72,9 @@ too_long_told words (Some bytes) f asks long = TooLong f asks long (record { sam
 pub no_request : (words : List Text) (told : Option Text) → IsNoRequest words → AnswerFor words told 2 usage_text
 no_request words told none = early_told words told 2 usage_text (NoRequest none (record { same_status = refl; same_text = refl }))
 
-pub formula_refused : (words : List Text) (told : Option Text) (formula : Text) → IsRequest words formula → IsNoFormula formula → AnswerFor words told 3 formula_unbuilt
-formula_refused words told formula request none =
-    early_told words told 3 formula_unbuilt (FormulaRefused formula request none (record { same_status = refl; same_text = refl }))
+pub formula_refused : (words : List Text) (told : Option Text) (formula line : Text) → IsRequest words formula → IsRefused formula line → AnswerFor words told 3 line
+formula_refused words told formula line request refused =
+    early_told words told 3 line (FormulaRefused formula request line refused (record { same_status = refl; same_text = refl }))
 
 -- the lines of a text's faults
 pub text_refused : (words : List Text) (bytes : Text) (f : Formula) (fault : SFault) (line : Text) → Asks words f → length bytes ≤ input_limit
@@ -120,25 +121,17 @@ is_no words bytes f forms system next asks short are problem end fails =
     No f asks short system (problem_text bytes forms system next are problem end) fails (record { same_status = refl; same_text = refl })
 
 -- what is asked, from the formula's text
-pub asks_normality : (words : List Text) (formula : Text) (q : Quantifier) → IsRequest words formula → (v : Name) × IsVariable v × (formula ≡ normality_text q v)
-    → (v : Name) × Asks words (normality q v)
-asks_normality words formula q request found = (
-  found.0,
-  record {
-    formula = formula;
-    request = request;
-    accepted = record { quantifier = q; variable = found.0; named = found.1; spelled = found.2; means = refl };
-  },
-)
+pub asks_accepted : (words : List Text) (formula : Text) (f : Formula) → IsRequest words formula → IsAccepted formula f → Asks words f
+asks_accepted words formula f request accepted = record { formula = formula; request = request; accepted = accepted }
 
 -- with no formula nothing is asked
 pub nothing_without_request : (words : List Text) → IsNoRequest words → AsksNothing words
 nothing_without_request words none = λ f asks. none asks.formula asks.request
 
-pub nothing_of_refused : (words : List Text) (formula : Text) → IsRequest words formula → IsNoFormula formula → AsksNothing words
-nothing_of_refused words formula request none = λ f asks.
+pub nothing_of_refused : (words : List Text) (formula line : Text) → IsRequest words formula → IsRefused formula line → AsksNothing words
+nothing_of_refused words formula line request refused = λ f asks.
     let same : asks.formula ≡ formula = same_formula words asks.formula formula asks.request request in
-    none f (subst (λ t. IsFormulaText t f) same asks.accepted)
+    accepted-not_refused formula f line (subst (λ t. IsAccepted t f) same asks.accepted) refused
   where
     same_formula : (words : List Text) (f g : Text) → IsRequest words f → IsRequest words g → f ≡ g
     same_formula words f g one two =

@@ -1,5 +1,6 @@
-pub mod QuestionView
 pub mod RedexRoots
+pub mod GroundTerms
+pub mod NormalityValues
 pub mod ReplyView
 pub mod Refusals
 pub mod RequestView

@@ -5,7 +5,12 @@ use Rattle.fort_sexpr.specs.declared.fault.SFault.{SFault}
 use Rattle.fort_sexpr.specs.declared.fault.SFault.TheVariants as faults
 use Rattle.fort_ari.specs.declared.fault.ProblemFault.{ProblemFault}
 use Rattle.fort_ari.specs.Faults.{as_fault}
-use Rattle.fort_answers.specs.Lines.{text_fault_line, problem_fault_line}
+use Rattle.fort_formula_parser.specs.declared.fault.FFault.{FFault}
+use Rattle.fort_formula_parser.specs.Faults.{as_formula_fault}
+use Rattle.fort_answers.specs.FormulaAnswer.{IsRefused}
+use Rattle.fort_answers.specs.Lines.{formula_fault_line, text_fault_line, problem_fault_line}
+use Rattle.fort_run.specs.declared.accepted.Refusal.{Refusal}
+use Rattle.fort_run.specs.declared.accepted.Refusal.TheVariants as refusal
 
 abbrev pub SaysTextFault : SFault → List ℕ → Type 0
 SaysTextFault faults.Memory line = ⊥
@@ -16,3 +21,11 @@ SaysTextFault (faults.TooDeep i) line = line ≡ text_fault_line (TooDeep i)
 
 abbrev pub SaysProblemFault : ProblemFault → List ℕ → Type 0
 SaysProblemFault fault line = MatchOption (as_fault fault) ⊥ (λ f. line ≡ problem_fault_line f)
+
+abbrev pub SaysFormulaFault : FFault → List ℕ → Type 0
+SaysFormulaFault fault line = MatchOption (as_formula_fault fault) ⊥ (λ f. line ≡ formula_fault_line f)
+
+-- the refusal of a formula's text is one that is owed to it; want of memory says nothing
+abbrev pub Refuses : List ℕ → Refusal → Type 0
+Refuses text refusal.Memory = Unit {0}
+Refuses text (refusal.Line line) = IsRefused text line.items

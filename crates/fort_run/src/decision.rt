@@ -1,17 +1,20 @@
-ghost use Rattle.std.specs.Prelude.{◌≡◌, ℕ, ◌<◌, ◌↔◌, List, IsTrue, length, MatchBool};
+ghost use Rattle.std.specs.Prelude.{◌≡◌, ℕ, ◌<◌, ◌↔◌, List, [], IsTrue, length, MatchBool};
 ghost use Rattle.std.specs.List.{list_any};
-ghost use Rattle.fort_theory.specs.Formulas.{Name};
+ghost use Rattle.fort_theory.specs.FreeNames.{free_names};
 ghost use Rattle.fort_theory.specs.Patterns.{pattern_system};
+ghost use Rattle.fort_theory.specs.RootSteps.{RootStep};
 ghost use Rattle.fort_theory.specs.Sides as theory;
 ghost use Rattle.fort_theory.specs.Truth.{IsTrueOf, IsFalseOf};
 ghost use Rattle.fort_grammar.specs.Forms.{Form};
-ghost use Rattle.fort_grammar.specs.FormulaText.{normality};
 ghost use Rattle.fort_grammar.specs.ProblemForms.{IsProblem};
+ghost use Rattle.fort_answers.specs.Built.{IsBuilt};
+ghost use Rattle.fort_formulas.specs.FormulaView.{as_formula};
 ghost use Rattle.fort_terms.specs.PatternView.{as_pattern};
-ghost use Rattle.fort_run.specs.QuestionView.{as_quantifier};
+ghost use Rattle.fort_run.specs.GroundTerms.{TellsTerms};
 ghost use Rattle.fort_run.specs.RedexRoots.{takes_root, is_left_root, IsNormalConstant};
 
-use crate::question::Quantifier;
+use crate::evaluation::{GroundTerms, evaluate};
+use fort_formulas::Formula;
 use fort_terms::{Pattern, Sym, System};
 
 fn takes_root(pattern: &Pattern, f: u16) -> bool
@@ -55,14 +58,21 @@ fn is_some_normal(system: &System) -> bool
     false
 }
 
-/// Whether every ground term, or some, is a normal form of a problem's system. For now the sides of its rules are
-/// constants and variables.
-pub fn is_true(system: &System, quantifier: Quantifier) -> bool
-    ensures { (bytes : List ℕ) (forms : List Form) (p : theory.System) (next : ℕ) → IsProblem bytes forms p next → system.now ≡ pattern_system p → (v : Name)
-        → MatchBool result (IsTrueOf p (normality (as_quantifier quantifier) v)) (IsFalseOf p (normality (as_quantifier quantifier) v)) }
+/// Which ground terms a problem's system has. For now the sides of its rules are constants and variables.
+fn ground_terms(system: &System) -> GroundTerms
+    ensures { (bytes : List ℕ) (forms : List Form) (p : theory.System) (next : ℕ) → IsProblem bytes forms p next → system.now ≡ pattern_system p
+        → TellsTerms p.signature (RootStep p.signature p.rules) result.normal result.reducible }
 {
-    match quantifier {
-        Quantifier::Every => system.rules().is_empty(),
-        Quantifier::Some => is_some_normal(system),
-    }
+    let normal = is_some_normal(system);
+    let reducible = !system.rules().is_empty();
+    GroundTerms { normal, reducible }
+}
+
+/// Whether the formula, in which no variable is free, is true of a problem's system.
+pub fn is_true(system: &System, formula: &Formula) -> bool
+    ensures { (bytes : List ℕ) (forms : List Form) (p : theory.System) (next : ℕ) → IsProblem bytes forms p next → system.now ≡ pattern_system p
+        → IsBuilt (as_formula formula.now) → free_names (as_formula formula.now) ≡ []
+        → MatchBool result (IsTrueOf p (as_formula formula.now)) (IsFalseOf p (as_formula formula.now)) }
+{
+    evaluate(formula, ground_terms(system)).normal
 }

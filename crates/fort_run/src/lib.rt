@@ -1,9 +1,11 @@
 //! The top call: words and bytes in, a line and a status out.
 #![tactic(auto)]
 
+mod accepted;
+mod built;
 mod decision;
+mod evaluation;
 mod outcome;
-mod question;
 mod refusal;
 mod reply;
 #[cfg(test)]

@@ -1,8 +1,9 @@
 ghost use Rattle.std.specs.Prelude.{◌≡◌, ◌++◌, IfOk, OnOk, decimal};
 ghost use Rattle.fort_answers.specs.Lines as lines;
-ghost use Rattle.fort_run.specs.Refusals.{SaysProblemFault, SaysTextFault};
+ghost use Rattle.fort_run.specs.Refusals.{SaysFormulaFault, SaysProblemFault, SaysTextFault};
 
 use fort_ari::ProblemFault;
+use fort_formula_parser::FFault;
 use fort_sexpr::SFault;
 use itoa::Buffer;
 use std::alloc::{AllocError, Global};
@@ -20,6 +21,29 @@ fn numbered(alloc: Global, text: &[u8], n: usize) -> Result<Vec<u8>, AllocError>
 {
     let mut line = Vec::from_slice(alloc, text)?;
     push_number(&mut line, n)?;
+    line.push(b'\n')?;
+    Ok(line)
+}
+
+/// The line of a formula's first fault.
+pub fn formula_line(alloc: Global, fault: &FFault) -> Result<Vec<u8>, AllocError>
+    ensures { IfOk result (λ line. SaysFormulaFault fault.now line.items) }
+{
+    match fault {
+        FFault::Memory => Err(AllocError),
+        FFault::BadByte(at) => numbered(alloc, b"REFUSED formula bad byte at ", *at),
+        FFault::TooLong => Vec::from_slice(alloc, b"REFUSED formula too long\n"),
+        FFault::TooDeep(at) => numbered(alloc, b"REFUSED formula too deep at ", *at),
+        FFault::Syntax => Vec::from_slice(alloc, b"REFUSED formula syntax\n"),
+    }
+}
+
+/// The line of a formula in which a variable is free.
+pub fn open_line(alloc: Global, name: &[u8]) -> Result<Vec<u8>, AllocError>
+    ensures { IfOk result (λ line. line.items ≡ lines.formula_open name.now) }
+{
+    let mut line = Vec::from_slice(alloc, b"REFUSED formula open ")?;
+    line.extend_from_slice(name)?;
     line.push(b'\n')?;
     Ok(line)
 }

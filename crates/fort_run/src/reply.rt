@@ -5,9 +5,8 @@ ghost use Rattle.fort_run.specs.ReplyView.{status_of, text_of};
 #[derive(Debug, Drop)]
 pub enum Reply {
     Usage,
-    FormulaUnbuilt,
     InputTooLong,
-    /// The line that refuses the input.
+    /// The line that refuses the formula or the input.
     Refused(Vec<u8>),
     Yes,
     No,
@@ -27,7 +26,7 @@ impl Reply {
             Reply::Yes => 0,
             Reply::No => 1,
             Reply::Usage => 2,
-            Reply::FormulaUnbuilt | Reply::InputTooLong | Reply::Refused(_) => 3,
+            Reply::InputTooLong | Reply::Refused(_) => 3,
         }
     }
 
@@ -36,7 +35,6 @@ impl Reply {
     {
         match self {
             Reply::Usage => USAGE.as_bytes(),
-            Reply::FormulaUnbuilt => b"REFUSED formula unbuilt\n",
             Reply::InputTooLong => b"REFUSED input too long\n",
             Reply::Refused(line) => line,
             Reply::Yes => b"YES\n",

@@ -60,38 +60,9 @@ fn words_and_formulas(rt: HostRuntime) -> Result<(), Fail> {
             "YES\n",
         ),
         ("fort|decide|--|forall x (NF(x))", ONE, 0, "YES\n"),
-        ("fort|decide|NF(x)", ONE, 3, "REFUSED formula unbuilt\n"),
-        (
-            "fort|decide|forall x (NF(y))",
-            ONE,
-            3,
-            "REFUSED formula unbuilt\n",
-        ),
-        (
-            "fort|decide|forall  x (NF(x))",
-            ONE,
-            3,
-            "REFUSED formula unbuilt\n",
-        ),
-        (
-            "fort|decide|forall NF (NF(NF))",
-            ONE,
-            3,
-            "REFUSED formula unbuilt\n",
-        ),
-        (
-            "fort|decide|forall 1x (NF(1x))",
-            ONE,
-            3,
-            "REFUSED formula unbuilt\n",
-        ),
-        (
-            "fort|decide|forall x (NF(x)) ",
-            ONE,
-            3,
-            "REFUSED formula unbuilt\n",
-        ),
-        ("fort|decide|", ONE, 3, "REFUSED formula unbuilt\n"),
+        ("fort|decide|NF(x)", ONE, 3, "REFUSED formula open x\n"),
+        ("fort|decide|", ONE, 3, "REFUSED formula syntax\n"),
+        ("fort|decide|-", ONE, 3, "REFUSED formula bad byte at 0\n"),
         ("fort|decide", ONE, 2, USAGE),
         ("fort", ONE, 2, USAGE),
         ("fort|Decide|forall x (NF(x))", ONE, 2, USAGE),
@@ -122,6 +93,134 @@ fn decided(alloc: Global, formula: &str, text: &str) -> Result<(u8, Vec<u8>), Al
         None => format!(in alloc; "(format TRS){text}")?,
     };
     answer(alloc, &["fort", "decide", formula], input.as_bytes())
+}
+
+/// One constant and no rule; a constant that reduces to another; a rule that reduces every term.
+const PROBLEMS: [&str; 3] = [
+    "(fun a 0)",
+    "(fun a 0)(fun b 0)(rule a b)",
+    "(fun a 0)(fun f 1)(rule x a)",
+];
+
+/// Formulas, the place of a problem, and the line that is printed.
+const FORMULAS: [(&str, usize, &str); 41] = [
+    ("true", 0, "YES\n"),
+    ("false", 0, "NO\n"),
+    ("true | false & false", 0, "YES\n"),
+    ("(true | false) & false", 0, "NO\n"),
+    ("false => false => false", 0, "YES\n"),
+    ("(false => false) => false", 0, "NO\n"),
+    ("~false & true", 0, "YES\n"),
+    ("~(true & true)", 0, "NO\n"),
+    ("false <=> false", 0, "YES\n"),
+    ("true <=> false", 0, "NO\n"),
+    ("forall  x\t(NF(x))\r\n", 0, "YES\n"),
+    ("exists x (~NF(x))", 0, "NO\n"),
+    ("exists x (~NF(x))", 1, "YES\n"),
+    ("exists x (NF(x) & exists x (~NF(x)))", 1, "YES\n"),
+    ("exists x (NF(x) & ~NF(x))", 1, "NO\n"),
+    ("forall x (NF(x) | ~NF(x))", 1, "YES\n"),
+    ("forall x (NF(x) => ~NF(x))", 1, "NO\n"),
+    ("forall x (NF(x) => exists x (~NF(x)))", 1, "YES\n"),
+    ("exists x (NF(x)) & exists x (~NF(x))", 1, "YES\n"),
+    ("forall x (NF(x)) | forall x (~NF(x))", 1, "NO\n"),
+    ("forall x (NF(x) <=> ~~NF(x))", 1, "YES\n"),
+    ("exists x, x (NF(x))", 1, "YES\n"),
+    ("forall x (exists x (NF(x)))", 1, "YES\n"),
+    ("exists longer_name1 (NF(longer_name1))", 1, "YES\n"),
+    ("exists x (NF(x))", 2, "NO\n"),
+    ("forall x (~NF(x))", 2, "YES\n"),
+    ("exists x (NF(x)) & NF(y)", 1, "REFUSED formula open y\n"),
+    ("forall x (NF(y))", 1, "REFUSED formula open y\n"),
+    ("x = y", 1, "REFUSED formula open x\n"),
+    ("x # y", 1, "REFUSED formula bad byte at 2\n"),
+    ("forall 1x (NF(1x))", 1, "REFUSED formula bad byte at 7\n"),
+    ("true <=> true <=> true", 1, "REFUSED formula syntax\n"),
+    ("forall NF (NF(NF))", 1, "REFUSED formula syntax\n"),
+    ("true)", 1, "REFUSED formula syntax\n"),
+    ("COM", 1, "REFUSED formula syntax\n"),
+    ("CR", 1, "REFUSED formula syntax\n"),
+    ("infinite x (true)", 1, "REFUSED formula syntax\n"),
+    ("exists x (x = x)", 1, "REFUSED formula syntax\n"),
+    ("exists x (JOIN(x, x))", 1, "REFUSED formula syntax\n"),
+    ("exists x (exists y (NF(x)))", 1, "REFUSED formula syntax\n"),
+    (
+        "exists x (NF(x)) & exists y (NF(y))",
+        1,
+        "REFUSED formula syntax\n",
+    ),
+];
+
+#[test]
+fn formulas(rt: HostRuntime) -> Result<(), Fail> {
+    for (formula, place, line) in FORMULAS {
+        let problem = PROBLEMS.get(place).ok_or("no such problem")?;
+        let (status, printed) = decided(rt.alloc(), formula, problem)?;
+        assert_eq!(rt; printed.as_slice(), line.as_bytes(), "{formula}");
+        assert_eq!(rt; status, status_of(line), "{formula}");
+    }
+    Ok(())
+}
+
+/// The status that comes with a line.
+fn status_of(line: &str) -> u8 {
+    match line {
+        "YES\n" => 0,
+        "NO\n" => 1,
+        _ => 3,
+    }
+}
+
+/// A formula that binds so many variables, each neighbours of which are equal.
+fn wide(alloc: Global, variables: usize) -> Result<String, AllocError> {
+    let mut text = String::from_str(alloc, "exists x0")?;
+    for i in 1..variables {
+        text.push_str(format!(in alloc; ", x{i}")?.as_str())?;
+    }
+    text.push_str(" (true")?;
+    for i in 1..variables {
+        text.push_str(format!(in alloc; " & x{} = x{i}", i - 1)?.as_str())?;
+    }
+    text.push(')')?;
+    Ok(text)
+}
+
+/// A formula in so many parentheses.
+fn deep(alloc: Global, parentheses: usize) -> Result<String, AllocError> {
+    let mut text = String::new(alloc);
+    for _ in 0..parentheses {
+        text.push('(')?;
+    }
+    text.push_str("true")?;
+    for _ in 0..parentheses {
+        text.push(')')?;
+    }
+    Ok(text)
+}
+
+#[test]
+fn limits_of_formulas(rt: HostRuntime) -> Result<(), Fail> {
+    // Sixteen variables are few enough, but relations aren't decided yet.
+    let (_, printed) = decided(rt.alloc(), wide(rt.alloc(), 16)?.as_str(), "(fun a 0)")?;
+    assert_eq!(rt; printed.as_slice(), b"REFUSED formula syntax\n".as_slice());
+    let (_, printed) = decided(rt.alloc(), wide(rt.alloc(), 17)?.as_str(), "(fun a 0)")?;
+    assert_eq!(rt;
+        printed.as_slice(),
+        b"REFUSED formula too wide\n".as_slice()
+    );
+    let (_, printed) = decided(rt.alloc(), deep(rt.alloc(), 200)?.as_str(), "(fun a 0)")?;
+    assert_eq!(rt; printed.as_slice(), b"YES\n".as_slice());
+    let (_, printed) = decided(rt.alloc(), deep(rt.alloc(), 201)?.as_str(), "(fun a 0)")?;
+    assert_eq!(rt;
+        printed.as_slice(),
+        b"REFUSED formula too deep at 200\n".as_slice()
+    );
+    let (_, printed) = decided(rt.alloc(), "true", "(fun f 1)")?;
+    assert_eq!(rt;
+        printed.as_slice(),
+        b"REFUSED problem no constant\n".as_slice()
+    );
+    Ok(())
 }
 
 /// Problems, and whether every ground term is a normal form, and whether some is.

@@ -1,20 +1,19 @@
-ghost use Rattle.std.specs.Prelude.{◌≡◌, ◌≤◌, ◌⊎◌, List, map, length, string_bytes, Err, IfOk, OnOk, IsErrOf};
-ghost use Rattle.fort_theory.specs.Formulas.{Name};
-ghost use Rattle.fort_grammar.specs.FormulaText.{normality};
+ghost use Rattle.std.specs.Prelude.{◌≡◌, ◌≤◌, ◌⊎◌, List, map, length, string_bytes, Err, IfOk, IfSome, OnOk, IsErrOf};
 ghost use Rattle.fort_io.specs.Faults.{FaultCounted};
+ghost use Rattle.fort_formulas.specs.FormulaView.{as_formula};
 ghost use Rattle.fort_answers.specs.Request.{Asks, AsksNothing, AsksSomething, Text};
 ghost use Rattle.fort_answers.specs.Answer.{Answer, AnswerFor, input_limit};
-ghost use Rattle.fort_run.specs.Answered.{Answers, CutsShort, ReadsWhole};
-ghost use Rattle.fort_run.specs.QuestionView.{as_quantifier};
+ghost use Rattle.fort_run.specs.Answered.{Answers, CutsShort, OwesOnly, ReadsWhole};
 ghost use Rattle.fort_run.specs.ReplyView.{status_of, text_of};
 
+use crate::accepted::{Refusal, accepted_formula};
 use crate::decision::is_true;
 use crate::outcome::Outcome;
-use crate::question::{Quantifier, quantifier_of};
 use crate::refusal::{form_line, problem_line, text_line};
 use crate::reply::Reply;
 use crate::words::formula_word;
 use fort_ari::read_problem;
+use fort_formulas::Formula;
 use fort_io::{ReadAll, Sink, Source, read_all, write_all};
 use fort_sexpr::read;
 use std::alloc::{AllocError, Global};
@@ -32,9 +31,9 @@ pub enum Stop {
 }
 
 /// The reply to a formula on an input.
-fn reply_to_bytes(alloc: Global, quantifier: Quantifier, bytes: &[u8]) -> Result<Reply, AllocError>
+fn reply_to_bytes(alloc: Global, formula: &Formula, bytes: &[u8]) -> Result<Reply, AllocError>
     requires { length bytes.now ≤ input_limit }
-    ensures { IfOk result (λ r. (words : List Text) (v : Name) → Asks words (normality (as_quantifier quantifier) v)
+    ensures { IfOk result (λ r. (words : List Text) → Asks words (as_formula formula.now)
         → Answer words bytes.now (status_of r) (text_of r)) }
 {
     let forms = match read(alloc, bytes) {
@@ -49,7 +48,7 @@ fn reply_to_bytes(alloc: Global, quantifier: Quantifier, bytes: &[u8]) -> Result
         let line = form_line(alloc, problem.next, b" bad form", b"")?;
         return Ok(Reply::Refused(line));
     }
-    if is_true(&problem.system, quantifier) {
+    if is_true(&problem.system, formula) {
         Ok(Reply::Yes)
     } else {
         Ok(Reply::No)
@@ -59,10 +58,10 @@ fn reply_to_bytes(alloc: Global, quantifier: Quantifier, bytes: &[u8]) -> Result
 /// The reply to a formula on what the source gives.
 fn reply_to_formula<S: Source>(
     alloc: Global,
-    quantifier: Quantifier,
+    formula: &Formula,
     input: &mut S,
 ) -> Result<Reply, Stop>
-    ensures ok { IfOk result (λ r. (words : List Text) (v : Name) → Asks words (normality (as_quantifier quantifier) v)
+    ensures ok { IfOk result (λ r. (words : List Text) → Asks words (as_formula formula.now)
         → AnswerFor words (S.rest input.old) (status_of r) (text_of r)) }
     ensures whole { OnOk result (ReadsWhole (S.rest input.old) (S.rest input.new)) }
     ensures fault { IsErrOf result Stop.Fault → FaultCounted (S.faults input.old) (S.faults input.new) }
@@ -74,7 +73,7 @@ fn reply_to_formula<S: Source>(
         Err(ReadAll::Fault) => return Err(Stop::Fault),
         Err(ReadAll::Memory) => return Err(Stop::Memory),
     };
-    match reply_to_bytes(alloc, quantifier, bytes.as_slice()) {
+    match reply_to_bytes(alloc, formula, bytes.as_slice()) {
         Ok(reply) => Ok(reply),
         Err(_) => Err(Stop::Memory),
     }
@@ -89,15 +88,17 @@ fn reply_to<S: Source>(alloc: Global, words: &[String], input: &mut S) -> Result
     ensures unread { AsksNothing (map string_bytes words.now) → input.new ≡ input.old }
     ensures never_falls { S.faults input.old ≤ S.faults input.new }
 {
-    let formula = match formula_word(alloc, words) {
-        Ok(Some(formula)) => formula,
+    let text = match formula_word(alloc, words) {
+        Ok(Some(text)) => text,
         Ok(None) => return Ok(Reply::Usage),
         Err(_) => return Err(Stop::Memory),
     };
-    let Some(quantifier) = quantifier_of(formula.as_bytes()) else {
-        return Ok(Reply::FormulaUnbuilt);
+    let formula = match accepted_formula(alloc, text.as_bytes()) {
+        Ok(formula) => formula,
+        Err(Refusal::Line(line)) => return Ok(Reply::Refused(line)),
+        Err(Refusal::Memory) => return Err(Stop::Memory),
     };
-    reply_to_formula(alloc, quantifier, input)
+    reply_to_formula(alloc, &formula, input)
 }
 
 /// Answers the words of a command line, the program's own name first, on what the source gives. The whole answer is
@@ -108,8 +109,9 @@ pub fn run<S: Source, K: Sink>(
     input: &mut S,
     output: &mut K,
 ) -> Outcome
-    // With 0 to 4 the status is the answer's, and its text was written.
+    // With 0 to 4 the status is the answer's, and its text was written. No other answer is owed to the bytes.
     ensures answered { result.status ≤ 4 → Answers (map string_bytes words.now) (S.rest input.old) (K.taken output.old) (K.taken output.new) result.status }
+    ensures only { result.status ≤ 4 → IfSome (S.rest input.old) (OwesOnly (map string_bytes words.now) (K.taken output.old) (K.taken output.new) result.status) }
     ensures whole { result.status ≤ 4 → AsksSomething (map string_bytes words.now) → ReadsWhole (S.rest input.old) (S.rest input.new) }
 
     // With 7 a front of the answer's text was written, with 5 and 6 nothing.

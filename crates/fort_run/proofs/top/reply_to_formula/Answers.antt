@@ -1,17 +1,16 @@
 use Rattle.std.proofs.Common.{◌≡◌, ap, sym, subst}
 use Rattle.std.specs.Prelude.{Err}
 use Rattle.std.specs.Io.KnownBytes.{Consumes}
-use Rattle.fort_grammar.specs.FormulaText.{normality}
 use Rattle.fort_io.specs.declared.source.ReadAll.TheVariants.{TooLong}
-use Rattle.fort_run.specs.QuestionView.{as_quantifier}
+use Rattle.fort_formulas.specs.FormulaView.{as_formula}
 use Rattle.fort_run.proofs.Replies.{answer_told, too_long_told}
 use Rattle.fort_run.proofs.top.reply_to_formula.Goals as goal
 
 pub returns-in-Err-TooLong-clause-ok : goal.returns-in-Err-TooLong-clause-ok
-returns-in-Err-TooLong-clause-ok g c = λ words v asks.
-    too_long_told words _ (normality (as_quantifier c.args.quantifier) v) asks (c.in-Err-TooLong.ensures.too_long (ap Err (let same : c.in-Err-TooLong.field-0 ≡ TooLong = cc in same)))
+returns-in-Err-TooLong-clause-ok g c = λ words asks.
+    too_long_told words _ (as_formula c.args.formula.now) asks (c.in-Err-TooLong.ensures.too_long (ap Err (let same : c.in-Err-TooLong.field-0 ≡ TooLong = cc in same)))
 
 pub returns-in-Ok-reply_to_bytes-clause-ok : goal.returns-in-Ok-reply_to_bytes-clause-ok
-returns-in-Ok-reply_to_bytes-clause-ok g c = λ words v asks.
+returns-in-Ok-reply_to_bytes-clause-ok g c = λ words asks.
     answer_told words _ _ c.as_slice.result.now _ _ (subst (Consumes _ _) (sym c.as_slice.ensures.value) c.in-Ok.ensures.all) c.in-Ok.ensures.end
-    (c.in-Ok-reply_to_bytes.ensures words v asks)
+    (c.in-Ok-reply_to_bytes.ensures words asks)

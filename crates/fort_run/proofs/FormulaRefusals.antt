@@ -1,0 +1,39 @@
+-- The lines that refuse formulas are owed to their texts.
+use Rattle.std.specs.Prelude.{◌≡◌, ℕ, Bool, true, false, List, [], ◌∷◌, Option, None, Some, slice_get, IsTrue, IfSome, MatchBool, MatchOption}
+use Rattle.std.proofs.Common.{Vec, Global, sym, ap, subst, refl}
+use Rattle.fort_grammar.specs.FormulaText.{FormulaFault, IsFirstFormulaFault}
+use Rattle.fort_answers.specs.FormulaAnswer.{IsRefused, Faulty}
+use Rattle.fort_answers.specs.Lines.{formula_fault_line}
+use Rattle.fort_run.specs.declared.accepted.Refusal.{Refusal}
+use Rattle.fort_run.specs.declared.accepted.Refusal.TheVariants.{Line}
+use Rattle.fort_run.specs.Refusals.{Refuses}
+
+pub told_false : (b : Bool) (P Q : Type 0) → MatchBool b P Q → b ≡ false → Q
+told_false true P Q h is = cc
+told_false false P Q h is = h
+
+pub told_true : (b : Bool) (P Q : Type 0) → MatchBool b P Q → b ≡ true → P
+told_true true P Q h is = h
+told_true false P Q h is = cc
+
+pub unsaid : (b : Bool) → IsTrue b → b ≡ false → ⊥
+unsaid true h is = cc
+unsaid false h is = cc
+
+-- the first of some names
+pub first_of_names : {A : Type 0} (names : List A) (x : A) → Some x ≡ slice_get names 0 → (xs : List A) × (names ≡ x ∷ xs)
+first_of_names [] x h = cc
+first_of_names (y ∷ ys) x h = (ys, (let same : x ≡ y = cc in ap (λ z. z ∷ ys) (sym same)))
+
+pub no_first : {A : Type 0} (names : List A) → None ≡ slice_get names 0 → names ≡ []
+no_first [] h = refl
+no_first (y ∷ ys) h = cc
+
+-- a text whose first fault the line says
+pub faulty : (text line : List ℕ) (fault : Option FormulaFault) → IfSome fault (IsFirstFormulaFault text) → MatchOption fault ⊥ (λ f. line ≡ formula_fault_line f)
+    → IsRefused text line
+faulty text line None first says = absurd says
+faulty text line (Some fault) first says = Faulty fault first says
+
+pub refused_by_line : (text : List ℕ) (r : Refusal) (line : Vec ℕ Global) → r ≡ Line line → Refuses text r → IsRefused text line.items
+refused_by_line text r line is h = subst (Refuses text) is h
