@@ -1,4 +1,4 @@
--- To believe: which token of the definitions a token of the program is.
+-- Nothing to believe: which token of the definitions a token of the program is.
 use Rattle.std.specs.Prelude.{List, map}
 use Rattle.fort_grammar.specs.Tokens as grammar
 use Rattle.fort_formulas.specs.FormulaView.{as_surface_rel, as_property}

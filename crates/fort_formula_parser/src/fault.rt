@@ -3,16 +3,16 @@ ghost use Rattle.fort_formula_parser.specs.declared.fault.FFault.TheVariants.{Me
 
 use std::alloc::{AllocError, AllocFailed};
 
-/// Why a text is no formula, with the offset of the fault.
+/// Why there is no formula. Offsets count bytes from 0.
 #[derive(Clone, Copy, Debug, PartialEq, Eq)]
 pub enum FFault {
     /// There is not enough memory.
     Memory,
-    /// A byte with which no token begins.
+    /// The first byte that is no blank and with which no token begins.
     BadByte(usize),
-    /// More tokens than a formula may have.
+    /// More than 1,000 tokens.
     TooLong,
-    /// A parenthesis that opens one too many.
+    /// The first `(` that is the 201st open.
     TooDeep(usize),
     /// The tokens are no formula.
     Syntax,

@@ -30,7 +30,8 @@ fn whole(alloc: Global, lexemes: &[Lexeme]) -> Result<Formula, FFault>
     Ok(formula)
 }
 
-/// The formula that a text is, or its first fault.
+/// The formula that a text is, or its first fault, in the order of the variants of `FFault`, each over the whole text.
+/// Want of memory may come before any other.
 pub fn parse(alloc: Global, text: &[u8]) -> Result<Formula, FFault>
     ensures ok { IfOk result (λ f. IsFormulaText text.now (as_formula f)) }
     ensures fault { IfErr result (λ e. IfSome (as_formula_fault e) (IsFirstFormulaFault text.now)) }

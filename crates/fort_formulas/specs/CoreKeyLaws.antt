@@ -1,4 +1,4 @@
--- Nothing to believe: the laws of the equality, the order and the hash of core formulas.
+-- Nothing to believe: the laws of the equality of core formulas, and how spellings begin.
 use Rattle.std.specs.Prelude.{◌≡◌, ℕ, Bool, true, false, nat_eq, List, [], ◌∷◌, ◌++◌, refl}
 use Rattle.std.specs.Bool.{Decides, one_answer}
 use Rattle.std.specs.Ordering.{on}

@@ -25,7 +25,7 @@ pub fn is_free(n: u32, core: &Core) -> bool
     }
 }
 
-/// The columns of a formula: its free numbers, ascending.
+/// The columns of a formula: its free numbers, ascending. It fails for want of memory alone.
 pub fn free(alloc: Global, core: &Core) -> Result<Vec<u32>, AllocError>
     ensures { IfOk result (λ ns. AreColumns (as_core core.now) ns.items) }
 {

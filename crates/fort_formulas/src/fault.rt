@@ -6,9 +6,9 @@ use std::alloc::{AllocError, AllocFailed};
 /// Why a formula has no core formula that can be decided.
 #[derive(Clone, Copy, Debug, PartialEq, Eq)]
 pub enum CoreFault {
-    /// There is not enough memory.
+    /// There is not enough memory, or there are not enough numbers below 2^32.
     Memory,
-    /// Some part has too many columns.
+    /// Some part has more than 16 free variables.
     TooWide,
 }
 

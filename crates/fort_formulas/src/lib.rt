@@ -1,4 +1,5 @@
-//! Formulas as users write them, and core formulas: formulas with numbers for variables and few connectives, as keys of maps and sets.
+//! Formulas as users write them, and core formulas, which have numbers for variables and few connectives and can be keys
+//! of maps and sets.
 #![tactic(auto)]
 
 mod abbreviations;

@@ -5,7 +5,7 @@ ghost use Rattle.fort_formulas.specs.FormulaView.{as_formula};
 use crate::surface::{Formula, Name};
 use std::alloc::{AllocError, Global};
 
-/// The free variables, in the order of their first free occurrences.
+/// The free variables, in the order of their first free occurrences. It fails for want of memory alone.
 pub fn free_names(alloc: Global, formula: &Formula) -> Result<Vec<Name>, AllocError>
     ensures { IfOk result (λ names. names.items ≡ free_names (as_formula formula.now)) }
 {

@@ -7,7 +7,8 @@ ghost use Rattle.fort_formulas.specs.CoreView.{as_core};
 use crate::core_formula::Core;
 use std::alloc::{AllocError, Global};
 
-/// The different subformulas, operands before their formula, in the order of their first places.
+/// The different subformulas, operands before their formula, in the order of their first places. It fails for want of
+/// memory alone.
 pub fn parts(alloc: Global, core: &Core) -> Result<Vec<Core>, AllocError>
     ensures { IfOk result (λ ps. AreParts (as_core core.now) (map as_core ps.items)) }
 {

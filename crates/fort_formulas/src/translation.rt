@@ -16,7 +16,8 @@ use crate::scope::Scope;
 use crate::surface::Formula;
 use std::alloc::{AllocError, Global};
 
-/// The core formula, in which the free names have the first numbers. More names than numbers are told as want of memory.
+/// The core formula, in which the free names have the first numbers. `TooWide` where some part of it has more than 16
+/// free variables; `Memory` for want of memory, or of numbers below 2^32.
 pub fn to_core(alloc: Global, formula: &Formula) -> Result<Core, CoreFault>
     ensures ok { IfOk result (λ c. as_core c ≡ core_of (as_formula formula.now)) }
     ensures truth { IfOk result (λ c. KeepsTruth (as_formula formula.now) (as_core c)) }
@@ -31,7 +32,7 @@ pub fn to_core(alloc: Global, formula: &Formula) -> Result<Core, CoreFault>
     Ok(core)
 }
 
-/// The core formula in a scope; a binder has the number of names outside it.
+/// The core formula in a scope; a binder's number is how many names are in scope outside it.
 fn core_in(alloc: Global, scope: &Scope, formula: &Formula) -> Result<Core, AllocError>
     ensures { IfOk result (λ c. as_core c ≡ core_in (as_scope scope.now) (as_formula formula.now)) }
 {

@@ -1,4 +1,4 @@
--- To believe: what a run leaves where it answers, and where a fault of the sink cuts the answer short.
+-- To believe: what a run leaves where it answers, that no other answer is owed, how far it read, and what it leaves where a fault of the sink cuts the answer short.
 use Rattle.std.specs.Prelude.{◌≡◌, ℕ, ◌<◌, ◌⊎◌, List, ◌++◌, length, Option, IfSome}
 use Rattle.std.specs.Io.KnownBytes.{IsAtEnd}
 use Rattle.fort_io.specs.Told.{Takes}

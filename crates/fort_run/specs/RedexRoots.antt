@@ -1,4 +1,4 @@
--- To believe: where the left sides of rules are constants and variables, a constant has a step exactly where it or a variable is a left side.
+-- Nothing to believe: which symbols the left side of some rule takes at its root, and which constants are the left side of no rule.
 use Rattle.std.specs.Prelude.{◌≡◌, ℕ, Bool, true, false, ◌==◌, Some}
 use Rattle.std.specs.List.{list_any}
 use Rattle.fort_theory.specs.Signatures.{arity_of}

@@ -1,4 +1,4 @@
--- To believe: which line says which fault of the program's readers. No line says want of memory.
+-- Nothing to believe: which line says which fault of the program's readers. No line says want of memory.
 use Rattle.std.specs.Prelude.{◌≡◌, List, ℕ, MatchOption}
 use Rattle.fort_grammar.specs.Text.{BadByte, ExtraClose, Unclosed, TooDeep}
 use Rattle.fort_sexpr.specs.declared.fault.SFault.{SFault}

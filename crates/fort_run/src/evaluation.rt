@@ -99,7 +99,8 @@ impl Answer {
     }
 }
 
-/// The truth of a formula that is decided today, over these ground terms; `false` for every other one.
+/// The truth of a formula that is decided today, over these ground terms. In another formula what isn't decided yet counts
+/// as false.
 pub fn evaluate(formula: &Formula, terms: GroundTerms) -> Answer
     ensures normal { result.normal ≡ value_by terms.normal terms.reducible (as_formula formula.now) true }
     ensures reducible { result.reducible ≡ value_by terms.normal terms.reducible (as_formula formula.now) false }
