@@ -131,10 +131,11 @@ pub record IsFirstWith (rows : List Entry) (targets : List ℕ) (q : ℕ) (e : E
   pub before : (j : ℕ) → j < place → get_or targets j 0 < q
   pub row : (d : Entry) → get_or rows place d ≡ e
 
--- the list has each entry once, in order, and is a table; each state has a tuple, and comes first where the targets before are smaller
+-- the list has each entry once, in order, and is a table; each state has a tuple, and states are numbered in the order in which an entry first gives them
 pub record IsListed (t : Listed) : Type 0 where
   pub order : AreInOrder t.signature t.columns t.presences t.rows
   pub all : HasAllEntries t.signature t.columns t.presences t.rows
   pub count : length t.targets ≡ length t.rows
   pub table : IsTable (listed_table t)
   pub reached : IsReached (listed_table t)
+  pub numbered : (q : ℕ) → q < length t.presences → (e : Entry) × IsFirstWith t.rows t.targets q e
