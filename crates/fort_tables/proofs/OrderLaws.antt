@@ -1,10 +1,11 @@
 -- The order of entries is strict.
-use Rattle.std.proofs.Common.{◌≡◌, ℕ, zero, suc, ◌<◌, ◌≤◌, ◌⊎◌, List, [], ◌∷◌, ◌++◌, length, get_or, Option, None, Some, refl, sym, ◌∙◌, arith, subst, inl, inr, ⊎_elim}
+use Rattle.std.proofs.Common.{◌≡◌, ℕ, zero, suc, ◌<◌, ◌≤◌, ◌⊎◌, List, [], ◌∷◌, ◌++◌, length, replicate, get_or, Option, None, Some, refl, sym, ◌∙◌, arith, subst, inl, inr, ⊎_elim}
 use Rattle.std.specs.Prelude.{Contains}
 use Rattle.std.proofs.lemmas.Bool.{cases_lt}
 use Rattle.std.proofs.lemmas.List.{length_push, get_or_push, get_or_append_left}
 use Rattle.fort_theory.specs.Signatures.{Signature}
-use Rattle.fort_tables.specs.Entries.{Entry, IsEntry, stage, ColumnBefore, LexBefore, StageBefore, ComesBefore, IsDue, AreInOrder}
+use Rattle.fort_tables.specs.Tuples.{IsPresent}
+use Rattle.fort_tables.specs.Entries.{Entry, entry, no_entry, IsEntry, stage, ColumnBefore, LexBefore, StageBefore, ComesBefore, IsNextEntry, IsDue, AreInOrder}
 
 lex_irrefl : {A : Type 0} (R : A → A → Type 0) → ((x : A) → R x x → ⊥) → (xs : List A) → LexBefore R xs xs → ⊥
 lex_irrefl R i [] h = h
@@ -25,11 +26,11 @@ column_irrefl None h = h
 column_irrefl (Some g) h = omega arith
 
 column_trans : (x y z : Option ℕ) → ColumnBefore x y → ColumnBefore y z → ColumnBefore x z
-column_trans x y None h k = none_before y k
+column_trans x y None h k = absent_last y k
   where
-    none_before : (y : Option ℕ) → ColumnBefore y None → ⊥
-    none_before None k = k
-    none_before (Some b) k = k
+    absent_last : (y : Option ℕ) → ColumnBefore y None → ⊥
+    absent_last None k = k
+    absent_last (Some b) k = k
 column_trans None y (Some c) h k = tt
 column_trans (Some a) None (Some c) h k = absurd h
 column_trans (Some a) (Some b) (Some c) h k = omega arith
@@ -63,6 +64,21 @@ before_trans a b c h k =
 pub before_apart : (a b : Entry) → ComesBefore a b → a ≡ b → ⊥
 before_apart a b h e = before_irrefl b (subst (λ (x : Entry). ComesBefore x b) e h)
 
+-- no entry is before the first
+absent_first : (n : ℕ) (f : List (Option ℕ)) → length f ≡ n → IsPresent f → LexBefore ColumnBefore (replicate n None) f
+absent_first zero [] w h = absurd h
+absent_first zero (x ∷ f) w h = absurd (omega arith)
+absent_first (suc n) [] w h = absurd h
+absent_first (suc n) (None ∷ f) w h = inr (refl, absent_first n f (omega arith) h)
+absent_first (suc n) (Some g ∷ f) w h = inl tt
+
+pub none_before : (sig : Signature) (n : ℕ) (ps : List ℕ) (x : Entry) → IsEntry sig n ps x → ComesBefore (no_entry n) x
+none_before sig n ps x h = by_kids x.kids refl
+  where
+    by_kids : (ks : List ℕ) → x.kids ≡ ks → ComesBefore (no_entry n) x
+    by_kids [] e = subst (λ (ks : List ℕ). ComesBefore (no_entry n) (entry x.symbol ks)) (sym e) (inr (refl, inl (absent_first n x.symbol h.symbol.width h.symbol.present)))
+    by_kids (k ∷ ks) e = subst (λ (ks : List ℕ). ComesBefore (no_entry n) (entry x.symbol ks)) (sym e) (inl (omega arith))
+
 -- one entry at most is due
 pub due_one : (sig : Signature) (n : ℕ) (ps : List ℕ) (rows : List Entry) (a b : Entry) → IsDue sig n ps rows a → IsDue sig n ps rows b → a ≡ b
 due_one sig n ps rows a b h k =
@@ -95,8 +111,8 @@ kid_below (k ∷ ks) zero l = omega arith
 kid_below (k ∷ ks) (suc i) l = omega (arith, kid_below ks i (omega arith))
 
 -- an entry over more states is one over the first of them, or comes after each of those
-pub entry_shrinks : (sig : Signature) (n : ℕ) (ps : List ℕ) (p : ℕ) (e x : Entry) → IsEntry sig n ps e → IsEntry sig n (ps ++ p ∷ []) x → IsEntry sig n ps x ⊎ ComesBefore e x
-entry_shrinks sig n ps p e x h k =
+pub entry_shrinks : (sig : Signature) (n : ℕ) (ps qs : List ℕ) (e x : Entry) → IsEntry sig n ps e → IsEntry sig n (ps ++ qs) x → IsEntry sig n ps x ⊎ ComesBefore e x
+entry_shrinks sig n ps qs e x h k =
     ⊎_elim
     (λ l. inr (inl (omega (arith, stage_within (length ps) e.kids h.within))))
     (λ l.
@@ -105,9 +121,13 @@ entry_shrinks sig n ps p e x h k =
       symbol = k.symbol;
       count = k.count;
       within = within;
-      presence = λ j m. sym (get_or_append_left ps (p ∷ []) 0 (get_or x.kids j 0) (within j m)) ∙ k.presence j m;
+      presence = λ j m. sym (get_or_append_left ps qs 0 (get_or x.kids j 0) (within j m)) ∙ k.presence j m;
     }))
     (cases_lt (length ps) (stage x.kids))
+
+-- the next entry stays the first one after the last where states are added
+pub next_grows : (sig : Signature) (n : ℕ) (ps qs : List ℕ) (last e x : Entry) → IsNextEntry sig n ps last e → IsEntry sig n (ps ++ qs) x → ComesBefore last x → (e ≡ x) ⊎ ComesBefore e x
+next_grows sig n ps qs last e x h k b = ⊎_elim (λ m. h.first x m b) (λ c. inr c) (entry_shrinks sig n ps qs e x h.is_entry k)
 
 -- one more entry that comes after all
 pub order_push : (sig : Signature) (n : ℕ) (ps : List ℕ) (rows : List Entry) (e : Entry) → AreInOrder sig n ps rows → IsEntry sig n ps e → ((k : ℕ) (d : Entry) → k < length rows → ComesBefore (get_or rows k d) e) → AreInOrder sig n ps (rows ++ e ∷ [])
@@ -140,6 +160,16 @@ contains_left rows e x (k, l, h) = (k, omega (arith, length_push rows e), get_or
 
 pub contains_last : (rows : List Entry) (e : Entry) → Contains (rows ++ e ∷ []) e
 contains_last rows e = (length rows, omega (arith, length_push rows e), get_or_push rows e e (length rows) refl)
+
+-- where each entry is in the list or comes after the last one, so it is with the next one, and states added
+pub up_to_next : (sig : Signature) (n : ℕ) (ps qs : List ℕ) (rows : List Entry) (last e : Entry) → ((x : Entry) → IsEntry sig n ps x → Contains rows x ⊎ ComesBefore last x) → IsNextEntry sig n ps last e → (x : Entry) → IsEntry sig n (ps ++ qs) x → Contains (rows ++ e ∷ []) x ⊎ ComesBefore e x
+up_to_next sig n ps qs rows last e up h x k =
+    let one : (e ≡ x) ⊎ ComesBefore e x → Contains (rows ++ e ∷ []) x ⊎ ComesBefore e x =
+    λ s. ⊎_elim (λ i. inl (subst (λ (y : Entry). Contains (rows ++ e ∷ []) y) i (contains_last rows e))) (λ b. inr b) s in
+    ⊎_elim
+    (λ m. ⊎_elim (λ c. inl (contains_left rows e x c)) (λ b. one (h.first x m b)) (up x m))
+    (λ b. inr b)
+    (entry_shrinks sig n ps qs e x h.is_entry k)
 
 -- nothing comes before itself: an entry after all of a list isn't in it
 pub after_all_missing : (rows : List Entry) (e : Entry) → ((k : ℕ) (d : Entry) → k < length rows → ComesBefore (get_or rows k d) e) → Contains rows e → ⊥
