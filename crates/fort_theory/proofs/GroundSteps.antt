@@ -5,10 +5,10 @@ use Rattle.std.proofs.lemmas.List.Elements.{All-nil, All-cons}
 use Rattle.fort_theory.specs.Trees.{Tree, Trees, Node, Nil, More, tree_count, subtree_at, subtree_among, replaced_at, replaced_among}
 use Rattle.fort_theory.specs.Signatures.{Signature, IsGround, AreGround}
 use Rattle.fort_theory.specs.Sides.{Rule}
-use Rattle.fort_theory.specs.Patterns.{Pattern}
-use Rattle.fort_theory.specs.Rewriting.{Relation, RewritesAt, Rewrites, RewritesBelow, Path, Reduces, ReducesStrictly, RewritesEitherWay, Converts, RewritesInParallel, AllRewriteInParallel, AtRoot, Inside, End, Both}
-use Rattle.fort_theory.specs.RootSteps.{RootStep, PatternStep}
-use Rattle.fort_theory.specs.Truth.{RewritesAtMostOnce}
+use Rattle.fort_theory.specs.Patterns.{Pair}
+use Rattle.fort_theory.specs.Rewriting.{Relation, RewritesAt, Rewrites, RewritesBelow, RewritesAtMostOnce, Path, Reduces, ReducesStrictly, RewritesEitherWay, Converts, RewritesInParallel, AllRewriteInParallel, AtRoot, Inside, End, Both}
+use Rattle.fort_theory.specs.RootSteps.{RootStep}
+use Rattle.fort_theory.specs.PatternSteps.{PatternStep}
 use Rattle.fort_theory.proofs.Lists.{none-some, some-injective}
 
 -- only ground terms are related
@@ -18,7 +18,7 @@ RelatesGround signature root = (s t : Tree) → root s t → IsGround signature 
 pub RelatesGround-RootStep : (signature : Signature) (rules : List Rule) → RelatesGround signature (RootStep signature rules)
 RelatesGround-RootStep signature rules s t h = (h.left_grounded, h.right_grounded)
 
-pub RelatesGround-PatternStep : (signature : Signature) (pairs : List (Pattern × Pattern)) → RelatesGround signature (PatternStep signature pairs)
+pub RelatesGround-PatternStep : (signature : Signature) (pairs : List Pair) → RelatesGround signature (PatternStep signature pairs)
 RelatesGround-PatternStep signature pairs s t h = (h.left_grounded, h.right_grounded)
 
 pub tree_count-replaced_among : (ts : Trees) (i : ℕ) (p : List ℕ) (u : Tree) → tree_count (replaced_among ts i p u) ≡ tree_count ts

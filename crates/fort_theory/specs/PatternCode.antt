@@ -4,7 +4,7 @@ use Rattle.std.proofs.Common.{ap, sym, ◌∙◌, append_assoc, append-nil}
 use Rattle.std.specs.Coded.{Coded, code_by, coded×, coded_list, coded_ℕ}
 use Rattle.fort_theory.specs.Signatures.{Signature}
 use Rattle.fort_theory.specs.SymbolCode.{signature_code}
-use Rattle.fort_theory.specs.Patterns.{Pattern, Patterns, Any, At, NoPattern, MorePatterns, PatternSystem}
+use Rattle.fort_theory.specs.Patterns.{Pattern, Patterns, Any, At, NoPattern, MorePatterns, Pair, PatternSystem}
 
 -- Any is a 2, a node its number raised by three and its arguments, each behind a 1, ended by a 0; so the order of the
 -- lists puts Any before every symbol, and a list of arguments before those that it begins
@@ -70,4 +70,4 @@ patterns_code = code_by (List ℕ) (coded_list coded_ℕ) all_spelled (λ xs. fi
 
 abbrev pub system_code : Coded PatternSystem
 system_code =
-    code_by (Signature × List (Pattern × Pattern)) (coded× signature_code (coded_list (coded× pattern_code pattern_code))) (λ (s : PatternSystem). (s.signature, s.rules)) (λ p. record { signature = p.0; rules = p.1 }) (λ _. refl)
+    code_by (Signature × List (List Pair)) (coded× signature_code (coded_list (coded_list (coded× pattern_code pattern_code)))) (λ (s : PatternSystem). (s.signature, s.rules)) (λ p. record { signature = p.0; rules = p.1 }) (λ _. refl)

@@ -26,6 +26,10 @@ abbrev pub Path : Relation → Tree → List Tree → Tree → Type 0
 Path r s [] t = s ≡ t
 Path r s (u ∷ us) t = r s u × Path r u us t
 
+-- zero or one step
+abbrev pub RewritesAtMostOnce : Relation → Relation
+RewritesAtMostOnce root s t = (s ≡ t) ⊎ Rewrites root s t
+
 -- a finite list of steps
 abbrev pub Reduces : Relation → Relation
 Reduces root s t = (us : List Tree) × Path (Rewrites root) s us t

@@ -1,9 +1,9 @@
--- To believe: what a root step by rules is: one rule and one substitution by ground terms give both ends; and by patterns: an instance of each.
+-- To believe: what a root step by rules is: one rule and one substitution by ground terms give both ends.
 use Rattle.std.specs.Prelude.{◌≡◌, ℕ, List, Contains}
 use Rattle.fort_theory.specs.Trees.{Tree}
 use Rattle.fort_theory.specs.Signatures.{Signature, IsGround}
-use Rattle.fort_theory.specs.Sides.{Rule, Substitution, applied}
-use Rattle.fort_theory.specs.Patterns.{Pattern, IsInstance}
+use Rattle.fort_theory.specs.Sides.{Rule, System, at_index, Substitution, applied}
+use Rattle.fort_theory.specs.Rewriting.{Relation}
 
 pub record RootStep (signature : Signature) (rules : List Rule) (s t : Tree) : Type 0 where
   pub rule : Rule
@@ -15,10 +15,6 @@ pub record RootStep (signature : Signature) (rules : List Rule) (s t : Tree) : T
   pub left_grounded : IsGround signature s
   pub right_grounded : IsGround signature t
 
-pub record PatternStep (signature : Signature) (pairs : List (Pattern × Pattern)) (s t : Tree) : Type 0 where
-  pub pair : Pattern × Pattern
-  pub among : Contains pairs pair
-  pub left : IsInstance pair.0 s
-  pub right : IsInstance pair.1 t
-  pub left_grounded : IsGround signature s
-  pub right_grounded : IsGround signature t
+-- the root steps of a system at an index
+abbrev pub RootStepAt : System → ℕ → Relation
+RootStepAt system index = RootStep system.signature (at_index index system.rules)

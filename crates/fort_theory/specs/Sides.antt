@@ -1,5 +1,5 @@
--- To believe: a side of a rule is a tree with variables, a rule is a pair of them, and a substitution puts a tree for each variable.
-use Rattle.std.specs.Prelude.{◌≡◌, ℕ, suc, List, [], ◌∷◌, ◌++◌, Contains, Some, nat_eq}
+-- To believe: a side of a rule is a tree with variables, a rule is a pair of them, a substitution puts a tree for each variable, and a system has a list of rules for each of its indices, counted from 1.
+use Rattle.std.specs.Prelude.{◌≡◌, ℕ, zero, suc, ◌+◌, ◌≤◌, List, [], ◌∷◌, ◌++◌, length, Contains, Some, nat_eq}
 use Rattle.std.specs.List.{IsDistinct}
 use Rattle.fort_theory.specs.Trees.{Tree, Trees, Node, Nil, More}
 use Rattle.fort_theory.specs.Signatures.{Signature, arity_of}
@@ -68,14 +68,38 @@ pub record IsLinearSeparated (rule : Rule) : Type 0 where
   pub right : IsLinear rule.right
   pub separated : ShareNothing rule.left rule.right
 
-abbrev pub FitsRule : Signature → Rule → Type 0
-FitsRule signature rule = FitsSide signature rule.left × FitsSide signature rule.right
+-- the lists of a system have the indices 1, 2 and so on, in their order; at any other index there is nothing
 
--- a system of rules over a signature
+-- the list of this index
+abbrev pub at_index : {A : Type 0} → ℕ → List (List A) → List A
+at_index zero lists = []
+at_index (suc i) [] = []
+at_index (suc zero) (xs ∷ lists) = xs
+at_index (suc (suc i)) (xs ∷ lists) = at_index (suc i) lists
+
+-- the lists with x behind the list of this index
+abbrev pub pushed_at : {A : Type 0} → ℕ → A → List (List A) → List (List A)
+pushed_at zero x lists = lists
+pushed_at (suc i) x [] = []
+pushed_at (suc zero) x (xs ∷ lists) = (xs ++ x ∷ []) ∷ lists
+pushed_at (suc (suc i)) x (xs ∷ lists) = xs ∷ pushed_at (suc i) x lists
+
+-- this many lists, with nothing in them
+abbrev pub empty_lists : {A : Type 0} → ℕ → List (List A)
+empty_lists zero = []
+empty_lists (suc n) = [] ∷ empty_lists n
+
+-- how many stand in all lists together
+abbrev pub count_all : {A : Type 0} → List (List A) → ℕ
+count_all [] = 0
+count_all (xs ∷ lists) = length xs + count_all lists
+
+-- there is a list of this index
+pub record IsIndexOf {A : Type 0} (lists : List (List A)) (index : ℕ) : Type 0 where
+  pub low : 1 ≤ index
+  pub high : index ≤ length lists
+
+-- a system over a signature: for each index a list of rules; its number is that of its indices
 pub record System : Type 0 where
   pub signature : Signature
-  pub rules : List Rule
-
--- a symbol without arguments
-abbrev pub IsConstantSide : Side → Type 0
-IsConstantSide s = (f : ℕ) × (s ≡ App f NoSide)
+  pub rules : List (List Rule)

@@ -1,7 +1,23 @@
--- To believe: a signature is a list of symbols with names and arities; a ground term has a symbol of it at each node, with as many children as that symbol's arity.
+-- To believe: what a signature, a ground term, a byte of a word and a name are, and the limits 255, 8, 255, 9 and 16.
 use Rattle.std.specs.Prelude.{◌≡◌, ◌≢◌, ℕ, ◌<◌, ◌≤◌, List, length, map, All, Option, Some, option_map, slice_get, bytes_eq, Bool, IsTrue, nat_le, ◌==◌, ◌&&◌, not}
 use Rattle.std.specs.List.{IsDistinct, AllByRecursion}
 use Rattle.fort_theory.specs.Trees.{Tree, Trees, Node, Nil, More, tree_count}
+
+abbrev pub most_functions : ℕ
+most_functions = 255
+
+abbrev pub most_arguments : ℕ
+most_arguments = 8
+
+abbrev pub longest_name : ℕ
+longest_name = 255
+
+abbrev pub most_indices : ℕ
+most_indices = 9
+
+-- how many trees a tuple may have; a tuple has one for each free variable of a part of a formula
+abbrev pub most_columns : ℕ
+most_columns = 16
 
 -- a function symbol; its number is its place in the signature
 pub record Symbol : Type 0 where
@@ -48,13 +64,13 @@ IsWord = AllByRecursion (λ b. IsTrue (is_word_byte b))
 -- a name: a word of 1 to 255 bytes that doesn't begin with a colon
 pub record IsName (name : List ℕ) : Type 0 where
   pub some : 0 < length name
-  pub short : length name ≤ 255
+  pub short : length name ≤ longest_name
   pub word : IsWord name
   pub plain : slice_get name 0 ≢ Some 58
 
 -- what every signature of a problem keeps: at most 255 symbols, their names different, arities of at most 8
 pub record IsSignature (signature : Signature) : Type 0 where
-  pub few : length signature ≤ 255
+  pub few : length signature ≤ most_functions
   pub distinct : IsDistinct bytes_eq (names_of signature)
   pub named : All (λ (s : Symbol). IsName s.name) signature
-  pub small : All (λ (s : Symbol). s.arity ≤ 8) signature
+  pub small : All (λ (s : Symbol). s.arity ≤ most_arguments) signature

@@ -1,2 +1,2 @@
-//! Definitions of rewriting over ground terms and of the truth of formulas, with the lemmas about them. It has no code.
+//! Definitions of rewriting over ground terms, with the lemmas about them. It has no code.
 #![tactic(auto)]

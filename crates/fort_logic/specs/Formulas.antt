@@ -1,4 +1,4 @@
--- To believe: the formulas that a user can write, as trees with names for variables.
+-- To believe: the formulas that a user can write, as trees with names for variables; relations, NF, JOIN and properties have the index of the rules that they are about.
 use Rattle.std.specs.Prelude.{ℕ, List}
 
 -- a variable's name, as bytes
@@ -33,10 +33,10 @@ pub data Property : Type 0 where
 pub data Formula : Type 0 where
   True : Formula
   False : Formula
-  Related : SurfaceRel → Name → Name → Formula
-  Nf : Name → Formula
-  Join : Name → Name → Formula
-  Has : Property → Formula
+  Related : SurfaceRel → Name → Name → (index : ℕ) → Formula
+  Nf : Name → (index : ℕ) → Formula
+  Join : Name → Name → (index : ℕ) → Formula
+  Has : Property → (index : ℕ) → Formula
   Not : Formula → Formula
   And : Formula → Formula → Formula
   Or : Formula → Formula → Formula

@@ -2,8 +2,8 @@
 use Rattle.fort_theory.specs.Trees.{Node, Nil}
 use Rattle.fort_theory.specs.Signatures.{HasConstant}
 use Rattle.fort_theory.specs.Sides.{System}
-use Rattle.fort_theory.specs.Formulas.{Formula}
-use Rattle.fort_theory.specs.Truth.{IsTrueOf, IsFalseOf}
+use Rattle.fort_logic.specs.Formulas.{Formula}
+use Rattle.fort_logic.specs.Truth.{IsTrueOf, IsFalseOf}
 
 pub IsTrueOf-not_false : (system : System) (f : Formula) → HasConstant system.signature → IsTrueOf system f → IsFalseOf system f → ⊥
 IsTrueOf-not_false system f constant holds fails =

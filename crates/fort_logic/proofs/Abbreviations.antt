@@ -1,18 +1,18 @@
 -- What the abbreviated relations and properties are turned into says of terms what they say.
 use Rattle.std.specs.Prelude.{◌≡◌, ◌↔◌, ◌⊎◌, ℕ, ◌+◌}
 use Rattle.std.proofs.Common.{sym, subst, ◌∙◌, inl, inr, arith}
-use Rattle.fort_theory.specs.Logic.{Surely, OneOf, HasSome}
+use Rattle.fort_logic.specs.Logic.{Surely, OneOf, HasSome}
 use Rattle.fort_theory.specs.Trees.{Tree}
-use Rattle.fort_theory.specs.Signatures.{Signature, IsGround, HasConstant}
-use Rattle.fort_theory.specs.Rewriting.{Relation, Rewrites, Reduces, IsNormalForm}
-use Rattle.fort_theory.specs.Formulas as surface
-use Rattle.fort_theory.specs.Formulas.{SurfaceRel, Property}
-use Rattle.fort_theory.specs.Truth.{RewritesAtMostOnce, Relates, AreJoinable}
-use Rattle.fort_theory.specs.Cores.{Core, Atom, And, Star, Step}
-use Rattle.fort_theory.specs.CoreTruth.{Places, with_number}
-use Rattle.fort_theory.specs.Translation.{some, every, implies, related, joins, forks, normalises, at_most_one_step}
-use Rattle.fort_theory.proofs.CorePlaces.{with_number-same, with_number-other}
-use Rattle.fort_theory.proofs.Binders.{Met, Met-some, Met-every, Met-implies}
+use Rattle.fort_theory.specs.Signatures.{IsGround, HasConstant}
+use Rattle.fort_theory.specs.Rewriting.{Relation, Rewrites, RewritesAtMostOnce, Reduces, IsNormalForm}
+use Rattle.fort_logic.specs.Truth.{Structure, Relates, AreJoinable}
+use Rattle.fort_logic.specs.Formulas as surface
+use Rattle.fort_logic.specs.Formulas.{SurfaceRel, Property}
+use Rattle.fort_logic.specs.Cores.{Core, Atom, And, Star, Step}
+use Rattle.fort_logic.specs.CoreTruth.{Places, with_number}
+use Rattle.fort_logic.specs.Translation.{some, every, implies, related, joins, forks, normalises, at_most_one_step}
+use Rattle.fort_logic.proofs.CorePlaces.{with_number-same, with_number-other}
+use Rattle.fort_logic.proofs.Binders.{Met, Met-some, Met-every, Met-implies}
 
 -- a relation of the same trees
 pub moved : (R : Relation) (s t u v : Tree) → s ≡ u → t ≡ v → R s t → R u v
@@ -28,10 +28,13 @@ either_surely P Q = (
     by p q (inl x) = p x
     by p q (inr y) = q y
 
-module _ (signature : Signature) (root : Relation) where
+module _ (structure : Structure) (index : ℕ) where
+  abbrev pub root : Relation
+  root = structure.root index
+
   -- what a core formula with two numbers says of their trees
   abbrev pub Means : (ℕ → ℕ → Core) → Relation → Type 0
-  Means rel R = (v : Places) (x y : ℕ) → Met signature root (rel x y) v ↔ R (v x) (v y)
+  Means rel R = (v : Places) (x y : ℕ) → Met structure (rel x y) v ↔ R (v x) (v y)
 
   abbrev pub SurelyReduces : Relation
   SurelyReduces s t = Surely (Reduces root s t)
@@ -42,26 +45,26 @@ module _ (signature : Signature) (root : Relation) where
   abbrev pub SurelyNormalises : Relation
   SurelyNormalises s t = Surely (Reduces root s t) × IsNormalForm root t
 
-  pub means_star : Means (Atom Star) SurelyReduces
+  pub means_star : Means (Atom Star index) SurelyReduces
   means_star v x y = ((λ h. h), (λ h. h))
 
   abbrev pub SurelyAtMostOnce : Relation
   SurelyAtMostOnce s t = OneOf (Surely (s ≡ t)) (Surely (Rewrites root s t))
 
-  pub means_at_most_one : Means at_most_one_step SurelyAtMostOnce
+  pub means_at_most_one : Means (at_most_one_step index) SurelyAtMostOnce
   means_at_most_one v x y = ((λ h. h), (λ h. h))
 
-  pub means_step : Means (Atom Step) SurelySteps
+  pub means_step : Means (Atom Step index) SurelySteps
   means_step v x y = ((λ h. h), (λ h. h))
 
-  pub means_normalises : Means normalises SurelyNormalises
+  pub means_normalises : Means (normalises index) SurelyNormalises
   means_normalises v x y = ((λ h. h), (λ h. h))
 
   pub surely_at_most_once : (s t : Tree) → Surely (RewritesAtMostOnce root s t) ↔ OneOf (Surely (s ≡ t)) (Surely (Rewrites root s t))
   surely_at_most_once s t = either_surely (s ≡ t) (Rewrites root s t)
 
   -- each relation
-  pub Met-related : (rel : SurfaceRel) (v : Places) (x y : ℕ) → Met signature root (related rel x y) v ↔ Surely (Relates root rel (v x) (v y))
+  pub Met-related : (rel : SurfaceRel) (v : Places) (x y : ℕ) → Met structure (related rel index x y) v ↔ Surely (Relates root rel (v x) (v y))
   Met-related surface.Eq v x y = ((λ h. h), (λ h. h))
   Met-related surface.Step v x y = ((λ h. h), (λ h. h))
   Met-related surface.Star v x y = ((λ h. h), (λ h. h))
@@ -80,20 +83,20 @@ module _ (signature : Signature) (root : Relation) where
   )
   Met-related surface.Conv v x y = ((λ h. h), (λ h. h))
 
-  module _ (constant : HasConstant signature) where
+  module _ (constant : HasConstant structure.signature) where
     -- some term to which both are related
     pub Met-meets : (rel rel' : ℕ → ℕ → Core) (R R' : Relation) → Means rel R → Means rel' R' → (n x y : ℕ) (v : Places) (s t : Tree)
         → (x ≡ n → ⊥) → (y ≡ n → ⊥) → v x ≡ s → v y ≡ t
-        → Met signature root (some n (And (rel x n) (rel' y n))) v ↔ HasSome (λ u. IsGround signature u × (R s u × R' t u))
+        → Met structure (some n (And (rel x n) (rel' y n))) v ↔ HasSome (λ u. IsGround structure.signature u × (R s u × R' t u))
     Met-meets rel rel' R R' means means' n x y v s t other_x other_y is_s is_t = (
-      (λ h none. (Met-some signature root constant n (And (rel x n) (rel' y n)) v).0 h (λ u k. none u (
+      (λ h none. (Met-some structure constant n (And (rel x n) (rel' y n)) v).0 h (λ u k. none u (
         k.0,
         (
           moved R (with_number v n u x) (with_number v n u n) s u (at_x u) (with_number-same v n u) ((means (with_number v n u) x n).0 k.1.0),
           moved R' (with_number v n u y) (with_number v n u n) t u (at_y u) (with_number-same v n u) ((means' (with_number v n u) y n).0 k.1.1),
         ),
       ))),
-      (λ h. (Met-some signature root constant n (And (rel x n) (rel' y n)) v).1 (λ none. h (λ u k. none u (
+      (λ h. (Met-some structure constant n (And (rel x n) (rel' y n)) v).1 (λ none. h (λ u k. none u (
         k.0,
         (
           (means (with_number v n u) x n).1 (moved R s u (with_number v n u x) (with_number v n u n) (sym (at_x u)) (sym (with_number-same v n u)) k.1.0),
@@ -110,25 +113,25 @@ module _ (signature : Signature) (root : Relation) where
 
     -- JOIN
     pub Met-joins : (n x y : ℕ) (v : Places) (s t : Tree) → (x ≡ n → ⊥) → (y ≡ n → ⊥) → v x ≡ s → v y ≡ t
-        → Met signature root (joins n x y) v ↔ AreJoinable signature root s t
+        → Met structure (joins index n x y) v ↔ AreJoinable structure index s t
     Met-joins n x y v s t other_x other_y is_s is_t =
-        let meets = Met-meets (Atom Star) (Atom Star) SurelyReduces SurelyReduces means_star means_star n x y v s t other_x other_y is_s is_t in (
+        let meets = Met-meets (Atom Star index) (Atom Star index) SurelyReduces SurelyReduces means_star means_star n x y v s t other_x other_y is_s is_t in (
           (λ h none. meets.0 h (λ u k. k.1.0 (λ first. k.1.1 (λ second. none u (k.0, first, second))))),
           (λ h. meets.1 (λ none. h (λ u k. none u (k.0, ((λ no. no k.1), (λ no. no k.2)))))),
         )
 
     -- some term is related to both
     pub Met-forks : (rel : ℕ → ℕ → Core) (R : Relation) → Means rel R → (x y z : ℕ) (v : Places) (s t : Tree) → (y ≡ x → ⊥) → (z ≡ x → ⊥) → v y ≡ s → v z ≡ t
-        → Met signature root (forks rel x y z) v ↔ HasSome (λ u. IsGround signature u × (R u s × R u t))
+        → Met structure (forks rel x y z) v ↔ HasSome (λ u. IsGround structure.signature u × (R u s × R u t))
     Met-forks rel R means x y z v s t other_y other_z is_s is_t = (
-      (λ h none. (Met-some signature root constant x (And (rel x y) (rel x z)) v).0 h (λ u k. none u (
+      (λ h none. (Met-some structure constant x (And (rel x y) (rel x z)) v).0 h (λ u k. none u (
         k.0,
         (
           moved R (with_number v x u x) (with_number v x u y) u s (with_number-same v x u) (at_y u) ((means (with_number v x u) x y).0 k.1.0),
           moved R (with_number v x u x) (with_number v x u z) u t (with_number-same v x u) (at_z u) ((means (with_number v x u) x z).0 k.1.1),
         ),
       ))),
-      (λ h. (Met-some signature root constant x (And (rel x y) (rel x z)) v).1 (λ none. h (λ u k. none u (
+      (λ h. (Met-some structure constant x (And (rel x y) (rel x z)) v).1 (λ none. h (λ u k. none u (
         k.0,
         (
           (means (with_number v x u) x y).1 (moved R u s (with_number v x u x) (with_number v x u y) (sym (with_number-same v x u)) (sym (at_y u)) k.1.0),
@@ -145,13 +148,13 @@ module _ (signature : Signature) (root : Relation) where
 
     -- two numbers for all terms, one after the other
     pub Met-every_two : (n : ℕ) (c : Core) (v : Places)
-        → Met signature root (every n (every (n + 1) c)) v
-        ↔ ((s t : Tree) → IsGround signature s → IsGround signature t → Met signature root c (with_number (with_number v n s) (n + 1) t))
+        → Met structure (every n (every (n + 1) c)) v
+        ↔ ((s t : Tree) → IsGround structure.signature s → IsGround structure.signature t → Met structure c (with_number (with_number v n s) (n + 1) t))
     Met-every_two n c v = (
-      (λ h s t gs gt. (Met-every signature root constant (n + 1) c (with_number v n s)).0
-          ((Met-every signature root constant n (every (n + 1) c) v).0 h s gs) t gt),
-      (λ all. (Met-every signature root constant n (every (n + 1) c) v).1 (λ s gs.
-          (Met-every signature root constant (n + 1) c (with_number v n s)).1 (λ t gt. all s t gs gt))),
+      (λ h s t gs gt. (Met-every structure constant (n + 1) c (with_number v n s)).0
+          ((Met-every structure constant n (every (n + 1) c) v).0 h s gs) t gt),
+      (λ all. (Met-every structure constant n (every (n + 1) c) v).1 (λ s gs.
+          (Met-every structure constant (n + 1) c (with_number v n s)).1 (λ t gt. all s t gs gt))),
     )
 
     pub first_of_two : (n : ℕ) (v : Places) (s t : Tree) → with_number (with_number v n s) (n + 1) t n ≡ s
@@ -164,24 +167,24 @@ module _ (signature : Signature) (root : Relation) where
 
     -- for all y and z: where some x is related to both, they have the property
     pub Met-fork_property : (rel : ℕ → ℕ → Core) (R : Relation) → Means rel R → (n : ℕ) (c : Core) (Q : Relation)
-        → ((w : Places) (s t : Tree) → w n ≡ s → w (n + 1) ≡ t → Met signature root c w ↔ Q s t) → (v : Places)
-        → Met signature root (every n (every (n + 1) (implies (forks rel (n + 2) n (n + 1)) c))) v
-        ↔ ((s t : Tree) → IsGround signature s → IsGround signature t → HasSome (λ u. IsGround signature u × (R u s × R u t)) → Q s t)
+        → ((w : Places) (s t : Tree) → w n ≡ s → w (n + 1) ≡ t → Met structure c w ↔ Q s t) → (v : Places)
+        → Met structure (every n (every (n + 1) (implies (forks rel (n + 2) n (n + 1)) c))) v
+        ↔ ((s t : Tree) → IsGround structure.signature s → IsGround structure.signature t → HasSome (λ u. IsGround structure.signature u × (R u s × R u t)) → Q s t)
     Met-fork_property rel R means n c Q says v = (
       (λ h s t gs gt fork.
           let w = with_number (with_number v n s) (n + 1) t in
           (says w s t (first_of_two n v s t) (second_of_two n v s t)).0
-          ((Met-implies signature root (forks rel (n + 2) n (n + 1)) c w).0 ((Met-every_two n (implies (forks rel (n + 2) n (n + 1)) c) v).0 h s t gs gt)
+          ((Met-implies structure (forks rel (n + 2) n (n + 1)) c w).0 ((Met-every_two n (implies (forks rel (n + 2) n (n + 1)) c) v).0 h s t gs gt)
           ((forked w s t (first_of_two n v s t) (second_of_two n v s t)).1 fork))),
       (λ h. (Met-every_two n (implies (forks rel (n + 2) n (n + 1)) c) v).1 (λ s t gs gt.
           let w = with_number (with_number v n s) (n + 1) t in
-          (Met-implies signature root (forks rel (n + 2) n (n + 1)) c w).1 (λ fork.
+          (Met-implies structure (forks rel (n + 2) n (n + 1)) c w).1 (λ fork.
           (says w s t (first_of_two n v s t) (second_of_two n v s t)).1
           (h s t gs gt ((forked w s t (first_of_two n v s t) (second_of_two n v s t)).0 fork))))),
     )
       where
         forked : (w : Places) (s t : Tree) → w n ≡ s → w (n + 1) ≡ t
-            → Met signature root (forks rel (n + 2) n (n + 1)) w ↔ HasSome (λ u. IsGround signature u × (R u s × R u t))
+            → Met structure (forks rel (n + 2) n (n + 1)) w ↔ HasSome (λ u. IsGround structure.signature u × (R u s × R u t))
         forked w s t e f =
             let one : n ≡ n + 2 → ⊥ = omega arith in
             let two : n + 1 ≡ n + 2 → ⊥ = omega arith in

@@ -1,11 +1,11 @@
 -- One list has the values of a list once, in the order of their first places; for names it is the list of names each once.
 use Rattle.std.specs.Prelude.{◌≡◌, ◌↔◌, ◌⊎◌, suc, Bool, true, false, not, cond, List, [], ◌∷◌, ◌++◌, bytes_eq, Contains, refl}
 use Rattle.std.proofs.Common.{inl, inr, sym, ap, subst, ◌∙◌, arith}
-use Rattle.fort_theory.specs.EachOnce.{StandsBefore, StandsBeforeAll, AreEachOnce}
-use Rattle.fort_theory.specs.Formulas.{Name, Formula}
-use Rattle.fort_theory.specs.FreeNames.{without, occurrences, once, free_names}
+use Rattle.fort_logic.specs.EachOnce.{StandsBefore, StandsBeforeAll, AreEachOnce}
+use Rattle.fort_logic.specs.Formulas.{Name, Formula}
+use Rattle.fort_logic.specs.FreeNames.{without, occurrences, once, free_names}
 use Rattle.fort_theory.proofs.Members.{Contains-behind, Contains-cons_cases, Contains-from_filter}
-use Rattle.fort_theory.proofs.ScopeNumbers.{name_itself, Contains-once}
+use Rattle.fort_logic.proofs.ScopeNumbers.{name_itself, Contains-once}
 
 -- of two values each of which comes first before the other, both are one
 same_first_place : {A : Type 0} (f g b c : List A) (x y : A) → f ++ (x ∷ b) ≡ g ++ (y ∷ c) → (Contains f y → ⊥) → (Contains g x → ⊥) → x ≡ y

@@ -7,8 +7,8 @@ use Rattle.std.proofs.lemmas.Bool.{cases_Bool}
 use Rattle.std.proofs.lemmas.Bool.Decides.{Decides-by_or, same_from_decides}
 use Rattle.std.proofs.lemmas.List.Elements.{filter-append, Decides-contains}
 use Rattle.std.proofs.lemmas.Slice.Eq.{bytes_eq-Decides}
-use Rattle.fort_theory.specs.Formulas.{Name}
-use Rattle.fort_theory.specs.FreeNames.{without, once}
+use Rattle.fort_logic.specs.Formulas.{Name}
+use Rattle.fort_logic.specs.FreeNames.{without, once}
 
 pub filter-filter_same : {A : Type 0} (p : A → Bool) (xs : List A) → filter p (filter p xs) ≡ filter p xs
 filter-filter_same p [] = refl

@@ -4,9 +4,9 @@ use Rattle.std.proofs.Common.{sym, ap, subst, ◌∙◌, arith}
 use Rattle.std.proofs.lemmas.List.{reverse-append, length-reverse}
 use Rattle.std.proofs.lemmas.List.Elements.{Contains-append_left, Contains-append_right}
 use Rattle.std.proofs.lemmas.Slice.Eq.{bytes_eq-Decides}
-use Rattle.fort_theory.specs.Formulas.{Name}
-use Rattle.fort_theory.specs.FreeNames.{without, once}
-use Rattle.fort_theory.specs.Translation.{number_in}
+use Rattle.fort_logic.specs.Formulas.{Name}
+use Rattle.fort_logic.specs.FreeNames.{without, once}
+use Rattle.fort_logic.specs.Translation.{number_in}
 use Rattle.fort_theory.proofs.Members.{Contains-filter}
 
 pub names_same : (x y : Name) → bytes_eq x y ≡ true → x ≡ y

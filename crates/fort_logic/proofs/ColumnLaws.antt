@@ -10,8 +10,9 @@ use Rattle.std.proofs.lemmas.Bool.Decides.{nat_tests}
 use Rattle.std.proofs.lemmas.List.Elements.{All-from_recursion, All-contains, Contains-append_left, Contains-append_right, Contains-append_cases, Contains-push, Contains-push_cases}
 use Rattle.std.proofs.lemmas.List.Kept.{IsStrictlyIncreasing-filter}
 use Rattle.std.proofs.lemmas.Map.Keys.{sorted_from_strictly_increasing, sorted_head, sorted_tail}
-use Rattle.fort_theory.specs.Cores.{Rel, Core, True, Atom, Nf, Not, And, Or, Iff, Exists, Infinite}
-use Rattle.fort_theory.specs.Parts.{postorder, is_free, AreColumns, most_columns, IsTooWide}
+use Rattle.fort_logic.specs.Cores.{Rel, Core, True, Atom, Nf, Not, And, Or, Iff, Exists, Infinite}
+use Rattle.fort_theory.specs.Signatures.{most_columns}
+use Rattle.fort_logic.specs.Parts.{postorder, is_free, AreColumns, IsTooWide}
 use Rattle.fort_theory.proofs.Members.{Contains-head, Contains-behind, Contains-cons_cases, Contains-none, Contains-filter, Contains-from_filter, Contains-Decides}
 
 -- ---- from the operands
@@ -35,13 +36,13 @@ AreColumns-leaf f numbers columns tells ascending same =
           (λ c. sym (tells n) ∙ test.1 ((same n).0 c), λ e. (same n).1 (test.0 (tells n ∙ e)));
     }
 
-pub AreColumns-Nf : (x : ℕ) → AreColumns (Nf x) (x ∷ [])
-AreColumns-Nf x = AreColumns-leaf (Nf x) (x ∷ []) (x ∷ []) (λ n. or-false (x == n)) (λ k l. absurd (omega arith)) (λ n. (λ c. c, λ c. c))
+pub AreColumns-Nf : (index x : ℕ) → AreColumns (Nf index x) (x ∷ [])
+AreColumns-Nf index x = AreColumns-leaf (Nf index x) (x ∷ []) (x ∷ []) (λ n. or-false (x == n)) (λ k l. absurd (omega arith)) (λ n. (λ c. c, λ c. c))
 
-pub AreColumns-Atom : (rel : Rel) (x y : ℕ) (columns : List ℕ) → IsStrictlyIncreasing columns
-    → ((n : ℕ) → Contains columns n ↔ Contains (x ∷ y ∷ []) n) → AreColumns (Atom rel x y) columns
-AreColumns-Atom rel x y columns ascending same =
-    AreColumns-leaf (Atom rel x y) (x ∷ y ∷ []) columns (λ n. ap (λ b. (x == n) || b) (or-false (y == n))) ascending same
+pub AreColumns-Atom : (rel : Rel) (index x y : ℕ) (columns : List ℕ) → IsStrictlyIncreasing columns
+    → ((n : ℕ) → Contains columns n ↔ Contains (x ∷ y ∷ []) n) → AreColumns (Atom rel index x y) columns
+AreColumns-Atom rel index x y columns ascending same =
+    AreColumns-leaf (Atom rel index x y) (x ∷ y ∷ []) columns (λ n. ap (λ b. (x == n) || b) (or-false (y == n))) ascending same
 
 -- an operand has the same columns
 pub AreColumns-same : (h f : Core) (columns : List ℕ) → ((n : ℕ) → is_free n h ≡ is_free n f) → AreColumns f columns → AreColumns h columns
@@ -134,8 +135,8 @@ IsTooWide-here f columns are wide = record { part = f; among = root f; columns =
   where
     root : (h : Core) → Contains (postorder h) h
     root True = Contains-head True []
-    root (Atom rel x y) = Contains-head (Atom rel x y) []
-    root (Nf x) = Contains-head (Nf x) []
+    root (Atom rel index x y) = Contains-head (Atom rel index x y) []
+    root (Nf index x) = Contains-head (Nf index x) []
     root (Not h) = Contains-push (postorder h) (Not h)
     root (And h k) = Contains-append_right (postorder h) (postorder k ++ And h k ∷ []) (And h k) (Contains-push (postorder k) (And h k))
     root (Or h k) = Contains-append_right (postorder h) (postorder k ++ Or h k ∷ []) (Or h k) (Contains-push (postorder k) (Or h k))
@@ -188,9 +189,3 @@ IsTooWide-two h f g columns is are narrow w =
       | inl c ↦ inl (again f h w c)
       | inr c ↦ inr (again g h w c)
     ]
-
--- the same, both ways
-
-pub IsTooWide-one_iff : (h f : Core) (columns : List ℕ) → postorder h ≡ postorder f ++ h ∷ [] → AreColumns h columns → length columns ≤ most_columns
-    → IsTooWide f ↔ IsTooWide h
-IsTooWide-one_iff h f columns is are narrow = (IsTooWide-first h f (h ∷ []) is, IsTooWide-one h f columns is are narrow)

@@ -1,4 +1,4 @@
--- To believe: core formulas: formulas with numbers for variables, and fewer words than those that a user can write.
+-- To believe: core formulas: formulas with numbers for variables, and fewer words than those that a user can write. An atom and a normal form have the index of the rules that they are about; the translation gives Eq the index 1.
 use Rattle.std.specs.Prelude.{ℕ}
 
 -- equal; a root step; a step below the root; a step; a parallel step; at least one step; any number of steps; a conversion
@@ -14,8 +14,8 @@ pub data Rel : Type 0 where
 
 pub data Core : Type 0 where
   True : Core
-  Atom : Rel → ℕ → ℕ → Core
-  Nf : ℕ → Core
+  Atom : Rel → (index x y : ℕ) → Core
+  Nf : (index x : ℕ) → Core
   Not : Core → Core
   And : Core → Core → Core
   Or : Core → Core → Core

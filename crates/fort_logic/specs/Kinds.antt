@@ -1,5 +1,5 @@
 -- To believe: the kind of a core formula, by its root.
-use Rattle.fort_theory.specs.Cores as core
+use Rattle.fort_logic.specs.Cores as core
 
 pub data Kind : Type 0 where
   True : Kind
@@ -31,8 +31,8 @@ kind_of_relation core.Conv = Conv
 
 abbrev pub kind_of : core.Core → Kind
 kind_of core.True = True
-kind_of (core.Atom rel x y) = kind_of_relation rel
-kind_of (core.Nf x) = Nf
+kind_of (core.Atom rel index x y) = kind_of_relation rel
+kind_of (core.Nf index x) = Nf
 kind_of (core.Not f) = Not
 kind_of (core.And f g) = And
 kind_of (core.Or f g) = Or

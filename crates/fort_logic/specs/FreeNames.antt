@@ -1,6 +1,6 @@
 -- To believe: which variables are free in a formula, in the order of their first free occurrences.
 use Rattle.std.specs.Prelude.{not, List, [], ◌∷◌, ◌++◌, filter, bytes_eq}
-use Rattle.fort_theory.specs.Formulas.{Name, Formula, True, False, Related, Nf, Join, Has, Not, And, Or, Imp, Iff, Exists, Forall, Infinite}
+use Rattle.fort_logic.specs.Formulas.{Name, Formula, True, False, Related, Nf, Join, Has, Not, And, Or, Imp, Iff, Exists, Forall, Infinite}
 
 -- the names other than x
 abbrev pub without : Name → List Name → List Name
@@ -10,10 +10,10 @@ without x xs = filter (λ y. not (bytes_eq y x)) xs
 abbrev pub occurrences : Formula → List Name
 occurrences True = []
 occurrences False = []
-occurrences (Related rel x y) = x ∷ y ∷ []
-occurrences (Nf x) = x ∷ []
-occurrences (Join x y) = x ∷ y ∷ []
-occurrences (Has property) = []
+occurrences (Related rel x y index) = x ∷ y ∷ []
+occurrences (Nf x index) = x ∷ []
+occurrences (Join x y index) = x ∷ y ∷ []
+occurrences (Has property index) = []
 occurrences (Not f) = occurrences f
 occurrences (And f g) = occurrences f ++ occurrences g
 occurrences (Or f g) = occurrences f ++ occurrences g

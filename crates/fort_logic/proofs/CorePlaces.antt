@@ -1,0 +1,96 @@
+-- Truth of a core formula is stable, and depends on the trees of its free numbers alone.
+use Rattle.std.specs.Prelude.{◌≡◌, ℕ, Bool, true, false, not, ◌&&◌, ◌==◌, if◌then◌else◌, refl}
+use Rattle.std.proofs.Common.{sym, ap, subst, ◌∙◌}
+use Rattle.std.proofs.lemmas.Bool.{or_left, or_right}
+use Rattle.std.proofs.lemmas.Bool.Decides.{Decides-eqb}
+use Rattle.fort_logic.specs.Logic.{Surely}
+use Rattle.fort_theory.specs.Trees.{Tree}
+use Rattle.fort_theory.specs.Rewriting.{IsNormalForm}
+use Rattle.fort_logic.specs.Truth.{Structure}
+use Rattle.fort_logic.specs.Cores.{Core, True, Atom, Nf, Not, And, Or, Iff, Exists, Infinite}
+use Rattle.fort_logic.specs.CoreTruth.{Places, with_number, RelatesBy, IsMetBy}
+use Rattle.fort_logic.specs.Parts.{is_free}
+
+pub IsMetBy-stable : (structure : Structure) (c : Core) (v : Places) → Surely (IsMetBy structure c v) → IsMetBy structure c v
+IsMetBy-stable structure True v h = tt
+IsMetBy-stable structure (Atom rel index x y) v h = λ no. h (λ yes. yes no)
+IsMetBy-stable structure (Nf index x) v h = λ t s. h (λ n. n t s)
+IsMetBy-stable structure (Not f) v h = λ yes. h (λ no. no yes)
+IsMetBy-stable structure (And f g) v h =
+    (IsMetBy-stable structure f v (λ no. h (λ p. no p.0)), IsMetBy-stable structure g v (λ no. h (λ p. no p.1)))
+IsMetBy-stable structure (Or f g) v h = λ no_f no_g. h (λ e. e no_f no_g)
+IsMetBy-stable structure (Iff f g) v h = (
+  λ yes. IsMetBy-stable structure g v (λ no. h (λ i. no (i.0 yes))),
+  λ yes. IsMetBy-stable structure f v (λ no. h (λ i. no (i.1 yes))),
+)
+IsMetBy-stable structure (Exists n f) v h = λ none. h (λ some. some none)
+IsMetBy-stable structure (Infinite n f) v h = λ ts none. h (λ many. many ts none)
+
+true_not_false : true ≡ false → ⊥
+true_not_false h = cc
+
+same_number : (n k : ℕ) → (k == n) ≡ false → k ≡ n → ⊥
+same_number n k is e = true_not_false (sym ((Decides-eqb k n).1 e) ∙ is)
+
+pub with_number-same : (v : Places) (n : ℕ) (t : Tree) → with_number v n t n ≡ t
+with_number-same v n t = ap (λ b. if b then t else v n) ((Decides-eqb n n).1 refl)
+
+pub with_number-other : (v : Places) (n : ℕ) (t : Tree) (k : ℕ) → (k ≡ n → ⊥) → with_number v n t k ≡ v k
+with_number-other v n t k other = by (k == n) refl
+  where
+    by : (b : Bool) → (k == n) ≡ b → with_number v n t k ≡ v k
+    by true is = absurd (other ((Decides-eqb k n).0 is))
+    by false is = ap (λ b. if b then t else v k) is
+
+-- two places that agree but for one number agree once it has one tree in both
+pub with_number-agree : (v w : Places) (n : ℕ) (t : Tree) (k : ℕ) → ((k ≡ n → ⊥) → v k ≡ w k) → with_number v n t k ≡ with_number w n t k
+with_number-agree v w n t k same = by (k == n) refl
+  where
+    by : (b : Bool) → (k == n) ≡ b → with_number v n t k ≡ with_number w n t k
+    by true is = ap (λ b. if b then t else v k) is ∙ sym (ap (λ b. if b then t else w k) is)
+    by false is = ap (λ b. if b then t else v k) is ∙ (same (same_number n k is) ∙ sym (ap (λ b. if b then t else w k) is))
+
+-- free below a binder of another number
+free_outside : (x n : ℕ) (b : Bool) → (n ≡ x → ⊥) → b ≡ true → (not (x == n) && b) ≡ true
+free_outside x n b other h = by (x == n) refl
+  where
+    by : (c : Bool) → (x == n) ≡ c → (not (x == n) && b) ≡ true
+    by true is = absurd (other (sym ((Decides-eqb x n).0 is)))
+    by false is = ap (λ c. not c && b) is ∙ h
+
+-- where the free numbers have the same trees
+pub IsMetBy-agree : (structure : Structure) (c : Core) (v w : Places) → ((n : ℕ) → is_free n c ≡ true → v n ≡ w n)
+    → IsMetBy structure c v → IsMetBy structure c w
+IsMetBy-agree structure True v w same h = tt
+IsMetBy-agree structure (Atom rel index x y) v w same h =
+    let first = same x (or_left (x == x) (y == x) ((Decides-eqb x x).1 refl)) in
+    let second = same y (or_right (x == y) (y == y) ((Decides-eqb y y).1 refl)) in
+    subst (λ t. Surely (RelatesBy (structure.root index) rel t (w y))) first (subst (λ t. Surely (RelatesBy (structure.root index) rel (v x) t)) second h)
+IsMetBy-agree structure (Nf index x) v w same h = subst (IsNormalForm (structure.root index)) (same x ((Decides-eqb x x).1 refl)) h
+IsMetBy-agree structure (Not f) v w same h = λ yes. h (IsMetBy-agree structure f w v (λ n free. sym (same n free)) yes)
+IsMetBy-agree structure (And f g) v w same h = (
+  IsMetBy-agree structure f v w (λ n free. same n (or_left (is_free n f) (is_free n g) free)) h.0,
+  IsMetBy-agree structure g v w (λ n free. same n (or_right (is_free n f) (is_free n g) free)) h.1,
+)
+IsMetBy-agree structure (Or f g) v w same h = λ no_f no_g. h
+    (λ yes. no_f (IsMetBy-agree structure f v w (λ n free. same n (or_left (is_free n f) (is_free n g) free)) yes))
+    (λ yes. no_g (IsMetBy-agree structure g v w (λ n free. same n (or_right (is_free n f) (is_free n g) free)) yes))
+IsMetBy-agree structure (Iff f g) v w same h = (
+  (λ yes. IsMetBy-agree structure g v w (λ n free. same n (or_right (is_free n f) (is_free n g) free))
+      (h.0 (IsMetBy-agree structure f w v (λ n free. sym (same n (or_left (is_free n f) (is_free n g) free))) yes))),
+  (λ yes. IsMetBy-agree structure f v w (λ n free. same n (or_left (is_free n f) (is_free n g) free))
+      (h.1 (IsMetBy-agree structure g w v (λ n free. sym (same n (or_right (is_free n f) (is_free n g) free))) yes))),
+)
+IsMetBy-agree structure (Exists x f) v w same h = λ none. h (λ t k. none t (
+  k.0,
+  IsMetBy-agree structure f (with_number v x t) (with_number w x t)
+      (λ n free. with_number-agree v w x t n (λ other. same n (free_outside x n (is_free n f) other free))) k.1,
+))
+IsMetBy-agree structure (Infinite x f) v w same h = λ ts none. h ts (λ t k. none t (
+  k.0,
+  (
+    k.1.0,
+    IsMetBy-agree structure f (with_number v x t) (with_number w x t)
+        (λ n free. with_number-agree v w x t n (λ other. same n (free_outside x n (is_free n f) other free))) k.1.1,
+  ),
+))

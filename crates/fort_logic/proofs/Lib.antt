@@ -1,0 +1,15 @@
+pub mod Stable
+pub mod CorePlaces
+pub mod Binders
+pub mod Abbreviations
+pub mod PropertyTruth
+pub mod ScopeNumbers
+pub mod EachOnceUnique
+pub mod TranslationTruth
+pub mod OnceNames
+pub mod ColumnLaws
+pub mod EachOnceLaws
+pub mod SameRoots
+pub mod Verdicts
+pub mod FreeNumbers
+pub mod TooWideLaws

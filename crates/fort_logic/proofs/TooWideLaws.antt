@@ -1,0 +1,95 @@
+-- A formula is too wide exactly where an operand is or it has too many columns of its own.
+use Rattle.std.specs.Prelude.{◌≡◌, ◌↔◌, ℕ, ◌<◌, Bool, true, false, ◌||◌, List, [], ◌∷◌, ◌++◌, ◌⊎◌, length}
+use Rattle.std.proofs.Common.{inl, inr}
+use Rattle.std.proofs.lemmas.Bool.{cases_lt, or_cases, or_left, or_right}
+use Rattle.fort_logic.specs.Cores.{Core}
+use Rattle.fort_theory.specs.Signatures.{most_columns}
+use Rattle.fort_logic.specs.Parts.{postorder, AreColumns, IsTooWide}
+use Rattle.fort_logic.proofs.ColumnLaws.{IsTooWide-here, IsTooWide-leaf, IsTooWide-first, IsTooWide-second, IsTooWide-one, IsTooWide-two}
+
+-- this many columns are too many
+abbrev pub AreTooMany : List ℕ → Type 0
+AreTooMany columns = most_columns < length columns
+
+pub IsTooWide-leaf_iff : (h : Core) (columns : List ℕ) → postorder h ≡ h ∷ [] → AreColumns h columns → AreTooMany columns ↔ IsTooWide h
+IsTooWide-leaf_iff h columns is are = (
+  IsTooWide-here h columns are,
+  (λ w. elim (cases_lt most_columns (length columns)) [
+    | inl wide ↦ wide
+    | inr narrow ↦ absurd (IsTooWide-leaf h columns is are narrow w)
+  ]),
+)
+
+pub IsTooWide-one_iff : (h f : Core) (columns : List ℕ) → postorder h ≡ postorder f ++ h ∷ [] → AreColumns h columns
+    → (IsTooWide f ⊎ AreTooMany columns) ↔ IsTooWide h
+IsTooWide-one_iff h f columns is are = (
+  (λ either. elim either [ inl w ↦ IsTooWide-first h f (h ∷ []) is w | inr wide ↦ IsTooWide-here h columns are wide ]),
+  (λ w. elim (cases_lt most_columns (length columns)) [
+    | inl wide ↦ inr wide
+    | inr narrow ↦ inl (IsTooWide-one h f columns is are narrow w)
+  ]),
+)
+
+-- an operand has the same columns
+pub IsTooWide-same_iff : (h f : Core) (columns : List ℕ) → postorder h ≡ postorder f ++ h ∷ [] → AreColumns h columns → AreColumns f columns
+    → IsTooWide f ↔ IsTooWide h
+IsTooWide-same_iff h f columns is are same =
+    let one = IsTooWide-one_iff h f columns is are in (
+      (λ w. one.0 (inl w)),
+      (λ w. elim (one.1 w) [ inl v ↦ v | inr wide ↦ IsTooWide-here f columns same wide ]),
+    )
+
+pub IsTooWide-two_iff : (h f g : Core) (columns : List ℕ) → postorder h ≡ postorder f ++ (postorder g ++ h ∷ []) → AreColumns h columns
+    → ((IsTooWide f ⊎ IsTooWide g) ⊎ AreTooMany columns) ↔ IsTooWide h
+IsTooWide-two_iff h f g columns is are = (
+  (λ either. elim either [
+    | inl operand ↦ elim operand [
+      | inl w ↦ IsTooWide-first h f (postorder g ++ h ∷ []) is w
+      | inr w ↦ IsTooWide-second h f g is w
+    ]
+    | inr wide ↦ IsTooWide-here h columns are wide
+  ]),
+  (λ w. elim (cases_lt most_columns (length columns)) [
+    | inl wide ↦ inr wide
+    | inr narrow ↦ inl (IsTooWide-two h f g columns is are narrow w)
+  ]),
+)
+
+-- ---- told by tests
+
+pub tells-leaf : (h : Core) (columns : List ℕ) (told : Bool) → postorder h ≡ h ∷ [] → AreColumns h columns
+    → (told ≡ true) ↔ ((false ≡ true) ⊎ AreTooMany columns) → (told ≡ true) ↔ IsTooWide h
+tells-leaf h columns told is are tells =
+    let leaf = IsTooWide-leaf_iff h columns is are in (
+      (λ e. elim (tells.0 e) [ inl other ↦ absurd cc | inr wide ↦ leaf.0 wide ]),
+      (λ w. tells.1 (inr (leaf.1 w))),
+    )
+
+pub tells-one : (h f : Core) (columns : List ℕ) (told operand : Bool) → postorder h ≡ postorder f ++ h ∷ [] → AreColumns h columns
+    → (told ≡ true) ↔ ((operand ≡ true) ⊎ AreTooMany columns) → (operand ≡ true) ↔ IsTooWide f → (told ≡ true) ↔ IsTooWide h
+tells-one h f columns told operand is are tells inner =
+    let one = IsTooWide-one_iff h f columns is are in (
+      (λ e. elim (tells.0 e) [ inl is_wide ↦ one.0 (inl (inner.0 is_wide)) | inr wide ↦ one.0 (inr wide) ]),
+      (λ w. elim (one.1 w) [ inl v ↦ tells.1 (inl (inner.1 v)) | inr wide ↦ tells.1 (inr wide) ]),
+    )
+
+pub tells-two : (h f g : Core) (columns : List ℕ) (told first second : Bool) → postorder h ≡ postorder f ++ (postorder g ++ h ∷ [])
+    → AreColumns h columns → (told ≡ true) ↔ (((first || second) ≡ true) ⊎ AreTooMany columns) → (first ≡ true) ↔ IsTooWide f
+    → (second ≡ true) ↔ IsTooWide g → (told ≡ true) ↔ IsTooWide h
+tells-two h f g columns told first second is are tells left right =
+    let two = IsTooWide-two_iff h f g columns is are in (
+      (λ e. elim (tells.0 e) [
+        | inl is_wide ↦ elim (or_cases first second is_wide) [
+          | inl a ↦ two.0 (inl (inl (left.0 a)))
+          | inr b ↦ two.0 (inl (inr (right.0 b)))
+        ]
+        | inr wide ↦ two.0 (inr wide)
+      ]),
+      (λ w. elim (two.1 w) [
+        | inl operand ↦ elim operand [
+          | inl v ↦ tells.1 (inl (or_left first second (left.1 v)))
+          | inr v ↦ tells.1 (inl (or_right first second (right.1 v)))
+        ]
+        | inr wide ↦ tells.1 (inr wide)
+      ]),
+    )

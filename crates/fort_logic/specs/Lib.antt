@@ -1,0 +1,12 @@
+pub mod Logic
+pub mod Formulas
+pub mod Truth
+pub mod Cores
+pub mod CoreTruth
+pub mod EachOnce
+pub mod FreeNames
+pub mod Parts
+pub mod PartLists
+pub mod Kinds
+pub mod Translation
+pub mod KeepsTruth
