@@ -1,7 +1,7 @@
 -- To believe: which forms declare which functions, and what is wrong with a form that declares none.
 use Rattle.std.specs.Prelude.{◌≡◌, ℕ, ◌<◌, ◌≤◌, List, [], ◌∷◌, length, Option, None, Some, Contains, bytes_eq, codes, decimal, slice_range}
 use Rattle.std.specs.List.{IsDistinct}
-use Rattle.fort_theory.specs.Signatures.{Symbol, Signature, IsName, names_of}
+use Rattle.fort_theory.specs.Signatures.{most_functions, most_arguments, Symbol, Signature, IsName, names_of}
 use Rattle.fort_grammar.specs.Forms.{Form, Forms, Word, ListForm, NoForm, MoreForms}
 
 abbrev pub as_list : Forms → List Form
@@ -40,18 +40,15 @@ pub record IsHeaded (bytes word : List ℕ) (f : Form) : Type 0 where
 abbrev pub IsFormat : List ℕ → Form → Type 0
 IsFormat bytes f = IsListOfWords bytes f (codes "format" ∷ codes "TRS" ∷ [])
 
-abbrev pub most_functions : ℕ
-most_functions = 255
-
 -- a word that is an arity
 abbrev pub IsArity : List ℕ → ℕ → Type 0
-IsArity word n = (n ≤ 8) × (word ≡ decimal n)
+IsArity word n = (n ≤ most_arguments) × (word ≡ decimal n)
 
 -- `(fun NAME ARITY)`
 pub record Declares (bytes : List ℕ) (f : Form) (s : Symbol) : Type 0 where
   pub words : IsListOfWords bytes f (codes "fun" ∷ s.name ∷ decimal s.arity ∷ [])
   pub named : IsName s.name
-  pub small : s.arity ≤ 8
+  pub small : s.arity ≤ most_arguments
 
 abbrev pub DeclareEach : List ℕ → List Form → Signature → Type 0
 DeclareEach bytes [] [] = Unit {0}

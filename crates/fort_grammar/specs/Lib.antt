@@ -1,13 +1,5 @@
-pub mod Variables
-pub mod Tokens
-pub mod TokenText
-pub mod TokenForms
-pub mod FormulaGrammar
-pub mod Continuations
-pub mod FormulaText
 pub mod Text
 pub mod Forms
 pub mod Declarations
 pub mod RuleForms
 pub mod ProblemForms
-pub mod ProblemText

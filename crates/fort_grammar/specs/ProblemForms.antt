@@ -1,10 +1,10 @@
--- To believe: which forms are a problem, where it ends, and which fault of them is the first.
+-- To believe: which forms are a problem, where it ends, and which fault of them is the first; which text is which system.
 use Rattle.std.specs.Prelude.{◌≡◌, ℕ, ◌+◌, ◌≤◌, List, [], ◌∷◌, ◌++◌, length, codes}
 use Rattle.std.specs.List.{AllByRecursion}
 use Rattle.fort_theory.specs.Signatures.{Signature, HasConstant}
 use Rattle.fort_theory.specs.Sides.{Rule, System}
-use Rattle.fort_grammar.specs.Forms.{Form}
-use Rattle.fort_grammar.specs.Declarations.{IsFormat, IsHeaded, AreDeclarations, IsBadDeclaration, ProblemFault, NoFormat, NoConstant}
+use Rattle.fort_grammar.specs.Forms.{Form, Forms, AreFormsOf}
+use Rattle.fort_grammar.specs.Declarations.{as_list, IsFormat, IsHeaded, AreDeclarations, IsBadDeclaration, ProblemFault, NoFormat, NoConstant}
 use Rattle.fort_grammar.specs.RuleForms.{AreRules, IsBadRule, most_rules}
 
 -- the first form isn't one that is headed so
@@ -20,7 +20,7 @@ pub record FallsInto (bytes : List ℕ) (forms : List Form) (first : Form) (decl
   pub rule : AllByRecursion (IsHeaded bytes (codes "rule")) rules
   pub ruled : BeginsOtherwise bytes (codes "rule") behind
 
--- the forms are this system, and the next form is the first behind the problem
+-- the forms are this system, all of whose rules have the index 1, and the next form is the first behind the problem
 pub record IsProblem (bytes : List ℕ) (forms : List Form) (system : System) (next : ℕ) : Type 0 where
   pub first : Form
   pub declarations : List Form
@@ -30,7 +30,9 @@ pub record IsProblem (bytes : List ℕ) (forms : List Form) (system : System) (n
   pub format : IsFormat bytes first
   pub declares : AreDeclarations bytes declarations system.signature
   pub constant : HasConstant system.signature
-  pub are_rules : AreRules bytes system.signature rules system.rules
+  pub given : List Rule
+  pub are_rules : AreRules bytes system.signature rules given
+  pub one_index : system.rules ≡ given ∷ []
   pub few : length rules ≤ most_rules
   pub next_is : next ≡ length declarations + length rules + 1
 
@@ -48,3 +50,9 @@ pub data IsFirstProblemFault (bytes : List ℕ) (forms : List Form) : ProblemFau
       → FallsInto bytes forms first declarations rules behind → IsFormat bytes first → AreDeclarations bytes declarations signature → HasConstant signature
       → rules ≡ before ++ f ∷ after → AreRules bytes signature before given
       → IsBadRule bytes signature (length before) (length declarations + length before + 1) f fault → IsFirstProblemFault bytes forms fault
+
+-- a text without fault whose forms are a problem, with none behind it
+pub record IsProblemText (text : List ℕ) (system : System) : Type 0 where
+  pub forms : Forms
+  pub are_forms : AreFormsOf text forms
+  pub problem : IsProblem text (as_list forms) system (length (as_list forms))

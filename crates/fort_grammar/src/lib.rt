@@ -1,2 +1,2 @@
-//! Definitions of the texts that the program reads: formulas and problems. It has no code.
+//! Definitions of the text of a problem: its forms, which forms are a problem, its first fault. It has no code.
 #![tactic(auto)]

@@ -3,9 +3,9 @@ use Rattle.std.proofs.Common.{◌≡◌, ℕ, true, false, List, [], ◌∷◌, 
 use Rattle.std.proofs.lemmas.Bool.{true≢false}
 use Rattle.std.proofs.lemmas.List.{append_cancel_left, append-nil}
 use Rattle.fort_grammar.specs.Text.{is_blank}
-use Rattle.fort_grammar.specs.Tokens.{Token, token_text}
-use Rattle.fort_grammar.specs.TokenText.{BeginsWithToken, Reads, Nothing, Blank, Next, AreTokensOf, IsBadByte}
-use Rattle.fort_grammar.proofs.TokenTexts.{token_text-injective, no_token-blank, no_token-nothing}
+use Rattle.fort_formula_grammar.specs.Tokens.{Token, token_text}
+use Rattle.fort_formula_grammar.specs.TokenText.{BeginsWithToken, Reads, Nothing, Blank, Next, AreTokensOf, IsBadByte}
+use Rattle.fort_formula_grammar.proofs.TokenTexts.{token_text-injective, no_token-blank, no_token-nothing}
 
 -- two fronts of one text that are of one length are the same
 front-same : (a b x y : List ℕ) → length a ≡ length b → a ++ x ≡ b ++ y → a ≡ b

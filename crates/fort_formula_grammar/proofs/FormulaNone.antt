@@ -1,12 +1,12 @@
 -- Where no formula of a kind begins, or a reading is stuck behind a connective, no formula of the next kind begins.
 use Rattle.std.proofs.Common.{◌≡◌, true, false, List, ◌∷◌, refl, sym, ap, ◌∙◌, subst, inl, inr}
 use Rattle.std.proofs.lemmas.Bool.{true≢false}
-use Rattle.fort_theory.specs.Formulas.{Formula}
-use Rattle.fort_grammar.specs.Tokens.{Token, And, Or, Imp, Iff}
-use Rattle.fort_grammar.specs.FormulaGrammar.{IsImplication, IsDisjunction, IsConjunction, OneSide, BothSides, Conclusion, Premise}
-use Rattle.fort_grammar.specs.Continuations.{continues_conjunction, continues_disjunction, continues_implication, continues_formula, HasNoUnary, HasNoConjunction, HasNoDisjunction, HasNoImplication, HasNoFormula}
-use Rattle.fort_grammar.proofs.FormulaTails.{NoAnd, OneAnd, and_parts, AreAndFronts, NoOr, OneOr, OrTail-begin, or_parts, AreOrFronts, disjunction-not_conjunction, implication-not_disjunction, formula-not_implication}
-use Rattle.fort_grammar.proofs.FormulaUnique.{conjunction-fronts, disjunction-fronts, disjunction-unique, implication-unique}
+use Rattle.fort_logic.specs.Formulas.{Formula}
+use Rattle.fort_formula_grammar.specs.Tokens.{Token, And, Or, Imp, Iff}
+use Rattle.fort_formula_grammar.specs.FormulaGrammar.{IsImplication, IsDisjunction, IsConjunction, OneSide, BothSides, Conclusion, Premise}
+use Rattle.fort_formula_grammar.specs.Continuations.{continues_conjunction, continues_disjunction, continues_implication, continues_formula, HasNoUnary, HasNoConjunction, HasNoDisjunction, HasNoImplication, HasNoFormula}
+use Rattle.fort_formula_grammar.proofs.FormulaTails.{NoAnd, OneAnd, and_parts, AreAndFronts, NoOr, OneOr, OrTail-begin, or_parts, AreOrFronts, disjunction-not_conjunction, implication-not_disjunction, formula-not_implication}
+use Rattle.fort_formula_grammar.proofs.FormulaUnique.{conjunction-fronts, disjunction-fronts, disjunction-unique, implication-unique}
 
 pub conjunction-none : {ts : List Token} → HasNoUnary ts → HasNoConjunction ts
 conjunction-none none f us c p = let parts = and_parts c in none _ _ parts.unary

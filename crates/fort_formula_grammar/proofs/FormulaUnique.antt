@@ -1,12 +1,12 @@
 -- Tokens begin with one formula of each kind at most, and what follows it is determined, where the reading can't go on.
 use Rattle.std.proofs.Common.{◌≡◌, false, List, [], ◌∷◌, refl, sym, ap, ◌∙◌, subst, inl, inr}
 use Rattle.std.proofs.lemmas.Bool.{true≢false}
-use Rattle.fort_theory.specs.Formulas as theory
-use Rattle.fort_theory.specs.Formulas.{Formula}
-use Rattle.fort_grammar.specs.Tokens.{Token, And, Or}
-use Rattle.fort_grammar.specs.FormulaGrammar.{Quantifier, quantified, IsFormula, IsImplication, IsDisjunction, IsConjunction, IsUnary, IsBound, OneSide, BothSides, Conclusion, Premise, FirstOr, MoreOr, FirstAnd, MoreAnd, Negated, ForSome, ForEvery, Infinitely, Enclosed, Truth, Falsity, Named, NormalForm, Joinable, Compared, LastBinder, MoreBinders}
-use Rattle.fort_grammar.specs.Continuations.{continues_conjunction, continues_disjunction, continues_implication, continues_formula}
-use Rattle.fort_grammar.proofs.FormulaTails.{AndTail, NoAnd, OneAnd, AndTail-push, and_parts, AreAndFronts, AreAndFronts-ended, OrTail, NoOr, OneOr, OrTail-push, OrTail-begin, or_parts, AreOrFronts, AreOrFronts-ended, disjunction-not_conjunction, implication-not_disjunction, formula-not_implication}
+use Rattle.fort_logic.specs.Formulas as theory
+use Rattle.fort_logic.specs.Formulas.{Formula}
+use Rattle.fort_formula_grammar.specs.Tokens.{Token, And, Or}
+use Rattle.fort_formula_grammar.specs.FormulaGrammar.{Quantifier, quantified, IsFormula, IsImplication, IsDisjunction, IsConjunction, IsUnary, IsBound, OneSide, BothSides, Conclusion, Premise, FirstOr, MoreOr, FirstAnd, MoreAnd, Negated, ForSome, ForEvery, Infinitely, Enclosed, Truth, Falsity, Named, NormalForm, Joinable, Compared, LastBinder, MoreBinders}
+use Rattle.fort_formula_grammar.specs.Continuations.{continues_conjunction, continues_disjunction, continues_implication, continues_formula}
+use Rattle.fort_formula_grammar.proofs.FormulaTails.{AndTail, NoAnd, OneAnd, AndTail-push, and_parts, AreAndFronts, AreAndFronts-ended, OrTail, NoOr, OneOr, OrTail-push, OrTail-begin, or_parts, AreOrFronts, AreOrFronts-ended, disjunction-not_conjunction, implication-not_disjunction, formula-not_implication}
 
 low : (ts : List Token) → continues_implication ts ≡ false → continues_conjunction ts ≡ false
 low ts h = disjunction-not_conjunction ts (implication-not_disjunction ts h)
@@ -109,10 +109,6 @@ pub disjunction-unique : {ts us vs : List Token} {f g : Formula} → IsDisjuncti
     → IsDisjunction ts g vs → continues_disjunction vs ≡ false → (f ≡ g) × (us ≡ vs)
 disjunction-unique {us = us} {vs = vs} d p e q =
     AreOrFronts-ended (disjunction-fronts d (disjunction-not_conjunction us p) e (disjunction-not_conjunction vs q)) p q
-
-pub conjunction-unique : {ts us vs : List Token} {f g : Formula} → IsConjunction ts f us → continues_conjunction us ≡ false
-    → IsConjunction ts g vs → continues_conjunction vs ≡ false → (f ≡ g) × (us ≡ vs)
-conjunction-unique c p d q = AreAndFronts-ended (conjunction-fronts c d) p q
 
 pub one_formula : {ts : List Token} {f g : Formula} → IsFormula ts f [] → IsFormula ts g [] → f ≡ g
 one_formula d e = (formula-unique d refl e refl).0

@@ -1,9 +1,9 @@
 -- To believe: which tokens are which formula, one rule for each production. Each relation says that the tokens begin with
--- a formula of its kind, and what tokens follow it; so the rules can be read from left to right.
+-- a formula of its kind, and what tokens follow it; so the rules can be read from left to right. No token tells an index yet: it is 1.
 use Rattle.std.specs.Prelude.{List, ◌∷◌}
-use Rattle.fort_theory.specs.Formulas as theory
-use Rattle.fort_theory.specs.Formulas.{Name, Formula, Property, SurfaceRel}
-use Rattle.fort_grammar.specs.Tokens.{Token, Open, Close, Comma, Not, And, Or, Imp, Iff, Related, Exists, Forall, Infinite, True, False, Nf, Join, Has, Variable}
+use Rattle.fort_logic.specs.Formulas as theory
+use Rattle.fort_logic.specs.Formulas.{Name, Formula, Property, SurfaceRel}
+use Rattle.fort_formula_grammar.specs.Tokens.{Token, Open, Close, Comma, Not, And, Or, Imp, Iff, Related, Exists, Forall, Infinite, True, False, Nf, Join, Has, Variable}
 
 -- "exists" and "forall"
 pub data Quantifier : Type 0 where
@@ -50,12 +50,12 @@ mutual
     Enclosed : {ts us : List Token} {f : Formula} → IsFormula ts f (Close ∷ us) → IsUnary (Open ∷ ts) f us
     Truth : {us : List Token} → IsUnary (True ∷ us) theory.True us
     Falsity : {us : List Token} → IsUnary (False ∷ us) theory.False us
-    Named : {p : Property} {us : List Token} → IsUnary (Has p ∷ us) (theory.Has p) us
-    NormalForm : {x : Name} {us : List Token} → IsUnary (Nf ∷ Open ∷ Variable x ∷ Close ∷ us) (theory.Nf x) us
+    Named : {p : Property} {us : List Token} → IsUnary (Has p ∷ us) (theory.Has p 1) us
+    NormalForm : {x : Name} {us : List Token} → IsUnary (Nf ∷ Open ∷ Variable x ∷ Close ∷ us) (theory.Nf x 1) us
     Joinable : {x y : Name} {us : List Token}
-        → IsUnary (Join ∷ Open ∷ Variable x ∷ Comma ∷ Variable y ∷ Close ∷ us) (theory.Join x y) us
+        → IsUnary (Join ∷ Open ∷ Variable x ∷ Comma ∷ Variable y ∷ Close ∷ us) (theory.Join x y 1) us
     Compared : {x y : Name} {rel : SurfaceRel} {us : List Token}
-        → IsUnary (Variable x ∷ Related rel ∷ Variable y ∷ us) (theory.Related rel x y) us
+        → IsUnary (Variable x ∷ Related rel ∷ Variable y ∷ us) (theory.Related rel x y 1) us
 
   -- binders := var "(" formula ")" | var "," binders
   pub data IsBound : Quantifier → List Token → Formula → List Token → Type 0 where

@@ -1,9 +1,9 @@
 -- To believe: which text is which formula, and which fault of a text is its first.
 use Rattle.std.specs.Prelude.{◌≡◌, ℕ, ◌+◌, ◌-◌, ◌<◌, ◌≤◌, List, [], ◌∷◌, length, take}
-use Rattle.fort_theory.specs.Formulas.{Formula}
-use Rattle.fort_grammar.specs.Tokens.{Token, Open, Close}
-use Rattle.fort_grammar.specs.TokenText.{Reads, AreTokensOf, IsBadByte}
-use Rattle.fort_grammar.specs.FormulaGrammar.{IsFormula}
+use Rattle.fort_logic.specs.Formulas.{Formula}
+use Rattle.fort_formula_grammar.specs.Tokens.{Token, Open, Close}
+use Rattle.fort_formula_grammar.specs.TokenText.{Reads, AreTokensOf, IsBadByte}
+use Rattle.fort_formula_grammar.specs.FormulaGrammar.{IsFormula}
 
 -- the most tokens of a formula
 abbrev pub most_tokens : ℕ

@@ -4,11 +4,10 @@ use Rattle.std.specs.Prelude.{bytes_eq, codes, not, ◌&&◌, ◌||◌, ◌==◌
 use Rattle.std.specs.Char.{is_ascii_alphabetic}
 use Rattle.std.proofs.lemmas.Bool.{or_from, eqb-true, not-true, cond-false, false≢true, false_from_ne_true, and_parts}
 use Rattle.std.proofs.lemmas.Slice.Eq.{bytes_eq-Decides}
-use Rattle.fort_theory.specs.Formulas as theory
-use Rattle.fort_theory.specs.Formulas.{Name, SurfaceRel, Property}
+use Rattle.fort_logic.specs.Formulas as theory
+use Rattle.fort_logic.specs.Formulas.{Name, SurfaceRel, Property}
 use Rattle.fort_grammar.specs.Text.{is_blank}
-use Rattle.fort_grammar.specs.Variables.{IsVariable, begins_with_letter}
-use Rattle.fort_grammar.specs.Tokens.{Token, Open, Close, Comma, Not, And, Or, Imp, Iff, Related, Exists, Forall, Infinite, True, False, Nf, Join, Has, Com, Sn, Variable, IsToken, token_text, relation_text, property_text}
+use Rattle.fort_formula_grammar.specs.Tokens.{IsVariable, begins_with_letter, Token, Open, Close, Comma, Not, And, Or, Imp, Iff, Related, Exists, Forall, Infinite, True, False, Nf, Join, Has, Com, Sn, Variable, IsToken, token_text, relation_text, property_text}
 
 -- the token that a text writes, by a table of the others than variables
 abbrev find_token : List (Name × Token) → Name → Token

@@ -7,12 +7,11 @@ use Rattle.std.specs.Int.{is_in_range}
 use Rattle.std.proofs.lemmas.Bool.{true≢false, cases_lt, or_parts, or_from}
 use Rattle.std.proofs.lemmas.List.{take-append-drop, length-take-le, get_or_default, get_or-take}
 use Rattle.std.proofs.lemmas.List.Prefix.{front_fits, front_reads}
-use Rattle.fort_theory.specs.Formulas as theory
-use Rattle.fort_theory.specs.Formulas.{SurfaceRel, Property}
-use Rattle.fort_grammar.specs.Variables.{IsVariable, begins_with_letter, is_name_byte, reserved}
-use Rattle.fort_grammar.specs.Tokens.{Token, Open, Close, Comma, Not, And, Or, Imp, Iff, Related, Exists, Forall, Infinite, True, False, Nf, Join, Has, Com, Sn, Variable, relation_text, property_text, token_text, IsToken}
-use Rattle.fort_grammar.specs.TokenText.{BeginsWithToken, BeginsWithNoToken}
-use Rattle.fort_grammar.specs.TokenForms.{symbol_texts, NoneBegins, IsRun}
+use Rattle.fort_logic.specs.Formulas as theory
+use Rattle.fort_logic.specs.Formulas.{SurfaceRel, Property}
+use Rattle.fort_formula_grammar.specs.Tokens.{IsVariable, begins_with_letter, is_name_byte, reserved, Token, Open, Close, Comma, Not, And, Or, Imp, Iff, Related, Exists, Forall, Infinite, True, False, Nf, Join, Has, Com, Sn, Variable, relation_text, property_text, token_text, IsToken}
+use Rattle.fort_formula_grammar.specs.TokenText.{BeginsWithToken, BeginsWithNoToken}
+use Rattle.fort_formula_grammar.specs.TokenForms.{symbol_texts, NoneBegins, IsRun}
 
 -- how the text of a token is written
 pub data IsWritten (text : List ℕ) : Type 0 where

@@ -1,12 +1,12 @@
 -- A text is one formula at most, or has one first fault, and not both.
 use Rattle.std.proofs.Common.{◌≡◌, List, ℕ, [], length, refl, ap, subst, arith}
-use Rattle.fort_theory.specs.Formulas.{Formula}
-use Rattle.fort_grammar.specs.FormulaGrammar.{IsFormula}
-use Rattle.fort_grammar.specs.FormulaText as text
-use Rattle.fort_grammar.specs.FormulaText.{AreShallow, IsFormulaText, FormulaFault, IsFirstFormulaFault, Bad, Long, Deep, NoFormula}
-use Rattle.fort_grammar.proofs.FormulaUnique.{one_formula}
-use Rattle.fort_grammar.proofs.TokenUnique.{tokens-unique, IsBadByte-unique, no_bad_byte}
-use Rattle.fort_grammar.proofs.OpenUnique.{OpensTooMany-unique, shallow_opens}
+use Rattle.fort_logic.specs.Formulas.{Formula}
+use Rattle.fort_formula_grammar.specs.FormulaGrammar.{IsFormula}
+use Rattle.fort_formula_grammar.specs.FormulaText as text
+use Rattle.fort_formula_grammar.specs.FormulaText.{AreShallow, IsFormulaText, FormulaFault, IsFirstFormulaFault, Bad, Long, Deep, NoFormula}
+use Rattle.fort_formula_grammar.proofs.FormulaUnique.{one_formula}
+use Rattle.fort_formula_grammar.proofs.TokenUnique.{tokens-unique, IsBadByte-unique, no_bad_byte}
+use Rattle.fort_formula_grammar.proofs.OpenUnique.{OpensTooMany-unique, shallow_opens}
 
 pub IsFormulaText-unique : {text : List ℕ} {f g : Formula} → IsFormulaText text f → IsFormulaText text g → f ≡ g
 IsFormulaText-unique {g = g} x y =

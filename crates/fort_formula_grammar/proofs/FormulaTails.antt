@@ -1,11 +1,11 @@
 -- A conjunction or disjunction is a first part and a tail of more; and what doesn't go on with a formula goes on with nothing in it.
 use Rattle.std.proofs.Common.{◌≡◌, false, List, [], ◌∷◌, ◌⊎◌, inl, inr, refl, sym}
 use Rattle.std.proofs.lemmas.Bool.{true≢false}
-use Rattle.fort_theory.specs.Formulas as theory
-use Rattle.fort_theory.specs.Formulas.{Formula}
-use Rattle.fort_grammar.specs.Tokens.{Token, And, Or, Imp}
-use Rattle.fort_grammar.specs.FormulaGrammar.{IsDisjunction, IsConjunction, IsUnary, FirstAnd, MoreAnd, FirstOr, MoreOr}
-use Rattle.fort_grammar.specs.Continuations.{continues_conjunction, continues_disjunction, continues_implication, continues_formula}
+use Rattle.fort_logic.specs.Formulas as theory
+use Rattle.fort_logic.specs.Formulas.{Formula}
+use Rattle.fort_formula_grammar.specs.Tokens.{Token, And, Or, Imp}
+use Rattle.fort_formula_grammar.specs.FormulaGrammar.{IsDisjunction, IsConjunction, IsUnary, FirstAnd, MoreAnd, FirstOr, MoreOr}
+use Rattle.fort_formula_grammar.specs.Continuations.{continues_conjunction, continues_disjunction, continues_implication, continues_formula}
 
 pub disjunction-not_conjunction : (ts : List Token) → continues_disjunction ts ≡ false → continues_conjunction ts ≡ false
 disjunction-not_conjunction [] h = refl

@@ -1,8 +1,8 @@
 -- Nothing to believe: which tokens go on with a reading that could end before them, and that no reading of a kind begins some tokens.
 use Rattle.std.specs.Prelude.{◌≡◌, Bool, true, false, List, [], ◌∷◌}
-use Rattle.fort_theory.specs.Formulas.{Name, Formula, SurfaceRel}
-use Rattle.fort_grammar.specs.Tokens.{Token, Close, Comma, And, Or, Imp, Iff, Related, Com, Sn, Variable}
-use Rattle.fort_grammar.specs.FormulaGrammar.{Quantifier, IsFormula, IsImplication, IsDisjunction, IsConjunction, IsUnary, IsBound}
+use Rattle.fort_logic.specs.Formulas.{Name, Formula, SurfaceRel}
+use Rattle.fort_formula_grammar.specs.Tokens.{Token, Close, Comma, And, Or, Imp, Iff, Related, Com, Sn, Variable}
+use Rattle.fort_formula_grammar.specs.FormulaGrammar.{Quantifier, IsFormula, IsImplication, IsDisjunction, IsConjunction, IsUnary, IsBound}
 
 -- a conjunction that ends before these tokens can be read further
 abbrev pub continues_conjunction : List Token → Bool

@@ -1,6 +1,6 @@
 -- Nothing to believe: the texts of the tokens that are no words, and how far a word goes.
 use Rattle.std.specs.Prelude.{◌≡◌, ℕ, ◌<◌, ◌≤◌, true, false, List, [], ◌∷◌, ◌++◌, length, codes, slice_index, slice_index_or}
-use Rattle.fort_grammar.specs.Variables.{is_name_byte}
+use Rattle.fort_formula_grammar.specs.Tokens.{is_name_byte}
 
 -- the texts of the tokens that are no words, none behind a shorter one
 abbrev pub symbol_texts : List (List ℕ)

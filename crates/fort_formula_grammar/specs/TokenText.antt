@@ -1,7 +1,7 @@
 -- To believe: which tokens a text is made of: at each place the longest token, with blanks before, between and behind.
 use Rattle.std.specs.Prelude.{◌≡◌, ℕ, ◌+◌, ◌≤◌, true, false, List, [], ◌∷◌, ◌++◌, length}
 use Rattle.fort_grammar.specs.Text.{is_blank}
-use Rattle.fort_grammar.specs.Tokens.{Token, token_text, IsToken}
+use Rattle.fort_formula_grammar.specs.Tokens.{Token, token_text, IsToken}
 
 -- the text begins with the token, and with no longer one; what follows is the rest
 pub record BeginsWithToken (text : List ℕ) (token : Token) (rest : List ℕ) : Type 0 where

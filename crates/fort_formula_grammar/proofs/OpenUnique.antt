@@ -2,11 +2,11 @@
 use Rattle.std.proofs.Common.{◌≡◌, ℕ, ◌+◌, ◌-◌, List, [], ◌∷◌, ◌++◌, length, ◌⊎◌, inl, inr, refl, sym, ap, ◌∙◌, arith, take, append_assoc}
 use Rattle.std.proofs.Math.Seq.{take-append_seam}
 use Rattle.std.proofs.lemmas.Bool.{false≢true}
-use Rattle.fort_grammar.specs.Tokens.{Token, Open, Close}
-use Rattle.fort_grammar.specs.TokenText.{Reads, Nothing, Blank, Next, AreTokensOf}
-use Rattle.fort_grammar.specs.FormulaText.{open_behind, deepest_formula, AreShallow, OpensTooMany}
-use Rattle.fort_grammar.proofs.TokenTexts.{token_at_open}
-use Rattle.fort_grammar.proofs.TokenUnique.{one_goes_on, Reads-end}
+use Rattle.fort_formula_grammar.specs.Tokens.{Token, Open, Close}
+use Rattle.fort_formula_grammar.specs.TokenText.{Reads, Nothing, Blank, Next, AreTokensOf}
+use Rattle.fort_formula_grammar.specs.FormulaText.{open_behind, deepest_formula, AreShallow, OpensTooMany}
+use Rattle.fort_formula_grammar.proofs.TokenTexts.{token_at_open}
+use Rattle.fort_formula_grammar.proofs.TokenUnique.{one_goes_on, Reads-end}
 
 pub open_behind-append : (n : ℕ) (ts us : List Token) → open_behind n (ts ++ us) ≡ open_behind (open_behind n ts) us
 open_behind-append n [] us = refl

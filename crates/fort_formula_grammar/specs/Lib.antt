@@ -1,0 +1,6 @@
+pub mod Tokens
+pub mod TokenText
+pub mod TokenForms
+pub mod FormulaGrammar
+pub mod Continuations
+pub mod FormulaText
