@@ -1,11 +1,3 @@
-pub mod Turns
-pub mod Levels
-pub mod OneText
-pub mod FlaggedLevel
-pub mod FlaggedItems
-pub mod FlaggedEnd
-pub mod FlaggedWords
-pub mod TopWords
 pub mod OneVerdict
 pub mod OneRefusal
 pub mod OneRequest

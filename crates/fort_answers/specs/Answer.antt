@@ -1,51 +1,68 @@
--- To believe: the one status and text that the program owes to words and bytes.
-use Rattle.std.specs.Prelude.{◌≡◌, ℕ, ◌<◌, ◌≤◌, List, length, Option, Some, None}
-use Rattle.fort_theory.specs.Sides.{System}
-use Rattle.fort_theory.specs.Formulas.{Formula}
-use Rattle.fort_theory.specs.Truth.{IsTrueOf, IsFalseOf}
-use Rattle.fort_grammar.specs.Text.{TextFault, IsFirstFault}
-use Rattle.fort_grammar.specs.Forms.{Forms, AreFormsOf}
-use Rattle.fort_grammar.specs.Declarations.{ProblemFault, BadForm, as_list}
-use Rattle.fort_grammar.specs.ProblemForms.{IsProblem, IsFirstProblemFault}
-use Rattle.fort_grammar.specs.ProblemText.{IsProblemText}
-use Rattle.fort_answers.specs.Request.{Text, IsRequest, IsNoRequest, Asks}
-use Rattle.fort_answers.specs.FormulaAnswer.{IsRefused}
-use Rattle.fort_answers.specs.Lines.{usage_text, yes_line, no_line, input_too_long, text_fault_line, problem_fault_line}
+-- To believe: the one status and text that the program owes to words and bytes: the usage text where the words ask nothing, else what the request owes.
+use Rattle.std.specs.Prelude.{ℕ, List, Option, Some, None}
+use Rattle.fort_logic.specs.Formulas.{Formula}
+use Rattle.fort_answers.specs.Requests.{Text, Request, Decide, Witness, Check, Sample}
+use Rattle.fort_answers.specs.CommandGrammar.{request_of}
+use Rattle.fort_answers.specs.Lines.{usage, usage_text}
+use Rattle.fort_answers.specs.DecideAnswer.{Are, DecidesOf, DecideEarly, DecideAnswer}
 
--- the most bytes of an input
-abbrev pub input_limit : ℕ
-input_limit = 67108864
+-- to no request, and to one that isn't answered yet
+abbrev pub OwesUsage : ℕ → Text → Type 0
+OwesUsage status text = Are status text usage usage_text
 
--- status and text are these
-pub record Are (status : ℕ) (text : Text) (their_status : ℕ) (their_text : Text) : Type 0 where
-  pub same_status : status ≡ their_status
-  pub same_text : text ≡ their_text
+-- what a request owes before anything is read
+abbrev pub OwesEarly : Request → ℕ → Text → Type 0
+OwesEarly (Decide states certificate formula) status text = DecideEarly states certificate formula status text
+OwesEarly (Witness states formula) status text = OwesUsage status text
+OwesEarly (Check formula) status text = OwesUsage status text
+OwesEarly (Sample n) status text = OwesUsage status text
 
--- the answers for which nothing is read
-pub data EarlyAnswer (words : List Text) (status : ℕ) (text : Text) : Type 0 where
-  NoRequest : IsNoRequest words → Are status text 2 usage_text → EarlyAnswer words status text
-  FormulaRefused : (formula : Text) → IsRequest words formula → (refusal : Text) → IsRefused formula refusal
-      → Are status text 3 refusal → EarlyAnswer words status text
+-- what a request owes for these bytes
+abbrev pub Owes : Request → Text → ℕ → Text → Type 0
+Owes (Decide states certificate formula) bytes status text = DecideAnswer states certificate formula bytes status text
+Owes (Witness states formula) bytes status text = OwesUsage status text
+Owes (Check formula) bytes status text = OwesUsage status text
+Owes (Sample n) bytes status text = OwesUsage status text
 
--- the answer to words and bytes: the cases in their order, each with what the earlier ones leave
-pub data Answer (words : List Text) (bytes : Text) (status : ℕ) (text : Text) : Type 0 where
-  Early : EarlyAnswer words status text → Answer words bytes status text
-  TooLong : (f : Formula) → Asks words f → input_limit < length bytes → Are status text 3 input_too_long
-      → Answer words bytes status text
-  TextRefused : (f : Formula) → Asks words f → length bytes ≤ input_limit → (fault : TextFault) → IsFirstFault bytes fault
-      → Are status text 3 (text_fault_line fault) → Answer words bytes status text
-  ProblemRefused : (f : Formula) → Asks words f → length bytes ≤ input_limit → (forms : Forms) → AreFormsOf bytes forms
-      → (fault : ProblemFault) → IsFirstProblemFault bytes (as_list forms) fault
-      → Are status text 3 (problem_fault_line fault) → Answer words bytes status text
-  FormBehind : (f : Formula) → Asks words f → length bytes ≤ input_limit → (forms : Forms) → AreFormsOf bytes forms
-      → (system : System) (next : ℕ) → IsProblem bytes (as_list forms) system next → next < length (as_list forms)
-      → Are status text 3 (problem_fault_line (BadForm next)) → Answer words bytes status text
-  Yes : (f : Formula) → Asks words f → length bytes ≤ input_limit → (system : System) → IsProblemText bytes system
-      → IsTrueOf system f → Are status text 0 yes_line → Answer words bytes status text
-  No : (f : Formula) → Asks words f → length bytes ≤ input_limit → (system : System) → IsProblemText bytes system
-      → IsFalseOf system f → Are status text 1 no_line → Answer words bytes status text
+-- a request for which the input is read
+abbrev pub NeedsInput : Request → Type 0
+NeedsInput (Decide states certificate formula) = (f : Formula) × DecidesOf states certificate formula f
+NeedsInput (Witness states formula) = ⊥
+NeedsInput (Check formula) = ⊥
+NeedsInput (Sample n) = ⊥
 
--- the answer for the bytes that a source tells; for one that tells none, the answer for some bytes
+-- what the words owe; by the request that they are, if they are one
+
+abbrev pub owed_early : Option Request → ℕ → Text → Type 0
+owed_early None status text = OwesUsage status text
+owed_early (Some request) status text = OwesEarly request status text
+
+abbrev pub owed : Option Request → Text → ℕ → Text → Type 0
+owed None bytes status text = OwesUsage status text
+owed (Some request) bytes status text = Owes request bytes status text
+
+abbrev pub needed : Option Request → Type 0
+needed None = ⊥
+needed (Some request) = NeedsInput request
+
+abbrev pub EarlyAnswer : List Text → ℕ → Text → Type 0
+EarlyAnswer words status text = owed_early (request_of words) status text
+
+abbrev pub Answer : List Text → Text → ℕ → Text → Type 0
+Answer words bytes status text = owed (request_of words) bytes status text
+
+-- the words ask something for which the input is read
+abbrev pub AsksSomething : List Text → Type 0
+AsksSomething words = needed (request_of words)
+
+abbrev pub AsksNothing : List Text → Type 0
+AsksNothing words = AsksSomething words → ⊥
+
+-- what is owed for the bytes that a source tells; for one that tells none, for some bytes
+
+abbrev pub OwesTold : Option Request → Option Text → ℕ → Text → Type 0
+OwesTold request (Some bytes) status text = owed request bytes status text
+OwesTold request None status text = (bytes : Text) × owed request bytes status text
+
 abbrev pub AnswerFor : List Text → Option Text → ℕ → Text → Type 0
-AnswerFor words (Some bytes) status text = Answer words bytes status text
-AnswerFor words None status text = (bytes : Text) × Answer words bytes status text
+AnswerFor words told status text = OwesTold (request_of words) told status text

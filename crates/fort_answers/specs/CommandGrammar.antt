@@ -1,9 +1,8 @@
--- To believe: what the words of a command line ask, in words of our own. It comes to what clap's matches give.
+-- To believe: what the words of a command line ask.
 use Rattle.std.specs.Prelude.{◌==◌, ◌&&◌, ℕ, Bool, zero, suc, true, false, not, List, [], ◌∷◌, map, Option, Some, None, codes, if◌then◌else◌, option_and_then, option_map}
 use Rattle.std.specs.List.{after_first, before_first, list_any}
 use Rattle.std.specs.Str.{bytes_eq}
-use Rattle.fort_answers.specs.Numerals.{number_in}
-use Rattle.fort_answers.specs.Request.{Text, Request, Decide, Witness, Check, Sample}
+use Rattle.fort_answers.specs.Requests.{number_in, Text, Request, Decide, Witness, Check, Sample}
 
 -- the word is no flag and not `--`: it does not begin with `-`, or is `-` alone
 abbrev pub is_plain : Text → Bool

@@ -1,8 +1,7 @@
-pub mod Numerals
-pub mod CommandLine
-pub mod Built
-pub mod FormulaAnswer
-pub mod Request
+pub mod Requests
 pub mod CommandGrammar
 pub mod Lines
+pub mod FormulaAnswer
+pub mod InputAnswer
+pub mod DecideAnswer
 pub mod Answer

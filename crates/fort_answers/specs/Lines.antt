@@ -1,8 +1,8 @@
--- To believe: the texts that the program prints.
+-- To believe: the texts that the program prints, and the statuses with which it ends.
 use Rattle.std.specs.Prelude.{ℕ, List, [], ◌∷◌, ◌++◌, codes, decimal}
-use Rattle.fort_theory.specs.Formulas.{Name}
-use Rattle.fort_grammar.specs.FormulaText as formula
-use Rattle.fort_grammar.specs.FormulaText.{FormulaFault}
+use Rattle.fort_logic.specs.Formulas.{Name}
+use Rattle.fort_formula_grammar.specs.FormulaText as formula
+use Rattle.fort_formula_grammar.specs.FormulaText.{FormulaFault}
 use Rattle.fort_grammar.specs.Text.{TextFault, BadByte, ExtraClose, Unclosed, TooDeep}
 use Rattle.fort_grammar.specs.Declarations.{ProblemFault, NoFormat, BadForm, BadName, BadArity, Duplicate, TooManyFunctions, TooManyRules, NoConstant, WrongCount, VariableApplied, LeftRepeats, RightRepeats, Shares}
 
@@ -42,6 +42,10 @@ formula_too_wide = line (codes "REFUSED formula too wide")
 abbrev pub formula_open : Name → List ℕ
 formula_open x = line (codes "REFUSED formula open " ++ x)
 
+-- the formula is one that isn't decided yet
+abbrev pub not_decided_yet : List ℕ
+not_decided_yet = line (codes "REFUSED formula not decided yet")
+
 abbrev pub text_fault_line : TextFault → List ℕ
 text_fault_line (BadByte i) = numbered (codes "REFUSED text bad byte at ") i
 text_fault_line (ExtraClose i) = numbered (codes "REFUSED text extra close at ") i
@@ -66,3 +70,34 @@ problem_fault_line (VariableApplied i) = form_line i (codes " variable applied")
 problem_fault_line (LeftRepeats i name) = form_line i (codes " left side repeats " ++ name)
 problem_fault_line (RightRepeats i name) = form_line i (codes " right side repeats " ++ name)
 problem_fault_line (Shares i name) = form_line i (codes " sides share " ++ name)
+
+-- ---- statuses
+
+-- YES, and what else was asked for and given
+abbrev pub positive : ℕ
+positive = 0
+
+-- NO
+abbrev pub negative : ℕ
+negative = 1
+
+-- the words ask nothing that is answered, and the usage text is printed
+abbrev pub usage : ℕ
+usage = 2
+
+-- the formula or the input is refused
+abbrev pub refused : ℕ
+refused = 3
+
+-- the greatest status of an answer; behind it no answer was given
+abbrev pub last_answer : ℕ
+last_answer = 4
+
+abbrev pub out_of_memory : ℕ
+out_of_memory = 5
+
+abbrev pub read_failed : ℕ
+read_failed = 6
+
+abbrev pub write_failed : ℕ
+write_failed = 7

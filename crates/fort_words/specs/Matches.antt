@@ -1,22 +1,10 @@
--- To believe: what the words of a command line ask. For now `decide FORMULA` alone is answered.
-use Rattle.std.specs.Prelude.{◌≡◌, ℕ, Bool, false, List, [], ◌∷◌, Option, Some, None, codes, option_and_then, option_map, if◌then◌else◌}
+-- Public: what the matches that clap states of the words ask. That they ask what the words' own grammar says is proved; nobody needs to read this for the answers.
+use Rattle.std.specs.Prelude.{Bool, false, List, [], ◌∷◌, Option, Some, None, codes, ℕ, option_and_then, option_map, if◌then◌else◌}
 use Rattle.std.specs.Option.{option_map_or}
 use Rattle.std.specs.Str.{bytes_eq}
 use Rattle.clap.specs.Words.{App, Kinds, Row, fault_of, first_of, subcommand_of}
-use Rattle.fort_theory.specs.Formulas.{Formula}
-use Rattle.fort_answers.specs.FormulaAnswer.{IsAccepted}
-use Rattle.fort_answers.specs.Numerals.{number_in}
-use Rattle.fort_answers.specs.CommandLine.{fort}
-
-abbrev pub Text : Type 0
-Text = List ℕ
-
--- what is asked: the most states, whether the certificate is to be written, the formula's text; for a sample its size
-pub data Request : Type 0 where
-  Decide : ℕ → Bool → Text → Request
-  Witness : ℕ → Text → Request
-  Check : Text → Request
-  Sample : ℕ → Request
+use Rattle.fort_answers.specs.Requests.{number_in, Text, Request, Decide, Witness, Check, Sample}
+use Rattle.fort_words.specs.CommandLine.{fort}
 
 -- what the rows of a subcommand's matches ask, numbers by this project's own rule
 
@@ -60,24 +48,3 @@ read_by app words = where_faultless (fault_of app words) (option_and_then asked_
 -- what the words ask, the program's own name first: clap finds no fault in them, and the numbers in its matches are in range
 abbrev pub request_in : List Text → Option Request
 request_in words = read_by fort words
-
--- the words ask to decide the formula with this text, with the number of states where none is given
-pub record IsRequest (words : List Text) (formula : Text) : Type 0 where
-  pub asked : request_in words ≡ Some (Decide 10000 false formula)
-
--- there is no request, or one that isn't answered yet
-abbrev pub IsNoRequest : List Text → Type 0
-IsNoRequest words = (formula : Text) → IsRequest words formula → ⊥
-
--- the words ask whether this formula is true
-pub record Asks (words : List Text) (f : Formula) : Type 0 where
-  pub formula : Text
-  pub request : IsRequest words formula
-  pub accepted : IsAccepted formula f
-
--- no input is needed: there is no request, or its formula is refused
-abbrev pub AsksNothing : List Text → Type 0
-AsksNothing words = (f : Formula) → Asks words f → ⊥
-
-abbrev pub AsksSomething : List Text → Type 0
-AsksSomething words = (f : Formula) × Asks words f

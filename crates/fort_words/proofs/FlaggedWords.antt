@@ -6,15 +6,15 @@ use Rattle.std.proofs.lemmas.Bool.Decides.{Decides-eqb}
 use Rattle.clap.specs.Words.{Row, Text}
 use Rattle.clap.specs.Walk.{has_row, settled_rows, used}
 use Rattle.clap.specs.Lexer.{has_byte}
-use Rattle.fort_answers.specs.Request.{request_in}
+use Rattle.fort_words.specs.Matches.{request_in}
 use Rattle.fort_answers.specs.CommandGrammar.{Item, Certificate, certificates_among, dashes, decide_words, Formula, formulas_among, is_plain, items_of, States, states_among, witness_words, with_item}
-use Rattle.fort_answers.proofs.FlaggedEnd.{end_is}
-use Rattle.fort_answers.proofs.FlaggedItems.{IsDead, IsSingle, after, after_dead, after_more, asked_by, certificate_used, dead_certificate, dead_formula, dead_more, dead_states, dead_witness, formula_rule, formula_used, has_certificate, has_formula, has_formula_more, has_formula_same, has_some, has_states, has_uses, map_more, row, single_certificate, single_formula, single_states, states_used}
-use Rattle.fort_answers.proofs.FlaggedLevel.{Flagged, Decide, Pending, Witness, at_value, at_word, behind, behind_value, formula_pending, leaf, read_from, settles, step, stop}
-use Rattle.fort_answers.proofs.FlaggedLevel as level
-use Rattle.fort_answers.proofs.Levels.{level_is}
-use Rattle.fort_answers.proofs.Levels as subcommand
-use Rattle.fort_answers.proofs.Turns.{AreWords, IsWord, cases_of, long_word, name_of, plain_tests, some_kinds, value_of}
+use Rattle.fort_words.proofs.FlaggedEnd.{end_is}
+use Rattle.fort_words.proofs.FlaggedItems.{IsDead, IsSingle, after, after_dead, after_more, asked_by, certificate_used, dead_certificate, dead_formula, dead_more, dead_states, dead_witness, formula_rule, formula_used, has_certificate, has_formula, has_formula_more, has_formula_same, has_some, has_states, has_uses, map_more, row, single_certificate, single_formula, single_states, states_used}
+use Rattle.fort_words.proofs.FlaggedLevel.{Flagged, Decide, Pending, Witness, at_value, at_word, behind, behind_value, formula_pending, leaf, read_from, settles, step, stop}
+use Rattle.fort_words.proofs.FlaggedLevel as level
+use Rattle.fort_words.proofs.Levels.{level_is}
+use Rattle.fort_words.proofs.Levels as subcommand
+use Rattle.fort_words.proofs.Turns.{AreWords, IsWord, cases_of, long_word, name_of, plain_tests, some_kinds, value_of}
 
 -- ---- places of the walk
 

@@ -6,10 +6,10 @@ use Rattle.clap.specs.Words.{Row, Rule, Text}
 use Rattle.clap.specs.declared.parser.matches.ValueSource.TheVariants.{CommandLine}
 use Rattle.clap.specs.Walk.{at_row, has_row, more_values, reading_by, used}
 use Rattle.clap.specs.Simple.{filled, with_index}
-use Rattle.fort_answers.specs.Request.{Request}
-use Rattle.fort_answers.specs.CommandLine as app
+use Rattle.fort_answers.specs.Requests.{Request}
+use Rattle.fort_words.specs.CommandLine as app
 use Rattle.fort_answers.specs.CommandGrammar.{Item, Certificate, certificates_among, Formula, formulas_among, is_set_by, made_by, number_of_states, only, States, states_among, to_decide, to_witness, with_item}
-use Rattle.fort_answers.proofs.FlaggedLevel.{Flagged, Decide, Witness, certificate_rule, states_rule}
+use Rattle.fort_words.proofs.FlaggedLevel.{Flagged, Decide, Witness, certificate_rule, states_rule}
 
 abbrev pub formula_rule : Rule
 formula_rule = with_index 1 (filled app.formula)

@@ -8,14 +8,14 @@ use Rattle.clap.specs.Walk.{Walk, nothing_held, walk_from, walked}
 use Rattle.clap.specs.Faults.{turn_fault, walk_fault}
 use Rattle.clap.specs.Lexer.{has_byte}
 use Rattle.clap.proofs.OnLiterals.{clap_on_literals}
-use Rattle.fort_answers.specs.Request.{Request, request_in}
-use Rattle.fort_answers.specs.Request as request
-use Rattle.fort_answers.specs.Numerals.{number_in}
+use Rattle.fort_answers.specs.Requests.{Request, number_in}
+use Rattle.fort_words.specs.Matches.{request_in}
+use Rattle.fort_answers.specs.Requests as request
 use Rattle.fort_answers.specs.CommandGrammar.{check_words, dashes, is_plain, sample_words, text_among}
-use Rattle.fort_answers.proofs.Levels.{Subcommand, leaf_of, level_is, read_of}
-use Rattle.fort_answers.proofs.Levels as level
-use Rattle.fort_answers.proofs.Turns.{AreWords, IsWord, PlainTests, cases_of, goes_on, long_word, plain_tests, read_on, some_kinds, stops}
-use Rattle.fort_answers.proofs.Turns as turn
+use Rattle.fort_words.proofs.Levels.{Subcommand, leaf_of, level_is, read_of}
+use Rattle.fort_words.proofs.Levels as level
+use Rattle.fort_words.proofs.Turns.{AreWords, IsWord, PlainTests, cases_of, goes_on, long_word, plain_tests, read_on, some_kinds, stops}
+use Rattle.fort_words.proofs.Turns as turn
 
 -- the two subcommands with one text and no flag
 pub data Plainest : Type 0 where

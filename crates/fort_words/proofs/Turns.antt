@@ -10,7 +10,8 @@ use Rattle.clap.specs.Walk.{Held, Walk, finished, settled, walked}
 use Rattle.clap.specs.Faults.{check_fault, defaults_fault, settle_fault, turn_fault, walk_fault}
 use Rattle.clap.specs.Kinds.{or_else}
 use Rattle.clap.specs.Lexer.{long_of, short_of}
-use Rattle.fort_answers.specs.Request.{Request, where_faultless}
+use Rattle.fort_answers.specs.Requests.{Request}
+use Rattle.fort_words.specs.Matches.{where_faultless}
 use Rattle.fort_answers.specs.CommandGrammar.{dashes, is_plain}
 
 pub cases_of : (b : Bool) → (b ≡ true) ⊎ (b ≡ false)

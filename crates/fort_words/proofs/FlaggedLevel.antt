@@ -10,12 +10,13 @@ use Rattle.clap.specs.Kinds.{or_else}
 use Rattle.clap.specs.Lexer.{has_byte}
 use Rattle.clap.specs.Simple.{filled}
 use Rattle.clap.proofs.OnLiterals.{clap_on_literals}
-use Rattle.fort_answers.specs.Request.{Request, where_faultless}
+use Rattle.fort_answers.specs.Requests.{Request}
+use Rattle.fort_words.specs.Matches.{where_faultless}
 use Rattle.fort_answers.specs.CommandGrammar.{dashes}
-use Rattle.fort_answers.specs.CommandLine as app
-use Rattle.fort_answers.proofs.Levels.{Subcommand, leaf_of, read_of}
-use Rattle.fort_answers.proofs.Levels as level
-use Rattle.fort_answers.proofs.Turns.{PlainTests, cases_of, failed_end, first_kind, goes_on, long_word, name_of, read_on, some_kinds, stops, value_of}
+use Rattle.fort_words.specs.CommandLine as app
+use Rattle.fort_words.proofs.Levels.{Subcommand, leaf_of, read_of}
+use Rattle.fort_words.proofs.Levels as level
+use Rattle.fort_words.proofs.Turns.{PlainTests, cases_of, failed_end, first_kind, goes_on, long_word, name_of, read_on, some_kinds, stops, value_of}
 
 -- the two subcommands with a formula and flags
 pub data Flagged : Type 0 where

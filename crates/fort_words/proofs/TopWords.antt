@@ -9,15 +9,15 @@ use Rattle.clap.specs.Faults.{turn_fault, walk_fault}
 use Rattle.clap.specs.Simple.{built, names_of}
 use Rattle.clap.specs.Lexer.{has_byte}
 use Rattle.clap.proofs.OnLiterals.{clap_on_literals}
-use Rattle.fort_answers.specs.Request.{asked_in, read_by, request_in}
+use Rattle.fort_words.specs.Matches.{asked_in, read_by, request_in}
 use Rattle.fort_answers.specs.CommandGrammar.{dashes, is_plain}
-use Rattle.fort_answers.specs.CommandLine.{fort}
-use Rattle.fort_answers.proofs.FlaggedWords.{decide_is, witness_is}
-use Rattle.fort_answers.proofs.OneText.{check_is, sample_is}
+use Rattle.fort_words.specs.CommandLine.{fort}
+use Rattle.fort_words.proofs.FlaggedWords.{decide_is, witness_is}
+use Rattle.fort_words.proofs.OneText.{check_is, sample_is}
 use Rattle.fort_answers.specs.CommandGrammar.{request_of}
 use Rattle.std.proofs.lemmas.Slice.Eq.{bytes_eq-Decides}
 use Rattle.std.proofs.lemmas.Str.{IsUtf8-string_bytes}
-use Rattle.fort_answers.proofs.Turns.{AreWords, IsWord, cases_of, failed, is_word, long_word, name_of, plain_tests, some_kinds}
+use Rattle.fort_words.proofs.Turns.{AreWords, IsWord, cases_of, failed, is_word, long_word, name_of, plain_tests, some_kinds}
 
 abbrev top : App
 top = built fort

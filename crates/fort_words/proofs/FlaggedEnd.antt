@@ -2,10 +2,10 @@
 use Rattle.std.proofs.Common.{◌≡◌, List, [], ◌∷◌, refl, map}
 use Rattle.std.specs.Fmt.{digits}
 use Rattle.clap.proofs.OnLiterals.{clap_on_literals}
-use Rattle.fort_answers.specs.Numerals.{number_in}
+use Rattle.fort_answers.specs.Requests.{number_in}
 use Rattle.fort_answers.specs.CommandGrammar.{Item, Certificate, Formula, States}
-use Rattle.fort_answers.proofs.FlaggedItems.{IsSingle, asked_by, row}
-use Rattle.fort_answers.proofs.FlaggedLevel.{Flagged, Decide, Witness, read_at_end}
+use Rattle.fort_words.proofs.FlaggedItems.{IsSingle, asked_by, row}
+use Rattle.fort_words.proofs.FlaggedLevel.{Flagged, Decide, Witness, read_at_end}
 
 pub end_is : (sub : Flagged) (items : List Item) → IsSingle sub items → read_at_end sub (map row items) ≡ asked_by sub items
 unfolding clap_on_literals number_in digits

@@ -8,9 +8,10 @@ use Rattle.clap.specs.Kinds.{or_else}
 use Rattle.clap.specs.Simple.{built, built_leaf, entered, inherited, marked_built, names_of, on_top, with_leaf_noted}
 use Rattle.clap.proofs.FaultLemmas.{stopped_fault}
 use Rattle.clap.proofs.OnLiterals.{clap_on_literals}
-use Rattle.fort_answers.specs.Request.{Request, asked_in, check_in, decide_in, read_by, request_in, sample_in, where_faultless, witness_in}
-use Rattle.fort_answers.specs.CommandLine.{fort}
-use Rattle.fort_answers.specs.CommandLine as app
+use Rattle.fort_answers.specs.Requests.{Request}
+use Rattle.fort_words.specs.Matches.{asked_in, check_in, decide_in, read_by, request_in, sample_in, where_faultless, witness_in}
+use Rattle.fort_words.specs.CommandLine.{fort}
+use Rattle.fort_words.specs.CommandLine as app
 
 -- the words behind a subcommand's name are its own
 collected : (c : List Rule) (names : Names) (w : Walk) (name : Text) (xs ws : List Text)

@@ -1,0 +1,20 @@
+-- To believe: what a command line can ask: to decide a formula, to find terms for one, to check a certificate, to decide properties of a made problem; and which text writes which number of a range.
+use Rattle.std.specs.Prelude.{◌&&◌, ℕ, Bool, List, Option, Some, None, if◌then◌else◌, nat_le}
+use Rattle.std.specs.Fmt.{decimal}
+use Rattle.std.specs.Str.{bytes_eq}
+use Rattle.std.specs.Str.Parse.{digits_value}
+
+abbrev pub Text : Type 0
+Text = List ℕ
+
+-- the most states, whether the certificate is to be written, the formula's text; for a sample its size
+pub data Request : Type 0 where
+  Decide : (states : ℕ) → (certificate : Bool) → (formula : Text) → Request
+  Witness : (states : ℕ) → (formula : Text) → Request
+  Check : (formula : Text) → Request
+  Sample : (n : ℕ) → Request
+
+-- the number from low to high whose decimal digits, with no needless zero, are the text
+unfoldable pub number_in : ℕ → ℕ → List ℕ → Option ℕ
+number_in low high text = if nat_le low (digits_value 10 text) && (nat_le (digits_value 10 text) high && bytes_eq text (decimal (digits_value 10 text)))
+    then Some (digits_value 10 text) else None

@@ -1,0 +1,11 @@
+//! What the words of a command line ask, read by `clap`.
+#![tactic(auto)]
+
+mod command;
+mod number;
+mod request;
+
+pub use request::{Request, read_request};
+
+#[cfg(test)]
+mod tests;

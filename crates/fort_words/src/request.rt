@@ -1,0 +1,134 @@
+//! Requests, from `clap`'s matches.
+ghost use Rattle.std.specs.Prelude.{◌≡◌, IfOk, map, option_and_then, option_map, string_bytes};
+ghost use Rattle.clap.specs.Words.{first_of, found_of, rows_of, subcommand_rows_of};
+ghost use Rattle.fort_words.specs.Matches.{asked_in, certificate_in, check_in, decide_in, request_in, sample_in, states_in, witness_in};
+ghost use Rattle.fort_answers.specs.CommandGrammar.{request_of};
+ghost use Rattle.fort_words.specs.RequestView.{as_request};
+
+use crate::command::fort_command;
+use crate::number::number_of;
+use clap::ArgMatches;
+use clap::error::ErrorKind;
+use std::alloc::{AllocError, Global};
+
+/// What a command line asks.
+#[derive(Clone, Copy, Debug, PartialEq, Eq)]
+pub enum Request<'a> {
+    /// Whether the formula is true, by parts of at most so many states.
+    Decide {
+        states: u32,
+        certificate: bool,
+        formula: &'a str,
+    },
+    /// The least terms for its free variables that make the formula true.
+    Witness {
+        states: u32,
+        formula: &'a str,
+    },
+    /// Whether the certificate behind the problem proves the formula or its negation.
+    Check {
+        formula: &'a str,
+    },
+    /// Decisions of a made problem with so many constants.
+    Sample {
+        n: u32,
+    },
+}
+
+/// The first value of `id`.
+fn value_of<'a>(matches: &ArgMatches<'a>, id: &str) -> Option<&'a str>
+    ensures { option_map (λ text. text.now) result ≡
+        first_of id.now (rows_of (found_of matches.now)) }
+{
+    matches.get_str(id)
+}
+
+fn states_of(matches: &ArgMatches<'_>) -> Option<u32>
+    ensures { result ≡ states_in (rows_of (found_of matches.now)) }
+{
+    number_of(value_of(matches, "states")?, 1, 1_000_000)
+}
+
+fn has_certificate(matches: &ArgMatches<'_>) -> bool
+    ensures { result ≡ certificate_in (rows_of (found_of matches.now)) }
+{
+    match value_of(matches, "certificate") {
+        Some(text) => text == "true",
+        None => false,
+    }
+}
+
+fn asked_to_decide<'a>(matches: &ArgMatches<'a>) -> Option<Request<'a>>
+    ensures { option_map as_request result ≡ decide_in (rows_of (found_of matches.now)) }
+{
+    let states = states_of(matches)?;
+    let formula = value_of(matches, "formula")?;
+    let certificate = has_certificate(matches);
+    Some(Request::Decide {
+        states,
+        certificate,
+        formula,
+    })
+}
+
+fn asked_for_witness<'a>(matches: &ArgMatches<'a>) -> Option<Request<'a>>
+    ensures { option_map as_request result ≡ witness_in (rows_of (found_of matches.now)) }
+{
+    let states = states_of(matches)?;
+    let formula = value_of(matches, "formula")?;
+    Some(Request::Witness { states, formula })
+}
+
+fn asked_to_check<'a>(matches: &ArgMatches<'a>) -> Option<Request<'a>>
+    ensures { option_map as_request result ≡ check_in (rows_of (found_of matches.now)) }
+{
+    let formula = value_of(matches, "formula")?;
+    Some(Request::Check { formula })
+}
+
+fn asked_for_sample<'a>(matches: &ArgMatches<'a>) -> Option<Request<'a>>
+    ensures { option_map as_request result ≡ sample_in (rows_of (found_of matches.now)) }
+{
+    let n = number_of(value_of(matches, "count")?, 1, 64)?;
+    Some(Request::Sample { n })
+}
+
+fn asked<'a>(matches: &ArgMatches<'a>) -> Option<Request<'a>>
+    ensures { option_map as_request result ≡ option_and_then asked_in
+        (subcommand_rows_of matches.now) }
+{
+    let (name, inner) = matches.subcommand()?;
+    if name == "decide" {
+        asked_to_decide(inner)
+    } else if name == "witness" {
+        asked_for_witness(inner)
+    } else if name == "check" {
+        asked_to_check(inner)
+    } else if name == "sample" {
+        asked_for_sample(inner)
+    } else {
+        None
+    }
+}
+
+/// What the words ask, the program's own name first.
+pub fn read_request<'a>(
+    alloc: Global,
+    words: &'a [String],
+) -> Result<Option<Request<'a>>, AllocError>
+    ensures grammar { IfOk result (λ r. option_map as_request r ≡
+        request_of (map string_bytes words.entry.now)) }
+
+    // The same by clap's definitions.
+    ensures matches { IfOk result (λ r. option_map as_request r ≡
+        request_in (map string_bytes words.entry.now)) }
+{
+    let command = fort_command(alloc)?;
+    match command.try_get_matches_from(words) {
+        Ok(matches) => Ok(asked(&matches)),
+        Err(error) => match error.kind() {
+            ErrorKind::OutOfMemory => Err(AllocError),
+            _ => Ok(None),
+        },
+    }
+}
