@@ -1,7 +1,7 @@
 -- Lemmas on what a sink took, one write after another.
 use Rattle.std.proofs.Common.{◌≡◌, ℕ, List, [], ◌++◌, length, Option, Some, None, refl, sym, ap, ◌∙◌, append_assoc, append-nil, take, drop, take-append-drop, subst, ◌-◌, arith}
 use Rattle.std.proofs.lemmas.Slice.{between_to_end}
-use Rattle.fort_io.specs.Told.{Takes}
+use Rattle.fort_io.specs.Devices.{Takes}
 
 pub Takes-nil : (a : Option (List ℕ)) → Takes a a []
 Takes-nil None = tt

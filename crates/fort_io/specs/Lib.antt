@@ -1,3 +1,2 @@
-pub mod Faults
-pub mod Told
+pub mod Devices
 pub mod Replay

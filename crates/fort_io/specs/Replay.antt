@@ -1,4 +1,4 @@
--- What callers see of the sources and sinks over memory.
+-- To believe: what callers see of the sources and sinks over memory.
 use Rattle.std.specs.Prelude.{ℕ, ◌+◌, List, ◌++◌, length, Option, Some, None, nat_le, if◌then◌else◌}
 
 -- a source over memory: the bytes still to come, the most that a call moves, the numbers of the calls that fail,

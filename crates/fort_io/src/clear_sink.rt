@@ -1,3 +1,4 @@
+//! A sink over memory that never fails.
 ghost use Rattle.std.specs.Prelude.{◌≡◌, ◌<◌, [], length, IfOk, option_map};
 ghost use Rattle.fort_io.specs.Replay.{kept_within};
 

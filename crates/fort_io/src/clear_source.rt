@@ -1,3 +1,4 @@
+//! A source over memory that never fails.
 ghost use Rattle.std.specs.Prelude.{◌≡◌, ◌<◌, ◌++◌, length, take, min, Some, IfOk, IsOk};
 
 use crate::source::{Failed, Source};

@@ -1,5 +1,6 @@
+//! A sink over memory, with faults at calls that are named.
 ghost use Rattle.std.specs.Prelude.{◌≡◌, ◌<◌, ◌≤◌, ◌-◌, ◌^◌, ◌↔◌, ◌⊎◌, [], ◌++◌, length, take, min, Some, IfOk, OnOk, OnErr, IsErr, Contains};
-ghost use Rattle.fort_io.specs.Faults.{counted};
+ghost use Rattle.fort_io.specs.Devices.{counted};
 
 use crate::sink::Sink;
 use crate::source::Failed;
@@ -75,8 +76,10 @@ impl Sink for MemSink {
         ensures some { IfOk result (λ n. 1 ≤ n) }
         ensures bound { IfOk result (λ n. n ≤ length piece.now) }
         ensures moved { IfOk result (λ n. self.new.taken ≡ self.old.taken ++ take n piece.now) }
-        ensures most { IfOk result (λ n. n ≡ min self.old.piece (min (length piece.now) (self.old.room - length self.old.taken))) }
-        ensures fails { IsErr result ↔ (Contains self.old.fails self.old.calls ⊎ (self.old.room ≤ length self.old.taken)) }
+        ensures most { IfOk result (λ n. n ≡ min self.old.piece
+            (min (length piece.now) (self.old.room - length self.old.taken))) }
+        ensures fails { IsErr result ↔ (Contains self.old.fails self.old.calls
+            ⊎ (self.old.room ≤ length self.old.taken)) }
         ensures kept { OnErr result (self.new.taken ≡ self.old.taken) }
         ensures calls { self.new.calls ≡ counted self.old.calls }
         ensures fault { OnErr result (self.new.faults ≡ counted self.old.faults) }

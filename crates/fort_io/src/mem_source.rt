@@ -1,6 +1,7 @@
+//! A source over memory, with faults at calls that are named.
 ghost use Rattle.std.specs.Prelude.{◌≡◌, ◌<◌, ◌≤◌, ◌^◌, ◌↔◌, ◌++◌, length, take, min, Some, IfOk, OnOk, OnErr, IsErr, Contains};
 ghost use Rattle.std.specs.Io.KnownBytes.{IsAtEnd};
-ghost use Rattle.fort_io.specs.Faults.{counted};
+ghost use Rattle.fort_io.specs.Devices.{counted};
 
 use crate::source::{Failed, Source};
 use std::alloc::{AllocError, Global};
@@ -64,7 +65,8 @@ impl Source for MemSource {
         requires { 0 < length buf.old }
         ensures bound { IfOk result (λ n. n ≤ length buf.old) }
         ensures moved { IfOk result (λ n. self.old.rest ≡ take n buf.new ++ self.new.rest) }
-        ensures most { IfOk result (λ n. n ≡ min self.old.piece (min (length buf.old) (length self.old.rest))) }
+        ensures most { IfOk result (λ n. n ≡ min self.old.piece
+            (min (length buf.old) (length self.old.rest))) }
         ensures end { result ≡ Ok 0 → IsAtEnd (Some self.new.rest) }
         ensures fails { IsErr result ↔ Contains self.old.fails self.old.calls }
         ensures kept { OnErr result (self.new.rest ≡ self.old.rest) }

@@ -1,6 +1,6 @@
+//! Sinks for bytes, and giving one all of a text.
 ghost use Rattle.std.specs.Prelude.{◌≡◌, ℕ, ◌<◌, ◌≤◌, ◌^◌, List, ◌++◌, length, take, Option, IfOk, OnOk, OnErr};
-ghost use Rattle.fort_io.specs.Faults.{FaultCounted};
-ghost use Rattle.fort_io.specs.Told.{Takes};
+ghost use Rattle.fort_io.specs.Devices.{FaultCounted, Takes};
 
 use crate::source::Failed;
 
@@ -17,7 +17,8 @@ pub trait Sink {
         requires { 0 < length piece.now }
         ensures some { IfOk result (λ n. 1 ≤ n) }
         ensures bound { IfOk result (λ n. n ≤ length piece.now) }
-        ensures moved { IfOk result (λ n. Takes (taken self.old) (taken self.new) (take n piece.now)) }
+        ensures moved { IfOk result (λ n.
+            Takes (taken self.old) (taken self.new) (take n piece.now)) }
         ensures kept { OnErr result (taken self.new ≡ taken self.old) }
         ensures cause { OnErr result (FaultCounted (faults self.old) (faults self.new)) }
         ensures never_falls { faults self.old ≤ faults self.new }
@@ -37,7 +38,8 @@ impl From<Failed> for WriteFault {
 /// Gives all bytes to a sink. After a fault a front of them was taken. It takes no memory.
 pub fn write_all<K: Sink>(sink: &mut K, bytes: &[u8]) -> Result<(), WriteFault>
     ensures all { OnOk result (Takes (K.taken sink.old) (K.taken sink.new) bytes.now) }
-    ensures front { OnErr result ((front back : List ℕ) × (bytes.now ≡ front ++ back) × Takes (K.taken sink.old) (K.taken sink.new) front) }
+    ensures front { OnErr result ((front back : List ℕ) × (bytes.now ≡ front ++ back)
+        × Takes (K.taken sink.old) (K.taken sink.new) front) }
     ensures fault { OnErr result (FaultCounted (K.faults sink.old) (K.faults sink.new)) }
     ensures never_falls { K.faults sink.old ≤ K.faults sink.new }
 {

@@ -1,6 +1,7 @@
+//! Sources of bytes, and reading one to its end.
 ghost use Rattle.std.specs.Prelude.{◌≡◌, ℕ, ◌<◌, ◌≤◌, ◌^◌, List, length, take, Option, IfOk, OnOk, OnErr, IsErrOf, IfSome, vec_len};
 ghost use Rattle.std.specs.Io.KnownBytes.{Consumes, IsAtEnd};
-ghost use Rattle.fort_io.specs.Faults.{FaultCounted};
+ghost use Rattle.fort_io.specs.Devices.{FaultCounted, GivesPast};
 
 use std::alloc::{AllocError, Global};
 
@@ -20,7 +21,8 @@ pub trait Source {
     fn read(&mut self, buf: &mut [u8]) -> Result<usize, Failed>
         requires { 0 < length buf.old }
         ensures bound { IfOk result (λ n. n ≤ length buf.old) }
-        ensures moved { IfOk result (λ n. Consumes (rest self.old) (rest self.new) (take n buf.new)) }
+        ensures moved { IfOk result (λ n.
+            Consumes (rest self.old) (rest self.new) (take n buf.new)) }
         ensures end { result ≡ Ok 0 → IsAtEnd (rest self.new) }
         ensures kept { OnErr result (rest self.new ≡ rest self.old) }
         ensures cause { OnErr result (FaultCounted (faults self.old) (faults self.new)) }
@@ -61,6 +63,9 @@ impl From<Failed> for ReadAll {
     }
 }
 
+/// How many bytes are asked for at a time.
+const PIECE: usize = 65_536;
+
 /// All bytes that come from a source, up to `limit` of them.
 ///
 /// After `Fault` and `Memory` the source has given a front of its bytes.
@@ -68,10 +73,14 @@ pub fn read_all<S: Source>(alloc: Global, source: &mut S, limit: usize) -> Resul
     ensures all { IfOk result (λ v. Consumes (S.rest source.old) (S.rest source.new) v.items) }
     ensures end { OnOk result (IsAtEnd (S.rest source.new)) }
     ensures within { IfOk result (λ v. vec_len v ≤ limit) }
-    ensures too_long { IsErrOf result ReadAll.TooLong → IfSome (S.rest source.old) (λ bytes. limit < length bytes) }
-    ensures past { IsErrOf result ReadAll.TooLong → (given : List ℕ) × (limit < length given) × Consumes (S.rest source.old) (S.rest source.new) given }
-    ensures fault { IsErrOf result ReadAll.Fault → FaultCounted (S.faults source.old) (S.faults source.new) }
-    ensures err { OnErr result ((given : List ℕ) × Consumes (S.rest source.old) (S.rest source.new) given) }
+    ensures too_long { IsErrOf result ReadAll.TooLong →
+        IfSome (S.rest source.old) (λ bytes. limit < length bytes) }
+    ensures past { IsErrOf result ReadAll.TooLong →
+        GivesPast limit PIECE (S.rest source.old) (S.rest source.new) }
+    ensures fault { IsErrOf result ReadAll.Fault →
+        FaultCounted (S.faults source.old) (S.faults source.new) }
+    ensures err { OnErr result
+        ((given : List ℕ) × Consumes (S.rest source.old) (S.rest source.new) given) }
     ensures never_falls { S.faults source.old ≤ S.faults source.new }
 {
     let mut bytes = Vec::new(alloc);
@@ -87,6 +96,3 @@ pub fn read_all<S: Source>(alloc: Global, source: &mut S, limit: usize) -> Resul
         bytes.extend_from_slice(&piece[..n])?;
     }
 }
-
-/// How many bytes are asked for at a time.
-const PIECE: usize = 65536;

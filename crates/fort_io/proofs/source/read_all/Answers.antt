@@ -1,4 +1,4 @@
-use Rattle.std.proofs.Common.{arith, ap, Ok, length-append, length-take, ◌≤◌, length, drop}
+use Rattle.std.proofs.Common.{arith, ap, Ok, length-append, length-take, ◌≤◌, length, take, drop}
 use Rattle.std.proofs.KnownBytes.{Consumes-nil, Consumes-trans}
 use Rattle.fort_io.proofs.Given.{Consumes-nothing, Consumes-over, OnErr-given, OnErr-kept, take-filled}
 use Rattle.fort_io.proofs.source.read_all.Goals as goal
@@ -6,6 +6,7 @@ use Rattle.fort_io.proofs.source.read_all.Goals as goal
 pub loop-piece-init : goal.loop-piece-init
 loop-piece-init g c = record {
   some = omega (arith, c.in_ok-piece.ensures.len);
+  sized = omega (arith, c.in_ok-piece.ensures.len);
   within = omega (arith, c.new-bytes.ensures.len);
   given = rw c.new-bytes.ensures.items (Consumes-nil _);
   never_falls = omega arith;
@@ -27,11 +28,14 @@ returns-then-n-limit-clause-too_long g c = λ _.
     (simp (length-append, length-take) (omega (arith, c.in_ok-n.ensures.bound, c.read.auto.buf, c.loop-piece.bytes.ok.0)))
 
 pub returns-then-n-limit-clause-past : goal.returns-then-n-limit-clause-past
-returns-then-n-limit-clause-past g c = λ _. (
-  _,
-  simp (length-append, length-take) (omega (arith, c.in_ok-n.ensures.bound, c.read.auto.buf, c.loop-piece.bytes.ok.0)),
-  Consumes-trans _ _ _ _ _ c.loop-piece.invariant.given c.in_ok-n.ensures.moved,
-)
+returns-then-n-limit-clause-past g c = λ _. record {
+  front = c.loop-piece.bytes.items;
+  last = take c.in_ok-n.n c.read.new.buf;
+  within = omega (arith, c.loop-piece.invariant.within);
+  one_piece = simp length-take (omega (arith, c.in_ok-n.ensures.bound, c.read.auto.buf, c.loop-piece.invariant.sized, c.deref_mut.ensures.len));
+  past = simp (length-append, length-take) (omega (arith, c.in_ok-n.ensures.bound, c.read.auto.buf, c.loop-piece.bytes.ok.0));
+  given = Consumes-trans _ _ _ _ _ c.loop-piece.invariant.given c.in_ok-n.ensures.moved;
+}
 
 pub returns-then-n-limit-clause-err : goal.returns-then-n-limit-clause-err
 returns-then-n-limit-clause-err g c = (_, Consumes-trans _ _ _ _ _ c.loop-piece.invariant.given c.in_ok-n.ensures.moved)
@@ -39,6 +43,7 @@ returns-then-n-limit-clause-err g c = (_, Consumes-trans _ _ _ _ _ c.loop-piece.
 pub loop-piece-preserved : goal.loop-piece-preserved
 loop-piece-preserved g c = record {
   some = c.loop-piece.invariant.some;
+  sized = c.loop-piece.invariant.sized;
   within = omega (arith, c.in_ok-extend_from_slice.ensures.len, length-take c.in_ok-n.n c.deref.result.now, c.if-n-limit.false, c.len.ensures, c.loop-piece.invariant.within);
   given =
       let fits : c.in_ok-n.n ≤ length c.read.new.buf = omega (arith, c.in_ok-n.ensures.bound, c.read.auto.buf) in

@@ -5,6 +5,7 @@ use Rattle.fort_io.proofs.source.read_all.Given as goal
 abbrev pub invariant-loop-piece : goal.invariant-loop-piece
 invariant-loop-piece g l = record {
   some : 0 < vec_len l.piece;
+  sized : vec_len l.piece ≤ 65536;
   within : vec_len l.bytes ≤ l.limit;
   given : Consumes (g.S.Source.rest l.fn.source) (g.S.Source.rest l.source) l.bytes.items;
   never_falls : g.S.Source.faults l.fn.source ≤ g.S.Source.faults l.source;
