@@ -1,7 +1,9 @@
-pub mod Views
-pub mod SignatureLaws
-pub mod SignatureLemmas
-pub mod RuleFaultLaws
-pub mod RuleSteps
+pub mod SignatureViewLaws
+pub mod PatternViewLaws
+pub mod PatternKeysLaws
+pub mod SubpatternsLaws
+pub mod RuleFaultsLaws
+pub mod OverlapsLaws
+pub mod RuleStepsLaws
+pub mod BothWaysLaws
 pub mod Instances
-pub mod LinearSides

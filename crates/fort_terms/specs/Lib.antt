@@ -3,7 +3,11 @@ pub mod PatternFalls
 pub mod SideView
 pub mod SideFalls
 pub mod SignatureView
+pub mod Limits
 pub mod RuleFaults
+pub mod Overlaps
+pub mod Subpatterns
+pub mod BothWays
 pub mod RuleSteps
 pub mod TermTree
 pub mod Spellings

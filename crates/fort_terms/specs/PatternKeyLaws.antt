@@ -1,4 +1,4 @@
--- Nothing to believe: the laws of the equality, the order and the hash of patterns.
+-- Law: the laws of the equality, the order and the hash of patterns.
 use Rattle.std.specs.Prelude.{◌≡◌, ◌↔◌, ℕ, suc, Bool, true, nat_eq, ◌&&◌, List, [], ◌∷◌, ◌++◌, length, refl}
 use Rattle.std.specs.Bool.{Decides, one_answer}
 use Rattle.std.specs.Hash as fed
@@ -12,7 +12,7 @@ use Rattle.std.proofs.lemmas.Bool.Decides.{nat_tests}
 use Rattle.std.proofs.lemmas.Cmp.{on_total, nat_list_cmp_total}
 use lib.Pointwise.{pointwise, bytes_decides}
 use Rattle.fort_theory.specs.Patterns as theory
-use Rattle.fort_theory.specs.Patterns.{At, NoPattern, MorePatterns}
+use Rattle.fort_theory.specs.Patterns.{At, NoPattern, MorePatterns, pattern_count}
 use Rattle.fort_theory.specs.PatternCode.{spelled, all_spelled, first_one, first_many, read_back, pattern_again, patterns_again}
 use Rattle.fort_terms.specs.declared.sym.Sym.{Sym}
 use Rattle.fort_terms.specs.declared.pattern.Pattern.{Pattern}
@@ -20,7 +20,7 @@ use Rattle.fort_terms.specs.declared.pattern.Pattern.TheVariants.{Any, App}
 use Rattle.fort_terms.specs.declared.pattern.Patterns.{Patterns}
 use Rattle.fort_terms.specs.PatternView.{as_pattern, as_patterns}
 use Rattle.fort_terms.specs.Spellings.{DecideFirst, DecideFirst-nil, DecideFirst-cons, DecideFirst-less, DecideFirst-greater, DecideFirst-append, nat_cmp-suc}
-use Rattle.fort_terms.specs.PatternKeys.{pattern_eq, patterns_eq, pattern_order, patterns_order, pattern_count, pattern_hash, all_pattern_hashes, patterns_hash}
+use Rattle.fort_terms.specs.PatternKeys.{pattern_eq, patterns_eq, pattern_order, patterns_order, pattern_hash, all_pattern_hashes, patterns_hash}
 
 -- ---- the definitions' patterns
 
@@ -51,10 +51,10 @@ mutual
   patterns_eq-itself NoPattern = refl
   patterns_eq-itself (MorePatterns p ps) = rw (pattern_eq-itself p) (patterns_eq-itself ps)
 
-pub pattern_eq-Decides : (p q : theory.Pattern) → Decides (pattern_eq p q) (p ≡ q)
+pattern_eq-Decides : (p q : theory.Pattern) → Decides (pattern_eq p q) (p ≡ q)
 pattern_eq-Decides p q = (same_from_pattern_eq p q, λ e. subst (λ r. pattern_eq p r ≡ true) e (pattern_eq-itself p))
 
-pub patterns_eq-Decides : (ps qs : theory.Patterns) → Decides (patterns_eq ps qs) (ps ≡ qs)
+patterns_eq-Decides : (ps qs : theory.Patterns) → Decides (patterns_eq ps qs) (ps ≡ qs)
 patterns_eq-Decides ps qs = (same_from_patterns_eq ps qs, λ e. subst (λ rs. patterns_eq ps rs ≡ true) e (patterns_eq-itself ps))
 
 pub patterns_eq-equiv : IsEquivalence patterns_eq
@@ -94,7 +94,7 @@ mutual
 
 -- the order of patterns is that of their spellings
 mutual
-  pub pattern_order-spelled : (p q : theory.Pattern) → pattern_order p q ≡ slice_cmp nat_cmp (spelled p) (spelled q)
+  pattern_order-spelled : (p q : theory.Pattern) → pattern_order p q ≡ slice_cmp nat_cmp (spelled p) (spelled q)
   pattern_order-spelled theory.Any theory.Any = refl
   pattern_order-spelled theory.Any (At g qs) = ap (λ o. ordering_then o (slice_cmp nat_cmp [] (all_spelled qs))) (sym (Any-before g))
   pattern_order-spelled (At f ps) theory.Any = ap (λ o. ordering_then o (slice_cmp nat_cmp (all_spelled ps) [])) (sym (Any-behind f))
@@ -102,7 +102,7 @@ mutual
       ap (ordering_then (nat_cmp f g)) (patterns_order-spelled ps qs)
       ∙ ap (λ o. ordering_then o (slice_cmp nat_cmp (all_spelled ps) (all_spelled qs))) (nat_cmp-suc f g ∙ (nat_cmp-suc (suc f) (suc g) ∙ nat_cmp-suc (suc (suc f)) (suc (suc g))))
 
-  pub patterns_order-spelled : (ps qs : theory.Patterns) → patterns_order ps qs ≡ slice_cmp nat_cmp (all_spelled ps) (all_spelled qs)
+  patterns_order-spelled : (ps qs : theory.Patterns) → patterns_order ps qs ≡ slice_cmp nat_cmp (all_spelled ps) (all_spelled qs)
   patterns_order-spelled NoPattern NoPattern = refl
   patterns_order-spelled NoPattern (MorePatterns q qs) = refl
   patterns_order-spelled (MorePatterns p ps) NoPattern = refl
@@ -111,7 +111,7 @@ mutual
       ∙ (ap (ordering_then (slice_cmp nat_cmp (spelled p) (spelled q))) (patterns_order-spelled ps qs)
       ∙ sym ((spelled-DecideFirst p q).decide (all_spelled ps) (all_spelled qs)))
 
-pub pattern_order-total : IsTotalOrder pattern_order
+pattern_order-total : IsTotalOrder pattern_order
 pattern_order-total = subst IsTotalOrder (λ i p q. sym (pattern_order-spelled p q) i) (on_total spelled nat_list_cmp_total)
 
 pub patterns_order-total : IsTotalOrder patterns_order
@@ -141,10 +141,10 @@ patterns_eq-ties ps qs = one_answer (patterns_eq ps qs) (eq_by_cmp patterns_orde
 pub patterns_order-partial : IsPartialOrder patterns_eq (as_partial_cmp patterns_order)
 patterns_order-partial = partial_order_from_agreeing_total patterns_order patterns_order-total (λ ps qs. refl) patterns_eq-ties
 
-pub patterns_order-Equal : (ps qs : theory.Patterns) → patterns_order ps qs ≡ Equal ↔ ps ≡ qs
-patterns_order-Equal ps qs =
-    let equal = Equal-is (patterns_order ps qs) in
-    let same = patterns_order-Decides ps qs in (λ e. same.0 (equal.1 e), λ e. equal.0 (same.1 e))
+pub pattern_order-Equal : (p q : theory.Pattern) → pattern_order p q ≡ Equal ↔ p ≡ q
+pattern_order-Equal p q =
+    let equal = Equal-is (pattern_order p q) in
+    let same = pattern_order-Decides p q in (λ e. same.0 (equal.1 e), λ e. equal.0 (same.1 e))
 
 -- equal lists of patterns feed a hasher alike
 pub patterns_hash-respects_eq : (ps qs : theory.Patterns) → patterns_eq ps qs ≡ true → patterns_hash ps ≡ patterns_hash qs
@@ -162,7 +162,7 @@ as_pattern-injective (App f ps) (App g qs) e =
     ap (λ n. let h : Sym = record { 0 = n } in App h ps) same_symbol ∙ ap (λ (rs : Patterns). App g rs) same_args
 
 -- equal exactly where the patterns are equal
-pub Pattern_eq-Decides : (p q : Pattern) → Decides (on as_pattern pattern_eq p q) (p ≡ q)
+Pattern_eq-Decides : (p q : Pattern) → Decides (on as_pattern pattern_eq p q) (p ≡ q)
 Pattern_eq-Decides p q =
     let same = pattern_eq-Decides (as_pattern p) (as_pattern q) in (λ e. as_pattern-injective p q (same.0 e), λ e. same.1 (ap as_pattern e))
 
@@ -180,13 +180,6 @@ Pattern_eq-ties p q = pattern_eq-ties (as_pattern p) (as_pattern q)
 
 pub Pattern_order-partial : IsPartialOrder (on as_pattern pattern_eq) (as_partial_cmp (on as_pattern pattern_order))
 Pattern_order-partial = partial_order_from_agreeing_total (on as_pattern pattern_order) Pattern_order-total (λ p q. refl) Pattern_eq-ties
-
--- the order calls two patterns equal exactly where they are equal
-pub Pattern_order-Equal : (p q : Pattern) → pattern_order (as_pattern p) (as_pattern q) ≡ Equal ↔ p ≡ q
-Pattern_order-Equal p q =
-    let equal = Equal-is (pattern_order (as_pattern p) (as_pattern q)) in
-    let same = Pattern_eq-Decides p q in
-    (λ e. same.0 (Pattern_eq-ties p q ∙ equal.1 e), λ e. equal.0 (sym (Pattern_eq-ties p q) ∙ same.1 e))
 
 -- equal patterns feed a hasher alike
 pub Pattern_hash-respects_eq : (p q : Pattern) → on as_pattern pattern_eq p q ≡ true → pattern_hash (as_pattern p) ≡ pattern_hash (as_pattern q)

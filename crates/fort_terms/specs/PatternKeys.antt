@@ -1,10 +1,10 @@
 -- To believe: patterns are equal when both are Any or they have one symbol and equal arguments; Any comes before the other patterns, which are ordered by their symbols and then by their arguments from left to right, a list of arguments before those that it begins.
-use Rattle.std.specs.Prelude.{ℕ, suc, Bool, true, false, nat_eq, ◌&&◌, [], ◌++◌}
+use Rattle.std.specs.Prelude.{Bool, true, false, nat_eq, ◌&&◌, [], ◌++◌}
 use Rattle.std.specs.Hash as fed
 use Rattle.std.specs.declared.cmp.Ordering.{Ordering}
 use Rattle.std.specs.declared.cmp.Ordering.TheVariants.{Less, Equal, Greater}
 use Rattle.std.specs.Ordering.{nat_cmp, ordering_then}
-use Rattle.fort_theory.specs.Patterns.{Pattern, Patterns, Any, At, NoPattern, MorePatterns}
+use Rattle.fort_theory.specs.Patterns.{Pattern, Patterns, Any, At, NoPattern, MorePatterns, pattern_count}
 
 abbrev mutual
   pub pattern_eq : Pattern → Pattern → Bool
@@ -31,10 +31,6 @@ abbrev mutual
   patterns_order NoPattern (MorePatterns q qs) = Less
   patterns_order (MorePatterns p ps) NoPattern = Greater
   patterns_order (MorePatterns p ps) (MorePatterns q qs) = ordering_then (pattern_order p q) (patterns_order ps qs)
-
-abbrev pub pattern_count : Patterns → ℕ
-pattern_count NoPattern = 0
-pattern_count (MorePatterns p ps) = suc (pattern_count ps)
 
 -- what a hasher is fed: a 0 for Any, else a 1, the symbol, the number of arguments, each argument
 abbrev mutual

@@ -1,5 +1,8 @@
 -- To believe: which pattern of the definitions a pattern of the program is.
-use Rattle.std.specs.Prelude.{ℕ, suc, ◌+◌, List, [], ◌∷◌}
+use Rattle.std.specs.Prelude.{ℕ, suc, ◌+◌, List, [], ◌∷◌, map, vec_items}
+use Rattle.std.specs.declared.alloc.Global.{Global}
+use Rattle.std.specs.declared.vec.Vec.{Vec}
+use Rattle.fort_theory.specs.Signatures.{Signature}
 use Rattle.fort_theory.specs.Patterns as theory
 use Rattle.fort_terms.specs.declared.pattern.Pattern.{Pattern}
 use Rattle.fort_terms.specs.declared.pattern.Pattern.TheVariants.{Any, App}
@@ -15,6 +18,13 @@ as_patterns (p ∷ ps) = theory.MorePatterns (as_pattern p) (as_patterns ps)
 -- the two patterns of a rule
 abbrev pub as_pair : Pattern × Pattern → theory.Pattern × theory.Pattern
 as_pair pair = (as_pattern pair.0, as_pattern pair.1)
+
+-- the pairs of the rules of each index
+abbrev pub as_rules : List (Vec (Pattern × Pattern) Global) → List (List theory.Pair)
+as_rules lists = map (λ rules. map as_pair (vec_items rules)) lists
+
+abbrev pub as_system : Signature → List (Vec (Pattern × Pattern) Global) → theory.PatternSystem
+as_system signature lists = record { signature = signature; rules = as_rules lists }
 
 -- the number of nodes
 abbrev mutual

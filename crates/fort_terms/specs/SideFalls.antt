@@ -1,4 +1,4 @@
--- Nothing to believe: a measure of sides that falls from a list to its elements.
+-- Law: a measure of sides that falls from a list to its elements.
 use Rattle.std.specs.Prelude.{◌≤◌, List, [], ◌∷◌}
 use Rattle.std.proofs.Common.{arith}
 use Rattle.fort_terms.specs.declared.side.Side.{Side}

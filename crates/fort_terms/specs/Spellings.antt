@@ -1,4 +1,4 @@
--- Nothing to believe: lists of numbers of which none begins another are compared part by part.
+-- Law: lists of numbers of which none begins another are compared part by part.
 use Rattle.std.specs.Prelude.{◌≡◌, ℕ, suc, List, [], ◌∷◌, ◌++◌, refl}
 use Rattle.std.specs.declared.cmp.Ordering.{Ordering}
 use Rattle.std.specs.declared.cmp.Ordering.TheVariants.{Less, Equal, Greater}

@@ -1,11 +1,11 @@
--- Nothing to believe: the laws of the equality, the order and the hash of terms.
-use Rattle.std.specs.Prelude.{◌≡◌, ◌↔◌, ℕ, suc, Bool, true, nat_eq, ◌&&◌, List, [], ◌∷◌, ◌++◌, length, refl}
+-- Law: the laws of the equality, the order and the hash of terms.
+use Rattle.std.specs.Prelude.{◌≡◌, ℕ, suc, Bool, true, nat_eq, ◌&&◌, List, [], ◌∷◌, ◌++◌, length, refl}
 use Rattle.std.specs.Bool.{Decides, one_answer}
 use Rattle.std.specs.Hash as fed
 use Rattle.std.specs.List.{flat_map}
 use Rattle.std.specs.declared.cmp.Ordering.TheVariants.{Equal}
 use Rattle.std.specs.Ordering.{nat_cmp, ordering_then, eq_by_cmp, as_partial_cmp, is_eq}
-use Rattle.std.specs.Cmp.{IsPartialEquivalence, IsEquivalence, IsPartialOrder, IsTotalOrder, partial_equiv_from_equiv, partial_order_from_agreeing_total, Equal-is, decided, first_so, second_so}
+use Rattle.std.specs.Cmp.{IsPartialEquivalence, IsEquivalence, IsPartialOrder, IsTotalOrder, partial_equiv_from_equiv, partial_order_from_agreeing_total, decided, first_so, second_so}
 use Rattle.std.specs.Cmp.Lexicographic.{slice_cmp, texts_ties}
 use Rattle.std.proofs.Common.{ap, sym, ◌∙◌, subst, eq-eqb, eqb-true}
 use Rattle.std.proofs.lemmas.Cmp.{on_total, nat_list_cmp_total}
@@ -38,7 +38,7 @@ mutual
   trees_eq-itself Nil = refl
   trees_eq-itself (More t ts) = rw (tree_eq-itself t) (trees_eq-itself ts)
 
-pub tree_eq-Decides : (s t : Tree) → Decides (tree_eq s t) (s ≡ t)
+tree_eq-Decides : (s t : Tree) → Decides (tree_eq s t) (s ≡ t)
 tree_eq-Decides s t = (same_from_tree_eq s t, λ e. subst (λ u. tree_eq s u ≡ true) e (tree_eq-itself s))
 
 pub tree_eq-equiv : IsEquivalence tree_eq
@@ -48,13 +48,13 @@ pub tree_eq-partial_equiv : IsPartialEquivalence tree_eq
 tree_eq-partial_equiv = partial_equiv_from_equiv tree_eq-equiv
 
 -- the children, as a list or as the trees of a node
-pub kids_eq : (ts us : List Tree) → pointwise tree_eq ts us ≡ trees_eq (trees ts) (trees us)
+kids_eq : (ts us : List Tree) → pointwise tree_eq ts us ≡ trees_eq (trees ts) (trees us)
 kids_eq [] [] = refl
 kids_eq [] (u ∷ us) = refl
 kids_eq (t ∷ ts) [] = refl
 kids_eq (t ∷ ts) (u ∷ us) = ap (λ (b : Bool). tree_eq t u && b) (kids_eq ts us)
 
-pub kids_order : (ts us : List Tree) → slice_cmp tree_order ts us ≡ trees_order (trees ts) (trees us)
+kids_order : (ts us : List Tree) → slice_cmp tree_order ts us ≡ trees_order (trees ts) (trees us)
 kids_order [] [] = refl
 kids_order [] (u ∷ us) = refl
 kids_order (t ∷ ts) [] = refl
@@ -78,11 +78,11 @@ mutual
 
 -- the order of terms is that of their spellings
 mutual
-  pub tree_order-spelled : (s t : Tree) → tree_order s t ≡ slice_cmp nat_cmp (spelled s) (spelled t)
+  tree_order-spelled : (s t : Tree) → tree_order s t ≡ slice_cmp nat_cmp (spelled s) (spelled t)
   tree_order-spelled (Node f ts) (Node g us) =
       ap (ordering_then (nat_cmp f g)) (trees_order-spelled ts us) ∙ ap (λ o. ordering_then o (slice_cmp nat_cmp (all_spelled ts) (all_spelled us))) (nat_cmp-suc f g ∙ nat_cmp-suc (suc f) (suc g))
 
-  pub trees_order-spelled : (ts us : Trees) → trees_order ts us ≡ slice_cmp nat_cmp (all_spelled ts) (all_spelled us)
+  trees_order-spelled : (ts us : Trees) → trees_order ts us ≡ slice_cmp nat_cmp (all_spelled ts) (all_spelled us)
   trees_order-spelled Nil Nil = refl
   trees_order-spelled Nil (More u us) = refl
   trees_order-spelled (More t ts) Nil = refl
@@ -107,11 +107,6 @@ tree_eq-ties s t = one_answer (tree_eq s t) (eq_by_cmp tree_order s t) (tree_eq-
 
 pub tree_order-partial : IsPartialOrder tree_eq (as_partial_cmp tree_order)
 tree_order-partial = partial_order_from_agreeing_total tree_order tree_order-total (λ s t. refl) tree_eq-ties
-
-pub tree_order-Equal : (s t : Tree) → tree_order s t ≡ Equal ↔ s ≡ t
-tree_order-Equal s t =
-    let equal = Equal-is (tree_order s t) in
-    let same = tree_order-Decides s t in (λ e. same.0 (equal.1 e), λ e. equal.0 (same.1 e))
 
 -- equal terms feed a hasher alike
 pub tree_hash-respects_eq : (s t : Tree) → tree_eq s t ≡ true → tree_hash s ≡ tree_hash t

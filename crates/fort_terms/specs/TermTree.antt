@@ -1,4 +1,4 @@
--- Nothing to believe: a measure of trees that falls from a node to its children.
+-- Law: a measure of trees that falls from a node to its children.
 use Rattle.std.specs.Prelude.{ℕ, suc, ◌+◌, ◌≤◌, List, [], ◌∷◌}
 use Rattle.std.proofs.Common.{arith}
 use Rattle.fort_theory.specs.Trees.{Tree, Trees, Node, Nil, More, trees}

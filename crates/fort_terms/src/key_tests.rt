@@ -1,3 +1,4 @@
+//! Terms and patterns as keys of maps and sets.
 ghost use Rattle.std.specs.Prelude.{◌≡◌, IfOk};
 ghost use Rattle.fort_theory.specs.Trees.{Node, Nil, More};
 

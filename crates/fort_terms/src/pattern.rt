@@ -1,11 +1,15 @@
-ghost use Rattle.std.specs.Prelude.{◌≡◌, ◌↔◌, IfOk, IsTrue};
+//! Patterns: sides of rules without the names of their variables.
+ghost use Rattle.std.specs.Prelude.{◌≡◌, ◌↔◌, IfOk, IsTrue, OnOk, map};
 ghost use Rattle.fort_theory.specs.Patterns.{IsInstance};
+ghost use Rattle.fort_theory.specs.PatternOrder.{subpatterns};
 ghost use Rattle.fort_terms.specs.PatternView.{as_pattern, as_patterns};
+ghost use Rattle.fort_terms.specs.Subpatterns.{HasMore};
 
 use crate::sym::Sym;
 use crate::term::Term;
 use std::alloc::{AllocError, Global};
 use std::cmp::Ordering;
+use std::collections::BTreeSet;
 use std::hash::{Hash, Hasher};
 use std::marker::Model;
 
@@ -104,6 +108,27 @@ impl Pattern {
                 Ok(Pattern::App(*sym, Patterns::new(copies)))
             }
         }
+    }
+
+    /// Adds the pattern itself and the patterns within its arguments.
+    pub(crate) fn insert_subpatterns(
+        &self,
+        alloc: Global,
+        found: &mut BTreeSet<Pattern>,
+    ) -> Result<(), AllocError>
+        ensures { OnOk result (HasMore (subpatterns (as_pattern self.now))
+            (map as_pattern found.old.keys) (map as_pattern found.new.keys)) }
+    {
+        found.insert(self.copy(alloc)?)?;
+        match self {
+            Pattern::Any => {}
+            Pattern::App(_, args) => {
+                for arg in &args.items {
+                    arg.insert_subpatterns(alloc, found)?;
+                }
+            }
+        }
+        Ok(())
     }
 }
 

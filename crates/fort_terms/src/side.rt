@@ -1,3 +1,4 @@
+//! Sides of rules, with their variables.
 ghost use Rattle.std.specs.Prelude.{◌≡◌, ◌++◌, IfOk, OnOk};
 ghost use Rattle.fort_theory.specs.Patterns.{pattern_of};
 ghost use Rattle.fort_theory.specs.Sides.{variables};

@@ -1,24 +1,32 @@
-ghost use Rattle.std.specs.Prelude.{◌≡◌, ℕ, ◌<◌, [], ◌∷◌, ◌++◌, length, map, OnOk, OnErr, IfOk, IsErrOf};
-ghost use Rattle.fort_theory.specs.Signatures.{HasConstant};
-ghost use Rattle.fort_theory.specs.Sides.{FitsSide, IsLinear, IsLinearSeparated, variables};
-ghost use Rattle.fort_theory.specs.Patterns.{pattern_of};
-ghost use Rattle.fort_terms.specs.PatternView.{as_pair};
+//! Systems of rules, each rule under an index, as pairs of patterns.
+ghost use Rattle.std.specs.Prelude.{◌≡◌, ℕ, ◌<◌, ◌≤◌, ◌*◌, ◌++◌, length, map, OnOk, OnErr, IfOk, IsErrOf};
+ghost use Rattle.std.specs.List.Sorted.{IsStrictlySortedBy};
+ghost use Rattle.std.specs.Ordering.{on};
+ghost use Rattle.fort_theory.specs.Signatures.{most_indices, HasConstant};
+ghost use Rattle.fort_theory.specs.Sides.{at_index, pushed_at, empty_lists, count_all, IsIndexOf, FitsSide, IsLinear, IsLinearSeparated, variables};
+ghost use Rattle.fort_theory.specs.Patterns.{pattern_of, IsSystem};
+ghost use Rattle.fort_theory.specs.PatternOrder.{AreSubpatternsInOrder};
+ghost use Rattle.fort_terms.specs.BothWays.{both_ways, exchanged};
+ghost use Rattle.fort_terms.specs.Limits.{most_system_rules};
+ghost use Rattle.fort_terms.specs.PatternKeys.{pattern_order};
+ghost use Rattle.fort_terms.specs.PatternView.{as_pair, as_pattern};
 ghost use Rattle.fort_terms.specs.RuleFaults.{IsFirstRepeated, IsFirstShared};
 ghost use Rattle.fort_terms.specs.RuleSteps.{HasItsSteps};
 ghost use Rattle.fort_terms.specs.SideView.{as_side};
 
-use crate::occurrences::{first_repeated, first_shared};
+use crate::occurrences::{Overlap, first_overlap};
 use crate::pattern::Pattern;
 use crate::side::Side;
 use crate::signature::Signature;
-use std::alloc::{AllocError, Global};
+use std::alloc::{AllocError, AllocFailed, Global};
+use std::collections::BTreeSet;
 use std::marker::Model;
 
-/// A signature with a constant, and rules over it as pairs of patterns.
+/// A signature with a constant, and for each index the rules over it, as pairs of patterns.
 #[derive(Drop)]
 pub struct System {
     signature: Signature,
-    rules: Vec<(Pattern, Pattern)>,
+    rules: Vec<Vec<(Pattern, Pattern)>>,
 }
 
 /// Why a rule wasn't pushed.
@@ -45,48 +53,61 @@ impl From<AllocError> for RuleFault {
     }
 }
 
+impl<T: Drop> From<AllocFailed<T>> for RuleFault {
+    ghost use Rattle.std.specs.Prelude.{◌≡◌};
+    ghost use Rattle.fort_terms.specs.declared.system.RuleFault.TheVariants.{Memory};
+
+    ghost from_gives = { λ _ r. r ≡ Memory };
+
+    fn from(_e: AllocFailed<T>) -> RuleFault {
+        RuleFault::Memory
+    }
+}
+
 impl Model for System {
-    ghost use Rattle.std.specs.Prelude.{map};
-    ghost use Rattle.fort_theory.specs.Signatures.{HasConstant};
-    ghost use Rattle.fort_theory.specs.Patterns.{PatternSystem};
+    ghost use Rattle.fort_theory.specs.Patterns.{PatternSystem, IsSystem};
     ghost use Rattle.fort_theory.specs.PatternCode.{system_code};
 
     ghost Value = { PatternSystem };
 
     ghost coded = { system_code };
 
-    ghost use Rattle.fort_terms.specs.PatternView.{as_pair};
+    ghost use Rattle.fort_terms.specs.PatternView.{as_system};
 
-    ghost view = { λ a. record { signature = a.signature; rules = map as_pair a.rules.items } };
+    ghost view = { λ a. as_system a.signature a.rules.items };
 
-    ghost invariant = { λ a. HasConstant a.signature };
+    ghost invariant = { λ a. IsSystem (as_system a.signature a.rules.items) };
 }
 
 impl System {
-    /// No rules over this signature.
-    pub fn new(alloc: Global, signature: Signature) -> Result<System, AllocError>
-        requires { HasConstant signature }
+    /// A system without rules, of this number of indices.
+    pub fn new(alloc: Global, signature: Signature, number: u32) -> Result<System, AllocError>
+        requires constant { HasConstant signature }
+        requires some { 1 ≤ number }
+        requires few { number ≤ most_indices }
         ensures signature { IfOk result (λ s. s.signature ≡ signature) }
-        ensures rules { IfOk result (λ s. s.rules ≡ []) }
+        ensures rules { IfOk result (λ s. s.rules ≡ empty_lists number) }
     {
-        Ok(System {
-            signature,
-            rules: Vec::new(alloc),
-        })
+        let mut rules = Vec::new(alloc);
+        for i in 0..number {
+            rules.push(Vec::new(alloc))?;
+        }
+        Ok(System { signature, rules })
     }
 
-    /// Adds a rule after those that are there. One that isn't linear and variable-separated is refused, by the
-    /// first reason that it has, in their order; want of memory may come before any of them.
-    #[tactic(auto, using(crate::proofs::RuleSteps::patterns_have_steps))]
-    pub fn push(&mut self, left: &Side, right: &Side) -> Result<(), RuleFault>
-        requires few { length self.old.rules < 8192 }
+    /// Adds a rule at the end of those of an index. One that isn't linear and variable-separated is
+    /// refused by the first reason that it has, in their order, unless memory is wanted first.
+    pub fn push(&mut self, index: u32, left: &Side, right: &Side) -> Result<(), RuleFault>
+        requires few { count_all self.old.rules < most_system_rules }
+        requires index { IsIndexOf self.old.rules index }
         requires left_fits { FitsSide self.old.signature (as_side left.now) }
         requires right_fits { FitsSide self.old.signature (as_side right.now) }
-        ensures ok { OnOk result (self.new.rules ≡
-            self.old.rules ++ (pattern_of (as_side left.now), pattern_of (as_side right.now)) ∷ []) }
+        ensures ok { OnOk result (self.new.rules ≡ pushed_at index
+            (pattern_of (as_side left.now), pattern_of (as_side right.now)) self.old.rules) }
         ensures separated { OnOk result (IsLinearSeparated
             (record { left = as_side left.now; right = as_side right.now })) }
-        ensures root_steps { OnOk result (HasItsSteps self.old.signature (record { left = as_side left.now; right = as_side right.now })
+        ensures root_steps { OnOk result (HasItsSteps self.old.signature
+            (record { left = as_side left.now; right = as_side right.now })
             (pattern_of (as_side left.now), pattern_of (as_side right.now))) }
         ensures left_repeats { (v : ℕ) → IsErrOf result (RuleFault.LeftRepeats v) →
             IsFirstRepeated (variables (as_side left.now)) v }
@@ -99,51 +120,121 @@ impl System {
         ensures err { OnErr result (self.new ≡ self.old) }
     {
         let alloc = *self.rules.allocator();
-        check_separated(alloc, left, right)?;
-        let rule = (left.pattern(alloc)?, right.pattern(alloc)?);
-        match self.rules.push(rule) {
-            Ok(()) => Ok(()),
-            Err(_) => Err(RuleFault::Memory),
+        let left_variables = left.variables(alloc)?;
+        let right_variables = right.variables(alloc)?;
+        match first_overlap(&left_variables, &right_variables) {
+            Some(Overlap::InLeft(variable)) => return Err(RuleFault::LeftRepeats(variable)),
+            Some(Overlap::InRight(variable)) => return Err(RuleFault::RightRepeats(variable)),
+            Some(Overlap::Between(variable)) => return Err(RuleFault::Shares(variable)),
+            None => {}
         }
+        let rule = (left.pattern(alloc)?, right.pattern(alloc)?);
+        self.rules[index as usize - 1].push(rule)?;
+        Ok(())
     }
 
-    /// Its signature.
+    /// The number of indices.
+    pub fn number(&self) -> u32
+        ensures count { result ≡ length self.now.rules }
+        ensures lawful { IsSystem self.now }
+    {
+        self.rules.len() as u32
+    }
+
     pub fn signature(&self) -> &Signature
-        ensures { result.now ≡ self.now.signature }
+        ensures same { result.now ≡ self.now.signature }
+        ensures lawful { IsSystem self.now }
     {
         &self.signature
     }
 
-    /// The pairs of patterns of its rules, in order.
-    pub fn rules(&self) -> &[(Pattern, Pattern)]
-        ensures { map as_pair result.now ≡ self.now.rules }
+    /// The pairs of patterns of an index's rules, in order.
+    pub fn rules(&self, index: u32) -> &[(Pattern, Pattern)]
+        requires { IsIndexOf self.now.rules index }
+        ensures pairs { map as_pair result.now ≡ at_index index self.now.rules }
+        ensures lawful { IsSystem self.now }
     {
-        self.rules.as_slice()
+        &self.rules[index as usize - 1]
+    }
+
+    /// The patterns that stand within the left sides of an index's rules.
+    pub fn left_patterns(&self, alloc: Global, index: u32) -> Result<Vec<Pattern>, AllocError>
+        requires { IsIndexOf self.now.rules index }
+        ensures { IfOk result (λ ps. AreSubpatternsInOrder
+            (map (λ pair. pair.0) (at_index index self.now.rules)) (map as_pattern ps.items)) }
+    {
+        let mut found = BTreeSet::new(alloc);
+        for rule in self.rules(index) {
+            rule.0.insert_subpatterns(alloc, &mut found)?;
+        }
+        in_order(alloc, found)
+    }
+
+    /// The patterns that stand within the right sides of an index's rules.
+    pub fn right_patterns(&self, alloc: Global, index: u32) -> Result<Vec<Pattern>, AllocError>
+        requires { IsIndexOf self.now.rules index }
+        ensures { IfOk result (λ ps. AreSubpatternsInOrder
+            (map (λ pair. pair.1) (at_index index self.now.rules)) (map as_pattern ps.items)) }
+    {
+        let mut found = BTreeSet::new(alloc);
+        for rule in self.rules(index) {
+            rule.1.insert_subpatterns(alloc, &mut found)?;
+        }
+        in_order(alloc, found)
+    }
+
+    /// A system of one index: the rules of an index, and then each of them from right to left.
+    pub fn both_ways(&self, alloc: Global, index: u32) -> Result<System, AllocError>
+        requires index { IsIndexOf self.now.rules index }
+        requires few { 2 * length (at_index index self.now.rules) ≤ most_system_rules }
+        ensures { IfOk result (λ s. s ≡ both_ways self.now index) }
+    {
+        let mut rules = Vec::new(alloc);
+        push_copies(alloc, self.rules(index), &mut rules)?;
+        push_exchanged(alloc, self.rules(index), &mut rules)?;
+        Ok(System {
+            signature: self.signature().copy(alloc)?,
+            rules: vec![in alloc; rules]?,
+        })
     }
 }
 
-/// Whether a rule is linear and variable-separated.
-fn check_separated(alloc: Global, left: &Side, right: &Side) -> Result<(), RuleFault>
-    ensures separated { OnOk result (IsLinearSeparated
-        (record { left = as_side left.now; right = as_side right.now })) }
-    ensures left_repeats { (v : ℕ) → IsErrOf result (RuleFault.LeftRepeats v) →
-        IsFirstRepeated (variables (as_side left.now)) v }
-    ensures right_repeats { (v : ℕ) → IsErrOf result (RuleFault.RightRepeats v) →
-        IsLinear (as_side left.now) × IsFirstRepeated (variables (as_side right.now)) v }
-    ensures shares { (v : ℕ) → IsErrOf result (RuleFault.Shares v) →
-        IsLinear (as_side left.now) × IsLinear (as_side right.now) ×
-        IsFirstShared (variables (as_side left.now)) (variables (as_side right.now)) v }
+fn push_copies(
+    alloc: Global,
+    rules: &[(Pattern, Pattern)],
+    all: &mut Vec<(Pattern, Pattern)>,
+) -> Result<(), AllocError>
+    ensures { OnOk result (map as_pair all.new.items ≡
+        map as_pair all.old.items ++ map as_pair rules.now) }
 {
-    let left = left.variables(alloc)?;
-    if let Some(variable) = first_repeated(&left) {
-        return Err(RuleFault::LeftRepeats(variable));
+    for (left, right) in rules {
+        all.push((left.copy(alloc)?, right.copy(alloc)?))?;
     }
-    let right = right.variables(alloc)?;
-    if let Some(variable) = first_repeated(&right) {
-        return Err(RuleFault::RightRepeats(variable));
+    Ok(())
+}
+
+fn push_exchanged(
+    alloc: Global,
+    rules: &[(Pattern, Pattern)],
+    all: &mut Vec<(Pattern, Pattern)>,
+) -> Result<(), AllocError>
+    ensures { OnOk result (map as_pair all.new.items ≡
+        map as_pair all.old.items ++ map exchanged (map as_pair rules.now)) }
+{
+    for (left, right) in rules {
+        all.push((right.copy(alloc)?, left.copy(alloc)?))?;
     }
-    match first_shared(&left, &right) {
-        Some(variable) => Err(RuleFault::Shares(variable)),
-        None => Ok(()),
+    Ok(())
+}
+
+/// The patterns of a set as a list.
+fn in_order(alloc: Global, found: BTreeSet<Pattern>) -> Result<Vec<Pattern>, AllocError>
+    ensures patterns { IfOk result (λ ps. ps.items ≡ found.keys) }
+    ensures ordered { IsStrictlySortedBy (on as_pattern pattern_order) found.keys }
+{
+    let mut patterns = Vec::with_capacity(alloc, found.len())?;
+    for pattern in found {
+        patterns.push(pattern)?;
     }
+    Ok(patterns)
 }

@@ -1,3 +1,4 @@
+//! Ground terms, with an equality, an order and a hash.
 ghost use Rattle.std.specs.Prelude.{◌≡◌, ◌<◌, ◌^◌, ◌↔◌, IfOk, IsTrue};
 ghost use Rattle.fort_theory.specs.Trees.{height};
 

@@ -1,5 +1,7 @@
+//! Signatures, sides, and systems with rules by index.
 ghost use Rattle.std.specs.Prelude.{◌≡◌, [], ◌∷◌, IfOk, codes, slice_index};
 ghost use Rattle.fort_theory.specs.Signatures.{symbol};
+ghost use Rattle.fort_theory.specs.Patterns as patterns;
 ghost use Rattle.fort_theory.specs.Sides as theory;
 ghost use Rattle.fort_terms.specs.SideView.{as_side};
 
@@ -61,6 +63,25 @@ fn symbols_added(rt: HostRuntime) {
     assert!(rt; !signature.has_constant());
     assert_eq!(rt; signature.add(b"c", 0), Ok(Sym(2)));
     assert!(rt; signature.has_constant());
+}
+
+#[test]
+fn signature_copied(rt: HostRuntime) -> Result<(), Fail> {
+    let alloc = rt.alloc();
+    let copy = four_symbols(alloc)?.copy(alloc)?;
+    assert_eq!(rt; copy.len(), 4);
+    for (number, name, arity) in [
+        (0, b"f".as_slice(), 2),
+        (1, b"ff".as_slice(), 1),
+        (2, b"c".as_slice(), 0),
+        (3, b"d".as_slice(), 0),
+    ] {
+        assert!(rt; (number as usize) < copy.len());
+        assert_eq!(rt; copy.name(Sym(number)), name);
+        assert_eq!(rt; copy.arity(Sym(number)), arity);
+        assert_eq!(rt; copy.find(name), Some(Sym(number)));
+    }
+    Ok(())
 }
 
 /// The constant of this number.
@@ -125,28 +146,67 @@ fn variables_from_left_to_right(rt: HostRuntime) -> Result<(), Fail> {
     Ok(())
 }
 
+/// The rule a -> f(a) at index 1, and a -> b at index 2.
+fn two_indices(alloc: Global) -> Result<System, Fail>
+    ensures { let a = patterns.At 0 patterns.NoPattern in
+        let b = patterns.At 1 patterns.NoPattern in
+        let f_of_a = patterns.At 2 (patterns.MorePatterns a patterns.NoPattern) in
+        IfOk result (λ s. s.rules ≡ ((a, f_of_a) ∷ []) ∷ ((a, b) ∷ []) ∷ []) }
+{
+    let mut signature = Signature::empty(alloc);
+    signature.add(b"a", 0)?;
+    signature.add(b"b", 0)?;
+    signature.add(b"f", 1)?;
+    let mut system = System::new(alloc, signature, 2)?;
+    let f_of_a = Side::App(Sym(2), Sides::new(vec![in alloc; constant(alloc, 0)]?));
+    system.push(2, &constant(alloc, 0), &constant(alloc, 1))?;
+    system.push(1, &constant(alloc, 0), &f_of_a)?;
+    Ok(system)
+}
+
 #[test]
-fn rules_between_constants(rt: HostRuntime) -> Result<(), Fail> {
+fn rules_by_index(rt: HostRuntime) -> Result<(), Fail> {
+    let system = two_indices(rt.alloc())?;
+    assert_eq!(rt; system.number(), 2);
+    assert_eq!(rt; system.signature().find(b"f"), Some(Sym(2)));
+    let [(a, Pattern::App(f, args))] = system.rules(1) else {
+        return Err(Fail::from("other rules of index 1"));
+    };
+    assert!(rt; is_constant(a, 0) && *f == Sym(2) && args.as_slice().len() == 1);
+    let [(a, b)] = system.rules(2) else {
+        return Err(Fail::from("other rules of index 2"));
+    };
+    assert!(rt; is_constant(a, 0) && is_constant(b, 1));
+    Ok(())
+}
+
+fn constant_pattern(alloc: Global, number: u16) -> Pattern {
+    Pattern::App(Sym(number), Patterns::new(Vec::new(alloc)))
+}
+
+#[test]
+fn patterns_within_sides(rt: HostRuntime) -> Result<(), Fail> {
     let alloc = rt.alloc();
-    let signature = four_symbols(alloc)?;
-    assert!(rt; signature.has_constant());
-    let mut system = System::new(alloc, signature)?;
-    assert_eq!(rt; system.rules().len(), 0);
-    assert_eq!(rt;
-        system.push(&constant(alloc, 2), &constant(alloc, 3)),
-        Ok(())
-    );
-    assert_eq!(rt;
-        system.push(&constant(alloc, 3), &constant(alloc, 3)),
-        Ok(())
-    );
-    let [(c, d), (d_again, d_still)] = system.rules() else {
+    let system = two_indices(alloc)?;
+    let a = constant_pattern(alloc, 0);
+    let f_of_a = Pattern::App(Sym(2), Patterns::new(vec![in alloc; a.copy(alloc)?]?));
+    let right = vec![in alloc; a.copy(alloc)?, f_of_a]?;
+    assert!(rt; system.right_patterns(alloc, 1)? == right);
+    assert!(rt; system.left_patterns(alloc, 1)? == vec![in alloc; a]?);
+    Ok(())
+}
+
+#[test]
+fn rules_both_ways(rt: HostRuntime) -> Result<(), Fail> {
+    let alloc = rt.alloc();
+    let both = two_indices(alloc)?.both_ways(alloc, 2)?;
+    assert_eq!(rt; both.number(), 1);
+    assert_eq!(rt; both.signature().len(), 3);
+    let [(a, b), (b_behind, a_behind)] = both.rules(1) else {
         return Err(Fail::from("other rules"));
     };
-    assert!(rt; is_constant(c, 2) && is_constant(d, 3));
-    assert!(rt; is_constant(d_again, 3) && is_constant(d_still, 3));
-    assert_eq!(rt; system.signature().len(), 4);
-    assert_eq!(rt; system.signature().find(b"d"), Some(Sym(3)));
+    assert!(rt; is_constant(a, 0) && is_constant(b, 1));
+    assert!(rt; is_constant(b_behind, 1) && is_constant(a_behind, 0));
     Ok(())
 }
 
@@ -159,9 +219,9 @@ fn answer_to(
 ) -> Result<Result<(), RuleFault>, Fail> {
     let signature = four_symbols(alloc)?;
     assert!(rt; signature.has_constant());
-    let mut system = System::new(alloc, signature)?;
-    let answer = system.push(&pair(alloc, left)?, &pair(alloc, right)?);
-    assert_eq!(rt; system.rules().len() == 1, answer.is_ok());
+    let mut system = System::new(alloc, signature, 1)?;
+    let answer = system.push(1, &pair(alloc, left)?, &pair(alloc, right)?);
+    assert_eq!(rt; system.rules(1).len() == 1, answer.is_ok());
     Ok(answer)
 }
 

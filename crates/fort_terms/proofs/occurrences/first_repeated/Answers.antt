@@ -1,5 +1,5 @@
 use Rattle.std.proofs.lemmas.Bool.{both_ways}
-use Rattle.fort_terms.proofs.RuleFaultLaws.{IsDistinct-nil, IsFirstRepeated-at, IsDistinct-take_more, contains-decides}
+use Rattle.fort_terms.proofs.RuleFaultsLaws.{IsDistinct-nil, IsFirstRepeated-at, IsDistinct-take_more, contains-decides}
 use Rattle.fort_terms.proofs.occurrences.first_repeated.Goals as goal
 
 pub loop-i-init : goal.loop-i-init

@@ -1,7 +1,7 @@
 use Rattle.std.proofs.Common.{◌≡◌, take}
 use Rattle.std.proofs.lemmas.Bool.{both_ways}
 use Rattle.std.proofs.lemmas.List.{take_all}
-use Rattle.fort_terms.proofs.RuleFaultLaws.{IsFirstShared-at, apart-take_more, contains-decides}
+use Rattle.fort_terms.proofs.RuleFaultsLaws.{IsFirstShared-at, apart-take_more, contains-decides}
 use Rattle.fort_terms.proofs.occurrences.first_shared.Goals as goal
 
 pub returns-then-contains-clause-shared : goal.returns-then-contains-clause-shared

@@ -3,7 +3,7 @@ use Rattle.std.proofs.lemmas.List.{take_all}
 use Rattle.fort_theory.specs.Patterns.{pattern_of, At}
 use Rattle.fort_terms.specs.PatternView.{as_pattern}
 use Rattle.fort_terms.specs.SideView.{as_side}
-use Rattle.fort_terms.proofs.Views.{as_patterns-from_map}
+use Rattle.fort_terms.proofs.PatternViewLaws.{as_patterns-from_map}
 use Rattle.fort_terms.proofs.side.Side.+pattern.Goals as goal
 
 pub returns-after-loop-arg : goal.returns-after-loop-arg
