@@ -1,12 +1,13 @@
 -- From the tokens of a text to its formula or its first fault.
-use Rattle.std.proofs.Common.{◌≡◌, ℕ, ◌<◌, ◌≤◌, List, [], length, Result, Ok, Err, IfErr, IfSome, drop, refl, ap, subst, arith}
+use Rattle.std.proofs.Common.{◌≡◌, ℕ, ◌^◌, ◌<◌, ◌≤◌, List, [], length, Result, Ok, Err, IfErr, IfSome, drop, refl, ap, subst, arith}
 use Rattle.std.proofs.lemmas.List.{length-drop, length-map}
-use Rattle.fort_theory.specs.Formulas as theory
-use Rattle.fort_grammar.specs.TokenText.{AreTokensOf}
-use Rattle.fort_grammar.specs.FormulaGrammar.{IsFormula}
-use Rattle.fort_grammar.specs.FormulaText as fault
-use Rattle.fort_grammar.specs.FormulaText.{most_tokens, AreShallow, IsFirstFormulaFault, Long, Deep, NoFormula, OpensTooMany}
-use Rattle.fort_grammar.proofs.FormulaUnique.{formula-unique}
+use Rattle.fort_logic.specs.Formulas as theory
+use Rattle.fort_formula_grammar.specs.TokenText.{AreTokensOf}
+use Rattle.fort_formula_grammar.specs.FormulaGrammar.{IsFormula}
+use Rattle.fort_formula_grammar.specs.FormulaText as fault
+use Rattle.fort_formula_grammar.specs.FormulaText.{most_tokens, AreShallow, IsFirstFormulaFault, Long, Deep, NoFormula, OpensTooMany}
+use Rattle.fort_formula_grammar.proofs.FormulaUnique.{formula-unique}
+use Rattle.fort_formulas.specs.NumbersNeeded.{numbers_needed}
 use Rattle.fort_formula_parser.specs.declared.fault.FFault.{FFault}
 use Rattle.fort_formula_parser.specs.declared.fault.FFault.TheVariants.{Memory, BadByte, TooLong, TooDeep, Syntax}
 use Rattle.fort_formula_parser.specs.declared.token.Lexeme.{Lexeme}
@@ -14,6 +15,7 @@ use Rattle.fort_formula_parser.specs.declared.parsed.Parsed.{Parsed}
 use Rattle.fort_formula_parser.specs.Faults.{as_formula_fault}
 use Rattle.fort_formula_parser.specs.TokenView.{as_token, tokens_of}
 use Rattle.fort_formula_parser.specs.Parsing.{rest_of, IsParsed, IsSyntaxWhere, IsWholeFormula}
+use Rattle.fort_formula_parser.proofs.FewNumbers.{IsFormula-few}
 
 tokens_of-length : (lexemes : List Lexeme) → length (tokens_of lexemes) ≡ length lexemes
 tokens_of-length lexemes = length-map lexemes (λ l. as_token l.token)
@@ -52,3 +54,8 @@ pub no_formula_of : {T : Type 0} (text : List ℕ) (lexemes one two : List Lexem
 no_formula_of text lexemes one two r p q read le shallow h =
     no_formula text lexemes r read le (subst (λ xs. AreShallow (tokens_of xs)) p shallow)
     (subst (λ xs. IfErr r (IsSyntaxWhere ((f : theory.Formula) → IsFormula (tokens_of xs) f [] → ⊥))) q h)
+
+-- the formula that these tokens are needs few numbers
+pub few_numbers : (lexemes : List Lexeme) (f : theory.Formula) → IsFormula (tokens_of lexemes) f [] → length lexemes ≤ most_tokens
+    → numbers_needed f < 2 ^ 32
+few_numbers lexemes f whole le = let size = tokens_of-length lexemes in IsFormula-few (tokens_of lexemes) f whole (omega (arith, size, le))

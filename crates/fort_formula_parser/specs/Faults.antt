@@ -1,6 +1,6 @@
 -- To believe: which fault of the definitions a fault of the program is. Want of memory is none.
 use Rattle.std.specs.Prelude.{Option, None, Some}
-use Rattle.fort_grammar.specs.FormulaText as grammar
+use Rattle.fort_formula_grammar.specs.FormulaText as grammar
 use Rattle.fort_formula_parser.specs.declared.fault.FFault.{FFault}
 use Rattle.fort_formula_parser.specs.declared.fault.FFault.TheVariants.{Memory, BadByte, TooLong, TooDeep, Syntax}
 

@@ -1,11 +1,11 @@
--- Nothing to believe: what reading a part of the tokens gives, seen by the relations of the grammar.
+-- Inside: what reading a part of the tokens gives, seen by the relations of the grammar.
 use Rattle.std.specs.Prelude.{◌≡◌, ℕ, ◌+◌, ◌<◌, ◌≤◌, false, List, ◌∷◌, length, drop}
-use Rattle.fort_theory.specs.Formulas as theory
-use Rattle.fort_theory.specs.Formulas.{Formula}
-use Rattle.fort_grammar.specs.Tokens.{Token, Open, Close}
-use Rattle.fort_grammar.specs.FormulaGrammar as grammar
-use Rattle.fort_grammar.specs.FormulaGrammar.{IsFormula, IsImplication, IsDisjunction, IsConjunction}
-use Rattle.fort_grammar.specs.Continuations.{continues_formula, continues_implication, continues_disjunction, continues_conjunction}
+use Rattle.fort_logic.specs.Formulas as theory
+use Rattle.fort_logic.specs.Formulas.{Formula}
+use Rattle.fort_formula_grammar.specs.Tokens.{Token, Open, Close}
+use Rattle.fort_formula_grammar.specs.FormulaGrammar as grammar
+use Rattle.fort_formula_grammar.specs.FormulaGrammar.{IsFormula, IsImplication, IsDisjunction, IsConjunction}
+use Rattle.fort_formula_grammar.specs.Continuations.{continues_formula, continues_implication, continues_disjunction, continues_conjunction}
 use Rattle.fort_formulas.specs.FormulaView.{as_formula}
 use Rattle.fort_formula_parser.specs.declared.fault.FFault.{FFault}
 use Rattle.fort_formula_parser.specs.declared.fault.FFault.TheVariants.{Memory, BadByte, TooLong, TooDeep, Syntax}
@@ -22,7 +22,7 @@ abbrev pub rest_of : List Lexeme → ℕ → List Token
 rest_of lexemes at = drop at (tokens_of lexemes)
 
 -- the token stands at the place
-pub record IsNext (lexemes : List Lexeme) (at : ℕ) (token : Token) : Type 0 where
+pub record IsTokenAt (lexemes : List Lexeme) (at : ℕ) (token : Token) : Type 0 where
   pub within : at < length lexemes
   pub next : rest_of lexemes at ≡ token ∷ rest_of lexemes (at + 1)
 
@@ -33,7 +33,7 @@ pub record IsParsed (kind : List Token → Formula → List Token → Type 0) (l
   pub reads : kind (rest_of lexemes at) (as_formula parsed.formula) (rest_of lexemes parsed.next)
 
 -- the formula that was made, and where its tokens end
-pub record IsBuilt (f : Formula) (next : ℕ) (parsed : Parsed) : Type 0 where
+pub record IsReadAs (f : Formula) (next : ℕ) (parsed : Parsed) : Type 0 where
   pub formula : as_formula parsed.formula ≡ f
   pub place : parsed.next ≡ next
 

@@ -1,7 +1,7 @@
--- Nothing to believe: when the tokens of a text stand where their offsets say.
+-- Inside: when the tokens of a text stand where their offsets say.
 use Rattle.std.specs.Prelude.{ℕ, ◌<◌, List, length, take, drop, slice_index_or}
-use Rattle.fort_grammar.specs.Tokens as grammar
-use Rattle.fort_grammar.specs.TokenText.{BeginsWithToken, Reads}
+use Rattle.fort_formula_grammar.specs.Tokens as grammar
+use Rattle.fort_formula_grammar.specs.TokenText.{BeginsWithToken, Reads}
 use Rattle.fort_formula_parser.specs.declared.token.Lexeme.{Lexeme}
 use Rattle.fort_formula_parser.specs.TokenView.{as_token, tokens_of}
 

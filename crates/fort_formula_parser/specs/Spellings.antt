@@ -1,9 +1,9 @@
--- Nothing to believe: tables of texts with their tokens, and which of them begins a text.
+-- Inside: tables of texts with their tokens, and which of them begins a text.
 use Rattle.std.specs.Prelude.{◌≡◌, ℕ, ◌<◌, ◌≤◌, List, [], ◌++◌, length, map, drop, slice_index_or}
-use Rattle.fort_grammar.specs.Tokens as grammar
-use Rattle.fort_grammar.specs.Tokens.{token_text, IsToken}
-use Rattle.fort_grammar.specs.TokenText.{BeginsWithToken}
-use Rattle.fort_grammar.specs.TokenForms.{NoneBegins}
+use Rattle.fort_formula_grammar.specs.Tokens as grammar
+use Rattle.fort_formula_grammar.specs.Tokens.{token_text, IsToken}
+use Rattle.fort_formula_grammar.specs.TokenText.{BeginsWithToken}
+use Rattle.fort_formula_grammar.specs.TokenForms.{NoneBegins}
 use Rattle.fort_formula_parser.specs.declared.token.Spelling.{Spelling}
 use Rattle.fort_formula_parser.specs.declared.token.Spotted.{Spotted}
 use Rattle.fort_formula_parser.specs.TokenView.{as_token}

@@ -1,6 +1,6 @@
--- Nothing to believe: which token of the definitions a token of the program is.
+-- Inside: which token of the definitions a token of the program is.
 use Rattle.std.specs.Prelude.{List, map}
-use Rattle.fort_grammar.specs.Tokens as grammar
+use Rattle.fort_formula_grammar.specs.Tokens as grammar
 use Rattle.fort_formulas.specs.FormulaView.{as_surface_rel, as_property}
 use Rattle.fort_formula_parser.specs.declared.token.Token.{Token}
 use Rattle.fort_formula_parser.specs.declared.token.Token.TheVariants.{Open, Close, Comma, Not, And, Or, Imp, Iff, Related, Exists, Forall, Infinite, True, False, Nf, Join, Has, Com, Sn, Variable}

@@ -1,19 +1,21 @@
+//! Formulas without operands.
+
 ghost use Rattle.std.specs.Prelude.{◌≡◌, ◌<◌, length, IfOk, IfErr};
-ghost use Rattle.fort_grammar.specs.Tokens as grammar;
-ghost use Rattle.fort_grammar.specs.FormulaGrammar.{IsUnary};
-ghost use Rattle.fort_grammar.specs.Continuations.{HasNoUnary};
-ghost use Rattle.fort_formula_parser.specs.Parsing.{rest_of, IsNext, IsParsed, IsSyntaxWhere};
+ghost use Rattle.fort_formula_grammar.specs.Tokens as grammar;
+ghost use Rattle.fort_formula_grammar.specs.FormulaGrammar.{IsUnary};
+ghost use Rattle.fort_formula_grammar.specs.Continuations.{HasNoUnary};
+ghost use Rattle.fort_formula_parser.specs.Parsing.{rest_of, IsTokenAt, IsParsed, IsSyntaxWhere};
 
 use crate::cursor::{Mark, is_next, relation_at, variable_at};
 use crate::fault::FFault;
-use crate::parsed::{Parsed, name_of};
+use crate::parsed::{INDEX, Parsed, name_of};
 use crate::token::Lexeme;
 use fort_formulas::Formula;
 use std::alloc::Global;
 
 /// `NF ( x )`, at whose first token it is.
 pub(crate) fn normal_form(alloc: Global, lexemes: &[Lexeme], at: usize) -> Result<Parsed, FFault>
-    requires { IsNext lexemes.now at grammar.Nf }
+    requires { IsTokenAt lexemes.now at grammar.Nf }
     ensures ok { IfOk result (IsParsed IsUnary lexemes.now at) }
     ensures err { IfErr result (IsSyntaxWhere (HasNoUnary (rest_of lexemes.now at))) }
 {
@@ -27,14 +29,14 @@ pub(crate) fn normal_form(alloc: Global, lexemes: &[Lexeme], at: usize) -> Resul
         return Err(FFault::Syntax);
     }
     Ok(Parsed {
-        formula: Formula::Nf(name_of(alloc, x)?),
+        formula: Formula::Nf(name_of(alloc, x)?, INDEX),
         next: at + 4,
     })
 }
 
 /// `JOIN ( x , y )`, at whose first token it is.
 pub(crate) fn joinable(alloc: Global, lexemes: &[Lexeme], at: usize) -> Result<Parsed, FFault>
-    requires { IsNext lexemes.now at grammar.Join }
+    requires { IsTokenAt lexemes.now at grammar.Join }
     ensures ok { IfOk result (IsParsed IsUnary lexemes.now at) }
     ensures err { IfErr result (IsSyntaxWhere (HasNoUnary (rest_of lexemes.now at))) }
 {
@@ -54,7 +56,7 @@ pub(crate) fn joinable(alloc: Global, lexemes: &[Lexeme], at: usize) -> Result<P
         return Err(FFault::Syntax);
     }
     Ok(Parsed {
-        formula: Formula::Join(name_of(alloc, x)?, name_of(alloc, y)?),
+        formula: Formula::Join(name_of(alloc, x)?, name_of(alloc, y)?, INDEX),
         next: at + 6,
     })
 }
@@ -66,7 +68,7 @@ pub(crate) fn compared(
     at: usize,
     x: &[u8],
 ) -> Result<Parsed, FFault>
-    requires { IsNext lexemes.now at (grammar.Variable x.now) }
+    requires { IsTokenAt lexemes.now at (grammar.Variable x.now) }
     ensures ok { IfOk result (IsParsed IsUnary lexemes.now at) }
     ensures err { IfErr result (IsSyntaxWhere (HasNoUnary (rest_of lexemes.now at))) }
 {
@@ -77,7 +79,7 @@ pub(crate) fn compared(
         return Err(FFault::Syntax);
     };
     Ok(Parsed {
-        formula: Formula::Rel(rel, name_of(alloc, x)?, name_of(alloc, y)?),
+        formula: Formula::Rel(rel, name_of(alloc, x)?, name_of(alloc, y)?, INDEX),
         next: at + 3,
     })
 }

@@ -1,3 +1,5 @@
+//! Why a text is no formula.
+
 ghost use Rattle.std.specs.Prelude.{◌≡◌};
 ghost use Rattle.fort_formula_parser.specs.declared.fault.FFault.TheVariants.{Memory};
 

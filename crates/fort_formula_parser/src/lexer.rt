@@ -1,7 +1,9 @@
+//! The tokens of a text.
+
 ghost use Rattle.std.specs.Prelude.{◌≡◌, List, ℕ, IfOk, IfErr, IfSome, IfNone};
 ghost use Rattle.fort_grammar.specs.Text.{is_blank};
-ghost use Rattle.fort_grammar.specs.TokenText.{BeginsWithNoToken, AreTokensOf};
-ghost use Rattle.fort_grammar.specs.FormulaText.{IsFirstFormulaFault, AreShallow, OpensTooMany};
+ghost use Rattle.fort_formula_grammar.specs.TokenText.{BeginsWithNoToken, AreTokensOf};
+ghost use Rattle.fort_formula_grammar.specs.FormulaText.{IsFirstFormulaFault, AreShallow, OpensTooMany};
 ghost use Rattle.fort_formula_parser.specs.Faults.{as_formula_fault};
 ghost use Rattle.fort_formula_parser.specs.TokenView.{tokens_of};
 ghost use Rattle.fort_formula_parser.specs.Spellings.{IsSpotted};
@@ -61,7 +63,8 @@ pub(crate) fn lexemes<'a>(alloc: Global, text: &'a [u8]) -> Result<Vec<Lexeme<'a
 
 /// The offset of the first parenthesis that opens one too many.
 pub(crate) fn too_deep(lexemes: &[Lexeme]) -> Option<usize>
-    ensures some { IfSome result (λ i. (text : List ℕ) → HavePlaces text lexemes.now → OpensTooMany text i) }
+    ensures some { IfSome result (λ i. (text : List ℕ) → HavePlaces text lexemes.now
+        → OpensTooMany text i) }
     ensures none { IfNone result (AreShallow (tokens_of lexemes.now)) }
 {
     let mut open: usize = 0;

@@ -1,12 +1,17 @@
+//! Formulas that were read, and what is made of them.
+
 ghost use Rattle.std.specs.Prelude.{◌≡◌, IfOk, IfErr};
-ghost use Rattle.fort_theory.specs.Formulas as theory;
-ghost use Rattle.fort_grammar.specs.FormulaGrammar.{quantified};
+ghost use Rattle.fort_logic.specs.Formulas as theory;
+ghost use Rattle.fort_formula_grammar.specs.FormulaGrammar.{quantified};
 ghost use Rattle.fort_formulas.specs.FormulaView.{as_formula};
-ghost use Rattle.fort_formula_parser.specs.Parsing.{IsBuilt, as_quantifier, connected};
+ghost use Rattle.fort_formula_parser.specs.Parsing.{IsReadAs, as_quantifier, connected};
 
 use crate::fault::FFault;
 use fort_formulas::{Formula, Name, Operand};
 use std::alloc::Global;
+
+/// The index of the rules, which no token tells yet.
+pub(crate) const INDEX: u32 = 1;
 
 /// A formula that was read, and the place of the first token behind it.
 #[derive(Drop)]
@@ -40,7 +45,7 @@ pub(crate) fn name_of(alloc: Global, x: &[u8]) -> Result<Name, FFault>
 
 /// The negation, which ends where its operand does.
 pub(crate) fn negated(alloc: Global, operand: Parsed) -> Result<Parsed, FFault>
-    ensures ok { IfOk result (IsBuilt (theory.Not (as_formula operand.formula)) operand.next) }
+    ensures ok { IfOk result (IsReadAs (theory.Not (as_formula operand.formula)) operand.next) }
     ensures err { IfErr result (λ e. e ≡ FFault.Memory) }
 {
     let Parsed { formula, next } = operand;
@@ -57,7 +62,8 @@ pub(crate) fn joined(
     left: Parsed,
     right: Parsed,
 ) -> Result<Parsed, FFault>
-    ensures ok { IfOk result (IsBuilt (connected connective (as_formula left.formula) (as_formula right.formula)) right.next) }
+    ensures ok { IfOk result (IsReadAs
+        (connected connective (as_formula left.formula) (as_formula right.formula)) right.next) }
     ensures err { IfErr result (λ e. e ≡ FFault.Memory) }
 {
     let next = right.next;
@@ -79,7 +85,8 @@ pub(crate) fn bound(
     x: &[u8],
     body: Parsed,
 ) -> Result<Parsed, FFault>
-    ensures ok { IfOk result (IsBuilt (quantified (as_quantifier quantifier) x.now (as_formula body.formula)) body.next) }
+    ensures ok { IfOk result (IsReadAs
+        (quantified (as_quantifier quantifier) x.now (as_formula body.formula)) body.next) }
     ensures err { IfErr result (λ e. e ≡ FFault.Memory) }
 {
     let Parsed { formula, next } = body;
@@ -94,7 +101,8 @@ pub(crate) fn bound(
 
 /// That infinitely many values of this variable meet the body.
 pub(crate) fn infinite(alloc: Global, x: &[u8], body: Parsed) -> Result<Parsed, FFault>
-    ensures ok { IfOk result (IsBuilt (theory.Infinite x.now (as_formula body.formula)) body.next) }
+    ensures ok { IfOk result (IsReadAs
+        (theory.Infinite x.now (as_formula body.formula)) body.next) }
     ensures err { IfErr result (λ e. e ≡ FFault.Memory) }
 {
     let Parsed { formula, next } = body;

@@ -1,12 +1,14 @@
+//! Formulas by recursive descent, one function for each production.
+
 ghost use Rattle.std.specs.Prelude.{◌≡◌, ◌≤◌, length, IfOk, IfErr};
-ghost use Rattle.fort_grammar.specs.FormulaGrammar.{IsUnary, IsBound};
-ghost use Rattle.fort_grammar.specs.Continuations.{HasNoUnary, HasNoBound, HasNoConjunction, HasNoDisjunction, HasNoImplication, HasNoFormula};
+ghost use Rattle.fort_formula_grammar.specs.FormulaGrammar.{IsUnary, IsBound};
+ghost use Rattle.fort_formula_grammar.specs.Continuations.{HasNoUnary, HasNoBound, HasNoConjunction, HasNoDisjunction, HasNoImplication, HasNoFormula};
 ghost use Rattle.fort_formula_parser.specs.Parsing.{rest_of, IsParsed, IsSyntaxWhere, IsWholeFormula, IsWholeImplication, IsWholeDisjunction, IsWholeConjunction, IsBody, HasNoBody, as_quantifier};
 
 use crate::atom::{compared, joinable, normal_form};
 use crate::cursor::{Mark, is_next, variable_at};
 use crate::fault::FFault;
-use crate::parsed::{Connective, Parsed, Quantifier, bound, infinite, joined, negated};
+use crate::parsed::{Connective, INDEX, Parsed, Quantifier, bound, infinite, joined, negated};
 use crate::token::{Lexeme, Token};
 use fort_formulas::Formula;
 use std::alloc::Global;
@@ -104,7 +106,7 @@ fn unary(alloc: Global, lexemes: &[Lexeme], at: usize) -> Result<Parsed, FFault>
             next: at + 1,
         }),
         Token::Has(property) => Ok(Parsed {
-            formula: Formula::Macro(property),
+            formula: Formula::Macro(property, INDEX),
             next: at + 1,
         }),
         Token::Nf => normal_form(alloc, lexemes, at),
@@ -124,7 +126,8 @@ fn binders(
 ) -> Result<Parsed, FFault>
     requires { at ≤ length lexemes.now }
     ensures ok { IfOk result (IsParsed (IsBound (as_quantifier quantifier)) lexemes.now at) }
-    ensures err { IfErr result (IsSyntaxWhere (HasNoBound (as_quantifier quantifier) (rest_of lexemes.now at))) }
+    ensures err { IfErr result (IsSyntaxWhere
+        (HasNoBound (as_quantifier quantifier) (rest_of lexemes.now at))) }
 {
     let Some(x) = variable_at(lexemes, at) else {
         return Err(FFault::Syntax);

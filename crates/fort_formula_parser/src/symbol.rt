@@ -1,14 +1,17 @@
+//! Tokens that are no words.
+
 ghost use Rattle.std.specs.Prelude.{◌≡◌, false, length, All, IfSome, IfNone};
-ghost use Rattle.fort_grammar.specs.Variables.{begins_with_letter};
-ghost use Rattle.fort_grammar.specs.TokenText.{BeginsWithNoToken};
-ghost use Rattle.fort_grammar.specs.TokenForms.{NoneBegins};
+ghost use Rattle.fort_formula_grammar.specs.Tokens.{begins_with_letter};
+ghost use Rattle.fort_formula_grammar.specs.TokenText.{BeginsWithNoToken};
+ghost use Rattle.fort_formula_grammar.specs.TokenForms.{NoneBegins};
 ghost use Rattle.fort_formula_parser.specs.TokenView.{as_token};
 ghost use Rattle.fort_formula_parser.specs.Spellings.{texts_of, IsSpelled, IsFirst, IsSpotted};
 
 use crate::token::{Spelling, Spotted, Token};
 use fort_formulas::SurfaceRel;
 
-/// The tokens that are no words, none behind a shorter one: so the first that begins a text is the longest.
+/// The tokens that are no words, none behind a shorter one: so the first that begins a text is the
+/// longest.
 const SYMBOLS: [Spelling; 19] = [
     Spelling {
         text: b"-||->",
@@ -91,8 +94,10 @@ const SYMBOLS: [Spelling; 19] = [
 /// The first of these tokens that begins the text.
 fn first_among<'a>(text: &[u8], spellings: &[Spelling]) -> Option<Spotted<'a>>
     requires { All IsSpelled spellings.now }
-    ensures some { IfSome result (λ found. IsFirst text.now (texts_of spellings.now) (as_token found.token) found.len) }
-    ensures none { IfNone result (NoneBegins text.now (texts_of spellings.now) (length spellings.now)) }
+    ensures some { IfSome result (λ found.
+        IsFirst text.now (texts_of spellings.now) (as_token found.token) found.len) }
+    ensures none { IfNone result
+        (NoneBegins text.now (texts_of spellings.now) (length spellings.now)) }
 {
     for spelling in spellings {
         if text.starts_with(spelling.text) {

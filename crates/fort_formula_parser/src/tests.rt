@@ -1,3 +1,5 @@
+//! Texts, and what they are read as.
+
 use crate::{FFault, parse};
 use fort_formulas::{Formula, Macro, Name, SurfaceRel};
 use std::alloc::{AllocError, Global};
@@ -52,15 +54,35 @@ fn add_binder(word: &[u8], x: &Name, out: &mut Vec<u8>) -> Result<(), AllocError
     Ok(())
 }
 
+/// A mark before an index that no token tells.
+fn add_index(index: u32, out: &mut Vec<u8>) -> Result<(), AllocError> {
+    if index != 1 {
+        out.push(b'#')?;
+    }
+    Ok(())
+}
+
 /// The formula's tree, each connective before what it connects.
 fn render(formula: &Formula, out: &mut Vec<u8>) -> Result<(), AllocError> {
     match formula {
         Formula::True => out.push(b'T')?,
         Formula::False => out.push(b'F')?,
-        Formula::Rel(rel, x, y) => add_words(relation(*rel), x, y, out)?,
-        Formula::Nf(x) => add_binder(b"NF", x, out)?,
-        Formula::Join(x, y) => add_words(b"JOIN", x, y, out)?,
-        Formula::Macro(m) => out.extend_from_slice(property(*m))?,
+        Formula::Rel(rel, x, y, index) => {
+            add_index(*index, out)?;
+            add_words(relation(*rel), x, y, out)?;
+        }
+        Formula::Nf(x, index) => {
+            add_index(*index, out)?;
+            add_binder(b"NF", x, out)?;
+        }
+        Formula::Join(x, y, index) => {
+            add_index(*index, out)?;
+            add_words(b"JOIN", x, y, out)?;
+        }
+        Formula::Macro(m, index) => {
+            add_index(*index, out)?;
+            out.extend_from_slice(property(*m))?;
+        }
         Formula::Not(f) => {
             out.push(b'~')?;
             render(f.as_formula(), out)?;

@@ -1,3 +1,5 @@
+//! Tokens, and tables of them.
+
 use fort_formulas::{Macro, SurfaceRel};
 
 /// A token of a formula.

@@ -1,7 +1,8 @@
+//! Tokens that are words.
+
 ghost use Rattle.std.specs.Prelude.{◌≡◌, true, All, Contains, IfSome, IfNone};
-ghost use Rattle.fort_grammar.specs.Variables.{begins_with_letter, is_name_byte};
-ghost use Rattle.fort_grammar.specs.Tokens.{token_text, IsToken};
-ghost use Rattle.fort_grammar.specs.TokenForms.{IsRun};
+ghost use Rattle.fort_formula_grammar.specs.Tokens.{begins_with_letter, is_name_byte, token_text, IsToken};
+ghost use Rattle.fort_formula_grammar.specs.TokenForms.{IsRun};
 ghost use Rattle.fort_formula_parser.specs.TokenView.{as_token};
 ghost use Rattle.fort_formula_parser.specs.Spellings.{texts_of, IsSpelled, IsSpotted};
 
@@ -98,7 +99,8 @@ fn run_length(text: &[u8]) -> usize
 /// The token that is the whole word, if one of these.
 fn keyword_among(word: &[u8], spellings: &[Spelling]) -> Option<Token<'static>>
     requires { All IsSpelled spellings.now }
-    ensures some { IfSome result (λ token. IsToken (as_token token) × (token_text (as_token token) ≡ word.now)) }
+    ensures some { IfSome result (λ token. IsToken (as_token token)
+        × (token_text (as_token token) ≡ word.now)) }
     ensures none { IfNone result (Contains (texts_of spellings.now) word.now → ⊥) }
 {
     for spelling in spellings {

@@ -1,17 +1,17 @@
 -- The subformulas of a core formula of the program, by its shape.
 use Rattle.std.proofs.Common.{◌≡◌, ℕ, ◌++◌, ◌∷◌, [], ◌⊎◌, inl, inr, refl}
-use Rattle.fort_theory.specs.Cores as theory
-use Rattle.fort_theory.specs.Parts.{postorder}
+use Rattle.fort_logic.specs.Cores as theory
+use Rattle.fort_logic.specs.Parts.{postorder}
 use Rattle.fort_formulas.specs.declared.core_formula.Rel.{Rel}
 use Rattle.fort_formulas.specs.declared.core_formula.Core.{Core}
 use Rattle.fort_formulas.specs.declared.core_formula.Core.TheVariants.{True, Atom, Nf, Not, And, Or, Iff, Exists, Infinite}
 use Rattle.fort_formulas.specs.CoreView.{as_core}
 
-pub postorder-leaf : (c : Core) → (c ≡ True) ⊎ (((r : Rel) × (x : ℕ) × (y : ℕ) × (c ≡ Atom r x y)) ⊎ ((x : ℕ) × (c ≡ Nf x)))
+pub postorder-leaf : (c : Core) → (c ≡ True) ⊎ (((r : Rel) × (index : ℕ) × (x : ℕ) × (y : ℕ) × (c ≡ Atom r index x y)) ⊎ ((index : ℕ) × (x : ℕ) × (c ≡ Nf index x)))
     → postorder (as_core c) ≡ as_core c ∷ []
 postorder-leaf c (inl e) = rw e refl
-postorder-leaf c (inr (inl (r, x, y, e))) = rw e refl
-postorder-leaf c (inr (inr (x, e))) = rw e refl
+postorder-leaf c (inr (inl (r, index, x, y, e))) = rw e refl
+postorder-leaf c (inr (inr (index, x, e))) = rw e refl
 
 pub postorder-one : (c : Core) (f : theory.Core) → (c ≡ Not f) ⊎ (((n : ℕ) × (c ≡ Exists n f)) ⊎ ((n : ℕ) × (c ≡ Infinite n f)))
     → postorder (as_core c) ≡ postorder f ++ as_core c ∷ []
@@ -24,3 +24,9 @@ pub postorder-two : (c : Core) (f g : theory.Core) → (c ≡ And f g) ⊎ ((c �
 postorder-two c f g (inl e) = rw e refl
 postorder-two c f g (inr (inl e)) = rw e refl
 postorder-two c f g (inr (inr e)) = rw e refl
+
+-- a binder
+pub postorder-bound : (c : Core) (n : ℕ) (f : theory.Core) → (c ≡ Exists n f) ⊎ (c ≡ Infinite n f)
+    → postorder (as_core c) ≡ postorder f ++ as_core c ∷ []
+postorder-bound c n f (inl e) = rw e refl
+postorder-bound c n f (inr e) = rw e refl

@@ -1,31 +1,34 @@
--- Nothing to believe: the laws of the equality of core formulas, and how spellings begin.
-use Rattle.std.specs.Prelude.{◌≡◌, ℕ, Bool, true, false, nat_eq, List, [], ◌∷◌, ◌++◌, refl}
+-- Law: the equality of core formulas decides whether they are equal, and equal operands are told from what follows them.
+use Rattle.std.specs.Prelude.{◌≡◌, Bool, true, false, List, [], ◌∷◌, ◌++◌, refl}
 use Rattle.std.specs.Bool.{Decides, one_answer}
 use Rattle.std.specs.Ordering.{on}
 use Rattle.std.specs.Cmp.{IsPartialEquivalence, IsEquivalence, partial_equiv_from_equiv, decided}
 use Rattle.std.proofs.Common.{ap, sym, ◌∙◌}
-use lib.Pointwise.{pointwise, bytes_decides}
-use Rattle.fort_theory.specs.Cores as theory
+use lib.Pointwise.{pointwise_decides, bytes_decides}
+use Rattle.fort_logic.specs.Cores as theory
 use Rattle.fort_formulas.specs.declared.core_formula.Rel.{Rel}
 use Rattle.fort_formulas.specs.declared.core_formula.Rel.TheVariants.{Eq, Root, Below, Step, Par, Plus, Star, Conv}
 use Rattle.fort_formulas.specs.declared.core_formula.Core.{Core}
 use Rattle.fort_formulas.specs.declared.core_formula.Core.TheVariants.{True, Atom, Nf, Not, And, Or, Iff, Exists, Infinite}
 use Rattle.fort_formulas.specs.CoreView.{as_rel, as_core}
-use Rattle.fort_formulas.specs.CoreCode.{spelled, read_back, first_formula, read_back-spelled, core_again}
-use Rattle.fort_formulas.specs.CoreKeys.{core_spelled}
+use Rattle.fort_formulas.specs.CoreCode.{Mark, spelled, read_back, first_formula, read_back-spelled, core_again}
+use Rattle.fort_formulas.specs.CoreKeys.{core_spelled, same_marks}
 
-pub spelled-injective : (f g : theory.Core) → spelled f ≡ spelled g → f ≡ g
-spelled-injective f g e = sym (core_again f) ∙ (ap (λ xs. first_formula (read_back xs)) e ∙ core_again g)
+marks_decide : (ms ns : List Mark) → Decides (same_marks ms ns) (ms ≡ ns)
+marks_decide = pointwise_decides bytes_decides
+
+spelled-injective : (f g : theory.Core) → spelled f ≡ spelled g → f ≡ g
+spelled-injective f g e = sym (core_again f) ∙ (ap (λ ms. first_formula (read_back ms)) e ∙ core_again g)
 
 -- equal exactly where the formulas are equal
-pub arm_eq-Decides : (f g : theory.Core) → Decides (on spelled (pointwise nat_eq) f g) (f ≡ g)
+pub arm_eq-Decides : (f g : theory.Core) → Decides (on spelled same_marks f g) (f ≡ g)
 arm_eq-Decides f g =
-    let same = bytes_decides (spelled f) (spelled g) in (λ e. spelled-injective f g (same.0 e), λ e. same.1 (ap spelled e))
+    let same = marks_decide (spelled f) (spelled g) in (λ e. spelled-injective f g (same.0 e), λ e. same.1 (ap spelled e))
 
-pub arm_eq-equiv : IsEquivalence (on spelled (pointwise nat_eq))
-arm_eq-equiv = decided (on spelled (pointwise nat_eq)) arm_eq-Decides
+pub arm_eq-equiv : IsEquivalence (on spelled same_marks)
+arm_eq-equiv = decided (on spelled same_marks) arm_eq-Decides
 
-pub arm_eq-partial_equiv : IsPartialEquivalence (on spelled (pointwise nat_eq))
+pub arm_eq-partial_equiv : IsPartialEquivalence (on spelled same_marks)
 arm_eq-partial_equiv = partial_equiv_from_equiv arm_eq-equiv
 
 -- ---- the program's formulas
@@ -42,8 +45,8 @@ from_rel theory.Conv = Conv
 
 abbrev from_core : theory.Core → Core
 from_core theory.True = True
-from_core (theory.Atom rel x y) = Atom (from_rel rel) x y
-from_core (theory.Nf x) = Nf x
+from_core (theory.Atom rel index x y) = Atom (from_rel rel) index x y
+from_core (theory.Nf index x) = Nf index x
 from_core (theory.Not f) = Not f
 from_core (theory.And f g) = And f g
 from_core (theory.Or f g) = Or f g
@@ -63,8 +66,8 @@ from_rel-again Conv = refl
 
 from_core-again : (c : Core) → from_core (as_core c) ≡ c
 from_core-again True = refl
-from_core-again (Atom rel x y) = ap (λ (r : Rel). Atom r x y) (from_rel-again rel)
-from_core-again (Nf x) = refl
+from_core-again (Atom rel index x y) = ap (λ (r : Rel). Atom r index x y) (from_rel-again rel)
+from_core-again (Nf index x) = refl
 from_core-again (Not f) = refl
 from_core-again (And f g) = refl
 from_core-again (Or f g) = refl
@@ -76,52 +79,52 @@ pub as_core-injective : (c d : Core) → as_core c ≡ as_core d → c ≡ d
 as_core-injective c d e = sym (from_core-again c) ∙ (ap from_core e ∙ from_core-again d)
 
 -- equal exactly where the formulas are equal
-pub Core_eq-Decides : (c d : Core) → Decides (on core_spelled (pointwise nat_eq) c d) (c ≡ d)
+pub Core_eq-Decides : (c d : Core) → Decides (on core_spelled same_marks c d) (c ≡ d)
 Core_eq-Decides c d =
     let same = arm_eq-Decides (as_core c) (as_core d) in (λ e. as_core-injective c d (same.0 e), λ e. same.1 (ap as_core e))
 
-pub Core_eq-equiv : IsEquivalence (on core_spelled (pointwise nat_eq))
-Core_eq-equiv = decided (on core_spelled (pointwise nat_eq)) Core_eq-Decides
+pub Core_eq-equiv : IsEquivalence (on core_spelled same_marks)
+Core_eq-equiv = decided (on core_spelled same_marks) Core_eq-Decides
 
-pub Core_eq-partial_equiv : IsPartialEquivalence (on core_spelled (pointwise nat_eq))
+pub Core_eq-partial_equiv : IsPartialEquivalence (on core_spelled same_marks)
 Core_eq-partial_equiv = partial_equiv_from_equiv Core_eq-equiv
 
 -- ---- two operands
 
 -- what a list that begins with a formula's spelling begins with, and how it goes on
-read_first : (f : theory.Core) (xs : List ℕ) → first_formula (read_back (spelled f ++ xs)) ≡ f
-read_first f xs = ap first_formula (read_back-spelled f xs)
+read_first : (f : theory.Core) (ms : List Mark) → first_formula (read_back (spelled f ++ ms)) ≡ f
+read_first f ms = ap first_formula (read_back-spelled f ms)
 
-pub same_first : (f h : theory.Core) (us vs : List ℕ) → spelled f ++ us ≡ spelled h ++ vs → f ≡ h
-same_first f h us vs e = sym (read_first f us) ∙ (ap (λ xs. first_formula (read_back xs)) e ∙ read_first h vs)
+pub same_first : (f h : theory.Core) (us vs : List Mark) → spelled f ++ us ≡ spelled h ++ vs → f ≡ h
+same_first f h us vs e = sym (read_first f us) ∙ (ap (λ ms. first_formula (read_back ms)) e ∙ read_first h vs)
 
-same_rest : (xs us vs : List ℕ) → xs ++ us ≡ xs ++ vs → us ≡ vs
+same_rest : {A : Type 0} (xs us vs : List A) → xs ++ us ≡ xs ++ vs → us ≡ vs
 same_rest [] us vs e = e
 same_rest (x ∷ xs) us vs e = let h : xs ++ us ≡ xs ++ vs = cc in same_rest xs us vs h
 
-rest_decides : (xs us vs : List ℕ) → pointwise nat_eq us vs ≡ pointwise nat_eq (xs ++ us) (xs ++ vs)
-rest_decides xs us vs =
-    let rests = bytes_decides us vs in
-    let lists = bytes_decides (xs ++ us) (xs ++ vs) in
-    one_answer (pointwise nat_eq us vs) (pointwise nat_eq (xs ++ us) (xs ++ vs)) rests
-    (λ e. same_rest xs us vs (lists.0 e), λ e. lists.1 (ap (λ ws. xs ++ ws) e))
+rest_decides : (ms us vs : List Mark) → same_marks us vs ≡ same_marks (ms ++ us) (ms ++ vs)
+rest_decides ms us vs =
+    let rests = marks_decide us vs in
+    let lists = marks_decide (ms ++ us) (ms ++ vs) in
+    one_answer (same_marks us vs) (same_marks (ms ++ us) (ms ++ vs)) rests
+    (λ e. same_rest ms us vs (lists.0 e), λ e. lists.1 (ap (λ ws. ms ++ ws) e))
 
 -- where the first operands are equal, the second ones decide
-pub two_eq-then : (f g h k : theory.Core) → pointwise nat_eq (spelled f) (spelled h) ≡ true
-    → pointwise nat_eq (spelled g) (spelled k) ≡ pointwise nat_eq (spelled f ++ spelled g) (spelled h ++ spelled k)
+pub two_eq-then : (f g h k : theory.Core) → same_marks (spelled f) (spelled h) ≡ true
+    → same_marks (spelled g) (spelled k) ≡ same_marks (spelled f ++ spelled g) (spelled h ++ spelled k)
 two_eq-then f g h k e =
     rest_decides (spelled f) (spelled g) (spelled k)
-    ∙ ap (λ ws. pointwise nat_eq (spelled f ++ spelled g) (ws ++ spelled k)) ((bytes_decides (spelled f) (spelled h)).0 e)
+    ∙ ap (λ ws. same_marks (spelled f ++ spelled g) (ws ++ spelled k)) ((marks_decide (spelled f) (spelled h)).0 e)
 
 not_true : (b : Bool) → (b ≡ true → ⊥) → false ≡ b
 not_true true h = absurd (h refl)
 not_true false h = refl
 
-pub two_eq-else : (f g h k : theory.Core) → pointwise nat_eq (spelled f) (spelled h) ≡ false
-    → false ≡ pointwise nat_eq (spelled f ++ spelled g) (spelled h ++ spelled k)
+pub two_eq-else : (f g h k : theory.Core) → same_marks (spelled f) (spelled h) ≡ false
+    → false ≡ same_marks (spelled f ++ spelled g) (spelled h ++ spelled k)
 two_eq-else f g h k e =
-    not_true (pointwise nat_eq (spelled f ++ spelled g) (spelled h ++ spelled k))
+    not_true (same_marks (spelled f ++ spelled g) (spelled h ++ spelled k))
     (λ same.
-    let firsts = same_first f h (spelled g) (spelled k) ((bytes_decides (spelled f ++ spelled g) (spelled h ++ spelled k)).0 same) in
-    let equal : pointwise nat_eq (spelled f) (spelled h) ≡ true = (bytes_decides (spelled f) (spelled h)).1 (ap spelled firsts) in
+    let firsts = same_first f h (spelled g) (spelled k) ((marks_decide (spelled f ++ spelled g) (spelled h ++ spelled k)).0 same) in
+    let equal : same_marks (spelled f) (spelled h) ≡ true = (marks_decide (spelled f) (spelled h)).1 (ap spelled firsts) in
     cc)

@@ -1,18 +1,28 @@
--- To believe: core formulas of the program are compared as their spellings.
-use Rattle.std.specs.Prelude.{ℕ, List}
-use Rattle.fort_theory.specs.Cores as theory
+-- To believe: core formulas are compared as their spellings: mark by mark, and each mark number by number.
+use Rattle.std.specs.Prelude.{ℕ, Bool, nat_eq, List}
+use Rattle.std.specs.declared.cmp.Ordering.{Ordering}
+use Rattle.std.specs.Ordering.{nat_cmp}
+use Rattle.std.specs.Cmp.Lexicographic.{slice_cmp}
+use lib.Pointwise.{pointwise}
+use Rattle.fort_logic.specs.Cores as theory
 use Rattle.fort_formulas.specs.declared.core_formula.Core.{Core}
-use Rattle.fort_formulas.specs.CoreCode.{spelled}
+use Rattle.fort_formulas.specs.CoreCode.{Mark, spelled}
 use Rattle.fort_formulas.specs.CoreView.{as_core}
 
-abbrev pub core_spelled : Core → List ℕ
+abbrev pub core_spelled : Core → List Mark
 core_spelled c = spelled (as_core c)
 
--- the number that a spelling begins with
+abbrev pub same_marks : List Mark → List Mark → Bool
+same_marks = pointwise (pointwise nat_eq)
+
+abbrev pub marks_order : List Mark → List Mark → Ordering
+marks_order = slice_cmp (slice_cmp nat_cmp)
+
+-- the place of the connective, with which a spelling begins
 abbrev pub core_place : theory.Core → ℕ
 core_place theory.True = 0
-core_place (theory.Atom rel x y) = 1
-core_place (theory.Nf x) = 2
+core_place (theory.Atom rel index x y) = 1
+core_place (theory.Nf index x) = 2
 core_place (theory.Not f) = 3
 core_place (theory.And f g) = 4
 core_place (theory.Or f g) = 5

@@ -1,8 +1,8 @@
--- Nothing to believe: a formula as a list of marks, from which it is read again.
-use Rattle.std.specs.Prelude.{◌≡◌, ℕ, zero, suc, List, [], ◌∷◌, ◌++◌, refl}
+-- Inside: a formula as a list of marks, from which it is read again.
+use Rattle.std.specs.Prelude.{◌≡◌, ℕ, List, [], ◌∷◌, ◌++◌, slice_index_or, refl}
 use Rattle.std.proofs.Common.{ap, sym, ◌∙◌, append_assoc, append-nil}
 use Rattle.std.specs.Coded.{Coded, code_by, coded_list, coded_ℕ, coded×}
-use Rattle.fort_theory.specs.Formulas.{Name, SurfaceRel, Eq, Step, Star, Plus, Reflexive, Normal, Root, Below, Par, Either, Conv, Property, Cr, Wcr, Scr, Wn, Unr, Unc, Nfp, Formula, True, False, Related, Nf, Join, Has, Not, And, Or, Imp, Iff, Exists, Forall, Infinite}
+use Rattle.fort_logic.specs.Formulas.{Name, SurfaceRel, Eq, Step, Star, Plus, Reflexive, Normal, Root, Below, Par, Either, Conv, Property, Cr, Wcr, Scr, Wn, Unr, Unc, Nfp, Formula, True, False, Related, Nf, Join, Has, Not, And, Or, Imp, Iff, Exists, Forall, Infinite}
 
 abbrev pub surface_rel_place : SurfaceRel → ℕ
 surface_rel_place Eq = 0
@@ -18,17 +18,8 @@ surface_rel_place Either = 9
 surface_rel_place Conv = 10
 
 abbrev pub surface_rel_at : ℕ → SurfaceRel
-surface_rel_at zero = Eq
-surface_rel_at (suc zero) = Step
-surface_rel_at (suc (suc zero)) = Star
-surface_rel_at (suc (suc (suc zero))) = Plus
-surface_rel_at (suc (suc (suc (suc zero)))) = Reflexive
-surface_rel_at (suc (suc (suc (suc (suc zero))))) = Normal
-surface_rel_at (suc (suc (suc (suc (suc (suc zero)))))) = Root
-surface_rel_at (suc (suc (suc (suc (suc (suc (suc zero))))))) = Below
-surface_rel_at (suc (suc (suc (suc (suc (suc (suc (suc zero)))))))) = Par
-surface_rel_at (suc (suc (suc (suc (suc (suc (suc (suc (suc zero))))))))) = Either
-surface_rel_at (suc (suc (suc (suc (suc (suc (suc (suc (suc (suc n)))))))))) = Conv
+surface_rel_at place =
+    slice_index_or (Eq ∷ Step ∷ Star ∷ Plus ∷ Reflexive ∷ Normal ∷ Root ∷ Below ∷ Par ∷ Either ∷ Conv ∷ []) place Eq
 
 pub surface_rel_again : (rel : SurfaceRel) → surface_rel_at (surface_rel_place rel) ≡ rel
 surface_rel_again Eq = refl
@@ -53,13 +44,7 @@ property_place Unc = 5
 property_place Nfp = 6
 
 abbrev pub property_at : ℕ → Property
-property_at zero = Cr
-property_at (suc zero) = Wcr
-property_at (suc (suc zero)) = Scr
-property_at (suc (suc (suc zero))) = Wn
-property_at (suc (suc (suc (suc zero)))) = Unr
-property_at (suc (suc (suc (suc (suc zero))))) = Unc
-property_at (suc (suc (suc (suc (suc (suc n)))))) = Nfp
+property_at place = slice_index_or (Cr ∷ Wcr ∷ Scr ∷ Wn ∷ Unr ∷ Unc ∷ Nfp ∷ []) place Cr
 
 pub property_again : (property : Property) → property_at (property_place property) ≡ property
 property_again Cr = refl
@@ -70,38 +55,37 @@ property_again Unr = refl
 property_again Unc = refl
 property_again Nfp = refl
 
--- a connective's place, the place of its relation or property, and its names
+-- one node: the place of its connective in the list of the connectives; the place of its relation or property, and its
+-- index; its names
 abbrev pub Mark : Type 0
-Mark = ℕ × (ℕ × List Name)
+Mark = ℕ × (List ℕ × List Name)
 
-abbrev pub mark : ℕ → ℕ → List Name → Mark
-mark connective place names = (connective, (place, names))
+abbrev pub mark : ℕ → List ℕ → List Name → Mark
+mark place ns xs = (place, (ns, xs))
 
 abbrev pub spelled : Formula → List Mark
-spelled True = mark 0 0 [] ∷ []
-spelled False = mark 1 0 [] ∷ []
-spelled (Related rel x y) = mark 2 (surface_rel_place rel) (x ∷ y ∷ []) ∷ []
-spelled (Nf x) = mark 3 0 (x ∷ []) ∷ []
-spelled (Join x y) = mark 4 0 (x ∷ y ∷ []) ∷ []
-spelled (Has property) = mark 5 (property_place property) [] ∷ []
-spelled (Not f) = mark 6 0 [] ∷ spelled f
-spelled (And f g) = mark 7 0 [] ∷ (spelled f ++ spelled g)
-spelled (Or f g) = mark 8 0 [] ∷ (spelled f ++ spelled g)
-spelled (Imp f g) = mark 9 0 [] ∷ (spelled f ++ spelled g)
-spelled (Iff f g) = mark 10 0 [] ∷ (spelled f ++ spelled g)
-spelled (Exists x f) = mark 11 0 (x ∷ []) ∷ spelled f
-spelled (Forall x f) = mark 12 0 (x ∷ []) ∷ spelled f
-spelled (Infinite x f) = mark 13 0 (x ∷ []) ∷ spelled f
+spelled True = mark 0 [] [] ∷ []
+spelled False = mark 1 [] [] ∷ []
+spelled (Related rel x y index) = mark 2 (surface_rel_place rel ∷ index ∷ []) (x ∷ y ∷ []) ∷ []
+spelled (Nf x index) = mark 3 (index ∷ []) (x ∷ []) ∷ []
+spelled (Join x y index) = mark 4 (index ∷ []) (x ∷ y ∷ []) ∷ []
+spelled (Has property index) = mark 5 (property_place property ∷ index ∷ []) [] ∷ []
+spelled (Not f) = mark 6 [] [] ∷ spelled f
+spelled (And f g) = mark 7 [] [] ∷ (spelled f ++ spelled g)
+spelled (Or f g) = mark 8 [] [] ∷ (spelled f ++ spelled g)
+spelled (Imp f g) = mark 9 [] [] ∷ (spelled f ++ spelled g)
+spelled (Iff f g) = mark 10 [] [] ∷ (spelled f ++ spelled g)
+spelled (Exists x f) = mark 11 [] (x ∷ []) ∷ spelled f
+spelled (Forall x f) = mark 12 [] (x ∷ []) ∷ spelled f
+spelled (Infinite x f) = mark 13 [] (x ∷ []) ∷ spelled f
 
 -- ---- a spelling is read from its end to its front, over a stack
 
-abbrev pub first_name : List Name → Name
-first_name [] = []
-first_name (x ∷ xs) = x
+abbrev pub number_at : List ℕ → ℕ → ℕ
+number_at ns k = slice_index_or ns k 0
 
-abbrev pub second_name : List Name → Name
-second_name [] = []
-second_name (x ∷ xs) = first_name xs
+abbrev pub name_at : List Name → ℕ → Name
+name_at xs k = slice_index_or xs k []
 
 abbrev pub one_read : (Formula → Formula) → List Formula → List Formula
 one_read make [] = []
@@ -111,25 +95,32 @@ abbrev pub two_read : (Formula → Formula → Formula) → List Formula → Lis
 two_read make (f ∷ g ∷ rest) = make f g ∷ rest
 two_read make other = other
 
-abbrev pub mark_read : ℕ → ℕ → List Name → List Formula → List Formula
-mark_read zero place xs fs = True ∷ fs
-mark_read (suc zero) place xs fs = False ∷ fs
-mark_read (suc (suc zero)) place xs fs = Related (surface_rel_at place) (first_name xs) (second_name xs) ∷ fs
-mark_read (suc (suc (suc zero))) place xs fs = Nf (first_name xs) ∷ fs
-mark_read (suc (suc (suc (suc zero)))) place xs fs = Join (first_name xs) (second_name xs) ∷ fs
-mark_read (suc (suc (suc (suc (suc zero))))) place xs fs = Has (property_at place) ∷ fs
-mark_read (suc (suc (suc (suc (suc (suc zero)))))) place xs fs = one_read Not fs
-mark_read (suc (suc (suc (suc (suc (suc (suc zero))))))) place xs fs = two_read And fs
-mark_read (suc (suc (suc (suc (suc (suc (suc (suc zero)))))))) place xs fs = two_read Or fs
-mark_read (suc (suc (suc (suc (suc (suc (suc (suc (suc zero))))))))) place xs fs = two_read Imp fs
-mark_read (suc (suc (suc (suc (suc (suc (suc (suc (suc (suc zero)))))))))) place xs fs = two_read Iff fs
-mark_read (suc (suc (suc (suc (suc (suc (suc (suc (suc (suc (suc zero))))))))))) place xs fs = one_read (Exists (first_name xs)) fs
-mark_read (suc (suc (suc (suc (suc (suc (suc (suc (suc (suc (suc (suc zero)))))))))))) place xs fs = one_read (Forall (first_name xs)) fs
-mark_read (suc (suc (suc (suc (suc (suc (suc (suc (suc (suc (suc (suc (suc n))))))))))))) place xs fs = one_read (Infinite (first_name xs)) fs
+-- what a mark with these numbers and names makes of the formulas behind it
+abbrev pub Reader : Type 0
+Reader = List ℕ → List Name → List Formula → List Formula
+
+-- by the place of the connective
+abbrev pub readers : List Reader
+readers =
+    (λ ns xs fs. True ∷ fs)
+    ∷ (λ ns xs fs. False ∷ fs)
+    ∷ (λ ns xs fs. Related (surface_rel_at (number_at ns 0)) (name_at xs 0) (name_at xs 1) (number_at ns 1) ∷ fs)
+    ∷ (λ ns xs fs. Nf (name_at xs 0) (number_at ns 0) ∷ fs)
+    ∷ (λ ns xs fs. Join (name_at xs 0) (name_at xs 1) (number_at ns 0) ∷ fs)
+    ∷ (λ ns xs fs. Has (property_at (number_at ns 0)) (number_at ns 1) ∷ fs)
+    ∷ (λ ns xs fs. one_read Not fs)
+    ∷ (λ ns xs fs. two_read And fs)
+    ∷ (λ ns xs fs. two_read Or fs)
+    ∷ (λ ns xs fs. two_read Imp fs)
+    ∷ (λ ns xs fs. two_read Iff fs)
+    ∷ (λ ns xs fs. one_read (Exists (name_at xs 0)) fs)
+    ∷ (λ ns xs fs. one_read (Forall (name_at xs 0)) fs)
+    ∷ (λ ns xs fs. one_read (Infinite (name_at xs 0)) fs)
+    ∷ []
 
 abbrev pub read_back : List Mark → List Formula
 read_back [] = []
-read_back (m ∷ ms) = mark_read m.0 m.1.0 m.1.1 (read_back ms)
+read_back (m ∷ ms) = slice_index_or readers m.0 (λ ns xs fs. fs) m.1.0 m.1.1 (read_back ms)
 
 abbrev pub first_formula : List Formula → Formula
 first_formula [] = True
@@ -147,10 +138,10 @@ read_back-two make f g ms h k =
 pub read_back-spelled : (f : Formula) (ms : List Mark) → read_back (spelled f ++ ms) ≡ f ∷ read_back ms
 read_back-spelled True ms = refl
 read_back-spelled False ms = refl
-read_back-spelled (Related rel x y) ms = ap (λ r. Related r x y ∷ read_back ms) (surface_rel_again rel)
-read_back-spelled (Nf x) ms = refl
-read_back-spelled (Join x y) ms = refl
-read_back-spelled (Has property) ms = ap (λ p. Has p ∷ read_back ms) (property_again property)
+read_back-spelled (Related rel x y index) ms = ap (λ r. Related r x y index ∷ read_back ms) (surface_rel_again rel)
+read_back-spelled (Nf x index) ms = refl
+read_back-spelled (Join x y index) ms = refl
+read_back-spelled (Has property index) ms = ap (λ p. Has p index ∷ read_back ms) (property_again property)
 read_back-spelled (Not f) ms = ap (one_read Not) (read_back-spelled f ms)
 read_back-spelled (And f g) ms = read_back-two And f g ms (λ ns. read_back-spelled f ns) (λ ns. read_back-spelled g ns)
 read_back-spelled (Or f g) ms = read_back-two Or f g ms (λ ns. read_back-spelled f ns) (λ ns. read_back-spelled g ns)
@@ -165,5 +156,5 @@ formula_again f = ap (λ ns. first_formula (read_back ns)) (sym (append-nil (spe
 
 abbrev pub formula_code : Coded Formula
 formula_code =
-    code_by (List Mark) (coded_list (coded× coded_ℕ (coded× coded_ℕ (coded_list (coded_list coded_ℕ))))) spelled
+    code_by (List Mark) (coded_list (coded× coded_ℕ (coded× (coded_list coded_ℕ) (coded_list (coded_list coded_ℕ))))) spelled
     (λ ms. first_formula (read_back ms)) formula_again

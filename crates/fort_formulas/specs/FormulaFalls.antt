@@ -1,4 +1,4 @@
--- Nothing to believe: a measure of formulas that falls from a formula to its operands.
+-- Law: the number of nodes of a formula falls from a formula to its operands.
 use Rattle.std.specs.Prelude.{◌≤◌}
 use Rattle.std.proofs.Common.{arith}
 use Rattle.fort_formulas.specs.declared.surface.Formula.{Formula}
@@ -9,10 +9,10 @@ use Rattle.fort_formulas.specs.FormulaView.{as_formula, node_count}
 pub deep_below : (f : Formula) → deep-Formula f ≤ node_count (as_formula f)
 deep_below True = omega arith
 deep_below False = omega arith
-deep_below (Rel rel x y) = omega arith
-deep_below (Nf x) = omega arith
-deep_below (Join x y) = omega arith
-deep_below (Macro m) = omega arith
+deep_below (Rel rel x y index) = omega arith
+deep_below (Nf x index) = omega arith
+deep_below (Join x y index) = omega arith
+deep_below (Macro m index) = omega arith
 deep_below (Not f) = omega arith
 deep_below (And f g) = omega arith
 deep_below (Or f g) = omega arith

@@ -1,6 +1,6 @@
 -- To believe: which formula of the definitions a formula of the program is.
 use Rattle.std.specs.Prelude.{ℕ, suc, ◌+◌}
-use Rattle.fort_theory.specs.Formulas as theory
+use Rattle.fort_logic.specs.Formulas as theory
 use Rattle.fort_formulas.specs.declared.surface.SurfaceRel.{SurfaceRel}
 use Rattle.fort_formulas.specs.declared.surface.SurfaceRel.TheVariants.{Eq, Step, Star, Plus, Reflexive, Normal, Root, Below, Par, Either, Conv}
 use Rattle.fort_formulas.specs.declared.surface.Macro as property
@@ -33,10 +33,10 @@ as_property Nfp = theory.Nfp
 abbrev pub as_formula : Formula → theory.Formula
 as_formula True = theory.True
 as_formula False = theory.False
-as_formula (Rel rel x y) = theory.Related (as_surface_rel rel) x y
-as_formula (Nf x) = theory.Nf x
-as_formula (Join x y) = theory.Join x y
-as_formula (Macro m) = theory.Has (as_property m)
+as_formula (Rel rel x y index) = theory.Related (as_surface_rel rel) x y index
+as_formula (Nf x index) = theory.Nf x index
+as_formula (Join x y index) = theory.Join x y index
+as_formula (Macro m index) = theory.Has (as_property m) index
 as_formula (Not f) = theory.Not f
 as_formula (And f g) = theory.And f g
 as_formula (Or f g) = theory.Or f g
@@ -50,10 +50,10 @@ as_formula (Infinite x f) = theory.Infinite x f
 abbrev pub node_count : theory.Formula → ℕ
 node_count theory.True = 1
 node_count theory.False = 1
-node_count (theory.Related rel x y) = 1
-node_count (theory.Nf x) = 1
-node_count (theory.Join x y) = 1
-node_count (theory.Has p) = 1
+node_count (theory.Related rel x y index) = 1
+node_count (theory.Nf x index) = 1
+node_count (theory.Join x y index) = 1
+node_count (theory.Has p index) = 1
 node_count (theory.Not f) = suc (node_count f)
 node_count (theory.And f g) = suc (node_count f + node_count g)
 node_count (theory.Or f g) = suc (node_count f + node_count g)

@@ -9,5 +9,7 @@ pub mod CoreHashLaws
 pub mod FormulaCode
 pub mod FormulaView
 pub mod FormulaFalls
+pub mod NumbersNeeded
+pub mod Surveys
 pub mod ScopeView
 pub mod KindView

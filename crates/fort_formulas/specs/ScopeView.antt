@@ -1,6 +1,6 @@
--- Nothing to believe: a scope of the program as a list of names.
+-- Inside: a scope of the program as a list of names.
 use Rattle.std.specs.Prelude.{List, ◌∷◌, reverse}
-use Rattle.fort_theory.specs.Formulas as theory
+use Rattle.fort_logic.specs.Formulas as theory
 use Rattle.fort_formulas.specs.declared.scope.Scope.{Scope, Free, Bound'}
 
 -- the names, the innermost first

@@ -1,8 +1,8 @@
 //! Core formulas for the words that core formulas lack.
 
-ghost use Rattle.std.specs.Prelude.{◌≡◌, IfOk};
-ghost use Rattle.fort_theory.specs.Cores as theory;
-ghost use Rattle.fort_theory.specs.Translation.{some, every, infinitely_many, implies, at_most_one_step, normalises, joins, related, forks, property_core};
+ghost use Rattle.std.specs.Prelude.{◌≡◌, ℕ, ◌+◌, ◌^◌, ◌<◌, IfOk};
+ghost use Rattle.fort_logic.specs.Cores as theory;
+ghost use Rattle.fort_logic.specs.Translation.{some, every, equal, infinitely_many, implies, at_most_one_step, normalises, joins, related, forks, property_core};
 ghost use Rattle.fort_formulas.specs.CoreView.{as_core};
 ghost use Rattle.fort_formulas.specs.FormulaView.{as_surface_rel, as_property};
 
@@ -65,69 +65,89 @@ pub fn infinitely_many(alloc: Global, n: u32, f: Core) -> Result<Core, AllocErro
     if is_free(n, &f) {
         Ok(Core::Infinite(n, Arm::new(alloc, f)?))
     } else {
-        let terms = Arm::new(alloc, Core::Atom(Rel::Eq, n, n))?;
+        let terms = Arm::new(alloc, equal(n, n))?;
         and(alloc, f, Core::Infinite(n, terms))
     }
 }
 
-fn at_most_one_step(alloc: Global, x: u32, y: u32) -> Result<Core, AllocError>
-    ensures { IfOk result (λ c. as_core c ≡ at_most_one_step x y) }
+/// Equality has the index 1.
+fn equal(x: u32, y: u32) -> Core
+    ensures { as_core result ≡ equal x y }
 {
-    or(
+    Core::Atom(Rel::Eq, 1, x, y)
+}
+
+fn at_most_one_step(alloc: Global, index: u32, x: u32, y: u32) -> Result<Core, AllocError>
+    ensures { IfOk result (λ c. as_core c ≡ at_most_one_step index x y) }
+{
+    or(alloc, equal(x, y), Core::Atom(Rel::Step, index, x, y))
+}
+
+fn normalises(alloc: Global, index: u32, x: u32, y: u32) -> Result<Core, AllocError>
+    ensures { IfOk result (λ c. as_core c ≡ normalises index x y) }
+{
+    and(
         alloc,
-        Core::Atom(Rel::Eq, x, y),
-        Core::Atom(Rel::Step, x, y),
+        Core::Atom(Rel::Star, index, x, y),
+        Core::Nf(index, y),
     )
 }
 
-fn normalises(alloc: Global, x: u32, y: u32) -> Result<Core, AllocError>
-    ensures { IfOk result (λ c. as_core c ≡ normalises x y) }
-{
-    and(alloc, Core::Atom(Rel::Star, x, y), Core::Nf(y))
-}
-
 /// That these two have a common reduct, which has the number `n`.
-pub fn joins(alloc: Global, n: u32, x: u32, y: u32) -> Result<Core, AllocError>
-    ensures { IfOk result (λ c. as_core c ≡ joins n x y) }
+pub fn joins(alloc: Global, index: u32, n: u32, x: u32, y: u32) -> Result<Core, AllocError>
+    ensures { IfOk result (λ c. as_core c ≡ joins index n x y) }
 {
     let both = and(
         alloc,
-        Core::Atom(Rel::Star, x, n),
-        Core::Atom(Rel::Star, y, n),
+        Core::Atom(Rel::Star, index, x, n),
+        Core::Atom(Rel::Star, index, y, n),
     )?;
     some(alloc, n, both)
 }
 
-pub fn related(alloc: Global, rel: SurfaceRel, x: u32, y: u32) -> Result<Core, AllocError>
-    ensures { IfOk result (λ c. as_core c ≡ related (as_surface_rel rel) x y) }
+pub fn related(
+    alloc: Global,
+    rel: SurfaceRel,
+    index: u32,
+    x: u32,
+    y: u32,
+) -> Result<Core, AllocError>
+    ensures { IfOk result (λ c. as_core c ≡ related (as_surface_rel rel) index x y) }
 {
     match rel {
-        SurfaceRel::Eq => Ok(Core::Atom(Rel::Eq, x, y)),
-        SurfaceRel::Step => Ok(Core::Atom(Rel::Step, x, y)),
-        SurfaceRel::Star => Ok(Core::Atom(Rel::Star, x, y)),
-        SurfaceRel::Plus => Ok(Core::Atom(Rel::Plus, x, y)),
-        SurfaceRel::Reflexive => at_most_one_step(alloc, x, y),
-        SurfaceRel::Normal => normalises(alloc, x, y),
-        SurfaceRel::Root => Ok(Core::Atom(Rel::Root, x, y)),
-        SurfaceRel::Below => Ok(Core::Atom(Rel::Below, x, y)),
-        SurfaceRel::Par => Ok(Core::Atom(Rel::Par, x, y)),
+        SurfaceRel::Eq => Ok(equal(x, y)),
+        SurfaceRel::Step => Ok(Core::Atom(Rel::Step, index, x, y)),
+        SurfaceRel::Star => Ok(Core::Atom(Rel::Star, index, x, y)),
+        SurfaceRel::Plus => Ok(Core::Atom(Rel::Plus, index, x, y)),
+        SurfaceRel::Reflexive => at_most_one_step(alloc, index, x, y),
+        SurfaceRel::Normal => normalises(alloc, index, x, y),
+        SurfaceRel::Root => Ok(Core::Atom(Rel::Root, index, x, y)),
+        SurfaceRel::Below => Ok(Core::Atom(Rel::Below, index, x, y)),
+        SurfaceRel::Par => Ok(Core::Atom(Rel::Par, index, x, y)),
         SurfaceRel::Either => or(
             alloc,
-            Core::Atom(Rel::Step, x, y),
-            Core::Atom(Rel::Step, y, x),
+            Core::Atom(Rel::Step, index, x, y),
+            Core::Atom(Rel::Step, index, y, x),
         ),
-        SurfaceRel::Conv => Ok(Core::Atom(Rel::Conv, x, y)),
+        SurfaceRel::Conv => Ok(Core::Atom(Rel::Conv, index, x, y)),
     }
 }
 
 /// That some term, of the number `x`, is so related to both `y` and `z`.
-fn forks(alloc: Global, rel: SurfaceRel, x: u32, y: u32, z: u32) -> Result<Core, AllocError>
-    ensures { IfOk result (λ c. as_core c ≡ forks (related (as_surface_rel rel)) x y z) }
+fn forks(
+    alloc: Global,
+    rel: SurfaceRel,
+    index: u32,
+    x: u32,
+    y: u32,
+    z: u32,
+) -> Result<Core, AllocError>
+    ensures { IfOk result (λ c. as_core c ≡ forks (related (as_surface_rel rel) index) x y z) }
 {
     let both = and(
         alloc,
-        related(alloc, rel, x, y)?,
-        related(alloc, rel, x, z)?,
+        related(alloc, rel, index, x, y)?,
+        related(alloc, rel, index, x, z)?,
     )?;
     some(alloc, x, both)
 }
@@ -140,52 +160,56 @@ fn each_two(
     premise: Core,
     conclusion: Core,
 ) -> Result<Core, AllocError>
-    ensures { IfOk result (λ c. as_core c ≡ every n (every m (implies (as_core premise) (as_core conclusion)))) }
+    ensures { IfOk result (λ c. as_core c
+        ≡ every n (every m (implies (as_core premise) (as_core conclusion)))) }
 {
     let implication = implies(alloc, premise, conclusion)?;
     every(alloc, n, every(alloc, m, implication)?)
 }
 
 /// The formula of a property, with numbers from `n` on.
-pub fn property_core(alloc: Global, property: Macro, n: u32) -> Result<Core, AllocError>
-    ensures { IfOk result (λ c. as_core c ≡ property_core (as_property property) n) }
+pub fn property_core(alloc: Global, property: Macro, index: u32, n: u32) -> Result<Core, AllocError>
+    requires { n + 2 < 2 ^ 32 }
+    ensures { IfOk result (λ c. as_core c ≡ property_core (as_property property) index n) }
 {
-    let m = n.checked_add(1).ok_or(AllocError)?;
-    let k = n.checked_add(2).ok_or(AllocError)?;
+    let m = n + 1;
+    let k = n + 2;
     match property {
         Macro::Cr => {
-            let premise = forks(alloc, SurfaceRel::Star, k, n, m)?;
-            each_two(alloc, n, m, premise, joins(alloc, k, n, m)?)
+            let premise = forks(alloc, SurfaceRel::Star, index, k, n, m)?;
+            each_two(alloc, n, m, premise, joins(alloc, index, k, n, m)?)
         }
         Macro::Wcr => {
-            let premise = forks(alloc, SurfaceRel::Step, k, n, m)?;
-            each_two(alloc, n, m, premise, joins(alloc, k, n, m)?)
+            let premise = forks(alloc, SurfaceRel::Step, index, k, n, m)?;
+            each_two(alloc, n, m, premise, joins(alloc, index, k, n, m)?)
         }
         Macro::Scr => {
-            let premise = forks(alloc, SurfaceRel::Step, k, n, m)?;
+            let premise = forks(alloc, SurfaceRel::Step, index, k, n, m)?;
             let both = and(
                 alloc,
-                at_most_one_step(alloc, n, k)?,
-                Core::Atom(Rel::Star, m, k),
+                at_most_one_step(alloc, index, n, k)?,
+                Core::Atom(Rel::Star, index, m, k),
             )?;
             each_two(alloc, n, m, premise, some(alloc, k, both)?)
         }
         Macro::Wn => {
-            let reduct = some(alloc, m, normalises(alloc, n, m)?)?;
+            let reduct = some(alloc, m, normalises(alloc, index, n, m)?)?;
             every(alloc, n, reduct)
         }
         Macro::Unr => {
-            let premise = forks(alloc, SurfaceRel::Normal, k, n, m)?;
-            each_two(alloc, n, m, premise, Core::Atom(Rel::Eq, n, m))
+            let premise = forks(alloc, SurfaceRel::Normal, index, k, n, m)?;
+            each_two(alloc, n, m, premise, equal(n, m))
         }
         Macro::Unc => {
-            let first = and(alloc, Core::Atom(Rel::Conv, n, m), Core::Nf(n))?;
-            let premise = and(alloc, first, Core::Nf(m))?;
-            each_two(alloc, n, m, premise, Core::Atom(Rel::Eq, n, m))
+            let conversion = Core::Atom(Rel::Conv, index, n, m);
+            let first = and(alloc, conversion, Core::Nf(index, n))?;
+            let premise = and(alloc, first, Core::Nf(index, m))?;
+            each_two(alloc, n, m, premise, equal(n, m))
         }
         Macro::Nfp => {
-            let premise = and(alloc, Core::Atom(Rel::Conv, n, m), Core::Nf(m))?;
-            each_two(alloc, n, m, premise, Core::Atom(Rel::Star, n, m))
+            let conversion = Core::Atom(Rel::Conv, index, n, m);
+            let premise = and(alloc, conversion, Core::Nf(index, m))?;
+            each_two(alloc, n, m, premise, Core::Atom(Rel::Star, index, n, m))
         }
     }
 }

@@ -1,7 +1,11 @@
-ghost use Rattle.std.specs.Prelude.{◌≡◌, ℕ, ◌↔◌, IsTrue, IfOk, OnOk, Contains};
+//! The columns of a core formula, and whether it is too wide.
+
+ghost use Rattle.std.specs.Prelude.{◌≡◌, ℕ, ◌↔◌, ◌<◌, ◌⊎◌, IsTrue, IfOk, OnOk, Contains, length};
 ghost use Rattle.std.specs.List.Sorted.{IsStrictlyIncreasing};
-ghost use Rattle.fort_theory.specs.Parts.{is_free, AreColumns, IsTooWide};
+ghost use Rattle.fort_logic.specs.Parts.{is_free, AreColumns, IsTooWide};
+ghost use Rattle.fort_theory.specs.Signatures.{most_columns};
 ghost use Rattle.fort_formulas.specs.CoreView.{as_core};
+ghost use Rattle.fort_formulas.specs.Surveys.{IsSurveyOf};
 
 use crate::core_formula::Core;
 use std::alloc::{AllocError, Global};
@@ -15,8 +19,8 @@ pub fn is_free(n: u32, core: &Core) -> bool
 {
     match core {
         Core::True => false,
-        Core::Atom(_, x, y) => *x == n || *y == n,
-        Core::Nf(x) => *x == n,
+        Core::Atom(_, _, x, y) => *x == n || *y == n,
+        Core::Nf(_, x) => *x == n,
         Core::Not(f) => is_free(n, f.as_core()),
         Core::And(f, g) | Core::Or(f, g) | Core::Iff(f, g) => {
             is_free(n, f.as_core()) || is_free(n, g.as_core())
@@ -29,51 +33,71 @@ pub fn is_free(n: u32, core: &Core) -> bool
 pub fn free(alloc: Global, core: &Core) -> Result<Vec<u32>, AllocError>
     ensures { IfOk result (λ ns. AreColumns (as_core core.now) ns.items) }
 {
-    match core {
-        Core::True => Ok(Vec::new(alloc)),
-        Core::Nf(x) => Ok(vec![in alloc; *x]?),
-        Core::Atom(_, x, y) => {
-            let mut columns = vec![in alloc; *x, *y]?;
-            put_in_order(&mut columns)?;
-            Ok(columns)
-        }
-        Core::Not(f) => free(alloc, f.as_core()),
-        Core::And(f, g) | Core::Or(f, g) | Core::Iff(f, g) => {
-            let mut columns = free(alloc, f.as_core())?;
-            columns.extend_from_slice(&free(alloc, g.as_core())?)?;
-            put_in_order(&mut columns)?;
-            Ok(columns)
-        }
-        Core::Exists(n, f) | Core::Infinite(n, f) => {
-            let mut columns = free(alloc, f.as_core())?;
-            columns.retain(|column| *n != *column);
-            Ok(columns)
-        }
-    }
-}
-
-/// The same numbers, each once and ascending.
-fn put_in_order(numbers: &mut Vec<u32>) -> Result<(), AllocError>
-    ensures rise { OnOk result (IsStrictlyIncreasing numbers.new.items) }
-    ensures same { OnOk result ((n : ℕ) → Contains numbers.new.items n ↔ Contains numbers.old.items n) }
-{
-    numbers.sort()?;
-    numbers.dedup();
-    Ok(())
+    Ok(walk(alloc, core)?.columns)
 }
 
 /// Whether some part has more columns than a part may have.
 pub fn is_too_wide(alloc: Global, core: &Core) -> Result<bool, AllocError>
     ensures { IfOk result (λ wide. IsTrue wide ↔ IsTooWide (as_core core.now)) }
 {
-    if free(alloc, core)?.len() > MOST_COLUMNS {
-        return Ok(true);
-    }
+    Ok(walk(alloc, core)?.too_wide)
+}
+
+/// What one walk over a formula finds: its columns, and whether some part of it has too many.
+#[derive(Drop)]
+struct Survey {
+    columns: Vec<u32>,
+    too_wide: bool,
+}
+
+fn walk(alloc: Global, core: &Core) -> Result<Survey, AllocError>
+    ensures { IfOk result (IsSurveyOf (as_core core.now)) }
+{
     match core {
-        Core::True | Core::Atom(_, _, _) | Core::Nf(_) => Ok(false),
-        Core::Not(f) | Core::Exists(_, f) | Core::Infinite(_, f) => is_too_wide(alloc, f.as_core()),
+        Core::True => Ok(surveyed(Vec::new(alloc), false)),
+        Core::Nf(_, x) => Ok(surveyed(vec![in alloc; *x]?, false)),
+        Core::Atom(_, _, x, y) => {
+            let mut columns = vec![in alloc; *x, *y]?;
+            put_in_order(&mut columns)?;
+            Ok(surveyed(columns, false))
+        }
+        Core::Not(f) => walk(alloc, f.as_core()),
         Core::And(f, g) | Core::Or(f, g) | Core::Iff(f, g) => {
-            Ok(is_too_wide(alloc, f.as_core())? || is_too_wide(alloc, g.as_core())?)
+            let first = walk(alloc, f.as_core())?;
+            let second = walk(alloc, g.as_core())?;
+            let mut columns = first.columns;
+            columns.extend_from_slice(&second.columns)?;
+            put_in_order(&mut columns)?;
+            Ok(surveyed(columns, first.too_wide | second.too_wide))
+        }
+        Core::Exists(n, f) | Core::Infinite(n, f) => {
+            let Survey {
+                mut columns,
+                too_wide,
+            } = walk(alloc, f.as_core())?;
+            columns.retain(|column| *n != *column);
+            Ok(surveyed(columns, too_wide))
         }
     }
+}
+
+/// What is found of a formula with these columns, whose operands are too wide or not.
+fn surveyed(columns: Vec<u32>, operands_too_wide: bool) -> Survey
+    ensures columns { result.columns ≡ columns }
+    ensures wide { IsTrue result.too_wide
+        ↔ (IsTrue operands_too_wide ⊎ (most_columns < length columns.items)) }
+{
+    let too_wide = operands_too_wide || columns.len() > MOST_COLUMNS;
+    Survey { columns, too_wide }
+}
+
+/// The same numbers, each once and ascending.
+fn put_in_order(numbers: &mut Vec<u32>) -> Result<(), AllocError>
+    ensures rise { OnOk result (IsStrictlyIncreasing numbers.new.items) }
+    ensures same { OnOk result ((n : ℕ) → Contains numbers.new.items n
+        ↔ Contains numbers.old.items n) }
+{
+    numbers.sort()?;
+    numbers.dedup();
+    Ok(())
 }

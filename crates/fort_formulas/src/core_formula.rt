@@ -1,3 +1,5 @@
+//! Core formulas, which can be keys of maps and sets.
+
 ghost use Rattle.std.specs.Prelude.{◌≡◌, IfOk};
 ghost use Rattle.std.specs.Ordering.{nat_cmp};
 ghost use Rattle.fort_formulas.specs.CoreCode.{rel_place};
@@ -44,10 +46,10 @@ impl Rel {
 #[cycle(core)]
 pub enum Core {
     True,
-    /// These two variables are related.
-    Atom(Rel, u32, u32),
-    /// This variable is a normal form.
-    Nf(u32),
+    /// By the rules of this index, these two variables are related. The index is 1 for `Rel::Eq`.
+    Atom(Rel, u32, u32, u32),
+    /// By the rules of this index, this variable is a normal form.
+    Nf(u32, u32),
     Not(Arm),
     And(Arm, Arm),
     Or(Arm, Arm),
@@ -66,7 +68,7 @@ pub struct Arm {
 }
 
 impl Model for Arm {
-    ghost use Rattle.fort_theory.specs.Cores as theory;
+    ghost use Rattle.fort_logic.specs.Cores as theory;
     ghost use Rattle.fort_formulas.specs.CoreCode.{core_code};
 
     ghost Value = { theory.Core };
@@ -129,8 +131,8 @@ impl Core {
     {
         match self {
             Core::True => Ok(Core::True),
-            Core::Atom(rel, x, y) => Ok(Core::Atom(*rel, *x, *y)),
-            Core::Nf(x) => Ok(Core::Nf(*x)),
+            Core::Atom(rel, index, x, y) => Ok(Core::Atom(*rel, *index, *x, *y)),
+            Core::Nf(index, x) => Ok(Core::Nf(*index, *x)),
             Core::Not(f) => Ok(Core::Not(f.copy(alloc)?)),
             Core::And(f, g) => Ok(Core::And(f.copy(alloc)?, g.copy(alloc)?)),
             Core::Or(f, g) => Ok(Core::Or(f.copy(alloc)?, g.copy(alloc)?)),
@@ -142,23 +144,21 @@ impl Core {
 }
 
 impl PartialEq for Core {
-    ghost use Rattle.std.specs.Prelude.{nat_eq};
     ghost use Rattle.std.specs.Ordering.{on};
-    ghost use lib.Pointwise.{pointwise};
-    ghost use Rattle.fort_formulas.specs.CoreKeys.{core_spelled};
+    ghost use Rattle.fort_formulas.specs.CoreKeys.{core_spelled, same_marks};
     ghost use Rattle.fort_formulas.specs.CoreKeyLaws.{Core_eq-partial_equiv};
 
-    ghost eq = { on core_spelled (pointwise nat_eq) };
+    ghost eq = { on core_spelled same_marks };
 
     ghost laws = { Core_eq-partial_equiv };
 
     fn eq(&self, other: &Core) -> bool {
         match (self, other) {
             (Core::True, Core::True) => true,
-            (Core::Atom(rel, x, y), Core::Atom(other_rel, u, v)) => {
-                rel == other_rel && x == u && y == v
+            (Core::Atom(rel, i, x, y), Core::Atom(other_rel, j, u, v)) => {
+                rel == other_rel && i == j && x == u && y == v
             }
-            (Core::Nf(x), Core::Nf(y)) => x == y,
+            (Core::Nf(i, x), Core::Nf(j, y)) => i == j && x == y,
             (Core::Not(f), Core::Not(g)) => *f.as_core() == *g.as_core(),
             (Core::And(f, g), Core::And(h, k)) => *f.as_core() == *h.as_core()
                 && *g.as_core() == *k.as_core(),
@@ -174,13 +174,12 @@ impl PartialEq for Core {
 }
 
 impl PartialEq for Arm {
-    ghost use Rattle.std.specs.Prelude.{nat_eq};
     ghost use Rattle.std.specs.Ordering.{on};
-    ghost use lib.Pointwise.{pointwise};
     ghost use Rattle.fort_formulas.specs.CoreCode.{spelled};
+    ghost use Rattle.fort_formulas.specs.CoreKeys.{same_marks};
     ghost use Rattle.fort_formulas.specs.CoreKeyLaws.{arm_eq-partial_equiv};
 
-    ghost eq = { on spelled (pointwise nat_eq) };
+    ghost eq = { on spelled same_marks };
 
     ghost laws = { arm_eq-partial_equiv };
 
@@ -208,8 +207,8 @@ impl Core {
     {
         match self {
             Core::True => 0,
-            Core::Atom(_, _, _) => 1,
-            Core::Nf(_) => 2,
+            Core::Atom(_, _, _, _) => 1,
+            Core::Nf(_, _) => 2,
             Core::Not(_) => 3,
             Core::And(_, _) => 4,
             Core::Or(_, _) => 5,
@@ -221,13 +220,11 @@ impl Core {
 }
 
 impl PartialOrd for Core {
-    ghost use Rattle.std.specs.Prelude.{nat_eq};
-    ghost use Rattle.std.specs.Ordering.{as_partial_cmp, nat_cmp, on};
-    ghost use Rattle.std.specs.Cmp.Lexicographic.{slice_cmp};
-    ghost use Rattle.fort_formulas.specs.CoreKeys.{core_spelled};
+    ghost use Rattle.std.specs.Ordering.{as_partial_cmp, on};
+    ghost use Rattle.fort_formulas.specs.CoreKeys.{core_spelled, marks_order};
     ghost use Rattle.fort_formulas.specs.CoreOrderLaws.{Core_order-partial};
 
-    ghost partial_cmp = { as_partial_cmp (on core_spelled (slice_cmp nat_cmp)) };
+    ghost partial_cmp = { as_partial_cmp (on core_spelled marks_order) };
 
     ghost laws = { Core_order-partial };
 
@@ -237,12 +234,12 @@ impl PartialOrd for Core {
 }
 
 impl PartialOrd for Arm {
-    ghost use Rattle.std.specs.Ordering.{as_partial_cmp, nat_cmp, on};
-    ghost use Rattle.std.specs.Cmp.Lexicographic.{slice_cmp};
+    ghost use Rattle.std.specs.Ordering.{as_partial_cmp, on};
     ghost use Rattle.fort_formulas.specs.CoreCode.{spelled};
+    ghost use Rattle.fort_formulas.specs.CoreKeys.{marks_order};
     ghost use Rattle.fort_formulas.specs.CoreOrderLaws.{arm_order-partial};
 
-    ghost partial_cmp = { as_partial_cmp (on spelled (slice_cmp nat_cmp)) };
+    ghost partial_cmp = { as_partial_cmp (on spelled marks_order) };
 
     ghost laws = { arm_order-partial };
 
@@ -253,12 +250,11 @@ impl PartialOrd for Arm {
 
 impl Ord for Core {
     ghost use Rattle.std.specs.Prelude.{refl};
-    ghost use Rattle.std.specs.Ordering.{nat_cmp, on};
-    ghost use Rattle.std.specs.Cmp.Lexicographic.{slice_cmp};
-    ghost use Rattle.fort_formulas.specs.CoreKeys.{core_spelled};
+    ghost use Rattle.std.specs.Ordering.{on};
+    ghost use Rattle.fort_formulas.specs.CoreKeys.{core_spelled, marks_order};
     ghost use Rattle.fort_formulas.specs.CoreOrderLaws.{Core_order-total, Core_eq-ties};
 
-    ghost cmp = { on core_spelled (slice_cmp nat_cmp) };
+    ghost cmp = { on core_spelled marks_order };
 
     ghost total = { Core_order-total };
 
@@ -269,10 +265,12 @@ impl Ord for Core {
     fn cmp(&self, other: &Core) -> Ordering {
         match (self, other) {
             (Core::True, Core::True) => Ordering::Equal,
-            (Core::Atom(rel, x, y), Core::Atom(other_rel, u, v)) => {
-                rel.order(*other_rel).then(x.cmp(u)).then(y.cmp(v))
-            }
-            (Core::Nf(x), Core::Nf(y)) => x.cmp(y),
+            (Core::Atom(rel, i, x, y), Core::Atom(other_rel, j, u, v)) => rel
+                .order(*other_rel)
+                .then(i.cmp(j))
+                .then(x.cmp(u))
+                .then(y.cmp(v)),
+            (Core::Nf(i, x), Core::Nf(j, y)) => i.cmp(j).then(x.cmp(y)),
             (Core::Not(f), Core::Not(g)) => f.as_core().cmp(g.as_core()),
             (Core::And(f, g), Core::And(h, k)) => match f.as_core().cmp(h.as_core()) {
                 Ordering::Equal => g.as_core().cmp(k.as_core()),
@@ -301,12 +299,12 @@ impl Ord for Core {
 
 impl Ord for Arm {
     ghost use Rattle.std.specs.Prelude.{refl};
-    ghost use Rattle.std.specs.Ordering.{nat_cmp, on};
-    ghost use Rattle.std.specs.Cmp.Lexicographic.{slice_cmp};
+    ghost use Rattle.std.specs.Ordering.{on};
     ghost use Rattle.fort_formulas.specs.CoreCode.{spelled};
+    ghost use Rattle.fort_formulas.specs.CoreKeys.{marks_order};
     ghost use Rattle.fort_formulas.specs.CoreOrderLaws.{arm_order-total, arm_eq-ties};
 
-    ghost cmp = { on spelled (slice_cmp nat_cmp) };
+    ghost cmp = { on spelled marks_order };
 
     ghost total = { arm_order-total };
 
@@ -332,12 +330,16 @@ impl Hash for Core {
         state.write_u8(self.place());
         match self {
             Core::True => {}
-            Core::Atom(rel, x, y) => {
+            Core::Atom(rel, index, x, y) => {
                 rel.hash(state);
+                index.hash(state);
                 x.hash(state);
                 y.hash(state);
             }
-            Core::Nf(x) => x.hash(state),
+            Core::Nf(index, x) => {
+                index.hash(state);
+                x.hash(state);
+            }
             Core::Not(f) => f.as_core().hash(state),
             Core::And(f, g) => {
                 f.as_core().hash(state);

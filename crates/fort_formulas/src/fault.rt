@@ -1,3 +1,5 @@
+//! Why there is no core formula.
+
 ghost use Rattle.std.specs.Prelude.{◌≡◌};
 ghost use Rattle.fort_formulas.specs.declared.fault.CoreFault.TheVariants.{Memory};
 
@@ -6,8 +8,10 @@ use std::alloc::{AllocError, AllocFailed};
 /// Why a formula has no core formula that can be decided.
 #[derive(Clone, Copy, Debug, PartialEq, Eq)]
 pub enum CoreFault {
-    /// There is not enough memory, or there are not enough numbers below 2^32.
+    /// There is not enough memory.
     Memory,
+    /// It sets aside more than 2^32 numbers; a property sets aside three, though some use two.
+    TooManyNumbers,
     /// Some part has more than 16 free variables.
     TooWide,
 }

@@ -1,3 +1,5 @@
+//! The kinds of core formulas.
+
 /// The root of a core formula.
 #[derive(Clone, Copy, Debug, PartialEq, Eq)]
 pub enum Kind {

@@ -1,5 +1,5 @@
-//! Formulas as users write them, and core formulas, which have numbers for variables and few connectives and can be keys
-//! of maps and sets.
+//! Formulas as users write them, and core formulas, which have numbers for variables and few
+//! connectives and can be keys of maps and sets.
 #![tactic(auto)]
 
 mod abbreviations;
@@ -8,6 +8,7 @@ pub mod core_formula;
 mod fault;
 mod kinds;
 mod names;
+mod numbers;
 mod roots;
 mod scope;
 mod subformulas;

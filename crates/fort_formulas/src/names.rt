@@ -1,22 +1,25 @@
+//! The free names of a formula.
+
 ghost use Rattle.std.specs.Prelude.{◌≡◌, ℕ, ◌↔◌, List, [], ◌∷◌, ◌++◌, IsTrue, IfOk, OnOk, Contains};
-ghost use Rattle.fort_theory.specs.FreeNames.{without, once, free_names};
+ghost use Rattle.fort_logic.specs.FreeNames.{without, once, free_names};
 ghost use Rattle.fort_formulas.specs.FormulaView.{as_formula};
 
 use crate::surface::{Formula, Name};
 use std::alloc::{AllocError, Global};
 
-/// The free variables, in the order of their first free occurrences. It fails for want of memory alone.
+/// The free variables, in the order of their first free occurrences. It fails for want of memory
+/// alone.
 pub fn free_names(alloc: Global, formula: &Formula) -> Result<Vec<Name>, AllocError>
     ensures { IfOk result (λ names. names.items ≡ free_names (as_formula formula.now)) }
 {
     match formula {
-        Formula::True | Formula::False | Formula::Macro(_) => Ok(Vec::new(alloc)),
-        Formula::Nf(x) => {
+        Formula::True | Formula::False | Formula::Macro(_, _) => Ok(Vec::new(alloc)),
+        Formula::Nf(x, _) => {
             let mut names = Vec::new(alloc);
             names.push(x.copy(alloc)?)?;
             Ok(names)
         }
-        Formula::Rel(_, x, y) | Formula::Join(x, y) => {
+        Formula::Rel(_, x, y, _) | Formula::Join(x, y, _) => {
             let mut names = Vec::new(alloc);
             names.push(x.copy(alloc)?)?;
             push_new(&mut names, y.copy(alloc)?)?;
@@ -39,7 +42,8 @@ pub fn free_names(alloc: Global, formula: &Formula) -> Result<Vec<Name>, AllocEr
 
 /// Puts the name behind the others, unless it is among them.
 fn push_new(names: &mut Vec<Name>, name: Name) -> Result<(), AllocError>
-    ensures { OnOk result ((xs : List (List ℕ)) → names.old.items ≡ once xs → names.new.items ≡ once (xs ++ name ∷ [])) }
+    ensures { OnOk result ((xs : List (List ℕ)) → names.old.items ≡ once xs
+        → names.new.items ≡ once (xs ++ name ∷ [])) }
 {
     if !is_among(names, &name) {
         names.push(name)?;
@@ -49,7 +53,8 @@ fn push_new(names: &mut Vec<Name>, name: Name) -> Result<(), AllocError>
 
 /// Puts each name behind the others, unless it is among them.
 fn push_all_new(names: &mut Vec<Name>, more: Vec<Name>) -> Result<(), AllocError>
-    ensures { OnOk result ((xs ys : List (List ℕ)) → names.old.items ≡ once xs → more.items ≡ once ys → names.new.items ≡ once (xs ++ ys)) }
+    ensures { OnOk result ((xs ys : List (List ℕ)) → names.old.items ≡ once xs
+        → more.items ≡ once ys → names.new.items ≡ once (xs ++ ys)) }
 {
     for name in more {
         push_new(names, name)?;

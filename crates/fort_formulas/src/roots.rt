@@ -1,5 +1,7 @@
+//! The kind of a core formula.
+
 ghost use Rattle.std.specs.Prelude.{◌≡◌};
-ghost use Rattle.fort_theory.specs.Kinds.{kind_of};
+ghost use Rattle.fort_logic.specs.Kinds.{kind_of};
 ghost use Rattle.fort_formulas.specs.CoreView.{as_core};
 ghost use Rattle.fort_formulas.specs.KindView.{as_kind};
 
@@ -12,7 +14,7 @@ pub fn kind(core: &Core) -> Kind
 {
     match core {
         Core::True => Kind::True,
-        Core::Atom(rel, _, _) => match rel {
+        Core::Atom(rel, _, _, _) => match rel {
             Rel::Eq => Kind::Eq,
             Rel::Root => Kind::Root,
             Rel::Below => Kind::Below,
@@ -22,7 +24,7 @@ pub fn kind(core: &Core) -> Kind
             Rel::Star => Kind::Star,
             Rel::Conv => Kind::Conv,
         },
-        Core::Nf(_) => Kind::Nf,
+        Core::Nf(_, _) => Kind::Nf,
         Core::Not(_) => Kind::Not,
         Core::And(_, _) => Kind::And,
         Core::Or(_, _) => Kind::Or,

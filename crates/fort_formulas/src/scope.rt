@@ -1,9 +1,10 @@
-ghost use Rattle.std.specs.Prelude.{◌≡◌, length, reverse, IfOk};
-ghost use Rattle.fort_theory.specs.Translation.{number_in};
+//! Scopes, which number names.
+
+ghost use Rattle.std.specs.Prelude.{◌≡◌, ℕ, ◌^◌, ◌<◌, ◌≤◌, ◌-◌, length, reverse};
+ghost use Rattle.fort_logic.specs.Translation.{number_in};
 ghost use Rattle.fort_formulas.specs.ScopeView.{as_scope};
 
 use crate::surface::Name;
-use std::alloc::AllocError;
 
 /// The names that may be used. Their numbers count from the outermost one.
 #[derive(Drop)]
@@ -15,19 +16,21 @@ pub enum Scope<'a> {
 }
 
 impl Scope<'_> {
-    /// How many names there are; an error if they are too many for numbers.
-    pub fn depth(&self) -> Result<u32, AllocError>
-        ensures { IfOk result (λ n. n ≡ length (as_scope self.now)) }
+    /// How many names there are.
+    pub fn depth(&self) -> u32
+        requires { length (as_scope self.now) < 2 ^ 32 }
+        ensures { result ≡ length (as_scope self.now) }
     {
         match self {
-            Scope::Free(names) => u32::try_from(names.len()).map_err(|_| AllocError),
-            Scope::Bound(_, outer) => outer.depth()?.checked_add(1).ok_or(AllocError),
+            Scope::Free(names) => names.len() as u32,
+            Scope::Bound(_, outer) => outer.depth() + 1,
         }
     }
 
     /// The number of a name, by its innermost place.
-    pub fn number(&self, name: &Name) -> Result<u32, AllocError>
-        ensures { IfOk result (λ n. n ≡ number_in (as_scope self.now) name.now) }
+    pub fn number(&self, name: &Name) -> u32
+        requires { length (as_scope self.now) ≤ 2 ^ 32 }
+        ensures { result ≡ number_in (as_scope self.now) name.now }
     {
         match self {
             Scope::Free(names) => number_among(names, name),
@@ -43,8 +46,9 @@ impl Scope<'_> {
 }
 
 /// The last place of a name, or 0.
-fn number_among(names: &[Name], name: &Name) -> Result<u32, AllocError>
-    ensures { IfOk result (λ n. n ≡ number_in (reverse names.now) name.now) }
+fn number_among(names: &[Name], name: &Name) -> u32
+    requires { length names.now ≤ 2 ^ 32 }
+    ensures { result ≡ number_in (reverse names.now) name.now }
 {
     let mut number = 0;
     for (i, other) in names.iter().enumerate() {
@@ -52,5 +56,5 @@ fn number_among(names: &[Name], name: &Name) -> Result<u32, AllocError>
             number = i;
         }
     }
-    u32::try_from(number).map_err(|_| AllocError)
+    number as u32
 }

@@ -1,14 +1,17 @@
+//! The parts of a core formula.
+
 ghost use Rattle.std.specs.Prelude.{◌≡◌, List, [], ◌∷◌, ◌++◌, map, IfOk, OnOk};
-ghost use Rattle.fort_theory.specs.Cores as theory;
-ghost use Rattle.fort_theory.specs.EachOnce.{AreEachOnce};
-ghost use Rattle.fort_theory.specs.Parts.{postorder, AreParts};
+ghost use Rattle.fort_logic.specs.Cores as theory;
+ghost use Rattle.fort_logic.specs.EachOnce.{AreEachOnce};
+ghost use Rattle.fort_logic.specs.Parts.{postorder};
+ghost use Rattle.fort_logic.specs.PartLists.{AreParts};
 ghost use Rattle.fort_formulas.specs.CoreView.{as_core};
 
 use crate::core_formula::Core;
 use std::alloc::{AllocError, Global};
 
-/// The different subformulas, operands before their formula, in the order of their first places. It fails for want of
-/// memory alone.
+/// The different subformulas, operands before their formula, in the order of their first places.
+/// It fails for want of memory alone.
 pub fn parts(alloc: Global, core: &Core) -> Result<Vec<Core>, AllocError>
     ensures { IfOk result (λ ps. AreParts (as_core core.now) (map as_core ps.items)) }
 {
@@ -18,11 +21,12 @@ pub fn parts(alloc: Global, core: &Core) -> Result<Vec<Core>, AllocError>
 }
 
 fn push_parts(alloc: Global, core: &Core, found: &mut Vec<Core>) -> Result<(), AllocError>
-    ensures { OnOk result ((before : List theory.Core) → AreEachOnce before (map as_core found.old.items)
+    ensures { OnOk result ((before : List theory.Core)
+        → AreEachOnce before (map as_core found.old.items)
         → AreEachOnce (before ++ postorder (as_core core.now)) (map as_core found.new.items)) }
 {
     match core {
-        Core::True | Core::Atom(_, _, _) | Core::Nf(_) => push_new(alloc, core, found),
+        Core::True | Core::Atom(_, _, _, _) | Core::Nf(_, _) => push_new(alloc, core, found),
         Core::Not(f) | Core::Exists(_, f) | Core::Infinite(_, f) => {
             push_parts(alloc, f.as_core(), found)?;
             push_new(alloc, core, found)
@@ -37,7 +41,8 @@ fn push_parts(alloc: Global, core: &Core, found: &mut Vec<Core>) -> Result<(), A
 
 /// Puts a copy of the formula behind the others, unless it is among them.
 fn push_new(alloc: Global, core: &Core, found: &mut Vec<Core>) -> Result<(), AllocError>
-    ensures { OnOk result ((before : List theory.Core) → AreEachOnce before (map as_core found.old.items)
+    ensures { OnOk result ((before : List theory.Core)
+        → AreEachOnce before (map as_core found.old.items)
         → AreEachOnce (before ++ as_core core.now ∷ []) (map as_core found.new.items)) }
 {
     if !found.contains(core) {

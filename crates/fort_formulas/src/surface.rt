@@ -1,3 +1,5 @@
+//! Formulas as users write them.
+
 ghost use Rattle.std.specs.Prelude.{◌≡◌, IfOk};
 ghost use Rattle.fort_formulas.specs.FormulaView.{as_formula};
 
@@ -95,14 +97,14 @@ pub enum Macro {
 pub enum Formula {
     True,
     False,
-    /// These two variables are related.
-    Rel(SurfaceRel, Name, Name),
-    /// This variable is a normal form.
-    Nf(Name),
-    /// These two variables have a common reduct.
-    Join(Name, Name),
-    /// The system has this property.
-    Macro(Macro),
+    /// These two variables are related, by the rules of this index.
+    Rel(SurfaceRel, Name, Name, u32),
+    /// This variable is a normal form of the rules of this index.
+    Nf(Name, u32),
+    /// These two variables have a common reduct by the rules of this index.
+    Join(Name, Name, u32),
+    /// The rules of this index have this property.
+    Macro(Macro, u32),
     Not(Operand),
     And(Operand, Operand),
     Or(Operand, Operand),
@@ -124,7 +126,7 @@ pub struct Operand {
 }
 
 impl Model for Operand {
-    ghost use Rattle.fort_theory.specs.Formulas as theory;
+    ghost use Rattle.fort_logic.specs.Formulas as theory;
     ghost use Rattle.fort_formulas.specs.FormulaCode.{formula_code};
 
     ghost Value = { theory.Formula };

@@ -1,2 +1,4 @@
+//! Tests.
+
 mod keys;
 mod translations;

@@ -1,3 +1,5 @@
+//! Core formulas as keys.
+
 use crate::{Arm, Core, Rel};
 use indexmap::IndexSet;
 use std::alloc::Global;
@@ -9,8 +11,8 @@ use std::test::Fail;
 #[derive(Clone, Copy)]
 pub enum Shape {
     True,
-    Atom(Rel, u32, u32),
-    Nf(u32),
+    Atom(Rel, u32, u32, u32),
+    Nf(u32, u32),
     Not(usize),
     And(usize, usize),
     Or(usize, usize),
@@ -20,36 +22,38 @@ pub enum Shape {
 }
 
 /// Formulas in ascending order; the last one has every connective.
-const SHAPES: [Shape; 29] = [
+const SHAPES: [Shape; 31] = [
     Shape::True,
-    Shape::Atom(Rel::Eq, 0, 1),
-    Shape::Atom(Rel::Eq, 1, 0),
-    Shape::Atom(Rel::Root, 0, 0),
-    Shape::Atom(Rel::Conv, 0, 0),
-    Shape::Nf(0),
-    Shape::Nf(1),
+    Shape::Atom(Rel::Eq, 1, 0, 1),
+    Shape::Atom(Rel::Eq, 1, 1, 0),
+    Shape::Atom(Rel::Root, 1, 1, 1),
+    Shape::Atom(Rel::Root, 2, 0, 0),
+    Shape::Atom(Rel::Conv, 1, 0, 0),
+    Shape::Nf(1, 1),
+    Shape::Nf(2, 0),
+    Shape::Nf(2, 1),
     Shape::Not(0),
-    Shape::Not(5),
     Shape::Not(7),
+    Shape::Not(9),
     Shape::And(0, 0),
-    Shape::And(0, 5),
-    Shape::And(5, 0),
-    Shape::And(7, 1),
+    Shape::And(0, 7),
+    Shape::And(7, 0),
+    Shape::And(9, 1),
     Shape::Or(0, 0),
-    Shape::Or(0, 10),
-    Shape::Or(10, 0),
-    Shape::Or(13, 5),
+    Shape::Or(0, 12),
+    Shape::Or(12, 0),
+    Shape::Or(15, 7),
     Shape::Iff(0, 0),
-    Shape::Iff(0, 5),
-    Shape::Iff(17, 0),
+    Shape::Iff(0, 7),
+    Shape::Iff(19, 0),
     Shape::Exists(0, 0),
-    Shape::Exists(0, 5),
+    Shape::Exists(0, 7),
     Shape::Exists(1, 0),
-    Shape::Exists(1, 20),
+    Shape::Exists(1, 22),
     Shape::Infinite(0, 0),
-    Shape::Infinite(0, 21),
+    Shape::Infinite(0, 23),
     Shape::Infinite(1, 0),
-    Shape::Infinite(1, 24),
+    Shape::Infinite(1, 26),
 ];
 
 const RELATIONS: [Rel; 8] = [
@@ -81,8 +85,8 @@ fn operands(
 pub fn formula(alloc: Global, formulas: &[Core], shape: Shape) -> Result<Core, Fail> {
     match shape {
         Shape::True => Ok(Core::True),
-        Shape::Atom(rel, x, y) => Ok(Core::Atom(rel, x, y)),
-        Shape::Nf(x) => Ok(Core::Nf(x)),
+        Shape::Atom(rel, index, x, y) => Ok(Core::Atom(rel, index, x, y)),
+        Shape::Nf(index, x) => Ok(Core::Nf(index, x)),
         Shape::Not(f) => Ok(Core::Not(operand(alloc, formulas, f)?)),
         Shape::And(f, g) => {
             let (f, g) = operands(alloc, formulas, f, g)?;

@@ -1,3 +1,5 @@
+//! Core formulas of formulas.
+
 use super::keys::{Shape, formula as core_formula};
 use crate::{
     Core, CoreFault, Formula, Kind, Macro, Name, Operand, Rel, SurfaceRel, free, free_names, kind,
@@ -9,10 +11,10 @@ use std::test::Fail;
 /// A word of a formula in postfix form.
 #[derive(Clone, Copy)]
 enum Word {
-    Rel(SurfaceRel, &'static str, &'static str),
-    Nf(&'static str),
-    Join(&'static str, &'static str),
-    Macro(Macro),
+    Rel(SurfaceRel, &'static str, &'static str, u32),
+    Nf(&'static str, u32),
+    Join(&'static str, &'static str, u32),
+    Macro(Macro, u32),
     And,
     Imp,
     Exists(&'static str),
@@ -36,10 +38,15 @@ fn operands(alloc: Global, stack: &mut Vec<Formula>) -> Result<(Operand, Operand
 
 fn apply(alloc: Global, stack: &mut Vec<Formula>, word: Word) -> Result<Formula, Fail> {
     match word {
-        Word::Rel(rel, x, y) => Ok(Formula::Rel(rel, name(alloc, x)?, name(alloc, y)?)),
-        Word::Nf(x) => Ok(Formula::Nf(name(alloc, x)?)),
-        Word::Join(x, y) => Ok(Formula::Join(name(alloc, x)?, name(alloc, y)?)),
-        Word::Macro(property) => Ok(Formula::Macro(property)),
+        Word::Rel(rel, x, y, index) => Ok(Formula::Rel(
+            rel,
+            name(alloc, x)?,
+            name(alloc, y)?,
+            index,
+        )),
+        Word::Nf(x, index) => Ok(Formula::Nf(name(alloc, x)?, index)),
+        Word::Join(x, y, index) => Ok(Formula::Join(name(alloc, x)?, name(alloc, y)?, index)),
+        Word::Macro(property, index) => Ok(Formula::Macro(property, index)),
         Word::And => {
             let (f, g) = operands(alloc, stack)?;
             Ok(Formula::And(f, g))
@@ -74,17 +81,17 @@ fn cores(alloc: Global, shapes: &[Shape]) -> Result<Vec<Core>, Fail> {
 
 /// For each x, infinitely many y that it reduces to.
 const MANY_REDUCTS: &[Word] = &[
-    Word::Rel(SurfaceRel::Star, "x", "y"),
+    Word::Rel(SurfaceRel::Star, "x", "y", 1),
     Word::Infinite("y"),
     Word::Forall("x"),
 ];
 
 /// Formulas, and the parts of their core formulas.
-const TRANSLATIONS: [(&[Word], &[Shape]); 8] = [
+const TRANSLATIONS: [(&[Word], &[Shape]); 11] = [
     (
         MANY_REDUCTS,
         &[
-            Shape::Atom(Rel::Star, 0, 1),
+            Shape::Atom(Rel::Star, 1, 0, 1),
             Shape::Infinite(1, 0),
             Shape::Not(1),
             Shape::Exists(0, 2),
@@ -92,29 +99,29 @@ const TRANSLATIONS: [(&[Word], &[Shape]); 8] = [
         ],
     ),
     (
-        &[Word::Rel(SurfaceRel::Step, "y", "y"), Word::Exists("x")],
-        &[Shape::Atom(Rel::Step, 0, 0)],
+        &[Word::Rel(SurfaceRel::Step, "y", "y", 1), Word::Exists("x")],
+        &[Shape::Atom(Rel::Step, 1, 0, 0)],
     ),
     (
-        &[Word::Nf("y"), Word::Infinite("x")],
+        &[Word::Nf("y", 1), Word::Infinite("x")],
         &[
-            Shape::Nf(0),
-            Shape::Atom(Rel::Eq, 1, 1),
+            Shape::Nf(1, 0),
+            Shape::Atom(Rel::Eq, 1, 1, 1),
             Shape::Infinite(1, 1),
             Shape::And(0, 2),
         ],
     ),
     (
         &[
-            Word::Nf("x"),
-            Word::Macro(Macro::Wn),
+            Word::Nf("x", 1),
+            Word::Macro(Macro::Wn, 1),
             Word::And,
             Word::Exists("x"),
         ],
         &[
-            Shape::Nf(0),
-            Shape::Atom(Rel::Star, 1, 2),
-            Shape::Nf(2),
+            Shape::Nf(1, 0),
+            Shape::Atom(Rel::Star, 1, 1, 2),
+            Shape::Nf(1, 2),
             Shape::And(1, 2),
             Shape::Exists(2, 3),
             Shape::Not(4),
@@ -126,45 +133,82 @@ const TRANSLATIONS: [(&[Word], &[Shape]); 8] = [
     ),
     (
         &[
-            Word::Rel(SurfaceRel::Step, "x", "y"),
-            Word::Rel(SurfaceRel::Root, "x", "y"),
+            Word::Rel(SurfaceRel::Step, "x", "y", 1),
+            Word::Rel(SurfaceRel::Root, "x", "y", 1),
             Word::Exists("x"),
             Word::And,
             Word::Exists("x"),
         ],
         &[
-            Shape::Atom(Rel::Step, 1, 0),
-            Shape::Atom(Rel::Root, 2, 0),
+            Shape::Atom(Rel::Step, 1, 1, 0),
+            Shape::Atom(Rel::Root, 1, 2, 0),
             Shape::Exists(2, 1),
             Shape::And(0, 2),
             Shape::Exists(1, 3),
         ],
     ),
     (
-        &[Word::Join("x", "y")],
+        &[Word::Join("x", "y", 1)],
         &[
-            Shape::Atom(Rel::Star, 0, 2),
-            Shape::Atom(Rel::Star, 1, 2),
+            Shape::Atom(Rel::Star, 1, 0, 2),
+            Shape::Atom(Rel::Star, 1, 1, 2),
             Shape::And(0, 1),
             Shape::Exists(2, 2),
         ],
     ),
     (
-        &[Word::Nf("x"), Word::Nf("x"), Word::And],
-        &[Shape::Nf(0), Shape::And(0, 0)],
+        &[Word::Nf("x", 1), Word::Nf("x", 1), Word::And],
+        &[Shape::Nf(1, 0), Shape::And(0, 0)],
     ),
     (
         &[
-            Word::Nf("x"),
-            Word::Rel(SurfaceRel::Normal, "y", "x"),
+            Word::Nf("x", 1),
+            Word::Rel(SurfaceRel::Normal, "y", "x", 1),
             Word::Imp,
         ],
         &[
-            Shape::Nf(0),
+            Shape::Nf(1, 0),
             Shape::Not(0),
-            Shape::Atom(Rel::Star, 1, 0),
+            Shape::Atom(Rel::Star, 1, 1, 0),
             Shape::And(2, 0),
             Shape::Or(1, 3),
+        ],
+    ),
+    (
+        &[Word::Rel(SurfaceRel::Reflexive, "x", "y", 2)],
+        &[
+            Shape::Atom(Rel::Eq, 1, 0, 1),
+            Shape::Atom(Rel::Step, 2, 0, 1),
+            Shape::Or(0, 1),
+        ],
+    ),
+    (
+        &[Word::Join("x", "x", 3), Word::Nf("x", 2), Word::And],
+        &[
+            Shape::Atom(Rel::Star, 3, 0, 1),
+            Shape::And(0, 0),
+            Shape::Exists(1, 1),
+            Shape::Nf(2, 0),
+            Shape::And(2, 3),
+        ],
+    ),
+    (
+        &[Word::Macro(Macro::Unc, 2)],
+        &[
+            Shape::Atom(Rel::Conv, 2, 0, 1),
+            Shape::Nf(2, 0),
+            Shape::And(0, 1),
+            Shape::Nf(2, 1),
+            Shape::And(2, 3),
+            Shape::Not(4),
+            Shape::Atom(Rel::Eq, 1, 0, 1),
+            Shape::Or(5, 6),
+            Shape::Not(7),
+            Shape::Exists(1, 8),
+            Shape::Not(9),
+            Shape::Not(10),
+            Shape::Exists(0, 11),
+            Shape::Not(12),
         ],
     ),
 ];
@@ -203,24 +247,24 @@ fn kinds_and_columns(rt: HostRuntime) -> Result<(), Fail> {
 const FREE_NAMES: [(&[Word], &[&str]); 3] = [
     (
         &[
-            Word::Rel(SurfaceRel::Eq, "z", "y"),
-            Word::Rel(SurfaceRel::Step, "y", "x"),
+            Word::Rel(SurfaceRel::Eq, "z", "y", 1),
+            Word::Rel(SurfaceRel::Step, "y", "x", 1),
             Word::And,
         ],
         &["z", "y", "x"],
     ),
     (
         &[
-            Word::Nf("x"),
+            Word::Nf("x", 1),
             Word::Exists("x"),
-            Word::Join("y", "x"),
+            Word::Join("y", "x", 1),
             Word::And,
         ],
         &["y", "x"],
     ),
     (
         &[
-            Word::Rel(SurfaceRel::Star, "x", "y"),
+            Word::Rel(SurfaceRel::Star, "x", "y", 1),
             Word::Forall("y"),
             Word::Infinite("x"),
         ],
@@ -251,7 +295,7 @@ fn equations(alloc: Global, names: &[&'static str]) -> Result<Vec<Word>, Fail> {
     let mut words = Vec::new(alloc);
     for pair in names.windows(2) {
         if let [x, y] = pair {
-            words.push(Word::Rel(SurfaceRel::Eq, x, y))?;
+            words.push(Word::Rel(SurfaceRel::Eq, x, y, 1))?;
             if words.len() > 1 {
                 words.push(Word::And)?;
             }

@@ -1,5 +1,5 @@
 use Rattle.std.proofs.Common.{refl}
-use Rattle.fort_theory.specs.Formulas as theory
+use Rattle.fort_logic.specs.Formulas as theory
 use Rattle.fort_formulas.specs.FormulaView.{as_surface_rel}
 use Rattle.fort_formula_parser.proofs.Atoms.{IsParsed-compared, same_names}
 use Rattle.fort_formula_parser.proofs.atom.compared.Goals as goal
@@ -10,4 +10,4 @@ returns-clause-ok c =
     let x = c.args.x.now in
     let y = c.in-Some-variable_at.y.now in
     IsParsed-compared c.args.lexemes.now c.args.at rel x y _ c.requires c.in-Some.ensures c.in-Some-variable_at.ensures refl
-    (same_names (theory.Related rel) c.in_ok-name_of.field-0 c.in_ok-name_of-2.field-0 x y c.in_ok-name_of.ensures.ok c.in_ok-name_of-2.ensures.ok)
+    (same_names (λ a b. theory.Related rel a b 1) c.in_ok-name_of.field-0 c.in_ok-name_of-2.field-0 x y c.in_ok-name_of.ensures.ok c.in_ok-name_of-2.ensures.ok)

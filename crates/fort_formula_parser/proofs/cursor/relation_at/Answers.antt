@@ -1,13 +1,13 @@
 use Rattle.std.proofs.Common.{ap}
-use Rattle.fort_grammar.specs.Tokens as grammar
+use Rattle.fort_formula_grammar.specs.Tokens as grammar
 use Rattle.fort_formula_parser.specs.TokenView.{as_token}
-use Rattle.fort_formula_parser.proofs.Cursors.{IsNext-at, HasNoNext-at, other_relation}
+use Rattle.fort_formula_parser.proofs.Cursors.{IsTokenAt-lexeme, HasNoNext-at, other_relation}
 use Rattle.fort_formula_parser.proofs.cursor.relation_at.Goals as goal
 
 pub returns-in-Related : goal.returns-in-Related
 returns-in-Related c =
     let here = c.in_ok-rel.ensures.lookup.3 in
-    IsNext-at c.args.lexemes.now c.args.at c.in_ok-rel.field-0.now _ here.0 here.1 (ap as_token c.in-Related.is)
+    IsTokenAt-lexeme c.args.lexemes.now c.args.at c.in_ok-rel.field-0.now _ here.0 here.1 (ap as_token c.in-Related.is)
 
 pub returns-in_default : goal.returns-in_default
 returns-in_default c x rest h =

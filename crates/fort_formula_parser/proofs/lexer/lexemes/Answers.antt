@@ -1,9 +1,9 @@
 use Rattle.std.proofs.Common.{◌+◌, arith, sym, subst, drop}
-use Rattle.fort_grammar.specs.TokenText.{BeginsWithNoToken, Reads}
-use Rattle.fort_grammar.specs.FormulaText.{Bad}
+use Rattle.fort_formula_grammar.specs.TokenText.{BeginsWithNoToken, Reads}
+use Rattle.fort_formula_grammar.specs.FormulaText.{Bad}
 use Rattle.fort_formula_parser.specs.TokenView.{tokens_of}
 use Rattle.fort_formula_parser.specs.Places.{HavePlaces}
-use Rattle.fort_formula_parser.proofs.Offsets.{Reads-none, HavePlaces-none, Reads-blank, Bad-at, drop-slice, more_tokens}
+use Rattle.fort_formula_parser.proofs.PlacesLaws.{Reads-none, HavePlaces-none, Reads-blank, Bad-at, drop-slice, more_tokens}
 use Rattle.fort_formula_parser.proofs.lexer.lexemes.Goals as goal
 
 pub loop-at-init : goal.loop-at-init

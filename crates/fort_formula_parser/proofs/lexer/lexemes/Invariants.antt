@@ -1,5 +1,5 @@
 use Rattle.std.proofs.Common.{◌≤◌, ◌-◌, length, drop}
-use Rattle.fort_grammar.specs.TokenText.{Reads}
+use Rattle.fort_formula_grammar.specs.TokenText.{Reads}
 use Rattle.fort_formula_parser.specs.TokenView.{tokens_of}
 use Rattle.fort_formula_parser.specs.Places.{HavePlaces}
 use Rattle.fort_formula_parser.proofs.lexer.lexemes.Given as goal

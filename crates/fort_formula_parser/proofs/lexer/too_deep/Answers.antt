@@ -1,7 +1,7 @@
 use Rattle.std.proofs.Common.{ap, sym, ◌∙◌, arith, [], ◌∷◌}
-use Rattle.fort_grammar.specs.FormulaText.{open_behind}
+use Rattle.fort_formula_grammar.specs.FormulaText.{open_behind}
 use Rattle.fort_formula_parser.specs.TokenView.{as_token}
-use Rattle.fort_formula_parser.proofs.Offsets.{OpensTooMany-at, open_behind-step, open_behind-other}
+use Rattle.fort_formula_parser.proofs.PlacesLaws.{OpensTooMany-at, open_behind-step, open_behind-other}
 use Rattle.fort_formula_parser.proofs.lexer.too_deep.Goals as goal
 use Rattle.fort_formula_parser.proofs.lexer.too_deep.Goals.{in-Open+else-open-eq-DEEPEST, in-Close, in_default}
 

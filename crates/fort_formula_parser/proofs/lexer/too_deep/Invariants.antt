@@ -1,5 +1,5 @@
 use Rattle.std.proofs.Common.{◌≡◌, ℕ, ◌≤◌, take}
-use Rattle.fort_grammar.specs.FormulaText.{open_behind, deepest_formula}
+use Rattle.fort_formula_grammar.specs.FormulaText.{open_behind, deepest_formula}
 use Rattle.fort_formula_parser.specs.TokenView.{tokens_of}
 use Rattle.fort_formula_parser.proofs.lexer.too_deep.Given as goal
 

@@ -1,14 +1,14 @@
 use Rattle.std.proofs.Common.{refl, ap, arith}
 use Rattle.std.proofs.lemmas.Result.{err_from_is_err_and, IfOk-weaker, IfErr-weaker}
-use Rattle.fort_theory.specs.Formulas as theory
-use Rattle.fort_grammar.specs.Tokens.{Open, Not, Exists, Forall, Infinite, True, False, Nf, Join, Has, Variable}
-use Rattle.fort_grammar.specs.FormulaGrammar.{Truth, Falsity, Named}
-use Rattle.fort_grammar.proofs.FormulaNone.{conjunction-none, disjunction-none, implication-none, formula-none}
-use Rattle.fort_grammar.proofs.UnaryNone.{ended_none, unbegun_none, not_none, some_none, every_none, infinite_unnamed}
+use Rattle.fort_logic.specs.Formulas as theory
+use Rattle.fort_formula_grammar.specs.Tokens.{Open, Not, Exists, Forall, Infinite, True, False, Nf, Join, Has, Variable}
+use Rattle.fort_formula_grammar.specs.FormulaGrammar.{Truth, Falsity, Named}
+use Rattle.fort_formula_grammar.proofs.FormulaNone.{conjunction-none, disjunction-none, implication-none, formula-none}
+use Rattle.fort_formula_grammar.proofs.UnaryNone.{ended_none, unbegun_none, not_none, some_none, every_none, infinite_unnamed}
 use Rattle.fort_formulas.specs.FormulaView.{as_property}
 use Rattle.fort_formula_parser.specs.TokenView.{as_token}
 use Rattle.fort_formula_parser.specs.Parsing.{as_quantifier}
-use Rattle.fort_formula_parser.proofs.Cursors.{rest_of-at, rest_of-end, IsNext-at}
+use Rattle.fort_formula_parser.proofs.Cursors.{rest_of-at, rest_of-end, IsTokenAt-lexeme}
 use Rattle.fort_formula_parser.proofs.Atoms.{IsParsed-unary}
 use Rattle.fort_formula_parser.proofs.Levels.{IsSyntaxWhere-weaker, handed_on, conjunction-first, conjunction-more, conjunction-over, disjunction-first, disjunction-more, disjunction-over, implication-alone, implication-joined, implication-over, formula-alone, formula-joined, formula-no_right, formula-twice}
 use Rattle.fort_formula_parser.proofs.Bodies.{IsParsed-body, HasNoBody-unclosed, IsParsed-last_binder, IsParsed-more_binders, HasNoBound-body, HasNoBound-others, IsParsed-negated, IsParsed-some, IsParsed-every, IsParsed-enclosed, IsParsed-infinite, HasNoUnary-infinite, HasNoUnary-enclosed, begins_unary-other}
@@ -142,14 +142,14 @@ unary-returns-in_default-token-clause-err t c =
 pub unary-returns-in_err-unary-in-Not-clause-err : goal.unary-returns-in_err-unary-in-Not-clause-err
 unary-returns-in_err-unary-in-Not-clause-err t c =
     let at = c.in-Some.ensures.lookup.3 in
-    let next = IsNext-at c.args.lexemes.now c.args.at c.in-Some.lexeme.now Not at.0 at.1 (ap as_token c.in-Not.is) in
+    let next = IsTokenAt-lexeme c.args.lexemes.now c.args.at c.in-Some.lexeme.now Not at.0 at.1 (ap as_token c.in-Not.is) in
     let p = err_from_is_err_and c.from_residual.result c.from_residual.ensures.1 in
     handed_on c.from_residual.result p.0 c.in_err-unary-in-Not.field-0.0 _ _ (not_none next.next) p.1 p.2 c.in_err-unary-in-Not.ensures.err
 
 pub unary-returns-in_ok-unary-in-Not-clause-ok : goal.unary-returns-in_ok-unary-in-Not-clause-ok
 unary-returns-in_ok-unary-in-Not-clause-ok t c =
     let at = c.in-Some.ensures.lookup.3 in
-    let next = IsNext-at c.args.lexemes.now c.args.at c.in-Some.lexeme.now Not at.0 at.1 (ap as_token c.in-Not.is) in
+    let next = IsTokenAt-lexeme c.args.lexemes.now c.args.at c.in-Some.lexeme.now Not at.0 at.1 (ap as_token c.in-Not.is) in
     IfOk-weaker c.negated.result _ _
     (λ p built. IsParsed-negated c.args.lexemes.now c.args.at c.in_ok-unary-in-Not.field-0 p next c.in_ok-unary-in-Not.ensures.ok built)
     c.negated.ensures.ok
@@ -157,44 +157,44 @@ unary-returns-in_ok-unary-in-Not-clause-ok t c =
 pub unary-returns-in-Exists-clause-ok : goal.unary-returns-in-Exists-clause-ok
 unary-returns-in-Exists-clause-ok t c =
     let at = c.in-Some.ensures.lookup.3 in
-    let next = IsNext-at c.args.lexemes.now c.args.at c.in-Some.lexeme.now Exists at.0 at.1 (ap as_token c.in-Exists.is) in
+    let next = IsTokenAt-lexeme c.args.lexemes.now c.args.at c.in-Some.lexeme.now Exists at.0 at.1 (ap as_token c.in-Exists.is) in
     IfOk-weaker c.binders.result _ _ (λ p h. IsParsed-some c.args.lexemes.now c.args.at p next h) c.binders.ensures.ok
 
 pub unary-returns-in-Exists-clause-err : goal.unary-returns-in-Exists-clause-err
 unary-returns-in-Exists-clause-err t c =
     let at = c.in-Some.ensures.lookup.3 in
-    let next = IsNext-at c.args.lexemes.now c.args.at c.in-Some.lexeme.now Exists at.0 at.1 (ap as_token c.in-Exists.is) in
+    let next = IsTokenAt-lexeme c.args.lexemes.now c.args.at c.in-Some.lexeme.now Exists at.0 at.1 (ap as_token c.in-Exists.is) in
     IfErr-weaker c.binders.result _ _ (λ e h. IsSyntaxWhere-weaker _ _ e (some_none next.next) h) c.binders.ensures.err
 
 pub unary-returns-in-Forall-clause-ok : goal.unary-returns-in-Forall-clause-ok
 unary-returns-in-Forall-clause-ok t c =
     let at = c.in-Some.ensures.lookup.3 in
-    let next = IsNext-at c.args.lexemes.now c.args.at c.in-Some.lexeme.now Forall at.0 at.1 (ap as_token c.in-Forall.is) in
+    let next = IsTokenAt-lexeme c.args.lexemes.now c.args.at c.in-Some.lexeme.now Forall at.0 at.1 (ap as_token c.in-Forall.is) in
     IfOk-weaker c.binders-in-Forall.result _ _ (λ p h. IsParsed-every c.args.lexemes.now c.args.at p next h) c.binders-in-Forall.ensures.ok
 
 pub unary-returns-in-Forall-clause-err : goal.unary-returns-in-Forall-clause-err
 unary-returns-in-Forall-clause-err t c =
     let at = c.in-Some.ensures.lookup.3 in
-    let next = IsNext-at c.args.lexemes.now c.args.at c.in-Some.lexeme.now Forall at.0 at.1 (ap as_token c.in-Forall.is) in
+    let next = IsTokenAt-lexeme c.args.lexemes.now c.args.at c.in-Some.lexeme.now Forall at.0 at.1 (ap as_token c.in-Forall.is) in
     IfErr-weaker c.binders-in-Forall.result _ _ (λ e h. IsSyntaxWhere-weaker _ _ e (every_none next.next) h) c.binders-in-Forall.ensures.err
 
 pub unary-returns-in_default-variable_at-clause-err : goal.unary-returns-in_default-variable_at-clause-err
 unary-returns-in_default-variable_at-clause-err t c =
     let at = c.in-Some.ensures.lookup.3 in
-    let next = IsNext-at c.args.lexemes.now c.args.at c.in-Some.lexeme.now Infinite at.0 at.1 (ap as_token c.in-Infinite.is) in
+    let next = IsTokenAt-lexeme c.args.lexemes.now c.args.at c.in-Some.lexeme.now Infinite at.0 at.1 (ap as_token c.in-Infinite.is) in
     infinite_unnamed next.next c.in_default-variable_at.ensures
 
 pub unary-returns-in_err-enclosed-in-Infinite-clause-err : goal.unary-returns-in_err-enclosed-in-Infinite-clause-err
 unary-returns-in_err-enclosed-in-Infinite-clause-err t c =
     let at = c.in-Some.ensures.lookup.3 in
-    let next = IsNext-at c.args.lexemes.now c.args.at c.in-Some.lexeme.now Infinite at.0 at.1 (ap as_token c.in-Infinite.is) in
+    let next = IsTokenAt-lexeme c.args.lexemes.now c.args.at c.in-Some.lexeme.now Infinite at.0 at.1 (ap as_token c.in-Infinite.is) in
     let p = err_from_is_err_and c.from_residual-in_err-enclosed-in-Infinite.result c.from_residual-in_err-enclosed-in-Infinite.ensures.1 in
     handed_on c.from_residual-in_err-enclosed-in-Infinite.result p.0 c.in_err-enclosed-in-Infinite.field-0.0 _ _ (HasNoUnary-infinite c.args.lexemes.now c.args.at c.in-Some-variable_at.x.now next c.in-Some-variable_at.ensures) p.1 p.2 c.in_err-enclosed-in-Infinite.ensures.err
 
 pub unary-returns-in_ok-enclosed-in-Infinite-clause-ok : goal.unary-returns-in_ok-enclosed-in-Infinite-clause-ok
 unary-returns-in_ok-enclosed-in-Infinite-clause-ok t c =
     let at = c.in-Some.ensures.lookup.3 in
-    let next = IsNext-at c.args.lexemes.now c.args.at c.in-Some.lexeme.now Infinite at.0 at.1 (ap as_token c.in-Infinite.is) in
+    let next = IsTokenAt-lexeme c.args.lexemes.now c.args.at c.in-Some.lexeme.now Infinite at.0 at.1 (ap as_token c.in-Infinite.is) in
     IfOk-weaker c.infinite.result _ _
     (λ p built. IsParsed-infinite c.args.lexemes.now c.args.at c.in-Some-variable_at.x.now c.in_ok-enclosed-in-Infinite.field-0 p next c.in-Some-variable_at.ensures
     c.in_ok-enclosed-in-Infinite.ensures.ok built)
@@ -207,41 +207,41 @@ unary-returns-in-Open-clause-ok t c =
 pub unary-returns-in-Open-clause-err : goal.unary-returns-in-Open-clause-err
 unary-returns-in-Open-clause-err t c =
     let at = c.in-Some.ensures.lookup.3 in
-    let next = IsNext-at c.args.lexemes.now c.args.at c.in-Some.lexeme.now Open at.0 at.1 (ap as_token c.in-Open.is) in
+    let next = IsTokenAt-lexeme c.args.lexemes.now c.args.at c.in-Some.lexeme.now Open at.0 at.1 (ap as_token c.in-Open.is) in
     IfErr-weaker c.enclosed-in-Open.result _ _ (λ e h. IsSyntaxWhere-weaker _ _ e (HasNoUnary-enclosed c.args.lexemes.now c.args.at next) h) c.enclosed-in-Open.ensures.err
 
 pub unary-returns-in-True-clause-ok : goal.unary-returns-in-True-clause-ok
 unary-returns-in-True-clause-ok t c =
     let at = c.in-Some.ensures.lookup.3 in
-    let next = IsNext-at c.args.lexemes.now c.args.at c.in-Some.lexeme.now True at.0 at.1 (ap as_token c.in-True.is) in
+    let next = IsTokenAt-lexeme c.args.lexemes.now c.args.at c.in-Some.lexeme.now True at.0 at.1 (ap as_token c.in-True.is) in
     IsParsed-unary c.args.lexemes.now c.args.at _ theory.True _ (omega arith) (omega (arith, at.0)) next.next refl Truth
 
 pub unary-returns-in-False-clause-ok : goal.unary-returns-in-False-clause-ok
 unary-returns-in-False-clause-ok t c =
     let at = c.in-Some.ensures.lookup.3 in
-    let next = IsNext-at c.args.lexemes.now c.args.at c.in-Some.lexeme.now False at.0 at.1 (ap as_token c.in-False.is) in
+    let next = IsTokenAt-lexeme c.args.lexemes.now c.args.at c.in-Some.lexeme.now False at.0 at.1 (ap as_token c.in-False.is) in
     IsParsed-unary c.args.lexemes.now c.args.at _ theory.False _ (omega arith) (omega (arith, at.0)) next.next refl Falsity
 
 pub unary-returns-in-Has-clause-ok : goal.unary-returns-in-Has-clause-ok
 unary-returns-in-Has-clause-ok t c =
     let at = c.in-Some.ensures.lookup.3 in
-    let next = IsNext-at c.args.lexemes.now c.args.at c.in-Some.lexeme.now (Has (as_property c.in-Has.property)) at.0 at.1 (ap as_token c.in-Has.is) in
-    IsParsed-unary c.args.lexemes.now c.args.at _ (theory.Has (as_property c.in-Has.property)) _ (omega arith) (omega (arith, at.0)) next.next refl Named
+    let next = IsTokenAt-lexeme c.args.lexemes.now c.args.at c.in-Some.lexeme.now (Has (as_property c.in-Has.property)) at.0 at.1 (ap as_token c.in-Has.is) in
+    IsParsed-unary c.args.lexemes.now c.args.at _ (theory.Has (as_property c.in-Has.property) 1) _ (omega arith) (omega (arith, at.0)) next.next refl Named
 
 pub unary-normal_form-requires : goal.unary-normal_form-requires
 unary-normal_form-requires t c =
     let at = c.in-Some.ensures.lookup.3 in
-    let next = IsNext-at c.args.lexemes.now c.args.at c.in-Some.lexeme.now Nf at.0 at.1 (ap as_token c.in-Nf.is) in
+    let next = IsTokenAt-lexeme c.args.lexemes.now c.args.at c.in-Some.lexeme.now Nf at.0 at.1 (ap as_token c.in-Nf.is) in
     next
 
 pub unary-joinable-requires : goal.unary-joinable-requires
 unary-joinable-requires t c =
     let at = c.in-Some.ensures.lookup.3 in
-    let next = IsNext-at c.args.lexemes.now c.args.at c.in-Some.lexeme.now Join at.0 at.1 (ap as_token c.in-Join.is) in
+    let next = IsTokenAt-lexeme c.args.lexemes.now c.args.at c.in-Some.lexeme.now Join at.0 at.1 (ap as_token c.in-Join.is) in
     next
 
 pub unary-compared-requires : goal.unary-compared-requires
 unary-compared-requires t c =
     let at = c.in-Some.ensures.lookup.3 in
-    let next = IsNext-at c.args.lexemes.now c.args.at c.in-Some.lexeme.now (Variable c.in-Variable.x.now) at.0 at.1 (ap as_token c.in-Variable.is) in
+    let next = IsTokenAt-lexeme c.args.lexemes.now c.args.at c.in-Some.lexeme.now (Variable c.in-Variable.x.now) at.0 at.1 (ap as_token c.in-Variable.is) in
     next

@@ -1,5 +1,5 @@
 use Rattle.std.proofs.Common.{◌+◌, ◌-◌, ◌*◌, length}
-use Rattle.fort_grammar.specs.FormulaGrammar.{IsConjunction}
+use Rattle.fort_formula_grammar.specs.FormulaGrammar.{IsConjunction}
 use Rattle.fort_formula_parser.specs.Parsing.{IsParsed, IsStartedDisjunction}
 use Rattle.fort_formula_parser.proofs.parser.+parser.Given as goal
 

@@ -1,7 +1,7 @@
 use Rattle.std.proofs.Common.{◌≡◌, true, false, refl}
 use Rattle.std.proofs.lemmas.Bool.Decides.{Decides-eqb}
 use Rattle.std.proofs.lemmas.Slice.Eq.{starts_is}
-use Rattle.fort_formula_parser.proofs.Tables.{IsFirst-at, NoneBegins-more}
+use Rattle.fort_formula_parser.proofs.SpellingsLaws.{IsFirst-at, NoneBegins-more}
 use Rattle.fort_formula_parser.proofs.symbol.first_among.Goals as goal
 
 pub returns-then-starts_with-clause-some : goal.returns-then-starts_with-clause-some

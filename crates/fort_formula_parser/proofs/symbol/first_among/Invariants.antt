@@ -1,4 +1,4 @@
-use Rattle.fort_grammar.specs.TokenForms.{NoneBegins}
+use Rattle.fort_formula_grammar.specs.TokenForms.{NoneBegins}
 use Rattle.fort_formula_parser.specs.Spellings.{texts_of}
 use Rattle.fort_formula_parser.proofs.symbol.first_among.Given as goal
 

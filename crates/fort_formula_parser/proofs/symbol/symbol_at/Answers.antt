@@ -1,4 +1,4 @@
-use Rattle.fort_formula_parser.proofs.Tables.{IsSpotted-symbols, BeginsWithNoToken-symbols}
+use Rattle.fort_formula_parser.proofs.SpellingsLaws.{IsSpotted-symbols, BeginsWithNoToken-symbols}
 use Rattle.fort_formula_parser.proofs.symbol.symbol_at.Goals as goal
 
 pub returns-clause-some : goal.returns-clause-some

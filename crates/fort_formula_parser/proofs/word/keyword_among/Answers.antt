@@ -1,7 +1,7 @@
 use Rattle.std.proofs.Common.{◌≡◌, true, false, sym, ◌∙◌, below_more}
 use Rattle.std.proofs.lemmas.Bool.Decides.{Decides-eqb}
 use Rattle.std.proofs.lemmas.Slice.Eq.{slice_eq-Decides}
-use Rattle.fort_formula_parser.proofs.Tables.{texts_of-at}
+use Rattle.fort_formula_parser.proofs.SpellingsLaws.{texts_of-at}
 use Rattle.fort_formula_parser.proofs.word.keyword_among.Goals as goal
 
 pub loop-spelling-preserved : goal.loop-spelling-preserved

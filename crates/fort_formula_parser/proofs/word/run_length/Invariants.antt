@@ -1,5 +1,5 @@
 use Rattle.std.proofs.Common.{◌≡◌, ℕ, ◌<◌, true, get_or}
-use Rattle.fort_grammar.specs.Variables.{is_name_byte}
+use Rattle.fort_formula_grammar.specs.Tokens.{is_name_byte}
 use Rattle.fort_formula_parser.proofs.word.run_length.Given as goal
 
 abbrev pub invariant-loop-i : goal.invariant-loop-i

@@ -1,6 +1,6 @@
 use Rattle.std.proofs.Common.{refl}
-use Rattle.fort_grammar.proofs.TokenFronts.{IsVariable-run}
-use Rattle.fort_formula_parser.proofs.Tables.{IsSpotted-word}
+use Rattle.fort_formula_grammar.proofs.TokenFronts.{IsVariable-run}
+use Rattle.fort_formula_parser.proofs.SpellingsLaws.{IsSpotted-word}
 use Rattle.fort_formula_parser.proofs.word.word_at.Goals as goal
 
 pub returns-in-Some : goal.returns-in-Some

@@ -1,7 +1,7 @@
 use Rattle.std.proofs.Common.{◌≡◌, List, ◌++◌, [], ◌∷◌, inl, inr, sym, ◌∙◌, ap}
-use Rattle.fort_theory.specs.Formulas.{Name}
-use Rattle.fort_theory.specs.FreeNames.{without, once, occurrences, free_names}
-use Rattle.fort_theory.proofs.OnceNames.{once-without}
+use Rattle.fort_logic.specs.Formulas.{Name}
+use Rattle.fort_logic.specs.FreeNames.{without, once, occurrences, free_names}
+use Rattle.fort_logic.proofs.OnceNames.{once-without}
 use Rattle.fort_formulas.proofs.names.+free_names.Goals as goal
 
 pub returns-in_ok-names-in-Exists : goal.returns-in_ok-names-in-Exists
@@ -24,4 +24,4 @@ returns-in_ok-push_new-in-Rel t c =
     let one = one_name _ _ _ arm.x c.in_ok-push-in-Rel.ensures.items c.new-names-in-Rel.ensures.items c.in_ok-copy-in-Rel.ensures in
     let whole : c.push_new.new.names.items ≡ once (arm.x ∷ arm.y ∷ []) =
     c.in_ok-push_new-in-Rel.ensures (arm.x ∷ []) one ∙ ap (λ y. once (arm.x ∷ y ∷ [])) c.in_ok-copy-in-Rel-2.ensures in
-    elim arm.is [ inl rel ↦ rw rel.1 whole | inr join ↦ rw join whole ]
+    elim arm.is [ inl rel ↦ rw rel.2 whole | inr join ↦ rw join.1 whole ]

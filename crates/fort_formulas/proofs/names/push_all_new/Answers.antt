@@ -2,8 +2,8 @@ use Rattle.std.proofs.Common.{◌≡◌, ◌++◌, sym, ap, ◌∙◌}
 use Rattle.std.proofs.lemmas.List.{map-id}
 use Rattle.std.proofs.lemmas.Iterator.Adapters.{YieldsList-from_vec}
 use Rattle.std.proofs.lemmas.Iterator.Consumers.{YieldsList-end}
-use Rattle.fort_theory.specs.FreeNames.{once}
-use Rattle.fort_theory.proofs.OnceNames.{once-append_once}
+use Rattle.fort_logic.specs.FreeNames.{once}
+use Rattle.fort_logic.proofs.OnceNames.{once-append_once}
 use Rattle.fort_formulas.proofs.names.push_all_new.Goals as goal
 
 pub returns : goal.returns

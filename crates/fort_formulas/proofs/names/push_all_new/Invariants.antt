@@ -1,5 +1,5 @@
 use Rattle.std.proofs.Common.{◌≡◌, ℕ, List, ◌++◌}
-use Rattle.fort_theory.specs.FreeNames.{once}
+use Rattle.fort_logic.specs.FreeNames.{once}
 use Rattle.fort_formulas.proofs.names.push_all_new.Given as goal
 
 abbrev pub invariant-loop-name : goal.invariant-loop-name

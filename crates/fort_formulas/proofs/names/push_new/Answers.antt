@@ -1,6 +1,6 @@
 use Rattle.std.proofs.Common.{◌++◌, ◌∷◌, [], sym, ap, ◌∙◌}
 use Rattle.std.proofs.lemmas.Bool.{cond-true, cond-false}
-use Rattle.fort_theory.proofs.OnceNames.{once-push}
+use Rattle.fort_logic.proofs.OnceNames.{once-push}
 use Rattle.fort_formulas.proofs.names.push_new.Goals as goal
 
 pub returns-in_ok-push : goal.returns-in_ok-push

@@ -1,47 +1,47 @@
-use Rattle.std.proofs.Common.{nat_eq, sym, ◌∙◌, ◌≡◌}
-use lib.Pointwise.{pointwise}
+use Rattle.std.proofs.Common.{sym, ◌∙◌, ◌≡◌}
 use Rattle.fort_formulas.specs.CoreCode.{spelled}
+use Rattle.fort_formulas.specs.CoreKeys.{same_marks}
 use Rattle.fort_formulas.specs.CoreKeyLaws.{two_eq-then, two_eq-else}
 use Rattle.fort_formulas.proofs.core_formula.CorePartialEq.+eq.Goals as goal
 
 pub returns-then-eq-2 : goal.returns-then-eq-2
 returns-then-eq-2 t c =
-    let first : c.eq-in-And-And.result ≡ pointwise nat_eq (spelled c.in-And-And.f) (spelled c.in-And-And.h) =
+    let first : c.eq-in-And-And.result ≡ same_marks (spelled c.in-And-And.f) (spelled c.in-And-And.h) =
     rw (← c.as_core-in-And-And.ensures, ← c.as_core-in-And-And-2.ensures) c.eq-in-And-And.ensures in
-    let second : c.eq-then-eq-2.result ≡ pointwise nat_eq (spelled c.in-And-And.g) (spelled c.in-And-And.k) =
+    let second : c.eq-then-eq-2.result ≡ same_marks (spelled c.in-And-And.g) (spelled c.in-And-And.k) =
     rw (← c.as_core-then-eq-2.ensures, ← c.as_core-then-eq-2-2.ensures) c.eq-then-eq-2.ensures in
     rw (c.in-And-And.is-0, c.in-And-And.is-1, second) (two_eq-then c.in-And-And.f c.in-And-And.g c.in-And-And.h c.in-And-And.k (sym first ∙ c.if-eq-2.true))
 
 pub returns-else-eq-2 : goal.returns-else-eq-2
 returns-else-eq-2 t c =
-    let first : c.eq-in-And-And.result ≡ pointwise nat_eq (spelled c.in-And-And.f) (spelled c.in-And-And.h) =
+    let first : c.eq-in-And-And.result ≡ same_marks (spelled c.in-And-And.f) (spelled c.in-And-And.h) =
     rw (← c.as_core-in-And-And.ensures, ← c.as_core-in-And-And-2.ensures) c.eq-in-And-And.ensures in
     rw (c.in-And-And.is-0, c.in-And-And.is-1, c.if-eq-2.false) (two_eq-else c.in-And-And.f c.in-And-And.g c.in-And-And.h c.in-And-And.k (sym first ∙ c.if-eq-2.false))
 
 pub returns-then-eq-3 : goal.returns-then-eq-3
 returns-then-eq-3 t c =
-    let first : c.eq-in-Or-Or.result ≡ pointwise nat_eq (spelled c.in-Or-Or.f) (spelled c.in-Or-Or.h) =
+    let first : c.eq-in-Or-Or.result ≡ same_marks (spelled c.in-Or-Or.f) (spelled c.in-Or-Or.h) =
     rw (← c.as_core-in-Or-Or.ensures, ← c.as_core-in-Or-Or-2.ensures) c.eq-in-Or-Or.ensures in
-    let second : c.eq-then-eq-3.result ≡ pointwise nat_eq (spelled c.in-Or-Or.g) (spelled c.in-Or-Or.k) =
+    let second : c.eq-then-eq-3.result ≡ same_marks (spelled c.in-Or-Or.g) (spelled c.in-Or-Or.k) =
     rw (← c.as_core-then-eq-3.ensures, ← c.as_core-then-eq-3-2.ensures) c.eq-then-eq-3.ensures in
     rw (c.in-Or-Or.is-0, c.in-Or-Or.is-1, second) (two_eq-then c.in-Or-Or.f c.in-Or-Or.g c.in-Or-Or.h c.in-Or-Or.k (sym first ∙ c.if-eq-3.true))
 
 pub returns-else-eq-3 : goal.returns-else-eq-3
 returns-else-eq-3 t c =
-    let first : c.eq-in-Or-Or.result ≡ pointwise nat_eq (spelled c.in-Or-Or.f) (spelled c.in-Or-Or.h) =
+    let first : c.eq-in-Or-Or.result ≡ same_marks (spelled c.in-Or-Or.f) (spelled c.in-Or-Or.h) =
     rw (← c.as_core-in-Or-Or.ensures, ← c.as_core-in-Or-Or-2.ensures) c.eq-in-Or-Or.ensures in
     rw (c.in-Or-Or.is-0, c.in-Or-Or.is-1, c.if-eq-3.false) (two_eq-else c.in-Or-Or.f c.in-Or-Or.g c.in-Or-Or.h c.in-Or-Or.k (sym first ∙ c.if-eq-3.false))
 
 pub returns-then-eq-4 : goal.returns-then-eq-4
 returns-then-eq-4 t c =
-    let first : c.eq-in-Iff-Iff.result ≡ pointwise nat_eq (spelled c.in-Iff-Iff.f) (spelled c.in-Iff-Iff.h) =
+    let first : c.eq-in-Iff-Iff.result ≡ same_marks (spelled c.in-Iff-Iff.f) (spelled c.in-Iff-Iff.h) =
     rw (← c.as_core-in-Iff-Iff.ensures, ← c.as_core-in-Iff-Iff-2.ensures) c.eq-in-Iff-Iff.ensures in
-    let second : c.eq-then-eq-4.result ≡ pointwise nat_eq (spelled c.in-Iff-Iff.g) (spelled c.in-Iff-Iff.k) =
+    let second : c.eq-then-eq-4.result ≡ same_marks (spelled c.in-Iff-Iff.g) (spelled c.in-Iff-Iff.k) =
     rw (← c.as_core-then-eq-4.ensures, ← c.as_core-then-eq-4-2.ensures) c.eq-then-eq-4.ensures in
     rw (c.in-Iff-Iff.is-0, c.in-Iff-Iff.is-1, second) (two_eq-then c.in-Iff-Iff.f c.in-Iff-Iff.g c.in-Iff-Iff.h c.in-Iff-Iff.k (sym first ∙ c.if-eq-4.true))
 
 pub returns-else-eq-4 : goal.returns-else-eq-4
 returns-else-eq-4 t c =
-    let first : c.eq-in-Iff-Iff.result ≡ pointwise nat_eq (spelled c.in-Iff-Iff.f) (spelled c.in-Iff-Iff.h) =
+    let first : c.eq-in-Iff-Iff.result ≡ same_marks (spelled c.in-Iff-Iff.f) (spelled c.in-Iff-Iff.h) =
     rw (← c.as_core-in-Iff-Iff.ensures, ← c.as_core-in-Iff-Iff-2.ensures) c.eq-in-Iff-Iff.ensures in
     rw (c.in-Iff-Iff.is-0, c.in-Iff-Iff.is-1, c.if-eq-4.false) (two_eq-else c.in-Iff-Iff.f c.in-Iff-Iff.g c.in-Iff-Iff.h c.in-Iff-Iff.k (sym first ∙ c.if-eq-4.false))

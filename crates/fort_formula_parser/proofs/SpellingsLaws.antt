@@ -3,11 +3,10 @@ use Rattle.std.proofs.Common.{◌≡◌, ℕ, ◌+◌, ◌<◌, ◌≤◌, true,
 use Rattle.std.proofs.lemmas.Bool.{cases_lt}
 use Rattle.std.proofs.lemmas.List.{get_or-map, length-map, length-take-le}
 use Rattle.std.proofs.lemmas.List.Prefix.{front_fits}
-use Rattle.fort_grammar.specs.Variables.{begins_with_letter}
-use Rattle.fort_grammar.specs.Tokens.{token_text, IsToken}
-use Rattle.fort_grammar.specs.TokenText.{BeginsWithNoToken}
-use Rattle.fort_grammar.specs.TokenForms.{symbol_texts, NoneBegins, IsRun}
-use Rattle.fort_grammar.proofs.TokenFronts.{BeginsWithToken-symbol, BeginsWithNoToken-symbol, BeginsWithToken-word, token-some}
+use Rattle.fort_formula_grammar.specs.Tokens.{begins_with_letter, token_text, IsToken}
+use Rattle.fort_formula_grammar.specs.TokenText.{BeginsWithNoToken}
+use Rattle.fort_formula_grammar.specs.TokenForms.{symbol_texts, NoneBegins, IsRun}
+use Rattle.fort_formula_grammar.proofs.TokenFronts.{BeginsWithToken-symbol, BeginsWithNoToken-symbol, BeginsWithToken-word, token-some}
 use Rattle.fort_formula_parser.specs.declared.token.Spelling.{Spelling}
 use Rattle.fort_formula_parser.specs.declared.token.Spotted.{Spotted}
 use Rattle.fort_formula_parser.specs.TokenView.{as_token}

@@ -4,10 +4,11 @@ use Rattle.std.proofs.lemmas.Bool.{cases_lt}
 use Rattle.std.proofs.lemmas.List.{get_or-map, length-map, map-append, append-nil, take-append-le, get_or_append_left, take-take, take_all, take_more, drop-drop, drop_more, length-drop, length-take-le, length_push}
 use Rattle.std.proofs.Math.Seq.{get_or-append_seam, take-append_seam}
 use Rattle.fort_grammar.specs.Text.{is_blank}
-use Rattle.fort_grammar.specs.Tokens.{Token, Open, Close, token_text}
-use Rattle.fort_grammar.specs.TokenText.{BeginsWithNoToken, Reads, Nothing, Blank, Next, IsBadByte}
-use Rattle.fort_grammar.specs.FormulaText.{open_behind, deepest_formula, AreShallow, OpensTooMany}
-use Rattle.fort_grammar.proofs.TokenReadings.{Reads-append}
+use Rattle.fort_formula_grammar.specs.Tokens.{Token, Open, token_text}
+use Rattle.fort_formula_grammar.specs.TokenText.{BeginsWithNoToken, Reads, Nothing, Blank, Next, IsBadByte}
+use Rattle.fort_formula_grammar.specs.FormulaText.{open_behind, deepest_formula, AreShallow, OpensTooMany}
+use Rattle.fort_formula_grammar.proofs.TokenReadings.{Reads-append}
+use Rattle.fort_formula_grammar.proofs.OpenUnique.{open_behind-append}
 use Rattle.fort_formula_parser.specs.declared.token.Token as code
 use Rattle.fort_formula_parser.specs.declared.token.Token.TheVariants as variants
 use Rattle.fort_formula_parser.specs.declared.token.Lexeme.{Lexeme}
@@ -73,12 +74,6 @@ pub StandsBehind-spotted : (text : List ℕ) (at : ℕ) (tokens : List Token) (f
 StandsBehind-spotted text at tokens found lt r s = record { within = lt; read = r; rest = drop found.len (drop at text); begins = s.begins }
 
 -- parentheses
-open_behind-append : (n : ℕ) (ts us : List Token) → open_behind n (ts ++ us) ≡ open_behind (open_behind n ts) us
-open_behind-append n [] us = refl
-open_behind-append n (Open ∷ ts) us = open_behind-append (n + 1) ts us
-open_behind-append n (Close ∷ ts) us = open_behind-append (n - 1) ts us
-open_behind-append n (t ∷ ts) us = open_behind-append n ts us
-
 pub open_behind-more : (ts : List Token) (i : ℕ) (d : Token) → i < length ts → open_behind 0 (take (i + 1) ts) ≡ open_behind (open_behind 0 (take i ts)) (get_or ts i d ∷ [])
 open_behind-more ts i d lt = ap (open_behind 0) (take_more ts i d lt) ∙ open_behind-append 0 (take i ts) (get_or ts i d ∷ [])
 
@@ -91,9 +86,6 @@ AreShallow-front ts n le h k =
           let same : open_behind 0 (take k (take n ts)) ≡ open_behind 0 (take n ts) = ap (open_behind 0) (take_all k (take n ts) (omega (arith, size, up))) in
           let here = h n (omega arith) in omega (arith, same, here)
     ]
-
-pub AreShallow-all : (ts : List Token) (n : ℕ) → n ≡ length ts → ((k : ℕ) → k ≤ n → open_behind 0 (take k ts) ≤ deepest_formula) → AreShallow ts
-AreShallow-all ts n e h = subst AreShallow (take_all n ts (omega arith)) (AreShallow-front ts n (omega arith) h)
 
 pub tokens_of-at : (lexemes : List Lexeme) (k : ℕ) (d : Lexeme) (t : Token) → k < length lexemes → get_or (tokens_of lexemes) k t ≡ as_token (get_or lexemes k d).token
 tokens_of-at lexemes k d t lt = get_or-map (λ l. as_token l.token) lexemes k d t lt

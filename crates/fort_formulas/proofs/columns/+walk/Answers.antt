@@ -1,0 +1,120 @@
+use Rattle.std.proofs.Common.{◌≡◌, ◌++◌, ◌==◌, not, filter, rules, inl, inr, refl, ap, ◌∙◌}
+use Rattle.std.proofs.lemmas.Fn.{filter_same}
+use Rattle.std.proofs.lemmas.Result.{IfOk-weaker}
+use Rattle.fort_logic.specs.Cores as theory
+use Rattle.fort_logic.specs.Parts.{AreColumns}
+use Rattle.fort_logic.proofs.ColumnLaws.{AreColumns-True, AreColumns-Nf, AreColumns-Atom, AreColumns-same, AreColumns-two, AreColumns-bound}
+use Rattle.fort_logic.proofs.TooWideLaws.{IsTooWide-same_iff, tells-leaf, tells-one, tells-two}
+use Rattle.fort_formulas.specs.CoreView.{as_rel, as_core}
+use Rattle.fort_formulas.specs.Surveys.{IsSurveyOf}
+use Rattle.fort_formulas.proofs.CoreShapes.{postorder-leaf, postorder-one, postorder-two, postorder-bound}
+use Rattle.fort_formulas.proofs.columns.+walk.Goals as goal
+
+pub returns-in-True : goal.returns-in-True
+returns-in-True t c =
+    let core = c.args.core.now in
+    let made = c.surveyed.result.columns.items in
+    let are : AreColumns (as_core core) made = rw (c.in-True.is, c.surveyed.ensures.columns, c.new.ensures.items) AreColumns-True in
+    record {
+      columns = are;
+      wide =
+          tells-leaf (as_core core) made c.surveyed.result.too_wide (postorder-leaf core (inl c.in-True.is)) are
+          (rw (← c.surveyed.ensures.columns) at c.surveyed.ensures.wide);
+    }
+
+pub returns-in_ok-vec-in-Nf : goal.returns-in_ok-vec-in-Nf
+returns-in_ok-vec-in-Nf t c =
+    let core = c.args.core.now in
+    let arm = c.in-Nf in
+    let made = c.surveyed-in-Nf.result.columns.items in
+    let are : AreColumns (as_core core) made =
+    rw (arm.is, c.surveyed-in-Nf.ensures.columns, c.in_ok-vec-in-Nf.ensures.items) (AreColumns-Nf arm.field-0 arm.x) in
+    record {
+      columns = are;
+      wide =
+          tells-leaf (as_core core) made c.surveyed-in-Nf.result.too_wide (postorder-leaf core (inr (inr (arm.field-0, arm.x, arm.is)))) are
+          (rw (← c.surveyed-in-Nf.ensures.columns) at c.surveyed-in-Nf.ensures.wide);
+    }
+
+pub returns-in_ok-put_in_order-in-Atom : goal.returns-in_ok-put_in_order-in-Atom
+returns-in_ok-put_in_order-in-Atom t c =
+    let core = c.args.core.now in
+    let arm = c.in-Atom in
+    let put = c.in_ok-put_in_order-in-Atom.ensures in
+    let made = c.surveyed-in-Atom.result.columns.items in
+    let are : AreColumns (as_core core) made =
+    rw (arm.is, c.surveyed-in-Atom.ensures.columns)
+    (AreColumns-Atom (as_rel arm.field-0) arm.field-1 arm.x arm.y _ put.rise (rw c.in_ok-columns-in-Atom.ensures.items at put.same)) in
+    record {
+      columns = are;
+      wide =
+          tells-leaf (as_core core) made c.surveyed-in-Atom.result.too_wide
+          (postorder-leaf core (inr (inl (arm.field-0, arm.field-1, arm.x, arm.y, arm.is)))) are
+          (rw (← c.surveyed-in-Atom.ensures.columns) at c.surveyed-in-Atom.ensures.wide);
+    }
+
+pub returns-in-Not : goal.returns-in-Not
+returns-in-Not t c =
+    let core = c.args.core.now in
+    let arm = c.in-Not in
+    let one = postorder-one core arm.f (inl arm.is) in
+    IfOk-weaker c.walk.result _ _
+    (λ s found.
+    let operand = rw c.as_core.ensures at found in
+    let are : AreColumns (as_core core) s.columns.items = rw arm.is (AreColumns-same (theory.Not arm.f) arm.f s.columns.items (λ n. refl) operand.columns) in
+    let same = IsTooWide-same_iff (as_core core) arm.f s.columns.items one are operand.columns in
+    record { columns = are; wide = ((λ e. same.0 (operand.wide.0 e)), (λ w. operand.wide.1 (same.1 w))) })
+    c.walk.ensures
+
+pub returns-in_ok-columns-in-Exists : goal.returns-in_ok-columns-in-Exists
+returns-in_ok-columns-in-Exists t c =
+    let core = c.args.core.now in
+    let arm = c.in-Exists in
+    let xs = c.in_ok-columns-in-Exists.field-0.columns.items in
+    let made = c.surveyed-in-Exists.result.columns.items in
+    let kept : c.retain.new.self.items ≡ filter (λ n. not (arm.n == n)) xs =
+    filter_same _ (λ n. not (arm.n == n)) _ (λ x b f k. search rules) _ _ c.retain.ensures.filtered in
+    let operand : IsSurveyOf arm.f c.in_ok-columns-in-Exists.field-0 = rw c.as_core-in-Exists.ensures at c.in_ok-columns-in-Exists.ensures in
+    let are : AreColumns (as_core core) made =
+    elim arm.is [
+      | inl e ↦ rw (e, c.surveyed-in-Exists.ensures.columns, kept) (AreColumns-bound (theory.Exists arm.n arm.f) arm.f arm.n xs (λ n. refl) operand.columns)
+      | inr e ↦ rw (e, c.surveyed-in-Exists.ensures.columns, kept) (AreColumns-bound (theory.Infinite arm.n arm.f) arm.f arm.n xs (λ n. refl) operand.columns)
+    ] in
+    record {
+      columns = are;
+      wide =
+          tells-one (as_core core) arm.f made c.surveyed-in-Exists.result.too_wide c.in_ok-columns-in-Exists.field-0.too_wide
+          (postorder-bound core arm.n arm.f arm.is) are (rw (← c.surveyed-in-Exists.ensures.columns) at c.surveyed-in-Exists.ensures.wide) operand.wide;
+    }
+
+pub returns-in_ok-put_in_order-in-And : goal.returns-in_ok-put_in_order-in-And
+returns-in_ok-put_in_order-in-And t c =
+    let core = c.args.core.now in
+    let arm = c.in-And in
+    let first : IsSurveyOf arm.f c.in_ok-first-in-And.first = rw c.as_core-in-And.ensures at c.in_ok-first-in-And.ensures in
+    let second : IsSurveyOf arm.g c.in_ok-second-in-And.second = rw c.as_core-in-And-2.ensures at c.in_ok-second-in-And.ensures in
+    let xs = c.in_ok-first-in-And.first.columns.items in
+    let ys = c.in_ok-second-in-And.second.columns.items in
+    let made = c.surveyed-in-And.result.columns.items in
+    let whole : c.extend_from_slice.new.self.items ≡ xs ++ ys =
+    c.in_ok-extend_from_slice-in-And.ensures.items ∙ ap (λ zs. xs ++ zs) c.deref.ensures.value in
+    let put = c.in_ok-put_in_order-in-And.ensures in
+    let both = rw whole at put.same in
+    let are : AreColumns (as_core core) made =
+    elim arm.is [
+      | inl e ↦ rw (e, c.surveyed-in-And.ensures.columns)
+          (AreColumns-two (theory.And arm.f arm.g) arm.f arm.g xs ys _ (λ n. refl) first.columns second.columns put.rise both)
+      | inr other ↦ elim other [
+        | inl e ↦ rw (e, c.surveyed-in-And.ensures.columns)
+            (AreColumns-two (theory.Or arm.f arm.g) arm.f arm.g xs ys _ (λ n. refl) first.columns second.columns put.rise both)
+        | inr e ↦ rw (e, c.surveyed-in-And.ensures.columns)
+            (AreColumns-two (theory.Iff arm.f arm.g) arm.f arm.g xs ys _ (λ n. refl) first.columns second.columns put.rise both)
+      ]
+    ] in
+    record {
+      columns = are;
+      wide =
+          tells-two (as_core core) arm.f arm.g made c.surveyed-in-And.result.too_wide c.in_ok-first-in-And.first.too_wide
+          c.in_ok-second-in-And.second.too_wide (postorder-two core arm.f arm.g arm.is) are
+          (rw (← c.surveyed-in-And.ensures.columns) at c.surveyed-in-And.ensures.wide) first.wide second.wide;
+    }
