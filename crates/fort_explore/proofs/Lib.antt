@@ -1,4 +1,4 @@
-pub mod GivenLaws
+pub mod LabelSetLaws
 pub mod StateLaws
 pub mod CountLaws
 pub mod FullLaws

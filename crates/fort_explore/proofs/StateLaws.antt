@@ -1,11 +1,11 @@
 -- The states of a table that was explored to the end.
-use Rattle.std.proofs.Common.{◌≡◌, ℕ, ◌<◌, ◌↔◌, List, [], map, length, get_or, ap, sym, ◌∙◌, arith, subst}
+use Rattle.std.proofs.Common.{◌≡◌, ℕ, ◌<◌, ◌↔◌, List, [], map, length, get_or, refl, ap, sym, ◌∙◌, arith, subst}
 use Rattle.std.proofs.lemmas.List.{length-map, get_or-map, ext_get_or}
 use Rattle.fort_theory.specs.Signatures.{Signature}
 use Rattle.fort_tables.specs.Tuples.{Tuple, root, kid, kids, kid_count, presence, IsTuple, kid_presence}
 use Rattle.fort_tables.specs.Entries.{Entry, IsEntry, picked}
 use Rattle.fort_tables.specs.Tables.{target_in}
-use Rattle.fort_tables.proofs.TupleLaws.{tuple_induction, fold_tuple-step, IsTupleSymbol-root, IsTuple-kid, AreKids-kids, kid_count_is, kid_fits, presence_fits, rebuilt-kids, length-tabulate, get_or-tabulate}
+use Rattle.fort_tables.proofs.TupleLaws.{tuple_induction, fold_tuple-step, IsTupleSymbol-root, IsTuple-kid, kid_count_is, kid_fits, presence_fits, length-tabulate, get_or-tabulate}
 use Rattle.fort_tables.proofs.EntryLaws.{target_found, get_or-picked}
 use Rattle.fort_tables.specs.Labels.{Labelling, TellsPresence}
 use Rattle.fort_explore.specs.Exploring.{IsTarget, IsExplored, state_in}
@@ -46,8 +46,8 @@ state_step sig n label ts es qs tells x t ih h =
     } in
     let there = x.total e entry in
     let found = target_found es qs e there.0 there.1 there.2 (omega (arith, x.count)) in
-    let target : IsTarget sig label ts e (target_in es qs e) =
-    subst (IsTarget sig label ts e) (sym found.target) (subst (λ (d : Entry). IsTarget sig label ts d (get_or qs found.place 0)) found.is (x.targets found.place e found.within)) in
+    let target : IsTarget sig n label ts e (target_in es qs e) =
+    subst (IsTarget sig n label ts e) (sym found.target) (subst (λ (d : Entry). IsTarget sig n label ts d (get_or qs found.place 0)) found.is (x.targets found.place e found.within)) in
     let labels : map label (kids t) ≡ map label (picked ts ks) =
     ext_get_or [] (map label (kids t)) (map label (picked ts ks))
     (length-map (kids t) label ∙ (len_kids ∙ sym (length-map (picked ts ks) label ∙ (length-map ks (λ q. get_or ts q []) ∙ len))))
@@ -57,7 +57,7 @@ state_step sig n label ts es qs tells x t ih h =
     ∙ ((at j m).label_is
     ∙ sym (get_or-map label (picked ts ks) j [] [] (omega (arith, length-map ks (λ q. get_or ts q []))) ∙ ap label (get_or-picked ts ks j (omega arith)))))) in
     let is : state_in es qs t ≡ target_in es qs e = fold_tuple-step (λ f us. target_in es qs (record { symbol = f; kids = us })) t in
-    subst (HasLabelOf label ts t) (sym is) (record { within = target.within; label_is = ap label (sym (rebuilt-kids t)) ∙ target.gives (kids t) (AreKids-kids sig t h.grounded) labels })
+    subst (HasLabelOf label ts t) (sym is) (record { within = target.within; label_is = target.gives t h refl labels })
 
 pub state_has_label : (sig : Signature) (n : ℕ) (label : Labelling) (ts : List Tuple) (es : List Entry) (qs : List ℕ) → TellsPresence sig n label → IsExplored sig n label ts es qs →
     (t : Tuple) → IsTuple sig n t → HasLabelOf label ts t (state_in es qs t)

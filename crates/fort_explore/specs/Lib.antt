@@ -1,6 +1,5 @@
 pub mod RowsView
 pub mod RowsInside
-pub mod Given
 pub mod Exploring
 pub mod Answer
 pub mod TestLabels

@@ -1,4 +1,4 @@
--- To believe: what the fields of rows stand for.
+-- Inside: what the fields of rows stand for.
 use Rattle.std.specs.Prelude.{◌≡◌, ◌*◌, ◌<◌, ◌≤◌, length, vec_len, vec_capacity}
 use Rattle.fort_explore.specs.RowsView.{Labels, pieces}
 use Rattle.fort_explore.specs.declared.rows.Rows.TheInside.{Inside}

@@ -1,6 +1,8 @@
--- To believe: the labels of the crate's tests: of a pair, whether the first tree is at most as high as the second; of a triple, its presence alone.
+-- Inside: the labels of the crate's tests: of a pair, whether the first tree is at most as high as the second; of a triple, its presence alone.
 use Rattle.std.specs.Prelude.{ℕ, zero, suc, List, [], ◌∷◌, Option, None, Some, get_or, Bool, ◌==◌}
+use Rattle.fort_theory.specs.Signatures.{Signature}
 use Rattle.fort_tables.specs.Tuples.{Tuple, TupleSymbol, presence, fold_tuple}
+use Rattle.fort_tables.specs.LabelRules.{LabelRule}
 
 -- over a constant 0 and a unary symbol 1; the children's label is at hand
 abbrev pub at_most : Option ℕ → Option ℕ → ℕ → ℕ
@@ -28,5 +30,5 @@ pair_accepting w = get_or w 3 0 == 1
 abbrev pub triple_step : TupleSymbol → List (List ℕ) → List ℕ
 triple_step f ws = presence f ∷ []
 
-abbrev pub triple_label : Tuple → List ℕ
-triple_label t = fold_tuple triple_step t
+abbrev pub triple_rule : Signature → LabelRule
+triple_rule sig = record { signature = sig; columns = 3; step = triple_step }

@@ -1,3 +1,4 @@
+//! The labels that were found, and the entries that gave them.
 ghost use Rattle.std.specs.Prelude.{◌≡◌, ℕ, ◌+◌, ◌<◌, ◌≤◌, List, [], ◌∷◌, ◌++◌, Bool, map, length, slice_index_or, IfOk, OnOk};
 ghost use Rattle.fort_theory.specs.Signatures as theory;
 ghost use Rattle.fort_tables.specs.Entries.{AreNodes};
@@ -13,29 +14,31 @@ use std::alloc::Global;
 /// The labels so far, and for each the entry that gave it first.
 #[derive(Drop)]
 pub struct Found {
-    pub labels: LabelSet,
-    pub rows: Rows,
+    pub labels: Rows,
+    /// The same labels, by which a label's number is found.
+    pub numbers: LabelSet,
     pub firsts: Dag,
 }
 
 impl Found {
     /// Notes a new label, with the entry that gives it.
     fn note(&mut self, alloc: Global, row: &Row, label: &[u64]) -> Result<(), Memory>
-        requires width { length label.now ≡ self.old.rows.width }
-        requires absent { (q : ℕ) → q < length self.old.labels → slice_index_or self.old.labels q
+        requires width { length label.now ≡ self.old.labels.width }
+        requires absent { (q : ℕ) → q < length self.old.numbers → slice_index_or self.old.numbers q
             [] ≡ label.now → ⊥ }
         requires nodes { (sig : theory.Signature) × (columns : ℕ) × AreNodes sig columns
             (self.old.firsts ++ row.now ∷ []) }
-        ensures labels { OnOk result (self.new.labels ≡ self.old.labels ++ label.now ∷ []) }
-        ensures rows { OnOk result (self.new.rows.labels ≡ self.old.rows.labels ++ label.now ∷ []) }
-        ensures width { OnOk result (self.new.rows.width ≡ self.old.rows.width) }
+        ensures numbers { OnOk result (self.new.numbers ≡ self.old.numbers ++ label.now ∷ []) }
+        ensures labels { OnOk result (self.new.labels.labels
+            ≡ self.old.labels.labels ++ label.now ∷ []) }
+        ensures width { OnOk result (self.new.labels.width ≡ self.old.labels.width) }
         ensures firsts { OnOk result (self.new.firsts ≡ self.old.firsts ++ row.now ∷ []) }
     {
         let own = Vec::from_slice(alloc, label)?;
-        self.rows.make_room()?;
-        let _number = self.labels.give(own)?;
+        self.labels.make_room()?;
+        self.numbers.push(own)?;
         self.firsts.push(*row)?;
-        self.rows.push(label);
+        self.labels.push(label);
         Ok(())
     }
 }
@@ -50,24 +53,24 @@ pub fn place_of<L: Labeller>(
 ) -> Result<usize, Memory>
     requires ready { (sig : theory.Signature) × L.serves labeller.now sig
         × IsReady sig (L.column_count labeller.now) (L.label labeller.now)
-        found.old.firsts found.old.rows.labels row.now }
-    requires same { found.old.labels ≡ found.old.rows.labels }
-    requires width { found.old.rows.width ≡ L.word_count labeller.now }
+        found.old.firsts found.old.labels.labels row.now }
+    requires same { found.old.numbers ≡ found.old.labels.labels }
+    requires width { found.old.labels.width ≡ L.word_count labeller.now }
     requires room { length out.old ≡ L.word_count labeller.now }
     ensures placed { IfOk result (λ q. (sig : theory.Signature) → L.serves labeller.now sig
         → IsReady sig (L.column_count labeller.now) (L.label labeller.now)
-        found.old.firsts found.old.rows.labels row.now
+        found.old.firsts found.old.labels.labels row.now
         → IsPlaced sig (L.column_count labeller.now) (L.label labeller.now)
-        found.old.rows.labels found.new.rows.labels
+        found.old.labels.labels found.new.labels.labels
         found.old.firsts found.new.firsts row.now q) }
-    ensures same { OnOk result (found.new.labels ≡ found.new.rows.labels) }
-    ensures width { OnOk result (found.new.rows.width ≡ found.old.rows.width) }
+    ensures same { OnOk result (found.new.numbers ≡ found.new.labels.labels) }
+    ensures width { OnOk result (found.new.labels.width ≡ found.old.labels.width) }
 {
-    labeller.step(row, &found.rows, out);
-    match found.labels.find(out) {
+    labeller.step(row, &found.labels, out);
+    match found.numbers.find(out) {
         Some(q) => Ok(q),
         None => {
-            let q = found.rows.len();
+            let q = found.labels.len();
             found.note(alloc, row, out)?;
             Ok(q)
         }

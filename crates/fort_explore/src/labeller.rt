@@ -1,3 +1,4 @@
+//! What gives optional tuples labels.
 ghost use Rattle.std.specs.Prelude.{◌≡◌, ℕ, ◌<◌, ◌≤◌, List, Bool, length};
 ghost use Rattle.fort_theory.specs.Signatures as theory;
 ghost use Rattle.fort_tables.specs.Labels.{Labelling, TellsPresence, HasWidth, IsFullLabel, IsOverLabels, GivesLabel};
@@ -36,7 +37,8 @@ pub trait Labeller {
         requires room { length out.old ≡ word_count self.now }
         ensures { (sig : theory.Signature) → serves self.now sig
             → IsOverLabels sig (column_count self.now) (label self.now) rows.now.labels row.now
-            → GivesLabel sig (label self.now) rows.now.labels row.now out.new };
+            → GivesLabel sig (column_count self.now) (label self.now) rows.now.labels row.now
+            out.new };
 
     /// Whether the tuples with this label, which have every column present, are accepted.
     fn accepts(&self, words: &[u64]) -> bool

@@ -1,5 +1,5 @@
-ghost use Rattle.std.specs.Prelude.{◌≡◌, ℕ, ◌+◌, ◌<◌, List, [], ◌∷◌, ◌++◌, map, length, slice_index_or, IfOk, OnErr, MatchOption};
-ghost use Rattle.fort_explore.specs.Given.{IsGiven};
+//! Sets of labels.
+ghost use Rattle.std.specs.Prelude.{◌≡◌, ℕ, ◌+◌, ◌<◌, List, [], ◌∷◌, ◌++◌, map, length, slice_index_or, OnOk, OnErr, MatchOption};
 
 use fort_terms::Memory;
 use indexmap::IndexSet;
@@ -29,13 +29,15 @@ impl LabelSet {
         }
     }
 
-    /// The number of a label, which is the next one where the label is new.
-    pub fn give(&mut self, label: Vec<u64>) -> Result<(usize, bool), Memory>
-        ensures given { IfOk result (λ r. IsGiven self.old label.items r.0 r.1 self.new) }
-        ensures unchanged { OnErr result (self.new ≡ self.old) }
+    /// Appends a label that isn't there yet.
+    pub fn push(&mut self, label: Vec<u64>) -> Result<(), Memory>
+        requires { (q : ℕ) → q < length self.old → slice_index_or self.old q []
+            ≡ label.items → ⊥ }
+        ensures ok { OnOk result (self.new ≡ self.old ++ label.items ∷ []) }
+        ensures err { OnErr result (self.new ≡ self.old) }
     {
-        let given = self.set.insert_full(label)?;
-        Ok(given)
+        let _added = self.set.insert(label)?;
+        Ok(())
     }
 
     /// The number of a label.

@@ -1,14 +1,20 @@
 //! The table of all optional tuples by their labels.
 #![tactic(auto)]
 
+mod bits;
+mod by_rule;
 mod found;
 mod labeller;
 mod labels;
 mod rows;
+mod rule;
 mod table;
 
+pub use bits::{has_bit, set_bit};
+pub use by_rule::ByRule;
 pub use labeller::Labeller;
 pub use rows::Rows;
+pub use rule::LocalRule;
 pub use table::{ExploreFault, explore};
 
 #[cfg(test)]

@@ -1,10 +1,11 @@
+//! Lists of labels of one width.
 ghost use Rattle.std.specs.Prelude.{◌≡◌, ℕ, ◌+◌, ◌*◌, ◌<◌, ◌≤◌, List, [], ◌∷◌, ◌++◌, length, slice_index_or, IfOk, OnOk, OnErr};
 
 use fort_terms::Memory;
 use std::alloc::{AllocError, Global};
 use std::marker::Model;
 
-/// A list of labels of one width.
+/// A list of labels of one width, in one piece: label q stands at number q, as that of state q.
 #[derive(Drop)]
 pub struct Rows {
     width: usize,
@@ -67,11 +68,20 @@ impl Rows {
         &words[from..from + self.width]
     }
 
-    /// How many labels there are.
     pub fn len(&self) -> usize
         ensures { result ≡ length self.now.labels }
     {
         self.count
+    }
+
+    /// Takes all labels out; the room stays.
+    pub fn clear(&mut self)
+        ensures labels { self.new.labels ≡ [] }
+        ensures width { self.new.width ≡ self.old.width }
+        ensures room { self.new.room ≡ self.old.room }
+    {
+        self.words.clear();
+        self.count = 0;
     }
 
     /// Makes room for one more.

@@ -1,8 +1,12 @@
-ghost use Rattle.std.specs.Prelude.{◌≡◌, ℕ, ◌+◌, ◌<◌, ◌≤◌, List, Bool, length, IfOk, ◌^◌};
+//! The exploration of all labels.
+ghost use Rattle.std.specs.Prelude.{◌≡◌, ℕ, ◌+◌, ◌<◌, ◌≤◌, ◌^◌, List, Bool, length, IfOk, IfErr, OnOk};
 ghost use Rattle.fort_theory.specs.Signatures as theory;
-ghost use Rattle.fort_tables.specs.Labels.{IsLabel, AreLabels};
-ghost use Rattle.fort_explore.specs.Exploring.{final_by, AreRowFinals};
-ghost use Rattle.fort_explore.specs.Answer.{ExploreAnswer};
+ghost use Rattle.fort_tables.specs.Entries.{AreNodes, tuples_of};
+ghost use Rattle.fort_tables.specs.Tables.{IsListed, listed_table};
+ghost use Rattle.fort_tables.specs.Labels.{IsLabel, AreLabels, HaveLabels, HasMoreLabels, IsTableOf, final_by};
+ghost use Rattle.fort_tables.specs.LabelRules.{IsTableBy};
+ghost use Rattle.fort_explore.specs.Exploring.{AreLabelFinals};
+ghost use Rattle.fort_explore.specs.Answer.{IfOver};
 
 use crate::found::{Found, place_of};
 use crate::labeller::Labeller;
@@ -46,16 +50,16 @@ fn is_final<L: Labeller>(labeller: &L, label: &[u64]) -> bool
     labeller.accepts(label)
 }
 
-fn finals_of<L: Labeller>(alloc: Global, labeller: &L, rows: &Rows) -> Result<Vec<bool>, Memory>
+fn finals_of<L: Labeller>(alloc: Global, labeller: &L, labels: &Rows) -> Result<Vec<bool>, Memory>
     requires labels { (sig : theory.Signature) × L.serves labeller.now sig
-        × AreLabels sig (L.column_count labeller.now) (L.label labeller.now) rows.now.labels }
-    requires few { length rows.now.labels < 2 ^ 32 }
-    ensures { IfOk result (λ v. AreRowFinals (L.column_count labeller.now)
-        (L.accepting labeller.now) rows.now.labels v.items) }
+        × AreLabels sig (L.column_count labeller.now) (L.label labeller.now) labels.now.labels }
+    requires few { length labels.now.labels < 2 ^ 32 }
+    ensures { IfOk result (λ v. AreLabelFinals (L.column_count labeller.now)
+        (L.accepting labeller.now) labels.now.labels v.items) }
 {
     let mut finals = Vec::new(alloc);
-    for q in 0..rows.len() {
-        finals.push(is_final(labeller, rows.label(q as u32)))?;
+    for q in 0..labels.len() {
+        finals.push(is_final(labeller, labels.label(q as u32)))?;
     }
     Ok(finals)
 }
@@ -68,29 +72,33 @@ pub fn explore<L: Labeller>(
     cap: u32,
 ) -> Result<Dta, ExploreFault>
     requires { L.serves labeller.now sig.now }
-    ensures { ExploreAnswer sig.now (L.column_count labeller.now) (L.label labeller.now)
-        (L.accepting labeller.now) cap result }
+    ensures ok { IfOk result (λ t. IsTableOf sig.now (L.column_count labeller.now)
+        (L.label labeller.now) (L.accepting labeller.now) (listed_table t)) }
+    ensures table { IfOk result (λ t. IsTableBy sig.now (L.column_count labeller.now)
+        (L.label labeller.now) (L.accepting labeller.now) (listed_table t)) }
+    ensures listed { IfOk result IsListed }
+    ensures few { OnOk result (HasMoreLabels sig.now (L.column_count labeller.now)
+        (L.label labeller.now) cap → ⊥) }
+    ensures over { IfErr result (λ e. IfOver e (λ tuples. HaveLabels sig.now
+        (L.column_count labeller.now) (L.label labeller.now) (cap + 1) (tuples_of tuples))) }
+    ensures nodes { IfErr result (λ e. IfOver e (λ tuples. AreNodes sig.now
+        (L.column_count labeller.now) tuples)) }
 {
     let mut maker = Maker::new(alloc, sig, labeller.columns())?;
     let mut words = vec![in alloc; 0u64; labeller.width()]?;
     let out = words.as_mut_slice();
     let mut found = Found {
-        labels: LabelSet::new(alloc),
-        rows: Rows::new(alloc, labeller.width(), 0)?,
+        labels: Rows::new(alloc, labeller.width(), 0)?,
+        numbers: LabelSet::new(alloc),
         firsts: Dag::new(alloc),
     };
-    'entries: loop {
-        match maker.due() {
-            Some(row) => {
-                let q = place_of(alloc, labeller, &mut found, &row, out)?;
-                if found.rows.len() > cap as usize {
-                    return Err(ExploreFault::Over(found.firsts));
-                }
-                maker.give(q as u32)?;
-            }
-            None => break,
+    'entries: while let Some(row) = maker.due() {
+        let q = place_of(alloc, labeller, &mut found, &row, out)?;
+        if found.labels.len() > cap as usize {
+            return Err(ExploreFault::Over(found.firsts));
         }
+        maker.give(q as u32)?;
     }
-    let finals = finals_of(alloc, labeller, &found.rows)?;
+    let finals = finals_of(alloc, labeller, &found.labels)?;
     Ok(maker.finish(finals))
 }

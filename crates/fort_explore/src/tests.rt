@@ -14,9 +14,11 @@ use std::test::Fail;
 #[derive(Drop)]
 struct AtMost;
 
-/// The presence of three columns.
+/// The presence of three columns, over this signature.
 #[derive(Drop)]
-struct Triple;
+struct Triple<'a> {
+    signature: &'a Signature,
+}
 
 /// 1 where the column is present.
 fn bit(column: Option<Sym>) -> u64
@@ -126,24 +128,20 @@ fn write_triple(row: &Row, out: &mut [u64])
     out[0] = bit(first) + 2 * bit(second) + 4 * bit(third);
 }
 
-impl Labeller for Triple {
+impl<'a> LocalRule for Triple<'a> {
     ghost use Rattle.std.specs.Prelude.{◌≡◌, ℕ, List, true};
-    ghost use Rattle.fort_explore.specs.TestLabels.{triple_label};
-    ghost use Rattle.fort_explore.specs.TestLaws.{triple_tells, triple_has};
+    ghost use Rattle.fort_explore.specs.TestLabels.{triple_rule};
+    ghost use Rattle.fort_explore.specs.TestLaws.{triple_presence, triple_width};
 
-    ghost serves = { λ _ _. Unit {0} };
-
-    ghost column_count = { λ _. 3 };
+    ghost rule = { λ s. triple_rule s.signature.now };
 
     ghost word_count = { λ _. 1 };
 
-    ghost label = { λ _. triple_label };
-
     ghost accepting = { λ _ _. true };
 
-    ghost tells_presence = { λ _ sig _. triple_tells sig };
+    ghost tells = { λ _. triple_presence };
 
-    ghost has_width = { λ _ sig _. triple_has sig };
+    ghost has_words = { λ _. triple_width };
 
     fn columns(&self) -> usize {
         3
@@ -242,9 +240,12 @@ fn one_label_too_many(rt: HostRuntime) -> Result<(), Fail> {
 }
 
 #[test]
-fn triples(rt: HostRuntime) -> Result<(), Fail> {
+fn triples_by_a_rule(rt: HostRuntime) -> Result<(), Fail> {
     let signature = constant_and_unary(rt.alloc())?;
-    match explore(rt.alloc(), &signature, &Triple, 7) {
+    let rule = Triple {
+        signature: &signature,
+    };
+    match explore(rt.alloc(), &signature, &ByRule(&rule), 7) {
         Ok(table) => {
             assert_eq!(rt; table.states(), 7);
             for q in 0..table.states() {
@@ -268,5 +269,21 @@ fn rows_in_order(rt: HostRuntime) -> Result<(), Fail> {
     assert_eq!(rt; rows.len(), 2);
     assert_eq!(rt; rows.label(0), [3, 4].as_slice());
     assert_eq!(rt; rows.label(1), [1, 2].as_slice());
+    rows.clear();
+    assert_eq!(rt; rows.len(), 0);
+    rows.push(&[5, 6]);
+    assert_eq!(rt; rows.label(0), [5, 6].as_slice());
     Ok(())
+}
+
+#[test]
+fn bits_across_words(rt: HostRuntime) {
+    let mut words = [0u64; 2];
+    set_bit(&mut words, 0);
+    set_bit(&mut words, 70);
+    set_bit(&mut words, 70);
+    assert_eq!(rt; words.as_slice(), [1, 64].as_slice());
+    for q in 0..200usize {
+        assert_eq!(rt; has_bit(&words, q), q == 0 || q == 70);
+    }
 }

@@ -10,3 +10,4 @@ pub mod StepLaws
 pub mod MakingLaws
 pub mod FinishLaws
 pub mod GiveLaws
+pub mod CopyLaws

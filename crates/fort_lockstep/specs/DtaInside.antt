@@ -1,4 +1,4 @@
--- To believe: what the fields of a table stand for.
+-- Inside: what the fields of a table stand for.
 use Rattle.std.specs.Prelude.{◌≡◌, ℕ, ◌<◌, ◌^◌, length, get_or}
 use Rattle.fort_tables.specs.Tables.{Listed, finished, IsListed}
 use Rattle.fort_lockstep.specs.Making.{made_of, IsFirstPlace}

@@ -1,4 +1,4 @@
--- To believe: what the fields of a maker stand for.
+-- Inside: what the fields of a maker stand for.
 use Rattle.std.specs.Prelude.{◌≡◌, ◌<◌, ◌≤◌, ◌^◌, length}
 use Rattle.fort_tables.specs.Tables.{Made}
 use Rattle.fort_lockstep.specs.WalkFacts.{place, entry_at, IsPlace}
@@ -14,5 +14,5 @@ pub record IsMaker (a : Inside) : Type 0 where
   pub few : length a.given.presences.items < 2 ^ 32
   pub width : length a.walk.digits ≡ a.columns
   pub placed : IsPlace a.signature (place a.walk)
-  pub making : IsMaking a.signature a.columns a.given.presences.items a.given.firsts.items a.given.rows.items a.given.targets.items
+  pub making : IsMaking a.signature a.columns a.given.presences.items a.given.firsts.items a.given.entries.items a.given.targets.items
   pub stands : Stands (made_in a) (entry_at (place a.walk)) a.is_due

@@ -1,4 +1,4 @@
--- To believe: how the rows, targets and states of a table in the making grow; no public contract cites it.
+-- Inside: how the entries, targets and states of a table in the making grow.
 use Rattle.std.specs.Prelude.{◌≡◌, ℕ, ◌<◌, ◌⊎◌, List, [], ◌∷◌, ◌++◌, length, get_or, Contains, Bool, true, false, ◌==◌, if◌then◌else◌}
 use Rattle.fort_theory.specs.Signatures.{Signature}
 use Rattle.fort_tables.specs.Tuples.{presence}
@@ -7,18 +7,18 @@ use Rattle.fort_tables.specs.Tables.{Made, IsComplete}
 use Rattle.fort_lockstep.specs.declared.given.Given.{Given}
 
 abbrev pub made_of : Signature → ℕ → Given → Made
-made_of sig columns g = record { signature = sig; columns = columns; presences = g.presences.items; rows = g.rows.items; targets = g.targets.items }
+made_of sig columns g = record { signature = sig; columns = columns; presences = g.presences.items; entries = g.entries.items; targets = g.targets.items }
 
 pub record IsSameGiven (old new : Given) : Type 0 where
   pub presences : new.presences.items ≡ old.presences.items
   pub firsts : new.firsts.items ≡ old.firsts.items
-  pub rows : new.rows.items ≡ old.rows.items
+  pub entries : new.entries.items ≡ old.entries.items
   pub targets : new.targets.items ≡ old.targets.items
 
 pub record IsPushed (old : Given) (e : Entry) (target : ℕ) (new : Given) : Type 0 where
   pub presences : new.presences.items ≡ (if target == length old.presences.items then old.presences.items ++ presence e.symbol ∷ [] else old.presences.items)
-  pub firsts : new.firsts.items ≡ (if target == length old.presences.items then old.firsts.items ++ length old.rows.items ∷ [] else old.firsts.items)
-  pub rows : new.rows.items ≡ old.rows.items ++ e ∷ []
+  pub firsts : new.firsts.items ≡ (if target == length old.presences.items then old.firsts.items ++ length old.entries.items ∷ [] else old.firsts.items)
+  pub entries : new.entries.items ≡ old.entries.items ++ e ∷ []
   pub targets : new.targets.items ≡ old.targets.items ++ target ∷ []
 
 -- the first place of this target; the targets before it are smaller
@@ -27,28 +27,28 @@ pub record IsFirstPlace (targets : List ℕ) (q place : ℕ) : Type 0 where
   pub target : get_or targets place 0 ≡ q
   pub before : (j : ℕ) → j < place → get_or targets j 0 < q
 
--- the rows are in order and each has a state of its presence; each state has a first row, whose states are earlier
-pub record IsMaking (sig : Signature) (columns : ℕ) (ps firsts : List ℕ) (rows : List Entry) (qs : List ℕ) : Type 0 where
-  pub order : AreInOrder sig columns ps rows
-  pub count : length qs ≡ length rows
+-- the entries are in order and each has a state of its presence; each state has a first row, whose states are earlier
+pub record IsMaking (sig : Signature) (columns : ℕ) (ps firsts : List ℕ) (entries : List Entry) (qs : List ℕ) : Type 0 where
+  pub order : AreInOrder sig columns ps entries
+  pub count : length qs ≡ length entries
   pub inside : (k : ℕ) → k < length qs → get_or qs k 0 < length ps
-  pub alike : (k : ℕ) (d : Entry) → k < length qs → get_or ps (get_or qs k 0) 0 ≡ presence (get_or rows k d).symbol
+  pub alike : (k : ℕ) (d : Entry) → k < length qs → get_or ps (get_or qs k 0) 0 ≡ presence (get_or entries k d).symbol
   pub first_count : length firsts ≡ length ps
   pub first_place : (q : ℕ) → q < length ps → IsFirstPlace qs q (get_or firsts q 0)
-  pub first_kids : (q : ℕ) (d : Entry) (j : ℕ) → q < length ps → j < length (get_or rows (get_or firsts q 0) d).kids → get_or (get_or rows (get_or firsts q 0) d).kids j 0 < q
+  pub first_kids : (q : ℕ) (d : Entry) (j : ℕ) → q < length ps → j < length (get_or entries (get_or firsts q 0) d).kids → get_or (get_or entries (get_or firsts q 0) d).kids j 0 < q
 
--- this entry comes after all rows, and each other one that isn't among the rows comes after it
-pub record IsStanding (sig : Signature) (columns : ℕ) (ps : List ℕ) (rows : List Entry) (e : Entry) : Type 0 where
+-- this entry comes after all entries, and each other one that isn't among the entries comes after it
+pub record IsStanding (sig : Signature) (columns : ℕ) (ps : List ℕ) (entries : List Entry) (e : Entry) : Type 0 where
   pub is_entry : IsEntry sig columns ps e
-  pub after : (k : ℕ) (d : Entry) → k < length rows → ComesBefore (get_or rows k d) e
-  pub all : (x : Entry) → IsEntry sig columns ps x → Contains rows x ⊎ ((e ≡ x) ⊎ ComesBefore e x)
+  pub after : (k : ℕ) (d : Entry) → k < length entries → ComesBefore (get_or entries k d) e
+  pub all : (x : Entry) → IsEntry sig columns ps x → Contains entries x ⊎ ((e ≡ x) ⊎ ComesBefore e x)
 
--- the rows are up to this one
-pub record IsUpTo (sig : Signature) (columns : ℕ) (ps : List ℕ) (rows : List Entry) (last : Entry) : Type 0 where
-  pub before : (k : ℕ) (d : Entry) → k < length rows → (get_or rows k d ≡ last) ⊎ ComesBefore (get_or rows k d) last
-  pub all : (x : Entry) → IsEntry sig columns ps x → Contains rows x ⊎ ComesBefore last x
+-- the entries are up to this one
+pub record IsUpTo (sig : Signature) (columns : ℕ) (ps : List ℕ) (entries : List Entry) (last : Entry) : Type 0 where
+  pub before : (k : ℕ) (d : Entry) → k < length entries → (get_or entries k d ≡ last) ⊎ ComesBefore (get_or entries k d) last
+  pub all : (x : Entry) → IsEntry sig columns ps x → Contains entries x ⊎ ComesBefore last x
 
 -- where a maker's walk stands: at the entry that is due, or no entry is
 abbrev pub Stands : Made → Entry → Bool → Type 0
-Stands m e true = IsStanding m.signature m.columns m.presences m.rows e
+Stands m e true = IsStanding m.signature m.columns m.presences m.entries e
 Stands m e false = IsComplete m

@@ -1,4 +1,4 @@
--- To believe: the lists through which the search for the next entry goes; no public contract cites them.
+-- Inside: the lists through which the search for the next entry goes.
 use Rattle.std.specs.Prelude.{◌≡◌, ℕ, zero, suc, ◌+◌, ◌-◌, ◌≤◌, max, List, [], ◌∷◌, ◌++◌, map, length, replicate, get_or, Bool, true, false, ◌||◌, ◌==◌, if◌then◌else◌, Option, None, Some}
 use Rattle.std.specs.List.{flat_map, range_with_len}
 use Rattle.fort_theory.specs.Signatures.{Signature}
@@ -15,34 +15,34 @@ abbrev pub states_with : List ℕ → ℕ → ℕ → ℕ → List ℕ
 states_with ps want a zero = []
 states_with ps want a (suc n) = if get_or ps a 0 == want then a ∷ states_with ps want (a + 1) n else states_with ps want (a + 1) n
 
--- the lists of states up to m with these presences in which m occurs, or any where it has been seen, from left to right
+-- the lists of states up to greatest with these presences in which greatest occurs, or any where it has been has_greatest, from left to right
 abbrev pub kid_lists : List ℕ → ℕ → List ℕ → Bool → List (List ℕ)
-kid_lists ps m [] true = [] ∷ []
-kid_lists ps m [] false = []
-kid_lists ps m (p ∷ wants) seen = flat_map (λ q. map (λ ks. q ∷ ks) (kid_lists ps m wants (seen || (q == m)))) (states_with ps p 0 (m + 1))
+kid_lists ps greatest [] true = [] ∷ []
+kid_lists ps greatest [] false = []
+kid_lists ps greatest (p ∷ wants) has_greatest = flat_map (λ q. map (λ ks. q ∷ ks) (kid_lists ps greatest wants (has_greatest || (q == greatest)))) (states_with ps p 0 (greatest + 1))
 
 -- those whose first state is among these
 abbrev pub kid_lists_from : List ℕ → ℕ → List ℕ → Bool → List ℕ → List (List ℕ)
-kid_lists_from ps m wants seen qs = flat_map (λ q. map (λ ks. q ∷ ks) (kid_lists ps m wants (seen || (q == m)))) qs
+kid_lists_from ps greatest wants has_greatest qs = flat_map (λ q. map (λ ks. q ∷ ks) (kid_lists ps greatest wants (has_greatest || (q == greatest)))) qs
 
 -- those of them after one
 abbrev pub kids_after : List ℕ → ℕ → List ℕ → Bool → List ℕ → List (List ℕ)
-kids_after ps m [] seen ks = []
-kids_after ps m (p ∷ wants) seen [] = []
-kids_after ps m (p ∷ wants) seen (k ∷ ks) =
-    (if get_or ps k 0 == p then map (λ r. k ∷ r) (kids_after ps m wants (seen || (k == m)) ks) else [])
-    ++ kid_lists_from ps m wants seen (states_with ps p (k + 1) (m + 1 - (k + 1)))
+kids_after ps greatest [] has_greatest ks = []
+kids_after ps greatest (p ∷ wants) has_greatest [] = []
+kids_after ps greatest (p ∷ wants) has_greatest (k ∷ ks) =
+    (if get_or ps k 0 == p then map (λ r. k ∷ r) (kids_after ps greatest wants (has_greatest || (k == greatest)) ks) else [])
+    ++ kid_lists_from ps greatest wants has_greatest (states_with ps p (k + 1) (greatest + 1 - (k + 1)))
 
--- where the last state has to be m, no other one is tried
+-- where the last state has to be greatest, no other one is tried
 abbrev pub first_tried : Bool → List ℕ → ℕ → ℕ → ℕ
-first_tried false [] from m = max from m
-first_tried false (p ∷ wants) from m = from
-first_tried true wants from m = from
+first_tried false [] from greatest = max from greatest
+first_tried false (p ∷ wants) from greatest = from
+first_tried true wants from greatest = from
 
 -- whether there is one left, and then it is this one
-abbrev pub IsNext : {A : Type 0} → List A → (A → List A) → Option A → Type 0
-IsNext rest after None = rest ≡ []
-IsNext rest after (Some x) = rest ≡ x ∷ after x
+abbrev pub GivesFirst : {A : Type 0} → List A → (A → List A) → Option A → Type 0
+GivesFirst rest after None = rest ≡ []
+GivesFirst rest after (Some x) = rest ≡ x ∷ after x
 
 -- all lists of this many digits up to n, in order
 abbrev pub digit_lists : ℕ → ℕ → List (List ℕ)

@@ -1,6 +1,7 @@
+//! Tables as lists of entries with their targets.
 ghost use Rattle.std.specs.Prelude.{◌≡◌, ℕ, ◌<◌, ◌≤◌, ◌^◌, ◌↔◌, length, slice_index, slice_index_or, Contains, IsTrue};
 ghost use Rattle.fort_tables.specs.Entries.{Entry, entry, no_entry};
-ghost use Rattle.fort_tables.specs.Tables.{IsTable, IsTableEntry, IsReached, IsListed, IsFirstWith, listed_table, target_in};
+ghost use Rattle.fort_tables.specs.Tables.{IsTableEntry, IsListed, IsFirstWith, listed_table, target_in};
 
 use crate::entries::Entries;
 use crate::given::Given;
@@ -31,14 +32,13 @@ impl Model for Dta {
     ghost invariant = { IsDta };
 }
 
-/// The target beside an entry.
-fn target_among(rows: &[Row], targets: &[u32], sym: &TupleSym, kids: &[u32]) -> u32
-    requires there { Contains rows.now (entry sym.now kids.now) }
-    requires count { length targets.now ≡ length rows.now }
-    ensures { result ≡ target_in rows.now targets.now (entry sym.now kids.now) }
+fn target_among(entries: &[Row], targets: &[u32], sym: &TupleSym, kids: &[u32]) -> u32
+    requires there { Contains entries.now (entry sym.now kids.now) }
+    requires count { length targets.now ≡ length entries.now }
+    ensures { result ≡ target_in entries.now targets.now (entry sym.now kids.now) }
 {
-    for k in 0..rows.len() {
-        if rows[k].is_entry(sym, kids) {
+    for k in 0..entries.len() {
+        if entries[k].is_entry(sym, kids) {
             return targets[k];
         }
     }
@@ -59,9 +59,9 @@ impl Dta {
     /// The entry that made a state.
     pub fn first(&self, q: u32) -> Row
         requires { q < length self.now.presences }
-        ensures { IsFirstWith self.now.rows self.now.targets q result }
+        ensures { IsFirstWith self.now.entries self.now.targets q result }
     {
-        self.given.rows[self.given.firsts[q as usize]]
+        self.given.entries[self.given.firsts[q as usize]]
     }
 }
 
@@ -76,11 +76,7 @@ impl Table for Dta {
         self.columns
     }
 
-    fn states(&self) -> u32
-        ensures count { result ≡ length self.now.presences }
-        ensures lawful { IsTable (listed_table self.now) }
-        ensures reached { IsReached (listed_table self.now) }
-    {
+    fn states(&self) -> u32 {
         self.given.presences.len() as u32
     }
 
@@ -94,7 +90,7 @@ impl Table for Dta {
 
     fn target(&self, sym: &TupleSym, kids: &[u32]) -> u32 {
         target_among(
-            self.given.rows.as_slice(),
+            self.given.entries.as_slice(),
             self.given.targets.as_slice(),
             sym,
             kids,

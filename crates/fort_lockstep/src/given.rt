@@ -1,3 +1,4 @@
+//! The entries that have a target, and the states that they made.
 ghost use Rattle.std.specs.Prelude.{◌≡◌, ℕ, ◌+◌, ◌<◌, ◌≤◌, List, [], ◌∷◌, ◌++◌, length, vec_len, vec_capacity, OnOk, OnErr};
 ghost use Rattle.fort_lockstep.specs.Making.{IsPushed, IsSameGiven};
 
@@ -10,19 +11,8 @@ pub struct Given {
     pub presences: Vec<u16>,
     /// The place of the first entry of each state.
     pub firsts: Vec<usize>,
-    pub rows: Vec<Row>,
+    pub entries: Vec<Row>,
     pub targets: Vec<u32>,
-}
-
-/// Puts a value where there is room for it.
-fn put<T: Drop>(values: &mut Vec<T>, value: T)
-    requires { vec_len values.old < vec_capacity values.old }
-    ensures { values.new.items ≡ values.old.items ++ value ∷ [] }
-{
-    match values.push(value) {
-        Ok(()) => {}
-        Err(_) => unreachable!(),
-    }
 }
 
 impl Given {
@@ -32,12 +22,12 @@ impl Given {
         ensures presences { OnOk result (vec_len self.new.presences < vec_capacity
             self.new.presences) }
         ensures firsts { OnOk result (vec_len self.new.firsts < vec_capacity self.new.firsts) }
-        ensures rows { OnOk result (vec_len self.new.rows < vec_capacity self.new.rows) }
+        ensures entries { OnOk result (vec_len self.new.entries < vec_capacity self.new.entries) }
         ensures targets { OnOk result (vec_len self.new.targets < vec_capacity self.new.targets) }
     {
         self.presences.reserve(1)?;
         self.firsts.reserve(1)?;
-        self.rows.reserve(1)?;
+        self.entries.reserve(1)?;
         self.targets.reserve(1)
     }
 
@@ -48,11 +38,11 @@ impl Given {
     {
         self.make_room()?;
         if target as usize == self.presences.len() {
-            put(&mut self.presences, row.presence());
-            put(&mut self.firsts, self.rows.len());
+            self.presences.push_reserved(row.presence());
+            self.firsts.push_reserved(self.entries.len());
         }
-        put(&mut self.rows, row);
-        put(&mut self.targets, target);
+        self.entries.push_reserved(row);
+        self.targets.push_reserved(target);
         Ok(())
     }
 }

@@ -1,8 +1,8 @@
+//! Tables in the making.
 ghost use Rattle.std.specs.Prelude.{◌≡◌, ℕ, ◌+◌, ◌^◌, ◌<◌, ◌≤◌, [], length, IfOk, OnOk, OnErr, IfSome, IfNone};
 ghost use Rattle.fort_tables.specs.Entries.{Entry};
 ghost use Rattle.fort_tables.specs.Tables.{IsMadeDue, IsComplete, IsAllowed, IsGiven, AreFinals, IsListed, finished};
 
-use crate::copy::copy_signature;
 use crate::dta::Dta;
 use crate::given::Given;
 use crate::row::Row;
@@ -41,18 +41,18 @@ impl Maker {
         ensures signature { IfOk result (λ m. m.signature ≡ sig.now) }
         ensures columns { IfOk result (λ m. m.columns ≡ columns) }
         ensures presences { IfOk result (λ m. m.presences ≡ []) }
-        ensures rows { IfOk result (λ m. m.rows ≡ []) }
+        ensures entries { IfOk result (λ m. m.entries ≡ []) }
         ensures targets { IfOk result (λ m. m.targets ≡ []) }
     {
-        let signature = copy_signature(alloc, sig)?;
+        let signature = sig.copy(alloc)?;
         let given = Given {
             presences: Vec::new(alloc),
             firsts: Vec::new(alloc),
-            rows: Vec::new(alloc),
+            entries: Vec::new(alloc),
             targets: Vec::new(alloc),
         };
         let mut walk = Walk::new(columns);
-        let is_due = walk.next(&signature, &[]);
+        let is_due = walk.advance(&signature, &[]);
         Ok(Maker {
             signature,
             columns,
@@ -89,7 +89,7 @@ impl Maker {
         self.given.push(self.walk.row(), target)?;
         self.is_due = self
             .walk
-            .next(&self.signature, self.given.presences.as_slice());
+            .advance(&self.signature, self.given.presences.as_slice());
         Ok(())
     }
 

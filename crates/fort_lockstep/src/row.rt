@@ -1,3 +1,4 @@
+//! Entries.
 ghost use Rattle.std.specs.Prelude.{◌≡◌, ◌≤◌, ◌^◌, ◌<◌, ◌↔◌, length, IsTrue};
 ghost use Rattle.fort_tables.specs.Tuples.{presence};
 ghost use Rattle.fort_tables.specs.Entries.{entry};
@@ -6,7 +7,7 @@ use crate::digits::presence_of;
 use crate::symbol::TupleSym;
 use std::marker::Model;
 
-/// A tuple symbol with up to 8 child states.
+/// An entry: a tuple symbol with up to 8 child states.
 #[derive(Clone, Copy)]
 pub struct Row {
     len: usize,
@@ -66,7 +67,7 @@ impl Row {
     }
 
     /// Bit i for column i.
-    pub(crate) fn presence(&self) -> u16
+    pub fn presence(&self) -> u16
         ensures { result ≡ presence self.now.symbol }
     {
         let digits = &self.digits;
@@ -74,7 +75,7 @@ impl Row {
     }
 
     /// Whether it is the entry of this tuple symbol and these states.
-    pub(crate) fn is_entry(&self, sym: &TupleSym, kids: &[u32]) -> bool
+    pub fn is_entry(&self, sym: &TupleSym, kids: &[u32]) -> bool
         ensures { IsTrue result ↔ (self.now ≡ entry sym.now kids.now) }
     {
         self.sym().is_same(sym) && self.kids() == kids

@@ -1,4 +1,6 @@
-ghost use Rattle.std.specs.Prelude.{◌≡◌, ℕ, ◌<◌, ◌≤◌, ◌↔◌, List, length, IsTrue, slice_index, slice_get, Some, IfNone};
+//! Tuple symbols.
+ghost use Rattle.std.specs.Prelude.{◌≡◌, ℕ, ◌<◌, ◌≤◌, ◌↔◌, List, length, IsTrue, slice_index, slice_index_or, slice_get, None, Some};
+ghost use Rattle.std.specs.List.{insert};
 ghost use Rattle.fort_lockstep.specs.Columns.{as_column, as_symbol, symbol_of, column_of};
 
 use crate::digits::{DigitRow, digits_of};
@@ -50,7 +52,42 @@ impl TupleSym {
         }
     }
 
-    /// The symbol of a column.
+    pub fn len(&self) -> usize
+        ensures count { result ≡ length self.now }
+        ensures narrow { result ≤ 16 }
+    {
+        self.len
+    }
+
+    /// The tuple symbol with one more column, at this place.
+    pub fn with_column(&self, place: usize, sym: Option<Sym>) -> TupleSym
+        requires within { place ≤ length self.now }
+        requires room { length self.now < 16 }
+        ensures { result ≡ insert self.now place (as_column sym) }
+    {
+        let count = self.len();
+        let mut columns = [None; 16];
+        for k in 0..count + 1 {
+            columns[k] = self.column_with(place, sym, k);
+        }
+        TupleSym::new(&columns[..count + 1])
+    }
+
+    /// Column `k` of the tuple symbol with one more column.
+    fn column_with(&self, place: usize, sym: Option<Sym>, k: usize) -> Option<Sym>
+        requires within { place ≤ length self.now }
+        requires column { k ≤ length self.now }
+        ensures { as_column result ≡ slice_index_or (insert self.now place (as_column sym)) k None }
+    {
+        if k < place {
+            self.symbol(k)
+        } else if k == place {
+            sym
+        } else {
+            self.symbol(k - 1)
+        }
+    }
+
     pub fn symbol(&self, column: usize) -> Option<Sym>
         requires { column < length self.now }
         ensures { slice_get self.now column ≡ Some (as_column result) }

@@ -4,7 +4,7 @@ use Rattle.std.proofs.lemmas.Bool.{cases_lt}
 use Rattle.std.proofs.lemmas.Bool.Decides.{nat_tests}
 use Rattle.std.proofs.lemmas.List.{length-map, get_or-map, length_push, get_or_push, get_or_append_left}
 use Rattle.fort_theory.specs.Signatures.{Signature}
-use Rattle.fort_tables.specs.Tuples.{Tuple, TupleSymbol, rebuilt, presence, IsTuple, AreKids, FitsKid, AreColumns, kid_presence}
+use Rattle.fort_tables.specs.Tuples.{Tuple, TupleSymbol, rebuilt, presence, IsTuple, AreKids, FitsKid, AreGroundColumns, kid_presence}
 use Rattle.fort_tables.specs.Entries.{Entry, IsEntry, picked, tuples_after, AreTuples}
 use Rattle.fort_tables.specs.Tables.{same_symbol, same_states, same_entry, target_in}
 use Rattle.fort_tables.proofs.TupleLaws.{IsTuple-rebuilt, fits_presence}
@@ -99,7 +99,7 @@ entry_kids sig n ts e h k =
           subst (λ (t : Tuple). FitsKid sig e.symbol j t) (sym (get_or-picked ts e.kids j m))
           (fits_presence sig e.symbol j (get_or ts (get_or e.kids j 0) []) (omega (arith, (h _ (there j m)).width, k.symbol.width)) (pres j m));
       grounded = λ j l. let m : j < length e.kids = omega arith in
-          subst (AreColumns sig) (sym (get_or-picked ts e.kids j m)) (h _ (there j m)).grounded;
+          subst (AreGroundColumns sig) (sym (get_or-picked ts e.kids j m)) (h _ (there j m)).grounded;
     }
 
 pub IsTuple-entry : (sig : Signature) (n : ℕ) (ts : List Tuple) (e : Entry) → AreTuples sig n ts → IsEntry sig n (map presence ts) e → IsTuple sig n (rebuilt e.symbol (picked ts e.kids))

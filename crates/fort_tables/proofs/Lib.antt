@@ -1,7 +1,14 @@
 pub mod TupleLaws
+pub mod PresenceLaws
+pub mod InsertLaws
+pub mod InsertSymbolLaws
 pub mod EntryLaws
+pub mod NodeLaws
 pub mod OrderLaws
 pub mod NumberLaws
 pub mod TableLaws
 pub mod ReachLaws
 pub mod FoldLaws
+pub mod LabelRuleLaws
+pub mod EqualTests
+pub mod BitRowLaws

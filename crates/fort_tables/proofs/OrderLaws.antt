@@ -80,16 +80,16 @@ none_before sig n ps x h = by_kids x.kids refl
     by_kids (k ∷ ks) e = subst (λ (ks : List ℕ). ComesBefore (no_entry n) (entry x.symbol ks)) (sym e) (inl (omega arith))
 
 -- one entry at most is due
-pub due_one : (sig : Signature) (n : ℕ) (ps : List ℕ) (rows : List Entry) (a b : Entry) → IsDue sig n ps rows a → IsDue sig n ps rows b → a ≡ b
-due_one sig n ps rows a b h k =
+pub due_one : (sig : Signature) (n : ℕ) (ps : List ℕ) (entries : List Entry) (a b : Entry) → IsDue sig n ps entries a → IsDue sig n ps entries b → a ≡ b
+due_one sig n ps entries a b h k =
     ⊎_elim (λ e. e) (λ l. ⊎_elim (λ e. sym e) (λ m. absurd (before_irrefl a (before_trans a b a l m))) (k.first a h.is_entry h.missing)) (h.first b k.is_entry k.missing)
 
 -- in a list in order, an entry stands at one place
-pub order_one : (sig : Signature) (n : ℕ) (ps : List ℕ) (rows : List Entry) (i j : ℕ) (d : Entry) → AreInOrder sig n ps rows → i < length rows → j < length rows → get_or rows i d ≡ get_or rows j d → i ≡ j
-order_one sig n ps rows i j d o l m e =
+pub order_one : (sig : Signature) (n : ℕ) (ps : List ℕ) (entries : List Entry) (i j : ℕ) (d : Entry) → AreInOrder sig n ps entries → i < length entries → j < length entries → get_or entries i d ≡ get_or entries j d → i ≡ j
+order_one sig n ps entries i j d o l m e =
     ⊎_elim
-    (λ b. absurd (before_apart (get_or rows i d) (get_or rows j d) (o.order i j d b m) e))
-    (λ b. ⊎_elim (λ c. absurd (before_apart (get_or rows j d) (get_or rows i d) (o.order j i d c l) (sym e))) (λ c. omega arith) (cases_lt j i))
+    (λ b. absurd (before_apart (get_or entries i d) (get_or entries j d) (o.order i j d b m) e))
+    (λ b. ⊎_elim (λ c. absurd (before_apart (get_or entries j d) (get_or entries i d) (o.order j i d c l) (sym e))) (λ c. omega arith) (cases_lt j i))
     (cases_lt i j)
 
 -- an entry stays one where states are added
@@ -125,52 +125,52 @@ entry_shrinks sig n ps qs e x h k =
     }))
     (cases_lt (length ps) (stage x.kids))
 
--- the next entry stays the first one after the last where states are added
+-- Result: the next entry stays the first one after the last where states are added
 pub next_grows : (sig : Signature) (n : ℕ) (ps qs : List ℕ) (last e x : Entry) → IsNextEntry sig n ps last e → IsEntry sig n (ps ++ qs) x → ComesBefore last x → (e ≡ x) ⊎ ComesBefore e x
 next_grows sig n ps qs last e x h k b = ⊎_elim (λ m. h.first x m b) (λ c. inr c) (entry_shrinks sig n ps qs e x h.is_entry k)
 
 -- one more entry that comes after all
-pub order_push : (sig : Signature) (n : ℕ) (ps : List ℕ) (rows : List Entry) (e : Entry) → AreInOrder sig n ps rows → IsEntry sig n ps e → ((k : ℕ) (d : Entry) → k < length rows → ComesBefore (get_or rows k d) e) → AreInOrder sig n ps (rows ++ e ∷ [])
-order_push sig n ps rows e o h b =
-    let len = length_push rows e in
-    let left : (k : ℕ) (d : Entry) → k < length rows → get_or (rows ++ e ∷ []) k d ≡ get_or rows k d = λ k d l. get_or_append_left rows (e ∷ []) d k l in
-    let last : (k : ℕ) (d : Entry) → length rows ≡ k → get_or (rows ++ e ∷ []) k d ≡ e = λ k d l. get_or_push rows e d k l in
+pub order_push : (sig : Signature) (n : ℕ) (ps : List ℕ) (entries : List Entry) (e : Entry) → AreInOrder sig n ps entries → IsEntry sig n ps e → ((k : ℕ) (d : Entry) → k < length entries → ComesBefore (get_or entries k d) e) → AreInOrder sig n ps (entries ++ e ∷ [])
+order_push sig n ps entries e o h b =
+    let len = length_push entries e in
+    let left : (k : ℕ) (d : Entry) → k < length entries → get_or (entries ++ e ∷ []) k d ≡ get_or entries k d = λ k d l. get_or_append_left entries (e ∷ []) d k l in
+    let last : (k : ℕ) (d : Entry) → length entries ≡ k → get_or (entries ++ e ∷ []) k d ≡ e = λ k d l. get_or_push entries e d k l in
     record {
-      entries = λ k d l. ⊎_elim
-          (λ m. subst (IsEntry sig n ps) (sym (left k d m)) (o.entries k d m))
+      are = λ k d l. ⊎_elim
+          (λ m. subst (IsEntry sig n ps) (sym (left k d m)) (o.are k d m))
           (λ m. subst (IsEntry sig n ps) (sym (last k d (omega arith))) h)
-          (cases_lt k (length rows));
+          (cases_lt k (length entries));
       order = λ i j d l m.
           let a = left i d (omega arith) in
           ⊎_elim
-          (λ c. subst (λ (y : Entry). ComesBefore y (get_or (rows ++ e ∷ []) j d)) (sym a) (subst (λ (y : Entry). ComesBefore (get_or rows i d) y) (sym (left j d c)) (o.order i j d l c)))
-          (λ c. subst (λ (y : Entry). ComesBefore y (get_or (rows ++ e ∷ []) j d)) (sym a) (subst (λ (y : Entry). ComesBefore (get_or rows i d) y) (sym (last j d (omega arith))) (b i d (omega arith))))
-          (cases_lt j (length rows));
+          (λ c. subst (λ (y : Entry). ComesBefore y (get_or (entries ++ e ∷ []) j d)) (sym a) (subst (λ (y : Entry). ComesBefore (get_or entries i d) y) (sym (left j d c)) (o.order i j d l c)))
+          (λ c. subst (λ (y : Entry). ComesBefore y (get_or (entries ++ e ∷ []) j d)) (sym a) (subst (λ (y : Entry). ComesBefore (get_or entries i d) y) (sym (last j d (omega arith))) (b i d (omega arith))))
+          (cases_lt j (length entries));
     }
 
-pub order_grows : (sig : Signature) (n : ℕ) (ps : List ℕ) (p : ℕ) (rows : List Entry) → AreInOrder sig n ps rows → AreInOrder sig n (ps ++ p ∷ []) rows
-order_grows sig n ps p rows o = record { entries = λ k d l. entry_grows sig n ps p (get_or rows k d) (o.entries k d l); order = o.order }
+pub order_grows : (sig : Signature) (n : ℕ) (ps : List ℕ) (p : ℕ) (entries : List Entry) → AreInOrder sig n ps entries → AreInOrder sig n (ps ++ p ∷ []) entries
+order_grows sig n ps p entries o = record { are = λ k d l. entry_grows sig n ps p (get_or entries k d) (o.are k d l); order = o.order }
 
 pub order_none : (sig : Signature) (n : ℕ) (ps : List ℕ) → AreInOrder sig n ps []
-order_none sig n ps = record { entries = λ k d l. absurd (omega arith); order = λ i j d l m. absurd (omega arith) }
+order_none sig n ps = record { are = λ k d l. absurd (omega arith); order = λ i j d l m. absurd (omega arith) }
 
 -- what is in a list, and one more
-pub contains_left : (rows : List Entry) (e x : Entry) → Contains rows x → Contains (rows ++ e ∷ []) x
-contains_left rows e x (k, l, h) = (k, omega (arith, length_push rows e), get_or_append_left rows (e ∷ []) x k l ∙ h)
+pub contains_left : (entries : List Entry) (e x : Entry) → Contains entries x → Contains (entries ++ e ∷ []) x
+contains_left entries e x (k, l, h) = (k, omega (arith, length_push entries e), get_or_append_left entries (e ∷ []) x k l ∙ h)
 
-pub contains_last : (rows : List Entry) (e : Entry) → Contains (rows ++ e ∷ []) e
-contains_last rows e = (length rows, omega (arith, length_push rows e), get_or_push rows e e (length rows) refl)
+pub contains_last : (entries : List Entry) (e : Entry) → Contains (entries ++ e ∷ []) e
+contains_last entries e = (length entries, omega (arith, length_push entries e), get_or_push entries e e (length entries) refl)
 
--- where each entry is in the list or comes after the last one, so it is with the next one, and states added
-pub up_to_next : (sig : Signature) (n : ℕ) (ps qs : List ℕ) (rows : List Entry) (last e : Entry) → ((x : Entry) → IsEntry sig n ps x → Contains rows x ⊎ ComesBefore last x) → IsNextEntry sig n ps last e → (x : Entry) → IsEntry sig n (ps ++ qs) x → Contains (rows ++ e ∷ []) x ⊎ ComesBefore e x
-up_to_next sig n ps qs rows last e up h x k =
-    let one : (e ≡ x) ⊎ ComesBefore e x → Contains (rows ++ e ∷ []) x ⊎ ComesBefore e x =
-    λ s. ⊎_elim (λ i. inl (subst (λ (y : Entry). Contains (rows ++ e ∷ []) y) i (contains_last rows e))) (λ b. inr b) s in
+-- Result: where each entry is in the list or comes after the last one, so it is with the next one, and states added
+pub up_to_next : (sig : Signature) (n : ℕ) (ps qs : List ℕ) (entries : List Entry) (last e : Entry) → ((x : Entry) → IsEntry sig n ps x → Contains entries x ⊎ ComesBefore last x) → IsNextEntry sig n ps last e → (x : Entry) → IsEntry sig n (ps ++ qs) x → Contains (entries ++ e ∷ []) x ⊎ ComesBefore e x
+up_to_next sig n ps qs entries last e up h x k =
+    let one : (e ≡ x) ⊎ ComesBefore e x → Contains (entries ++ e ∷ []) x ⊎ ComesBefore e x =
+    λ s. ⊎_elim (λ i. inl (subst (λ (y : Entry). Contains (entries ++ e ∷ []) y) i (contains_last entries e))) (λ b. inr b) s in
     ⊎_elim
-    (λ m. ⊎_elim (λ c. inl (contains_left rows e x c)) (λ b. one (h.first x m b)) (up x m))
+    (λ m. ⊎_elim (λ c. inl (contains_left entries e x c)) (λ b. one (h.first x m b)) (up x m))
     (λ b. inr b)
     (entry_shrinks sig n ps qs e x h.is_entry k)
 
 -- nothing comes before itself: an entry after all of a list isn't in it
-pub after_all_missing : (rows : List Entry) (e : Entry) → ((k : ℕ) (d : Entry) → k < length rows → ComesBefore (get_or rows k d) e) → Contains rows e → ⊥
-after_all_missing rows e b (k, l, h) = before_apart (get_or rows k e) e (b k e l) h
+pub after_all_missing : (entries : List Entry) (e : Entry) → ((k : ℕ) (d : Entry) → k < length entries → ComesBefore (get_or entries k d) e) → Contains entries e → ⊥
+after_all_missing entries e b (k, l, h) = before_apart (get_or entries k e) e (b k e l) h

@@ -3,10 +3,10 @@ use Rattle.std.proofs.Common.{◌≡◌, ℕ, ◌+◌, ◌*◌, ◌<◌, List, [
 use Rattle.std.proofs.lemmas.List.{length-map, get_or-map}
 use Rattle.fort_theory.specs.Trees.{Node}
 use Rattle.fort_theory.specs.Signatures.{Signature}
-use Rattle.fort_tables.specs.Tuples.{Tuple, root, kid, kids, kid_count, presence, IsTuple}
+use Rattle.fort_tables.specs.Tuples.{Tuple, TupleSymbol, root, kid, kids, kid_count, presence, IsTuple, IsTupleSymbol, symbol_kids, FitsKid}
 use Rattle.fort_tables.specs.Entries.{Entry, entry, IsEntry}
 use Rattle.fort_tables.proofs.TupleLaws.{tuple_induction, fold_tuple-step, IsTupleSymbol-root, IsTuple-kid, kid_count_is, kid_fits, presence_fits, length-tabulate, get_or-tabulate}
-use Rattle.fort_tables.specs.Tables.{Table, IsTable, state_of}
+use Rattle.fort_tables.specs.Tables.{Table, IsTable, IsTableEntry, state_of}
 
 pub presence_root : (t : Tuple) → presence (root t) ≡ presence t
 presence_root [] = refl
@@ -39,3 +39,19 @@ table_state table is = tuple_induction (λ t. IsTuple table.signature table.colu
     let e = IsEntry-states table.signature table.columns table.presences (state_of table) t h (λ j l. ih j l (IsTuple-kid table.signature table.columns t j h l)) in
     subst (HasState table.presences t) (sym (fold_tuple-step (λ f ks. table.target (entry f ks)) t))
     (record { within = is.within (entry_of (state_of table) t) e; presence_is = is.presence (entry_of (state_of table) t) e ∙ presence_root t }))
+
+-- q is the state of some tuple that stands as child j under the symbol
+pub record IsKidState (table : Table) (f : TupleSymbol) (j q : ℕ) : Type 0 where
+  pub tuple : Tuple
+  pub is_tuple : IsTuple table.signature table.columns tuple
+  pub fits : FitsKid table.signature f j tuple
+  pub state : state_of table tuple ≡ q
+
+-- Result: a symbol over states of tuples that stand under it is an entry
+pub IsTableEntry-kid_states : (table : Table) (e : Entry) → IsTable table → IsTupleSymbol table.signature table.columns e.symbol → length e.kids ≡ symbol_kids table.signature e.symbol → ((j : ℕ) → j < length e.kids → IsKidState table e.symbol j (get_or e.kids j 0)) → IsTableEntry table e
+IsTableEntry-kid_states table e is s count h = record {
+  symbol = s;
+  count = count;
+  within = λ j l. let k = h j l in subst (λ (q : ℕ). q < length table.presences) k.state (table_state table is k.tuple k.is_tuple).within;
+  presence = λ j l. let k = h j l in ap (λ q. get_or table.presences q 0) (sym k.state) ∙ ((table_state table is k.tuple k.is_tuple).presence_is ∙ presence_fits table.signature e.symbol j k.tuple k.fits);
+}

@@ -4,7 +4,7 @@ use Rattle.std.proofs.lemmas.Bool.{cases_lt, lt-ltb, le-ltb}
 use Rattle.std.proofs.lemmas.List.{length-map, ext_get_or}
 use Rattle.fort_theory.specs.Trees.{Tree, Trees, Node, Nil, More, heights, tree_count}
 use Rattle.fort_theory.specs.Signatures.{Signature, AreGround, arity_of}
-use Rattle.fort_tables.specs.Tuples.{Tuple, tree_at, TupleSymbol, tabulate, root, kid_count, kid, kids, level, head_column, tail_columns, present_trees, rebuilt, IsPresent, presence, AreColumns, IsTuple, arity, symbol_kids, AreSymbols, IsTupleSymbol, FitsKid, AreKids, kid_presence, folded, fold_tuple}
+use Rattle.fort_tables.specs.Tuples.{Tuple, tree_at, TupleSymbol, tabulate, root, kid_count, kid, kids, level, head_column, tail_columns, present_trees, rebuilt, IsPresent, presence, AreGroundColumns, IsTuple, arity, symbol_kids, AreSymbols, IsTupleSymbol, FitsKid, AreKids, kid_presence, folded, fold_tuple}
 
 -- tabulate
 pub length-tabulate : {A : Type 0} (n : ℕ) (f : ℕ → A) → length (tabulate n f) ≡ n
@@ -184,6 +184,7 @@ rebuilt_kids_to (Some (Node f ts) ∷ t) m h =
     ∙ (ap (λ u. Some (Node f (present_trees (map head_column (tabulate m (kid (Some (Node f ts) ∷ t)))))) ∷ u) (rebuilt_kids_to t m (omega arith))
     ∙ ap (λ us. Some (Node f us) ∷ t) (ap present_trees (map-tabulate head_column m (kid (Some (Node f ts) ∷ t))) ∙ present_trees-tabulate ts m (omega arith)))
 
+-- Result: a tuple is made of its root and its children
 pub rebuilt-kids : (t : Tuple) → rebuilt (root t) (kids t) ≡ t
 rebuilt-kids t = rebuilt_kids_to t (kid_count t) (omega arith)
 
@@ -216,28 +217,28 @@ fits_both : (sig : Signature) (g : ℕ) (f : TupleSymbol) (j : ℕ) (x : Option 
 fits_both sig g f j None t h k = (h, k)
 fits_both sig g f j (Some x) t h k = (h, k)
 
-pub kid_fits : (sig : Signature) (t : Tuple) (j : ℕ) → AreColumns sig t → FitsKid sig (root t) j (kid t j)
+pub kid_fits : (sig : Signature) (t : Tuple) (j : ℕ) → AreGroundColumns sig t → FitsKid sig (root t) j (kid t j)
 kid_fits sig [] j h = tt
 kid_fits sig (None ∷ t) j h = kid_fits sig t j h
 kid_fits sig (Some (Node f ts) ∷ t) j h =
     let P : ℕ → Type 0 = λ a. ColumnFits a j (tree_at ts j) in
     fits_both sig f (root t) j (tree_at ts j) (kid t j) (subst P (sym (arity_from_get sig f (tree_count ts) h.0.0).0) (tree_at_fits ts j)) (kid_fits sig t j h.1)
 
-ground_at : (sig : Signature) (ts : Trees) (j : ℕ) → AreGround sig ts → AreColumns sig (tree_at ts j ∷ [])
+ground_at : (sig : Signature) (ts : Trees) (j : ℕ) → AreGround sig ts → AreGroundColumns sig (tree_at ts j ∷ [])
 ground_at sig Nil j h = tt
 ground_at sig (More t ts) zero h = (h.0, tt)
 ground_at sig (More t ts) (suc j) h = ground_at sig ts j h.1
 
-ground_both : (sig : Signature) (x : Option Tree) (t : Tuple) → AreColumns sig (x ∷ []) → AreColumns sig t → AreColumns sig (x ∷ t)
+ground_both : (sig : Signature) (x : Option Tree) (t : Tuple) → AreGroundColumns sig (x ∷ []) → AreGroundColumns sig t → AreGroundColumns sig (x ∷ t)
 ground_both sig None t h k = k
 ground_both sig (Some x) t h k = (h.0, k)
 
-pub kid_ground : (sig : Signature) (t : Tuple) (j : ℕ) → AreColumns sig t → AreColumns sig (kid t j)
+pub kid_ground : (sig : Signature) (t : Tuple) (j : ℕ) → AreGroundColumns sig t → AreGroundColumns sig (kid t j)
 kid_ground sig [] j h = tt
 kid_ground sig (None ∷ t) j h = kid_ground sig t j h
 kid_ground sig (Some (Node f ts) ∷ t) j h = ground_both sig (tree_at ts j) (kid t j) (ground_at sig ts j h.0.1) (kid_ground sig t j h.1)
 
-pub kid_count_is : (sig : Signature) (t : Tuple) → AreColumns sig t → kid_count t ≡ symbol_kids sig (root t)
+pub kid_count_is : (sig : Signature) (t : Tuple) → AreGroundColumns sig t → kid_count t ≡ symbol_kids sig (root t)
 kid_count_is sig [] h = refl
 kid_count_is sig (None ∷ t) h = kid_count_is sig t h
 kid_count_is sig (Some (Node f ts) ∷ t) h =
@@ -267,7 +268,8 @@ length-kid (Some (Node f ts) ∷ t) j = ap suc (length-kid t j)
 pub IsTuple-kid : (sig : Signature) (n : ℕ) (t : Tuple) (j : ℕ) → IsTuple sig n t → j < kid_count t → IsTuple sig n (kid t j)
 IsTuple-kid sig n t j h l = record { width = length-kid t j ∙ h.width; present = kid_present t j l; grounded = kid_ground sig t j h.grounded }
 
-pub AreKids-kids : (sig : Signature) (t : Tuple) → AreColumns sig t → AreKids sig (root t) (kids t)
+-- Result: a tuple's children stand under its root
+pub AreKids-kids : (sig : Signature) (t : Tuple) → AreGroundColumns sig t → AreKids sig (root t) (kids t)
 AreKids-kids sig t h =
     let n = kid_count t in
     let e : length (kids t) ≡ kid_count t = length-tabulate (kid_count t) (kid t) in
@@ -276,7 +278,7 @@ AreKids-kids sig t h =
     record {
       count = e ∙ kid_count_is sig t h;
       fits = λ j l. subst (P j) (sym (at j l)) (kid_fits sig t j h);
-      grounded = λ j l. subst (AreColumns sig) (sym (at j l)) (kid_ground sig t j h);
+      grounded = λ j l. subst (AreGroundColumns sig) (sym (at j l)) (kid_ground sig t j h);
     }
 
 length-root : (t : Tuple) → length (root t) ≡ length t
@@ -289,7 +291,7 @@ present_root [] h = absurd h
 present_root (None ∷ t) h = present_root t h
 present_root (Some (Node f ts) ∷ t) h = tt
 
-symbols_root : (sig : Signature) (t : Tuple) → AreColumns sig t → AreSymbols sig (root t)
+symbols_root : (sig : Signature) (t : Tuple) → AreGroundColumns sig t → AreSymbols sig (root t)
 symbols_root sig [] h = tt
 symbols_root sig (None ∷ t) h = symbols_root sig t h
 symbols_root sig (Some (Node f ts) ∷ t) h = ((arity_from_get sig f (tree_count ts) h.0.0).1, symbols_root sig t h.1)
@@ -309,20 +311,20 @@ present_rebuilt (None ∷ f) ts h = present_rebuilt f (map tail_columns ts) h
 present_rebuilt (Some g ∷ f) ts h = tt
 
 abbrev pub AllGround : Signature → List Tuple → Type 0
-AllGround sig ts = (j : ℕ) → j < length ts → AreColumns sig (get_or ts j [])
+AllGround sig ts = (j : ℕ) → j < length ts → AreGroundColumns sig (get_or ts j [])
 
-tail_ground : (sig : Signature) (t : Tuple) → AreColumns sig t → AreColumns sig (tail_columns t)
+tail_ground : (sig : Signature) (t : Tuple) → AreGroundColumns sig t → AreGroundColumns sig (tail_columns t)
 tail_ground sig [] h = tt
 tail_ground sig (None ∷ t) h = h
 tail_ground sig (Some x ∷ t) h = h.1
 
-head_ground : (sig : Signature) (t : Tuple) → AreColumns sig t → AreColumns sig (head_column t ∷ [])
+head_ground : (sig : Signature) (t : Tuple) → AreGroundColumns sig t → AreGroundColumns sig (head_column t ∷ [])
 head_ground sig [] h = tt
 head_ground sig (None ∷ t) h = tt
 head_ground sig (Some x ∷ t) h = (h.0, tt)
 
 tails_ground : (sig : Signature) (ts : List Tuple) → AllGround sig ts → AllGround sig (map tail_columns ts)
-tails_ground sig ts h j l = subst (AreColumns sig) (sym (get_or-tails ts j)) (tail_ground sig (get_or ts j []) (h j (omega (arith, length-map ts tail_columns))))
+tails_ground sig ts h j l = subst (AreGroundColumns sig) (sym (get_or-tails ts j)) (tail_ground sig (get_or ts j []) (h j (omega (arith, length-map ts tail_columns))))
 
 present_ground : (sig : Signature) (ts : List Tuple) → AllGround sig ts → AreGround sig (present_trees (map head_column ts))
 present_ground sig [] h = tt
@@ -330,7 +332,7 @@ present_ground sig ([] ∷ ts) h = tt
 present_ground sig ((None ∷ t) ∷ ts) h = tt
 present_ground sig ((Some x ∷ t) ∷ ts) h = ((h 0 (omega arith)).0, present_ground sig ts (λ j l. h (suc j) (omega arith)))
 
-pub columns_rebuilt : (sig : Signature) (f : TupleSymbol) (ts : List Tuple) → AreSymbols sig f → AllFit sig f ts → AllGround sig ts → symbol_kids sig f ≤ length ts → AreColumns sig (rebuilt f ts)
+pub columns_rebuilt : (sig : Signature) (f : TupleSymbol) (ts : List Tuple) → AreSymbols sig f → AllFit sig f ts → AllGround sig ts → symbol_kids sig f ≤ length ts → AreGroundColumns sig (rebuilt f ts)
 columns_rebuilt sig [] ts s h g l = tt
 columns_rebuilt sig (None ∷ f) ts s h g l = columns_rebuilt sig f (map tail_columns ts) s (tails_fit sig None f ts h) (tails_ground sig ts g) (omega (arith, length-map ts tail_columns))
 columns_rebuilt sig (Some y ∷ f) ts s h g l =
@@ -347,13 +349,13 @@ IsTuple-rebuilt sig n f ts s h = record {
 }
 
 -- presence
-abbrev bit : ℕ → ℕ → ℕ
-bit j a = if nat_lt j a then 1 else 0
+abbrev pub presence_bit : ℕ → ℕ → ℕ
+presence_bit j a = if nat_lt j a then 1 else 0
 
-bit_below : (j a : ℕ) → j < a → bit j a ≡ 1
+pub bit_below : (j a : ℕ) → j < a → presence_bit j a ≡ 1
 bit_below j a h = rw (lt-ltb j a h) refl
 
-bit_past : (j a : ℕ) → a ≤ j → bit j a ≡ 0
+bit_past : (j a : ℕ) → a ≤ j → presence_bit j a ≡ 0
 bit_past j a h = rw (le-ltb j a h) refl
 
 pub presence_fits : (sig : Signature) (f : TupleSymbol) (j : ℕ) (t : Tuple) → FitsKid sig f j t → presence t ≡ kid_presence sig f j

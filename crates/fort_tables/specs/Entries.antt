@@ -1,7 +1,7 @@
 -- To believe: an entry is a tuple symbol with one state for each child, of that child's presence; entries are in order by greatest child state, then by tuple symbol, then by child states.
-use Rattle.std.specs.Prelude.{◌≡◌, ℕ, suc, ◌<◌, ◌⊎◌, max, List, [], ◌∷◌, ◌++◌, map, length, replicate, take, Option, None, Some, get_or, Contains}
+use Rattle.std.specs.Prelude.{◌≡◌, ℕ, suc, ◌<◌, ◌⊎◌, max, List, [], ◌∷◌, ◌++◌, map, length, take, Option, None, Some, get_or, Contains}
 use Rattle.fort_theory.specs.Signatures.{Signature}
-use Rattle.fort_tables.specs.Tuples.{Tuple, TupleSymbol, rebuilt, presence, IsTuple, IsTupleSymbol, symbol_kids, kid_presence}
+use Rattle.fort_tables.specs.Tuples.{Tuple, TupleSymbol, all_absent, rebuilt, presence, IsTuple, IsTupleSymbol, symbol_kids, kid_presence}
 
 pub record Entry : Type 0 where
   pub symbol : TupleSymbol
@@ -43,7 +43,7 @@ ComesBefore a b = (stage a.kids < stage b.kids) ⊎ ((stage a.kids ≡ stage b.k
 
 -- nothing in each column: it comes before every entry and is none
 abbrev pub no_entry : ℕ → Entry
-no_entry columns = entry (replicate columns None) []
+no_entry columns = entry (all_absent columns) []
 
 -- the first entry over these presences that comes after this one
 pub record IsNextEntry (sig : Signature) (columns : ℕ) (presences : List ℕ) (last e : Entry) : Type 0 where
@@ -56,19 +56,19 @@ abbrev pub IsLastEntry : Signature → ℕ → List ℕ → Entry → Type 0
 IsLastEntry sig columns presences last = (x : Entry) → IsEntry sig columns presences x → ComesBefore last x → ⊥
 
 -- the first entry over these presences that isn't in the list
-pub record IsDue (sig : Signature) (columns : ℕ) (presences : List ℕ) (rows : List Entry) (e : Entry) : Type 0 where
+pub record IsDue (sig : Signature) (columns : ℕ) (presences : List ℕ) (entries : List Entry) (e : Entry) : Type 0 where
   pub is_entry : IsEntry sig columns presences e
-  pub missing : Contains rows e → ⊥
-  pub first : (x : Entry) → IsEntry sig columns presences x → (Contains rows x → ⊥) → (e ≡ x) ⊎ ComesBefore e x
+  pub missing : Contains entries e → ⊥
+  pub first : (x : Entry) → IsEntry sig columns presences x → (Contains entries x → ⊥) → (e ≡ x) ⊎ ComesBefore e x
 
 -- each entry over these presences is in the list
 abbrev pub HasAllEntries : Signature → ℕ → List ℕ → List Entry → Type 0
-HasAllEntries sig columns presences rows = (x : Entry) → IsEntry sig columns presences x → Contains rows x
+HasAllEntries sig columns presences entries = (x : Entry) → IsEntry sig columns presences x → Contains entries x
 
 -- entries over these presences, each once and in order
-pub record AreInOrder (sig : Signature) (columns : ℕ) (presences : List ℕ) (rows : List Entry) : Type 0 where
-  pub entries : (k : ℕ) (d : Entry) → k < length rows → IsEntry sig columns presences (get_or rows k d)
-  pub order : (i j : ℕ) (d : Entry) → i < j → j < length rows → ComesBefore (get_or rows i d) (get_or rows j d)
+pub record AreInOrder (sig : Signature) (columns : ℕ) (presences : List ℕ) (entries : List Entry) : Type 0 where
+  pub are : (k : ℕ) (d : Entry) → k < length entries → IsEntry sig columns presences (get_or entries k d)
+  pub order : (i j : ℕ) (d : Entry) → i < j → j < length entries → ComesBefore (get_or entries i d) (get_or entries j d)
 
 -- the tuples of these numbers
 abbrev pub picked : List Tuple → List ℕ → List Tuple

@@ -1,15 +1,19 @@
 -- To believe: a labelling gives each optional tuple a list of words, its label; there are more labels than a cap where one more tuple than the cap has labels all different.
-use Rattle.std.specs.Prelude.{◌≡◌, ℕ, ◌+◌, ◌<◌, ◌↔◌, List, [], map, length, get_or, Bool, false}
+use Rattle.std.specs.Prelude.{◌≡◌, ℕ, ◌+◌, ◌<◌, ◌↔◌, List, [], map, length, get_or, Bool, false, ◌==◌, if◌then◌else◌}
 use Rattle.fort_theory.specs.Signatures.{Signature}
-use Rattle.fort_tables.specs.Tuples.{Tuple, rebuilt, presence, IsTuple, IsFull, AreKids}
+use Rattle.fort_tables.specs.Tuples.{Tuple, root, kids, presence, IsTuple, IsFull}
 use Rattle.fort_tables.specs.Entries.{Entry, IsEntry, AreTuples}
-use Rattle.fort_tables.specs.Tables.{Table, state_of}
+use Rattle.fort_tables.specs.Tables.{Table, full_presence, state_of}
 
 abbrev pub Labelling : Type 0
 Labelling = Tuple → List ℕ
 
 abbrev pub first_word : List ℕ → ℕ
 first_word w = get_or w 0 0
+
+-- whether all columns are present in the label and it is accepted
+abbrev pub final_by : ℕ → (List ℕ → Bool) → List ℕ → Bool
+final_by columns accepting w = if first_word w == full_presence columns then accepting w else false
 
 -- the first word of a label is its presence
 abbrev pub TellsPresence : Signature → ℕ → Labelling → Type 0
@@ -28,16 +32,16 @@ abbrev pub IsFullLabel : Signature → ℕ → Labelling → List ℕ → Type 0
 IsFullLabel sig columns label w = (t : Tuple) × IsTuple sig columns t × IsFull t × (label t ≡ w)
 
 abbrev pub AreLabels : Signature → ℕ → Labelling → List (List ℕ) → Type 0
-AreLabels sig columns label rows = (q : ℕ) → q < length rows → IsLabel sig columns label (get_or rows q [])
+AreLabels sig columns label labels = (q : ℕ) → q < length labels → IsLabel sig columns label (get_or labels q [])
 
--- the words are the label of each tuple made of the entry's symbol and of children whose labels are those at the entry's numbers
-abbrev pub GivesLabel : Signature → Labelling → List (List ℕ) → Entry → List ℕ → Type 0
-GivesLabel sig label rows e out = (us : List Tuple) → AreKids sig e.symbol us → map label us ≡ map (λ q. get_or rows q []) e.kids → label (rebuilt e.symbol us) ≡ out
+-- the words are the label of each tuple with the entry's symbol at its root and with children whose labels are those at the entry's numbers
+abbrev pub GivesLabel : Signature → ℕ → Labelling → List (List ℕ) → Entry → List ℕ → Type 0
+GivesLabel sig columns label labels e out = (t : Tuple) → IsTuple sig columns t → root t ≡ e.symbol → map label (kids t) ≡ map (λ q. get_or labels q []) e.kids → label t ≡ out
 
--- an entry over rows, each of which is some tuple's label
-pub record IsOverLabels (sig : Signature) (columns : ℕ) (label : Labelling) (rows : List (List ℕ)) (e : Entry) : Type 0 where
-  pub entry : IsEntry sig columns (map first_word rows) e
-  pub labels : AreLabels sig columns label rows
+-- an entry over states with these labels, each of which is some tuple's
+pub record IsOverLabels (sig : Signature) (columns : ℕ) (label : Labelling) (labels : List (List ℕ)) (e : Entry) : Type 0 where
+  pub entry : IsEntry sig columns (map first_word labels) e
+  pub are : AreLabels sig columns label labels
 
 -- no two tuples of the list have one label
 abbrev pub AreApart : Labelling → List Tuple → Type 0

@@ -1,6 +1,6 @@
 -- To believe: a table gives each entry over its states one state of the entry's presence; so it gives each optional tuple one state, from the root and the children's states.
 use Rattle.std.specs.Prelude.{◌≡◌, ℕ, ◌-◌, ◌^◌, ◌<◌, ◌≤◌, List, [], ◌∷◌, ◌++◌, length, get_or, Bool, true, false, ◌&&◌, ◌==◌, if◌then◌else◌, None, Some}
-use Rattle.fort_theory.specs.Signatures.{Signature}
+use Rattle.fort_theory.specs.Signatures.{Signature, most_columns}
 use Rattle.fort_tables.specs.Tuples.{Tuple, TupleSymbol, presence, IsTuple, fold_tuple}
 use Rattle.fort_tables.specs.Entries.{Entry, entry, IsEntry, IsDue, HasAllEntries, AreInOrder}
 
@@ -22,7 +22,7 @@ full_presence columns = 2 ^ columns - 1
 -- each entry has one state, of its presence; a state with a column absent is not accepting
 pub record IsTable (t : Table) : Type 0 where
   pub some : 0 < t.columns
-  pub narrow : t.columns ≤ 16
+  pub narrow : t.columns ≤ most_columns
   pub within : (e : Entry) → IsTableEntry t e → t.target e < length t.presences
   pub presence : (e : Entry) → IsTableEntry t e → get_or t.presences (t.target e) 0 ≡ presence e.symbol
   pub full : (q : ℕ) → q < length t.presences → t.accepting q ≡ true → get_or t.presences q 0 ≡ full_presence t.columns
@@ -64,7 +64,7 @@ pub record Made : Type 0 where
   pub signature : Signature
   pub columns : ℕ
   pub presences : List ℕ
-  pub rows : List Entry
+  pub entries : List Entry
   pub targets : List ℕ
 
 -- a table as a list of its entries in order, with their targets
@@ -72,7 +72,7 @@ pub record Listed : Type 0 where
   pub signature : Signature
   pub columns : ℕ
   pub presences : List ℕ
-  pub rows : List Entry
+  pub entries : List Entry
   pub targets : List ℕ
   pub finals : List Bool
 
@@ -81,7 +81,7 @@ listed_table t = record {
   signature = t.signature;
   columns = t.columns;
   presences = t.presences;
-  target = target_in t.rows t.targets;
+  target = target_in t.entries t.targets;
   accepting = λ q. get_or t.finals q false;
 }
 
@@ -91,18 +91,18 @@ finished m finals = record {
   signature = m.signature;
   columns = m.columns;
   presences = m.presences;
-  rows = m.rows;
+  entries = m.entries;
   targets = m.targets;
   finals = finals;
 }
 
 -- the first entry over the states so far that has no target
 abbrev pub IsMadeDue : Made → Entry → Type 0
-IsMadeDue m e = IsDue m.signature m.columns m.presences m.rows e
+IsMadeDue m e = IsDue m.signature m.columns m.presences m.entries e
 
 -- every entry over the states so far has a target
 abbrev pub IsComplete : Made → Type 0
-IsComplete m = HasAllEntries m.signature m.columns m.presences m.rows
+IsComplete m = HasAllEntries m.signature m.columns m.presences m.entries
 
 -- a state that is there and has the entry's presence, or a new one
 pub record IsAllowed (m : Made) (e : Entry) (target : ℕ) : Type 0 where
@@ -114,7 +114,7 @@ pub record IsAllowed (m : Made) (e : Entry) (target : ℕ) : Type 0 where
 pub record IsGiven (old : Made) (e : Entry) (target : ℕ) (new : Made) : Type 0 where
   pub signature : new.signature ≡ old.signature
   pub columns_are : new.columns ≡ old.columns
-  pub rows : new.rows ≡ old.rows ++ e ∷ []
+  pub entries : new.entries ≡ old.entries ++ e ∷ []
   pub targets : new.targets ≡ old.targets ++ target ∷ []
   pub presences : new.presences ≡ (if target == length old.presences then old.presences ++ presence e.symbol ∷ [] else old.presences)
 
@@ -124,18 +124,18 @@ pub record AreFinals (m : Made) (finals : List Bool) : Type 0 where
   pub full : (q : ℕ) → q < length m.presences → get_or finals q false ≡ true → get_or m.presences q 0 ≡ full_presence m.columns
 
 -- the first entry with this target; the targets before it are smaller
-pub record IsFirstWith (rows : List Entry) (targets : List ℕ) (q : ℕ) (e : Entry) : Type 0 where
+pub record IsFirstWith (entries : List Entry) (targets : List ℕ) (q : ℕ) (e : Entry) : Type 0 where
   pub place : ℕ
   pub within : place < length targets
   pub target : get_or targets place 0 ≡ q
   pub before : (j : ℕ) → j < place → get_or targets j 0 < q
-  pub row : (d : Entry) → get_or rows place d ≡ e
+  pub is : (d : Entry) → get_or entries place d ≡ e
 
 -- the list has each entry once, in order, and is a table; each state has a tuple, and states are numbered in the order in which an entry first gives them
 pub record IsListed (t : Listed) : Type 0 where
-  pub order : AreInOrder t.signature t.columns t.presences t.rows
-  pub all : HasAllEntries t.signature t.columns t.presences t.rows
-  pub count : length t.targets ≡ length t.rows
+  pub order : AreInOrder t.signature t.columns t.presences t.entries
+  pub all : HasAllEntries t.signature t.columns t.presences t.entries
+  pub count : length t.targets ≡ length t.entries
   pub table : IsTable (listed_table t)
   pub reached : IsReached (listed_table t)
-  pub numbered : (q : ℕ) → q < length t.presences → (e : Entry) × IsFirstWith t.rows t.targets q e
+  pub numbered : (q : ℕ) → q < length t.presences → (e : Entry) × IsFirstWith t.entries t.targets q e

@@ -1,5 +1,5 @@
 -- To believe: an optional tuple has for each column a tree or nothing; its root has each tree's symbol, and its child j has each tree's child j, where there is one.
-use Rattle.std.specs.Prelude.{◌≡◌, ℕ, zero, suc, ◌+◌, ◌*◌, ◌<◌, ◌≤◌, max, List, [], ◌∷◌, map, length, Option, None, Some, get_or, nat_lt, if◌then◌else◌}
+use Rattle.std.specs.Prelude.{◌≡◌, ℕ, zero, suc, ◌+◌, ◌*◌, ◌<◌, ◌≤◌, max, List, [], ◌∷◌, map, length, replicate, Option, None, Some, get_or, nat_lt, if◌then◌else◌}
 use Rattle.fort_theory.specs.Trees.{Tree, Trees, Node, Nil, More, height, tree_count}
 use Rattle.fort_theory.specs.Signatures.{Symbol, Signature, IsGround}
 
@@ -9,6 +9,10 @@ Tuple = List (Option Tree)
 -- for each column a symbol or nothing
 abbrev pub TupleSymbol : Type 0
 TupleSymbol = List (Option ℕ)
+
+-- n columns, all of them absent
+abbrev pub all_absent : {A : Type 0} → ℕ → List (Option A)
+all_absent {A} n = replicate {A = Option A} n None
 
 -- some column is present
 abbrev pub IsPresent : {A : Type 0} → List (Option A) → Type 0
@@ -28,16 +32,17 @@ presence [] = 0
 presence (None ∷ t) = 2 * presence t
 presence (Some x ∷ t) = 1 + 2 * presence t
 
-abbrev pub AreColumns : Signature → Tuple → Type 0
-AreColumns sig [] = Unit {0}
-AreColumns sig (None ∷ t) = AreColumns sig t
-AreColumns sig (Some x ∷ t) = IsGround sig x × AreColumns sig t
+-- each tree is a ground term
+abbrev pub AreGroundColumns : Signature → Tuple → Type 0
+AreGroundColumns sig [] = Unit {0}
+AreGroundColumns sig (None ∷ t) = AreGroundColumns sig t
+AreGroundColumns sig (Some x ∷ t) = IsGround sig x × AreGroundColumns sig t
 
 -- an optional tuple of grounded terms, not all of them absent
 pub record IsTuple (sig : Signature) (columns : ℕ) (t : Tuple) : Type 0 where
   pub width : length t ≡ columns
   pub present : IsPresent t
-  pub grounded : AreColumns sig t
+  pub grounded : AreGroundColumns sig t
 
 -- the symbols at the roots
 abbrev pub root : Tuple → TupleSymbol
@@ -146,4 +151,4 @@ FitsKid sig (Some g ∷ f) j (Some y ∷ t) = (j < arity sig g) × FitsKid sig f
 pub record AreKids (sig : Signature) (f : TupleSymbol) (ts : List Tuple) : Type 0 where
   pub count : length ts ≡ symbol_kids sig f
   pub fits : (j : ℕ) → j < length ts → FitsKid sig f j (get_or ts j [])
-  pub grounded : (j : ℕ) → j < length ts → AreColumns sig (get_or ts j [])
+  pub grounded : (j : ℕ) → j < length ts → AreGroundColumns sig (get_or ts j [])

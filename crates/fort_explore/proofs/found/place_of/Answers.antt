@@ -7,13 +7,13 @@ pub step-requires-clause-served : goal.step-requires-clause-served
 step-requires-clause-served g c =
     let r = c.requires.ready in
     let f = c.args.found.now in
-    (r.0, r.1, record { entry = r.2.entry; labels = known_labels r.0 _ (g.L.Labeller.label c.args.labeller.now) f.firsts f.rows.labels r.2.known })
+    (r.0, r.1, record { entry = r.2.entry; are = known_labels r.0 _ (g.L.Labeller.label c.args.labeller.now) f.firsts f.labels.labels r.2.known })
 
 pub note-requires-clause-nodes : goal.note-requires-clause-nodes
 note-requires-clause-nodes g c =
     let r = c.requires.ready in
     let f = c.args.found.now in
-    (r.0, _, ready_nodes r.0 _ (g.L.Labeller.label c.args.labeller.now) f.firsts f.rows.labels c.args.row.now (g.met.L.Labeller.tells_presence c.args.labeller.now r.0 r.1) r.2)
+    (r.0, _, ready_nodes r.0 _ (g.L.Labeller.label c.args.labeller.now) f.firsts f.labels.labels c.args.row.now (g.met.L.Labeller.tells_presence c.args.labeller.now r.0 r.1) r.2)
 
 pub returns-in-Some-clause-placed : goal.returns-in-Some-clause-placed
 returns-in-Some-clause-placed g c = λ sig s r.
@@ -21,8 +21,8 @@ returns-in-Some-clause-placed g c = λ sig s r.
     let n = g.L.Labeller.column_count c.args.labeller.now in
     let label = g.L.Labeller.label c.args.labeller.now in
     let q = c.in-Some.q in
-    let gives = c.step.ensures sig s (record { entry = r.entry; labels = known_labels sig n label f.firsts f.rows.labels r.known }) in
-    placed_old sig n label f.firsts f.rows.labels c.args.row.now q _ (g.met.L.Labeller.tells_presence c.args.labeller.now sig s) r gives
+    let gives = c.step.ensures sig s (record { entry = r.entry; are = known_labels sig n label f.firsts f.labels.labels r.known }) in
+    placed_old sig n label f.firsts f.labels.labels c.args.row.now q _ (g.met.L.Labeller.tells_presence c.args.labeller.now sig s) r gives
     (omega (arith, ap length c.requires.same, c.in-Some.ensures.0)) (ap (λ (ws : List (List ℕ)). get_or ws q []) (sym c.requires.same) ∙ c.in-Some.ensures.1)
 
 pub returns-in_ok-note-in-None-clause-placed : goal.returns-in_ok-note-in-None-clause-placed
@@ -30,8 +30,8 @@ returns-in_ok-note-in-None-clause-placed g c = λ sig s r.
     let f = c.args.found.now in
     let n = g.L.Labeller.column_count c.args.labeller.now in
     let label = g.L.Labeller.label c.args.labeller.now in
-    let gives = c.step.ensures sig s (record { entry = r.entry; labels = known_labels sig n label f.firsts f.rows.labels r.known }) in
+    let gives = c.step.ensures sig s (record { entry = r.entry; are = known_labels sig n label f.firsts f.labels.labels r.known }) in
     let absent = rw c.requires.same at c.in-None.ensures in
     rw c.len-q.ensures
-    (placed_new sig n label f.firsts f.rows.labels c.args.row.now _ c.note.new.self.firsts c.note.new.self.rows.labels
-    (g.met.L.Labeller.tells_presence c.args.labeller.now sig s) r gives absent c.in_ok-note-in-None.ensures.firsts c.in_ok-note-in-None.ensures.rows)
+    (placed_new sig n label f.firsts f.labels.labels c.args.row.now _ c.note.new.self.firsts c.note.new.self.labels.labels
+    (g.met.L.Labeller.tells_presence c.args.labeller.now sig s) r gives absent c.in_ok-note-in-None.ensures.firsts c.in_ok-note-in-None.ensures.labels)

@@ -1,6 +1,7 @@
 use Rattle.std.proofs.Common.{arith, ◌∙◌, sym, subst}
 use Rattle.fort_tables.specs.Tables.{Listed, listed_table}
 use Rattle.fort_tables.specs.Labels.{IsTableOf}
+use Rattle.fort_tables.proofs.LabelRuleLaws.{IsTableBy-labels}
 use Rattle.fort_explore.proofs.KnownLaws.{known_labels}
 use Rattle.fort_explore.proofs.ExploreLaws.{exploring_ready, exploring_allowed, exploring_give, placed_over, exploring_finals, exploring_table, exploring_few}
 use Rattle.fort_explore.proofs.table.explore.Goals as goal
@@ -11,9 +12,10 @@ returns-then-len-cap g c =
     let n = g.L.Labeller.column_count c.args.labeller.now in
     let label = g.L.Labeller.label c.args.labeller.now in
     let x = c.entries.invariant.exploring in
-    let ready = exploring_ready c.args.sig.now n label c.entries.maker f.firsts f.rows.labels c.in-Some.row x c.in-Some.ensures.some in
-    let p = c.in_ok-q-in-Some.ensures.placed c.args.sig.now c.requires ready in
-    placed_over c.args.sig.now n label f.firsts c.place_of.new.found.firsts f.rows.labels c.place_of.new.found.rows.labels c.in-Some.row c.in_ok-q-in-Some.q c.args.cap p c.entries.invariant.few (omega (arith, c.len.ensures))
+    let ready = exploring_ready c.args.sig.now n label c.entries.maker f.firsts f.labels.labels c.in-Some.row x c.in-Some.ensures.some in
+    let p = c.in_ok-q.ensures.placed c.args.sig.now c.requires ready in
+    let over = placed_over c.args.sig.now n label f.firsts c.place_of.new.found.firsts f.labels.labels c.place_of.new.found.labels.labels c.in-Some.row c.in_ok-q.q c.args.cap p c.entries.invariant.few (omega (arith, c.len.ensures)) in
+    record { ok = tt; table = tt; listed = tt; few = tt; over = over.0; nodes = over.1 }
 
 pub give-requires-clause-allowed : goal.give-requires-clause-allowed
 give-requires-clause-allowed g c =
@@ -21,9 +23,9 @@ give-requires-clause-allowed g c =
     let n = g.L.Labeller.column_count c.args.labeller.now in
     let label = g.L.Labeller.label c.args.labeller.now in
     let x = c.entries.invariant.exploring in
-    let ready = exploring_ready c.args.sig.now n label c.entries.maker f.firsts f.rows.labels c.in-Some.row x c.in-Some.ensures.some in
-    let p = c.in_ok-q-in-Some.ensures.placed c.args.sig.now c.requires ready in
-    (c.in-Some.row, exploring_allowed c.args.sig.now n label c.entries.maker f.firsts c.place_of.new.found.firsts f.rows.labels c.place_of.new.found.rows.labels c.in-Some.row c.in_ok-q-in-Some.q x c.in-Some.ensures.some p)
+    let ready = exploring_ready c.args.sig.now n label c.entries.maker f.firsts f.labels.labels c.in-Some.row x c.in-Some.ensures.some in
+    let p = c.in_ok-q.ensures.placed c.args.sig.now c.requires ready in
+    (c.in-Some.row, exploring_allowed c.args.sig.now n label c.entries.maker f.firsts c.place_of.new.found.firsts f.labels.labels c.place_of.new.found.labels.labels c.in-Some.row c.in_ok-q.q x c.in-Some.ensures.some p)
 
 pub entries-preserved : goal.entries-preserved
 entries-preserved g c =
@@ -32,13 +34,13 @@ entries-preserved g c =
     let label = g.L.Labeller.label c.args.labeller.now in
     let x = c.entries.invariant.exploring in
     let due = c.in-Some.ensures.some in
-    let ready = exploring_ready c.args.sig.now n label c.entries.maker f.firsts f.rows.labels c.in-Some.row x due in
-    let p = c.in_ok-q-in-Some.ensures.placed c.args.sig.now c.requires ready in
-    let given = c.in_ok-give-in-Some.ensures.given c.in-Some.row due in
+    let ready = exploring_ready c.args.sig.now n label c.entries.maker f.firsts f.labels.labels c.in-Some.row x due in
+    let p = c.in_ok-q.ensures.placed c.args.sig.now c.requires ready in
+    let given = c.in_ok-give.ensures.given c.in-Some.row due in
     record {
-      exploring = exploring_give c.args.sig.now n label c.entries.maker c.give.new.self f.firsts c.place_of.new.found.firsts f.rows.labels c.place_of.new.found.rows.labels c.in-Some.row c.in_ok-q-in-Some.q x due p given;
-      same = c.in_ok-q-in-Some.ensures.same;
-      width = c.in_ok-q-in-Some.ensures.width ∙ c.entries.invariant.width;
+      exploring = exploring_give c.args.sig.now n label c.entries.maker c.give.new.self f.firsts c.place_of.new.found.firsts f.labels.labels c.place_of.new.found.labels.labels c.in-Some.row c.in_ok-q.q x due p given;
+      same = c.in_ok-q.ensures.same;
+      width = c.in_ok-q.ensures.width ∙ c.entries.invariant.width;
       room = c.place_of.auto.out ∙ c.entries.invariant.room;
       few = omega (arith, c.len.ensures);
     }
@@ -46,12 +48,12 @@ entries-preserved g c =
 pub finals_of-requires-clause-labels : goal.finals_of-requires-clause-labels
 finals_of-requires-clause-labels g c =
     let f = c.entries.found in
-    (c.args.sig.now, c.requires, known_labels c.args.sig.now _ (g.L.Labeller.label c.args.labeller.now) f.firsts f.rows.labels c.entries.invariant.exploring.known)
+    (c.args.sig.now, c.requires, known_labels c.args.sig.now _ (g.L.Labeller.label c.args.labeller.now) f.firsts f.labels.labels c.entries.invariant.exploring.known)
 
 pub finish-requires-clause-finals : goal.finish-requires-clause-finals
 finish-requires-clause-finals g c =
     let f = c.entries.found in
-    exploring_finals c.args.sig.now (g.L.Labeller.column_count c.args.labeller.now) (g.L.Labeller.label c.args.labeller.now) (g.L.Labeller.accepting c.args.labeller.now) c.entries.maker f.firsts f.rows.labels c.in_ok-finals.finals.items c.entries.invariant.exploring c.in_ok-finals.ensures
+    exploring_finals c.args.sig.now (g.L.Labeller.column_count c.args.labeller.now) (g.L.Labeller.label c.args.labeller.now) (g.L.Labeller.accepting c.args.labeller.now) c.entries.maker f.firsts f.labels.labels c.in_ok-finals.finals.items c.entries.invariant.exploring c.in_ok-finals.ensures
 
 pub returns : goal.returns
 returns g c =
@@ -60,9 +62,14 @@ returns g c =
     let label = g.L.Labeller.label c.args.labeller.now in
     let x = c.entries.invariant.exploring in
     let tells = g.met.L.Labeller.tells_presence c.args.labeller.now c.args.sig.now c.requires in
+    let accepting = g.L.Labeller.accepting c.args.labeller.now in
+    let by_label = exploring_table c.args.sig.now n label accepting c.entries.maker f.firsts f.labels.labels c.in_ok-finals.finals.items tells x c.in_default.ensures.none c.in_ok-finals.ensures in
+    let ok = subst (λ (t : Listed). IsTableOf c.args.sig.now n label accepting (listed_table t)) (sym c.finish.ensures.table) by_label in
     record {
-      table = subst (λ (t : Listed). IsTableOf c.args.sig.now n label (g.L.Labeller.accepting c.args.labeller.now) (listed_table t)) (sym c.finish.ensures.table)
-          (exploring_table c.args.sig.now n label (g.L.Labeller.accepting c.args.labeller.now) c.entries.maker f.firsts f.rows.labels c.in_ok-finals.finals.items tells x c.in-None.ensures.none c.in_ok-finals.ensures);
+      ok = ok;
+      table = IsTableBy-labels c.args.sig.now n label accepting _ ok c.finish.ensures.lawful.table;
       listed = c.finish.ensures.lawful;
-      few = exploring_few c.args.sig.now n label c.entries.maker f.firsts f.rows.labels c.args.cap tells x c.in-None.ensures.none c.entries.invariant.few;
+      few = exploring_few c.args.sig.now n label c.entries.maker f.firsts f.labels.labels c.args.cap tells x c.in_default.ensures.none c.entries.invariant.few;
+      over = tt;
+      nodes = tt;
     }

@@ -4,11 +4,11 @@ use Rattle.fort_explore.proofs.table.explore.Given as goal
 
 abbrev pub invariant-entries : goal.invariant-entries
 invariant-entries g l = record {
-  exploring : IsExploring l.sig (g.L.Labeller.column_count l.labeller) (g.L.Labeller.label l.labeller) l.maker l.found.firsts l.found.rows.labels;
-  same : l.found.labels ≡ l.found.rows.labels;
-  width : l.found.rows.width ≡ g.L.Labeller.word_count l.labeller;
+  exploring : IsExploring l.sig (g.L.Labeller.column_count l.labeller) (g.L.Labeller.label l.labeller) l.maker l.found.firsts l.found.labels.labels;
+  same : l.found.numbers ≡ l.found.labels.labels;
+  width : l.found.labels.width ≡ g.L.Labeller.word_count l.labeller;
   room : length l.out ≡ g.L.Labeller.word_count l.labeller;
-  few : length l.found.rows.labels ≤ l.cap;
+  few : length l.found.labels.labels ≤ l.cap;
 }
 
 abbrev pub decreases-entries : goal.decreases-entries

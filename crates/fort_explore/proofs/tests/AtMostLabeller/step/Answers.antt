@@ -3,4 +3,4 @@ use Rattle.fort_tables.proofs.FoldLaws.{GivesLabel-fold}
 use Rattle.fort_explore.proofs.tests.AtMostLabeller.step.Goals as goal
 
 pub returns : goal.returns
-returns c = λ sig s h. GivesLabel-fold sig pair_step c.args.rows.now.labels c.args.row.now _ c.write_pair.ensures
+returns c = λ sig s h. GivesLabel-fold sig 2 pair_step c.args.rows.now.labels c.args.row.now _ c.write_pair.ensures

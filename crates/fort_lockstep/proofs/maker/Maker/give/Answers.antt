@@ -15,19 +15,19 @@ invariant_of-self-2 c =
     let a = c.self.inside in
     let i = c.self.invariant in
     let old = place a.walk in
-    let new = place c.next-self-inside.new.self in
+    let new = place c.advance-self-inside.new.self in
     let g' = c.push.new.self in
     let allowed : IsAllowed (made_in a) c.requires.allowed.0 c.args.target = subst (λ (m : Made). IsAllowed m c.requires.allowed.0 c.args.target) (sym c.self.view_is) c.requires.allowed.1 in
     let r = given_grown a.signature a.columns a.given g' c.row.result (entry_at old) c.requires.allowed.0 a.is_due c.args.target i.making i.stands allowed c.row.ensures c.in_ok-push.ensures.pushed in
-    let next = rw c.as_slice.ensures.value at c.next-self-inside.ensures.next in
+    let next = rw c.as_slice.ensures.value at c.advance-self-inside.ensures.next in
     record {
       some = i.some;
       narrow = i.narrow;
       few = pushed_few a.given g' c.row.result c.args.target i.few c.requires.few c.in_ok-push.ensures.pushed;
-      width = c.next-self-inside.ensures.width ∙ i.width;
-      placed = c.next-self-inside.ensures.place;
+      width = c.advance-self-inside.ensures.width ∙ i.width;
+      placed = c.advance-self-inside.ensures.place;
       making = r.making;
-      stands = stands_after (made_of a.signature a.columns g') old new c.next-self-inside.result r.up_to i.width next;
+      stands = stands_after (made_of a.signature a.columns g') old new c.advance-self-inside.result r.up_to i.width next;
     }
 
 pub returns-clause-given : goal.returns-clause-given
