@@ -1,12 +1,12 @@
 -- Declarations that are read one by one.
 use Rattle.std.proofs.Common.{◌≡◌, ℕ, ◌+◌, List, [], ◌∷◌, ◌++◌, drop, refl, ap, sym, ◌∙◌, subst, arith, length-append}
-use Rattle.std.specs.Prelude.{bytes_eq, codes}
+use Rattle.std.specs.Prelude.{bytes_eq, codes, is_some, Option, Some, None, IfSome, IfNone, true, false}
 use Rattle.std.specs.List.{IsDistinct}
 use Rattle.std.proofs.lemmas.Cmp.{nat_list_eq_equiv}
 use Rattle.std.proofs.lemmas.List.{map-append}
 use Rattle.std.proofs.lemmas.Map.Keys.{IsDistinct-push}
 use Rattle.fort_theory.specs.Signatures.{Symbol, Signature, HasConstant, IsName, names_of, symbol}
-use Rattle.fort_terms.proofs.SignatureLaws.{list_any-bytes_eq_none}
+use Rattle.fort_theory.proofs.SignaturesLaws.{list_any-bytes_eq_none}
 use Rattle.fort_grammar.specs.Forms.{Form}
 use Rattle.fort_grammar.specs.Declarations.{IsArity, IsListOfWords, Declares, DeclareEach, AreDeclarations, IsHeaded, IsBadDeclaration, ProblemFault, NoConstant, NoFormat}
 use Rattle.fort_grammar.specs.ProblemForms.{IsFirstProblemFault, InDeclaration, WithoutConstant, WithoutForms, WithoutFormat}
@@ -85,3 +85,12 @@ Declares-words bytes f name arity n words named is =
 pub fault_without_format : (bytes : List ℕ) (forms : List Form) → (BeginsWithFormat bytes forms → ⊥) → IsFirstProblemFault bytes forms NoFormat
 fault_without_format bytes [] none = WithoutForms refl
 fault_without_format bytes (first ∷ others) none = WithoutFormat first others refl none
+
+-- what a look-up says of what it finds, and of what it doesn't
+pub some_from_is_some : {A : Type 0} {P : A → Type 0} (o : Option A) → is_some o ≡ true → IfSome o P → (x : A) × P x
+some_from_is_some None e h = absurd cc
+some_from_is_some (Some x) e h = (x, h)
+
+pub none_from_is_some : {A : Type 0} {P : Type 0} (o : Option A) → is_some o ≡ false → IfNone o P → P
+none_from_is_some None e h = h
+none_from_is_some (Some x) e h = absurd cc

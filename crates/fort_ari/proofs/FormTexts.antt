@@ -1,21 +1,16 @@
--- Lists of forms: the code's as the definitions', what lies in the text, and what is left from a number on.
-use Rattle.std.proofs.Common.{◌≡◌, ℕ, zero, suc, ◌+◌, ◌<◌, ◌≤◌, List, [], ◌∷◌, length, map, drop, Some, refl, ap, sym, subst, arith}
-use Rattle.fort_grammar.specs.Forms.{Form as TextForm, Forms, NoForm, MoreForms}
+-- Lists of forms, and what is left of them from a number on.
+use Rattle.std.proofs.Common.{◌≡◌, ℕ, zero, suc, ◌+◌, ◌<◌, ◌≤◌, List, [], ◌∷◌, length, drop, Some, refl, ap, sym, subst, arith}
+use Rattle.fort_grammar.specs.Forms.{Form, Forms, NoForm, MoreForms}
 use Rattle.fort_grammar.specs.Declarations.{as_list, IsFormat, IsHeaded}
 use Rattle.fort_ari.specs.Parts.{BeginsHeaded, BeginsWithFormat}
-use Rattle.fort_sexpr.specs.declared.form_list.Form.{Form}
-use Rattle.fort_sexpr.specs.FormView.{form_of, forms_of, form_at, form_count}
-
-pub as_list-forms_of : (fs : List Form) → as_list (forms_of fs) ≡ map form_of fs
-as_list-forms_of [] = refl
-as_list-forms_of (f ∷ fs) = ap (λ gs. form_of f ∷ gs) (as_list-forms_of fs)
+use Rattle.fort_sexpr.specs.FormView.{form_at, form_count}
 
 pub form_count-as_list : (fs : Forms) → form_count fs ≡ length (as_list fs)
 form_count-as_list NoForm = refl
 form_count-as_list (MoreForms f fs) = ap suc (form_count-as_list fs)
 
 -- from the number of a form on, that form comes first
-pub drop-form_at : (fs : Forms) (i : ℕ) (f : TextForm) → form_at fs i ≡ Some f → drop i (as_list fs) ≡ f ∷ drop (i + 1) (as_list fs)
+pub drop-form_at : (fs : Forms) (i : ℕ) (f : Form) → form_at fs i ≡ Some f → drop i (as_list fs) ≡ f ∷ drop (i + 1) (as_list fs)
 drop-form_at fs i f e = rw add-one (go fs i e)
   where
     add-one : i + 1 ≡ suc i
@@ -39,14 +34,14 @@ below_from_BeginsHeaded bytes word NoForm (suc i) h = absurd h
 below_from_BeginsHeaded bytes word (MoreForms f fs) zero h = omega arith
 below_from_BeginsHeaded bytes word (MoreForms f fs) (suc i) h = let below = below_from_BeginsHeaded bytes word fs i h in omega arith
 
-pub headed_at : (bytes word : List ℕ) (fs : Forms) (i : ℕ) (f : TextForm) → BeginsHeaded bytes word (drop i (as_list fs)) → form_at fs i ≡ Some f
+pub headed_at : (bytes word : List ℕ) (fs : Forms) (i : ℕ) (f : Form) → BeginsHeaded bytes word (drop i (as_list fs)) → form_at fs i ≡ Some f
     → IsHeaded bytes word f
 headed_at bytes word NoForm i f h e = cc
 headed_at bytes word (MoreForms g fs) zero f h e = let same : g ≡ f = cc in subst (IsHeaded bytes word) same h
 headed_at bytes word (MoreForms g fs) (suc i) f h e = headed_at bytes word fs i f h e
 
 -- the format is the form of number 0
-pub format_at : (bytes : List ℕ) (fs : Forms) (f : TextForm) → form_at fs 0 ≡ Some f
+pub format_at : (bytes : List ℕ) (fs : Forms) (f : Form) → form_at fs 0 ≡ Some f
     → (IsFormat bytes f → BeginsWithFormat bytes (as_list fs)) × (BeginsWithFormat bytes (as_list fs) → IsFormat bytes f)
 format_at bytes NoForm f e = cc
 format_at bytes (MoreForms g fs) f e = let same : g ≡ f = cc in (λ h. subst (IsFormat bytes) (sym same) h, λ h. subst (IsFormat bytes) same h)

@@ -156,8 +156,8 @@ problem_without_fault bytes forms system next fault p (InRule first ds rs bs bef
     let parts = falls_unique bytes forms _ _ _ _ _ _ _ _ p.parts falls in
     let one : system.signature ≡ signature = DeclareEach-unique bytes ds _ _ (subst (λ gs. DeclareEach bytes gs system.signature) parts.declarations_same p.declares.each) declares.each in
     let same : p.rules ≡ before ++ f ∷ after = parts.rules_same ∙ is in
-    let rule = rule_among bytes signature before after f system.rules
-    (subst (λ s. AreRules bytes s (before ++ f ∷ after) system.rules) one (subst (λ gs. AreRules bytes system.signature gs system.rules) same p.are_rules)) in
+    let rule = rule_among bytes signature before after f p.given
+    (subst (λ s. AreRules bytes s (before ++ f ∷ after) p.given) one (subst (λ gs. AreRules bytes system.signature gs p.given) same p.are_rules)) in
     let count = ap length same in
     let most = p.few in
     rule_not_bad bytes signature (length before) _ f rule.0 x (subst (λ s. IsDistinct bytes_eq (names_of s)) one p.declares.distinct)

@@ -5,7 +5,7 @@ use Rattle.std.specs.List.{AllByRecursion, IsDistinct}
 use Rattle.std.proofs.lemmas.Slice.Eq.{bytes_eq-Decides}
 use Rattle.fort_theory.specs.Signatures.{Signature, IsName, arity_of, name_of, names_of}
 use Rattle.fort_theory.specs.Sides.{Side, Rule}
-use Rattle.fort_terms.proofs.SignatureLaws.{Contains-from_name_of}
+use Rattle.fort_theory.proofs.SignaturesLaws.{Contains-from_name_of}
 use Rattle.fort_grammar.specs.Forms.{Form}
 use Rattle.fort_grammar.specs.Declarations.{ProblemFault}
 use Rattle.fort_grammar.specs.RuleForms.{HasSides, IsSide, AConstant, AVariable, IsRule, AreRules, IsBadSide, NoWord, NoName, NoConstant, IsBadRule, OneTooMany, NotThree, BadLeft, BadRight, BothSides, IsVariableNamed}

@@ -4,7 +4,7 @@ use Rattle.std.specs.Prelude.{bytes_eq}
 use Rattle.std.specs.List.{IsDistinct}
 use Rattle.fort_theory.specs.Signatures.{Signature, name_of, names_of}
 use Rattle.fort_theory.specs.Sides.{Side, App, NoSide, Rule, System}
-use Rattle.fort_terms.proofs.SignatureLaws.{Contains-from_name_of}
+use Rattle.fort_theory.proofs.SignaturesLaws.{Contains-from_name_of}
 use Rattle.fort_grammar.specs.Forms.{Form}
 use Rattle.fort_grammar.specs.Declarations.{DeclareEach}
 use Rattle.fort_grammar.specs.RuleForms.{IsSide, AConstant, AVariable, IsRule, AreRules}
@@ -21,7 +21,7 @@ same_rule r r' left right =
 same_system : (s s' : System) → s.signature ≡ s'.signature → s.rules ≡ s'.rules → s ≡ s'
 same_system s s' signature rules =
     let P : Signature → System = λ x. record { signature = x; rules = s.rules } in
-    let Q : List Rule → System = λ x. record { signature = s'.signature; rules = x } in
+    let Q : List (List Rule) → System = λ x. record { signature = s'.signature; rules = x } in
     ap P signature ∙ ap Q rules
 
 module _ (bytes : List ℕ) (signature : Signature) (distinct : IsDistinct bytes_eq (names_of signature)) where
@@ -59,8 +59,9 @@ IsProblem-unique bytes forms s s' n n' p q =
     let parts = falls_unique bytes forms _ _ _ _ _ _ _ _ p.parts q.parts in
     let signature : s.signature ≡ s'.signature = DeclareEach-unique bytes q.declarations _ _
     (subst (λ gs. DeclareEach bytes gs s.signature) parts.declarations_same p.declares.each) q.declares.each in
-    let rules : s.rules ≡ s'.rules = AreRules-unique bytes s'.signature q.declares.distinct q.rules s.rules s'.rules
-    (subst (λ gs. AreRules bytes s'.signature gs s.rules) parts.rules_same (subst (λ x. AreRules bytes x p.rules s.rules) signature p.are_rules)) q.are_rules in
+    let given : p.given ≡ q.given = AreRules-unique bytes s'.signature q.declares.distinct q.rules p.given q.given
+    (subst (λ gs. AreRules bytes s'.signature gs p.given) parts.rules_same (subst (λ x. AreRules bytes x p.rules p.given) signature p.are_rules)) q.are_rules in
+    let rules : s.rules ≡ s'.rules = p.one_index ∙ (ap (λ rs. rs ∷ []) given ∙ sym q.one_index) in
     let number : length p.declarations + length p.rules + 1 ≡ length q.declarations + length q.rules + 1 =
     ap (λ (gs : List Form). length gs + length p.rules + 1) parts.declarations_same ∙ ap (λ (gs : List Form). length q.declarations + length gs + 1) parts.rules_same in
     (same_system s s' signature rules, p.next_is ∙ (number ∙ sym q.next_is))

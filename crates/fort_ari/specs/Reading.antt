@@ -1,13 +1,14 @@
--- To believe: when forms are read up to a number: what they declare, and which rules they are.
+-- To believe: when forms are read up to a number: what they declare, and which rules they are. Want of memory comes only there.
 use Rattle.std.specs.Prelude.{◌≡◌, ℕ, ◌+◌, ◌<◌, ◌≤◌, List, [], ◌∷◌, ◌++◌, length, map, drop, codes, Contains}
 use Rattle.std.specs.List.{AllByRecursion}
-use Rattle.fort_theory.specs.Signatures.{Symbol, Signature, names_of}
-use Rattle.fort_theory.specs.Sides.{Rule}
+use Rattle.fort_theory.specs.Signatures.{most_functions, Symbol, Signature, HasConstant, names_of}
+use Rattle.fort_theory.specs.Sides.{pushed_at, Side, Rule}
 use Rattle.fort_theory.specs.Patterns.{PatternSystem, pattern_pair}
 use Rattle.fort_grammar.specs.Forms.{Form}
-use Rattle.fort_grammar.specs.Declarations.{Declares, AreDeclarations, IsHeaded, most_functions}
+use Rattle.fort_grammar.specs.Declarations.{Declares, AreDeclarations, IsHeaded}
 use Rattle.fort_grammar.specs.ProblemForms.{BeginsOtherwise}
-use Rattle.fort_grammar.specs.RuleForms.{IsRule, AreRules, most_rules}
+use Rattle.fort_grammar.specs.RuleForms.{HasSides, IsSide, IsRule, AreRules, most_rules}
+use Rattle.fort_ari.specs.Parts.{BeginsWithFormat}
 
 -- the form declares one more symbol, whose name is new
 pub record DeclaresNext (bytes : List ℕ) (f : Form) (old new : Signature) : Type 0 where
@@ -30,12 +31,23 @@ pub record AreDeclared (bytes : List ℕ) (forms : List Form) (signature : Signa
   pub up_to : DeclareUpTo bytes forms signature next
   pub ended : BeginsOtherwise bytes (codes "fun") (drop next forms)
 
--- the system has one more rule, which is the form's
+-- the system has one more rule at its only index, which is the form's
 pub record PushesRule (bytes : List ℕ) (f : Form) (old new : PatternSystem) : Type 0 where
   pub rule : Rule
   pub is_rule : IsRule bytes old.signature f rule
   pub same : new.signature ≡ old.signature
-  pub rules : new.rules ≡ old.rules ++ pattern_pair rule ∷ []
+  pub rules : new.rules ≡ pushed_at 1 (pattern_pair rule) old.rules
+
+-- there is room for one more rule, and the form has two sides; so nothing can be wrong with it but a variable that they share
+pub record HasBothSides (bytes : List ℕ) (signature : Signature) (count : ℕ) (f : Form) : Type 0 where
+  pub few : count < most_rules
+  pub left : Form
+  pub right : Form
+  pub sides : HasSides bytes f left right
+  pub left_side : Side
+  pub right_side : Side
+  pub left_is : IsSide bytes signature 0 left left_side
+  pub right_is : IsSide bytes signature 1 right right_side
 
 -- the forms from one number up to another are these rules over the signature
 pub record AreRulesUpTo (bytes : List ℕ) (forms : List Form) (signature : Signature) (from next : ℕ) (given : List Rule) : Type 0 where
@@ -46,9 +58,19 @@ pub record AreRulesUpTo (bytes : List ℕ) (forms : List Form) (signature : Sign
   pub are_rules : AreRules bytes signature rules given
   pub few : length rules ≤ most_rules
 
--- and the system has just these rules
+-- and the system has just these rules, at its only index
 pub record HasRulesUpTo (bytes : List ℕ) (forms : List Form) (signature : Signature) (from next : ℕ) (system : PatternSystem) : Type 0 where
   pub given : List Rule
   pub up_to : AreRulesUpTo bytes forms signature from next given
   pub same : system.signature ≡ signature
-  pub pairs : system.rules ≡ map pattern_pair given
+  pub pairs : system.rules ≡ map pattern_pair given ∷ []
+
+-- up to some form, itself included, nothing is at fault: it declares one more function, or has two sides; or all functions are declared
+pub data IsFaultlessSoFar (bytes : List ℕ) (forms : List Form) : Type 0 where
+  AtDeclaration : (signature more : Signature) (next : ℕ) (f : Form) → BeginsWithFormat bytes forms → DeclareUpTo bytes forms signature next
+      → drop next forms ≡ f ∷ drop (next + 1) forms → DeclaresNext bytes f signature more → IsFaultlessSoFar bytes forms
+  BehindDeclarations : (signature : Signature) (next : ℕ) → BeginsWithFormat bytes forms → AreDeclared bytes forms signature next
+      → HasConstant signature → IsFaultlessSoFar bytes forms
+  AtRule : (signature : Signature) (from next : ℕ) (given : List Rule) (f : Form) → BeginsWithFormat bytes forms → AreDeclared bytes forms signature from
+      → HasConstant signature → AreRulesUpTo bytes forms signature from next given → drop next forms ≡ f ∷ drop (next + 1) forms
+      → HasBothSides bytes signature (length given) f → IsFaultlessSoFar bytes forms

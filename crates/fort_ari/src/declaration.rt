@@ -1,11 +1,13 @@
-ghost use Rattle.std.specs.Prelude.{◌<◌, ◌^◌, length, IfOk, IfErr, IfSome, codes};
+//! Reads the declarations of a problem.
+ghost use Rattle.std.specs.Prelude.{◌≡◌, ◌<◌, ◌^◌, IfOk, IfErr, IfSome, IsErrOf, codes};
+ghost use Rattle.fort_theory.specs.Signatures as theory;
 ghost use Rattle.fort_grammar.specs.Declarations.{as_list, IsBadDeclaration, IsHeaded};
 ghost use Rattle.fort_grammar.specs.ProblemForms.{IsFirstProblemFault};
-ghost use Rattle.fort_sexpr.specs.FormView.{form_count, form_of};
-ghost use Rattle.fort_sexpr.specs.Within.{LiesWithin, LieWithin};
+ghost use Rattle.fort_sexpr.specs.FormView.{form_count};
+ghost use Rattle.fort_ari.specs.declared.fault.ProblemFault.TheVariants.{Memory};
 ghost use Rattle.fort_ari.specs.Faults.{as_fault};
 ghost use Rattle.fort_ari.specs.Parts.{BeginsWithFormat};
-ghost use Rattle.fort_ari.specs.Reading.{DeclaresNext, AreDeclared};
+ghost use Rattle.fort_ari.specs.Reading.{DeclaresNext, AreDeclared, IsFaultlessSoFar};
 
 use crate::fault::ProblemFault;
 use crate::form::{begins, declaration_words};
@@ -25,22 +27,19 @@ pub(crate) struct Declarations {
 }
 
 /// Declares the function of the form of this number.
-fn declare(
-    signature: &mut Signature,
-    forms: &Forms,
-    form: &Form,
-    number: u32,
-) -> Result<(), ProblemFault>
-    requires within { LiesWithin (length forms.now.bytes) (form_of form.now) }
-    requires headed { IsHeaded forms.now.bytes (codes "fun") (form_of form.now) }
-    ensures ok { IfOk result (λ _. DeclaresNext forms.now.bytes (form_of form.now) signature.old signature.new) }
-    ensures fault { IfErr result (λ fault.
-        IfSome (as_fault fault) (IsBadDeclaration forms.now.bytes signature.old number (form_of form.now))) }
+fn declare(signature: &mut Signature, form: &Form, number: u32) -> Result<(), ProblemFault>
+    requires headed { IsHeaded form.now.bytes (codes "fun") form.now.form }
+    ensures ok { IfOk result (λ _.
+        DeclaresNext form.now.bytes form.now.form signature.old signature.new) }
+    ensures fault { IfErr result (λ fault. IfSome (as_fault fault)
+        (IsBadDeclaration form.now.bytes signature.old number form.now.form)) }
+    ensures memory { IsErrOf result Memory → (more : theory.Signature) ×
+        DeclaresNext form.now.bytes form.now.form signature.old more }
 {
     if signature.len() == MOST_FUNCTIONS {
         return Err(ProblemFault::TooManyFunctions);
     }
-    let Some(words) = declaration_words(forms, form) else {
+    let Some(words) = declaration_words(form) else {
         return Err(ProblemFault::BadForm(number));
     };
     if !is_name(words.name) {
@@ -49,26 +48,31 @@ fn declare(
     let Some(arity) = arity_of(words.arity) else {
         return Err(ProblemFault::BadArity(number));
     };
+    if signature.find(words.name).is_some() {
+        return Err(ProblemFault::Duplicate(number));
+    }
     match signature.add(words.name, arity) {
         Ok(_) => Ok(()),
-        Err(AddFault::Duplicate) => Err(ProblemFault::Duplicate(number)),
         Err(AddFault::Memory) => Err(ProblemFault::Memory),
+        Err(AddFault::Duplicate) => unreachable!(),
     }
 }
 
 /// Reads the declarations from form 1 on.
 pub(crate) fn read_declarations(alloc: Global, forms: &Forms) -> Result<Declarations, ProblemFault>
     requires few { form_count forms.now.forms < 2 ^ 32 }
-    requires within { LieWithin (length forms.now.bytes) forms.now.forms }
     requires format { BeginsWithFormat forms.now.bytes (as_list forms.now.forms) }
-    ensures ok { IfOk result (λ d. AreDeclared forms.now.bytes (as_list forms.now.forms) d.signature d.next) }
-    ensures fault { IfErr result (λ fault.
-        IfSome (as_fault fault) (IsFirstProblemFault forms.now.bytes (as_list forms.now.forms))) }
+    ensures ok { IfOk result (λ d.
+        AreDeclared forms.now.bytes (as_list forms.now.forms) d.signature d.next) }
+    ensures fault { IfErr result (λ fault. IfSome (as_fault fault)
+        (IsFirstProblemFault forms.now.bytes (as_list forms.now.forms))) }
+    ensures memory { IsErrOf result Memory →
+        IsFaultlessSoFar forms.now.bytes (as_list forms.now.forms) }
 {
     let mut signature = Signature::empty(alloc);
     let mut next = 1;
-    while begins(forms, next, b"fun") {
-        declare(&mut signature, forms, forms.form(next), next as u32)?;
+    'declarations: while begins(forms, next, b"fun") {
+        declare(&mut signature, &forms.form(next), next as u32)?;
         next += 1;
     }
     Ok(Declarations { signature, next })

@@ -1,3 +1,4 @@
+//! Why forms are no problem.
 ghost use Rattle.std.specs.Prelude.{◌≡◌};
 ghost use Rattle.fort_ari.specs.declared.fault.ProblemFault.TheVariants.{Memory};
 

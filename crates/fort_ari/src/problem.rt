@@ -1,15 +1,15 @@
-ghost use Rattle.std.specs.Prelude.{◌≡◌, ◌<◌, ◌^◌, ◌↔◌, IsTrue, length, IfOk, IfErr, IfSome};
+//! Reads a problem.
+ghost use Rattle.std.specs.Prelude.{◌≡◌, ◌<◌, ◌^◌, ◌↔◌, IsTrue, IfOk, IfErr, IfSome, IsErrOf};
 ghost use Rattle.fort_theory.specs.Signatures.{HasConstant};
 ghost use Rattle.fort_theory.specs.Sides as theory;
 ghost use Rattle.fort_theory.specs.Patterns.{pattern_system};
 ghost use Rattle.fort_grammar.specs.Declarations.{as_list};
-ghost use Rattle.fort_grammar.specs.Forms.{AreFormsOf};
 ghost use Rattle.fort_grammar.specs.ProblemForms.{IsProblem, IsFirstProblemFault};
 ghost use Rattle.fort_sexpr.specs.FormView.{form_count};
-ghost use Rattle.fort_sexpr.specs.Within.{LieWithin};
+ghost use Rattle.fort_ari.specs.declared.fault.ProblemFault.TheVariants.{Memory};
 ghost use Rattle.fort_ari.specs.Faults.{as_fault};
 ghost use Rattle.fort_ari.specs.Parts.{BeginsWithFormat};
-ghost use Rattle.fort_ari.specs.Reading.{AreDeclared};
+ghost use Rattle.fort_ari.specs.Reading.{AreDeclared, IsFaultlessSoFar};
 
 use crate::declaration::{Declarations, read_declarations};
 use crate::fault::ProblemFault;
@@ -28,13 +28,12 @@ pub struct Problem {
 
 /// Whether the first form is `(format TRS)`.
 fn begins_with_format(forms: &Forms) -> bool
-    requires { LieWithin (length forms.now.bytes) forms.now.forms }
     ensures { IsTrue result ↔ BeginsWithFormat forms.now.bytes (as_list forms.now.forms) }
 {
     if forms.len() == 0 {
         return false;
     }
-    is_format(forms, forms.form(0))
+    is_format(&forms.form(0))
 }
 
 /// Reads the rules behind the declarations.
@@ -44,19 +43,22 @@ fn read_rules(
     declarations: Declarations,
 ) -> Result<Problem, ProblemFault>
     requires few { form_count forms.now.forms < 2 ^ 32 }
-    requires within { LieWithin (length forms.now.bytes) forms.now.forms }
     requires format { BeginsWithFormat forms.now.bytes (as_list forms.now.forms) }
     requires constant { HasConstant declarations.signature }
-    requires declared { AreDeclared forms.now.bytes (as_list forms.now.forms) declarations.signature declarations.next }
+    requires declared { AreDeclared forms.now.bytes (as_list forms.now.forms)
+        declarations.signature declarations.next }
     ensures ok { IfOk result (λ p. (s : theory.System) ×
-        IsProblem forms.now.bytes (as_list forms.now.forms) s p.next × (p.system ≡ pattern_system s)) }
-    ensures fault { IfErr result (λ fault.
-        IfSome (as_fault fault) (IsFirstProblemFault forms.now.bytes (as_list forms.now.forms))) }
+        IsProblem forms.now.bytes (as_list forms.now.forms) s p.next ×
+        (p.system ≡ pattern_system s)) }
+    ensures fault { IfErr result (λ fault. IfSome (as_fault fault)
+        (IsFirstProblemFault forms.now.bytes (as_list forms.now.forms))) }
+    ensures memory { IsErrOf result Memory →
+        IsFaultlessSoFar forms.now.bytes (as_list forms.now.forms) }
 {
-    let mut system = System::new(alloc, declarations.signature)?;
+    let mut system = System::new(alloc, declarations.signature, 1)?;
     let mut next = declarations.next;
-    while begins(forms, next, b"rule") {
-        push_rule(alloc, &mut system, forms, forms.form(next), next as u32)?;
+    'rules: while begins(forms, next, b"rule") {
+        push_rule(alloc, &mut system, &forms.form(next), next as u32)?;
         next += 1;
     }
     Ok(Problem {
@@ -67,12 +69,14 @@ fn read_rules(
 
 /// Reads the problem that the first forms are, or finds their first fault.
 pub fn read_problem(alloc: Global, forms: &Forms) -> Result<Problem, ProblemFault>
-    requires text { AreFormsOf forms.now.bytes forms.now.forms }
     requires few { form_count forms.now.forms < 2 ^ 32 }
     ensures ok { IfOk result (λ p. (s : theory.System) ×
-        IsProblem forms.now.bytes (as_list forms.now.forms) s p.next × (p.system ≡ pattern_system s)) }
-    ensures fault { IfErr result (λ fault.
-        IfSome (as_fault fault) (IsFirstProblemFault forms.now.bytes (as_list forms.now.forms))) }
+        IsProblem forms.now.bytes (as_list forms.now.forms) s p.next ×
+        (p.system ≡ pattern_system s)) }
+    ensures fault { IfErr result (λ fault. IfSome (as_fault fault)
+        (IsFirstProblemFault forms.now.bytes (as_list forms.now.forms))) }
+    ensures memory { IsErrOf result Memory →
+        IsFaultlessSoFar forms.now.bytes (as_list forms.now.forms) }
 {
     if !begins_with_format(forms) {
         return Err(ProblemFault::NoFormat);

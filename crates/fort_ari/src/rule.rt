@@ -1,18 +1,18 @@
-ghost use Rattle.std.specs.Prelude.{◌≤◌, ◌<◌, ℕ, List, length, IfOk, IfErr, IfSome, IfNone, codes};
+//! Reads a rule.
+ghost use Rattle.std.specs.Prelude.{◌≡◌, ◌≤◌, ◌<◌, ℕ, List, length, IfOk, IfErr, IfSome, IfNone, IsErrOf, codes};
+ghost use Rattle.fort_theory.specs.Sides.{at_index};
 ghost use Rattle.fort_grammar.specs.Declarations.{IsHeaded};
 ghost use Rattle.fort_grammar.specs.Forms as grammar;
-ghost use Rattle.fort_grammar.specs.RuleForms.{HasSides, IsSide, IsBadSide, IsBadRule, IsVariableNamed};
-ghost use Rattle.fort_sexpr.specs.FormView.{form_of};
-ghost use Rattle.fort_sexpr.specs.Within.{LiesWithin};
+ghost use Rattle.fort_grammar.specs.RuleForms.{HasSides, IsSide, IsBadSide, IsBadRule, IsVariableNamed, most_rules};
 ghost use Rattle.fort_terms.specs.SideView.{as_side};
+ghost use Rattle.fort_ari.specs.declared.fault.ProblemFault.TheVariants.{Memory};
 ghost use Rattle.fort_ari.specs.Faults.{as_fault};
-ghost use Rattle.fort_ari.specs.Reading.{PushesRule};
+ghost use Rattle.fort_ari.specs.Reading.{HasBothSides, PushesRule};
 
 use crate::fault::ProblemFault;
-use crate::form::{is_word, three_of, word};
 use crate::word::is_name;
-use fort_sexpr::{Form, Forms};
-use fort_terms::{Side, Sides, Signature, System};
+use fort_sexpr::Form;
+use fort_terms::{RuleFault, Side, Sides, Signature, System};
 use std::alloc::Global;
 
 /// The most rules of a problem.
@@ -22,25 +22,27 @@ const MOST_RULES: usize = 4096;
 fn side(
     alloc: Global,
     signature: &Signature,
-    forms: &Forms,
     form: &Form,
     variable: u32,
     number: u32,
 ) -> Result<Side, ProblemFault>
-    requires { LiesWithin (length forms.now.bytes) (form_of form.now) }
-    ensures ok { IfOk result (λ s. IsSide forms.now.bytes signature.now variable (form_of form.now) (as_side s)) }
-    ensures fault { IfErr result (λ fault.
-        IfSome (as_fault fault) (IsBadSide forms.now.bytes signature.now number (form_of form.now))) }
+    ensures ok { IfOk result (λ s.
+        IsSide form.now.bytes signature.now variable form.now.form (as_side s)) }
+    ensures fault { IfErr result (λ fault. IfSome (as_fault fault)
+        (IsBadSide form.now.bytes signature.now number form.now.form)) }
+    ensures memory { IsErrOf result Memory → ⊥ }
 {
-    let Some(name) = word(forms, form) else {
+    let Some(name) = form.word() else {
         return Err(ProblemFault::BadForm(number));
     };
-    if !is_name(name) {
-        return Err(ProblemFault::BadName(number));
-    }
     let Some(sym) = signature.find(name) else {
+        if !is_name(name) {
+            return Err(ProblemFault::BadName(number));
+        }
         return Ok(Side::Var(variable));
     };
+    // what a signature has is a name
+    let _count = signature.len();
     if signature.arity(sym) != 0 {
         return Err(ProblemFault::WrongCount(number));
     }
@@ -48,21 +50,17 @@ fn side(
 }
 
 /// The name of a variable that is both sides of a rule.
-fn shared_name<'a>(
-    signature: &Signature,
-    forms: &'a Forms,
-    left: &Form,
-    right: &Form,
-) -> Option<&'a [u8]>
-    requires left_within { LiesWithin (length forms.now.bytes) (form_of left.now) }
-    requires right_within { LiesWithin (length forms.now.bytes) (form_of right.now) }
-    ensures left { IfSome result (λ name. IsVariableNamed forms.now.bytes signature.now (form_of left.now) name.now) }
-    ensures right { IfSome result (λ name. IsVariableNamed forms.now.bytes signature.now (form_of right.now) name.now) }
-    ensures none { IfNone result ((name : List ℕ) → IsVariableNamed forms.now.bytes signature.now (form_of left.now) name →
-        IsVariableNamed forms.now.bytes signature.now (form_of right.now) name → ⊥) }
+fn shared_name<'a>(signature: &Signature, left: &Form<'a>, right: &Form) -> Option<&'a [u8]>
+    ensures left { IfSome result (λ name.
+        IsVariableNamed left.now.bytes signature.now left.now.form name.now) }
+    ensures right { IfSome result (λ name.
+        IsVariableNamed right.now.bytes signature.now right.now.form name.now) }
+    ensures none { IfNone result ((name : List ℕ) →
+        IsVariableNamed left.now.bytes signature.now left.now.form name →
+        IsVariableNamed right.now.bytes signature.now right.now.form name → ⊥) }
 {
-    let name = word(forms, left)?;
-    if !is_word(forms, right, name) || !is_name(name) {
+    let name = left.word()?;
+    if !right.is_word(name) || !is_name(name) {
         return None;
     }
     match signature.find(name) {
@@ -72,15 +70,16 @@ fn shared_name<'a>(
 }
 
 /// The two sides of a rule.
-fn sides_of<'a>(forms: &Forms, form: &'a Form) -> Option<(&'a Form, &'a Form)>
-    requires within { LiesWithin (length forms.now.bytes) (form_of form.now) }
-    requires headed { IsHeaded forms.now.bytes (codes "rule") (form_of form.now) }
-    ensures some { IfSome result (λ p. HasSides forms.now.bytes (form_of form.now) (form_of p.0.now) (form_of p.1.now)) }
-    ensures left { IfSome result (λ p. LiesWithin (length forms.now.bytes) (form_of p.0.now)) }
-    ensures right { IfSome result (λ p. LiesWithin (length forms.now.bytes) (form_of p.1.now)) }
-    ensures none { IfNone result ((left right : grammar.Form) → HasSides forms.now.bytes (form_of form.now) left right → ⊥) }
+fn sides_of<'a>(form: &Form<'a>) -> Option<(Form<'a>, Form<'a>)>
+    requires headed { IsHeaded form.now.bytes (codes "rule") form.now.form }
+    ensures some { IfSome result (λ p.
+        HasSides form.now.bytes form.now.form p.0.form p.1.form) }
+    ensures bytes { IfSome result (λ p.
+        (p.0.bytes ≡ form.now.bytes) × (p.1.bytes ≡ form.now.bytes)) }
+    ensures none { IfNone result ((left right : grammar.Form) →
+        HasSides form.now.bytes form.now.form left right → ⊥) }
 {
-    let (_, left, right) = three_of(form)?;
+    let (_, left, right) = form.three()?;
     Some((left, right))
 }
 
@@ -88,33 +87,39 @@ fn sides_of<'a>(forms: &Forms, form: &'a Form) -> Option<(&'a Form, &'a Form)>
 pub(crate) fn push_rule(
     alloc: Global,
     system: &mut System,
-    forms: &Forms,
     form: &Form,
     number: u32,
 ) -> Result<(), ProblemFault>
-    requires within { LiesWithin (length forms.now.bytes) (form_of form.now) }
-    requires headed { IsHeaded forms.now.bytes (codes "rule") (form_of form.now) }
-    requires few { length system.old.rules ≤ 4096 }
-    ensures ok { IfOk result (λ _. PushesRule forms.now.bytes (form_of form.now) system.old system.new) }
-    ensures few { IfOk result (λ _. length system.old.rules < 4096) }
-    ensures fault { IfErr result (λ fault.
-        IfSome (as_fault fault) (IsBadRule forms.now.bytes system.old.signature (length system.old.rules) number (form_of form.now))) }
+    requires headed { IsHeaded form.now.bytes (codes "rule") form.now.form }
+    requires one_index { length system.old.rules ≡ 1 }
+    requires few { length (at_index 1 system.old.rules) ≤ most_rules }
+    ensures ok { IfOk result (λ _.
+        PushesRule form.now.bytes form.now.form system.old system.new) }
+    ensures few { IfOk result (λ _. length (at_index 1 system.old.rules) < most_rules) }
+    ensures fault { IfErr result (λ fault. IfSome (as_fault fault)
+        (IsBadRule form.now.bytes system.old.signature (length (at_index 1 system.old.rules))
+        number form.now.form)) }
+    ensures memory { IsErrOf result Memory → HasBothSides form.now.bytes system.old.signature
+        (length (at_index 1 system.old.rules)) form.now.form }
 {
-    if system.rules().len() == MOST_RULES {
+    if system.rules(1).len() == MOST_RULES {
         return Err(ProblemFault::TooManyRules);
     }
-    let Some((left_form, right_form)) = sides_of(forms, form) else {
+    let Some((left_form, right_form)) = sides_of(form) else {
         return Err(ProblemFault::BadForm(number));
     };
     let signature = system.signature();
-    let left = side(alloc, signature, forms, left_form, 0, number)?;
-    let right = side(alloc, signature, forms, right_form, 1, number)?;
-    if let Some(name) = shared_name(signature, forms, left_form, right_form) {
+    let left = side(alloc, signature, &left_form, 0, number)?;
+    let right = side(alloc, signature, &right_form, 1, number)?;
+    if let Some(name) = shared_name(signature, &left_form, &right_form) {
         return Err(ProblemFault::Shares(number, Vec::from_slice(alloc, name)?));
     }
-    match system.push(&left, &right) {
+    match system.push(1, &left, &right) {
         Ok(()) => Ok(()),
-        // sides that are bare names and share no variable are refused for want of memory alone
-        Err(_) => Err(ProblemFault::Memory),
+        Err(RuleFault::Memory) => Err(ProblemFault::Memory),
+        // sides that are bare names and share no variable are linear and separated
+        Err(RuleFault::LeftRepeats(_v)) => unreachable!(),
+        Err(RuleFault::RightRepeats(_v)) => unreachable!(),
+        Err(RuleFault::Shares(_v)) => unreachable!(),
     }
 }

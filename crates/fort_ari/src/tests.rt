@@ -1,3 +1,4 @@
+//! Texts, and the problem or the fault that each has.
 use crate::{Problem, ProblemFault, read_problem};
 use fort_sexpr::read;
 use fort_terms::{Pattern, Signature, Sym};
@@ -11,7 +12,9 @@ fn answer_to(
     alloc: Global,
     source: &[u8],
 ) -> Result<Result<Problem, ProblemFault>, Fail> {
-    let text = read(alloc, source)?;
+    let bytes = Vec::from_slice(alloc, source)?;
+    assert!(rt; bytes.len() < 1 << 32);
+    let text = read(alloc, bytes)?;
     let count = text.len();
     assert!(rt; count < 1 << 32);
     Ok(read_problem(alloc, &text))
@@ -54,7 +57,7 @@ fn described(alloc: Global, answer: Result<Problem, ProblemFault>) -> Result<Str
         Err(fault) => return Ok(format!(in alloc; "{fault:?}")?),
     };
     let mut text = functions(alloc, problem.system.signature())?;
-    for (left, right) in problem.system.rules() {
+    for (left, right) in problem.system.rules(1) {
         let left = spelled(alloc, left)?;
         let right = spelled(alloc, right)?;
         let rule = format!(in alloc; "{left}>{right} ")?;
@@ -197,7 +200,7 @@ fn keeps_limits(rt: HostRuntime) -> Result<(), Fail> {
     assert_eq!(rt; answer.err(), Some(ProblemFault::TooManyFunctions));
     let rules = many_rules(alloc, 4096, "(more)")?;
     let answer = answer_to(&rt, alloc, rules.as_bytes())??;
-    assert_eq!(rt; answer.system.rules().len(), 4096);
+    assert_eq!(rt; answer.system.rules(1).len(), 4096);
     assert_eq!(rt; answer.next, 4098);
     let rules = many_rules(alloc, 4096, "(rule)")?;
     let answer = answer_to(&rt, alloc, rules.as_bytes())?;

@@ -1,13 +1,10 @@
+//! Which words are names, and which are arities.
 ghost use Rattle.std.specs.Prelude.{◌≡◌, ℕ, ◌↔◌, IsTrue, IfSome, IfNone};
 ghost use Rattle.fort_theory.specs.Signatures as theory;
 ghost use Rattle.fort_theory.specs.Signatures.{IsName};
 ghost use Rattle.fort_grammar.specs.Declarations.{IsArity};
 
-fn is_word_byte(byte: u8) -> bool
-    ensures { result ≡ theory.is_word_byte byte }
-{
-    matches!(byte, 0x21..=0x7e) && !matches!(byte, b'(' | b')' | b';')
-}
+use fort_sexpr::is_word_byte;
 
 /// Whether bytes are a name.
 pub(crate) fn is_name(word: &[u8]) -> bool

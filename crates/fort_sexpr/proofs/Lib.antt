@@ -1,4 +1,5 @@
 pub mod FormLists
+pub mod NodesLaws
 pub mod Comments
 pub mod Depths
 pub mod Bytes
@@ -6,5 +7,5 @@ pub mod OneReading
 pub mod OneFault
 pub mod Steps
 pub mod Ends
-pub mod ReaderLists
-pub mod Spans
+pub mod ReadingLaws
+pub mod Fronts

@@ -5,7 +5,7 @@ use Rattle.fort_theory.specs.Signatures.{is_word_byte}
 use Rattle.fort_grammar.specs.Text.{in_comment, stands_at, is_blank, is_text_byte, count_before, depth, deepest, TextFault, IsFaultyAt, Bad, Extra, Deep, IsFaultlessBelow}
 use Rattle.fort_grammar.specs.Forms.{Forms, NoForm, MoreForms, Word, ListForm, IsSkipped, IsWordAt, AreForms, End, Skip, AWord, AList}
 use Rattle.fort_sexpr.specs.Progress.{comment_before, Level, StandUpTo, IsReadUpTo, IsWordEnd, IsLineEnd}
-use Rattle.fort_sexpr.proofs.FormLists.{joined, AreForms-joined}
+use Rattle.fort_sexpr.proofs.FormLists.{joined, joined-none, AreForms-joined}
 use Rattle.fort_sexpr.proofs.Comments.{comment_before-line_end, comment_before-mark, comment_before-goes_on, comment_before-none}
 use Rattle.fort_sexpr.proofs.Depths.{count_before-yes, count_before-no}
 use Rattle.fort_sexpr.proofs.Bytes.{IsPlain-from_word_byte, is_text_byte-word_byte, is_text_byte-blank, is_text_byte-open, is_text_byte-close, is_blank-at, stands_at-byte, stands_at-from, stands_at-in_comment, stands_at-other}
@@ -15,10 +15,6 @@ record IsQuiet (bytes : List ℕ) (k : ℕ) : Type 0 where
   no_open : stands_at 40 bytes k ≡ false
   no_close : stands_at 41 bytes k ≡ false
   fine : in_comment bytes k ≡ false → is_text_byte (get_or bytes k 0) ≡ true
-
-joined-none : (fs : Forms) → joined fs NoForm ≡ fs
-joined-none NoForm = refl
-joined-none (MoreForms f fs) = ap (MoreForms f) (joined-none fs)
 
 pub AreForms_ordered : {bytes : List ℕ} {i j : ℕ} {fs : Forms} → AreForms bytes i j fs → i ≤ j
 AreForms_ordered End = omega arith
@@ -187,15 +183,20 @@ module _ (bytes : List ℕ) where
       subst (λ k. comment_before bytes k ≡ false) x
       (comment_before-none bytes (i + n) (omega (arith, e.within)) p.not_mark (word_outside i n j e o (omega arith)))
 
+  -- a word has some byte
+  pub word_some : (i j : ℕ) → i < length bytes → is_word_byte (get_or bytes i 0) ≡ true → IsWordEnd bytes i j → i < j
+  word_some i j l h e =
+      elim (cases_lt i j) [
+        | inl lt ↦ lt
+        | inr ge ↦ absurd (let x : i ≡ j = omega (arith, e.after) in
+            true≢false (sym h ∙ subst (λ k. is_word_byte (get_or bytes k 0) ≡ false) (sym x) (e.ended (omega arith))))
+      ]
+
   pub read_word : (levels : List Level) (fs : Forms) (i j : ℕ) → IsReadUpTo bytes levels fs i → i < length bytes
       → is_word_byte (get_or bytes i 0) ≡ true → IsWordEnd bytes i j
       → IsReadUpTo bytes levels (joined fs (MoreForms (Word i j) NoForm)) j
   read_word levels fs i j r l h e =
-      let some : i < j = elim (cases_lt i j) [
-        | inl lt ↦ lt
-        | inr ge ↦ absurd (let x : i ≡ j = omega (arith, e.after) in
-            true≢false (sym h ∙ subst (λ k. is_word_byte (get_or bytes k 0) ≡ false) (sym x) (e.ended (omega arith))))
-      ] in
+      let some : i < j = word_some i j l h e in
       let outside = λ (k : ℕ) (a : i ≤ k) (b : k ≤ j).
       let x : i + (k - i) ≡ k = omega arith in
       subst (λ m. comment_before bytes m ≡ false) x (word_outside i (k - i) j e (r.outside l) (omega arith)) in
@@ -210,6 +211,21 @@ module _ (bytes : List ℕ) where
       (λ k a b. quiet_word_byte k (e.word k a b))
       (λ _. outside j (omega arith) (omega arith))
       (AWord word End)
+
+  -- nothing is at fault where a word begins
+  pub faultless_word : (levels : List Level) (fs : Forms) (i : ℕ) → IsReadUpTo bytes levels fs i
+      → is_word_byte (get_or bytes i 0) ≡ true → IsFaultlessBelow bytes (i + 1)
+  faultless_word levels fs i r h =
+      faultless_more i (i + 1) r.faultless
+      (λ k a b. let x : i ≡ k = omega arith in quiet_faultless k (quiet_word_byte k (subst (λ m. is_word_byte (get_or bytes m 0) ≡ true) x h)))
+
+  -- nor where a comment begins
+  pub faultless_mark : (levels : List Level) (fs : Forms) (i : ℕ) → IsReadUpTo bytes levels fs i → i < length bytes
+      → get_or bytes i 0 ≡ 59 → IsFaultlessBelow bytes (i + 1)
+  faultless_mark levels fs i r l h =
+      let here : IsSkipped bytes i = record { within = l; idle = inl (comment_before-mark bytes i l h) } in
+      faultless_more i (i + 1) r.faultless
+      (λ k a b. let x : i ≡ k = omega arith in quiet_faultless k (quiet_skipped k (subst (IsSkipped bytes) x here)))
 
   open_fine : (i : ℕ) → stands_at 40 bytes i ≡ true → stands_at 41 bytes i ≡ false → depth bytes i < deepest
       → (fault : TextFault) → IsFaultyAt bytes i fault → ⊥

@@ -1,4 +1,4 @@
--- Nothing to believe: forms as a list of marks, from which they are read again, and how many words and lists they have.
+-- Law: forms as a list of marks, from which they are read again, and how many words and lists they have.
 use Rattle.std.specs.Prelude.{◌≡◌, ℕ, suc, ◌+◌, Bool, true, false, List, [], ◌∷◌, ◌++◌, ◌⊎◌, refl}
 use Rattle.std.proofs.Common.{ap, sym, ◌∙◌, append_assoc, append-nil, inl, inr}
 use Rattle.std.specs.Coded.{Coded, code_by, coded_list, coded_ℕ, coded_bool, coded⊎, coded×}
@@ -60,6 +60,19 @@ forms_code =
     code_by (List Mark)
     (coded_list (coded⊎ (coded× coded_ℕ coded_ℕ) (coded⊎ (coded× coded_ℕ coded_ℕ) coded_bool)))
     all_spelled (λ xs. first_many (read_back xs)) forms_again
+
+abbrev pub first_one : List Item → Form
+first_one (One f ∷ rest) = f
+first_one other = Word 0 0
+
+pub form_again : (f : Form) → first_one (read_back (spelled f)) ≡ f
+form_again f = ap (λ ys. first_one (read_back ys)) (sym (append-nil (spelled f))) ∙ ap first_one (read_back-spelled f [])
+
+abbrev pub form_code : Coded Form
+form_code =
+    code_by (List Mark)
+    (coded_list (coded⊎ (coded× coded_ℕ coded_ℕ) (coded⊎ (coded× coded_ℕ coded_ℕ) coded_bool)))
+    spelled (λ xs. first_one (read_back xs)) form_again
 
 -- the number of words and lists
 abbrev mutual

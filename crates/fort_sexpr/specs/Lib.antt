@@ -1,8 +1,7 @@
 pub mod FormCode
 pub mod FormView
-pub mod FormFalls
 pub mod Texts
+pub mod Nodes
 pub mod Faults
 pub mod Progress
 pub mod Reading
-pub mod Within

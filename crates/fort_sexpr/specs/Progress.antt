@@ -1,4 +1,4 @@
--- Nothing to believe: what holds of the part of a text before an offset, when it is read from left to right.
+-- Inside: what holds of the part of a text before an offset, when it is read from left to right.
 use Rattle.std.specs.Prelude.{◌≡◌, ℕ, suc, ◌+◌, ◌<◌, ◌≤◌, Bool, true, false, ◌==◌, List, [], ◌∷◌, length, take, slice_index}
 use Rattle.std.specs.List.{after_last, list_any}
 use Rattle.fort_theory.specs.Signatures.{is_word_byte}

@@ -1,3 +1,4 @@
+//! Why a text has no forms.
 ghost use Rattle.std.specs.Prelude.{◌≡◌};
 ghost use Rattle.fort_sexpr.specs.declared.fault.SFault.TheVariants.{Memory};
 

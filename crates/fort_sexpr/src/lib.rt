@@ -1,15 +1,17 @@
 //! Reads a text into its forms: words, and lists of forms in parentheses, each with its place in the text.
 #![tactic(auto)]
 
+mod arena;
 mod fault;
-mod form_list;
+mod form;
 mod reader;
 mod scan;
 mod text;
 
 pub use fault::SFault;
-pub use form_list::{Form, FormList, Span};
+pub use form::{Form, FormList, Span};
 pub use reader::read;
+pub use scan::{is_blank, is_word_byte};
 pub use text::Forms;
 
 #[cfg(test)]

@@ -1,27 +1,28 @@
-ghost use Rattle.std.specs.Prelude.{◌≡◌, ◌+◌, ◌<◌, true, length, slice_index, IfOk, IfErr};
+//! Reads a text from left to right.
+ghost use Rattle.std.specs.Prelude.{◌≡◌, ◌+◌, ◌<◌, ◌^◌, true, length, slice_index, IfOk, IfErr, IsErrOf, OnOk};
 ghost use Rattle.fort_grammar.specs.Forms.{AreFormsOf};
+ghost use Rattle.fort_grammar.specs.Text.{IsFaultlessBelow};
 ghost use Rattle.fort_theory.specs.Signatures as theory;
-ghost use Rattle.fort_sexpr.specs.Faults.{IsFirstFaultUnlessMemory};
-ghost use Rattle.fort_sexpr.specs.FormView.{forms_of};
-ghost use Rattle.fort_sexpr.specs.Reading.{HasRead};
+ghost use Rattle.fort_sexpr.specs.declared.fault.SFault.TheVariants.{Memory};
+ghost use Rattle.fort_sexpr.specs.Faults.{IsFirstFaultOf, IsFirstFaultUnlessMemory, IsFaultlessSoFar};
+ghost use Rattle.fort_sexpr.specs.Reading.{HasRead, IsTokenAt};
 
+use crate::arena::{Arena, Node};
 use crate::fault::SFault;
-use crate::form_list::{Form, FormList, Span};
 use crate::scan::{end_of_line, end_of_word, is_blank, is_word_byte};
 use crate::text::Forms;
-use std::alloc::Global;
-use std::mem;
+use std::alloc::{AllocError, Global};
 
 /// The most lists that may be open at once.
 const DEEPEST: usize = 200;
 
 /// A list that isn't closed yet.
-#[derive(Drop)]
+#[derive(Clone, Copy)]
 struct OpenList {
     /// The offset of its parenthesis.
-    from: usize,
-    /// The forms before it, in the list around it or in the text.
-    before: Vec<Form>,
+    from: u32,
+    /// Where its forms begin among the pending ones.
+    start: usize,
 }
 
 /// What has been read of a text so far.
@@ -29,107 +30,175 @@ struct OpenList {
 struct Reader {
     /// The lists that are open, the outermost first.
     lists: Vec<OpenList>,
-    /// The forms of the innermost of them, or of the text.
-    forms: Vec<Form>,
+    /// The forms that are in no list that is closed.
+    pending: Vec<Node>,
+    /// The forms of the lists that are closed.
+    nodes: Vec<Node>,
+}
+
+/// What begins at an offset.
+#[derive(Clone, Copy)]
+enum Token {
+    Blank,
+    Comment,
+    Word,
+    Open,
+    Close,
 }
 
 /// Reads a text into its forms, or finds its first fault.
-pub fn read(alloc: Global, bytes: &[u8]) -> Result<Forms, SFault>
-    ensures bytes { IfOk result (λ text. text.bytes ≡ bytes.now) }
-    ensures forms { IfOk result (λ text. AreFormsOf bytes.now text.forms) }
-    ensures fault { IfErr result (λ fault. IsFirstFaultUnlessMemory bytes.now fault) }
+pub fn read(alloc: Global, bytes: Vec<u8>) -> Result<Forms, SFault>
+    requires few { length bytes.items < 2 ^ 32 }
+    ensures bytes { IfOk result (λ text. text.bytes ≡ bytes.items) }
+    ensures forms { IfOk result (λ text. AreFormsOf bytes.items text.forms) }
+    ensures fault { IfErr result (λ fault. IsFirstFaultUnlessMemory bytes.items fault) }
+    ensures memory { IsErrOf result Memory → IsFaultlessSoFar bytes.items }
 {
     let mut reader = Reader {
         lists: Vec::new(alloc),
-        forms: Vec::new(alloc),
+        pending: Vec::new(alloc),
+        nodes: Vec::new(alloc),
     };
     let mut at = 0;
     while at < bytes.len() {
-        at = reader.step(alloc, bytes, at)?;
+        at = reader.step(bytes.as_slice(), at)?;
     }
-    let forms = reader.finish(bytes)?;
-    Ok(Forms::new(Vec::from_slice(alloc, bytes)?, forms))
+    reader.finish(bytes)
 }
 
 impl Reader {
-    /// Reads what begins at an offset, and answers where it ends: a blank, a comment, a word or a parenthesis.
-    fn step(&mut self, alloc: Global, bytes: &[u8], at: usize) -> Result<usize, SFault>
+    /// Reads what begins at an offset, and answers where it ends.
+    fn step(&mut self, bytes: &[u8], at: usize) -> Result<usize, SFault>
+        requires few { length bytes.now < 2 ^ 32 }
         requires within { at < length bytes.now }
         requires read { HasRead bytes.now self.old at }
         ensures further { IfOk result (λ next. at < next) }
         ensures read { IfOk result (λ next. HasRead bytes.now self.new next) }
         ensures fault { IfErr result (λ fault. IsFirstFaultUnlessMemory bytes.now fault) }
+        ensures memory { IsErrOf result Memory → IsFaultlessBelow bytes.now (at + 1) }
+    {
+        match self.token(bytes, at)? {
+            Token::Blank => Ok(at + 1),
+            Token::Comment => Ok(end_of_line(bytes, at)),
+            Token::Word => Ok(self.add_word(bytes, at)?),
+            Token::Open => {
+                self.open_list(bytes, at)?;
+                Ok(at + 1)
+            }
+            Token::Close => {
+                self.close_list(bytes, at)?;
+                Ok(at + 1)
+            }
+        }
+    }
+
+    /// What begins at an offset, or the fault there.
+    fn token(&self, bytes: &[u8], at: usize) -> Result<Token, SFault>
+        requires within { at < length bytes.now }
+        requires read { HasRead bytes.now self.now at }
+        ensures token { IfOk result (λ token.
+            IsTokenAt bytes.now at (length self.now.lists.items) token) }
+        ensures fault { IfErr result (λ fault. IsFirstFaultOf bytes.now fault) }
     {
         let byte = bytes[at];
         if is_blank(byte) {
-            return Ok(at + 1);
+            return Ok(Token::Blank);
         }
         if is_word_byte(byte) {
-            return self.add_word(bytes, at);
+            return Ok(Token::Word);
         }
         match byte {
-            b';' => Ok(end_of_line(bytes, at)),
-            b'(' => self.open_list(alloc, bytes, at),
-            b')' => self.close_list(bytes, at),
+            b';' => Ok(Token::Comment),
+            b'(' => {
+                if self.lists.len() >= DEEPEST {
+                    return Err(SFault::TooDeep(at));
+                }
+                Ok(Token::Open)
+            }
+            b')' => {
+                if self.lists.is_empty() {
+                    return Err(SFault::ExtraClose(at));
+                }
+                Ok(Token::Close)
+            }
             _ => Err(SFault::BadByte(at)),
         }
     }
 
-    fn add_word(&mut self, bytes: &[u8], at: usize) -> Result<usize, SFault>
+    fn add_word(&mut self, bytes: &[u8], at: usize) -> Result<usize, AllocError>
+        requires few { length bytes.now < 2 ^ 32 }
         requires within { at < length bytes.now }
         requires read { HasRead bytes.now self.old at }
         requires word { theory.is_word_byte (slice_index bytes.now at) ≡ true }
         ensures further { IfOk result (λ next. at < next) }
         ensures read { IfOk result (λ next. HasRead bytes.now self.new next) }
-        ensures fault { IfErr result (λ fault. IsFirstFaultUnlessMemory bytes.now fault) }
     {
         let to = end_of_word(bytes, at);
-        self.forms.push(Form::Word(Span { from: at, to }))?;
+        self.pending.push(Node {
+            from: at as u32,
+            to: to as u32,
+            first: 0,
+            count: 0,
+        })?;
         Ok(to)
     }
 
-    fn open_list(&mut self, alloc: Global, bytes: &[u8], at: usize) -> Result<usize, SFault>
+    fn open_list(&mut self, bytes: &[u8], at: usize) -> Result<(), AllocError>
+        requires few { length bytes.now < 2 ^ 32 }
         requires within { at < length bytes.now }
         requires read { HasRead bytes.now self.old at }
         requires opens { slice_index bytes.now at ≡ 40 }
-        ensures further { IfOk result (λ next. at < next) }
-        ensures read { IfOk result (λ next. HasRead bytes.now self.new next) }
-        ensures fault { IfErr result (λ fault. IsFirstFaultUnlessMemory bytes.now fault) }
+        requires shallow { length self.old.lists.items < DEEPEST }
+        ensures { OnOk result (HasRead bytes.now self.new (at + 1)) }
     {
-        if self.lists.len() >= DEEPEST {
-            return Err(SFault::TooDeep(at));
-        }
-        let before = mem::replace(&mut self.forms, Vec::new(alloc));
-        self.lists.push(OpenList { from: at, before })?;
-        Ok(at + 1)
+        self.lists.push(OpenList {
+            from: at as u32,
+            start: self.pending.len(),
+        })?;
+        Ok(())
     }
 
-    fn close_list(&mut self, bytes: &[u8], at: usize) -> Result<usize, SFault>
+    fn close_list(&mut self, bytes: &[u8], at: usize) -> Result<(), AllocError>
+        requires few { length bytes.now < 2 ^ 32 }
         requires within { at < length bytes.now }
         requires read { HasRead bytes.now self.old at }
         requires closes { slice_index bytes.now at ≡ 41 }
-        ensures further { IfOk result (λ next. at < next) }
-        ensures read { IfOk result (λ next. HasRead bytes.now self.new next) }
-        ensures fault { IfErr result (λ fault. IsFirstFaultUnlessMemory bytes.now fault) }
+        requires inside { 0 < length self.old.lists.items }
+        ensures { OnOk result (HasRead bytes.now self.new (at + 1)) }
     {
-        let Some(OpenList { from, before }) = self.lists.pop() else {
-            return Err(SFault::ExtraClose(at));
+        let Some(list) = self.lists.pop() else {
+            unreachable!()
         };
-        let forms = FormList::new(mem::replace(&mut self.forms, before));
-        self.forms
-            .push(Form::List(Span { from, to: at + 1 }, forms))?;
-        Ok(at + 1)
+        let first = self.nodes.len();
+        let count = self.pending.len() - list.start;
+        self.nodes.extend_from_slice(&self.pending[list.start..])?;
+        self.pending.truncate(list.start);
+        self.pending.push(Node {
+            from: list.from,
+            to: (at + 1) as u32,
+            first: first as u32,
+            count: count as u32,
+        })?;
+        Ok(())
     }
 
     /// The forms of a text that is read to its end.
-    fn finish(mut self, bytes: &[u8]) -> Result<Vec<Form>, SFault>
-        requires { HasRead bytes.now self (length bytes.now) }
-        ensures forms { IfOk result (λ forms. AreFormsOf bytes.now (forms_of forms.items)) }
-        ensures fault { IfErr result (λ fault. IsFirstFaultUnlessMemory bytes.now fault) }
+    fn finish(mut self, bytes: Vec<u8>) -> Result<Forms, SFault>
+        requires { HasRead bytes.items self (length bytes.items) }
+        ensures bytes { IfOk result (λ text. text.bytes ≡ bytes.items) }
+        ensures forms { IfOk result (λ text. AreFormsOf bytes.items text.forms) }
+        ensures fault { IfErr result (λ fault. IsFirstFaultOf bytes.items fault) }
     {
         if let Some(list) = self.lists.pop() {
-            return Err(SFault::Unclosed(list.from));
+            return Err(SFault::Unclosed(list.from as usize));
         }
-        Ok(self.forms)
+        let arena = Arena {
+            bytes,
+            nodes: self.nodes,
+        };
+        Ok(Forms {
+            arena,
+            top: self.pending,
+        })
     }
 }

@@ -1,17 +1,18 @@
+//! Where a word or a line ends, and which byte is what.
 ghost use Rattle.std.specs.Prelude.{◌≡◌, ◌<◌, length};
 ghost use Rattle.fort_theory.specs.Signatures as theory;
 ghost use Rattle.fort_grammar.specs.Text as grammar;
 ghost use Rattle.fort_sexpr.specs.Progress.{IsWordEnd, IsLineEnd};
 
 /// Whether a byte is a space, a tab, a CR or an LF.
-pub(crate) fn is_blank(byte: u8) -> bool
+pub fn is_blank(byte: u8) -> bool
     ensures { result ≡ grammar.is_blank byte }
 {
     matches!(byte, b' ' | b'\t' | b'\r' | b'\n')
 }
 
 /// Whether a byte is printable ASCII and none of `(`, `)` and `;`.
-pub(crate) fn is_word_byte(byte: u8) -> bool
+pub fn is_word_byte(byte: u8) -> bool
     ensures { result ≡ theory.is_word_byte byte }
 {
     matches!(byte, 0x21..=0x7e) && !matches!(byte, b'(' | b')' | b';')

@@ -1,20 +1,20 @@
-use crate::{Form, FormList, SFault, Span, read};
+//! Texts, and the forms or the fault that each has.
+use crate::{Form, SFault, Span, is_blank, is_word_byte, read};
 use std::alloc::{AllocError, Global};
-use std::slice;
 use std::test::Fail;
 
 /// A form as its nesting, whether it is a list, and its span.
 type Row = (u32, bool, usize, usize);
 
-/// The forms from left to right, each list before what is in it.
-fn add_rows(forms: &[Form], nesting: u32, rows: &mut Vec<Row>) -> Result<(), AllocError> {
-    for form in forms {
-        let Span { from, to } = form.span();
-        match form {
-            Form::Word(_) => rows.push((nesting, false, from, to))?,
-            Form::List(_, list) => {
-                rows.push((nesting, true, from, to))?;
-                add_rows(list.as_slice(), nesting.wrapping_add(1), rows)?;
+/// A form, and then from left to right what is in it.
+fn add_rows(form: &Form, nesting: u32, rows: &mut Vec<Row>) -> Result<(), AllocError> {
+    let Span { from, to } = form.span();
+    match form.elements() {
+        None => rows.push((nesting, false, from, to))?,
+        Some(list) => {
+            rows.push((nesting, true, from, to))?;
+            for i in 0..list.len() {
+                add_rows(&list.get(i), nesting.wrapping_add(1), rows)?;
             }
         }
     }
@@ -35,10 +35,36 @@ fn nest(alloc: Global, count: usize) -> Result<Vec<u8>, AllocError> {
 
 #[test]
 fn reads_forms_with_their_spans(rt: HostRuntime) -> Result<(), Fail> {
-    let table: [(&[u8], &[Row]); 12] = [
+    let table: [(&[u8], &[Row]); 15] = [
         (b"", &[]),
         (b"; a comment alone", &[]),
         (b"()", &[(0, true, 0, 2)]),
+        (b"()()", &[(0, true, 0, 2), (0, true, 2, 4)]),
+        (
+            b"(()(()))",
+            &[
+                (0, true, 0, 8),
+                (1, true, 1, 3),
+                (1, true, 3, 7),
+                (2, true, 4, 6),
+            ],
+        ),
+        (
+            b"a (b (c) d (e f)) (g)",
+            &[
+                (0, false, 0, 1),
+                (0, true, 2, 17),
+                (1, false, 3, 4),
+                (1, true, 5, 8),
+                (2, false, 6, 7),
+                (1, false, 9, 10),
+                (1, true, 11, 16),
+                (2, false, 12, 13),
+                (2, false, 14, 15),
+                (0, true, 18, 21),
+                (1, false, 19, 20),
+            ],
+        ),
         (b"!~:'\"", &[(0, false, 0, 5)]),
         (b"a ; b (", &[(0, false, 0, 1)]),
         (b"a\r\tb\n", &[(0, false, 0, 1), (0, false, 3, 4)]),
@@ -64,10 +90,10 @@ fn reads_forms_with_their_spans(rt: HostRuntime) -> Result<(), Fail> {
         ),
     ];
     for (source, want) in table {
-        let text = read(rt.alloc(), source)?;
+        let text = read(rt.alloc(), Vec::from_slice(rt.alloc(), source)?)?;
         let mut rows = Vec::new(rt.alloc());
         for i in 0..text.len() {
-            add_rows(slice::from_ref(text.form(i)), 0, &mut rows)?;
+            add_rows(&text.form(i), 0, &mut rows)?;
         }
         assert_eq!(rt; rows.as_slice(), want, "in {source:?}");
     }
@@ -89,31 +115,68 @@ fn finds_the_first_fault(rt: HostRuntime) -> Result<(), Fail> {
         (b"(", SFault::Unclosed(0)),
     ];
     for (source, want) in table {
-        assert_eq!(rt; read(rt.alloc(), source).err(), Some(want), "in {source:?}");
+        let bytes = Vec::from_slice(rt.alloc(), source)?;
+        assert_eq!(rt; read(rt.alloc(), bytes).err(), Some(want), "in {source:?}");
     }
-    let deepest = nest(rt.alloc(), 200)?;
-    assert!(rt; read(rt.alloc(), &deepest).is_ok());
     let too_deep = nest(rt.alloc(), 201)?;
+    assert!(rt; too_deep.len() == 402);
     assert_eq!(rt;
-        read(rt.alloc(), &too_deep).err(),
+        read(rt.alloc(), too_deep).err(),
         Some(SFault::TooDeep(200))
     );
     Ok(())
 }
 
 #[test]
-fn gives_the_bytes_of_a_form(rt: HostRuntime) -> Result<(), Fail> {
-    let source = b"(rule a b) c";
-    let text = read(rt.alloc(), source)?;
-    assert_eq!(rt; text.len(), 2);
+fn reads_the_deepest_list(rt: HostRuntime) -> Result<(), Fail> {
+    let deepest = nest(rt.alloc(), 200)?;
+    assert!(rt; deepest.len() == 400);
+    let text = read(rt.alloc(), deepest)?;
+    assert!(rt; text.len() == 1);
     let form = text.form(0);
-    let Span { from, to } = form.span();
-    assert!(rt; from <= to && to <= source.len());
-    assert_eq!(rt; text.text(form), b"(rule a b)".as_slice());
-    let mut items = Vec::new(rt.alloc());
-    items.push(Form::Word(Span { from, to }))?;
-    let list = FormList::new(items);
-    assert_eq!(rt; list.len(), 1);
-    assert_eq!(rt; list.into_vec().len(), 1);
+    assert_eq!(rt; form.span(), Span { from: 0, to: 400 });
+    Ok(())
+}
+
+#[test]
+fn gives_the_words_of_forms(rt: HostRuntime) -> Result<(), Fail> {
+    let source = b"(rule a (b)) c (d e)";
+    let text = read(rt.alloc(), Vec::from_slice(rt.alloc(), source)?)?;
+    assert_eq!(rt; text.bytes(), source.as_slice());
+    assert!(rt; text.len() == 3);
+    let rule = text.form(0);
+    assert_eq!(rt; rule.text(), b"(rule a (b))".as_slice());
+    assert!(rt; rule.is_headed(b"rule") && !rule.is_headed(b"rul") && !rule.is_word(b"rule"));
+    assert!(rt; rule.is_list() && rule.word().is_none() && rule.two().is_none());
+    let Some((_, word, list)) = rule.three() else {
+        return Err(Fail::from("no list of three"));
+    };
+    assert_eq!(rt; word.word(), Some(b"a".as_slice()));
+    assert_eq!(rt; list.text(), b"(b)".as_slice());
+    Ok(())
+}
+
+#[test]
+fn gives_the_forms_of_lists(rt: HostRuntime) -> Result<(), Fail> {
+    let text = read(rt.alloc(), Vec::from_slice(rt.alloc(), b"c (d e) ()")?)?;
+    assert!(rt; text.len() == 3);
+    let word = text.form(0);
+    assert!(rt; word.is_word(b"c") && !word.is_word(b"d") && !word.is_headed(b"c"));
+    assert!(rt; word.elements().is_none() && word.three().is_none());
+    let Some((first, second)) = text.form(1).two() else {
+        return Err(Fail::from("no list of two"));
+    };
+    assert_eq!(rt; first.word(), Some(b"d".as_slice()));
+    assert_eq!(rt; second.word(), Some(b"e".as_slice()));
+    let Some(list) = text.form(2).elements() else {
+        return Err(Fail::from("no list"));
+    };
+    assert!(rt; list.is_empty() && list.len() == 0);
+    Ok(())
+}
+
+#[test]
+fn knows_its_bytes(rt: HostRuntime) -> Result<(), Fail> {
+    assert!(rt; is_blank(b'\t') && is_word_byte(b'~') && !is_word_byte(b';'));
     Ok(())
 }

@@ -1,14 +1,17 @@
-ghost use Rattle.std.specs.Prelude.{◌≡◌, ◌<◌, ◌≤◌, length, Some, slice_range};
-ghost use Rattle.fort_sexpr.specs.FormView.{form_of, forms_of, form_at, form_count, span_of};
+//! A text that was read.
+ghost use Rattle.std.specs.Prelude.{◌≡◌, ◌<◌, Some};
+ghost use Rattle.fort_grammar.specs.Forms.{AreFormsOf};
+ghost use Rattle.fort_sexpr.specs.FormView.{form_at, form_count};
 
-use crate::form_list::Form;
+use crate::arena::{Arena, Node};
+use crate::form::Form;
 use std::marker::Model;
 
 /// A text without fault and its forms, in order.
 #[derive(Drop)]
 pub struct Forms {
-    bytes: Vec<u8>,
-    forms: Vec<Form>,
+    pub(crate) arena: Arena,
+    pub(crate) top: Vec<Node>,
 }
 
 impl Model for Forms {
@@ -18,40 +21,42 @@ impl Model for Forms {
 
     ghost coded = { forms_of_text_code };
 
-    ghost use Rattle.fort_sexpr.specs.FormView.{forms_of};
+    ghost use Rattle.fort_sexpr.specs.Nodes.{text_forms, AreTextForms};
 
-    ghost view = { λ a. record { bytes = a.bytes.items; forms = forms_of a.forms.items } };
+    ghost view = { λ a. record {
+      bytes = a.arena.bytes.items;
+      forms = text_forms a.arena.bytes.items a.arena.nodes.items a.top.items;
+    } };
+
+    ghost invariant = { λ a.
+        AreTextForms a.arena.bytes.items a.arena.nodes.items a.top.items };
 }
 
 impl Forms {
-    pub(crate) fn new(bytes: Vec<u8>, forms: Vec<Form>) -> Forms
-        ensures { result ≡ record { bytes = bytes.items; forms = forms_of forms.items } }
-    {
-        Forms { bytes, forms }
-    }
-
     /// The number of forms.
-    #[tactic(auto, using(crate::proofs::FormLists::form_count_of))]
     pub fn len(&self) -> usize
-        ensures { result ≡ form_count self.now.forms }
+        ensures count { result ≡ form_count self.now.forms }
+        ensures lawful { AreFormsOf self.now.bytes self.now.forms }
     {
-        self.forms.len()
+        self.top.len()
     }
 
-    pub fn form(&self, i: usize) -> &Form
+    /// The form of this number.
+    pub fn form(&self, i: usize) -> Form<'_>
         requires { i < form_count self.now.forms }
-        ensures { form_at self.now.forms i ≡ Some (form_of result.now) }
+        ensures form { form_at self.now.forms i ≡ Some result.form }
+        ensures bytes { result.bytes ≡ self.now.bytes }
     {
-        &self.forms[i]
+        Form {
+            arena: &self.arena,
+            node: self.top[i],
+        }
     }
 
-    /// The bytes of a form.
-    pub fn text(&self, form: &Form) -> &[u8]
-        requires ordered { (span_of form.now).from ≤ (span_of form.now).to }
-        requires within { (span_of form.now).to ≤ length self.now.bytes }
-        ensures { result.now ≡ slice_range self.now.bytes (span_of form.now).from (span_of form.now).to }
+    /// The text.
+    pub fn bytes(&self) -> &[u8]
+        ensures { result.now ≡ self.now.bytes }
     {
-        let span = form.span();
-        &self.bytes[span.from..span.to]
+        self.arena.bytes.as_slice()
     }
 }

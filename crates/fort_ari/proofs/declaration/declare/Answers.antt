@@ -1,8 +1,8 @@
-use Rattle.std.specs.Prelude.{Err}
-use Rattle.std.proofs.Common.{◌≡◌, ap, ◌<◌, length, true, false, refl, sym, ◌∙◌, arith}
+use Rattle.std.proofs.Common.{◌≡◌, ◌<◌, ◌++◌, ◌∷◌, [], length, true, false, refl, sym, ◌∙◌, arith}
 use Rattle.fort_theory.specs.Signatures.{symbol}
 use Rattle.fort_grammar.specs.Declarations.{OneTooMany, NotThreeWords, NoName, NoArity, Twice}
-use Rattle.fort_ari.proofs.Declared.{Declares-words}
+use Rattle.fort_theory.proofs.SignaturesLaws.{Contains-from_name_of}
+use Rattle.fort_ari.proofs.Declared.{Declares-words, some_from_is_some, none_from_is_some}
 use Rattle.fort_ari.proofs.declaration.declare.Goals as goal
 
 pub returns-then-len-eq-MOST_FUNCTIONS-clause-fault : goal.returns-then-len-eq-MOST_FUNCTIONS-clause-fault
@@ -23,6 +23,13 @@ returns-in_default-arity_of-clause-fault c =
     let few : length c.args.signature.now < 255 = omega (arith, c.len.ensures.lawful.few) in
     NoArity _ _ _ few c.in-Some.ensures.some (c.if-not-is_name.ensures.0 refl) c.in_default-arity_of.ensures.none
 
+pub returns-then-is_some-clause-fault : goal.returns-then-is_some-clause-fault
+returns-then-is_some-clause-fault c =
+    let few : length c.args.signature.now < 255 = omega (arith, c.len.ensures.lawful.few) in
+    let there = some_from_is_some c.find.result (sym c.is_some.ensures ∙ c.if-is_some.true) c.find.ensures.found in
+    Twice _ _ _ _ few c.in-Some.ensures.some (c.if-not-is_name.ensures.0 refl) c.in-Some-arity_of.ensures.some
+    (Contains-from_name_of c.args.signature.now c.in-Some.words.name.now _ there.1)
+
 pub returns-in-Ok-clause-ok : goal.returns-in-Ok-clause-ok
 returns-in-Ok-clause-ok c = record {
   next = symbol c.in-Some.words.name.now c.in-Some-arity_of.arity;
@@ -32,7 +39,15 @@ returns-in-Ok-clause-ok c = record {
   is = c.in-Ok.ensures.ok;
 }
 
-pub returns-in-Err-Duplicate-clause-fault : goal.returns-in-Err-Duplicate-clause-fault
-returns-in-Err-Duplicate-clause-fault c =
-    let few : length c.args.signature.now < 255 = omega (arith, c.len.ensures.lawful.few) in
-    Twice _ _ _ _ few c.in-Some.ensures.some (c.if-not-is_name.ensures.0 refl) c.in-Some-arity_of.ensures.some (c.in-Err-Duplicate.ensures.duplicate.0 (ap Err c.in-Err-Duplicate.field-0-is))
+pub returns-in-Err-Memory-clause-memory : goal.returns-in-Err-Memory-clause-memory
+returns-in-Err-Memory-clause-memory c _ =
+    let next = symbol c.in-Some.words.name.now c.in-Some-arity_of.arity in (
+      c.args.signature.now ++ next ∷ [],
+      record {
+        next = next;
+        declares = Declares-words _ _ _ _ _ c.in-Some.ensures.some (c.if-not-is_name.ensures.0 refl) c.in-Some-arity_of.ensures.some;
+        few = omega (arith, c.len.ensures.lawful.few);
+        fresh = none_from_is_some c.find.result (sym c.is_some.ensures ∙ c.if-is_some.false) c.find.ensures.none;
+        is = refl;
+      },
+    )

@@ -4,8 +4,8 @@ use Rattle.fort_sexpr.specs.FormView.{form_count}
 use Rattle.fort_ari.specs.Reading.{DeclareUpTo}
 use Rattle.fort_ari.proofs.declaration.read_declarations.Given as goal
 
-abbrev pub invariant-loop-signature : goal.invariant-loop-signature
-invariant-loop-signature l = DeclareUpTo l.forms.bytes (as_list l.forms.forms) l.signature l.next
+abbrev pub invariant-declarations : goal.invariant-declarations
+invariant-declarations l = DeclareUpTo l.forms.bytes (as_list l.forms.forms) l.signature l.next
 
-abbrev pub decreases-loop-signature : goal.decreases-loop-signature
-decreases-loop-signature l = form_count l.forms.forms - l.next
+abbrev pub decreases-declarations : goal.decreases-declarations
+decreases-declarations l = form_count l.forms.forms - l.next

@@ -4,8 +4,8 @@ use Rattle.fort_sexpr.specs.FormView.{form_count}
 use Rattle.fort_ari.specs.Reading.{HasRulesUpTo}
 use Rattle.fort_ari.proofs.problem.read_rules.Given as goal
 
-abbrev pub invariant-loop-alloc : goal.invariant-loop-alloc
-invariant-loop-alloc l = HasRulesUpTo l.forms.bytes (as_list l.forms.forms) l.fn.declarations.signature l.fn.declarations.next l.next l.system
+abbrev pub invariant-rules : goal.invariant-rules
+invariant-rules l = HasRulesUpTo l.forms.bytes (as_list l.forms.forms) l.fn.declarations.signature l.fn.declarations.next l.next l.system
 
-abbrev pub decreases-loop-alloc : goal.decreases-loop-alloc
-decreases-loop-alloc l = form_count l.forms.forms - l.next
+abbrev pub decreases-rules : goal.decreases-rules
+decreases-rules l = form_count l.forms.forms - l.next

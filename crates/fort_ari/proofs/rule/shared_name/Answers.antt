@@ -1,7 +1,7 @@
 use Rattle.std.proofs.Common.{◌≡◌, subst}
 use Rattle.std.specs.Prelude.{Contains}
 use Rattle.fort_theory.specs.Signatures.{names_of}
-use Rattle.fort_terms.proofs.SignatureLaws.{Contains-from_name_of}
+use Rattle.fort_theory.proofs.SignaturesLaws.{Contains-from_name_of}
 use Rattle.fort_ari.proofs.rule.shared_name.Goals as goal
 
 pub returns-in-Some-clause-none : goal.returns-in-Some-clause-none

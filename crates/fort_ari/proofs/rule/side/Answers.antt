@@ -1,6 +1,6 @@
 use Rattle.std.proofs.Common.{◌≡◌, true, false, Some, refl, ap, ◌∙◌}
 use Rattle.fort_grammar.specs.RuleForms.{AConstant, AVariable, NoWord, NoName, NoConstant}
-use Rattle.fort_ari.proofs.SideLaws.{below_from_name_of}
+use Rattle.fort_ari.proofs.SideLaws.{below_from_name_of, IsName-found}
 use Rattle.fort_ari.proofs.rule.side.Goals as goal
 
 pub returns-in_default-clause-fault : goal.returns-in_default-clause-fault
@@ -18,9 +18,11 @@ arity-requires c = below_from_name_of _ _ _ c.in-Some-find.ensures.found
 
 pub returns-then-arity-ne0-clause-fault : goal.returns-then-arity-ne0-clause-fault
 returns-then-arity-ne0-clause-fault c =
-    NoConstant _ c.in-Some-find.sym.0 c.in-Some.ensures.some (c.if-not-is_name.ensures.0 refl) c.in-Some-find.ensures.found
+    NoConstant _ c.in-Some-find.sym.0 c.in-Some.ensures.some
+    (IsName-found c.args.signature.now _ _ c.len-count.ensures.lawful c.in-Some-find.ensures.found) c.in-Some-find.ensures.found
     (λ none. let is = c.arity.ensures in let zero : c.arity.result ≡ 0 = cc in c.if-arity-ne0.true zero)
 
 pub returns-clause-ok : goal.returns-clause-ok
 returns-clause-ok c =
-    rw (c.new-2.ensures, c.new.ensures.items) (AConstant c.in-Some.ensures.some (c.if-not-is_name.ensures.0 refl) c.in-Some-find.ensures.found (c.arity.ensures ∙ ap Some c.if-arity-ne0.false))
+    rw (c.new-2.ensures, c.new.ensures.items) (AConstant c.in-Some.ensures.some
+    (IsName-found c.args.signature.now _ _ c.len-count.ensures.lawful c.in-Some-find.ensures.found) c.in-Some-find.ensures.found (c.arity.ensures ∙ ap Some c.if-arity-ne0.false))

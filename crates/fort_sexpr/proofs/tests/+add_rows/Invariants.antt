@@ -1,6 +1,5 @@
-use Rattle.fort_sexpr.specs.FormCode.{node_counts}
-use Rattle.fort_sexpr.specs.FormView.{forms_of}
+use Rattle.fort_sexpr.specs.FormCode.{node_count}
 use Rattle.fort_sexpr.proofs.tests.+add_rows.Given as goal
 
 abbrev pub decreases-add_rows : goal.decreases-add_rows
-decreases-add_rows l = node_counts (forms_of l.forms.now)
+decreases-add_rows l = node_count l.form.now.form

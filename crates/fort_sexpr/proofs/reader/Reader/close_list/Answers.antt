@@ -1,19 +1,18 @@
-use Rattle.std.proofs.Common.{◌≡◌, [], arith}
-use Rattle.std.proofs.lemmas.List.{nil_from_length}
-use Rattle.fort_sexpr.proofs.FormLists.{forms_of-push}
-use Rattle.fort_sexpr.proofs.ReaderLists.{levels_of-push}
-use Rattle.fort_sexpr.proofs.Steps.{read_close}
-use Rattle.fort_sexpr.proofs.Ends.{ExtraClose-read}
+use Rattle.std.proofs.Common.{◌≡◌, ◌+◌, ◌-◌, ℕ, reverse, length, ap, ◌∙◌, arith}
+use Rattle.std.proofs.lemmas.List.{reverse-append, take_rest}
+use Rattle.fort_sexpr.specs.declared.arena.Node.{Node}
+use Rattle.fort_sexpr.proofs.ReadingLaws.{reading_close}
 use Rattle.fort_sexpr.proofs.reader.Reader.close_list.Goals as goal
 
-pub returns-in_default-clause-fault : goal.returns-in_default-clause-fault
-returns-in_default-clause-fault c =
-    let lists = c.args.self.now.lists in
-    let e : lists.items ≡ [] = nil_from_length lists.items (omega (arith, lists.ok.0, c.in_default.ensures.cases.0)) in
-    ExtraClose-read c.args.bytes.now _ c.args.at (rw e at c.requires.read) c.requires.within c.requires.closes
-
-pub returns-clause-read : goal.returns-clause-read
-returns-clause-read c =
-    rw (c.in_ok-push.ensures.items, forms_of-push, c.replace.ensures.after, c.new-forms.ensures, c.replace.ensures.value)
-    (read_close c.args.bytes.now _ _ _ _ c.args.at (rw (c.in-Some.ensures.items, levels_of-push) at c.requires.read)
-    c.requires.within c.requires.closes)
+pub returns : goal.returns
+returns c =
+    let list = c.in-Some.list in
+    let pending = c.args.self.now.pending in
+    let nodes = c.args.self.now.nodes in
+    let read = rw (c.in-Some.ensures.items, reverse-append) at c.requires.read in
+    let first : c.len-first.result ≡ length nodes.items = c.len-first.ensures ∙ nodes.ok.0 in
+    let count : c.len.result - list.start ≡ length pending.items - list.start = omega (arith, c.len.ensures, pending.ok.0) in
+    let made : ℕ → ℕ → Node = λ f n. record { from = list.from; to = c.args.at + 1; first = f; count = n } in
+    rw (c.in_ok-push.ensures.items, c.truncate.ensures.items, c.in_ok-extend_from_slice.ensures.items, c.deref.ensures.value, take_rest)
+    (reading_close c.args.bytes.now (reverse c.pop.new.self.items) _ _ c.args.at list _ read c.requires.within c.requires.closes
+    (ap (λ f. made f (c.len.result - list.start)) first ∙ ap (made (length nodes.items)) count))
