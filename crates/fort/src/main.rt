@@ -1,7 +1,7 @@
 //! Decides first-order properties of rewrite systems over ground terms.
 #![tactic(auto)]
 
-use fort_run::run;
+use fort_run::{Outcome, run};
 use std::alloc::AllocError;
 use std::env;
 use std::io::ErrorKind;
@@ -28,7 +28,7 @@ fn words<R: Env + AllocGlobal>(rt: &R) -> Result<Vec<String>, AllocError> {
 fn main(rt: HostRuntime) -> ExitCode {
     let words = match words(&rt) {
         Ok(words) => words,
-        Err(_) => return ExitCode::from(5),
+        Err(AllocError) => return ExitCode::from(Outcome::out_of_memory().status),
     };
     let mut input = StdSource::new(rt.stdin());
     let mut output = StdSink::new(rt.stdout());

@@ -1,3 +1,4 @@
+//! Standard input as a source.
 ghost use Rattle.std.specs.Prelude.{◌≡◌, None};
 
 use fort_io::{Failed, Source};

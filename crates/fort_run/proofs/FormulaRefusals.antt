@@ -1,11 +1,11 @@
 -- The lines that refuse formulas are owed to their texts.
-use Rattle.std.specs.Prelude.{◌≡◌, ℕ, Bool, true, false, List, [], ◌∷◌, Option, None, Some, slice_get, IsTrue, IfSome, MatchBool, MatchOption}
+use Rattle.std.specs.Prelude.{◌≡◌, ℕ, Bool, true, false, List, [], ◌∷◌, Option, None, Some, slice_get, ◌↔◌, IsTrue, IfSome, MatchBool, MatchOption}
 use Rattle.std.proofs.Common.{Vec, Global, sym, ap, subst, refl}
-use Rattle.fort_grammar.specs.FormulaText.{FormulaFault, IsFirstFormulaFault}
+use Rattle.fort_formula_grammar.specs.FormulaText.{FormulaFault, IsFirstFormulaFault}
 use Rattle.fort_answers.specs.FormulaAnswer.{IsRefused, Faulty}
 use Rattle.fort_answers.specs.Lines.{formula_fault_line}
-use Rattle.fort_run.specs.declared.accepted.Refusal.{Refusal}
-use Rattle.fort_run.specs.declared.accepted.Refusal.TheVariants.{Line}
+use Rattle.fort_run.specs.declared.refusal.Refusal.{Refusal}
+use Rattle.fort_run.specs.declared.refusal.Refusal.TheVariants.{Line}
 use Rattle.fort_run.specs.Refusals.{Refuses}
 
 pub told_false : (b : Bool) (P Q : Type 0) → MatchBool b P Q → b ≡ false → Q
@@ -15,10 +15,6 @@ told_false false P Q h is = h
 pub told_true : (b : Bool) (P Q : Type 0) → MatchBool b P Q → b ≡ true → P
 told_true true P Q h is = h
 told_true false P Q h is = cc
-
-pub unsaid : (b : Bool) → IsTrue b → b ≡ false → ⊥
-unsaid true h is = cc
-unsaid false h is = cc
 
 -- the first of some names
 pub first_of_names : {A : Type 0} (names : List A) (x : A) → Some x ≡ slice_get names 0 → (xs : List A) × (names ≡ x ∷ xs)
@@ -35,5 +31,13 @@ pub faulty : (text line : List ℕ) (fault : Option FormulaFault) → IfSome fau
 faulty text line None first says = absurd says
 faulty text line (Some fault) first says = Faulty fault first says
 
-pub refused_by_line : (text : List ℕ) (r : Refusal) (line : Vec ℕ Global) → r ≡ Line line → Refuses text r → IsRefused text line.items
-refused_by_line text r line is h = subst (Refuses text) is h
+-- the line of a refusal is one by which something is refused
+pub refused_by_line : (P : List ℕ → Type 0) (r : Refusal) (line : Vec ℕ Global) → r ≡ Line line → Refuses P r → P line.items
+refused_by_line P r line is h = subst (Refuses P) is h
+
+-- a test that failed says that the fact fails, and one that passed says the fact
+pub untold : (b : Bool) (P : Type 0) → IsTrue b ↔ P → b ≡ false → P → ⊥
+untold b P says is p = let h : b ≡ true = says.1 p in cc
+
+pub told : (b : Bool) (P : Type 0) → IsTrue b ↔ P → b ≡ true → P
+told b P says is = says.0 is

@@ -1,11 +1,4 @@
-pub mod Splits
-pub mod Requests
-pub mod NumberTexts
-pub mod Normality
-pub mod ProblemSystems
-pub mod ValueTruth
-pub mod BuiltLaws
 pub mod FormulaRefusals
-pub mod Replies
 pub mod OneInput
 pub mod OneAnswer
+pub mod Replies

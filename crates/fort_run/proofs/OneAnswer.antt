@@ -1,49 +1,145 @@
 -- Words and bytes are owed one answer.
-use Rattle.std.proofs.Common.{◌≡◌, ℕ, List, sym, subst}
-use Rattle.std.specs.Prelude.{Option, None, Some, IfSome}
-use Rattle.fort_theory.specs.Formulas.{Formula}
-use Rattle.fort_io.specs.Told.{Takes}
-use Rattle.fort_answers.specs.Request.{Text, Asks}
-use Rattle.fort_answers.specs.Answer.{Are, EarlyAnswer, Answer, Early, TooLong, TextRefused, ProblemRefused, FormBehind, Yes, No}
-use Rattle.fort_answers.proofs.OneRequest.{Asks-unique, early-asks_nothing, EarlyAnswer-unique}
-use Rattle.fort_run.specs.Answered.{Answers, OwesOnly}
-use Rattle.fort_run.proofs.OneInput.{InputAnswer, Long, BadText, Read, Faulty, Behind, Whole, Holds, Fails, InputAnswer-unique}
+use Rattle.std.proofs.Common.{◌≡◌, ℕ, ◌≤◌, List, [], sym, subst, arith}
+use Rattle.std.specs.Prelude.{Bool, Option, None, Some, IfSome}
+use Rattle.fort_theory.specs.Sides.{System}
+use Rattle.fort_logic.specs.Formulas.{Formula}
+use Rattle.fort_logic.specs.Truth.{IsTrueOf, IsFalseOf}
+use Rattle.fort_logic.proofs.Verdicts.{IsTrueOf-not_false}
+use Rattle.fort_io.specs.Devices.{Takes}
+use Rattle.fort_answers.specs.Requests.{Text, Request, Decide, Witness, Check, Sample}
+use Rattle.fort_answers.specs.CommandGrammar.{request_of}
+use Rattle.fort_answers.specs.Lines.{positive, negative, usage, refused, usage_text, yes_line, no_line, not_decided_yet}
+use Rattle.fort_answers.specs.DecideAnswer.{IsBuilt, Are, DecidesOf, DecideEarly, DecideAnswer, Early, InputRefused, NotDecidedYet, Yes, No}
+use Rattle.fort_answers.specs.InputAnswer.{IsInput, IsInputRefused}
+use Rattle.fort_answers.specs.Answer.{OwesTold, owed_early, owed, Answer, AnswerFor}
+use Rattle.fort_answers.proofs.OneRequest.{Are-unique, IsAccepted-unique, DecideEarly-unique, early-without_input}
+use Rattle.fort_run.specs.Answered.{Answers, OwesOnly, OwesOnlyEarly, IsDecidable}
+use Rattle.fort_run.proofs.OneInput.{IsInputRefused-unique, IsInput-not_refused, IsInput-unique}
+
+-- the answer to a formula over a system
+data Verdict (f : Formula) (system : System) (status : ℕ) (text : Text) : Type 0 where
+  Undecided : (IsBuilt f → ⊥) → Are status text refused not_decided_yet → Verdict f system status text
+  Holds : IsBuilt f → IsTrueOf system f → Are status text positive yes_line → Verdict f system status text
+  Fails : IsBuilt f → IsFalseOf system f → Are status text negative no_line → Verdict f system status text
+
+-- the answer to a formula over an input
+data Reply (f : Formula) (bytes : Text) (status : ℕ) (text : Text) : Type 0 where
+  Refuses : (line : Text) → IsInputRefused bytes line → Are status text refused line → Reply f bytes status text
+  Decides : (system : System) → IsInput bytes system → Verdict f system status text → Reply f bytes status text
+
+module _ (f : Formula) (s s' : ℕ) (t t' : Text) where
+  Verdict-unique : (system : System) (bytes : Text) → IsInput bytes system → Verdict f system s t → Verdict f system s' t' → Are s t s' t'
+  Verdict-unique system bytes is (Undecided not are) (Undecided not' are') = Are-unique refused not_decided_yet s s' t t' are are'
+  Verdict-unique system bytes is (Undecided not are) (Holds built holds are') = absurd (not built)
+  Verdict-unique system bytes is (Undecided not are) (Fails built fails are') = absurd (not built)
+  Verdict-unique system bytes is (Holds built holds are) (Undecided not are') = absurd (not built)
+  Verdict-unique system bytes is (Holds built holds are) (Holds built' holds' are') = Are-unique positive yes_line s s' t t' are are'
+  Verdict-unique system bytes is (Holds built holds are) (Fails built' fails are') =
+      absurd (IsTrueOf-not_false system f is.problem.problem.constant holds fails)
+  Verdict-unique system bytes is (Fails built fails are) (Undecided not are') = absurd (not built)
+  Verdict-unique system bytes is (Fails built fails are) (Holds built' holds are') =
+      absurd (IsTrueOf-not_false system f is.problem.problem.constant holds fails)
+  Verdict-unique system bytes is (Fails built fails are) (Fails built' fails' are') = Are-unique negative no_line s s' t t' are are'
+
+  Reply-unique : (bytes : Text) → Reply f bytes s t → Reply f bytes s' t' → Are s t s' t'
+  Reply-unique bytes (Refuses line says are) (Refuses line' says' are') =
+      let one = IsInputRefused-unique bytes line' line says' says in
+      Are-unique refused line s s' t t' are (subst (Are s' t' refused) one are')
+  Reply-unique bytes (Refuses line says are) (Decides system is verdict) = absurd (IsInput-not_refused bytes system line is says)
+  Reply-unique bytes (Decides system is verdict) (Refuses line says are) = absurd (IsInput-not_refused bytes system line is says)
+  Reply-unique bytes (Decides system is verdict) (Decides system' is' verdict') =
+      let one = IsInput-unique bytes system' system is' is in
+      Verdict-unique system bytes is verdict (subst (λ x. Verdict f x s' t') one verdict')
 
 -- an answer for which nothing is read, or one to the formula that is asked
-data Staged (words : List Text) (bytes : Text) (status : ℕ) (text : Text) : Type 0 where
-  Unread : EarlyAnswer words status text → Staged words bytes status text
-  Asked : (f : Formula) → Asks words f → InputAnswer f bytes status text → Staged words bytes status text
+data Staged (states : ℕ) (certificate : Bool) (formula bytes : Text) (status : ℕ) (text : Text) : Type 0 where
+  Unread : DecideEarly states certificate formula status text → Staged states certificate formula bytes status text
+  Asked : (f : Formula) → DecidesOf states certificate formula f → Reply f bytes status text → Staged states certificate formula bytes status text
 
-staged : (words : List Text) (bytes : Text) (status : ℕ) (text : Text) → Answer words bytes status text → Staged words bytes status text
-staged words bytes status text (Early early) = Unread early
-staged words bytes status text (TooLong f asks over are) = Asked f asks (Long over are)
-staged words bytes status text (TextRefused f asks within fault first are) = Asked f asks (BadText within fault first are)
-staged words bytes status text (ProblemRefused f asks within forms are_forms fault first are) = Asked f asks (Read within forms are_forms (Faulty fault first are))
-staged words bytes status text (FormBehind f asks within forms are_forms system next problem before are) =
-    Asked f asks (Read within forms are_forms (Behind system next problem before are))
-staged words bytes status text (Yes f asks within system is holds are) = Asked f asks (Read within is.forms is.are_forms (Whole system is.problem (Holds holds are)))
-staged words bytes status text (No f asks within system is fails are) = Asked f asks (Read within is.forms is.are_forms (Whole system is.problem (Fails fails are)))
+module _ (states : ℕ) (certificate : Bool) (formula : Text) where
+  staged : (bytes : Text) (s : ℕ) (t : Text) → DecideAnswer states certificate formula bytes s t → Staged states certificate formula bytes s t
+  staged bytes s t (Early early) = Unread early
+  staged bytes s t (InputRefused f asks line says are) = Asked f asks (Refuses line says are)
+  staged bytes s t (NotDecidedYet f asks system is not are) = Asked f asks (Decides system is (Undecided not are))
+  staged bytes s t (Yes f asks system is built holds are) = Asked f asks (Decides system is (Holds built holds are))
+  staged bytes s t (No f asks system is built fails are) = Asked f asks (Decides system is (Fails built fails are))
 
-Staged-unique : (words : List Text) (bytes : Text) (s s' : ℕ) (t t' : Text) → Staged words bytes s t → Staged words bytes s' t' → Are s t s' t'
-Staged-unique words bytes s s' t t' (Unread early) (Unread early') = EarlyAnswer-unique words s s' t t' early early'
-Staged-unique words bytes s s' t t' (Unread early) (Asked f asks answer) = absurd (early-asks_nothing words s t early f asks)
-Staged-unique words bytes s s' t t' (Asked f asks answer) (Unread early) = absurd (early-asks_nothing words s' t' early f asks)
-Staged-unique words bytes s s' t t' (Asked f asks answer) (Asked f' asks' answer') =
-    InputAnswer-unique f s s' t t' bytes answer
-    (subst (λ g. InputAnswer g bytes s' t') (Asks-unique words f' f asks' asks) answer')
+  Staged-unique : (bytes : Text) (s s' : ℕ) (t t' : Text) → Staged states certificate formula bytes s t → Staged states certificate formula bytes s' t' → Are s t s' t'
+  Staged-unique bytes s s' t t' (Unread early) (Unread early') = DecideEarly-unique states certificate formula s s' t t' early early'
+  Staged-unique bytes s s' t t' (Unread early) (Asked f asks reply) = absurd (early-without_input states certificate formula s t early f asks)
+  Staged-unique bytes s s' t t' (Asked f asks reply) (Unread early) = absurd (early-without_input states certificate formula s' t' early f asks)
+  Staged-unique bytes s s' t t' (Asked f asks reply) (Asked f' asks' reply') =
+      let one = IsAccepted-unique formula f' f asks'.accepted asks.accepted in
+      Reply-unique f s s' t t' bytes reply (subst (λ g. Reply g bytes s' t') one reply')
 
-pub Answer-unique : (words : List Text) (bytes : Text) (s s' : ℕ) (t t' : Text) → Answer words bytes s t → Answer words bytes s' t' → (s ≡ s') × (t ≡ t')
-Answer-unique words bytes s s' t t' answer answer' =
-    let are = Staged-unique words bytes s s' t t' (staged words bytes s t answer) (staged words bytes s' t' answer') in
-    (are.same_status, are.same_text)
+  pub DecideAnswer-unique : (bytes : Text) (s s' : ℕ) (t t' : Text) → DecideAnswer states certificate formula bytes s t
+      → DecideAnswer states certificate formula bytes s' t' → Are s t s' t'
+  DecideAnswer-unique bytes s s' t t' one other = Staged-unique bytes s s' t t' (staged bytes s t one) (staged bytes s' t' other)
+
+  -- a formula that is decided, over a system, is answered by YES or NO
+  pub decided_low : (f : Formula) (bytes : Text) (system : System) (s : ℕ) (t : Text) → DecidesOf states certificate formula f → IsBuilt f
+      → IsInput bytes system → DecideAnswer states certificate formula bytes s t → s ≤ negative
+  decided_low f bytes system s t asks built is (Early early) = absurd (early-without_input states certificate formula s t early f asks)
+  decided_low f bytes system s t asks built is (InputRefused g asks' line says are) = absurd (IsInput-not_refused bytes system line is says)
+  decided_low f bytes system s t asks built is (NotDecidedYet g asks' system' is' not are) =
+      absurd (not (subst IsBuilt (IsAccepted-unique formula f g asks.accepted asks'.accepted) built))
+  decided_low f bytes system s t asks built is (Yes g asks' system' is' built' holds are) = let e = are.same_status in omega arith
+  decided_low f bytes system s t asks built is (No g asks' system' is' built' fails are) = let e = are.same_status in omega arith
+
+pub owed-unique : (request : Option Request) (bytes : Text) (s s' : ℕ) (t t' : Text) → owed request bytes s t → owed request bytes s' t' → Are s t s' t'
+owed-unique None bytes s s' t t' one other = Are-unique usage usage_text s s' t t' one other
+owed-unique (Some (Decide states certificate formula)) bytes s s' t t' one other = DecideAnswer-unique states certificate formula bytes s s' t t' one other
+owed-unique (Some (Witness states formula)) bytes s s' t t' one other = Are-unique usage usage_text s s' t t' one other
+owed-unique (Some (Check formula)) bytes s s' t t' one other = Are-unique usage usage_text s s' t t' one other
+owed-unique (Some (Sample n)) bytes s s' t t' one other = Are-unique usage usage_text s s' t t' one other
+
+-- what is owed before anything is read is owed for any bytes
+pub owed_from_early : (request : Option Request) (bytes : Text) (s : ℕ) (t : Text) → owed_early request s t → owed request bytes s t
+owed_from_early None bytes s t owes = owes
+owed_from_early (Some (Decide states certificate formula)) bytes s t owes = Early owes
+owed_from_early (Some (Witness states formula)) bytes s t owes = owes
+owed_from_early (Some (Check formula)) bytes s t owes = owes
+owed_from_early (Some (Sample n)) bytes s t owes = owes
+
+pub told_from_early : (request : Option Request) (told : Option Text) (s : ℕ) (t : Text) → owed_early request s t → OwesTold request told s t
+told_from_early request None s t owes = ([], owed_from_early request [] s t owes)
+told_from_early request (Some bytes) s t owes = owed_from_early request bytes s t owes
+
+-- what a source tells is some bytes
+bytes_told : (request : Option Request) (told : Option Text) (s : ℕ) (t : Text) → OwesTold request told s t → (bytes : Text) × owed request bytes s t
+bytes_told request None s t owes = owes
+bytes_told request (Some bytes) s t owes = (bytes, owes)
 
 -- where the bytes are known, no other answer is owed than the one that a run left
+-- what a run leaves that writes the text of an answer that is owed
+pub answers : (words : List Text) (told old new : Option Text) (text line : Text) (status s : ℕ) → AnswerFor words told s line → text ≡ line → status ≡ s
+    → Takes old new text → Answers words told old new status
+answers words told old new text line status s owed same_text same_status taken = record {
+  text = text;
+  owed = subst (λ n. AnswerFor words told n text) (sym same_status) (subst (AnswerFor words told s) (sym same_text) owed);
+  taken = taken;
+}
+
 pub Answers-only : (words : List Text) (bytes : Text) (old new : Option Text) (status : ℕ) → Answers words (Some bytes) old new status
     → (s : ℕ) (t : Text) → Answer words bytes s t → (s ≡ status) × Takes old new t
 Answers-only words bytes old new status given s t answer =
-    let same = Answer-unique words bytes s status t given.text answer given.owed in
-    (same.0, subst (Takes old new) (sym same.1) given.taken)
+    let same = owed-unique (request_of words) bytes s status t given.text answer given.owed in
+    (same.same_status, subst (Takes old new) (sym same.same_text) given.taken)
 
 pub Answers-told : (words : List Text) (told old new : Option Text) (status : ℕ) → Answers words told old new status → IfSome told (OwesOnly words old new status)
 Answers-told words None old new status answers = tt
 Answers-told words (Some bytes) old new status answers = Answers-only words bytes old new status answers
+
+pub Answers-early : (words : List Text) (told old new : Option Text) (status : ℕ) → Answers words told old new status → OwesOnlyEarly words old new status
+Answers-early words told old new status given s t early =
+    let some = bytes_told (request_of words) told status given.text given.owed in
+    let same = owed-unique (request_of words) some.0 s status t given.text (owed_from_early (request_of words) some.0 s t early) some.1 in
+    (same.same_status, subst (Takes old new) (sym same.same_text) given.taken)
+
+pub Answers-decided : (words : List Text) (told old new : Option Text) (status : ℕ) → Answers words told old new status → IsDecidable words told → status ≤ negative
+Answers-decided words told old new status given is =
+    let at_bytes : OwesTold (request_of words) (Some is.bytes) status given.text =
+    subst (λ o. OwesTold (request_of words) o status given.text) is.told_are given.owed in
+    let at_request : owed (Some (Decide is.states is.certificate is.formula)) is.bytes status given.text =
+    subst (λ r. owed r is.bytes status given.text) is.asked at_bytes in
+    decided_low is.states is.certificate is.formula is.f is.bytes is.system status given.text is.decides is.built is.input at_request

@@ -1,27 +1,30 @@
--- Lemmas from what was read to the answer that is owed.
+-- From what was read to the answer that is owed.
 use Rattle.std.proofs.Common.{◌≡◌, ℕ, zero, suc, ◌+◌, ◌<◌, ◌≤◌, List, [], ◌∷◌, ◌++◌, length, refl, sym, ap, subst, ◌∙◌, append-nil, length-append, arith}
-use Rattle.std.specs.Prelude.{Option, Some, None, IfSome, MatchOption, replicate}
+use Rattle.std.specs.Prelude.{false, true, Bool, Option, Some, None, IfSome, MatchBool, MatchOption}
 use Rattle.std.specs.Io.KnownBytes.{Consumes, IsAtEnd}
 use Rattle.fort_theory.specs.Sides.{System}
-use Rattle.fort_theory.specs.Formulas.{Formula}
-use Rattle.fort_theory.specs.Truth.{IsTrueOf, IsFalseOf}
+use Rattle.fort_theory.specs.Patterns.{PatternSystem, pattern_system}
+use Rattle.fort_logic.specs.Formulas.{Formula}
+use Rattle.fort_logic.specs.FreeNames.{free_names}
+use Rattle.fort_logic.specs.Truth.{IsTrueOf, IsFalseOf}
 use Rattle.fort_grammar.specs.Text.{BadByte, ExtraClose, Unclosed, TooDeep}
-use Rattle.fort_grammar.specs.Forms.{Forms, NoForm, MoreForms, AreForms, AreFormsOf, End, Skip, AWord, AList}
+use Rattle.fort_grammar.specs.Forms.{Form, Forms, NoForm, MoreForms, AreForms, AreFormsOf, End, Skip, AWord, AList}
 use Rattle.fort_grammar.specs.Declarations.{ProblemFault, BadForm, as_list}
 use Rattle.fort_grammar.specs.ProblemForms.{IsProblem, IsFirstProblemFault}
-use Rattle.fort_grammar.specs.ProblemText.{IsProblemText}
 use Rattle.fort_sexpr.specs.FormView.{form_count}
 use Rattle.fort_sexpr.specs.Faults.{IsFirstFaultUnlessMemory}
 use Rattle.fort_sexpr.specs.declared.fault.SFault.{SFault}
 use Rattle.fort_sexpr.specs.declared.fault.SFault.TheVariants as sfaults
 use Rattle.fort_ari.specs.declared.fault.ProblemFault.{ProblemFault as ariFault}
 use Rattle.fort_ari.specs.Faults.{as_fault}
+use Rattle.fort_answers.specs.Requests.{Text}
+use Rattle.fort_answers.specs.Lines.{input_too_long, not_decided_yet, problem_fault_line, yes_line, no_line, positive, negative, refused}
+use Rattle.fort_answers.specs.DecideAnswer.{IsBuilt, Are, IsPlain, DecidesOf, FormulaRefused, Early, InputRefused, NotDecidedYet, Yes, No}
 use Rattle.fort_answers.specs.FormulaAnswer.{IsAccepted, IsRefused}
+use Rattle.fort_answers.specs.InputAnswer.{IsInput, IsInputRefused, TooLong, NoForms, NoProblem, FormBehind, input_limit}
 use Rattle.fort_answers.proofs.OneVerdict.{accepted-not_refused}
-use Rattle.fort_answers.specs.Request.{Text, IsRequest, IsNoRequest, Asks, AsksNothing}
-use Rattle.fort_answers.specs.Lines.{usage_text, input_too_long, problem_fault_line, yes_line, no_line}
-use Rattle.fort_answers.specs.Answer.{Answer, AnswerFor, EarlyAnswer, Early, NoRequest, FormulaRefused, TooLong, TextRefused, ProblemRefused, FormBehind, Yes, No, input_limit}
 use Rattle.fort_run.specs.Refusals.{SaysProblemFault, SaysTextFault}
+use Rattle.fort_run.specs.Plain.{PlainAnswers, PlainNeedsInput, PlainOwes, IsReadFrom}
 
 -- the forms of a text, counted
 pub count_of : (forms : Forms) → form_count forms ≡ length (as_list forms)
@@ -41,98 +44,105 @@ forms_within bytes i j (MoreForms f fs) (AList {k = k} {gs = gs} within opens in
 pub few_forms : (bytes : Text) (forms : Forms) → AreFormsOf bytes forms → form_count forms ≤ length bytes
 few_forms bytes forms are = let r = forms_within bytes 0 (length bytes) forms are.stand in omega arith
 
+-- the lines of a text's faults
+pub text_refused : (bytes : Text) (fault : SFault) (line : Text) → length bytes ≤ input_limit
+    → IsFirstFaultUnlessMemory bytes fault → SaysTextFault fault line → IsInputRefused bytes line
+text_refused bytes sfaults.Memory line short first says = absurd says
+text_refused bytes (sfaults.BadByte i) line short first says = NoForms short (BadByte i) first says
+text_refused bytes (sfaults.ExtraClose i) line short first says = NoForms short (ExtraClose i) first says
+text_refused bytes (sfaults.Unclosed i) line short first says = NoForms short (Unclosed i) first says
+text_refused bytes (sfaults.TooDeep i) line short first says = NoForms short (TooDeep i) first says
+
+refused_by : (bytes : Text) (forms : Forms) (fault : Option ProblemFault) (line : Text) → length bytes ≤ input_limit
+    → AreFormsOf bytes forms → IfSome fault (IsFirstProblemFault bytes (as_list forms)) → MatchOption fault ⊥ (λ x. line ≡ problem_fault_line x)
+    → IsInputRefused bytes line
+refused_by bytes forms None line short are first says = absurd says
+refused_by bytes forms (Some x) line short are first says = NoProblem short forms are x first says
+
+-- the lines of a problem's faults
+pub problem_refused : (bytes : Text) (forms : Forms) (fault : ariFault) (line : Text) → length bytes ≤ input_limit
+    → AreFormsOf bytes forms → IfSome (as_fault fault) (IsFirstProblemFault bytes (as_list forms)) → SaysProblemFault fault line → IsInputRefused bytes line
+problem_refused bytes forms fault line short are first says = refused_by bytes forms (as_fault fault) line short are first says
+
+pub form_behind : (bytes : Text) (forms : Forms) (system : System) (next : ℕ) (line : Text) → length bytes ≤ input_limit
+    → AreFormsOf bytes forms → IsProblem bytes (as_list forms) system next → next < form_count forms → line ≡ problem_fault_line (BadForm next)
+    → IsInputRefused bytes line
+form_behind bytes forms system next line short are problem below says =
+    FormBehind short forms are system next problem (let count = count_of forms in omega arith) says
+
+-- a problem that ends with its text
+pub is_input : (bytes : Text) (forms : Forms) (system : System) (next : ℕ) → length bytes ≤ input_limit → AreFormsOf bytes forms
+    → IsProblem bytes (as_list forms) system next → form_count forms ≤ next → IsInput bytes system
+is_input bytes forms system next short are problem end =
+    let all : length (as_list forms) ≡ suc (length problem.declarations + (length problem.rules + length problem.behind)) =
+    ap length problem.parts.is ∙ ap suc (length-append problem.declarations (problem.rules ++ problem.behind) ∙ ap (λ n. length problem.declarations + n) (length-append problem.rules problem.behind)) in
+    let is_next : next ≡ length problem.declarations + length problem.rules + 1 = problem.next_is in
+    let same : next ≡ length (as_list forms) = omega (arith, count_of forms) in
+    record {
+      short = short;
+      problem = record { forms = forms; are_forms = are; problem = subst (λ n. IsProblem bytes (as_list forms) system n) same problem };
+    }
+
+-- ---- the plain request
+
+are : (status : ℕ) (text : Text) → Are status text status text
+are status text = record { same_status = refl; same_text = refl }
+
+plain_is : IsPlain 10000 false
+plain_is = record { states_are = refl; without = refl }
+
+asks : (text : Text) (f : Formula) → IsAccepted text f → DecidesOf 10000 false text f
+asks text f accepted = record { plain = plain_is; accepted = accepted }
+
+pub needs : (text : Text) (f : Formula) → IsAccepted text f → PlainNeedsInput text
+needs text f accepted = (f, asks text f accepted)
+
+pub refused_needs_nothing : (text line : Text) → IsRefused text line → PlainNeedsInput text → ⊥
+refused_needs_nothing text line says (f, asked) = accepted-not_refused text f line asked.accepted says
+
+pub owes_refusal : (text line : Text) (told : Option Text) → IsRefused text line → PlainOwes text told refused line
+owes_refusal text line None says = ([], Early (FormulaRefused plain_is line says (are refused line)))
+owes_refusal text line (Some bytes) says = Early (FormulaRefused plain_is line says (are refused line))
+
+pub input_refused : (text : Text) (f : Formula) (bytes line : Text) → IsAccepted text f → IsInputRefused bytes line → PlainAnswers text bytes refused line
+input_refused text f bytes line accepted says = InputRefused f (asks text f accepted) line says (are refused line)
+
+pub not_decided : (text : Text) (f : Formula) (bytes : Text) (system : PatternSystem) → IsAccepted text f → IsReadFrom bytes system → (IsBuilt f → ⊥)
+    → PlainAnswers text bytes refused not_decided_yet
+not_decided text f bytes system accepted read not = NotDecidedYet f (asks text f accepted) read.0 read.1 not (are refused not_decided_yet)
+
+-- what the verdict on a problem's system gives
+abbrev pub Decides : Bool → PatternSystem → Formula → Type 0
+Decides b system f = (bytes : List ℕ) (forms : List Form) (p : System) (next : ℕ) → IsProblem bytes forms p next → system ≡ pattern_system p
+    → IsBuilt f → free_names f ≡ [] → MatchBool b (IsTrueOf p f) (IsFalseOf p f)
+
+pub is_yes : (text : Text) (f : Formula) (bytes : Text) (system : PatternSystem) → IsAccepted text f → IsReadFrom bytes system → IsBuilt f
+    → Decides true system f → PlainAnswers text bytes positive yes_line
+is_yes text f bytes system accepted (p, input, is) built verdict =
+    Yes f (asks text f accepted) p input built (verdict bytes (as_list input.problem.forms) p _ input.problem.problem is built accepted.closed) (are positive yes_line)
+
+pub is_no : (text : Text) (f : Formula) (bytes : Text) (system : PatternSystem) → IsAccepted text f → IsReadFrom bytes system → IsBuilt f
+    → Decides false system f → PlainAnswers text bytes negative no_line
+is_no text f bytes system accepted (p, input, is) built verdict =
+    No f (asks text f accepted) p input built (verdict bytes (as_list input.problem.forms) p _ input.problem.problem is built accepted.closed) (are negative no_line)
+
 -- the answer for the bytes that were read, all of them
-pub answer_told : (words : List Text) (old new : Option Text) (bytes : Text) (status : ℕ) (text : Text) → Consumes old new bytes → IsAtEnd new
-    → Answer words bytes status text → AnswerFor words old status text
-answer_told words None new bytes status text taken end answer = (bytes, answer)
-answer_told words (Some xs) None bytes status text taken end answer = absurd taken
-answer_told words (Some xs) (Some ys) bytes status text taken end answer =
+pub answer_told : (text : Text) (old new : Option Text) (bytes : Text) (status : ℕ) (line : Text) → Consumes old new bytes → IsAtEnd new
+    → PlainAnswers text bytes status line → PlainOwes text old status line
+answer_told text None new bytes status line taken end answer = (bytes, answer)
+answer_told text (Some xs) None bytes status line taken end answer = absurd taken
+answer_told text (Some xs) (Some ys) bytes status line taken end answer =
     let whole : xs ≡ bytes = taken ∙ ap (λ w. bytes ++ w) end ∙ append-nil bytes in
-    subst (λ b. Answer words b status text) (sym whole) answer
-
-pub early_told : (words : List Text) (told : Option Text) (status : ℕ) (text : Text) → EarlyAnswer words status text → AnswerFor words told status text
-early_told words None status text early = ([], Early early)
-early_told words (Some bytes) status text early = Early early
-
-zeros : ℕ → List ℕ
-zeros n = replicate n 0
+    subst (λ b. PlainAnswers text b status line) (sym whole) answer
 
 -- some text is longer than any number says
 longer_than : (n : ℕ) → (bytes : List ℕ) × (n < length bytes)
 longer_than zero = (0 ∷ [], omega arith)
 longer_than (suc n) = let r = longer_than n in (0 ∷ r.0, omega (arith, r.1))
 
-pub too_long_told : (words : List Text) (told : Option Text) (f : Formula) → Asks words f → IfSome told (λ bytes. input_limit < length bytes)
-    → AnswerFor words told 3 input_too_long
-too_long_told words None f asks long =
-    let text = longer_than input_limit in
-    (text.0, TooLong f asks text.1 (record { same_status = refl; same_text = refl }))
-too_long_told words (Some bytes) f asks long = TooLong f asks long (record { same_status = refl; same_text = refl })
-
-pub no_request : (words : List Text) (told : Option Text) → IsNoRequest words → AnswerFor words told 2 usage_text
-no_request words told none = early_told words told 2 usage_text (NoRequest none (record { same_status = refl; same_text = refl }))
-
-pub formula_refused : (words : List Text) (told : Option Text) (formula line : Text) → IsRequest words formula → IsRefused formula line → AnswerFor words told 3 line
-formula_refused words told formula line request refused =
-    early_told words told 3 line (FormulaRefused formula request line refused (record { same_status = refl; same_text = refl }))
-
--- the lines of a text's faults
-pub text_refused : (words : List Text) (bytes : Text) (f : Formula) (fault : SFault) (line : Text) → Asks words f → length bytes ≤ input_limit
-    → IsFirstFaultUnlessMemory bytes fault → SaysTextFault fault line → Answer words bytes 3 line
-text_refused words bytes f sfaults.Memory line asks short first says = absurd says
-text_refused words bytes f (sfaults.BadByte i) line asks short first says = TextRefused f asks short (BadByte i) first (record { same_status = refl; same_text = says })
-text_refused words bytes f (sfaults.ExtraClose i) line asks short first says = TextRefused f asks short (ExtraClose i) first (record { same_status = refl; same_text = says })
-text_refused words bytes f (sfaults.Unclosed i) line asks short first says = TextRefused f asks short (Unclosed i) first (record { same_status = refl; same_text = says })
-text_refused words bytes f (sfaults.TooDeep i) line asks short first says = TextRefused f asks short (TooDeep i) first (record { same_status = refl; same_text = says })
-
-refused_by : (words : List Text) (bytes : Text) (f : Formula) (forms : Forms) (fault : Option ProblemFault) (line : Text) → Asks words f → length bytes ≤ input_limit
-    → AreFormsOf bytes forms → IfSome fault (IsFirstProblemFault bytes (as_list forms)) → MatchOption fault ⊥ (λ x. line ≡ problem_fault_line x) → Answer words bytes 3 line
-refused_by words bytes f forms None line asks short are first says = absurd says
-refused_by words bytes f forms (Some x) line asks short are first says = ProblemRefused f asks short forms are x first (record { same_status = refl; same_text = says })
-
--- the lines of a problem's faults
-pub problem_refused : (words : List Text) (bytes : Text) (f : Formula) (forms : Forms) (fault : ariFault) (line : Text) → Asks words f → length bytes ≤ input_limit
-    → AreFormsOf bytes forms → IfSome (as_fault fault) (IsFirstProblemFault bytes (as_list forms)) → SaysProblemFault fault line → Answer words bytes 3 line
-problem_refused words bytes f forms fault line asks short are first says = refused_by words bytes f forms (as_fault fault) line asks short are first says
-
-pub form_behind : (words : List Text) (bytes : Text) (f : Formula) (forms : Forms) (system : System) (next : ℕ) (line : Text) → Asks words f → length bytes ≤ input_limit
-    → AreFormsOf bytes forms → IsProblem bytes (as_list forms) system next → next < form_count forms → line ≡ problem_fault_line (BadForm next) → Answer words bytes 3 line
-form_behind words bytes f forms system next line asks short are problem below says =
-    FormBehind f asks short forms are system next problem (let count = count_of forms in omega arith) (record { same_status = refl; same_text = says })
-
--- a problem that ends with its text
-problem_text : (bytes : Text) (forms : Forms) (system : System) (next : ℕ) → AreFormsOf bytes forms → IsProblem bytes (as_list forms) system next → form_count forms ≤ next
-    → IsProblemText bytes system
-problem_text bytes forms system next are problem end =
-    let all : length (as_list forms) ≡ suc (length problem.declarations + (length problem.rules + length problem.behind)) =
-    ap length problem.parts.is ∙ ap suc (length-append problem.declarations (problem.rules ++ problem.behind) ∙ ap (λ n. length problem.declarations + n) (length-append problem.rules problem.behind)) in
-    let is_next : next ≡ length problem.declarations + length problem.rules + 1 = problem.next_is in
-    let same : next ≡ length (as_list forms) = omega (arith, count_of forms) in
-    record { forms = forms; are_forms = are; problem = subst (λ n. IsProblem bytes (as_list forms) system n) same problem }
-
-pub is_yes : (words : List Text) (bytes : Text) (f : Formula) (forms : Forms) (system : System) (next : ℕ) → Asks words f → length bytes ≤ input_limit → AreFormsOf bytes forms
-    → IsProblem bytes (as_list forms) system next → form_count forms ≤ next → IsTrueOf system f → Answer words bytes 0 yes_line
-is_yes words bytes f forms system next asks short are problem end holds =
-    Yes f asks short system (problem_text bytes forms system next are problem end) holds (record { same_status = refl; same_text = refl })
-
-pub is_no : (words : List Text) (bytes : Text) (f : Formula) (forms : Forms) (system : System) (next : ℕ) → Asks words f → length bytes ≤ input_limit → AreFormsOf bytes forms
-    → IsProblem bytes (as_list forms) system next → form_count forms ≤ next → IsFalseOf system f → Answer words bytes 1 no_line
-is_no words bytes f forms system next asks short are problem end fails =
-    No f asks short system (problem_text bytes forms system next are problem end) fails (record { same_status = refl; same_text = refl })
-
--- what is asked, from the formula's text
-pub asks_accepted : (words : List Text) (formula : Text) (f : Formula) → IsRequest words formula → IsAccepted formula f → Asks words f
-asks_accepted words formula f request accepted = record { formula = formula; request = request; accepted = accepted }
-
--- with no formula nothing is asked
-pub nothing_without_request : (words : List Text) → IsNoRequest words → AsksNothing words
-nothing_without_request words none = λ f asks. none asks.formula asks.request
-
-pub nothing_of_refused : (words : List Text) (formula line : Text) → IsRequest words formula → IsRefused formula line → AsksNothing words
-nothing_of_refused words formula line request refused = λ f asks.
-    let same : asks.formula ≡ formula = same_formula words asks.formula formula asks.request request in
-    accepted-not_refused formula f line (subst (λ t. IsAccepted t f) same asks.accepted) refused
-  where
-    same_formula : (words : List Text) (f g : Text) → IsRequest words f → IsRequest words g → f ≡ g
-    same_formula words f g one two =
-        let both = sym one.asked ∙ two.asked in cc
+pub too_long_told : (text : Text) (f : Formula) (told : Option Text) → IsAccepted text f → IfSome told (λ bytes. input_limit < length bytes)
+    → PlainOwes text told refused input_too_long
+too_long_told text f None accepted long =
+    let some = longer_than input_limit in
+    (some.0, input_refused text f some.0 input_too_long accepted (TooLong some.1 refl))
+too_long_told text f (Some bytes) accepted long = input_refused text f bytes input_too_long accepted (TooLong long refl)

@@ -1,9 +1,14 @@
 -- To believe: what a run leaves where it answers, that no other answer is owed, how far it read, and what it leaves where a fault of the sink cuts the answer short.
-use Rattle.std.specs.Prelude.{◌≡◌, ℕ, ◌<◌, ◌⊎◌, List, ◌++◌, length, Option, IfSome}
+use Rattle.std.specs.Prelude.{◌≡◌, ℕ, ◌<◌, ◌⊎◌, Bool, List, ◌++◌, length, Option, Some, IfSome}
 use Rattle.std.specs.Io.KnownBytes.{IsAtEnd}
-use Rattle.fort_io.specs.Told.{Takes}
-use Rattle.fort_answers.specs.Request.{Text}
-use Rattle.fort_answers.specs.Answer.{Answer, AnswerFor, input_limit}
+use Rattle.fort_theory.specs.Sides.{System}
+use Rattle.fort_logic.specs.Formulas.{Formula}
+use Rattle.fort_io.specs.Devices.{Takes}
+use Rattle.fort_answers.specs.Requests.{Text, Decide}
+use Rattle.fort_answers.specs.CommandGrammar.{request_of}
+use Rattle.fort_answers.specs.DecideAnswer.{IsBuilt, DecidesOf}
+use Rattle.fort_answers.specs.InputAnswer.{IsInput, input_limit}
+use Rattle.fort_answers.specs.Answer.{Answer, AnswerFor, EarlyAnswer}
 
 -- the status is the answer's, and the sink took the answer's text, all of it
 pub record Answers (words : List Text) (told : Option Text) (old new : Option Text) (status : ℕ) : Type 0 where
@@ -15,6 +20,10 @@ pub record Answers (words : List Text) (told : Option Text) (old new : Option Te
 abbrev pub OwesOnly : List Text → (old new : Option Text) → ℕ → Text → Type 0
 OwesOnly words old new status bytes = (s : ℕ) (t : Text) → Answer words bytes s t → (s ≡ status) × Takes old new t
 
+-- the same of an answer that is owed before anything is read
+abbrev pub OwesOnlyEarly : List Text → (old new : Option Text) → ℕ → Type 0
+OwesOnlyEarly words old new status = (s : ℕ) (t : Text) → EarlyAnswer words s t → (s ≡ status) × Takes old new t
+
 -- the sink took a front of the answer's text
 pub record CutsShort (words : List Text) (told : Option Text) (old new : Option Text) : Type 0 where
   pub status : ℕ
@@ -23,6 +32,20 @@ pub record CutsShort (words : List Text) (told : Option Text) (old new : Option 
   pub owed : AnswerFor words told status (front ++ back)
   pub taken : Takes old new front
 
--- the source was read to its end, or gave more than the limit
+-- the source was read to its end, or had more than the limit
 abbrev pub ReadsWhole : Option Text → Option Text → Type 0
 ReadsWhole old new = IsAtEnd new ⊎ IfSome old (λ bytes. input_limit < length bytes)
+
+-- the words ask whether a formula is true that is decided today, and the bytes are a system
+pub record IsDecidable (words : List Text) (told : Option Text) : Type 0 where
+  pub states : ℕ
+  pub certificate : Bool
+  pub formula : Text
+  pub asked : request_of words ≡ Some (Decide states certificate formula)
+  pub f : Formula
+  pub decides : DecidesOf states certificate formula f
+  pub built : IsBuilt f
+  pub bytes : Text
+  pub told_are : told ≡ Some bytes
+  pub system : System
+  pub input : IsInput bytes system

@@ -1,7 +1,5 @@
-pub mod RedexRoots
-pub mod GroundTerms
-pub mod NormalityValues
+pub mod StatusView
 pub mod ReplyView
 pub mod Refusals
-pub mod RequestView
+pub mod Plain
 pub mod Answered

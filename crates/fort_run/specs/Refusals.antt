@@ -1,4 +1,4 @@
--- Nothing to believe: which line says which fault of the program's readers. No line says want of memory.
+-- Inside: which line says which fault of the program's readers. No line says want of memory.
 use Rattle.std.specs.Prelude.{◌≡◌, List, ℕ, MatchOption}
 use Rattle.fort_grammar.specs.Text.{BadByte, ExtraClose, Unclosed, TooDeep}
 use Rattle.fort_sexpr.specs.declared.fault.SFault.{SFault}
@@ -8,9 +8,10 @@ use Rattle.fort_ari.specs.Faults.{as_fault}
 use Rattle.fort_formula_parser.specs.declared.fault.FFault.{FFault}
 use Rattle.fort_formula_parser.specs.Faults.{as_formula_fault}
 use Rattle.fort_answers.specs.FormulaAnswer.{IsRefused}
+use Rattle.fort_answers.specs.InputAnswer.{IsInputRefused}
 use Rattle.fort_answers.specs.Lines.{formula_fault_line, text_fault_line, problem_fault_line}
-use Rattle.fort_run.specs.declared.accepted.Refusal.{Refusal}
-use Rattle.fort_run.specs.declared.accepted.Refusal.TheVariants as refusal
+use Rattle.fort_run.specs.declared.refusal.Refusal.{Refusal}
+use Rattle.fort_run.specs.declared.refusal.Refusal.TheVariants as refusal
 
 abbrev pub SaysTextFault : SFault → List ℕ → Type 0
 SaysTextFault faults.Memory line = ⊥
@@ -25,7 +26,15 @@ SaysProblemFault fault line = MatchOption (as_fault fault) ⊥ (λ f. line ≡ p
 abbrev pub SaysFormulaFault : FFault → List ℕ → Type 0
 SaysFormulaFault fault line = MatchOption (as_formula_fault fault) ⊥ (λ f. line ≡ formula_fault_line f)
 
--- the refusal of a formula's text is one that is owed to it; want of memory says nothing
-abbrev pub Refuses : List ℕ → Refusal → Type 0
-Refuses text refusal.Memory = Unit {0}
-Refuses text (refusal.Line line) = IsRefused text line.items
+-- the line is one by which something is refused; want of memory says nothing
+abbrev pub Refuses : (List ℕ → Type 0) → Refusal → Type 0
+Refuses P refusal.Memory = Unit {0}
+Refuses P (refusal.Line line) = P line.items
+
+-- the refusal of a formula's text is owed to it
+abbrev pub RefusesFormula : List ℕ → Refusal → Type 0
+RefusesFormula text = Refuses (IsRefused text)
+
+-- the refusal of an input is owed to it
+abbrev pub RefusesInput : List ℕ → Refusal → Type 0
+RefusesInput bytes = Refuses (IsInputRefused bytes)

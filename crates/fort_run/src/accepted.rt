@@ -1,49 +1,35 @@
-ghost use Rattle.std.specs.Prelude.{◌≡◌, ℕ, List, IfOk, IfErr, MatchBool, MatchOption};
-ghost use Rattle.fort_theory.specs.Parts.{IsTooWide};
-ghost use Rattle.fort_theory.specs.Translation.{core_of};
-ghost use Rattle.fort_grammar.specs.FormulaText.{IsFormulaText};
+//! The formula of a text, or the line that refuses it.
+ghost use Rattle.std.specs.Prelude.{◌≡◌, ℕ, List, ◌<◌, ◌^◌, IfOk, IfErr, MatchBool, MatchOption};
+ghost use Rattle.fort_logic.specs.Parts.{IsTooWide};
+ghost use Rattle.fort_logic.specs.Translation.{core_of};
+ghost use Rattle.fort_formula_grammar.specs.FormulaText.{IsFormulaText};
 ghost use Rattle.fort_answers.specs.FormulaAnswer.{IsAccepted, IsRefused};
 ghost use Rattle.fort_formulas.specs.FormulaView.{as_formula};
-ghost use Rattle.fort_run.specs.Refusals.{Refuses};
+ghost use Rattle.fort_formulas.specs.NumbersNeeded.{numbers_needed};
+ghost use Rattle.fort_run.specs.Refusals.{RefusesFormula};
 
-use crate::built::is_built;
-use crate::refusal::{formula_line, open_line};
-use fort_formula_parser::{FFault, parse};
+use crate::refusal::{Refusal, formula_line, open_line};
+use fort_formula_parser::parse;
 use fort_formulas::{CoreFault, Formula, free_names, to_core};
 use std::alloc::{AllocError, Global};
 
-/// Why a formula is not decided.
-#[derive(Debug, Drop)]
-pub enum Refusal {
-    /// There is not enough memory.
-    Memory,
-    /// The formula is refused by this line.
-    Line(Vec<u8>),
-}
-
-impl From<AllocError> for Refusal {
-    ghost use Rattle.fort_run.specs.declared.accepted.Refusal.TheVariants.{Memory};
-
-    ghost from_gives = { λ _ e. e ≡ Memory };
-
-    fn from(_e: AllocError) -> Refusal {
-        Refusal::Memory
-    }
-}
-
 /// Whether no part of a formula is too wide.
 fn is_narrow(alloc: Global, formula: &Formula) -> Result<bool, AllocError>
-    ensures { IfOk result (λ b. MatchBool b (IsTooWide (core_of (as_formula formula.now)) → ⊥) (IsTooWide (core_of (as_formula formula.now)))) }
+    requires { numbers_needed (as_formula formula.now) < 2 ^ 32 }
+    ensures { IfOk result (λ b. MatchBool b
+        (IsTooWide (core_of (as_formula formula.now)) → ⊥) (IsTooWide (core_of (as_formula formula.now)))) }
 {
     match to_core(alloc, formula) {
         Ok(_core) => Ok(true),
         Err(CoreFault::TooWide) => Ok(false),
         Err(CoreFault::Memory) => Err(AllocError),
+        Err(CoreFault::TooManyNumbers) => unreachable!(),
     }
 }
 
 /// The line that refuses a formula that could be read, if there is one.
 fn refusal_of(alloc: Global, formula: &Formula) -> Result<Option<Vec<u8>>, AllocError>
+    requires { numbers_needed (as_formula formula.now) < 2 ^ 32 }
     ensures { IfOk result (λ refusal. (text : List ℕ) → IsFormulaText text (as_formula formula.now)
         → MatchOption refusal (IsAccepted text (as_formula formula.now)) (λ line. IsRefused text line.items)) }
 {
@@ -53,20 +39,14 @@ fn refusal_of(alloc: Global, formula: &Formula) -> Result<Option<Vec<u8>>, Alloc
     let names = free_names(alloc, formula)?;
     match names.first() {
         Some(name) => Ok(Some(open_line(alloc, name.as_bytes())?)),
-        None => {
-            if is_built(formula) {
-                Ok(None)
-            } else {
-                Ok(Some(formula_line(alloc, &FFault::Syntax)?))
-            }
-        }
+        None => Ok(None),
     }
 }
 
-/// The closed formula of a text, where it is decided today.
+/// The closed formula of a text.
 pub fn accepted_formula(alloc: Global, text: &[u8]) -> Result<Formula, Refusal>
     ensures ok { IfOk result (λ f. IsAccepted text.now (as_formula f)) }
-    ensures refused { IfErr result (Refuses text.now) }
+    ensures refused { IfErr result (RefusesFormula text.now) }
 {
     let formula = match parse(alloc, text) {
         Ok(formula) => formula,

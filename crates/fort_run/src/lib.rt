@@ -2,17 +2,15 @@
 #![tactic(auto)]
 
 mod accepted;
-mod built;
-mod decision;
-mod evaluation;
+mod decide;
+mod input;
 mod outcome;
 mod refusal;
 mod reply;
+mod status;
 #[cfg(test)]
 mod tests;
-mod text;
 mod top;
-mod words;
 
 pub use outcome::Outcome;
 pub use top::run;

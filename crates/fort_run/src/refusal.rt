@@ -1,3 +1,4 @@
+//! The lines that refuse formulas and inputs.
 ghost use Rattle.std.specs.Prelude.{◌≡◌, ◌++◌, IfOk, OnOk, decimal};
 ghost use Rattle.fort_answers.specs.Lines as lines;
 ghost use Rattle.fort_run.specs.Refusals.{SaysFormulaFault, SaysProblemFault, SaysTextFault};
@@ -7,6 +8,26 @@ use fort_formula_parser::FFault;
 use fort_sexpr::SFault;
 use itoa::Buffer;
 use std::alloc::{AllocError, Global};
+
+/// Why something is refused.
+#[derive(Debug, Drop)]
+pub enum Refusal {
+    /// There is not enough memory.
+    Memory,
+    /// By this line.
+    Line(Vec<u8>),
+}
+
+impl From<AllocError> for Refusal {
+    ghost use Rattle.std.specs.Prelude.{◌≡◌};
+    ghost use Rattle.fort_run.specs.declared.refusal.Refusal.TheVariants.{Memory};
+
+    ghost from_gives = { λ _ e. e ≡ Memory };
+
+    fn from(_e: AllocError) -> Refusal {
+        Refusal::Memory
+    }
+}
 
 fn push_number(line: &mut Vec<u8>, n: usize) -> Result<(), AllocError>
     ensures { OnOk result (line.new.items ≡ line.old.items ++ decimal n) }

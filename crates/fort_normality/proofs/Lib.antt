@@ -1,0 +1,4 @@
+pub mod Normality
+pub mod ProblemSystems
+pub mod ValueTruth
+pub mod BuiltLaws

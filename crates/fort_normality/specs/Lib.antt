@@ -1,0 +1,3 @@
+pub mod RedexRoots
+pub mod GroundTerms
+pub mod NormalityValues

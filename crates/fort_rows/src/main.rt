@@ -1,0 +1,26 @@
+//! Runs the rows of its standard input, one command each, and prints what differs and how many passed.
+//!
+//! A line that begins with `#` is a comment. `== NAME` begins a problem, whose text are the lines up to the next row;
+//! `== < FILE` takes a file's text. `$ WORDS` is a command on the last problem; a word in quotes may hold blanks. The lines
+//! behind it are the text that it has to print, up to `= STATUS`. In problems and quoted words `\xHH` is the byte of that
+//! number, and `\` at the end of a problem's line takes away the line's end.
+#![tactic(auto)]
+
+use rows::Rows;
+use std::io;
+use std::process::ExitCode;
+
+mod command;
+mod escape;
+mod rows;
+
+fn main(rt: HostRuntime) -> io::Result<ExitCode> {
+    let mut rows = Rows::new(rt.alloc());
+    for line in rt.lines(rt.alloc()) {
+        rows.take(&rt, line?.as_str())?;
+    }
+    let passed = rows.passed();
+    let failed = rows.failed();
+    println!(rt; "{passed} rows passed, {failed} failed")?;
+    Ok(ExitCode::from(if failed == 0 { 0 } else { 1 }))
+}

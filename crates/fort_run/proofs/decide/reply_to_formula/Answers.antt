@@ -1,0 +1,15 @@
+use Rattle.std.proofs.Common.{◌≡◌, ap}
+use Rattle.std.specs.Prelude.{Err}
+use Rattle.fort_io.specs.declared.source.ReadAll.TheVariants.{TooLong}
+use Rattle.fort_formulas.specs.FormulaView.{as_formula}
+use Rattle.fort_run.proofs.Replies.{answer_told, too_long_told}
+use Rattle.fort_run.proofs.decide.reply_to_formula.Goals as goal
+
+pub returns-in-Err-TooLong-clause-ok : goal.returns-in-Err-TooLong-clause-ok
+returns-in-Err-TooLong-clause-ok g c = λ text accepted.
+    too_long_told text (as_formula c.args.formula.now) _ accepted
+    (c.in-Err-TooLong.ensures.too_long (ap Err (let same : c.in-Err-TooLong.field-0 ≡ TooLong = cc in same)))
+
+pub returns-in-Ok-reply_to_bytes-clause-ok : goal.returns-in-Ok-reply_to_bytes-clause-ok
+returns-in-Ok-reply_to_bytes-clause-ok g c = λ text accepted.
+    answer_told text _ _ c.in-Ok.bytes.items _ _ c.in-Ok.ensures.all c.in-Ok.ensures.end (c.in-Ok-reply_to_bytes.ensures text accepted)

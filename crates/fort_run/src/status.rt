@@ -1,0 +1,36 @@
+//! Statuses, by name.
+ghost use Rattle.std.specs.Prelude.{◌≡◌};
+ghost use Rattle.fort_run.specs.StatusView.{code_of};
+
+/// How a run ended.
+#[derive(Clone, Copy, Debug, PartialEq, Eq)]
+pub enum Status {
+    /// YES.
+    Positive,
+    /// NO.
+    Negative,
+    /// The usage text.
+    Usage,
+    /// A formula or an input was refused.
+    Refused,
+    OutOfMemory,
+    ReadFailed,
+    WriteFailed,
+}
+
+impl Status {
+    /// The number with which the program ends.
+    pub fn code(self) -> u8
+        ensures { result ≡ code_of self }
+    {
+        match self {
+            Status::Positive => 0,
+            Status::Negative => 1,
+            Status::Usage => 2,
+            Status::Refused => 3,
+            Status::OutOfMemory => 5,
+            Status::ReadFailed => 6,
+            Status::WriteFailed => 7,
+        }
+    }
+}
