@@ -1,0 +1,12 @@
+pub mod TransducersLaws
+pub mod GroundTaken
+pub mod Reductions
+pub mod ClosureTableExact
+pub mod ClosedLeft
+pub mod ClosedRight
+pub mod ClosureIsReachability
+pub mod PatternAutomata
+pub mod PatternTransducers
+pub mod PatternInstances
+pub mod PatternClosureExact
+pub mod Conversions
