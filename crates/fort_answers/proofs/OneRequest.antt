@@ -33,11 +33,3 @@ pub early-without_input : (states : ℕ) (certificate : Bool) (formula : Text) (
     → (f : Formula) → DecidesOf states certificate formula f → ⊥
 early-without_input states certificate formula s t (NotAnsweredYet not are) f asks = not asks.plain
 early-without_input states certificate formula s t (FormulaRefused plain line says are) f asks = accepted-not_refused formula f line asks.accepted says
-
--- where something is owed before anything is read, nothing is read
-pub owed_early-unneeded : (request : Option Request) (s : ℕ) (t : Text) → owed_early request s t → needed request → ⊥
-owed_early-unneeded None s t owes needs = needs
-owed_early-unneeded (Some (Decide states certificate formula)) s t owes needs = early-without_input states certificate formula s t owes needs.0 needs.1
-owed_early-unneeded (Some (Witness states formula)) s t owes needs = needs
-owed_early-unneeded (Some (Check formula)) s t owes needs = needs
-owed_early-unneeded (Some (Sample n)) s t owes needs = needs

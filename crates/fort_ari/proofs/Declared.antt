@@ -37,10 +37,6 @@ AreDeclarations-push bytes fs f old new h d =
       few = let below = d.few in omega (arith, length-append old (d.next ∷ []));
     })
 
-pub declares_none : (bytes : List ℕ) (forms : List Form) (signature : Signature) → signature ≡ [] → DeclareUpTo bytes forms signature 1
-declares_none bytes forms signature e =
-    record { declarations = []; is = refl; count = omega arith; headed = tt; declares = subst (AreDeclarations bytes []) (sym e) (AreDeclarations-nil bytes) }
-
 pub declares_more : (bytes : List ℕ) (forms : List Form) (old new : Signature) (next : ℕ) (f : Form) → DeclareUpTo bytes forms old next
     → drop next forms ≡ f ∷ drop (next + 1) forms → IsHeaded bytes (codes "fun") f → DeclaresNext bytes f old new
     → DeclareUpTo bytes forms new (next + 1)

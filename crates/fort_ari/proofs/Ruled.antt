@@ -51,12 +51,6 @@ pub rule_count-le : (bytes : List ℕ) (forms : List Form) (signature : Signatur
 rule_count-le bytes forms signature from next system u =
     let few = u.up_to.few in omega (arith, rule_count bytes forms signature from next system u)
 
--- the rules of the only index are all
-pub count_all-one : {A : Type 0} (lists : List (List A)) → length lists ≡ 1 → count_all lists ≡ length (at_index 1 lists)
-count_all-one [] l = absurd (omega arith)
-count_all-one (xs ∷ []) l = omega arith
-count_all-one (xs ∷ ys ∷ lists) l = absurd (omega arith)
-
 pub rules_more : (bytes : List ℕ) (forms : List Form) (signature : Signature) (from next : ℕ) (old new : PatternSystem) (f : Form)
     → HasRulesUpTo bytes forms signature from next old → drop next forms ≡ f ∷ drop (next + 1) forms → IsHeaded bytes (codes "rule") f
     → PushesRule bytes f old new → length (at_index 1 old.rules) < most_rules → HasRulesUpTo bytes forms signature from (next + 1) new

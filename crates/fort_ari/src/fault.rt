@@ -2,7 +2,7 @@
 ghost use Rattle.std.specs.Prelude.{◌≡◌};
 ghost use Rattle.fort_ari.specs.declared.fault.ProblemFault.TheVariants.{Memory};
 
-use std::alloc::{AllocError, AllocFailed};
+use std::alloc::AllocError;
 
 /// Why forms are no problem; the number is the form's.
 #[derive(Debug, PartialEq, Eq, Drop)]

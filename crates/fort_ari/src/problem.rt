@@ -16,7 +16,7 @@ use crate::fault::ProblemFault;
 use crate::form::{begins, is_format};
 use crate::rule::push_rule;
 use fort_sexpr::Forms;
-use fort_terms::{Signature, System};
+use fort_terms::System;
 use std::alloc::Global;
 
 /// A system, and the number of the first form behind it.

@@ -1,3 +1,4 @@
+//! Tables of small rules, explored.
 ghost use Rattle.std.specs.Prelude.{◌≡◌, ℕ, ◌+◌, ◌<◌, ◌≤◌, ◌^◌, List, [], ◌∷◌, map, take, length, slice_index_or, slice_get, Some, IfOk, codes};
 ghost use Rattle.fort_theory.specs.Signatures.{symbol};
 ghost use Rattle.fort_tables.specs.Tuples.{presence};

@@ -20,9 +20,6 @@ pub record TakesFront (old new : Option (List ℕ)) (bytes rest : List ℕ) : Ty
   pub split : bytes ≡ front ++ rest
   pub taken : Takes old new front
 
-pub TakesFront-none : (a : Option (List ℕ)) (bytes : List ℕ) → TakesFront a a bytes bytes
-TakesFront-none a bytes = record { front = []; split = refl; taken = Takes-nil a }
-
 -- one more write, of the first n bytes of what is left
 pub TakesFront-more : (a b c : Option (List ℕ)) (bytes rest : List ℕ) (n m : ℕ) → TakesFront a b bytes rest → Takes b c (take n rest) → m ≡ length rest → TakesFront a c bytes (take (m - n) (drop n rest))
 TakesFront-more a b c bytes rest n m f t size = record {
@@ -30,6 +27,3 @@ TakesFront-more a b c bytes rest n m f t size = record {
   split = f.split ∙ ap (λ l. f.front ++ l) (sym (take-append-drop n rest)) ∙ sym (append_assoc f.front (take n rest) (drop n rest)) ∙ ap (λ l. (f.front ++ take n rest) ++ l) (sym (between_to_end rest n m (omega arith)));
   taken = Takes-trans a b c f.front (take n rest) f.taken t;
 }
-
-pub TakesFront-all : (a b : Option (List ℕ)) (bytes rest : List ℕ) → TakesFront a b bytes rest → rest ≡ [] → Takes a b bytes
-TakesFront-all a b bytes rest f e = subst (Takes a b) (sym (f.split ∙ ap (λ l. f.front ++ l) e ∙ append-nil f.front)) f.taken

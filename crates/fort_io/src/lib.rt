@@ -15,8 +15,5 @@ pub use mem_source::MemSource;
 pub use sink::{Sink, WriteFault, write_all};
 pub use source::{Failed, ReadAll, Source, read_all};
 
-/// Want of memory.
-pub type Memory = std::alloc::AllocError;
-
 #[cfg(test)]
 mod tests;

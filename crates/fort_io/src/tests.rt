@@ -1,3 +1,4 @@
+//! Sources and sinks over memory.
 use crate::{ClearSink, ClearSource, MemSink, MemSource, ReadAll, WriteFault, read_all, write_all};
 use std::test::Fail;
 

@@ -10,4 +10,3 @@ pub mod StepLaws
 pub mod MakingLaws
 pub mod FinishLaws
 pub mod GiveLaws
-pub mod CopyLaws

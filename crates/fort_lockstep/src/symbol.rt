@@ -3,7 +3,7 @@ ghost use Rattle.std.specs.Prelude.{◌≡◌, ℕ, ◌<◌, ◌≤◌, ◌↔�
 ghost use Rattle.std.specs.List.{insert};
 ghost use Rattle.fort_lockstep.specs.Columns.{as_column, as_symbol, symbol_of, column_of};
 
-use crate::digits::{DigitRow, digits_of};
+use crate::digits::digits_of;
 use fort_terms::Sym;
 use std::marker::Model;
 

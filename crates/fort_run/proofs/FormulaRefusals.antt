@@ -21,10 +21,6 @@ pub first_of_names : {A : Type 0} (names : List A) (x : A) → Some x ≡ slice_
 first_of_names [] x h = cc
 first_of_names (y ∷ ys) x h = (ys, (let same : x ≡ y = cc in ap (λ z. z ∷ ys) (sym same)))
 
-pub no_first : {A : Type 0} (names : List A) → None ≡ slice_get names 0 → names ≡ []
-no_first [] h = refl
-no_first (y ∷ ys) h = cc
-
 -- a text whose first fault the line says
 pub faulty : (text line : List ℕ) (fault : Option FormulaFault) → IfSome fault (IsFirstFormulaFault text) → MatchOption fault ⊥ (λ f. line ≡ formula_fault_line f)
     → IsRefused text line

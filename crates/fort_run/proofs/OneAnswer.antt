@@ -101,16 +101,11 @@ owed_from_early (Some (Witness states formula)) bytes s t owes = owes
 owed_from_early (Some (Check formula)) bytes s t owes = owes
 owed_from_early (Some (Sample n)) bytes s t owes = owes
 
-pub told_from_early : (request : Option Request) (told : Option Text) (s : ℕ) (t : Text) → owed_early request s t → OwesTold request told s t
-told_from_early request None s t owes = ([], owed_from_early request [] s t owes)
-told_from_early request (Some bytes) s t owes = owed_from_early request bytes s t owes
-
 -- what a source tells is some bytes
 bytes_told : (request : Option Request) (told : Option Text) (s : ℕ) (t : Text) → OwesTold request told s t → (bytes : Text) × owed request bytes s t
 bytes_told request None s t owes = owes
 bytes_told request (Some bytes) s t owes = (bytes, owes)
 
--- where the bytes are known, no other answer is owed than the one that a run left
 -- what a run leaves that writes the text of an answer that is owed
 pub answers : (words : List Text) (told old new : Option Text) (text line : Text) (status s : ℕ) → AnswerFor words told s line → text ≡ line → status ≡ s
     → Takes old new text → Answers words told old new status
@@ -120,6 +115,7 @@ answers words told old new text line status s owed same_text same_status taken =
   taken = taken;
 }
 
+-- where the bytes are known, no other answer is owed than the one that a run left
 pub Answers-only : (words : List Text) (bytes : Text) (old new : Option Text) (status : ℕ) → Answers words (Some bytes) old new status
     → (s : ℕ) (t : Text) → Answer words bytes s t → (s ≡ status) × Takes old new t
 Answers-only words bytes old new status given s t answer =

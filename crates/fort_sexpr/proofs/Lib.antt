@@ -8,4 +8,3 @@ pub mod OneFault
 pub mod Steps
 pub mod Ends
 pub mod ReadingLaws
-pub mod Fronts

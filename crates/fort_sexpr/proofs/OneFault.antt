@@ -41,11 +41,3 @@ IsFaultless-no_first_fault bytes f (First i f' a below) whole = whole.none i f (
 IsFaultless-no_first_fault bytes f (Open i none stays last) whole =
     let deeper = stays.stays (length bytes) stays.within (omega arith) in
     omega (arith, whole.closed)
-
--- reading a faultless text fails for want of memory alone
-pub only_memory : (bytes : List ℕ) (fault : SFault) → IsFirstFaultUnlessMemory bytes fault → IsFaultless bytes → fault ≡ faults.Memory
-only_memory bytes faults.Memory h whole = refl
-only_memory bytes (faults.BadByte i) h whole = absurd (IsFaultless-no_first_fault bytes (BadByte i) h whole)
-only_memory bytes (faults.ExtraClose i) h whole = absurd (IsFaultless-no_first_fault bytes (ExtraClose i) h whole)
-only_memory bytes (faults.Unclosed i) h whole = absurd (IsFaultless-no_first_fault bytes (Unclosed i) h whole)
-only_memory bytes (faults.TooDeep i) h whole = absurd (IsFaultless-no_first_fault bytes (TooDeep i) h whole)

@@ -318,11 +318,6 @@ tail_ground sig [] h = tt
 tail_ground sig (None ∷ t) h = h
 tail_ground sig (Some x ∷ t) h = h.1
 
-head_ground : (sig : Signature) (t : Tuple) → AreGroundColumns sig t → AreGroundColumns sig (head_column t ∷ [])
-head_ground sig [] h = tt
-head_ground sig (None ∷ t) h = tt
-head_ground sig (Some x ∷ t) h = (h.0, tt)
-
 tails_ground : (sig : Signature) (ts : List Tuple) → AllGround sig ts → AllGround sig (map tail_columns ts)
 tails_ground sig ts h j l = subst (AreGroundColumns sig) (sym (get_or-tails ts j)) (tail_ground sig (get_or ts j []) (h j (omega (arith, length-map ts tail_columns))))
 

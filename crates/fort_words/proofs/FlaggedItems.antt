@@ -132,10 +132,6 @@ pub record IsSingle (sub : Flagged) (items : List Item) : Type 0 where
   pub certificates : few_uses sub (certificates_among items) ≡ true
   pub formulas : few (formulas_among items) ≡ true
 
-no_some : (xs : List Text) → has_some xs ≡ false → xs ≡ []
-no_some [] e = refl
-no_some (x ∷ xs) e = cc
-
 no_uses : (n : ℕ) → has_uses n ≡ false → n ≡ 0
 no_uses zero e = refl
 no_uses (suc n) e = cc
