@@ -14,28 +14,35 @@ pub struct Answer {
     pub text: Vec<u8>,
 }
 
-/// A word that was written in quotes; one that isn't UTF-8 has its ill bytes replaced.
-fn quoted(alloc: Global, text: &str) -> Result<String, AllocError> {
+/// A word that was written in quotes; there is none where a backslash begins no escape, or the bytes aren't UTF-8.
+fn quoted(alloc: Global, text: &str) -> Result<Option<String>, AllocError> {
     let mut bytes = Vec::new(alloc);
-    push_text(&mut bytes, text)?;
+    if !push_text(&mut bytes, text)? {
+        return Ok(None);
+    }
     match std::str::from_utf8(bytes.as_slice()) {
-        Ok(word) => String::from_str(alloc, word),
-        Err(_) => String::from_str(alloc, "?"),
+        Ok(word) => Ok(Some(String::from_str(alloc, word)?)),
+        Err(_) => Ok(None),
     }
 }
 
-/// The words of a command line, the program's own name first.
-fn words_of(alloc: Global, line: &str) -> Result<Vec<String>, AllocError> {
+/// The words of a command line, the program's own name first; there are none where a quoted word isn't one, or a quote
+/// is open at the end.
+fn words_of(alloc: Global, line: &str) -> Result<Option<Vec<String>>, AllocError> {
     let mut words = Vec::new(alloc);
     words.push(String::from_str(alloc, "fort")?)?;
-    for (i, part) in line.split('"').enumerate() {
-        if i % 2 == 1 {
-            words.push(quoted(alloc, part)?)?;
-        } else {
+    let mut is_open = true;
+    for part in line.split('"') {
+        is_open = !is_open;
+        if !is_open {
             push_plain(alloc, &mut words, part)?;
+        } else if let Some(word) = quoted(alloc, part)? {
+            words.push(word)?;
+        } else {
+            return Ok(None);
         }
     }
-    Ok(words)
+    Ok(if is_open { None } else { Some(words) })
 }
 
 /// Appends the words between blanks.
@@ -46,9 +53,15 @@ fn push_plain(alloc: Global, words: &mut Vec<String>, part: &str) -> Result<(), 
     Ok(())
 }
 
-/// What a command line answers on a problem.
-pub fn run_command(alloc: Global, line: &str, problem: &[u8]) -> Result<Answer, AllocError> {
-    let words = words_of(alloc, line)?;
+/// What a command line answers on a problem; nothing, where it isn't one.
+pub fn run_command(
+    alloc: Global,
+    line: &str,
+    problem: &[u8],
+) -> Result<Option<Answer>, AllocError> {
+    let Some(words) = words_of(alloc, line)? else {
+        return Ok(None);
+    };
     let mut source = ClearSource::new(alloc, problem)?;
     let mut sink = ClearSink::new(alloc, ROOM)?;
     let outcome = run(alloc, words.as_slice(), &mut source, &mut sink);
@@ -56,8 +69,8 @@ pub fn run_command(alloc: Global, line: &str, problem: &[u8]) -> Result<Answer, 
         Some(text) => Vec::from_slice(alloc, text)?,
         None => Vec::new(alloc),
     };
-    Ok(Answer {
+    Ok(Some(Answer {
         status: outcome.status,
         text,
-    })
+    }))
 }

@@ -1,9 +1,12 @@
 //! Runs the rows of its standard input, one command each, and prints what differs and how many passed.
 //!
-//! A line that begins with `#` is a comment. `== NAME` begins a problem, whose text are the lines up to the next row;
-//! `== < FILE` takes a file's text. `$ WORDS` is a command on the last problem; a word in quotes may hold blanks. The lines
-//! behind it are the text that it has to print, up to `= STATUS`. In problems and quoted words `\xHH` is the byte of that
-//! number, and `\` at the end of a problem's line takes away the line's end.
+//! `== NAME` begins a problem, whose text are the lines up to the next row; `== < FILE` takes a file's text. `$ WORDS` is a
+//! command on the last problem; words stand between blanks, and one in quotes may hold blanks. The lines behind it are the
+//! text that it has to print, up to `= STATUS`. In problems and quoted words `\xHH`, with digits 0 to 9 and a to f, is the
+//! byte of that number, and `\` at the end of a problem's line takes away the line's end. A line that begins with `#` is a
+//! comment, wherever it stands. Between rows there are blank lines.
+//!
+//! All else fails as a wrong answer does: a row without its status, a problem without a row, a backslash that begins no escape.
 #![tactic(auto)]
 
 use rows::Rows;
@@ -19,6 +22,7 @@ fn main(rt: HostRuntime) -> io::Result<ExitCode> {
     for line in rt.lines(rt.alloc()) {
         rows.take(&rt, line?.as_str())?;
     }
+    rows.finish(&rt)?;
     let passed = rows.passed();
     let failed = rows.failed();
     println!(rt; "{passed} rows passed, {failed} failed")?;

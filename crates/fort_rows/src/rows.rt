@@ -17,8 +17,12 @@ enum Part {
 #[derive(Drop)]
 pub struct Rows {
     alloc: Global,
+    /// How many lines came.
+    lines: u64,
     part: Part,
     problem: Vec<u8>,
+    /// Some row is about the problem.
+    is_used: bool,
     command: String,
     wanted: Vec<u8>,
     passed: u32,
@@ -30,8 +34,10 @@ impl Rows {
     pub fn new(alloc: Global) -> Rows {
         Rows {
             alloc,
+            lines: 0,
             part: Part::Nothing,
             problem: Vec::new(alloc),
+            is_used: true,
             command: String::new(alloc),
             wanted: Vec::new(alloc),
             passed: 0,
@@ -44,32 +50,72 @@ impl Rows {
         self.passed
     }
 
-    /// How many rows differ.
+    /// How many rows differ, or aren't rows.
     pub fn failed(&self) -> u32 {
         self.failed
     }
 
     /// Takes the next line; at the end of a row its command is run.
     pub fn take<R: Files + Print + AllocGlobal>(&mut self, rt: &R, line: &str) -> io::Result<()> {
+        self.lines = self.lines.saturating_add(1);
         if line.starts_with('#') {
             return Ok(());
         }
         if let Some(name) = line.strip_prefix("== ") {
             return self.begin_problem(rt, name);
         }
+        if line == "$" {
+            return self.begin_row(rt, "");
+        }
         if let Some(command) = line.strip_prefix("$ ") {
-            self.begin_row(command)?;
-            return Ok(());
+            return self.begin_row(rt, command);
         }
         if let Some(status) = line.strip_prefix("= ") {
             return self.end_row(rt, status);
         }
-        self.go_on(line)?;
+        if line.starts_with('$') || line.starts_with('=') {
+            return self.fail(rt, "this begins no row, no problem and no status");
+        }
+        self.go_on(rt, line)
+    }
+
+    /// What is open behind the last line fails.
+    pub fn finish<R: Print>(&mut self, rt: &R) -> io::Result<()> {
+        self.end_open_row(rt)?;
+        self.end_problem(rt)
+    }
+
+    fn fail<R: Print>(&mut self, rt: &R, why: &str) -> io::Result<()> {
+        self.failed = self.failed.saturating_add(1);
+        let line = self.lines;
+        println!(rt; "line {line}: {why}")
+    }
+
+    /// A row that has no status fails.
+    fn end_open_row<R: Print>(&mut self, rt: &R) -> io::Result<()> {
+        if self.part == Part::Wanted {
+            return self.fail(rt, "the row before has no status");
+        }
         Ok(())
     }
 
-    fn begin_problem<R: Files + Print + AllocGlobal>(&mut self, rt: &R, name: &str) -> io::Result<()> {
+    /// A problem that has no row fails.
+    fn end_problem<R: Print>(&mut self, rt: &R) -> io::Result<()> {
+        if !self.is_used {
+            return self.fail(rt, "the problem before has no row");
+        }
+        Ok(())
+    }
+
+    fn begin_problem<R: Files + Print + AllocGlobal>(
+        &mut self,
+        rt: &R,
+        name: &str,
+    ) -> io::Result<()> {
+        self.end_open_row(rt)?;
+        self.end_problem(rt)?;
         self.part = Part::Problem;
+        self.is_used = false;
         self.problem.clear();
         if let Some(path) = name.strip_prefix("< ") {
             let text = fs::read(rt, path)?;
@@ -79,21 +125,23 @@ impl Rows {
         Ok(())
     }
 
-    fn begin_row(&mut self, command: &str) -> Result<(), AllocError> {
+    fn begin_row<R: Print>(&mut self, rt: &R, command: &str) -> io::Result<()> {
+        self.end_open_row(rt)?;
         self.part = Part::Wanted;
+        self.is_used = true;
         self.wanted.clear();
         self.command = String::from_str(self.alloc, command)?;
         Ok(())
     }
 
-    /// A line of a problem or of a wanted text.
-    fn go_on(&mut self, line: &str) -> Result<(), AllocError> {
+    /// A line of a problem or of a wanted text, or a blank one between rows.
+    fn go_on<R: Print>(&mut self, rt: &R, line: &str) -> io::Result<()> {
         match self.part {
-            Part::Nothing => Ok(()),
+            Part::Nothing if line.is_empty() => Ok(()),
+            Part::Nothing => self.fail(rt, "this stands between rows"),
             Part::Problem => {
-                push_text(&mut self.problem, line)?;
-                if !line.ends_with('\\') {
-                    self.problem.push(b'\n')?;
+                if !self.push_problem(line)? {
+                    return self.fail(rt, "a backslash that begins no escape");
                 }
                 Ok(())
             }
@@ -105,17 +153,41 @@ impl Rows {
         }
     }
 
-    fn end_row<R: Files + Print + AllocGlobal>(&mut self, rt: &R, status: &str) -> io::Result<()> {
-        self.part = Part::Nothing;
-        let got = run_command(self.alloc, self.command.as_str(), self.problem.as_slice())?;
-        if self.is_wanted(&got, status) {
-            self.passed = self.passed.saturating_add(1);
-            return Ok(());
+    /// Appends a line of a problem, and says whether each of its backslashes begins an escape or ends the line.
+    fn push_problem(&mut self, line: &str) -> Result<bool, AllocError> {
+        if let Some(front) = line.strip_suffix('\\') {
+            return push_text(&mut self.problem, front);
         }
+        let is_text = push_text(&mut self.problem, line)?;
+        self.problem.push(b'\n')?;
+        Ok(is_text)
+    }
+
+    fn end_row<R: Print + AllocGlobal>(&mut self, rt: &R, status: &str) -> io::Result<()> {
+        if self.part != Part::Wanted {
+            return self.fail(rt, "a status without a row");
+        }
+        self.part = Part::Nothing;
+        match run_command(self.alloc, self.command.as_str(), self.problem.as_slice())? {
+            None => self.fail(rt, "a quoted word that isn't one"),
+            Some(got) if self.is_wanted(&got, status) => {
+                self.passed = self.passed.saturating_add(1);
+                Ok(())
+            }
+            Some(got) => self.differs(rt, &got, status),
+        }
+    }
+
+    /// A row whose answer isn't the wanted one.
+    fn differs<R: Print>(&mut self, rt: &R, got: &Answer, status: &str) -> io::Result<()> {
         self.failed = self.failed.saturating_add(1);
+        let line = self.lines;
         let command = self.command.as_str();
         let printed = got.status;
-        println!(rt; "$ {command}: status {printed}, and not {status}, or another text")
+        let text = std::str::from_utf8(got.text.as_slice()).unwrap_or("(not UTF-8)\n");
+        println!(rt;
+            "line {line}: $ {command}: status {printed}, wanted {status}; the text is\n{text}"
+        )
     }
 
     /// Whether an answer has this status and the wanted text.
