@@ -1,3 +1,4 @@
 pub mod OneVerdict
 pub mod OneRefusal
 pub mod OneRequest
+pub mod OneFit

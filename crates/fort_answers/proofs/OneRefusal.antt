@@ -2,16 +2,15 @@
 use Rattle.std.proofs.Common.{◌≡◌, List, ℕ, ◌∷◌, ap, sym, subst, ◌∙◌}
 use Rattle.fort_logic.specs.Formulas.{Formula, Name}
 use Rattle.fort_logic.specs.FreeNames.{free_names}
-use Rattle.fort_logic.specs.Parts.{IsTooWide}
-use Rattle.fort_logic.specs.Translation.{core_of}
+use Rattle.fort_logic.specs.Translation.{IsFormulaTooWide}
 use Rattle.fort_formula_grammar.specs.FormulaText.{IsFormulaText}
 use Rattle.fort_formula_grammar.proofs.OneFormula.{IsFormulaText-unique, IsFirstFormulaFault-unique, no_formula_fault}
 use Rattle.fort_answers.specs.Lines.{formula_fault_line, formula_open}
 use Rattle.fort_answers.specs.FormulaAnswer.{IsRefused, Faulty, Wide, Open}
 
 module _ (text : List ℕ) (f g : Formula) (left : IsFormulaText text f) (right : IsFormulaText text g) where
-  same_width : IsTooWide (core_of f) → IsTooWide (core_of g)
-  same_width wide = subst (λ h. IsTooWide (core_of h)) (IsFormulaText-unique left right) wide
+  same_width : IsFormulaTooWide f → IsFormulaTooWide g
+  same_width wide = subst IsFormulaTooWide (IsFormulaText-unique left right) wide
 
   same_free : free_names f ≡ free_names g
   same_free = ap free_names (IsFormulaText-unique left right)

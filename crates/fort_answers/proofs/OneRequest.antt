@@ -1,13 +1,12 @@
 -- What a request owes before anything is read is one answer, and it is no request for which the input is read.
 use Rattle.std.proofs.Common.{◌≡◌, ℕ, sym, subst, ◌∙◌}
-use Rattle.std.specs.Prelude.{Bool, Option, Some, None}
+use Rattle.std.specs.Prelude.{Bool}
 use Rattle.fort_logic.specs.Formulas.{Formula}
 use Rattle.fort_formula_grammar.proofs.OneFormula.{IsFormulaText-unique}
-use Rattle.fort_answers.specs.Requests.{Text, Request, Decide, Witness, Check, Sample}
+use Rattle.fort_answers.specs.Requests.{Text}
 use Rattle.fort_answers.specs.Lines.{usage, refused, usage_text}
 use Rattle.fort_answers.specs.FormulaAnswer.{IsAccepted}
 use Rattle.fort_answers.specs.DecideAnswer.{Are, DecidesOf, DecideEarly, NotAnsweredYet, FormulaRefused}
-use Rattle.fort_answers.specs.Answer.{owed_early, needed}
 use Rattle.fort_answers.proofs.OneVerdict.{accepted-not_refused}
 use Rattle.fort_answers.proofs.OneRefusal.{IsRefused-unique}
 

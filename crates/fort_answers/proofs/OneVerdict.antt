@@ -3,15 +3,13 @@ use Rattle.std.specs.Prelude.{◌≡◌, ℕ, List, [], ◌∷◌}
 use Rattle.std.proofs.Common.{sym, ap, subst, ◌∙◌}
 use Rattle.fort_logic.specs.Formulas.{Formula}
 use Rattle.fort_logic.specs.FreeNames.{free_names}
-use Rattle.fort_logic.specs.Parts.{IsTooWide}
-use Rattle.fort_logic.specs.Translation.{core_of}
+use Rattle.fort_logic.specs.Translation.{IsFormulaTooWide}
 use Rattle.fort_formula_grammar.proofs.OneFormula.{IsFormulaText-unique, no_formula_fault}
 use Rattle.fort_answers.specs.FormulaAnswer.{IsAccepted, IsRefused, Faulty, Wide, Open}
 
 pub accepted-not_refused : (text : List ℕ) (f : Formula) (line : List ℕ) → IsAccepted text f → IsRefused text line → ⊥
 accepted-not_refused text f line is (Faulty fault first says) = no_formula_fault is.read first
-accepted-not_refused text f line is (Wide g read wide says) =
-    is.narrow (subst (λ h. IsTooWide (core_of h)) (IsFormulaText-unique read is.read) wide)
+accepted-not_refused text f line is (Wide g read wide says) = is.narrow (subst IsFormulaTooWide (IsFormulaText-unique read is.read) wide)
 accepted-not_refused text f line is (Open g read narrow x xs free says) =
     let same : f ≡ g = IsFormulaText-unique is.read read in
     let both : [] ≡ x ∷ xs = sym is.closed ∙ (ap free_names same ∙ free) in cc

@@ -1,24 +1,28 @@
 -- To believe: what `decide` owes for a formula's text and the bytes of an input: whether the formula is true of the system.
-use Rattle.std.specs.Prelude.{◌≡◌, ℕ, Bool, false}
+use Rattle.std.specs.Prelude.{◌≡◌, ℕ, Bool, false, List}
+use Rattle.fort_theory.specs.Trees.{Tree}
 use Rattle.fort_theory.specs.Sides.{System}
-use Rattle.fort_logic.specs.Formulas.{Name, Formula, True, False, Related, Nf, Join, Has, Not, And, Or, Imp, Iff, Exists, Forall, Infinite}
+use Rattle.fort_logic.specs.Formulas.{Name, Var, Ground, Formula, True, False, Related, Nf, Join, Has, Com, Not, And, Or, Imp, Iff, Exists, Forall, Infinite}
 use Rattle.fort_logic.specs.Truth.{IsTrueOf, IsFalseOf}
 use Rattle.fort_answers.specs.Requests.{Text}
 use Rattle.fort_answers.specs.Lines.{positive, negative, usage, refused, usage_text, yes_line, no_line, not_decided_yet}
 use Rattle.fort_answers.specs.FormulaAnswer.{IsAccepted, IsRefused}
 use Rattle.fort_answers.specs.InputAnswer.{IsInput, IsInputRefused}
+use Rattle.fort_answers.specs.FitAnswer.{FitsSystem, IsUnfit}
 
--- ---- which formulas are decided today: those of truth values, normal forms at index 1, connectives and the quantifiers
--- "exists" and "forall", in which at most one variable is named
+-- ---- which formulas are decided today: those of truth values, normal forms of the rules of index 1, connectives and the quantifiers
+-- "exists" and "forall", in which at most one variable is named and no ground term is written
 
 -- such a formula, each of whose variables has the name
 abbrev pub UsesOnly : Name → Formula → Type 0
 UsesOnly x True = Unit {0}
 UsesOnly x False = Unit {0}
-UsesOnly x (Related rel y z index) = ⊥
-UsesOnly x (Nf y index) = (y ≡ x) × (index ≡ 1)
-UsesOnly x (Join y z index) = ⊥
+UsesOnly x (Related rel a b index) = ⊥
+UsesOnly x (Nf (Var y) index) = (y ≡ x) × (index ≡ 1)
+UsesOnly x (Nf (Ground k) index) = ⊥
+UsesOnly x (Join a b index) = ⊥
 UsesOnly x (Has property index) = ⊥
+UsesOnly x Com = ⊥
 UsesOnly x (Not f) = UsesOnly x f
 UsesOnly x (And f g) = UsesOnly x f × UsesOnly x g
 UsesOnly x (Or f g) = UsesOnly x f × UsesOnly x g
@@ -60,9 +64,14 @@ pub data DecideAnswer (states : ℕ) (certificate : Bool) (formula bytes : Text)
   Early : DecideEarly states certificate formula status text → DecideAnswer states certificate formula bytes status text
   InputRefused : (f : Formula) → DecidesOf states certificate formula f → (line : Text) → IsInputRefused bytes line
       → Are status text refused line → DecideAnswer states certificate formula bytes status text
+  FormulaUnfit : (f : Formula) → DecidesOf states certificate formula f → (system : System) → IsInput bytes system
+      → (line : Text) → IsUnfit formula f system line → Are status text refused line → DecideAnswer states certificate formula bytes status text
   NotDecidedYet : (f : Formula) → DecidesOf states certificate formula f → (system : System) → IsInput bytes system
-      → (IsBuilt f → ⊥) → Are status text refused not_decided_yet → DecideAnswer states certificate formula bytes status text
-  Yes : (f : Formula) → DecidesOf states certificate formula f → (system : System) → IsInput bytes system → IsBuilt f
-      → IsTrueOf system f → Are status text positive yes_line → DecideAnswer states certificate formula bytes status text
-  No : (f : Formula) → DecidesOf states certificate formula f → (system : System) → IsInput bytes system → IsBuilt f
-      → IsFalseOf system f → Are status text negative no_line → DecideAnswer states certificate formula bytes status text
+      → (terms : List Tree) → FitsSystem formula f system terms → (IsBuilt f → ⊥) → Are status text refused not_decided_yet
+      → DecideAnswer states certificate formula bytes status text
+  Yes : (f : Formula) → DecidesOf states certificate formula f → (system : System) → IsInput bytes system
+      → (terms : List Tree) → FitsSystem formula f system terms → IsBuilt f → IsTrueOf system terms f
+      → Are status text positive yes_line → DecideAnswer states certificate formula bytes status text
+  No : (f : Formula) → DecidesOf states certificate formula f → (system : System) → IsInput bytes system
+      → (terms : List Tree) → FitsSystem formula f system terms → IsBuilt f → IsFalseOf system terms f
+      → Are status text negative no_line → DecideAnswer states certificate formula bytes status text

@@ -1,21 +1,20 @@
--- To believe: when the text of a closed formula is accepted, and which line refuses one.
+-- To believe: when the text of a closed formula is accepted before anything is read, and which line refuses one.
 use Rattle.std.specs.Prelude.{◌≡◌, ℕ, List, [], ◌∷◌}
 use Rattle.fort_logic.specs.Formulas.{Name, Formula}
 use Rattle.fort_logic.specs.FreeNames.{free_names}
-use Rattle.fort_logic.specs.Parts.{IsTooWide}
-use Rattle.fort_logic.specs.Translation.{core_of}
+use Rattle.fort_logic.specs.Translation.{IsFormulaTooWide}
 use Rattle.fort_formula_grammar.specs.FormulaText.{IsFormulaText, FormulaFault, IsFirstFormulaFault}
 use Rattle.fort_answers.specs.Lines.{formula_fault_line, formula_too_wide, formula_open}
 
 -- the text is the formula, no part of it is too wide, and no variable is free in it
 pub record IsAccepted (text : List ℕ) (f : Formula) : Type 0 where
   pub read : IsFormulaText text f
-  pub narrow : IsTooWide (core_of f) → ⊥
+  pub narrow : IsFormulaTooWide f → ⊥
   pub closed : free_names f ≡ []
 
 -- the cases in their order, each with what the earlier ones leave
 pub data IsRefused (text line : List ℕ) : Type 0 where
   Faulty : (fault : FormulaFault) → IsFirstFormulaFault text fault → line ≡ formula_fault_line fault → IsRefused text line
-  Wide : (f : Formula) → IsFormulaText text f → IsTooWide (core_of f) → line ≡ formula_too_wide → IsRefused text line
-  Open : (f : Formula) → IsFormulaText text f → (IsTooWide (core_of f) → ⊥) → (x : Name) (xs : List Name) → free_names f ≡ x ∷ xs
+  Wide : (f : Formula) → IsFormulaText text f → IsFormulaTooWide f → line ≡ formula_too_wide → IsRefused text line
+  Open : (f : Formula) → IsFormulaText text f → (IsFormulaTooWide f → ⊥) → (x : Name) (xs : List Name) → free_names f ≡ x ∷ xs
       → line ≡ formula_open x → IsRefused text line

@@ -33,7 +33,7 @@ abbrev pub formula_fault_line : FormulaFault → List ℕ
 formula_fault_line (formula.BadByte i) = numbered (codes "REFUSED formula bad byte at ") i
 formula_fault_line formula.TooLong = line (codes "REFUSED formula too long")
 formula_fault_line (formula.TooDeep i) = numbered (codes "REFUSED formula too deep at ") i
-formula_fault_line formula.Syntax = line (codes "REFUSED formula syntax")
+formula_fault_line (formula.Syntax i) = numbered (codes "REFUSED formula syntax at ") i
 
 abbrev pub formula_too_wide : List ℕ
 formula_too_wide = line (codes "REFUSED formula too wide")
@@ -41,6 +41,14 @@ formula_too_wide = line (codes "REFUSED formula too wide")
 -- the variable is free
 abbrev pub formula_open : Name → List ℕ
 formula_open x = line (codes "REFUSED formula open " ++ x)
+
+-- the formula speaks of rules of an index that the problem hasn't
+abbrev pub formula_index : ℕ → List ℕ
+formula_index i = numbered (codes "REFUSED formula index ") i
+
+-- what stands in braces at this offset of the formula's text is no ground term of the problem
+abbrev pub formula_term : ℕ → List ℕ
+formula_term i = numbered (codes "REFUSED formula term at ") i
 
 -- the formula is one that isn't decided yet
 abbrev pub not_decided_yet : List ℕ

@@ -10,7 +10,7 @@ use Rattle.fort_theory.proofs.SignaturesLaws.{list_any-bytes_eq_none}
 use Rattle.fort_grammar.specs.Forms.{Form}
 use Rattle.fort_grammar.specs.Declarations.{IsArity, IsListOfWords, Declares, DeclareEach, AreDeclarations, IsHeaded, IsBadDeclaration, ProblemFault, NoConstant, NoFormat}
 use Rattle.fort_grammar.specs.ProblemForms.{IsFirstProblemFault, InDeclaration, WithoutConstant, WithoutForms, WithoutFormat}
-use Rattle.fort_ari.specs.Parts.{BeginsWithFormat}
+use Rattle.fort_ari.specs.Parts.{BeginsWithFormat, HasFormat}
 use Rattle.fort_ari.specs.Reading.{DeclaresNext, DeclareUpTo, AreDeclared}
 use Rattle.fort_ari.proofs.Parts.{AllByRecursion-append, run, falls_on, append_one}
 
@@ -49,9 +49,9 @@ declares_more bytes forms old new next f u e headed d = record {
 }
 
 pub fault_in_declaration : (bytes : List ℕ) (forms : List Form) (signature : Signature) (next : ℕ) (f : Form) (fault : ProblemFault)
-    → BeginsWithFormat bytes forms → DeclareUpTo bytes forms signature next → drop next forms ≡ f ∷ drop (next + 1) forms
+    → HasFormat bytes forms → DeclareUpTo bytes forms signature next → drop next forms ≡ f ∷ drop (next + 1) forms
     → IsHeaded bytes (codes "fun") f → IsBadDeclaration bytes signature next f fault → IsFirstProblemFault bytes forms fault
-fault_in_declaration bytes [] signature next f fault format u e headed bad = absurd format
+fault_in_declaration bytes [] signature next f fault format u e headed bad = absurd format.1
 fault_in_declaration bytes (first ∷ others) signature next f fault format u e headed bad =
     let forms : List Form = first ∷ others in
     let before = u.declarations in
@@ -60,17 +60,17 @@ fault_in_declaration bytes (first ∷ others) signature next f fault format u e 
     u.is ∙ ap (λ gs. before ++ gs) e ∙ ap (λ gs. before ++ f ∷ gs) r.is ∙ append_one before r.front r.back f in
     let parts = falls_on bytes forms first (before ++ f ∷ r.front) r.back (ap (λ gs. first ∷ gs) whole)
     (AllByRecursion-append (IsHeaded bytes (codes "fun")) before (f ∷ r.front) u.headed (headed, r.headed)) r.otherwise in
-    InDeclaration first (before ++ f ∷ r.front) parts.rules parts.behind before r.front f signature fault parts.falls format refl u.declares
+    InDeclaration first format.0 (before ++ f ∷ r.front) parts.rules parts.behind before r.front f signature fault parts.falls format.1 refl u.declares
     (subst (λ i. IsBadDeclaration bytes signature i f fault) u.count bad)
 
 pub fault_without_constant : (bytes : List ℕ) (forms : List Form) (signature : Signature) (next : ℕ)
-    → BeginsWithFormat bytes forms → AreDeclared bytes forms signature next → (HasConstant signature → ⊥) → IsFirstProblemFault bytes forms NoConstant
-fault_without_constant bytes [] signature next format d none = absurd format
+    → HasFormat bytes forms → AreDeclared bytes forms signature next → (HasConstant signature → ⊥) → IsFirstProblemFault bytes forms NoConstant
+fault_without_constant bytes [] signature next format d none = absurd format.1
 fault_without_constant bytes (first ∷ others) signature next format d none =
     let forms : List Form = first ∷ others in
     let u = d.up_to in
     let parts = falls_on bytes forms first u.declarations (drop next forms) (ap (λ gs. first ∷ gs) u.is) u.headed d.ended in
-    WithoutConstant first u.declarations parts.rules parts.behind signature parts.falls format u.declares none
+    WithoutConstant first format.0 u.declarations parts.rules parts.behind signature parts.falls format.1 u.declares none
 
 -- a form of three words of which the first is `fun`
 pub Declares-words : (bytes : List ℕ) (f : Form) (name arity : List ℕ) (n : ℕ) → IsListOfWords bytes f (codes "fun" ∷ name ∷ arity ∷ [])
@@ -78,7 +78,7 @@ pub Declares-words : (bytes : List ℕ) (f : Form) (name arity : List ℕ) (n : 
 Declares-words bytes f name arity n words named is =
     record { words = subst (λ w. IsListOfWords bytes f (codes "fun" ∷ name ∷ w ∷ [])) is.1 words; named = named; small = is.0 }
 
-pub fault_without_format : (bytes : List ℕ) (forms : List Form) → (BeginsWithFormat bytes forms → ⊥) → IsFirstProblemFault bytes forms NoFormat
+pub fault_without_format : (bytes : List ℕ) (forms : List Form) → ((n : ℕ) → BeginsWithFormat bytes forms n → ⊥) → IsFirstProblemFault bytes forms NoFormat
 fault_without_format bytes [] none = WithoutForms refl
 fault_without_format bytes (first ∷ others) none = WithoutFormat first others refl none
 

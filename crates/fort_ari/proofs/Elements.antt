@@ -15,13 +15,3 @@ three_elements bytes f u v w h = go h.elements h.words_are h.is
     go (a ∷ b ∷ []) ws e = absurd ws.1.1
     go (a ∷ b ∷ c ∷ []) ws e = (a, b, c, e)
     go (a ∷ b ∷ c ∷ d ∷ es) ws e = absurd ws.1.1.1
-
-pub two_elements : (bytes : List ℕ) (f : Form) (u v : List ℕ) → IsListOfWords bytes f (u ∷ v ∷ [])
-    → (a : Form) × (b : Form) × (elements_of f ≡ Some (a ∷ b ∷ []))
-two_elements bytes f u v h = go h.elements h.words_are h.is
-  where
-    go : (es : List Form) → AreWords bytes es (u ∷ v ∷ []) → elements_of f ≡ Some es → (a : Form) × (b : Form) × (elements_of f ≡ Some (a ∷ b ∷ []))
-    go [] ws e = absurd ws
-    go (a ∷ []) ws e = absurd ws.1
-    go (a ∷ b ∷ []) ws e = (a, b, e)
-    go (a ∷ b ∷ c ∷ es) ws e = absurd ws.1.1

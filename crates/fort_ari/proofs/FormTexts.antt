@@ -41,11 +41,12 @@ headed_at bytes word (MoreForms g fs) zero f h e = let same : g ≡ f = cc in su
 headed_at bytes word (MoreForms g fs) (suc i) f h e = headed_at bytes word fs i f h e
 
 -- the format is the form of number 0
-pub format_at : (bytes : List ℕ) (fs : Forms) (f : Form) → form_at fs 0 ≡ Some f
-    → (IsFormat bytes f → BeginsWithFormat bytes (as_list fs)) × (BeginsWithFormat bytes (as_list fs) → IsFormat bytes f)
-format_at bytes NoForm f e = cc
-format_at bytes (MoreForms g fs) f e = let same : g ≡ f = cc in (λ h. subst (IsFormat bytes) (sym same) h, λ h. subst (IsFormat bytes) same h)
+pub format_at : (bytes : List ℕ) (fs : Forms) (f : Form) (n : ℕ) → form_at fs 0 ≡ Some f
+    → (IsFormat bytes f n → BeginsWithFormat bytes (as_list fs) n) × (BeginsWithFormat bytes (as_list fs) n → IsFormat bytes f n)
+format_at bytes NoForm f n e = cc
+format_at bytes (MoreForms g fs) f n e =
+    let same : g ≡ f = cc in (λ h. subst (λ x. IsFormat bytes x n) (sym same) h, λ h. subst (λ x. IsFormat bytes x n) same h)
 
-pub no_format : (bytes : List ℕ) (fs : Forms) → form_count fs ≡ 0 → BeginsWithFormat bytes (as_list fs) → ⊥
-no_format bytes NoForm e h = h
-no_format bytes (MoreForms f fs) e h = absurd (omega arith)
+pub no_format : (bytes : List ℕ) (fs : Forms) (n : ℕ) → form_count fs ≡ 0 → BeginsWithFormat bytes (as_list fs) n → ⊥
+no_format bytes NoForm n e h = h
+no_format bytes (MoreForms f fs) n e h = absurd (omega arith)

@@ -1,12 +1,17 @@
 pub mod FormTexts
 pub mod Words
 pub mod Elements
+pub mod Formats
+pub mod RuleElements
 pub mod Heads
 pub mod Parts
 pub mod Declared
 pub mod SideLaws
+pub mod Sorted
 pub mod Ruled
 pub mod OneAnswerRules
 pub mod OneAnswer
 pub mod OneFault
 pub mod OneProblem
+pub mod Grounds
+pub mod OneGround

@@ -9,8 +9,9 @@ use Rattle.fort_theory.specs.Signatures.{Symbol, Signature, IsName, HasConstant,
 use Rattle.fort_theory.specs.Sides.{System}
 use Rattle.fort_grammar.specs.Forms.{Form}
 use Rattle.fort_grammar.specs.Declarations as declarations
-use Rattle.fort_grammar.specs.Declarations.{AreWords, IsListOfWords, IsHeaded, IsArity, IsFormat, Declares, DeclareEach, AreDeclarations, IsBadDeclaration, ProblemFault, elements_of, word_of}
+use Rattle.fort_grammar.specs.Declarations.{AreWords, IsListOfWords, IsHeaded, IsArity, IsFormat, OneSystem, Several, Declares, DeclareEach, AreDeclarations, IsBadDeclaration, ProblemFault, elements_of, word_of}
 use Rattle.fort_grammar.specs.RuleForms.{AreRules}
+use Rattle.fort_ari.proofs.Formats.{format_high}
 use Rattle.fort_ari.proofs.OneAnswerRules.{rule_not_bad, rule_among}
 use Rattle.fort_grammar.specs.ProblemForms.{BeginsOtherwise, FallsInto, IsProblem, IsFirstProblemFault, WithoutForms, WithoutFormat, InDeclaration, WithoutConstant, InRule}
 
@@ -59,6 +60,15 @@ words_unique bytes f us vs h g =
     let b = g.is in
     let same : g.elements ≡ h.elements = cc in
     texts_unique bytes h.elements us vs h.words_are (subst (λ es. AreWords bytes es vs) same g.words_are)
+
+-- a form is the format of one number of systems
+pub format_unique : (bytes : List ℕ) (f : Form) (m n : ℕ) → IsFormat bytes f m → IsFormat bytes f n → m ≡ n
+format_unique bytes f m n (OneSystem h) (OneSystem g) = refl
+format_unique bytes f m n (OneSystem h) (Several low high g) = let same = words_unique bytes f _ _ h g in absurd cc
+format_unique bytes f m n (Several low high h) (OneSystem g) = let same = words_unique bytes f _ _ h g in absurd cc
+format_unique bytes f m n (Several low high h) (Several low' high' g) =
+    let same = words_unique bytes f _ _ h g in
+    let numbers : decimal m ≡ decimal n = cc in decimal_injective m n (omega arith) (omega arith) numbers
 
 same_symbol : (s t : Symbol) → s.name ≡ t.name → s.arity ≡ t.arity → s ≡ t
 same_symbol s t a b =
@@ -142,23 +152,28 @@ pub problem_without_fault : (bytes : List ℕ) (forms : List Form) (system : Sys
 problem_without_fault bytes forms system next fault p (WithoutForms none) = let is = p.parts.is in cc
 problem_without_fault bytes forms system next fault p (WithoutFormat first others is other) =
     let here = p.parts.is in
-    let same : p.first ≡ first = cc in other (subst (IsFormat bytes) same p.format)
-problem_without_fault bytes forms system next fault p (InDeclaration first ds rs bs before after f signature x falls format is declares bad) =
+    let same : p.first ≡ first = cc in other _ (subst (λ f. IsFormat bytes f (length system.rules)) same p.format)
+problem_without_fault bytes forms system next fault p (InDeclaration first number ds rs bs before after f signature x falls format is declares bad) =
     let parts = falls_unique bytes forms _ _ _ _ _ _ _ _ p.parts falls in
     let same : p.declarations ≡ before ++ f ∷ after = parts.declarations_same ∙ is in
     let among = declares_among bytes before after f system.signature signature (subst (λ gs. DeclareEach bytes gs system.signature) same p.declares.each) declares.each in
     declaration_not_bad bytes signature system.signature _ f x among p.declares.few p.declares.distinct bad
-problem_without_fault bytes forms system next fault p (WithoutConstant first ds rs bs signature falls format declares none) =
+problem_without_fault bytes forms system next fault p (WithoutConstant first number ds rs bs signature falls format declares none) =
     let parts = falls_unique bytes forms _ _ _ _ _ _ _ _ p.parts falls in
     let same : system.signature ≡ signature = DeclareEach-unique bytes ds _ _ (subst (λ gs. DeclareEach bytes gs system.signature) parts.declarations_same p.declares.each) declares.each in
     none (subst HasConstant same p.constant)
-problem_without_fault bytes forms system next fault p (InRule first ds rs bs before after f signature given x falls format declares constant is are bad) =
+problem_without_fault bytes forms system next fault p (InRule first number ds rs bs before after f signature given x falls format declares constant is are bad) =
     let parts = falls_unique bytes forms _ _ _ _ _ _ _ _ p.parts falls in
     let one : system.signature ≡ signature = DeclareEach-unique bytes ds _ _ (subst (λ gs. DeclareEach bytes gs system.signature) parts.declarations_same p.declares.each) declares.each in
     let same : p.rules ≡ before ++ f ∷ after = parts.rules_same ∙ is in
-    let rule = rule_among bytes signature before after f p.given
-    (subst (λ s. AreRules bytes s (before ++ f ∷ after) p.given) one (subst (λ gs. AreRules bytes system.signature gs p.given) same p.are_rules)) in
+    let numbers : length system.rules ≡ number =
+    format_unique bytes first _ _ (subst (λ g. IsFormat bytes g (length system.rules)) parts.first_same p.format) format in
+    let here : AreRules bytes number signature (before ++ f ∷ after) p.given =
+    subst (λ n. AreRules bytes n signature (before ++ f ∷ after) p.given) numbers
+    (subst (λ s. AreRules bytes (length system.rules) s (before ++ f ∷ after) p.given) one
+    (subst (λ gs. AreRules bytes (length system.rules) system.signature gs p.given) same p.are_rules)) in
+    let rule = rule_among bytes number signature before after f p.given here in
     let count = ap length same in
     let most = p.few in
-    rule_not_bad bytes signature (length before) _ f rule.0 x (subst (λ s. IsDistinct bytes_eq (names_of s)) one p.declares.distinct)
-    (omega (arith, length-append before (f ∷ after))) rule.1 bad
+    rule_not_bad bytes number signature (length before) _ f rule.0 x (format_high bytes first number format)
+    (subst (λ s. IsDistinct bytes_eq (names_of s)) one p.declares.distinct) (omega (arith, length-append before (f ∷ after))) rule.1 bad

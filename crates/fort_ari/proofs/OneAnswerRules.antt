@@ -1,35 +1,15 @@
 -- Forms that are rules are at no fault.
-use Rattle.std.proofs.Common.{◌≡◌, ℕ, zero, suc, ◌<◌, true, false, List, [], ◌∷◌, ◌++◌, Some, Contains, refl, ap, subst, arith}
-use Rattle.std.specs.Prelude.{bytes_eq}
-use Rattle.std.specs.List.{AllByRecursion, IsDistinct}
-use Rattle.std.proofs.lemmas.Slice.Eq.{bytes_eq-Decides}
-use Rattle.fort_theory.specs.Signatures.{Signature, IsName, arity_of, name_of, names_of}
-use Rattle.fort_theory.specs.Sides.{Side, Rule}
+use Rattle.std.proofs.Common.{◌≡◌, ℕ, ◌<◌, ◌≤◌, List, [], ◌∷◌, ◌++◌, Some, refl, ap, sym, ◌∙◌, subst, arith}
+use Rattle.std.specs.Prelude.{bytes_eq, decimal}
+use Rattle.std.specs.List.{IsDistinct}
+use Rattle.std.proofs.lemmas.Fmt.{decimal_injective}
+use Rattle.fort_theory.specs.Signatures.{most_indices, Signature, IsName, arity_of, name_of, names_of}
+use Rattle.fort_theory.specs.Sides.{Side}
 use Rattle.fort_theory.proofs.SignaturesLaws.{Contains-from_name_of}
 use Rattle.fort_grammar.specs.Forms.{Form}
-use Rattle.fort_grammar.specs.Declarations.{ProblemFault}
-use Rattle.fort_grammar.specs.RuleForms.{HasSides, IsSide, AConstant, AVariable, IsRule, AreRules, IsBadSide, NoWord, NoName, NoConstant, IsBadRule, OneTooMany, NotThree, BadLeft, BadRight, BothSides, IsVariableNamed}
-
-all_at : (P : List ℕ → Type 0) (xs : List (List ℕ)) (v : List ℕ) → AllByRecursion P xs → Contains xs v → P v
-all_at P [] v h (k, l, e) = absurd (omega arith)
-all_at P (x ∷ xs) v h (zero, l, e) = subst P e h.0
-all_at P (x ∷ xs) v h (suc k, l, e) = all_at P xs v h.1 (k, omega arith, e)
-
--- different names have different numbers
-pub name_of-injective : (signature : Signature) (f g : ℕ) (name : List ℕ) → IsDistinct bytes_eq (names_of signature) → name_of signature f ≡ Some name
-    → name_of signature g ≡ Some name → f ≡ g
-unfolding IsDistinct
-name_of-injective [] f g name d e h = cc
-name_of-injective (s ∷ ss) zero zero name d e h = refl
-name_of-injective (s ∷ ss) zero (suc g) name d e h =
-    let is : s.name ≡ name = cc in
-    let differs : bytes_eq s.name name ≡ false = all_at (λ y. bytes_eq s.name y ≡ false) (names_of ss) name d.0 (Contains-from_name_of ss name g h) in
-    let same : bytes_eq s.name name ≡ true = (bytes_eq-Decides s.name name).1 is in cc
-name_of-injective (s ∷ ss) (suc f) zero name d e h =
-    let is : s.name ≡ name = cc in
-    let differs : bytes_eq s.name name ≡ false = all_at (λ y. bytes_eq s.name y ≡ false) (names_of ss) name d.0 (Contains-from_name_of ss name f e) in
-    let same : bytes_eq s.name name ≡ true = (bytes_eq-Decides s.name name).1 is in cc
-name_of-injective (s ∷ ss) (suc f) (suc g) name d e h = ap suc (name_of-injective ss f g name d.1 e h)
+use Rattle.fort_grammar.proofs.GroundTexts.{name_of-injective}
+use Rattle.fort_grammar.specs.Declarations.{ProblemFault, word_of}
+use Rattle.fort_grammar.specs.RuleForms.{HasSides, OfFirst, OfIndex, IsSide, AConstant, AVariable, IndexedRule, IsRule, AreRules, IsBadSide, NoWord, NoName, NoConstant, IsBadRule, OneTooMany, NoRule, BadLeft, BadRight, BothSides, IsVariableNamed}
 
 pub side_not_bad : (bytes : List ℕ) (signature : Signature) (n i : ℕ) (f : Form) (s : Side) (fault : ProblemFault) → IsDistinct bytes_eq (names_of signature)
     → IsSide bytes signature n f s → IsBadSide bytes signature i f fault → ⊥
@@ -49,29 +29,42 @@ side_not_bad bytes signature n i f s fault d (AVariable {name = x} word named fr
     let there : name_of signature h ≡ Some x = cc in
     free (Contains-from_name_of signature x h there)
 
-pub sides_unique : (bytes : List ℕ) (f left right left' right' : Form) → HasSides bytes f left right → HasSides bytes f left' right' → (left ≡ left') × (right ≡ right')
-sides_unique bytes f left right left' right' h g =
-    let a = h.is in
-    let b = g.is in (cc, cc)
+-- a rule has its sides and its index in one way
+pub record SameSides (left right left' right' : Form) (index index' : ℕ) : Type 0 where
+  pub left_same : left ≡ left'
+  pub right_same : right ≡ right'
+  pub index_same : index ≡ index'
 
-pub rule_not_bad : (bytes : List ℕ) (signature : Signature) (count i : ℕ) (f : Form) (r : Rule) (fault : ProblemFault) → IsDistinct bytes_eq (names_of signature)
-    → count < 4096 → IsRule bytes signature f r → IsBadRule bytes signature count i f fault → ⊥
-rule_not_bad bytes signature count i f r fault d few is (OneTooMany full) = omega arith
-rule_not_bad bytes signature count i f r fault d few is (NotThree below none) = none is.left is.right is.sides
-rule_not_bad bytes signature count i f r fault d few is (BadLeft left right x below sides bad) =
-    let same = sides_unique bytes f _ _ _ _ is.sides sides in
-    side_not_bad bytes signature 0 i left r.left x d (subst (λ g. IsSide bytes signature 0 g r.left) same.0 is.left_is) bad
-rule_not_bad bytes signature count i f r fault d few is (BadRight left right side x below sides left_is bad) =
-    let same = sides_unique bytes f _ _ _ _ is.sides sides in
-    side_not_bad bytes signature 1 i right r.right x d (subst (λ g. IsSide bytes signature 1 g r.right) same.1 is.right_is) bad
-rule_not_bad bytes signature count i f r fault d few is (BothSides left right name below sides on_left on_right) =
-    let same = sides_unique bytes f _ _ _ _ sides is.sides in
-    is.separated name (subst (λ g. IsVariableNamed bytes signature g name) same.0 on_left) (subst (λ g. IsVariableNamed bytes signature g name) same.1 on_right)
+pub sides_unique : (bytes : List ℕ) (number : ℕ) (f left right left' right' : Form) (index index' : ℕ) → number ≤ most_indices
+    → HasSides bytes number f left right index → HasSides bytes number f left' right' index' → SameSides left right left' right' index index'
+sides_unique bytes number f left right left' right' index index' few (OfFirst h is w) (OfFirst h' is' w') =
+    record { left_same = cc; right_same = cc; index_same = refl }
+sides_unique bytes number f left right left' right' index index' few (OfFirst h is w) (OfIndex h' k v is' w' named text low high) = absurd cc
+sides_unique bytes number f left right left' right' index index' few (OfIndex h k v is w named text low high) (OfFirst h' is' w') = absurd cc
+sides_unique bytes number f left right left' right' index index' few (OfIndex h k v is w named text low high) (OfIndex h' k' v' is' w' named' text' low' high') =
+    let values : v' ≡ v = cc in
+    let there : word_of bytes v ≡ Some (decimal index') = ap (word_of bytes) (sym values) ∙ text' in
+    let same : decimal index ≡ decimal index' = cc in
+    record { left_same = cc; right_same = cc; index_same = decimal_injective index index' (omega arith) (omega arith) same }
+
+pub rule_not_bad : (bytes : List ℕ) (number : ℕ) (signature : Signature) (count i : ℕ) (f : Form) (r : IndexedRule) (fault : ProblemFault) → number ≤ most_indices
+    → IsDistinct bytes_eq (names_of signature) → count < 4096 → IsRule bytes number signature f r → IsBadRule bytes number signature count i f fault → ⊥
+rule_not_bad bytes number signature count i f r fault most d few is (OneTooMany full) = omega arith
+rule_not_bad bytes number signature count i f r fault most d few is (NoRule below none) = none is.left is.right r.index is.sides
+rule_not_bad bytes number signature count i f r fault most d few is (BadLeft left right index x below sides bad) =
+    let same = sides_unique bytes number f _ _ _ _ _ _ most is.sides sides in
+    side_not_bad bytes signature 0 i left r.rule.left x d (subst (λ g. IsSide bytes signature 0 g r.rule.left) same.left_same is.left_is) bad
+rule_not_bad bytes number signature count i f r fault most d few is (BadRight left right index side x below sides left_is bad) =
+    let same = sides_unique bytes number f _ _ _ _ _ _ most is.sides sides in
+    side_not_bad bytes signature 1 i right r.rule.right x d (subst (λ g. IsSide bytes signature 1 g r.rule.right) same.right_same is.right_is) bad
+rule_not_bad bytes number signature count i f r fault most d few is (BothSides left right index name below sides on_left on_right) =
+    let same = sides_unique bytes number f _ _ _ _ _ _ most sides is.sides in
+    is.separated name (subst (λ g. IsVariableNamed bytes signature g name) same.left_same on_left) (subst (λ g. IsVariableNamed bytes signature g name) same.right_same on_right)
 
 -- the rule of a form among others
-pub rule_among : (bytes : List ℕ) (signature : Signature) (before after : List Form) (f : Form) (rs : List Rule) → AreRules bytes signature (before ++ f ∷ after) rs
-    → (r : Rule) × IsRule bytes signature f r
-rule_among bytes signature [] after f [] h = absurd h
-rule_among bytes signature [] after f (r ∷ rs) h = (r, h.0)
-rule_among bytes signature (g ∷ before) after f [] h = absurd h
-rule_among bytes signature (g ∷ before) after f (r ∷ rs) h = rule_among bytes signature before after f rs h.1
+pub rule_among : (bytes : List ℕ) (number : ℕ) (signature : Signature) (before after : List Form) (f : Form) (rs : List IndexedRule)
+    → AreRules bytes number signature (before ++ f ∷ after) rs → (r : IndexedRule) × IsRule bytes number signature f r
+rule_among bytes number signature [] after f [] h = absurd h
+rule_among bytes number signature [] after f (r ∷ rs) h = (r, h.0)
+rule_among bytes number signature (g ∷ before) after f [] h = absurd h
+rule_among bytes number signature (g ∷ before) after f (r ∷ rs) h = rule_among bytes number signature before after f rs h.1

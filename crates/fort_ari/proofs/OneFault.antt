@@ -2,15 +2,15 @@
 use Rattle.std.proofs.Common.{◌≡◌, ℕ, ◌+◌, ◌≤◌, List, [], ◌∷◌, ◌++◌, length, Some, refl, ap, sym, ◌∙◌, subst, arith, length-append}
 use Rattle.std.specs.Prelude.{bytes_eq}
 use Rattle.std.specs.List.{IsDistinct}
-use Rattle.fort_theory.specs.Signatures.{Signature, IsName, HasConstant, names_of}
-use Rattle.fort_theory.specs.Sides.{Rule}
+use Rattle.fort_theory.specs.Signatures.{most_indices, Signature, IsName, HasConstant, names_of}
 use Rattle.fort_grammar.specs.Forms.{Form}
 use Rattle.fort_grammar.specs.Declarations as declarations
-use Rattle.fort_grammar.specs.Declarations.{IsFormat, IsListOfWords, IsArity, DeclareEach, AreDeclarations, IsBadDeclaration, ProblemFault, Shares, word_of}
-use Rattle.fort_grammar.specs.RuleForms.{IsSide, AreRules, IsBadSide, AVariable, NoWord, NoName, NoConstant, IsBadRule, OneTooMany, NotThree, BadLeft, BadRight, BothSides, HasSides, IsVariableNamed}
+use Rattle.fort_grammar.specs.Declarations.{IsFormat, IsNoFormat, IsListOfWords, IsArity, DeclareEach, AreDeclarations, IsBadDeclaration, ProblemFault, Shares, word_of}
+use Rattle.fort_grammar.specs.RuleForms.{IsSide, IndexedRule, AreRules, IsBadSide, AVariable, NoWord, NoName, NoConstant, IsBadRule, OneTooMany, NoRule, BadLeft, BadRight, BothSides, HasSides, IsVariableNamed}
 use Rattle.fort_grammar.specs.ProblemForms.{FallsInto, IsFirstProblemFault, WithoutForms, WithoutFormat, InDeclaration, WithoutConstant, InRule}
+use Rattle.fort_ari.proofs.Formats.{format_high}
 use Rattle.fort_ari.proofs.OneAnswerRules.{rule_not_bad, rule_among, side_not_bad, sides_unique}
-use Rattle.fort_ari.proofs.OneAnswer.{falls_unique, words_unique, DeclareEach-unique, declares_among, declaration_not_bad}
+use Rattle.fort_ari.proofs.OneAnswer.{falls_unique, words_unique, format_unique, DeclareEach-unique, declares_among, declaration_not_bad}
 
 -- two places in a list: one, or the first before the second, or the second before the first
 pub data Places (xs ys : List Form) (f g : Form) : Type 0 where
@@ -84,54 +84,55 @@ module _ (bytes : List ℕ) (signature : Signature) (i : ℕ) (f : Form) where
   side_fault_unique x y d (NoConstant w g e n is b) (NoName w' e' b') = let same : w ≡ w' = cc in absurd (b' (subst IsName same n))
   side_fault_unique x y d (NoConstant w g e n is b) (NoConstant w' g' e' n' is' b') = refl
 
-module _ (bytes : List ℕ) (signature : Signature) (count i : ℕ) (f : Form) (d : IsDistinct bytes_eq (names_of signature)) where
+module _ (bytes : List ℕ) (number : ℕ) (signature : Signature) (count i : ℕ) (f : Form) (most : number ≤ most_indices)
+    (d : IsDistinct bytes_eq (names_of signature)) where
   -- two sides of a rule that has both
-  left_both : (l r l' r' : Form) → HasSides bytes f l r → HasSides bytes f l' r' → l' ≡ l
-  left_both l r l' r' s t = (sides_unique bytes f l' r' l r t s).0
+  left_both : (l r l' r' : Form) (j k : ℕ) → HasSides bytes number f l r j → HasSides bytes number f l' r' k → l' ≡ l
+  left_both l r l' r' j k s t = (sides_unique bytes number f l' r' l r k j most t s).left_same
 
-  right_both : (l r l' r' : Form) → HasSides bytes f l r → HasSides bytes f l' r' → r' ≡ r
-  right_both l r l' r' s t = (sides_unique bytes f l' r' l r t s).1
+  right_both : (l r l' r' : Form) (j k : ℕ) → HasSides bytes number f l r j → HasSides bytes number f l' r' k → r' ≡ r
+  right_both l r l' r' j k s t = (sides_unique bytes number f l' r' l r k j most t s).right_same
 
   variable_not_bad : (g : Form) (name : List ℕ) (x : ProblemFault) → IsVariableNamed bytes signature g name → IsBadSide bytes signature i g x → ⊥
   variable_not_bad g name x v b = side_not_bad bytes signature 0 i g _ x d (AVariable v.word v.named v.free) b
 
-  rule_fault_unique : (x y : ProblemFault) → IsBadRule bytes signature count i f x → IsBadRule bytes signature count i f y → x ≡ y
+  rule_fault_unique : (x y : ProblemFault) → IsBadRule bytes number signature count i f x → IsBadRule bytes number signature count i f y → x ≡ y
   rule_fault_unique x y (OneTooMany e) (OneTooMany e') = refl
-  rule_fault_unique x y (OneTooMany e) (NotThree l n) = absurd (omega arith)
-  rule_fault_unique x y (OneTooMany e) (BadLeft p q z l s b) = absurd (omega arith)
-  rule_fault_unique x y (OneTooMany e) (BadRight p q m z l s k b) = absurd (omega arith)
-  rule_fault_unique x y (OneTooMany e) (BothSides p q n l s u v) = absurd (omega arith)
-  rule_fault_unique x y (NotThree l n) (OneTooMany e) = absurd (omega arith)
-  rule_fault_unique x y (NotThree l n) (NotThree l' n') = refl
-  rule_fault_unique x y (NotThree l n) (BadLeft p q z l' s b) = absurd (n p q s)
-  rule_fault_unique x y (NotThree l n) (BadRight p q m z l' s k b) = absurd (n p q s)
-  rule_fault_unique x y (NotThree l n) (BothSides p q m l' s u v) = absurd (n p q s)
-  rule_fault_unique x y (BadLeft p q z l s b) (OneTooMany e) = absurd (omega arith)
-  rule_fault_unique x y (BadLeft p q z l s b) (NotThree l' n) = absurd (n p q s)
-  rule_fault_unique x y (BadLeft p q z l s b) (BadLeft p' q' z' l' s' b') =
-      side_fault_unique bytes signature i p x y d b (subst (λ g. IsBadSide bytes signature i g y) (left_both p q p' q' s s') b')
-  rule_fault_unique x y (BadLeft p q z l s b) (BadRight p' q' m z' l' s' k b') =
-      absurd (side_not_bad bytes signature 0 i p m x d (subst (λ g. IsSide bytes signature 0 g m) (left_both p q p' q' s s') k) b)
-  rule_fault_unique x y (BadLeft p q z l s b) (BothSides p' q' n l' s' u v) =
-      absurd (variable_not_bad p n x (subst (λ g. IsVariableNamed bytes signature g n) (left_both p q p' q' s s') u) b)
-  rule_fault_unique x y (BadRight p q m z l s k b) (OneTooMany e) = absurd (omega arith)
-  rule_fault_unique x y (BadRight p q m z l s k b) (NotThree l' n) = absurd (n p q s)
-  rule_fault_unique x y (BadRight p q m z l s k b) (BadLeft p' q' z' l' s' b') =
-      absurd (side_not_bad bytes signature 0 i p m y d k (subst (λ g. IsBadSide bytes signature i g y) (left_both p q p' q' s s') b'))
-  rule_fault_unique x y (BadRight p q m z l s k b) (BadRight p' q' m' z' l' s' k' b') =
-      side_fault_unique bytes signature i q x y d b (subst (λ g. IsBadSide bytes signature i g y) (right_both p q p' q' s s') b')
-  rule_fault_unique x y (BadRight p q m z l s k b) (BothSides p' q' n l' s' u v) =
-      absurd (variable_not_bad q n x (subst (λ g. IsVariableNamed bytes signature g n) (right_both p q p' q' s s') v) b)
-  rule_fault_unique x y (BothSides p q n l s u v) (OneTooMany e) = absurd (omega arith)
-  rule_fault_unique x y (BothSides p q n l s u v) (NotThree l' z) = absurd (z p q s)
-  rule_fault_unique x y (BothSides p q n l s u v) (BadLeft p' q' z' l' s' b') =
-      absurd (variable_not_bad p n y u (subst (λ g. IsBadSide bytes signature i g y) (left_both p q p' q' s s') b'))
-  rule_fault_unique x y (BothSides p q n l s u v) (BadRight p' q' m' z' l' s' k' b') =
-      absurd (variable_not_bad q n y v (subst (λ g. IsBadSide bytes signature i g y) (right_both p q p' q' s s') b'))
-  rule_fault_unique x y (BothSides p q n l s u v) (BothSides p' q' n' l' s' u' v') =
+  rule_fault_unique x y (OneTooMany e) (NoRule l n) = absurd (omega arith)
+  rule_fault_unique x y (OneTooMany e) (BadLeft p q j z l s b) = absurd (omega arith)
+  rule_fault_unique x y (OneTooMany e) (BadRight p q j m z l s k b) = absurd (omega arith)
+  rule_fault_unique x y (OneTooMany e) (BothSides p q j n l s u v) = absurd (omega arith)
+  rule_fault_unique x y (NoRule l n) (OneTooMany e) = absurd (omega arith)
+  rule_fault_unique x y (NoRule l n) (NoRule l' n') = refl
+  rule_fault_unique x y (NoRule l n) (BadLeft p q j z l' s b) = absurd (n p q j s)
+  rule_fault_unique x y (NoRule l n) (BadRight p q j m z l' s k b) = absurd (n p q j s)
+  rule_fault_unique x y (NoRule l n) (BothSides p q j m l' s u v) = absurd (n p q j s)
+  rule_fault_unique x y (BadLeft p q j z l s b) (OneTooMany e) = absurd (omega arith)
+  rule_fault_unique x y (BadLeft p q j z l s b) (NoRule l' n) = absurd (n p q j s)
+  rule_fault_unique x y (BadLeft p q j z l s b) (BadLeft p' q' j' z' l' s' b') =
+      side_fault_unique bytes signature i p x y d b (subst (λ g. IsBadSide bytes signature i g y) (left_both p q p' q' j j' s s') b')
+  rule_fault_unique x y (BadLeft p q j z l s b) (BadRight p' q' j' m z' l' s' k b') =
+      absurd (side_not_bad bytes signature 0 i p m x d (subst (λ g. IsSide bytes signature 0 g m) (left_both p q p' q' j j' s s') k) b)
+  rule_fault_unique x y (BadLeft p q j z l s b) (BothSides p' q' j' n l' s' u v) =
+      absurd (variable_not_bad p n x (subst (λ g. IsVariableNamed bytes signature g n) (left_both p q p' q' j j' s s') u) b)
+  rule_fault_unique x y (BadRight p q j m z l s k b) (OneTooMany e) = absurd (omega arith)
+  rule_fault_unique x y (BadRight p q j m z l s k b) (NoRule l' n) = absurd (n p q j s)
+  rule_fault_unique x y (BadRight p q j m z l s k b) (BadLeft p' q' j' z' l' s' b') =
+      absurd (side_not_bad bytes signature 0 i p m y d k (subst (λ g. IsBadSide bytes signature i g y) (left_both p q p' q' j j' s s') b'))
+  rule_fault_unique x y (BadRight p q j m z l s k b) (BadRight p' q' j' m' z' l' s' k' b') =
+      side_fault_unique bytes signature i q x y d b (subst (λ g. IsBadSide bytes signature i g y) (right_both p q p' q' j j' s s') b')
+  rule_fault_unique x y (BadRight p q j m z l s k b) (BothSides p' q' j' n l' s' u v) =
+      absurd (variable_not_bad q n x (subst (λ g. IsVariableNamed bytes signature g n) (right_both p q p' q' j j' s s') v) b)
+  rule_fault_unique x y (BothSides p q j n l s u v) (OneTooMany e) = absurd (omega arith)
+  rule_fault_unique x y (BothSides p q j n l s u v) (NoRule l' z) = absurd (z p q j s)
+  rule_fault_unique x y (BothSides p q j n l s u v) (BadLeft p' q' j' z' l' s' b') =
+      absurd (variable_not_bad p n y u (subst (λ g. IsBadSide bytes signature i g y) (left_both p q p' q' j j' s s') b'))
+  rule_fault_unique x y (BothSides p q j n l s u v) (BadRight p' q' j' m' z' l' s' k' b') =
+      absurd (variable_not_bad q n y v (subst (λ g. IsBadSide bytes signature i g y) (right_both p q p' q' j j' s s') b'))
+  rule_fault_unique x y (BothSides p q j n l s u v) (BothSides p' q' j' n' l' s' u' v') =
       let word = u.word in
       let word' = u'.word in
-      let one = left_both p q p' q' s s' in
+      let one = left_both p q p' q' j j' s s' in
       let there : word_of bytes p ≡ Some n' = ap (word_of bytes) (sym one) ∙ word' in
       let same : n ≡ n' = cc in ap (Shares i) same
 
@@ -160,31 +161,31 @@ faulty_among bytes ds before after f total signature x e a b bad =
     a.few a.distinct bad
 
 -- two rules at fault over one signature
-module _ (bytes : List ℕ) (signature : Signature) (n : ℕ) (before before' : List Form) (f g : Form) (rs ts : List Rule) (x y : ProblemFault)
-    (d : IsDistinct bytes_eq (names_of signature)) (a : AreRules bytes signature before rs) (b : AreRules bytes signature before' ts)
-    (u : IsBadRule bytes signature (length before) (n + length before + 1) f x) (v : IsBadRule bytes signature (length before') (n + length before' + 1) g y) where
-  few_before : (count i : ℕ) (h : Form) (z : ProblemFault) → IsBadRule bytes signature count i h z → count ≤ 4096
+module _ (bytes : List ℕ) (number : ℕ) (signature : Signature) (n : ℕ) (before before' : List Form) (f g : Form) (rs ts : List IndexedRule) (x y : ProblemFault)
+    (most : number ≤ most_indices) (d : IsDistinct bytes_eq (names_of signature)) (a : AreRules bytes number signature before rs) (b : AreRules bytes number signature before' ts)
+    (u : IsBadRule bytes number signature (length before) (n + length before + 1) f x) (v : IsBadRule bytes number signature (length before') (n + length before' + 1) g y) where
+  few_before : (count i : ℕ) (h : Form) (z : ProblemFault) → IsBadRule bytes number signature count i h z → count ≤ 4096
   few_before count i h z (OneTooMany e) = omega arith
-  few_before count i h z (NotThree l _) = omega arith
-  few_before count i h z (BadLeft _ _ _ l _ _) = omega arith
-  few_before count i h z (BadRight _ _ _ _ l _ _ _) = omega arith
-  few_before count i h z (BothSides _ _ _ l _ _ _) = omega arith
+  few_before count i h z (NoRule l _) = omega arith
+  few_before count i h z (BadLeft _ _ _ _ l _ _) = omega arith
+  few_before count i h z (BadRight _ _ _ _ _ l _ _ _) = omega arith
+  few_before count i h z (BothSides _ _ _ _ l _ _ _) = omega arith
 
   two_rule_faults : Places before before' f g → x ≡ y
   two_rule_faults (Here e h) =
-      rule_fault_unique bytes signature (length before) (n + length before + 1) f d x y u
-      (subst (λ z. IsBadRule bytes signature (length before) (n + length before + 1) z y) (sym h)
-      (subst (λ (gs : List Form). IsBadRule bytes signature (length gs) (n + length gs + 1) g y) (sym e) v))
+      rule_fault_unique bytes number signature (length before) (n + length before + 1) f most d x y u
+      (subst (λ z. IsBadRule bytes number signature (length before) (n + length before + 1) z y) (sym h)
+      (subst (λ (gs : List Form). IsBadRule bytes number signature (length gs) (n + length gs + 1) g y) (sym e) v))
   two_rule_faults (First more e) =
-      let rule = rule_among bytes signature before more f ts (subst (λ gs. AreRules bytes signature gs ts) e b) in
-      let most = few_before _ _ _ _ v in
+      let rule = rule_among bytes number signature before more f ts (subst (λ gs. AreRules bytes number signature gs ts) e b) in
+      let full = few_before _ _ _ _ v in
       let count = ap length e in
-      absurd (rule_not_bad bytes signature (length before) _ f rule.0 x d (omega (arith, length-append before (f ∷ more))) rule.1 u)
+      absurd (rule_not_bad bytes number signature (length before) _ f rule.0 x most d (omega (arith, length-append before (f ∷ more))) rule.1 u)
   two_rule_faults (Second more e) =
-      let rule = rule_among bytes signature before' more g rs (subst (λ gs. AreRules bytes signature gs rs) e a) in
-      let most = few_before _ _ _ _ u in
+      let rule = rule_among bytes number signature before' more g rs (subst (λ gs. AreRules bytes number signature gs rs) e a) in
+      let full = few_before _ _ _ _ u in
       let count = ap length e in
-      absurd (rule_not_bad bytes signature (length before') _ g rule.0 y d (omega (arith, length-append before' (g ∷ more))) rule.1 v)
+      absurd (rule_not_bad bytes number signature (length before') _ g rule.0 y most d (omega (arith, length-append before' (g ∷ more))) rule.1 v)
 
 -- the declarations, where forms fall into their parts in two ways
 same_declarations : (bytes : List ℕ) (forms : List Form) (first first' : Form) (ds ds' rs rs' bs bs' : List Form) → FallsInto bytes forms first ds rs bs
@@ -194,11 +195,11 @@ same_declarations bytes forms first first' ds ds' rs rs' bs bs' p q = (falls_uni
 same_signature : (bytes : List ℕ) (ds ds' : List Form) (ss ts : Signature) → ds ≡ ds' → AreDeclarations bytes ds ss → AreDeclarations bytes ds' ts → ss ≡ ts
 same_signature bytes ds ds' ss ts e a b = DeclareEach-unique bytes ds ss ts a.each (subst (λ gs. DeclareEach bytes gs ts) (sym e) b.each)
 
-other_first : (bytes : List ℕ) (forms : List Form) (first other : Form) (others ds rs bs : List Form) → forms ≡ other ∷ others → (IsFormat bytes other → ⊥)
-    → FallsInto bytes forms first ds rs bs → IsFormat bytes first → ⊥
-other_first bytes forms first other others ds rs bs e none p format =
+other_first : (bytes : List ℕ) (forms : List Form) (number : ℕ) (first other : Form) (others ds rs bs : List Form) → forms ≡ other ∷ others → IsNoFormat bytes other
+    → FallsInto bytes forms first ds rs bs → IsFormat bytes first number → ⊥
+other_first bytes forms number first other others ds rs bs e none p format =
     let is = p.is in
-    let same : first ≡ other = cc in none (subst (IsFormat bytes) same format)
+    let same : first ≡ other = cc in none number (subst (λ f. IsFormat bytes f number) same format)
 
 no_parts : (bytes : List ℕ) (forms : List Form) (first : Form) (ds rs bs : List Form) → forms ≡ [] → FallsInto bytes forms first ds rs bs → ⊥
 no_parts bytes forms first ds rs bs e p = let is = p.is in cc
@@ -207,52 +208,54 @@ no_parts bytes forms first ds rs bs e p = let is = p.is in cc
 pub first_fault_unique : (bytes : List ℕ) (forms : List Form) (x y : ProblemFault) → IsFirstProblemFault bytes forms x → IsFirstProblemFault bytes forms y → x ≡ y
 first_fault_unique bytes forms x y (WithoutForms e) (WithoutForms e') = refl
 first_fault_unique bytes forms x y (WithoutForms e) (WithoutFormat f fs e' n) = cc
-first_fault_unique bytes forms x y (WithoutForms e) (InDeclaration h ds rs bs before after f s z p w is a bad) = absurd (no_parts bytes forms h ds rs bs e p)
-first_fault_unique bytes forms x y (WithoutForms e) (WithoutConstant h ds rs bs s p w a n) = absurd (no_parts bytes forms h ds rs bs e p)
-first_fault_unique bytes forms x y (WithoutForms e) (InRule h ds rs bs before after f s gs z p w a k is ar bad) = absurd (no_parts bytes forms h ds rs bs e p)
+first_fault_unique bytes forms x y (WithoutForms e) (InDeclaration h j ds rs bs before after f s z p w is a bad) = absurd (no_parts bytes forms h ds rs bs e p)
+first_fault_unique bytes forms x y (WithoutForms e) (WithoutConstant h j ds rs bs s p w a n) = absurd (no_parts bytes forms h ds rs bs e p)
+first_fault_unique bytes forms x y (WithoutForms e) (InRule h j ds rs bs before after f s gs z p w a k is ar bad) = absurd (no_parts bytes forms h ds rs bs e p)
 first_fault_unique bytes forms x y (WithoutFormat f fs e n) (WithoutForms e') = cc
 first_fault_unique bytes forms x y (WithoutFormat f fs e n) (WithoutFormat f' fs' e' n') = refl
-first_fault_unique bytes forms x y (WithoutFormat g fs e n) (InDeclaration h ds rs bs before after f s z p w is a bad) =
-    absurd (other_first bytes forms h g fs ds rs bs e n p w)
-first_fault_unique bytes forms x y (WithoutFormat g fs e n) (WithoutConstant h ds rs bs s p w a m) = absurd (other_first bytes forms h g fs ds rs bs e n p w)
-first_fault_unique bytes forms x y (WithoutFormat g fs e n) (InRule h ds rs bs before after f s gs z p w a k is ar bad) =
-    absurd (other_first bytes forms h g fs ds rs bs e n p w)
-first_fault_unique bytes forms x y (InDeclaration h ds rs bs before after f s z p w is a bad) (WithoutForms e) = absurd (no_parts bytes forms h ds rs bs e p)
-first_fault_unique bytes forms x y (InDeclaration h ds rs bs before after f s z p w is a bad) (WithoutFormat g fs e n) =
-    absurd (other_first bytes forms h g fs ds rs bs e n p w)
-first_fault_unique bytes forms x y (InDeclaration h ds rs bs before after f s z p w is a bad) (InDeclaration h' ds' rs' bs' before' after' f' s' z' p' w' is' a' bad') =
+first_fault_unique bytes forms x y (WithoutFormat g fs e n) (InDeclaration h j ds rs bs before after f s z p w is a bad) =
+    absurd (other_first bytes forms _ h g fs ds rs bs e n p w)
+first_fault_unique bytes forms x y (WithoutFormat g fs e n) (WithoutConstant h j ds rs bs s p w a m) = absurd (other_first bytes forms _ h g fs ds rs bs e n p w)
+first_fault_unique bytes forms x y (WithoutFormat g fs e n) (InRule h j ds rs bs before after f s gs z p w a k is ar bad) =
+    absurd (other_first bytes forms _ h g fs ds rs bs e n p w)
+first_fault_unique bytes forms x y (InDeclaration h j ds rs bs before after f s z p w is a bad) (WithoutForms e) = absurd (no_parts bytes forms h ds rs bs e p)
+first_fault_unique bytes forms x y (InDeclaration h j ds rs bs before after f s z p w is a bad) (WithoutFormat g fs e n) =
+    absurd (other_first bytes forms _ h g fs ds rs bs e n p w)
+first_fault_unique bytes forms x y (InDeclaration h j ds rs bs before after f s z p w is a bad) (InDeclaration h' j' ds' rs' bs' before' after' f' s' z' p' w' is' a' bad') =
     let same = same_declarations bytes forms h h' ds ds' rs rs' bs bs' p p' in
     two_declaration_faults bytes before before' after after' f f' s s' x y a a' bad bad' (places before before' after after' f f' (sym is ∙ same ∙ is'))
-first_fault_unique bytes forms x y (InDeclaration h ds rs bs before after f s z p w is a bad) (WithoutConstant h' ds' rs' bs' s' p' w' a' n') =
+first_fault_unique bytes forms x y (InDeclaration h j ds rs bs before after f s z p w is a bad) (WithoutConstant h' j' ds' rs' bs' s' p' w' a' n') =
     let same = same_declarations bytes forms h h' ds ds' rs rs' bs bs' p p' in
     absurd (faulty_among bytes ds' before after f s' s x (sym same ∙ is) a' a bad)
-first_fault_unique bytes forms x y (InDeclaration h ds rs bs before after f s z p w is a bad) (InRule h' ds' rs' bs' before' after' f' s' gs' z' p' w' a' k' is' ar' bad') =
+first_fault_unique bytes forms x y (InDeclaration h j ds rs bs before after f s z p w is a bad) (InRule h' j' ds' rs' bs' before' after' f' s' gs' z' p' w' a' k' is' ar' bad') =
     let same = same_declarations bytes forms h h' ds ds' rs rs' bs bs' p p' in
     absurd (faulty_among bytes ds' before after f s' s x (sym same ∙ is) a' a bad)
-first_fault_unique bytes forms x y (WithoutConstant h ds rs bs s p w a n) (WithoutForms e) = absurd (no_parts bytes forms h ds rs bs e p)
-first_fault_unique bytes forms x y (WithoutConstant h ds rs bs s p w a n) (WithoutFormat g fs e m) = absurd (other_first bytes forms h g fs ds rs bs e m p w)
-first_fault_unique bytes forms x y (WithoutConstant h ds rs bs s p w a n) (InDeclaration h' ds' rs' bs' before after f s' z p' w' is a' bad) =
+first_fault_unique bytes forms x y (WithoutConstant h j ds rs bs s p w a n) (WithoutForms e) = absurd (no_parts bytes forms h ds rs bs e p)
+first_fault_unique bytes forms x y (WithoutConstant h j ds rs bs s p w a n) (WithoutFormat g fs e m) = absurd (other_first bytes forms _ h g fs ds rs bs e m p w)
+first_fault_unique bytes forms x y (WithoutConstant h j ds rs bs s p w a n) (InDeclaration h' j' ds' rs' bs' before after f s' z p' w' is a' bad) =
     let same = same_declarations bytes forms h h' ds ds' rs rs' bs bs' p p' in
     absurd (faulty_among bytes ds before after f s s' y (same ∙ is) a a' bad)
-first_fault_unique bytes forms x y (WithoutConstant h ds rs bs s p w a n) (WithoutConstant h' ds' rs' bs' s' p' w' a' n') = refl
-first_fault_unique bytes forms x y (WithoutConstant h ds rs bs s p w a n) (InRule h' ds' rs' bs' before' after' f' s' gs' z' p' w' a' k' is' ar' bad') =
+first_fault_unique bytes forms x y (WithoutConstant h j ds rs bs s p w a n) (WithoutConstant h' j' ds' rs' bs' s' p' w' a' n') = refl
+first_fault_unique bytes forms x y (WithoutConstant h j ds rs bs s p w a n) (InRule h' j' ds' rs' bs' before' after' f' s' gs' z' p' w' a' k' is' ar' bad') =
     let same = same_declarations bytes forms h h' ds ds' rs rs' bs bs' p p' in
     absurd (n (subst HasConstant (sym (same_signature bytes ds ds' s s' same a a')) k'))
-first_fault_unique bytes forms x y (InRule h ds rs bs before after f s gs z p w a k is ar bad) (WithoutForms e) = absurd (no_parts bytes forms h ds rs bs e p)
-first_fault_unique bytes forms x y (InRule h ds rs bs before after f s gs z p w a k is ar bad) (WithoutFormat g fs e n) =
-    absurd (other_first bytes forms h g fs ds rs bs e n p w)
-first_fault_unique bytes forms x y (InRule h ds rs bs before after f s gs z p w a k is ar bad) (InDeclaration h' ds' rs' bs' before' after' f' s' z' p' w' is' a' bad') =
+first_fault_unique bytes forms x y (InRule h j ds rs bs before after f s gs z p w a k is ar bad) (WithoutForms e) = absurd (no_parts bytes forms h ds rs bs e p)
+first_fault_unique bytes forms x y (InRule h j ds rs bs before after f s gs z p w a k is ar bad) (WithoutFormat g fs e n) =
+    absurd (other_first bytes forms _ h g fs ds rs bs e n p w)
+first_fault_unique bytes forms x y (InRule h j ds rs bs before after f s gs z p w a k is ar bad) (InDeclaration h' j' ds' rs' bs' before' after' f' s' z' p' w' is' a' bad') =
     let same = same_declarations bytes forms h h' ds ds' rs rs' bs bs' p p' in
     absurd (faulty_among bytes ds before' after' f' s s' y (same ∙ is') a a' bad')
-first_fault_unique bytes forms x y (InRule h ds rs bs before after f s gs z p w a k is ar bad) (WithoutConstant h' ds' rs' bs' s' p' w' a' n') =
+first_fault_unique bytes forms x y (InRule h j ds rs bs before after f s gs z p w a k is ar bad) (WithoutConstant h' j' ds' rs' bs' s' p' w' a' n') =
     let same = same_declarations bytes forms h h' ds ds' rs rs' bs bs' p p' in
     absurd (n' (subst HasConstant (same_signature bytes ds ds' s s' same a a') k))
-first_fault_unique bytes forms x y (InRule h ds rs bs before after f s gs z p w a k is ar bad) (InRule h' ds' rs' bs' before' after' f' s' gs' z' p' w' a' k' is' ar' bad') =
+first_fault_unique bytes forms x y (InRule h j ds rs bs before after f s gs z p w a k is ar bad) (InRule h' j' ds' rs' bs' before' after' f' s' gs' z' p' w' a' k' is' ar' bad') =
     let parts = falls_unique bytes forms h h' ds ds' rs rs' bs bs' p p' in
+    let numbers : j' ≡ j = format_unique bytes h j' j (subst (λ f. IsFormat bytes f j') (sym parts.first_same) w') w in
     let one : s' ≡ s = sym (same_signature bytes ds ds' s s' parts.declarations_same a a') in
-    let number : ds' ≡ ds = sym parts.declarations_same in
-    two_rule_faults bytes s (length ds) before before' f f' gs gs' x y a.distinct ar
-    (subst (λ t. AreRules bytes t before' gs') one ar') bad
-    (subst (λ t. IsBadRule bytes t (length before') (length ds + length before' + 1) f' y) one
-    (subst (λ (es : List Form). IsBadRule bytes s' (length before') (length es + length before' + 1) f' y) number bad'))
+    let same : ds' ≡ ds = sym parts.declarations_same in
+    two_rule_faults bytes j s (length ds) before before' f f' gs gs' x y (format_high bytes h j w) a.distinct ar
+    (subst (λ n. AreRules bytes n s before' gs') numbers (subst (λ t. AreRules bytes j' t before' gs') one ar')) bad
+    (subst (λ n. IsBadRule bytes n s (length before') (length ds + length before' + 1) f' y) numbers
+    (subst (λ t. IsBadRule bytes j' t (length before') (length ds + length before' + 1) f' y) one
+    (subst (λ (es : List Form). IsBadRule bytes j' s' (length before') (length es + length before' + 1) f' y) same bad')))
     (places before before' after after' f f' (sym is ∙ parts.rules_same ∙ is'))

@@ -1,16 +1,13 @@
 -- Sides that are bare names.
 use Rattle.std.proofs.Common.{rules, All, ◌≡◌, ℕ, zero, suc, ◌<◌, List, [], ◌∷◌, ◌++◌, ap, Contains, length-append, length, Option, Some, IfSome, subst, arith}
-use Rattle.std.specs.Prelude.{codes}
 use Rattle.std.proofs.lemmas.Option.{IfSome_then}
 use Rattle.fort_theory.specs.Signatures.{Signature, Symbol, IsName, IsSignature, name_of}
-use Rattle.fort_theory.specs.Sides.{Side, FitsSide, Rule, variables}
+use Rattle.fort_theory.specs.Sides.{Side, FitsSide, variables}
 use Rattle.fort_theory.proofs.Members.{Contains-none}
 use Rattle.fort_terms.specs.RuleFaults.{IsFirstRepeated, IsFirstShared}
-use Rattle.fort_ari.specs.Reading.{HasBothSides}
 use Rattle.fort_grammar.specs.Forms.{Form}
-use Rattle.fort_grammar.specs.Declarations.{elements_of, IsHeaded, ProblemFault, Shares}
-use Rattle.fort_grammar.specs.RuleForms.{HasSides, IsSide, AConstant, AVariable, IsVariableNamed, IsRule, IsBadSide, IsBadRule, BadLeft, BadRight, BothSides, most_rules}
-use Rattle.fort_ari.proofs.Heads.{head_from_IsHeaded}
+use Rattle.fort_grammar.specs.Declarations.{ProblemFault, Shares}
+use Rattle.fort_grammar.specs.RuleForms.{HasSides, IsSide, AConstant, AVariable, IsVariableNamed, IndexedRule, IsRule, IsBadSide, IsBadRule, BadLeft, BadRight, BothSides, most_rules}
 
 pub below_from_name_of : (signature : Signature) (f : ℕ) (name : List ℕ) → name_of signature f ≡ Some name → f < length signature
 below_from_name_of [] f name e = cc
@@ -30,42 +27,29 @@ pub FitsSide-IsSide : {bytes : List ℕ} {signature : Signature} {number : ℕ} 
 FitsSide-IsSide (AConstant word named is none) = (none, tt)
 FitsSide-IsSide (AVariable word named free) = tt
 
--- a list of three that is headed `rule` has two sides
-pub HasSides-three : (bytes : List ℕ) (f head left right : Form) → elements_of f ≡ Some (head ∷ left ∷ right ∷ []) → IsHeaded bytes (codes "rule") f
-    → HasSides bytes f left right
-HasSides-three bytes f head left right e h =
-    record { head = head; is = e; headed = head_from_IsHeaded bytes (codes "rule") f head (left ∷ right ∷ []) e h }
-
-module _ (bytes : List ℕ) (signature there : Signature) (same : there ≡ signature) (count i : ℕ) (f left right : Form) where
-  pub bad_left : (fault : Option ProblemFault) → count < most_rules → HasSides bytes f left right → IfSome fault (IsBadSide bytes there i left)
-      → IfSome fault (IsBadRule bytes signature count i f)
+module _ (bytes : List ℕ) (signature there : Signature) (same : there ≡ signature) (number count i : ℕ) (f left right : Form) (index : ℕ) where
+  pub bad_left : (fault : Option ProblemFault) → count < most_rules → HasSides bytes number f left right index → IfSome fault (IsBadSide bytes there i left)
+      → IfSome fault (IsBadRule bytes number signature count i f)
   bad_left fault few sides bad =
-      subst (λ s. IfSome fault (IsBadRule bytes s count i f)) same (IfSome_then fault bad (λ x h. BadLeft left right x few sides h))
+      subst (λ s. IfSome fault (IsBadRule bytes number s count i f)) same (IfSome_then fault bad (λ x h. BadLeft left right index x few sides h))
 
-  pub bad_right : (s : Side) (fault : Option ProblemFault) → count < most_rules → HasSides bytes f left right → IsSide bytes there 0 left s
-      → IfSome fault (IsBadSide bytes there i right) → IfSome fault (IsBadRule bytes signature count i f)
+  pub bad_right : (s : Side) (fault : Option ProblemFault) → count < most_rules → HasSides bytes number f left right index → IsSide bytes there 0 left s
+      → IfSome fault (IsBadSide bytes there i right) → IfSome fault (IsBadRule bytes number signature count i f)
   bad_right s fault few sides side bad =
-      subst (λ s. IfSome fault (IsBadRule bytes s count i f)) same (IfSome_then fault bad (λ x h. BadRight left right s x few sides side h))
+      subst (λ s. IfSome fault (IsBadRule bytes number s count i f)) same (IfSome_then fault bad (λ x h. BadRight left right index s x few sides side h))
 
-  pub bad_both : (name : List ℕ) → count < most_rules → HasSides bytes f left right → IsVariableNamed bytes there left name
-      → IsVariableNamed bytes there right name → IsBadRule bytes signature count i f (Shares i name)
+  pub bad_both : (name : List ℕ) → count < most_rules → HasSides bytes number f left right index → IsVariableNamed bytes there left name
+      → IsVariableNamed bytes there right name → IsBadRule bytes number signature count i f (Shares i name)
   bad_both name few sides on_left on_right =
-      subst (λ s. IsBadRule bytes s count i f (Shares i name)) same (BothSides left right name few sides on_left on_right)
+      subst (λ s. IsBadRule bytes number s count i f (Shares i name)) same (BothSides left right index name few sides on_left on_right)
 
-  pub is_rule : (s t : Side) → HasSides bytes f left right → IsSide bytes there 0 left s → IsSide bytes there 1 right t
+  pub is_rule : (s t : Side) → HasSides bytes number f left right index → IsSide bytes there 0 left s → IsSide bytes there 1 right t
       → ((name : List ℕ) → IsVariableNamed bytes there left name → IsVariableNamed bytes there right name → ⊥)
-      → IsRule bytes signature f (record { left = s; right = t })
+      → IsRule bytes number signature f (record { index = index; rule = record { left = s; right = t } })
   is_rule s t sides left_is right_is separated =
-      let rule : Rule = record { left = s; right = t } in
-      subst (λ z. IsRule bytes z f rule) same
+      let given : IndexedRule = record { index = index; rule = record { left = s; right = t } } in
+      subst (λ z. IsRule bytes number z f given) same
       (record { left = left; right = right; sides = sides; left_is = left_is; right_is = right_is; separated = separated })
-
-  -- nothing is wrong with the two sides
-  pub both_sides : (s t : Side) → count < most_rules → HasSides bytes f left right → IsSide bytes there 0 left s → IsSide bytes there 1 right t
-      → HasBothSides bytes signature count f
-  both_sides s t few sides left_is right_is =
-      subst (λ z. HasBothSides bytes z count f) same
-      (record { few = few; left = left; right = right; sides = sides; left_side = s; right_side = t; left_is = left_is; right_is = right_is })
 
 again_in_one : (n v : ℕ) (before after : List ℕ) → n ∷ [] ≡ before ++ v ∷ after → Contains before v → ⊥
 again_in_one n v [] after e there = Contains-none v there

@@ -1,3 +1,5 @@
 pub mod Parts
+pub mod Numbers
 pub mod Faults
 pub mod Reading
+pub mod Grounds

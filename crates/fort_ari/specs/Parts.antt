@@ -8,7 +8,10 @@ abbrev pub BeginsHeaded : List ℕ → List ℕ → List Form → Type 0
 BeginsHeaded bytes word [] = ⊥
 BeginsHeaded bytes word (f ∷ fs) = IsHeaded bytes word f
 
--- there is a first form, and it is the format
-abbrev pub BeginsWithFormat : List ℕ → List Form → Type 0
-BeginsWithFormat bytes [] = ⊥
-BeginsWithFormat bytes (f ∷ fs) = IsFormat bytes f
+-- there is a first form, and it is the format of so many systems
+abbrev pub BeginsWithFormat : List ℕ → List Form → ℕ → Type 0
+BeginsWithFormat bytes [] number = ⊥
+BeginsWithFormat bytes (f ∷ fs) number = IsFormat bytes f number
+
+abbrev pub HasFormat : List ℕ → List Form → Type 0
+HasFormat bytes forms = (number : ℕ) × BeginsWithFormat bytes forms number

@@ -6,7 +6,7 @@ ghost use Rattle.fort_grammar.specs.ProblemForms.{IsFirstProblemFault};
 ghost use Rattle.fort_sexpr.specs.FormView.{form_count};
 ghost use Rattle.fort_ari.specs.declared.fault.ProblemFault.TheVariants.{Memory};
 ghost use Rattle.fort_ari.specs.Faults.{as_fault};
-ghost use Rattle.fort_ari.specs.Parts.{BeginsWithFormat};
+ghost use Rattle.fort_ari.specs.Parts.{HasFormat};
 ghost use Rattle.fort_ari.specs.Reading.{DeclaresNext, AreDeclared, IsFaultlessSoFar};
 
 use crate::fault::ProblemFault;
@@ -61,7 +61,7 @@ fn declare(signature: &mut Signature, form: &Form, number: u32) -> Result<(), Pr
 /// Reads the declarations from form 1 on.
 pub(crate) fn read_declarations(alloc: Global, forms: &Forms) -> Result<Declarations, ProblemFault>
     requires few { form_count forms.now.forms < 2 ^ 32 }
-    requires format { BeginsWithFormat forms.now.bytes (as_list forms.now.forms) }
+    requires format { HasFormat forms.now.bytes (as_list forms.now.forms) }
     ensures ok { IfOk result (λ d.
         AreDeclared forms.now.bytes (as_list forms.now.forms) d.signature d.next) }
     ensures fault { IfErr result (λ fault. IfSome (as_fault fault)

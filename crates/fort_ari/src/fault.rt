@@ -9,7 +9,7 @@ use std::alloc::AllocError;
 pub enum ProblemFault {
     /// There is not enough memory.
     Memory,
-    /// The first form isn't `(format TRS)`, or there is none.
+    /// There is no first form, or it is neither `(format TRS)` nor that with `:number` and 1 to 9.
     NoFormat,
     /// A form of the wrong shape.
     BadForm(u32),

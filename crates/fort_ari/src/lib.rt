@@ -4,11 +4,13 @@
 mod declaration;
 mod fault;
 mod form;
+mod ground;
 mod problem;
 mod rule;
 mod word;
 
 pub use fault::ProblemFault;
+pub use ground::read_ground;
 pub use problem::{Problem, read_problem};
 
 #[cfg(test)]

@@ -1,5 +1,5 @@
 //! Reads a problem.
-ghost use Rattle.std.specs.Prelude.{◌≡◌, ◌<◌, ◌^◌, ◌↔◌, IsTrue, IfOk, IfErr, IfSome, IsErrOf};
+ghost use Rattle.std.specs.Prelude.{◌≡◌, ◌<◌, ◌^◌, ℕ, IfOk, IfErr, IfSome, IfNone, IsErrOf};
 ghost use Rattle.fort_theory.specs.Signatures.{HasConstant};
 ghost use Rattle.fort_theory.specs.Sides as theory;
 ghost use Rattle.fort_theory.specs.Patterns.{pattern_system};
@@ -13,7 +13,7 @@ ghost use Rattle.fort_ari.specs.Reading.{AreDeclared, IsFaultlessSoFar};
 
 use crate::declaration::{Declarations, read_declarations};
 use crate::fault::ProblemFault;
-use crate::form::{begins, is_format};
+use crate::form::{begins, number_of_systems};
 use crate::rule::push_rule;
 use fort_sexpr::Forms;
 use fort_terms::System;
@@ -26,24 +26,28 @@ pub struct Problem {
     pub next: u32,
 }
 
-/// Whether the first form is `(format TRS)`.
-fn begins_with_format(forms: &Forms) -> bool
-    ensures { IsTrue result ↔ BeginsWithFormat forms.now.bytes (as_list forms.now.forms) }
+/// The number of systems, where the first form is the format.
+fn number_in_format(forms: &Forms) -> Option<u32>
+    ensures some { IfSome result (λ n.
+        BeginsWithFormat forms.now.bytes (as_list forms.now.forms) n) }
+    ensures none { IfNone result ((n : ℕ) →
+        BeginsWithFormat forms.now.bytes (as_list forms.now.forms) n → ⊥) }
 {
     if forms.len() == 0 {
-        return false;
+        return None;
     }
-    is_format(&forms.form(0))
+    number_of_systems(&forms.form(0))
 }
 
-/// Reads the rules behind the declarations.
+/// Reads the rules behind the declarations, of so many systems.
 fn read_rules(
     alloc: Global,
     forms: &Forms,
+    number: u32,
     declarations: Declarations,
 ) -> Result<Problem, ProblemFault>
     requires few { form_count forms.now.forms < 2 ^ 32 }
-    requires format { BeginsWithFormat forms.now.bytes (as_list forms.now.forms) }
+    requires format { BeginsWithFormat forms.now.bytes (as_list forms.now.forms) number }
     requires constant { HasConstant declarations.signature }
     requires declared { AreDeclared forms.now.bytes (as_list forms.now.forms)
         declarations.signature declarations.next }
@@ -55,10 +59,17 @@ fn read_rules(
     ensures memory { IsErrOf result Memory →
         IsFaultlessSoFar forms.now.bytes (as_list forms.now.forms) }
 {
-    let mut system = System::new(alloc, declarations.signature, 1)?;
-    let mut next = declarations.next;
+    let from = declarations.next;
+    let mut system = System::new(alloc, declarations.signature, number)?;
+    let mut next = from;
     'rules: while begins(forms, next, b"rule") {
-        push_rule(alloc, &mut system, &forms.form(next), next as u32)?;
+        push_rule(
+            alloc,
+            &mut system,
+            &forms.form(next),
+            next as u32,
+            next - from,
+        )?;
         next += 1;
     }
     Ok(Problem {
@@ -78,12 +89,12 @@ pub fn read_problem(alloc: Global, forms: &Forms) -> Result<Problem, ProblemFaul
     ensures memory { IsErrOf result Memory →
         IsFaultlessSoFar forms.now.bytes (as_list forms.now.forms) }
 {
-    if !begins_with_format(forms) {
+    let Some(number) = number_in_format(forms) else {
         return Err(ProblemFault::NoFormat);
-    }
+    };
     let declarations = read_declarations(alloc, forms)?;
     if !declarations.signature.has_constant() {
         return Err(ProblemFault::NoConstant);
     }
-    read_rules(alloc, forms, declarations)
+    read_rules(alloc, forms, number, declarations)
 }

@@ -1,6 +1,7 @@
 //! Reads a rule.
 ghost use Rattle.std.specs.Prelude.{◌≡◌, ◌≤◌, ◌<◌, ℕ, List, length, IfOk, IfErr, IfSome, IfNone, IsErrOf, codes};
-ghost use Rattle.fort_theory.specs.Sides.{at_index};
+ghost use Rattle.fort_theory.specs.Signatures.{most_indices};
+ghost use Rattle.fort_theory.specs.Sides.{count_all};
 ghost use Rattle.fort_grammar.specs.Declarations.{IsHeaded};
 ghost use Rattle.fort_grammar.specs.Forms as grammar;
 ghost use Rattle.fort_grammar.specs.RuleForms.{HasSides, IsSide, IsBadSide, IsBadRule, IsVariableNamed, most_rules};
@@ -10,6 +11,7 @@ ghost use Rattle.fort_ari.specs.Faults.{as_fault};
 ghost use Rattle.fort_ari.specs.Reading.{HasBothSides, PushesRule};
 
 use crate::fault::ProblemFault;
+use crate::form::number_named;
 use crate::word::is_name;
 use fort_sexpr::Form;
 use fort_terms::{RuleFault, Side, Sides, Signature, System};
@@ -69,52 +71,75 @@ fn shared_name<'a>(signature: &Signature, left: &Form<'a>, right: &Form) -> Opti
     }
 }
 
-/// The two sides of a rule.
-fn sides_of<'a>(form: &Form<'a>) -> Option<(Form<'a>, Form<'a>)>
-    requires headed { IsHeaded form.now.bytes (codes "rule") form.now.form }
-    ensures some { IfSome result (λ p.
-        HasSides form.now.bytes form.now.form p.0.form p.1.form) }
-    ensures bytes { IfSome result (λ p.
-        (p.0.bytes ≡ form.now.bytes) × (p.1.bytes ≡ form.now.bytes)) }
-    ensures none { IfNone result ((left right : grammar.Form) →
-        HasSides form.now.bytes form.now.form left right → ⊥) }
-{
-    let (_, left, right) = form.three()?;
-    Some((left, right))
+/// The two sides of a rule, and its index.
+#[derive(Drop)]
+struct RuleForms<'a> {
+    left: Form<'a>,
+    right: Form<'a>,
+    index: u32,
 }
 
-/// Adds the rule of the form of this number.
+/// The sides and the index of a rule of one of so many systems.
+fn sides_of<'a>(form: &Form<'a>, systems: u32) -> Option<RuleForms<'a>>
+    requires headed { IsHeaded form.now.bytes (codes "rule") form.now.form }
+    requires some { 1 ≤ systems }
+    requires few { systems ≤ most_indices }
+    ensures some { IfSome result (λ p.
+        HasSides form.now.bytes systems form.now.form p.left.form p.right.form p.index) }
+    ensures bytes { IfSome result (λ p.
+        (p.left.bytes ≡ form.now.bytes) × (p.right.bytes ≡ form.now.bytes)) }
+    ensures none { IfNone result ((left right : grammar.Form) (index : ℕ) →
+        HasSides form.now.bytes systems form.now.form left right index → ⊥) }
+{
+    let list = form.elements()?;
+    let index = match list.len() {
+        3 => 1,
+        5 => number_named(&list.get(3), &list.get(4), b":index")?,
+        _ => return None,
+    };
+    if index > systems {
+        return None;
+    }
+    Some(RuleForms {
+        left: list.get(1),
+        right: list.get(2),
+        index,
+    })
+}
+
+/// Adds the rule of the form of this number, behind so many rules.
 pub(crate) fn push_rule(
     alloc: Global,
     system: &mut System,
     form: &Form,
     number: u32,
+    count: usize,
 ) -> Result<(), ProblemFault>
     requires headed { IsHeaded form.now.bytes (codes "rule") form.now.form }
-    requires one_index { length system.old.rules ≡ 1 }
-    requires few { length (at_index 1 system.old.rules) ≤ most_rules }
+    requires counted { count ≡ count_all system.old.rules }
+    requires few { count ≤ most_rules }
     ensures ok { IfOk result (λ _.
         PushesRule form.now.bytes form.now.form system.old system.new) }
-    ensures few { IfOk result (λ _. length (at_index 1 system.old.rules) < most_rules) }
+    ensures few { IfOk result (λ _. count < most_rules) }
     ensures fault { IfErr result (λ fault. IfSome (as_fault fault)
-        (IsBadRule form.now.bytes system.old.signature (length (at_index 1 system.old.rules))
+        (IsBadRule form.now.bytes (length system.old.rules) system.old.signature count
         number form.now.form)) }
-    ensures memory { IsErrOf result Memory → HasBothSides form.now.bytes system.old.signature
-        (length (at_index 1 system.old.rules)) form.now.form }
+    ensures memory { IsErrOf result Memory → HasBothSides form.now.bytes
+        (length system.old.rules) system.old.signature count form.now.form }
 {
-    if system.rules(1).len() == MOST_RULES {
+    if count == MOST_RULES {
         return Err(ProblemFault::TooManyRules);
     }
-    let Some((left_form, right_form)) = sides_of(form) else {
+    let Some(sides) = sides_of(form, system.number()) else {
         return Err(ProblemFault::BadForm(number));
     };
     let signature = system.signature();
-    let left = side(alloc, signature, &left_form, 0, number)?;
-    let right = side(alloc, signature, &right_form, 1, number)?;
-    if let Some(name) = shared_name(signature, &left_form, &right_form) {
+    let left = side(alloc, signature, &sides.left, 0, number)?;
+    let right = side(alloc, signature, &sides.right, 1, number)?;
+    if let Some(name) = shared_name(signature, &sides.left, &sides.right) {
         return Err(ProblemFault::Shares(number, Vec::from_slice(alloc, name)?));
     }
-    match system.push(1, &left, &right) {
+    match system.push(sides.index, &left, &right) {
         Ok(()) => Ok(()),
         Err(RuleFault::Memory) => Err(ProblemFault::Memory),
         // sides that are bare names and share no variable are linear and separated

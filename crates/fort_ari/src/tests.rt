@@ -1,7 +1,7 @@
 //! Texts, and the problem or the fault that each has.
-use crate::{Problem, ProblemFault, read_problem};
+use crate::{Problem, ProblemFault, read_ground, read_problem};
 use fort_sexpr::read;
-use fort_terms::{Pattern, Signature, Sym};
+use fort_terms::{Pattern, Signature, Sym, Term};
 use std::alloc::{AllocError, Global};
 use std::process::Abort;
 use std::test::Fail;
@@ -46,7 +46,20 @@ fn functions(alloc: Global, signature: &Signature) -> Result<String, Fail> {
     Ok(text)
 }
 
-/// Functions, rules and the number of the next form, or the fault.
+/// Rules, one behind the other.
+fn spelled_rules(alloc: Global, rules: &[(Pattern, Pattern)]) -> Result<String, Fail> {
+    let mut text = String::new(alloc);
+    for (left, right) in rules {
+        let left = spelled(alloc, left)?;
+        let right = spelled(alloc, right)?;
+        let rule = format!(in alloc; "{left}>{right} ")?;
+        text.push_str(rule.as_str())?;
+    }
+    Ok(text)
+}
+
+/// Functions, the rules of index 1, those of each other index behind it, and the number of the
+/// next form, or the fault.
 fn described(alloc: Global, answer: Result<Problem, ProblemFault>) -> Result<String, Fail> {
     let problem = match answer {
         Ok(problem) => problem,
@@ -57,11 +70,13 @@ fn described(alloc: Global, answer: Result<Problem, ProblemFault>) -> Result<Str
         Err(fault) => return Ok(format!(in alloc; "{fault:?}")?),
     };
     let mut text = functions(alloc, problem.system.signature())?;
-    for (left, right) in problem.system.rules(1) {
-        let left = spelled(alloc, left)?;
-        let right = spelled(alloc, right)?;
-        let rule = format!(in alloc; "{left}>{right} ")?;
-        text.push_str(rule.as_str())?;
+    for index in 1..problem.system.number() + 1 {
+        if index > 1 {
+            let place = format!(in alloc; "[{index}] ")?;
+            text.push_str(place.as_str())?;
+        }
+        let rules = spelled_rules(alloc, problem.system.rules(index))?;
+        text.push_str(rules.as_str())?;
     }
     let next = format!(in alloc; "next {}", problem.next)?;
     text.push_str(next.as_str())?;
@@ -167,6 +182,66 @@ fn reads_problems(rt: HostRuntime) -> Result<(), Fail> {
     Ok(())
 }
 
+#[test]
+fn reads_several_systems(rt: HostRuntime) -> Result<(), Fail> {
+    let table: [(&str, &str); 29] = [
+        // no number of systems
+        ("(format TRS :number)(fun a 0)", "NoFormat"),
+        ("(format TRS :number 0)(fun a 0)", "NoFormat"),
+        ("(format TRS :number 10)(fun a 0)", "NoFormat"),
+        ("(format TRS :number 02)(fun a 0)", "NoFormat"),
+        ("(format TRS :number x)(fun a 0)", "NoFormat"),
+        ("(format TRS :number (2))(fun a 0)", "NoFormat"),
+        ("(format TRS :number 2 2)(fun a 0)", "NoFormat"),
+        ("(format TRS 2)(fun a 0)", "NoFormat"),
+        ("(format TRS :index 2)(fun a 0)", "NoFormat"),
+        ("(format SRS :number 2)(fun a 0)", "NoFormat"),
+        // numbers of systems
+        ("(format TRS :number 1)(fun a 0)", "a/0 next 2"),
+        ("(format TRS :number 2)(fun a 0)", "a/0 [2] next 2"),
+        (
+            "(format TRS :number 9)(fun a 0)(rule a a :index 9)",
+            "a/0 [2] [3] [4] [5] [6] [7] [8] [9] 0>0 next 3",
+        ),
+        // no index
+        ("(format TRS)(fun a 0)(rule a a :index 0)", "BadForm(2)"),
+        ("(format TRS)(fun a 0)(rule a a :index 2)", "BadForm(2)"),
+        (
+            "(format TRS :number 2)(fun a 0)(rule a a :index 3)",
+            "BadForm(2)",
+        ),
+        ("(format TRS)(fun a 0)(rule a a :index)", "BadForm(2)"),
+        ("(format TRS)(fun a 0)(rule a a :index 1 1)", "BadForm(2)"),
+        ("(format TRS)(fun a 0)(rule a a :Index 1)", "BadForm(2)"),
+        ("(format TRS)(fun a 0)(rule a a :number 1)", "BadForm(2)"),
+        ("(format TRS)(fun a 0)(rule a a :index 01)", "BadForm(2)"),
+        ("(format TRS)(fun a 0)(rule a a 1 :index)", "BadForm(2)"),
+        ("(format TRS)(fun a 0)(rule :a a :index 2)", "BadForm(2)"),
+        // indices
+        ("(format TRS)(fun a 0)(rule a a :index 1)", "a/0 0>0 next 3"),
+        ("(format TRS)(fun a 0)(rule :a a :index 1)", "BadName(2)"),
+        ("(format TRS)(fun a 0)(rule x x :index 1)", "Shares(2, x)"),
+        (
+            "(format TRS :number 2)(fun a 0)(rule x a :index 2)(rule a x)",
+            "a/0 0>* [2] *>0 next 4",
+        ),
+        (
+            "(format TRS :number 2)(fun a 0)(rule x a :index 2)(rule a a)(rule a x :index 2)",
+            "a/0 0>0 [2] *>0 0>* next 5",
+        ),
+        (
+            "(format TRS :number 3)(fun a 0)(rule a a :index 2)(more)",
+            "a/0 [2] 0>0 [3] next 3",
+        ),
+    ];
+    for (source, want) in table {
+        let answer = answer_to(&rt, rt.alloc(), source.as_bytes())?;
+        let found = described(rt.alloc(), answer)?;
+        assert_eq!(rt; found.as_str(), want, "in {source}");
+    }
+    Ok(())
+}
+
 /// So many functions, of which the first is a constant, and a text behind them.
 fn many_functions(alloc: Global, count: usize, behind: &str) -> Result<String, AllocError> {
     let mut text = format!(in alloc; "(format TRS)")?;
@@ -178,11 +253,15 @@ fn many_functions(alloc: Global, count: usize, behind: &str) -> Result<String, A
     Ok(text)
 }
 
-/// So many rules, and a text behind them.
+/// So many rules in turn of two systems, and a text behind them.
 fn many_rules(alloc: Global, count: usize, behind: &str) -> Result<String, AllocError> {
-    let mut text = format!(in alloc; "(format TRS)(fun a 0)")?;
-    for _ in 0..count {
-        text.push_str("(rule a a)")?;
+    let mut text = format!(in alloc; "(format TRS :number 2)(fun a 0)")?;
+    for number in 0..count {
+        text.push_str(if number % 2 == 0 {
+            "(rule a a)"
+        } else {
+            "(rule a a :index 2)"
+        })?;
     }
     text.push_str(behind)?;
     Ok(text)
@@ -200,7 +279,7 @@ fn keeps_limits(rt: HostRuntime) -> Result<(), Fail> {
     assert_eq!(rt; answer.err(), Some(ProblemFault::TooManyFunctions));
     let rules = many_rules(alloc, 4096, "(more)")?;
     let answer = answer_to(&rt, alloc, rules.as_bytes())??;
-    assert_eq!(rt; answer.system.rules(1).len(), 4096);
+    assert_eq!(rt; answer.system.rules(1).len(), 2048);
     assert_eq!(rt; answer.next, 4098);
     let rules = many_rules(alloc, 4096, "(rule)")?;
     let answer = answer_to(&rt, alloc, rules.as_bytes())?;
@@ -233,6 +312,61 @@ fn keeps_lengths_of_names(rt: HostRuntime) -> Result<(), Fail> {
         let text = long_names(alloc, function, variable)?;
         let answer = answer_to(&rt, alloc, text.as_bytes())?;
         assert_eq!(rt; answer.err(), want, "{function} {variable}");
+    }
+    Ok(())
+}
+
+/// The numbers of a term's symbols, each before those of its arguments.
+fn add_symbols(alloc: Global, term: &Term, text: &mut String) -> Result<(), AllocError> {
+    let sym = format!(in alloc; "{} ", term.sym.0)?;
+    text.push_str(sym.as_str())?;
+    for kid in &term.kids {
+        add_symbols(alloc, kid, text)?;
+    }
+    Ok(())
+}
+
+#[test]
+fn reads_ground_terms(rt: HostRuntime) -> Result<(), Fail> {
+    let alloc = rt.alloc();
+    let functions = b"(format TRS)(fun a 0)(fun b 0)(fun f 1)(fun g 2)";
+    let problem = answer_to(&rt, alloc, functions)??;
+    let table: [(&str, &str); 22] = [
+        ("a", "0 "),
+        (" b\n", "1 "),
+        ("(f a)", "2 0 "),
+        ("(g a b)", "3 0 1 "),
+        ("(g (f b) (g b (f (f a))))", "3 2 1 3 1 2 2 0 "),
+        ("; a\n(f ; b)\na)", "2 0 "),
+        // variables
+        ("x", ""),
+        ("(g a x)", ""),
+        ("(x a)", ""),
+        // another number of arguments
+        ("g", ""),
+        ("(g a)", ""),
+        ("(g a b a)", ""),
+        ("(a)", ""),
+        ("(f)", ""),
+        // not one form
+        ("", ""),
+        ("; a", ""),
+        ("a b", ""),
+        // lists of another shape, and faults
+        ("()", ""),
+        ("((f) a)", ""),
+        ("(f a", ""),
+        ("(f a))", ""),
+        ("a\x01", ""),
+    ];
+    for (source, want) in table {
+        let text = source.as_bytes();
+        assert!(rt; text.len() < 1 << 32);
+        let mut found = String::new(alloc);
+        if let Some(term) = read_ground(alloc, problem.system.signature(), text)? {
+            add_symbols(alloc, &term, &mut found)?;
+        }
+        assert_eq!(rt; found.as_str(), want, "in {source}");
     }
     Ok(())
 }

@@ -3,6 +3,7 @@ ghost use Rattle.std.specs.Prelude.{◌≡◌, ℕ, ◌↔◌, IsTrue, IfSome, I
 ghost use Rattle.fort_theory.specs.Signatures as theory;
 ghost use Rattle.fort_theory.specs.Signatures.{IsName};
 ghost use Rattle.fort_grammar.specs.Declarations.{IsArity};
+ghost use Rattle.fort_ari.specs.Numbers.{IsNumber};
 
 use fort_sexpr::is_word_byte;
 
@@ -30,4 +31,18 @@ pub(crate) fn arity_of(word: &[u8]) -> Option<u8>
         return None;
     }
     Some(*digit - b'0')
+}
+
+/// The number from 1 to 9 that a word is.
+pub(crate) fn number_of(word: &[u8]) -> Option<u32>
+    ensures some { IfSome result (λ n. IsNumber word.now n) }
+    ensures none { IfNone result ((n : ℕ) → IsNumber word.now n → ⊥) }
+{
+    let [digit] = word else {
+        return None;
+    };
+    if *digit < b'1' || b'9' < *digit {
+        return None;
+    }
+    Some((*digit - b'0') as u32)
 }

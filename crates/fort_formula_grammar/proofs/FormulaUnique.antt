@@ -1,17 +1,18 @@
 -- Tokens begin with one formula of each kind at most, and what follows it is determined, where the reading can't go on.
-use Rattle.std.proofs.Common.{◌≡◌, false, List, [], ◌∷◌, refl, sym, ap, ◌∙◌, subst, inl, inr}
+use Rattle.std.proofs.Common.{◌≡◌, ℕ, false, List, [], ◌∷◌, refl, sym, ap, ◌∙◌, subst, inl, inr}
 use Rattle.std.proofs.lemmas.Bool.{true≢false}
 use Rattle.fort_logic.specs.Formulas as theory
-use Rattle.fort_logic.specs.Formulas.{Formula}
+use Rattle.fort_logic.specs.Formulas.{Argument, Formula, SurfaceRel}
 use Rattle.fort_formula_grammar.specs.Tokens.{Token, And, Or}
-use Rattle.fort_formula_grammar.specs.FormulaGrammar.{Quantifier, quantified, IsFormula, IsImplication, IsDisjunction, IsConjunction, IsUnary, IsBound, OneSide, BothSides, Conclusion, Premise, FirstOr, MoreOr, FirstAnd, MoreAnd, Negated, ForSome, ForEvery, Infinitely, Enclosed, Truth, Falsity, Named, NormalForm, Joinable, Compared, LastBinder, MoreBinders}
+use Rattle.fort_formula_grammar.specs.FormulaGrammar.{Quantifier, quantified, IsFormula, IsImplication, IsDisjunction, IsConjunction, IsUnary, IsBound, IsArgument, IsRelation, OneSide, BothSides, Conclusion, Premise, FirstOr, MoreOr, FirstAnd, MoreAnd, Negated, ForSome, ForEvery, Infinitely, Enclosed, Truth, Falsity, Named, Commuting, NormalForm, Joinable, Compared, LastBinder, MoreBinders, AVariable, AGround}
 use Rattle.fort_formula_grammar.specs.Continuations.{continues_conjunction, continues_disjunction, continues_implication, continues_formula}
+use Rattle.fort_formula_grammar.proofs.IndexUnique.{IsIndex-unique, IsRelation-unique, argument_behind}
 use Rattle.fort_formula_grammar.proofs.FormulaTails.{AndTail, NoAnd, OneAnd, AndTail-push, and_parts, AreAndFronts, AreAndFronts-ended, OrTail, NoOr, OneOr, OrTail-push, OrTail-begin, or_parts, AreOrFronts, AreOrFronts-ended, disjunction-not_conjunction, implication-not_disjunction, formula-not_implication}
 
 low : (ts : List Token) → continues_implication ts ≡ false → continues_conjunction ts ≡ false
 low ts h = disjunction-not_conjunction ts (implication-not_disjunction ts h)
 
-same_behind : {t : Token} {us vs : List Token} → t ∷ us ≡ t ∷ vs → us ≡ vs
+pub same_behind : {t : Token} {us vs : List Token} → t ∷ us ≡ t ∷ vs → us ≡ vs
 same_behind e = cc
 
 OrTail-same : {ts us vs : List Token} {f g h : Formula} → f ≡ g → ts ≡ us → OrTail f ts h vs → OrTail g us h vs
@@ -35,6 +36,17 @@ OrTail-step q c unique NoOr = inr (OneOr c NoOr)
 OrTail-step {f = f} q c unique (OneOr d t) =
     let same = unique _ _ d (OrTail-begin t q) in
     inl (OrTail-same (sym (ap (theory.Or f) same.0)) (sym same.1) t)
+
+compared-unique : {ts us vs ws xs : List Token} {a b : Argument} {rel : SurfaceRel} {index : ℕ} {f : Formula} → IsArgument ts a us
+    → IsRelation us rel index vs → IsArgument vs b ws → IsUnary ts f xs → (theory.Related rel a b index ≡ f) × (ws ≡ xs)
+compared-unique AVariable r b (Compared AVariable s c) =
+    let relations = IsRelation-unique r s in
+    let same = argument_behind relations.2 b c in
+    (cc, same.1)
+compared-unique AGround r b (Compared AGround s c) =
+    let relations = IsRelation-unique r s in
+    let same = argument_behind relations.2 b c in
+    (cc, same.1)
 
 -- of two conjunctions or disjunctions that begin at one place, one is a front of the other
 mutual
@@ -96,10 +108,19 @@ mutual
   unary-unique (Enclosed d) (Enclosed e) = let same = formula-unique d refl e refl in (same.0, same_behind same.1)
   unary-unique Truth Truth = (refl, refl)
   unary-unique Falsity Falsity = (refl, refl)
-  unary-unique Named Named = (refl, refl)
-  unary-unique NormalForm NormalForm = (refl, refl)
-  unary-unique Joinable Joinable = (refl, refl)
-  unary-unique Compared Compared = (refl, refl)
+  unary-unique (Named {p = p} i) (Named j) = let same = IsIndex-unique i j in (ap (theory.Has p) same.0, same.1)
+  unary-unique Commuting Commuting = (refl, refl)
+  unary-unique (NormalForm i a) (NormalForm j b) =
+      let indices = IsIndex-unique i j in
+      let same = argument_behind (same_behind indices.1) a b in
+      (cc, same_behind same.1)
+  unary-unique (Joinable i a c) (Joinable j b d) =
+      let indices = IsIndex-unique i j in
+      let first = argument_behind (same_behind indices.1) a b in
+      let second = argument_behind (same_behind first.1) c d in
+      (cc, same_behind second.1)
+  unary-unique (Compared a r b) v = compared-unique a r b v
+  unary-unique u (Compared a r b) = let same = compared-unique a r b u in (sym same.0, sym same.1)
 
   pub bound-unique : {q : Quantifier} {ts us vs : List Token} {f g : Formula} → IsBound q ts f us → IsBound q ts g vs → (f ≡ g) × (us ≡ vs)
   bound-unique (LastBinder {q = q} {x = x} d) (LastBinder e) = let same = formula-unique d refl e refl in (ap (quantified q x) same.0, same_behind same.1)

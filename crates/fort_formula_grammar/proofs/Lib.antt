@@ -1,8 +1,15 @@
 pub mod FormulaTails
+pub mod IndexUnique
 pub mod FormulaUnique
-pub mod FormulaNone
 pub mod NextTokens
-pub mod UnaryNone
+pub mod LocalReadings
+pub mod FirstTokens
+pub mod StuckReadings
+pub mod StuckLocal
+pub mod StuckLevels
+pub mod StuckNothing
+pub mod StuckPlaces
+pub mod FormulaPlaces
 pub mod TokenReadings
 pub mod TokenTexts
 pub mod TokenFronts

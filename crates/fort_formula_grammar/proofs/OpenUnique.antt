@@ -15,10 +15,10 @@ open_behind-append n (Close ∷ ts) us = open_behind-append (n - 1) ts us
 open_behind-append n (t ∷ ts) us = open_behind-append n ts us
 
 -- tokens read at a ( begin with it
-pub Reads-open : {behind c : List ℕ} {ts : List Token} → Reads (40 ∷ behind) ts c → (c ≡ 40 ∷ behind) ⊎ ((rest : List Token) × (ts ≡ Open ∷ rest))
+pub Reads-open : {n : ℕ} {behind c : List ℕ} {ts : List Token} → Reads n (40 ∷ behind) ts c → (c ≡ 40 ∷ behind) ⊎ ((rest : List Token) × (ts ≡ Open ∷ rest))
 Reads-open Nothing = inl refl
 Reads-open (Blank e r) = absurd (false≢true e)
-Reads-open {behind} (Next {after = after} {token = t} {tokens = ts} h r) =
+Reads-open {behind = behind} (Next {after = after} {token = t} {tokens = ts} h p r) =
     inr (ts, ap (λ u. u ∷ ts) (token_at_open behind after t h.proper h.written))
 
 -- shallow tokens have no ( where as many as may be are open
@@ -33,8 +33,8 @@ shallow_not_full us ts rest shallow e full =
     omega arith
 
 -- no ( opens one too many where shallow tokens are read past it
-OpensTooMany-stuck : {text c : List ℕ} {offset : ℕ} {us : List Token} → (x : OpensTooMany text offset) → AreShallow us → (more : List Token) → us ≡ x.tokens ++ more
-    → Reads (40 ∷ x.behind) more c → c ≡ 40 ∷ x.behind
+OpensTooMany-stuck : {n : ℕ} {text c : List ℕ} {offset : ℕ} {us : List Token} → (x : OpensTooMany text offset) → AreShallow us → (more : List Token) → us ≡ x.tokens ++ more
+    → Reads n (40 ∷ x.behind) more c → c ≡ 40 ∷ x.behind
 OpensTooMany-stuck x shallow more e r =
     elim (Reads-open r) [
       | inl same ↦ same

@@ -1,13 +1,17 @@
 -- Each token is written in its own way, and begins with a byte of its own kind.
-use Rattle.std.proofs.Common.{◌≡◌, ℕ, suc, ◌<◌, Bool, true, false, cond, List, [], ◌∷◌, ◌++◌, length, get_or, map, refl, sym, ap, ◌∙◌, arith}
+use Rattle.std.proofs.Common.{◌≡◌, ℕ, suc, ◌<◌, ◌≤◌, ◌-◌, Bool, true, false, cond, take, drop, List, [], ◌∷◌, ◌++◌, length, get_or, map, zero, refl, sym, ap, ◌∙◌, arith}
 use Rattle.std.specs.Prelude.{bytes_eq, codes, not, ◌&&◌, ◌||◌, ◌==◌}
 use Rattle.std.specs.Char.{is_ascii_alphabetic}
 use Rattle.std.proofs.lemmas.Bool.{or_from, eqb-true, not-true, cond-false, false≢true, false_from_ne_true, and_parts}
 use Rattle.std.proofs.lemmas.Slice.Eq.{bytes_eq-Decides}
+use Rattle.std.proofs.lemmas.List.{length-append}
+use Rattle.std.proofs.Math.Seq.{take-append_seam}
 use Rattle.fort_logic.specs.Formulas as theory
 use Rattle.fort_logic.specs.Formulas.{Name, SurfaceRel, Property}
 use Rattle.fort_grammar.specs.Text.{is_blank}
-use Rattle.fort_formula_grammar.specs.Tokens.{IsVariable, begins_with_letter, Token, Open, Close, Comma, Not, And, Or, Imp, Iff, Related, Exists, Forall, Infinite, True, False, Nf, Join, Has, Com, Sn, Variable, IsToken, token_text, relation_text, property_text}
+use Rattle.fort_formula_grammar.specs.TokenText.{HasPlace}
+use Rattle.fort_formula_grammar.specs.TokenForms.{begins_with_brace}
+use Rattle.fort_formula_grammar.specs.Tokens.{IsVariable, begins_with_letter, Token, Open, Close, Comma, Not, And, Or, Imp, Iff, Related, Index, Exists, Forall, Infinite, True, False, Nf, Join, Has, Com, Sn, Variable, Ground, IsToken, token_text, relation_text, property_text}
 
 -- the token that a text writes, by a table of the others than variables
 abbrev find_token : List (Name × Token) → Name → Token
@@ -19,7 +23,9 @@ signs = (codes "(", Open) ∷ (codes ")", Close) ∷ (codes ",", Comma) ∷ (cod
     ∷ (codes "<=>", Iff) ∷ (codes "=", Related theory.Eq) ∷ (codes "->", Related theory.Step) ∷ (codes "->*", Related theory.Star)
     ∷ (codes "->+", Related theory.Plus) ∷ (codes "->=", Related theory.Reflexive) ∷ (codes "->!", Related theory.Normal)
     ∷ (codes "->^", Related theory.Root) ∷ (codes "->_", Related theory.Below) ∷ (codes "-||->", Related theory.Par)
-    ∷ (codes "<->", Related theory.Either) ∷ (codes "<->*", Related theory.Conv) ∷ []
+    ∷ (codes "<->", Related theory.Either) ∷ (codes "<->*", Related theory.Conv)
+    ∷ (codes "[1]", Index 1) ∷ (codes "[2]", Index 2) ∷ (codes "[3]", Index 3) ∷ (codes "[4]", Index 4) ∷ (codes "[5]", Index 5)
+    ∷ (codes "[6]", Index 6) ∷ (codes "[7]", Index 7) ∷ (codes "[8]", Index 8) ∷ (codes "[9]", Index 9) ∷ []
 
 abbrev words : List (Name × Token)
 words = (codes "exists", Exists) ∷ (codes "forall", Forall) ∷ (codes "infinite", Infinite) ∷ (codes "true", True) ∷ (codes "false", False)
@@ -31,8 +37,13 @@ abbrev find_sign : List (Name × Token) → Name → Token
 find_sign [] name = find_token words name
 find_sign (e ∷ es) name = cond (bytes_eq e.0 name) e.1 (find_sign es name)
 
-abbrev back : Name → Token
-back name = find_sign signs name
+-- what stands between braces
+abbrev between : List ℕ → List ℕ
+between text = take (length text - 2) (drop 1 text)
+
+-- where so many ground terms stand before
+abbrev back : ℕ → Name → Token
+back n name = cond (begins_with_brace name) (Ground n (between name)) (find_sign signs name)
 
 other_text : (a b : List ℕ) → (a ≡ b → ⊥) → bytes_eq a b ≡ false
 other_text a b h = false_from_ne_true (bytes_eq a b) (λ e. h ((bytes_eq-Decides a b).0 e))
@@ -57,21 +68,49 @@ find_sign-letter (e ∷ es) name signed letter =
     cond-false (bytes_eq e.0 name) e.1 (find_sign es name) (other_text e.0 name other)
     ∙ find_sign-letter es name signs_are.1 letter
 
-back-variable : (name : Name) → IsVariable name → back name ≡ Variable name
-back-variable name v = find_sign-letter signs name refl v.letter ∙ find_token-free words name (λ k l h. v.free (k, l, h))
+-- a byte that is no letter is not this letter
+no_letter_at : (c b : ℕ) → is_ascii_alphabetic c ≡ false → is_ascii_alphabetic b ≡ true → (b == c) ≡ true → ⊥
+no_letter_at c b h l e = false≢true (sym h ∙ (ap is_ascii_alphabetic (sym (eqb-true b c e)) ∙ l))
 
-back-token_text : (t : Token) → IsToken t → back (token_text t) ≡ t
-back-token_text Open p = refl
-back-token_text Close p = refl
-back-token_text Comma p = refl
-back-token_text Not p = refl
-back-token_text And p = refl
-back-token_text Or p = refl
-back-token_text Imp p = refl
-back-token_text Iff p = refl
-back-token_text (Related rel) p = relation rel
+letter-no_brace : (name : Name) → begins_with_letter name ≡ true → begins_with_brace name ≡ false
+letter-no_brace [] h = refl
+letter-no_brace (b ∷ bs) h = false_from_ne_true (b == 123) (no_letter_at 123 b refl h)
+
+back-variable : (n : ℕ) (name : Name) → IsVariable name → back n name ≡ Variable name
+back-variable n name v =
+    cond-false (begins_with_brace name) (Ground n (between name)) (find_sign signs name) (letter-no_brace name v.letter)
+    ∙ (find_sign-letter signs name refl v.letter ∙ find_token-free words name (λ k l h. v.free (k, l, h)))
+
+back-index : (n k : ℕ) → 1 ≤ k → k ≤ 9 → back n (token_text (Index k)) ≡ Index k
+back-index n zero h l = absurd (omega arith)
+back-index n (suc zero) h l = refl
+back-index n (suc (suc zero)) h l = refl
+back-index n (suc (suc (suc zero))) h l = refl
+back-index n (suc (suc (suc (suc zero)))) h l = refl
+back-index n (suc (suc (suc (suc (suc zero))))) h l = refl
+back-index n (suc (suc (suc (suc (suc (suc zero)))))) h l = refl
+back-index n (suc (suc (suc (suc (suc (suc (suc zero))))))) h l = refl
+back-index n (suc (suc (suc (suc (suc (suc (suc (suc zero)))))))) h l = refl
+back-index n (suc (suc (suc (suc (suc (suc (suc (suc (suc zero))))))))) h l = refl
+back-index n (suc (suc (suc (suc (suc (suc (suc (suc (suc (suc k)))))))))) h l = absurd (omega arith)
+
+back-ground : (n : ℕ) (text : List ℕ) → back n (123 ∷ text ++ 125 ∷ []) ≡ Ground n text
+back-ground n text =
+    let size : length (123 ∷ text ++ 125 ∷ []) - 2 ≡ length text = let l = length-append text (125 ∷ []) in omega (arith, l) in
+    ap (Ground n) (ap (λ k. take k (text ++ 125 ∷ [])) size ∙ take-append_seam text (125 ∷ []))
+
+back-token_text : (n : ℕ) (t : Token) → IsToken t → HasPlace n t → back n (token_text t) ≡ t
+back-token_text n Open p q = refl
+back-token_text n Close p q = refl
+back-token_text n Comma p q = refl
+back-token_text n Not p q = refl
+back-token_text n And p q = refl
+back-token_text n Or p q = refl
+back-token_text n Imp p q = refl
+back-token_text n Iff p q = refl
+back-token_text n (Related rel) p q = relation rel
   where
-    relation : (rel : SurfaceRel) → back (relation_text rel) ≡ Related rel
+    relation : (rel : SurfaceRel) → back n (relation_text rel) ≡ Related rel
     relation theory.Eq = refl
     relation theory.Step = refl
     relation theory.Star = refl
@@ -83,16 +122,16 @@ back-token_text (Related rel) p = relation rel
     relation theory.Par = refl
     relation theory.Either = refl
     relation theory.Conv = refl
-back-token_text Exists p = refl
-back-token_text Forall p = refl
-back-token_text Infinite p = refl
-back-token_text True p = refl
-back-token_text False p = refl
-back-token_text Nf p = refl
-back-token_text Join p = refl
-back-token_text (Has property) p = has property
+back-token_text n Exists p q = refl
+back-token_text n Forall p q = refl
+back-token_text n Infinite p q = refl
+back-token_text n True p q = refl
+back-token_text n False p q = refl
+back-token_text n Nf p q = refl
+back-token_text n Join p q = refl
+back-token_text n (Has property) p q = has property
   where
-    has : (property : Property) → back (property_text property) ≡ Has property
+    has : (property : Property) → back n (property_text property) ≡ Has property
     has theory.Cr = refl
     has theory.Wcr = refl
     has theory.Scr = refl
@@ -100,17 +139,15 @@ back-token_text (Has property) p = has property
     has theory.Unr = refl
     has theory.Unc = refl
     has theory.Nfp = refl
-back-token_text Com p = refl
-back-token_text Sn p = refl
-back-token_text (Variable name) p = back-variable name p
+back-token_text n Com p q = refl
+back-token_text n Sn p q = refl
+back-token_text n (Index k) p q = back-index n k p.0 p.1
+back-token_text n (Variable name) p q = back-variable n name p
+back-token_text n (Ground place text) p q = back-ground n text ∙ ap (λ k. Ground k text) (sym q)
 
--- two tokens are not written alike
-pub token_text-injective : (t u : Token) → IsToken t → IsToken u → token_text t ≡ token_text u → t ≡ u
-token_text-injective t u p q h = sym (back-token_text t p) ∙ (ap back h ∙ back-token_text u q)
-
--- a byte that is no letter is not this letter
-no_letter_at : (c b : ℕ) → is_ascii_alphabetic c ≡ false → is_ascii_alphabetic b ≡ true → (b == c) ≡ true → ⊥
-no_letter_at c b h l e = false≢true (sym h ∙ (ap is_ascii_alphabetic (sym (eqb-true b c e)) ∙ l))
+-- two tokens are not written alike; ground terms where as many stand before both
+pub token_text-injective : (n : ℕ) (t u : Token) → IsToken t → IsToken u → HasPlace n t → HasPlace n u → token_text t ≡ token_text u → t ≡ u
+token_text-injective n t u p q x y h = sym (back-token_text n t p x) ∙ (ap (back n) h ∙ back-token_text n u q y)
 
 letter-no_blank : (b : ℕ) → is_ascii_alphabetic b ≡ true → is_blank b ≡ false
 letter-no_blank b l =

@@ -1,8 +1,8 @@
 -- Nothing to believe: which tokens go on with a reading that could end before them, and that no reading of a kind begins some tokens.
-use Rattle.std.specs.Prelude.{◌≡◌, Bool, true, false, List, [], ◌∷◌}
-use Rattle.fort_logic.specs.Formulas.{Name, Formula, SurfaceRel}
-use Rattle.fort_formula_grammar.specs.Tokens.{Token, Close, Comma, And, Or, Imp, Iff, Related, Com, Sn, Variable}
-use Rattle.fort_formula_grammar.specs.FormulaGrammar.{Quantifier, IsFormula, IsImplication, IsDisjunction, IsConjunction, IsUnary, IsBound}
+use Rattle.std.specs.Prelude.{◌≡◌, ℕ, Bool, true, false, List, [], ◌∷◌}
+use Rattle.fort_logic.specs.Formulas.{Name, Argument, Formula, SurfaceRel}
+use Rattle.fort_formula_grammar.specs.Tokens.{Token, Close, Comma, And, Or, Imp, Iff, Related, Index, Sn, Variable}
+use Rattle.fort_formula_grammar.specs.FormulaGrammar.{Quantifier, IsArgument, IsRelation, IsFormula, IsImplication, IsDisjunction, IsConjunction, IsUnary, IsBound}
 
 -- a conjunction that ends before these tokens can be read further
 abbrev pub continues_conjunction : List Token → Bool
@@ -40,7 +40,7 @@ begins_unary Or = false
 begins_unary Imp = false
 begins_unary Iff = false
 begins_unary (Related rel) = false
-begins_unary Com = false
+begins_unary (Index n) = false
 begins_unary Sn = false
 begins_unary t = true
 
@@ -52,9 +52,13 @@ HasNoNext t ts = (rest : List Token) → ts ≡ t ∷ rest → ⊥
 abbrev pub HasNoVariable : List Token → Type 0
 HasNoVariable ts = (x : Name) (rest : List Token) → ts ≡ Variable x ∷ rest → ⊥
 
--- the next token is no relation
+-- no argument begins the tokens
+abbrev pub HasNoArgument : List Token → Type 0
+HasNoArgument ts = (a : Argument) (us : List Token) → IsArgument ts a us → ⊥
+
+-- no relation begins them
 abbrev pub HasNoRelation : List Token → Type 0
-HasNoRelation ts = (rel : SurfaceRel) (rest : List Token) → ts ≡ Related rel ∷ rest → ⊥
+HasNoRelation ts = (rel : SurfaceRel) (index : ℕ) (us : List Token) → IsRelation ts rel index us → ⊥
 
 abbrev pub HasNoUnary : List Token → Type 0
 HasNoUnary ts = (f : Formula) (us : List Token) → IsUnary ts f us → ⊥

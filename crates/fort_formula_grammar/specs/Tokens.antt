@@ -1,7 +1,9 @@
 -- To believe: which names are variables, what the tokens of formulas are, and how each is written.
-use Rattle.std.specs.Prelude.{ℕ, List, [], ◌∷◌, Bool, false, ◌||◌, ◌==◌, IsTrue, Contains, codes}
+use Rattle.std.specs.Prelude.{ℕ, ◌+◌, ◌<◌, ◌≤◌, List, [], ◌∷◌, ◌++◌, Bool, false, ◌||◌, ◌&&◌, ◌==◌, not, nat_le, IsTrue, Contains, codes, length}
 use Rattle.std.specs.Char.{is_ascii_alphabetic, is_ascii_alphanumeric}
 use Rattle.std.specs.List.{AllByRecursion}
+use Rattle.fort_theory.specs.Signatures.{most_indices}
+use Rattle.fort_grammar.specs.Text.{is_blank}
 use Rattle.fort_logic.specs.Formulas as theory
 use Rattle.fort_logic.specs.Formulas.{Name, SurfaceRel, Property}
 
@@ -24,6 +26,20 @@ pub record IsVariable (name : Name) : Type 0 where
   pub word : AllByRecursion (λ b. IsTrue (is_name_byte b)) name
   pub free : Contains reserved name → ⊥
 
+-- a byte between the braces of a ground term: a blank or printable ASCII, but for } and ;
+abbrev pub is_ground_byte : ℕ → Bool
+is_ground_byte b = is_blank b || (nat_le 33 b && (nat_le b 126 && (not (b == 125) && not (b == 59))))
+
+-- what stands between the braces of a ground term has fewer bytes
+abbrev pub ground_limit : ℕ
+ground_limit = 4294967296
+
+-- bytes that may stand between the braces of a ground term
+abbrev pub IsBetweenBraces : List ℕ → Type 0
+IsBetweenBraces text = AllByRecursion (λ b. IsTrue (is_ground_byte b)) text × (length text < ground_limit)
+
+-- Index is the index of rules. A ground term has its place, counted from 0, among all that are written in the text, and what stands
+-- between its braces.
 pub data Token : Type 0 where
   Open : Token
   Close : Token
@@ -34,6 +50,7 @@ pub data Token : Type 0 where
   Imp : Token
   Iff : Token
   Related : SurfaceRel → Token
+  Index : ℕ → Token
   Exists : Token
   Forall : Token
   Infinite : Token
@@ -45,6 +62,7 @@ pub data Token : Type 0 where
   Com : Token
   Sn : Token
   Variable : Name → Token
+  Ground : (place : ℕ) → (text : List ℕ) → Token
 
 abbrev pub relation_text : SurfaceRel → List ℕ
 relation_text theory.Eq = codes "="
@@ -68,6 +86,10 @@ property_text theory.Unr = codes "UNR"
 property_text theory.Unc = codes "UNC"
 property_text theory.Nfp = codes "NFP"
 
+-- the digit that writes an index
+abbrev pub digit : ℕ → ℕ
+digit n = 48 + n
+
 abbrev pub token_text : Token → List ℕ
 token_text Open = codes "("
 token_text Close = codes ")"
@@ -78,6 +100,7 @@ token_text Or = codes "|"
 token_text Imp = codes "=>"
 token_text Iff = codes "<=>"
 token_text (Related rel) = relation_text rel
+token_text (Index n) = codes "[" ++ (digit n ∷ codes "]")
 token_text Exists = codes "exists"
 token_text Forall = codes "forall"
 token_text Infinite = codes "infinite"
@@ -89,26 +112,11 @@ token_text (Has property) = property_text property
 token_text Com = codes "COM"
 token_text Sn = codes "SN"
 token_text (Variable name) = name
+token_text (Ground place text) = codes "{" ++ (text ++ codes "}")
 
--- a name stands for a variable only where it is no reserved word
+-- a name stands for a variable only where it is no reserved word; an index is 1 to 9
 abbrev pub IsToken : Token → Type 0
+IsToken (Index n) = (1 ≤ n) × (n ≤ most_indices)
 IsToken (Variable name) = IsVariable name
-IsToken Open = Unit {0}
-IsToken Close = Unit {0}
-IsToken Comma = Unit {0}
-IsToken Not = Unit {0}
-IsToken And = Unit {0}
-IsToken Or = Unit {0}
-IsToken Imp = Unit {0}
-IsToken Iff = Unit {0}
-IsToken (Related rel) = Unit {0}
-IsToken Exists = Unit {0}
-IsToken Forall = Unit {0}
-IsToken Infinite = Unit {0}
-IsToken True = Unit {0}
-IsToken False = Unit {0}
-IsToken Nf = Unit {0}
-IsToken Join = Unit {0}
-IsToken (Has property) = Unit {0}
-IsToken Com = Unit {0}
-IsToken Sn = Unit {0}
+IsToken (Ground place text) = IsBetweenBraces text
+IsToken t = Unit {0}

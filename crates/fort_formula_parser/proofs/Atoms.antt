@@ -1,20 +1,24 @@
--- The tokens of an atom, one after another, are that atom.
+-- The tokens of an atom, one after another, are that atom; and where reading them is stuck.
 use Rattle.std.proofs.Common.{◌≡◌, ℕ, ◌+◌, ◌<◌, ◌≤◌, List, ◌∷◌, length, sym, ap, ◌∙◌, subst, arith}
 use Rattle.fort_logic.specs.Formulas as theory
-use Rattle.fort_logic.specs.Formulas.{Name}
-use Rattle.fort_formula_grammar.specs.Tokens.{Token, Open, Close, Comma, Related, Nf, Join, Variable}
-use Rattle.fort_formula_grammar.specs.FormulaGrammar.{IsUnary, NormalForm, Joinable, Compared}
-use Rattle.fort_formulas.specs.FormulaView.{as_formula}
+use Rattle.fort_logic.specs.Formulas.{Argument, Property}
+use Rattle.fort_formula_grammar.specs.Tokens.{Token, Open, Close, Comma, Nf, Join, Has}
+use Rattle.fort_formula_grammar.specs.FormulaGrammar.{IsIndex, IsArgument, IsUnary, Named, NormalForm, Joinable, Compared}
+use Rattle.fort_formula_grammar.specs.Continuations.{HasNoNext, HasNoArgument, HasNoRelation}
+use Rattle.fort_formula_grammar.specs.Stuck.{StuckUnary, NfUnopened, NfWithoutArgument, NfUnclosed, JoinUnopened, JoinWithoutArgument, JoinOfOne, JoinHalf, JoinUnclosed, Unrelated, RelatedToNothing}
+use Rattle.fort_formulas.specs.FormulaView.{as_surface_rel, as_formula}
 use Rattle.fort_formula_parser.specs.declared.token.Lexeme.{Lexeme}
-use Rattle.fort_formula_parser.specs.declared.parsed.Parsed.{Parsed}
-use Rattle.fort_formula_parser.specs.Parsing.{rest_of, IsTokenAt, IsParsed}
+use Rattle.fort_formula_parser.specs.declared.cursor.Indexed.{Indexed}
+use Rattle.fort_formula_parser.specs.declared.cursor.Relation.{Relation}
+use Rattle.fort_formula_parser.specs.declared.reading.Reading.{Reading}
+use Rattle.fort_formula_parser.specs.Parsing.{rest_of, IsTokenAt, IsArgumentAt, IsIndexAt, IsRelationAt, IsParsed}
 
 -- the token at a place, before what stands at the next
 pub rest_of-next : (lexemes : List Lexeme) (n m : ℕ) (t : Token) → IsTokenAt lexemes n t → n + 1 ≡ m → rest_of lexemes n ≡ t ∷ rest_of lexemes m
 rest_of-next lexemes n m t h e = h.next ∙ ap (λ k. t ∷ rest_of lexemes k) e
 
 -- a reading of the tokens from a place, under which the formula was made
-pub IsParsed-unary : (lexemes : List Lexeme) (at : ℕ) (ts : List Token) (f : theory.Formula) (parsed : Parsed) → at < parsed.next → parsed.next ≤ length lexemes
+pub IsParsed-unary : (lexemes : List Lexeme) (at : ℕ) (ts : List Token) (f : theory.Formula) (parsed : Reading) → at < parsed.next → parsed.next ≤ length lexemes
     → rest_of lexemes at ≡ ts → as_formula parsed.formula ≡ f → IsUnary ts f (rest_of lexemes parsed.next) → IsParsed IsUnary lexemes at parsed
 IsParsed-unary lexemes at ts f parsed further within e is u = record {
   further = further;
@@ -22,42 +26,135 @@ IsParsed-unary lexemes at ts f parsed further within e is u = record {
   reads = subst (λ g. IsUnary (rest_of lexemes at) g (rest_of lexemes parsed.next)) (sym is) (subst (λ us. IsUnary us f (rest_of lexemes parsed.next)) (sym e) u);
 }
 
-pub IsParsed-normal_form : (lexemes : List Lexeme) (at : ℕ) (x : Name) (parsed : Parsed) → IsTokenAt lexemes at Nf → IsTokenAt lexemes (at + 1) Open
-    → IsTokenAt lexemes (at + 2) (Variable x) → IsTokenAt lexemes (at + 3) Close → parsed.next ≡ at + 4 → as_formula parsed.formula ≡ theory.Nf x 1
-    → IsParsed IsUnary lexemes at parsed
-IsParsed-normal_form lexemes at x parsed a b c d e is =
-    let last : at + 3 < length lexemes = d.within in
-    let rest = rest_of lexemes parsed.next in
-    let whole : rest_of lexemes at ≡ Nf ∷ Open ∷ Variable x ∷ Close ∷ rest =
-    a.next ∙ ap (λ ts. Nf ∷ ts) (rest_of-next lexemes (at + 1) (at + 2) Open b (omega arith))
-    ∙ ap (λ ts. Nf ∷ Open ∷ ts) (rest_of-next lexemes (at + 2) (at + 3) (Variable x) c (omega arith))
-    ∙ ap (λ ts. Nf ∷ Open ∷ Variable x ∷ ts) (rest_of-next lexemes (at + 3) parsed.next Close d (omega arith)) in
-    IsParsed-unary lexemes at _ (theory.Nf x 1) parsed (omega arith) (omega arith) whole is NormalForm
+-- an index, or an argument, and the token behind it
+index_then : (lexemes : List Lexeme) (n k : ℕ) (found : Indexed) (t : Token) → IsIndexAt lexemes n found → IsTokenAt lexemes found.next t
+    → found.next + 1 ≡ k → IsIndex (rest_of lexemes n) found.index (t ∷ rest_of lexemes k)
+index_then lexemes n k found t i h e = subst (λ us. IsIndex (rest_of lexemes n) found.index us) (rest_of-next lexemes found.next k t h e) i.reads
 
-pub IsParsed-joinable : (lexemes : List Lexeme) (at : ℕ) (x y : Name) (parsed : Parsed) → IsTokenAt lexemes at Join → IsTokenAt lexemes (at + 1) Open
-    → IsTokenAt lexemes (at + 2) (Variable x) → IsTokenAt lexemes (at + 3) Comma → IsTokenAt lexemes (at + 4) (Variable y) → IsTokenAt lexemes (at + 5) Close
-    → parsed.next ≡ at + 6 → as_formula parsed.formula ≡ theory.Join x y 1 → IsParsed IsUnary lexemes at parsed
-IsParsed-joinable lexemes at x y parsed a b c d e f n is =
-    let last : at + 5 < length lexemes = f.within in
-    let rest = rest_of lexemes parsed.next in
-    let whole : rest_of lexemes at ≡ Join ∷ Open ∷ Variable x ∷ Comma ∷ Variable y ∷ Close ∷ rest =
-    a.next ∙ ap (λ ts. Join ∷ ts) (rest_of-next lexemes (at + 1) (at + 2) Open b (omega arith))
-    ∙ ap (λ ts. Join ∷ Open ∷ ts) (rest_of-next lexemes (at + 2) (at + 3) (Variable x) c (omega arith))
-    ∙ ap (λ ts. Join ∷ Open ∷ Variable x ∷ ts) (rest_of-next lexemes (at + 3) (at + 4) Comma d (omega arith))
-    ∙ ap (λ ts. Join ∷ Open ∷ Variable x ∷ Comma ∷ ts) (rest_of-next lexemes (at + 4) (at + 5) (Variable y) e (omega arith))
-    ∙ ap (λ ts. Join ∷ Open ∷ Variable x ∷ Comma ∷ Variable y ∷ ts) (rest_of-next lexemes (at + 5) parsed.next Close f (omega arith)) in
-    IsParsed-unary lexemes at _ (theory.Join x y 1) parsed (omega arith) (omega arith) whole is Joinable
+argument_to : (lexemes : List Lexeme) (n m : ℕ) (a : Argument) → IsArgumentAt lexemes n a → n + 1 ≡ m → IsArgument (rest_of lexemes n) a (rest_of lexemes m)
+argument_to lexemes n m a h e = subst (λ k. IsArgument (rest_of lexemes n) a (rest_of lexemes k)) e h.reads
 
-pub IsParsed-compared : (lexemes : List Lexeme) (at : ℕ) (rel : theory.SurfaceRel) (x y : Name) (parsed : Parsed) → IsTokenAt lexemes at (Variable x)
-    → IsTokenAt lexemes (at + 1) (Related rel) → IsTokenAt lexemes (at + 2) (Variable y) → parsed.next ≡ at + 3
-    → as_formula parsed.formula ≡ theory.Related rel x y 1 → IsParsed IsUnary lexemes at parsed
-IsParsed-compared lexemes at rel x y parsed a b c n is =
-    let last : at + 2 < length lexemes = c.within in
-    let rest = rest_of lexemes parsed.next in
-    let whole : rest_of lexemes at ≡ Variable x ∷ Related rel ∷ Variable y ∷ rest =
-    a.next ∙ ap (λ ts. Variable x ∷ ts) (rest_of-next lexemes (at + 1) (at + 2) (Related rel) b (omega arith))
-    ∙ ap (λ ts. Variable x ∷ Related rel ∷ ts) (rest_of-next lexemes (at + 2) parsed.next (Variable y) c (omega arith)) in
-    IsParsed-unary lexemes at _ (theory.Related rel x y 1) parsed (omega arith) (omega arith) whole is Compared
+argument_then : (lexemes : List Lexeme) (n m k : ℕ) (a : Argument) (t : Token) → IsArgumentAt lexemes n a → n + 1 ≡ m → IsTokenAt lexemes m t → m + 1 ≡ k
+    → IsArgument (rest_of lexemes n) a (t ∷ rest_of lexemes k)
+argument_then lexemes n m k a t h e s f =
+    subst (λ us. IsArgument (rest_of lexemes n) a us) (rest_of-next lexemes m k t s f) (argument_to lexemes n m a h e)
 
-pub same_names : (atom : Name → Name → theory.Formula) (a b x y : Name) → a ≡ x → b ≡ y → atom a b ≡ atom x y
-same_names atom a b x y p q = ap (λ n. atom n b) p ∙ ap (atom x) q
+-- a stuck reading behind a token
+pub stuck_behind : (X : List Token → List Token → Type 0) (lexemes : List Lexeme) (at place : ℕ) (t : Token) → IsTokenAt lexemes at t → place ≤ length lexemes
+    → X (t ∷ rest_of lexemes (at + 1)) (rest_of lexemes place) → (place ≤ length lexemes) × X (rest_of lexemes at) (rest_of lexemes place)
+stuck_behind X lexemes at place t h le s = (le, subst (λ ts. X ts (rest_of lexemes place)) (sym h.next) s)
+
+pub IsParsed-property : (lexemes : List Lexeme) (at : ℕ) (p : Property) (found : Indexed) (parsed : Reading) → IsTokenAt lexemes at (Has p)
+    → IsIndexAt lexemes (at + 1) found → parsed.next ≡ found.next → as_formula parsed.formula ≡ theory.Has p found.index → IsParsed IsUnary lexemes at parsed
+IsParsed-property lexemes at p found parsed h i e is =
+    let further : at + 1 ≤ found.next = i.further in
+    let within : found.next ≤ length lexemes = i.within in
+    IsParsed-unary lexemes at _ (theory.Has p found.index) parsed (omega arith) (omega arith) h.next is
+    (subst (λ n. IsUnary (Has p ∷ rest_of lexemes (at + 1)) (theory.Has p found.index) (rest_of lexemes n)) (sym e) (Named i.reads))
+
+module _ (lexemes : List Lexeme) (at : ℕ) (found : Indexed) (i : IsIndexAt lexemes (at + 1) found) where
+  further : at + 1 ≤ found.next
+  further = i.further
+
+  pub IsParsed-normal_form : (a : Argument) (parsed : Reading) → IsTokenAt lexemes at Nf → IsTokenAt lexemes found.next Open
+      → IsArgumentAt lexemes (found.next + 1) a → IsTokenAt lexemes (found.next + 2) Close → parsed.next ≡ found.next + 3
+      → as_formula parsed.formula ≡ theory.Nf a found.index → IsParsed IsUnary lexemes at parsed
+  IsParsed-normal_form a parsed n opens x closes e is =
+      let last : found.next + 2 < length lexemes = closes.within in
+      IsParsed-unary lexemes at _ (theory.Nf a found.index) parsed (omega (arith, further)) (omega arith) n.next is
+      (NormalForm (index_then lexemes (at + 1) (found.next + 1) found Open i opens (omega arith))
+      (argument_then lexemes (found.next + 1) (found.next + 2) parsed.next a Close x (omega arith) closes (omega arith)))
+
+  pub IsParsed-joinable : (a b : Argument) (parsed : Reading) → IsTokenAt lexemes at Join → IsTokenAt lexemes found.next Open
+      → IsArgumentAt lexemes (found.next + 1) a → IsTokenAt lexemes (found.next + 2) Comma → IsArgumentAt lexemes (found.next + 3) b
+      → IsTokenAt lexemes (found.next + 4) Close → parsed.next ≡ found.next + 5 → as_formula parsed.formula ≡ theory.Join a b found.index
+      → IsParsed IsUnary lexemes at parsed
+  IsParsed-joinable a b parsed n opens x comma y closes e is =
+      let last : found.next + 4 < length lexemes = closes.within in
+      IsParsed-unary lexemes at _ (theory.Join a b found.index) parsed (omega (arith, further)) (omega arith) n.next is
+      (Joinable (index_then lexemes (at + 1) (found.next + 1) found Open i opens (omega arith))
+      (argument_then lexemes (found.next + 1) (found.next + 2) (found.next + 3) a Comma x (omega arith) comma (omega arith))
+      (argument_then lexemes (found.next + 3) (found.next + 4) parsed.next b Close y (omega arith) closes (omega arith)))
+
+  pub stuck_nf_unopened : IsTokenAt lexemes at Nf → HasNoNext Open (rest_of lexemes found.next)
+      → (found.next ≤ length lexemes) × StuckUnary (rest_of lexemes at) (rest_of lexemes found.next)
+  stuck_nf_unopened n none = stuck_behind StuckUnary lexemes at found.next Nf n i.within (NfUnopened i.reads none)
+
+  pub stuck_join_unopened : IsTokenAt lexemes at Join → HasNoNext Open (rest_of lexemes found.next)
+      → (found.next ≤ length lexemes) × StuckUnary (rest_of lexemes at) (rest_of lexemes found.next)
+  stuck_join_unopened n none = stuck_behind StuckUnary lexemes at found.next Join n i.within (JoinUnopened i.reads none)
+
+  pub stuck_nf_empty : IsTokenAt lexemes at Nf → IsTokenAt lexemes found.next Open → HasNoArgument (rest_of lexemes (found.next + 1))
+      → (found.next + 1 ≤ length lexemes) × StuckUnary (rest_of lexemes at) (rest_of lexemes (found.next + 1))
+  stuck_nf_empty n opens none =
+      let last : found.next < length lexemes = opens.within in
+      stuck_behind StuckUnary lexemes at (found.next + 1) Nf n (omega arith)
+      (NfWithoutArgument (index_then lexemes (at + 1) (found.next + 1) found Open i opens (omega arith)) none)
+
+  pub stuck_join_empty : IsTokenAt lexemes at Join → IsTokenAt lexemes found.next Open → HasNoArgument (rest_of lexemes (found.next + 1))
+      → (found.next + 1 ≤ length lexemes) × StuckUnary (rest_of lexemes at) (rest_of lexemes (found.next + 1))
+  stuck_join_empty n opens none =
+      let last : found.next < length lexemes = opens.within in
+      stuck_behind StuckUnary lexemes at (found.next + 1) Join n (omega arith)
+      (JoinWithoutArgument (index_then lexemes (at + 1) (found.next + 1) found Open i opens (omega arith)) none)
+
+  pub stuck_nf_unclosed : (a : Argument) → IsTokenAt lexemes at Nf → IsTokenAt lexemes found.next Open → IsArgumentAt lexemes (found.next + 1) a
+      → HasNoNext Close (rest_of lexemes (found.next + 2))
+      → (found.next + 2 ≤ length lexemes) × StuckUnary (rest_of lexemes at) (rest_of lexemes (found.next + 2))
+  stuck_nf_unclosed a n opens x none =
+      let last : found.next + 1 < length lexemes = x.within in
+      stuck_behind StuckUnary lexemes at (found.next + 2) Nf n (omega arith)
+      (NfUnclosed (index_then lexemes (at + 1) (found.next + 1) found Open i opens (omega arith))
+      (argument_to lexemes (found.next + 1) (found.next + 2) a x (omega arith)) none)
+
+  pub stuck_join_of_one : (a : Argument) → IsTokenAt lexemes at Join → IsTokenAt lexemes found.next Open → IsArgumentAt lexemes (found.next + 1) a
+      → HasNoNext Comma (rest_of lexemes (found.next + 2))
+      → (found.next + 2 ≤ length lexemes) × StuckUnary (rest_of lexemes at) (rest_of lexemes (found.next + 2))
+  stuck_join_of_one a n opens x none =
+      let last : found.next + 1 < length lexemes = x.within in
+      stuck_behind StuckUnary lexemes at (found.next + 2) Join n (omega arith)
+      (JoinOfOne (index_then lexemes (at + 1) (found.next + 1) found Open i opens (omega arith))
+      (argument_to lexemes (found.next + 1) (found.next + 2) a x (omega arith)) none)
+
+  pub stuck_join_half : (a : Argument) → IsTokenAt lexemes at Join → IsTokenAt lexemes found.next Open → IsArgumentAt lexemes (found.next + 1) a
+      → IsTokenAt lexemes (found.next + 2) Comma → HasNoArgument (rest_of lexemes (found.next + 3))
+      → (found.next + 3 ≤ length lexemes) × StuckUnary (rest_of lexemes at) (rest_of lexemes (found.next + 3))
+  stuck_join_half a n opens x comma none =
+      let last : found.next + 2 < length lexemes = comma.within in
+      stuck_behind StuckUnary lexemes at (found.next + 3) Join n (omega arith)
+      (JoinHalf (index_then lexemes (at + 1) (found.next + 1) found Open i opens (omega arith))
+      (argument_then lexemes (found.next + 1) (found.next + 2) (found.next + 3) a Comma x (omega arith) comma (omega arith)) none)
+
+  pub stuck_join_unclosed : (a b : Argument) → IsTokenAt lexemes at Join → IsTokenAt lexemes found.next Open → IsArgumentAt lexemes (found.next + 1) a
+      → IsTokenAt lexemes (found.next + 2) Comma → IsArgumentAt lexemes (found.next + 3) b → HasNoNext Close (rest_of lexemes (found.next + 4))
+      → (found.next + 4 ≤ length lexemes) × StuckUnary (rest_of lexemes at) (rest_of lexemes (found.next + 4))
+  stuck_join_unclosed a b n opens x comma y none =
+      let last : found.next + 3 < length lexemes = y.within in
+      stuck_behind StuckUnary lexemes at (found.next + 4) Join n (omega arith)
+      (JoinUnclosed (index_then lexemes (at + 1) (found.next + 1) found Open i opens (omega arith))
+      (argument_then lexemes (found.next + 1) (found.next + 2) (found.next + 3) a Comma x (omega arith) comma (omega arith))
+      (argument_to lexemes (found.next + 3) (found.next + 4) b y (omega arith)) none)
+
+pub IsParsed-compared : (lexemes : List Lexeme) (at : ℕ) (found : Relation) (a b : Argument) (parsed : Reading) → IsArgumentAt lexemes at a
+    → IsRelationAt lexemes (at + 1) found → IsArgumentAt lexemes found.next b → parsed.next ≡ found.next + 1
+    → as_formula parsed.formula ≡ theory.Related (as_surface_rel found.rel) a b found.index → IsParsed IsUnary lexemes at parsed
+IsParsed-compared lexemes at found a b parsed x r y e is =
+    let further : at + 1 < found.next = r.further in
+    let last : found.next < length lexemes = y.within in
+    record {
+      further = omega arith;
+      within = omega arith;
+      reads = subst (λ f. IsUnary (rest_of lexemes at) f (rest_of lexemes parsed.next)) (sym is)
+          (Compared x.reads r.reads (argument_to lexemes found.next parsed.next b y (sym e)));
+    }
+
+pub stuck_unrelated : (lexemes : List Lexeme) (at : ℕ) (a : Argument) → IsArgumentAt lexemes at a → HasNoRelation (rest_of lexemes (at + 1))
+    → (at + 1 ≤ length lexemes) × StuckUnary (rest_of lexemes at) (rest_of lexemes (at + 1))
+stuck_unrelated lexemes at a x none = let last : at < length lexemes = x.within in (omega arith, Unrelated x.reads none)
+
+pub stuck_related : (lexemes : List Lexeme) (at : ℕ) (found : Relation) (a : Argument) → IsArgumentAt lexemes at a → IsRelationAt lexemes (at + 1) found
+    → HasNoArgument (rest_of lexemes found.next) → (found.next ≤ length lexemes) × StuckUnary (rest_of lexemes at) (rest_of lexemes found.next)
+stuck_related lexemes at found a x r none = (r.within, RelatedToNothing x.reads r.reads none)
+
+pub same_arguments : (atom : Argument → Argument → theory.Formula) (a b x y : Argument) → a ≡ x → b ≡ y → atom a b ≡ atom x y
+same_arguments atom a b x y p q = ap (λ n. atom n b) p ∙ ap (atom x) q

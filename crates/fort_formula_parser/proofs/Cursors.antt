@@ -1,16 +1,21 @@
 -- The token at a place, and what it isn't.
-use Rattle.std.proofs.Common.{◌≡◌, ℕ, ◌+◌, ◌<◌, ◌≤◌, Bool, true, false, List, [], ◌∷◌, length, get_or, MatchBool, refl, sym, ap, ◌∙◌, arith}
+use Rattle.std.proofs.Common.{◌≡◌, ℕ, ◌+◌, ◌<◌, ◌≤◌, Bool, true, false, List, [], ◌∷◌, length, get_or, MatchBool, refl, sym, ap, ◌∙◌, subst, arith}
 use Rattle.std.proofs.lemmas.List.{drop_more, drop_all, length-map}
 use Rattle.fort_logic.specs.Formulas as theory
 use Rattle.fort_logic.specs.Formulas.{Name}
 use Rattle.fort_formula_grammar.specs.Tokens as grammar
 use Rattle.fort_formula_grammar.specs.Tokens.{Token}
-use Rattle.fort_formula_grammar.specs.Continuations.{HasNoNext}
+use Rattle.fort_formula_grammar.specs.FormulaGrammar.{begins_with_index, takes_index, IsIndex, Given, LeftOut, IsArgument, IsRelation, WithoutIndex, WithIndex}
+use Rattle.fort_formula_grammar.specs.Continuations.{HasNoNext, HasNoArgument, HasNoRelation}
+use Rattle.fort_formulas.specs.declared.surface.SurfaceRel as rels
+use Rattle.fort_formulas.specs.declared.surface.SurfaceRel.TheVariants as rel_variants
+use Rattle.fort_formulas.specs.FormulaView.{as_surface_rel}
 use Rattle.fort_formula_parser.specs.declared.token.Token as code
 use Rattle.fort_formula_parser.specs.declared.token.Token.TheVariants as variants
 use Rattle.fort_formula_parser.specs.declared.token.Lexeme.{Lexeme}
+use Rattle.fort_formula_parser.specs.declared.cursor.Indexed.{Indexed}
 use Rattle.fort_formula_parser.specs.TokenView.{as_token, tokens_of}
-use Rattle.fort_formula_parser.specs.Parsing.{rest_of, IsTokenAt}
+use Rattle.fort_formula_parser.specs.Parsing.{rest_of, IsTokenAt, IsArgumentAt, IsIndexAt, IsRelationAt}
 use Rattle.fort_formula_parser.proofs.PlacesLaws.{tokens_of-at}
 
 pub rest_of-at : (lexemes : List Lexeme) (at : ℕ) (lexeme : Lexeme) → at < length lexemes → ((d : Lexeme) → lexeme ≡ get_or lexemes at d)
@@ -46,6 +51,89 @@ pub other_variable : (t : code.Token) (x : Name) → ((y : _) → t ≡ variants
 other_variable (variants.Variable y) x other h = other y refl
 other_variable t x other h = cc
 
-pub other_relation : (t : code.Token) (rel : theory.SurfaceRel) → ((r : _) → t ≡ variants.Related r → ⊥) → as_token t ≡ grammar.Related rel → ⊥
-other_relation (variants.Related r) rel other h = other r refl
-other_relation t rel other h = cc
+-- arguments
+pub argument_here : (lexemes : List Lexeme) (at : ℕ) (t : Token) (a : theory.Argument) → IsTokenAt lexemes at t
+    → ((us : List Token) → IsArgument (t ∷ us) a us) → IsArgumentAt lexemes at a
+argument_here lexemes at t a h rule = record {
+  within = h.within;
+  reads = subst (λ ts. IsArgument ts a (rest_of lexemes (at + 1))) (sym h.next) (rule (rest_of lexemes (at + 1)));
+}
+
+pub no_argument_end : {ts : List Token} → ts ≡ [] → HasNoArgument ts
+no_argument_end {ts} e a us h = ended (subst (λ ts. IsArgument ts a us) e h)
+  where
+    ended : IsArgument [] a us → ⊥
+    ended u = elim u [ ]
+
+other_argument : (t : code.Token) (us : List Token) → ((x : _) → t ≡ variants.Variable x → ⊥) → ((k : _) (x : _) → t ≡ variants.Ground k x → ⊥)
+    → HasNoArgument (as_token t ∷ us)
+other_argument (variants.Variable x) us v g a vs h = v x refl
+other_argument (variants.Ground k x) us v g a vs h = g k x refl
+other_argument t us v g a vs h = elim h [ ]
+
+pub no_argument_at : (lexemes : List Lexeme) (at : ℕ) (lexeme : Lexeme) → at < length lexemes → ((d : Lexeme) → lexeme ≡ get_or lexemes at d)
+    → ((x : _) → lexeme.token ≡ variants.Variable x → ⊥) → ((k : _) (x : _) → lexeme.token ≡ variants.Ground k x → ⊥) → HasNoArgument (rest_of lexemes at)
+no_argument_at lexemes at lexeme lt here v g =
+    subst (λ ts. HasNoArgument ts) (sym (rest_of-at lexemes at lexeme lt here)) (other_argument lexeme.token (rest_of lexemes (at + 1)) v g)
+
+-- indices
+pub index_left_out : (lexemes : List Lexeme) (at : ℕ) → at ≤ length lexemes → begins_with_index (rest_of lexemes at) ≡ false
+    → IsIndexAt lexemes at record { index = 1; next = at }
+index_left_out lexemes at le none = record { further = omega arith; within = le; reads = LeftOut none }
+
+pub index_here : (lexemes : List Lexeme) (at n : ℕ) → IsTokenAt lexemes at (grammar.Index n) → IsIndexAt lexemes at record { index = n; next = at + 1 }
+index_here lexemes at n h = record {
+  further = omega arith;
+  within = omega (arith, h.within);
+  reads = subst (λ ts. IsIndex ts n (rest_of lexemes (at + 1))) (sym h.next) Given;
+}
+
+pub no_index_end : {ts : List Token} → ts ≡ [] → begins_with_index ts ≡ false
+no_index_end e = ap begins_with_index e
+
+other_index : (t : code.Token) (us : List Token) → ((n : _) → t ≡ variants.Index n → ⊥) → begins_with_index (as_token t ∷ us) ≡ false
+other_index (variants.Index n) us h = absurd (h n refl)
+other_index t us h = refl
+
+pub no_index_at : (lexemes : List Lexeme) (at : ℕ) (lexeme : Lexeme) → at < length lexemes → ((d : Lexeme) → lexeme ≡ get_or lexemes at d)
+    → ((n : _) → lexeme.token ≡ variants.Index n → ⊥) → begins_with_index (rest_of lexemes at) ≡ false
+no_index_at lexemes at lexeme lt here h =
+    ap begins_with_index (rest_of-at lexemes at lexeme lt here) ∙ other_index lexeme.token (rest_of lexemes (at + 1)) h
+
+-- relations
+pub relation_alone : (lexemes : List Lexeme) (at : ℕ) (rel : rels.SurfaceRel) → IsTokenAt lexemes at (grammar.Related (as_surface_rel rel))
+    → takes_index (as_surface_rel rel) ≡ false → IsRelationAt lexemes at record { rel = rel; index = 1; next = at + 1 }
+relation_alone lexemes at rel h plain = record {
+  further = omega arith;
+  within = omega (arith, h.within);
+  reads = subst (λ ts. IsRelation ts (as_surface_rel rel) 1 (rest_of lexemes (at + 1))) (sym h.next) (WithoutIndex plain);
+}
+
+pub relation_with_index : (lexemes : List Lexeme) (at : ℕ) (rel : rels.SurfaceRel) (found : Indexed) → IsTokenAt lexemes at (grammar.Related (as_surface_rel rel))
+    → takes_index (as_surface_rel rel) ≡ true → IsIndexAt lexemes (at + 1) found
+    → IsRelationAt lexemes at record { rel = rel; index = found.index; next = found.next }
+relation_with_index lexemes at rel found h takes i =
+    let further : at + 1 ≤ found.next = i.further in record {
+      further = omega arith;
+      within = i.within;
+      reads = subst (λ ts. IsRelation ts (as_surface_rel rel) found.index (rest_of lexemes found.next)) (sym h.next) (WithIndex takes i.reads);
+    }
+
+pub takes_index-other : (rel : rels.SurfaceRel) → (rel ≡ rel_variants.Eq → ⊥) → takes_index (as_surface_rel rel) ≡ true
+takes_index-other rel_variants.Eq h = absurd (h refl)
+takes_index-other rel h = refl
+
+pub no_relation_end : {ts : List Token} → ts ≡ [] → HasNoRelation ts
+no_relation_end {ts} e rel index us h = ended (subst (λ ts. IsRelation ts rel index us) e h)
+  where
+    ended : IsRelation [] rel index us → ⊥
+    ended u = elim u [ ]
+
+other_relation : (t : code.Token) (us : List Token) → ((r : _) → t ≡ variants.Related r → ⊥) → HasNoRelation (as_token t ∷ us)
+other_relation (variants.Related r) us other rel index vs h = other r refl
+other_relation t us other rel index vs h = elim h [ ]
+
+pub no_relation_at : (lexemes : List Lexeme) (at : ℕ) (lexeme : Lexeme) → at < length lexemes → ((d : Lexeme) → lexeme ≡ get_or lexemes at d)
+    → ((r : _) → lexeme.token ≡ variants.Related r → ⊥) → HasNoRelation (rest_of lexemes at)
+no_relation_at lexemes at lexeme lt here other =
+    subst (λ ts. HasNoRelation ts) (sym (rest_of-at lexemes at lexeme lt here)) (other_relation lexeme.token (rest_of lexemes (at + 1)) other)

@@ -5,12 +5,12 @@ use Rattle.std.proofs.Math.Nat.{max-le}
 use Rattle.std.proofs.lemmas.List.{length-append}
 use Rattle.std.proofs.lemmas.List.Filters.{length-filter_both}
 use Rattle.fort_logic.specs.Formulas as theory
-use Rattle.fort_logic.specs.Formulas.{Name, Formula}
-use Rattle.fort_logic.specs.FreeNames.{without, occurrences, once}
+use Rattle.fort_logic.specs.Formulas.{Name, Argument, Var, Ground, SurfaceRel, Formula}
+use Rattle.fort_logic.specs.FreeNames.{without, names_in, occurrences, once}
 use Rattle.fort_formula_grammar.specs.Tokens.{Token, And, Or, Imp, Iff}
-use Rattle.fort_formula_grammar.specs.FormulaGrammar.{Quantifier, Some, Every, quantified, IsFormula, OneSide, BothSides, IsImplication, Conclusion, Premise, IsDisjunction, FirstOr, MoreOr, IsConjunction, FirstAnd, MoreAnd, IsUnary, Negated, ForSome, ForEvery, Infinitely, Enclosed, Truth, Falsity, Named, NormalForm, Joinable, Compared, IsBound, LastBinder, MoreBinders}
+use Rattle.fort_formula_grammar.specs.FormulaGrammar.{Quantifier, Some, Every, quantified, IsIndex, Given, LeftOut, IsArgument, AVariable, AGround, IsRelation, WithoutIndex, WithIndex, IsFormula, OneSide, BothSides, IsImplication, Conclusion, Premise, IsDisjunction, FirstOr, MoreOr, IsConjunction, FirstAnd, MoreAnd, IsUnary, Negated, ForSome, ForEvery, Infinitely, Enclosed, Truth, Falsity, Named, Commuting, NormalForm, Joinable, Compared, IsBound, LastBinder, MoreBinders}
 use Rattle.fort_formula_grammar.specs.FormulaText.{most_tokens}
-use Rattle.fort_formulas.specs.NumbersNeeded.{binder_numbers, numbers_needed}
+use Rattle.fort_formulas.specs.NumbersNeeded.{argument_numbers, binder_numbers, numbers_needed}
 
 length-without : (x : Name) (xs : List Name) → length (without x xs) ≤ length xs
 length-without x xs =
@@ -43,6 +43,22 @@ Suffice ts f us = weight f + 4 * length us ≤ 4 * length ts
 joined : (f g h : Formula) (t : Token) (ts us vs : List Token) → weight h ≤ weight f + weight g → Suffice ts f (t ∷ us) → Suffice us g vs → Suffice ts h vs
 joined f g h t ts us vs sum first second = omega arith
 
+index_short : {ts us : List Token} {index : ℕ} → IsIndex ts index us → length us ≤ length ts
+index_short Given = omega arith
+index_short (LeftOut none) = omega arith
+
+argument_short : {ts us : List Token} {a : Argument} → IsArgument ts a us → length us + 1 ≤ length ts
+argument_short AVariable = omega arith
+argument_short AGround = omega arith
+
+relation_short : {ts us : List Token} {rel : SurfaceRel} {index : ℕ} → IsRelation ts rel index us → length us + 1 ≤ length ts
+relation_short (WithoutIndex plain) = omega arith
+relation_short (WithIndex takes i) = omega (arith, index_short i)
+
+weight-argument : (a : Argument) → length (names_in a) + argument_numbers a ≤ 1
+weight-argument (Var x) = omega arith
+weight-argument (Ground k) = omega arith
+
 mutual
   Suffice-formula : {ts us : List Token} {f : Formula} → IsFormula ts f us → Suffice ts f us
   Suffice-formula (OneSide i) = Suffice-implication i
@@ -72,10 +88,13 @@ mutual
   Suffice-unary (Enclosed d) = let inner = Suffice-formula d in omega arith
   Suffice-unary Truth = omega arith
   Suffice-unary Falsity = omega arith
-  Suffice-unary Named = omega arith
-  Suffice-unary NormalForm = omega arith
-  Suffice-unary Joinable = omega arith
-  Suffice-unary Compared = omega arith
+  Suffice-unary (Named i) = omega (arith, index_short i)
+  Suffice-unary Commuting = omega arith
+  Suffice-unary (NormalForm {a = a} i x) = omega (arith, index_short i, argument_short x, weight-argument a)
+  Suffice-unary (Joinable {a = a} {b = b} i x y) =
+      omega (arith, index_short i, argument_short x, argument_short y, weight-argument a, weight-argument b, length-append (names_in a) (names_in b))
+  Suffice-unary (Compared {a = a} {b = b} x r y) =
+      omega (arith, relation_short r, argument_short x, argument_short y, weight-argument a, weight-argument b, length-append (names_in a) (names_in b))
 
   Suffice-bound : {q : Quantifier} {ts us : List Token} {f : Formula} → IsBound q ts f us → Suffice ts f us
   Suffice-bound (LastBinder {q = q} {x = x} {f = f} d) = let inner = Suffice-formula d in omega (arith, weight-quantified q x f)

@@ -6,3 +6,5 @@ pub mod Atoms
 pub mod Bodies
 pub mod Wholes
 pub mod FewNumbers
+pub mod GroundLists
+pub mod GroundTexts

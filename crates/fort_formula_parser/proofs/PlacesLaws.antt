@@ -1,41 +1,44 @@
 -- Tokens read one after another stand at their offsets; and how many parentheses are open behind the first tokens.
-use Rattle.std.proofs.Common.{◌≡◌, ℕ, ◌+◌, ◌-◌, ◌<◌, ◌≤◌, true, false, List, [], ◌∷◌, ◌++◌, length, get_or, take, drop, refl, sym, ap, ◌∙◌, subst, arith, inl, inr}
+use Rattle.std.proofs.Common.{◌≡◌, ℕ, ◌+◌, ◌-◌, ◌^◌, ◌<◌, ◌≤◌, true, false, List, [], ◌∷◌, ◌++◌, length, get_or, take, drop, refl, sym, ap, ◌∙◌, subst, arith, inl, inr}
 use Rattle.std.proofs.lemmas.Bool.{cases_lt}
 use Rattle.std.proofs.lemmas.List.{get_or-map, length-map, map-append, append-nil, take-append-le, get_or_append_left, take-take, take_all, take_more, drop-drop, drop_more, length-drop, length-take-le, length_push}
 use Rattle.std.proofs.Math.Seq.{get_or-append_seam, take-append_seam}
 use Rattle.fort_grammar.specs.Text.{is_blank}
-use Rattle.fort_formula_grammar.specs.Tokens.{Token, Open, token_text}
-use Rattle.fort_formula_grammar.specs.TokenText.{BeginsWithNoToken, Reads, Nothing, Blank, Next, IsBadByte}
-use Rattle.fort_formula_grammar.specs.FormulaText.{open_behind, deepest_formula, AreShallow, OpensTooMany}
-use Rattle.fort_formula_grammar.proofs.TokenReadings.{Reads-append}
+use Rattle.fort_formula_grammar.specs.Tokens.{Token, Open, Ground, token_text}
+use Rattle.fort_formula_grammar.specs.TokenText.{HasPlace, counting, grounds_behind, BeginsWithNoToken, Reads, Nothing, Blank, Next, IsBadByte}
+use Rattle.fort_formula_grammar.specs.FormulaText.{most_tokens, open_behind, deepest_formula, AreShallow, OpensTooMany}
+use Rattle.fort_formula_grammar.proofs.TokenReadings.{Reads-append, grounds_behind-append, grounds_behind-few}
 use Rattle.fort_formula_grammar.proofs.OpenUnique.{open_behind-append}
 use Rattle.fort_formula_parser.specs.declared.token.Token as code
 use Rattle.fort_formula_parser.specs.declared.token.Token.TheVariants as variants
 use Rattle.fort_formula_parser.specs.declared.token.Lexeme.{Lexeme}
 use Rattle.fort_formula_parser.specs.declared.token.Spotted.{Spotted}
 use Rattle.fort_formula_parser.specs.TokenView.{as_token, tokens_of}
-use Rattle.fort_formula_parser.specs.Spellings.{IsSpotted}
+use Rattle.fort_formula_parser.specs.Spellings.{IsSpottedAt}
+use Rattle.fort_formula_parser.specs.Parsing.{HasSmallPlace, AreFewGrounds}
 use Rattle.fort_formula_parser.specs.Places.{StandsBehind, HavePlaces}
 
 pub tokens_of-push : (lexemes : List Lexeme) (lexeme : Lexeme) → tokens_of (lexemes ++ lexeme ∷ []) ≡ tokens_of lexemes ++ as_token lexeme.token ∷ []
 tokens_of-push lexemes lexeme = map-append (λ l. as_token l.token) lexemes (lexeme ∷ [])
 
-pub Reads-push : (text : List ℕ) (at : ℕ) (tokens : List Token) (found : Spotted) → Reads text tokens (drop at text) → IsSpotted (drop at text) found
-    → Reads text (tokens ++ as_token found.token ∷ []) (drop (at + found.len) text)
+pub Reads-push : (text : List ℕ) (at : ℕ) (tokens : List Token) (found : Spotted) → Reads 0 text tokens (drop at text)
+    → IsSpottedAt (grounds_behind 0 tokens) (drop at text) found → Reads 0 text (tokens ++ as_token found.token ∷ []) (drop (at + found.len) text)
 Reads-push text at tokens found r s =
-    let next : Reads (drop at text) (as_token found.token ∷ []) (drop found.len (drop at text)) = Next s.begins Nothing in
-    Reads-append r (subst (λ rest. Reads (drop at text) (as_token found.token ∷ []) rest) (drop-drop found.len at text) next)
+    let n = grounds_behind 0 tokens in
+    let next : Reads n (drop at text) (as_token found.token ∷ []) (drop found.len (drop at text)) = Next s.spotted.begins s.numbered Nothing in
+    Reads-append r (subst (λ rest. Reads n (drop at text) (as_token found.token ∷ []) rest) (drop-drop found.len at text) next)
 
 pub Reads-blank : (text : List ℕ) (at : ℕ) (tokens : List Token) (d : ℕ) → at < length text → is_blank (get_or text at d) ≡ true
-    → Reads text tokens (drop at text) → Reads text tokens (drop (at + 1) text)
+    → Reads 0 text tokens (drop at text) → Reads 0 text tokens (drop (at + 1) text)
 Reads-blank text at tokens d lt blank r =
     let byte = get_or text at d in
-    let one : Reads (byte ∷ drop (at + 1) text) [] (drop (at + 1) text) = Blank blank Nothing in
-    let here : Reads (drop at text) [] (drop (at + 1) text) = subst (λ t. Reads t [] (drop (at + 1) text)) (sym (drop_more text at d lt)) one in
-    subst (λ ts. Reads text ts (drop (at + 1) text)) (append-nil tokens) (Reads-append r here)
+    let n = grounds_behind 0 tokens in
+    let one : Reads n (byte ∷ drop (at + 1) text) [] (drop (at + 1) text) = Blank blank Nothing in
+    let here : Reads n (drop at text) [] (drop (at + 1) text) = subst (λ t. Reads n t [] (drop (at + 1) text)) (sym (drop_more text at d lt)) one in
+    subst (λ ts. Reads 0 text ts (drop (at + 1) text)) (append-nil tokens) (Reads-append r here)
 
 pub Bad-at : (text : List ℕ) (at : ℕ) (tokens : List Token) (d : ℕ) → at < length text → is_blank (get_or text at d) ≡ false
-    → Reads text tokens (drop at text) → BeginsWithNoToken (drop at text) → IsBadByte text at
+    → Reads 0 text tokens (drop at text) → BeginsWithNoToken (drop at text) → IsBadByte text at
 Bad-at text at tokens d lt blank r none =
     let e = drop_more text at d lt in
     let size = length-drop at text in
@@ -44,7 +47,7 @@ Bad-at text at tokens d lt blank r none =
       tokens = tokens;
       byte = get_or text at d;
       behind = drop (at + 1) text;
-      read = subst (λ rest. Reads text tokens rest) e r;
+      read = subst (λ rest. Reads 0 text tokens rest) e r;
       no_blank = blank;
       no_token = subst (λ t. BeginsWithNoToken t) e none;
       place = omega (arith, size, whole, lt);
@@ -69,9 +72,10 @@ HavePlaces-push text lexemes lexeme places new k d lt =
           subst (λ l. StandsBehind text (take k (tokens_of (lexemes ++ lexeme ∷ []))) l) (sym here) (subst (λ us. StandsBehind text us lexeme) (sym front) new)
     ]
 
-pub StandsBehind-spotted : (text : List ℕ) (at : ℕ) (tokens : List Token) (found : Spotted) → at < length text → Reads text tokens (drop at text)
-    → IsSpotted (drop at text) found → StandsBehind text tokens record { at = at; token = found.token }
-StandsBehind-spotted text at tokens found lt r s = record { within = lt; read = r; rest = drop found.len (drop at text); begins = s.begins }
+pub StandsBehind-spotted : (text : List ℕ) (at : ℕ) (tokens : List Token) (found : Spotted) → at < length text → Reads 0 text tokens (drop at text)
+    → IsSpottedAt (grounds_behind 0 tokens) (drop at text) found → StandsBehind text tokens record { at = at; token = found.token }
+StandsBehind-spotted text at tokens found lt r s =
+    record { within = lt; read = r; numbered = s.numbered; rest = drop found.len (drop at text); begins = s.spotted.begins }
 
 -- parentheses
 pub open_behind-more : (ts : List Token) (i : ℕ) (d : Token) → i < length ts → open_behind 0 (take (i + 1) ts) ≡ open_behind (open_behind 0 (take i ts)) (get_or ts i d ∷ [])
@@ -103,7 +107,7 @@ OpensTooMany-at lexemes k d lt opens full shallow text places =
     record {
       tokens = take k (tokens_of lexemes);
       behind = here.rest;
-      read = subst (λ rest. Reads text (take k (tokens_of lexemes)) rest) behind here.read;
+      read = subst (λ rest. Reads 0 text (take k (tokens_of lexemes)) rest) behind here.read;
       shallow = AreShallow-front (tokens_of lexemes) k (omega (arith, size, lt)) shallow;
       full = full;
       place = omega (arith, length-drop at text, whole, within);
@@ -146,20 +150,49 @@ drop-slice text at = let size = length-drop at text in take_all (length text - a
 pub HavePlaces-none : (text : List ℕ) (lexemes : List Lexeme) → lexemes ≡ [] → HavePlaces text lexemes
 HavePlaces-none text lexemes e k d lt = absurd (omega (arith, lt, ap length e))
 
-pub Reads-none : (text : List ℕ) (lexemes : List Lexeme) → lexemes ≡ [] → Reads text (tokens_of lexemes) text
-Reads-none text lexemes e = subst (λ xs. Reads text (tokens_of xs) text) (sym e) Nothing
+pub Reads-none : (text : List ℕ) (lexemes : List Lexeme) → lexemes ≡ [] → Reads 0 text (tokens_of lexemes) text
+Reads-none text lexemes e = subst (λ xs. Reads 0 text (tokens_of xs) text) (sym e) Nothing
 
 -- one more token of the text
-pub more_tokens : (text : List ℕ) (at : ℕ) (lexemes : List Lexeme) (found : Spotted) → at < length text → Reads text (tokens_of lexemes) (drop at text)
-    → HavePlaces text lexemes → IsSpotted (take (length text - at) (drop at text)) found
-    → (at + found.len ≤ length text) × Reads text (tokens_of (lexemes ++ record { at = at; token = found.token } ∷ [])) (drop (at + found.len) text)
-    × HavePlaces text (lexemes ++ record { at = at; token = found.token } ∷ [])
+pub record GoesOn (text : List ℕ) (at : ℕ) (lexemes : List Lexeme) (found : Spotted) : Type 0 where
+  pub within : at + found.len ≤ length text
+  pub read : Reads 0 text (tokens_of (lexemes ++ record { at = at; token = found.token } ∷ [])) (drop (at + found.len) text)
+  pub places : HavePlaces text (lexemes ++ record { at = at; token = found.token } ∷ [])
+  pub count : counting (grounds_behind 0 (tokens_of lexemes)) (as_token found.token)
+      ≡ grounds_behind 0 (tokens_of (lexemes ++ record { at = at; token = found.token } ∷ []))
+
+pub more_tokens : (text : List ℕ) (at : ℕ) (lexemes : List Lexeme) (found : Spotted) → at < length text → Reads 0 text (tokens_of lexemes) (drop at text)
+    → HavePlaces text lexemes → IsSpottedAt (grounds_behind 0 (tokens_of lexemes)) (take (length text - at) (drop at text)) found
+    → GoesOn text at lexemes found
 more_tokens text at lexemes found lt r places spotted =
-    let s = subst (λ t. IsSpotted t found) (drop-slice text at) spotted in
+    let ts = tokens_of lexemes in
+    let s = subst (λ t. IsSpottedAt (grounds_behind 0 ts) t found) (drop-slice text at) spotted in
     let lexeme : Lexeme = record { at = at; token = found.token } in
     let size = length-drop at text in
-    let within : found.len ≤ length (drop at text) = s.within in (
-      omega arith,
-      subst (λ ts. Reads text ts (drop (at + found.len) text)) (sym (tokens_of-push lexemes lexeme)) (Reads-push text at (tokens_of lexemes) found r s),
-      HavePlaces-push text lexemes lexeme places (StandsBehind-spotted text at (tokens_of lexemes) found lt r s),
-    )
+    let within : found.len ≤ length (drop at text) = s.spotted.within in
+    let all = tokens_of-push lexemes lexeme in
+    record {
+      within = omega arith;
+      read = subst (λ us. Reads 0 text us (drop (at + found.len) text)) (sym all) (Reads-push text at ts found r s);
+      places = HavePlaces-push text lexemes lexeme places (StandsBehind-spotted text at ts found lt r s);
+      count = sym (ap (grounds_behind 0) all ∙ grounds_behind-append 0 ts (as_token found.token ∷ []));
+    }
+
+-- a token counts for one ground term at most
+pub counting-few : (n at len m : ℕ) (t : Token) → n ≤ at → 0 < len → m ≡ counting n t → m ≤ at + len
+counting-few n at len m (Ground place text) le some is = omega (arith, is)
+counting-few n at len m t le some is = omega (arith, is)
+
+small_place : (n : ℕ) (t : Token) → HasPlace n t → n < 2 ^ 32 → HasSmallPlace t
+small_place n (Ground place text) h lt = omega (arith, h)
+small_place n t h lt = tt
+
+-- few tokens have few ground terms among them
+pub few_grounds : (text : List ℕ) (lexemes : List Lexeme) → HavePlaces text lexemes → length lexemes ≤ most_tokens → AreFewGrounds lexemes
+few_grounds text lexemes places le k d lt =
+    let here = places k d lt in
+    let size = length-map lexemes (λ l. as_token l.token) in
+    let front = length-take-le k (tokens_of lexemes) (omega (arith, size, lt)) in
+    let bound = grounds_behind-few (take k (tokens_of lexemes)) in
+    let most : most_tokens ≡ 1000 = refl in
+    small_place (grounds_behind 0 (take k (tokens_of lexemes))) (as_token (get_or lexemes k d).token) here.numbered (omega (arith, front, bound, most, le))

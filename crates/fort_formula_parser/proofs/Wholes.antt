@@ -1,33 +1,38 @@
 -- From the tokens of a text to its formula or its first fault.
-use Rattle.std.proofs.Common.{◌≡◌, ℕ, ◌^◌, ◌<◌, ◌≤◌, List, [], length, Result, Ok, Err, IfErr, IfSome, drop, refl, ap, subst, arith}
-use Rattle.std.proofs.lemmas.List.{length-drop, length-map}
+use Rattle.std.proofs.Common.{◌≡◌, ℕ, ◌+◌, ◌^◌, ◌<◌, ◌≤◌, List, [], ◌∷◌, ◌++◌, length, get_or, take, drop, sym, ap, ◌∙◌, subst, arith}
+use Rattle.std.proofs.lemmas.List.{length-map, length-drop, drop_more, drop_all, take-append-drop, append_cancel_right}
 use Rattle.fort_logic.specs.Formulas as theory
-use Rattle.fort_formula_grammar.specs.TokenText.{AreTokensOf}
+use Rattle.fort_formula_grammar.specs.Tokens.{Open}
+use Rattle.fort_formula_grammar.specs.TokenText.{HasPlace, grounds_behind, Reads, AreTokensOf}
 use Rattle.fort_formula_grammar.specs.FormulaGrammar.{IsFormula}
+use Rattle.fort_formula_grammar.specs.Continuations.{continues_formula}
+use Rattle.fort_formula_grammar.specs.Stuck.{StuckWhole, BehindFormula}
 use Rattle.fort_formula_grammar.specs.FormulaText as fault
-use Rattle.fort_formula_grammar.specs.FormulaText.{most_tokens, AreShallow, IsFirstFormulaFault, Long, Deep, NoFormula, OpensTooMany}
-use Rattle.fort_formula_grammar.proofs.FormulaUnique.{formula-unique}
+use Rattle.fort_formula_grammar.specs.FormulaText.{most_tokens, AreShallow, GoesWrongAt, AtToken, AtEnd, IsFirstFormulaFault, Long, Deep, NoFormula, OpensTooMany}
+use Rattle.fort_formula_grammar.proofs.StuckPlaces.{goes_wrong_at_token, goes_wrong_at_end}
+use Rattle.fort_formulas.specs.FormulaView.{as_formula}
 use Rattle.fort_formulas.specs.NumbersNeeded.{numbers_needed}
-use Rattle.fort_formula_parser.specs.declared.fault.FFault.{FFault}
-use Rattle.fort_formula_parser.specs.declared.fault.FFault.TheVariants.{Memory, BadByte, TooLong, TooDeep, Syntax}
 use Rattle.fort_formula_parser.specs.declared.token.Lexeme.{Lexeme}
-use Rattle.fort_formula_parser.specs.declared.parsed.Parsed.{Parsed}
-use Rattle.fort_formula_parser.specs.Faults.{as_formula_fault}
+use Rattle.fort_formula_parser.specs.declared.reading.Reading.{Reading}
 use Rattle.fort_formula_parser.specs.TokenView.{as_token, tokens_of}
-use Rattle.fort_formula_parser.specs.Parsing.{rest_of, IsParsed, IsSyntaxWhere, IsWholeFormula}
+use Rattle.fort_formula_parser.specs.Places.{HavePlaces}
+use Rattle.fort_formula_parser.specs.Parsing.{rest_of, IsParsed, IsWholeFormula}
 use Rattle.fort_formula_parser.proofs.FewNumbers.{IsFormula-few}
+use Rattle.fort_formula_parser.proofs.PlacesLaws.{tokens_of-at}
 
 tokens_of-length : (lexemes : List Lexeme) → length (tokens_of lexemes) ≡ length lexemes
 tokens_of-length lexemes = length-map lexemes (λ l. as_token l.token)
 
--- no formula that ends before the tokens do is all of them
-pub no_whole : (lexemes : List Lexeme) (p : Parsed) → IsParsed IsWholeFormula lexemes 0 p → p.next < length lexemes
-    → (f : theory.Formula) → IsFormula (tokens_of lexemes) f [] → ⊥
-no_whole lexemes p h lt f whole =
-    let ends : rest_of lexemes p.next ≡ [] = (formula-unique h.reads.0 h.reads.1 whole refl).1 in
-    let none : length (drop p.next (tokens_of lexemes)) ≡ 0 = ap length ends in
+-- tokens behind a formula
+pub stuck_behind_formula : (lexemes : List Lexeme) (p : Reading) → IsParsed IsWholeFormula lexemes 0 p → p.next < length lexemes
+    → (p.next ≤ length lexemes) × StuckWhole (tokens_of lexemes) (rest_of lexemes p.next)
+stuck_behind_formula lexemes p h lt =
     let size = tokens_of-length lexemes in
-    omega (arith, length-drop p.next (tokens_of lexemes), size, none, lt)
+    let here = drop_more (tokens_of lexemes) p.next Open (omega (arith, size, lt)) in (
+      h.within,
+      subst (λ us. StuckWhole (tokens_of lexemes) us) (sym here)
+          (BehindFormula (subst (λ us. IsFormula (tokens_of lexemes) (as_formula p.formula) us) here h.reads.0) (ap continues_formula (sym here) ∙ h.reads.1)),
+    )
 
 pub too_long : (text : List ℕ) (lexemes : List Lexeme) → AreTokensOf text (tokens_of lexemes) → most_tokens < length lexemes → IsFirstFormulaFault text fault.TooLong
 too_long text lexemes read lt = let size = tokens_of-length lexemes in Long (tokens_of lexemes) read (omega (arith, size, lt))
@@ -36,24 +41,44 @@ pub too_deep : (text : List ℕ) (lexemes : List Lexeme) (offset : ℕ) → AreT
     → IsFirstFormulaFault text (fault.TooDeep offset)
 too_deep text lexemes offset read le opens = let size = tokens_of-length lexemes in Deep (tokens_of lexemes) read (omega (arith, size, le)) offset opens
 
-pub no_formula : {T : Type 0} (text : List ℕ) (lexemes : List Lexeme) (r : Result T FFault) → AreTokensOf text (tokens_of lexemes) → length lexemes ≤ most_tokens
-    → AreShallow (tokens_of lexemes) → IfErr r (IsSyntaxWhere ((f : theory.Formula) → IsFormula (tokens_of lexemes) f [] → ⊥))
-    → IfErr r (λ e. IfSome (as_formula_fault e) (IsFirstFormulaFault text))
-no_formula text lexemes (Ok x) read le shallow h = h
-no_formula text lexemes (Err Memory) read le shallow h = h
-no_formula text lexemes (Err (BadByte i)) read le shallow h = absurd h
-no_formula text lexemes (Err TooLong) read le shallow h = absurd h
-no_formula text lexemes (Err (TooDeep i)) read le shallow h = absurd h
-no_formula text lexemes (Err Syntax) read le shallow h =
-    let size = tokens_of-length lexemes in NoFormula (tokens_of lexemes) read (omega (arith, size, le)) shallow h
+-- the offset where the tokens are stuck
+pub goes_wrong_there : (text : List ℕ) (lexemes : List Lexeme) (place : ℕ) (d : Lexeme) → HavePlaces text lexemes → place < length lexemes
+    → StuckWhole (tokens_of lexemes) (rest_of lexemes place) → GoesWrongAt text (tokens_of lexemes) (get_or lexemes place d).at
+goes_wrong_there text lexemes place d places lt stuck =
+    let here = places place d lt in
+    let lexeme = get_or lexemes place d in
+    let t = as_token lexeme.token in
+    let size = tokens_of-length lexemes in
+    let next : rest_of lexemes place ≡ t ∷ rest_of lexemes (place + 1) =
+    drop_more (tokens_of lexemes) place Open (omega (arith, size, lt)) ∙ ap (λ u. u ∷ rest_of lexemes (place + 1)) (tokens_of-at lexemes place d Open lt) in
+    let wrong = goes_wrong_at_token (subst (λ us. StuckWhole (tokens_of lexemes) us) next stuck) in
+    let whole : tokens_of lexemes ≡ take place (tokens_of lexemes) ++ t ∷ rest_of lexemes (place + 1) =
+    sym (take-append-drop place (tokens_of lexemes)) ∙ ap (λ us. take place (tokens_of lexemes) ++ us) next in
+    let front : wrong.0 ≡ take place (tokens_of lexemes) =
+    append_cancel_right wrong.0 (take place (tokens_of lexemes)) (t ∷ rest_of lexemes (place + 1)) (sym wrong.1.0 ∙ whole) in
+    let at : lexeme.at < length text = here.within in
+    AtToken wrong.0 (rest_of lexemes (place + 1)) t lexeme.at wrong.1.0 wrong.1.1 wrong.1.2
+    record {
+      here = drop lexeme.at text;
+      after = here.rest;
+      read = subst (λ ts. Reads 0 text ts (drop lexeme.at text)) (sym front) here.read;
+      begins = here.begins;
+      numbered = subst (λ ts. HasPlace (grounds_behind 0 ts) t) (sym front) here.numbered;
+      place = omega (arith, length-drop lexeme.at text, at);
+    }
 
--- the same of slices of the tokens
-pub no_formula_of : {T : Type 0} (text : List ℕ) (lexemes one two : List Lexeme) (r : Result T FFault) → one ≡ lexemes → two ≡ lexemes
-    → AreTokensOf text (tokens_of lexemes) → length lexemes ≤ most_tokens → AreShallow (tokens_of one)
-    → IfErr r (IsSyntaxWhere ((f : theory.Formula) → IsFormula (tokens_of two) f [] → ⊥)) → IfErr r (λ e. IfSome (as_formula_fault e) (IsFirstFormulaFault text))
-no_formula_of text lexemes one two r p q read le shallow h =
-    no_formula text lexemes r read le (subst (λ xs. AreShallow (tokens_of xs)) p shallow)
-    (subst (λ xs. IfErr r (IsSyntaxWhere ((f : theory.Formula) → IsFormula (tokens_of xs) f [] → ⊥))) q h)
+pub goes_wrong_behind : (text : List ℕ) (lexemes : List Lexeme) (place : ℕ) → length lexemes ≤ place → StuckWhole (tokens_of lexemes) (rest_of lexemes place)
+    → GoesWrongAt text (tokens_of lexemes) (length text)
+goes_wrong_behind text lexemes place le stuck =
+    let size = tokens_of-length lexemes in
+    let none : rest_of lexemes place ≡ [] = drop_all place (tokens_of lexemes) (omega (arith, size, le)) in
+    let wrong = goes_wrong_at_end (subst (λ us. StuckWhole (tokens_of lexemes) us) none stuck) in
+    AtEnd wrong.0 wrong.1
+
+pub no_formula : (text : List ℕ) (lexemes : List Lexeme) (offset : ℕ) → AreTokensOf text (tokens_of lexemes) → length lexemes ≤ most_tokens
+    → AreShallow (tokens_of lexemes) → GoesWrongAt text (tokens_of lexemes) offset → IsFirstFormulaFault text (fault.Syntax offset)
+no_formula text lexemes offset read le shallow wrong =
+    let size = tokens_of-length lexemes in NoFormula (tokens_of lexemes) read (omega (arith, size, le)) shallow offset wrong
 
 -- the formula that these tokens are needs few numbers
 pub few_numbers : (lexemes : List Lexeme) (f : theory.Formula) → IsFormula (tokens_of lexemes) f [] → length lexemes ≤ most_tokens

@@ -9,4 +9,4 @@ as_formula_fault Memory = None
 as_formula_fault (BadByte i) = Some (grammar.BadByte i)
 as_formula_fault TooLong = Some grammar.TooLong
 as_formula_fault (TooDeep i) = Some (grammar.TooDeep i)
-as_formula_fault Syntax = Some grammar.Syntax
+as_formula_fault (Syntax i) = Some (grammar.Syntax i)

@@ -1,4 +1,5 @@
 pub mod Faults
+pub mod ParsedView
 pub mod TokenView
 pub mod Spellings
 pub mod Places

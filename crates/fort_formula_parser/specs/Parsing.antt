@@ -1,21 +1,25 @@
 -- Inside: what reading a part of the tokens gives, seen by the relations of the grammar.
-use Rattle.std.specs.Prelude.{◌≡◌, ℕ, ◌+◌, ◌<◌, ◌≤◌, false, List, ◌∷◌, length, drop}
+use Rattle.std.specs.Prelude.{◌≡◌, ℕ, ◌+◌, ◌^◌, ◌<◌, ◌≤◌, false, List, ◌∷◌, length, drop, slice_index_or}
 use Rattle.fort_logic.specs.Formulas as theory
 use Rattle.fort_logic.specs.Formulas.{Formula}
-use Rattle.fort_formula_grammar.specs.Tokens.{Token, Open, Close}
+use Rattle.fort_formula_grammar.specs.Tokens.{Token, Open, Close, Ground}
 use Rattle.fort_formula_grammar.specs.FormulaGrammar as grammar
-use Rattle.fort_formula_grammar.specs.FormulaGrammar.{IsFormula, IsImplication, IsDisjunction, IsConjunction}
+use Rattle.fort_formula_grammar.specs.FormulaGrammar.{IsIndex, IsArgument, IsRelation, IsFormula, IsImplication, IsDisjunction, IsConjunction}
 use Rattle.fort_formula_grammar.specs.Continuations.{continues_formula, continues_implication, continues_disjunction, continues_conjunction}
-use Rattle.fort_formulas.specs.FormulaView.{as_formula}
-use Rattle.fort_formula_parser.specs.declared.fault.FFault.{FFault}
-use Rattle.fort_formula_parser.specs.declared.fault.FFault.TheVariants.{Memory, BadByte, TooLong, TooDeep, Syntax}
+use Rattle.fort_formulas.specs.FormulaView.{as_surface_rel, as_formula}
+use Rattle.fort_formula_parser.specs.declared.stuck.Stuck.{Stuck}
+use Rattle.fort_formula_parser.specs.declared.stuck.Stuck.TheVariants as stuck
+use Rattle.fort_formula_parser.specs.declared.cursor.Argument.{Argument}
+use Rattle.fort_formula_parser.specs.declared.cursor.Argument.TheVariants as argument
+use Rattle.fort_formula_parser.specs.declared.cursor.Indexed.{Indexed}
+use Rattle.fort_formula_parser.specs.declared.cursor.Relation.{Relation}
 use Rattle.fort_formula_parser.specs.declared.token.Lexeme.{Lexeme}
-use Rattle.fort_formula_parser.specs.declared.parsed.Parsed.{Parsed}
-use Rattle.fort_formula_parser.specs.declared.parsed.Connective.{Connective}
-use Rattle.fort_formula_parser.specs.declared.parsed.Connective.TheVariants.{And, Or, Imp, Iff}
-use Rattle.fort_formula_parser.specs.declared.parsed.Quantifier.{Quantifier}
-use Rattle.fort_formula_parser.specs.declared.parsed.Quantifier.TheVariants.{Exists, Forall}
-use Rattle.fort_formula_parser.specs.TokenView.{tokens_of}
+use Rattle.fort_formula_parser.specs.declared.reading.Reading.{Reading}
+use Rattle.fort_formula_parser.specs.declared.reading.Connective.{Connective}
+use Rattle.fort_formula_parser.specs.declared.reading.Connective.TheVariants.{And, Or, Imp, Iff}
+use Rattle.fort_formula_parser.specs.declared.reading.Quantifier.{Quantifier}
+use Rattle.fort_formula_parser.specs.declared.reading.Quantifier.TheVariants.{Exists, Forall}
+use Rattle.fort_formula_parser.specs.TokenView.{as_token, tokens_of}
 
 -- the tokens from a place on
 abbrev pub rest_of : List Lexeme → ℕ → List Token
@@ -27,23 +31,48 @@ pub record IsTokenAt (lexemes : List Lexeme) (at : ℕ) (token : Token) : Type 0
   pub next : rest_of lexemes at ≡ token ∷ rest_of lexemes (at + 1)
 
 -- from the place on the tokens are this kind of formula, up to where the reading goes on
-pub record IsParsed (kind : List Token → Formula → List Token → Type 0) (lexemes : List Lexeme) (at : ℕ) (parsed : Parsed) : Type 0 where
-  pub further : at < parsed.next
-  pub within : parsed.next ≤ length lexemes
-  pub reads : kind (rest_of lexemes at) (as_formula parsed.formula) (rest_of lexemes parsed.next)
+pub record IsParsed (kind : List Token → Formula → List Token → Type 0) (lexemes : List Lexeme) (at : ℕ) (reading : Reading) : Type 0 where
+  pub further : at < reading.next
+  pub within : reading.next ≤ length lexemes
+  pub reads : kind (rest_of lexemes at) (as_formula reading.formula) (rest_of lexemes reading.next)
 
 -- the formula that was made, and where its tokens end
-pub record IsReadAs (f : Formula) (next : ℕ) (parsed : Parsed) : Type 0 where
-  pub formula : as_formula parsed.formula ≡ f
-  pub place : parsed.next ≡ next
+pub record IsReadAs (f : Formula) (next : ℕ) (reading : Reading) : Type 0 where
+  pub formula : as_formula reading.formula ≡ f
+  pub place : reading.next ≡ next
 
--- want of memory, or a fault of syntax with this reason
-abbrev pub IsSyntaxWhere : Type 0 → FFault → Type 0
-IsSyntaxWhere reason Memory = Unit {0}
-IsSyntaxWhere reason (BadByte i) = ⊥
-IsSyntaxWhere reason TooLong = ⊥
-IsSyntaxWhere reason (TooDeep i) = ⊥
-IsSyntaxWhere reason Syntax = reason
+-- want of memory, or the place up to which a reading of this kind comes
+abbrev pub IsStuckAt : (List Token → List Token → Type 0) → List Lexeme → ℕ → Stuck → Type 0
+IsStuckAt kind lexemes at stuck.Memory = Unit {0}
+IsStuckAt kind lexemes at (stuck.At place) = (place ≤ length lexemes) × kind (rest_of lexemes at) (rest_of lexemes place)
+
+abbrev pub argument_of : Argument → theory.Argument
+argument_of (argument.Variable x) = theory.Var x.now
+argument_of (argument.Ground place) = theory.Ground place
+
+-- the token at the place is the argument
+pub record IsArgumentAt (lexemes : List Lexeme) (at : ℕ) (a : theory.Argument) : Type 0 where
+  pub within : at < length lexemes
+  pub reads : IsArgument (rest_of lexemes at) a (rest_of lexemes (at + 1))
+
+-- the index at the place, or 1
+pub record IsIndexAt (lexemes : List Lexeme) (at : ℕ) (found : Indexed) : Type 0 where
+  pub further : at ≤ found.next
+  pub within : found.next ≤ length lexemes
+  pub reads : IsIndex (rest_of lexemes at) found.index (rest_of lexemes found.next)
+
+pub record IsRelationAt (lexemes : List Lexeme) (at : ℕ) (found : Relation) : Type 0 where
+  pub further : at < found.next
+  pub within : found.next ≤ length lexemes
+  pub reads : IsRelation (rest_of lexemes at) (as_surface_rel found.rel) found.index (rest_of lexemes found.next)
+
+-- the place of a ground term is a number of 32 bits
+abbrev pub HasSmallPlace : Token → Type 0
+HasSmallPlace (Ground place text) = place < 2 ^ 32
+HasSmallPlace t = Unit {0}
+
+abbrev pub AreFewGrounds : List Lexeme → Type 0
+AreFewGrounds lexemes = (k : ℕ) (d : Lexeme) → k < length lexemes → HasSmallPlace (as_token (slice_index_or lexemes k d).token)
 
 -- readings that can't go on
 abbrev pub IsWholeFormula : List Token → Formula → List Token → Type 0
@@ -61,9 +90,6 @@ IsWholeConjunction ts f us = IsConjunction ts f us × (continues_conjunction us 
 -- a formula in parentheses
 pub data IsBody : List Token → Formula → List Token → Type 0 where
   Body : {ts us : List Token} {f : Formula} → IsFormula ts f (Close ∷ us) → IsBody (Open ∷ ts) f us
-
-abbrev pub HasNoBody : List Token → Type 0
-HasNoBody ts = (f : Formula) (us : List Token) → IsBody ts f us → ⊥
 
 abbrev pub connected : Connective → Formula → Formula → Formula
 connected And f g = theory.And f g

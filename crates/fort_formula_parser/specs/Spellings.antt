@@ -2,7 +2,7 @@
 use Rattle.std.specs.Prelude.{◌≡◌, ℕ, ◌<◌, ◌≤◌, List, [], ◌++◌, length, map, drop, slice_index_or}
 use Rattle.fort_formula_grammar.specs.Tokens as grammar
 use Rattle.fort_formula_grammar.specs.Tokens.{token_text, IsToken}
-use Rattle.fort_formula_grammar.specs.TokenText.{BeginsWithToken}
+use Rattle.fort_formula_grammar.specs.TokenText.{HasPlace, BeginsWithToken}
 use Rattle.fort_formula_grammar.specs.TokenForms.{NoneBegins}
 use Rattle.fort_formula_parser.specs.declared.token.Spelling.{Spelling}
 use Rattle.fort_formula_parser.specs.declared.token.Spotted.{Spotted}
@@ -31,3 +31,8 @@ pub record IsSpotted (text : List ℕ) (found : Spotted) : Type 0 where
   pub some : 0 < found.len
   pub within : found.len ≤ length text
   pub begins : BeginsWithToken text (as_token found.token) (drop found.len text)
+
+-- the same where so many ground terms stand before
+pub record IsSpottedAt (place : ℕ) (text : List ℕ) (found : Spotted) : Type 0 where
+  pub spotted : IsSpotted text found
+  pub numbered : HasPlace place (as_token found.token)

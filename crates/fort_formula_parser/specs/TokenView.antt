@@ -3,7 +3,7 @@ use Rattle.std.specs.Prelude.{List, map}
 use Rattle.fort_formula_grammar.specs.Tokens as grammar
 use Rattle.fort_formulas.specs.FormulaView.{as_surface_rel, as_property}
 use Rattle.fort_formula_parser.specs.declared.token.Token.{Token}
-use Rattle.fort_formula_parser.specs.declared.token.Token.TheVariants.{Open, Close, Comma, Not, And, Or, Imp, Iff, Related, Exists, Forall, Infinite, True, False, Nf, Join, Has, Com, Sn, Variable}
+use Rattle.fort_formula_parser.specs.declared.token.Token.TheVariants.{Open, Close, Comma, Not, And, Or, Imp, Iff, Related, Index, Exists, Forall, Infinite, True, False, Nf, Join, Has, Com, Sn, Variable, Ground}
 use Rattle.fort_formula_parser.specs.declared.token.Lexeme.{Lexeme}
 use Rattle.fort_formula_parser.specs.declared.cursor.Mark.{Mark}
 use Rattle.fort_formula_parser.specs.declared.cursor.Mark.TheVariants as marks
@@ -18,6 +18,7 @@ as_token Or = grammar.Or
 as_token Imp = grammar.Imp
 as_token Iff = grammar.Iff
 as_token (Related rel) = grammar.Related (as_surface_rel rel)
+as_token (Index n) = grammar.Index n
 as_token Exists = grammar.Exists
 as_token Forall = grammar.Forall
 as_token Infinite = grammar.Infinite
@@ -29,6 +30,7 @@ as_token (Has m) = grammar.Has (as_property m)
 as_token Com = grammar.Com
 as_token Sn = grammar.Sn
 as_token (Variable name) = grammar.Variable name.now
+as_token (Ground place text) = grammar.Ground place text.now
 
 abbrev pub tokens_of : List Lexeme → List grammar.Token
 tokens_of lexemes = map (λ lexeme. as_token lexeme.token) lexemes

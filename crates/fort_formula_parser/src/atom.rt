@@ -3,83 +3,103 @@
 ghost use Rattle.std.specs.Prelude.{◌≡◌, ◌<◌, length, IfOk, IfErr};
 ghost use Rattle.fort_formula_grammar.specs.Tokens as grammar;
 ghost use Rattle.fort_formula_grammar.specs.FormulaGrammar.{IsUnary};
-ghost use Rattle.fort_formula_grammar.specs.Continuations.{HasNoUnary};
-ghost use Rattle.fort_formula_parser.specs.Parsing.{rest_of, IsTokenAt, IsParsed, IsSyntaxWhere};
+ghost use Rattle.fort_formulas.specs.FormulaView.{as_property};
+ghost use Rattle.fort_formula_grammar.specs.Stuck.{StuckUnary};
+ghost use Rattle.fort_formula_parser.specs.Parsing.{AreFewGrounds, IsTokenAt, IsParsed, IsStuckAt, IsArgumentAt, argument_of};
 
-use crate::cursor::{Mark, is_next, relation_at, variable_at};
-use crate::fault::FFault;
-use crate::parsed::{INDEX, Parsed, name_of};
+use crate::cursor::{
+    Argument, Indexed, Mark, Relation, argument_at, index_at, is_next, relation_at,
+};
+use crate::reading::{Reading, arg_of};
+use crate::stuck::Stuck;
 use crate::token::Lexeme;
-use fort_formulas::Formula;
+use fort_formulas::{Formula, Macro};
 use std::alloc::Global;
 
-/// `NF ( x )`, at whose first token it is.
-pub(crate) fn normal_form(alloc: Global, lexemes: &[Lexeme], at: usize) -> Result<Parsed, FFault>
-    requires { IsTokenAt lexemes.now at grammar.Nf }
-    ensures ok { IfOk result (IsParsed IsUnary lexemes.now at) }
-    ensures err { IfErr result (IsSyntaxWhere (HasNoUnary (rest_of lexemes.now at))) }
+/// A property with its index, at whose first token it is.
+pub(crate) fn property_formula(lexemes: &[Lexeme], at: usize, property: Macro) -> Reading
+    requires { IsTokenAt lexemes.now at (grammar.Has (as_property property)) }
+    ensures { IsParsed IsUnary lexemes.now at result }
 {
-    if !is_next(lexemes, at + 1, Mark::Open) {
-        return Err(FFault::Syntax);
+    let Indexed { index, next } = index_at(lexemes, at + 1);
+    Reading {
+        formula: Formula::Macro(property, index),
+        next,
     }
-    let Some(x) = variable_at(lexemes, at + 2) else {
-        return Err(FFault::Syntax);
+}
+
+/// `NF ( x )`, at whose first token it is.
+pub(crate) fn normal_form(alloc: Global, lexemes: &[Lexeme], at: usize) -> Result<Reading, Stuck>
+    requires here { IsTokenAt lexemes.now at grammar.Nf }
+    requires few { AreFewGrounds lexemes.now }
+    ensures ok { IfOk result (IsParsed IsUnary lexemes.now at) }
+    ensures err { IfErr result (IsStuckAt StuckUnary lexemes.now at) }
+{
+    let Indexed { index, next } = index_at(lexemes, at + 1);
+    if !is_next(lexemes, next, Mark::Open) {
+        return Err(Stuck::At(next));
+    }
+    let Some(x) = argument_at(lexemes, next + 1) else {
+        return Err(Stuck::At(next + 1));
     };
-    if !is_next(lexemes, at + 3, Mark::Close) {
-        return Err(FFault::Syntax);
+    if !is_next(lexemes, next + 2, Mark::Close) {
+        return Err(Stuck::At(next + 2));
     }
-    Ok(Parsed {
-        formula: Formula::Nf(name_of(alloc, x)?, INDEX),
-        next: at + 4,
+    Ok(Reading {
+        formula: Formula::Nf(arg_of(alloc, x)?, index),
+        next: next + 3,
     })
 }
 
 /// `JOIN ( x , y )`, at whose first token it is.
-pub(crate) fn joinable(alloc: Global, lexemes: &[Lexeme], at: usize) -> Result<Parsed, FFault>
-    requires { IsTokenAt lexemes.now at grammar.Join }
+pub(crate) fn joinable(alloc: Global, lexemes: &[Lexeme], at: usize) -> Result<Reading, Stuck>
+    requires here { IsTokenAt lexemes.now at grammar.Join }
+    requires few { AreFewGrounds lexemes.now }
     ensures ok { IfOk result (IsParsed IsUnary lexemes.now at) }
-    ensures err { IfErr result (IsSyntaxWhere (HasNoUnary (rest_of lexemes.now at))) }
+    ensures err { IfErr result (IsStuckAt StuckUnary lexemes.now at) }
 {
-    if !is_next(lexemes, at + 1, Mark::Open) {
-        return Err(FFault::Syntax);
+    let Indexed { index, next } = index_at(lexemes, at + 1);
+    if !is_next(lexemes, next, Mark::Open) {
+        return Err(Stuck::At(next));
     }
-    let Some(x) = variable_at(lexemes, at + 2) else {
-        return Err(FFault::Syntax);
+    let Some(x) = argument_at(lexemes, next + 1) else {
+        return Err(Stuck::At(next + 1));
     };
-    if !is_next(lexemes, at + 3, Mark::Comma) {
-        return Err(FFault::Syntax);
+    if !is_next(lexemes, next + 2, Mark::Comma) {
+        return Err(Stuck::At(next + 2));
     }
-    let Some(y) = variable_at(lexemes, at + 4) else {
-        return Err(FFault::Syntax);
+    let Some(y) = argument_at(lexemes, next + 3) else {
+        return Err(Stuck::At(next + 3));
     };
-    if !is_next(lexemes, at + 5, Mark::Close) {
-        return Err(FFault::Syntax);
+    if !is_next(lexemes, next + 4, Mark::Close) {
+        return Err(Stuck::At(next + 4));
     }
-    Ok(Parsed {
-        formula: Formula::Join(name_of(alloc, x)?, name_of(alloc, y)?, INDEX),
-        next: at + 6,
+    Ok(Reading {
+        formula: Formula::Join(arg_of(alloc, x)?, arg_of(alloc, y)?, index),
+        next: next + 5,
     })
 }
 
-/// `x -> y` with any relation, at whose first token it is.
+/// `x -> y` with any relation, at whose first argument it is.
 pub(crate) fn compared(
     alloc: Global,
     lexemes: &[Lexeme],
     at: usize,
-    x: &[u8],
-) -> Result<Parsed, FFault>
-    requires { IsTokenAt lexemes.now at (grammar.Variable x.now) }
+    x: Argument,
+) -> Result<Reading, Stuck>
+    requires here { IsArgumentAt lexemes.now at (argument_of x) }
+    requires few { AreFewGrounds lexemes.now }
     ensures ok { IfOk result (IsParsed IsUnary lexemes.now at) }
-    ensures err { IfErr result (IsSyntaxWhere (HasNoUnary (rest_of lexemes.now at))) }
+    ensures err { IfErr result (IsStuckAt StuckUnary lexemes.now at) }
 {
-    let Some(rel) = relation_at(lexemes, at + 1) else {
-        return Err(FFault::Syntax);
+    let Some(Relation { rel, index, next }) = relation_at(lexemes, at + 1) else {
+        return Err(Stuck::At(at + 1));
     };
-    let Some(y) = variable_at(lexemes, at + 2) else {
-        return Err(FFault::Syntax);
+    let Some(y) = argument_at(lexemes, next) else {
+        return Err(Stuck::At(next));
     };
-    Ok(Parsed {
-        formula: Formula::Rel(rel, name_of(alloc, x)?, name_of(alloc, y)?, INDEX),
-        next: at + 3,
+    Ok(Reading {
+        formula: Formula::Rel(rel, arg_of(alloc, x)?, arg_of(alloc, y)?, index),
+        next: next + 1,
     })
 }

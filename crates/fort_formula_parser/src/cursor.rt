@@ -1,11 +1,10 @@
 //! The token at a place.
 
-ghost use Rattle.std.specs.Prelude.{◌≡◌, ◌↔◌, IsTrue, MatchBool, MatchOption};
+ghost use Rattle.std.specs.Prelude.{◌≡◌, ◌≤◌, length, MatchBool, MatchOption};
 ghost use Rattle.fort_formula_grammar.specs.Tokens as grammar;
-ghost use Rattle.fort_formula_grammar.specs.Continuations.{HasNoNext, HasNoVariable, HasNoRelation};
-ghost use Rattle.fort_formulas.specs.FormulaView.{as_surface_rel};
+ghost use Rattle.fort_formula_grammar.specs.Continuations.{HasNoNext, HasNoVariable, HasNoArgument, HasNoRelation};
 ghost use Rattle.fort_formula_parser.specs.TokenView.{as_token, as_mark};
-ghost use Rattle.fort_formula_parser.specs.Parsing.{rest_of, IsTokenAt};
+ghost use Rattle.fort_formula_parser.specs.Parsing.{rest_of, IsTokenAt, AreFewGrounds, IsArgumentAt, IsIndexAt, IsRelationAt, argument_of};
 
 use crate::token::{Lexeme, Token};
 use fort_formulas::SurfaceRel;
@@ -60,13 +59,83 @@ pub(crate) fn variable_at<'a>(lexemes: &[Lexeme<'a>], at: usize) -> Option<&'a [
     }
 }
 
-/// The relation at a place, where one is.
-pub(crate) fn relation_at(lexemes: &[Lexeme], at: usize) -> Option<SurfaceRel>
-    ensures { MatchOption result (HasNoRelation (rest_of lexemes.now at))
-        (λ rel. IsTokenAt lexemes.now at (grammar.Related (as_surface_rel rel))) }
+/// What stands on a side of a relation.
+#[derive(Clone, Copy)]
+pub(crate) enum Argument<'a> {
+    Variable(&'a [u8]),
+    /// A ground term by its place.
+    Ground(u32),
+}
+
+/// The argument at a place, where one is. It is one token.
+pub(crate) fn argument_at<'a>(lexemes: &[Lexeme<'a>], at: usize) -> Option<Argument<'a>>
+    requires { AreFewGrounds lexemes.now }
+    ensures { MatchOption result (HasNoArgument (rest_of lexemes.now at))
+        (λ a. IsArgumentAt lexemes.now at (argument_of a)) }
 {
-    match lexemes.get(at)?.token {
-        Token::Related(rel) => Some(rel),
+    let Some(lexeme) = lexemes.get(at) else {
+        return None;
+    };
+    match lexeme.token {
+        Token::Variable(x) => Some(Argument::Variable(x)),
+        Token::Ground(place, _) => Some(Argument::Ground(place as u32)),
         _ => None,
+    }
+}
+
+/// An index that was read, and the place of the first token behind it.
+#[derive(Clone, Copy)]
+pub(crate) struct Indexed {
+    pub index: u32,
+    pub next: usize,
+}
+
+/// The index at a place; where none is, it is 1.
+pub(crate) fn index_at(lexemes: &[Lexeme], at: usize) -> Indexed
+    requires { at ≤ length lexemes.now }
+    ensures { IsIndexAt lexemes.now at result }
+{
+    let Some(lexeme) = lexemes.get(at) else {
+        return Indexed { index: 1, next: at };
+    };
+    match lexeme.token {
+        Token::Index(index) => Indexed {
+            index,
+            next: at + 1,
+        },
+        _ => Indexed { index: 1, next: at },
+    }
+}
+
+/// A relation that was read, with its index, and the place of the first token behind it.
+#[derive(Clone, Copy)]
+pub(crate) struct Relation {
+    pub rel: SurfaceRel,
+    pub index: u32,
+    pub next: usize,
+}
+
+/// The relation at a place, where one is.
+pub(crate) fn relation_at(lexemes: &[Lexeme], at: usize) -> Option<Relation>
+    ensures { MatchOption result (HasNoRelation (rest_of lexemes.now at))
+        (IsRelationAt lexemes.now at) }
+{
+    let Some(lexeme) = lexemes.get(at) else {
+        return None;
+    };
+    let Token::Related(rel) = lexeme.token else {
+        return None;
+    };
+    match rel {
+        // equality isn't about rules
+        SurfaceRel::Eq => Some(Relation {
+            rel,
+            index: 1,
+            next: at + 1,
+        }),
+        _ => {
+            let Indexed { index, next } = index_at(lexemes, at + 1);
+            Some(Relation { rel, index, next })
+        }
     }
 }

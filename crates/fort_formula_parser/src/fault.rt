@@ -16,8 +16,9 @@ pub enum FFault {
     TooLong,
     /// The first `(` that is the 201st open.
     TooDeep(usize),
-    /// The tokens are no formula.
-    Syntax,
+    /// The tokens are no formula; the first one with which they can't begin one any more begins here,
+    /// or the text ends here where all of them can.
+    Syntax(usize),
 }
 
 impl From<AllocError> for FFault {

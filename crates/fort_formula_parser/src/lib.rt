@@ -4,15 +4,19 @@
 mod atom;
 mod cursor;
 mod fault;
+mod ground;
 mod lexer;
 mod parsed;
 mod parser;
+mod reading;
+mod stuck;
 mod symbol;
 mod token;
 mod top;
 mod word;
 
 pub use fault::FFault;
+pub use parsed::{Ground, Parsed};
 pub use top::parse;
 
 #[cfg(test)]

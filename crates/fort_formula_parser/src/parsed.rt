@@ -1,114 +1,20 @@
-//! Formulas that were read, and what is made of them.
+//! What parsing gives.
 
-ghost use Rattle.std.specs.Prelude.{◌≡◌, IfOk, IfErr};
-ghost use Rattle.fort_logic.specs.Formulas as theory;
-ghost use Rattle.fort_formula_grammar.specs.FormulaGrammar.{quantified};
-ghost use Rattle.fort_formulas.specs.FormulaView.{as_formula};
-ghost use Rattle.fort_formula_parser.specs.Parsing.{IsReadAs, as_quantifier, connected};
+use fort_formulas::Formula;
 
-use crate::fault::FFault;
-use fort_formulas::{Formula, Name, Operand};
-use std::alloc::Global;
-
-/// The index of the rules, which no token tells yet.
-pub(crate) const INDEX: u32 = 1;
-
-/// A formula that was read, and the place of the first token behind it.
+/// A formula and the ground terms that are written in its text.
 #[derive(Drop)]
-pub(crate) struct Parsed {
+pub struct Parsed {
     pub formula: Formula,
-    pub next: usize,
+    /// In the order of the text; the formula names them by their places here.
+    pub grounds: Vec<Ground>,
 }
 
-/// What stands between two formulas.
-#[derive(Clone, Copy)]
-pub(crate) enum Connective {
-    And,
-    Or,
-    Imp,
-    Iff,
-}
-
-/// What binds lists of variables.
-#[derive(Clone, Copy)]
-pub(crate) enum Quantifier {
-    Exists,
-    Forall,
-}
-
-pub(crate) fn name_of(alloc: Global, x: &[u8]) -> Result<Name, FFault>
-    ensures ok { IfOk result (λ name. name ≡ x.now) }
-    ensures err { IfErr result (λ e. e ≡ FFault.Memory) }
-{
-    Ok(Name::new(Vec::from_slice(alloc, x)?))
-}
-
-/// The negation, which ends where its operand does.
-pub(crate) fn negated(alloc: Global, operand: Parsed) -> Result<Parsed, FFault>
-    ensures ok { IfOk result (IsReadAs (theory.Not (as_formula operand.formula)) operand.next) }
-    ensures err { IfErr result (λ e. e ≡ FFault.Memory) }
-{
-    let Parsed { formula, next } = operand;
-    Ok(Parsed {
-        formula: Formula::Not(Operand::new(alloc, formula)?),
-        next,
-    })
-}
-
-/// Both formulas joined, which end where the right one does.
-pub(crate) fn joined(
-    alloc: Global,
-    connective: Connective,
-    left: Parsed,
-    right: Parsed,
-) -> Result<Parsed, FFault>
-    ensures ok { IfOk result (IsReadAs
-        (connected connective (as_formula left.formula) (as_formula right.formula)) right.next) }
-    ensures err { IfErr result (λ e. e ≡ FFault.Memory) }
-{
-    let next = right.next;
-    let left = Operand::new(alloc, left.formula)?;
-    let right = Operand::new(alloc, right.formula)?;
-    let formula = match connective {
-        Connective::And => Formula::And(left, right),
-        Connective::Or => Formula::Or(left, right),
-        Connective::Imp => Formula::Imp(left, right),
-        Connective::Iff => Formula::Iff(left, right),
-    };
-    Ok(Parsed { formula, next })
-}
-
-/// The body under a quantifier of this variable.
-pub(crate) fn bound(
-    alloc: Global,
-    quantifier: Quantifier,
-    x: &[u8],
-    body: Parsed,
-) -> Result<Parsed, FFault>
-    ensures ok { IfOk result (IsReadAs
-        (quantified (as_quantifier quantifier) x.now (as_formula body.formula)) body.next) }
-    ensures err { IfErr result (λ e. e ≡ FFault.Memory) }
-{
-    let Parsed { formula, next } = body;
-    let body = Operand::new(alloc, formula)?;
-    let name = name_of(alloc, x)?;
-    let formula = match quantifier {
-        Quantifier::Exists => Formula::Exists(name, body),
-        Quantifier::Forall => Formula::Forall(name, body),
-    };
-    Ok(Parsed { formula, next })
-}
-
-/// That infinitely many values of this variable meet the body.
-pub(crate) fn infinite(alloc: Global, x: &[u8], body: Parsed) -> Result<Parsed, FFault>
-    ensures ok { IfOk result (IsReadAs
-        (theory.Infinite x.now (as_formula body.formula)) body.next) }
-    ensures err { IfErr result (λ e. e ≡ FFault.Memory) }
-{
-    let Parsed { formula, next } = body;
-    let body = Operand::new(alloc, formula)?;
-    Ok(Parsed {
-        formula: Formula::Infinite(name_of(alloc, x)?, body),
-        next,
-    })
+/// A ground term that is written in the text of a formula.
+#[derive(Drop)]
+pub struct Ground {
+    /// The offset of its brace.
+    pub at: usize,
+    /// What stands between its braces.
+    pub text: Vec<u8>,
 }

@@ -1,24 +1,25 @@
 //! Formulas by recursive descent, one function for each production.
 
-ghost use Rattle.std.specs.Prelude.{◌≡◌, ◌≤◌, length, IfOk, IfErr};
+ghost use Rattle.std.specs.Prelude.{◌≡◌, ◌+◌, ◌^◌, ◌<◌, ◌≤◌, length, IfOk, IfErr};
 ghost use Rattle.fort_formula_grammar.specs.FormulaGrammar.{IsUnary, IsBound};
-ghost use Rattle.fort_formula_grammar.specs.Continuations.{HasNoUnary, HasNoBound, HasNoConjunction, HasNoDisjunction, HasNoImplication, HasNoFormula};
-ghost use Rattle.fort_formula_parser.specs.Parsing.{rest_of, IsParsed, IsSyntaxWhere, IsWholeFormula, IsWholeImplication, IsWholeDisjunction, IsWholeConjunction, IsBody, HasNoBody, as_quantifier};
+ghost use Rattle.fort_formula_grammar.specs.Stuck.{StuckUnary, StuckBinders, StuckConjunction, StuckDisjunction, StuckImplication, StuckFormula, StuckBody};
+ghost use Rattle.fort_formula_parser.specs.Parsing.{AreFewGrounds, IsParsed, IsStuckAt, IsWholeFormula, IsWholeImplication, IsWholeDisjunction, IsWholeConjunction, IsBody, as_quantifier};
 
-use crate::atom::{compared, joinable, normal_form};
-use crate::cursor::{Mark, is_next, variable_at};
-use crate::fault::FFault;
-use crate::parsed::{Connective, INDEX, Parsed, Quantifier, bound, infinite, joined, negated};
+use crate::atom::{compared, joinable, normal_form, property_formula};
+use crate::cursor::{Mark, argument_at, is_next, variable_at};
+use crate::reading::{Connective, Quantifier, Reading, bound, infinite, joined, negated};
+use crate::stuck::Stuck;
 use crate::token::{Lexeme, Token};
 use fort_formulas::Formula;
 use std::alloc::Global;
 
 /// The longest formula that begins at a place.
 #[cycle(parser)]
-pub(crate) fn formula(alloc: Global, lexemes: &[Lexeme], at: usize) -> Result<Parsed, FFault>
-    requires { at ≤ length lexemes.now }
+pub(crate) fn formula(alloc: Global, lexemes: &[Lexeme], at: usize) -> Result<Reading, Stuck>
+    requires within { at ≤ length lexemes.now }
+    requires few { AreFewGrounds lexemes.now }
     ensures ok { IfOk result (IsParsed IsWholeFormula lexemes.now at) }
-    ensures err { IfErr result (IsSyntaxWhere (HasNoFormula (rest_of lexemes.now at))) }
+    ensures err { IfErr result (IsStuckAt StuckFormula lexemes.now at) }
 {
     let left = implication(alloc, lexemes, at)?;
     if !is_next(lexemes, left.next, Mark::Iff) {
@@ -26,17 +27,18 @@ pub(crate) fn formula(alloc: Global, lexemes: &[Lexeme], at: usize) -> Result<Pa
     }
     let right = implication(alloc, lexemes, left.next + 1)?;
     if is_next(lexemes, right.next, Mark::Iff) {
-        return Err(FFault::Syntax);
+        return Err(Stuck::At(right.next));
     }
     joined(alloc, Connective::Iff, left, right)
 }
 
 /// The longest implication that begins at a place.
 #[cycle(parser)]
-fn implication(alloc: Global, lexemes: &[Lexeme], at: usize) -> Result<Parsed, FFault>
-    requires { at ≤ length lexemes.now }
+fn implication(alloc: Global, lexemes: &[Lexeme], at: usize) -> Result<Reading, Stuck>
+    requires within { at ≤ length lexemes.now }
+    requires few { AreFewGrounds lexemes.now }
     ensures ok { IfOk result (IsParsed IsWholeImplication lexemes.now at) }
-    ensures err { IfErr result (IsSyntaxWhere (HasNoImplication (rest_of lexemes.now at))) }
+    ensures err { IfErr result (IsStuckAt StuckImplication lexemes.now at) }
 {
     let premise = disjunction(alloc, lexemes, at)?;
     if !is_next(lexemes, premise.next, Mark::Imp) {
@@ -48,10 +50,11 @@ fn implication(alloc: Global, lexemes: &[Lexeme], at: usize) -> Result<Parsed, F
 
 /// The longest disjunction that begins at a place.
 #[cycle(parser)]
-fn disjunction(alloc: Global, lexemes: &[Lexeme], at: usize) -> Result<Parsed, FFault>
-    requires { at ≤ length lexemes.now }
+fn disjunction(alloc: Global, lexemes: &[Lexeme], at: usize) -> Result<Reading, Stuck>
+    requires within { at ≤ length lexemes.now }
+    requires few { AreFewGrounds lexemes.now }
     ensures ok { IfOk result (IsParsed IsWholeDisjunction lexemes.now at) }
-    ensures err { IfErr result (IsSyntaxWhere (HasNoDisjunction (rest_of lexemes.now at))) }
+    ensures err { IfErr result (IsStuckAt StuckDisjunction lexemes.now at) }
 {
     let mut left = conjunction(alloc, lexemes, at)?;
     'more: while is_next(lexemes, left.next, Mark::Or) {
@@ -63,10 +66,11 @@ fn disjunction(alloc: Global, lexemes: &[Lexeme], at: usize) -> Result<Parsed, F
 
 /// The longest conjunction that begins at a place.
 #[cycle(parser)]
-fn conjunction(alloc: Global, lexemes: &[Lexeme], at: usize) -> Result<Parsed, FFault>
-    requires { at ≤ length lexemes.now }
+fn conjunction(alloc: Global, lexemes: &[Lexeme], at: usize) -> Result<Reading, Stuck>
+    requires within { at ≤ length lexemes.now }
+    requires few { AreFewGrounds lexemes.now }
     ensures ok { IfOk result (IsParsed IsWholeConjunction lexemes.now at) }
-    ensures err { IfErr result (IsSyntaxWhere (HasNoConjunction (rest_of lexemes.now at))) }
+    ensures err { IfErr result (IsStuckAt StuckConjunction lexemes.now at) }
 {
     let mut left = unary(alloc, lexemes, at)?;
     'more: while is_next(lexemes, left.next, Mark::And) {
@@ -78,13 +82,14 @@ fn conjunction(alloc: Global, lexemes: &[Lexeme], at: usize) -> Result<Parsed, F
 
 /// The formula with no connective between others that begins at a place.
 #[cycle(parser)]
-fn unary(alloc: Global, lexemes: &[Lexeme], at: usize) -> Result<Parsed, FFault>
-    requires { at ≤ length lexemes.now }
+fn unary(alloc: Global, lexemes: &[Lexeme], at: usize) -> Result<Reading, Stuck>
+    requires within { at ≤ length lexemes.now }
+    requires few { AreFewGrounds lexemes.now }
     ensures ok { IfOk result (IsParsed IsUnary lexemes.now at) }
-    ensures err { IfErr result (IsSyntaxWhere (HasNoUnary (rest_of lexemes.now at))) }
+    ensures err { IfErr result (IsStuckAt StuckUnary lexemes.now at) }
 {
     let Some(lexeme) = lexemes.get(at) else {
-        return Err(FFault::Syntax);
+        return Err(Stuck::At(at));
     };
     match lexeme.token {
         Token::Not => negated(alloc, unary(alloc, lexemes, at + 1)?),
@@ -92,27 +97,35 @@ fn unary(alloc: Global, lexemes: &[Lexeme], at: usize) -> Result<Parsed, FFault>
         Token::Forall => binders(alloc, lexemes, at + 1, Quantifier::Forall),
         Token::Infinite => {
             let Some(x) = variable_at(lexemes, at + 1) else {
-                return Err(FFault::Syntax);
+                return Err(Stuck::At(at + 1));
             };
             infinite(alloc, x, enclosed(alloc, lexemes, at + 2)?)
         }
         Token::Open => enclosed(alloc, lexemes, at),
-        Token::True => Ok(Parsed {
-            formula: Formula::True,
-            next: at + 1,
-        }),
-        Token::False => Ok(Parsed {
-            formula: Formula::False,
-            next: at + 1,
-        }),
-        Token::Has(property) => Ok(Parsed {
-            formula: Formula::Macro(property, INDEX),
-            next: at + 1,
-        }),
+        Token::True => Ok(constant(Formula::True, at)),
+        Token::False => Ok(constant(Formula::False, at)),
+        Token::Com => Ok(constant(Formula::Com, at)),
+        Token::Has(property) => Ok(property_formula(lexemes, at, property)),
         Token::Nf => normal_form(alloc, lexemes, at),
         Token::Join => joinable(alloc, lexemes, at),
-        Token::Variable(x) => compared(alloc, lexemes, at, x),
-        _ => Err(FFault::Syntax),
+        _ => {
+            let Some(x) = argument_at(lexemes, at) else {
+                return Err(Stuck::At(at));
+            };
+            compared(alloc, lexemes, at, x)
+        }
+    }
+}
+
+/// A formula of one token.
+fn constant(formula: Formula, at: usize) -> Reading
+    requires { at + 1 < 2 ^ 64 }
+    ensures formula { result.formula ≡ formula }
+    ensures next { result.next ≡ at + 1 }
+{
+    Reading {
+        formula,
+        next: at + 1,
     }
 }
 
@@ -123,14 +136,14 @@ fn binders(
     lexemes: &[Lexeme],
     at: usize,
     quantifier: Quantifier,
-) -> Result<Parsed, FFault>
-    requires { at ≤ length lexemes.now }
+) -> Result<Reading, Stuck>
+    requires within { at ≤ length lexemes.now }
+    requires few { AreFewGrounds lexemes.now }
     ensures ok { IfOk result (IsParsed (IsBound (as_quantifier quantifier)) lexemes.now at) }
-    ensures err { IfErr result (IsSyntaxWhere
-        (HasNoBound (as_quantifier quantifier) (rest_of lexemes.now at))) }
+    ensures err { IfErr result (IsStuckAt StuckBinders lexemes.now at) }
 {
     let Some(x) = variable_at(lexemes, at) else {
-        return Err(FFault::Syntax);
+        return Err(Stuck::At(at));
     };
     if is_next(lexemes, at + 1, Mark::Comma) {
         let others = binders(alloc, lexemes, at + 2, quantifier)?;
@@ -142,19 +155,20 @@ fn binders(
 
 /// The formula in parentheses that begins at a place.
 #[cycle(parser)]
-fn enclosed(alloc: Global, lexemes: &[Lexeme], at: usize) -> Result<Parsed, FFault>
-    requires { at ≤ length lexemes.now }
+fn enclosed(alloc: Global, lexemes: &[Lexeme], at: usize) -> Result<Reading, Stuck>
+    requires within { at ≤ length lexemes.now }
+    requires few { AreFewGrounds lexemes.now }
     ensures ok { IfOk result (IsParsed IsBody lexemes.now at) }
-    ensures err { IfErr result (IsSyntaxWhere (HasNoBody (rest_of lexemes.now at))) }
+    ensures err { IfErr result (IsStuckAt StuckBody lexemes.now at) }
 {
     if !is_next(lexemes, at, Mark::Open) {
-        return Err(FFault::Syntax);
+        return Err(Stuck::At(at));
     }
-    let Parsed { formula, next } = formula(alloc, lexemes, at + 1)?;
+    let Reading { formula, next } = formula(alloc, lexemes, at + 1)?;
     if !is_next(lexemes, next, Mark::Close) {
-        return Err(FFault::Syntax);
+        return Err(Stuck::At(next));
     }
-    Ok(Parsed {
+    Ok(Reading {
         formula,
         next: next + 1,
     })

@@ -1,18 +1,18 @@
-//! Tokens that are no words.
+//! Tokens that are neither words nor ground terms.
 
-ghost use Rattle.std.specs.Prelude.{◌≡◌, false, length, All, IfSome, IfNone};
+ghost use Rattle.std.specs.Prelude.{◌≡◌, true, false, length, IfSome, IfNone};
+ghost use Rattle.std.specs.List.{AllByRecursion};
 ghost use Rattle.fort_formula_grammar.specs.Tokens.{begins_with_letter};
 ghost use Rattle.fort_formula_grammar.specs.TokenText.{BeginsWithNoToken};
-ghost use Rattle.fort_formula_grammar.specs.TokenForms.{NoneBegins};
+ghost use Rattle.fort_formula_grammar.specs.TokenForms.{begins_with_brace, NoneBegins};
 ghost use Rattle.fort_formula_parser.specs.TokenView.{as_token};
 ghost use Rattle.fort_formula_parser.specs.Spellings.{texts_of, IsSpelled, IsFirst, IsSpotted};
 
 use crate::token::{Spelling, Spotted, Token};
 use fort_formulas::SurfaceRel;
 
-/// The tokens that are no words, none behind a shorter one: so the first that begins a text is the
-/// longest.
-const SYMBOLS: [Spelling; 19] = [
+/// These tokens, none behind a shorter one: so the first that begins a text is the longest.
+const SYMBOLS: [Spelling; 28] = [
     Spelling {
         text: b"-||->",
         token: Token::Related(SurfaceRel::Par),
@@ -54,6 +54,42 @@ const SYMBOLS: [Spelling; 19] = [
         token: Token::Related(SurfaceRel::Below),
     },
     Spelling {
+        text: b"[1]",
+        token: Token::Index(1),
+    },
+    Spelling {
+        text: b"[2]",
+        token: Token::Index(2),
+    },
+    Spelling {
+        text: b"[3]",
+        token: Token::Index(3),
+    },
+    Spelling {
+        text: b"[4]",
+        token: Token::Index(4),
+    },
+    Spelling {
+        text: b"[5]",
+        token: Token::Index(5),
+    },
+    Spelling {
+        text: b"[6]",
+        token: Token::Index(6),
+    },
+    Spelling {
+        text: b"[7]",
+        token: Token::Index(7),
+    },
+    Spelling {
+        text: b"[8]",
+        token: Token::Index(8),
+    },
+    Spelling {
+        text: b"[9]",
+        token: Token::Index(9),
+    },
+    Spelling {
         text: b"=>",
         token: Token::Imp,
     },
@@ -93,7 +129,7 @@ const SYMBOLS: [Spelling; 19] = [
 
 /// The first of these tokens that begins the text.
 fn first_among<'a>(text: &[u8], spellings: &[Spelling]) -> Option<Spotted<'a>>
-    requires { All IsSpelled spellings.now }
+    requires { AllByRecursion IsSpelled spellings.now }
     ensures some { IfSome result (λ found.
         IsFirst text.now (texts_of spellings.now) (as_token found.token) found.len) }
     ensures none { IfNone result
@@ -110,9 +146,10 @@ fn first_among<'a>(text: &[u8], spellings: &[Spelling]) -> Option<Spotted<'a>>
     None
 }
 
-/// The token that begins a text where no letter stands.
+/// The token that begins a text where neither a letter nor a brace stands.
 pub(crate) fn symbol_at(text: &[u8]) -> Option<Spotted<'_>>
-    requires { begins_with_letter text.now ≡ false }
+    requires letter { begins_with_letter text.now ≡ false }
+    requires brace { begins_with_brace text.now ≡ false }
     ensures some { IfSome result (IsSpotted text.now) }
     ensures none { IfNone result (BeginsWithNoToken text.now) }
 {

@@ -14,6 +14,7 @@ pub(crate) enum Token<'a> {
     Imp,
     Iff,
     Related(SurfaceRel),
+    Index(u32),
     Exists,
     Forall,
     Infinite,
@@ -25,6 +26,9 @@ pub(crate) enum Token<'a> {
     Com,
     Sn,
     Variable(&'a [u8]),
+    /// A ground term: its place among all that are written in the text, and what stands between its
+    /// braces.
+    Ground(usize, &'a [u8]),
 }
 
 /// A token of a text, and the offset of its first byte.

@@ -1,17 +1,21 @@
 -- The subformulas of a core formula of the program, by its shape.
 use Rattle.std.proofs.Common.{◌≡◌, ℕ, ◌++◌, ◌∷◌, [], ◌⊎◌, inl, inr, refl}
+use Rattle.fort_theory.specs.Trees.{Tree}
 use Rattle.fort_logic.specs.Cores as theory
 use Rattle.fort_logic.specs.Parts.{postorder}
 use Rattle.fort_formulas.specs.declared.core_formula.Rel.{Rel}
 use Rattle.fort_formulas.specs.declared.core_formula.Core.{Core}
-use Rattle.fort_formulas.specs.declared.core_formula.Core.TheVariants.{True, Atom, Nf, Not, And, Or, Iff, Exists, Infinite}
+use Rattle.fort_formulas.specs.declared.core_formula.Core.TheVariants.{True, Atom, Nf, Is, Not, And, Or, Iff, Exists, Infinite}
 use Rattle.fort_formulas.specs.CoreView.{as_core}
 
-pub postorder-leaf : (c : Core) → (c ≡ True) ⊎ (((r : Rel) × (index : ℕ) × (x : ℕ) × (y : ℕ) × (c ≡ Atom r index x y)) ⊎ ((index : ℕ) × (x : ℕ) × (c ≡ Nf index x)))
-    → postorder (as_core c) ≡ as_core c ∷ []
+pub postorder-leaf : (c : Core) → (c ≡ True) ⊎ ((r : Rel) × (index : ℕ) × (x : ℕ) × (y : ℕ) × (c ≡ Atom r index x y)) → postorder (as_core c) ≡ as_core c ∷ []
 postorder-leaf c (inl e) = rw e refl
-postorder-leaf c (inr (inl (r, index, x, y, e))) = rw e refl
-postorder-leaf c (inr (inr (index, x, e))) = rw e refl
+postorder-leaf c (inr (r, index, x, y, e)) = rw e refl
+
+-- of one variable
+pub postorder-variable : (c : Core) (x : ℕ) → ((index : ℕ) × (c ≡ Nf index x)) ⊎ ((t : Tree) × (c ≡ Is x t)) → postorder (as_core c) ≡ as_core c ∷ []
+postorder-variable c x (inl (index, e)) = rw e refl
+postorder-variable c x (inr (t, e)) = rw e refl
 
 pub postorder-one : (c : Core) (f : theory.Core) → (c ≡ Not f) ⊎ (((n : ℕ) × (c ≡ Exists n f)) ⊎ ((n : ℕ) × (c ≡ Infinite n f)))
     → postorder (as_core c) ≡ postorder f ++ as_core c ∷ []

@@ -1,2 +1,4 @@
 pub mod CoreShapes
 pub mod CoreMembers
+pub mod ArgumentLaws
+pub mod FormulaIndices

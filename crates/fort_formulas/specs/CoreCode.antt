@@ -1,9 +1,11 @@
 -- To believe: a core formula is spelled in prefix form, by one mark for each node: the place of its connective in the list
--- of the connectives, and its numbers from left to right, that of its relation before its index.
+-- of the connectives, and its numbers from left to right, that of its relation before its index, and those of its term last.
 use Rattle.std.specs.Prelude.{◌≡◌, ℕ, List, [], ◌∷◌, ◌++◌, slice_index_or, refl}
 use Rattle.std.proofs.Common.{ap, sym, ◌∙◌, append_assoc, append-nil}
 use Rattle.std.specs.Coded.{Coded, code_by, coded_list, coded_ℕ}
-use Rattle.fort_logic.specs.Cores.{Rel, Eq, Root, Below, Step, Par, Plus, Star, Conv, Core, True, Atom, Nf, Not, And, Or, Iff, Exists, Infinite}
+use Rattle.fort_theory.specs.Trees.{Tree}
+use Rattle.fort_theory.specs.TreeCode as tree
+use Rattle.fort_logic.specs.Cores.{Rel, Eq, Root, Below, Step, Par, Plus, Star, Conv, Core, True, Atom, Nf, Is, Not, And, Or, Iff, Exists, Infinite}
 
 abbrev pub rel_place : Rel → ℕ
 rel_place Eq = 0
@@ -22,12 +24,13 @@ abbrev pub spelled : Core → List Mark
 spelled True = (0 ∷ []) ∷ []
 spelled (Atom rel index x y) = (1 ∷ rel_place rel ∷ index ∷ x ∷ y ∷ []) ∷ []
 spelled (Nf index x) = (2 ∷ index ∷ x ∷ []) ∷ []
-spelled (Not f) = (3 ∷ []) ∷ spelled f
-spelled (And f g) = (4 ∷ []) ∷ (spelled f ++ spelled g)
-spelled (Or f g) = (5 ∷ []) ∷ (spelled f ++ spelled g)
-spelled (Iff f g) = (6 ∷ []) ∷ (spelled f ++ spelled g)
-spelled (Exists n f) = (7 ∷ n ∷ []) ∷ spelled f
-spelled (Infinite n f) = (8 ∷ n ∷ []) ∷ spelled f
+spelled (Is x t) = (3 ∷ x ∷ tree.spelled t) ∷ []
+spelled (Not f) = (4 ∷ []) ∷ spelled f
+spelled (And f g) = (5 ∷ []) ∷ (spelled f ++ spelled g)
+spelled (Or f g) = (6 ∷ []) ∷ (spelled f ++ spelled g)
+spelled (Iff f g) = (7 ∷ []) ∷ (spelled f ++ spelled g)
+spelled (Exists n f) = (8 ∷ n ∷ []) ∷ spelled f
+spelled (Infinite n f) = (9 ∷ n ∷ []) ∷ spelled f
 
 -- ---- a spelling is read from its end to its front, over a stack
 
@@ -48,6 +51,11 @@ rel_again Conv = refl
 abbrev pub number_at : List ℕ → ℕ → ℕ
 number_at ns k = slice_index_or ns k 0
 
+-- the term of a mark behind one number
+abbrev pub term_behind : List ℕ → Tree
+term_behind [] = tree.tree_of_code []
+term_behind (n ∷ ns) = tree.tree_of_code ns
+
 abbrev pub one_read : (Core → Core) → List Core → List Core
 one_read make [] = []
 one_read make (f ∷ rest) = make f ∷ rest
@@ -66,6 +74,7 @@ readers =
     (λ ns fs. True ∷ fs)
     ∷ (λ ns fs. Atom (rel_at (number_at ns 0)) (number_at ns 1) (number_at ns 2) (number_at ns 3) ∷ fs)
     ∷ (λ ns fs. Nf (number_at ns 0) (number_at ns 1) ∷ fs)
+    ∷ (λ ns fs. Is (number_at ns 0) (term_behind ns) ∷ fs)
     ∷ (λ ns fs. one_read Not fs)
     ∷ (λ ns fs. two_read And fs)
     ∷ (λ ns fs. two_read Or fs)
@@ -99,6 +108,7 @@ pub read_back-spelled : (f : Core) (ms : List Mark) → read_back (spelled f ++ 
 read_back-spelled True ms = refl
 read_back-spelled (Atom rel index x y) ms = ap (λ r. Atom r index x y ∷ read_back ms) (rel_again rel)
 read_back-spelled (Nf index x) ms = refl
+read_back-spelled (Is x t) ms = ap (λ u. Is x u ∷ read_back ms) (tree.tree_again t)
 read_back-spelled (Not f) ms = ap (one_read Not) (read_back-spelled f ms)
 read_back-spelled (And f g) ms = read_back-two And f g ms (λ ns. read_back-spelled f ns) (λ ns. read_back-spelled g ns)
 read_back-spelled (Or f g) ms = read_back-two Or f g ms (λ ns. read_back-spelled f ns) (λ ns. read_back-spelled g ns)

@@ -1,15 +1,20 @@
 -- Law: the equality of core formulas decides whether they are equal, and equal operands are told from what follows them.
-use Rattle.std.specs.Prelude.{◌≡◌, Bool, true, false, List, [], ◌∷◌, ◌++◌, refl}
+use Rattle.std.specs.Prelude.{◌≡◌, ℕ, Bool, true, false, nat_eq, ◌&&◌, List, [], ◌∷◌, ◌++◌, refl}
 use Rattle.std.specs.Bool.{Decides, one_answer}
-use Rattle.std.specs.Ordering.{on}
+use Rattle.std.specs.Ordering.{on, is_eq}
 use Rattle.std.specs.Cmp.{IsPartialEquivalence, IsEquivalence, partial_equiv_from_equiv, decided}
-use Rattle.std.proofs.Common.{ap, sym, ◌∙◌}
-use lib.Pointwise.{pointwise_decides, bytes_decides}
+use Rattle.std.specs.Cmp.Lexicographic.{texts_ties}
+use Rattle.std.proofs.Common.{ap, sym, ◌∙◌, eq-eqb}
+use lib.Pointwise.{pointwise, pointwise_decides, bytes_decides}
+use Rattle.fort_theory.specs.Trees.{Tree}
+use Rattle.fort_theory.specs.TreeCode as tree
+use Rattle.fort_terms.specs.TermKeys.{tree_eq}
+use Rattle.fort_terms.specs.TermKeyLaws.{tree_eq-ties, tree_order-spelled}
 use Rattle.fort_logic.specs.Cores as theory
 use Rattle.fort_formulas.specs.declared.core_formula.Rel.{Rel}
 use Rattle.fort_formulas.specs.declared.core_formula.Rel.TheVariants.{Eq, Root, Below, Step, Par, Plus, Star, Conv}
 use Rattle.fort_formulas.specs.declared.core_formula.Core.{Core}
-use Rattle.fort_formulas.specs.declared.core_formula.Core.TheVariants.{True, Atom, Nf, Not, And, Or, Iff, Exists, Infinite}
+use Rattle.fort_formulas.specs.declared.core_formula.Core.TheVariants.{True, Atom, Nf, Is, Not, And, Or, Iff, Exists, Infinite}
 use Rattle.fort_formulas.specs.CoreView.{as_rel, as_core}
 use Rattle.fort_formulas.specs.CoreCode.{Mark, spelled, read_back, first_formula, read_back-spelled, core_again}
 use Rattle.fort_formulas.specs.CoreKeys.{core_spelled, same_marks}
@@ -47,6 +52,7 @@ abbrev from_core : theory.Core → Core
 from_core theory.True = True
 from_core (theory.Atom rel index x y) = Atom (from_rel rel) index x y
 from_core (theory.Nf index x) = Nf index x
+from_core (theory.Is x t) = Is x t
 from_core (theory.Not f) = Not f
 from_core (theory.And f g) = And f g
 from_core (theory.Or f g) = Or f g
@@ -68,6 +74,7 @@ from_core-again : (c : Core) → from_core (as_core c) ≡ c
 from_core-again True = refl
 from_core-again (Atom rel index x y) = ap (λ (r : Rel). Atom r index x y) (from_rel-again rel)
 from_core-again (Nf index x) = refl
+from_core-again (Is x t) = refl
 from_core-again (Not f) = refl
 from_core-again (And f g) = refl
 from_core-again (Or f g) = refl
@@ -88,6 +95,19 @@ Core_eq-equiv = decided (on core_spelled same_marks) Core_eq-Decides
 
 pub Core_eq-partial_equiv : IsPartialEquivalence (on core_spelled same_marks)
 Core_eq-partial_equiv = partial_equiv_from_equiv Core_eq-equiv
+
+-- ---- a variable and its term
+
+tree_eq-spelled : (s t : Tree) → tree_eq s t ≡ pointwise nat_eq (tree.spelled s) (tree.spelled t)
+tree_eq-spelled s t = tree_eq-ties s t ∙ (ap is_eq (tree_order-spelled s t) ∙ sym (texts_ties (tree.spelled s) (tree.spelled t)))
+
+and-true : (b : Bool) → b ≡ (b && true)
+and-true true = refl
+and-true false = refl
+
+-- where the variables are equal, the terms decide
+pub Is_eq-terms : (x y : ℕ) (s t : Tree) → x ≡ y → tree_eq s t ≡ same_marks (spelled (theory.Is x s)) (spelled (theory.Is y t))
+Is_eq-terms x y s t e = rw (eq-eqb x y e) (tree_eq-spelled s t ∙ and-true (pointwise nat_eq (tree.spelled s) (tree.spelled t)))
 
 -- ---- two operands
 

@@ -23,9 +23,10 @@ abbrev pub core_place : theory.Core → ℕ
 core_place theory.True = 0
 core_place (theory.Atom rel index x y) = 1
 core_place (theory.Nf index x) = 2
-core_place (theory.Not f) = 3
-core_place (theory.And f g) = 4
-core_place (theory.Or f g) = 5
-core_place (theory.Iff f g) = 6
-core_place (theory.Exists n f) = 7
-core_place (theory.Infinite n f) = 8
+core_place (theory.Is x t) = 3
+core_place (theory.Not f) = 4
+core_place (theory.And f g) = 5
+core_place (theory.Or f g) = 6
+core_place (theory.Iff f g) = 7
+core_place (theory.Exists n f) = 8
+core_place (theory.Infinite n f) = 9

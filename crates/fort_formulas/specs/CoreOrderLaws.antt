@@ -1,5 +1,5 @@
 -- Law: the order of core formulas is total and agrees with their equality, and decides two operands by the first of them that differs.
-use Rattle.std.specs.Prelude.{◌≡◌, List, [], ◌∷◌, ◌++◌, refl}
+use Rattle.std.specs.Prelude.{◌≡◌, ℕ, List, [], ◌∷◌, ◌++◌, refl}
 use Rattle.std.specs.declared.cmp.Ordering.{Ordering}
 use Rattle.std.specs.declared.cmp.Ordering.TheVariants.{Less, Equal, Greater}
 use Rattle.std.specs.Ordering.{nat_cmp, ordering_then, on, eq_by_cmp, as_partial_cmp}
@@ -8,6 +8,9 @@ use Rattle.std.specs.Cmp.Lexicographic.{slice_cmp, lists_total, lists_ties, text
 use Rattle.std.proofs.Common.{ap, sym, ◌∙◌, append-nil}
 use Rattle.std.proofs.lemmas.Cmp.{on_total, nat_list_cmp_total}
 use lib.Pointwise.{bytes_decides}
+use Rattle.fort_theory.specs.Trees.{Tree}
+use Rattle.fort_terms.specs.TermKeys.{tree_order}
+use Rattle.fort_terms.specs.TermKeyLaws.{tree_order-spelled}
 use Rattle.fort_logic.specs.Cores as theory
 use Rattle.fort_formulas.specs.declared.core_formula.Core.{Core}
 use Rattle.fort_formulas.specs.CoreCode.{Mark, spelled}
@@ -38,6 +41,17 @@ arm_order-partial = partial_order_from_agreeing_total (on spelled marks_order) a
 
 pub Core_order-partial : IsPartialOrder (on core_spelled same_marks) (as_partial_cmp (on core_spelled marks_order))
 Core_order-partial = partial_order_from_agreeing_total (on core_spelled marks_order) Core_order-total (λ c d. refl) Core_eq-ties
+
+-- ---- a variable and its term
+
+then-Equal : (o : Ordering) → o ≡ ordering_then o Equal
+then-Equal Less = refl
+then-Equal Equal = refl
+then-Equal Greater = refl
+
+pub Is_order-terms : (x y : ℕ) (s t : Tree)
+    → ordering_then (nat_cmp x y) (tree_order s t) ≡ marks_order (spelled (theory.Is x s)) (spelled (theory.Is y t))
+Is_order-terms x y s t = ap (ordering_then (nat_cmp x y)) (tree_order-spelled s t) ∙ then-Equal (ordering_then (nat_cmp x y) _)
 
 -- ---- two operands
 

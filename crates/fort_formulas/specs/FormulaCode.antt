@@ -1,8 +1,8 @@
 -- Inside: a formula as a list of marks, from which it is read again.
-use Rattle.std.specs.Prelude.{◌≡◌, ℕ, List, [], ◌∷◌, ◌++◌, slice_index_or, refl}
+use Rattle.std.specs.Prelude.{◌≡◌, ℕ, zero, suc, List, [], ◌∷◌, ◌++◌, slice_index_or, refl}
 use Rattle.std.proofs.Common.{ap, sym, ◌∙◌, append_assoc, append-nil}
 use Rattle.std.specs.Coded.{Coded, code_by, coded_list, coded_ℕ, coded×}
-use Rattle.fort_logic.specs.Formulas.{Name, SurfaceRel, Eq, Step, Star, Plus, Reflexive, Normal, Root, Below, Par, Either, Conv, Property, Cr, Wcr, Scr, Wn, Unr, Unc, Nfp, Formula, True, False, Related, Nf, Join, Has, Not, And, Or, Imp, Iff, Exists, Forall, Infinite}
+use Rattle.fort_logic.specs.Formulas.{Name, Argument, Var, Ground, SurfaceRel, Eq, Step, Star, Plus, Reflexive, Normal, Root, Below, Par, Either, Conv, Property, Cr, Wcr, Scr, Wn, Unr, Unc, Nfp, Formula, True, False, Related, Nf, Join, Has, Com, Not, And, Or, Imp, Iff, Exists, Forall, Infinite}
 
 abbrev pub surface_rel_place : SurfaceRel → ℕ
 surface_rel_place Eq = 0
@@ -55,8 +55,25 @@ property_again Unr = refl
 property_again Unc = refl
 property_again Nfp = refl
 
--- one node: the place of its connective in the list of the connectives; the place of its relation or property, and its
--- index; its names
+-- an argument is a number and a name: 0 and the variable, or one more than the place of the ground term and the empty name
+abbrev pub argument_number : Argument → ℕ
+argument_number (Var x) = 0
+argument_number (Ground k) = suc k
+
+abbrev pub argument_name : Argument → Name
+argument_name (Var x) = x
+argument_name (Ground k) = []
+
+abbrev pub argument_at : ℕ → Name → Argument
+argument_at zero x = Var x
+argument_at (suc k) x = Ground k
+
+pub argument_again : (a : Argument) → argument_at (argument_number a) (argument_name a) ≡ a
+argument_again (Var x) = refl
+argument_again (Ground k) = refl
+
+-- one node: the place of its connective in the list of the connectives; the place of its relation or property, its index,
+-- and the numbers of its arguments; its names
 abbrev pub Mark : Type 0
 Mark = ℕ × (List ℕ × List Name)
 
@@ -66,18 +83,20 @@ mark place ns xs = (place, (ns, xs))
 abbrev pub spelled : Formula → List Mark
 spelled True = mark 0 [] [] ∷ []
 spelled False = mark 1 [] [] ∷ []
-spelled (Related rel x y index) = mark 2 (surface_rel_place rel ∷ index ∷ []) (x ∷ y ∷ []) ∷ []
-spelled (Nf x index) = mark 3 (index ∷ []) (x ∷ []) ∷ []
-spelled (Join x y index) = mark 4 (index ∷ []) (x ∷ y ∷ []) ∷ []
+spelled (Related rel a b index) =
+    mark 2 (surface_rel_place rel ∷ index ∷ argument_number a ∷ argument_number b ∷ []) (argument_name a ∷ argument_name b ∷ []) ∷ []
+spelled (Nf a index) = mark 3 (index ∷ argument_number a ∷ []) (argument_name a ∷ []) ∷ []
+spelled (Join a b index) = mark 4 (index ∷ argument_number a ∷ argument_number b ∷ []) (argument_name a ∷ argument_name b ∷ []) ∷ []
 spelled (Has property index) = mark 5 (property_place property ∷ index ∷ []) [] ∷ []
-spelled (Not f) = mark 6 [] [] ∷ spelled f
-spelled (And f g) = mark 7 [] [] ∷ (spelled f ++ spelled g)
-spelled (Or f g) = mark 8 [] [] ∷ (spelled f ++ spelled g)
-spelled (Imp f g) = mark 9 [] [] ∷ (spelled f ++ spelled g)
-spelled (Iff f g) = mark 10 [] [] ∷ (spelled f ++ spelled g)
-spelled (Exists x f) = mark 11 [] (x ∷ []) ∷ spelled f
-spelled (Forall x f) = mark 12 [] (x ∷ []) ∷ spelled f
-spelled (Infinite x f) = mark 13 [] (x ∷ []) ∷ spelled f
+spelled Com = mark 6 [] [] ∷ []
+spelled (Not f) = mark 7 [] [] ∷ spelled f
+spelled (And f g) = mark 8 [] [] ∷ (spelled f ++ spelled g)
+spelled (Or f g) = mark 9 [] [] ∷ (spelled f ++ spelled g)
+spelled (Imp f g) = mark 10 [] [] ∷ (spelled f ++ spelled g)
+spelled (Iff f g) = mark 11 [] [] ∷ (spelled f ++ spelled g)
+spelled (Exists x f) = mark 12 [] (x ∷ []) ∷ spelled f
+spelled (Forall x f) = mark 13 [] (x ∷ []) ∷ spelled f
+spelled (Infinite x f) = mark 14 [] (x ∷ []) ∷ spelled f
 
 -- ---- a spelling is read from its end to its front, over a stack
 
@@ -104,10 +123,12 @@ abbrev pub readers : List Reader
 readers =
     (λ ns xs fs. True ∷ fs)
     ∷ (λ ns xs fs. False ∷ fs)
-    ∷ (λ ns xs fs. Related (surface_rel_at (number_at ns 0)) (name_at xs 0) (name_at xs 1) (number_at ns 1) ∷ fs)
-    ∷ (λ ns xs fs. Nf (name_at xs 0) (number_at ns 0) ∷ fs)
-    ∷ (λ ns xs fs. Join (name_at xs 0) (name_at xs 1) (number_at ns 0) ∷ fs)
+    ∷ (λ ns xs fs.
+    Related (surface_rel_at (number_at ns 0)) (argument_at (number_at ns 2) (name_at xs 0)) (argument_at (number_at ns 3) (name_at xs 1)) (number_at ns 1) ∷ fs)
+    ∷ (λ ns xs fs. Nf (argument_at (number_at ns 1) (name_at xs 0)) (number_at ns 0) ∷ fs)
+    ∷ (λ ns xs fs. Join (argument_at (number_at ns 1) (name_at xs 0)) (argument_at (number_at ns 2) (name_at xs 1)) (number_at ns 0) ∷ fs)
     ∷ (λ ns xs fs. Has (property_at (number_at ns 0)) (number_at ns 1) ∷ fs)
+    ∷ (λ ns xs fs. Com ∷ fs)
     ∷ (λ ns xs fs. one_read Not fs)
     ∷ (λ ns xs fs. two_read And fs)
     ∷ (λ ns xs fs. two_read Or fs)
@@ -138,10 +159,17 @@ read_back-two make f g ms h k =
 pub read_back-spelled : (f : Formula) (ms : List Mark) → read_back (spelled f ++ ms) ≡ f ∷ read_back ms
 read_back-spelled True ms = refl
 read_back-spelled False ms = refl
-read_back-spelled (Related rel x y index) ms = ap (λ r. Related r x y index ∷ read_back ms) (surface_rel_again rel)
-read_back-spelled (Nf x index) ms = refl
-read_back-spelled (Join x y index) ms = refl
+read_back-spelled (Related rel a b index) ms =
+    ap (λ r. Related r (argument_at (argument_number a) (argument_name a)) (argument_at (argument_number b) (argument_name b)) index ∷ read_back ms)
+    (surface_rel_again rel)
+    ∙ (ap (λ c. Related rel c (argument_at (argument_number b) (argument_name b)) index ∷ read_back ms) (argument_again a)
+    ∙ ap (λ c. Related rel a c index ∷ read_back ms) (argument_again b))
+read_back-spelled (Nf a index) ms = ap (λ c. Nf c index ∷ read_back ms) (argument_again a)
+read_back-spelled (Join a b index) ms =
+    ap (λ c. Join c (argument_at (argument_number b) (argument_name b)) index ∷ read_back ms) (argument_again a)
+    ∙ ap (λ c. Join a c index ∷ read_back ms) (argument_again b)
 read_back-spelled (Has property index) ms = ap (λ p. Has p index ∷ read_back ms) (property_again property)
+read_back-spelled Com ms = refl
 read_back-spelled (Not f) ms = ap (one_read Not) (read_back-spelled f ms)
 read_back-spelled (And f g) ms = read_back-two And f g ms (λ ns. read_back-spelled f ns) (λ ns. read_back-spelled g ns)
 read_back-spelled (Or f g) ms = read_back-two Or f g ms (λ ns. read_back-spelled f ns) (λ ns. read_back-spelled g ns)

@@ -5,8 +5,10 @@ use Rattle.fort_formulas.specs.declared.surface.SurfaceRel.{SurfaceRel}
 use Rattle.fort_formulas.specs.declared.surface.SurfaceRel.TheVariants.{Eq, Step, Star, Plus, Reflexive, Normal, Root, Below, Par, Either, Conv}
 use Rattle.fort_formulas.specs.declared.surface.Macro as property
 use Rattle.fort_formulas.specs.declared.surface.Macro.TheVariants.{Cr, Wcr, Scr, Wn, Unr, Unc, Nfp}
+use Rattle.fort_formulas.specs.declared.surface.Arg.{Arg}
+use Rattle.fort_formulas.specs.declared.surface.Arg.TheVariants.{Var, Ground}
 use Rattle.fort_formulas.specs.declared.surface.Formula.{Formula}
-use Rattle.fort_formulas.specs.declared.surface.Formula.TheVariants.{True, False, Rel, Nf, Join, Macro, Not, And, Or, Imp, Iff, Exists, Forall, Infinite}
+use Rattle.fort_formulas.specs.declared.surface.Formula.TheVariants.{True, False, Rel, Nf, Join, Macro, Com, Not, And, Or, Imp, Iff, Exists, Forall, Infinite}
 
 abbrev pub as_surface_rel : SurfaceRel → theory.SurfaceRel
 as_surface_rel Eq = theory.Eq
@@ -30,13 +32,18 @@ as_property Unr = theory.Unr
 as_property Unc = theory.Unc
 as_property Nfp = theory.Nfp
 
+abbrev pub as_argument : Arg → theory.Argument
+as_argument (Var x) = theory.Var x
+as_argument (Ground k) = theory.Ground k
+
 abbrev pub as_formula : Formula → theory.Formula
 as_formula True = theory.True
 as_formula False = theory.False
-as_formula (Rel rel x y index) = theory.Related (as_surface_rel rel) x y index
-as_formula (Nf x index) = theory.Nf x index
-as_formula (Join x y index) = theory.Join x y index
+as_formula (Rel rel a b index) = theory.Related (as_surface_rel rel) (as_argument a) (as_argument b) index
+as_formula (Nf a index) = theory.Nf (as_argument a) index
+as_formula (Join a b index) = theory.Join (as_argument a) (as_argument b) index
 as_formula (Macro m index) = theory.Has (as_property m) index
+as_formula Com = theory.Com
 as_formula (Not f) = theory.Not f
 as_formula (And f g) = theory.And f g
 as_formula (Or f g) = theory.Or f g
@@ -50,10 +57,11 @@ as_formula (Infinite x f) = theory.Infinite x f
 abbrev pub node_count : theory.Formula → ℕ
 node_count theory.True = 1
 node_count theory.False = 1
-node_count (theory.Related rel x y index) = 1
-node_count (theory.Nf x index) = 1
-node_count (theory.Join x y index) = 1
+node_count (theory.Related rel a b index) = 1
+node_count (theory.Nf a index) = 1
+node_count (theory.Join a b index) = 1
 node_count (theory.Has p index) = 1
+node_count theory.Com = 1
 node_count (theory.Not f) = suc (node_count f)
 node_count (theory.And f g) = suc (node_count f + node_count g)
 node_count (theory.Or f g) = suc (node_count f + node_count g)

@@ -10,6 +10,7 @@ pub mod FormulaCode
 pub mod FormulaView
 pub mod FormulaFalls
 pub mod NumbersNeeded
+pub mod ArgumentNumbers
 pub mod Surveys
 pub mod ScopeView
 pub mod KindView

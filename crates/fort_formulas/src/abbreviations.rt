@@ -2,7 +2,7 @@
 
 ghost use Rattle.std.specs.Prelude.{◌≡◌, ℕ, ◌+◌, ◌^◌, ◌<◌, IfOk};
 ghost use Rattle.fort_logic.specs.Cores as theory;
-ghost use Rattle.fort_logic.specs.Translation.{some, every, equal, infinitely_many, implies, at_most_one_step, normalises, joins, related, forks, property_core};
+ghost use Rattle.fort_logic.specs.Translation.{some, every, equal, infinitely_many, implies, at_most_one_step, normalises, joins, related, forks, property_core, commutes};
 ghost use Rattle.fort_formulas.specs.CoreView.{as_core};
 ghost use Rattle.fort_formulas.specs.FormulaView.{as_surface_rel, as_property};
 
@@ -165,6 +165,27 @@ fn each_two(
 {
     let implication = implies(alloc, premise, conclusion)?;
     every(alloc, n, every(alloc, m, implication)?)
+}
+
+/// That the rules of index 1 and those of index 2 commute, with numbers from `n` on.
+pub fn commutes(alloc: Global, n: u32) -> Result<Core, AllocError>
+    requires { n + 2 < 2 ^ 32 }
+    ensures { IfOk result (λ c. as_core c ≡ commutes n) }
+{
+    let m = n + 1;
+    let k = n + 2;
+    let reducts = and(
+        alloc,
+        Core::Atom(Rel::Star, 1, k, n),
+        Core::Atom(Rel::Star, 2, k, m),
+    )?;
+    let common = and(
+        alloc,
+        Core::Atom(Rel::Star, 2, n, k),
+        Core::Atom(Rel::Star, 1, m, k),
+    )?;
+    let premise = some(alloc, k, reducts)?;
+    each_two(alloc, n, m, premise, some(alloc, k, common)?)
 }
 
 /// The formula of a property, with numbers from `n` on.

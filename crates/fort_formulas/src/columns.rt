@@ -20,7 +20,7 @@ pub fn is_free(n: u32, core: &Core) -> bool
     match core {
         Core::True => false,
         Core::Atom(_, _, x, y) => *x == n || *y == n,
-        Core::Nf(_, x) => *x == n,
+        Core::Nf(_, x) | Core::Is(x, _) => *x == n,
         Core::Not(f) => is_free(n, f.as_core()),
         Core::And(f, g) | Core::Or(f, g) | Core::Iff(f, g) => {
             is_free(n, f.as_core()) || is_free(n, g.as_core())
@@ -55,7 +55,7 @@ fn walk(alloc: Global, core: &Core) -> Result<Survey, AllocError>
 {
     match core {
         Core::True => Ok(surveyed(Vec::new(alloc), false)),
-        Core::Nf(_, x) => Ok(surveyed(vec![in alloc; *x]?, false)),
+        Core::Nf(_, x) | Core::Is(x, _) => Ok(surveyed(vec![in alloc; *x]?, false)),
         Core::Atom(_, _, x, y) => {
             let mut columns = vec![in alloc; *x, *y]?;
             put_in_order(&mut columns)?;

@@ -6,6 +6,7 @@ ghost use Rattle.fort_formulas.specs.CoreCode.{rel_place};
 ghost use Rattle.fort_formulas.specs.CoreView.{as_rel, as_core};
 ghost use Rattle.fort_formulas.specs.CoreKeys.{core_place};
 
+use fort_terms::Term;
 use std::alloc::{AllocError, Global};
 use std::cmp::Ordering;
 use std::hash::{Hash, Hasher};
@@ -50,6 +51,8 @@ pub enum Core {
     Atom(Rel, u32, u32, u32),
     /// By the rules of this index, this variable is a normal form.
     Nf(u32, u32),
+    /// This variable is this term.
+    Is(u32, Term),
     Not(Arm),
     And(Arm, Arm),
     Or(Arm, Arm),
@@ -133,6 +136,7 @@ impl Core {
             Core::True => Ok(Core::True),
             Core::Atom(rel, index, x, y) => Ok(Core::Atom(*rel, *index, *x, *y)),
             Core::Nf(index, x) => Ok(Core::Nf(*index, *x)),
+            Core::Is(x, term) => Ok(Core::Is(*x, term.copy(alloc)?)),
             Core::Not(f) => Ok(Core::Not(f.copy(alloc)?)),
             Core::And(f, g) => Ok(Core::And(f.copy(alloc)?, g.copy(alloc)?)),
             Core::Or(f, g) => Ok(Core::Or(f.copy(alloc)?, g.copy(alloc)?)),
@@ -159,6 +163,7 @@ impl PartialEq for Core {
                 rel == other_rel && i == j && x == u && y == v
             }
             (Core::Nf(i, x), Core::Nf(j, y)) => i == j && x == y,
+            (Core::Is(x, s), Core::Is(y, t)) => x == y && s == t,
             (Core::Not(f), Core::Not(g)) => *f.as_core() == *g.as_core(),
             (Core::And(f, g), Core::And(h, k)) => *f.as_core() == *h.as_core()
                 && *g.as_core() == *k.as_core(),
@@ -209,12 +214,13 @@ impl Core {
             Core::True => 0,
             Core::Atom(_, _, _, _) => 1,
             Core::Nf(_, _) => 2,
-            Core::Not(_) => 3,
-            Core::And(_, _) => 4,
-            Core::Or(_, _) => 5,
-            Core::Iff(_, _) => 6,
-            Core::Exists(_, _) => 7,
-            Core::Infinite(_, _) => 8,
+            Core::Is(_, _) => 3,
+            Core::Not(_) => 4,
+            Core::And(_, _) => 5,
+            Core::Or(_, _) => 6,
+            Core::Iff(_, _) => 7,
+            Core::Exists(_, _) => 8,
+            Core::Infinite(_, _) => 9,
         }
     }
 }
@@ -271,6 +277,7 @@ impl Ord for Core {
                 .then(x.cmp(u))
                 .then(y.cmp(v)),
             (Core::Nf(i, x), Core::Nf(j, y)) => i.cmp(j).then(x.cmp(y)),
+            (Core::Is(x, s), Core::Is(y, t)) => x.cmp(y).then(s.cmp(t)),
             (Core::Not(f), Core::Not(g)) => f.as_core().cmp(g.as_core()),
             (Core::And(f, g), Core::And(h, k)) => match f.as_core().cmp(h.as_core()) {
                 Ordering::Equal => g.as_core().cmp(k.as_core()),
@@ -339,6 +346,10 @@ impl Hash for Core {
             Core::Nf(index, x) => {
                 index.hash(state);
                 x.hash(state);
+            }
+            Core::Is(x, term) => {
+                x.hash(state);
+                term.hash(state);
             }
             Core::Not(f) => f.as_core().hash(state),
             Core::And(f, g) => {

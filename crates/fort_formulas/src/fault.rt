@@ -10,7 +10,8 @@ use std::alloc::{AllocError, AllocFailed};
 pub enum CoreFault {
     /// There is not enough memory.
     Memory,
-    /// It sets aside more than 2^32 numbers; a property sets aside three, though some use two.
+    /// It sets aside more than 2^32 numbers; a property sets aside three, though some use two, and
+    /// a ground term one.
     TooManyNumbers,
     /// Some part has more than 16 free variables.
     TooWide,

@@ -13,6 +13,7 @@ pub enum Kind {
     Star,
     Conv,
     Nf,
+    Is,
     Not,
     And,
     Or,

@@ -3,9 +3,11 @@
 #![tactic(auto)]
 
 mod abbreviations;
+mod arguments;
 mod columns;
 pub mod core_formula;
 mod fault;
+mod indices;
 mod kinds;
 mod names;
 mod numbers;
@@ -18,12 +20,13 @@ mod translation;
 pub use columns::free;
 pub use core_formula::{Arm, Core, Rel};
 pub use fault::CoreFault;
+pub use indices::index_above;
 pub use kinds::Kind;
 pub use names::free_names;
 pub use roots::kind;
 pub use subformulas::parts;
-pub use surface::{Formula, Macro, Name, Operand, SurfaceRel};
-pub use translation::to_core;
+pub use surface::{Arg, Formula, Macro, Name, Operand, SurfaceRel};
+pub use translation::{to_core, too_wide};
 
 #[cfg(test)]
 mod tests;

@@ -1,10 +1,10 @@
 //! The free names of a formula.
 
 ghost use Rattle.std.specs.Prelude.{◌≡◌, ℕ, ◌↔◌, List, [], ◌∷◌, ◌++◌, IsTrue, IfOk, OnOk, Contains};
-ghost use Rattle.fort_logic.specs.FreeNames.{without, once, free_names};
-ghost use Rattle.fort_formulas.specs.FormulaView.{as_formula};
+ghost use Rattle.fort_logic.specs.FreeNames.{without, names_in, once, free_names};
+ghost use Rattle.fort_formulas.specs.FormulaView.{as_argument, as_formula};
 
-use crate::surface::{Formula, Name};
+use crate::surface::{Arg, Formula, Name};
 use std::alloc::{AllocError, Global};
 
 /// The free variables, in the order of their first free occurrences. It fails for want of memory
@@ -13,16 +13,16 @@ pub fn free_names(alloc: Global, formula: &Formula) -> Result<Vec<Name>, AllocEr
     ensures { IfOk result (λ names. names.items ≡ free_names (as_formula formula.now)) }
 {
     match formula {
-        Formula::True | Formula::False | Formula::Macro(_, _) => Ok(Vec::new(alloc)),
-        Formula::Nf(x, _) => {
+        Formula::True | Formula::False | Formula::Macro(_, _) | Formula::Com => Ok(Vec::new(alloc)),
+        Formula::Nf(a, _) => {
             let mut names = Vec::new(alloc);
-            names.push(x.copy(alloc)?)?;
+            push_variable(alloc, &mut names, a)?;
             Ok(names)
         }
-        Formula::Rel(_, x, y, _) | Formula::Join(x, y, _) => {
+        Formula::Rel(_, a, b, _) | Formula::Join(a, b, _) => {
             let mut names = Vec::new(alloc);
-            names.push(x.copy(alloc)?)?;
-            push_new(&mut names, y.copy(alloc)?)?;
+            push_variable(alloc, &mut names, a)?;
+            push_variable(alloc, &mut names, b)?;
             Ok(names)
         }
         Formula::Not(f) => free_names(alloc, f.as_formula()),
@@ -37,6 +37,17 @@ pub fn free_names(alloc: Global, formula: &Formula) -> Result<Vec<Name>, AllocEr
             remove(&mut names, x);
             Ok(names)
         }
+    }
+}
+
+/// Puts the name of a variable behind the others, unless it is among them.
+fn push_variable(alloc: Global, names: &mut Vec<Name>, arg: &Arg) -> Result<(), AllocError>
+    ensures { OnOk result ((xs : List (List ℕ)) → names.old.items ≡ once xs
+        → names.new.items ≡ once (xs ++ names_in (as_argument arg.now))) }
+{
+    match arg {
+        Arg::Var(x) => push_new(names, x.copy(alloc)?),
+        Arg::Ground(_) => Ok(()),
     }
 }
 

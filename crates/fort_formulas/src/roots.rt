@@ -25,6 +25,7 @@ pub fn kind(core: &Core) -> Kind
             Rel::Conv => Kind::Conv,
         },
         Core::Nf(_, _) => Kind::Nf,
+        Core::Is(_, _) => Kind::Is,
         Core::Not(_) => Kind::Not,
         Core::And(_, _) => Kind::And,
         Core::Or(_, _) => Kind::Or,

@@ -26,7 +26,9 @@ fn push_parts(alloc: Global, core: &Core, found: &mut Vec<Core>) -> Result<(), A
         → AreEachOnce (before ++ postorder (as_core core.now)) (map as_core found.new.items)) }
 {
     match core {
-        Core::True | Core::Atom(_, _, _, _) | Core::Nf(_, _) => push_new(alloc, core, found),
+        Core::True | Core::Atom(_, _, _, _) | Core::Nf(_, _) | Core::Is(_, _) => {
+            push_new(alloc, core, found)
+        }
         Core::Not(f) | Core::Exists(_, f) | Core::Infinite(_, f) => {
             push_parts(alloc, f.as_core(), found)?;
             push_new(alloc, core, found)

@@ -91,20 +91,32 @@ pub enum Macro {
     Nfp,
 }
 
+/// What relations speak of.
+#[derive(Drop)]
+pub enum Arg {
+    /// A variable.
+    Var(Name),
+    /// A ground term that is written out: its place, from 0, among all that are written in the
+    /// text of the formula.
+    Ground(u32),
+}
+
 /// A formula as a user writes it, with names for variables.
 #[derive(Drop)]
 #[cycle(formula)]
 pub enum Formula {
     True,
     False,
-    /// These two variables are related, by the rules of this index.
-    Rel(SurfaceRel, Name, Name, u32),
-    /// This variable is a normal form of the rules of this index.
-    Nf(Name, u32),
-    /// These two variables have a common reduct by the rules of this index.
-    Join(Name, Name, u32),
+    /// These two are related, by the rules of this index.
+    Rel(SurfaceRel, Arg, Arg, u32),
+    /// This is a normal form of the rules of this index.
+    Nf(Arg, u32),
+    /// These two have a common reduct by the rules of this index.
+    Join(Arg, Arg, u32),
     /// The rules of this index have this property.
     Macro(Macro, u32),
+    /// The rules of index 1 and those of index 2 commute.
+    Com,
     Not(Operand),
     And(Operand, Operand),
     Or(Operand, Operand),

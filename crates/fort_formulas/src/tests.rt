@@ -1,4 +1,5 @@
 //! Tests.
 
 mod keys;
+mod places;
 mod translations;

@@ -1,9 +1,10 @@
 //! The core formula of a formula.
 
-ghost use Rattle.std.specs.Prelude.{◌≡◌, ℕ, ◌+◌, ◌^◌, ◌<◌, ◌≤◌, true, length, IfOk, IsErrOf};
+ghost use Rattle.std.specs.Prelude.{◌≡◌, ℕ, ◌+◌, ◌^◌, ◌<◌, ◌≤◌, ◌↔◌, true, length, IsTrue, IfOk, IsErrOf};
 ghost use Rattle.fort_logic.specs.FreeNames.{free_names};
-ghost use Rattle.fort_logic.specs.Parts.{is_free, IsTooWide, IsWellFormed};
-ghost use Rattle.fort_logic.specs.Translation.{core_in, core_of};
+ghost use Rattle.fort_logic.specs.Mentions.{HasTermsFor};
+ghost use Rattle.fort_logic.specs.Parts.{is_free, IsWellFormed};
+ghost use Rattle.fort_logic.specs.Translation.{core_in, core_of, IsFormulaTooWide};
 ghost use Rattle.fort_logic.specs.KeepsTruth.{KeepsTruth};
 ghost use Rattle.fort_formulas.specs.CoreView.{as_core};
 ghost use Rattle.fort_formulas.specs.FormulaView.{as_formula};
@@ -11,8 +12,9 @@ ghost use Rattle.fort_formulas.specs.NumbersNeeded.{binder_numbers, numbers_need
 ghost use Rattle.fort_formulas.specs.ScopeView.{as_scope};
 
 use crate::abbreviations::{
-    and, every, iff, implies, infinitely_many, joins, not, or, property_core, related, some,
+    and, commutes, every, iff, implies, infinitely_many, not, or, property_core, some,
 };
+use crate::arguments::{joins_in, normal_in, related_in};
 use crate::columns::is_too_wide;
 use crate::core_formula::Core;
 use crate::fault::CoreFault;
@@ -20,77 +22,109 @@ use crate::names::free_names;
 use crate::numbers::fits;
 use crate::scope::Scope;
 use crate::surface::Formula;
+use fort_terms::Term;
 use std::alloc::{AllocError, Global};
 
-/// The core formula, in which the free names have the first numbers.
-pub fn to_core(alloc: Global, formula: &Formula) -> Result<Core, CoreFault>
-    ensures ok { IfOk result (λ c. as_core c ≡ core_of (as_formula formula.now)) }
-    ensures truth { IfOk result (λ c. KeepsTruth (as_formula formula.now) (as_core c)) }
+/// The core formula, in which the free names have the first numbers. The terms are the ground terms
+/// that are written in the formula, by their places.
+pub fn to_core(alloc: Global, formula: &Formula, terms: &[Term]) -> Result<Core, CoreFault>
+    requires { HasTermsFor (as_formula formula.now) terms.now }
+    ensures ok { IfOk result (λ c. as_core c ≡ core_of terms.now (as_formula formula.now)) }
+    ensures truth { IfOk result (λ c.
+        KeepsTruth terms.now (as_formula formula.now) (as_core c)) }
     ensures well_formed { IfOk result (λ c. IsWellFormed (as_core c)) }
     ensures numbers { IfOk result (λ c. (n : ℕ) → is_free n (as_core c) ≡ true
         → n < length (free_names (as_formula formula.now))) }
     ensures few { IfOk result (λ c. numbers_needed (as_formula formula.now) ≤ 2 ^ 32) }
     ensures many { IsErrOf result CoreFault.TooManyNumbers
         → 2 ^ 32 < numbers_needed (as_formula formula.now) }
-    ensures wide { IsErrOf result CoreFault.TooWide → IsTooWide (core_of (as_formula formula.now)) }
+    ensures narrow { IfOk result (λ c. IsFormulaTooWide (as_formula formula.now) → ⊥) }
+    ensures wide { IsErrOf result CoreFault.TooWide → IsFormulaTooWide (as_formula formula.now) }
 {
-    let names = free_names(alloc, formula)?;
-    if !fits(formula, names.len()) {
-        return Err(CoreFault::TooManyNumbers);
-    }
-    let core = core_in(alloc, &Scope::Free(&names), formula)?;
+    let core = numbered(alloc, formula, terms)?;
     if is_too_wide(alloc, &core)? {
         return Err(CoreFault::TooWide);
     }
     Ok(core)
 }
 
+/// Whether some part of the core formula has too many columns, whatever the terms are. It fails
+/// for want of memory and with `CoreFault::TooManyNumbers`.
+pub fn too_wide(alloc: Global, formula: &Formula) -> Result<bool, CoreFault>
+    ensures exact { IfOk result (λ wide.
+        IsTrue wide ↔ IsFormulaTooWide (as_formula formula.now)) }
+    ensures few { IfOk result (λ wide. numbers_needed (as_formula formula.now) ≤ 2 ^ 32) }
+    ensures many { IsErrOf result CoreFault.TooManyNumbers
+        → 2 ^ 32 < numbers_needed (as_formula formula.now) }
+    ensures not_refused { IsErrOf result CoreFault.TooWide → ⊥ }
+{
+    let core = numbered(alloc, formula, &[])?;
+    Ok(is_too_wide(alloc, &core)?)
+}
+
+/// The core formula, however wide it is.
+fn numbered(alloc: Global, formula: &Formula, terms: &[Term]) -> Result<Core, CoreFault>
+    ensures ok { IfOk result (λ c. as_core c ≡ core_of terms.now (as_formula formula.now)) }
+    ensures few { IfOk result (λ c. numbers_needed (as_formula formula.now) ≤ 2 ^ 32) }
+    ensures many { IsErrOf result CoreFault.TooManyNumbers
+        → 2 ^ 32 < numbers_needed (as_formula formula.now) }
+    ensures not_refused { IsErrOf result CoreFault.TooWide → ⊥ }
+{
+    let names = free_names(alloc, formula)?;
+    if !fits(formula, names.len()) {
+        return Err(CoreFault::TooManyNumbers);
+    }
+    Ok(core_in(alloc, terms, &Scope::Free(&names), formula)?)
+}
+
 /// The core formula in a scope; a binder's number is how many names are in scope outside it.
-fn core_in(alloc: Global, scope: &Scope, formula: &Formula) -> Result<Core, AllocError>
+fn core_in(
+    alloc: Global,
+    terms: &[Term],
+    scope: &Scope,
+    formula: &Formula,
+) -> Result<Core, AllocError>
     requires { length (as_scope scope.now) + binder_numbers (as_formula formula.now) ≤ 2 ^ 32 }
-    ensures { IfOk result (λ c. as_core c ≡ core_in (as_scope scope.now) (as_formula formula.now)) }
+    ensures { IfOk result (λ c. as_core c
+        ≡ core_in terms.now (as_scope scope.now) (as_formula formula.now)) }
 {
     match formula {
         Formula::True => Ok(Core::True),
         Formula::False => not(alloc, Core::True),
-        Formula::Rel(rel, x, y, index) => {
-            related(alloc, *rel, *index, scope.number(x), scope.number(y))
-        }
-        Formula::Nf(x, index) => Ok(Core::Nf(*index, scope.number(x))),
-        Formula::Join(x, y, index) => {
-            let x = scope.number(x);
-            joins(alloc, *index, scope.depth(), x, scope.number(y))
-        }
+        Formula::Rel(rel, a, b, index) => related_in(alloc, terms, scope, *rel, *index, a, b),
+        Formula::Nf(a, index) => normal_in(alloc, terms, scope, *index, a),
+        Formula::Join(a, b, index) => joins_in(alloc, terms, scope, *index, a, b),
         Formula::Macro(property, index) => {
             property_core(alloc, *property, *index, scope.depth())
         }
-        Formula::Not(f) => not(alloc, core_in(alloc, scope, f.as_formula())?),
+        Formula::Com => commutes(alloc, scope.depth()),
+        Formula::Not(f) => not(alloc, core_in(alloc, terms, scope, f.as_formula())?),
         Formula::And(f, g) => {
-            let f = core_in(alloc, scope, f.as_formula())?;
-            and(alloc, f, core_in(alloc, scope, g.as_formula())?)
+            let f = core_in(alloc, terms, scope, f.as_formula())?;
+            and(alloc, f, core_in(alloc, terms, scope, g.as_formula())?)
         }
         Formula::Or(f, g) => {
-            let f = core_in(alloc, scope, f.as_formula())?;
-            or(alloc, f, core_in(alloc, scope, g.as_formula())?)
+            let f = core_in(alloc, terms, scope, f.as_formula())?;
+            or(alloc, f, core_in(alloc, terms, scope, g.as_formula())?)
         }
         Formula::Imp(f, g) => {
-            let f = core_in(alloc, scope, f.as_formula())?;
-            implies(alloc, f, core_in(alloc, scope, g.as_formula())?)
+            let f = core_in(alloc, terms, scope, f.as_formula())?;
+            implies(alloc, f, core_in(alloc, terms, scope, g.as_formula())?)
         }
         Formula::Iff(f, g) => {
-            let f = core_in(alloc, scope, f.as_formula())?;
-            iff(alloc, f, core_in(alloc, scope, g.as_formula())?)
+            let f = core_in(alloc, terms, scope, f.as_formula())?;
+            iff(alloc, f, core_in(alloc, terms, scope, g.as_formula())?)
         }
         Formula::Exists(x, f) => {
-            let f = core_in(alloc, &Scope::Bound(x, scope), f.as_formula())?;
+            let f = core_in(alloc, terms, &Scope::Bound(x, scope), f.as_formula())?;
             some(alloc, scope.depth(), f)
         }
         Formula::Forall(x, f) => {
-            let f = core_in(alloc, &Scope::Bound(x, scope), f.as_formula())?;
+            let f = core_in(alloc, terms, &Scope::Bound(x, scope), f.as_formula())?;
             every(alloc, scope.depth(), f)
         }
         Formula::Infinite(x, f) => {
-            let f = core_in(alloc, &Scope::Bound(x, scope), f.as_formula())?;
+            let f = core_in(alloc, terms, &Scope::Bound(x, scope), f.as_formula())?;
             infinitely_many(alloc, scope.depth(), f)
         }
     }

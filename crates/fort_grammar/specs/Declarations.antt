@@ -1,7 +1,7 @@
 -- To believe: which forms declare which functions, and what is wrong with a form that declares none.
 use Rattle.std.specs.Prelude.{◌≡◌, ℕ, ◌<◌, ◌≤◌, List, [], ◌∷◌, length, Option, None, Some, Contains, bytes_eq, codes, decimal, slice_range}
 use Rattle.std.specs.List.{IsDistinct}
-use Rattle.fort_theory.specs.Signatures.{most_functions, most_arguments, Symbol, Signature, IsName, names_of}
+use Rattle.fort_theory.specs.Signatures.{most_functions, most_arguments, most_indices, Symbol, Signature, IsName, names_of}
 use Rattle.fort_grammar.specs.Forms.{Form, Forms, Word, ListForm, NoForm, MoreForms}
 
 abbrev pub as_list : Forms → List Form
@@ -37,8 +37,14 @@ pub record IsHeaded (bytes word : List ℕ) (f : Form) : Type 0 where
   pub is : elements_of f ≡ Some (first ∷ others)
   pub head : word_of bytes first ≡ Some word
 
-abbrev pub IsFormat : List ℕ → Form → Type 0
-IsFormat bytes f = IsListOfWords bytes f (codes "format" ∷ codes "TRS" ∷ [])
+-- `(format TRS)`, of one system, or `(format TRS :number N)`, of N systems
+pub data IsFormat (bytes : List ℕ) (f : Form) : (number : ℕ) → Type 0 where
+  OneSystem : IsListOfWords bytes f (codes "format" ∷ codes "TRS" ∷ []) → IsFormat bytes f 1
+  Several : {number : ℕ} → 1 ≤ number → number ≤ most_indices
+      → IsListOfWords bytes f (codes "format" ∷ codes "TRS" ∷ codes ":number" ∷ decimal number ∷ []) → IsFormat bytes f number
+
+abbrev pub IsNoFormat : List ℕ → Form → Type 0
+IsNoFormat bytes f = (number : ℕ) → IsFormat bytes f number → ⊥
 
 -- a word that is an arity
 abbrev pub IsArity : List ℕ → ℕ → Type 0

@@ -2,10 +2,10 @@
 use Rattle.std.specs.Prelude.{◌≡◌, ℕ, ◌+◌, ◌≤◌, List, [], ◌∷◌, ◌++◌, length, codes}
 use Rattle.std.specs.List.{AllByRecursion}
 use Rattle.fort_theory.specs.Signatures.{Signature, HasConstant}
-use Rattle.fort_theory.specs.Sides.{Rule, System}
+use Rattle.fort_theory.specs.Sides.{at_index, System}
 use Rattle.fort_grammar.specs.Forms.{Form, Forms, AreFormsOf}
-use Rattle.fort_grammar.specs.Declarations.{as_list, IsFormat, IsHeaded, AreDeclarations, IsBadDeclaration, ProblemFault, NoFormat, NoConstant}
-use Rattle.fort_grammar.specs.RuleForms.{AreRules, IsBadRule, most_rules}
+use Rattle.fort_grammar.specs.Declarations.{as_list, IsFormat, IsNoFormat, IsHeaded, AreDeclarations, IsBadDeclaration, ProblemFault, NoFormat, NoConstant}
+use Rattle.fort_grammar.specs.RuleForms.{IndexedRule, AreRules, rules_of, IsBadRule, most_rules}
 
 -- the first form isn't one that is headed so
 abbrev pub BeginsOtherwise : List ℕ → List ℕ → List Form → Type 0
@@ -20,36 +20,36 @@ pub record FallsInto (bytes : List ℕ) (forms : List Form) (first : Form) (decl
   pub rule : AllByRecursion (IsHeaded bytes (codes "rule")) rules
   pub ruled : BeginsOtherwise bytes (codes "rule") behind
 
--- the forms are this system, all of whose rules have the index 1, and the next form is the first behind the problem
+-- the forms are this system, which has at each index its rules in their order, and the next form is the first behind the problem
 pub record IsProblem (bytes : List ℕ) (forms : List Form) (system : System) (next : ℕ) : Type 0 where
   pub first : Form
   pub declarations : List Form
   pub rules : List Form
   pub behind : List Form
   pub parts : FallsInto bytes forms first declarations rules behind
-  pub format : IsFormat bytes first
+  pub format : IsFormat bytes first (length system.rules)
   pub declares : AreDeclarations bytes declarations system.signature
   pub constant : HasConstant system.signature
-  pub given : List Rule
-  pub are_rules : AreRules bytes system.signature rules given
-  pub one_index : system.rules ≡ given ∷ []
+  pub given : List IndexedRule
+  pub are_rules : AreRules bytes (length system.rules) system.signature rules given
+  pub sorted : (index : ℕ) → at_index index system.rules ≡ rules_of index given
   pub few : length rules ≤ most_rules
   pub next_is : next ≡ length declarations + length rules + 1
 
 -- the first fault of the forms, in the order in which a problem is written
 pub data IsFirstProblemFault (bytes : List ℕ) (forms : List Form) : ProblemFault → Type 0 where
   WithoutForms : forms ≡ [] → IsFirstProblemFault bytes forms NoFormat
-  WithoutFormat : (first : Form) (others : List Form) → forms ≡ first ∷ others → (IsFormat bytes first → ⊥) → IsFirstProblemFault bytes forms NoFormat
-  InDeclaration : (first : Form) (declarations rules behind before after : List Form) (f : Form) (signature : Signature) (fault : ProblemFault)
-      → FallsInto bytes forms first declarations rules behind → IsFormat bytes first → declarations ≡ before ++ f ∷ after
+  WithoutFormat : (first : Form) (others : List Form) → forms ≡ first ∷ others → IsNoFormat bytes first → IsFirstProblemFault bytes forms NoFormat
+  InDeclaration : (first : Form) (number : ℕ) (declarations rules behind before after : List Form) (f : Form) (signature : Signature) (fault : ProblemFault)
+      → FallsInto bytes forms first declarations rules behind → IsFormat bytes first number → declarations ≡ before ++ f ∷ after
       → AreDeclarations bytes before signature → IsBadDeclaration bytes signature (length before + 1) f fault → IsFirstProblemFault bytes forms fault
-  WithoutConstant : (first : Form) (declarations rules behind : List Form) (signature : Signature)
-      → FallsInto bytes forms first declarations rules behind → IsFormat bytes first → AreDeclarations bytes declarations signature
+  WithoutConstant : (first : Form) (number : ℕ) (declarations rules behind : List Form) (signature : Signature)
+      → FallsInto bytes forms first declarations rules behind → IsFormat bytes first number → AreDeclarations bytes declarations signature
       → (HasConstant signature → ⊥) → IsFirstProblemFault bytes forms NoConstant
-  InRule : (first : Form) (declarations rules behind before after : List Form) (f : Form) (signature : Signature) (given : List Rule) (fault : ProblemFault)
-      → FallsInto bytes forms first declarations rules behind → IsFormat bytes first → AreDeclarations bytes declarations signature → HasConstant signature
-      → rules ≡ before ++ f ∷ after → AreRules bytes signature before given
-      → IsBadRule bytes signature (length before) (length declarations + length before + 1) f fault → IsFirstProblemFault bytes forms fault
+  InRule : (first : Form) (number : ℕ) (declarations rules behind before after : List Form) (f : Form) (signature : Signature) (given : List IndexedRule)
+      (fault : ProblemFault) → FallsInto bytes forms first declarations rules behind → IsFormat bytes first number
+      → AreDeclarations bytes declarations signature → HasConstant signature → rules ≡ before ++ f ∷ after → AreRules bytes number signature before given
+      → IsBadRule bytes number signature (length before) (length declarations + length before + 1) f fault → IsFirstProblemFault bytes forms fault
 
 -- a text without fault whose forms are a problem, with none behind it
 pub record IsProblemText (text : List ℕ) (system : System) : Type 0 where

@@ -10,7 +10,7 @@ use Rattle.fort_logic.specs.Formulas as surface
 use Rattle.fort_logic.specs.Formulas.{SurfaceRel, Property}
 use Rattle.fort_logic.specs.Cores.{Core, Atom, And, Star, Step}
 use Rattle.fort_logic.specs.CoreTruth.{Places, with_number}
-use Rattle.fort_logic.specs.Translation.{some, every, implies, related, joins, forks, normalises, at_most_one_step}
+use Rattle.fort_logic.specs.Translation.{some, every, implies, related, joins, normalises, at_most_one_step}
 use Rattle.fort_logic.proofs.CorePlaces.{with_number-same, with_number-other}
 use Rattle.fort_logic.proofs.Binders.{Met, Met-some, Met-every, Met-implies}
 
@@ -27,6 +27,10 @@ either_surely P Q = (
     by : (P → ⊥) → (Q → ⊥) → P ⊎ Q → ⊥
     by p q (inl x) = p x
     by p q (inr y) = q y
+
+-- some term is related to those of n and of n + 1
+abbrev pub forked : (rel rel' : ℕ → ℕ → Core) → (n : ℕ) → Core
+forked rel rel' n = some (n + 2) (And (rel (n + 2) n) (rel' (n + 2) (n + 1)))
 
 module _ (structure : Structure) (index : ℕ) where
   abbrev pub root : Relation
@@ -121,21 +125,22 @@ module _ (structure : Structure) (index : ℕ) where
         )
 
     -- some term is related to both
-    pub Met-forks : (rel : ℕ → ℕ → Core) (R : Relation) → Means rel R → (x y z : ℕ) (v : Places) (s t : Tree) → (y ≡ x → ⊥) → (z ≡ x → ⊥) → v y ≡ s → v z ≡ t
-        → Met structure (forks rel x y z) v ↔ HasSome (λ u. IsGround structure.signature u × (R u s × R u t))
-    Met-forks rel R means x y z v s t other_y other_z is_s is_t = (
-      (λ h none. (Met-some structure constant x (And (rel x y) (rel x z)) v).0 h (λ u k. none u (
+    pub Met-forks : (rel rel' : ℕ → ℕ → Core) (R R' : Relation) → Means rel R → Means rel' R' → (x y z : ℕ) (v : Places) (s t : Tree)
+        → (y ≡ x → ⊥) → (z ≡ x → ⊥) → v y ≡ s → v z ≡ t
+        → Met structure (some x (And (rel x y) (rel' x z))) v ↔ HasSome (λ u. IsGround structure.signature u × (R u s × R' u t))
+    Met-forks rel rel' R R' means means' x y z v s t other_y other_z is_s is_t = (
+      (λ h none. (Met-some structure constant x (And (rel x y) (rel' x z)) v).0 h (λ u k. none u (
         k.0,
         (
           moved R (with_number v x u x) (with_number v x u y) u s (with_number-same v x u) (at_y u) ((means (with_number v x u) x y).0 k.1.0),
-          moved R (with_number v x u x) (with_number v x u z) u t (with_number-same v x u) (at_z u) ((means (with_number v x u) x z).0 k.1.1),
+          moved R' (with_number v x u x) (with_number v x u z) u t (with_number-same v x u) (at_z u) ((means' (with_number v x u) x z).0 k.1.1),
         ),
       ))),
-      (λ h. (Met-some structure constant x (And (rel x y) (rel x z)) v).1 (λ none. h (λ u k. none u (
+      (λ h. (Met-some structure constant x (And (rel x y) (rel' x z)) v).1 (λ none. h (λ u k. none u (
         k.0,
         (
           (means (with_number v x u) x y).1 (moved R u s (with_number v x u x) (with_number v x u y) (sym (with_number-same v x u)) (sym (at_y u)) k.1.0),
-          (means (with_number v x u) x z).1 (moved R u t (with_number v x u x) (with_number v x u z) (sym (with_number-same v x u)) (sym (at_z u)) k.1.1),
+          (means' (with_number v x u) x z).1 (moved R' u t (with_number v x u x) (with_number v x u z) (sym (with_number-same v x u)) (sym (at_z u)) k.1.1),
         ),
       )))),
     )
@@ -166,26 +171,26 @@ module _ (structure : Structure) (index : ℕ) where
     second_of_two n v s t = with_number-same (with_number v n s) (n + 1) t
 
     -- for all y and z: where some x is related to both, they have the property
-    pub Met-fork_property : (rel : ℕ → ℕ → Core) (R : Relation) → Means rel R → (n : ℕ) (c : Core) (Q : Relation)
+    pub Met-fork_property : (rel rel' : ℕ → ℕ → Core) (R R' : Relation) → Means rel R → Means rel' R' → (n : ℕ) (c : Core) (Q : Relation)
         → ((w : Places) (s t : Tree) → w n ≡ s → w (n + 1) ≡ t → Met structure c w ↔ Q s t) → (v : Places)
-        → Met structure (every n (every (n + 1) (implies (forks rel (n + 2) n (n + 1)) c))) v
-        ↔ ((s t : Tree) → IsGround structure.signature s → IsGround structure.signature t → HasSome (λ u. IsGround structure.signature u × (R u s × R u t)) → Q s t)
-    Met-fork_property rel R means n c Q says v = (
+        → Met structure (every n (every (n + 1) (implies (forked rel rel' n) c))) v
+        ↔ ((s t : Tree) → IsGround structure.signature s → IsGround structure.signature t → HasSome (λ u. IsGround structure.signature u × (R u s × R' u t)) → Q s t)
+    Met-fork_property rel rel' R R' means means' n c Q says v = (
       (λ h s t gs gt fork.
           let w = with_number (with_number v n s) (n + 1) t in
           (says w s t (first_of_two n v s t) (second_of_two n v s t)).0
-          ((Met-implies structure (forks rel (n + 2) n (n + 1)) c w).0 ((Met-every_two n (implies (forks rel (n + 2) n (n + 1)) c) v).0 h s t gs gt)
-          ((forked w s t (first_of_two n v s t) (second_of_two n v s t)).1 fork))),
-      (λ h. (Met-every_two n (implies (forks rel (n + 2) n (n + 1)) c) v).1 (λ s t gs gt.
+          ((Met-implies structure (forked rel rel' n) c w).0 ((Met-every_two n (implies (forked rel rel' n) c) v).0 h s t gs gt)
+          ((met w s t (first_of_two n v s t) (second_of_two n v s t)).1 fork))),
+      (λ h. (Met-every_two n (implies (forked rel rel' n) c) v).1 (λ s t gs gt.
           let w = with_number (with_number v n s) (n + 1) t in
-          (Met-implies structure (forks rel (n + 2) n (n + 1)) c w).1 (λ fork.
+          (Met-implies structure (forked rel rel' n) c w).1 (λ fork.
           (says w s t (first_of_two n v s t) (second_of_two n v s t)).1
-          (h s t gs gt ((forked w s t (first_of_two n v s t) (second_of_two n v s t)).0 fork))))),
+          (h s t gs gt ((met w s t (first_of_two n v s t) (second_of_two n v s t)).0 fork))))),
     )
       where
-        forked : (w : Places) (s t : Tree) → w n ≡ s → w (n + 1) ≡ t
-            → Met structure (forks rel (n + 2) n (n + 1)) w ↔ HasSome (λ u. IsGround structure.signature u × (R u s × R u t))
-        forked w s t e f =
+        met : (w : Places) (s t : Tree) → w n ≡ s → w (n + 1) ≡ t
+            → Met structure (forked rel rel' n) w ↔ HasSome (λ u. IsGround structure.signature u × (R u s × R' u t))
+        met w s t e f =
             let one : n ≡ n + 2 → ⊥ = omega arith in
             let two : n + 1 ≡ n + 2 → ⊥ = omega arith in
-            Met-forks rel R means (n + 2) n (n + 1) w s t one two e f
+            Met-forks rel rel' R R' means means' (n + 2) n (n + 1) w s t one two e f

@@ -10,7 +10,8 @@ use Rattle.std.proofs.lemmas.Bool.Decides.{nat_tests}
 use Rattle.std.proofs.lemmas.List.Elements.{All-from_recursion, All-contains, Contains-append_left, Contains-append_right, Contains-append_cases, Contains-push, Contains-push_cases}
 use Rattle.std.proofs.lemmas.List.Kept.{IsStrictlyIncreasing-filter}
 use Rattle.std.proofs.lemmas.Map.Keys.{sorted_from_strictly_increasing, sorted_head, sorted_tail}
-use Rattle.fort_logic.specs.Cores.{Rel, Core, True, Atom, Nf, Not, And, Or, Iff, Exists, Infinite}
+use Rattle.fort_logic.specs.Cores.{Rel, Core, True, Atom, Nf, Is, Not, And, Or, Iff, Exists, Infinite}
+use Rattle.fort_theory.specs.Trees.{Tree}
 use Rattle.fort_theory.specs.Signatures.{most_columns}
 use Rattle.fort_logic.specs.Parts.{postorder, is_free, AreColumns, IsTooWide}
 use Rattle.fort_theory.proofs.Members.{Contains-head, Contains-behind, Contains-cons_cases, Contains-none, Contains-filter, Contains-from_filter, Contains-Decides}
@@ -38,6 +39,9 @@ AreColumns-leaf f numbers columns tells ascending same =
 
 pub AreColumns-Nf : (index x : ℕ) → AreColumns (Nf index x) (x ∷ [])
 AreColumns-Nf index x = AreColumns-leaf (Nf index x) (x ∷ []) (x ∷ []) (λ n. or-false (x == n)) (λ k l. absurd (omega arith)) (λ n. (λ c. c, λ c. c))
+
+pub AreColumns-Is : (x : ℕ) (t : Tree) → AreColumns (Is x t) (x ∷ [])
+AreColumns-Is x t = AreColumns-leaf (Is x t) (x ∷ []) (x ∷ []) (λ n. or-false (x == n)) (λ k l. absurd (omega arith)) (λ n. (λ c. c, λ c. c))
 
 pub AreColumns-Atom : (rel : Rel) (index x y : ℕ) (columns : List ℕ) → IsStrictlyIncreasing columns
     → ((n : ℕ) → Contains columns n ↔ Contains (x ∷ y ∷ []) n) → AreColumns (Atom rel index x y) columns
@@ -137,6 +141,7 @@ IsTooWide-here f columns are wide = record { part = f; among = root f; columns =
     root True = Contains-head True []
     root (Atom rel index x y) = Contains-head (Atom rel index x y) []
     root (Nf index x) = Contains-head (Nf index x) []
+    root (Is x t) = Contains-head (Is x t) []
     root (Not h) = Contains-push (postorder h) (Not h)
     root (And h k) = Contains-append_right (postorder h) (postorder k ++ And h k ∷ []) (And h k) (Contains-push (postorder k) (And h k))
     root (Or h k) = Contains-append_right (postorder h) (postorder k ++ Or h k ∷ []) (Or h k) (Contains-push (postorder k) (Or h k))

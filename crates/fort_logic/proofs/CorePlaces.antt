@@ -7,7 +7,7 @@ use Rattle.fort_logic.specs.Logic.{Surely}
 use Rattle.fort_theory.specs.Trees.{Tree}
 use Rattle.fort_theory.specs.Rewriting.{IsNormalForm}
 use Rattle.fort_logic.specs.Truth.{Structure}
-use Rattle.fort_logic.specs.Cores.{Core, True, Atom, Nf, Not, And, Or, Iff, Exists, Infinite}
+use Rattle.fort_logic.specs.Cores.{Core, True, Atom, Nf, Is, Not, And, Or, Iff, Exists, Infinite}
 use Rattle.fort_logic.specs.CoreTruth.{Places, with_number, RelatesBy, IsMetBy}
 use Rattle.fort_logic.specs.Parts.{is_free}
 
@@ -15,6 +15,7 @@ pub IsMetBy-stable : (structure : Structure) (c : Core) (v : Places) → Surely 
 IsMetBy-stable structure True v h = tt
 IsMetBy-stable structure (Atom rel index x y) v h = λ no. h (λ yes. yes no)
 IsMetBy-stable structure (Nf index x) v h = λ t s. h (λ n. n t s)
+IsMetBy-stable structure (Is x t) v h = λ no. h (λ yes. yes no)
 IsMetBy-stable structure (Not f) v h = λ yes. h (λ no. no yes)
 IsMetBy-stable structure (And f g) v h =
     (IsMetBy-stable structure f v (λ no. h (λ p. no p.0)), IsMetBy-stable structure g v (λ no. h (λ p. no p.1)))
@@ -67,6 +68,7 @@ IsMetBy-agree structure (Atom rel index x y) v w same h =
     let second = same y (or_right (x == y) (y == y) ((Decides-eqb y y).1 refl)) in
     subst (λ t. Surely (RelatesBy (structure.root index) rel t (w y))) first (subst (λ t. Surely (RelatesBy (structure.root index) rel (v x) t)) second h)
 IsMetBy-agree structure (Nf index x) v w same h = subst (IsNormalForm (structure.root index)) (same x ((Decides-eqb x x).1 refl)) h
+IsMetBy-agree structure (Is x t) v w same h = subst (λ s. Surely (s ≡ t)) (same x ((Decides-eqb x x).1 refl)) h
 IsMetBy-agree structure (Not f) v w same h = λ yes. h (IsMetBy-agree structure f w v (λ n free. sym (same n free)) yes)
 IsMetBy-agree structure (And f g) v w same h = (
   IsMetBy-agree structure f v w (λ n free. same n (or_left (is_free n f) (is_free n g) free)) h.0,

@@ -8,7 +8,7 @@ use Rattle.fort_theory.proofs.Members.{Contains-behind, Contains-cons_cases, Con
 use Rattle.fort_logic.proofs.ScopeNumbers.{name_itself, Contains-once}
 
 -- of two values each of which comes first before the other, both are one
-same_first_place : {A : Type 0} (f g b c : List A) (x y : A) → f ++ (x ∷ b) ≡ g ++ (y ∷ c) → (Contains f y → ⊥) → (Contains g x → ⊥) → x ≡ y
+pub same_first_place : {A : Type 0} (f g b c : List A) (x y : A) → f ++ (x ∷ b) ≡ g ++ (y ∷ c) → (Contains f y → ⊥) → (Contains g x → ⊥) → x ≡ y
 same_first_place [] [] b c x y e no_y no_x = cc
 same_first_place [] (d ∷ g) b c x y e no_y no_x = let same : d ≡ x = cc in absurd (no_x (0, omega arith, same))
 same_first_place (d ∷ f) [] b c x y e no_y no_x = let same : d ≡ y = cc in absurd (no_y (0, omega arith, same))

@@ -1,17 +1,18 @@
 -- The core formula of a formula binds numbers that are free, and its free numbers are those of free names.
 use Rattle.std.specs.Prelude.{◌≡◌, ◌==◌, ℕ, ◌+◌, ◌<◌, Bool, true, false, not, ◌||◌, ◌&&◌, if◌then◌else◌, List, [], ◌∷◌, ◌++◌, ◌⊎◌, length, reverse, bytes_eq, Contains, refl}
 use Rattle.std.proofs.Common.{ap, sym, ◌∙◌, subst, arith, inl, inr}
-use Rattle.std.proofs.lemmas.Bool.{or_cases, and_parts}
+use Rattle.std.proofs.lemmas.Bool.{or_cases, or_left, and_parts}
 use Rattle.std.proofs.lemmas.Bool.Decides.{Decides-eqb}
 use Rattle.std.proofs.lemmas.List.{length-reverse}
 use Rattle.std.proofs.lemmas.List.Elements.{Contains-append_left, Contains-append_right}
-use Rattle.fort_theory.proofs.Members.{Contains-head, Contains-behind}
+use Rattle.fort_theory.specs.Trees.{Tree}
+use Rattle.fort_theory.proofs.Members.{Contains-head}
 use Rattle.fort_logic.specs.Formulas as surface
-use Rattle.fort_logic.specs.Formulas.{Name, Formula, SurfaceRel, Property}
-use Rattle.fort_logic.specs.FreeNames.{without, occurrences, free_names}
-use Rattle.fort_logic.specs.Cores.{Core, Atom, Nf, Not, And, Exists, Infinite, Star, Step, Conv}
+use Rattle.fort_logic.specs.Formulas.{Name, Argument, Formula, SurfaceRel, Property}
+use Rattle.fort_logic.specs.FreeNames.{without, names_in, occurrences, free_names}
+use Rattle.fort_logic.specs.Cores.{Core, Atom, Nf, Is, Not, And, Exists, Infinite, Star, Step, Conv}
 use Rattle.fort_logic.specs.Parts.{is_free, BindsFree, IsClosed}
-use Rattle.fort_logic.specs.Translation.{number_in, some, every, equal, infinitely_many, implies, joins, forks, normalises, at_most_one_step, related, property_core, core_in, core_of}
+use Rattle.fort_logic.specs.Translation.{number_in, some, every, equal, infinitely_many, implies, joins, forks, normalises, at_most_one_step, related, property_core, commutes, term_at, about, about_both, core_in, core_of}
 use Rattle.fort_logic.proofs.ScopeNumbers.{Contains-without, Contains-once, Contains-reverse, number_in-below}
 
 same : (n k : ℕ) → (n == k) ≡ true → n ≡ k
@@ -76,25 +77,49 @@ BindsFree-property surface.Unc index n =
 BindsFree-property surface.Nfp index n =
     two_binders n (implies (And (Atom Conv index n (n + 1)) (Nf index (n + 1))) (Atom Star index n (n + 1))) ((tt, tt), tt)
 
-pub BindsFree-core_in : (scope : List Name) (f : Formula) → BindsFree (core_in scope f)
-BindsFree-core_in scope surface.True = tt
-BindsFree-core_in scope surface.False = tt
-BindsFree-core_in scope (surface.Related rel x y index) = BindsFree-related rel index (number_in scope x) (number_in scope y)
-BindsFree-core_in scope (surface.Nf x index) = tt
-BindsFree-core_in scope (surface.Join x y index) = BindsFree-joins index (length scope) (number_in scope x) (number_in scope y)
-BindsFree-core_in scope (surface.Has p index) = BindsFree-property p index (length scope)
-BindsFree-core_in scope (surface.Not f) = BindsFree-core_in scope f
-BindsFree-core_in scope (surface.And f g) = (BindsFree-core_in scope f, BindsFree-core_in scope g)
-BindsFree-core_in scope (surface.Or f g) = (BindsFree-core_in scope f, BindsFree-core_in scope g)
-BindsFree-core_in scope (surface.Imp f g) = (BindsFree-core_in scope f, BindsFree-core_in scope g)
-BindsFree-core_in scope (surface.Iff f g) = (BindsFree-core_in scope f, BindsFree-core_in scope g)
-BindsFree-core_in scope (surface.Exists x f) = BindsFree-some (length scope) (core_in (x ∷ scope) f) (BindsFree-core_in (x ∷ scope) f)
-BindsFree-core_in scope (surface.Forall x f) = BindsFree-some (length scope) (Not (core_in (x ∷ scope) f)) (BindsFree-core_in (x ∷ scope) f)
-BindsFree-core_in scope (surface.Infinite x f) = BindsFree-infinitely_many (length scope) (core_in (x ∷ scope) f) (BindsFree-core_in (x ∷ scope) f)
+BindsFree-commutes : (n : ℕ) → BindsFree (commutes n)
+BindsFree-commutes n =
+    let from = And (Atom Star 1 (n + 2) n) (Atom Star 2 (n + 2) (n + 1)) in
+    let to = And (Atom Star 2 n (n + 2)) (Atom Star 1 (n + 1) (n + 2)) in
+    two_binders n (implies (some (n + 2) from) (some (n + 2) to)) (BindsFree-some (n + 2) from (tt, tt), BindsFree-some (n + 2) to (tt, tt))
+
+module _ (terms : List Tree) (scope : List Name) where
+  -- a ground term's variable is free, since it is said to be the term
+  BindsFree-about : (n : ℕ) (a : Argument) (make : ℕ → ℕ → Core) → ((m x : ℕ) → BindsFree (make m x)) → BindsFree (about terms scope n a make)
+  BindsFree-about n (surface.Var x) make bound = bound n (number_in scope x)
+  BindsFree-about n (surface.Ground k) make bound = (or_left (n == n) (is_free n (make (n + 1) n)) (itself n), (tt, bound (n + 1) n))
+
+  BindsFree-about_both : (n : ℕ) (a b : Argument) (make : ℕ → ℕ → ℕ → Core) → ((m x y : ℕ) → BindsFree (make m x y))
+      → BindsFree (about_both terms scope n a b make)
+  BindsFree-about_both n a b make bound =
+      BindsFree-about n a (λ m x. about terms scope m b (λ k y. make k x y))
+      (λ m x. BindsFree-about m b (λ k y. make k x y) (λ k y. bound k x y))
+
+pub BindsFree-core_in : (terms : List Tree) (scope : List Name) (f : Formula) → BindsFree (core_in terms scope f)
+BindsFree-core_in terms scope surface.True = tt
+BindsFree-core_in terms scope surface.False = tt
+BindsFree-core_in terms scope (surface.Related rel a b index) =
+    BindsFree-about_both terms scope (length scope) a b (λ n x y. related rel index x y) (λ n x y. BindsFree-related rel index x y)
+BindsFree-core_in terms scope (surface.Nf a index) = BindsFree-about terms scope (length scope) a (λ n x. Nf index x) (λ n x. tt)
+BindsFree-core_in terms scope (surface.Join a b index) =
+    BindsFree-about_both terms scope (length scope) a b (λ n x y. joins index n x y) (λ n x y. BindsFree-joins index n x y)
+BindsFree-core_in terms scope (surface.Has p index) = BindsFree-property p index (length scope)
+BindsFree-core_in terms scope surface.Com = BindsFree-commutes (length scope)
+BindsFree-core_in terms scope (surface.Not f) = BindsFree-core_in terms scope f
+BindsFree-core_in terms scope (surface.And f g) = (BindsFree-core_in terms scope f, BindsFree-core_in terms scope g)
+BindsFree-core_in terms scope (surface.Or f g) = (BindsFree-core_in terms scope f, BindsFree-core_in terms scope g)
+BindsFree-core_in terms scope (surface.Imp f g) = (BindsFree-core_in terms scope f, BindsFree-core_in terms scope g)
+BindsFree-core_in terms scope (surface.Iff f g) = (BindsFree-core_in terms scope f, BindsFree-core_in terms scope g)
+BindsFree-core_in terms scope (surface.Exists x f) =
+    BindsFree-some (length scope) (core_in terms (x ∷ scope) f) (BindsFree-core_in terms (x ∷ scope) f)
+BindsFree-core_in terms scope (surface.Forall x f) =
+    BindsFree-some (length scope) (Not (core_in terms (x ∷ scope) f)) (BindsFree-core_in terms (x ∷ scope) f)
+BindsFree-core_in terms scope (surface.Infinite x f) =
+    BindsFree-infinitely_many (length scope) (core_in terms (x ∷ scope) f) (BindsFree-core_in terms (x ∷ scope) f)
 
 -- Result: the translation binds no number that isn't free
-pub core_of-binds_free : (f : Formula) → BindsFree (core_of f)
-core_of-binds_free f = BindsFree-core_in (reverse (free_names f)) f
+pub core_of-binds_free : (terms : List Tree) (f : Formula) → BindsFree (core_of terms f)
+core_of-binds_free terms f = BindsFree-core_in terms (reverse (free_names f)) f
 
 -- ---- free numbers
 
@@ -167,20 +192,24 @@ AllFree-related P surface.Either index x y a b =
     AllFree-two P (Atom Step index x y) (Atom Step index y x) (AllFree-Atom P x y a b) (AllFree-Atom P y x b a)
 AllFree-related P surface.Conv index x y a b = AllFree-Atom P x y a b
 
-AllFree-joins : (P : ℕ → Type 0) (index n x y : ℕ) → P x → P y → AllFree P (joins index n x y)
-AllFree-joins P index n x y a b =
-    AllFree-some P n (And (Atom Star index x n) (Atom Star index y n))
-    (AllFree-two (Below P n) (Atom Star index x n) (Atom Star index y n)
+AllFree-meets : (P : ℕ → Type 0) (i j n x y : ℕ) → P x → P y → AllFree P (some n (And (Atom Star i x n) (Atom Star j y n)))
+AllFree-meets P i j n x y a b =
+    AllFree-some P n (And (Atom Star i x n) (Atom Star j y n))
+    (AllFree-two (Below P n) (Atom Star i x n) (Atom Star j y n)
     (AllFree-Atom (Below P n) x n (inr a) (inl refl)) (AllFree-Atom (Below P n) y n (inr b) (inl refl)))
+
+AllFree-joins : (P : ℕ → Type 0) (index n x y : ℕ) → P x → P y → AllFree P (joins index n x y)
+AllFree-joins P index n x y a b = AllFree-meets P index index n x y a b
 
 -- a relation with two numbers has no other
 abbrev pub OnlyThese : (ℕ → ℕ → Core) → Type 1
 OnlyThese rel = (P : ℕ → Type 0) (x y : ℕ) → P x → P y → AllFree P (rel x y)
 
-AllFree-forks : (P : ℕ → Type 0) (rel : ℕ → ℕ → Core) → OnlyThese rel → (x y z : ℕ) → P y → P z → AllFree P (forks rel x y z)
-AllFree-forks P rel only x y z b c =
-    AllFree-some P x (And (rel x y) (rel x z))
-    (AllFree-two (Below P x) (rel x y) (rel x z) (only (Below P x) x y (inl refl) (inr b)) (only (Below P x) x z (inl refl) (inr c)))
+AllFree-forks : (P : ℕ → Type 0) (rel rel' : ℕ → ℕ → Core) → OnlyThese rel → OnlyThese rel' → (x y z : ℕ) → P y → P z
+    → AllFree P (some x (And (rel x y) (rel' x z)))
+AllFree-forks P rel rel' only only' x y z b c =
+    AllFree-some P x (And (rel x y) (rel' x z))
+    (AllFree-two (Below P x) (rel x y) (rel' x z) (only (Below P x) x y (inl refl) (inr b)) (only' (Below P x) x z (inl refl) (inr c)))
 
 -- the two numbers that a property binds
 abbrev pub Bound : ℕ → ℕ → Type 0
@@ -199,18 +228,18 @@ AllFree-property : (p : Property) (index n : ℕ) → IsClosed (property_core p 
 AllFree-property surface.Cr index n = no_others n
     (implies (forks (Atom Star index) (n + 2) n (n + 1)) (joins index (n + 2) n (n + 1)))
     (AllFree-two (Bound n) (Not (forks (Atom Star index) (n + 2) n (n + 1))) (joins index (n + 2) n (n + 1))
-    (AllFree-forks (Bound n) (Atom Star index) AllFree-Atom (n + 2) n (n + 1) (first_bound n) (second_bound n))
+    (AllFree-forks (Bound n) (Atom Star index) (Atom Star index) AllFree-Atom AllFree-Atom (n + 2) n (n + 1) (first_bound n) (second_bound n))
     (AllFree-joins (Bound n) index (n + 2) n (n + 1) (first_bound n) (second_bound n)))
 AllFree-property surface.Wcr index n = no_others n
     (implies (forks (Atom Step index) (n + 2) n (n + 1)) (joins index (n + 2) n (n + 1)))
     (AllFree-two (Bound n) (Not (forks (Atom Step index) (n + 2) n (n + 1))) (joins index (n + 2) n (n + 1))
-    (AllFree-forks (Bound n) (Atom Step index) AllFree-Atom (n + 2) n (n + 1) (first_bound n) (second_bound n))
+    (AllFree-forks (Bound n) (Atom Step index) (Atom Step index) AllFree-Atom AllFree-Atom (n + 2) n (n + 1) (first_bound n) (second_bound n))
     (AllFree-joins (Bound n) index (n + 2) n (n + 1) (first_bound n) (second_bound n)))
 AllFree-property surface.Scr index n = no_others n
     (implies (forks (Atom Step index) (n + 2) n (n + 1)) (some (n + 2) (And (at_most_one_step index n (n + 2)) (Atom Star index (n + 1) (n + 2)))))
     (AllFree-two (Bound n) (Not (forks (Atom Step index) (n + 2) n (n + 1)))
     (some (n + 2) (And (at_most_one_step index n (n + 2)) (Atom Star index (n + 1) (n + 2))))
-    (AllFree-forks (Bound n) (Atom Step index) AllFree-Atom (n + 2) n (n + 1) (first_bound n) (second_bound n))
+    (AllFree-forks (Bound n) (Atom Step index) (Atom Step index) AllFree-Atom AllFree-Atom (n + 2) n (n + 1) (first_bound n) (second_bound n))
     (AllFree-some (Bound n) (n + 2) (And (at_most_one_step index n (n + 2)) (Atom Star index (n + 1) (n + 2)))
     (AllFree-two (Below (Bound n) (n + 2)) (at_most_one_step index n (n + 2)) (Atom Star index (n + 1) (n + 2))
     (AllFree-related (Below (Bound n) (n + 2)) surface.Reflexive index n (n + 2) (inr (first_bound n)) (inl refl))
@@ -219,10 +248,11 @@ AllFree-property surface.Wn index n =
     AllFree-some (λ k. ⊥) n (Not (some (n + 1) (normalises index n (n + 1))))
     (AllFree-some (Below (λ k. ⊥) n) (n + 1) (normalises index n (n + 1))
     (AllFree-related (Bound n) surface.Normal index n (n + 1) (first_bound n) (second_bound n)))
-AllFree-property surface.Unr index n = no_others n
+AllFree-property surface.Unr index n =
+    let only_normalises = λ (P : ℕ → Type 0) (x y : ℕ). AllFree-related P surface.Normal index x y in no_others n
     (implies (forks (normalises index) (n + 2) n (n + 1)) (equal n (n + 1)))
     (AllFree-two (Bound n) (Not (forks (normalises index) (n + 2) n (n + 1))) (equal n (n + 1))
-    (AllFree-forks (Bound n) (normalises index) (λ P x y. AllFree-related P surface.Normal index x y) (n + 2) n (n + 1) (first_bound n) (second_bound n))
+    (AllFree-forks (Bound n) (normalises index) (normalises index) only_normalises only_normalises (n + 2) n (n + 1) (first_bound n) (second_bound n))
     (AllFree-Atom (Bound n) n (n + 1) (first_bound n) (second_bound n)))
 AllFree-property surface.Unc index n = no_others n
     (implies (And (And (Atom Conv index n (n + 1)) (Nf index n)) (Nf index (n + 1))) (equal n (n + 1)))
@@ -238,6 +268,35 @@ AllFree-property surface.Nfp index n = no_others n
     (AllFree-two (Bound n) (Atom Conv index n (n + 1)) (Nf index (n + 1))
     (AllFree-Atom (Bound n) n (n + 1) (first_bound n) (second_bound n)) (AllFree-Nf (Bound n) (n + 1) (second_bound n)))
     (AllFree-Atom (Bound n) n (n + 1) (first_bound n) (second_bound n)))
+
+AllFree-commutes : (n : ℕ) → IsClosed (commutes n)
+AllFree-commutes n =
+    let from = some (n + 2) (And (Atom Star 1 (n + 2) n) (Atom Star 2 (n + 2) (n + 1))) in
+    let to = some (n + 2) (And (Atom Star 2 n (n + 2)) (Atom Star 1 (n + 1) (n + 2))) in
+    no_others n (implies from to) (AllFree-two (Bound n) (Not from) to
+    (AllFree-forks (Bound n) (Atom Star 1) (Atom Star 2) AllFree-Atom AllFree-Atom (n + 2) n (n + 1) (first_bound n) (second_bound n))
+    (AllFree-meets (Bound n) 2 1 (n + 2) n (n + 1) (first_bound n) (second_bound n)))
+
+module _ (terms : List Tree) (scope : List Name) where
+  -- an argument that is a variable has a number with P
+  abbrev pub Among : (ℕ → Type 0) → Argument → Type 0
+  Among P a = (x : Name) → Contains (names_in a) x → P (number_in scope x)
+
+  -- a ground term's own number is bound at once
+  AllFree-about : (P : ℕ → Type 0) (n : ℕ) (a : Argument) (make : ℕ → ℕ → Core) → Among P a
+      → ((Q : ℕ → Type 0) (m x : ℕ) → ((k : ℕ) → P k → Q k) → Q x → AllFree Q (make m x)) → AllFree P (about terms scope n a make)
+  AllFree-about P n (surface.Var x) make among only = only P n (number_in scope x) (λ k p. p) (among x (Contains-head x []))
+  AllFree-about P n (surface.Ground k) make among only =
+      AllFree-bound P n (And (Is n (term_at terms k)) (make (n + 1) n))
+      (AllFree-two (Below P n) (Is n (term_at terms k)) (make (n + 1) n)
+      (AllFree-Nf (Below P n) n (inl refl)) (only (Below P n) (n + 1) n (λ i p. inr p) (inl refl)))
+
+  AllFree-about_both : (P : ℕ → Type 0) (n : ℕ) (a b : Argument) (make : ℕ → ℕ → ℕ → Core) → Among P a → Among P b
+      → ((Q : ℕ → Type 0) (m x y : ℕ) → Q x → Q y → AllFree Q (make m x y)) → AllFree P (about_both terms scope n a b make)
+  AllFree-about_both P n a b make first second only =
+      AllFree-about P n a (λ m x. about terms scope m b (λ k y. make k x y)) first (λ Q m x kept at_x.
+      AllFree-about Q m b (λ k y. make k x y) (λ y among. kept (number_in scope y) (second y among))
+      (λ R k y still at_y. only R k x y (still x at_x) at_y))
 
 -- the number of a name that occurs free
 abbrev pub IsNumberOf : List Name → List Name → ℕ → Type 0
@@ -257,45 +316,57 @@ more_names : (scope names more : List Name) (c : Core) → ((x : Name) → Conta
     → AllFree (IsNumberOf scope names) c → AllFree (IsNumberOf scope more) c
 more_names scope names more c kept h k free = let at = h k free in (at.0, kept at.0 at.1, at.2)
 
-both_free : (f g : Formula) (scope : List Name) → AllFree (IsNumberOf scope (occurrences f)) (core_in scope f)
-    → AllFree (IsNumberOf scope (occurrences g)) (core_in scope g) → (k : ℕ) → (is_free k (core_in scope f) || is_free k (core_in scope g)) ≡ true
-    → IsNumberOf scope (occurrences f ++ occurrences g) k
-both_free f g scope first second =
-    AllFree-two (IsNumberOf scope (occurrences f ++ occurrences g)) (core_in scope f) (core_in scope g)
-    (more_names scope (occurrences f) (occurrences f ++ occurrences g) (core_in scope f) (Contains-append_left (occurrences f) (occurrences g)) first)
-    (more_names scope (occurrences g) (occurrences f ++ occurrences g) (core_in scope g) (Contains-append_right (occurrences f) (occurrences g)) second)
+module _ (terms : List Tree) where
+  both_free : (f g : Formula) (scope : List Name) → AllFree (IsNumberOf scope (occurrences f)) (core_in terms scope f)
+      → AllFree (IsNumberOf scope (occurrences g)) (core_in terms scope g) → (k : ℕ)
+      → (is_free k (core_in terms scope f) || is_free k (core_in terms scope g)) ≡ true → IsNumberOf scope (occurrences f ++ occurrences g) k
+  both_free f g scope first second =
+      let xs = occurrences f in
+      let ys = occurrences g in
+      AllFree-two (IsNumberOf scope (xs ++ ys)) (core_in terms scope f) (core_in terms scope g)
+      (more_names scope xs (xs ++ ys) (core_in terms scope f) (Contains-append_left xs ys) first)
+      (more_names scope ys (xs ++ ys) (core_in terms scope g) (Contains-append_right xs ys) second)
 
-pub AllFree-core_in : (f : Formula) (scope : List Name) → AllFree (IsNumberOf scope (occurrences f)) (core_in scope f)
-AllFree-core_in surface.True scope = λ k free. absurd cc
-AllFree-core_in surface.False scope = λ k free. absurd cc
-AllFree-core_in (surface.Related rel x y index) scope =
-    AllFree-related (IsNumberOf scope (x ∷ y ∷ [])) rel index (number_in scope x) (number_in scope y)
-    (x, Contains-head x (y ∷ []), refl) (y, Contains-behind x (y ∷ []) y (Contains-head y []), refl)
-AllFree-core_in (surface.Nf x index) scope = AllFree-Nf (IsNumberOf scope (x ∷ [])) (number_in scope x) (x, Contains-head x [], refl)
-AllFree-core_in (surface.Join x y index) scope =
-    AllFree-joins (IsNumberOf scope (x ∷ y ∷ [])) index (length scope) (number_in scope x) (number_in scope y)
-    (x, Contains-head x (y ∷ []), refl) (y, Contains-behind x (y ∷ []) y (Contains-head y []), refl)
-AllFree-core_in (surface.Has p index) scope = λ k free. absurd (AllFree-property p index (length scope) k free)
-AllFree-core_in (surface.Not f) scope = AllFree-core_in f scope
-AllFree-core_in (surface.And f g) scope = both_free f g scope (AllFree-core_in f scope) (AllFree-core_in g scope)
-AllFree-core_in (surface.Or f g) scope = both_free f g scope (AllFree-core_in f scope) (AllFree-core_in g scope)
-AllFree-core_in (surface.Imp f g) scope = both_free f g scope (AllFree-core_in f scope) (AllFree-core_in g scope)
-AllFree-core_in (surface.Iff f g) scope = both_free f g scope (AllFree-core_in f scope) (AllFree-core_in g scope)
-AllFree-core_in (surface.Exists x f) scope =
-    AllFree-some (IsNumberOf scope (without x (occurrences f))) (length scope) (core_in (x ∷ scope) f)
-    (λ k free. moved_out scope x (occurrences f) k (AllFree-core_in f (x ∷ scope) k free))
-AllFree-core_in (surface.Forall x f) scope =
-    AllFree-some (IsNumberOf scope (without x (occurrences f))) (length scope) (Not (core_in (x ∷ scope) f))
-    (λ k free. moved_out scope x (occurrences f) k (AllFree-core_in f (x ∷ scope) k free))
-AllFree-core_in (surface.Infinite x f) scope =
-    AllFree-infinitely_many (IsNumberOf scope (without x (occurrences f))) (length scope) (core_in (x ∷ scope) f)
-    (λ k free. moved_out scope x (occurrences f) k (AllFree-core_in f (x ∷ scope) k free))
+  first_names : (scope : List Name) (a b : Argument) → Among terms scope (IsNumberOf scope (names_in a ++ names_in b)) a
+  first_names scope a b x among = (x, Contains-append_left (names_in a) (names_in b) x among, refl)
 
--- Result: a number that is free in the core formula is that of a free name
-pub core_of-free : (f : Formula) (n : ℕ) → is_free n (core_of f) ≡ true → n < length (free_names f)
-core_of-free f n free =
-    let scope = reverse (free_names f) in
-    let at = AllFree-core_in f scope n free in
-    let below = number_in-below scope at.0 (Contains-reverse (free_names f) at.0 (Contains-once (occurrences f) at.0 at.1)) in
-    let e = at.2 in
-    let l = length-reverse (free_names f) in omega arith
+  second_names : (scope : List Name) (a b : Argument) → Among terms scope (IsNumberOf scope (names_in a ++ names_in b)) b
+  second_names scope a b x among = (x, Contains-append_right (names_in a) (names_in b) x among, refl)
+
+  pub AllFree-core_in : (f : Formula) (scope : List Name) → AllFree (IsNumberOf scope (occurrences f)) (core_in terms scope f)
+  AllFree-core_in surface.True scope = λ k free. absurd cc
+  AllFree-core_in surface.False scope = λ k free. absurd cc
+  AllFree-core_in (surface.Related rel a b index) scope =
+      AllFree-about_both terms scope (IsNumberOf scope (names_in a ++ names_in b)) (length scope) a b (λ n x y. related rel index x y)
+      (first_names scope a b) (second_names scope a b) (λ Q n x y at_x at_y. AllFree-related Q rel index x y at_x at_y)
+  AllFree-core_in (surface.Nf a index) scope =
+      AllFree-about terms scope (IsNumberOf scope (names_in a)) (length scope) a (λ n x. Nf index x)
+      (λ x among. (x, among, refl)) (λ Q n x kept at_x. AllFree-Nf Q x at_x)
+  AllFree-core_in (surface.Join a b index) scope =
+      AllFree-about_both terms scope (IsNumberOf scope (names_in a ++ names_in b)) (length scope) a b (λ n x y. joins index n x y)
+      (first_names scope a b) (second_names scope a b) (λ Q n x y at_x at_y. AllFree-joins Q index n x y at_x at_y)
+  AllFree-core_in (surface.Has p index) scope = λ k free. absurd (AllFree-property p index (length scope) k free)
+  AllFree-core_in surface.Com scope = λ k free. absurd (AllFree-commutes (length scope) k free)
+  AllFree-core_in (surface.Not f) scope = AllFree-core_in f scope
+  AllFree-core_in (surface.And f g) scope = both_free f g scope (AllFree-core_in f scope) (AllFree-core_in g scope)
+  AllFree-core_in (surface.Or f g) scope = both_free f g scope (AllFree-core_in f scope) (AllFree-core_in g scope)
+  AllFree-core_in (surface.Imp f g) scope = both_free f g scope (AllFree-core_in f scope) (AllFree-core_in g scope)
+  AllFree-core_in (surface.Iff f g) scope = both_free f g scope (AllFree-core_in f scope) (AllFree-core_in g scope)
+  AllFree-core_in (surface.Exists x f) scope =
+      AllFree-some (IsNumberOf scope (without x (occurrences f))) (length scope) (core_in terms (x ∷ scope) f)
+      (λ k free. moved_out scope x (occurrences f) k (AllFree-core_in f (x ∷ scope) k free))
+  AllFree-core_in (surface.Forall x f) scope =
+      AllFree-some (IsNumberOf scope (without x (occurrences f))) (length scope) (Not (core_in terms (x ∷ scope) f))
+      (λ k free. moved_out scope x (occurrences f) k (AllFree-core_in f (x ∷ scope) k free))
+  AllFree-core_in (surface.Infinite x f) scope =
+      AllFree-infinitely_many (IsNumberOf scope (without x (occurrences f))) (length scope) (core_in terms (x ∷ scope) f)
+      (λ k free. moved_out scope x (occurrences f) k (AllFree-core_in f (x ∷ scope) k free))
+
+  -- Result: a number that is free in the core formula is that of a free name
+  pub core_of-free : (f : Formula) (n : ℕ) → is_free n (core_of terms f) ≡ true → n < length (free_names f)
+  core_of-free f n free =
+      let scope = reverse (free_names f) in
+      let at = AllFree-core_in f scope n free in
+      let below = number_in-below scope at.0 (Contains-reverse (free_names f) at.0 (Contains-once (occurrences f) at.0 at.1)) in
+      let e = at.2 in
+      let l = length-reverse (free_names f) in omega arith

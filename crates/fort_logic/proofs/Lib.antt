@@ -3,7 +3,9 @@ pub mod CorePlaces
 pub mod Binders
 pub mod Abbreviations
 pub mod PropertyTruth
+pub mod CommutesTruth
 pub mod ScopeNumbers
+pub mod ArgumentTruth
 pub mod EachOnceUnique
 pub mod TranslationTruth
 pub mod OnceNames
@@ -13,3 +15,5 @@ pub mod SameRoots
 pub mod Verdicts
 pub mod FreeNumbers
 pub mod TooWideLaws
+pub mod MentionLaws
+pub mod GroundWidths

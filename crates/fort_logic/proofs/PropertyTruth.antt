@@ -15,10 +15,10 @@ use Rattle.fort_logic.proofs.Binders.{Met, Met-some, Met-every, Met-implies}
 use Rattle.fort_logic.proofs.Abbreviations.{moved, Met-meets, Met-joins, Met-fork_property, Met-every_two, first_of_two, second_of_two, SurelyReduces, SurelySteps, SurelyNormalises, SurelyAtMostOnce, means_star, means_step, means_normalises, means_at_most_one, surely_at_most_once}
 
 -- what is said of all that is related to a term surely is said of all that is related
-fork_law : (signature : Signature) (A Q : Relation) → ((s t : Tree) → Surely (Q s t) → Q s t)
-    → ((s t : Tree) → IsGround signature s → IsGround signature t → HasSome (λ u. IsGround signature u × (Surely (A u s) × Surely (A u t))) → Q s t)
-    ↔ ((u s t : Tree) → IsGround signature u → IsGround signature s → IsGround signature t → A u s → A u t → Q s t)
-fork_law signature A Q stable = (
+pub fork_law : (signature : Signature) (A B Q : Relation) → ((s t : Tree) → Surely (Q s t) → Q s t)
+    → ((s t : Tree) → IsGround signature s → IsGround signature t → HasSome (λ u. IsGround signature u × (Surely (A u s) × Surely (B u t))) → Q s t)
+    ↔ ((u s t : Tree) → IsGround signature u → IsGround signature s → IsGround signature t → A u s → B u t → Q s t)
+fork_law signature A B Q stable = (
   (λ h u s t gu gs gt a b. h s t gs gt (λ none. none u (gu, ((λ no. no a), (λ no. no b))))),
   (λ p s t gs gt fork. stable s t (λ no. fork (λ u k. k.1.0 (λ a. k.1.1 (λ b. no (p u s t k.0 gs gt a b)))))),
 )
@@ -79,17 +79,25 @@ module _ (structure : Structure) (index : ℕ) (constant : HasConstant structure
 
   pub Met-property : (p : Property) (n : ℕ) (v : Places) → Met structure (property_core p index n) v ↔ HasProperty structure index p
   Met-property Cr n v =
-      let fork = Met-fork_property structure index constant (core.Atom core.Star index) (SurelyReduces structure index) (means_star structure index) n (joins index (n + 2) n (n + 1)) (AreJoinable structure index) (joined n) v in
-      let law = fork_law signature (Reduces root) (AreJoinable structure index) joinable_stable in
+      let fork = Met-fork_property structure index constant (core.Atom core.Star index) (core.Atom core.Star index)
+      (SurelyReduces structure index) (SurelyReduces structure index)
+      (means_star structure index) (means_star structure index) n
+      (joins index (n + 2) n (n + 1)) (AreJoinable structure index) (joined n) v in
+      let law = fork_law signature (Reduces root) (Reduces root) (AreJoinable structure index) joinable_stable in
       ((λ h. law.0 (fork.0 h)), (λ p. fork.1 (law.1 p)))
   Met-property Wcr n v =
-      let fork = Met-fork_property structure index constant (core.Atom core.Step index) (SurelySteps structure index) (means_step structure index) n (joins index (n + 2) n (n + 1)) (AreJoinable structure index) (joined n) v in
-      let law = fork_law signature (Rewrites root) (AreJoinable structure index) joinable_stable in
+      let fork = Met-fork_property structure index constant (core.Atom core.Step index) (core.Atom core.Step index)
+      (SurelySteps structure index) (SurelySteps structure index)
+      (means_step structure index) (means_step structure index) n
+      (joins index (n + 2) n (n + 1)) (AreJoinable structure index) (joined n) v in
+      let law = fork_law signature (Rewrites root) (Rewrites root) (AreJoinable structure index) joinable_stable in
       ((λ h. law.0 (fork.0 h)), (λ p. fork.1 (law.1 p)))
   Met-property Scr n v =
-      let fork = Met-fork_property structure index constant (core.Atom core.Step index) (SurelySteps structure index) (means_step structure index) n
+      let fork = Met-fork_property structure index constant (core.Atom core.Step index) (core.Atom core.Step index)
+      (SurelySteps structure index) (SurelySteps structure index)
+      (means_step structure index) (means_step structure index) n
       (some (n + 2) (core.And (at_most_one_step index n (n + 2)) (core.Atom core.Star index (n + 1) (n + 2)))) Meets (met n) v in
-      let law = fork_law signature (Rewrites root) Meets meets_stable in
+      let law = fork_law signature (Rewrites root) (Rewrites root) Meets meets_stable in
       ((λ h. law.0 (fork.0 h)), (λ p. fork.1 (law.1 p)))
   Met-property Wn n v = (
     (λ h s gs none. (inner s).0 ((Met-every structure constant n (some (n + 1) (normalises index n (n + 1))) v).0 h s gs) none),
@@ -112,7 +120,10 @@ module _ (structure : Structure) (index : ℕ) (constant : HasConstant structure
             none t (k.0, moved (SurelyNormalises structure index) s t _ _ (sym (first s t)) (sym (second s t)) ((λ no. no k.1), k.2))))),
       )
   Met-property Unr n v =
-      let fork = Met-fork_property structure index constant (normalises index) (SurelyNormalises structure index) (means_normalises structure index) n (equals n (n + 1)) (λ s t. Surely (s ≡ t)) (equal n) v in (
+      let fork = Met-fork_property structure index constant (normalises index) (normalises index)
+      (SurelyNormalises structure index) (SurelyNormalises structure index)
+      (means_normalises structure index) (means_normalises structure index) n
+      (equals n (n + 1)) (λ s t. Surely (s ≡ t)) (equal n) v in (
         (λ h s t u gs gt gu st su nt nu. fork.0 h t u gt gu (λ none. none s (gs, (((λ no. no st), nt), ((λ no. no su), nu))))),
         (λ p. fork.1 (λ t u gt gu some no. some (λ s k. k.1.0.0 (λ st. k.1.1.0 (λ su. p s t u k.0 gt gu st su k.1.0.1 k.1.1.1 no))))),
       )

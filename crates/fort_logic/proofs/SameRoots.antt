@@ -10,8 +10,8 @@ use Rattle.fort_theory.specs.PatternSteps.{PatternStepAt}
 use Rattle.fort_theory.proofs.IndexLaws.{at_index-map, All-at_index}
 use Rattle.fort_theory.proofs.WithinRoots.{Within, Rewrites-within, RewritesBelow-within, RewritesAtMostOnce-within, RewritesEitherWay-within, Reduces-within, ReducesStrictly-within, Converts-within, RewritesInParallel-within, IsNormalForm-within}
 use Rattle.fort_theory.proofs.PatternSteps.{PatternStep-from_RootStep, RootStep-from_PatternStep}
-use Rattle.fort_logic.specs.Formulas.{SurfaceRel, Eq, Step, Star, Plus, Reflexive, Normal, Root, Below, Par, Either, Conv, Property, Cr, Wcr, Scr, Wn, Unr, Unc, Nfp, Formula, True, False, Related, Nf, Join, Has, Not, And, Or, Imp, Iff, Exists, Forall, Infinite}
-use Rattle.fort_logic.specs.Truth.{Structure, structure_of, Assignment, with_name, Relates, AreJoinable, HasProperty, Holds}
+use Rattle.fort_logic.specs.Formulas.{SurfaceRel, Eq, Step, Star, Plus, Reflexive, Normal, Root, Below, Par, Either, Conv, Property, Cr, Wcr, Scr, Wn, Unr, Unc, Nfp, Formula, True, False, Related, Nf, Join, Has, Com, Not, And, Or, Imp, Iff, Exists, Forall, Infinite}
+use Rattle.fort_logic.specs.Truth.{Structure, structure_of, Assignment, with_name, Relates, AreJoinable, HasProperty, Commute, Holds}
 
 module _ (r q : Relation) (w : Within r q) (back : Within q r) where
   pub Relates-same_root : (rel : SurfaceRel) → Within (Relates r rel) (Relates q rel)
@@ -52,20 +52,26 @@ module _ (signature : Signature) (r q : ℕ → Relation) (w : (i : ℕ) → Wit
   HasProperty-same_root i Nfp h = λ s t gs gt a nt none.
       h s t gs gt (Converts-within (q i) (r i) (back i) s t a) (IsNormalForm-within (r i) (q i) (w i) t nt) (λ k. none (Reduces-within (r i) (q i) (w i) s t k))
 
+  pub Commute-same_root : Commute (over signature r) → Commute (over signature q)
+  Commute-same_root h = λ s t u gs gt gu a b none.
+      h s t u gs gt gu (Reduces-within (q 1) (r 1) (back 1) s t a) (Reduces-within (q 2) (r 2) (back 2) s u b)
+      (λ v k. none v (k.0, Reduces-within (r 2) (q 2) (w 2) t v k.1, Reduces-within (r 1) (q 1) (w 1) u v k.2))
+
 -- by recursion on the formula, both ways at once: a negation turns the direction
 pub Holds-same_root : (signature : Signature) (r q : ℕ → Relation) → ((i : ℕ) → Within (r i) (q i)) → ((i : ℕ) → Within (q i) (r i))
     → (f : Formula) (m : Assignment) → Holds (over signature r) f m ↔ Holds (over signature q) f m
 Holds-same_root signature r q w back True m = ((λ h. h), (λ h. h))
 Holds-same_root signature r q w back False m = ((λ h. h), (λ h. h))
-Holds-same_root signature r q w back (Related rel x y i) m = (
-  (λ h no. h (λ k. no (Relates-same_root (r i) (q i) (w i) (back i) rel (m x) (m y) k))),
-  (λ h no. h (λ k. no (Relates-same_root (q i) (r i) (back i) (w i) rel (m x) (m y) k))),
+Holds-same_root signature r q w back (Related rel a b i) m = (
+  (λ h no. h (λ k. no (Relates-same_root (r i) (q i) (w i) (back i) rel (m a) (m b) k))),
+  (λ h no. h (λ k. no (Relates-same_root (q i) (r i) (back i) (w i) rel (m a) (m b) k))),
 )
-Holds-same_root signature r q w back (Nf x i) m = (IsNormalForm-within (q i) (r i) (back i) (m x), IsNormalForm-within (r i) (q i) (w i) (m x))
-Holds-same_root signature r q w back (Join x y i) m =
-    (AreJoinable-same_root signature r q w back i (m x) (m y), AreJoinable-same_root signature q r back w i (m x) (m y))
+Holds-same_root signature r q w back (Nf a i) m = (IsNormalForm-within (q i) (r i) (back i) (m a), IsNormalForm-within (r i) (q i) (w i) (m a))
+Holds-same_root signature r q w back (Join a b i) m =
+    (AreJoinable-same_root signature r q w back i (m a) (m b), AreJoinable-same_root signature q r back w i (m a) (m b))
 Holds-same_root signature r q w back (Has p i) m =
     (HasProperty-same_root signature r q w back i p, HasProperty-same_root signature q r back w i p)
+Holds-same_root signature r q w back Com m = (Commute-same_root signature r q w back, Commute-same_root signature q r back w)
 Holds-same_root signature r q w back (Not f) m =
     let k = Holds-same_root signature r q w back f m in
     ((λ no h. no (k.1 h)), (λ no h. no (k.0 h)))

@@ -2,7 +2,7 @@
 use Rattle.std.specs.Prelude.{ℕ}
 use Rattle.fort_logic.specs.Logic.{Surely}
 use Rattle.fort_logic.specs.Truth.{Structure, Assignment, with_name, HasProperty, Holds}
-use Rattle.fort_logic.specs.Formulas.{Property, Cr, Wcr, Scr, Wn, Unr, Unc, Nfp, Formula, True, False, Related, Nf, Join, Has, Not, And, Or, Imp, Iff, Exists, Forall, Infinite}
+use Rattle.fort_logic.specs.Formulas.{Property, Cr, Wcr, Scr, Wn, Unr, Unc, Nfp, Formula, True, False, Related, Nf, Join, Has, Com, Not, And, Or, Imp, Iff, Exists, Forall, Infinite}
 
 pub HasProperty-stable : (structure : Structure) (index : ℕ) (p : Property) → Surely (HasProperty structure index p) → HasProperty structure index p
 HasProperty-stable structure index Cr h = λ s t u gs gt gu st su none. h (λ p. p s t u gs gt gu st su none)
@@ -16,10 +16,11 @@ HasProperty-stable structure index Nfp h = λ s t gs gt st nt none. h (λ p. p s
 pub Holds-stable : (structure : Structure) (f : Formula) (m : Assignment) → Surely (Holds structure f m) → Holds structure f m
 Holds-stable structure True m h = tt
 Holds-stable structure False m h = h (λ no. no)
-Holds-stable structure (Related rel x y index) m h = λ no. h (λ yes. yes no)
-Holds-stable structure (Nf x index) m h = λ t s. h (λ n. n t s)
-Holds-stable structure (Join x y index) m h = λ none. h (λ some. some none)
+Holds-stable structure (Related rel a b index) m h = λ no. h (λ yes. yes no)
+Holds-stable structure (Nf a index) m h = λ t s. h (λ n. n t s)
+Holds-stable structure (Join a b index) m h = λ none. h (λ some. some none)
 Holds-stable structure (Has p index) m h = HasProperty-stable structure index p h
+Holds-stable structure Com m h = λ s t u gs gt gu st su none. h (λ p. p s t u gs gt gu st su none)
 Holds-stable structure (Not f) m h = λ yes. h (λ no. no yes)
 Holds-stable structure (And f g) m h =
     (Holds-stable structure f m (λ no. h (λ p. no p.0)), Holds-stable structure g m (λ no. h (λ p. no p.1)))

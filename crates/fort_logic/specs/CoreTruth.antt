@@ -5,7 +5,7 @@ use Rattle.fort_theory.specs.Trees.{Tree}
 use Rattle.fort_theory.specs.Signatures.{IsGround}
 use Rattle.fort_theory.specs.Rewriting.{Relation, Rewrites, RewritesBelow, Reduces, ReducesStrictly, Converts, RewritesInParallel, IsNormalForm}
 use Rattle.fort_logic.specs.Truth.{Structure}
-use Rattle.fort_logic.specs.Cores.{Rel, Eq, Root, Below, Step, Par, Plus, Star, Conv, Core, True, Atom, Nf, Not, And, Or, Iff, Exists, Infinite}
+use Rattle.fort_logic.specs.Cores.{Rel, Eq, Root, Below, Step, Par, Plus, Star, Conv, Core, True, Atom, Nf, Is, Not, And, Or, Iff, Exists, Infinite}
 
 -- a tree for each number
 abbrev pub Places : Type 0
@@ -30,6 +30,7 @@ abbrev pub IsMetBy : Structure → Core → Places → Type 0
 IsMetBy structure True m = Unit {0}
 IsMetBy structure (Atom rel index x y) m = Surely (RelatesBy (structure.root index) rel (m x) (m y))
 IsMetBy structure (Nf index x) m = IsNormalForm (structure.root index) (m x)
+IsMetBy structure (Is x t) m = Surely (m x ≡ t)
 IsMetBy structure (Not f) m = IsMetBy structure f m → ⊥
 IsMetBy structure (And f g) m = IsMetBy structure f m × IsMetBy structure g m
 IsMetBy structure (Or f g) m = OneOf (IsMetBy structure f m) (IsMetBy structure g m)

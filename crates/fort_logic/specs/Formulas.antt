@@ -30,13 +30,21 @@ pub data Property : Type 0 where
   Unc : Property
   Nfp : Property
 
+-- what relations speak of: a variable, or a ground term that is written out; a formula names that by its place, counted
+-- from 0, among all ground terms that are written in it
+pub data Argument : Type 0 where
+  Var : Name → Argument
+  Ground : (place : ℕ) → Argument
+
+-- Com says that the rules of index 1 and those of index 2 commute
 pub data Formula : Type 0 where
   True : Formula
   False : Formula
-  Related : SurfaceRel → Name → Name → (index : ℕ) → Formula
-  Nf : Name → (index : ℕ) → Formula
-  Join : Name → Name → (index : ℕ) → Formula
+  Related : SurfaceRel → Argument → Argument → (index : ℕ) → Formula
+  Nf : Argument → (index : ℕ) → Formula
+  Join : Argument → Argument → (index : ℕ) → Formula
   Has : Property → (index : ℕ) → Formula
+  Com : Formula
   Not : Formula → Formula
   And : Formula → Formula → Formula
   Or : Formula → Formula → Formula

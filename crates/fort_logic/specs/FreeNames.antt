@@ -1,19 +1,25 @@
 -- To believe: which variables are free in a formula, in the order of their first free occurrences.
 use Rattle.std.specs.Prelude.{not, List, [], ◌∷◌, ◌++◌, filter, bytes_eq}
-use Rattle.fort_logic.specs.Formulas.{Name, Formula, True, False, Related, Nf, Join, Has, Not, And, Or, Imp, Iff, Exists, Forall, Infinite}
+use Rattle.fort_logic.specs.Formulas.{Name, Argument, Var, Ground, Formula, True, False, Related, Nf, Join, Has, Com, Not, And, Or, Imp, Iff, Exists, Forall, Infinite}
 
 -- the names other than x
 abbrev pub without : Name → List Name → List Name
 without x xs = filter (λ y. not (bytes_eq y x)) xs
 
+-- the variable that an argument is
+abbrev pub names_in : Argument → List Name
+names_in (Var x) = x ∷ []
+names_in (Ground k) = []
+
 -- the free occurrences of variables from left to right
 abbrev pub occurrences : Formula → List Name
 occurrences True = []
 occurrences False = []
-occurrences (Related rel x y index) = x ∷ y ∷ []
-occurrences (Nf x index) = x ∷ []
-occurrences (Join x y index) = x ∷ y ∷ []
+occurrences (Related rel a b index) = names_in a ++ names_in b
+occurrences (Nf a index) = names_in a
+occurrences (Join a b index) = names_in a ++ names_in b
 occurrences (Has property index) = []
+occurrences Com = []
 occurrences (Not f) = occurrences f
 occurrences (And f g) = occurrences f ++ occurrences g
 occurrences (Or f g) = occurrences f ++ occurrences g

@@ -12,6 +12,7 @@ pub data Kind : Type 0 where
   Star : Kind
   Conv : Kind
   Nf : Kind
+  Is : Kind
   Not : Kind
   And : Kind
   Or : Kind
@@ -33,6 +34,7 @@ abbrev pub kind_of : core.Core → Kind
 kind_of core.True = True
 kind_of (core.Atom rel index x y) = kind_of_relation rel
 kind_of (core.Nf index x) = Nf
+kind_of (core.Is x t) = Is
 kind_of (core.Not f) = Not
 kind_of (core.And f g) = And
 kind_of (core.Or f g) = Or

@@ -5,6 +5,7 @@ pub mod Cores
 pub mod CoreTruth
 pub mod EachOnce
 pub mod FreeNames
+pub mod Mentions
 pub mod Parts
 pub mod PartLists
 pub mod Kinds

@@ -1,10 +1,11 @@
--- To believe: which core formula a formula is turned into. That it is true exactly where the formula is, is proved.
-use Rattle.std.specs.Prelude.{ℕ, ◌+◌, if◌then◌else◌, List, [], ◌∷◌, length, reverse, bytes_eq}
+-- To believe: which core formula a formula is turned into, with the ground terms that are written in it. That it is true exactly where the formula is, is proved.
+use Rattle.std.specs.Prelude.{ℕ, ◌+◌, if◌then◌else◌, List, [], ◌∷◌, length, reverse, bytes_eq, slice_index_or}
+use Rattle.fort_theory.specs.Trees.{Tree, Node, Nil}
 use Rattle.fort_logic.specs.Formulas as surface
-use Rattle.fort_logic.specs.Formulas.{Name, Formula, SurfaceRel, Property}
+use Rattle.fort_logic.specs.Formulas.{Name, Argument, Formula, SurfaceRel, Property}
 use Rattle.fort_logic.specs.FreeNames.{free_names}
-use Rattle.fort_logic.specs.Cores.{Core, True, Atom, Nf, Not, And, Or, Iff, Exists, Infinite, Eq, Root, Below, Step, Par, Plus, Star, Conv}
-use Rattle.fort_logic.specs.Parts.{is_free}
+use Rattle.fort_logic.specs.Cores.{Core, True, Atom, Nf, Is, Not, And, Or, Iff, Exists, Infinite, Eq, Root, Below, Step, Par, Plus, Star, Conv}
+use Rattle.fort_logic.specs.Parts.{is_free, IsTooWide}
 
 -- a scope lists the names that may be used, the innermost first; the number of a name is how many stand outside its
 -- innermost place
@@ -73,23 +74,46 @@ property_core surface.Unc index n =
 property_core surface.Nfp index n =
     every n (every (n + 1) (implies (And (Atom Conv index n (n + 1)) (Nf index (n + 1))) (Atom Star index n (n + 1))))
 
--- the core formula in a scope; a binder has the number of names outside it
-abbrev pub core_in : List Name → Formula → Core
-core_in scope surface.True = True
-core_in scope surface.False = Not True
-core_in scope (surface.Related rel x y index) = related rel index (number_in scope x) (number_in scope y)
-core_in scope (surface.Nf x index) = Nf index (number_in scope x)
-core_in scope (surface.Join x y index) = joins index (length scope) (number_in scope x) (number_in scope y)
-core_in scope (surface.Has property index) = property_core property index (length scope)
-core_in scope (surface.Not f) = Not (core_in scope f)
-core_in scope (surface.And f g) = And (core_in scope f) (core_in scope g)
-core_in scope (surface.Or f g) = Or (core_in scope f) (core_in scope g)
-core_in scope (surface.Imp f g) = implies (core_in scope f) (core_in scope g)
-core_in scope (surface.Iff f g) = Iff (core_in scope f) (core_in scope g)
-core_in scope (surface.Exists x f) = some (length scope) (core_in (x ∷ scope) f)
-core_in scope (surface.Forall x f) = every (length scope) (core_in (x ∷ scope) f)
-core_in scope (surface.Infinite x f) = infinitely_many (length scope) (core_in (x ∷ scope) f)
+abbrev pub commutes : (n : ℕ) → Core
+commutes n = every n (every (n + 1) (implies (some (n + 2) (And (Atom Star 1 (n + 2) n) (Atom Star 2 (n + 2) (n + 1))))
+    (some (n + 2) (And (Atom Star 2 n (n + 2)) (Atom Star 1 (n + 1) (n + 2))))))
 
--- the core formula: the free names have the first numbers, in their order
-abbrev pub core_of : Formula → Core
-core_of f = core_in (reverse (free_names f)) f
+-- the ground term with this place; where there is none, some tree
+abbrev pub term_at : List Tree → ℕ → Tree
+term_at terms k = slice_index_or terms k (Node 0 Nil)
+
+-- a formula about an argument, where n is the first number that is not in use: for a ground term that number is bound to it.
+-- `make` gives the rest, from the first number that is not in use then and the argument's number.
+abbrev pub about : List Tree → List Name → ℕ → Argument → (make : ℕ → ℕ → Core) → Core
+about terms scope n (surface.Var x) make = make n (number_in scope x)
+about terms scope n (surface.Ground k) make = Exists n (And (Is n (term_at terms k)) (make (n + 1) n))
+
+-- the same of two, the first one's binder outside
+abbrev pub about_both : List Tree → List Name → ℕ → Argument → Argument → (make : ℕ → ℕ → ℕ → Core) → Core
+about_both terms scope n a b make = about terms scope n a (λ m x. about terms scope m b (λ k y. make k x y))
+
+-- the core formula in a scope; a binder has the number of names outside it
+abbrev pub core_in : List Tree → List Name → Formula → Core
+core_in terms scope surface.True = True
+core_in terms scope surface.False = Not True
+core_in terms scope (surface.Related rel a b index) = about_both terms scope (length scope) a b (λ n x y. related rel index x y)
+core_in terms scope (surface.Nf a index) = about terms scope (length scope) a (λ n x. Nf index x)
+core_in terms scope (surface.Join a b index) = about_both terms scope (length scope) a b (λ n x y. joins index n x y)
+core_in terms scope (surface.Has property index) = property_core property index (length scope)
+core_in terms scope surface.Com = commutes (length scope)
+core_in terms scope (surface.Not f) = Not (core_in terms scope f)
+core_in terms scope (surface.And f g) = And (core_in terms scope f) (core_in terms scope g)
+core_in terms scope (surface.Or f g) = Or (core_in terms scope f) (core_in terms scope g)
+core_in terms scope (surface.Imp f g) = implies (core_in terms scope f) (core_in terms scope g)
+core_in terms scope (surface.Iff f g) = Iff (core_in terms scope f) (core_in terms scope g)
+core_in terms scope (surface.Exists x f) = some (length scope) (core_in terms (x ∷ scope) f)
+core_in terms scope (surface.Forall x f) = every (length scope) (core_in terms (x ∷ scope) f)
+core_in terms scope (surface.Infinite x f) = infinitely_many (length scope) (core_in terms (x ∷ scope) f)
+
+-- the core formula of a formula in which these terms are written: the free names have the first numbers, in their order
+abbrev pub core_of : List Tree → Formula → Core
+core_of terms f = core_in terms (reverse (free_names f)) f
+
+-- some part of its core formula has too many columns; which terms are written in it doesn't matter for that
+abbrev pub IsFormulaTooWide : Formula → Type 0
+IsFormulaTooWide f = IsTooWide (core_of [] f)

@@ -1,12 +1,12 @@
 -- To believe: when a formula is true, its variables ranging over all ground terms of a signature, for any relations between trees as the root steps.
-use Rattle.std.specs.Prelude.{◌≡◌, ℕ, if◌then◌else◌, bytes_eq}
+use Rattle.std.specs.Prelude.{◌≡◌, ℕ, if◌then◌else◌, bytes_eq, List, Some, slice_get}
 use Rattle.fort_logic.specs.Logic.{Surely, OneOf, HasSome, HasInfinitelyMany}
 use Rattle.fort_theory.specs.Trees.{Tree}
 use Rattle.fort_theory.specs.Signatures.{Signature, IsGround}
 use Rattle.fort_theory.specs.Sides.{System}
 use Rattle.fort_theory.specs.Rewriting.{Relation, Rewrites, RewritesBelow, RewritesAtMostOnce, Reduces, ReducesStrictly, RewritesEitherWay, Converts, RewritesInParallel, IsNormalForm}
 use Rattle.fort_theory.specs.RootSteps.{RootStepAt}
-use Rattle.fort_logic.specs.Formulas.{Name, SurfaceRel, Eq, Step, Star, Plus, Reflexive, Normal, Root, Below, Par, Either, Conv, Property, Cr, Wcr, Scr, Wn, Unr, Unc, Nfp, Formula, True, False, Related, Nf, Join, Has, Not, And, Or, Imp, Iff, Exists, Forall, Infinite}
+use Rattle.fort_logic.specs.Formulas.{Name, Argument, Var, Ground, SurfaceRel, Eq, Step, Star, Plus, Reflexive, Normal, Root, Below, Par, Either, Conv, Property, Cr, Wcr, Scr, Wn, Unr, Unc, Nfp, Formula, True, False, Related, Nf, Join, Has, Com, Not, And, Or, Imp, Iff, Exists, Forall, Infinite}
 
 -- what truth speaks of: a signature, and for each index the root steps
 pub record Structure : Type 1 where
@@ -17,13 +17,14 @@ pub record Structure : Type 1 where
 abbrev pub structure_of : System → Structure
 structure_of system = record { signature = system.signature; root = RootStepAt system }
 
--- a tree for each name
+-- a tree for each variable, and for each ground term that is written in a formula
 abbrev pub Assignment : Type 0
-Assignment = Name → Tree
+Assignment = Argument → Tree
 
--- the assignment with another tree for one name
-abbrev pub with_name : Assignment → Name → Tree → Assignment
-with_name m x t = λ y. if bytes_eq y x then t else m y
+-- the assignment with another tree for one variable
+abbrev pub with_name : Assignment → Name → Tree → Argument → Tree
+with_name m x t (Var y) = if bytes_eq y x then t else m (Var y)
+with_name m x t (Ground k) = m (Ground k)
 
 abbrev pub Relates : Relation → SurfaceRel → Relation
 Relates root Eq s t = s ≡ t
@@ -69,14 +70,22 @@ HasProperty structure index Unc = ForTwo structure (λ s t.
 HasProperty structure index Nfp = ForTwo structure (λ s t.
     Converts (structure.root index) s t → IsNormalForm (structure.root index) t → Surely (Reduces (structure.root index) s t))
 
+-- a term that reduces by the rules of index 1 to one term and by those of index 2 to another: these two have a common reduct,
+-- the first by the rules of index 2, the second by those of index 1
+abbrev pub Commute : Structure → Type 0
+Commute structure = ForThree structure (λ s t u.
+    Reduces (structure.root 1) s t → Reduces (structure.root 2) s u
+    → HasSome (λ v. IsGround structure.signature v × Reduces (structure.root 2) t v × Reduces (structure.root 1) u v))
+
 -- a formula is true under an assignment
 abbrev pub Holds : Structure → Formula → Assignment → Type 0
 Holds structure True m = Unit {0}
 Holds structure False m = ⊥
-Holds structure (Related rel x y index) m = Surely (Relates (structure.root index) rel (m x) (m y))
-Holds structure (Nf x index) m = IsNormalForm (structure.root index) (m x)
-Holds structure (Join x y index) m = AreJoinable structure index (m x) (m y)
+Holds structure (Related rel a b index) m = Surely (Relates (structure.root index) rel (m a) (m b))
+Holds structure (Nf a index) m = IsNormalForm (structure.root index) (m a)
+Holds structure (Join a b index) m = AreJoinable structure index (m a) (m b)
 Holds structure (Has property index) m = HasProperty structure index property
+Holds structure Com m = Commute structure
 Holds structure (Not f) m = Holds structure f m → ⊥
 Holds structure (And f g) m = Holds structure f m × Holds structure g m
 Holds structure (Or f g) m = OneOf (Holds structure f m) (Holds structure g m)
@@ -86,14 +95,20 @@ Holds structure (Exists x f) m = HasSome (λ t. IsGround structure.signature t �
 Holds structure (Forall x f) m = (t : Tree) → IsGround structure.signature t → Holds structure f (with_name m x t)
 Holds structure (Infinite x f) m = HasInfinitelyMany (λ t. IsGround structure.signature t × Holds structure f (with_name m x t))
 
--- each name has a ground term
+-- all its trees are ground terms
 abbrev pub IsGroundAssignment : Structure → Assignment → Type 0
-IsGroundAssignment structure m = (x : Name) → IsGround structure.signature (m x)
+IsGroundAssignment structure m = (a : Argument) → IsGround structure.signature (m a)
 
--- a formula is true of a system, or false of it, whichever ground terms its names have; for a closed formula it doesn't
--- matter which. Where the signature has a constant, no formula is both.
-abbrev pub IsTrueOf : System → Formula → Type 0
-IsTrueOf system f = (m : Assignment) → IsGroundAssignment (structure_of system) m → Holds (structure_of system) f m
+-- the ground terms that are written in the formula are these, in their order
+abbrev pub GivesTerms : List Tree → Assignment → Type 0
+GivesTerms terms m = (k : ℕ) (t : Tree) → slice_get terms k ≡ Some t → m (Ground k) ≡ t
 
-abbrev pub IsFalseOf : System → Formula → Type 0
-IsFalseOf system f = (m : Assignment) → IsGroundAssignment (structure_of system) m → Holds (structure_of system) f m → ⊥
+-- a formula in which these terms are written is true of a system, or false of it, whichever ground terms its variables have;
+-- for a closed formula it doesn't matter which. Where the signature has a constant and the terms are ground, no formula is both.
+abbrev pub IsTrueOf : System → List Tree → Formula → Type 0
+IsTrueOf system terms f =
+    (m : Assignment) → IsGroundAssignment (structure_of system) m → GivesTerms terms m → Holds (structure_of system) f m
+
+abbrev pub IsFalseOf : System → List Tree → Formula → Type 0
+IsFalseOf system terms f =
+    (m : Assignment) → IsGroundAssignment (structure_of system) m → GivesTerms terms m → Holds (structure_of system) f m → ⊥

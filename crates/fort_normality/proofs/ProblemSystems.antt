@@ -1,33 +1,47 @@
 -- What a problem's system keeps, and what it tells of the ground terms.
-use Rattle.std.proofs.Common.{◌≡◌, ℕ, zero, suc, ◌==◌, Bool, true, false, not, List, [], ◌∷◌, length, map, Contains, refl, sym, ap, subst, ◌∙◌, arith}
-use Rattle.std.specs.Prelude.{MatchBool}
+use Rattle.std.proofs.Common.{◌≡◌, ℕ, ◌==◌, Bool, true, false, not, List, [], ◌∷◌, length, map, Contains, refl, sym, ap, subst, ◌∙◌, arith, inl, inr}
+use Rattle.std.specs.Prelude.{MatchBool, filter}
 use Rattle.std.proofs.lemmas.Bool.Decides.{Decides-eqb}
 use Rattle.fort_theory.specs.Signatures.{Signature}
 use Rattle.fort_theory.specs.Sides.{Side, Rule, System, App, Var, at_index}
 use Rattle.fort_theory.specs.Patterns.{pattern_pair, pattern_system, PatternSystem}
 use Rattle.fort_theory.specs.Rewriting.{IsNormalForm}
-use Rattle.fort_theory.specs.RootSteps.{RootStep, RootStepAt}
+use Rattle.fort_theory.specs.RootSteps.{RootStepAt}
+use Rattle.fort_theory.proofs.IndexLaws.{at_index-map}
+use Rattle.fort_theory.proofs.Lists.{Contains-map_from}
+use Rattle.fort_theory.proofs.Members.{Contains-none, Contains-cons_cases, Contains-from_filter}
 use Rattle.fort_grammar.specs.Forms.{Form}
-use Rattle.fort_grammar.specs.RuleForms.{IsSide, AConstant, AVariable, AreRules}
+use Rattle.fort_grammar.specs.RuleForms.{IsSide, AConstant, AVariable, IndexedRule, IsRule, AreRules, rules_of}
 use Rattle.fort_grammar.specs.ProblemForms.{IsProblem}
-use Rattle.fort_normality.proofs.Normality.{IsFlat, AreFlat, AVariable as FlatVariable, AConstant as FlatConstant, NoneNormal, SomeNormal, RuleList, root_of, tells_reducible, tells_normal}
+use Rattle.fort_normality.proofs.Normality.{IsFlat, AreFlat, AVariable as FlatVariable, AConstant as FlatConstant, NoneNormal, SomeNormal, RuleList, tells_reducible, tells_normal}
 use Rattle.fort_normality.specs.GroundTerms.{TellsSome}
 
 flat_side : (bytes : List ℕ) (signature : Signature) (number : ℕ) (f : Form) (s : Side) → IsSide bytes signature number f s → IsFlat signature s
 flat_side bytes signature number f (App g ss) (AConstant word named declared arity) = FlatConstant g arity
 flat_side bytes signature number f (Var v) (AVariable word named free) = FlatVariable v
 
-flat_rules : (bytes : List ℕ) (signature : Signature) (forms : List Form) (rules : List Rule) → AreRules bytes signature forms rules
-    → (r : Rule) → Contains rules r → AreFlat signature r
-flat_rules bytes signature [] [] are r (k, l, e) = absurd (omega arith)
-flat_rules bytes signature [] (x ∷ rules) are r c = absurd are
-flat_rules bytes signature (f ∷ forms) [] are r c = absurd are
-flat_rules bytes signature (f ∷ forms) (x ∷ rules) are r (zero, l, e) =
-    subst (AreFlat signature) e (record {
-      left = flat_side bytes signature 0 are.0.left x.left are.0.left_is;
-      right = flat_side bytes signature 1 are.0.right x.right are.0.right_is;
-    })
-flat_rules bytes signature (f ∷ forms) (x ∷ rules) are r (suc k, l, e) = flat_rules bytes signature forms rules are.1 r (k, omega arith, e)
+flat_rule : (bytes : List ℕ) (number : ℕ) (signature : Signature) (f : Form) (r : IndexedRule) → IsRule bytes number signature f r → AreFlat signature r.rule
+flat_rule bytes number signature f r is = record {
+  left = flat_side bytes signature 0 is.left r.rule.left is.left_is;
+  right = flat_side bytes signature 1 is.right r.rule.right is.right_is;
+}
+
+flat_among : (bytes : List ℕ) (number : ℕ) (signature : Signature) (forms : List Form) (given : List IndexedRule) → AreRules bytes number signature forms given
+    → (r : IndexedRule) → Contains given r → AreFlat signature r.rule
+flat_among bytes number signature forms [] are r c = absurd (Contains-none r c)
+flat_among bytes number signature [] (x ∷ given) are r c = absurd are
+flat_among bytes number signature (f ∷ forms) (x ∷ given) are r c =
+    elim (Contains-cons_cases x given r c) [
+      | inl e ↦ subst (λ (y : IndexedRule). AreFlat signature y.rule) e (flat_rule bytes number signature f x are.0)
+      | inr later ↦ flat_among bytes number signature forms given are.1 r later
+    ]
+
+flat_rules : (bytes : List ℕ) (number : ℕ) (signature : Signature) (forms : List Form) (given : List IndexedRule) → AreRules bytes number signature forms given
+    → (index : ℕ) (r : Rule) → Contains (rules_of index given) r → AreFlat signature r
+flat_rules bytes number signature forms given are index r c =
+    let from = Contains-map_from (λ (x : IndexedRule). x.rule) (filter (λ (x : IndexedRule). x.index == index) given) r c in
+    let among = Contains-from_filter (λ (x : IndexedRule). x.index == index) given from.0 from.1 in
+    subst (AreFlat signature) from.2 (flat_among bytes number signature forms given are from.0 among.0)
 
 -- the pairs of no rules are none
 no_pairs : (rules : List Rule) → length (map pattern_pair rules) ≡ 0 → rules ≡ []
@@ -39,29 +53,30 @@ pub match_none : (b : Bool) (n m : ℕ) → b ≡ (n == 0) → n ≡ m → Match
 match_none true n m h e = sym e ∙ (Decides-eqb n 0).0 (sym h)
 match_none false n m h e = λ none. (let said : false ≡ true = h ∙ (Decides-eqb n 0).1 (e ∙ none) in cc)
 
--- the rules of a problem, all of which have the index 1
-abbrev pub list_of : (system : System) → List Rule → RuleList
-list_of system given = record { signature = system.signature; rules = given }
+-- the rules of index 1
+abbrev pub list_of : System → RuleList
+list_of system = record { signature = system.signature; rules = at_index 1 system.rules }
 
-same_pairs : (s : PatternSystem) (system : System) (given : List Rule) → s ≡ pattern_system system → system.rules ≡ given ∷ []
-    → at_index 1 s.rules ≡ map pattern_pair given
-same_pairs s system given is one = ap (λ (x : PatternSystem). at_index 1 x.rules) is ∙ ap (λ (lists : List (List Rule)). at_index 1 (map (map pattern_pair) lists)) one
+same_pairs : (s : PatternSystem) (system : System) → s ≡ pattern_system system → at_index 1 s.rules ≡ map pattern_pair (at_index 1 system.rules)
+same_pairs s system is = ap (λ (x : PatternSystem). at_index 1 x.rules) is ∙ at_index-map pattern_pair 1 system.rules
 
-same_root : (system : System) (given : List Rule) → system.rules ≡ given ∷ [] → root_of (list_of system given) ≡ RootStepAt system 1
-same_root system given one = ap (λ (lists : List (List Rule)). RootStep system.signature (at_index 1 lists)) (sym one)
+problem_flat : (bytes : List ℕ) (forms : List Form) (system : System) (next : ℕ) → IsProblem bytes forms system next
+    → (r : Rule) → Contains (at_index 1 system.rules) r → AreFlat system.signature r
+problem_flat bytes forms system next p r c =
+    flat_rules bytes (length system.rules) system.signature p.rules p.given p.are_rules 1 r (subst (λ rs. Contains rs r) (p.sorted 1) c)
 
 pub reducible_of_problem : (s : PatternSystem) (b : Bool) (bytes : List ℕ) (forms : List Form) (system : System) (next : ℕ)
     → MatchBool b (length (at_index 1 s.rules) ≡ 0) (length (at_index 1 s.rules) ≡ 0 → ⊥) → IsProblem bytes forms system next → s ≡ pattern_system system
     → TellsSome system.signature (not b) (λ t. IsNormalForm (RootStepAt system 1) t → ⊥)
 reducible_of_problem s b bytes forms system next found p is =
-    subst (λ root. TellsSome system.signature (not b) (λ t. IsNormalForm root t → ⊥)) (same_root system p.given p.one_index)
-    (tells_reducible (list_of system p.given) p.constant (flat_rules bytes system.signature p.rules p.given p.are_rules) b (empty b found))
+    tells_reducible (list_of system) p.constant (problem_flat bytes forms system next p) b (empty b found)
   where
-    pairs : at_index 1 s.rules ≡ map pattern_pair p.given
-    pairs = same_pairs s system p.given is p.one_index
+    pairs : at_index 1 s.rules ≡ map pattern_pair (at_index 1 system.rules)
+    pairs = same_pairs s system is
 
-    empty : (c : Bool) → MatchBool c (length (at_index 1 s.rules) ≡ 0) (length (at_index 1 s.rules) ≡ 0 → ⊥) → MatchBool c (p.given ≡ []) (p.given ≡ [] → ⊥)
-    empty true none = no_pairs p.given (sym (ap length pairs) ∙ none)
+    empty : (c : Bool) → MatchBool c (length (at_index 1 s.rules) ≡ 0) (length (at_index 1 s.rules) ≡ 0 → ⊥)
+        → MatchBool c (at_index 1 system.rules ≡ []) (at_index 1 system.rules ≡ [] → ⊥)
+    empty true none = no_pairs (at_index 1 system.rules) (sym (ap length pairs) ∙ none)
     empty false some = λ none. some (ap length pairs ∙ ap (λ (rs : List Rule). length (map pattern_pair rs)) none)
 
 pub normal_of_problem : (s : PatternSystem) (b : Bool) (bytes : List ℕ) (forms : List Form) (system : System) (next : ℕ)
@@ -70,6 +85,5 @@ pub normal_of_problem : (s : PatternSystem) (b : Bool) (bytes : List ℕ) (forms
 normal_of_problem s b bytes forms system next found p is =
     let signed : MatchBool b (SomeNormal system.signature (at_index 1 s.rules)) (NoneNormal system.signature (at_index 1 s.rules)) =
     subst (λ (x : PatternSystem). MatchBool b (SomeNormal x.signature (at_index 1 s.rules)) (NoneNormal x.signature (at_index 1 s.rules))) is found in
-    subst (λ root. TellsSome system.signature b (IsNormalForm root)) (same_root system p.given p.one_index)
-    (tells_normal (list_of system p.given) (flat_rules bytes system.signature p.rules p.given p.are_rules) b
-    (subst (λ pairs. MatchBool b (SomeNormal system.signature pairs) (NoneNormal system.signature pairs)) (same_pairs s system p.given is p.one_index) signed))
+    tells_normal (list_of system) (problem_flat bytes forms system next p) b
+    (subst (λ pairs. MatchBool b (SomeNormal system.signature pairs) (NoneNormal system.signature pairs)) (same_pairs s system is) signed)

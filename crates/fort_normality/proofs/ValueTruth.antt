@@ -6,7 +6,7 @@ use Rattle.fort_logic.specs.Logic.{OneOf, HasSome}
 use Rattle.fort_theory.specs.Trees.{Tree}
 use Rattle.fort_theory.specs.Signatures.{Signature, IsGround}
 use Rattle.fort_theory.specs.Rewriting.{Relation, IsNormalForm}
-use Rattle.fort_logic.specs.Formulas.{Name, Formula, True, False, Related, Nf, Join, Has, Not, And, Or, Imp, Iff, Exists, Forall, Infinite}
+use Rattle.fort_logic.specs.Formulas.{Name, Var, Ground, Formula, True, False, Related, Nf, Join, Has, Com, Not, And, Or, Imp, Iff, Exists, Forall, Infinite}
 use Rattle.fort_logic.specs.FreeNames.{occurrences, once, free_names}
 use Rattle.fort_theory.specs.Sides.{System}
 use Rattle.fort_theory.specs.RootSteps.{RootStepAt}
@@ -69,8 +69,8 @@ some_by signature n r v w Q P normal reducible each other =
     Tells-same (some_passes n r v w) _ _ (by_cases signature Q P)
     (Tells-or (n && v) (r && w) _ _ (some_among signature n v Q P normal each) (some_among signature r w (λ t. Q t → ⊥) P reducible other))
 
-with_name-same : (m : Assignment) (v : Name) (t : Tree) → with_name m v t v ≡ t
-with_name-same m v t = ap (λ b. if b then t else m v) ((bytes_eq-Decides v v).1 refl)
+with_name-same : (m : Assignment) (v : Name) (t : Tree) → with_name m v t (Var v) ≡ t
+with_name-same m v t = ap (λ b. if b then t else m (Var v)) ((bytes_eq-Decides v v).1 refl)
 
 module _ (structure : Structure) (n r : Bool) (terms : TellsTerms structure.signature (structure.root 1) n r) where
   abbrev root : Relation
@@ -83,17 +83,20 @@ module _ (structure : Structure) (n r : Bool) (terms : TellsTerms structure.sign
   At_index b i t = Tells b (IsNormalForm (structure.root i) t)
 
   -- the value of a variable that was bound to a term
-  bound : (m : Assignment) (x y : Name) (t : Tree) (b : Bool) → y ≡ x → At b t → At b (with_name m y t x)
+  bound : (m : Assignment) (x y : Name) (t : Tree) (b : Bool) → y ≡ x → At b t → At b (with_name m y t (Var x))
   bound m x y t b same h =
-      subst (At b) (sym (with_name-same m x t) ∙ ap (λ z. with_name m z t x) (sym same)) h
+      subst (At b) (sym (with_name-same m x t) ∙ ap (λ z. with_name m z t (Var x)) (sym same)) h
 
-  pub value-Tells : (f : Formula) (x : Name) → UsesOnly x f → (m : Assignment) (b : Bool) → At b (m x) → Tells (value_by n r f b) (Holds structure f m)
+  pub value-Tells : (f : Formula) (x : Name) → UsesOnly x f → (m : Assignment) (b : Bool) → At b (m (Var x)) → Tells (value_by n r f b) (Holds structure f m)
   value-Tells True x uses m b h = tt
   value-Tells False x uses m b h = λ no. no
   value-Tells (Related rel y z index) x uses m b h = absurd uses
-  value-Tells (Nf y index) x uses m b h = subst (λ i. At_index b i (m y)) (sym uses.1) (subst (λ z. At_index b 1 (m z)) (sym uses.0) h)
+  value-Tells (Nf (Var y) index) x uses m b h =
+      subst (λ i. At_index b i (m (Var y))) (sym uses.1) (subst (λ z. At_index b 1 (m (Var z))) (sym uses.0) h)
+  value-Tells (Nf (Ground k) index) x uses m b h = absurd uses
   value-Tells (Join y z index) x uses m b h = absurd uses
   value-Tells (Has p index) x uses m b h = absurd uses
+  value-Tells Com x uses m b h = absurd uses
   value-Tells (Not f) x uses m b h = Tells-not (value_by n r f b) _ (value-Tells f x uses m b h)
   value-Tells (And f g) x uses m b h =
       Tells-and (value_by n r f b) (value_by n r g b) _ _ (value-Tells f x uses.0 m b h) (value-Tells g x uses.1 m b h)
@@ -125,9 +128,11 @@ pub value-closed : (n r : Bool) (f : Formula) (x : Name) → UsesOnly x f → oc
 value-closed n r True x uses none = refl
 value-closed n r False x uses none = refl
 value-closed n r (Related rel y z index) x uses none = refl
-value-closed n r (Nf y index) x uses none = cc
+value-closed n r (Nf (Var y) index) x uses none = cc
+value-closed n r (Nf (Ground k) index) x uses none = absurd uses
 value-closed n r (Join y z index) x uses none = refl
 value-closed n r (Has p index) x uses none = refl
+value-closed n r Com x uses none = refl
 value-closed n r (Not f) x uses none = ap not (value-closed n r f x uses none)
 value-closed n r (And f g) x uses none =
     let apart = append_none (occurrences f) (occurrences g) none in
@@ -164,21 +169,21 @@ closed-Tells structure n r terms f x uses closed m =
 
     decided : (b : Bool) → value_by n r f true ≡ b → MatchBool b (Holds structure f m) (Holds structure f m → ⊥)
     decided true is = Holds-stable structure f m (λ no.
-        let reducible : IsNormalForm (structure.root 1) (m x) → ⊥ = λ normal.
+        let reducible : IsNormalForm (structure.root 1) (m (Var x)) → ⊥ = λ normal.
         no (subst (λ b. Tells b (Holds structure f m)) is (value-Tells structure n r terms f x uses m true normal)) in
         no (subst (λ b. Tells b (Holds structure f m)) (sym same ∙ is) (value-Tells structure n r terms f x uses m false reducible)))
     decided false is = λ holds.
-        let reducible : IsNormalForm (structure.root 1) (m x) → ⊥ = λ normal.
+        let reducible : IsNormalForm (structure.root 1) (m (Var x)) → ⊥ = λ normal.
         subst (λ b. Tells b (Holds structure f m)) is (value-Tells structure n r terms f x uses m true normal) holds in
         subst (λ b. Tells b (Holds structure f m)) (sym same ∙ is) (value-Tells structure n r terms f x uses m false reducible) holds
 
--- the same of a system
-pub closed-Tells_system : (system : System) (n r : Bool) → TellsTerms system.signature (RootStepAt system 1) n r → (f : Formula) → IsBuilt f → free_names f ≡ []
-    → MatchBool (value_by n r f true) (IsTrueOf system f) (IsFalseOf system f)
-closed-Tells_system system n r terms f built closed =
-    decided (value_by n r f true) (λ m. closed-Tells (structure_of system) n r terms f built.0 built.1 closed m)
+-- the same of a system, whichever terms are written out: none is
+pub closed-Tells_system : (system : System) (n r : Bool) → TellsTerms system.signature (RootStepAt system 1) n r → (terms : List Tree) (f : Formula) → IsBuilt f
+    → free_names f ≡ [] → MatchBool (value_by n r f true) (IsTrueOf system terms f) (IsFalseOf system terms f)
+closed-Tells_system system n r known terms f built closed =
+    decided (value_by n r f true) (λ m. closed-Tells (structure_of system) n r known f built.0 built.1 closed m)
   where
     decided : (b : Bool) → ((m : Assignment) → MatchBool b (Holds (structure_of system) f m) (Holds (structure_of system) f m → ⊥))
-        → MatchBool b (IsTrueOf system f) (IsFalseOf system f)
-    decided true h = λ m grounded. h m
-    decided false h = λ m grounded. h m
+        → MatchBool b (IsTrueOf system terms f) (IsFalseOf system terms f)
+    decided true h = λ m grounded given. h m
+    decided false h = λ m grounded given. h m

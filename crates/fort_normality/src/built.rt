@@ -4,7 +4,7 @@ ghost use Rattle.fort_logic.specs.Formulas.{Name};
 ghost use Rattle.fort_answers.specs.DecideAnswer.{IsBuilt, UsesOnly};
 ghost use Rattle.fort_formulas.specs.FormulaView.{as_formula};
 
-use fort_formulas::Formula;
+use fort_formulas::{Arg, Formula};
 
 /// Whether a formula is one that is decided today, each of its variables having this name.
 fn uses_only(formula: &Formula, name: &[u8]) -> bool
@@ -12,7 +12,7 @@ fn uses_only(formula: &Formula, name: &[u8]) -> bool
 {
     match formula {
         Formula::True | Formula::False => true,
-        Formula::Nf(x, index) => *index == 1 && x.as_bytes() == name,
+        Formula::Nf(Arg::Var(x), index) => *index == 1 && x.as_bytes() == name,
         Formula::Not(f) => uses_only(f.as_formula(), name),
         Formula::And(f, g) | Formula::Or(f, g) | Formula::Imp(f, g) | Formula::Iff(f, g) => {
             uses_only(f.as_formula(), name) && uses_only(g.as_formula(), name)
@@ -20,9 +20,11 @@ fn uses_only(formula: &Formula, name: &[u8]) -> bool
         Formula::Exists(x, f) | Formula::Forall(x, f) => {
             x.as_bytes() == name && uses_only(f.as_formula(), name)
         }
-        Formula::Rel(_, _, _, _)
+        Formula::Nf(Arg::Ground(_), _)
+        | Formula::Rel(_, _, _, _)
         | Formula::Join(_, _, _)
         | Formula::Macro(_, _)
+        | Formula::Com
         | Formula::Infinite(_, _) => false,
     }
 }
@@ -35,7 +37,9 @@ fn first_variable(formula: &Formula) -> Option<&[u8]>
         UsesOnly y (as_formula formula.now)) }
 {
     match formula {
-        Formula::Nf(x, _) | Formula::Exists(x, _) | Formula::Forall(x, _) => Some(x.as_bytes()),
+        Formula::Nf(Arg::Var(x), _) | Formula::Exists(x, _) | Formula::Forall(x, _) => {
+            Some(x.as_bytes())
+        }
         Formula::Not(f) => first_variable(f.as_formula()),
         Formula::And(f, g) | Formula::Or(f, g) | Formula::Imp(f, g) | Formula::Iff(f, g) => {
             match first_variable(f.as_formula()) {

@@ -1,6 +1,7 @@
 //! Whether a formula is true of a problem's system, while the sides of rules are constants and variables.
 ghost use Rattle.std.specs.Prelude.{◌≡◌, ℕ, ◌<◌, ◌↔◌, List, [], IsTrue, MatchBool, length};
 ghost use Rattle.std.specs.List.{list_any};
+ghost use Rattle.fort_theory.specs.Trees.{Tree};
 ghost use Rattle.fort_theory.specs.Sides.{IsIndexOf, at_index};
 ghost use Rattle.fort_theory.specs.Patterns.{pattern_system};
 ghost use Rattle.fort_theory.specs.RootSteps.{RootStepAt};
@@ -81,9 +82,10 @@ fn ground_terms(system: &System) -> GroundTerms
 /// Whether the formula, in which no variable is free, is true of a problem's system.
 pub fn is_true(system: &System, formula: &Formula) -> bool
     ensures { (bytes : List ℕ) (forms : List Form) (p : theory.System) (next : ℕ)
-        → IsProblem bytes forms p next → system.now ≡ pattern_system p
+        (terms : List Tree) → IsProblem bytes forms p next → system.now ≡ pattern_system p
         → IsBuilt (as_formula formula.now) → free_names (as_formula formula.now) ≡ []
-        → MatchBool result (IsTrueOf p (as_formula formula.now)) (IsFalseOf p (as_formula formula.now)) }
+        → MatchBool result (IsTrueOf p terms (as_formula formula.now))
+        (IsFalseOf p terms (as_formula formula.now)) }
 {
     // its clause has what a system keeps
     let _number = system.number();

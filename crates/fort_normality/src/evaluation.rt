@@ -135,6 +135,7 @@ pub fn evaluate(formula: &Formula, terms: GroundTerms) -> ByNormality
         | Formula::Rel(_, _, _, _)
         | Formula::Join(_, _, _)
         | Formula::Macro(_, _)
+        | Formula::Com
         | Formula::Infinite(_, _) => ByNormality::always(false),
     }
 }

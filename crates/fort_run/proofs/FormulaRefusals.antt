@@ -1,6 +1,6 @@
 -- The lines that refuse formulas are owed to their texts.
 use Rattle.std.specs.Prelude.{◌≡◌, ℕ, Bool, true, false, List, [], ◌∷◌, Option, None, Some, slice_get, ◌↔◌, IsTrue, IfSome, MatchBool, MatchOption}
-use Rattle.std.proofs.Common.{Vec, Global, sym, ap, subst, refl}
+use Rattle.std.proofs.Common.{Vec, Global, sym, ap, subst}
 use Rattle.fort_formula_grammar.specs.FormulaText.{FormulaFault, IsFirstFormulaFault}
 use Rattle.fort_answers.specs.FormulaAnswer.{IsRefused, Faulty}
 use Rattle.fort_answers.specs.Lines.{formula_fault_line}

@@ -2,3 +2,4 @@ pub mod FormulaRefusals
 pub mod OneInput
 pub mod OneAnswer
 pub mod Replies
+pub mod Fitting

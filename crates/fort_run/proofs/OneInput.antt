@@ -5,7 +5,7 @@ use Rattle.fort_grammar.specs.Text.{TextFault, IsFirstFault}
 use Rattle.fort_grammar.specs.Forms.{Forms, AreFormsOf}
 use Rattle.fort_grammar.specs.Declarations.{ProblemFault, BadForm, as_list}
 use Rattle.fort_grammar.specs.ProblemForms.{IsProblem, IsFirstProblemFault}
-use Rattle.fort_sexpr.proofs.OneReading.{same_forms}
+use Rattle.fort_grammar.proofs.OneReading.{same_forms}
 use Rattle.fort_sexpr.proofs.OneFault.{same_first_fault, IsFaultless-no_first_fault}
 use Rattle.fort_ari.proofs.OneAnswer.{problem_without_fault}
 use Rattle.fort_ari.proofs.OneFault.{first_fault_unique}

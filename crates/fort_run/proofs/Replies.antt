@@ -2,6 +2,7 @@
 use Rattle.std.proofs.Common.{◌≡◌, ℕ, zero, suc, ◌+◌, ◌<◌, ◌≤◌, List, [], ◌∷◌, ◌++◌, length, refl, sym, ap, subst, ◌∙◌, append-nil, length-append, arith}
 use Rattle.std.specs.Prelude.{false, true, Bool, Option, Some, None, IfSome, MatchBool, MatchOption}
 use Rattle.std.specs.Io.KnownBytes.{Consumes, IsAtEnd}
+use Rattle.fort_theory.specs.Trees.{Tree}
 use Rattle.fort_theory.specs.Sides.{System}
 use Rattle.fort_theory.specs.Patterns.{PatternSystem, pattern_system}
 use Rattle.fort_logic.specs.Formulas.{Formula}
@@ -19,12 +20,13 @@ use Rattle.fort_ari.specs.declared.fault.ProblemFault.{ProblemFault as ariFault}
 use Rattle.fort_ari.specs.Faults.{as_fault}
 use Rattle.fort_answers.specs.Requests.{Text}
 use Rattle.fort_answers.specs.Lines.{input_too_long, not_decided_yet, problem_fault_line, yes_line, no_line, positive, negative, refused}
-use Rattle.fort_answers.specs.DecideAnswer.{IsBuilt, Are, IsPlain, DecidesOf, FormulaRefused, Early, InputRefused, NotDecidedYet, Yes, No}
+use Rattle.fort_answers.specs.DecideAnswer.{IsBuilt, Are, IsPlain, DecidesOf, FormulaRefused, Early, InputRefused, FormulaUnfit, NotDecidedYet, Yes, No}
+use Rattle.fort_answers.specs.FitAnswer.{FitsSystem, IsUnfit}
 use Rattle.fort_answers.specs.FormulaAnswer.{IsAccepted, IsRefused}
 use Rattle.fort_answers.specs.InputAnswer.{IsInput, IsInputRefused, TooLong, NoForms, NoProblem, FormBehind, input_limit}
 use Rattle.fort_answers.proofs.OneVerdict.{accepted-not_refused}
 use Rattle.fort_run.specs.Refusals.{SaysProblemFault, SaysTextFault}
-use Rattle.fort_run.specs.Plain.{PlainAnswers, PlainNeedsInput, PlainOwes, IsReadFrom}
+use Rattle.fort_run.specs.Plain.{IsVerdict, Undecided, Holds, Fails, PlainAnswers, PlainNeedsInput, PlainOwes}
 
 -- the forms of a text, counted
 pub count_of : (forms : Forms) → form_count forms ≡ length (as_list forms)
@@ -107,24 +109,37 @@ owes_refusal text line (Some bytes) says = Early (FormulaRefused plain_is line s
 pub input_refused : (text : Text) (f : Formula) (bytes line : Text) → IsAccepted text f → IsInputRefused bytes line → PlainAnswers text bytes refused line
 input_refused text f bytes line accepted says = InputRefused f (asks text f accepted) line says (are refused line)
 
-pub not_decided : (text : Text) (f : Formula) (bytes : Text) (system : PatternSystem) → IsAccepted text f → IsReadFrom bytes system → (IsBuilt f → ⊥)
-    → PlainAnswers text bytes refused not_decided_yet
-not_decided text f bytes system accepted read not = NotDecidedYet f (asks text f accepted) read.0 read.1 not (are refused not_decided_yet)
+-- a formula that speaks of more than the system of the input has
+pub unfit : (text : Text) (f : Formula) (bytes line : Text) (p : System) → IsAccepted text f → IsInput bytes p → IsUnfit text f p line
+    → PlainAnswers text bytes refused line
+unfit text f bytes line p accepted input says = FormulaUnfit f (asks text f accepted) p input line says (are refused line)
 
 -- what the verdict on a problem's system gives
 abbrev pub Decides : Bool → PatternSystem → Formula → Type 0
-Decides b system f = (bytes : List ℕ) (forms : List Form) (p : System) (next : ℕ) → IsProblem bytes forms p next → system ≡ pattern_system p
-    → IsBuilt f → free_names f ≡ [] → MatchBool b (IsTrueOf p f) (IsFalseOf p f)
+Decides b system f = (bytes : List ℕ) (forms : List Form) (p : System) (next : ℕ) (terms : List Tree) → IsProblem bytes forms p next
+    → system ≡ pattern_system p → IsBuilt f → free_names f ≡ [] → MatchBool b (IsTrueOf p terms f) (IsFalseOf p terms f)
 
-pub is_yes : (text : Text) (f : Formula) (bytes : Text) (system : PatternSystem) → IsAccepted text f → IsReadFrom bytes system → IsBuilt f
-    → Decides true system f → PlainAnswers text bytes positive yes_line
-is_yes text f bytes system accepted (p, input, is) built verdict =
-    Yes f (asks text f accepted) p input built (verdict bytes (as_list input.problem.forms) p _ input.problem.problem is built accepted.closed) (are positive yes_line)
+-- the answers to a formula over the system of an input
+abbrev pub Answered : PatternSystem → Formula → ℕ → Text → Type 0
+Answered system f status line = (bytes : Text) (p : System) (terms : List Tree) → IsInput bytes p → system ≡ pattern_system p → free_names f ≡ []
+    → IsVerdict p terms f status line
 
-pub is_no : (text : Text) (f : Formula) (bytes : Text) (system : PatternSystem) → IsAccepted text f → IsReadFrom bytes system → IsBuilt f
-    → Decides false system f → PlainAnswers text bytes negative no_line
-is_no text f bytes system accepted (p, input, is) built verdict =
-    No f (asks text f accepted) p input built (verdict bytes (as_list input.problem.forms) p _ input.problem.problem is built accepted.closed) (are negative no_line)
+pub is_undecided : (system : PatternSystem) (f : Formula) → (IsBuilt f → ⊥) → Answered system f refused not_decided_yet
+is_undecided system f not bytes p terms input is closed = Undecided not (are refused not_decided_yet)
+
+pub is_yes : (system : PatternSystem) (f : Formula) → IsBuilt f → Decides true system f → Answered system f positive yes_line
+is_yes system f built verdict bytes p terms input is closed =
+    Holds built (verdict bytes (as_list input.problem.forms) p _ terms input.problem.problem is built closed) (are positive yes_line)
+
+pub is_no : (system : PatternSystem) (f : Formula) → IsBuilt f → Decides false system f → Answered system f negative no_line
+is_no system f built verdict bytes p terms input is closed =
+    Fails built (verdict bytes (as_list input.problem.forms) p _ terms input.problem.problem is built closed) (are negative no_line)
+
+pub fit : (text : Text) (f : Formula) (bytes : Text) (p : System) (terms : List Tree) (status : ℕ) (line : Text) → IsAccepted text f → IsInput bytes p
+    → FitsSystem text f p terms → IsVerdict p terms f status line → PlainAnswers text bytes status line
+fit text f bytes p terms status line accepted input fits (Undecided not are) = NotDecidedYet f (asks text f accepted) p input terms fits not are
+fit text f bytes p terms status line accepted input fits (Holds built holds are) = Yes f (asks text f accepted) p input terms fits built holds are
+fit text f bytes p terms status line accepted input fits (Fails built fails are) = No f (asks text f accepted) p input terms fits built fails are
 
 -- the answer for the bytes that were read, all of them
 pub answer_told : (text : Text) (old new : Option Text) (bytes : Text) (status : ℕ) (line : Text) → Consumes old new bytes → IsAtEnd new

@@ -1,6 +1,7 @@
 -- To believe: what a run leaves where it answers, that no other answer is owed, how far it read, and what it leaves where a fault of the sink cuts the answer short.
 use Rattle.std.specs.Prelude.{◌≡◌, ℕ, ◌<◌, ◌⊎◌, Bool, List, ◌++◌, length, Option, Some, IfSome}
 use Rattle.std.specs.Io.KnownBytes.{IsAtEnd}
+use Rattle.fort_theory.specs.Trees.{Tree}
 use Rattle.fort_theory.specs.Sides.{System}
 use Rattle.fort_logic.specs.Formulas.{Formula}
 use Rattle.fort_io.specs.Devices.{Takes}
@@ -8,6 +9,7 @@ use Rattle.fort_answers.specs.Requests.{Text, Decide}
 use Rattle.fort_answers.specs.CommandGrammar.{request_of}
 use Rattle.fort_answers.specs.DecideAnswer.{IsBuilt, DecidesOf}
 use Rattle.fort_answers.specs.InputAnswer.{IsInput, input_limit}
+use Rattle.fort_answers.specs.FitAnswer.{FitsSystem}
 use Rattle.fort_answers.specs.Answer.{Answer, AnswerFor, EarlyAnswer}
 
 -- the status is the answer's, and the sink took the answer's text, all of it
@@ -36,7 +38,7 @@ pub record CutsShort (words : List Text) (told : Option Text) (old new : Option 
 abbrev pub ReadsWhole : Option Text → Option Text → Type 0
 ReadsWhole old new = IsAtEnd new ⊎ IfSome old (λ bytes. input_limit < length bytes)
 
--- the words ask whether a formula is true that is decided today, and the bytes are a system
+-- the words ask whether a formula is true that is decided today, and the bytes are a system with all that the formula speaks of
 pub record IsDecidable (words : List Text) (told : Option Text) : Type 0 where
   pub states : ℕ
   pub certificate : Bool
@@ -49,3 +51,5 @@ pub record IsDecidable (words : List Text) (told : Option Text) : Type 0 where
   pub told_are : told ≡ Some bytes
   pub system : System
   pub input : IsInput bytes system
+  pub terms : List Tree
+  pub fits : FitsSystem formula f system terms

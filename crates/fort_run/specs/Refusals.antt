@@ -1,5 +1,8 @@
 -- Inside: which line says which fault of the program's readers. No line says want of memory.
 use Rattle.std.specs.Prelude.{◌≡◌, List, ℕ, MatchOption}
+use Rattle.fort_theory.specs.Signatures.{Signature}
+use Rattle.fort_formula_grammar.specs.FormulaText.{Ground}
+use Rattle.fort_answers.specs.FitAnswer.{IsFirstWithoutTerm}
 use Rattle.fort_grammar.specs.Text.{BadByte, ExtraClose, Unclosed, TooDeep}
 use Rattle.fort_sexpr.specs.declared.fault.SFault.{SFault}
 use Rattle.fort_sexpr.specs.declared.fault.SFault.TheVariants as faults
@@ -9,7 +12,7 @@ use Rattle.fort_formula_parser.specs.declared.fault.FFault.{FFault}
 use Rattle.fort_formula_parser.specs.Faults.{as_formula_fault}
 use Rattle.fort_answers.specs.FormulaAnswer.{IsRefused}
 use Rattle.fort_answers.specs.InputAnswer.{IsInputRefused}
-use Rattle.fort_answers.specs.Lines.{formula_fault_line, text_fault_line, problem_fault_line}
+use Rattle.fort_answers.specs.Lines.{formula_fault_line, formula_term, text_fault_line, problem_fault_line}
 use Rattle.fort_run.specs.declared.refusal.Refusal.{Refusal}
 use Rattle.fort_run.specs.declared.refusal.Refusal.TheVariants as refusal
 
@@ -38,3 +41,9 @@ RefusesFormula text = Refuses (IsRefused text)
 -- the refusal of an input is owed to it
 abbrev pub RefusesInput : List ℕ → Refusal → Type 0
 RefusesInput bytes = Refuses (IsInputRefused bytes)
+
+-- the line names the first braces in which no ground term stands
+pub record NamesTerm (signature : Signature) (grounds : List Ground) (line : List ℕ) : Type 0 where
+  pub braces : Ground
+  pub first : IsFirstWithoutTerm signature grounds braces
+  pub says : line ≡ formula_term braces.at

@@ -1,29 +1,28 @@
 //! The formula of a text, or the line that refuses it.
-ghost use Rattle.std.specs.Prelude.{◌≡◌, ℕ, List, ◌<◌, ◌^◌, IfOk, IfErr, MatchBool, MatchOption};
-ghost use Rattle.fort_logic.specs.Parts.{IsTooWide};
-ghost use Rattle.fort_logic.specs.Translation.{core_of};
+ghost use Rattle.std.specs.Prelude.{◌≡◌, ◌↔◌, ℕ, List, ◌<◌, ◌^◌, IsTrue, IfOk, IfErr, MatchOption};
+ghost use Rattle.fort_logic.specs.Translation.{IsFormulaTooWide};
 ghost use Rattle.fort_formula_grammar.specs.FormulaText.{IsFormulaText};
 ghost use Rattle.fort_answers.specs.FormulaAnswer.{IsAccepted, IsRefused};
 ghost use Rattle.fort_formulas.specs.FormulaView.{as_formula};
 ghost use Rattle.fort_formulas.specs.NumbersNeeded.{numbers_needed};
+ghost use Rattle.fort_formula_parser.specs.ParsedView.{AreShort};
+ghost use Rattle.fort_run.specs.Accepted.{IsAcceptedAs};
 ghost use Rattle.fort_run.specs.Refusals.{RefusesFormula};
 
 use crate::refusal::{Refusal, formula_line, open_line};
-use fort_formula_parser::parse;
-use fort_formulas::{CoreFault, Formula, free_names, to_core};
+use fort_formula_parser::{Parsed, parse};
+use fort_formulas::{CoreFault, Formula, free_names, too_wide};
 use std::alloc::{AllocError, Global};
 
-/// Whether no part of a formula is too wide.
-fn is_narrow(alloc: Global, formula: &Formula) -> Result<bool, AllocError>
+/// Whether some part of a formula is too wide.
+fn is_too_wide(alloc: Global, formula: &Formula) -> Result<bool, AllocError>
     requires { numbers_needed (as_formula formula.now) < 2 ^ 32 }
-    ensures { IfOk result (λ b. MatchBool b
-        (IsTooWide (core_of (as_formula formula.now)) → ⊥) (IsTooWide (core_of (as_formula formula.now)))) }
+    ensures { IfOk result (λ wide. IsTrue wide ↔ IsFormulaTooWide (as_formula formula.now)) }
 {
-    match to_core(alloc, formula) {
-        Ok(_core) => Ok(true),
-        Err(CoreFault::TooWide) => Ok(false),
+    match too_wide(alloc, formula) {
+        Ok(wide) => Ok(wide),
         Err(CoreFault::Memory) => Err(AllocError),
-        Err(CoreFault::TooManyNumbers) => unreachable!(),
+        Err(CoreFault::TooManyNumbers) | Err(CoreFault::TooWide) => unreachable!(),
     }
 }
 
@@ -33,7 +32,7 @@ fn refusal_of(alloc: Global, formula: &Formula) -> Result<Option<Vec<u8>>, Alloc
     ensures { IfOk result (λ refusal. (text : List ℕ) → IsFormulaText text (as_formula formula.now)
         → MatchOption refusal (IsAccepted text (as_formula formula.now)) (λ line. IsRefused text line.items)) }
 {
-    if !is_narrow(alloc, formula)? {
+    if is_too_wide(alloc, formula)? {
         return Ok(Some(Vec::from_slice(alloc, b"REFUSED formula too wide\n")?));
     }
     let names = free_names(alloc, formula)?;
@@ -43,17 +42,18 @@ fn refusal_of(alloc: Global, formula: &Formula) -> Result<Option<Vec<u8>>, Alloc
     }
 }
 
-/// The closed formula of a text.
-pub fn accepted_formula(alloc: Global, text: &[u8]) -> Result<Formula, Refusal>
-    ensures ok { IfOk result (λ f. IsAccepted text.now (as_formula f)) }
+/// The closed formula of a text, with the ground terms that are written in it.
+pub fn accepted_formula(alloc: Global, text: &[u8]) -> Result<Parsed, Refusal>
+    ensures ok { IfOk result (IsAcceptedAs text.now) }
+    ensures short { IfOk result (λ p. AreShort p.grounds.items) }
     ensures refused { IfErr result (RefusesFormula text.now) }
 {
-    let formula = match parse(alloc, text) {
-        Ok(formula) => formula,
+    let parsed = match parse(alloc, text) {
+        Ok(parsed) => parsed,
         Err(fault) => return Err(Refusal::Line(formula_line(alloc, &fault)?)),
     };
-    match refusal_of(alloc, &formula)? {
-        None => Ok(formula),
+    match refusal_of(alloc, &parsed.formula)? {
+        None => Ok(parsed),
         Some(line) => Err(Refusal::Line(line)),
     }
 }

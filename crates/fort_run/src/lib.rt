@@ -3,6 +3,7 @@
 
 mod accepted;
 mod decide;
+mod fit;
 mod input;
 mod outcome;
 mod refusal;

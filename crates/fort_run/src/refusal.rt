@@ -7,7 +7,7 @@ use fort_ari::ProblemFault;
 use fort_formula_parser::FFault;
 use fort_sexpr::SFault;
 use itoa::Buffer;
-use std::alloc::{AllocError, Global};
+use std::alloc::{AllocError, AllocFailed, Global};
 
 /// Why something is refused.
 #[derive(Debug, Drop)]
@@ -29,6 +29,17 @@ impl From<AllocError> for Refusal {
     }
 }
 
+impl<T: Drop> From<AllocFailed<T>> for Refusal {
+    ghost use Rattle.std.specs.Prelude.{◌≡◌};
+    ghost use Rattle.fort_run.specs.declared.refusal.Refusal.TheVariants.{Memory};
+
+    ghost from_gives = { λ _ e. e ≡ Memory };
+
+    fn from(_e: AllocFailed<T>) -> Refusal {
+        Refusal::Memory
+    }
+}
+
 fn push_number(line: &mut Vec<u8>, n: usize) -> Result<(), AllocError>
     ensures { OnOk result (line.new.items ≡ line.old.items ++ decimal n) }
 {
@@ -36,8 +47,8 @@ fn push_number(line: &mut Vec<u8>, n: usize) -> Result<(), AllocError>
     line.extend_from_slice(buffer.format(n).as_bytes())
 }
 
-/// The line of a refusal that names an offset.
-fn numbered(alloc: Global, text: &[u8], n: usize) -> Result<Vec<u8>, AllocError>
+/// The line of a refusal that ends with a number.
+pub fn numbered(alloc: Global, text: &[u8], n: usize) -> Result<Vec<u8>, AllocError>
     ensures { IfOk result (λ line. line.items ≡ lines.numbered text.now n) }
 {
     let mut line = Vec::from_slice(alloc, text)?;
@@ -55,7 +66,7 @@ pub fn formula_line(alloc: Global, fault: &FFault) -> Result<Vec<u8>, AllocError
         FFault::BadByte(at) => numbered(alloc, b"REFUSED formula bad byte at ", *at),
         FFault::TooLong => Vec::from_slice(alloc, b"REFUSED formula too long\n"),
         FFault::TooDeep(at) => numbered(alloc, b"REFUSED formula too deep at ", *at),
-        FFault::Syntax => Vec::from_slice(alloc, b"REFUSED formula syntax\n"),
+        FFault::Syntax(at) => numbered(alloc, b"REFUSED formula syntax at ", *at),
     }
 }
 

@@ -4,7 +4,7 @@ use Rattle.std.proofs.lemmas.Bool.{cases_lt}
 use Rattle.fort_grammar.specs.Text.{is_text_byte, depth, deepest, BadByte, ExtraClose, Unclosed, TooDeep, Bad, Extra, Deep, IsFirstFault, First, Open}
 use Rattle.fort_grammar.specs.Forms.{Forms, NoForm, End, AreFormsOf}
 use Rattle.fort_sexpr.specs.Progress.{Level, IsReadUpTo}
-use Rattle.fort_sexpr.proofs.Bytes.{stands_at-from}
+use Rattle.fort_grammar.proofs.Bytes.{stands_at-from}
 use Rattle.fort_sexpr.proofs.Steps.{not_in_comment, depth_of_levels}
 
 module _ (bytes : List ℕ) where

@@ -2,8 +2,6 @@ pub mod FormLists
 pub mod NodesLaws
 pub mod Comments
 pub mod Depths
-pub mod Bytes
-pub mod OneReading
 pub mod OneFault
 pub mod Steps
 pub mod Ends

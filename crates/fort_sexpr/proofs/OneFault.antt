@@ -1,11 +1,8 @@
 -- A text has one first fault at most, and then it is not faultless.
 use Rattle.std.proofs.Common.{◌≡◌, ℕ, ◌<◌, List, length, refl, sym, ap, ◌∙◌, subst, inl, inr, arith}
 use Rattle.std.proofs.lemmas.Bool.{true≢false, cases_order}
-use Rattle.fort_grammar.specs.Text.{TextFault, BadByte, ExtraClose, Unclosed, TooDeep, IsFaultyAt, Bad, Extra, Deep, IsFirstFault, First, Open, IsFaultless}
-use Rattle.fort_sexpr.specs.declared.fault.SFault.{SFault}
-use Rattle.fort_sexpr.specs.declared.fault.SFault.TheVariants as faults
-use Rattle.fort_sexpr.specs.Faults.{IsFirstFaultUnlessMemory}
-use Rattle.fort_sexpr.proofs.Bytes.{is_text_byte-open, is_text_byte-close, stands_at-byte}
+use Rattle.fort_grammar.specs.Text.{TextFault, Unclosed, IsFaultyAt, Bad, Extra, Deep, IsFirstFault, First, Open, IsFaultless}
+use Rattle.fort_grammar.proofs.Bytes.{is_text_byte-open, is_text_byte-close, stands_at-byte}
 
 faulty_within : {bytes : List ℕ} {i : ℕ} {fault : TextFault} → IsFaultyAt bytes i fault → i < length bytes
 faulty_within (Bad l o b) = l

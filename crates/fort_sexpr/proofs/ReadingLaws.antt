@@ -14,7 +14,7 @@ use Rattle.fort_sexpr.specs.declared.reader.Token.{Token}
 use Rattle.fort_sexpr.specs.declared.reader.Token.TheVariants as tokens
 use Rattle.fort_sexpr.proofs.FormLists.{joined, as_forms-push}
 use Rattle.fort_sexpr.proofs.NodesLaws.{LieWithin-more, LieWithin-push, LieWithin-take, LieWithin-drop, AreGrown-append, map-form_of-append, grown-append, length-grown, grown_all}
-use Rattle.fort_sexpr.proofs.Bytes.{IsPlain-from_word_byte, stands_at-byte}
+use Rattle.fort_grammar.proofs.Bytes.{IsPlain-from_word_byte, stands_at-byte}
 use Rattle.fort_sexpr.proofs.Steps.{AreForms_ordered, word_some, faultless_word, faultless_mark, read_blank, read_word, read_open, read_close}
 use Rattle.fort_sexpr.proofs.Ends.{read_nothing, AreFormsOf-read}
 

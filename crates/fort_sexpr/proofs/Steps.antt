@@ -8,7 +8,7 @@ use Rattle.fort_sexpr.specs.Progress.{comment_before, Level, StandUpTo, IsReadUp
 use Rattle.fort_sexpr.proofs.FormLists.{joined, joined-none, AreForms-joined}
 use Rattle.fort_sexpr.proofs.Comments.{comment_before-line_end, comment_before-mark, comment_before-goes_on, comment_before-none}
 use Rattle.fort_sexpr.proofs.Depths.{count_before-yes, count_before-no}
-use Rattle.fort_sexpr.proofs.Bytes.{IsPlain-from_word_byte, is_text_byte-word_byte, is_text_byte-blank, is_text_byte-open, is_text_byte-close, is_blank-at, stands_at-byte, stands_at-from, stands_at-in_comment, stands_at-other}
+use Rattle.fort_grammar.proofs.Bytes.{IsPlain-from_word_byte, is_text_byte-word_byte, is_text_byte-blank, is_text_byte-open, is_text_byte-close, is_blank-at, stands_at-byte, stands_at-from, stands_at-in_comment, stands_at-other}
 
 -- neither a parenthesis nor a fault stands at the offset
 record IsQuiet (bytes : List ℕ) (k : ℕ) : Type 0 where

@@ -78,7 +78,7 @@ mutual
 
 -- the order of terms is that of their spellings
 mutual
-  tree_order-spelled : (s t : Tree) → tree_order s t ≡ slice_cmp nat_cmp (spelled s) (spelled t)
+  pub tree_order-spelled : (s t : Tree) → tree_order s t ≡ slice_cmp nat_cmp (spelled s) (spelled t)
   tree_order-spelled (Node f ts) (Node g us) =
       ap (ordering_then (nat_cmp f g)) (trees_order-spelled ts us) ∙ ap (λ o. ordering_then o (slice_cmp nat_cmp (all_spelled ts) (all_spelled us))) (nat_cmp-suc f g ∙ nat_cmp-suc (suc f) (suc g))
 

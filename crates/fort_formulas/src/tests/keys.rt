@@ -1,6 +1,7 @@
 //! Core formulas as keys.
 
 use crate::{Arm, Core, Rel};
+use fort_terms::{Sym, Term};
 use indexmap::IndexSet;
 use std::alloc::Global;
 use std::collections::BTreeMap;
@@ -13,6 +14,8 @@ pub enum Shape {
     True,
     Atom(Rel, u32, u32, u32),
     Nf(u32, u32),
+    /// The variable is the constant with this symbol.
+    Is(u32, u16),
     Not(usize),
     And(usize, usize),
     Or(usize, usize),
@@ -22,7 +25,7 @@ pub enum Shape {
 }
 
 /// Formulas in ascending order; the last one has every connective.
-const SHAPES: [Shape; 31] = [
+const SHAPES: [Shape; 34] = [
     Shape::True,
     Shape::Atom(Rel::Eq, 1, 0, 1),
     Shape::Atom(Rel::Eq, 1, 1, 0),
@@ -32,28 +35,31 @@ const SHAPES: [Shape; 31] = [
     Shape::Nf(1, 1),
     Shape::Nf(2, 0),
     Shape::Nf(2, 1),
+    Shape::Is(0, 1),
+    Shape::Is(1, 0),
+    Shape::Is(1, 1),
     Shape::Not(0),
     Shape::Not(7),
-    Shape::Not(9),
+    Shape::Not(12),
     Shape::And(0, 0),
     Shape::And(0, 7),
     Shape::And(7, 0),
-    Shape::And(9, 1),
+    Shape::And(12, 1),
     Shape::Or(0, 0),
-    Shape::Or(0, 12),
-    Shape::Or(12, 0),
-    Shape::Or(15, 7),
+    Shape::Or(0, 15),
+    Shape::Or(15, 0),
+    Shape::Or(18, 7),
     Shape::Iff(0, 0),
     Shape::Iff(0, 7),
-    Shape::Iff(19, 0),
+    Shape::Iff(22, 9),
     Shape::Exists(0, 0),
     Shape::Exists(0, 7),
     Shape::Exists(1, 0),
-    Shape::Exists(1, 22),
+    Shape::Exists(1, 25),
     Shape::Infinite(0, 0),
-    Shape::Infinite(0, 23),
+    Shape::Infinite(0, 26),
     Shape::Infinite(1, 0),
-    Shape::Infinite(1, 26),
+    Shape::Infinite(1, 29),
 ];
 
 const RELATIONS: [Rel; 8] = [
@@ -66,6 +72,13 @@ const RELATIONS: [Rel; 8] = [
     Rel::Star,
     Rel::Conv,
 ];
+
+pub fn constant(alloc: Global, symbol: u16) -> Term {
+    Term {
+        sym: Sym(symbol),
+        kids: Vec::new(alloc),
+    }
+}
 
 fn operand(alloc: Global, formulas: &[Core], place: usize) -> Result<Arm, Fail> {
     let formula = formulas.get(place).ok_or("no such formula")?;
@@ -87,6 +100,7 @@ pub fn formula(alloc: Global, formulas: &[Core], shape: Shape) -> Result<Core, F
         Shape::True => Ok(Core::True),
         Shape::Atom(rel, index, x, y) => Ok(Core::Atom(rel, index, x, y)),
         Shape::Nf(index, x) => Ok(Core::Nf(index, x)),
+        Shape::Is(x, symbol) => Ok(Core::Is(x, constant(alloc, symbol))),
         Shape::Not(f) => Ok(Core::Not(operand(alloc, formulas, f)?)),
         Shape::And(f, g) => {
             let (f, g) = operands(alloc, formulas, f, g)?;

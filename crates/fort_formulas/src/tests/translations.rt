@@ -1,20 +1,24 @@
 //! Core formulas of formulas.
 
-use super::keys::{Shape, formula as core_formula};
+use super::keys::{Shape, constant, formula as core_formula};
+use super::places::are_places_below;
 use crate::{
-    Core, CoreFault, Formula, Kind, Macro, Name, Operand, Rel, SurfaceRel, free, free_names, kind,
-    parts, to_core,
+    Arg, Core, CoreFault, Formula, Kind, Macro, Name, Operand, Rel, SurfaceRel, free, free_names,
+    index_above, kind, parts, to_core, too_wide,
 };
+use fort_terms::Term;
 use std::alloc::Global;
 use std::test::Fail;
 
-/// A word of a formula in postfix form.
+/// A word of a formula in postfix form. An argument is a variable or, as a number, the place of a
+/// ground term.
 #[derive(Clone, Copy)]
 enum Word {
     Rel(SurfaceRel, &'static str, &'static str, u32),
     Nf(&'static str, u32),
     Join(&'static str, &'static str, u32),
     Macro(Macro, u32),
+    Com,
     And,
     Imp,
     Exists(&'static str),
@@ -24,6 +28,13 @@ enum Word {
 
 fn name(alloc: Global, text: &str) -> Result<Name, Fail> {
     Ok(Name::new(Vec::from_slice(alloc, text.as_bytes())?))
+}
+
+fn argument(alloc: Global, text: &str) -> Result<Arg, Fail> {
+    match text.parse::<u32>() {
+        Ok(place) => Ok(Arg::Ground(place)),
+        Err(_) => Ok(Arg::Var(name(alloc, text)?)),
+    }
 }
 
 fn operand(alloc: Global, stack: &mut Vec<Formula>) -> Result<Operand, Fail> {
@@ -38,15 +49,17 @@ fn operands(alloc: Global, stack: &mut Vec<Formula>) -> Result<(Operand, Operand
 
 fn apply(alloc: Global, stack: &mut Vec<Formula>, word: Word) -> Result<Formula, Fail> {
     match word {
-        Word::Rel(rel, x, y, index) => Ok(Formula::Rel(
-            rel,
-            name(alloc, x)?,
-            name(alloc, y)?,
-            index,
-        )),
-        Word::Nf(x, index) => Ok(Formula::Nf(name(alloc, x)?, index)),
-        Word::Join(x, y, index) => Ok(Formula::Join(name(alloc, x)?, name(alloc, y)?, index)),
+        Word::Rel(rel, a, b, index) => {
+            let a = argument(alloc, a)?;
+            Ok(Formula::Rel(rel, a, argument(alloc, b)?, index))
+        }
+        Word::Nf(a, index) => Ok(Formula::Nf(argument(alloc, a)?, index)),
+        Word::Join(a, b, index) => {
+            let a = argument(alloc, a)?;
+            Ok(Formula::Join(a, argument(alloc, b)?, index))
+        }
         Word::Macro(property, index) => Ok(Formula::Macro(property, index)),
+        Word::Com => Ok(Formula::Com),
         Word::And => {
             let (f, g) = operands(alloc, stack)?;
             Ok(Formula::And(f, g))
@@ -79,6 +92,17 @@ fn cores(alloc: Global, shapes: &[Shape]) -> Result<Vec<Core>, Fail> {
     Ok(cores)
 }
 
+/// The core formula, the ground terms being the constants 5 and 6.
+fn core_of(alloc: Global, words: &[Word]) -> Result<Result<Core, CoreFault>, Fail> {
+    let constants: Vec<Term> = vec![in alloc; constant(alloc, 5), constant(alloc, 6)]?;
+    let terms = constants.as_slice();
+    let formula = formula(alloc, words)?;
+    if !are_places_below(&formula, terms.len()) {
+        return Err(Fail::from("no such term"));
+    }
+    Ok(to_core(alloc, &formula, terms))
+}
+
 /// For each x, infinitely many y that it reduces to.
 const MANY_REDUCTS: &[Word] = &[
     Word::Rel(SurfaceRel::Star, "x", "y", 1),
@@ -87,7 +111,7 @@ const MANY_REDUCTS: &[Word] = &[
 ];
 
 /// Formulas, and the parts of their core formulas.
-const TRANSLATIONS: [(&[Word], &[Shape]); 11] = [
+const TRANSLATIONS: [(&[Word], &[Shape]); 15] = [
     (
         MANY_REDUCTS,
         &[
@@ -211,13 +235,76 @@ const TRANSLATIONS: [(&[Word], &[Shape]); 11] = [
             Shape::Not(12),
         ],
     ),
+    (
+        &[
+            Word::Rel(SurfaceRel::Star, "0", "1", 1),
+            Word::Nf("0", 2),
+            Word::And,
+        ],
+        &[
+            Shape::Is(0, 5),
+            Shape::Is(1, 6),
+            Shape::Atom(Rel::Star, 1, 0, 1),
+            Shape::And(1, 2),
+            Shape::Exists(1, 3),
+            Shape::And(0, 4),
+            Shape::Exists(0, 5),
+            Shape::Nf(2, 0),
+            Shape::And(0, 7),
+            Shape::Exists(0, 8),
+            Shape::And(6, 9),
+        ],
+    ),
+    (
+        &[Word::Rel(SurfaceRel::Step, "x", "1", 2), Word::Exists("x")],
+        &[
+            Shape::Is(1, 6),
+            Shape::Atom(Rel::Step, 2, 0, 1),
+            Shape::And(0, 1),
+            Shape::Exists(1, 2),
+            Shape::Exists(0, 3),
+        ],
+    ),
+    (
+        &[Word::Join("1", "x", 2)],
+        &[
+            Shape::Is(1, 6),
+            Shape::Atom(Rel::Star, 2, 1, 2),
+            Shape::Atom(Rel::Star, 2, 0, 2),
+            Shape::And(1, 2),
+            Shape::Exists(2, 3),
+            Shape::And(0, 4),
+            Shape::Exists(1, 5),
+        ],
+    ),
+    (
+        &[Word::Com],
+        &[
+            Shape::Atom(Rel::Star, 1, 2, 0),
+            Shape::Atom(Rel::Star, 2, 2, 1),
+            Shape::And(0, 1),
+            Shape::Exists(2, 2),
+            Shape::Not(3),
+            Shape::Atom(Rel::Star, 2, 0, 2),
+            Shape::Atom(Rel::Star, 1, 1, 2),
+            Shape::And(5, 6),
+            Shape::Exists(2, 7),
+            Shape::Or(4, 8),
+            Shape::Not(9),
+            Shape::Exists(1, 10),
+            Shape::Not(11),
+            Shape::Not(12),
+            Shape::Exists(0, 13),
+            Shape::Not(14),
+        ],
+    ),
 ];
 
 #[test]
 fn translations(rt: HostRuntime) -> Result<(), Fail> {
     let alloc = rt.alloc();
     for (i, (words, shapes)) in TRANSLATIONS.iter().enumerate() {
-        let core = to_core(alloc, &formula(alloc, words)?).map_err(|_| "no core formula")?;
+        let core = core_of(alloc, words)?.map_err(|_| "no core formula")?;
         let expected = cores(alloc, shapes)?;
         assert!(rt; parts(alloc, &core)? == expected, "{i}");
         assert!(rt; expected.last() == Some(&core), "{i}");
@@ -235,7 +322,7 @@ fn kinds_and_columns(rt: HostRuntime) -> Result<(), Fail> {
         (Kind::Exists, &[]),
         (Kind::Not, &[]),
     ];
-    let core = to_core(alloc, &formula(alloc, MANY_REDUCTS)?).map_err(|_| "no core formula")?;
+    let core = core_of(alloc, MANY_REDUCTS)?.map_err(|_| "no core formula")?;
     for (part, (root, columns)) in parts(alloc, &core)?.iter().zip(expected) {
         assert_eq!(rt; kind(part), root);
         assert!(rt; free(alloc, part)?.as_slice() == columns);
@@ -257,7 +344,9 @@ const FREE_NAMES: [(&[Word], &[&str]); 3] = [
         &[
             Word::Nf("x", 1),
             Word::Exists("x"),
-            Word::Join("y", "x", 1),
+            Word::Join("y", "0", 1),
+            Word::And,
+            Word::Rel(SurfaceRel::Step, "1", "x", 1),
             Word::And,
         ],
         &["y", "x"],
@@ -318,7 +407,31 @@ fn most_columns(rt: HostRuntime) -> Result<(), Fail> {
     for (count, expected) in [(16, None), (17, Some(CoreFault::TooWide))] {
         let names = VARIABLES.get(..count).ok_or("too few names")?;
         let words = bound_equations(alloc, names)?;
-        assert!(rt; to_core(alloc, &formula(alloc, &words)?).err() == expected);
+        let wide = too_wide(alloc, &formula(alloc, &words)?);
+        assert!(rt; wide == Ok(expected.is_some()));
+        assert!(rt; core_of(alloc, &words)?.err() == expected);
     }
+    Ok(())
+}
+
+/// The indices of this formula are 3, 1, 2 and 4.
+const INDICES: &[Word] = &[
+    Word::Nf("x", 3),
+    Word::Com,
+    Word::Imp,
+    Word::Rel(SurfaceRel::Eq, "x", "x", 4),
+    Word::And,
+    Word::Exists("x"),
+];
+
+#[test]
+fn indices_above(rt: HostRuntime) -> Result<(), Fail> {
+    let formula = formula(rt.alloc(), INDICES)?;
+    for (number, index) in [(0, Some(3)), (2, Some(3)), (3, Some(4)), (4, None)] {
+        assert_eq!(rt; index_above(&formula, number), index);
+    }
+    assert_eq!(rt; index_above(&Formula::Com, 0), Some(1));
+    assert_eq!(rt; index_above(&Formula::Com, 1), Some(2));
+    assert_eq!(rt; index_above(&Formula::Com, 2), None);
     Ok(())
 }

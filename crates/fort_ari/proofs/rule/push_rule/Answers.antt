@@ -1,41 +1,35 @@
-use Rattle.std.proofs.Common.{Err, ◌≡◌, length, sym, ap, ◌∙◌, subst, arith}
-use Rattle.std.proofs.lemmas.List.{length-map}
+use Rattle.std.proofs.Common.{Err, ap, subst, arith}
 use Rattle.std.proofs.lemmas.Result.{err_from_is_err_and}
-use Rattle.fort_theory.specs.Sides.{at_index, FitsSide}
-use Rattle.fort_terms.specs.PatternView.{as_pair}
+use Rattle.fort_theory.specs.Sides.{FitsSide}
 use Rattle.fort_terms.specs.SideView.{as_side}
-use Rattle.fort_grammar.specs.RuleForms.{OneTooMany, NotThree}
+use Rattle.fort_grammar.specs.RuleForms.{OneTooMany, NoRule}
 use Rattle.fort_ari.specs.Faults.{as_fault}
+use Rattle.fort_ari.proofs.RuleElements.{HasSides-low, HasSides-high}
 use Rattle.fort_ari.proofs.SideLaws.{FitsSide-IsSide, none_repeats, none_shared, bad_left, bad_right, bad_both, is_rule}
 use Rattle.fort_ari.proofs.rule.push_rule.Goals as goal
 
-pub returns-then-rules-eq-MOST_RULES-clause-fault : goal.returns-then-rules-eq-MOST_RULES-clause-fault
-returns-then-rules-eq-MOST_RULES-clause-fault c =
-    OneTooMany (ap length (sym c.rules.ensures.pairs) ∙ length-map c.rules.result.now as_pair ∙ c.if-rules-eq-MOST_RULES.true)
+pub returns-then-count-eq-MOST_RULES-clause-fault : goal.returns-then-count-eq-MOST_RULES-clause-fault
+returns-then-count-eq-MOST_RULES-clause-fault c = OneTooMany c.if-count-eq-MOST_RULES.true
 
 pub returns-in_default-clause-fault : goal.returns-in_default-clause-fault
 returns-in_default-clause-fault c =
-    let count : length (at_index 1 c.args.system.now.rules) ≡ length c.rules.result.now = ap length (sym c.rules.ensures.pairs) ∙ length-map c.rules.result.now as_pair in
-    NotThree (omega (arith, c.requires.few)) c.in_default.ensures.none
+    NoRule (omega (arith, c.requires.few)) (rw c.number.ensures.count at c.in_default.ensures.none)
 
 pub returns-in_err-left-clause-fault : goal.returns-in_err-left-clause-fault
 returns-in_err-left-clause-fault c =
-    let count : length (at_index 1 c.args.system.now.rules) ≡ length c.rules.result.now = ap length (sym c.rules.ensures.pairs) ∙ length-map c.rules.result.now as_pair in
     let p = err_from_is_err_and c.from_residual.result c.from_residual.ensures.1 in
-    rw (p.1, p.2) (bad_left _ _ _ c.signature-signature.ensures.same _ _ _ _ _ (as_fault c.in_err-left.field-0.0) (omega (arith, c.requires.few)) c.in-Some.ensures.some
+    rw (p.1, p.2) (bad_left _ _ _ c.signature-signature.ensures.same _ _ _ _ _ _ _ (as_fault c.in_err-left.field-0.0) (omega (arith, c.requires.few)) (rw c.number.ensures.count at c.in-Some.ensures.some)
     (rw c.in-Some.ensures.bytes.0 at c.in_err-left.ensures.fault))
 
 pub returns-in_err-right-clause-fault : goal.returns-in_err-right-clause-fault
 returns-in_err-right-clause-fault c =
-    let count : length (at_index 1 c.args.system.now.rules) ≡ length c.rules.result.now = ap length (sym c.rules.ensures.pairs) ∙ length-map c.rules.result.now as_pair in
     let p = err_from_is_err_and c.from_residual-in_err-right.result c.from_residual-in_err-right.ensures.1 in
-    rw (p.1, p.2) (bad_right _ _ _ c.signature-signature.ensures.same _ _ _ _ _ (as_side c.in_ok-left.left) (as_fault c.in_err-right.field-0.0) (omega (arith, c.requires.few)) c.in-Some.ensures.some
+    rw (p.1, p.2) (bad_right _ _ _ c.signature-signature.ensures.same _ _ _ _ _ _ _ (as_side c.in_ok-left.left) (as_fault c.in_err-right.field-0.0) (omega (arith, c.requires.few)) (rw c.number.ensures.count at c.in-Some.ensures.some)
     (rw c.in-Some.ensures.bytes.0 at c.in_ok-left.ensures.ok) (rw c.in-Some.ensures.bytes.1 at c.in_err-right.ensures.fault))
 
 pub returns-in-Some-shared_name-clause-fault : goal.returns-in-Some-shared_name-clause-fault
 returns-in-Some-shared_name-clause-fault c =
-    let count : length (at_index 1 c.args.system.now.rules) ≡ length c.rules.result.now = ap length (sym c.rules.ensures.pairs) ∙ length-map c.rules.result.now as_pair in
-    rw c.in_ok-from_slice.ensures.items (bad_both _ _ _ c.signature-signature.ensures.same _ _ _ _ _ c.in-Some-shared_name.name.now (omega (arith, c.requires.few)) c.in-Some.ensures.some
+    rw c.in_ok-from_slice.ensures.items (bad_both _ _ _ c.signature-signature.ensures.same _ _ _ _ _ _ _ c.in-Some-shared_name.name.now (omega (arith, c.requires.few)) (rw c.number.ensures.count at c.in-Some.ensures.some)
     (rw c.in-Some.ensures.bytes.0 at c.in-Some-shared_name.ensures.left) (rw c.in-Some.ensures.bytes.1 at c.in-Some-shared_name.ensures.right))
 
 pub push-requires-clause-left_fits : goal.push-requires-clause-left_fits
@@ -44,10 +38,15 @@ push-requires-clause-left_fits c = subst (λ s. FitsSide s (as_side c.in_ok-left
 pub push-requires-clause-right_fits : goal.push-requires-clause-right_fits
 push-requires-clause-right_fits c = subst (λ s. FitsSide s (as_side c.in_ok-right.right)) c.signature-signature.ensures.same (FitsSide-IsSide c.in_ok-right.ensures.ok)
 
+pub push-requires-clause-index : goal.push-requires-clause-index
+push-requires-clause-index c =
+    let sides = rw c.number.ensures.count at c.in-Some.ensures.some in
+    record { low = HasSides-low _ _ _ _ _ _ sides; high = HasSides-high _ _ _ _ _ _ c.number.ensures.lawful.some sides }
+
 pub returns-in-Ok-clause-ok : goal.returns-in-Ok-clause-ok
 returns-in-Ok-clause-ok c = record {
-  rule = record { left = as_side c.in_ok-left.left; right = as_side c.in_ok-right.right };
-  is_rule = is_rule _ _ _ c.signature-signature.ensures.same 0 0 _ _ _ _ _ c.in-Some.ensures.some (rw c.in-Some.ensures.bytes.0 at c.in_ok-left.ensures.ok)
+  given = record { index = c.in-Some.sides.index; rule = record { left = as_side c.in_ok-left.left; right = as_side c.in_ok-right.right } };
+  is_rule = is_rule _ _ _ c.signature-signature.ensures.same _ 0 0 _ _ _ _ _ _ (rw c.number.ensures.count at c.in-Some.ensures.some) (rw c.in-Some.ensures.bytes.0 at c.in_ok-left.ensures.ok)
       (rw c.in-Some.ensures.bytes.1 at c.in_ok-right.ensures.ok)
       (rw (c.in-Some.ensures.bytes.0, c.in-Some.ensures.bytes.1) at c.in_default-shared_name.ensures.none);
   same = c.push.ensures.same_signature;

@@ -1,13 +1,21 @@
 use Rattle.std.proofs.Common.{refl}
 use Rattle.fort_logic.specs.Formulas as theory
-use Rattle.fort_formulas.specs.FormulaView.{as_surface_rel}
-use Rattle.fort_formula_parser.proofs.Atoms.{IsParsed-compared, same_names}
+use Rattle.fort_formulas.specs.FormulaView.{as_argument, as_surface_rel}
+use Rattle.fort_formula_parser.specs.Parsing.{argument_of}
+use Rattle.fort_formula_parser.proofs.Atoms.{IsParsed-compared, same_arguments, stuck_unrelated, stuck_related}
 use Rattle.fort_formula_parser.proofs.atom.compared.Goals as goal
+
+pub returns-in_default-clause-err : goal.returns-in_default-clause-err
+returns-in_default-clause-err c = stuck_unrelated c.args.lexemes.now c.args.at (argument_of c.args.x) c.requires.here c.in_default.ensures
+
+pub returns-in_default-argument_at-clause-err : goal.returns-in_default-argument_at-clause-err
+returns-in_default-argument_at-clause-err c =
+    stuck_related c.args.lexemes.now c.args.at c.in-Some.field-0 (argument_of c.args.x) c.requires.here c.in-Some.ensures c.in_default-argument_at.ensures
 
 pub returns-clause-ok : goal.returns-clause-ok
 returns-clause-ok c =
-    let rel = as_surface_rel c.in-Some.rel in
-    let x = c.args.x.now in
-    let y = c.in-Some-variable_at.y.now in
-    IsParsed-compared c.args.lexemes.now c.args.at rel x y _ c.requires c.in-Some.ensures c.in-Some-variable_at.ensures refl
-    (same_names (λ a b. theory.Related rel a b 1) c.in_ok-name_of.field-0 c.in_ok-name_of-2.field-0 x y c.in_ok-name_of.ensures.ok c.in_ok-name_of-2.ensures.ok)
+    let found = c.in-Some.field-0 in
+    let x = argument_of c.args.x in
+    let y = argument_of c.in-Some-argument_at.y in
+    IsParsed-compared c.args.lexemes.now c.args.at found x y _ c.requires.here c.in-Some.ensures c.in-Some-argument_at.ensures refl
+    (same_arguments (λ a b. theory.Related (as_surface_rel found.rel) a b found.index) (as_argument c.in_ok-arg_of.field-0) (as_argument c.in_ok-arg_of-2.field-0) x y c.in_ok-arg_of.ensures.ok c.in_ok-arg_of-2.ensures.ok)

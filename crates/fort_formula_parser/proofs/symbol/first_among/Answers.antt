@@ -1,13 +1,15 @@
 use Rattle.std.proofs.Common.{◌≡◌, true, false, refl}
 use Rattle.std.proofs.lemmas.Bool.Decides.{Decides-eqb}
+use Rattle.std.proofs.lemmas.List.Elements.{All-from_recursion}
 use Rattle.std.proofs.lemmas.Slice.Eq.{starts_is}
+use Rattle.fort_formula_parser.specs.Spellings.{IsSpelled}
 use Rattle.fort_formula_parser.proofs.SpellingsLaws.{IsFirst-at, NoneBegins-more}
 use Rattle.fort_formula_parser.proofs.symbol.first_among.Goals as goal
 
 pub returns-then-starts_with-clause-some : goal.returns-then-starts_with-clause-some
 returns-then-starts_with-clause-some c =
     let spellings = c.args.spellings.now in
-    IsFirst-at c.args.text.now spellings c.loop-spelling.spelling-index _ c.requires c.loop-spelling-test.true c.loop-spelling.invariant
+    IsFirst-at c.args.text.now spellings c.loop-spelling.spelling-index _ (All-from_recursion IsSpelled spellings c.requires) c.loop-spelling-test.true c.loop-spelling.invariant
     ((starts_is Decides-eqb c.args.text.now _ true c.if-starts_with.ensures.value).0 refl)
 
 pub loop-spelling-preserved : goal.loop-spelling-preserved

@@ -1,5 +1,14 @@
-use Rattle.fort_formula_parser.proofs.Wholes.{no_whole}
+use Rattle.std.proofs.lemmas.Result.{err_from_is_err_and}
+use Rattle.fort_formula_grammar.specs.Stuck.{StuckFormula, StuckWhole, InFormula}
+use Rattle.fort_formula_parser.proofs.Levels.{handed_on}
+use Rattle.fort_formula_parser.proofs.Wholes.{stuck_behind_formula}
 use Rattle.fort_formula_parser.proofs.top.whole.Goals as goal
 
 pub returns-then-next-lexemes-clause-err : goal.returns-then-next-lexemes-clause-err
-returns-then-next-lexemes-clause-err c = no_whole c.args.lexemes.now c.in_ok-formula.field-0 c.in_ok-formula.ensures.ok c.if-next-lexemes.true
+returns-then-next-lexemes-clause-err c =
+    stuck_behind_formula c.args.lexemes.now c.in_ok-formula.field-0 c.in_ok-formula.ensures.ok c.if-next-lexemes.true
+
+pub returns-in_err-formula-clause-err : goal.returns-in_err-formula-clause-err
+returns-in_err-formula-clause-err c =
+    let p = err_from_is_err_and c.from_residual.result c.from_residual.ensures.1 in
+    handed_on StuckFormula StuckWhole c.args.lexemes.now 0 0 c.from_residual.result p.0 c.in_err-formula.field-0.0 (λ us h. InFormula h) p.1 p.2 c.in_err-formula.ensures.err

@@ -3,11 +3,11 @@ use Rattle.std.proofs.lemmas.Fn.{filter_same}
 use Rattle.std.proofs.lemmas.Result.{IfOk-weaker}
 use Rattle.fort_logic.specs.Cores as theory
 use Rattle.fort_logic.specs.Parts.{AreColumns}
-use Rattle.fort_logic.proofs.ColumnLaws.{AreColumns-True, AreColumns-Nf, AreColumns-Atom, AreColumns-same, AreColumns-two, AreColumns-bound}
+use Rattle.fort_logic.proofs.ColumnLaws.{AreColumns-True, AreColumns-Nf, AreColumns-Is, AreColumns-Atom, AreColumns-same, AreColumns-two, AreColumns-bound}
 use Rattle.fort_logic.proofs.TooWideLaws.{IsTooWide-same_iff, tells-leaf, tells-one, tells-two}
 use Rattle.fort_formulas.specs.CoreView.{as_rel, as_core}
 use Rattle.fort_formulas.specs.Surveys.{IsSurveyOf}
-use Rattle.fort_formulas.proofs.CoreShapes.{postorder-leaf, postorder-one, postorder-two, postorder-bound}
+use Rattle.fort_formulas.proofs.CoreShapes.{postorder-leaf, postorder-variable, postorder-one, postorder-two, postorder-bound}
 use Rattle.fort_formulas.proofs.columns.+walk.Goals as goal
 
 pub returns-in-True : goal.returns-in-True
@@ -28,11 +28,14 @@ returns-in_ok-vec-in-Nf t c =
     let arm = c.in-Nf in
     let made = c.surveyed-in-Nf.result.columns.items in
     let are : AreColumns (as_core core) made =
-    rw (arm.is, c.surveyed-in-Nf.ensures.columns, c.in_ok-vec-in-Nf.ensures.items) (AreColumns-Nf arm.field-0 arm.x) in
+    elim arm.is [
+      | inl nf ↦ rw (nf.1, c.surveyed-in-Nf.ensures.columns, c.in_ok-vec-in-Nf.ensures.items) (AreColumns-Nf nf.0 arm.x)
+      | inr is ↦ rw (is.1, c.surveyed-in-Nf.ensures.columns, c.in_ok-vec-in-Nf.ensures.items) (AreColumns-Is arm.x is.0)
+    ] in
     record {
       columns = are;
       wide =
-          tells-leaf (as_core core) made c.surveyed-in-Nf.result.too_wide (postorder-leaf core (inr (inr (arm.field-0, arm.x, arm.is)))) are
+          tells-leaf (as_core core) made c.surveyed-in-Nf.result.too_wide (postorder-variable core arm.x arm.is) are
           (rw (← c.surveyed-in-Nf.ensures.columns) at c.surveyed-in-Nf.ensures.wide);
     }
 
@@ -49,7 +52,7 @@ returns-in_ok-put_in_order-in-Atom t c =
       columns = are;
       wide =
           tells-leaf (as_core core) made c.surveyed-in-Atom.result.too_wide
-          (postorder-leaf core (inr (inl (arm.field-0, arm.field-1, arm.x, arm.y, arm.is)))) are
+          (postorder-leaf core (inr (arm.field-0, arm.field-1, arm.x, arm.y, arm.is))) are
           (rw (← c.surveyed-in-Atom.ensures.columns) at c.surveyed-in-Atom.ensures.wide);
     }
 

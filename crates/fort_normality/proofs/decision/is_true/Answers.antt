@@ -6,7 +6,7 @@ use Rattle.fort_normality.proofs.ValueTruth.{closed-Tells_system}
 use Rattle.fort_normality.proofs.decision.is_true.Goals as goal
 
 pub returns : goal.returns
-returns c = λ bytes forms p next problem same built closed.
-    subst (λ b. MatchBool b (IsTrueOf p (as_formula c.args.formula.now)) (IsFalseOf p (as_formula c.args.formula.now))) (sym c.evaluate.ensures.normal)
+returns c = λ bytes forms p next terms problem same built closed.
+    subst (λ b. MatchBool b (IsTrueOf p terms (as_formula c.args.formula.now)) (IsFalseOf p terms (as_formula c.args.formula.now))) (sym c.evaluate.ensures.normal)
     (closed-Tells_system p c.ground_terms.result.normal c.ground_terms.result.reducible (c.ground_terms.ensures bytes forms p next problem same)
-    (as_formula c.args.formula.now) built closed)
+    terms (as_formula c.args.formula.now) built closed)

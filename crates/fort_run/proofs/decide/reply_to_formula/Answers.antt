@@ -6,10 +6,13 @@ use Rattle.fort_run.proofs.Replies.{answer_told, too_long_told}
 use Rattle.fort_run.proofs.decide.reply_to_formula.Goals as goal
 
 pub returns-in-Err-TooLong-clause-ok : goal.returns-in-Err-TooLong-clause-ok
-returns-in-Err-TooLong-clause-ok g c = λ text accepted.
-    too_long_told text (as_formula c.args.formula.now) _ accepted
+returns-in-Err-TooLong-clause-ok g c = λ text is.
+    too_long_told text (as_formula c.args.parsed.now.formula) _ is.accepted
     (c.in-Err-TooLong.ensures.too_long (ap Err (let same : c.in-Err-TooLong.field-0 ≡ TooLong = cc in same)))
 
 pub returns-in-Ok-reply_to_bytes-clause-ok : goal.returns-in-Ok-reply_to_bytes-clause-ok
-returns-in-Ok-reply_to_bytes-clause-ok g c = λ text accepted.
-    answer_told text _ _ c.in-Ok.bytes.items _ _ c.in-Ok.ensures.all c.in-Ok.ensures.end (c.in-Ok-reply_to_bytes.ensures text accepted)
+returns-in-Ok-reply_to_bytes-clause-ok g c = λ text is.
+    answer_told text _ _ c.in-Ok.bytes.items _ _ c.in-Ok.ensures.all c.in-Ok.ensures.end (c.in-Ok-reply_to_bytes.ensures text is)
+
+pub reply_to_bytes-requires-clause-short : goal.reply_to_bytes-requires-clause-short
+reply_to_bytes-requires-clause-short g c = c.requires

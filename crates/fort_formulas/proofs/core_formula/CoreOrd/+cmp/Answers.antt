@@ -1,8 +1,13 @@
 use Rattle.std.proofs.Common.{sym, ◌∙◌, ◌≡◌}
 use Rattle.fort_formulas.specs.CoreCode.{spelled}
 use Rattle.fort_formulas.specs.CoreKeys.{marks_order}
-use Rattle.fort_formulas.specs.CoreOrderLaws.{two_order-Equal, two_order-unequal}
+use Rattle.fort_formulas.specs.CoreOrderLaws.{Is_order-terms, two_order-Equal, two_order-unequal}
 use Rattle.fort_formulas.proofs.core_formula.CoreOrd.+cmp.Goals as goal
+
+pub returns-in-Is-Is : goal.returns-in-Is-Is
+returns-in-Is-Is t c =
+    rw (c.in-Is-Is.is-0, c.in-Is-Is.is-1, c.then-in-Is-Is.ensures, c.cmp-in-Is-Is.ensures, c.cmp-in-Is-Is-2.ensures)
+    (Is_order-terms c.in-Is-Is.x c.in-Is-Is.y c.in-Is-Is.s c.in-Is-Is.t)
 
 pub returns-in-Equal : goal.returns-in-Equal
 returns-in-Equal t c =

@@ -1,8 +1,12 @@
 use Rattle.std.proofs.Common.{sym, ◌∙◌, ◌≡◌}
 use Rattle.fort_formulas.specs.CoreCode.{spelled}
 use Rattle.fort_formulas.specs.CoreKeys.{same_marks}
-use Rattle.fort_formulas.specs.CoreKeyLaws.{two_eq-then, two_eq-else}
+use Rattle.fort_formulas.specs.CoreKeyLaws.{Is_eq-terms, two_eq-then, two_eq-else}
 use Rattle.fort_formulas.proofs.core_formula.CorePartialEq.+eq.Goals as goal
+
+pub returns-then-x-y : goal.returns-then-x-y
+returns-then-x-y t c =
+    rw (c.in-Is-Is.is-0, c.in-Is-Is.is-1, c.eq-then-x-y.ensures) (Is_eq-terms c.in-Is-Is.x c.in-Is-Is.y c.in-Is-Is.s c.in-Is-Is.t c.if-x-y.true)
 
 pub returns-then-eq-2 : goal.returns-then-eq-2
 returns-then-eq-2 t c =

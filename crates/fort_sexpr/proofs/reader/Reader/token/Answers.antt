@@ -1,7 +1,7 @@
 use Rattle.std.proofs.Common.{◌≡◌, sym, arith, get_or, [], reverse, vec_len, ◌∙◌}
 use Rattle.std.proofs.lemmas.List.{length-reverse, nil_from_length}
 use Rattle.std.proofs.lemmas.Bool.{eqb-true}
-use Rattle.fort_sexpr.proofs.Bytes.{is_text_byte-none}
+use Rattle.fort_grammar.proofs.Bytes.{is_text_byte-none}
 use Rattle.fort_sexpr.proofs.Ends.{BadByte-read, ExtraClose-read, TooDeep-read}
 use Rattle.fort_sexpr.proofs.ReadingLaws.{length-levels_of}
 use Rattle.fort_sexpr.proofs.reader.Reader.token.Goals as goal

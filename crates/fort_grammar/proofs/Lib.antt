@@ -1,0 +1,3 @@
+pub mod Bytes
+pub mod OneReading
+pub mod GroundTexts

@@ -1,0 +1,19 @@
+-- Inside: an accepted formula as it was read, and a formula that is read beside a system.
+use Rattle.std.specs.Prelude.{◌≡◌, ℕ, List, map}
+use Rattle.fort_theory.specs.Sides as theory
+use Rattle.fort_theory.specs.Patterns.{PatternSystem, pattern_system}
+use Rattle.fort_formula_grammar.specs.FormulaText.{AreGroundsOf}
+use Rattle.fort_formulas.specs.FormulaView.{as_formula}
+use Rattle.fort_formula_parser.specs.declared.parsed.Parsed.{Parsed}
+use Rattle.fort_formula_parser.specs.ParsedView.{as_ground}
+use Rattle.fort_answers.specs.FormulaAnswer.{IsAccepted}
+
+-- the text is accepted as the formula, with these ground terms
+pub record IsAcceptedAs (text : List ℕ) (parsed : Parsed) : Type 0 where
+  pub accepted : IsAccepted text (as_formula parsed.formula)
+  pub grounds : AreGroundsOf text (map as_ground parsed.grounds.items)
+
+-- for each text in which the formula's ground terms are written, and each system with these pairs of patterns
+abbrev pub Beside : Parsed → PatternSystem → (List ℕ → theory.System → Type 0) → Type 0
+Beside parsed system P =
+    (text : List ℕ) (p : theory.System) → AreGroundsOf text (map as_ground parsed.grounds.items) → system ≡ pattern_system p → P text p
