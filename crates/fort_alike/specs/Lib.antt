@@ -1,0 +1,4 @@
+pub mod Atoms
+pub mod Alike
+pub mod AlikeAtTerm
+pub mod UnlikeTuples

@@ -1,0 +1,2 @@
+pub mod TermNodes
+pub mod TermListing
