@@ -1,9 +1,7 @@
-pub mod LabelSetLaws
 pub mod StateLaws
 pub mod CountLaws
 pub mod FullLaws
 pub mod KnownLaws
-pub mod PieceLaws
 pub mod PlaceLaws
 pub mod ExploreLaws
 pub mod TestShapes

@@ -1,6 +1,7 @@
 -- Inside: what the fields of rows stand for.
 use Rattle.std.specs.Prelude.{◌≡◌, ◌*◌, ◌<◌, ◌≤◌, length, vec_len, vec_capacity}
-use Rattle.fort_explore.specs.RowsView.{Labels, pieces}
+use Rattle.fort_lockstep.specs.Pieces.{pieces}
+use Rattle.fort_explore.specs.RowsView.{Labels}
 use Rattle.fort_explore.specs.declared.rows.Rows.TheInside.{Inside}
 
 abbrev pub labels_in : Inside → Labels

@@ -1,18 +1,17 @@
 -- A maker gives the entry at which its walk stands a target.
-use Rattle.std.proofs.Common.{◌≡◌, ℕ, zero, suc, ◌+◌, ◌<◌, ◌^◌, List, [], ◌∷◌, ◌++◌, length, get_or, Bool, true, false, ◌==◌, if◌then◌else◌, refl, ap, sym, ◌∙◌, arith, subst}
+use Rattle.std.proofs.Common.{◌≡◌, ℕ, ◌+◌, ◌<◌, ◌^◌, List, [], ◌∷◌, ◌++◌, length, get_or, Bool, true, false, ◌==◌, if◌then◌else◌, refl, ap, sym, ◌∙◌, arith, subst}
 use Rattle.std.proofs.lemmas.List.{length_push}
 use Rattle.fort_theory.specs.Signatures.{Signature}
 use Rattle.fort_tables.specs.Tuples.{presence}
 use Rattle.fort_tables.specs.Entries.{Entry, no_entry, IsNextEntry, IsLastEntry}
-use Rattle.fort_tables.specs.Tables.{Made, IsMadeDue, IsAllowed, IsGiven, target_in, same_entry}
+use Rattle.fort_tables.specs.Tables.{Made, IsMadeDue, IsAllowed, IsGiven}
 use Rattle.fort_tables.proofs.EqualTests.{equal_from_test}
 use Rattle.fort_tables.proofs.OrderLaws.{due_one}
-use Rattle.fort_tables.proofs.EntryLaws.{same_entry-itself, entry_from_same}
 use Rattle.fort_lockstep.specs.Walks.{Place}
 use Rattle.fort_lockstep.specs.WalkFacts.{entry_at, IsStep}
 use Rattle.fort_lockstep.specs.Making.{made_of, IsPushed, IsMaking, IsStanding, IsUpTo, Stands}
 use Rattle.fort_lockstep.proofs.MakingLaws.{stands_next, stands_last, standing_due, making_none, up_to_none, Grown, grown}
-use Rattle.fort_lockstep.specs.declared.given.Given.{Given}
+use Rattle.fort_lockstep.specs.GivenView.{Parts}
 
 -- where an entry is due, the walk stands at it
 pub record AtDue (m : Made) (last e : Entry) : Type 0 where
@@ -23,56 +22,40 @@ pub at_due : (m : Made) (last e : Entry) (b : Bool) → Stands m last b → IsMa
 at_due m last e true s d = record { standing = s; same = due_one m.signature m.columns m.presences m.entries last e (standing_due m last s) d }
 at_due m last e false s d = absurd (d.missing (s e d.is_entry))
 
-pub given_grown : (sig : Signature) (n : ℕ) (g g' : Given) (row last e : Entry) (b : Bool) (q : ℕ) → IsMaking sig n g.presences.items g.firsts.items g.entries.items g.targets.items → Stands (made_of sig n g) last b → IsAllowed (made_of sig n g) e q → row ≡ last → IsPushed g row q g' → Grown sig n g'.presences.items g'.firsts.items g'.entries.items g'.targets.items last
+pub given_grown : (sig : Signature) (n : ℕ) (g g' : Parts) (row last e : Entry) (b : Bool) (q : ℕ) → IsMaking sig n g.presences g.firsts g.entries g.targets → Stands (made_of sig n g) last b → IsAllowed (made_of sig n g) e q → row ≡ last → IsPushed g row q g' → Grown sig n g'.presences g'.firsts g'.entries g'.targets last
 given_grown sig n g g' row last e b q m s ok is h =
     let at = at_due (made_of sig n g) last e b s ok.due in
-    let fits : q < length g.presences.items → get_or g.presences.items q 0 ≡ presence last.symbol = λ l. ok.fits l ∙ ap (λ (x : Entry). presence x.symbol) (sym at.same) in
-    let pe = h.presences ∙ ap (λ (x : Entry). if q == length g.presences.items then g.presences.items ++ presence x.symbol ∷ [] else g.presences.items) is in
-    let r = grown sig n g.presences.items g.firsts.items g.entries.items g.targets.items last q g'.presences.items g'.firsts.items m at.standing ok.known fits pe h.firsts in
-    subst (λ (entries : List Entry). Grown sig n g'.presences.items g'.firsts.items entries g'.targets.items last) (sym (h.entries ∙ ap (λ (x : Entry). g.entries.items ++ x ∷ []) is))
-    (subst (λ (qs : List ℕ). Grown sig n g'.presences.items g'.firsts.items (g.entries.items ++ last ∷ []) qs last) (sym h.targets) r)
+    let fits : q < length g.presences → get_or g.presences q 0 ≡ presence last.symbol = λ l. ok.fits l ∙ ap (λ (x : Entry). presence x.symbol) (sym at.same) in
+    let pe = h.presences ∙ ap (λ (x : Entry). if q == length g.presences then g.presences ++ presence x.symbol ∷ [] else g.presences) is in
+    let r = grown sig n g.presences g.firsts g.entries g.targets last q g'.presences g'.firsts m at.standing ok.known fits pe h.firsts in
+    subst (λ (entries : List Entry). Grown sig n g'.presences g'.firsts entries g'.targets last) (sym (h.entries ∙ ap (λ (x : Entry). g.entries ++ x ∷ []) is))
+    (subst (λ (qs : List ℕ). Grown sig n g'.presences g'.firsts (g.entries ++ last ∷ []) qs last) (sym h.targets) r)
 
-pub given_is : (sig : Signature) (n : ℕ) (g g' : Given) (row e : Entry) (q : ℕ) → row ≡ e → IsPushed g row q g' → IsGiven (made_of sig n g) e q (made_of sig n g')
+pub given_is : (sig : Signature) (n : ℕ) (g g' : Parts) (row e : Entry) (q : ℕ) → row ≡ e → IsPushed g row q g' → IsGiven (made_of sig n g) e q (made_of sig n g')
 given_is sig n g g' row e q is h = record {
   signature = refl;
   columns_are = refl;
-  entries = h.entries ∙ ap (λ (x : Entry). g.entries.items ++ x ∷ []) is;
+  entries = h.entries ∙ ap (λ (x : Entry). g.entries ++ x ∷ []) is;
   targets = h.targets;
-  presences = h.presences ∙ ap (λ (x : Entry). if q == length g.presences.items then g.presences.items ++ presence x.symbol ∷ [] else g.presences.items) is;
+  presences = h.presences ∙ ap (λ (x : Entry). if q == length g.presences then g.presences ++ presence x.symbol ∷ [] else g.presences) is;
 }
 
 pub stands_after : (m : Made) (old new : Place) (b : Bool) → IsUpTo m.signature m.columns m.presences m.entries (entry_at old) → length old.digits ≡ m.columns → IsStep m.signature m.presences old new b → Stands m (entry_at new) b
 stands_after m old new true u w s = stands_next m (entry_at old) (entry_at new) u (subst (λ (n : ℕ). IsNextEntry m.signature n m.presences (entry_at old) (entry_at new)) w s)
 stands_after m old new false u w s = stands_last m (entry_at old) u (subst (λ (n : ℕ). IsLastEntry m.signature n m.presences (entry_at old)) w s.0)
 
--- the first place of an entry has its target
-pub target_first : (entries : List Entry) (qs : List ℕ) (e : Entry) (k : ℕ) → k < length entries → get_or entries k e ≡ e → ((j : ℕ) → j < k → get_or entries j e ≡ e → ⊥) → length qs ≡ length entries → get_or qs k 0 ≡ target_in entries qs e
-target_first [] qs e k l h earlier c = absurd (omega arith)
-target_first (x ∷ entries) [] e k l h earlier c = absurd (omega arith)
-target_first (x ∷ entries) (q ∷ qs) e zero l h earlier c =
-    let s : same_entry x e ≡ true = subst (λ (y : Entry). same_entry x y ≡ true) h (same_entry-itself x) in
-    rw s refl
-target_first (x ∷ entries) (q ∷ qs) e (suc k) l h earlier c =
-    let r = target_first entries qs e k (omega arith) h (λ j b. earlier (suc j) (omega arith)) (omega arith) in
-    let F : Bool → Type 0 = λ b. same_entry x e ≡ b → get_or qs k 0 ≡ target_in (x ∷ entries) (q ∷ qs) e in
-    let both : (b : Bool) → F b = λ b. elim b as F [
-      | true ↦ (λ s. absurd (earlier 0 (omega arith) (entry_from_same x e s)))
-      | false ↦ (λ s. rw s r)
-    ] in
-    both (same_entry x e) refl
-
 -- a maker at its start
-pub new_making : (sig : Signature) (n : ℕ) (g : Given) → g.presences.items ≡ [] → g.firsts.items ≡ [] → g.entries.items ≡ [] → g.targets.items ≡ [] → IsMaking sig n g.presences.items g.firsts.items g.entries.items g.targets.items
+pub new_making : (sig : Signature) (n : ℕ) (g : Parts) → g.presences ≡ [] → g.firsts ≡ [] → g.entries ≡ [] → g.targets ≡ [] → IsMaking sig n g.presences g.firsts g.entries g.targets
 new_making sig n g p f r t =
-    subst (λ (ps : List ℕ). IsMaking sig n ps g.firsts.items g.entries.items g.targets.items) (sym p)
-    (subst (λ (fs : List ℕ). IsMaking sig n [] fs g.entries.items g.targets.items) (sym f)
-    (subst (λ (rs : List Entry). IsMaking sig n [] [] rs g.targets.items) (sym r)
+    subst (λ (ps : List ℕ). IsMaking sig n ps g.firsts g.entries g.targets) (sym p)
+    (subst (λ (fs : List ℕ). IsMaking sig n [] fs g.entries g.targets) (sym f)
+    (subst (λ (rs : List Entry). IsMaking sig n [] [] rs g.targets) (sym r)
     (subst (λ (ts : List ℕ). IsMaking sig n [] [] [] ts) (sym t) (making_none sig n))))
 
-pub new_stands : (sig : Signature) (n : ℕ) (g : Given) (old new : Place) (b : Bool) → g.presences.items ≡ [] → g.entries.items ≡ [] → entry_at old ≡ no_entry n → length old.digits ≡ n → IsStep sig [] old new b → Stands (made_of sig n g) (entry_at new) b
+pub new_stands : (sig : Signature) (n : ℕ) (g : Parts) (old new : Place) (b : Bool) → g.presences ≡ [] → g.entries ≡ [] → entry_at old ≡ no_entry n → length old.digits ≡ n → IsStep sig [] old new b → Stands (made_of sig n g) (entry_at new) b
 new_stands sig n g old new b p r start w s =
-    let up : IsUpTo sig n g.presences.items g.entries.items (entry_at old) =
-    subst (λ (ps : List ℕ). IsUpTo sig n ps g.entries.items (entry_at old)) (sym p)
+    let up : IsUpTo sig n g.presences g.entries (entry_at old) =
+    subst (λ (ps : List ℕ). IsUpTo sig n ps g.entries (entry_at old)) (sym p)
     (subst (λ (rs : List Entry). IsUpTo sig n [] rs (entry_at old)) (sym r)
     (subst (λ (e : Entry). IsUpTo sig n [] [] e) (sym start) (up_to_none sig n))) in
     stands_after (made_of sig n g) old new b up w (subst (λ (ps : List ℕ). IsStep sig ps old new b) (sym p) s)
@@ -87,5 +70,5 @@ pushed_length q p ps few next =
     both (q == length ps) refl
 
 -- a state more is one that has a number
-pub pushed_few : (g g' : Given) (row : Entry) (q : ℕ) → length g.presences.items < 2 ^ 32 → q + 1 < 2 ^ 32 → IsPushed g row q g' → length g'.presences.items < 2 ^ 32
-pushed_few g g' row q few next h = rw h.presences (pushed_length q (presence row.symbol) g.presences.items few next)
+pub pushed_few : (g g' : Parts) (row : Entry) (q : ℕ) → length g.presences < 2 ^ 32 → q + 1 < 2 ^ 32 → IsPushed g row q g' → length g'.presences < 2 ^ 32
+pushed_few g g' row q few next h = rw h.presences (pushed_length q (presence row.symbol) g.presences few next)

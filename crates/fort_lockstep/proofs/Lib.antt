@@ -10,3 +10,16 @@ pub mod StepLaws
 pub mod MakingLaws
 pub mod FinishLaws
 pub mod GiveLaws
+pub mod PieceLaws
+pub mod OrderedLaws
+pub mod GroupLaws
+pub mod BisectionLaws
+pub mod SetLaws
+pub mod GroupsByDigits
+pub mod FirstEntryLaws
+pub mod RankLaws
+pub mod InOrderLaws
+pub mod CountLaws
+pub mod TallyLaws
+pub mod BeforeLaws
+pub mod FullLaws

@@ -9,7 +9,7 @@ listed_in a = finished (made_of a.signature a.columns a.given) a.finals.items
 
 pub record IsDta (a : Inside) : Type 0 where
   pub listed : IsListed (listed_in a)
-  pub final_count : length a.finals.items ≡ length a.given.presences.items
-  pub few : length a.given.presences.items < 2 ^ 32
-  pub first_count : length a.given.firsts.items ≡ length a.given.presences.items
-  pub first_place : (q : ℕ) → q < length a.given.presences.items → IsFirstPlace a.given.targets.items q (get_or a.given.firsts.items q 0)
+  pub final_count : length a.finals.items ≡ length a.given.presences
+  pub few : length a.given.presences < 2 ^ 32
+  pub first_count : length a.given.firsts ≡ length a.given.presences
+  pub first_place : (q : ℕ) → q < length a.given.presences → IsFirstPlace a.given.targets q (get_or a.given.firsts q 0)

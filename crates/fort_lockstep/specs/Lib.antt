@@ -5,6 +5,17 @@ pub mod Walks
 pub mod WalkFacts
 pub mod EntriesView
 pub mod EntriesInside
+pub mod Transitions
+pub mod Pieces
+pub mod KidOrder
+pub mod Ranks
+pub mod InOrder
+pub mod Tallies
+pub mod GroupInside
+pub mod GroupFacts
+pub mod StateFacts
+pub mod GivenView
+pub mod GivenInside
 pub mod Making
 pub mod MakerInside
 pub mod DtaInside

@@ -11,8 +11,8 @@ made_in a = made_of a.signature a.columns a.given
 pub record IsMaker (a : Inside) : Type 0 where
   pub some : 0 < a.columns
   pub narrow : a.columns ≤ 16
-  pub few : length a.given.presences.items < 2 ^ 32
+  pub few : length a.given.presences < 2 ^ 32
   pub width : length a.walk.digits ≡ a.columns
   pub placed : IsPlace a.signature (place a.walk)
-  pub making : IsMaking a.signature a.columns a.given.presences.items a.given.firsts.items a.given.entries.items a.given.targets.items
+  pub making : IsMaking a.signature a.columns a.given.presences a.given.firsts a.given.entries a.given.targets
   pub stands : Stands (made_in a) (entry_at (place a.walk)) a.is_due

@@ -4,22 +4,16 @@ use Rattle.fort_theory.specs.Signatures.{Signature}
 use Rattle.fort_tables.specs.Tuples.{presence}
 use Rattle.fort_tables.specs.Entries.{Entry, IsEntry, ComesBefore, AreInOrder}
 use Rattle.fort_tables.specs.Tables.{Made, IsComplete}
-use Rattle.fort_lockstep.specs.declared.given.Given.{Given}
+use Rattle.fort_lockstep.specs.GivenView.{Parts}
 
-abbrev pub made_of : Signature → ℕ → Given → Made
-made_of sig columns g = record { signature = sig; columns = columns; presences = g.presences.items; entries = g.entries.items; targets = g.targets.items }
+abbrev pub made_of : Signature → ℕ → Parts → Made
+made_of sig columns g = record { signature = sig; columns = columns; presences = g.presences; entries = g.entries; targets = g.targets }
 
-pub record IsSameGiven (old new : Given) : Type 0 where
-  pub presences : new.presences.items ≡ old.presences.items
-  pub firsts : new.firsts.items ≡ old.firsts.items
-  pub entries : new.entries.items ≡ old.entries.items
-  pub targets : new.targets.items ≡ old.targets.items
-
-pub record IsPushed (old : Given) (e : Entry) (target : ℕ) (new : Given) : Type 0 where
-  pub presences : new.presences.items ≡ (if target == length old.presences.items then old.presences.items ++ presence e.symbol ∷ [] else old.presences.items)
-  pub firsts : new.firsts.items ≡ (if target == length old.presences.items then old.firsts.items ++ length old.entries.items ∷ [] else old.firsts.items)
-  pub entries : new.entries.items ≡ old.entries.items ++ e ∷ []
-  pub targets : new.targets.items ≡ old.targets.items ++ target ∷ []
+pub record IsPushed (old : Parts) (e : Entry) (target : ℕ) (new : Parts) : Type 0 where
+  pub presences : new.presences ≡ (if target == length old.presences then old.presences ++ presence e.symbol ∷ [] else old.presences)
+  pub firsts : new.firsts ≡ (if target == length old.presences then old.firsts ++ length old.entries ∷ [] else old.firsts)
+  pub entries : new.entries ≡ old.entries ++ e ∷ []
+  pub targets : new.targets ≡ old.targets ++ target ∷ []
 
 -- the first place of this target; the targets before it are smaller
 pub record IsFirstPlace (targets : List ℕ) (q place : ℕ) : Type 0 where

@@ -32,19 +32,6 @@ impl Model for Dta {
     ghost invariant = { IsDta };
 }
 
-fn target_among(entries: &[Row], targets: &[u32], sym: &TupleSym, kids: &[u32]) -> u32
-    requires there { Contains entries.now (entry sym.now kids.now) }
-    requires count { length targets.now ≡ length entries.now }
-    ensures { result ≡ target_in entries.now targets.now (entry sym.now kids.now) }
-{
-    for k in 0..entries.len() {
-        if entries[k].is_entry(sym, kids) {
-            return targets[k];
-        }
-    }
-    unreachable!()
-}
-
 impl Dta {
     /// The entries over its own signature, from the first.
     pub fn entries(&self) -> Entries<'_>
@@ -61,7 +48,7 @@ impl Dta {
         requires { q < length self.now.presences }
         ensures { IsFirstWith self.now.entries self.now.targets q result }
     {
-        self.given.entries[self.given.firsts[q as usize]]
+        self.given.first(q)
     }
 }
 
@@ -77,11 +64,11 @@ impl Table for Dta {
     }
 
     fn states(&self) -> u32 {
-        self.given.presences.len() as u32
+        self.given.presences().len() as u32
     }
 
     fn presence(&self, q: u32) -> u16 {
-        self.given.presences[q as usize]
+        self.given.presences()[q as usize]
     }
 
     fn is_final(&self, q: u32) -> bool {
@@ -89,11 +76,6 @@ impl Table for Dta {
     }
 
     fn target(&self, sym: &TupleSym, kids: &[u32]) -> u32 {
-        target_among(
-            self.given.entries.as_slice(),
-            self.given.targets.as_slice(),
-            sym,
-            kids,
-        )
+        self.given.target(sym, kids)
     }
 }

@@ -1,48 +1,117 @@
 //! The entries that have a target, and the states that they made.
-ghost use Rattle.std.specs.Prelude.{◌≡◌, ℕ, ◌+◌, ◌<◌, ◌≤◌, List, [], ◌∷◌, ◌++◌, length, vec_len, vec_capacity, OnOk, OnErr};
-ghost use Rattle.fort_lockstep.specs.Making.{IsPushed, IsSameGiven};
+ghost use Rattle.std.specs.Prelude.{◌≡◌, ℕ, ◌+◌, ◌<◌, ◌^◌, [], ◌∷◌, ◌++◌, length, slice_index_or, IfOk, OnOk, OnErr};
+ghost use Rattle.fort_tables.specs.Entries.{Entry, entry};
+ghost use Rattle.fort_tables.specs.Tables.{target_in};
+ghost use Rattle.fort_lockstep.specs.Transitions.{IsAfterEntries};
+ghost use Rattle.fort_lockstep.specs.GivenView.{AreEachOnce};
+ghost use Rattle.fort_lockstep.specs.Making.{IsPushed};
+ghost use Rattle.fort_lockstep.specs.GroupFacts.{HasWidth, IsFull};
 
+use crate::counts::Counts;
+use crate::groups::Groups;
 use crate::row::Row;
+use crate::states::States;
+use crate::symbol::TupleSym;
+use crate::symbol_set::SymbolSet;
 use fort_terms::Memory;
+use std::alloc::{AllocError, Global};
+use std::marker::Model;
 
 /// The states so far, and the entries that have a target.
 #[derive(Drop)]
 pub struct Given {
-    pub presences: Vec<u16>,
-    /// The place of the first entry of each state.
-    pub firsts: Vec<usize>,
-    pub entries: Vec<Row>,
-    pub targets: Vec<u32>,
+    alloc: Global,
+    states: States,
+    groups: Groups,
+    count: usize,
+}
+
+impl Model for Given {
+    ghost use Rattle.fort_lockstep.specs.GivenView.{Parts};
+
+    ghost Value = { Parts };
+
+    ghost use Rattle.fort_lockstep.specs.GivenInside.{parts_in, AreParts};
+
+    ghost view = { parts_in };
+
+    ghost invariant = { AreParts };
 }
 
 impl Given {
-    /// Room for one more entry and one more state.
-    fn make_room(&mut self) -> Result<(), Memory>
-        ensures same { IsSameGiven self.old self.new }
-        ensures presences { OnOk result (vec_len self.new.presences < vec_capacity
-            self.new.presences) }
-        ensures firsts { OnOk result (vec_len self.new.firsts < vec_capacity self.new.firsts) }
-        ensures entries { OnOk result (vec_len self.new.entries < vec_capacity self.new.entries) }
-        ensures targets { OnOk result (vec_len self.new.targets < vec_capacity self.new.targets) }
+    /// No states yet; their presences are counted where they are below `width`.
+    pub fn new(alloc: Global, width: usize) -> Result<Given, Memory>
+        ensures presences { IfOk result (λ g. g.presences ≡ []) }
+        ensures firsts { IfOk result (λ g. g.firsts ≡ []) }
+        ensures entries { IfOk result (λ g. g.entries ≡ []) }
+        ensures targets { IfOk result (λ g. g.targets ≡ []) }
     {
-        self.presences.reserve(1)?;
-        self.firsts.reserve(1)?;
-        self.entries.reserve(1)?;
-        self.targets.reserve(1)
+        let states = States {
+            presences: Vec::new(alloc),
+            firsts: Vec::new(alloc),
+            first_entries: Vec::new(alloc),
+            counts: Counts::new(alloc, width)?,
+        };
+        let groups = Groups {
+            symbols: SymbolSet::new(alloc),
+            list: Vec::new(alloc),
+        };
+        Ok(Given {
+            alloc,
+            states,
+            groups,
+            count: 0,
+        })
+    }
+
+    pub fn presences(&self) -> &[u16]
+        ensures { result.now ≡ self.now.presences }
+    {
+        self.states.presences.as_slice()
+    }
+
+    /// How many entries have a target.
+    pub fn len(&self) -> usize
+        ensures { result ≡ length self.now.targets }
+    {
+        self.count
+    }
+
+    /// The first entry of a state.
+    pub fn first(&self, q: u32) -> Row
+        requires { q < length self.now.firsts }
+        ensures { (d : Entry) → slice_index_or self.now.entries
+            (slice_index_or self.now.firsts q 0) d ≡ result }
+    {
+        self.states.first_entries[q as usize]
+    }
+
+    /// The target of an entry, where each entry stands once and its tuple symbol has all.
+    pub fn target(&self, sym: &TupleSym, kids: &[u32]) -> u32
+        requires once { AreEachOnce self.now.entries }
+        requires full { IsFull self.now.entries self.now.presences sym.now kids.now }
+        requires few { length self.now.presences < 2 ^ 32 }
+        ensures { result ≡ target_in self.now.entries self.now.targets (entry sym.now kids.now) }
+    {
+        self.groups.target(&self.states, sym, kids)
     }
 
     /// Gives an entry its target, which may be a new state.
     pub fn push(&mut self, row: Row, target: u32) -> Result<(), Memory>
+        requires after { IsAfterEntries self.old.entries row }
+        requires alike { HasWidth self.old.entries row }
+        requires small { target + 1 < 2 ^ 32 }
         ensures pushed { OnOk result (IsPushed self.old row target self.new) }
-        ensures err { OnErr result (IsSameGiven self.old self.new) }
+        ensures err { OnErr result (self.new ≡ self.old) }
     {
-        self.make_room()?;
-        if target as usize == self.presences.len() {
-            self.presences.push_reserved(row.presence());
-            self.firsts.push_reserved(self.entries.len());
-        }
-        self.entries.push_reserved(row);
-        self.targets.push_reserved(target);
+        let count = match self.count.checked_add(1) {
+            Some(count) => count,
+            None => return Err(AllocError),
+        };
+        self.states.make_room()?;
+        self.groups.push(self.alloc, &row, target)?;
+        self.states.note(row, target, self.count);
+        self.count = count;
         Ok(())
     }
 }

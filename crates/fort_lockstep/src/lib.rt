@@ -1,16 +1,22 @@
 //! Tuple symbols, entries in their order, and tables by the targets of their entries.
 #![tactic(auto)]
 
+mod counts;
 mod dag;
 mod digits;
 mod dta;
 mod entries;
 mod given;
+mod group;
+mod groups;
 mod kid_lists;
 mod kid_row;
 mod maker;
+mod place;
 mod row;
+mod states;
 mod symbol;
+mod symbol_set;
 mod table;
 mod walk;
 

@@ -33,6 +33,11 @@ impl Model for Maker {
     ghost invariant = { IsMaker };
 }
 
+/// The presences that are counted are those below this: all, where there are few columns.
+fn counted(columns: usize) -> usize {
+    if columns <= 5 { 1 << columns } else { 0 }
+}
+
 impl Maker {
     /// No states yet; the signature is copied.
     pub fn new(alloc: Global, sig: &Signature, columns: usize) -> Result<Maker, Memory>
@@ -45,12 +50,7 @@ impl Maker {
         ensures targets { IfOk result (λ m. m.targets ≡ []) }
     {
         let signature = sig.copy(alloc)?;
-        let given = Given {
-            presences: Vec::new(alloc),
-            firsts: Vec::new(alloc),
-            entries: Vec::new(alloc),
-            targets: Vec::new(alloc),
-        };
+        let given = Given::new(alloc, counted(columns))?;
         let mut walk = Walk::new(columns);
         let is_due = walk.advance(&signature, &[]);
         Ok(Maker {
@@ -68,7 +68,7 @@ impl Maker {
         ensures none { IfNone result (IsComplete self.now) }
         ensures counted { length self.now.targets < 2 ^ 64 }
     {
-        let _targets = self.given.targets.as_slice();
+        let _count = self.given.len();
         let _symbols = self.signature.len();
         if !self.is_due {
             return None;
@@ -87,9 +87,7 @@ impl Maker {
     {
         let _symbols = self.signature.len();
         self.given.push(self.walk.row(), target)?;
-        self.is_due = self
-            .walk
-            .advance(&self.signature, self.given.presences.as_slice());
+        self.is_due = self.walk.advance(&self.signature, self.given.presences());
         Ok(())
     }
 

@@ -1,7 +1,7 @@
 //! Tuple symbols.
-ghost use Rattle.std.specs.Prelude.{◌≡◌, ℕ, ◌<◌, ◌≤◌, ◌↔◌, List, length, IsTrue, slice_index, slice_index_or, slice_get, None, Some};
+ghost use Rattle.std.specs.Prelude.{◌≡◌, ℕ, ◌<◌, ◌≤◌, ◌↔◌, List, map, length, IsTrue, slice_index, slice_index_or, slice_get, None, Some};
 ghost use Rattle.std.specs.List.{insert};
-ghost use Rattle.fort_lockstep.specs.Columns.{as_column, as_symbol, symbol_of, column_of};
+ghost use Rattle.fort_lockstep.specs.Columns.{as_column, as_symbol, symbol_of, column_of, digit_of};
 
 use crate::digits::digits_of;
 use fort_terms::Sym;
@@ -50,6 +50,14 @@ impl TupleSym {
             len: from.len(),
             digits,
         }
+    }
+
+    /// 0 stands for absent, and one more than its number for a symbol.
+    pub(crate) fn digits(&self) -> &[u32]
+        ensures { result.now ≡ map digit_of self.now }
+    {
+        let digits = &self.digits;
+        &digits[..self.len]
     }
 
     pub fn len(&self) -> usize

@@ -1,5 +1,6 @@
 pub mod TransducersLaws
 pub mod GroundTaken
+pub mod TakesWithin
 pub mod Reductions
 pub mod ClosureTableExact
 pub mod ClosedLeft

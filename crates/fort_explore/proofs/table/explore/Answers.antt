@@ -1,4 +1,5 @@
 use Rattle.std.proofs.Common.{arith, ◌∙◌, sym, subst}
+use Rattle.std.proofs.lemmas.Result.{err_from_is_err_and}
 use Rattle.fort_tables.specs.Tables.{Listed, listed_table}
 use Rattle.fort_tables.specs.Labels.{IsTableOf}
 use Rattle.fort_tables.proofs.LabelRuleLaws.{IsTableBy-labels}
@@ -73,3 +74,54 @@ returns g c =
       over = tt;
       nodes = tt;
     }
+
+pub overflow_cast-q : goal.overflow_cast-q
+overflow_cast-q g c =
+    let f = c.entries.found in
+    let x = c.entries.invariant.exploring in
+    let ready = exploring_ready c.args.sig.now _ (g.L.Labeller.label c.args.labeller.now) c.entries.maker f.firsts f.labels.labels c.in-Some.row x c.in-Some.ensures.some in
+    let p = c.in_ok-q.ensures.placed c.args.sig.now c.requires ready in
+    omega (arith, p.within, c.len.ensures, c.if-len-cap.false, c.ranges.cap.fits)
+
+pub give-requires-clause-few : goal.give-requires-clause-few
+give-requires-clause-few g c =
+    let f = c.entries.found in
+    let x = c.entries.invariant.exploring in
+    let ready = exploring_ready c.args.sig.now _ (g.L.Labeller.label c.args.labeller.now) c.entries.maker f.firsts f.labels.labels c.in-Some.row x c.in-Some.ensures.some in
+    let p = c.in_ok-q.ensures.placed c.args.sig.now c.requires ready in
+    omega (arith, p.within, c.len.ensures, c.if-len-cap.false, c.ranges.cap.fits)
+
+pub returns-in_err-q-clause-over : goal.returns-in_err-q-clause-over
+returns-in_err-q-clause-over g c =
+    let p = err_from_is_err_and c.from_residual-in_err-q.result c.from_residual-in_err-q.ensures.1 in
+    rw (p.1, p.2) tt
+
+pub returns-in_err-q-clause-nodes : goal.returns-in_err-q-clause-nodes
+returns-in_err-q-clause-nodes g c =
+    let p = err_from_is_err_and c.from_residual-in_err-q.result c.from_residual-in_err-q.ensures.1 in
+    rw (p.1, p.2) tt
+
+pub returns-in_err-give-clause-over : goal.returns-in_err-give-clause-over
+returns-in_err-give-clause-over g c =
+    let p = err_from_is_err_and c.from_residual-in_err-give.result c.from_residual-in_err-give.ensures.1 in
+    rw (p.1, p.2) tt
+
+pub returns-in_err-give-clause-nodes : goal.returns-in_err-give-clause-nodes
+returns-in_err-give-clause-nodes g c =
+    let p = err_from_is_err_and c.from_residual-in_err-give.result c.from_residual-in_err-give.ensures.1 in
+    rw (p.1, p.2) tt
+
+pub returns-in_err-finals-clause-over : goal.returns-in_err-finals-clause-over
+returns-in_err-finals-clause-over g c =
+    let p = err_from_is_err_and c.from_residual-in_err-finals.result c.from_residual-in_err-finals.ensures.1 in
+    rw (p.1, p.2) tt
+
+pub returns-in_err-finals-clause-nodes : goal.returns-in_err-finals-clause-nodes
+returns-in_err-finals-clause-nodes g c =
+    let p = err_from_is_err_and c.from_residual-in_err-finals.result c.from_residual-in_err-finals.ensures.1 in
+    rw (p.1, p.2) tt
+
+pub place_of-requires-clause-ready : goal.place_of-requires-clause-ready
+place_of-requires-clause-ready g c =
+    let f = c.entries.found in
+    (c.args.sig.now, c.requires, exploring_ready c.args.sig.now _ (g.L.Labeller.label c.args.labeller.now) c.entries.maker f.firsts f.labels.labels c.in-Some.row c.entries.invariant.exploring c.in-Some.ensures.some)

@@ -1,6 +1,7 @@
 use Rattle.std.proofs.Common.{◌≡◌, ◌<◌, ◌+◌, ◌*◌, ◌-◌, ap, sym, ◌∙◌, length, get_or, take, drop, [], arith, ℕ, List}
-use Rattle.fort_explore.specs.RowsView.{Labels, pieces}
-use Rattle.fort_explore.proofs.PieceLaws.{length-pieces, piece_within, get_or-pieces}
+use Rattle.fort_lockstep.specs.Pieces.{pieces}
+use Rattle.fort_explore.specs.RowsView.{Labels}
+use Rattle.fort_lockstep.proofs.PieceLaws.{length-pieces, piece_within, get_or-pieces}
 use Rattle.fort_explore.proofs.rows.Rows.label.Goals as goal
 
 there : (q w n : ℕ) (xs : List ℕ) (r : Labels) {room : ℕ} → record { width = w; room = room; labels = pieces w n xs } ≡ r → q < length r.labels → q < n

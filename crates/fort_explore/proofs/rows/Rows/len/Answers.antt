@@ -1,6 +1,6 @@
 use Rattle.std.proofs.Common.{ap, sym, ◌∙◌, length}
 use Rattle.fort_explore.specs.RowsView.{Labels}
-use Rattle.fort_explore.proofs.PieceLaws.{length-pieces}
+use Rattle.fort_lockstep.proofs.PieceLaws.{length-pieces}
 use Rattle.fort_explore.proofs.rows.Rows.len.Goals as goal
 
 pub returns : goal.returns

@@ -1,6 +1,6 @@
 use Rattle.std.proofs.Common.{ap, length, arith}
 use Rattle.fort_explore.specs.RowsView.{Labels}
-use Rattle.fort_explore.proofs.PieceLaws.{length-pieces}
+use Rattle.fort_lockstep.proofs.PieceLaws.{length-pieces}
 use Rattle.fort_explore.proofs.rows.Rows.make_room.Goals as goal
 
 pub returns-in_ok-reserve-clause-room : goal.returns-in_ok-reserve-clause-room

@@ -1,6 +1,7 @@
 use Rattle.std.proofs.Common.{◌≡◌, ap, sym, ◌∙◌, length, arith, ◌<◌, ◌+◌, ◌++◌, ◌∷◌, [], suc, length-append}
-use Rattle.fort_explore.specs.RowsView.{Labels, pieces}
-use Rattle.fort_explore.proofs.PieceLaws.{length-pieces, piece_within, pieces_push}
+use Rattle.fort_lockstep.specs.Pieces.{pieces}
+use Rattle.fort_explore.specs.RowsView.{Labels}
+use Rattle.fort_lockstep.proofs.PieceLaws.{length-pieces, piece_within, pieces_push}
 use Rattle.fort_explore.proofs.rows.Rows.push.Goals as goal
 
 pub invariant_of-self : goal.invariant_of-self

@@ -1,4 +1,6 @@
-use Rattle.std.proofs.Common.{length, sym, ◌∙◌, subst, arith}
+use Rattle.std.proofs.Common.{◌≡◌, length, get_or, ap, sym, ◌∙◌, subst, arith}
+use Rattle.fort_tables.specs.Tuples.{symbol_kids}
+use Rattle.fort_tables.specs.Entries.{Entry, ComesBefore}
 use Rattle.fort_tables.specs.Tables.{Made, IsMadeDue, IsAllowed, IsGiven}
 use Rattle.fort_lockstep.specs.WalkFacts.{place, entry_at}
 use Rattle.fort_lockstep.specs.MakerInside.{made_in}
@@ -19,7 +21,7 @@ invariant_of-self-2 c =
     let g' = c.push.new.self in
     let allowed : IsAllowed (made_in a) c.requires.allowed.0 c.args.target = subst (λ (m : Made). IsAllowed m c.requires.allowed.0 c.args.target) (sym c.self.view_is) c.requires.allowed.1 in
     let r = given_grown a.signature a.columns a.given g' c.row.result (entry_at old) c.requires.allowed.0 a.is_due c.args.target i.making i.stands allowed c.row.ensures c.in_ok-push.ensures.pushed in
-    let next = rw c.as_slice.ensures.value at c.advance-self-inside.ensures.next in
+    let next = rw c.presences.ensures at c.advance-self-inside.ensures.next in
     record {
       some = i.some;
       narrow = i.narrow;
@@ -38,3 +40,18 @@ returns-clause-given c = λ e d.
     let at = at_due (made_in a) (entry_at (place a.walk)) e a.is_due c.self.invariant.stands due in
     subst (λ (m : Made). IsGiven m e c.args.target (made_of a.signature a.columns g')) c.self.view_is
     (given_is a.signature a.columns a.given g' c.row.result e c.args.target (c.row.ensures ∙ at.same) c.in_ok-push.ensures.pushed)
+
+pub push-requires-clause-after : goal.push-requires-clause-after
+push-requires-clause-after c =
+    let a = c.self.inside in
+    let allowed : IsAllowed (made_in a) c.requires.allowed.0 c.args.target = subst (λ (m : Made). IsAllowed m c.requires.allowed.0 c.args.target) (sym c.self.view_is) c.requires.allowed.1 in
+    let at = at_due (made_in a) (entry_at (place a.walk)) c.requires.allowed.0 a.is_due c.self.invariant.stands allowed.due in
+    λ k d l. subst (λ (x : Entry). ComesBefore (get_or a.given.entries k d) x) (sym c.row.ensures) (at.standing.after k d l)
+
+pub push-requires-clause-alike : goal.push-requires-clause-alike
+push-requires-clause-alike c =
+    let a = c.self.inside in
+    let allowed : IsAllowed (made_in a) c.requires.allowed.0 c.args.target = subst (λ (m : Made). IsAllowed m c.requires.allowed.0 c.args.target) (sym c.self.view_is) c.requires.allowed.1 in
+    let at = at_due (made_in a) (entry_at (place a.walk)) c.requires.allowed.0 a.is_due c.self.invariant.stands allowed.due in
+    let count : length c.row.result.kids ≡ symbol_kids a.signature c.row.result.symbol = subst (λ (x : Entry). length x.kids ≡ symbol_kids a.signature x.symbol) (sym c.row.ensures) at.standing.is_entry.count in
+    λ k d l e. (c.self.invariant.making.order.are k d l).count ∙ (ap (symbol_kids a.signature) e ∙ sym count)

@@ -1,0 +1,2 @@
+pub mod RootStepsLaws
+pub mod InverseLaws

@@ -1,0 +1,2 @@
+pub mod AgttView
+pub mod RootSteps

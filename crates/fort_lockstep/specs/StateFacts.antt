@@ -1,0 +1,25 @@
+-- Inside: states with their first entries, and one more.
+use Rattle.std.specs.Prelude.{◌≡◌, ℕ, ◌<◌, get_or, List, [], ◌∷◌, ◌++◌, length, ◌==◌, if◌then◌else◌}
+use Rattle.fort_tables.specs.Tuples.{presence}
+use Rattle.fort_tables.specs.Entries.{Entry}
+use Rattle.fort_lockstep.specs.Tallies.{IsBefore}
+use Rattle.fort_lockstep.specs.declared.states.States.{States}
+
+pub record IsSameStates (old new : States) : Type 0 where
+  pub presences : new.presences.items ≡ old.presences.items
+  pub firsts : new.firsts.items ≡ old.firsts.items
+  pub first_entries : new.first_entries.items ≡ old.first_entries.items
+  pub width : new.counts.width ≡ old.counts.width
+  pub before : new.counts.before.items ≡ old.counts.before.items
+
+pub record IsNoted (old : States) (e : Entry) (target place : ℕ) (new : States) : Type 0 where
+  pub presences : new.presences.items ≡ (if target == length old.presences.items then old.presences.items ++ presence e.symbol ∷ [] else old.presences.items)
+  pub firsts : new.firsts.items ≡ (if target == length old.presences.items then old.firsts.items ++ place ∷ [] else old.firsts.items)
+  pub first_entries : new.first_entries.items ≡ (if target == length old.presences.items then old.first_entries.items ++ e ∷ [] else old.first_entries.items)
+  pub counts : IsBefore new.presences.items new.counts.width new.counts.before.items
+
+-- each first entry stands at its place
+pub record AreFirsts (entries : List Entry) (firsts : List ℕ) (first_entries : List Entry) : Type 0 where
+  pub count : length first_entries ≡ length firsts
+  pub within : (q : ℕ) → q < length firsts → get_or firsts q 0 < length entries
+  pub entries_are : (q : ℕ) (d : Entry) → q < length firsts → get_or entries (get_or firsts q 0) d ≡ get_or first_entries q d

@@ -1,0 +1,12 @@
+pub mod Truths
+pub mod CopiesLaws
+pub mod NameTestsLaws
+pub mod MarksLaws
+pub mod SettledLaws
+pub mod InhabitedLaws
+pub mod TakenLaws
+pub mod TrimmedLaws
+pub mod SetLaws
+pub mod PatternMovesLaws
+pub mod PlaceLaws
+pub mod SubpatternsClosed

@@ -1,0 +1,7 @@
+pub mod NtaView
+pub mod Copies
+pub mod Trimmed
+pub mod PatternMoves
+pub mod InhabitedStates
+pub mod Marks
+pub mod NameTests
