@@ -51,8 +51,8 @@ fn word(label: &[u64]) -> u64
 fn kid_word(row: &Row, rows: &Rows, place: usize) -> u64
     requires { (j : ℕ) → j < length row.now.kids
         → slice_index_or row.now.kids j 0 < length rows.now.labels }
-    ensures { result ≡ slice_index_or (slice_index_or (map (λ q. slice_index_or rows.now.labels q [])
-        row.now.kids) place []) 1 0 }
+    ensures { result ≡ slice_index_or (slice_index_or
+        (map (λ q. slice_index_or rows.now.labels q []) row.now.kids) place []) 1 0 }
 {
     match row.kids().get(place) {
         Some(kid) => word(rows.label(*kid)),
