@@ -38,11 +38,11 @@ mutual
   trees_eq-itself Nil = refl
   trees_eq-itself (More t ts) = rw (tree_eq-itself t) (trees_eq-itself ts)
 
-tree_eq-Decides : (s t : Tree) → Decides (tree_eq s t) (s ≡ t)
-tree_eq-Decides s t = (same_from_tree_eq s t, λ e. subst (λ u. tree_eq s u ≡ true) e (tree_eq-itself s))
+pub Decides-tree_eq : (s t : Tree) → Decides (tree_eq s t) (s ≡ t)
+Decides-tree_eq s t = (same_from_tree_eq s t, λ e. subst (λ u. tree_eq s u ≡ true) e (tree_eq-itself s))
 
 pub tree_eq-equiv : IsEquivalence tree_eq
-tree_eq-equiv = decided tree_eq tree_eq-Decides
+tree_eq-equiv = decided tree_eq Decides-tree_eq
 
 pub tree_eq-partial_equiv : IsPartialEquivalence tree_eq
 tree_eq-partial_equiv = partial_equiv_from_equiv tree_eq-equiv
@@ -103,14 +103,14 @@ tree_order-Decides s t =
     (λ e. spelled-injective s t (same.0 (sym test ∙ e)), λ e. test ∙ same.1 (ap spelled e))
 
 pub tree_eq-ties : (s t : Tree) → tree_eq s t ≡ eq_by_cmp tree_order s t
-tree_eq-ties s t = one_answer (tree_eq s t) (eq_by_cmp tree_order s t) (tree_eq-Decides s t) (tree_order-Decides s t)
+tree_eq-ties s t = one_answer (tree_eq s t) (eq_by_cmp tree_order s t) (Decides-tree_eq s t) (tree_order-Decides s t)
 
 pub tree_order-partial : IsPartialOrder tree_eq (as_partial_cmp tree_order)
 tree_order-partial = partial_order_from_agreeing_total tree_order tree_order-total (λ s t. refl) tree_eq-ties
 
 -- equal terms feed a hasher alike
 pub tree_hash-respects_eq : (s t : Tree) → tree_eq s t ≡ true → tree_hash s ≡ tree_hash t
-tree_hash-respects_eq s t e = ap tree_hash ((tree_eq-Decides s t).0 e)
+tree_hash-respects_eq s t e = ap tree_hash ((Decides-tree_eq s t).0 e)
 
 length-trees : (ts : List Tree) → length ts ≡ tree_count (trees ts)
 length-trees [] = refl

@@ -10,5 +10,6 @@ pub mod StepByRoot
 pub mod IndexPlaces
 pub mod LinearSides
 pub mod PatternOrderLaws
+pub mod ClosedPatterns
 pub mod SignaturesLaws
 pub mod SystemLaws

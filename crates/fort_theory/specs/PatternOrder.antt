@@ -1,4 +1,4 @@
--- To believe: the order of patterns: Any first, then by symbol, then by arguments from left to right, a list before those that it begins; and which patterns stand within some patterns.
+-- To believe: the order of patterns: Any first, then by symbol, then by arguments from left to right, a list before those that it begins; which patterns stand within some patterns, and lists closed under arguments.
 use Rattle.std.specs.Prelude.{◌≡◌, ◌↔◌, ℕ, ◌<◌, ◌⊎◌, List, [], ◌∷◌, ◌++◌, length, get_or, Contains}
 use Rattle.fort_theory.specs.Patterns.{Pattern, Patterns, Any, At, NoPattern, MorePatterns}
 
@@ -31,3 +31,12 @@ StandsWithin tops p = (top : Pattern) × Contains tops top × Contains (subpatte
 pub record AreSubpatternsInOrder (tops ps : List Pattern) : Type 0 where
   pub same : (p : Pattern) → Contains ps p ↔ StandsWithin tops p
   pub ordered : (i j : ℕ) → i < j → j < length ps → PatternBefore (get_or ps i Any) (get_or ps j Any)
+
+-- each of these patterns is in the list
+abbrev pub AllAmong : List Pattern → Patterns → Type 0
+AllAmong listed NoPattern = Unit {0}
+AllAmong listed (MorePatterns p ps) = Contains listed p × AllAmong listed ps
+
+-- each listed pattern's arguments are in the list too
+abbrev pub HaveArguments : List Pattern → Type 0
+HaveArguments listed = (f : ℕ) (ps : Patterns) → Contains listed (At f ps) → AllAmong listed ps
