@@ -1,7 +1,7 @@
 -- Entries in groups of one tuple symbol each.
 use Rattle.std.proofs.Common.{◌≡◌, ℕ, zero, suc, ◌<◌, List, [], ◌∷◌, ◌++◌, length, get_or, append_assoc, refl, ap, sym, ◌∙◌, arith, subst, inl, inr, ⊎_elim}
 use Rattle.std.specs.Prelude.{slice_set}
-use Rattle.std.proofs.lemmas.List.{length-map, map-append}
+use Rattle.std.proofs.lemmas.List.{length-map, map-append, append-nil}
 use Rattle.fort_tables.specs.Tuples.{TupleSymbol}
 use Rattle.fort_tables.specs.Entries.{Entry, entry, ColumnBefore, LexBefore, ComesBefore}
 use Rattle.fort_tables.proofs.OrderLaws.{before_irrefl, before_trans}
@@ -57,12 +57,14 @@ push_in_group (f ∷ fs) (x ∷ gs) (suc i) g ks q h l e c =
       is = ap (λ (ws : List Transition). group_transitions f x.kids x.targets ++ ws) r.is ∙ sym (append_assoc (group_transitions f x.kids x.targets) r.before (transition (get_or fs i []) ks q ∷ r.after));
     }
 
--- a group without entries
-pub push_group : (fs : List TupleSymbol) (gs : List Group) (f : TupleSymbol) → length fs ≡ length gs → transitions (fs ++ f ∷ []) (gs ++ no_group ∷ []) ≡ transitions fs gs
-push_group [] [] f h = refl
-push_group [] (g ∷ gs) f h = absurd (omega arith)
-push_group (x ∷ fs) [] f h = absurd (omega arith)
-push_group (x ∷ fs) (g ∷ gs) f h = ap (λ (ws : List Transition). group_transitions x g.kids g.targets ++ ws) (push_group fs gs f (omega arith))
+-- one more group, of one entry
+pub push_group : (fs : List TupleSymbol) (gs : List Group) (f : TupleSymbol) (g : Group) → length fs ≡ length gs → transitions (fs ++ f ∷ []) (gs ++ g ∷ []) ≡ transitions fs gs ++ group_transitions f g.kids g.targets
+push_group [] [] f g h = append-nil (group_transitions f g.kids g.targets)
+push_group [] (x ∷ gs) f g h = absurd (omega arith)
+push_group (x ∷ fs) [] f g h = absurd (omega arith)
+push_group (x ∷ fs) (y ∷ gs) f g h =
+    ap (λ (ws : List Transition). group_transitions x y.kids y.targets ++ ws) (push_group fs gs f g (omega arith))
+    ∙ sym (append_assoc (group_transitions x y.kids y.targets) (transitions fs gs) (group_transitions f g.kids g.targets))
 
 In-group_transitions : (f : TupleSymbol) (kss : List (List ℕ)) (qs : List ℕ) (p : ℕ) → length kss ≡ length qs → p < length kss → In (transition f (get_or kss p []) (get_or qs p 0)) (group_transitions f kss qs)
 In-group_transitions f [] qs p h l = absurd (omega arith)
@@ -124,10 +126,13 @@ put_last_is old new e q p h =
       targets = ap targets_of same ∙ map-append (λ (x : Transition). x.target) (in_order old) (a ∷ []);
     }
 
+-- of entries of one tuple symbol, the child states decide
+pub kids_of_entries : (f : TupleSymbol) (ks ls : List ℕ) → ComesBefore (entry f ks) (entry f ls) → KidsBefore ks ls
+kids_of_entries f ks ls h = ⊎_elim (λ s. inl s) (λ d. ⊎_elim (λ s. absurd (symbol_irrefl f s)) (λ e. inr (d.0, e.1)) d.1) h
+
 -- in a group, child states come before those of an entry of its symbol that comes after all entries
 pub kids_before : (fs : List TupleSymbol) (gs : List Group) (i p : ℕ) (ks : List ℕ) → length fs ≡ length gs → i < length gs → length (get_or gs i no_group).kids ≡ length (get_or gs i no_group).targets → p < length (get_or gs i no_group).kids → IsAfterEntries (entries_of (in_order (transitions fs gs))) (entry (get_or fs i []) ks) → KidsBefore (get_or (get_or gs i no_group).kids p []) ks
 kids_before fs gs i p ks h l c m after =
     let f = get_or fs i [] in
     let all = after_entries (transitions fs gs) (transition f ks 0) after in
-    let b = all _ (In-group fs gs i p h l c m) in
-    ⊎_elim (λ s. inl s) (λ d. ⊎_elim (λ s. absurd (symbol_irrefl f s)) (λ e. inr (d.0, e.1)) d.1) b
+    kids_of_entries f (get_or (get_or gs i no_group).kids p []) ks (all _ (In-group fs gs i p h l c m))

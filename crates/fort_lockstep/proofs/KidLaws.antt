@@ -1,8 +1,8 @@
 -- One step through the states of a presence.
-use Rattle.std.proofs.Common.{◌≡◌, ℕ, zero, suc, ◌+◌, ◌-◌, ◌<◌, ◌≤◌, max, List, [], ◌∷◌, ◌++◌, map, get_or, Bool, true, false, ◌||◌, ◌==◌, refl, ap, sym, ◌∙◌, arith, ⊎_elim}
+use Rattle.std.proofs.Common.{◌≡◌, ℕ, zero, suc, ◌+◌, ◌-◌, ◌<◌, ◌≤◌, max, if◌then◌else◌, List, [], ◌∷◌, ◌++◌, map, get_or, Bool, true, false, ◌||◌, ◌==◌, refl, ap, sym, ◌∙◌, arith, ⊎_elim}
 use Rattle.std.proofs.lemmas.Bool.{cases_lt, cases_eq}
-use Rattle.fort_tables.proofs.EqualTests.{if_equal, if_apart, test_from_apart}
-use Rattle.fort_lockstep.specs.Walks.{states_with, kid_lists, kid_lists_from, first_tried}
+use Rattle.fort_tables.proofs.EqualTests.{if_equal, if_apart, test_from_apart, equal_from_test, apart_from_test}
+use Rattle.fort_lockstep.specs.Walks.{states_with, kid_lists, kid_lists_from, is_wanted, first_tried}
 
 left_is : (q m : ℕ) → q ≤ m → m + 1 - q ≡ suc (m + 1 - (q + 1))
 left_is q m h = omega arith
@@ -21,26 +21,55 @@ lists_none ps want q m wants has_greatest all h e n r =
     let tail = kid_lists_from ps m wants has_greatest (states_with ps want (q + 1) (m + 1 - (q + 1))) in
     sym (ap (kid_lists_from ps m wants has_greatest) (states_here ps want q m h e) ∙ ap (λ ks. map (λ k. q ∷ k) ks ++ tail) n) ∙ r
 
-nothing_last : (ps : List ℕ) (q m : ℕ) → q < m → kid_lists ps m [] (false || (q == m)) ≡ []
-nothing_last ps q m h = ap (kid_lists ps m []) (test_from_apart q m (λ e. omega arith))
+-- where the state m can be none of the children, there is no list with it
+none_from : (ps : List ℕ) (m p : ℕ) (ws : List ℕ) → (p == get_or ps m 0) ≡ false → kid_lists ps m ws false ≡ [] → (n a : ℕ) → kid_lists_from ps m ws false (states_with ps p a n) ≡ []
+none_from ps m p ws h e zero a = refl
+none_from ps m p ws h e (suc n) a =
+    let later = none_from ps m p ws h e n (a + 1) in
+    let rest = states_with ps p (a + 1) n in
+    let F : Bool → Type 0 = λ b. (get_or ps a 0 == p) ≡ b → kid_lists_from ps m ws false (if b then a ∷ rest else rest) ≡ [] in
+    let both : (b : Bool) → F b = λ b. elim b as F [
+      | true ↦ (λ t.
+          let other : (a == m) ≡ false =
+          test_from_apart a m (λ s. apart_from_test p (get_or ps m 0) h (sym (equal_from_test (get_or ps a 0) p t) ∙ ap (λ i. get_or ps i 0) s)) in
+          ap (λ b. map (λ k. a ∷ k) (kid_lists ps m ws b) ++ kid_lists_from ps m ws false rest) other
+          ∙ (ap (λ ks. map (λ k. a ∷ k) ks ++ kid_lists_from ps m ws false rest) e ∙ later))
+      | false ↦ (λ t. later)
+    ] in
+    both (get_or ps a 0 == p) refl
 
-skipped_one : (ps : List ℕ) (want q m : ℕ) → q < m → kid_lists_from ps m [] false (states_with ps want (q + 1) (m + 1 - (q + 1))) ≡ kid_lists_from ps m [] false (states_with ps want q (m + 1 - q))
-skipped_one ps want q m h =
+neither : (a b : Bool) → (a || b) ≡ false → (a ≡ false) × (b ≡ false)
+neither true b h = absurd cc
+neither false b h = (refl, h)
+
+nothing_left : (ps : List ℕ) (m : ℕ) (ws : List ℕ) → is_wanted (get_or ps m 0) ws ≡ false → kid_lists ps m ws false ≡ []
+nothing_left ps m [] h = refl
+nothing_left ps m (p ∷ ws) h =
+    let r = neither (p == get_or ps m 0) (is_wanted (get_or ps m 0) ws) h in
+    none_from ps m p ws r.0 (nothing_left ps m ws r.1) (m + 1) 0
+
+skipped_one : (ps : List ℕ) (want q m : ℕ) (ws : List ℕ) → is_wanted (get_or ps m 0) ws ≡ false → q < m → kid_lists_from ps m ws false (states_with ps want (q + 1) (m + 1 - (q + 1))) ≡ kid_lists_from ps m ws false (states_with ps want q (m + 1 - q))
+skipped_one ps want q m ws o h =
     ⊎_elim
-    (λ e. lists_none ps want q m [] false _ (omega arith) e (nothing_last ps q m h) refl)
-    (λ ne. lists_past ps want q m [] false _ (omega arith) ne refl)
+    (λ e. lists_none ps want q m ws false _ (omega arith) e (ap (kid_lists ps m ws) (test_from_apart q m (λ s. omega arith)) ∙ nothing_left ps m ws o) refl)
+    (λ ne. lists_past ps want q m ws false _ (omega arith) ne refl)
     (cases_eq (get_or ps q 0) want)
 
-skipped : (ps : List ℕ) (want m n from : ℕ) → from + n ≡ m → kid_lists_from ps m [] false (states_with ps want m (m + 1 - m)) ≡ kid_lists_from ps m [] false (states_with ps want from (m + 1 - from))
-skipped ps want m zero from e = let s : m ≡ from = omega arith in ap (λ q. kid_lists_from ps m [] false (states_with ps want q (m + 1 - q))) s
-skipped ps want m (suc n) from e = skipped ps want m n (from + 1) (omega arith) ∙ skipped_one ps want from m (omega arith)
+skipped : (ps : List ℕ) (want m : ℕ) (ws : List ℕ) → is_wanted (get_or ps m 0) ws ≡ false → (n from : ℕ) → from + n ≡ m → kid_lists_from ps m ws false (states_with ps want m (m + 1 - m)) ≡ kid_lists_from ps m ws false (states_with ps want from (m + 1 - from))
+skipped ps want m ws o zero from e = let s : m ≡ from = omega arith in ap (λ q. kid_lists_from ps m ws false (states_with ps want q (m + 1 - q))) s
+skipped ps want m ws o (suc n) from e = skipped ps want m ws o n (from + 1) (omega arith) ∙ skipped_one ps want from m ws o (omega arith)
 
 -- what isn't tried is no list
-pub first_tried-same : (ps : List ℕ) (want from m : ℕ) (ws : List ℕ) (has_greatest : Bool) → from ≤ m + 1 → kid_lists_from ps m ws has_greatest (states_with ps want (first_tried has_greatest ws from m) (m + 1 - first_tried has_greatest ws from m)) ≡ kid_lists_from ps m ws has_greatest (states_with ps want from (m + 1 - from))
-first_tried-same ps want from m [] false h =
-    ⊎_elim
-    (λ l. let e : max from m ≡ from = omega arith in ap (λ q. kid_lists_from ps m [] false (states_with ps want q (m + 1 - q))) e)
-    (λ l. let e : max from m ≡ m = omega arith in ap (λ q. kid_lists_from ps m [] false (states_with ps want q (m + 1 - q))) e ∙ skipped ps want m (m - from) from (omega arith))
-    (cases_lt m from)
-first_tried-same ps want from m (p ∷ ws) false h = refl
+pub first_tried-same : (ps : List ℕ) (want from m : ℕ) (ws : List ℕ) (has_greatest : Bool) → from ≤ m + 1 → kid_lists_from ps m ws has_greatest (states_with ps want (first_tried ps has_greatest ws from m) (m + 1 - first_tried ps has_greatest ws from m)) ≡ kid_lists_from ps m ws has_greatest (states_with ps want from (m + 1 - from))
 first_tried-same ps want from m ws true h = refl
+first_tried-same ps want from m ws false h =
+    let at : ℕ → List (List ℕ) = λ q. kid_lists_from ps m ws false (states_with ps want q (m + 1 - q)) in
+    let F : Bool → Type 0 = λ b. is_wanted (get_or ps m 0) ws ≡ b → at (if b then from else max from m) ≡ at from in
+    let both : (b : Bool) → F b = λ b. elim b as F [
+      | true ↦ (λ t. refl)
+      | false ↦ (λ t. ⊎_elim
+          (λ l. let e : max from m ≡ from = omega arith in ap at e)
+          (λ l. let e : max from m ≡ m = omega arith in ap at e ∙ skipped ps want m ws t (m - from) from (omega arith))
+          (cases_lt m from))
+    ] in
+    both (is_wanted (get_or ps m 0) ws) refl

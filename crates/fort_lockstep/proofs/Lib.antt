@@ -23,3 +23,10 @@ pub mod CountLaws
 pub mod TallyLaws
 pub mod BeforeLaws
 pub mod FullLaws
+pub mod UnrankLaws
+pub mod DueLaws
+pub mod FirstListLaws
+pub mod KeptLaws
+pub mod KeptGroups
+pub mod SymbolCountLaws
+pub mod OtherFinalsLaws

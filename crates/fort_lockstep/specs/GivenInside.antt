@@ -11,12 +11,12 @@ abbrev pub parts_in : Inside → Parts
 parts_in a = record {
   presences = a.states.presences.items;
   firsts = a.states.firsts.items;
-  entries = entries_of (in_order (transitions_of a.groups));
-  targets = targets_of (in_order (transitions_of a.groups));
+  entries = entries_of (in_order (transitions_of a.states.presences.items a.groups));
+  targets = targets_of (in_order (transitions_of a.states.presences.items a.groups));
 }
 
 pub record AreParts (a : Inside) : Type 0 where
-  pub groups : AreGroups a.groups
-  pub count : a.count ≡ length (transitions_of a.groups)
-  pub firsts : AreFirsts (entries_of (in_order (transitions_of a.groups))) a.states.firsts.items a.states.first_entries.items
+  pub groups : AreGroups a.states.counts.width a.states.presences.items a.groups
+  pub count : a.count ≡ length (transitions_of a.states.presences.items a.groups)
+  pub firsts : AreFirsts (entries_of (in_order (transitions_of a.states.presences.items a.groups))) a.states.firsts.items a.states.first_entries.items
   pub counts : IsBefore a.states.presences.items a.states.counts.width a.states.counts.before.items

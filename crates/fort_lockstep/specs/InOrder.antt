@@ -1,8 +1,7 @@
 -- Inside: the place of a list of states among all lists of states of these presences, in the order of entries.
-use Rattle.std.specs.Prelude.{ℕ, zero, suc, ◌+◌, ◌*◌, ◌-◌, ◌<◌, List, [], ◌∷◌, length, get_or, Bool, true, false, ◌==◌, Contains}
+use Rattle.std.specs.Prelude.{ℕ, zero, suc, ◌+◌, ◌*◌, ◌-◌, List, [], ◌∷◌, Bool, true, false, ◌==◌}
 use Rattle.fort_tables.specs.Entries.{stage}
-use Rattle.fort_lockstep.specs.Pieces.{IsRising}
-use Rattle.fort_lockstep.specs.Ranks.{rank_in, AreOf}
+use Rattle.fort_lockstep.specs.Ranks.{rank_in}
 
 -- how many lists of states below s there are
 abbrev pub box : List ℕ → List ℕ → ℕ → ℕ
@@ -28,9 +27,3 @@ place_at ps ws (suc q) ks = box ps ws q + inner ps ws q false ks
 -- how many lists come before one
 abbrev pub place_in_order : List ℕ → List ℕ → List ℕ → ℕ
 place_in_order ps ws ks = place_at ps ws (stage ks) ks
-
--- all lists of states of these presences, in order
-pub record AreAllOf (ps ws : List ℕ) (kss : List (List ℕ)) : Type 0 where
-  pub rising : IsRising kss
-  pub are : (i : ℕ) → i < length kss → AreOf ps ws (get_or kss i [])
-  pub all : (ks : List ℕ) → AreOf ps ws ks → Contains kss ks

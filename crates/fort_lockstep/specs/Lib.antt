@@ -6,11 +6,13 @@ pub mod WalkFacts
 pub mod EntriesView
 pub mod EntriesInside
 pub mod Transitions
+pub mod SymbolCounts
 pub mod Pieces
 pub mod KidOrder
 pub mod Ranks
 pub mod InOrder
 pub mod Tallies
+pub mod Kept
 pub mod GroupInside
 pub mod GroupFacts
 pub mod StateFacts
@@ -19,3 +21,4 @@ pub mod GivenInside
 pub mod Making
 pub mod MakerInside
 pub mod DtaInside
+pub mod OtherFinals

@@ -16,6 +16,7 @@ pub record IsNoted (old : States) (e : Entry) (target place : ℕ) (new : States
   pub presences : new.presences.items ≡ (if target == length old.presences.items then old.presences.items ++ presence e.symbol ∷ [] else old.presences.items)
   pub firsts : new.firsts.items ≡ (if target == length old.presences.items then old.firsts.items ++ place ∷ [] else old.firsts.items)
   pub first_entries : new.first_entries.items ≡ (if target == length old.presences.items then old.first_entries.items ++ e ∷ [] else old.first_entries.items)
+  pub width : new.counts.width ≡ old.counts.width
   pub counts : IsBefore new.presences.items new.counts.width new.counts.before.items
 
 -- each first entry stands at its place

@@ -33,11 +33,14 @@ kids_after ps greatest (p ∷ wants) has_greatest (k ∷ ks) =
     (if get_or ps k 0 == p then map (λ r. k ∷ r) (kids_after ps greatest wants (has_greatest || (k == greatest)) ks) else [])
     ++ kid_lists_from ps greatest wants has_greatest (states_with ps p (k + 1) (greatest + 1 - (k + 1)))
 
--- where the last state has to be greatest, no other one is tried
-abbrev pub first_tried : Bool → List ℕ → ℕ → ℕ → ℕ
-first_tried false [] from greatest = max from greatest
-first_tried false (p ∷ wants) from greatest = from
-first_tried true wants from greatest = from
+-- whether a presence is among these
+abbrev pub is_wanted : ℕ → List ℕ → Bool
+is_wanted p [] = false
+is_wanted p (w ∷ ws) = (w == p) || is_wanted p ws
+
+-- where this state has to be greatest, since no later one can be, no other one is tried
+abbrev pub first_tried : List ℕ → Bool → List ℕ → ℕ → ℕ → ℕ
+first_tried ps has_greatest wants from greatest = if has_greatest || is_wanted (get_or ps greatest 0) wants then from else max from greatest
 
 -- whether there is one left, and then it is this one
 abbrev pub GivesFirst : {A : Type 0} → List A → (A → List A) → Option A → Type 0

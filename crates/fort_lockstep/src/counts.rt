@@ -15,7 +15,8 @@ pub struct Counts {
 impl Counts {
     /// No states yet.
     pub fn new(alloc: Global, width: usize) -> Result<Counts, Memory>
-        ensures { IfOk result (λ r. IsBefore [] r.width r.before.items) }
+        ensures width { IfOk result (λ r. r.width ≡ width) }
+        ensures before { IfOk result (λ r. IsBefore [] r.width r.before.items) }
     {
         let before = vec![in alloc; 0u32; width]?;
         Ok(Counts { width, before })

@@ -1,22 +1,34 @@
 //! Tables as lists of entries with their targets.
-ghost use Rattle.std.specs.Prelude.{◌≡◌, ℕ, ◌<◌, ◌≤◌, ◌^◌, ◌↔◌, length, slice_index, slice_index_or, Contains, IsTrue};
+ghost use Rattle.std.specs.Prelude.{◌≡◌, ℕ, ◌+◌, ◌-◌, ◌*◌, ◌<◌, ◌≤◌, ◌^◌, ◌↔◌, length, slice_index, slice_index_or, Contains, IsTrue, IfOk, true, false};
 ghost use Rattle.fort_tables.specs.Entries.{Entry, entry, no_entry};
-ghost use Rattle.fort_tables.specs.Tables.{IsTableEntry, IsListed, IsFirstWith, listed_table, target_in};
+ghost use Rattle.fort_lockstep.specs.SymbolCounts.{count_with};
+ghost use Rattle.fort_tables.specs.Tables.{IsTableEntry, IsListed, IsFirstWith, full_presence, listed_table, target_in};
+ghost use Rattle.fort_lockstep.specs.OtherFinals.{with_finals};
 
+use crate::bisect::Uncounted;
 use crate::entries::Entries;
 use crate::given::Given;
 use crate::row::Row;
+use crate::steps::Steps;
 use crate::symbol::TupleSym;
 use crate::table::Table;
-use fort_terms::Signature;
+use fort_terms::{Memory, Signature};
 use std::marker::Model;
+use std::rc::Rc;
+use std::sync::ledger::Ledger;
+
+/// What a table shares with those that differ in their accepting states alone.
+#[derive(Drop)]
+pub struct Shared {
+    pub signature: Signature,
+    pub columns: usize,
+    pub given: Given,
+}
 
 /// A table as the list of its entries, with their targets.
 #[derive(Drop)]
 pub struct Dta {
-    pub(crate) signature: Signature,
-    pub(crate) columns: usize,
-    pub(crate) given: Given,
+    pub(crate) shared: Rc<Shared>,
     pub(crate) finals: Vec<bool>,
 }
 
@@ -40,7 +52,8 @@ impl Dta {
         ensures start { result.last ≡ no_entry self.now.columns }
         ensures lawful { IsListed self.now }
     {
-        Entries::new(&self.signature, self.columns)
+        let shared = self.shared.as_ref();
+        Entries::new(&shared.signature, shared.columns)
     }
 
     /// The entry that made a state.
@@ -48,7 +61,37 @@ impl Dta {
         requires { q < length self.now.presences }
         ensures { IsFirstWith self.now.entries self.now.targets q result }
     {
-        self.given.first(q)
+        self.shared.as_ref().given.first(q)
+    }
+
+    /// The state of an entry; each comparison of two lists of child states is one step.
+    pub fn target_counted<L: Ledger>(
+        &self,
+        sym: &TupleSym,
+        kids: &[u32],
+        steps: &mut Steps<L>,
+    ) -> u32
+        requires { IsTableEntry (listed_table self.now) (entry sym.now kids.now) }
+        ensures target { result ≡ (listed_table self.now).target (entry sym.now kids.now) }
+        ensures grows { steps.old ≤ steps.new }
+        ensures cost { 2 ^ (steps.new - steps.old) ≤ 2 * count_with sym.now self.now.entries + 1 }
+    {
+        self.shared.as_ref().given.target(sym, kids, steps)
+    }
+
+    /// The same table with these accepting states. Both share their entries, so that it takes room for the states alone.
+    pub fn with_finals(&self, finals: Vec<bool>) -> Result<Dta, Memory>
+        requires count { length finals.items ≡ length self.now.presences }
+        requires full { (q : ℕ) → q < length self.now.presences
+            → slice_index_or finals.items q false ≡ true
+            → slice_index_or self.now.presences q 0 ≡ full_presence self.now.columns }
+        ensures table { IfOk result (λ t. t ≡ with_finals self.now finals.items) }
+        ensures lawful { IfOk result IsListed }
+    {
+        Ok(Dta {
+            shared: self.shared.clone()?,
+            finals,
+        })
     }
 }
 
@@ -56,19 +99,19 @@ impl Table for Dta {
     ghost table = { listed_table };
 
     fn signature(&self) -> &Signature {
-        &self.signature
+        &self.shared.as_ref().signature
     }
 
     fn columns(&self) -> usize {
-        self.columns
+        self.shared.as_ref().columns
     }
 
     fn states(&self) -> u32 {
-        self.given.presences().len() as u32
+        self.shared.as_ref().given.presences().len() as u32
     }
 
     fn presence(&self, q: u32) -> u16 {
-        self.given.presences()[q as usize]
+        self.shared.as_ref().given.presences()[q as usize]
     }
 
     fn is_final(&self, q: u32) -> bool {
@@ -76,6 +119,6 @@ impl Table for Dta {
     }
 
     fn target(&self, sym: &TupleSym, kids: &[u32]) -> u32 {
-        self.given.target(sym, kids)
+        self.shared.as_ref().given.target(sym, kids, &mut Uncounted)
     }
 }

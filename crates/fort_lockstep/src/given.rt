@@ -1,12 +1,13 @@
 //! The entries that have a target, and the states that they made.
-ghost use Rattle.std.specs.Prelude.{◌≡◌, ℕ, ◌+◌, ◌<◌, ◌^◌, [], ◌∷◌, ◌++◌, length, slice_index_or, IfOk, OnOk, OnErr};
+ghost use Rattle.std.specs.Prelude.{◌≡◌, ℕ, ◌+◌, ◌-◌, ◌*◌, ◌<◌, ◌≤◌, ◌^◌, [], ◌∷◌, ◌++◌, length, slice_index_or, IfOk, OnOk, OnErr};
 ghost use Rattle.fort_tables.specs.Entries.{Entry, entry};
 ghost use Rattle.fort_tables.specs.Tables.{target_in};
-ghost use Rattle.fort_lockstep.specs.Transitions.{IsAfterEntries};
+ghost use Rattle.fort_lockstep.specs.SymbolCounts.{count_with};
 ghost use Rattle.fort_lockstep.specs.GivenView.{AreEachOnce};
 ghost use Rattle.fort_lockstep.specs.Making.{IsPushed};
-ghost use Rattle.fort_lockstep.specs.GroupFacts.{HasWidth, IsFull};
+ghost use Rattle.fort_lockstep.specs.GroupFacts.{IsDue, IsFull};
 
+use crate::bisect::Comparisons;
 use crate::counts::Counts;
 use crate::groups::Groups;
 use crate::row::Row;
@@ -27,6 +28,7 @@ pub struct Given {
 }
 
 impl Model for Given {
+    ghost use Rattle.fort_lockstep.specs.SymbolCounts.{count_with};
     ghost use Rattle.fort_lockstep.specs.GivenView.{Parts};
 
     ghost Value = { Parts };
@@ -87,19 +89,22 @@ impl Given {
     }
 
     /// The target of an entry, where each entry stands once and its tuple symbol has all.
-    pub fn target(&self, sym: &TupleSym, kids: &[u32]) -> u32
+    pub fn target<C: Comparisons>(&self, sym: &TupleSym, kids: &[u32], comparisons: &mut C) -> u32
         requires once { AreEachOnce self.now.entries }
         requires full { IsFull self.now.entries self.now.presences sym.now kids.now }
         requires few { length self.now.presences < 2 ^ 32 }
-        ensures { result ≡ target_in self.now.entries self.now.targets (entry sym.now kids.now) }
+        ensures target { result ≡ target_in self.now.entries self.now.targets
+            (entry sym.now kids.now) }
+        ensures grows { C.made comparisons.old ≤ C.made comparisons.new }
+        ensures cost { 2 ^ (C.made comparisons.new - C.made comparisons.old)
+            ≤ 2 * count_with sym.now self.now.entries + 1 }
     {
-        self.groups.target(&self.states, sym, kids)
+        self.groups.target(&self.states, sym, kids, comparisons)
     }
 
     /// Gives an entry its target, which may be a new state.
     pub fn push(&mut self, row: Row, target: u32) -> Result<(), Memory>
-        requires after { IsAfterEntries self.old.entries row }
-        requires alike { HasWidth self.old.entries row }
+        requires due { IsDue self.old.entries self.old.presences row }
         requires small { target + 1 < 2 ^ 32 }
         ensures pushed { OnOk result (IsPushed self.old row target self.new) }
         ensures err { OnErr result (self.new ≡ self.old) }
@@ -109,7 +114,7 @@ impl Given {
             None => return Err(AllocError),
         };
         self.states.make_room()?;
-        self.groups.push(self.alloc, &row, target)?;
+        self.groups.push(self.alloc, &self.states, &row, target)?;
         self.states.note(row, target, self.count);
         self.count = count;
         Ok(())

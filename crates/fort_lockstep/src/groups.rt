@@ -1,12 +1,13 @@
 //! Entries by their tuple symbols.
-ghost use Rattle.std.specs.Prelude.{◌≡◌, ℕ, ◌+◌, ◌<◌, ◌^◌, [], map, length, slice_index_or, Contains, IfOk, OnOk, OnErr};
-ghost use Rattle.fort_lockstep.specs.Transitions.{entries_of, in_order, transition, IsAfterEntries, IsLast};
+ghost use Rattle.std.specs.Prelude.{◌≡◌, ℕ, ◌+◌, ◌-◌, ◌*◌, ◌<◌, ◌≤◌, ◌^◌, [], map, length, slice_index_or, Contains, OnOk, OnErr};
+ghost use Rattle.fort_lockstep.specs.Transitions.{entries_of, in_order, transition, IsLast};
 ghost use Rattle.fort_lockstep.specs.Columns.{digit_of};
+ghost use Rattle.fort_lockstep.specs.SymbolCounts.{count_with};
 ghost use Rattle.fort_lockstep.specs.Tallies.{IsBefore};
-ghost use Rattle.fort_lockstep.specs.GroupFacts.{transitions_of, AreGroups, IsGroupOf, IsFull, HasWidth};
+ghost use Rattle.fort_lockstep.specs.GroupFacts.{transitions_of, AreGroups, IsFull, IsDue};
 
+use crate::bisect::Comparisons;
 use crate::group::Group;
-use crate::place::place_of;
 use crate::row::Row;
 use crate::states::States;
 use crate::symbol::TupleSym;
@@ -22,74 +23,88 @@ pub struct Groups {
 }
 
 impl Groups {
-    /// A group for a tuple symbol that has none.
-    fn new_group(&mut self, alloc: Global, sym: &TupleSym) -> Result<usize, Memory>
-        requires lawful { AreGroups self.old }
+    /// The first entry of a tuple symbol.
+    fn push_group(
+        &mut self,
+        alloc: Global,
+        states: &States,
+        row: &Row,
+        target: u32,
+    ) -> Result<(), Memory>
+        requires lawful { AreGroups states.now.counts.width states.now.presences.items self.old }
+        requires due { IsDue (entries_of (in_order (transitions_of states.now.presences.items
+            self.old))) states.now.presences.items row.now }
         requires absent { (q : ℕ) → q < length self.old.symbols → slice_index_or self.old.symbols q
-            [] ≡ map digit_of sym.now → ⊥ }
-        ensures lawful { AreGroups self.new }
-        ensures same { transitions_of self.new ≡ transitions_of self.old }
-        ensures found { IfOk result (λ i. IsGroupOf self.new sym.now i) }
+            [] ≡ map digit_of row.now.symbol → ⊥ }
+        ensures lawful { AreGroups states.now.counts.width states.now.presences.items self.new }
+        ensures ok { OnOk result (IsLast (transitions_of states.now.presences.items self.old)
+            (transitions_of states.now.presences.items self.new) row.now target) }
+        ensures count { OnOk result (length (transitions_of states.now.presences.items self.new)
+            ≡ length (transitions_of states.now.presences.items self.old) + 1) }
+        ensures err { OnErr result (transitions_of states.now.presences.items self.new
+            ≡ transitions_of states.now.presences.items self.old) }
     {
         self.list.reserve(1)?;
-        let own = Vec::from_slice(alloc, sym.digits())?;
-        let number = self.list.as_slice().len();
-        self.symbols.push(own)?;
-        self.list.push_reserved(Group::new(alloc));
-        Ok(number)
+        let sym = row.sym();
+        let digits = Vec::from_slice(alloc, sym.digits())?;
+        let mut group = Group::new(alloc, states, row.kids())?;
+        group.push(row.kids(), target)?;
+        self.symbols.push(digits)?;
+        self.list.push_reserved(group);
+        Ok(())
     }
 
-    /// The number of a tuple symbol's group.
-    fn group_of(&mut self, alloc: Global, sym: &TupleSym) -> Result<usize, Memory>
-        requires lawful { AreGroups self.old }
-        ensures lawful { AreGroups self.new }
-        ensures same { transitions_of self.new ≡ transitions_of self.old }
-        ensures found { IfOk result (λ i. IsGroupOf self.new sym.now i) }
+    /// Gives the entry that is due its target.
+    pub fn push(
+        &mut self,
+        alloc: Global,
+        states: &States,
+        row: &Row,
+        target: u32,
+    ) -> Result<(), Memory>
+        requires lawful { AreGroups states.now.counts.width states.now.presences.items self.old }
+        requires due { IsDue (entries_of (in_order (transitions_of states.now.presences.items
+            self.old))) states.now.presences.items row.now }
+        ensures lawful { AreGroups states.now.counts.width states.now.presences.items self.new }
+        ensures ok { OnOk result (IsLast (transitions_of states.now.presences.items self.old)
+            (transitions_of states.now.presences.items self.new) row.now target) }
+        ensures count { OnOk result (length (transitions_of states.now.presences.items self.new)
+            ≡ length (transitions_of states.now.presences.items self.old) + 1) }
+        ensures err { OnErr result (transitions_of states.now.presences.items self.new
+            ≡ transitions_of states.now.presences.items self.old) }
     {
+        let sym = row.sym();
         match self.symbols.find(sym.digits()) {
-            Some(number) => Ok(number),
-            None => self.new_group(alloc, sym),
+            Some(number) => {
+                let group = &mut self.list[number];
+                group.push(row.kids(), target)
+            }
+            None => self.push_group(alloc, states, row, target),
         }
     }
 
-    /// Gives an entry that comes after all its target.
-    pub fn push(&mut self, alloc: Global, row: &Row, target: u32) -> Result<(), Memory>
-        requires lawful { AreGroups self.old }
-        requires after { IsAfterEntries (entries_of (in_order (transitions_of self.old))) row.now }
-        requires alike { HasWidth (entries_of (in_order (transitions_of self.old))) row.now }
-        ensures lawful { AreGroups self.new }
-        ensures ok { OnOk result (IsLast (transitions_of self.old) (transitions_of self.new)
-            row.now target) }
-        ensures count { OnOk result (length (transitions_of self.new)
-            ≡ length (transitions_of self.old) + 1) }
-        ensures err { OnErr result (transitions_of self.new ≡ transitions_of self.old) }
-    {
-        let sym = row.sym();
-        let number = self.group_of(alloc, &sym)?;
-        let group = &mut self.list[number];
-        let _count = group.len();
-        group.push(row.kids(), target)
-    }
-
     /// The target of an entry, where the entries of its tuple symbol have all lists of states.
-    pub fn target(&self, states: &States, sym: &TupleSym, kids: &[u32]) -> u32
-        requires lawful { AreGroups self.now }
-        requires full { IsFull (entries_of (in_order (transitions_of self.now)))
-            states.now.presences.items sym.now kids.now }
+    pub fn target<C: Comparisons>(
+        &self,
+        states: &States,
+        sym: &TupleSym,
+        kids: &[u32],
+        comparisons: &mut C,
+    ) -> u32
+        requires lawful { AreGroups states.now.counts.width states.now.presences.items self.now }
+        requires full { IsFull (entries_of (in_order (transitions_of states.now.presences.items
+            self.now))) states.now.presences.items sym.now kids.now }
         requires counts { IsBefore states.now.presences.items states.now.counts.width
             states.now.counts.before.items }
         requires few { length states.now.presences.items < 2 ^ 32 }
-        ensures { Contains (transitions_of self.now) (transition sym.now kids.now result) }
+        ensures there { Contains (transitions_of states.now.presences.items self.now) (transition
+            sym.now kids.now result) }
+        ensures grows { C.made comparisons.old ≤ C.made comparisons.new }
+        ensures cost { 2 ^ (C.made comparisons.new - C.made comparisons.old) ≤ 2 * count_with sym.now
+            (entries_of (in_order (transitions_of states.now.presences.items self.now))) + 1 }
     {
         match self.symbols.find(sym.digits()) {
-            Some(number) => {
-                let group = &self.list[number];
-                let count = group.len();
-                match place_of(states.presences.as_slice(), &states.counts, kids, count) {
-                    Some(place) => group.target_at(place),
-                    None => group.target(kids),
-                }
-            }
+            Some(number) => self.list[number].target(states, kids, comparisons),
             None => unreachable!(),
         }
     }

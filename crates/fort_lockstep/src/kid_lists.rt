@@ -1,6 +1,6 @@
 //! Lists of child states in order, up to the state that has to be among them.
 ghost use Rattle.std.specs.Prelude.{◌≡◌, ℕ, ◌^◌, ◌+◌, ◌-◌, ◌<◌, ◌≤◌, List, [], ◌∷◌, ◌++◌, length, slice_index_or, IfSome, ◌||◌, ◌==◌};
-ghost use Rattle.fort_lockstep.specs.Walks.{kid_lists, kid_lists_from, kids_after, states_with, AreUpTo, GivesFirst, first_tried};
+ghost use Rattle.fort_lockstep.specs.Walks.{kid_lists, kid_lists_from, kids_after, states_with, AreUpTo, GivesFirst, is_wanted, first_tried};
 
 use crate::kid_row::KidRow;
 
@@ -45,7 +45,7 @@ fn first_kids_from(
         (states_with presences.now want from (greatest + 1 - from)))
         (kids_after presences.now greatest (want ∷ wants.now) has_greatest) result }
 {
-    for q in jump(wants, greatest, has_greatest, from)..=greatest {
+    for q in jump(wants, presences, greatest, has_greatest, from)..=greatest {
         if u32::from(presences[q as usize]) == want {
             match first_kids(
                 wants,
@@ -104,12 +104,24 @@ fn has_greatest_with(has_greatest: bool, q: u32, greatest: u32) -> bool
     has_greatest || q == greatest
 }
 
-/// Where the last state has to be `greatest`, no other one is tried.
-fn jump(wants: &[u32], greatest: u32, has_greatest: bool, from: u32) -> u32
-    ensures { result ≡ first_tried has_greatest wants.now from greatest }
+/// Whether a presence is among these.
+fn is_wanted(wants: &[u32], presence: u32) -> bool
+    ensures { result ≡ is_wanted presence wants.now }
 {
-    match wants {
-        [] if !has_greatest => from.max(greatest),
-        _ => from,
+    match wants.split_first() {
+        None => false,
+        Some((want, wants)) => *want == presence || is_wanted(wants, presence),
+    }
+}
+
+/// Where this state has to be `greatest`, since no later one can be, no other one is tried.
+fn jump(wants: &[u32], presences: &[u16], greatest: u32, has_greatest: bool, from: u32) -> u32
+    requires { greatest < length presences.now }
+    ensures { result ≡ first_tried presences.now has_greatest wants.now from greatest }
+{
+    if has_greatest || is_wanted(wants, u32::from(presences[greatest as usize])) {
+        from
+    } else {
+        from.max(greatest)
     }
 }

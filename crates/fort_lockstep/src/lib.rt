@@ -1,6 +1,7 @@
 //! Tuple symbols, entries in their order, and tables by the targets of their entries.
 #![tactic(auto)]
 
+mod bisect;
 mod counts;
 mod dag;
 mod digits;
@@ -15,6 +16,7 @@ mod maker;
 mod place;
 mod row;
 mod states;
+mod steps;
 mod symbol;
 mod symbol_set;
 mod table;
@@ -25,6 +27,7 @@ pub use dta::Dta;
 pub use entries::Entries;
 pub use maker::Maker;
 pub use row::Row;
+pub use steps::Steps;
 pub use symbol::TupleSym;
 pub use table::Table;
 

@@ -3,13 +3,14 @@ ghost use Rattle.std.specs.Prelude.{◌≡◌, ℕ, ◌+◌, ◌^◌, ◌<◌, �
 ghost use Rattle.fort_tables.specs.Entries.{Entry};
 ghost use Rattle.fort_tables.specs.Tables.{IsMadeDue, IsComplete, IsAllowed, IsGiven, AreFinals, IsListed, finished};
 
-use crate::dta::Dta;
+use crate::dta::{Dta, Shared};
 use crate::given::Given;
 use crate::row::Row;
 use crate::walk::Walk;
 use fort_terms::{Memory, Signature};
-use std::alloc::Global;
+use std::alloc::{AllocError, Global};
 use std::marker::Model;
+use std::rc::Rc;
 
 /// Makes a table, entry by entry in their order.
 #[derive(Drop)]
@@ -92,17 +93,21 @@ impl Maker {
     }
 
     /// The table, whose accepting states are those with a true final.
-    pub fn finish(self, finals: Vec<bool>) -> Dta
+    pub fn finish(self, finals: Vec<bool>) -> Result<Dta, Memory>
         requires complete { IsComplete self }
         requires finals { AreFinals self finals.items }
-        ensures table { result ≡ finished self finals.items }
-        ensures lawful { IsListed result }
+        ensures table { IfOk result (λ t. t ≡ finished self finals.items) }
+        ensures lawful { IfOk result IsListed }
     {
-        Dta {
+        let alloc = *finals.allocator();
+        let shared = Shared {
             signature: self.signature,
             columns: self.columns,
             given: self.given,
-            finals,
+        };
+        match Rc::new(alloc, shared) {
+            Ok(shared) => Ok(Dta { shared, finals }),
+            Err(_unshared) => Err(AllocError),
         }
     }
 }

@@ -1,11 +1,13 @@
 //! The place of child states in the order of entries, by counts of states.
-ghost use Rattle.std.specs.Prelude.{◌≡◌, ℕ, ◌+◌, ◌-◌, ◌*◌, ◌<◌, ◌≤◌, ◌^◌, length, slice_index, true, false, if◌then◌else◌, IsTrue, IfSome};
+ghost use Rattle.std.specs.Prelude.{◌≡◌, ℕ, ◌+◌, ◌-◌, ◌*◌, ◌<◌, ◌≤◌, ◌^◌, length, slice_index, true, false, if◌then◌else◌, IsTrue, IfOk};
 ghost use Rattle.fort_lockstep.specs.Ranks.{rank_in, space, AreOf, wants_at};
 ghost use Rattle.fort_lockstep.specs.InOrder.{box, inner, place_in_order};
 ghost use Rattle.fort_lockstep.specs.Tallies.{IsBefore, AreBelow, box_to, Fits};
 
+use crate::bisect::stage_of;
 use crate::counts::Counts;
-use crate::group::stage_of;
+use fort_terms::Memory;
+use std::alloc::Global;
 
 /// How many of the first states have a presence.
 fn count_before(presences: &[u16], counts: &Counts, first: usize, want: u16) -> usize
@@ -85,8 +87,20 @@ fn tally_of(presences: &[u16], counts: &Counts, kids: &[u32], newest: u32) -> Ta
     }
 }
 
+/// The presences of states.
+pub fn presences_at(alloc: Global, presences: &[u16], kids: &[u32]) -> Result<Vec<u16>, Memory>
+    requires { AreOf presences.now (wants_at presences.now kids.now) kids.now }
+    ensures { IfOk result (λ v. v.items ≡ wants_at presences.now kids.now) }
+{
+    let mut wants = Vec::new(alloc);
+    for k in 0..kids.len() {
+        wants.push(presences[kids[k] as usize])?;
+    }
+    Ok(wants)
+}
+
 /// Whether the states' presences are counted.
-fn are_counted(presences: &[u16], width: usize, kids: &[u32]) -> bool
+pub fn are_counted(presences: &[u16], width: usize, kids: &[u32]) -> bool
     requires { AreOf presences.now (wants_at presences.now kids.now) kids.now }
     ensures { IsTrue result → AreBelow width (wants_at presences.now kids.now) }
 {
@@ -100,7 +114,7 @@ fn are_counted(presences: &[u16], width: usize, kids: &[u32]) -> bool
 }
 
 /// The place of counted child states among all lists of such states, in the order of entries.
-fn place_by_counts(presences: &[u16], counts: &Counts, kids: &[u32], count: usize) -> usize
+pub fn place_by_counts(presences: &[u16], counts: &Counts, kids: &[u32], count: usize) -> usize
     requires before { IsBefore presences.now counts.now.width counts.now.before.items }
     requires wants { AreBelow counts.now.width (wants_at presences.now kids.now) }
     requires are { AreOf presences.now (wants_at presences.now kids.now) kids.now }
@@ -117,20 +131,4 @@ fn place_by_counts(presences: &[u16], counts: &Counts, kids: &[u32], count: usiz
     let newest = (stage - 1) as u32;
     let found = tally_of(presences, counts, kids, newest);
     found.low + found.held
-}
-
-/// The place of child states, where their presences are counted; `count` bounds it.
-pub fn place_of(presences: &[u16], counts: &Counts, kids: &[u32], count: usize) -> Option<usize>
-    requires before { IsBefore presences.now counts.now.width counts.now.before.items }
-    requires are { AreOf presences.now (wants_at presences.now kids.now) kids.now }
-    requires room { space presences.now (wants_at presences.now kids.now) ≤ count }
-    requires few { length presences.now < 2 ^ 32 }
-    ensures place { IfSome result (λ p. p ≡ place_in_order presences.now
-        (wants_at presences.now kids.now) kids.now) }
-    ensures below { IfSome result (λ p. p < count) }
-{
-    if !are_counted(presences, counts.width, kids) {
-        return None;
-    }
-    Some(place_by_counts(presences, counts, kids, count))
 }

@@ -5,4 +5,4 @@ use Rattle.fort_lockstep.proofs.FirstEntryLaws.{length-targets}
 use Rattle.fort_lockstep.proofs.given.Given.len.Goals as goal
 
 pub returns : goal.returns
-returns c = c.self.invariant.count ∙ (sym (length-targets (transitions_of c.self.inside.groups)) ∙ ap (λ (p : Parts). length p.targets) c.self.view_is)
+returns c = c.self.invariant.count ∙ (sym (length-targets (transitions_of c.self.inside.states.presences.items c.self.inside.groups)) ∙ ap (λ (p : Parts). length p.targets) c.self.view_is)

@@ -1,73 +1,88 @@
-use Rattle.std.proofs.Common.{◌≡◌, ℕ, List, [], map, length, get_or, sym, ◌∙◌, ap, arith, subst}
+use Rattle.std.proofs.Common.{◌≡◌, ℕ, ◌<◌, List, [], map, length, get_or, Result, Ok, Err, OnOk, OnErr, sym, ◌∙◌, ap, arith, subst}
 use Rattle.std.specs.Prelude.{slice_set}
-use Rattle.fort_lockstep.specs.Columns.{symbol_of}
 use Rattle.std.proofs.lemmas.Result.{on_ok_weaker}
-use Rattle.std.proofs.lemmas.List.{get_or_default}
-use Rattle.fort_tables.specs.Tuples.{TupleSymbol}
+use Rattle.std.proofs.lemmas.List.{length-map, set-get_or, get_or_default}
 use Rattle.fort_tables.specs.Entries.{Entry}
-use Rattle.fort_lockstep.specs.Transitions.{Transition, Group, KidsBefore, no_group, transitions, in_order, entries_of, IsAfterEntries, IsLast}
-use Rattle.fort_lockstep.specs.KidOrder.{IsGrownGroup}
-use Rattle.fort_lockstep.specs.GroupFacts.{transitions_of, AreGroups, IsGroupOf, HasWidth}
-use Rattle.fort_lockstep.specs.declared.groups.Groups.{Groups}
-use Rattle.fort_lockstep.proofs.GroupsByDigits.{same_width, kids_after, grown_groups}
+use Rattle.fort_lockstep.specs.Columns.{digit_of}
+use Rattle.fort_lockstep.specs.Transitions.{in_order, entries_of}
+use Rattle.fort_lockstep.specs.Kept.{Kept, no_kept, group_in, IsGrownKept}
+use Rattle.fort_lockstep.specs.GroupFacts.{transitions_in, groups_in, AreKept, IsDue}
+use Rattle.fort_lockstep.proofs.FirstListLaws.{length-wants}
+use Rattle.fort_lockstep.proofs.KeptGroups.{GrownKept, due_wants, push_kept}
 use Rattle.fort_lockstep.proofs.groups.Groups.push.Goals as goal
 
 -- what is known where the group is found
-record Here (g : Groups) (e : Entry) (i : ℕ) (grp : Group) : Type 0 where
-  pub lawful : AreGroups g
-  pub of : IsGroupOf g e.symbol i
-  pub is : get_or g.list.items i no_group ≡ grp
-  pub count : length grp.kids ≡ length grp.targets
-  pub after : IsAfterEntries (entries_of (in_order (transitions_of g))) e
-  pub alike : HasWidth (entries_of (in_order (transitions_of g))) e
+record Here (width : ℕ) (ps : List ℕ) (ss : List (List ℕ)) (gs : List Kept) (e : Entry) (j : ℕ) (g : Kept) : Type 0 where
+  pub lawful : AreKept width ps ss gs
+  pub due : IsDue (entries_of (in_order (transitions_in ss (groups_in ps gs)))) ps e
+  pub within : j < length ss
+  pub digits : get_or ss j [] ≡ map digit_of e.symbol
+  pub is : get_or gs j no_kept ≡ g
 
-here : (old g : Groups) (e : Entry) (f : TupleSymbol) (i : ℕ) (grp : Group) (n : ℕ) → AreGroups g → transitions_of g ≡ transitions_of old → IsGroupOf g f i → f ≡ e.symbol → grp ≡ get_or g.list.items i grp → n ≡ length grp.kids → n ≡ length grp.targets → IsAfterEntries (entries_of (in_order (transitions_of old))) e → HasWidth (entries_of (in_order (transitions_of old))) e → Here g e i grp
-here old g e f i grp n a same of s is k t after alike =
-    let A : List Transition → Type 0 = λ (ws : List Transition). IsAfterEntries (entries_of (in_order ws)) e in
-    let W : List Transition → Type 0 = λ (ws : List Transition). HasWidth (entries_of (in_order ws)) e in
-    record {
-      lawful = a;
-      of = subst (λ (x : TupleSymbol). IsGroupOf g x i) s of;
-      is = get_or_default g.list.items i no_group grp of.within ∙ sym is;
-      count = sym k ∙ t;
-      after = subst A (sym same) after;
-      alike = subst W (sym same) alike;
-    }
+here : (width : ℕ) (ps : List ℕ) (ss : List (List ℕ)) (gs : List Kept) (e : Entry) (j : ℕ) (g : Kept) → AreKept width ps ss gs → IsDue (entries_of (in_order (transitions_in ss (groups_in ps gs)))) ps e → j < length ss → get_or ss j [] ≡ map digit_of e.symbol → g ≡ get_or gs j g → Here width ps ss gs e j g
+here width ps ss gs e j g a due l d is = record {
+  lawful = a;
+  due = due;
+  within = l;
+  digits = d;
+  is = get_or_default gs j no_kept g (omega (arith, a.apart.count, l, length-map gs (group_in ps))) ∙ sym is;
+}
 
-pub push-requires-clause-same : goal.push-requires-clause-same
-push-requires-clause-same c =
+pushed : (width : ℕ) (ps : List ℕ) (ss : List (List ℕ)) (gs : List Kept) (e : Entry) (j q : ℕ) (g new : Kept) (ks : List ℕ) → Here width ps ss gs e j g → ks ≡ e.kids → IsGrownKept g ks q new → GrownKept width ps ss ss gs (slice_set gs j new) e q
+pushed width ps ss gs e j q g new ks h k grown = push_kept width ps ss gs e j q g new h.lawful h.within h.digits h.is h.due (subst (λ xs. IsGrownKept g xs q new) k grown)
+
+same : (width : ℕ) (ps : List ℕ) (ss : List (List ℕ)) (gs : List Kept) (e : Entry) (j : ℕ) (g new : Kept) → Here width ps ss gs e j g → new ≡ g → AreKept width ps ss (slice_set gs j new)
+same width ps ss gs e j g new h n =
+    let is : slice_set gs j new ≡ gs = ap (slice_set gs j) (n ∙ sym h.is) ∙ set-get_or gs j no_kept in
+    subst (AreKept width ps ss) (sym is) h.lawful
+
+either : {A E : Type 0} (r : Result A E) (P Q R : Type 0) → OnOk r P → OnErr r Q → (P → R) → (Q → R) → R
+either (Ok x) P Q R p q f g = f p
+either (Err x) P Q R p q f g = g q
+
+pub push-requires : goal.push-requires
+push-requires c =
+    let s = c.args.states.now in
+    let ps = s.presences.items in
     let e = c.args.row.now in
-    let h = here c.args.self.now c.group_of.new.self e c.sym-sym.result c.in_ok-number.number c.index_mut-group.result.now c.len-count.result c.in_ok-number.ensures.lawful c.in_ok-number.ensures.same c.in_ok-number.ensures.found c.sym-sym.ensures c.index_mut-group.ensures.value c.len-count.ensures.kids c.len-count.ensures.targets c.requires.after c.requires.alike in
-    λ p l. same_width c.group_of.new.self e c.in_ok-number.number c.index_mut-group.result.now h.lawful h.of h.is h.count h.alike p l ∙ ap length (sym c.kids.ensures.states)
+    let h = here s.counts.width ps c.args.self.now.symbols c.args.self.now.list.items e c.in-Some.number c.index_mut-group.result.now c.requires.lawful c.requires.due c.in-Some.ensures.0 (c.in-Some.ensures.1 ∙ (c.digits.ensures ∙ ap (map digit_of) c.sym-sym.ensures)) c.index_mut-group.ensures.value in
+    let w = due_wants s.counts.width ps c.args.self.now.symbols c.args.self.now.list.items e c.in-Some.number c.index_mut-group.result.now h.lawful h.within h.digits h.is h.due in
+    ap length c.kids.ensures.states ∙ sym (ap length w ∙ length-wants ps e.kids)
 
-pub push-requires-clause-after : goal.push-requires-clause-after
-push-requires-clause-after c =
+pub returns-in-Some-clause-lawful : goal.returns-in-Some-clause-lawful
+returns-in-Some-clause-lawful c =
+    let s = c.args.states.now in
+    let ps = s.presences.items in
+    let ss = c.args.self.now.symbols in
+    let gs = c.args.self.now.list.items in
     let e = c.args.row.now in
-    let h = here c.args.self.now c.group_of.new.self e c.sym-sym.result c.in_ok-number.number c.index_mut-group.result.now c.len-count.result c.in_ok-number.ensures.lawful c.in_ok-number.ensures.same c.in_ok-number.ensures.found c.sym-sym.ensures c.index_mut-group.ensures.value c.len-count.ensures.kids c.len-count.ensures.targets c.requires.after c.requires.alike in
-    λ p l. subst (λ (ks : List ℕ). KidsBefore (get_or c.index_mut-group.result.now.kids p []) ks) (sym c.kids.ensures.states)
-    (kids_after c.group_of.new.self e c.in_ok-number.number c.index_mut-group.result.now h.lawful h.of h.is h.count h.after p l)
+    let j = c.in-Some.number in
+    let g = c.index_mut-group.result.now in
+    let h = here s.counts.width ps ss gs e j g c.requires.lawful c.requires.due c.in-Some.ensures.0 (c.in-Some.ensures.1 ∙ (c.digits.ensures ∙ ap (map digit_of) c.sym-sym.ensures)) c.index_mut-group.ensures.value in
+    either c.push.result (IsGrownKept g c.kids.result.now c.args.target c.push.new.self) (c.push.new.self ≡ g) (AreKept s.counts.width ps ss (slice_set gs j c.push.new.self)) c.push.ensures.ok c.push.ensures.err
+    (λ n. (pushed s.counts.width ps ss gs e j c.args.target g c.push.new.self c.kids.result.now h c.kids.ensures.states n).lawful)
+    (λ n. same s.counts.width ps ss gs e j g c.push.new.self h n)
 
-pub returns-clause-ok : goal.returns-clause-ok
-returns-clause-ok c =
+pub returns-in-Some-clause-ok : goal.returns-in-Some-clause-ok
+returns-in-Some-clause-ok c =
+    let s = c.args.states.now in
+    let ps = s.presences.items in
+    let ss = c.args.self.now.symbols in
+    let gs = c.args.self.now.list.items in
     let e = c.args.row.now in
-    let g = c.group_of.new.self in
-    let h = here c.args.self.now g e c.sym-sym.result c.in_ok-number.number c.index_mut-group.result.now c.len-count.result c.in_ok-number.ensures.lawful c.in_ok-number.ensures.same c.in_ok-number.ensures.found c.sym-sym.ensures c.index_mut-group.ensures.value c.len-count.ensures.kids c.len-count.ensures.targets c.requires.after c.requires.alike in
-    on_ok_weaker c.push.result
-    (λ n.
-    let n' = subst (λ (ks : List ℕ). IsGrownGroup c.index_mut-group.result.now ks c.args.target c.push.new.self) c.kids.ensures.states n in
-    let r = grown_groups g e c.in_ok-number.number c.args.target c.index_mut-group.result.now c.push.new.self h.lawful h.of h.is h.count n' h.after in
-    let new : List Transition = transitions (map symbol_of g.symbols) (slice_set g.list.items c.in_ok-number.number c.push.new.self) in
-    subst (λ (ws : List Transition). IsLast ws new e c.args.target) c.in_ok-number.ensures.same r.pushed)
-    c.push.ensures.ok
+    let j = c.in-Some.number in
+    let g = c.index_mut-group.result.now in
+    let h = here s.counts.width ps ss gs e j g c.requires.lawful c.requires.due c.in-Some.ensures.0 (c.in-Some.ensures.1 ∙ (c.digits.ensures ∙ ap (map digit_of) c.sym-sym.ensures)) c.index_mut-group.ensures.value in
+    on_ok_weaker c.push.result (λ n. (pushed s.counts.width ps ss gs e j c.args.target g c.push.new.self c.kids.result.now h c.kids.ensures.states n).pushed) c.push.ensures.ok
 
-pub returns-clause-count : goal.returns-clause-count
-returns-clause-count c =
+pub returns-in-Some-clause-count : goal.returns-in-Some-clause-count
+returns-in-Some-clause-count c =
+    let s = c.args.states.now in
+    let ps = s.presences.items in
+    let ss = c.args.self.now.symbols in
+    let gs = c.args.self.now.list.items in
     let e = c.args.row.now in
-    let g = c.group_of.new.self in
-    let h = here c.args.self.now g e c.sym-sym.result c.in_ok-number.number c.index_mut-group.result.now c.len-count.result c.in_ok-number.ensures.lawful c.in_ok-number.ensures.same c.in_ok-number.ensures.found c.sym-sym.ensures c.index_mut-group.ensures.value c.len-count.ensures.kids c.len-count.ensures.targets c.requires.after c.requires.alike in
-    on_ok_weaker c.push.result
-    (λ n.
-    let n' = subst (λ (ks : List ℕ). IsGrownGroup c.index_mut-group.result.now ks c.args.target c.push.new.self) c.kids.ensures.states n in
-    let r = grown_groups g e c.in_ok-number.number c.args.target c.index_mut-group.result.now c.push.new.self h.lawful h.of h.is h.count n' h.after in
-    omega (arith, r.count, ap (λ (ws : List Transition). length ws) c.in_ok-number.ensures.same))
-    c.push.ensures.ok
+    let j = c.in-Some.number in
+    let g = c.index_mut-group.result.now in
+    let h = here s.counts.width ps ss gs e j g c.requires.lawful c.requires.due c.in-Some.ensures.0 (c.in-Some.ensures.1 ∙ (c.digits.ensures ∙ ap (map digit_of) c.sym-sym.ensures)) c.index_mut-group.ensures.value in
+    on_ok_weaker c.push.result (λ n. (pushed s.counts.width ps ss gs e j c.args.target g c.push.new.self c.kids.result.now h c.kids.ensures.states n).count) c.push.ensures.ok

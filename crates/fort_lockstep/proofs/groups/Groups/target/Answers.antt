@@ -1,80 +1,74 @@
-use Rattle.std.proofs.Common.{◌≡◌, List, ℕ, get_or, sym, ◌∙◌, ap, arith, subst}
-use Rattle.std.specs.Prelude.{Contains}
-use Rattle.std.proofs.lemmas.List.{get_or_default}
-use Rattle.fort_lockstep.specs.Transitions.{Group, no_group, transition}
-use Rattle.fort_lockstep.specs.GroupFacts.{transitions_of}
-use Rattle.fort_lockstep.specs.Ranks.{space, wants_at}
-use Rattle.fort_lockstep.specs.InOrder.{place_in_order}
+use Rattle.std.proofs.Common.{◌≡◌, ◌<◌, [], length, get_or, sym, ◌∙◌, ap, arith, subst}
+use Rattle.std.proofs.lemmas.List.{length-map, get_or_default}
+use Rattle.fort_lockstep.specs.Transitions.{transition}
+use Rattle.fort_lockstep.specs.Ranks.{space, AreOf}
+use Rattle.fort_lockstep.specs.Kept.{no_kept, kids_in, group_in, IsKept}
+use Rattle.fort_lockstep.specs.GroupFacts.{transitions_of, groups_in}
 use Rattle.fort_lockstep.proofs.InLaws.{Contains-from_In}
-use Rattle.fort_lockstep.proofs.GroupsByDigits.{symbol_there, kids_there, beside_in}
-use Rattle.fort_lockstep.proofs.CountLaws.{space_within, in_order_beside}
-use Rattle.fort_lockstep.proofs.FullLaws.{group_full}
+use Rattle.fort_lockstep.proofs.FirstListLaws.{are_wants}
+use Rattle.fort_lockstep.proofs.FullLaws.{full_space}
+use Rattle.fort_lockstep.proofs.GroupsByDigits.{symbol_there, kids_there, beside_in, targets_within}
+use Rattle.fort_lockstep.proofs.KeptGroups.{group_of_kept}
 use Rattle.fort_lockstep.proofs.groups.Groups.target.Goals as goal
 
-pub place_of-requires-clause-room : goal.place_of-requires-clause-room
-place_of-requires-clause-room c =
-    let g = c.args.self.now in
-    let f = c.args.sym.now in
-    let ks = c.args.kids.now in
-    let ps = c.args.states.now.presences.items in
+pub target-requires-clause-there : goal.target-requires-clause-there
+target-requires-clause-there g c =
+    let s = c.args.states.now in
+    let ps = s.presences.items in
+    let ss = c.args.self.now.symbols in
+    let gs = c.args.self.now.list.items in
     let j = c.in-Some.number in
-    let grp = c.index-group.result.now in
-    let e = c.in-Some.ensures.1 ∙ c.digits.ensures in
-    let is : get_or g.list.items j no_group ≡ grp = get_or_default g.list.items j no_group grp (omega (arith, c.in-Some.ensures.0, c.requires.lawful.count)) ∙ sym c.index-group.ensures in
-    let count = sym c.len-count.ensures.kids ∙ c.len-count.ensures.targets in
-    let all = group_full g ps f ks j grp c.requires.lawful c.in-Some.ensures.0 e is count c.len-count.ensures.rising c.requires.full in
-    let room = space_within ps (wants_at ps ks) grp.kids all.all in
-    let same = ap (λ (v : List ℕ). space v (wants_at v ks)) c.as_slice.ensures.value in
-    omega (arith, room, same, c.len-count.ensures.kids)
+    let x = c.index.result.now in
+    let is : get_or gs j no_kept ≡ x = get_or_default gs j no_kept x (omega (arith, c.requires.lawful.apart.count, c.in-Some.ensures.0, length-map gs (group_in ps))) ∙ sym c.index.ensures in
+    let of = group_of_kept s.counts.width ps ss gs c.args.sym.now j x c.requires.lawful c.in-Some.ensures.0 (c.in-Some.ensures.1 ∙ c.digits.ensures) is in
+    kids_there ss (groups_in ps gs) c.args.sym.now j (group_in ps x) c.args.kids.now of (c.requires.full.all c.args.kids.now c.requires.full.own)
 
-pub target-requires : goal.target-requires
-target-requires c =
-    let g = c.args.self.now in
-    let f = c.args.sym.now in
+pub target-requires-clause-full : goal.target-requires-clause-full
+target-requires-clause-full g c = λ e.
+    let s = c.args.states.now in
+    let ps = s.presences.items in
+    let ss = c.args.self.now.symbols in
+    let gs = c.args.self.now.list.items in
     let ks = c.args.kids.now in
-    let ps = c.args.states.now.presences.items in
     let j = c.in-Some.number in
-    let grp = c.index-group.result.now in
-    let e = c.in-Some.ensures.1 ∙ c.digits.ensures in
-    let is : get_or g.list.items j no_group ≡ grp = get_or_default g.list.items j no_group grp (omega (arith, c.in-Some.ensures.0, c.requires.lawful.count)) ∙ sym c.index-group.ensures in
-    let count = sym c.len-count.ensures.kids ∙ c.len-count.ensures.targets in
-    let there = c.requires.full.all ks c.requires.full.own in
-    subst (λ (x : Group). Contains x.kids ks) is (kids_there g f ks j c.requires.lawful there c.in-Some.ensures.0 e)
+    let x = c.index.result.now in
+    let l : j < length gs = omega (arith, c.requires.lawful.apart.count, c.in-Some.ensures.0, length-map gs (group_in ps)) in
+    let is : get_or gs j no_kept ≡ x = get_or_default gs j no_kept x l ∙ sym c.index.ensures in
+    let k : IsKept s.counts.width ps x = subst (IsKept s.counts.width ps) is (c.requires.lawful.kept j l) in
+    let of = group_of_kept s.counts.width ps ss gs c.args.sym.now j x c.requires.lawful c.in-Some.ensures.0 (c.in-Some.ensures.1 ∙ c.digits.ensures) is in
+    let t = kids_there ss (groups_in ps gs) c.args.sym.now j (group_in ps x) ks of (c.requires.full.all ks c.requires.full.own) in
+    let own : AreOf ps x.wants ks = subst (AreOf ps x.wants) (get_or_default (kids_in ps x) t.0 [] ks t.1 ∙ t.2) (k.are t.0 t.1) in
+    let room = full_space ss (groups_in ps gs) ps c.args.sym.now ks j (group_in ps x) of c.requires.full in
+    let wants = ap (space ps) (are_wants ps x.wants ks own) in
+    omega (arith, room, wants, k.count)
 
 pub unreachable-requires : goal.unreachable-requires
-unreachable-requires c =
-    let there = c.requires.full.all c.args.kids.now c.requires.full.own in
-    symbol_there c.args.self.now c.args.sym.now c.args.kids.now c.requires.lawful there (λ q l e. c.in-None.ensures q l (e ∙ sym c.digits.ensures))
-
-pub returns-in-Some-place_of : goal.returns-in-Some-place_of
-returns-in-Some-place_of c =
-    let g = c.args.self.now in
-    let f = c.args.sym.now in
-    let ks = c.args.kids.now in
+unreachable-requires g c =
     let ps = c.args.states.now.presences.items in
-    let j = c.in-Some.number in
-    let grp = c.index-group.result.now in
-    let e = c.in-Some.ensures.1 ∙ c.digits.ensures in
-    let is : get_or g.list.items j no_group ≡ grp = get_or_default g.list.items j no_group grp (omega (arith, c.in-Some.ensures.0, c.requires.lawful.count)) ∙ sym c.index-group.ensures in
-    let count = sym c.len-count.ensures.kids ∙ c.len-count.ensures.targets in
-    let all = group_full g ps f ks j grp c.requires.lawful c.in-Some.ensures.0 e is count c.len-count.ensures.rising c.requires.full in
-    let b = in_order_beside ps (wants_at ps ks) grp.kids grp.targets ks all c.requires.full.own in
-    let place : c.in-Some-place_of.place ≡ place_in_order ps (wants_at ps ks) ks = c.in-Some-place_of.ensures.place ∙ ap (λ (v : List ℕ). place_in_order v (wants_at v ks) ks) c.as_slice.ensures.value in
-    let target : c.target_at.result ≡ get_or grp.targets b.place 0 = c.target_at.ensures ∙ (ap (λ i. get_or grp.targets i 0) place ∙ b.target) in
-    Contains-from_In (transition f ks c.target_at.result) (transitions_of g)
-    (beside_in g f ks j b.place c.target_at.result grp c.requires.lawful c.in-Some.ensures.0 e is count b.within b.kids target)
+    symbol_there c.args.self.now.symbols (groups_in ps c.args.self.now.list.items) c.args.sym.now c.args.kids.now c.requires.lawful.apart (c.requires.full.all c.args.kids.now c.requires.full.own) (λ q l e. c.in-None.ensures q l (e ∙ sym c.digits.ensures))
 
-pub returns-in-None-place_of : goal.returns-in-None-place_of
-returns-in-None-place_of c =
-    let g = c.args.self.now in
-    let f = c.args.sym.now in
-    let ks = c.args.kids.now in
-    let ps = c.args.states.now.presences.items in
+pub returns-clause-there : goal.returns-clause-there
+returns-clause-there g c =
+    let s = c.args.states.now in
+    let ps = s.presences.items in
+    let ss = c.args.self.now.symbols in
+    let gs = c.args.self.now.list.items in
     let j = c.in-Some.number in
-    let grp = c.index-group.result.now in
-    let e = c.in-Some.ensures.1 ∙ c.digits.ensures in
-    let is : get_or g.list.items j no_group ≡ grp = get_or_default g.list.items j no_group grp (omega (arith, c.in-Some.ensures.0, c.requires.lawful.count)) ∙ sym c.index-group.ensures in
-    let count = sym c.len-count.ensures.kids ∙ c.len-count.ensures.targets in
-    let b = c.target.ensures in
-    Contains-from_In (transition f ks c.target.result) (transitions_of g)
-    (beside_in g f ks j b.place c.target.result grp c.requires.lawful c.in-Some.ensures.0 e is count b.within b.kids b.target)
+    let x = c.index.result.now in
+    let is : get_or gs j no_kept ≡ x = get_or_default gs j no_kept x (omega (arith, c.requires.lawful.apart.count, c.in-Some.ensures.0, length-map gs (group_in ps))) ∙ sym c.index.ensures in
+    let of = group_of_kept s.counts.width ps ss gs c.args.sym.now j x c.requires.lawful c.in-Some.ensures.0 (c.in-Some.ensures.1 ∙ c.digits.ensures) is in
+    let b = c.target.ensures.beside in
+    Contains-from_In (transition c.args.sym.now c.args.kids.now c.target.result) (transitions_of ps c.args.self.now)
+    (beside_in ss (groups_in ps gs) c.args.sym.now j (group_in ps x) c.args.kids.now b.place c.target.result of b.within b.kids b.target)
+
+pub returns-clause-cost : goal.returns-clause-cost
+returns-clause-cost g c =
+    let s = c.args.states.now in
+    let ps = s.presences.items in
+    let ss = c.args.self.now.symbols in
+    let gs = c.args.self.now.list.items in
+    let j = c.in-Some.number in
+    let x = c.index.result.now in
+    let is : get_or gs j no_kept ≡ x = get_or_default gs j no_kept x (omega (arith, c.requires.lawful.apart.count, c.in-Some.ensures.0, length-map gs (group_in ps))) ∙ sym c.index.ensures in
+    let of = group_of_kept s.counts.width ps ss gs c.args.sym.now j x c.requires.lawful c.in-Some.ensures.0 (c.in-Some.ensures.1 ∙ c.digits.ensures) is in
+    omega (arith, c.target.ensures.cost, targets_within ss (groups_in ps gs) c.args.sym.now j (group_in ps x) of)

@@ -1,12 +1,13 @@
-use Rattle.std.proofs.Common.{◌≡◌, length, get_or, ap, sym, ◌∙◌, subst, arith}
-use Rattle.fort_tables.specs.Tuples.{symbol_kids}
-use Rattle.fort_tables.specs.Entries.{Entry, ComesBefore}
+use Rattle.std.proofs.Common.{length, sym, ◌∙◌, subst, arith}
+use Rattle.fort_tables.specs.Entries.{Entry}
 use Rattle.fort_tables.specs.Tables.{Made, IsMadeDue, IsAllowed, IsGiven}
 use Rattle.fort_lockstep.specs.WalkFacts.{place, entry_at}
 use Rattle.fort_lockstep.specs.MakerInside.{made_in}
 use Rattle.fort_lockstep.proofs.Bounds.{bound-up_to}
 use Rattle.fort_lockstep.specs.Making.{made_of}
 use Rattle.fort_lockstep.proofs.GiveLaws.{pushed_few, at_due, given_grown, given_is, stands_after}
+use Rattle.fort_lockstep.specs.GroupFacts.{IsDue}
+use Rattle.fort_lockstep.proofs.FullLaws.{standing_due_in}
 use Rattle.fort_lockstep.proofs.maker.Maker.give.Goals as goal
 
 pub row-requires-clause-small : goal.row-requires-clause-small
@@ -41,17 +42,10 @@ returns-clause-given c = λ e d.
     subst (λ (m : Made). IsGiven m e c.args.target (made_of a.signature a.columns g')) c.self.view_is
     (given_is a.signature a.columns a.given g' c.row.result e c.args.target (c.row.ensures ∙ at.same) c.in_ok-push.ensures.pushed)
 
-pub push-requires-clause-after : goal.push-requires-clause-after
-push-requires-clause-after c =
+pub push-requires-clause-due : goal.push-requires-clause-due
+push-requires-clause-due c =
     let a = c.self.inside in
     let allowed : IsAllowed (made_in a) c.requires.allowed.0 c.args.target = subst (λ (m : Made). IsAllowed m c.requires.allowed.0 c.args.target) (sym c.self.view_is) c.requires.allowed.1 in
     let at = at_due (made_in a) (entry_at (place a.walk)) c.requires.allowed.0 a.is_due c.self.invariant.stands allowed.due in
-    λ k d l. subst (λ (x : Entry). ComesBefore (get_or a.given.entries k d) x) (sym c.row.ensures) (at.standing.after k d l)
-
-pub push-requires-clause-alike : goal.push-requires-clause-alike
-push-requires-clause-alike c =
-    let a = c.self.inside in
-    let allowed : IsAllowed (made_in a) c.requires.allowed.0 c.args.target = subst (λ (m : Made). IsAllowed m c.requires.allowed.0 c.args.target) (sym c.self.view_is) c.requires.allowed.1 in
-    let at = at_due (made_in a) (entry_at (place a.walk)) c.requires.allowed.0 a.is_due c.self.invariant.stands allowed.due in
-    let count : length c.row.result.kids ≡ symbol_kids a.signature c.row.result.symbol = subst (λ (x : Entry). length x.kids ≡ symbol_kids a.signature x.symbol) (sym c.row.ensures) at.standing.is_entry.count in
-    λ k d l e. (c.self.invariant.making.order.are k d l).count ∙ (ap (symbol_kids a.signature) e ∙ sym count)
+    let due = standing_due_in a.signature a.columns a.given.presences a.given.entries (entry_at (place a.walk)) c.self.invariant.making.order at.standing in
+    subst (λ (x : Entry). IsDue a.given.entries a.given.presences x) (sym c.row.ensures) due

@@ -24,5 +24,6 @@ returns-then-target-len c =
       presences = two ∙ sym (if_equal c.args.target (length ps) _ _ is);
       firsts = c.push_reserved-then-target-len.ensures.items ∙ sym (if_equal c.args.target (length ps) _ _ is);
       first_entries = c.push_reserved-then-target-len-2.ensures.items ∙ sym (if_equal c.args.target (length ps) _ _ is);
+      width = c.push.ensures.width;
       counts = subst (λ (xs : List ℕ). IsBefore xs new.width new.before.items) (sym two) grown;
     }

@@ -1,0 +1,30 @@
+use Rattle.std.proofs.Common.{sym, ◌∙◌, ap, arith, subst}
+use Rattle.fort_tables.specs.Entries.{entry}
+use Rattle.fort_tables.specs.Tables.{Listed, IsTableEntry, listed_table}
+use Rattle.fort_tables.proofs.OrderLaws.{order_one}
+use Rattle.fort_lockstep.specs.SymbolCounts.{count_with}
+use Rattle.fort_lockstep.specs.DtaInside.{listed_in}
+use Rattle.fort_lockstep.proofs.FullLaws.{full_entries}
+use Rattle.fort_lockstep.proofs.dta.Dta.target_counted.Goals as goal
+
+pub target-requires-clause-once : goal.target-requires-clause-once
+target-requires-clause-once g c =
+    let a = c.self.inside.shared.value in
+    rw c.as_ref.ensures (λ i j d l m e. order_one a.signature a.columns a.given.presences a.given.entries i j d c.self.invariant.listed.order l m e)
+
+pub target-requires-clause-full : goal.target-requires-clause-full
+target-requires-clause-full g c =
+    let a = c.self.inside.shared.value in
+    let e = entry c.args.sym.now c.args.kids.now in
+    let h : IsTableEntry (listed_table (listed_in c.self.inside)) e = subst (λ (t : Listed). IsTableEntry (listed_table t) e) (sym c.self.view_is) c.requires in
+    rw c.as_ref.ensures
+    (full_entries a.signature a.columns a.given.presences a.given.entries c.args.sym.now c.args.kids.now c.self.invariant.listed.order c.self.invariant.listed.all h)
+
+pub returns-clause-target : goal.returns-clause-target
+returns-clause-target g c = rw c.as_ref.ensures at c.target.ensures.target ∙ ap (λ (t : Listed). (listed_table t).target (entry c.args.sym.now c.args.kids.now)) c.self.view_is
+
+pub returns-clause-cost : goal.returns-clause-cost
+returns-clause-cost g c =
+    let same = ap (λ (t : Listed). count_with c.args.sym.now t.entries) c.self.view_is in
+    let cost = rw c.as_ref.ensures at c.target.ensures.cost in
+    omega (arith, cost, same)
