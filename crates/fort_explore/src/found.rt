@@ -7,9 +7,10 @@ ghost use Rattle.fort_explore.specs.Exploring.{IsReady, IsPlaced};
 use crate::labeller::Labeller;
 use crate::labels::LabelSet;
 use crate::rows::Rows;
-use fort_lockstep::{Dag, Row};
+use fort_lockstep::{Dag, Row, Steps};
 use fort_terms::Memory;
 use std::alloc::Global;
+use std::sync::ledger::Ledger;
 
 /// The labels so far, and for each the entry that gave it first.
 #[derive(Drop)]
@@ -43,13 +44,14 @@ impl Found {
     }
 }
 
-/// The number of the label that an entry gives; `out` is written over.
-pub fn place_of<L: Labeller>(
+/// The number of the label that an entry gives; `out` is written over. It takes one step of the labeller.
+pub fn place_of<G: Ledger, L: Labeller>(
     alloc: Global,
     labeller: &L,
     found: &mut Found,
     row: &Row,
     out: &mut [u64],
+    steps: &mut Steps<G>,
 ) -> Result<usize, Memory>
     requires ready { (sig : theory.Signature) × L.serves labeller.now sig
         × IsReady sig (L.column_count labeller.now) (L.label labeller.now)
@@ -65,7 +67,9 @@ pub fn place_of<L: Labeller>(
         found.old.firsts found.new.firsts row.now q) }
     ensures same { OnOk result (found.new.numbers ≡ found.new.labels.labels) }
     ensures width { OnOk result (found.new.labels.width ≡ found.old.labels.width) }
+    ensures steps { steps.new ≡ steps.old + 1 }
 {
+    steps.tick();
     labeller.step(row, &found.labels, out);
     match found.numbers.find(out) {
         Some(q) => Ok(q),

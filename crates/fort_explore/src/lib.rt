@@ -15,7 +15,7 @@ pub use by_rule::ByRule;
 pub use labeller::Labeller;
 pub use rows::Rows;
 pub use rule::LocalRule;
-pub use table::{ExploreFault, explore};
+pub use table::{ExploreFault, explore, explore_counted};
 
 #[cfg(test)]
 mod tests;

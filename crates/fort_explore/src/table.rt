@@ -12,9 +12,11 @@ use crate::found::{Found, place_of};
 use crate::labeller::Labeller;
 use crate::labels::LabelSet;
 use crate::rows::Rows;
-use fort_lockstep::{Dag, Dta, Maker};
+use fort_lockstep::{Dag, Dta, Maker, Steps};
 use fort_terms::{Memory, Signature};
 use std::alloc::{AllocError, Global};
+use std::marker::Brand;
+use std::sync::ledger::{Blank, Ledger};
 
 /// Why there is no table.
 #[derive(Drop)]
@@ -84,6 +86,59 @@ pub fn explore<L: Labeller>(
     ensures nodes { IfErr result (λ e. IfOver e (λ tuples. AreNodes sig.now
         (L.column_count labeller.now) tuples)) }
 {
+    explore_by::<Brand, L>(alloc, sig, labeller, cap, Blank::new(1))
+}
+
+/// The same in a ledger that nobody reads.
+fn explore_by<G: Ledger, L: Labeller>(
+    alloc: Global,
+    sig: &Signature,
+    labeller: &L,
+    cap: u32,
+    blank: Blank,
+) -> Result<Dta, ExploreFault>
+    requires name { blank.name ≡ G.name }
+    requires parts { blank.parts ≡ G.parts }
+    requires one { blank.parts ≡ 1 }
+    requires served { L.serves labeller.now sig.now }
+    ensures ok { IfOk result (λ t. IsTableOf sig.now (L.column_count labeller.now)
+        (L.label labeller.now) (L.accepting labeller.now) (listed_table t)) }
+    ensures table { IfOk result (λ t. IsTableBy sig.now (L.column_count labeller.now)
+        (L.label labeller.now) (L.accepting labeller.now) (listed_table t)) }
+    ensures listed { IfOk result IsListed }
+    ensures few { OnOk result (HasMoreLabels sig.now (L.column_count labeller.now)
+        (L.label labeller.now) cap → ⊥) }
+    ensures over { IfErr result (λ e. IfOver e (λ tuples. HaveLabels sig.now
+        (L.column_count labeller.now) (L.label labeller.now) (cap + 1) (tuples_of tuples))) }
+    ensures nodes { IfErr result (λ e. IfOver e (λ tuples. AreNodes sig.now
+        (L.column_count labeller.now) tuples)) }
+{
+    let mut steps = Steps::<G>::new(blank);
+    explore_counted(alloc, sig, labeller, cap, &mut steps)
+}
+
+/// `explore`, counting the calls of the labeller's step: one for each entry of the table.
+pub fn explore_counted<G: Ledger, L: Labeller>(
+    alloc: Global,
+    sig: &Signature,
+    labeller: &L,
+    cap: u32,
+    steps: &mut Steps<G>,
+) -> Result<Dta, ExploreFault>
+    requires { L.serves labeller.now sig.now }
+    ensures ok { IfOk result (λ t. IsTableOf sig.now (L.column_count labeller.now)
+        (L.label labeller.now) (L.accepting labeller.now) (listed_table t)) }
+    ensures table { IfOk result (λ t. IsTableBy sig.now (L.column_count labeller.now)
+        (L.label labeller.now) (L.accepting labeller.now) (listed_table t)) }
+    ensures listed { IfOk result IsListed }
+    ensures few { OnOk result (HasMoreLabels sig.now (L.column_count labeller.now)
+        (L.label labeller.now) cap → ⊥) }
+    ensures over { IfErr result (λ e. IfOver e (λ tuples. HaveLabels sig.now
+        (L.column_count labeller.now) (L.label labeller.now) (cap + 1) (tuples_of tuples))) }
+    ensures nodes { IfErr result (λ e. IfOver e (λ tuples. AreNodes sig.now
+        (L.column_count labeller.now) tuples)) }
+    ensures steps { IfOk result (λ t. steps.new ≡ steps.old + length t.entries) }
+{
     let mut maker = Maker::new(alloc, sig, labeller.columns())?;
     let mut words = vec![in alloc; 0u64; labeller.width()]?;
     let out = words.as_mut_slice();
@@ -93,12 +148,12 @@ pub fn explore<L: Labeller>(
         firsts: Dag::new(alloc),
     };
     'entries: while let Some(row) = maker.due() {
-        let q = place_of(alloc, labeller, &mut found, &row, out)?;
+        let q = place_of(alloc, labeller, &mut found, &row, out, steps)?;
         if found.labels.len() > cap as usize {
             return Err(ExploreFault::Over(found.firsts));
         }
         maker.give(q as u32)?;
     }
     let finals = finals_of(alloc, labeller, &found.labels)?;
-    Ok(maker.finish(finals))
+    Ok(maker.finish(finals)?)
 }

@@ -1,11 +1,14 @@
-use Rattle.std.proofs.Common.{arith, ◌∙◌, sym, subst}
+use Rattle.std.proofs.Common.{◌≡◌, ℕ, ◌+◌, List, [], ◌∷◌, ◌++◌, length, arith, ap, ◌∙◌, sym, subst, length-append}
 use Rattle.std.proofs.lemmas.Result.{err_from_is_err_and}
 use Rattle.fort_tables.specs.Tables.{Listed, listed_table}
 use Rattle.fort_tables.specs.Labels.{IsTableOf}
 use Rattle.fort_tables.proofs.LabelRuleLaws.{IsTableBy-labels}
 use Rattle.fort_explore.proofs.KnownLaws.{known_labels}
 use Rattle.fort_explore.proofs.ExploreLaws.{exploring_ready, exploring_allowed, exploring_give, placed_over, exploring_finals, exploring_table, exploring_few}
-use Rattle.fort_explore.proofs.table.explore.Goals as goal
+use Rattle.fort_explore.proofs.table.explore_counted.Goals as goal
+
+length-appended : (xs ys : List ℕ) (x : ℕ) → ys ≡ xs ++ x ∷ [] → length ys ≡ length xs + 1
+length-appended xs ys x h = ap length h ∙ length-append xs (x ∷ [])
 
 pub returns-then-len-cap : goal.returns-then-len-cap
 returns-then-len-cap g c =
@@ -16,7 +19,7 @@ returns-then-len-cap g c =
     let ready = exploring_ready c.args.sig.now n label c.entries.maker f.firsts f.labels.labels c.in-Some.row x c.in-Some.ensures.some in
     let p = c.in_ok-q.ensures.placed c.args.sig.now c.requires ready in
     let over = placed_over c.args.sig.now n label f.firsts c.place_of.new.found.firsts f.labels.labels c.place_of.new.found.labels.labels c.in-Some.row c.in_ok-q.q c.args.cap p c.entries.invariant.few (omega (arith, c.len.ensures)) in
-    record { ok = tt; table = tt; listed = tt; few = tt; over = over.0; nodes = over.1 }
+    record { ok = tt; table = tt; listed = tt; few = tt; over = over.0; nodes = over.1; steps = tt }
 
 pub give-requires-clause-allowed : goal.give-requires-clause-allowed
 give-requires-clause-allowed g c =
@@ -44,6 +47,7 @@ entries-preserved g c =
       width = c.in_ok-q.ensures.width ∙ c.entries.invariant.width;
       room = c.place_of.auto.out ∙ c.entries.invariant.room;
       few = omega (arith, c.len.ensures);
+      steps = omega (arith, c.place_of.ensures.steps, c.entries.invariant.steps, length-appended c.entries.maker.targets c.give.new.self.targets c.in_ok-q.q given.targets);
     }
 
 pub finals_of-requires-clause-labels : goal.finals_of-requires-clause-labels
@@ -65,14 +69,15 @@ returns g c =
     let tells = g.met.L.Labeller.tells_presence c.args.labeller.now c.args.sig.now c.requires in
     let accepting = g.L.Labeller.accepting c.args.labeller.now in
     let by_label = exploring_table c.args.sig.now n label accepting c.entries.maker f.firsts f.labels.labels c.in_ok-finals.finals.items tells x c.in_default.ensures.none c.in_ok-finals.ensures in
-    let ok = subst (λ (t : Listed). IsTableOf c.args.sig.now n label accepting (listed_table t)) (sym c.finish.ensures.table) by_label in
+    let ok = subst (λ (t : Listed). IsTableOf c.args.sig.now n label accepting (listed_table t)) (sym c.in_ok-finish.ensures.table) by_label in
     record {
       ok = ok;
-      table = IsTableBy-labels c.args.sig.now n label accepting _ ok c.finish.ensures.lawful.table;
-      listed = c.finish.ensures.lawful;
+      table = IsTableBy-labels c.args.sig.now n label accepting _ ok c.in_ok-finish.ensures.lawful.table;
+      listed = c.in_ok-finish.ensures.lawful;
       few = exploring_few c.args.sig.now n label c.entries.maker f.firsts f.labels.labels c.args.cap tells x c.in_default.ensures.none c.entries.invariant.few;
       over = tt;
       nodes = tt;
+      steps = omega (arith, c.entries.invariant.steps, x.count, ap (λ (t : Listed). length t.entries) c.in_ok-finish.ensures.table);
     }
 
 pub overflow_cast-q : goal.overflow_cast-q

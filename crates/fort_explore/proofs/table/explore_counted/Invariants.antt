@@ -1,6 +1,6 @@
-use Rattle.std.proofs.Common.{◌≡◌, ◌-◌, ◌^◌, ◌≤◌, length}
+use Rattle.std.proofs.Common.{◌≡◌, ◌+◌, ◌-◌, ◌^◌, ◌≤◌, length}
 use Rattle.fort_explore.specs.Exploring.{IsExploring}
-use Rattle.fort_explore.proofs.table.explore.Given as goal
+use Rattle.fort_explore.proofs.table.explore_counted.Given as goal
 
 abbrev pub invariant-entries : goal.invariant-entries
 invariant-entries g l = record {
@@ -9,6 +9,7 @@ invariant-entries g l = record {
   width : l.found.labels.width ≡ g.L.Labeller.word_count l.labeller;
   room : length l.out ≡ g.L.Labeller.word_count l.labeller;
   few : length l.found.labels.labels ≤ l.cap;
+  steps : l.steps ≡ l.initial.steps + length l.maker.targets;
 }
 
 abbrev pub decreases-entries : goal.decreases-entries
