@@ -1,12 +1,16 @@
-//! A measure of tables: makes the table of the heights of tuples up to a cap, over a constant, a symbol of one argument and one of
-//! two, goes over its entries and looks their targets up. Standard input is one line of four numbers: columns (1 to 3), the cap,
-//! how many entries to go over at most, and 1 where they are looked up. It prints how many entries it went over and the sum of the
-//! targets that it looked up.
+//! A measure of tables: makes the table of the heights of tuples up to a cap, and looks targets of its entries up.
+//! Standard input is one line of six numbers: columns (1 to 3); the cap; the symbols beside a constant (1 for one of one argument,
+//! 2 for one of two, 0 for both); n, where each n-th entry is kept (0 where no entry is gone over); how often the kept ones are
+//! looked up; and a multiplier, which puts them in another order (1 for their own).
+//! It prints how many were kept (how many states there are where n is 0), and the sum of the targets.
 #![tactic(auto)]
 
 ghost use Rattle.std.specs.Prelude.{◌≡◌, ◌<◌, ◌≤◌, ◌^◌, ℕ, map, length, slice_index_or, [], IfOk};
 ghost use Rattle.fort_measure.specs.Heights.{columns_for as columns_for_lem, further as further_lem, most as most_lem};
 
+mod sample;
+
+use crate::sample::{look_up, mixed, sample};
 use fort_explore::{ByRule, ExploreFault, LocalRule, Rows, explore};
 use fort_lockstep::{Dta, Row, Table};
 use fort_terms::{AddFault, Memory, Signature};
@@ -100,83 +104,79 @@ impl<'a> LocalRule for Heights<'a> {
     }
 }
 
-/// A constant a, f of one argument and g of two.
-fn signature(alloc: Global) -> Result<Signature, AddFault> {
+/// A constant a, with f of one argument, g of two, or both.
+fn signature(alloc: Global, shape: u64) -> Result<Signature, AddFault> {
     let mut signature = Signature::empty(alloc);
     signature.add(b"a", 0)?;
-    signature.add(b"f", 1)?;
-    signature.add(b"g", 2)?;
+    if shape != 2 {
+        signature.add(b"f", 1)?;
+    }
+    if shape != 1 {
+        signature.add(b"g", 2)?;
+    }
     Ok(signature)
 }
 
-fn presences_of(alloc: Global, table: &Dta) -> Result<Vec<u16>, Memory>
-    ensures all { IfOk result (λ v. v.items ≡ table.now.presences) }
-    ensures few { length table.now.presences < 2 ^ 32 }
-{
-    let mut presences = Vec::new(alloc);
-    for q in 0..table.states() {
-        presences.push(table.presence(q))?;
-    }
-    Ok(presences)
-}
-
-/// Goes over so many entries at most, and adds the targets up where they are looked up.
-fn walk(alloc: Global, table: &Dta, limit: u64, looked_up: bool) -> Result<(u64, u64), Memory> {
-    let presences = presences_of(alloc, table)?;
-    let mut entries = table.entries();
-    let mut sum = 0u64;
-    let mut count = 0u64;
-    for _ in 0..limit {
-        match entries.next(presences.as_slice()) {
-            Some(row) => {
-                count = count.wrapping_add(1);
-                if looked_up {
-                    sum = sum.wrapping_add(u64::from(table.target(&row.sym(), row.kids())));
-                }
-            }
-            None => break,
-        }
-    }
-    Ok((count, sum))
-}
-
-fn measured(
-    alloc: Global,
+/// What is measured.
+#[derive(Drop)]
+struct Plan {
     columns: u64,
     cap: u64,
-    limit: u64,
-    looked_up: bool,
-) -> Result<(u64, u64), AddFault> {
-    let signature = signature(alloc)?;
+    shape: u64,
+    every: u64,
+    rounds: u64,
+    multiplier: u64,
+}
+
+/// How many entries were kept, and the sum of the targets that were looked up.
+fn look_ups(alloc: Global, table: &Dta, plan: &Plan) -> Result<(usize, u64), Memory> {
+    let kept = sample(alloc, table, plan.every)?;
+    let rows = mixed(alloc, kept.as_slice(), plan.multiplier)?;
+    let mut sum = 0u64;
+    for _ in 0..plan.rounds {
+        sum = sum.wrapping_add(look_up(table, rows.as_slice()));
+    }
+    Ok((rows.len(), sum))
+}
+
+fn measured(alloc: Global, plan: &Plan) -> Result<(usize, u64), AddFault> {
+    let signature = signature(alloc, plan.shape)?;
     let rule = Heights {
         signature: &signature,
-        columns,
-        cap,
+        columns: plan.columns,
+        cap: plan.cap,
     };
-    match explore(alloc, &signature, &ByRule(&rule), 1_000_000) {
-        Ok(table) => Ok(walk(alloc, &table, limit, looked_up)?),
+    match explore(alloc, &signature, &ByRule(&rule), 20_000_000) {
+        Ok(table) => {
+            if plan.every == 0 {
+                return Ok((table.states() as usize, 0));
+            }
+            Ok(look_ups(alloc, &table, plan)?)
+        }
         Err(ExploreFault::Over(_)) => Ok((0, 0)),
         Err(ExploreFault::Memory) => Err(AddFault::Memory),
     }
 }
 
 fn main(rt: HostRuntime) -> io::Result<ExitCode> {
-    let mut numbers = [0u64; 4];
+    let mut numbers = [0u64; 6];
     for line in rt.lines(rt.alloc()) {
         for (i, text) in line?.as_str().split(' ').enumerate() {
-            if i < 4 {
+            if i < 6 {
                 numbers[i] = text.parse::<u64>().unwrap_or(0);
             }
         }
     }
-    match measured(
-        rt.alloc(),
-        numbers[0],
-        numbers[1],
-        numbers[2],
-        numbers[3] > 0,
-    ) {
-        Ok((count, sum)) => println!(rt; "{count} entries, {sum}")?,
+    let plan = Plan {
+        columns: numbers[0],
+        cap: numbers[1],
+        shape: numbers[2],
+        every: numbers[3],
+        rounds: numbers[4],
+        multiplier: numbers[5],
+    };
+    match measured(rt.alloc(), &plan) {
+        Ok((count, sum)) => println!(rt; "{count}, {sum}")?,
         Err(_) => println!(rt; "no table")?,
     }
     Ok(ExitCode::from(0))
