@@ -1,2 +1,5 @@
 pub mod RootStepsLaws
 pub mod InverseLaws
+pub mod TakesAlong
+pub mod BesideLaws
+pub mod UnionLaws

@@ -17,7 +17,7 @@ use Rattle.fort_terms.specs.PatternView.{as_pair, as_pattern}
 use Rattle.fort_tree_automata.specs.PatternMoves.{StandsAt, AreMovesFor}
 use Rattle.fort_tree_automata.specs.NtaView.{moves_of}
 use Rattle.fort_tree_automata.proofs.PatternMovesLaws.{IsPatternAutomaton-places, StandsAt-below, NamesItsStates-places}
-use Rattle.fort_tree_automata.proofs.SubpatternsClosed.{itself_within}
+use Rattle.fort_theory.proofs.ClosedPatterns.{subpatterns-self}
 use Rattle.fort_agtt.specs.declared.agtt.Agtt.{Agtt}
 use Rattle.fort_agtt.specs.AgttView.{NamesItsStates, transducer_of}
 use Rattle.fort_agtt.specs.RootSteps.{ArePlaces, HasRootSteps}
@@ -26,8 +26,8 @@ use Rattle.fort_agtt.specs.RootSteps.{ArePlaces, HasRootSteps}
 pub sides_among : (rules : List theory.Pair) (lefts rights : List theory.Pattern) → AreSubpatternsInOrder (map (λ pair. pair.0) rules) lefts
     → AreSubpatternsInOrder (map (λ pair. pair.1) rules) rights → (pair : theory.Pair) → Contains rules pair → Contains lefts pair.0 × Contains rights pair.1
 sides_among rules lefts rights left right pair c = (
-  (left.same pair.0).1 (pair.0, Contains-map (λ (p : theory.Pair). p.0) rules pair c, itself_within pair.0),
-  (right.same pair.1).1 (pair.1, Contains-map (λ (p : theory.Pair). p.1) rules pair c, itself_within pair.1),
+  (left.same pair.0).1 (pair.0, Contains-map (λ (p : theory.Pair). p.0) rules pair c, subpatterns-self pair.0),
+  (right.same pair.1).1 (pair.1, Contains-map (λ (p : theory.Pair). p.1) rules pair c, subpatterns-self pair.1),
 )
 
 pub ArePlaces-push : (lefts rights : List theory.Pattern) (rules : List theory.Pair) (ps : List (ℕ × ℕ)) (rule : theory.Pair) (p : ℕ × ℕ) → ArePlaces lefts rights rules ps

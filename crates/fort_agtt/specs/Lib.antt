@@ -1,2 +1,3 @@
 pub mod AgttView
 pub mod RootSteps
+pub mod Unions

@@ -16,7 +16,8 @@ use fort_tree_automata::{pattern_automaton, place};
 use std::alloc::{AllocError, Global};
 
 /// The transducer that relates the root steps of an index: its automata are those of the left and
-/// of the right patterns, and its pair k is rule k, as the places of its sides.
+/// of the right patterns, and its pair k is rule k, as the places of its sides. Lists of 2^32
+/// patterns or more, for which there are no numbers, are want of memory.
 pub fn root_steps(alloc: Global, system: &System, index: u32) -> Result<Agtt, AllocError>
     requires { IsIndexOf system.now.rules index }
     ensures named { IfOk result NamesItsStates }
@@ -27,6 +28,9 @@ pub fn root_steps(alloc: Global, system: &System, index: u32) -> Result<Agtt, Al
 {
     let lefts = system.left_patterns(alloc, index)?;
     let rights = system.right_patterns(alloc, index)?;
+    if lefts.len() > u32::MAX as usize || rights.len() > u32::MAX as usize {
+        return Err(AllocError);
+    }
     let left = pattern_automaton(alloc, &lefts)?;
     let right = pattern_automaton(alloc, &rights)?;
     let pairs = places(alloc, system.rules(index), &lefts, &rights)?;

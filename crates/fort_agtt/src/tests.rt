@@ -1,4 +1,4 @@
-//! The root steps of one rule, and their inverse.
+//! The root steps of one rule, their inverse, and the union of both.
 ghost use Rattle.std.specs.Prelude.{◌≡◌, IfOk, length};
 ghost use Rattle.fort_agtt.specs.AgttView.{NamesItsStates};
 
@@ -98,6 +98,69 @@ fn steps_backwards(rt: HostRuntime) -> Result<(), Fail> {
             assert_eq!(rt;
                 relates(alloc, &inverse, s, t)?,
                 i == 0 && (j == 3 || j == 4),
+                "{i} {j}"
+            );
+        }
+    }
+    Ok(())
+}
+
+/// The rule a -> b over a, b and g.
+fn a_to_b(alloc: Global) -> Result<System, Fail>
+    ensures { IfOk result (λ s. length s.rules ≡ 1) }
+{
+    let mut signature = Signature::empty(alloc);
+    signature.add(b"a", 0)?;
+    signature.add(b"b", 0)?;
+    signature.add(b"g", 2)?;
+    let mut system = System::new(alloc, signature, 1)?;
+    let left = Side::App(Sym(0), Sides::new(Vec::new(alloc)));
+    let right = Side::App(Sym(1), Sides::new(Vec::new(alloc)));
+    system.push(1, &left, &right)?;
+    Ok(system)
+}
+
+fn forwards(alloc: Global) -> Result<Agtt, Fail>
+    ensures { IfOk result NamesItsStates }
+{
+    Ok(root_steps(alloc, &a_to_b(alloc)?, 1)?)
+}
+
+#[test]
+fn steps_of_constants(rt: HostRuntime) -> Result<(), Fail> {
+    let alloc = rt.alloc();
+    let steps = forwards(alloc)?;
+    let back = inverse(alloc, &steps)?;
+    for (i, s) in terms(alloc)?.iter().enumerate() {
+        for (j, t) in terms(alloc)?.iter().enumerate() {
+            assert_eq!(rt; relates(alloc, &steps, s, t)?, i == 0 && j == 1, "{i} {j}");
+            assert_eq!(rt; relates(alloc, &back, s, t)?, i == 1 && j == 0, "{i} {j}");
+        }
+    }
+    Ok(())
+}
+
+fn either_way(alloc: Global) -> Result<Agtt, Fail>
+    ensures { IfOk result NamesItsStates }
+{
+    let steps = forwards(alloc)?;
+    let back = inverse(alloc, &steps)?;
+    if steps.left.states > 9 || steps.right.states > 9 {
+        return Err(AllocError)?;
+    }
+    Ok(union(alloc, &steps, &back)?)
+}
+
+#[test]
+fn steps_either_way(rt: HostRuntime) -> Result<(), Fail> {
+    let alloc = rt.alloc();
+    let both = either_way(alloc)?;
+    assert_eq!(rt; both.pairs.as_slice(), [(0, 0), (1, 1)].as_slice());
+    for (i, s) in terms(alloc)?.iter().enumerate() {
+        for (j, t) in terms(alloc)?.iter().enumerate() {
+            assert_eq!(rt;
+                relates(alloc, &both, s, t)?,
+                (i == 0 && j == 1) || (i == 1 && j == 0),
                 "{i} {j}"
             );
         }

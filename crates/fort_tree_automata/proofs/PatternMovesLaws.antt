@@ -3,6 +3,7 @@ use Rattle.std.proofs.Common.{◌≡◌, ◌↔◌, ℕ, zero, suc, ◌+◌, ◌
 use Rattle.std.specs.Prelude.{Contains, slice_get}
 use Rattle.fort_theory.specs.Trees.{Tree}
 use Rattle.fort_theory.specs.Patterns as theory
+use Rattle.fort_theory.specs.PatternOrder.{AllAmong}
 use Rattle.fort_theory.proofs.Members.{Contains-head, Contains-behind, Contains-cons_cases, Contains-none}
 use Rattle.fort_theory.proofs.Lists.{none-some, some-injective}
 use Rattle.fort_terms.specs.declared.pattern.Pattern.{Pattern}
@@ -11,7 +12,7 @@ use Rattle.fort_reachability.specs.TreeAutomata.{Takes}
 use Rattle.fort_reachability.proofs.PatternAutomata.{AllStandFor, NoneStand, MoreStand, IsPatternAutomaton, Takes-IsInstance}
 use Rattle.fort_tree_automata.specs.declared.nta.Nta.{Nta}
 use Rattle.fort_tree_automata.specs.NtaView.{NamesItsStates, MoveParts, moves_of, automaton_of}
-use Rattle.fort_tree_automata.specs.PatternMoves.{AllAmong, StandsAt, AllStandAt, AreMovesFor}
+use Rattle.fort_tree_automata.specs.PatternMoves.{StandsAt, AllStandAt, AreMovesFor}
 
 -- ---- one more
 

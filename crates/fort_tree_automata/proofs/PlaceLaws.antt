@@ -10,7 +10,7 @@ use Rattle.std.proofs.lemmas.List.{length-map, get_or-map, take_more, map-append
 use Rattle.std.proofs.lemmas.List.Elements.{Contains-get_or}
 use Rattle.std.proofs.lemmas.Option.{slice_get-get_or}
 use Rattle.fort_theory.specs.Patterns as theory
-use Rattle.fort_theory.specs.PatternOrder.{PatternBefore}
+use Rattle.fort_theory.specs.PatternOrder.{PatternBefore, AllAmong}
 use Rattle.fort_theory.proofs.Lists.{none-some, some-injective, Contains-map}
 use Rattle.fort_terms.specs.declared.sym.Sym.{Sym}
 use Rattle.fort_terms.specs.declared.pattern.Pattern.{Pattern}
@@ -21,7 +21,7 @@ use Rattle.fort_terms.specs.PatternKeyLaws.{pattern_order-Equal, Pattern_order-t
 use Rattle.fort_terms.proofs.PatternKeysLaws.{PatternBefore-less}
 use Rattle.fort_tree_automata.specs.declared.nta.Move.{Move}
 use Rattle.fort_tree_automata.specs.NtaView.{MoveParts, as_move}
-use Rattle.fort_tree_automata.specs.PatternMoves.{AllAmong, IsClosedInOrder, StandsAt, AllStandAt, AreMovesFor}
+use Rattle.fort_tree_automata.specs.PatternMoves.{IsClosedInOrder, StandsAt, AllStandAt, AreMovesFor}
 use Rattle.fort_tree_automata.proofs.PatternMovesLaws.{StandsAt-below, AreMovesFor-any, AreMovesFor-push}
 
 read_at : {A : Type 0} (xs : List A) (k : ℕ) (x d : A) → slice_get xs k ≡ Some x → get_or xs k d ≡ x

@@ -1,18 +1,13 @@
 -- To believe: a list of patterns that is in order, without repeats and closed under arguments, and the moves of its automaton, whose states are the places in the list.
 use Rattle.std.specs.Prelude.{◌≡◌, ℕ, suc, ◌<◌, List, [], ◌∷◌, length, get_or, slice_get, Contains, Some}
 use Rattle.fort_theory.specs.Patterns.{Pattern, Patterns, Any, At, NoPattern, MorePatterns}
-use Rattle.fort_theory.specs.PatternOrder.{PatternBefore}
+use Rattle.fort_theory.specs.PatternOrder.{PatternBefore, HaveArguments}
 use Rattle.fort_tree_automata.specs.NtaView.{MoveParts}
-
--- each of these patterns is in the list
-abbrev pub AllAmong : List Pattern → Patterns → Type 0
-AllAmong ps NoPattern = Unit {0}
-AllAmong ps (MorePatterns arg args) = Contains ps arg × AllAmong ps args
 
 pub record IsClosedInOrder (ps : List Pattern) : Type 0 where
   -- ascending, so without repeats
   pub ordered : (i j : ℕ) → i < j → j < length ps → PatternBefore (get_or ps i Any) (get_or ps j Any)
-  pub closed : (f : ℕ) (args : Patterns) → Contains ps (At f args) → AllAmong ps args
+  pub closed : HaveArguments ps
 
 -- the pattern is at this place of the list
 abbrev pub StandsAt : List Pattern → ℕ → Pattern → Type 0

@@ -3,20 +3,20 @@ ghost use Rattle.std.specs.Prelude.{◌≡◌, ◌↔◌, IsTrue, ℕ, ◌<◌, 
 ghost use Rattle.fort_theory.specs.Trees.{Tree};
 ghost use Rattle.fort_theory.specs.Patterns as theory;
 ghost use Rattle.fort_theory.specs.Patterns.{IsInstance};
+ghost use Rattle.fort_theory.specs.PatternOrder.{AllAmong};
 ghost use Rattle.fort_reachability.specs.TreeAutomata.{Takes};
 ghost use Rattle.fort_terms.specs.PatternView.{as_pattern, as_patterns};
 ghost use Rattle.fort_tree_automata.specs.NtaView.{NamesItsStates, automaton_of, moves_of, as_move};
-ghost use Rattle.fort_tree_automata.specs.PatternMoves.{IsClosedInOrder, StandsAt, AllAmong, AllStandAt, AreMovesFor};
+ghost use Rattle.fort_tree_automata.specs.PatternMoves.{IsClosedInOrder, StandsAt, AllStandAt, AreMovesFor};
 
 use crate::nta::{Move, Nta};
 use fort_terms::Pattern;
 use std::alloc::{AllocError, Global};
 
-/// The automaton whose state i takes the instances of pattern i. A list of 2^32 patterns or more,
-/// for which there are no numbers, is want of memory.
+/// The automaton whose state i takes the instances of pattern i.
 pub fn pattern_automaton(alloc: Global, patterns: &[Pattern]) -> Result<Nta, AllocError>
-    requires { IsClosedInOrder (map as_pattern patterns.now) }
-    ensures few { OnOk result (length patterns.now < 2 ^ 32) }
+    requires closed { IsClosedInOrder (map as_pattern patterns.now) }
+    requires numbered { length patterns.now < 2 ^ 32 }
     ensures named { IfOk result NamesItsStates }
     ensures states { IfOk result (λ nta. nta.states ≡ length patterns.now) }
     ensures any { IfOk result (λ nta. (q : ℕ) → (nta.any ≡ Some q) ↔
@@ -28,9 +28,6 @@ pub fn pattern_automaton(alloc: Global, patterns: &[Pattern]) -> Result<Nta, All
         StandsAt (map as_pattern patterns.now) q p →
         (t : Tree) → Takes (automaton_of nta) t q ↔ IsInstance p t) }
 {
-    if patterns.len() > u32::MAX as usize {
-        return Err(AllocError);
-    }
     let mut moves = Vec::new(alloc);
     for state in 0..patterns.len() {
         push_move(alloc, patterns, state as u32, &mut moves)?;

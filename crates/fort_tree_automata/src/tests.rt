@@ -50,6 +50,9 @@ fn three_patterns(alloc: Global) -> Result<Nta, Fail>
     ensures { IfOk result NamesItsStates }
 {
     let patterns = system(alloc)?.left_patterns(alloc, 1)?;
+    if patterns.len() > 9 {
+        return Err(AllocError)?;
+    }
     Ok(pattern_automaton(alloc, &patterns)?)
 }
 

@@ -6,11 +6,11 @@ use Rattle.fort_agtt.specs.declared.agtt.Agtt.{Agtt}
 use Rattle.fort_agtt.proofs.RootStepsLaws.{sides_among, HasRootSteps-made, NamesItsStates-rules, Transduces-rules}
 use Rattle.fort_agtt.proofs.rules.root_steps.Goals as goal
 
-pub pattern_automaton-requires : goal.pattern_automaton-requires
-pattern_automaton-requires c = rw c.deref.ensures.value (IsClosedInOrder-subpatterns _ _ c.in_ok-lefts.ensures)
+pub pattern_automaton-requires-clause-closed : goal.pattern_automaton-requires-clause-closed
+pattern_automaton-requires-clause-closed c = rw c.deref.ensures.value (IsClosedInOrder-subpatterns _ _ c.in_ok-lefts.ensures)
 
-pub pattern_automaton-requires-2 : goal.pattern_automaton-requires-2
-pattern_automaton-requires-2 c = rw c.deref-2.ensures.value (IsClosedInOrder-subpatterns _ _ c.in_ok-rights.ensures)
+pub pattern_automaton-requires-2-clause-closed : goal.pattern_automaton-requires-2-clause-closed
+pattern_automaton-requires-2-clause-closed c = rw c.deref-2.ensures.value (IsClosedInOrder-subpatterns _ _ c.in_ok-rights.ensures)
 
 pub places-requires-clause-left_closed : goal.places-requires-clause-left_closed
 places-requires-clause-left_closed c = rw c.deref-3.ensures.value (IsClosedInOrder-subpatterns _ _ c.in_ok-lefts.ensures)

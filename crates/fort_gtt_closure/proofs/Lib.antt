@@ -1,0 +1,10 @@
+pub mod GridLaws
+pub mod ScanLaws
+pub mod Places
+pub mod ListedLaws
+pub mod FirstReasonLaws
+pub mod ProgressLaws
+pub mod TableLaws
+pub mod AddedLaws
+pub mod OnceLaws
+pub mod NumberedLaws

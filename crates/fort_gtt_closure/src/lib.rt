@@ -1,0 +1,15 @@
+//! The closure of an anchored ground tree transducer: the pairs of states of which one reaches the other, each with its reason.
+#![tactic(auto)]
+
+mod closed;
+mod entry;
+mod grid;
+mod passes;
+mod reasons;
+
+pub use closed::closed_agtt;
+pub use entry::{Closed, Entry, Why};
+pub use passes::close;
+
+#[cfg(test)]
+mod tests;
