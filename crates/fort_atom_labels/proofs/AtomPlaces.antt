@@ -2,7 +2,7 @@
 use Rattle.std.specs.Prelude.{◌≡◌, ◌↔◌, ℕ, zero, suc, ◌<◌, ◌==◌, List, [], ◌∷◌, length, get_or, Contains, false, refl}
 use Rattle.std.specs.List.{position_or_len}
 use Rattle.std.specs.List.Sorted.{IsStrictlyIncreasing}
-use Rattle.std.proofs.Common.{subst, ◌∙◌, ap, arith, inl, inr, eq-eqb}
+use Rattle.std.proofs.Common.{subst, sym, ◌∙◌, ap, arith, inl, inr, eq-eqb}
 use Rattle.std.proofs.lemmas.Bool.{cases_lt}
 use Rattle.std.proofs.lemmas.List.Sums.{position_or_len_is}
 use Rattle.fort_theory.proofs.Members.{Contains-head, Contains-behind, Contains-cons_cases, Contains-none}
@@ -118,3 +118,20 @@ module _ (rel : Rel) (index x y : ℕ) (columns : List ℕ) (are : parts.AreColu
           (subst (λ z. ArePlaces (x ∷ []) x z) e (ArePlaces-same x))
     ]
   ]
+
+  -- by the order of the two variables
+  pub places-same : x ≡ y → (length columns ≡ 1) × (place_of x columns ≡ 0) × (place_of y columns ≡ 0)
+  places-same e =
+      let c : columns ≡ x ∷ [] = sym (columns-are (x ∷ []) (IsStrictlyIncreasing-one x) (λ n. (Contains-one_or_two x y n, Contains-from_same x y n e))) in
+      (ap length c, ap (place_of x) c ∙ place_of-head x [], ap (place_of y) c ∙ (ap (λ z. place_of z (x ∷ [])) (sym e) ∙ place_of-head x []))
+
+  pub places-up : x < y → (length columns ≡ 2) × (place_of x columns ≡ 0) × (place_of y columns ≡ 1)
+  places-up l =
+      let c : columns ≡ x ∷ y ∷ [] = sym (columns-are (x ∷ y ∷ []) (IsStrictlyIncreasing-two x y l) (λ n. ((λ d. d), (λ d. d)))) in
+      (ap length c, ap (place_of x) c ∙ place_of-head x (y ∷ []), ap (place_of y) c ∙ place_of-second x y (λ e. omega arith))
+
+  pub places-down : y < x → (length columns ≡ 2) × (place_of x columns ≡ 1) × (place_of y columns ≡ 0)
+  places-down l =
+      let c : columns ≡ y ∷ x ∷ [] =
+      sym (columns-are (y ∷ x ∷ []) (IsStrictlyIncreasing-two y x l) (λ n. (Contains-exchanged x y n, Contains-exchanged y x n))) in
+      (ap length c, ap (place_of x) c ∙ place_of-second y x (λ e. omega arith), ap (place_of y) c ∙ place_of-head y (x ∷ []))

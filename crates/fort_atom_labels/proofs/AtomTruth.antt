@@ -32,7 +32,7 @@ use Rattle.fort_atom_labels.proofs.ClosureTestLaws.{IsClosure-unread}
 use Rattle.fort_atom_labels.proofs.BothWays.{Reduces-both_ways}
 
 -- what the atom says is the relation of its name
-Says-RelatesBy : (sig : Signature) (pairs : List Pair) (rel : Rel) (s t : Tree)
+pub Says-RelatesBy : (sig : Signature) (pairs : List Pair) (rel : Rel) (s t : Tree)
     → Says (PatternStep sig (pairs_for rel pairs)) (kind_for rel) s t ↔ RelatesBy (PatternStep sig pairs) rel s t
 Says-RelatesBy sig pairs Eq s t = iff_same
 Says-RelatesBy sig pairs Root s t = iff_same
@@ -72,18 +72,18 @@ pub IsFull-tuple_of : (v : Places) (ns : List ℕ) → IsFull (tuple_of v ns)
 IsFull-tuple_of v [] = tt
 IsFull-tuple_of v (n ∷ ns) = IsFull-tuple_of v ns
 
-get_or-tuple_of : (v : Places) (ns : List ℕ) (i x : ℕ) → i < length ns → get_or ns i 0 ≡ x → get_or (tuple_of v ns) i None ≡ Some (v x)
+pub get_or-tuple_of : (v : Places) (ns : List ℕ) (i x : ℕ) → i < length ns → get_or ns i 0 ≡ x → get_or (tuple_of v ns) i None ≡ Some (v x)
 get_or-tuple_of v [] i x l e = absurd (omega arith)
 get_or-tuple_of v (n ∷ ns) zero x l e = ap (λ k. Some (v k)) e
 get_or-tuple_of v (n ∷ ns) (suc i) x l e = get_or-tuple_of v ns i x (omega arith) e
 
-Decides-Surely : (b : Bool) {P : Type 0} → Decides b P → (b ≡ true) ↔ Surely P
+pub Decides-Surely : (b : Bool) {P : Type 0} → Decides b P → (b ≡ true) ↔ Surely P
 Decides-Surely true d = ((λ e no. no (d.0 e)), (λ h. refl))
 Decides-Surely false d = ((λ e. absurd (true≢false (sym e))), (λ h. absurd (h (λ p. true≢false (sym (d.1 p))))))
 
 -- by the pairs of a system of patterns
 module _ (system : PatternSystem) (index : ℕ) (lefts rights : List Pattern) (closure : Pattern → Pattern → Bool) where
-  Decides-relation : (rel : Rel) (x y : ℕ) (columns : List ℕ) → parts.AreColumns (CoreAtom rel index x y) columns
+  pub Decides-relation : (rel : Rel) (x y : ℕ) (columns : List ℕ) → parts.AreColumns (CoreAtom rel index x y) columns
       → IsListedAtom (listed (relation_atom system rel index x y columns) lefts rights)
       → IsClosure (listed (relation_atom system rel index x y columns) lefts rights) closure
       → (v : Places) → ((n : ℕ) → Contains columns n → IsGround system.signature (v n))
@@ -101,7 +101,7 @@ module _ (system : PatternSystem) (index : ℕ) (lefts rights : List Pattern) (c
       (get_or-tuple_of v columns (place_of x columns) x places.first_within places.first_is)
       (Decides-atom_accepts a closure is closes (tuple_of v columns) (IsTuple-tuple_of system.signature v columns places.some g))))
 
-Decides-normal : (system : PatternSystem) (index : ℕ) (lefts : List Pattern) (closure : Pattern → Pattern → Bool)
+pub Decides-normal : (system : PatternSystem) (index : ℕ) (lefts : List Pattern) (closure : Pattern → Pattern → Bool)
     → IsListedAtom (listed (normal_atom system index) lefts []) → (x : ℕ) (v : Places) → IsGround system.signature (v x)
     → Decides (atom_accepts (listed (normal_atom system index) lefts []) (label_of (atom_rule (listed (normal_atom system index) lefts []) closure) (tuple_of v (x ∷ []))))
     (IsNormalForm (PatternStepAt system index) (v x))

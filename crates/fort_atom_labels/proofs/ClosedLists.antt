@@ -4,65 +4,17 @@ use Rattle.std.proofs.Common.{subst, inl, inr}
 use Rattle.std.proofs.lemmas.List.Elements.{All-contains, Contains-append_left, Contains-append_right, Contains-append_cases}
 use Rattle.fort_theory.specs.Signatures.{Signature}
 use Rattle.fort_theory.specs.Patterns.{Pattern, Patterns, Any, At, NoPattern, MorePatterns, FitsPattern, FitPatterns, Pair, FitsPair}
-use Rattle.fort_theory.specs.PatternOrder.{subpatterns, all_subpatterns, StandsWithin}
+use Rattle.fort_theory.specs.PatternOrder.{subpatterns, all_subpatterns, StandsWithin, HaveArguments}
+use Rattle.fort_theory.proofs.ClosedPatterns.{subpatterns-self, HaveArguments-within}
 use Rattle.fort_theory.proofs.Lists.{Contains-map, Contains-map_from}
 use Rattle.fort_theory.proofs.Members.{Contains-head, Contains-behind, Contains-cons_cases, Contains-none}
 use Rattle.fort_alike.specs.Atoms.{AtomKind, EqKind, RootKind, StepKind, BelowKind, ParKind, NfKind, StarKind, PlusKind}
 use Rattle.fort_atom_labels.specs.ListedAtoms.{ListedAtom, IsListedAtom}
 
-abbrev pub AllAmong : List Pattern → Patterns → Type 0
-AllAmong listed NoPattern = Unit {0}
-AllAmong listed (MorePatterns p ps) = Contains listed p × AllAmong listed ps
-
 -- each pattern's arguments are among them too, and each fits the signature
 pub record ArePatterns (sig : Signature) (listed : List Pattern) : Type 0 where
-  pub closed : (f : ℕ) (ps : Patterns) → Contains listed (At f ps) → AllAmong listed ps
+  pub closed : HaveArguments listed
   pub fit : (p : Pattern) → Contains listed p → FitsPattern sig p
-
-any-at : {f : ℕ} {ps : Patterns} → Any ≡ At f ps → ⊥
-any-at h = cc
-
-at-args : {f g : ℕ} {ps qs : Patterns} → At f ps ≡ At g qs → ps ≡ qs
-at-args h = cc
-
-AllAmong-more : (xs ys : List Pattern) (ps : Patterns) → ((p : Pattern) → Contains xs p → Contains ys p) → AllAmong xs ps → AllAmong ys ps
-AllAmong-more xs ys NoPattern h a = tt
-AllAmong-more xs ys (MorePatterns p ps) h a = (h p a.0, AllAmong-more xs ys ps h a.1)
-
-subpatterns-self : (p : Pattern) → Contains (subpatterns p) p
-subpatterns-self Any = Contains-head Any []
-subpatterns-self (At f ps) = Contains-head (At f ps) (all_subpatterns ps)
-
-all_subpatterns-self : (ps : Patterns) → AllAmong (all_subpatterns ps) ps
-all_subpatterns-self NoPattern = tt
-all_subpatterns-self (MorePatterns p ps) = (
-  Contains-append_left (subpatterns p) (all_subpatterns ps) p (subpatterns-self p),
-  AllAmong-more (all_subpatterns ps) (subpatterns p ++ all_subpatterns ps) ps
-      (λ q c. Contains-append_right (subpatterns p) (all_subpatterns ps) q c) (all_subpatterns-self ps),
-)
-
-mutual
-  subpatterns-closed : (p : Pattern) (f : ℕ) (ps : Patterns) → Contains (subpatterns p) (At f ps) → AllAmong (subpatterns p) ps
-  subpatterns-closed Any f ps c =
-      elim (Contains-cons_cases Any [] (At f ps) c) [ inl e ↦ absurd (any-at e) | inr n ↦ absurd (Contains-none (At f ps) n) ]
-  subpatterns-closed (At g qs) f ps c =
-      AllAmong-more (all_subpatterns qs) (At g qs ∷ all_subpatterns qs) ps (λ q d. Contains-behind (At g qs) (all_subpatterns qs) q d)
-      (elim (Contains-cons_cases (At g qs) (all_subpatterns qs) (At f ps) c) [
-        | inl e ↦ subst (AllAmong (all_subpatterns qs)) (at-args e) (all_subpatterns-self qs)
-        | inr n ↦ all_subpatterns-closed qs f ps n
-      ])
-
-  all_subpatterns-closed : (qs : Patterns) (f : ℕ) (ps : Patterns) → Contains (all_subpatterns qs) (At f ps) → AllAmong (all_subpatterns qs) ps
-  all_subpatterns-closed NoPattern f ps c = absurd (Contains-none (At f ps) c)
-  all_subpatterns-closed (MorePatterns q qs) f ps c =
-      elim (Contains-append_cases (subpatterns q) (all_subpatterns qs) (At f ps) c) [
-        | inl l ↦
-            AllAmong-more (subpatterns q) (subpatterns q ++ all_subpatterns qs) ps
-            (λ p d. Contains-append_left (subpatterns q) (all_subpatterns qs) p d) (subpatterns-closed q f ps l)
-        | inr r ↦
-            AllAmong-more (all_subpatterns qs) (subpatterns q ++ all_subpatterns qs) ps
-            (λ p d. Contains-append_right (subpatterns q) (all_subpatterns qs) p d) (all_subpatterns-closed qs f ps r)
-      ]
 
 mutual
   subpatterns-fit : (sig : Signature) (p : Pattern) → FitsPattern sig p → (q : Pattern) → Contains (subpatterns p) q → FitsPattern sig q
@@ -87,10 +39,7 @@ ArePatterns-within : (sig : Signature) (tops listed : List Pattern) → ((top : 
     → ((p : Pattern) → Contains listed p → StandsWithin tops p)
     → ((p q : Pattern) → Contains listed p → StandsWithin tops q → Contains listed q) → ArePatterns sig listed
 ArePatterns-within sig tops listed fits within all = record {
-  closed =
-      λ f ps c.
-      let w = within (At f ps) c in
-      AllAmong-more (subpatterns w.0) listed ps (λ q d. all (At f ps) q c (w.0, w.1, d)) (subpatterns-closed w.0 f ps w.2);
+  closed = HaveArguments-within tops listed within all;
   fit = λ p c. let w = within p c in subpatterns-fit sig w.0 (fits w.0 w.1) p w.2;
 }
 

@@ -12,7 +12,8 @@ use Rattle.fort_tables.specs.OneColumn.{column_root, column_kid, column_kid_coun
 use Rattle.fort_alike.specs.Atoms.{OfOne, OfTwo}
 use Rattle.fort_atom_labels.specs.ListedAtoms.{Mark}
 use Rattle.fort_atom_labels.specs.AtomRules.{all_inside, inside, all_kids, one_kid, some_kid}
-use Rattle.fort_atom_labels.proofs.ClosedLists.{AllAmong, ArePatterns}
+use Rattle.fort_theory.specs.PatternOrder.{AllAmong}
+use Rattle.fort_atom_labels.proofs.ClosedLists.{ArePatterns}
 use Rattle.fort_atom_labels.proofs.Bits.{Decides-true, Decides-false, Decides-and_then}
 
 -- child by child

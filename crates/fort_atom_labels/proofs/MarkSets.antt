@@ -4,7 +4,8 @@ use Rattle.std.proofs.Common.{sym, subst, ◌∙◌, arith, inl, inr}
 use Rattle.std.proofs.lemmas.List.{get_or_default}
 use Rattle.std.proofs.lemmas.List.Elements.{Contains-append_cases, Contains-get_or}
 use Rattle.fort_theory.specs.Patterns.{Pattern, Patterns, Any, At, NoPattern, MorePatterns}
-use Rattle.fort_theory.specs.PatternOrder.{PatternBefore, PatternsBefore}
+use Rattle.fort_theory.specs.PatternOrder.{PatternBefore}
+use Rattle.fort_theory.proofs.ClosedPatterns.{PatternBefore-irreflexive}
 use Rattle.fort_theory.proofs.Lists.{Contains-map_from}
 use Rattle.fort_theory.proofs.Members.{Contains-none, Contains-cons_cases, Contains-head, Contains-behind}
 use Rattle.fort_alike.specs.Atoms.{AtomKind, EqKind, RootKind, StepKind, BelowKind, ParKind, NfKind, StarKind, PlusKind}
@@ -16,16 +17,6 @@ use Rattle.fort_atom_labels.proofs.BitPlaces.{NoneTwice}
 abbrev IsSet : {A : Type 0} → List A → Type 0
 IsSet [] = Unit {0}
 IsSet (x ∷ xs) = (Contains xs x → ⊥) × IsSet xs
-
-mutual
-  PatternBefore-irreflexive : (p : Pattern) → PatternBefore p p → ⊥
-  PatternBefore-irreflexive Any h = h
-  PatternBefore-irreflexive (At f ps) h = elim h [ inl l ↦ omega arith | inr w ↦ PatternsBefore-irreflexive ps w.1 ]
-
-  PatternsBefore-irreflexive : (ps : Patterns) → PatternsBefore ps ps → ⊥
-  PatternsBefore-irreflexive NoPattern h = h
-  PatternsBefore-irreflexive (MorePatterns p ps) h =
-      elim h [ inl a ↦ PatternBefore-irreflexive p a | inr w ↦ PatternsBefore-irreflexive ps w.1 ]
 
 -- a list in order has no pattern twice
 IsSet-ordered : (ps : List Pattern) → ((i j : ℕ) → i < j → j < length ps → PatternBefore (get_or ps i Any) (get_or ps j Any)) → IsSet ps

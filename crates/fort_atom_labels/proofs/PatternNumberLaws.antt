@@ -1,11 +1,11 @@
--- The test by numbers is the rule's test, for the first's patterns from bit 0 on and for the second's behind them.
+-- The test by numbers is the rule's test, for the first's patterns from bit 0 on and for the second's behind them; the facts' bits come last.
 use Rattle.std.specs.Prelude.{◌≡◌, ℕ, zero, suc, ◌+◌, ◌<◌, List, [], ◌∷◌, ◌++◌, map, length, drop, Option, None, Some, get_or, Bool, ◌==◌, ◌&&◌, refl}
 use Rattle.std.proofs.Common.{sym, ap, ◌∙◌, arith}
 use Rattle.fort_theory.specs.Patterns.{Pattern, Patterns, Any, At, NoPattern, MorePatterns}
 use Rattle.fort_tables.specs.BitRows.{has_bit}
-use Rattle.fort_alike.specs.Alike.{facts_of}
+use Rattle.fort_alike.specs.Alike.{Fact, facts_of}
 use Rattle.fort_atom_labels.specs.ListedAtoms.{Mark, OfFirst, OfSecond, OfBoth, ListedAtom}
-use Rattle.fort_atom_labels.specs.AtomRules.{marks_of, has, all_inside, inside, bit_in}
+use Rattle.fort_atom_labels.specs.AtomRules.{marks_of, place, has, all_inside, inside, bit_in}
 use Rattle.fort_atom_labels.specs.PatternNumbers.{PatternNumber, AreAt, IsNumberOf, all_at, number_inside}
 use Rattle.fort_atom_labels.proofs.BitPlaces.{NoneTwice, place-get_or}
 
@@ -49,6 +49,23 @@ module _ (a : ListedAtom) (once : NoneTwice (marks_of a)) where
       mark-behind OfFirst a.lefts (map OfSecond a.rights ++ map OfBoth (facts_of a.atom.kind)) k (OfFirst Any)
       ∙ (mark-at OfSecond a.rights zs k (OfFirst Any) l ∙ ap OfSecond e) in
       ap (λ i. has_bit (drop 1 w) i) (sym (place-get_or (marks_of a) (OfFirst Any) (length a.lefts + k) once m)) ∙ ap (λ n. has (marks_of a) w n) at
+
+-- the bit of a fact, behind those of all patterns, of which some may stand twice
+place-behind_firsts : (xs : List Pattern) (ys : List Mark) (k : Fact) → length xs + place ys (OfBoth k) ≡ place (map OfFirst xs ++ ys) (OfBoth k)
+place-behind_firsts [] ys k = omega arith
+place-behind_firsts (x ∷ xs) ys k = omega (arith, place-behind_firsts xs ys k)
+
+place-behind_seconds : (xs : List Pattern) (ys : List Mark) (k : Fact) → length xs + place ys (OfBoth k) ≡ place (map OfSecond xs ++ ys) (OfBoth k)
+place-behind_seconds [] ys k = omega arith
+place-behind_seconds (x ∷ xs) ys k = omega (arith, place-behind_seconds xs ys k)
+
+pub fact_bit : (a : ListedAtom) (k : Fact) (w : List ℕ)
+    → has_bit (drop 1 w) (length a.lefts + length a.rights + place (map OfBoth (facts_of a.atom.kind)) (OfBoth k)) ≡ bit_in a (OfBoth k) w
+fact_bit a k w =
+    let zs : List Mark = map OfBoth (facts_of a.atom.kind) in
+    let e : length a.lefts + length a.rights + place zs (OfBoth k) ≡ place (marks_of a) (OfBoth k) =
+    omega (arith, place-behind_firsts a.lefts (map OfSecond a.rights ++ zs) k, place-behind_seconds a.rights zs k) in
+    ap (λ i. has_bit (drop 1 w) i) e
 
 module _ (bit : Mark → List ℕ → Bool) (of : Pattern → Mark) (listed : List Pattern) (base : ℕ)
     (reads : (k : ℕ) (p : Pattern) (w : List ℕ) → k < length listed → get_or listed k Any ≡ p → has_bit (drop 1 w) (base + k) ≡ bit (of p) w) where

@@ -1,2 +1,15 @@
 pub mod NodeLaws
 pub mod ListingLaws
+pub mod NumberedLaws
+pub mod RowBitLaws
+pub mod FactLaws
+pub mod RulePlaceLaws
+pub mod NodeRowLaws
+pub mod RelationLaws
+pub mod SidePlaceLaws
+pub mod NormalLaws
+pub mod MakerLaws
+pub mod NormalMakerLaws
+pub mod AtomLabelsLaws
+pub mod LocalLaws
+pub mod LocalTermLaws

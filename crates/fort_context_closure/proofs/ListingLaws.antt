@@ -19,7 +19,7 @@ use Rattle.fort_atom_labels.proofs.TermLabels.{HasChildren, TellsNumber-tuple, c
 use Rattle.fort_context_closure.specs.TermNodes.{HasMore, node_for, no_node, numbers_in, IsNode, AreNoNode, IsFirstNode, IsNodeNumber}
 
 -- a tree of the list by its place
-in_list : (xs : List Tree) (v : Tree) → Contains xs v → (k : ℕ) × (k < length xs) × (get_or (map Some xs) k None ≡ Some v)
+pub in_list : (xs : List Tree) (v : Tree) → Contains xs v → (k : ℕ) × (k < length xs) × (get_or (map Some xs) k None ≡ Some v)
 in_list [] v c = absurd (Contains-none v c)
 in_list (x ∷ xs) v c = elim (Contains-cons_cases x xs v c) [
   | inl e ↦ (0, omega arith, ap Some e)
@@ -54,6 +54,11 @@ numbers-injective listed (More u us) Nil a h = absurd (let e : number_in listed 
 numbers-injective listed (More u us) (More s ss) a h =
     let d = numbers-injective_at listed u s (number_in listed s) a.0 (head-injective h) refl in
     let e = numbers-injective listed us ss a.1 (tail-injective h) in cc
+
+-- the numbers that the children's labels tell
+pub number_words : (labels : List (List ℕ)) (kids : List ℕ) → map number_word (map (λ q. get_or labels q []) kids) ≡ numbers_in labels kids
+number_words labels [] = refl
+number_words labels (q ∷ kids) = ap (λ ns. number_word (get_or labels q []) ∷ ns) (number_words labels kids)
 
 module _ (listed : List Tree) (closed : HasChildren listed) where
   tree-from_node : (f : ℕ) (ss : Trees) (v : Tree) → Contains listed v → IsNode f (numbers listed ss) (node_for listed v) → v ≡ Node f ss
@@ -90,10 +95,6 @@ module _ (listed : List Tree) (closed : HasChildren listed) where
   number-from_nodes f ss n (inl h) = number-from_none f ss h.1 ∙ sym h.0
   number-from_nodes f ss n (inr h) = number-from_first f ss h.0 h.2 ∙ sym h.1
 
-  map-both : (labels : List (List ℕ)) (qs : List ℕ) → map number_word (map (λ q. get_or labels q []) qs) ≡ numbers_in labels qs
-  map-both labels [] = refl
-  map-both labels (q ∷ qs) = ap (λ ns. number_word (get_or labels q []) ∷ ns) (map-both labels qs)
-
   step-number : (sig : Signature) (labels : List (List ℕ)) (e : Entry) (n : ℕ) → IsNodeNumber (map (node_for listed) listed) (get_or e.symbol 0 None) (numbers_in labels e.kids) n
       → (t : Tuple) → IsTuple sig 1 t → root t ≡ e.symbol → map (label_of (term_rule sig listed)) (kids t) ≡ map (λ q. get_or labels q []) e.kids
       → number_of listed (get_or t 0 None) ≡ n
@@ -102,7 +103,7 @@ module _ (listed : List Tree) (closed : HasChildren listed) where
   step-number sig labels e n h (Some (Node f ss) ∷ []) is r same =
       let at : Some f ≡ get_or e.symbol 0 None = ap (λ (x : List (Option ℕ)). get_or x 0 None) r in
       let ns : numbers_in labels e.kids ≡ numbers listed ss =
-      sym (map-both labels e.kids) ∙ (ap (map number_word) (sym same)
+      sym (number_words labels e.kids) ∙ (ap (map number_word) (sym same)
       ∙ child_numbers sig listed closed f ss (λ j l. TellsNumber-tuple sig listed closed (kid (Some (Node f ss) ∷ []) j) (IsTuple-kid sig 1 (Some (Node f ss) ∷ []) j is l))) in
       number-from_nodes f ss n (subst (λ x. IsNodeNumber (map (node_for listed) listed) x (numbers listed ss) n) (sym at)
       (subst (λ (x : List ℕ). IsNodeNumber (map (node_for listed) listed) (get_or e.symbol 0 None) x n) ns h))

@@ -1,32 +1,20 @@
 -- Lists with some more subterms; numbers by a set's places; the first node over some numbers is the subterm's.
-use Rattle.std.specs.Prelude.{◌≡◌, suc, ◌+◌, ◌<◌, List, [], ◌∷◌, ◌++◌, length, Contains, nat_eq, Bool, true, false, Decides, MatchOption, if◌then◌else◌, position, refl}
+use Rattle.std.specs.Prelude.{◌≡◌, suc, ◌+◌, ◌<◌, List, [], ◌∷◌, ◌++◌, length, Contains, Bool, true, false, Decides, MatchOption, if◌then◌else◌, position, refl}
 use Rattle.std.specs.List.{list_any, position_or_len}
 use Rattle.std.proofs.Common.{sym, ap, subst, ◌∙◌, arith, inl, inr, true≢false, append_assoc, append-nil}
 use Rattle.std.proofs.lemmas.List.Elements.{Contains-append_left, Contains-append_right, Contains-append_cases}
 use Rattle.std.proofs.lemmas.Bool.{lt-ltb, le-ltb}
-use Rattle.std.proofs.lemmas.Bool.Decides.{Decides-eqb, Decides-and}
-use Rattle.fort_theory.specs.Trees.{Tree, Trees, Node, Nil, More, trees}
+use Rattle.fort_theory.specs.Trees.{Tree, trees}
 use Rattle.fort_theory.proofs.Members.{Contains-head, Contains-behind, Contains-cons_cases, Contains-none}
-use Rattle.fort_theory.proofs.StepByRoot.{Node-equal_iff, first-injective, rest-injective}
-use Rattle.fort_terms.specs.TermKeys.{tree_eq, trees_eq}
+use Rattle.fort_terms.specs.TermKeys.{tree_eq}
+use Rattle.fort_terms.specs.TermKeyLaws.{Decides-tree_eq}
 use Rattle.fort_atom_labels.specs.Subterms.{subterms, subterms_among}
 use Rattle.fort_atom_labels.specs.TermRule.{same_tree, one_further, number_in, numbers}
 use Rattle.fort_atom_labels.proofs.SubtermLaws.{Decides-same_tree}
 use Rattle.fort_context_closure.specs.TermNodes.{HasMore}
 
-mutual
-  pub Decides-tree_eq : (s t : Tree) → Decides (tree_eq s t) (t ≡ s)
-  Decides-tree_eq (Node f ss) (Node g ts) =
-      let d = Decides-and (nat_eq f g) (trees_eq ss ts) (Decides-eqb f g) (Decides-trees_eq ss ts) in
-      ((λ e. sym ((Node-equal_iff f g ss ts).1 (d.0 e))), (λ e. d.1 ((Node-equal_iff f g ss ts).0 (sym e))))
-
-  Decides-trees_eq : (ss ts : Trees) → Decides (trees_eq ss ts) (ss ≡ ts)
-  Decides-trees_eq Nil Nil = ((λ e. refl), (λ e. refl))
-  Decides-trees_eq Nil (More t ts) = ((λ e. absurd (true≢false (sym e))), (λ e. absurd (let h : Nil ≡ More t ts = e in cc)))
-  Decides-trees_eq (More s ss) Nil = ((λ e. absurd (true≢false (sym e))), (λ e. absurd (let h : More s ss ≡ Nil = e in cc)))
-  Decides-trees_eq (More s ss) (More t ts) =
-      let d = Decides-and (tree_eq s t) (trees_eq ss ts) (Decides-tree_eq s t) (Decides-trees_eq ss ts) in
-      ((λ e. let w = d.0 e in let a = w.0 in let b = w.1 in cc), (λ e. d.1 (sym (first-injective e), rest-injective e)))
+pub Decides-key : (t k : Tree) → Decides (tree_eq t k) (k ≡ t)
+Decides-key t k = let d = Decides-tree_eq t k in ((λ e. sym (d.0 e)), (λ e. d.1 (sym e)))
 
 -- lists with some more
 

@@ -1,2 +1,14 @@
 pub mod TermNodes
 pub mod TermListing
+pub mod NumberedView
+pub mod RowBits
+pub mod FactTests
+pub mod RulePlaces
+pub mod PlainAtoms
+pub mod AtomCode
+pub mod RelationView
+pub mod SidePlaces
+pub mod NormalView
+pub mod AtomLabelsView
+pub mod LocalAtoms
+pub mod LocalTerms

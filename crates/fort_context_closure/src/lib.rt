@@ -1,9 +1,21 @@
 //! The labels of atoms.
 #![tactic(auto)]
 
+mod arguments;
+mod atom_labels;
+mod bits;
+mod facts;
+pub mod local;
+mod local_terms;
 mod nodes;
+mod normal;
+mod numbered;
+mod relation;
+mod rule_places;
+mod side_places;
 mod term_labels;
 
+pub use atom_labels::AtomLabels;
 pub use term_labels::TermLabels;
 
 #[cfg(test)]

@@ -135,7 +135,7 @@ fn has_kids(node: &Node, row: &Row, rows: &Rows) -> bool
 }
 
 /// The second word of a label.
-fn number_word(label: &[u64]) -> u64
+pub(crate) fn number_word(label: &[u64]) -> u64
     ensures { result ≡ number_word_lem label.now }
 {
     label.get(1).copied().unwrap_or(0)

@@ -1,0 +1,98 @@
+-- The labels of an atom tell apart what is not alike, and are accepted where the atom holds.
+use Rattle.std.specs.Prelude.{◌≡◌, ◌↔◌, ℕ, List, [], ◌∷◌, All, true, false, Decides, refl}
+use Rattle.std.proofs.Common.{sym, ap, subst, ◌∙◌}
+use Rattle.fort_theory.specs.Sides.{at_index, System, IsLinearSeparated}
+use Rattle.fort_theory.specs.Patterns.{PatternSystem, pattern_system}
+use Rattle.fort_theory.proofs.Members.{Contains-head}
+use Rattle.fort_theory.specs.PatternSteps.{PatternStepAt}
+use Rattle.fort_theory.specs.Rewriting.{IsNormalForm}
+use Rattle.fort_logic.specs.CoreTruth.{RelatesBy, IsMetBy}
+use Rattle.fort_logic.specs.Truth.{structure_of}
+use Rattle.fort_logic.specs.Cores.{Rel, Atom as CoreAtom, Nf as CoreNf}
+use Rattle.fort_logic.specs.Parts.{AreColumns}
+use Rattle.fort_tables.specs.Tuples.{Tuple}
+use Rattle.fort_alike.specs.Atoms.{Atom, IsTrueOf, kind_for, relation_atom, normal_atom}
+use Rattle.fort_alike.specs.Alike.{is_reaching}
+use Rattle.fort_atom_labels.specs.ListedAtoms.{ListedAtom, listed}
+use Rattle.fort_atom_labels.specs.AtomRules.{atom_accepts}
+use Rattle.fort_atom_labels.specs.AssignedTuples.{tuple_of}
+use Rattle.fort_atom_labels.proofs.AtomMeans.{labels_alike, Decides-atom_accepts}
+use Rattle.fort_atom_labels.proofs.AtomTruth.{Decides-relation, Decides-normal, accepts_truth, accepts_normal_truth}
+use Rattle.fort_atom_labels.proofs.ClosureTestLaws.{IsClosure-unread}
+use Rattle.fort_context_closure.specs.PlainAtoms.{no_closure, atom_label, IsAtomOf, IsNormalAtomOf}
+use Rattle.fort_context_closure.specs.AtomLabelsView.{TellsAlike, AcceptsTrue, AcceptsRelated, AcceptsNormal, AcceptsMet}
+use Rattle.fort_context_closure.specs.declared.atom_labels.AtomLabels.TheVariants.{Relation, Normal}
+use Rattle.fort_context_closure.proofs.NormalLaws.{normal-label}
+
+-- relations
+module _ (atom : Atom) (a : ListedAtom) (h : IsAtomOf atom a) (plain : is_reaching atom.kind ≡ false) where
+  label-same : (t : Tuple) → atom_label a t ≡ atom_label (listed atom a.lefts a.rights) t
+  label-same t = ap (λ (z : Atom). atom_label (listed z a.lefts a.rights) t) h.same
+
+  accepts-same : (t : Tuple)
+      → atom_accepts a (atom_label a t) ≡ atom_accepts (listed atom a.lefts a.rights) (atom_label (listed atom a.lefts a.rights) t)
+  accepts-same t = ap (λ (z : Atom). atom_accepts (listed z a.lefts a.rights) (atom_label (listed z a.lefts a.rights) t)) h.same
+
+  pub TellsAlike-relation : TellsAlike atom.signature atom (Relation a)
+  TellsAlike-relation t u ti ui =
+      let both = labels_alike (listed atom a.lefts a.rights) no_closure h.is_listed (IsClosure-unread (listed atom a.lefts a.rights) no_closure plain) t u ti ui in
+      ((λ e. both.0 (sym (label-same t) ∙ (e ∙ label-same u))), (λ k. label-same t ∙ (both.1 k ∙ sym (label-same u))))
+
+  pub AcceptsTrue-relation : AcceptsTrue atom.signature atom (Relation a)
+  AcceptsTrue-relation t ti =
+      subst (λ b. Decides b (IsTrueOf atom t)) (sym (accepts-same t))
+      (Decides-atom_accepts (listed atom a.lefts a.rights) no_closure h.is_listed (IsClosure-unread (listed atom a.lefts a.rights) no_closure plain) t ti)
+
+pub AcceptsRelated-relation : (system : PatternSystem) (rel : Rel) (index x y : ℕ) (columns : List ℕ) → AreColumns (CoreAtom rel index x y) columns
+    → (a : ListedAtom) (h : IsAtomOf (relation_atom system rel index x y columns) a)
+    → is_reaching (relation_atom system rel index x y columns).kind ≡ false → AcceptsRelated system rel index x y columns (Relation a)
+AcceptsRelated-relation system rel index x y columns are a h plain v g =
+    let atom = relation_atom system rel index x y columns in
+    subst (λ b. Decides b (RelatesBy (PatternStepAt system index) rel (v x) (v y))) (sym (accepts-same atom a h plain (tuple_of v columns)))
+    (Decides-relation system index a.lefts a.rights no_closure rel x y columns are h.is_listed
+    (IsClosure-unread (listed atom a.lefts a.rights) no_closure plain) v g)
+
+pub AcceptsMet-relation : (s : System) → All (All IsLinearSeparated) s.rules → (system : PatternSystem) → system ≡ pattern_system s
+    → (rel : Rel) (index x y : ℕ) (columns : List ℕ) → AreColumns (CoreAtom rel index x y) columns
+    → (a : ListedAtom) → IsAtomOf (relation_atom system rel index x y columns) a → is_reaching (kind_for rel) ≡ false
+    → AcceptsMet s (CoreAtom rel index x y) columns (Relation a)
+AcceptsMet-relation s apart system same rel index x y columns are a made plain v g =
+    let atom = relation_atom (pattern_system s) rel index x y columns in
+    let h : IsAtomOf atom a = subst (λ (p : PatternSystem). IsAtomOf (relation_atom p rel index x y columns) a) same made in
+    subst (λ b. (b ≡ true) ↔ IsMetBy (structure_of s) (CoreAtom rel index x y) v) (sym (accepts-same atom a h plain (tuple_of v columns)))
+    (accepts_truth s h.is_listed.constant apart index a.lefts a.rights no_closure rel x y columns are h.is_listed
+    (IsClosure-unread (listed atom a.lefts a.rights) no_closure plain) v g)
+
+-- normal forms
+module _ (system : PatternSystem) (index : ℕ) (a : ListedAtom) (h : IsNormalAtomOf system index a) where
+  normal-same : (t : Tuple) → atom_label a t ≡ atom_label (listed (normal_atom system index) a.lefts []) t
+  normal-same t =
+      ap (λ z. atom_label z t) h.same ∙ normal-label [] system.signature a.atom.pairs (at_index index system.rules) a.lefts h.left_sides t
+
+  normal-accepts : (t : Tuple)
+      → atom_accepts a (atom_label a t) ≡ atom_accepts (listed (normal_atom system index) a.lefts []) (atom_label (listed (normal_atom system index) a.lefts []) t)
+  normal-accepts t =
+      ap (λ z. atom_accepts z (atom_label a t)) h.same ∙ ap (atom_accepts (listed (normal_atom system index) a.lefts [])) (normal-same t)
+
+  pub TellsAlike-normal : TellsAlike system.signature (normal_atom system index) (Normal a)
+  TellsAlike-normal t u ti ui =
+      let atom = listed (normal_atom system index) a.lefts [] in
+      let both = labels_alike atom no_closure h.is_listed (IsClosure-unread atom no_closure refl) t u ti ui in
+      ((λ e. both.0 (sym (normal-same t) ∙ (e ∙ normal-same u))), (λ k. normal-same t ∙ (both.1 k ∙ sym (normal-same u))))
+
+  pub AcceptsTrue-normal : AcceptsTrue system.signature (normal_atom system index) (Normal a)
+  AcceptsTrue-normal t ti =
+      let atom = listed (normal_atom system index) a.lefts [] in
+      subst (λ b. Decides b (IsTrueOf (normal_atom system index) t)) (sym (normal-accepts t))
+      (Decides-atom_accepts atom no_closure h.is_listed (IsClosure-unread atom no_closure refl) t ti)
+
+  pub AcceptsNormal-normal : (x : ℕ) → AcceptsNormal system index x (Normal a)
+  AcceptsNormal-normal x v g =
+      subst (λ b. Decides b (IsNormalForm (PatternStepAt system index) (v x))) (sym (normal-accepts (tuple_of v (x ∷ [])))) (Decides-normal system index a.lefts no_closure h.is_listed x v g)
+
+pub AcceptsMet-normal : (s : System) → All (All IsLinearSeparated) s.rules → (system : PatternSystem) → system ≡ pattern_system s
+    → (index : ℕ) (a : ListedAtom) → IsNormalAtomOf system index a → (x : ℕ) → AcceptsMet s (CoreNf index x) (x ∷ []) (Normal a)
+AcceptsMet-normal s apart system same index a made x v g =
+    let h : IsNormalAtomOf (pattern_system s) index a = subst (λ (p : PatternSystem). IsNormalAtomOf p index a) same made in
+    subst (λ b. (b ≡ true) ↔ IsMetBy (structure_of s) (CoreNf index x) v) (sym (normal-accepts (pattern_system s) index a h (tuple_of v (x ∷ []))))
+    (accepts_normal_truth s h.is_listed.constant apart index a.lefts no_closure h.is_listed x v (g x (Contains-head x [])))

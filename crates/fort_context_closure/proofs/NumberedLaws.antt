@@ -1,0 +1,60 @@
+-- The equality test of patterns; the places of arguments, one after another; the bits at a node, child after child.
+use Rattle.std.specs.Prelude.{◌≡◌, ℕ, zero, suc, ◌+◌, ◌<◌, List, [], ◌∷◌, ◌++◌, map, length, drop, get_or, Contains, Bool, true, false, Decides, ◌&&◌, refl}
+use Rattle.std.specs.Ordering.{on}
+use Rattle.std.specs.Cmp.{Equal-is}
+use Rattle.std.proofs.Common.{sym, ap, ◌∙◌, arith}
+use Rattle.std.proofs.lemmas.List.{drop_more, length-map, get_or-map}
+use Rattle.fort_theory.specs.Patterns as theory
+use Rattle.fort_terms.specs.declared.pattern.Pattern.{Pattern}
+use Rattle.fort_terms.specs.PatternView.{as_pattern, as_patterns}
+use Rattle.fort_terms.specs.PatternKeys.{pattern_eq, pattern_order}
+use Rattle.fort_terms.specs.PatternKeyLaws.{Pattern_eq-ties, pattern_order-Equal}
+use Rattle.fort_tables.specs.BitRows.{has_bit}
+use Rattle.fort_atom_labels.specs.PatternNumbers.{AreAt, all_at}
+use Rattle.fort_theory.specs.PatternOrder.{AllAmong}
+
+pub Decides-pattern_eq : (p q : Pattern) → Decides (on as_pattern pattern_eq p q) (as_pattern p ≡ as_pattern q)
+Decides-pattern_eq p q =
+    let equal = Equal-is (pattern_order (as_pattern p) (as_pattern q)) in
+    let same = pattern_order-Equal (as_pattern p) (as_pattern q) in
+    ((λ e. same.0 (equal.0 (sym (Pattern_eq-ties p q) ∙ e))), (λ e. Pattern_eq-ties p q ∙ equal.1 (same.1 e)))
+
+-- places
+
+pub AreAt-push : (listed : List theory.Pattern) (ks : List ℕ) (ps : List Pattern) (k : ℕ) (p : Pattern) → AreAt listed ks (as_patterns ps)
+    → k < length listed → get_or listed k theory.Any ≡ as_pattern p → AreAt listed (ks ++ k ∷ []) (as_patterns (ps ++ p ∷ []))
+AreAt-push listed [] [] k p h l e = (l, e, tt)
+AreAt-push listed [] (q ∷ qs) k p h l e = absurd h
+AreAt-push listed (j ∷ js) [] k p h l e = absurd h
+AreAt-push listed (j ∷ js) (q ∷ qs) k p h l e = (h.0, h.1, AreAt-push listed js qs k p h.2 l e)
+
+pub AllAmong-at : (listed : List theory.Pattern) (ps : List Pattern) (i : ℕ) (d : Pattern) → AllAmong listed (as_patterns ps) → i < length ps
+    → Contains listed (as_pattern (get_or ps i d))
+AllAmong-at listed [] i d h l = absurd (omega arith)
+AllAmong-at listed (p ∷ ps) zero d h l = h.0
+AllAmong-at listed (p ∷ ps) (suc i) d h l = AllAmong-at listed ps i d h.1 (omega arith)
+
+-- the bits at a node
+
+pub all_at-short : (base : ℕ) (ks : List ℕ) (ws : List (List ℕ)) → length ws < length ks → all_at base ks ws ≡ false
+all_at-short base [] ws l = absurd (omega arith)
+all_at-short base (k ∷ ks) [] l = refl
+all_at-short base (k ∷ ks) (w ∷ ws) l =
+    let rest = all_at-short base ks ws (omega arith) in
+    rw rest (both-false (has_bit (drop 1 w) (base + k)))
+  where
+    both-false : (b : Bool) → b && false ≡ false
+    both-false true = refl
+    both-false false = refl
+
+-- one child, whose label has the bit or hasn't
+pub all_at-child : (base : ℕ) (ks : List ℕ) (labels : List (List ℕ)) (qs : List ℕ) (j : ℕ) (b : Bool) → j < length ks → j < length qs
+    → b ≡ has_bit (drop 1 (get_or labels (get_or qs j 0) [])) (base + get_or ks j 0)
+    → all_at base (drop j ks) (drop j (map (λ q. get_or labels q []) qs))
+    ≡ (b && all_at base (drop (j + 1) ks) (drop (j + 1) (map (λ q. get_or labels q []) qs)))
+all_at-child base ks labels qs j b l m e =
+    let ws : List (List ℕ) = map (λ q. get_or labels q []) qs in
+    let n : j < length ws = omega (arith, m, length-map qs (λ q. get_or labels q [])) in
+    let at : get_or ws j [] ≡ get_or labels (get_or qs j 0) [] = get_or-map (λ q. get_or labels q []) qs j 0 [] m in
+    rw (drop_more ks j 0 l, drop_more ws j [] n, at)
+    (ap (λ c. c && all_at base (drop (j + 1) ks) (drop (j + 1) ws)) (sym e))

@@ -1,0 +1,60 @@
+-- To believe: an atom without its signature, whose labels are the same; a rule of labels that asks no closure; which label of an atom has which bits.
+use Rattle.std.specs.Prelude.{◌≡◌, ℕ, List, [], map, length, ◌==◌, Bool, false}
+use Rattle.std.specs.List.{position_or_len}
+use Rattle.fort_theory.specs.Patterns.{Pattern, Pair, PatternSystem}
+use Rattle.fort_theory.specs.Sides.{at_index}
+use Rattle.fort_logic.specs.Cores.{Rel, Atom as CoreAtom}
+use Rattle.fort_logic.specs.Parts.{AreColumns}
+use Rattle.fort_tables.specs.Labels.{Labelling}
+use Rattle.fort_tables.specs.LabelRules.{label_of}
+use Rattle.fort_alike.specs.Atoms.{Atom, NfKind, kind_for, relation_atom, normal_atom}
+use Rattle.fort_atom_labels.specs.ListedAtoms.{ListedAtom, listed, IsListedAtom}
+use Rattle.fort_atom_labels.specs.AtomRules.{atom_rule}
+
+-- of the kinds of single steps, whose rule asks none
+abbrev pub no_closure : Pattern → Pattern → Bool
+no_closure p q = false
+
+-- no step of a label reads the signature
+abbrev pub unsigned : Atom → Atom
+unsigned a = record { signature = []; columns = a.columns; first = a.first; second = a.second; kind = a.kind; pairs = a.pairs }
+
+abbrev pub atom_label : ListedAtom → Labelling
+atom_label a = label_of (atom_rule a no_closure)
+
+-- it is this atom, with the patterns that count for it
+pub record IsAtomOf (atom : Atom) (a : ListedAtom) : Type 0 where
+  pub same : a.atom ≡ unsigned atom
+  pub is_listed : IsListedAtom (listed atom a.lefts a.rights)
+
+-- the atom of normal forms for the rules of an index; of its rules only the left sides are known
+pub record IsNormalAtomOf (system : PatternSystem) (index : ℕ) (a : ListedAtom) : Type 0 where
+  pub same : a ≡ listed (record {
+    signature = [];
+    columns = 1;
+    first = 0;
+    second = 0;
+    kind = NfKind;
+    pairs = a.atom.pairs;
+  }) a.lefts []
+  pub left_sides : map (λ (pair : Pair). pair.0) a.atom.pairs ≡ map (λ (pair : Pair). pair.0) (at_index index system.rules)
+  pub is_listed : IsListedAtom (listed (normal_atom system index) a.lefts [])
+
+-- the atom x REL y for the rules of an index, whichever list is that of its columns
+abbrev pub IsRelationAtomOf : PatternSystem → Rel → (index x y : ℕ) → ListedAtom → Type 0
+IsRelationAtomOf system rel index x y a =
+    (columns : List ℕ) → AreColumns (CoreAtom rel index x y) columns → IsAtomOf (relation_atom system rel index x y columns) a
+
+-- a listed atom of these rules and patterns, whichever list is that of its columns
+pub record IsOfRules (rel : Rel) (x y : ℕ) (pairs : List Pair) (lefts rights : List Pattern) (a : ListedAtom) : Type 0 where
+  pub same : (index : ℕ) (columns : List ℕ) → AreColumns (CoreAtom rel index x y) columns
+      → a.atom ≡ record {
+        signature = [];
+        columns = length columns;
+        first = position_or_len (λ n. n == x) columns;
+        second = position_or_len (λ n. n == y) columns;
+        kind = kind_for rel;
+        pairs = pairs;
+      }
+  pub lefts_are : a.lefts ≡ lefts
+  pub rights_are : a.rights ≡ rights

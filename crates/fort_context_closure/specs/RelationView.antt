@@ -1,0 +1,40 @@
+-- Inside: what the fields of the bits of a relation stand for.
+use Rattle.std.specs.Prelude.{◌≡◌, ◌<◌, ◌^◌, List, [], map, length, false}
+use Rattle.fort_theory.specs.Patterns.{Pattern}
+use Rattle.fort_terms.specs.PatternView.{as_pattern}
+use Rattle.fort_formulas.specs.CoreView.{as_rel}
+use Rattle.fort_alike.specs.Atoms.{kind_for}
+use Rattle.fort_alike.specs.Alike.{is_reaching}
+use Rattle.fort_atom_labels.specs.ListedAtoms.{ListedAtom, listed, AreArguments}
+use Rattle.fort_atom_labels.specs.AtomRules.{marks_of}
+use Rattle.fort_atom_labels.proofs.BitPlaces.{NoneTwice}
+use Rattle.fort_context_closure.specs.NumberedView.{AreNumbersOf}
+use Rattle.fort_context_closure.specs.RulePlaces.{pair_at, AreWithin}
+use Rattle.fort_context_closure.specs.declared.relation.RelationBits.TheInside.{Inside}
+
+abbrev pub left_patterns : Inside → List Pattern
+left_patterns b = map as_pattern b.left_patterns.items
+
+abbrev pub right_patterns : Inside → List Pattern
+right_patterns b = map as_pattern b.right_patterns.items
+
+-- the pairs are read off the places of their sides
+abbrev pub atom_seen : Inside → ListedAtom
+atom_seen b = listed (record {
+  signature = [];
+  columns = b.arguments.columns;
+  first = b.arguments.first;
+  second = b.arguments.second;
+  kind = kind_for (as_rel b.rel);
+  pairs = map (pair_at (left_patterns b) (right_patterns b)) b.rules.items;
+}) (left_patterns b) (right_patterns b)
+
+pub record IsRelation (b : Inside) : Type 0 where
+  pub left_numbers : AreNumbersOf (left_patterns b) b.lefts.items
+  pub right_numbers : AreNumbersOf (right_patterns b) b.rights.items
+  pub left_few : length b.left_patterns.items < 2 ^ 32
+  pub right_few : length b.right_patterns.items < 2 ^ 32
+  pub within : AreWithin (left_patterns b) (right_patterns b) b.rules.items
+  pub once : NoneTwice (marks_of (atom_seen b))
+  pub plain : is_reaching (kind_for (as_rel b.rel)) ≡ false
+  pub arguments : AreArguments b.arguments.columns b.arguments.first b.arguments.second

@@ -1,0 +1,24 @@
+-- Inside: a rule by the places of its sides in two lists of patterns.
+use Rattle.std.specs.Prelude.{◌≡◌, ◌<◌, ◌+◌, ℕ, List, map, length, get_or, Contains, Bool, ◌&&◌}
+use Rattle.std.specs.List.{list_any}
+use Rattle.fort_theory.specs.Patterns.{Pattern, Any, Pair}
+use Rattle.fort_context_closure.specs.RowBits.{bit_of}
+use Rattle.fort_context_closure.specs.declared.rule_places.RulePlaces.{RulePlaces}
+
+abbrev pub pair_at : (lefts rights : List Pattern) → RulePlaces → Pair
+pair_at lefts rights r = (get_or lefts r.left Any, get_or rights r.right Any)
+
+abbrev pub AreWithin : (lefts rights : List Pattern) → List RulePlaces → Type 0
+AreWithin lefts rights rules = (r : RulePlaces) → Contains rules r → (r.left < length lefts) × (r.right < length rights)
+
+-- the places are those of these pairs
+pub record ArePlacesOf (lefts rights : List Pattern) (pairs : List Pair) (rules : List RulePlaces) : Type 0 where
+  pub pairs_are : map (pair_at lefts rights) rules ≡ pairs
+  pub within : AreWithin lefts rights rules
+
+-- some rule has both its bits in the label, those of right sides from this one on
+abbrev pub has_both : ℕ → List ℕ → RulePlaces → Bool
+has_both base w r = bit_of r.left w && bit_of (base + r.right) w
+
+abbrev pub some_rule : ℕ → List RulePlaces → List ℕ → Bool
+some_rule base rules w = list_any (has_both base w) rules

@@ -1,0 +1,146 @@
+//! The labels of an atom, whichever it is.
+ghost use Rattle.std.specs.Prelude.{◌≡◌, ℕ, List, [], ◌∷◌, length, false, All, IfOk};
+ghost use Rattle.fort_theory.specs.Sides.{IsIndexOf};
+ghost use Rattle.fort_theory.specs.Sides as sides;
+ghost use Rattle.fort_theory.specs.Patterns.{pattern_system};
+ghost use Rattle.fort_theory.specs.Signatures as theory;
+ghost use Rattle.fort_logic.specs.Cores as cores;
+ghost use Rattle.fort_logic.specs.Parts as parts;
+ghost use Rattle.fort_formulas.specs.CoreView.{as_rel};
+ghost use Rattle.fort_alike.specs.Atoms.{kind_for, relation_atom, normal_atom};
+ghost use Rattle.fort_alike.specs.Alike.{is_reaching};
+
+use crate::normal::NormalBits;
+use crate::relation::RelationBits;
+use crate::term_labels::TermLabels;
+use fort_explore::{Labeller, Rows};
+use fort_formulas::Rel;
+use fort_lockstep::Row;
+use fort_terms::{Memory, System, Term};
+use std::alloc::Global;
+
+/// The labels of an atom. They serve each signature, of which they read nothing.
+#[derive(Drop)]
+pub enum AtomLabels {
+    /// Two variables are related.
+    Relation(RelationBits),
+    /// A variable is a normal form.
+    Normal(NormalBits),
+    /// A variable is a term.
+    Is(TermLabels),
+}
+
+impl AtomLabels {
+    ghost use Rattle.fort_context_closure.specs.AtomLabelsView.{column_count, TellsAlike, AcceptsTrue, AcceptsRelated, AcceptsNormal, AcceptsMet, TellsAlikeAtTerm, AcceptsTerm};
+
+    /// The labels of "x is related to y". The columns stand in the order of the variables' numbers; there is one where both are one
+    /// variable. So far for the relations of single steps.
+    pub fn atom(
+        alloc: Global,
+        system: &System,
+        index: u32,
+        rel: Rel,
+        x: u32,
+        y: u32,
+    ) -> Result<AtomLabels, Memory>
+        requires index { IsIndexOf system.now.rules index }
+        requires single { is_reaching (kind_for (as_rel rel)) ≡ false }
+        ensures columns { IfOk result (λ l. (columns : List ℕ)
+            → parts.AreColumns (cores.Atom (as_rel rel) index x y) columns
+            → column_count l ≡ length columns) }
+        ensures alike { IfOk result (λ l. (columns : List ℕ)
+            → parts.AreColumns (cores.Atom (as_rel rel) index x y) columns
+            → TellsAlike system.now.signature
+            (relation_atom system.now (as_rel rel) index x y columns) l) }
+        ensures accepted { IfOk result (λ l. (columns : List ℕ)
+            → parts.AreColumns (cores.Atom (as_rel rel) index x y) columns
+            → AcceptsTrue system.now.signature
+            (relation_atom system.now (as_rel rel) index x y columns) l) }
+        ensures related { IfOk result (λ l. (columns : List ℕ)
+            → parts.AreColumns (cores.Atom (as_rel rel) index x y) columns
+            → AcceptsRelated system.now (as_rel rel) index x y columns l) }
+        ensures truth { IfOk result (λ l. (s : sides.System) (columns : List ℕ)
+            → system.now ≡ pattern_system s → All (All sides.IsLinearSeparated) s.rules
+            → parts.AreColumns (cores.Atom (as_rel rel) index x y) columns
+            → AcceptsMet s (cores.Atom (as_rel rel) index x y) columns l) }
+    {
+        Ok(AtomLabels::Relation(RelationBits::new(alloc, system, index, rel, x, y)?))
+    }
+
+    /// The labels of "the variable is a normal form", of one column.
+    pub fn nf(alloc: Global, system: &System, index: u32) -> Result<AtomLabels, Memory>
+        requires { IsIndexOf system.now.rules index }
+        ensures columns { IfOk result (λ l. column_count l ≡ 1) }
+        ensures alike { IfOk result (TellsAlike system.now.signature
+            (normal_atom system.now index)) }
+        ensures accepted { IfOk result (AcceptsTrue system.now.signature
+            (normal_atom system.now index)) }
+        ensures normal { IfOk result (λ l. (x : ℕ) → AcceptsNormal system.now index x l) }
+        ensures truth { IfOk result (λ l. (s : sides.System) (x : ℕ)
+            → system.now ≡ pattern_system s → All (All sides.IsLinearSeparated) s.rules
+            → AcceptsMet s (cores.Nf index x) (x ∷ []) l) }
+    {
+        Ok(AtomLabels::Normal(NormalBits::new(alloc, system, index)?))
+    }
+
+    /// The labels of "the variable is this term", of one column.
+    pub fn is(alloc: Global, term: &Term) -> Result<AtomLabels, Memory>
+        ensures columns { IfOk result (λ l. column_count l ≡ 1) }
+        ensures alike { IfOk result (λ l. (sig : theory.Signature)
+            → TellsAlikeAtTerm sig term.now l) }
+        ensures accepted { IfOk result (λ l. (sig : theory.Signature)
+            → AcceptsTerm sig term.now l) }
+    {
+        Ok(AtomLabels::Is(TermLabels::new(alloc, term)?))
+    }
+}
+
+impl Labeller for AtomLabels {
+    ghost use Rattle.fort_context_closure.specs.AtomLabelsView as view;
+
+    ghost serves = { λ _ _. Unit {0} };
+
+    ghost column_count = { view.column_count };
+
+    ghost word_count = { view.word_count };
+
+    ghost label = { view.label_by };
+
+    ghost accepting = { view.accepted_by };
+
+    ghost tells_presence = { λ l sig _. view.TellsPresence-by l sig };
+
+    ghost has_width = { λ l sig _. view.HasWidth-by l sig };
+
+    fn columns(&self) -> usize {
+        match self {
+            AtomLabels::Relation(bits) => bits.columns(),
+            AtomLabels::Normal(bits) => bits.columns(),
+            AtomLabels::Is(labels) => labels.columns(),
+        }
+    }
+
+    fn width(&self) -> usize {
+        match self {
+            AtomLabels::Relation(bits) => bits.width(),
+            AtomLabels::Normal(bits) => bits.width(),
+            AtomLabels::Is(labels) => labels.width(),
+        }
+    }
+
+    fn step(&self, row: &Row, rows: &Rows, out: &mut [u64]) {
+        match self {
+            AtomLabels::Relation(bits) => bits.step(row, rows, out),
+            AtomLabels::Normal(bits) => bits.step(row, rows, out),
+            AtomLabels::Is(labels) => labels.step(row, rows, out),
+        }
+    }
+
+    fn accepts(&self, label: &[u64]) -> bool {
+        match self {
+            AtomLabels::Relation(bits) => bits.accepts(label),
+            AtomLabels::Normal(bits) => bits.accepts(label),
+            AtomLabels::Is(labels) => labels.accepts(label),
+        }
+    }
+}

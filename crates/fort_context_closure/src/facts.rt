@@ -1,0 +1,88 @@
+//! The facts of an atom on its two arguments, at a node.
+ghost use Rattle.std.specs.Prelude.{◌≡◌, ℕ, ◌+◌, ◌*◌, ◌-◌, ◌<◌, ◌≤◌, ◌^◌, List, ◌++◌, map, Bool, false, ◌&&◌, length, slice_index_or};
+ghost use Rattle.fort_atom_labels.specs.AtomRules.{all_kids, one_kid};
+ghost use Rattle.fort_alike.specs.Atoms.{kind_for};
+ghost use Rattle.fort_alike.specs.Alike.{is_reaching, facts_of};
+ghost use Rattle.fort_formulas.specs.CoreView.{as_rel};
+ghost use Rattle.fort_context_closure.specs.RowBits.{HasBits, bit_of, labels_at};
+ghost use Rattle.fort_context_closure.specs.FactTests.{fact_bit, fact_test};
+
+use crate::bits::{all_have, one_has, put_mark};
+use fort_explore::Rows;
+use fort_formulas::Rel;
+use fort_lockstep::Row;
+
+/// How many facts the labels of a relation tell.
+pub(crate) fn fact_count(rel: Rel) -> usize
+    ensures { result ≡ length (facts_of (kind_for (as_rel rel))) }
+{
+    match rel {
+        Rel::Root => 0,
+        Rel::Eq | Rel::Par | Rel::Star | Rel::Conv => 1,
+        Rel::Step | Rel::Plus => 2,
+        Rel::Below => 3,
+    }
+}
+
+/// Whether the roots are one symbol and all children have the bit.
+fn all_under(equal: bool, bit: usize, row: &Row, rows: &Rows) -> bool
+    requires bit { bit < 2 ^ 63 }
+    requires within { (j : ℕ) → j < length row.now.kids
+        → slice_index_or row.now.kids j 0 < length rows.now.labels }
+    ensures { result ≡ (equal
+        && all_kids (bit_of bit) (labels_at rows.now.labels row.now.kids)) }
+{
+    equal && all_have(bit, row, rows)
+}
+
+/// Whether the roots are one symbol, some child has the first bit, and all others have the other one.
+fn one_under(equal: bool, bit: usize, other: usize, row: &Row, rows: &Rows) -> bool
+    requires bit { bit < 2 ^ 63 }
+    requires other { other < 2 ^ 63 }
+    requires within { (j : ℕ) → j < length row.now.kids
+        → slice_index_or row.now.kids j 0 < length rows.now.labels }
+    ensures { result ≡ (equal && one_kid (bit_of bit) (bit_of other)
+        (labels_at rows.now.labels row.now.kids)) }
+{
+    equal && one_has(bit, other, row, rows)
+}
+
+/// Writes the facts at a node, from bit `base` on: `equal` tells whether the roots are one symbol, `root` whether there is a root
+/// step.
+pub(crate) fn write_facts(
+    rel: Rel,
+    base: usize,
+    equal: bool,
+    root: bool,
+    row: &Row,
+    rows: &Rows,
+    out: &mut [u64],
+)
+    requires kind { is_reaching (kind_for (as_rel rel)) ≡ false }
+    requires small { base < 2 ^ 62 }
+    requires room { base + length (facts_of (kind_for (as_rel rel)))
+        ≤ 64 * (length out.old - 1) }
+    requires within { (j : ℕ) → j < length row.now.kids
+        → slice_index_or row.now.kids j 0 < length rows.now.labels }
+    ensures { (bits : List Bool) → length bits ≡ base → HasBits bits out.old
+        → HasBits (bits ++ map (fact_test (fact_bit (kind_for (as_rel rel)) base) equal root
+        (labels_at rows.now.labels row.now.kids)) (facts_of (kind_for (as_rel rel)))) out.new }
+{
+    match rel {
+        Rel::Eq => put_mark(out, base, all_under(equal, base, row, rows)),
+        Rel::Root => {}
+        Rel::Step => {
+            put_mark(out, base, all_under(equal, base, row, rows));
+            let below = one_under(equal, base + 1, base, row, rows);
+            put_mark(out, base + 1, root | below);
+        }
+        Rel::Below => {
+            put_mark(out, base, all_under(equal, base, row, rows));
+            let below = one_under(equal, base + 1, base, row, rows);
+            put_mark(out, base + 1, root | below);
+            put_mark(out, base + 2, below);
+        }
+        Rel::Par => put_mark(out, base, root | all_under(equal, base, row, rows)),
+        Rel::Plus | Rel::Star | Rel::Conv => unreachable!(),
+    }
+}
