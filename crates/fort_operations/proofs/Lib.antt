@@ -1,0 +1,11 @@
+pub mod SelectionLaws
+pub mod SearchLaws
+pub mod CompletedTuples
+pub mod GivenLaws
+pub mod PureLaws
+pub mod ProjectLabels
+pub mod ProductLabels
+pub mod AgreementLaws
+pub mod TruthLaws
+pub mod TableTruth
+pub mod OperandFacts

@@ -1,0 +1,72 @@
+-- The columns of a tuple symbol, read one by one: those at some places, which are present, how many children they have.
+use Rattle.std.proofs.Common.{◌≡◌, ℕ, zero, suc, ◌+◌, ◌<◌, ◌≤◌, max, List, [], ◌∷◌, take, drop, length, get_or, slice_get, set, get_or-set_same, get_or-set_other, Option, None, Some, true, false, refl, ap, sym, ◌∙◌, arith, ⊎_elim}
+use Rattle.std.proofs.lemmas.List.{ext_get_or, length-map, get_or-map, length-take-le, get_or-take}
+use Rattle.std.proofs.lemmas.Bool.{cases_lt}
+use Rattle.std.proofs.lemmas.Option.{get_or_from_slice_get}
+use Rattle.std.specs.Option.{is_some}
+use Rattle.fort_theory.specs.Signatures.{Signature}
+use Rattle.fort_tables.specs.Tuples.{TupleSymbol, AreSymbols, symbol_kids, arity}
+use Rattle.fort_terms.specs.declared.sym.Sym.{Sym}
+use Rattle.fort_lockstep.specs.Columns.{as_column, as_symbol}
+use Rattle.fort_operations.specs.Selections.{selected, is_present}
+
+-- one column, then those behind it
+pub present_here : (f : TupleSymbol) (k : ℕ) (x : Option Sym) → slice_get f k ≡ Some (as_column x) → is_some x ≡ true → is_present (drop k f) ≡ true
+present_here [] k x h s = absurd cc
+present_here (y ∷ f) zero None h s = absurd cc
+present_here (None ∷ f) zero (Some z) h s = absurd cc
+present_here (Some g ∷ f) zero (Some z) h s = refl
+present_here (y ∷ f) (suc k) x h s = present_here f k x h s
+
+pub present_behind : (f : TupleSymbol) (k : ℕ) (x : Option Sym) → slice_get f k ≡ Some (as_column x) → is_some x ≡ false → is_present (drop k f) ≡ is_present (drop (suc k) f)
+present_behind [] k x h s = absurd cc
+present_behind (y ∷ f) zero (Some z) h s = absurd cc
+present_behind (Some g ∷ f) zero None h s = absurd cc
+present_behind (None ∷ f) zero None h s = refl
+present_behind (y ∷ f) (suc k) x h s = present_behind f k x h s
+
+-- columns read one by one
+pub columns_read : (f : TupleSymbol) (n : ℕ) (all : List (Option Sym)) → length f ≡ n → n ≤ length all → ((k : ℕ) → k < n → as_column (get_or all k None) ≡ get_or f k None) → as_symbol (take n all) ≡ f
+columns_read f n all e l h =
+    let a = length-take-le n all l in
+    let b = length-map (take n all) as_column in
+    ext_get_or None (as_symbol (take n all)) f (omega (arith, a, b))
+    (λ k m. let less : k < n = omega (arith, a, b) in
+    get_or-map as_column (take n all) k None None (omega (arith, a, b)) ∙ (ap as_column (get_or-take n all k None less) ∙ h k less))
+
+-- a symbol that is there
+pub symbol_within : (sig : Signature) (f : TupleSymbol) (k g : ℕ) → AreSymbols sig f → slice_get f k ≡ Some (Some g) → g < length sig
+symbol_within sig [] k g h e = absurd cc
+symbol_within sig (None ∷ f) zero g h e = absurd cc
+symbol_within sig (Some x ∷ f) zero g h e = let r : x ≡ g = cc in omega (arith, h.0, r)
+symbol_within sig (None ∷ f) (suc k) g h e = symbol_within sig f k g h e
+symbol_within sig (Some x ∷ f) (suc k) g h e = symbol_within sig f k g h.1 e
+
+pub kids_some : (sig : Signature) (f : TupleSymbol) (k g : ℕ) → slice_get f k ≡ Some (Some g) → symbol_kids sig (take (suc k) f) ≡ max (symbol_kids sig (take k f)) (arity sig g)
+kids_some sig [] k g e = absurd cc
+kids_some sig (None ∷ f) zero g e = absurd cc
+kids_some sig (Some x ∷ f) zero g e = let r : x ≡ g = cc in omega (arith, ap (arity sig) r)
+kids_some sig (None ∷ f) (suc k) g e = kids_some sig f k g e
+kids_some sig (Some x ∷ f) (suc k) g e = omega (arith, kids_some sig f k g e)
+
+pub kids_none : (sig : Signature) (f : TupleSymbol) (k : ℕ) → slice_get f k ≡ Some None → symbol_kids sig (take (suc k) f) ≡ symbol_kids sig (take k f)
+kids_none sig [] k e = absurd cc
+kids_none sig (None ∷ f) zero e = refl
+kids_none sig (Some x ∷ f) zero e = absurd cc
+kids_none sig (None ∷ f) (suc k) e = kids_none sig f k e
+kids_none sig (Some x ∷ f) (suc k) e = omega (arith, kids_none sig f k e)
+
+-- an arity of a lawful signature
+pub kids_next : (sig : Signature) (f : TupleSymbol) (k : ℕ) → symbol_kids sig (take (k + 1) f) ≡ symbol_kids sig (take (suc k) f)
+kids_next sig f k = let e : k + 1 ≡ suc k = omega arith in ap (λ n. symbol_kids sig (take n f)) e
+
+-- one more column read
+pub selected_more : (f : TupleSymbol) (places : List ℕ) (columns : List (Option Sym)) (at : ℕ) (x : Option Sym) → at < length places → at < length columns → slice_get f (get_or places at 0) ≡ Some (as_column x)
+    → ((k : ℕ) → k < at → as_column (get_or columns k None) ≡ get_or (selected places f) k None) → (k : ℕ) → k < at + 1 → as_column (get_or (set columns at x) k None) ≡ get_or (selected places f) k None
+selected_more f places columns at x l m e h k n =
+    let here : as_column x ≡ get_or (selected places f) at None = sym (get_or-map (λ p. get_or f p None) places at 0 None l ∙ get_or_from_slice_get f (get_or places at 0) (as_column x) None e) in
+    ⊎_elim
+    (λ (o : k < at). let ne : k ≡ at → ⊥ = λ s. omega arith in ap as_column (get_or-set_other columns at k x None ne) ∙ h k o)
+    (λ (o : at ≤ k). let s : k ≡ at = omega arith in
+    ap (λ i. as_column (get_or (set columns at x) i None)) s ∙ (ap as_column (get_or-set_same columns at x None m) ∙ (here ∙ ap (λ i. get_or (selected places f) i None) (sym s))))
+    (cases_lt k at)

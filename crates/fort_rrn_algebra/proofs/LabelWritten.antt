@@ -1,0 +1,75 @@
+-- The label of a projection as it is written: the first two words, and then the bits that are marked.
+use Rattle.std.proofs.Common.{◌≡◌, ◌≢◌, ℕ, ◌+◌, ◌*◌, ◌/◌, ◌%◌, ◌<◌, ◌≤◌, ◌||◌, ◌==◌, List, [], ◌∷◌, drop, set, length, get_or, Some, max, Bool, true, false, ⊎_elim, refl, ap, sym, ◌∙◌, arith, get_or-set_same, get_or-set_other, length-drop}
+use Rattle.std.proofs.lemmas.Bool.{cases_lt}
+use Rattle.std.proofs.lemmas.List.{get_or_past, get_or-drop, length-set}
+use Rattle.std.proofs.lemmas.Nat.Bits.{bit_at-zero}
+use Rattle.std.specs.Int.{bit_at}
+use Rattle.std.specs.List.{insert}
+use Rattle.fort_theory.specs.Signatures.{Signature, arity_of}
+use Rattle.fort_tables.specs.Tuples.{TupleSymbol, arity}
+use Rattle.fort_tables.specs.Entries.{Entry}
+use Rattle.fort_tables.specs.Tables.{Table}
+use Rattle.fort_tables.specs.BitRows.{AreWords, has_bit, bit_row, words_for}
+use Rattle.fort_tables.proofs.TupleLaws.{arity_from_get}
+use Rattle.fort_tables.proofs.BitRowLaws.{has_bit-drop, bit_row_is}
+use Rattle.fort_operations.specs.Projections.{has_state, gives_under, ArePure}
+use Rattle.fort_rrn_algebra.specs.OperandRows.{labels_at}
+use Rattle.fort_rrn_algebra.specs.Choices.{IsSearched, AreChoices, may_choose, is_reachable}
+use Rattle.fort_rrn_algebra.proofs.ProjectEntries.{length-labels_at}
+
+two_words : (w : List ℕ) → 2 ≤ length w → w ≡ get_or w 0 0 ∷ get_or w 1 0 ∷ drop 2 w
+two_words [] l = absurd (omega arith)
+two_words (a ∷ []) l = absurd (omega arith)
+two_words (a ∷ b ∷ w) l = refl
+
+-- Result: words with these first two and these bits are the label
+pub label_written : (w : List ℕ) (n a b : ℕ) (p : ℕ → Bool) → length w ≡ words_for n + 2 → AreWords w → get_or w 0 0 ≡ a → get_or w 1 0 ≡ b → ((q : ℕ) → q < 64 * words_for n → has_state w q ≡ p q) → w ≡ a ∷ b ∷ bit_row n p
+label_written w n a b p len small first second bits =
+    let long : length (drop 2 w) ≡ words_for n = omega (arith, length-drop 2 w) in
+    let rest : drop 2 w ≡ bit_row n p = bit_row_is n p (drop 2 w) long
+    (λ i l. omega (arith, get_or-drop 2 w i 0, small (2 + i) (omega (arith, len, long))))
+    (λ q l. let e : 64 * 2 + q ≡ 128 + q = omega arith in has_bit-drop 2 w q ∙ (ap (has_bit w) e ∙ bits q l)) in
+    two_words w (omega arith) ∙ (λ i. first i ∷ second i ∷ rest i)
+
+apart : (i j : ℕ) → i < j → i ≢ j
+apart i j l e = omega arith
+
+-- before anything is marked
+pub first_set : (xs : List ℕ) (a b : ℕ) → 2 ≤ length xs → get_or (set (set xs 0 a) 1 b) 0 0 ≡ a
+first_set xs a b l = get_or-set_other (set xs 0 a) 1 0 b 0 (apart 0 1 (omega arith)) ∙ get_or-set_same xs 0 a 0 (omega arith)
+
+pub second_set : (xs : List ℕ) (a b : ℕ) → 2 ≤ length xs → get_or (set (set xs 0 a) 1 b) 1 0 ≡ b
+second_set xs a b l = get_or-set_same (set xs 0 a) 1 b 0 (omega (arith, length-set xs 0 a))
+
+pub none_marked : (xs : List ℕ) (a b q : ℕ) → ((k : ℕ) → k < length xs → get_or xs k 0 ≡ 0) → has_state (set (set xs 0 a) 1 b) q ≡ false
+none_marked xs a b q h =
+    let at = (128 + q) / 64 in
+    let ne : at ≢ 1 = omega arith in
+    let no : at ≢ 0 = omega arith in
+    let none : get_or xs at 0 ≡ 0 = ⊎_elim (λ (l : at < length xs). h at l) (λ (l : length xs ≤ at). get_or_past xs at 0 l) (cases_lt at (length xs)) in
+    ap (λ x. bit_at x ((128 + q) % 64) == 1) (get_or-set_other (set xs 0 a) 1 at b 0 ne ∙ (get_or-set_other xs 0 at a 0 no ∙ none))
+    ∙ ap (λ x. x == 1) (bit_at-zero ((128 + q) % 64))
+
+pub or_nothing : (a b : Bool) → b ≡ false → (a || b) ≡ a
+or_nothing true b h = refl
+or_nothing false b h = h
+
+-- the choices under a symbol
+pub choices_made : (body : Table) (c : ℕ) (alone : List ℕ) (labels : List (List ℕ)) (e : Entry) (sig : Signature) (g : ℕ) (s f : TupleSymbol) (most : ℕ) → IsSearched body c labels e → ArePure body c alone → sig ≡ body.signature → g < length body.signature → s ≡ e.symbol → f ≡ insert s c (Some g) → arity_of sig g ≡ Some most → AreChoices body c alone labels e g f most
+choices_made body c alone labels e sig g s f most searched pure same l p q a = record {
+  searched = searched;
+  pure = pure;
+  within = l;
+  symbol = q ∙ ap (λ z. insert z c (Some g)) p;
+  arity_is = sym (ap (λ z. arity z g) (sym same) ∙ (arity_from_get sig g most a).0);
+}
+
+-- what the search reaches from the first child on is what the symbol gives
+pub under_reachable : (body : Table) (c : ℕ) (alone : List ℕ) (labels : List (List ℕ)) (e : Entry) (g : ℕ) (f : TupleSymbol) (most count q : ℕ) → AreChoices body c alone labels e g f most → count ≡ max most (length e.kids)
+    → is_reachable body (may_choose body c labels e most) f [] 0 count q ≡ gives_under body c e.symbol (labels_at labels e.kids) q g
+under_reachable body c alone labels e g f most count q h k =
+    let ws = labels_at labels e.kids in
+    let n : count ≡ max (arity body.signature g) (length ws) = omega (arith, k, h.arity_is, length-labels_at labels e.kids) in
+    ap (λ z. is_reachable body (may_choose body c labels e most) z [] 0 count q) h.symbol
+    ∙ (ap (λ a. is_reachable body (may_choose body c labels e a) (insert e.symbol c (Some g)) [] 0 count q) h.arity_is
+    ∙ ap (λ m. is_reachable body (may_choose body c labels e (arity body.signature g)) (insert e.symbol c (Some g)) [] 0 m q) n)

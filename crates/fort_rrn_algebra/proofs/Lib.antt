@@ -1,0 +1,10 @@
+mod BitSearch
+mod ColumnLaws
+mod StateLists
+mod PureSearch
+mod OperandEntries
+mod ProjectEntries
+mod ChoiceSearch
+mod LabelWritten
+mod TableMade
+mod NegationLaws

@@ -1,0 +1,26 @@
+use Rattle.std.proofs.Common.{◌∙◌, ◌||◌, ap, length, arith}
+use Rattle.fort_tables.proofs.TupleLaws.{arity_from_get}
+use Rattle.fort_operations.specs.Projections.{has_state}
+use Rattle.fort_rrn_algebra.proofs.OperandEntries.{arity_small}
+use Rattle.fort_rrn_algebra.proofs.ProjectEntries.{choices_count}
+use Rattle.fort_rrn_algebra.proofs.LabelWritten.{choices_made, under_reachable}
+use Rattle.fort_rrn_algebra.proofs.projection.mark_under.Goals as goal
+
+pub visit-requires-clause-count : goal.visit-requires-clause-count
+visit-requires-clause-count g c =
+    let body = g.T.Table.table c.args.body.now in
+    let h = choices_made body c.args.column c.args.alone.now c.args.rows.now.labels c.args.row.now c.signature-sig.result.now c.args.sym.0 c.sym.result c.with_column.result c.arity-arity.result c.requires.searched c.requires.alone c.signature-sig.ensures c.requires.symbol c.sym.ensures c.with_column.ensures c.arity-arity.ensures in
+    omega (arith, choices_count body c.args.column c.args.alone.now c.args.rows.now.labels c.args.row.now c.args.sym.0 c.with_column.result c.arity-arity.result h, c.max.ensures, ap length c.kids.ensures.states)
+
+pub visit-requires-clause-few : goal.visit-requires-clause-few
+visit-requires-clause-few g c =
+    let sig = c.signature-sig.result.now in
+    let small = arity_small sig c.args.sym.0 c.len-symbols.ensures.lawful (omega (arith, c.requires.symbol, ap length c.signature-sig.ensures)) in
+    let is = (arity_from_get sig c.args.sym.0 c.arity-arity.result c.arity-arity.ensures).0 in
+    omega (arith, c.max.ensures, c.kids.ensures.few, small, is)
+
+pub returns-clause-marked : goal.returns-clause-marked
+returns-clause-marked g c = λ q.
+    let body = g.T.Table.table c.args.body.now in
+    let h = choices_made body c.args.column c.args.alone.now c.args.rows.now.labels c.args.row.now c.signature-sig.result.now c.args.sym.0 c.sym.result c.with_column.result c.arity-arity.result c.requires.searched c.requires.alone c.signature-sig.ensures c.requires.symbol c.sym.ensures c.with_column.ensures c.arity-arity.ensures in
+    c.visit.ensures.marked q ∙ ap (λ b. b || has_state c.args.out.now q) (under_reachable body c.args.column c.args.alone.now c.args.rows.now.labels c.args.row.now c.args.sym.0 c.with_column.result c.arity-arity.result c.max.result q h (omega (arith, c.max.ensures, ap length c.kids.ensures.states)))

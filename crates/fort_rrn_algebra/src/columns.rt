@@ -1,0 +1,50 @@
+//! Columns of tuple symbols.
+ghost use Rattle.std.specs.Prelude.{◌≡◌, ◌≤◌, length};
+ghost use Rattle.fort_tables.specs.Tuples.{AreSymbols, symbol_kids};
+ghost use Rattle.fort_operations.specs.Selections.{selected as selected_lem, is_present as is_present_lem, ArePlaces};
+
+use fort_lockstep::TupleSym;
+use fort_terms::Signature;
+
+/// The columns at these places.
+pub(crate) fn selected(sym: &TupleSym, places: &[usize]) -> TupleSym
+    requires few { length places.now ≤ 16 }
+    requires within { ArePlaces (length sym.now) places.now }
+    ensures { result ≡ selected_lem places.now sym.now }
+{
+    let mut columns = [None; 16];
+    for k in 0..places.len() {
+        columns[k] = sym.symbol(places[k]);
+    }
+    TupleSym::new(&columns[..places.len()])
+}
+
+pub(crate) fn is_present(sym: &TupleSym) -> bool
+    ensures { result ≡ is_present_lem sym.now }
+{
+    for k in 0..sym.len() {
+        if sym.symbol(k).is_some() {
+            return true;
+        }
+    }
+    false
+}
+
+/// How many children the tuple symbol has.
+pub(crate) fn kid_count(sig: &Signature, sym: &TupleSym) -> usize
+    requires { AreSymbols sig.now sym.now }
+    ensures count { result ≡ symbol_kids sig.now sym.now }
+    ensures few { result ≤ 8 }
+{
+    let _symbols = sig.len();
+    let mut count = 0;
+    for k in 0..sym.len() {
+        if let Some(symbol) = sym.symbol(k) {
+            let arity = sig.arity(symbol) as usize;
+            if count < arity {
+                count = arity;
+            }
+        }
+    }
+    count
+}

@@ -1,0 +1,25 @@
+//! Products, projections and complements of tables, their exchanges and cylinders.
+#![tactic(auto)]
+
+mod bits;
+mod choices;
+mod columns;
+pub mod local;
+mod negation;
+mod operand;
+mod product;
+mod project;
+mod projection;
+mod pure;
+mod tables;
+mod words;
+
+pub use negation::negate;
+pub use operand::{Op, Operand};
+pub use product::Both;
+pub use project::Project;
+pub use pure::pure_states;
+pub use tables::{permute, widen};
+
+#[cfg(test)]
+mod tests;

@@ -1,0 +1,108 @@
+//! Products of two operands.
+ghost use Rattle.std.specs.Prelude.{◌≡◌, ◌<◌, ◌≤◌, ◌↔◌, IsTrue};
+ghost use Rattle.fort_tables.specs.Tuples.{Tuple, IsTuple};
+ghost use Rattle.fort_tables.specs.LabelRules.{label_of};
+ghost use Rattle.fort_operations.specs.Products as products;
+ghost use Rattle.fort_operations.specs.Agreement.{AgreeAtBoth, OperandAgreement};
+ghost use Rattle.fort_operations.specs.OperationTruth.{TestsRelation, Connected, said_by};
+ghost use Rattle.fort_operations.proofs.OperandFacts.{AreOperands-prop};
+ghost use Rattle.fort_rrn_algebra.specs.Operands.{operand_of, connective_of};
+
+use crate::local::{both_accepts, both_label};
+use crate::operand::{Op, Operand};
+use fort_explore::{LocalRule, Rows};
+use fort_lockstep::{Row, Table};
+
+/// The labels of a product: of a tuple over its columns, the presence and the states of the two operands on their own columns.
+#[derive(Drop)]
+pub struct Both<'a, T: Table> {
+    op: Op,
+    columns: usize,
+    first: Operand<'a, T>,
+    second: Operand<'a, T>,
+    ghost some: { 0 < columns },
+    ghost narrow: { columns ≤ 16 },
+    ghost operands: { products.AreOperands (products.signature_of (operand_of T.table first)
+        (operand_of T.table second)) columns (operand_of T.table first)
+        (operand_of T.table second) } by { AreOperands-prop (products.signature_of
+            (operand_of T.table first) (operand_of T.table second)) columns
+            (operand_of T.table first) (operand_of T.table second) },
+}
+
+impl<'a, T: Table> Both<'a, T> {
+    /// The product over so many columns.
+    pub fn new(op: Op, first: Operand<'a, T>, second: Operand<'a, T>, columns: usize) -> Both<'a, T>
+        requires some { 0 < columns }
+        requires narrow { columns ≤ 16 }
+        requires operands { products.AreOperands (products.signature_of
+            (operand_of T.table first) (operand_of T.table second)) columns
+            (operand_of T.table first) (operand_of T.table second) }
+        ensures op { result.op ≡ op }
+        ensures columns { result.columns ≡ columns }
+        ensures first { result.first ≡ first.entry }
+        ensures second { result.second ≡ second.entry }
+        ensures agree { (t u : Tuple)
+            → IsTuple (products.signature_of (operand_of T.table first.entry)
+            (operand_of T.table second.entry)) columns t
+            → IsTuple (products.signature_of (operand_of T.table first.entry)
+            (operand_of T.table second.entry)) columns u
+            → (label_of (products.product_rule columns (operand_of T.table first.entry)
+            (operand_of T.table second.entry)) t
+            ≡ label_of (products.product_rule columns (operand_of T.table first.entry)
+            (operand_of T.table second.entry)) u)
+            ↔ AgreeAtBoth (products.places_of (operand_of T.table first.entry))
+            (OperandAgreement (operand_of T.table first.entry))
+            (products.places_of (operand_of T.table second.entry))
+            (OperandAgreement (operand_of T.table second.entry)) t u }
+        ensures accepted { TestsRelation (products.signature_of (operand_of T.table first.entry)
+            (operand_of T.table second.entry)) columns
+            (λ t. products.product_accepts (connective_of op) (operand_of T.table first.entry)
+            (operand_of T.table second.entry) (label_of (products.product_rule columns
+            (operand_of T.table first.entry) (operand_of T.table second.entry)) t))
+            (λ t. Connected (connective_of op) (IsTrue (said_by (operand_of T.table first.entry) t))
+            (IsTrue (said_by (operand_of T.table second.entry) t))) }
+    {
+        let _first_columns = first.columns();
+        let _second_columns = second.columns();
+        Both {
+            op,
+            columns,
+            first,
+            second,
+        }
+    }
+}
+
+impl<'a, T: Table> LocalRule for Both<'a, T> {
+    ghost use Rattle.std.specs.Prelude.{refl};
+    ghost use Rattle.fort_operations.specs.Products.{product_rule, product_accepts};
+    ghost use Rattle.fort_rrn_algebra.specs.Operands.{operand_of, connective_of};
+
+    ghost rule = { λ b. product_rule b.columns (operand_of T.table b.first)
+        (operand_of T.table b.second) };
+
+    ghost word_count = { λ _. 3 };
+
+    ghost accepting = { λ b. product_accepts (connective_of b.op) (operand_of T.table b.first)
+        (operand_of T.table b.second) };
+
+    ghost tells = { λ b f ws. refl };
+
+    ghost has_words = { λ b f ws. refl };
+
+    fn columns(&self) -> usize {
+        self.columns
+    }
+
+    fn width(&self) -> usize {
+        3
+    }
+
+    fn step(&self, row: &Row, rows: &Rows, out: &mut [u64]) {
+        both_label(&self.first, &self.second, row, rows, out)
+    }
+
+    fn accepts(&self, words: &[u64]) -> bool {
+        both_accepts(self.op, &self.first, &self.second, words)
+    }
+}

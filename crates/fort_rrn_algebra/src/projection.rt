@@ -1,0 +1,101 @@
+//! What the label of a projection says of one entry.
+ghost use Rattle.std.specs.Prelude.{◌≡◌, ◌<◌, ◌≤◌, ◌+◌, ◌||◌, ◌^◌, ℕ, [], None, map, take, length, slice_index, slice_index_or};
+ghost use Rattle.std.specs.List.{insert};
+ghost use Rattle.fort_tables.specs.Entries.{entry};
+ghost use Rattle.fort_tables.specs.BitRows.{words_for};
+ghost use Rattle.fort_operations.specs.Projections.{ArePure, absent_state, has_state, gives, gives_under};
+ghost use Rattle.fort_rrn_algebra.specs.OperandRows.{labels_at};
+ghost use Rattle.fort_rrn_algebra.specs.Choices.{IsSearched};
+
+use crate::choices::Choices;
+use fort_explore::Rows;
+use fort_lockstep::{Row, Table};
+use fort_terms::Sym;
+
+/// The body's state with the column absent.
+pub(crate) fn absent_target<T: Table>(body: &T, column: usize, row: &Row, rows: &Rows) -> u32
+    requires { IsSearched (T.table body.now) column rows.now.labels row.now }
+    ensures { result ≡ (T.table body.now).target (entry (insert row.now.symbol column None)
+        (map absent_state (labels_at rows.now.labels row.now.kids))) }
+{
+    let _states = body.states();
+    let symbol = row.sym().with_column(column, None);
+    let states = absent_states(row, rows);
+    body.target(&symbol, &states[..row.kids().len()])
+}
+
+/// The children's states with the column absent.
+fn absent_states(row: &Row, rows: &Rows) -> [u32; 8]
+    requires kids { (j : ℕ) → j < length row.now.kids
+        → slice_index_or row.now.kids j 0 < length rows.now.labels }
+    requires small { (j : ℕ) → j < length row.now.kids → absent_state (slice_index_or
+        rows.now.labels (slice_index_or row.now.kids j 0) []) < 2 ^ 32 }
+    ensures { take (length row.now.kids) result
+        ≡ map absent_state (labels_at rows.now.labels row.now.kids) }
+{
+    let mut states = [0u32; 8];
+    let kids = row.kids();
+    for j in 0..kids.len() {
+        states[j] = rows.label(kids[j]).get(1).copied().unwrap_or(0) as u32;
+    }
+    states
+}
+
+/// Marks each state that some term in the column gives.
+pub(crate) fn mark<T: Table>(
+    body: &T,
+    column: usize,
+    alone: &[u32],
+    row: &Row,
+    rows: &Rows,
+    out: &mut [u64],
+)
+    requires searched { IsSearched (T.table body.now) column rows.now.labels row.now }
+    requires alone { ArePure (T.table body.now) column alone.now }
+    requires room { length out.old ≡ words_for (length (T.table body.now).presences) + 2 }
+    ensures first { slice_index out.new 0 ≡ slice_index out.old 0 }
+    ensures second { slice_index out.new 1 ≡ slice_index out.old 1 }
+    ensures marked { (q : ℕ) → has_state out.new q ≡ (gives (T.table body.now) column
+        row.now.symbol (labels_at rows.now.labels row.now.kids) q || has_state out.old q) }
+{
+    let _states = body.states();
+    for g in 0..body.signature().len() {
+        mark_under(body, column, alone, row, rows, Sym(g as u16), out);
+    }
+}
+
+/// Marks each state that some term with this root gives.
+fn mark_under<T: Table>(
+    body: &T,
+    column: usize,
+    alone: &[u32],
+    row: &Row,
+    rows: &Rows,
+    sym: Sym,
+    out: &mut [u64],
+)
+    requires searched { IsSearched (T.table body.now) column rows.now.labels row.now }
+    requires alone { ArePure (T.table body.now) column alone.now }
+    requires symbol { sym.0 < length (T.table body.now).signature }
+    requires room { length out.old ≡ words_for (length (T.table body.now).presences) + 2 }
+    ensures first { slice_index out.new 0 ≡ slice_index out.old 0 }
+    ensures second { slice_index out.new 1 ≡ slice_index out.old 1 }
+    ensures marked { (q : ℕ) → has_state out.new q ≡ (gives_under (T.table body.now) column
+        row.now.symbol (labels_at rows.now.labels row.now.kids) q sym.0 || has_state out.old q) }
+{
+    let _states = body.states();
+    let sig = body.signature();
+    let _symbols = sig.len();
+    let arity = sig.arity(sym) as usize;
+    let choices = Choices {
+        body,
+        column,
+        alone,
+        row,
+        rows,
+        sym,
+        symbol: row.sym().with_column(column, Some(sym)),
+        arity,
+    };
+    choices.visit([0; 8], 0, arity.max(row.kids().len()), out);
+}

@@ -1,0 +1,171 @@
+//! Products, projections, cylinders and exchanges of a table that knows one constant.
+ghost use Rattle.std.specs.Prelude.{◌≡◌, ◌<◌, ◌+◌, [], ◌∷◌, length, None, slice_index_or, slice_get, IfOk, codes};
+ghost use Rattle.fort_theory.specs.Signatures.{symbol};
+ghost use Rattle.fort_tables.specs.Tables.{IsListed};
+ghost use Rattle.fort_lockstep.specs.Columns.{as_column};
+ghost use Rattle.fort_rrn_algebra.specs.TestRules.{is_first as is_first_lem};
+
+use super::*;
+use fort_explore::{ByRule, ExploreFault, LocalRule, Rows, explore};
+use fort_lockstep::{Dta, Row, Table};
+use fort_terms::{AddFault, Signature, Sym};
+use std::alloc::Global;
+use std::test::Fail;
+
+/// Whether the term of the one column is the first constant.
+#[derive(Drop)]
+struct IsFirst<'a> {
+    signature: &'a Signature,
+}
+
+/// 1 for the first symbol.
+fn is_first(column: Option<Sym>) -> u64
+    ensures { result ≡ is_first_lem (as_column column) }
+{
+    match column {
+        Some(Sym(0)) => 1,
+        _ => 0,
+    }
+}
+
+impl<'a> LocalRule for IsFirst<'a> {
+    ghost use Rattle.std.specs.Prelude.{refl};
+    ghost use Rattle.fort_rrn_algebra.specs.TestRules.{first_rule, first_accepts};
+
+    ghost rule = { λ s. first_rule s.signature.now };
+
+    ghost word_count = { λ _. 2 };
+
+    ghost accepting = { λ _. first_accepts };
+
+    ghost tells = { λ _ f ws. refl };
+
+    ghost has_words = { λ _ f ws. refl };
+
+    fn columns(&self) -> usize {
+        1
+    }
+
+    fn width(&self) -> usize {
+        2
+    }
+
+    fn step(&self, row: &Row, _rows: &Rows, out: &mut [u64]) {
+        let column = row.sym().symbol(0);
+        out[0] = row.presence() as u64;
+        out[1] = is_first(column);
+    }
+
+    fn accepts(&self, label: &[u64]) -> bool {
+        label.get(1).copied().unwrap_or(0) == 1
+    }
+}
+
+/// A constant a and a symbol f of one argument.
+fn constant_and_unary(alloc: Global) -> Result<Signature, AddFault> {
+    let mut signature = Signature::empty(alloc);
+    signature.add(b"a", 0)?;
+    signature.add(b"f", 1)?;
+    Ok(signature)
+}
+
+/// How many states a table has, and how many of them accept.
+fn counts(table: &Dta) -> (u32, u32) {
+    let mut accepting = 0u32;
+    for q in 0..table.states() {
+        if table.is_final(q) {
+            accepting = accepting.saturating_add(1);
+        }
+    }
+    (table.states(), accepting)
+}
+
+/// The table of the tuples of one term, of which it accepts a alone.
+fn first_table(alloc: Global, signature: &Signature) -> Result<Dta, ExploreFault>
+    ensures columns { IfOk result (λ t. t.columns ≡ 1) }
+    ensures signature { IfOk result (λ t. t.signature ≡ signature.now) }
+{
+    explore(alloc, signature, &ByRule(&IsFirst { signature }), 10)
+}
+
+/// The table of two such tests joined.
+fn joined(alloc: Global, signature: &Signature, op: Op) -> Result<Dta, ExploreFault>
+    ensures columns { IfOk result (λ t. t.columns ≡ 2) }
+{
+    let first = first_table(alloc, signature)?;
+    let both = Both::new(
+        op,
+        Operand::Auto(&first, &[0]),
+        Operand::Auto(&first, &[1]),
+        2,
+    );
+    explore(alloc, first.signature(), &ByRule(&both), 100)
+}
+
+/// The counts of a product, and of its projections.
+fn counts_of(alloc: Global, op: Op) -> Result<[(u32, u32); 3], AddFault> {
+    let signature = constant_and_unary(alloc)?;
+    let mut all = [(0u32, 0u32); 3];
+    match joined(alloc, &signature, op) {
+        Ok(body) => {
+            all[0] = counts(&body);
+            for column in 0..2usize {
+                all[column + 1] = projected(alloc, &body, column)?;
+            }
+        }
+        Err(_) => return Err(AddFault::Memory),
+    }
+    Ok(all)
+}
+
+/// The counts of a projection.
+fn projected(alloc: Global, body: &Dta, column: usize) -> Result<(u32, u32), AddFault>
+    requires column { column < body.now.columns }
+    requires another { 1 < body.now.columns }
+{
+    let project = Project::new(alloc, body, column)?;
+    match explore(alloc, body.signature(), &ByRule(&project), 100) {
+        Ok(table) => Ok(counts(&table)),
+        Err(_) => Err(AddFault::Memory),
+    }
+}
+
+#[test]
+fn products_and_projections(rt: HostRuntime) -> Result<(), Fail> {
+    // a, and any other term; two columns have 2, 2 and 4 states.
+    assert_eq!(rt; counts_of(rt.alloc(), Op::And)?, [(8, 1), (2, 1), (2, 1)]);
+    assert_eq!(rt; counts_of(rt.alloc(), Op::Or)?, [(8, 3), (2, 2), (2, 2)]);
+    assert_eq!(rt; counts_of(rt.alloc(), Op::Iff)?, [(8, 2), (2, 2), (2, 2)]);
+    Ok(())
+}
+
+/// The counts of the cylinder of the middle of three columns, and of its projections.
+fn counts_of_middle(alloc: Global) -> Result<[(u32, u32); 4], AddFault> {
+    let signature = constant_and_unary(alloc)?;
+    let mut all = [(0u32, 0u32); 4];
+    match first_table(alloc, &signature) {
+        Ok(first) => match widen(alloc, &first, &[1], 3) {
+            Ok(body) => {
+                all[0] = counts(&body);
+                if body.columns() == 3 {
+                    for column in 0..3usize {
+                        all[column + 1] = projected(alloc, &body, column)?;
+                    }
+                }
+            }
+            Err(_) => return Err(AddFault::Memory),
+        },
+        Err(_) => return Err(AddFault::Memory),
+    }
+    Ok(all)
+}
+
+#[test]
+fn columns_in_front_middle_and_end(rt: HostRuntime) -> Result<(), Fail> {
+    // Four presences have the middle column, with two states each; three have not.
+    assert_eq!(rt;
+        counts_of_middle(rt.alloc())?,
+        [(11, 1), (5, 1), (3, 1), (5, 1)]
+    );
+    Ok(())
+}
