@@ -1,0 +1,11 @@
+pub mod PartColumnLaws
+pub mod AssignedColumns
+pub mod StepTruth
+pub mod StepTables
+pub mod StepAlike
+pub mod AtomAnswers
+pub mod PartOrder
+pub mod PartFacts
+pub mod StepAnswers
+pub mod AtomResults
+pub mod TranslatedCores

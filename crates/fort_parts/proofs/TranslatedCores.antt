@@ -1,0 +1,180 @@
+-- The core formula of a formula whose indices are the system's, and in which ground terms are written, is over the system; it is about single steps where the formula speaks of no reduction.
+use Rattle.std.specs.Prelude.{ℕ, ◌+◌, ◌<◌, List, [], ◌∷◌, ◌++◌, length, reverse, Contains, All, Bool, true, false, if◌then◌else◌}
+use Rattle.std.proofs.lemmas.List.Elements.{All-get_or, Contains-append_left, Contains-append_right}
+use Rattle.fort_theory.specs.Trees.{Tree, Node, Nil}
+use Rattle.fort_theory.specs.Signatures.{IsGround}
+use Rattle.fort_theory.specs.Sides.{IsIndexOf}
+use Rattle.fort_theory.specs.Patterns.{PatternSystem}
+use Rattle.fort_theory.proofs.Members.{Contains-head, Contains-behind}
+use Rattle.fort_logic.specs.Formulas as surface
+use Rattle.fort_logic.specs.Formulas.{Name, Argument, Formula, SurfaceRel, Property}
+use Rattle.fort_logic.specs.FreeNames.{free_names}
+use Rattle.fort_logic.specs.Mentions.{indices, places, places_in}
+use Rattle.fort_logic.specs.Cores.{Core, Atom, Nf, And, Not, Exists, Infinite, Star, Step, Conv}
+use Rattle.fort_logic.specs.Parts.{is_free}
+use Rattle.fort_logic.specs.Translation.{some, every, infinitely_many, implies, equal, at_most_one_step, normalises, joins, related, forks, property_core, commutes, about, about_both, core_in, core_of, number_in}
+use Rattle.fort_parts.specs.DecidedCores.{IsOverSystem, IsOneStep}
+use Rattle.fort_parts.specs.SingleSteps.{SpeaksOfSteps, IsAboutSteps}
+
+-- what holds of both ways of a choice
+either : (P : Core → Type 0) (b : Bool) (f g : Core) → P f → P g → P (if b then f else g)
+either P true f g p q = p
+either P false f g p q = q
+
+module _ (system : PatternSystem) (first : IsIndexOf system.rules 1) (terms : List Tree) (grounded : All (IsGround system.signature) terms) where
+  abbrev Over : Core → Type 0
+  Over f = IsOverSystem system f
+
+  over-some : (n : ℕ) (f : Core) → Over f → Over (some n f)
+  over-some n f h = either Over (is_free n f) (Exists n f) f h h
+
+  over-every : (n : ℕ) (f : Core) → Over f → Over (every n f)
+  over-every n f h = over-some n (Not f) h
+
+  over-infinitely_many : (n : ℕ) (f : Core) → Over f → Over (infinitely_many n f)
+  over-infinitely_many n f h = either Over (is_free n f) (Infinite n f) (And f (Infinite n (equal n n))) h (h, first)
+
+  over-related : (rel : SurfaceRel) (index x y : ℕ) → IsIndexOf system.rules index → Over (related rel index x y)
+  over-related surface.Eq index x y h = first
+  over-related surface.Step index x y h = h
+  over-related surface.Star index x y h = h
+  over-related surface.Plus index x y h = h
+  over-related surface.Reflexive index x y h = (first, h)
+  over-related surface.Normal index x y h = (h, h)
+  over-related surface.Root index x y h = h
+  over-related surface.Below index x y h = h
+  over-related surface.Par index x y h = h
+  over-related surface.Either index x y h = (h, h)
+  over-related surface.Conv index x y h = h
+
+  over-joins : (index n x y : ℕ) → IsIndexOf system.rules index → Over (joins index n x y)
+  over-joins index n x y h = over-some n (And (Atom Star index x n) (Atom Star index y n)) (h, h)
+
+  over-two : (n : ℕ) (f : Core) → Over f → Over (every n (every (n + 1) f))
+  over-two n f h = over-every n (every (n + 1) f) (over-every (n + 1) f h)
+
+  over-property : (p : Property) (index n : ℕ) → IsIndexOf system.rules index → Over (property_core p index n)
+  over-property surface.Cr index n h =
+      over-two n (implies (forks (Atom Star index) (n + 2) n (n + 1)) (joins index (n + 2) n (n + 1)))
+      (over-some (n + 2) (And (Atom Star index (n + 2) n) (Atom Star index (n + 2) (n + 1))) (h, h), over-joins index (n + 2) n (n + 1) h)
+  over-property surface.Wcr index n h =
+      over-two n (implies (forks (Atom Step index) (n + 2) n (n + 1)) (joins index (n + 2) n (n + 1)))
+      (over-some (n + 2) (And (Atom Step index (n + 2) n) (Atom Step index (n + 2) (n + 1))) (h, h), over-joins index (n + 2) n (n + 1) h)
+  over-property surface.Scr index n h =
+      over-two n (implies (forks (Atom Step index) (n + 2) n (n + 1))
+      (some (n + 2) (And (at_most_one_step index n (n + 2)) (Atom Star index (n + 1) (n + 2))))) (
+        over-some (n + 2) (And (Atom Step index (n + 2) n) (Atom Step index (n + 2) (n + 1))) (h, h),
+        over-some (n + 2) (And (at_most_one_step index n (n + 2)) (Atom Star index (n + 1) (n + 2))) ((first, h), h),
+      )
+  over-property surface.Wn index n h =
+      over-every n (some (n + 1) (normalises index n (n + 1))) (over-some (n + 1) (normalises index n (n + 1)) (h, h))
+  over-property surface.Unr index n h =
+      over-two n (implies (forks (normalises index) (n + 2) n (n + 1)) (equal n (n + 1)))
+      (over-some (n + 2) (And (normalises index (n + 2) n) (normalises index (n + 2) (n + 1))) ((h, h), (h, h)), first)
+  over-property surface.Unc index n h =
+      over-two n (implies (And (And (Atom Conv index n (n + 1)) (Nf index n)) (Nf index (n + 1))) (equal n (n + 1))) (((h, h), h), first)
+  over-property surface.Nfp index n h =
+      over-two n (implies (And (Atom Conv index n (n + 1)) (Nf index (n + 1))) (Atom Star index n (n + 1))) ((h, h), h)
+
+  over-commutes : (n : ℕ) → IsIndexOf system.rules 2 → Over (commutes n)
+  over-commutes n second =
+      over-two n (implies (some (n + 2) (And (Atom Star 1 (n + 2) n) (Atom Star 2 (n + 2) (n + 1))))
+      (some (n + 2) (And (Atom Star 2 n (n + 2)) (Atom Star 1 (n + 1) (n + 2))))) (
+        over-some (n + 2) (And (Atom Star 1 (n + 2) n) (Atom Star 2 (n + 2) (n + 1))) (first, second),
+        over-some (n + 2) (And (Atom Star 2 n (n + 2)) (Atom Star 1 (n + 1) (n + 2))) (second, first),
+      )
+
+  over-about : (scope : List Name) (n : ℕ) (a : Argument) (make : ℕ → ℕ → Core) → ((k : ℕ) → Contains (places_in a) k → k < length terms)
+      → ((m x : ℕ) → Over (make m x)) → Over (about terms scope n a make)
+  over-about scope n (surface.Var x) make within over = over n (number_in scope x)
+  over-about scope n (surface.Ground k) make within over =
+      (All-get_or (IsGround system.signature) terms k (Node 0 Nil) (within k (Contains-head k [])) grounded, over (n + 1) n)
+
+  over-about_both : (scope : List Name) (n : ℕ) (a b : Argument) (make : ℕ → ℕ → ℕ → Core) → ((k : ℕ) → Contains (places_in a ++ places_in b) k → k < length terms)
+      → ((m x y : ℕ) → Over (make m x y)) → Over (about_both terms scope n a b make)
+  over-about_both scope n a b make within over =
+      over-about scope n a (λ m x. about terms scope m b (λ k y. make k x y)) (λ k c. within k (Contains-append_left (places_in a) (places_in b) k c))
+      (λ m x. over-about scope m b (λ k y. make k x y) (λ k c. within k (Contains-append_right (places_in a) (places_in b) k c)) (λ k y. over k x y))
+
+  -- each index is one of the system's, and each place has a term
+  abbrev Mentions : Formula → Type 0
+  Mentions f = ((y : ℕ) → Contains (indices f) y → IsIndexOf system.rules y) × ((k : ℕ) → Contains (places f) k → k < length terms)
+
+  left : (f g : Formula) → ((y : ℕ) → Contains (indices f ++ indices g) y → IsIndexOf system.rules y) → ((k : ℕ) → Contains (places f ++ places g) k → k < length terms)
+      → Mentions f × Mentions g
+  left f g i p = (
+    ((λ y c. i y (Contains-append_left (indices f) (indices g) y c)), (λ k c. p k (Contains-append_left (places f) (places g) k c))),
+    ((λ y c. i y (Contains-append_right (indices f) (indices g) y c)), (λ k c. p k (Contains-append_right (places f) (places g) k c))),
+  )
+
+  over-core_in : (scope : List Name) (f : Formula) → Mentions f → Over (core_in terms scope f)
+  over-core_in scope surface.True m = tt
+  over-core_in scope surface.False m = tt
+  over-core_in scope (surface.Related rel a b index) m =
+      over-about_both scope (length scope) a b (λ n x y. related rel index x y) m.1 (λ n x y. over-related rel index x y (m.0 index (Contains-head index [])))
+  over-core_in scope (surface.Nf a index) m = over-about scope (length scope) a (λ n x. Nf index x) m.1 (λ n x. m.0 index (Contains-head index []))
+  over-core_in scope (surface.Join a b index) m =
+      over-about_both scope (length scope) a b (λ n x y. joins index n x y) m.1 (λ n x y. over-joins index n x y (m.0 index (Contains-head index [])))
+  over-core_in scope (surface.Has p index) m = over-property p index (length scope) (m.0 index (Contains-head index []))
+  over-core_in scope surface.Com m = over-commutes (length scope) (m.0 2 (Contains-behind 1 (2 ∷ []) 2 (Contains-head 2 [])))
+  over-core_in scope (surface.Not f) m = over-core_in scope f m
+  over-core_in scope (surface.And f g) m = let w = left f g m.0 m.1 in (over-core_in scope f w.0, over-core_in scope g w.1)
+  over-core_in scope (surface.Or f g) m = let w = left f g m.0 m.1 in (over-core_in scope f w.0, over-core_in scope g w.1)
+  over-core_in scope (surface.Imp f g) m = let w = left f g m.0 m.1 in (over-core_in scope f w.0, over-core_in scope g w.1)
+  over-core_in scope (surface.Iff f g) m = let w = left f g m.0 m.1 in (over-core_in scope f w.0, over-core_in scope g w.1)
+  over-core_in scope (surface.Exists x f) m = over-some (length scope) (core_in terms (x ∷ scope) f) (over-core_in (x ∷ scope) f m)
+  over-core_in scope (surface.Forall x f) m = over-every (length scope) (core_in terms (x ∷ scope) f) (over-core_in (x ∷ scope) f m)
+  over-core_in scope (surface.Infinite x f) m = over-infinitely_many (length scope) (core_in terms (x ∷ scope) f) (over-core_in (x ∷ scope) f m)
+
+  -- Result
+  pub IsOverSystem-core_of : (f : Formula) → ((y : ℕ) → Contains (indices f) y → IsIndexOf system.rules y) → ((k : ℕ) → Contains (places f) k → k < length terms)
+      → IsOverSystem system (core_of terms f)
+  IsOverSystem-core_of f i p = over-core_in (reverse (free_names f)) f (i, p)
+
+step-some : (n : ℕ) (f : Core) → IsOneStep f → IsOneStep (some n f)
+step-some n f h = either IsOneStep (is_free n f) (Exists n f) f h h
+
+step-related : (rel : SurfaceRel) (index x y : ℕ) → SpeaksOfSteps rel → IsOneStep (related rel index x y)
+step-related surface.Eq index x y h = tt
+step-related surface.Step index x y h = tt
+step-related surface.Star index x y h = absurd h
+step-related surface.Plus index x y h = absurd h
+step-related surface.Reflexive index x y h = (tt, tt)
+step-related surface.Normal index x y h = absurd h
+step-related surface.Root index x y h = tt
+step-related surface.Below index x y h = tt
+step-related surface.Par index x y h = tt
+step-related surface.Either index x y h = (tt, tt)
+step-related surface.Conv index x y h = absurd h
+
+step-about : (terms : List Tree) (scope : List Name) (n : ℕ) (a : Argument) (make : ℕ → ℕ → Core) → ((m x : ℕ) → IsOneStep (make m x))
+    → IsOneStep (about terms scope n a make)
+step-about terms scope n (surface.Var x) make h = h n (number_in scope x)
+step-about terms scope n (surface.Ground k) make h = (tt, h (n + 1) n)
+
+step-about_both : (terms : List Tree) (scope : List Name) (n : ℕ) (a b : Argument) (make : ℕ → ℕ → ℕ → Core) → ((m x y : ℕ) → IsOneStep (make m x y))
+    → IsOneStep (about_both terms scope n a b make)
+step-about_both terms scope n a b make h =
+    step-about terms scope n a (λ m x. about terms scope m b (λ k y. make k x y)) (λ m x. step-about terms scope m b (λ k y. make k x y) (λ k y. h k x y))
+
+step-core_in : (terms : List Tree) (scope : List Name) (f : Formula) → IsAboutSteps f → IsOneStep (core_in terms scope f)
+step-core_in terms scope surface.True h = tt
+step-core_in terms scope surface.False h = tt
+step-core_in terms scope (surface.Related rel a b index) h =
+    step-about_both terms scope (length scope) a b (λ n x y. related rel index x y) (λ n x y. step-related rel index x y h)
+step-core_in terms scope (surface.Nf a index) h = step-about terms scope (length scope) a (λ n x. Nf index x) (λ n x. tt)
+step-core_in terms scope (surface.Join a b index) h = absurd h
+step-core_in terms scope (surface.Has p index) h = absurd h
+step-core_in terms scope surface.Com h = absurd h
+step-core_in terms scope (surface.Not f) h = step-core_in terms scope f h
+step-core_in terms scope (surface.And f g) h = (step-core_in terms scope f h.0, step-core_in terms scope g h.1)
+step-core_in terms scope (surface.Or f g) h = (step-core_in terms scope f h.0, step-core_in terms scope g h.1)
+step-core_in terms scope (surface.Imp f g) h = (step-core_in terms scope f h.0, step-core_in terms scope g h.1)
+step-core_in terms scope (surface.Iff f g) h = (step-core_in terms scope f h.0, step-core_in terms scope g h.1)
+step-core_in terms scope (surface.Exists x f) h = step-some (length scope) (core_in terms (x ∷ scope) f) (step-core_in terms (x ∷ scope) f h)
+step-core_in terms scope (surface.Forall x f) h = step-some (length scope) (Not (core_in terms (x ∷ scope) f)) (step-core_in terms (x ∷ scope) f h)
+step-core_in terms scope (surface.Infinite x f) h = absurd h
+
+-- Result
+pub IsOneStep-core_of : (terms : List Tree) (f : Formula) → IsAboutSteps f → IsOneStep (core_of terms f)
+IsOneStep-core_of terms f h = step-core_in terms (reverse (free_names f)) f h

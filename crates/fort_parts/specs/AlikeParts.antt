@@ -1,0 +1,53 @@
+-- To believe: when two optional tuples are alike at a core formula, over its columns; a part is over a cap where there are more tuples than it, no two of them alike.
+use Rattle.std.specs.Prelude.{◌↔◌, ℕ, ◌<◌, List, length, get_or, Some}
+use Rattle.std.specs.List.{insert}
+use Rattle.fort_theory.specs.Trees.{Tree}
+use Rattle.fort_theory.specs.Signatures.{Signature, IsGround}
+use Rattle.fort_theory.specs.Patterns.{PatternSystem}
+use Rattle.fort_logic.specs.Logic.{HasInfinitelyMany}
+use Rattle.fort_logic.specs.Cores.{Core, True, Atom, Nf, Is, Not, And, Or, Iff, Exists, Infinite}
+use Rattle.fort_tables.specs.Tuples.{Tuple}
+use Rattle.fort_alike.specs.Atoms.{relation_atom, normal_atom}
+use Rattle.fort_alike.specs.Alike.{Alike}
+use Rattle.fort_alike.specs.AlikeAtTerm.{AlikeAtTerm}
+use Rattle.fort_alike.specs.UnlikeTuples.{IsOver}
+use Rattle.fort_operations.specs.Agreement.{Agreement, AgreeAtBoth, AgreeAtSome}
+use Rattle.fort_parts.specs.PartColumns.{columns_of, place_in, places_in}
+
+-- infinitely many terms in column c complete the tuple to one that agrees with this completion of it
+abbrev pub HasManyLike : Signature → ℕ → Agreement → Tuple → Tree → Type 0
+HasManyLike sig c agree t x = HasInfinitelyMany (λ v. IsGround sig v × agree (insert t c (Some v)) (insert t c (Some x)))
+
+-- for "infinitely many terms in column c": as for "some", and where two completions agree, infinitely many terms agree with the one
+-- exactly where infinitely many do with the other
+pub record AgreeAtMany (sig : Signature) (c : ℕ) (agree : Agreement) (t u : Tuple) : Type 0 where
+  pub some : AgreeAtSome sig c agree t u
+  pub many : (x y : Tree) → IsGround sig x → IsGround sig y → agree (insert t c (Some x)) (insert u c (Some y))
+      → HasManyLike sig c agree t x ↔ HasManyLike sig c agree u y
+
+-- a formula without columns has no tuples
+abbrev pub AlikeAt : PatternSystem → Core → Agreement
+AlikeAt system True t u = Unit {0}
+AlikeAt system (Atom rel index x y) t u = Alike (relation_atom system rel index x y (columns_of (Atom rel index x y))) t u
+AlikeAt system (Nf index x) t u = Alike (normal_atom system index) t u
+AlikeAt system (Is x term) t u = AlikeAtTerm term t u
+AlikeAt system (Not f) t u = AlikeAt system f t u
+AlikeAt system (And f g) t u =
+    AgreeAtBoth (places_in (columns_of (And f g)) (columns_of f)) (AlikeAt system f) (places_in (columns_of (And f g)) (columns_of g)) (AlikeAt system g) t u
+AlikeAt system (Or f g) t u =
+    AgreeAtBoth (places_in (columns_of (Or f g)) (columns_of f)) (AlikeAt system f) (places_in (columns_of (Or f g)) (columns_of g)) (AlikeAt system g) t u
+AlikeAt system (Iff f g) t u =
+    AgreeAtBoth (places_in (columns_of (Iff f g)) (columns_of f)) (AlikeAt system f) (places_in (columns_of (Iff f g)) (columns_of g)) (AlikeAt system g) t u
+AlikeAt system (Exists n f) t u = AgreeAtSome system.signature (place_in (columns_of f) n) (AlikeAt system f) t u
+AlikeAt system (Infinite n f) t u = AgreeAtMany system.signature (place_in (columns_of f) n) (AlikeAt system f) t u
+
+-- a part without columns is never over a cap
+pub record IsPartOver (system : PatternSystem) (f : Core) (cap : ℕ) : Type 0 where
+  pub some : 0 < length (columns_of f)
+  pub over : IsOver system.signature (length (columns_of f)) (AlikeAt system f) cap
+
+-- part k is over the cap, and none before it is
+pub record IsFirstOver (system : PatternSystem) (parts : List Core) (cap k : ℕ) : Type 0 where
+  pub within : k < length parts
+  pub over : IsPartOver system (get_or parts k True) cap
+  pub before : (j : ℕ) → j < k → IsPartOver system (get_or parts j True) cap → ⊥
