@@ -86,7 +86,8 @@ AreGroundEach-push bytes signature (g ∷ fs) (u ∷ ts) f t h i = (h.0, AreGrou
 pub arguments_none : (bytes : List ℕ) (signature : Signature) (es : List Form) → AreArguments bytes signature es 1 []
 arguments_none bytes signature es = record { low = omega arith; each = tt }
 
-one_more : (es : List Form) (k : ℕ) (f : Form) → slice_get es (suc k) ≡ Some f → take (suc k) (drop 1 es) ≡ take k (drop 1 es) ++ f ∷ []
+-- one more of the elements behind the first
+pub one_more : (es : List Form) (k : ℕ) (f : Form) → slice_get es (suc k) ≡ Some f → take (suc k) (drop 1 es) ≡ take k (drop 1 es) ++ f ∷ []
 one_more [] k f e = absurd cc
 one_more (h ∷ es) k f e = go es k e
   where

@@ -6,7 +6,12 @@ pub mod RuleElements
 pub mod Heads
 pub mod Parts
 pub mod Declared
+pub mod Places
+pub mod Distinct
+pub mod NameSets
 pub mod SideLaws
+pub mod OneSide
+pub mod OneSideFault
 pub mod Sorted
 pub mod Ruled
 pub mod OneAnswerRules
@@ -15,3 +20,6 @@ pub mod OneFault
 pub mod OneProblem
 pub mod Grounds
 pub mod OneGround
+pub mod SideElements
+pub mod SideHeads
+pub mod RuleSides

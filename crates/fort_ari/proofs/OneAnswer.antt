@@ -1,16 +1,16 @@
 -- Forms that are a problem have no first fault.
-use Rattle.std.proofs.Common.{◌≡◌, ℕ, zero, suc, ◌≤◌, true, false, List, [], ◌∷◌, ◌++◌, length, Contains, refl, ap, sym, ◌∙◌, subst, arith, length-append}
+use Rattle.std.proofs.Common.{◌≡◌, ℕ, ◌≤◌, List, [], ◌∷◌, ◌++◌, length, Contains, refl, ap, sym, ◌∙◌, subst, arith, length-append}
 use Rattle.std.specs.Prelude.{bytes_eq, codes, decimal}
 use Rattle.std.specs.List.{AllByRecursion, IsDistinct}
 use Rattle.std.proofs.lemmas.Fmt.{decimal_injective}
 use Rattle.std.proofs.lemmas.List.{map-append}
-use Rattle.std.proofs.lemmas.Slice.Eq.{bytes_eq-Decides}
 use Rattle.fort_theory.specs.Signatures.{Symbol, Signature, IsName, HasConstant, names_of}
 use Rattle.fort_theory.specs.Sides.{System}
 use Rattle.fort_grammar.specs.Forms.{Form}
 use Rattle.fort_grammar.specs.Declarations as declarations
 use Rattle.fort_grammar.specs.Declarations.{AreWords, IsListOfWords, IsHeaded, IsArity, IsFormat, OneSystem, Several, Declares, DeclareEach, AreDeclarations, IsBadDeclaration, ProblemFault, elements_of, word_of}
 use Rattle.fort_grammar.specs.RuleForms.{AreRules}
+use Rattle.fort_ari.proofs.Distinct.{distinct_twice}
 use Rattle.fort_ari.proofs.Formats.{format_high}
 use Rattle.fort_ari.proofs.OneAnswerRules.{rule_not_bad, rule_among}
 use Rattle.fort_grammar.specs.ProblemForms.{BeginsOtherwise, FallsInto, IsProblem, IsFirstProblemFault, WithoutForms, WithoutFormat, InDeclaration, WithoutConstant, InRule}
@@ -114,19 +114,6 @@ declares_among bytes (x ∷ before) after f (t ∷ ts) (s ∷ ss) h g =
     let same = Declares-unique bytes x t s h.0 g.0 in
     let tails = rest.is in
     record { next = rest.next; after = rest.after; declares = rest.declares; is = cc }
-
-among : (P : List ℕ → Type 0) (xs ys : List (List ℕ)) (v : List ℕ) → AllByRecursion P (xs ++ v ∷ ys) → P v
-among P [] ys v h = h.0
-among P (x ∷ xs) ys v h = among P xs ys v h.1
-
--- no element of different ones comes before itself
-distinct_twice : (xs ys : List (List ℕ)) (v : List ℕ) → IsDistinct bytes_eq (xs ++ v ∷ ys) → Contains xs v → ⊥
-unfolding IsDistinct
-distinct_twice [] ys v h (k, l, e) = absurd (omega arith)
-distinct_twice (x ∷ xs) ys v h (zero, l, e) =
-    let differs : bytes_eq x v ≡ false = among (λ y. bytes_eq x y ≡ false) xs ys v h.0 in
-    let same : bytes_eq x v ≡ true = (bytes_eq-Decides x v).1 e in cc
-distinct_twice (x ∷ xs) ys v h (suc k, l, e) = distinct_twice xs ys v h.1 (k, omega arith, e)
 
 pub declaration_not_bad : (bytes : List ℕ) (signature total : Signature) (i : ℕ) (f : Form) (fault : ProblemFault) → DeclaresAmong bytes f signature total
     → length total ≤ 255 → IsDistinct bytes_eq (names_of total) → IsBadDeclaration bytes signature i f fault → ⊥

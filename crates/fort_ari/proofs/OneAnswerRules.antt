@@ -1,33 +1,15 @@
 -- Forms that are rules are at no fault.
-use Rattle.std.proofs.Common.{◌≡◌, ℕ, ◌<◌, ◌≤◌, List, [], ◌∷◌, ◌++◌, Some, refl, ap, sym, ◌∙◌, subst, arith}
+use Rattle.std.proofs.Common.{◌≡◌, ℕ, ◌<◌, ◌≤◌, List, [], ◌∷◌, ◌++◌, length, Some, refl, ap, sym, ◌∙◌, subst, arith}
 use Rattle.std.specs.Prelude.{bytes_eq, decimal}
 use Rattle.std.specs.List.{IsDistinct}
 use Rattle.std.proofs.lemmas.Fmt.{decimal_injective}
-use Rattle.fort_theory.specs.Signatures.{most_indices, Signature, IsName, arity_of, name_of, names_of}
-use Rattle.fort_theory.specs.Sides.{Side}
-use Rattle.fort_theory.proofs.SignaturesLaws.{Contains-from_name_of}
+use Rattle.fort_theory.specs.Signatures.{most_indices, Signature, names_of}
 use Rattle.fort_grammar.specs.Forms.{Form}
-use Rattle.fort_grammar.proofs.GroundTexts.{name_of-injective}
 use Rattle.fort_grammar.specs.Declarations.{ProblemFault, word_of}
-use Rattle.fort_grammar.specs.RuleForms.{HasSides, OfFirst, OfIndex, IsSide, AConstant, AVariable, IndexedRule, IsRule, AreRules, IsBadSide, NoWord, NoName, NoConstant, IsBadRule, OneTooMany, NoRule, BadLeft, BadRight, BothSides, IsVariableNamed}
-
-pub side_not_bad : (bytes : List ℕ) (signature : Signature) (n i : ℕ) (f : Form) (s : Side) (fault : ProblemFault) → IsDistinct bytes_eq (names_of signature)
-    → IsSide bytes signature n f s → IsBadSide bytes signature i f fault → ⊥
-side_not_bad bytes signature n i f s fault d (AConstant word named is none) (NoWord e) = cc
-side_not_bad bytes signature n i f s fault d (AVariable word named free) (NoWord e) = cc
-side_not_bad bytes signature n i f s fault d (AConstant {name = x} word named is none) (NoName other e bad) =
-    let same : x ≡ other = cc in bad (subst IsName same named)
-side_not_bad bytes signature n i f s fault d (AVariable {name = x} word named free) (NoName other e bad) =
-    let same : x ≡ other = cc in bad (subst IsName same named)
-side_not_bad bytes signature n i f s fault d (AConstant {name = x} {g = g} word named is none) (NoConstant other h e named' is' bad) =
-    let same : other ≡ x = cc in
-    let there : name_of signature h ≡ Some x = cc in
-    let one : g ≡ h = name_of-injective signature g h x d is there in
-    bad (subst (λ k. arity_of signature k ≡ Some 0) one none)
-side_not_bad bytes signature n i f s fault d (AVariable {name = x} word named free) (NoConstant other h e named' is' bad) =
-    let same : other ≡ x = cc in
-    let there : name_of signature h ≡ Some x = cc in
-    free (Contains-from_name_of signature x h there)
+use Rattle.fort_grammar.specs.RuleForms.{HasSides, OfFirst, OfIndex, IsSide, IndexedRule, IsRule, AreRules, IsBadSide, HasRightSides, IsBadRule, OneTooMany, NoRule, BadLeft, BadRight, LeftTwice, RightTwice, InBoth}
+use Rattle.fort_ari.specs.SideForms.{AreBadNames, InLeft, InRight, Between}
+use Rattle.fort_ari.proofs.OneSide.{IsSide-unique, side_not_bad}
+use Rattle.fort_ari.proofs.Distinct.{names_not_bad}
 
 -- a rule has its sides and its index in one way
 pub record SameSides (left right left' right' : Form) (index index' : ℕ) : Type 0 where
@@ -47,19 +29,68 @@ sides_unique bytes number f left right left' right' index index' few (OfIndex h 
     let same : decimal index ≡ decimal index' = cc in
     record { left_same = cc; right_same = cc; index_same = decimal_injective index index' (omega arith) (omega arith) same }
 
+-- the names of two sides that are right each by itself, from one reading of the form to another
+module _ (bytes : List ℕ) (number : ℕ) (signature : Signature) (f : Form) (most : number ≤ most_indices) (d : IsDistinct bytes_eq (names_of signature)) where
+  pub sides_names_unique : (xs ys xs' ys' : List (List ℕ)) → HasRightSides bytes number signature f xs ys → HasRightSides bytes number signature f xs' ys'
+      → (xs ≡ xs') × (ys ≡ ys')
+  sides_names_unique xs ys xs' ys' r r' =
+      let same = sides_unique bytes number f _ _ _ _ _ _ most r.sides r'.sides in
+      let lefts = IsSide-unique d (subst (λ g. IsSide bytes signature 0 g r.left_side xs) same.left_same r.left_is) r'.left_is in
+      let there : IsSide bytes signature (length xs') r'.right r.right_side ys =
+      subst (λ (zs : List (List ℕ)). IsSide bytes signature (length zs) r'.right r.right_side ys) lefts.1
+      (subst (λ g. IsSide bytes signature (length xs) g r.right_side ys) same.right_same r.right_is) in
+      (lefts.1, (IsSide-unique d there r'.right_is).1)
+
+  pub bad_names_there : (i : ℕ) (xs ys xs' ys' : List (List ℕ)) (fault : ProblemFault) → HasRightSides bytes number signature f xs ys
+      → HasRightSides bytes number signature f xs' ys' → AreBadNames i xs' ys' fault → AreBadNames i xs ys fault
+  bad_names_there i xs ys xs' ys' fault r r' bad =
+      let same = sides_names_unique xs ys xs' ys' r r' in
+      subst (λ zs. AreBadNames i zs ys fault) (sym same.0) (subst (λ zs. AreBadNames i xs' zs fault) (sym same.1) bad)
+
+  -- of two sides that are right neither is bad
+  pub left_right_not_bad : (i index : ℕ) (xs ys : List (List ℕ)) (left right : Form) (fault : ProblemFault) → HasRightSides bytes number signature f xs ys
+      → HasSides bytes number f left right index → IsBadSide bytes signature i left fault → ⊥
+  left_right_not_bad i index xs ys left right fault r sides bad =
+      let same = sides_unique bytes number f _ _ _ _ _ _ most r.sides sides in
+      side_not_bad d (subst (λ g. IsSide bytes signature 0 g r.left_side xs) same.left_same r.left_is) bad
+
+  pub right_right_not_bad : (i index : ℕ) (xs ys : List (List ℕ)) (left right : Form) (fault : ProblemFault) → HasRightSides bytes number signature f xs ys
+      → HasSides bytes number f left right index → IsBadSide bytes signature i right fault → ⊥
+  right_right_not_bad i index xs ys left right fault r sides bad =
+      let same = sides_unique bytes number f _ _ _ _ _ _ most r.sides sides in
+      side_not_bad d (subst (λ g. IsSide bytes signature (length xs) g r.right_side ys) same.right_same r.right_is) bad
+
+pub right_sides : {bytes : List ℕ} {number : ℕ} {signature : Signature} {f : Form} {r : IndexedRule} (is : IsRule bytes number signature f r)
+    → HasRightSides bytes number signature f is.left_names is.right_names
+right_sides {r = r} is = record {
+  left = is.left;
+  right = is.right;
+  index = r.index;
+  sides = is.sides;
+  left_side = r.rule.left;
+  right_side = r.rule.right;
+  left_is = is.left_is;
+  right_is = is.right_is;
+}
+
 pub rule_not_bad : (bytes : List ℕ) (number : ℕ) (signature : Signature) (count i : ℕ) (f : Form) (r : IndexedRule) (fault : ProblemFault) → number ≤ most_indices
     → IsDistinct bytes_eq (names_of signature) → count < 4096 → IsRule bytes number signature f r → IsBadRule bytes number signature count i f fault → ⊥
-rule_not_bad bytes number signature count i f r fault most d few is (OneTooMany full) = omega arith
-rule_not_bad bytes number signature count i f r fault most d few is (NoRule below none) = none is.left is.right r.index is.sides
-rule_not_bad bytes number signature count i f r fault most d few is (BadLeft left right index x below sides bad) =
-    let same = sides_unique bytes number f _ _ _ _ _ _ most is.sides sides in
-    side_not_bad bytes signature 0 i left r.rule.left x d (subst (λ g. IsSide bytes signature 0 g r.rule.left) same.left_same is.left_is) bad
-rule_not_bad bytes number signature count i f r fault most d few is (BadRight left right index side x below sides left_is bad) =
-    let same = sides_unique bytes number f _ _ _ _ _ _ most is.sides sides in
-    side_not_bad bytes signature 1 i right r.rule.right x d (subst (λ g. IsSide bytes signature 1 g r.rule.right) same.right_same is.right_is) bad
-rule_not_bad bytes number signature count i f r fault most d few is (BothSides left right index name below sides on_left on_right) =
-    let same = sides_unique bytes number f _ _ _ _ _ _ most sides is.sides in
-    is.separated name (subst (λ g. IsVariableNamed bytes signature g name) same.left_same on_left) (subst (λ g. IsVariableNamed bytes signature g name) same.right_same on_right)
+rule_not_bad bytes number signature count i f r fault most d few is bad = go fault bad
+  where
+    names : (xs ys : List (List ℕ)) (x : ProblemFault) → HasRightSides bytes number signature f xs ys → AreBadNames i xs ys x → ⊥
+    names xs ys x sides wrong =
+        names_not_bad i is.left_names is.right_names x is.once
+        (bad_names_there bytes number signature f most d i is.left_names is.right_names xs ys x (right_sides is) sides wrong)
+
+    go : (x : ProblemFault) → IsBadRule bytes number signature count i f x → ⊥
+    go x (OneTooMany full) = omega arith
+    go x (NoRule below none) = none is.left is.right r.index is.sides
+    go x (BadLeft left right index z below sides wrong) = left_right_not_bad bytes number signature f most d i index _ _ left right x (right_sides is) sides wrong
+    go x (BadRight left right index side given z below sides left_is wrong) =
+        right_right_not_bad bytes number signature f most d i index _ _ left right x (right_sides is) sides wrong
+    go x (LeftTwice xs ys name below sides again) = names xs ys x sides (InLeft name again)
+    go x (RightTwice xs ys name below sides once again) = names xs ys x sides (InRight name once again)
+    go x (InBoth xs ys name below sides once once' also) = names xs ys x sides (Between name once once' also)
 
 -- the rule of a form among others
 pub rule_among : (bytes : List ℕ) (number : ℕ) (signature : Signature) (before after : List Form) (f : Form) (rs : List IndexedRule)

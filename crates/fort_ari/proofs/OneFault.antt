@@ -1,36 +1,22 @@
 -- Forms have one first fault.
-use Rattle.std.proofs.Common.{◌≡◌, ℕ, ◌+◌, ◌≤◌, List, [], ◌∷◌, ◌++◌, length, Some, refl, ap, sym, ◌∙◌, subst, arith, length-append}
+use Rattle.std.proofs.Common.{◌≡◌, ℕ, ◌+◌, ◌<◌, ◌≤◌, List, [], ◌∷◌, ◌++◌, length, refl, ap, sym, ◌∙◌, subst, arith, length-append}
 use Rattle.std.specs.Prelude.{bytes_eq}
 use Rattle.std.specs.List.{IsDistinct}
 use Rattle.fort_theory.specs.Signatures.{most_indices, Signature, IsName, HasConstant, names_of}
+use Rattle.fort_theory.specs.Sides.{Side}
 use Rattle.fort_grammar.specs.Forms.{Form}
 use Rattle.fort_grammar.specs.Declarations as declarations
-use Rattle.fort_grammar.specs.Declarations.{IsFormat, IsNoFormat, IsListOfWords, IsArity, DeclareEach, AreDeclarations, IsBadDeclaration, ProblemFault, Shares, word_of}
-use Rattle.fort_grammar.specs.RuleForms.{IsSide, IndexedRule, AreRules, IsBadSide, AVariable, NoWord, NoName, NoConstant, IsBadRule, OneTooMany, NoRule, BadLeft, BadRight, BothSides, HasSides, IsVariableNamed}
+use Rattle.fort_grammar.specs.Declarations.{IsFormat, IsNoFormat, IsListOfWords, IsArity, DeclareEach, AreDeclarations, IsBadDeclaration, ProblemFault, BadForm, TooManyRules}
+use Rattle.fort_grammar.specs.RuleForms.{IsSide, IndexedRule, AreRules, IsBadSide, IsBadRule, OneTooMany, NoRule, BadLeft, BadRight, LeftTwice, RightTwice, InBoth, HasSides, HasRightSides, most_rules}
 use Rattle.fort_grammar.specs.ProblemForms.{FallsInto, IsFirstProblemFault, WithoutForms, WithoutFormat, InDeclaration, WithoutConstant, InRule}
 use Rattle.fort_ari.proofs.Formats.{format_high}
-use Rattle.fort_ari.proofs.OneAnswerRules.{rule_not_bad, rule_among, side_not_bad, sides_unique}
+use Rattle.fort_ari.specs.SideForms.{AreBadNames, InLeft, InRight, Between}
+use Rattle.fort_ari.proofs.Places.{Places, Here, First, Second, places}
+use Rattle.fort_ari.proofs.Distinct.{names_fault_unique}
+use Rattle.fort_ari.proofs.OneSide.{side_not_bad}
+use Rattle.fort_ari.proofs.OneSideFault.{side_fault_unique}
+use Rattle.fort_ari.proofs.OneAnswerRules.{rule_not_bad, rule_among, sides_unique, bad_names_there, left_right_not_bad, right_right_not_bad}
 use Rattle.fort_ari.proofs.OneAnswer.{falls_unique, words_unique, format_unique, DeclareEach-unique, declares_among, declaration_not_bad}
-
--- two places in a list: one, or the first before the second, or the second before the first
-pub data Places (xs ys : List Form) (f g : Form) : Type 0 where
-  Here : xs ≡ ys → f ≡ g → Places xs ys f g
-  First : (more : List Form) → ys ≡ xs ++ f ∷ more → Places xs ys f g
-  Second : (more : List Form) → xs ≡ ys ++ g ∷ more → Places xs ys f g
-
-more_places : (x : Form) (xs ys : List Form) (f g : Form) → Places xs ys f g → Places (x ∷ xs) (x ∷ ys) f g
-more_places x xs ys f g (Here a b) = Here (ap (λ zs. x ∷ zs) a) b
-more_places x xs ys f g (First more a) = First more (ap (λ zs. x ∷ zs) a)
-more_places x xs ys f g (Second more a) = Second more (ap (λ zs. x ∷ zs) a)
-
-places : (xs ys vs bs : List Form) (f g : Form) → xs ++ f ∷ vs ≡ ys ++ g ∷ bs → Places xs ys f g
-places [] [] vs bs f g e = Here refl cc
-places [] (y ∷ ys) vs bs f g e = First ys (let same : f ≡ y = cc in ap (λ z. z ∷ ys) (sym same))
-places (x ∷ xs) [] vs bs f g e = Second xs (let same : x ≡ g = cc in ap (λ z. z ∷ xs) same)
-places (x ∷ xs) (y ∷ ys) vs bs f g e =
-    let same : x ≡ y = cc in
-    let tails : xs ++ f ∷ vs ≡ ys ++ g ∷ bs = cc in
-    subst (λ z. Places (x ∷ xs) (z ∷ ys) f g) same (more_places x xs ys f g (places xs ys vs bs f g tails))
 
 module _ (bytes : List ℕ) (signature : Signature) (i : ℕ) (f : Form) where
   same_name : (h n a h' n' a' : List ℕ) → IsListOfWords bytes f (h ∷ n ∷ a ∷ []) → IsListOfWords bytes f (h' ∷ n' ∷ a' ∷ []) → n ≡ n'
@@ -73,16 +59,28 @@ module _ (bytes : List ℕ) (signature : Signature) (i : ℕ) (f : Form) where
       absurd (b' k (subst (λ v. IsArity v k) (same_arity h n a h' n' a' w w') b))
   declaration_fault_unique x y (declarations.Twice h n a k l w d b t) (declarations.Twice h' n' a' k' l' w' d' b' t') = refl
 
-  side_fault_unique : (x y : ProblemFault) → IsDistinct bytes_eq (names_of signature) → IsBadSide bytes signature i f x → IsBadSide bytes signature i f y → x ≡ y
-  side_fault_unique x y d (NoWord e) (NoWord e') = refl
-  side_fault_unique x y d (NoWord e) (NoName w e' b) = cc
-  side_fault_unique x y d (NoWord e) (NoConstant w g e' n is b) = cc
-  side_fault_unique x y d (NoName w e b) (NoWord e') = cc
-  side_fault_unique x y d (NoName w e b) (NoName w' e' b') = refl
-  side_fault_unique x y d (NoName w e b) (NoConstant w' g e' n is b') = let same : w' ≡ w = cc in absurd (b (subst IsName same n))
-  side_fault_unique x y d (NoConstant w g e n is b) (NoWord e') = cc
-  side_fault_unique x y d (NoConstant w g e n is b) (NoName w' e' b') = let same : w ≡ w' = cc in absurd (b' (subst IsName same n))
-  side_fault_unique x y d (NoConstant w g e n is b) (NoConstant w' g' e' n' is' b') = refl
+-- a rule that is at fault: before its sides, in one of them, or in their names
+data IsBadInRule (bytes : List ℕ) (number : ℕ) (signature : Signature) (count i : ℕ) (f : Form) : ProblemFault → Type 0 where
+  NoRoom : count ≡ most_rules → IsBadInRule bytes number signature count i f TooManyRules
+  NoSides : count < most_rules → ((left right : Form) (index : ℕ) → HasSides bytes number f left right index → ⊥)
+      → IsBadInRule bytes number signature count i f (BadForm i)
+  InLeftSide : {fault : ProblemFault} (left right : Form) (index : ℕ) → count < most_rules → HasSides bytes number f left right index
+      → IsBadSide bytes signature i left fault → IsBadInRule bytes number signature count i f fault
+  InRightSide : {fault : ProblemFault} (left right : Form) (index : ℕ) (side : Side) (names : List (List ℕ)) → count < most_rules
+      → HasSides bytes number f left right index → IsSide bytes signature 0 left side names → IsBadSide bytes signature i right fault
+      → IsBadInRule bytes number signature count i f fault
+  InNames : {fault : ProblemFault} (xs ys : List (List ℕ)) → count < most_rules → HasRightSides bytes number signature f xs ys → AreBadNames i xs ys fault
+      → IsBadInRule bytes number signature count i f fault
+
+staged_rule : {bytes : List ℕ} {number : ℕ} {signature : Signature} {count i : ℕ} {f : Form} {x : ProblemFault} → IsBadRule bytes number signature count i f x
+    → IsBadInRule bytes number signature count i f x
+staged_rule (OneTooMany e) = NoRoom e
+staged_rule (NoRule l none) = NoSides l none
+staged_rule (BadLeft p q j z l s b) = InLeftSide p q j l s b
+staged_rule (BadRight p q j m ns z l s k b) = InRightSide p q j m ns l s k b
+staged_rule (LeftTwice xs ys n l s a) = InNames xs ys l s (InLeft n a)
+staged_rule (RightTwice xs ys n l s o a) = InNames xs ys l s (InRight n o a)
+staged_rule (InBoth xs ys n l s o o' a) = InNames xs ys l s (Between n o o' a)
 
 module _ (bytes : List ℕ) (number : ℕ) (signature : Signature) (count i : ℕ) (f : Form) (most : number ≤ most_indices)
     (d : IsDistinct bytes_eq (names_of signature)) where
@@ -93,48 +91,42 @@ module _ (bytes : List ℕ) (number : ℕ) (signature : Signature) (count i : �
   right_both : (l r l' r' : Form) (j k : ℕ) → HasSides bytes number f l r j → HasSides bytes number f l' r' k → r' ≡ r
   right_both l r l' r' j k s t = (sides_unique bytes number f l' r' l r k j most t s).right_same
 
-  variable_not_bad : (g : Form) (name : List ℕ) (x : ProblemFault) → IsVariableNamed bytes signature g name → IsBadSide bytes signature i g x → ⊥
-  variable_not_bad g name x v b = side_not_bad bytes signature 0 i g _ x d (AVariable v.word v.named v.free) b
+  left_apart : (l r l' r' : Form) (j k : ℕ) (m : Side) (ns : List (List ℕ)) (x : ProblemFault) → HasSides bytes number f l r j → HasSides bytes number f l' r' k
+      → IsBadSide bytes signature i l x → IsSide bytes signature 0 l' m ns → ⊥
+  left_apart l r l' r' j k m ns x s t bad is = side_not_bad d (subst (λ g. IsSide bytes signature 0 g m ns) (left_both l r l' r' j k s t) is) bad
+
+  in_rule_unique : (x y : ProblemFault) → IsBadInRule bytes number signature count i f x → IsBadInRule bytes number signature count i f y → x ≡ y
+  in_rule_unique x y (NoRoom e) (NoRoom e') = refl
+  in_rule_unique x y (NoRoom e) (NoSides l n) = absurd (omega arith)
+  in_rule_unique x y (NoRoom e) (InLeftSide p q j l s b) = absurd (omega arith)
+  in_rule_unique x y (NoRoom e) (InRightSide p q j m ns l s k b) = absurd (omega arith)
+  in_rule_unique x y (NoRoom e) (InNames xs ys l r a) = absurd (omega arith)
+  in_rule_unique x y (NoSides l n) (NoRoom e) = absurd (omega arith)
+  in_rule_unique x y (NoSides l n) (NoSides l' n') = refl
+  in_rule_unique x y (NoSides l n) (InLeftSide p q j l' s b) = absurd (n p q j s)
+  in_rule_unique x y (NoSides l n) (InRightSide p q j m ns l' s k b) = absurd (n p q j s)
+  in_rule_unique x y (NoSides l n) (InNames xs ys l' r a) = absurd (n r.left r.right r.index r.sides)
+  in_rule_unique x y (InLeftSide p q j l s b) (NoRoom e) = absurd (omega arith)
+  in_rule_unique x y (InLeftSide p q j l s b) (NoSides l' n) = absurd (n p q j s)
+  in_rule_unique x y (InLeftSide p q j l s b) (InLeftSide p' q' j' l' s' b') =
+      side_fault_unique x y d b (subst (λ g. IsBadSide bytes signature i g y) (left_both p q p' q' j j' s s') b')
+  in_rule_unique x y (InLeftSide p q j l s b) (InRightSide p' q' j' m ns l' s' k b') = absurd (left_apart p q p' q' j j' m ns x s s' b k)
+  in_rule_unique x y (InLeftSide p q j l s b) (InNames xs ys l' r a) = absurd (left_right_not_bad bytes number signature f most d i j xs ys p q x r s b)
+  in_rule_unique x y (InRightSide p q j m ns l s k b) (NoRoom e) = absurd (omega arith)
+  in_rule_unique x y (InRightSide p q j m ns l s k b) (NoSides l' n) = absurd (n p q j s)
+  in_rule_unique x y (InRightSide p q j m ns l s k b) (InLeftSide p' q' j' l' s' b') = absurd (left_apart p' q' p q j' j m ns y s' s b' k)
+  in_rule_unique x y (InRightSide p q j m ns l s k b) (InRightSide p' q' j' m' ns' l' s' k' b') =
+      side_fault_unique x y d b (subst (λ g. IsBadSide bytes signature i g y) (right_both p q p' q' j j' s s') b')
+  in_rule_unique x y (InRightSide p q j m ns l s k b) (InNames xs ys l' r a) = absurd (right_right_not_bad bytes number signature f most d i j xs ys p q x r s b)
+  in_rule_unique x y (InNames xs ys l r a) (NoRoom e) = absurd (omega arith)
+  in_rule_unique x y (InNames xs ys l r a) (NoSides l' n) = absurd (n r.left r.right r.index r.sides)
+  in_rule_unique x y (InNames xs ys l r a) (InLeftSide p q j l' s b) = absurd (left_right_not_bad bytes number signature f most d i j xs ys p q y r s b)
+  in_rule_unique x y (InNames xs ys l r a) (InRightSide p q j m ns l' s k b) = absurd (right_right_not_bad bytes number signature f most d i j xs ys p q y r s b)
+  in_rule_unique x y (InNames xs ys l r a) (InNames xs' ys' l' r' a') =
+      names_fault_unique i xs ys x y a (bad_names_there bytes number signature f most d i xs ys xs' ys' y r r' a')
 
   rule_fault_unique : (x y : ProblemFault) → IsBadRule bytes number signature count i f x → IsBadRule bytes number signature count i f y → x ≡ y
-  rule_fault_unique x y (OneTooMany e) (OneTooMany e') = refl
-  rule_fault_unique x y (OneTooMany e) (NoRule l n) = absurd (omega arith)
-  rule_fault_unique x y (OneTooMany e) (BadLeft p q j z l s b) = absurd (omega arith)
-  rule_fault_unique x y (OneTooMany e) (BadRight p q j m z l s k b) = absurd (omega arith)
-  rule_fault_unique x y (OneTooMany e) (BothSides p q j n l s u v) = absurd (omega arith)
-  rule_fault_unique x y (NoRule l n) (OneTooMany e) = absurd (omega arith)
-  rule_fault_unique x y (NoRule l n) (NoRule l' n') = refl
-  rule_fault_unique x y (NoRule l n) (BadLeft p q j z l' s b) = absurd (n p q j s)
-  rule_fault_unique x y (NoRule l n) (BadRight p q j m z l' s k b) = absurd (n p q j s)
-  rule_fault_unique x y (NoRule l n) (BothSides p q j m l' s u v) = absurd (n p q j s)
-  rule_fault_unique x y (BadLeft p q j z l s b) (OneTooMany e) = absurd (omega arith)
-  rule_fault_unique x y (BadLeft p q j z l s b) (NoRule l' n) = absurd (n p q j s)
-  rule_fault_unique x y (BadLeft p q j z l s b) (BadLeft p' q' j' z' l' s' b') =
-      side_fault_unique bytes signature i p x y d b (subst (λ g. IsBadSide bytes signature i g y) (left_both p q p' q' j j' s s') b')
-  rule_fault_unique x y (BadLeft p q j z l s b) (BadRight p' q' j' m z' l' s' k b') =
-      absurd (side_not_bad bytes signature 0 i p m x d (subst (λ g. IsSide bytes signature 0 g m) (left_both p q p' q' j j' s s') k) b)
-  rule_fault_unique x y (BadLeft p q j z l s b) (BothSides p' q' j' n l' s' u v) =
-      absurd (variable_not_bad p n x (subst (λ g. IsVariableNamed bytes signature g n) (left_both p q p' q' j j' s s') u) b)
-  rule_fault_unique x y (BadRight p q j m z l s k b) (OneTooMany e) = absurd (omega arith)
-  rule_fault_unique x y (BadRight p q j m z l s k b) (NoRule l' n) = absurd (n p q j s)
-  rule_fault_unique x y (BadRight p q j m z l s k b) (BadLeft p' q' j' z' l' s' b') =
-      absurd (side_not_bad bytes signature 0 i p m y d k (subst (λ g. IsBadSide bytes signature i g y) (left_both p q p' q' j j' s s') b'))
-  rule_fault_unique x y (BadRight p q j m z l s k b) (BadRight p' q' j' m' z' l' s' k' b') =
-      side_fault_unique bytes signature i q x y d b (subst (λ g. IsBadSide bytes signature i g y) (right_both p q p' q' j j' s s') b')
-  rule_fault_unique x y (BadRight p q j m z l s k b) (BothSides p' q' j' n l' s' u v) =
-      absurd (variable_not_bad q n x (subst (λ g. IsVariableNamed bytes signature g n) (right_both p q p' q' j j' s s') v) b)
-  rule_fault_unique x y (BothSides p q j n l s u v) (OneTooMany e) = absurd (omega arith)
-  rule_fault_unique x y (BothSides p q j n l s u v) (NoRule l' z) = absurd (z p q j s)
-  rule_fault_unique x y (BothSides p q j n l s u v) (BadLeft p' q' j' z' l' s' b') =
-      absurd (variable_not_bad p n y u (subst (λ g. IsBadSide bytes signature i g y) (left_both p q p' q' j j' s s') b'))
-  rule_fault_unique x y (BothSides p q j n l s u v) (BadRight p' q' j' m' z' l' s' k' b') =
-      absurd (variable_not_bad q n y v (subst (λ g. IsBadSide bytes signature i g y) (right_both p q p' q' j j' s s') b'))
-  rule_fault_unique x y (BothSides p q j n l s u v) (BothSides p' q' j' n' l' s' u' v') =
-      let word = u.word in
-      let word' = u'.word in
-      let one = left_both p q p' q' j j' s s' in
-      let there : word_of bytes p ≡ Some n' = ap (word_of bytes) (sym one) ∙ word' in
-      let same : n ≡ n' = cc in ap (Shares i) same
+  rule_fault_unique x y a b = in_rule_unique x y (staged_rule a) (staged_rule b)
 
 -- a declaration before others that is at fault, and the same forms with one more
 module _ (bytes : List ℕ) (before before' after after' : List Form) (f g : Form) (ss ts : Signature) (x y : ProblemFault)
@@ -168,8 +160,10 @@ module _ (bytes : List ℕ) (number : ℕ) (signature : Signature) (n : ℕ) (be
   few_before count i h z (OneTooMany e) = omega arith
   few_before count i h z (NoRule l _) = omega arith
   few_before count i h z (BadLeft _ _ _ _ l _ _) = omega arith
-  few_before count i h z (BadRight _ _ _ _ _ l _ _ _) = omega arith
-  few_before count i h z (BothSides _ _ _ _ l _ _ _) = omega arith
+  few_before count i h z (BadRight _ _ _ _ _ _ l _ _ _) = omega arith
+  few_before count i h z (LeftTwice _ _ _ l _ _) = omega arith
+  few_before count i h z (RightTwice _ _ _ l _ _ _) = omega arith
+  few_before count i h z (InBoth _ _ _ l _ _ _ _) = omega arith
 
   two_rule_faults : Places before before' f g → x ≡ y
   two_rule_faults (Here e h) =

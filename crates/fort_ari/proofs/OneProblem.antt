@@ -1,16 +1,15 @@
 -- Forms are one problem at most.
-use Rattle.std.proofs.Common.{◌≡◌, ℕ, ◌+◌, ◌≤◌, List, [], ◌∷◌, length, Some, Contains, refl, ap, sym, subst, ◌∙◌}
+use Rattle.std.proofs.Common.{◌≡◌, ℕ, ◌+◌, ◌≤◌, List, [], ◌∷◌, length, refl, ap, sym, subst, ◌∙◌}
 use Rattle.std.specs.Prelude.{bytes_eq}
 use Rattle.std.specs.List.{IsDistinct}
-use Rattle.fort_theory.specs.Signatures.{most_indices, Signature, name_of, names_of}
-use Rattle.fort_theory.specs.Sides.{Side, App, NoSide, Rule, System}
-use Rattle.fort_theory.proofs.SignaturesLaws.{Contains-from_name_of}
+use Rattle.fort_theory.specs.Signatures.{most_indices, Signature, names_of}
+use Rattle.fort_theory.specs.Sides.{Side, Rule, System}
 use Rattle.fort_grammar.specs.Forms.{Form}
 use Rattle.fort_grammar.specs.Declarations.{IsFormat, DeclareEach}
-use Rattle.fort_grammar.specs.RuleForms.{IsSide, AConstant, AVariable, IndexedRule, IsRule, AreRules, rules_of}
+use Rattle.fort_grammar.specs.RuleForms.{IsSide, IndexedRule, IsRule, AreRules, rules_of}
 use Rattle.fort_grammar.specs.ProblemForms.{IsProblem}
 use Rattle.fort_ari.proofs.Formats.{format_high}
-use Rattle.fort_grammar.proofs.GroundTexts.{name_of-injective}
+use Rattle.fort_ari.proofs.OneSide.{IsSide-unique}
 use Rattle.fort_ari.proofs.OneAnswerRules.{sides_unique}
 use Rattle.fort_ari.proofs.OneAnswer.{falls_unique, format_unique, DeclareEach-unique}
 use Rattle.fort_ari.proofs.Sorted.{same_lists}
@@ -34,24 +33,15 @@ same_system s s' signature rules =
     ap P signature ∙ ap Q rules
 
 module _ (bytes : List ℕ) (signature : Signature) (distinct : IsDistinct bytes_eq (names_of signature)) where
-  -- a name is not both declared and a variable
-  pub IsSide-unique : (n : ℕ) (f : Form) (s s' : Side) → IsSide bytes signature n f s → IsSide bytes signature n f s' → s ≡ s'
-  IsSide-unique n f s s' (AConstant {name = x} {g = g} word named is none) (AConstant {name = y} {g = h} word' named' is' none') =
-      let there : name_of signature h ≡ Some x = (let same : y ≡ x = cc in is' ∙ ap Some same) in
-      ap (λ k. App k NoSide) (name_of-injective signature g h x distinct is there)
-  IsSide-unique n f s s' (AConstant {name = x} {g = g} word named is none) (AVariable {name = y} word' named' free) =
-      let same : x ≡ y = cc in absurd (free (subst (Contains (names_of signature)) same (Contains-from_name_of signature x g is)))
-  IsSide-unique n f s s' (AVariable {name = x} word named free) (AConstant {name = y} {g = g} word' named' is none) =
-      let same : y ≡ x = cc in absurd (free (subst (Contains (names_of signature)) same (Contains-from_name_of signature y g is)))
-  IsSide-unique n f s s' (AVariable word named free) (AVariable word' named' free') = refl
-
   pub IsRule-unique : (number : ℕ) (f : Form) (r r' : IndexedRule) → number ≤ most_indices → IsRule bytes number signature f r
       → IsRule bytes number signature f r' → r ≡ r'
   IsRule-unique number f r r' most is is' =
       let same = sides_unique bytes number f _ _ _ _ _ _ most is.sides is'.sides in
-      same_indexed r r' same.index_same (same_rule r.rule r'.rule
-      (IsSide-unique 0 is'.left r.rule.left r'.rule.left (subst (λ g. IsSide bytes signature 0 g r.rule.left) same.left_same is.left_is) is'.left_is)
-      (IsSide-unique 1 is'.right r.rule.right r'.rule.right (subst (λ g. IsSide bytes signature 1 g r.rule.right) same.right_same is.right_is) is'.right_is))
+      let lefts = IsSide-unique distinct (subst (λ g. IsSide bytes signature 0 g r.rule.left is.left_names) same.left_same is.left_is) is'.left_is in
+      let there : IsSide bytes signature (length is'.left_names) is'.right r.rule.right is.right_names =
+      subst (λ (zs : List (List ℕ)). IsSide bytes signature (length zs) is'.right r.rule.right is.right_names) lefts.1
+      (subst (λ g. IsSide bytes signature (length is.left_names) g r.rule.right is.right_names) same.right_same is.right_is) in
+      same_indexed r r' same.index_same (same_rule r.rule r'.rule lefts.0 (IsSide-unique distinct there is'.right_is).0)
 
   pub AreRules-unique : (number : ℕ) (fs : List Form) (rs rs' : List IndexedRule) → number ≤ most_indices → AreRules bytes number signature fs rs
       → AreRules bytes number signature fs rs' → rs ≡ rs'

@@ -1,11 +1,12 @@
 -- The sides and the index of a rule by the elements of its list.
-use Rattle.std.proofs.Common.{◌≡◌, ℕ, ◌≤◌, List, [], ◌∷◌, length, slice_get, Some, ◌⊎◌, inl, inr, refl, ap, ◌∙◌, subst, arith}
+use Rattle.std.proofs.Common.{◌≡◌, ℕ, ◌+◌, ◌<◌, ◌≤◌, List, [], ◌∷◌, length, slice_get, Some, ◌⊎◌, inl, inr, refl, ap, ◌∙◌, subst, arith}
 use Rattle.std.specs.Prelude.{codes, decimal}
 use Rattle.std.proofs.lemmas.Fmt.{decimal_injective}
 use Rattle.fort_theory.specs.Signatures.{most_indices}
-use Rattle.fort_grammar.specs.Forms.{Form}
-use Rattle.fort_grammar.specs.Declarations.{elements_of, word_of, IsHeaded}
+use Rattle.fort_grammar.specs.Forms.{Form, Forms, Word, ListForm, NoForm, MoreForms}
+use Rattle.fort_grammar.specs.Declarations.{as_list, elements_of, word_of, IsHeaded}
 use Rattle.fort_grammar.specs.RuleForms.{HasSides, OfFirst, OfIndex}
+use Rattle.fort_sexpr.specs.FormCode.{node_count, node_counts}
 use Rattle.fort_ari.specs.Numbers.{IsNumberNamed}
 use Rattle.fort_ari.proofs.Heads.{head_from_IsHeaded}
 
@@ -71,6 +72,28 @@ HasSides-low bytes number f left right index (OfIndex head key value is headed n
 pub HasSides-high : (bytes : List ℕ) (number : ℕ) (f left right : Form) (index : ℕ) → 1 ≤ number → HasSides bytes number f left right index → index ≤ number
 HasSides-high bytes number f left right index some (OfFirst head is headed) = some
 HasSides-high bytes number f left right index some (OfIndex head key value is headed named text low high) = high
+
+two_counts : (fs : Forms) (head left right : Form) (rest : List Form) → as_list fs ≡ head ∷ left ∷ right ∷ rest → node_count left + node_count right ≤ node_counts fs
+two_counts NoForm head left right rest e = absurd cc
+two_counts (MoreForms a NoForm) head left right rest e = absurd cc
+two_counts (MoreForms a (MoreForms b NoForm)) head left right rest e = absurd cc
+two_counts (MoreForms a (MoreForms b (MoreForms c fs))) head left right rest e =
+    let second : b ≡ left = cc in
+    let third : c ≡ right = cc in
+    omega (arith, ap node_count second, ap node_count third)
+
+two_elements : (f head left right : Form) (rest : List Form) → elements_of f ≡ Some (head ∷ left ∷ right ∷ rest)
+    → node_count left + node_count right < node_count f
+two_elements (Word from to) head left right rest e = absurd cc
+two_elements (ListForm from to fs) head left right rest e =
+    let same : as_list fs ≡ head ∷ left ∷ right ∷ rest = cc in omega (arith, two_counts fs head left right rest same)
+
+-- both sides have fewer words and lists in them than the rule
+pub HasSides-node_count : (bytes : List ℕ) (number : ℕ) (f left right : Form) (index : ℕ) → HasSides bytes number f left right index
+    → node_count left + node_count right < node_count f
+HasSides-node_count bytes number f left right index (OfFirst head is headed) = two_elements f head left right [] is
+HasSides-node_count bytes number f left right index (OfIndex head key value is headed named text low high) =
+    two_elements f head left right (key ∷ value ∷ []) is
 
 pub number_unique : (bytes : List ℕ) (key value : Form) (name : List ℕ) (m n : ℕ) → IsNumberNamed bytes key value name m → IsNumberNamed bytes key value name n
     → m ≡ n

@@ -2,12 +2,12 @@
 use Rattle.std.specs.Prelude.{◌≡◌, ℕ, ◌+◌, ◌<◌, ◌≤◌, List, [], ◌∷◌, ◌++◌, length, map, drop, codes, Contains}
 use Rattle.std.specs.List.{AllByRecursion}
 use Rattle.fort_theory.specs.Signatures.{most_functions, Symbol, Signature, HasConstant, names_of}
-use Rattle.fort_theory.specs.Sides.{at_index, pushed_at, count_all, Side, Rule}
+use Rattle.fort_theory.specs.Sides.{at_index, pushed_at, count_all, Rule}
 use Rattle.fort_theory.specs.Patterns.{PatternSystem, pattern_pair}
 use Rattle.fort_grammar.specs.Forms.{Form}
 use Rattle.fort_grammar.specs.Declarations.{Declares, AreDeclarations, IsHeaded}
 use Rattle.fort_grammar.specs.ProblemForms.{BeginsOtherwise}
-use Rattle.fort_grammar.specs.RuleForms.{HasSides, IsSide, IndexedRule, IsRule, AreRules, rules_of, most_rules}
+use Rattle.fort_grammar.specs.RuleForms.{IndexedRule, IsRule, AreRules, rules_of, HasRightSides, most_rules}
 use Rattle.fort_ari.specs.Parts.{BeginsWithFormat, HasFormat}
 
 -- the form declares one more symbol, whose name is new
@@ -38,17 +38,13 @@ pub record PushesRule (bytes : List ℕ) (f : Form) (old new : PatternSystem) : 
   pub same : new.signature ≡ old.signature
   pub rules : new.rules ≡ pushed_at given.index (pattern_pair given.rule) old.rules
 
--- there is room for one more rule, and the form has two sides; so nothing can be wrong with it but a variable that they share
+-- there is room for one more rule, and the form has two sides that are right each by itself; so nothing can be wrong with it but a variable
+-- that stands twice
 pub record HasBothSides (bytes : List ℕ) (number : ℕ) (signature : Signature) (count : ℕ) (f : Form) : Type 0 where
   pub few : count < most_rules
-  pub left : Form
-  pub right : Form
-  pub index : ℕ
-  pub sides : HasSides bytes number f left right index
-  pub left_side : Side
-  pub right_side : Side
-  pub left_is : IsSide bytes signature 0 left left_side
-  pub right_is : IsSide bytes signature 1 right right_side
+  pub left_names : List (List ℕ)
+  pub right_names : List (List ℕ)
+  pub sides : HasRightSides bytes number signature f left_names right_names
 
 -- the forms from one number up to another are these rules of so many systems over the signature
 pub record AreRulesUpTo (bytes : List ℕ) (forms : List Form) (number : ℕ) (signature : Signature) (from next : ℕ) (given : List IndexedRule) : Type 0 where

@@ -10,7 +10,7 @@ use fort_terms::{Signature, Sym, Term};
 use std::alloc::{AllocError, Global};
 
 /// The symbol of so many arguments whose name a form is.
-fn symbol_of(signature: &Signature, form: &Form, arity: usize) -> Option<Sym>
+pub(crate) fn symbol_of(signature: &Signature, form: &Form, arity: usize) -> Option<Sym>
     ensures some { IfSome result (λ g.
         IsSymbolOf form.now.bytes signature.now form.now.form arity g.0) }
     ensures none { IfNone result ((g : ℕ) →

@@ -5,8 +5,10 @@ mod declaration;
 mod fault;
 mod form;
 mod ground;
+mod names;
 mod problem;
 mod rule;
+mod side;
 mod word;
 
 pub use fault::ProblemFault;

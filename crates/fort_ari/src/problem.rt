@@ -61,6 +61,8 @@ fn read_rules(
 {
     let from = declarations.next;
     let mut system = System::new(alloc, declarations.signature, number)?;
+    // a text of fewer than 2 ^ 32 bytes has fewer variables
+    let _count = forms.len();
     let mut next = from;
     'rules: while begins(forms, next, b"rule") {
         push_rule(

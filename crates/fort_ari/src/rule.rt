@@ -1,75 +1,27 @@
 //! Reads a rule.
-ghost use Rattle.std.specs.Prelude.{◌≡◌, ◌≤◌, ◌<◌, ℕ, List, length, IfOk, IfErr, IfSome, IfNone, IsErrOf, codes};
+ghost use Rattle.std.specs.Prelude.{◌≡◌, ◌+◌, ◌^◌, ◌≤◌, ◌<◌, ℕ, List, length, IfOk, IfErr, IfSome, IfNone, OnOk, IsErrOf, codes};
 ghost use Rattle.fort_theory.specs.Signatures.{most_indices};
-ghost use Rattle.fort_theory.specs.Sides.{count_all};
+ghost use Rattle.fort_theory.specs.Sides.{count_all, IsIndexOf};
 ghost use Rattle.fort_grammar.specs.Declarations.{IsHeaded};
 ghost use Rattle.fort_grammar.specs.Forms as grammar;
-ghost use Rattle.fort_grammar.specs.RuleForms.{HasSides, IsSide, IsBadSide, IsBadRule, IsVariableNamed, most_rules};
-ghost use Rattle.fort_terms.specs.SideView.{as_side};
+ghost use Rattle.fort_grammar.specs.RuleForms.{HasSides, IsBadRule, most_rules};
+ghost use Rattle.fort_terms.specs.Limits.{most_system_rules};
+ghost use Rattle.fort_sexpr.specs.FormCode.{node_count};
 ghost use Rattle.fort_ari.specs.declared.fault.ProblemFault.TheVariants.{Memory};
 ghost use Rattle.fort_ari.specs.Faults.{as_fault};
 ghost use Rattle.fort_ari.specs.Reading.{HasBothSides, PushesRule};
+ghost use Rattle.fort_ari.specs.SideForms.{IsRightSide, PushesSides, HaveBadNames};
 
 use crate::fault::ProblemFault;
 use crate::form::number_named;
-use crate::word::is_name;
+use crate::names::check_names;
+use crate::side::{check_side, side_of};
 use fort_sexpr::Form;
-use fort_terms::{RuleFault, Side, Sides, Signature, System};
+use fort_terms::{RuleFault, System};
 use std::alloc::Global;
 
 /// The most rules of a problem.
 const MOST_RULES: usize = 4096;
-
-/// The side that a form is, in the rule of this number; a variable gets the number `variable`.
-fn side(
-    alloc: Global,
-    signature: &Signature,
-    form: &Form,
-    variable: u32,
-    number: u32,
-) -> Result<Side, ProblemFault>
-    ensures ok { IfOk result (λ s.
-        IsSide form.now.bytes signature.now variable form.now.form (as_side s)) }
-    ensures fault { IfErr result (λ fault. IfSome (as_fault fault)
-        (IsBadSide form.now.bytes signature.now number form.now.form)) }
-    ensures memory { IsErrOf result Memory → ⊥ }
-{
-    let Some(name) = form.word() else {
-        return Err(ProblemFault::BadForm(number));
-    };
-    let Some(sym) = signature.find(name) else {
-        if !is_name(name) {
-            return Err(ProblemFault::BadName(number));
-        }
-        return Ok(Side::Var(variable));
-    };
-    // what a signature has is a name
-    let _count = signature.len();
-    if signature.arity(sym) != 0 {
-        return Err(ProblemFault::WrongCount(number));
-    }
-    Ok(Side::App(sym, Sides::new(Vec::new(alloc))))
-}
-
-/// The name of a variable that is both sides of a rule.
-fn shared_name<'a>(signature: &Signature, left: &Form<'a>, right: &Form) -> Option<&'a [u8]>
-    ensures left { IfSome result (λ name.
-        IsVariableNamed left.now.bytes signature.now left.now.form name.now) }
-    ensures right { IfSome result (λ name.
-        IsVariableNamed right.now.bytes signature.now right.now.form name.now) }
-    ensures none { IfNone result ((name : List ℕ) →
-        IsVariableNamed left.now.bytes signature.now left.now.form name →
-        IsVariableNamed right.now.bytes signature.now right.now.form name → ⊥) }
-{
-    let name = left.word()?;
-    if !right.is_word(name) || !is_name(name) {
-        return None;
-    }
-    match signature.find(name) {
-        Some(_) => None,
-        None => Some(name),
-    }
-}
 
 /// The two sides of a rule, and its index.
 #[derive(Drop)]
@@ -107,6 +59,41 @@ fn sides_of<'a>(form: &Form<'a>, systems: u32) -> Option<RuleForms<'a>>
     })
 }
 
+/// Adds a rule whose sides are right each by itself.
+fn push_sides(
+    alloc: Global,
+    system: &mut System,
+    rule: &RuleForms,
+    number: u32,
+) -> Result<(), ProblemFault>
+    requires few { count_all system.old.rules < most_system_rules }
+    requires small { node_count rule.now.left.form + node_count rule.now.right.form < 2 ^ 32 }
+    requires index { IsIndexOf system.old.rules rule.now.index }
+    requires same_bytes { rule.now.right.bytes ≡ rule.now.left.bytes }
+    requires left { IsRightSide rule.now.left.bytes system.old.signature rule.now.left.form }
+    requires right { IsRightSide rule.now.left.bytes system.old.signature rule.now.right.form }
+    ensures ok { OnOk result (PushesSides rule.now.left.bytes rule.now.left.form
+        rule.now.right.form rule.now.index system.old system.new) }
+    ensures fault { IfErr result (λ fault. IfSome (as_fault fault)
+        (HaveBadNames rule.now.left.bytes system.old.signature rule.now.left.form
+        rule.now.right.form number)) }
+{
+    let signature = system.signature();
+    let mut names = Vec::new(alloc);
+    let left = side_of(alloc, signature, &rule.left, &mut names)?;
+    let count = names.len();
+    let right = side_of(alloc, signature, &rule.right, &mut names)?;
+    check_names(alloc, &names[..count], &names[count..], number)?;
+    match system.push(rule.index, &left, &right) {
+        Ok(()) => Ok(()),
+        Err(RuleFault::Memory) => Err(ProblemFault::Memory),
+        // each variable has a number of its own
+        Err(RuleFault::LeftRepeats(_v)) => unreachable!(),
+        Err(RuleFault::RightRepeats(_v)) => unreachable!(),
+        Err(RuleFault::Shares(_v)) => unreachable!(),
+    }
+}
+
 /// Adds the rule of the form of this number, behind so many rules.
 pub(crate) fn push_rule(
     alloc: Global,
@@ -118,6 +105,7 @@ pub(crate) fn push_rule(
     requires headed { IsHeaded form.now.bytes (codes "rule") form.now.form }
     requires counted { count ≡ count_all system.old.rules }
     requires few { count ≤ most_rules }
+    requires small { node_count form.now.form < 2 ^ 32 }
     ensures ok { IfOk result (λ _.
         PushesRule form.now.bytes form.now.form system.old system.new) }
     ensures few { IfOk result (λ _. count < most_rules) }
@@ -133,18 +121,7 @@ pub(crate) fn push_rule(
     let Some(sides) = sides_of(form, system.number()) else {
         return Err(ProblemFault::BadForm(number));
     };
-    let signature = system.signature();
-    let left = side(alloc, signature, &sides.left, 0, number)?;
-    let right = side(alloc, signature, &sides.right, 1, number)?;
-    if let Some(name) = shared_name(signature, &sides.left, &sides.right) {
-        return Err(ProblemFault::Shares(number, Vec::from_slice(alloc, name)?));
-    }
-    match system.push(sides.index, &left, &right) {
-        Ok(()) => Ok(()),
-        Err(RuleFault::Memory) => Err(ProblemFault::Memory),
-        // sides that are bare names and share no variable are linear and separated
-        Err(RuleFault::LeftRepeats(_v)) => unreachable!(),
-        Err(RuleFault::RightRepeats(_v)) => unreachable!(),
-        Err(RuleFault::Shares(_v)) => unreachable!(),
-    }
+    check_side(system.signature(), &sides.left, number)?;
+    check_side(system.signature(), &sides.right, number)?;
+    push_sides(alloc, system, &sides, number)
 }

@@ -20,18 +20,29 @@ fn answer_to(
     Ok(read_problem(alloc, &text))
 }
 
-/// `*` for a variable, the number of a constant, or `?`.
+/// The first nodes of a pattern from left to right: `*` for a variable, and the numbers of functions.
 fn spelled(alloc: Global, pattern: &Pattern) -> Result<String, AllocError> {
-    match pattern {
-        Pattern::Any => format!(in alloc; "*"),
-        Pattern::App(sym, args) => {
-            if args.as_slice().is_empty() {
-                format!(in alloc; "{}", sym.0)
-            } else {
-                format!(in alloc; "?")
+    let mut text = String::new(alloc);
+    let mut waiting = vec![in alloc; pattern]?;
+    for count in 0..32 {
+        let Some(next) = waiting.pop() else {
+            break;
+        };
+        if count > 0 {
+            text.push_str(".")?;
+        }
+        match next {
+            Pattern::Any => text.push_str("*")?,
+            Pattern::App(sym, args) => {
+                let head = format!(in alloc; "{}", sym.0)?;
+                text.push_str(head.as_str())?;
+                for arg in args.as_slice().iter().rev() {
+                    waiting.push(arg)?;
+                }
             }
         }
     }
+    Ok(text)
 }
 
 /// The names of functions with their arities.
@@ -58,16 +69,24 @@ fn spelled_rules(alloc: Global, rules: &[(Pattern, Pattern)]) -> Result<String, 
     Ok(text)
 }
 
+/// A fault, with the name of its variable.
+fn described_fault(alloc: Global, fault: &ProblemFault) -> Result<String, Fail> {
+    let (kind, form, name) = match fault {
+        ProblemFault::LeftRepeats(form, name) => ("LeftRepeats", *form, name.as_slice()),
+        ProblemFault::RightRepeats(form, name) => ("RightRepeats", *form, name.as_slice()),
+        ProblemFault::Shares(form, name) => ("Shares", *form, name.as_slice()),
+        _ => return Ok(format!(in alloc; "{fault:?}")?),
+    };
+    let name = std::str::from_utf8(name)?;
+    Ok(format!(in alloc; "{kind}({form}, {name})")?)
+}
+
 /// Functions, the rules of index 1, those of each other index behind it, and the number of the
 /// next form, or the fault.
 fn described(alloc: Global, answer: Result<Problem, ProblemFault>) -> Result<String, Fail> {
     let problem = match answer {
         Ok(problem) => problem,
-        Err(ProblemFault::Shares(form, name)) => {
-            let name = std::str::from_utf8(name.as_slice())?;
-            return Ok(format!(in alloc; "Shares({form}, {name})")?);
-        }
-        Err(fault) => return Ok(format!(in alloc; "{fault:?}")?),
+        Err(fault) => return described_fault(alloc, &fault),
     };
     let mut text = functions(alloc, problem.system.signature())?;
     for index in 1..problem.system.number() + 1 {
@@ -85,7 +104,7 @@ fn described(alloc: Global, answer: Result<Problem, ProblemFault>) -> Result<Str
 
 #[test]
 fn reads_problems(rt: HostRuntime) -> Result<(), Fail> {
-    let table: [(&str, &str); 57] = [
+    let table: [(&str, &str); 70] = [
         // no format
         ("", "NoFormat"),
         ("; (format TRS)", "NoFormat"),
@@ -128,7 +147,11 @@ fn reads_problems(rt: HostRuntime) -> Result<(), Fail> {
         ("(format TRS)(fun a 0)(rule)", "BadForm(2)"),
         ("(format TRS)(fun a 0)(rule a)", "BadForm(2)"),
         ("(format TRS)(fun a 0)(rule a a)(rule a a a)", "BadForm(3)"),
-        ("(format TRS)(fun a 0)(fun f 1)(rule a (f a))", "BadForm(3)"),
+        ("(format TRS)(fun a 0)(rule a (a))", "BadForm(2)"),
+        (
+            "(format TRS)(fun a 0)(fun f 1)(rule a ((f) a))",
+            "BadForm(3)",
+        ),
         ("(format TRS)(fun a 0)(rule () :a)", "BadForm(2)"),
         ("(format TRS)(fun a 0)(rule :a ())", "BadName(2)"),
         ("(format TRS)(fun a 0)(rule a :a)", "BadName(2)"),
@@ -144,7 +167,51 @@ fn reads_problems(rt: HostRuntime) -> Result<(), Fail> {
             "Shares(3, aa)",
         ),
         ("(format TRS)(fun a 0)(fun f 1)(rule f f)", "WrongCount(3)"),
+        (
+            "(format TRS)(fun a 0)(fun f 2)(rule (f x) (:a))",
+            "WrongCount(3)",
+        ),
+        (
+            "(format TRS)(fun a 0)(fun f 2)(rule a (f a a :a))",
+            "WrongCount(3)",
+        ),
+        // a head that is no function, and the first of several faults
+        ("(format TRS)(fun a 0)(rule (:f a) a)", "BadName(2)"),
+        ("(format TRS)(fun a 0)(rule a (x :a))", "VariableApplied(2)"),
+        (
+            "(format TRS)(fun a 0)(fun f 2)(rule (f (a) :a) (a a))",
+            "BadForm(3)",
+        ),
+        (
+            "(format TRS)(fun a 0)(fun f 2)(rule (f (f x :a) (y a)) a)",
+            "BadName(3)",
+        ),
+        (
+            "(format TRS)(fun a 0)(fun f 2)(rule (f x x) (y a))",
+            "VariableApplied(3)",
+        ),
+        // a variable twice in one side
+        (
+            "(format TRS)(fun a 0)(fun f 2)(rule (f x x) (f y y))",
+            "LeftRepeats(3, x)",
+        ),
+        (
+            "(format TRS)(fun a 0)(fun f 2)(rule (f (f x yy) (f yy x)) x)",
+            "LeftRepeats(3, yy)",
+        ),
+        (
+            "(format TRS)(fun a 0)(fun f 2)(rule (f y x) (f x (f z z)))",
+            "RightRepeats(3, z)",
+        ),
+        (
+            "(format TRS)(fun a 0)(fun f 2)(rule (f z (f y x)) (f x y))",
+            "Shares(3, y)",
+        ),
         // problems
+        (
+            "(format TRS)(fun a 0)(fun f 2)(fun g 1)(rule (f (g x) (f a y)) (f z (g (g w))))",
+            "a/0 f/2 g/1 1.2.*.1.0.*>1.*.2.2.* next 5",
+        ),
         ("(format TRS)(fun a 0)", "a/0 next 2"),
         ("(format TRS)(fun f 8)(fun a 0)", "f/8 a/0 next 3"),
         (

@@ -1,6 +1,6 @@
 -- Lists of forms: their length, their elements, and one list after another.
-use Rattle.std.proofs.Common.{◌≡◌, ℕ, zero, suc, ◌<◌, ◌≤◌, ◌↔◌, List, [], ◌∷◌, ◌++◌, length, get_or, slice_get, Some, refl, sym, ap, ◌∙◌, arith}
-use Rattle.fort_grammar.specs.Forms.{Form, Forms, Word, ListForm, NoForm, MoreForms, AreForms, End, Skip, AWord, AList}
+use Rattle.std.proofs.Common.{◌≡◌, ℕ, zero, suc, ◌+◌, ◌<◌, ◌≤◌, ◌↔◌, List, [], ◌∷◌, ◌++◌, length, get_or, slice_get, Some, refl, sym, ap, ◌∙◌, arith}
+use Rattle.fort_grammar.specs.Forms.{Form, Forms, Word, ListForm, NoForm, MoreForms, AreForms, End, Skip, AWord, AList, AreFormsOf}
 use Rattle.fort_grammar.specs.Declarations.{as_list, elements_of, word_of, IsHeaded}
 use Rattle.fort_sexpr.specs.FormCode.{node_count, node_counts}
 use Rattle.fort_sexpr.specs.FormView.{form_count, form_at}
@@ -25,11 +25,27 @@ node_count-form NoForm i f e = absurd cc
 node_count-form (MoreForms g gs) zero f e = let same : g ≡ f = cc in let n = ap node_count same in omega arith
 node_count-form (MoreForms g gs) (suc i) f e = omega (arith, node_count-form gs i f e)
 
+node_count-at : (fs : Forms) (i : ℕ) (f : Form) → form_at fs i ≡ Some f → node_count f ≤ node_counts fs
+node_count-at NoForm i f e = absurd cc
+node_count-at (MoreForms g gs) zero f e = let same : g ≡ f = cc in let n = ap node_count same in omega arith
+node_count-at (MoreForms g gs) (suc i) f e = omega (arith, node_count-at gs i f e)
+
 pub node_count-element : (f g : Form) (fs : List Form) (i : ℕ) → elements_of f ≡ Some fs → slice_get fs i ≡ Some g → node_count g < node_count f
 node_count-element (Word from to) g fs i e h = absurd cc
 node_count-element (ListForm from to gs) g fs i e h =
     let same : as_list gs ≡ fs = cc in
     omega (arith, node_count-form gs i g (ap (λ xs. slice_get xs i) same ∙ h))
+
+-- forms have no more words and lists in them than there are bytes between their offsets
+pub node_counts-AreForms : {bytes : List ℕ} {i j : ℕ} {fs : Forms} → AreForms bytes i j fs → i + node_counts fs ≤ j
+node_counts-AreForms End = omega arith
+node_counts-AreForms (Skip s d) = omega (arith, node_counts-AreForms d)
+node_counts-AreForms (AWord w d) = omega (arith, w.some, node_counts-AreForms d)
+node_counts-AreForms (AList l o d m c e) = omega (arith, node_counts-AreForms d, node_counts-AreForms e)
+
+-- nor has any form of a text more of them than the text has bytes
+pub node_count-AreFormsOf : (bytes : List ℕ) (fs : Forms) (i : ℕ) (f : Form) → AreFormsOf bytes fs → form_at fs i ≡ Some f → node_count f ≤ length bytes
+node_count-AreFormsOf bytes fs i f h e = omega (arith, node_counts-AreForms h.stand, node_count-at fs i f e)
 
 -- one list after another
 abbrev pub joined : Forms → Forms → Forms

@@ -1,5 +1,5 @@
 -- A reader's lists and nodes, from one offset to the next.
-use Rattle.std.proofs.Common.{◌≡◌, ℕ, suc, ◌+◌, ◌-◌, ◌<◌, ◌≤◌, true, List, [], ◌∷◌, ◌++◌, length, map, reverse, take, drop, get_or, refl, sym, ap, ◌∙◌, subst, arith}
+use Rattle.std.proofs.Common.{◌≡◌, ℕ, suc, ◌+◌, ◌-◌, ◌^◌, ◌<◌, ◌≤◌, true, List, [], ◌∷◌, ◌++◌, length, map, reverse, take, drop, get_or, refl, sym, ap, ◌∙◌, subst, arith}
 use Rattle.std.proofs.lemmas.Bool.{eq-eqb, ne_eqb}
 use Rattle.std.proofs.lemmas.List.{length-append, length-drop, length-map, length_push, drop-append-le, take-append-le, take_all, drop_all, drop_at, map_push, take-map, drop-map, length-take-le}
 use Rattle.fort_theory.specs.Signatures.{is_word_byte}
@@ -162,8 +162,8 @@ module _ (bytes : List ℕ) where
         }
 
   -- the text is read to its end
-  pub reading_ended : (ps ns : List Node) → IsReading bytes [] ps ns (length bytes) → AreTextForms bytes ns ps
-  reading_ended ps ns r = record { within = r.within; forms = AreFormsOf-read bytes (as_forms (forms_in bytes ns ps)) r.read }
+  pub reading_ended : (ps ns : List Node) → length bytes < 2 ^ 32 → IsReading bytes [] ps ns (length bytes) → AreTextForms bytes ns ps
+  reading_ended ps ns few r = record { within = r.within; forms = AreFormsOf-read bytes (as_forms (forms_in bytes ns ps)) r.read; few = few }
 
   -- where one of these begins nothing is at fault
   pub faultless_token : (os : List OpenList) (ps ns : List Node) (i : ℕ) → IsReading bytes os ps ns i → i < length bytes → (token : Token)

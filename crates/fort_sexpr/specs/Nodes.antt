@@ -1,5 +1,5 @@
 -- Inside: which forms the nodes of an arena are: each list is one of nodes before it.
-use Rattle.std.specs.Prelude.{ℕ, ◌+◌, ◌<◌, ◌≤◌, Bool, true, false, ◌==◌, List, [], ◌∷◌, ◌++◌, length, map, take, drop, get_or, slice_index}
+use Rattle.std.specs.Prelude.{ℕ, ◌+◌, ◌^◌, ◌<◌, ◌≤◌, Bool, true, false, ◌==◌, List, [], ◌∷◌, ◌++◌, length, map, take, drop, get_or, slice_index}
 use Rattle.fort_grammar.specs.Forms.{Form, Forms, Word, ListForm, NoForm, MoreForms, AreFormsOf}
 use Rattle.fort_sexpr.specs.declared.arena.Node.{Node}
 
@@ -44,7 +44,8 @@ LieWithin size limit ns = (k : ℕ) (d : Node) → k < length ns → Lies size l
 abbrev pub AreGrown : ℕ → List Node → Type 0
 AreGrown size ns = (k : ℕ) (d : Node) → k < length ns → Lies size k (get_or ns k d)
 
--- over the nodes of an arena these are the forms of its text
+-- over the nodes of an arena these are the forms of its text, whose offsets are numbers of 32 bits
 pub record AreTextForms (bytes : List ℕ) (nodes top : List Node) : Type 0 where
   pub within : LieWithin (length bytes) (length nodes) top
   pub forms : AreFormsOf bytes (text_forms bytes nodes top)
+  pub few : length bytes < 2 ^ 32

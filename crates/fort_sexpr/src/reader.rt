@@ -184,7 +184,8 @@ impl Reader {
 
     /// The forms of a text that is read to its end.
     fn finish(mut self, bytes: Vec<u8>) -> Result<Forms, SFault>
-        requires { HasRead bytes.items self (length bytes.items) }
+        requires few { length bytes.items < 2 ^ 32 }
+        requires read { HasRead bytes.items self (length bytes.items) }
         ensures bytes { IfOk result (λ text. text.bytes ≡ bytes.items) }
         ensures forms { IfOk result (λ text. AreFormsOf bytes.items text.forms) }
         ensures fault { IfErr result (λ fault. IsFirstFaultOf bytes.items fault) }

@@ -1,5 +1,5 @@
 //! A text that was read.
-ghost use Rattle.std.specs.Prelude.{◌≡◌, ◌<◌, Some};
+ghost use Rattle.std.specs.Prelude.{◌≡◌, ◌<◌, ◌^◌, Some, length};
 ghost use Rattle.fort_grammar.specs.Forms.{AreFormsOf};
 ghost use Rattle.fort_sexpr.specs.FormView.{form_at, form_count};
 
@@ -37,6 +37,7 @@ impl Forms {
     pub fn len(&self) -> usize
         ensures count { result ≡ form_count self.now.forms }
         ensures lawful { AreFormsOf self.now.bytes self.now.forms }
+        ensures few { length self.now.bytes < 2 ^ 32 }
     {
         self.top.len()
     }

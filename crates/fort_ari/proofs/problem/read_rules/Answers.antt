@@ -1,6 +1,7 @@
 use Rattle.std.proofs.Common.{Err, ap, ◌≡◌, refl, arith}
 use Rattle.std.proofs.lemmas.Option.{IfSome_then}
 use Rattle.std.proofs.lemmas.Result.{err_from_is_err_and}
+use Rattle.fort_sexpr.proofs.FormLists.{node_count-AreFormsOf}
 use Rattle.fort_ari.specs.declared.fault.ProblemFault.TheVariants.{Memory}
 use Rattle.fort_ari.specs.Faults.{as_fault}
 use Rattle.fort_ari.specs.Reading.{BehindDeclarations}
@@ -29,6 +30,10 @@ push_rule-requires-clause-counted c = forms_count _ _ _ _ _ _ _ c.rules.invarian
 
 pub push_rule-requires-clause-few : goal.push_rule-requires-clause-few
 push_rule-requires-clause-few c = forms_count-le _ _ _ _ _ _ _ c.rules.invariant
+
+pub push_rule-requires-clause-small : goal.push_rule-requires-clause-small
+push_rule-requires-clause-small c =
+    omega (arith, node_count-AreFormsOf _ _ _ _ c.len-count.ensures.lawful c.form.ensures.form, c.len-count.ensures.few)
 
 pub returns-in_err-push_rule-clause-fault : goal.returns-in_err-push_rule-clause-fault
 returns-in_err-push_rule-clause-fault c =

@@ -1,4 +1,0 @@
-pub mod Normality
-pub mod ProblemSystems
-pub mod ValueTruth
-pub mod BuiltLaws

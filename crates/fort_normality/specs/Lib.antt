@@ -1,3 +1,0 @@
-pub mod RedexRoots
-pub mod GroundTerms
-pub mod NormalityValues
