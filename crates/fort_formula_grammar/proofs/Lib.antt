@@ -16,3 +16,4 @@ pub mod TokenFronts
 pub mod TokenUnique
 pub mod OpenUnique
 pub mod OneFormula
+pub mod LowIndices

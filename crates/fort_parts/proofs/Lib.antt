@@ -9,3 +9,4 @@ pub mod PartFacts
 pub mod StepAnswers
 pub mod AtomResults
 pub mod TranslatedCores
+pub mod SameCoreRoots
