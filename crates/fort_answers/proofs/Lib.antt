@@ -2,3 +2,4 @@ pub mod OneVerdict
 pub mod OneRefusal
 pub mod OneRequest
 pub mod OneFit
+pub mod OneCap

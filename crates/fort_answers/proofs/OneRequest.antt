@@ -1,5 +1,5 @@
 -- What a request owes before anything is read is one answer, and it is no request for which the input is read.
-use Rattle.std.proofs.Common.{◌≡◌, ℕ, sym, subst, ◌∙◌}
+use Rattle.std.proofs.Common.{◌≡◌, ℕ, sym, subst, ◌∙◌, true≢false}
 use Rattle.std.specs.Prelude.{Bool}
 use Rattle.fort_logic.specs.Formulas.{Formula}
 use Rattle.fort_formula_grammar.proofs.OneFormula.{IsFormulaText-unique}
@@ -19,16 +19,16 @@ Are-unique n x status status' text text' are are' =
 pub IsAccepted-unique : (text : Text) (f f' : Formula) → IsAccepted text f → IsAccepted text f' → f ≡ f'
 IsAccepted-unique text f f' is is' = IsFormulaText-unique is.read is'.read
 
-pub DecideEarly-unique : (states : ℕ) (certificate : Bool) (formula : Text) (s s' : ℕ) (t t' : Text) → DecideEarly states certificate formula s t
-    → DecideEarly states certificate formula s' t' → Are s t s' t'
-DecideEarly-unique states certificate formula s s' t t' (NotAnsweredYet not are) (NotAnsweredYet not' are') = Are-unique usage usage_text s s' t t' are are'
-DecideEarly-unique states certificate formula s s' t t' (NotAnsweredYet not are) (FormulaRefused plain line says are') = absurd (not plain)
-DecideEarly-unique states certificate formula s s' t t' (FormulaRefused plain line says are) (NotAnsweredYet not are') = absurd (not plain)
-DecideEarly-unique states certificate formula s s' t t' (FormulaRefused plain line says are) (FormulaRefused plain' line' says' are') =
+pub DecideEarly-unique : (certificate : Bool) (formula : Text) (s s' : ℕ) (t t' : Text) → DecideEarly certificate formula s t
+    → DecideEarly certificate formula s' t' → Are s t s' t'
+DecideEarly-unique certificate formula s s' t t' (NotAnsweredYet with are) (NotAnsweredYet with' are') = Are-unique usage usage_text s s' t t' are are'
+DecideEarly-unique certificate formula s s' t t' (NotAnsweredYet with are) (FormulaRefused without line says are') = absurd (true≢false (sym with ∙ without))
+DecideEarly-unique certificate formula s s' t t' (FormulaRefused without line says are) (NotAnsweredYet with are') = absurd (true≢false (sym with ∙ without))
+DecideEarly-unique certificate formula s s' t t' (FormulaRefused without line says are) (FormulaRefused without' line' says' are') =
     let one : line' ≡ line = IsRefused-unique formula line' line says' says in
     Are-unique refused line s s' t t' are (subst (Are s' t' refused) one are')
 
-pub early-without_input : (states : ℕ) (certificate : Bool) (formula : Text) (s : ℕ) (t : Text) → DecideEarly states certificate formula s t
-    → (f : Formula) → DecidesOf states certificate formula f → ⊥
-early-without_input states certificate formula s t (NotAnsweredYet not are) f asks = not asks.plain
-early-without_input states certificate formula s t (FormulaRefused plain line says are) f asks = accepted-not_refused formula f line asks.accepted says
+pub early-without_input : (certificate : Bool) (formula : Text) (s : ℕ) (t : Text) → DecideEarly certificate formula s t
+    → (f : Formula) → DecidesOf certificate formula f → ⊥
+early-without_input certificate formula s t (NotAnsweredYet with are) f asks = true≢false (sym with ∙ asks.without)
+early-without_input certificate formula s t (FormulaRefused without line says are) f asks = accepted-not_refused formula f line asks.accepted says

@@ -12,7 +12,7 @@ OwesUsage status text = Are status text usage usage_text
 
 -- what a request owes before anything is read
 abbrev pub OwesEarly : Request → ℕ → Text → Type 0
-OwesEarly (Decide states certificate formula) status text = DecideEarly states certificate formula status text
+OwesEarly (Decide states certificate formula) status text = DecideEarly certificate formula status text
 OwesEarly (Witness states formula) status text = OwesUsage status text
 OwesEarly (Check formula) status text = OwesUsage status text
 OwesEarly (Sample n) status text = OwesUsage status text
@@ -26,7 +26,7 @@ Owes (Sample n) bytes status text = OwesUsage status text
 
 -- a request for which the input is read
 abbrev pub NeedsInput : Request → Type 0
-NeedsInput (Decide states certificate formula) = (f : Formula) × DecidesOf states certificate formula f
+NeedsInput (Decide states certificate formula) = (f : Formula) × DecidesOf certificate formula f
 NeedsInput (Witness states formula) = ⊥
 NeedsInput (Check formula) = ⊥
 NeedsInput (Sample n) = ⊥

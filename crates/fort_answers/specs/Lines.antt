@@ -1,6 +1,8 @@
 -- To believe: the texts that the program prints, and the statuses with which it ends.
 use Rattle.std.specs.Prelude.{ℕ, List, [], ◌∷◌, ◌++◌, codes, decimal}
 use Rattle.fort_logic.specs.Formulas.{Name}
+use Rattle.fort_logic.specs.Kinds as kinds
+use Rattle.fort_logic.specs.Kinds.{Kind}
 use Rattle.fort_formula_grammar.specs.FormulaText as formula
 use Rattle.fort_formula_grammar.specs.FormulaText.{FormulaFault}
 use Rattle.fort_grammar.specs.Text.{TextFault, BadByte, ExtraClose, Unclosed, TooDeep}
@@ -24,6 +26,30 @@ no_line = line (codes "NO")
 
 abbrev pub input_too_long : List ℕ
 input_too_long = line (codes "REFUSED input too long")
+
+-- the word for a kind of formula
+abbrev pub kind_word : Kind → List ℕ
+kind_word kinds.True = codes "true"
+kind_word kinds.Eq = codes "eq"
+kind_word kinds.Root = codes "root"
+kind_word kinds.Below = codes "below"
+kind_word kinds.Step = codes "step"
+kind_word kinds.Par = codes "par"
+kind_word kinds.Plus = codes "plus"
+kind_word kinds.Star = codes "star"
+kind_word kinds.Conv = codes "conv"
+kind_word kinds.Nf = codes "nf"
+kind_word kinds.Is = codes "is"
+kind_word kinds.Not = codes "not"
+kind_word kinds.And = codes "and"
+kind_word kinds.Or = codes "or"
+kind_word kinds.Iff = codes "iff"
+kind_word kinds.Exists = codes "exists"
+kind_word kinds.Infinite = codes "infinite"
+
+-- part k, of this kind, has more labels than the cap
+abbrev pub limit_line : ℕ → Kind → ℕ → List ℕ
+limit_line k kind cap = line (codes "LIMIT " ++ (decimal k ++ (codes " " ++ (kind_word kind ++ (codes " " ++ decimal cap)))))
 
 -- what is refused, and a number
 abbrev pub numbered : List ℕ → ℕ → List ℕ
@@ -96,6 +122,10 @@ usage = 2
 -- the formula or the input is refused
 abbrev pub refused : ℕ
 refused = 3
+
+-- some part of the formula is over the cap
+abbrev pub limited : ℕ
+limited = 4
 
 -- the greatest status of an answer; behind it no answer was given
 abbrev pub last_answer : ℕ

@@ -1,0 +1,162 @@
+-- Which answers are right: by a formula's labels, of atoms, of a complement, of a projection.
+use Rattle.std.specs.Prelude.{◌≡◌, ◌<◌, ℕ, ◌-◌, List, length, Contains, Bool, true, false, Ok, refl}
+use Rattle.std.proofs.Common.{ap, sym, ◌∙◌, subst, arith}
+use Rattle.fort_theory.specs.Trees.{Tree}
+use Rattle.fort_theory.specs.Signatures.{Signature}
+use Rattle.fort_theory.specs.Patterns.{PatternSystem}
+use Rattle.fort_theory.proofs.Members.{Contains-none}
+use Rattle.fort_logic.specs.Cores as core
+use Rattle.fort_logic.specs.Parts.{is_free, AreColumns}
+use Rattle.fort_tables.specs.Tables.{Table, listed_table}
+use Rattle.fort_tables.specs.Labels.{Labelling, HasMoreLabels, IsTableOf}
+use Rattle.fort_tables.specs.LabelRules.{label_of, IsTableBy}
+use Rattle.fort_alike.specs.Atoms.{kind_for, relation_atom, normal_atom}
+use Rattle.fort_alike.specs.Alike.{is_reaching}
+use Rattle.fort_operations.specs.Projections.{some_below, project_rule, project_accepts}
+use Rattle.fort_operations.specs.OperationTruth.{complemented}
+use Rattle.fort_context_closure.specs.declared.atom_labels.AtomLabels.{AtomLabels}
+use Rattle.fort_context_closure.specs.AtomLabelsView.{column_count, label_by, accepted_by, TellsAlike, AcceptsTrue, TellsAlikeAtTerm, AcceptsTerm}
+use Rattle.fort_lockstep.specs.declared.dta.Dta.{Dta}
+use Rattle.fort_parts.specs.PartColumns.{columns_of, place_in}
+use Rattle.fort_parts.specs.AlikeParts.{IsPartOver}
+use Rattle.fort_parts.specs.PartAnswers.{OfValue, OfTable}
+use Rattle.fort_parts.specs.DecidedCores.{IsOneStepRelation}
+use Rattle.fort_parts.specs.RightAnswers.{IsRightFor}
+use Rattle.fort_parts.proofs.PartColumnLaws.{AreColumns-columns_of, columns_of-unique, columns_of-Nf, columns_of-Is, column-from_free}
+use Rattle.fort_parts.proofs.StepAnswers.{IsRightFor-Not-table, IsPartOver-Not, IsPartOver-closed, IsPartOver-few, bound_place, bound_count, LabelsTellAlike-projected, IsRightFor-projected, IsRightFor-closed}
+use Rattle.fort_parts.proofs.AtomResults.{IsRightFor-Atom, IsRightFor-Nf, IsRightFor-Is, LabelsTellAlike-Nf, LabelsTellAlike-Is}
+use Rattle.fort_engine.specs.declared.answer.Last.{Last}
+use Rattle.fort_engine.specs.declared.answer.Last.TheVariants.{Truth, Auto}
+use Rattle.fort_engine.specs.AnswerView.{as_answer}
+use Rattle.fort_engine.specs.Deciding.{IsDecision, AreLabelsFor}
+
+-- a table by the formula's labels
+pub IsDecision-labels : (system : PatternSystem) (f : core.Core) (cap columns : ℕ) (label : Labelling) (accepting : List ℕ → Bool) (sig : Signature) (table : Dta)
+    → sig ≡ system.signature → AreLabelsFor system f columns label accepting → IsTableOf sig columns label accepting (listed_table table)
+    → IsTableBy sig columns label accepting (listed_table table) → (HasMoreLabels sig columns label cap → ⊥) → IsDecision system f cap (Ok (Auto table))
+IsDecision-labels system f cap columns label accepting sig table same are of by few = record {
+  ok =
+      are.right (listed_table table) (subst (λ s. IsTableOf s columns label accepting (listed_table table)) same of)
+      (subst (λ s. IsTableBy s columns label accepting (listed_table table)) same by);
+  within =
+      IsPartOver-few system f label cap are.alike
+      (subst (λ n. HasMoreLabels system.signature n label cap → ⊥) are.count (subst (λ s. HasMoreLabels s columns label cap → ⊥) same few));
+  over = tt;
+}
+
+-- atoms
+
+pub AreLabelsFor-Nf : (system : PatternSystem) (index x : ℕ) (l : AtomLabels) → column_count l ≡ 1 → TellsAlike system.signature (normal_atom system index) l
+    → AcceptsTrue system.signature (normal_atom system index) l → AreLabelsFor system (core.Nf index x) (column_count l) (label_by l) (accepted_by l)
+AreLabelsFor-Nf system index x l one tells accepts =
+    let alike = LabelsTellAlike-Nf system (label_by l) index x tells in
+    record {
+      count = one ∙ sym (ap length (columns_of-Nf index x));
+      alike = alike;
+      right =
+          λ table of by.
+          IsRightFor-Nf system (label_by l) (accepted_by l) table index x alike (λ t is full. accepts t is)
+          (subst (λ n. IsTableOf system.signature n (label_by l) (accepted_by l) table) one of)
+          (subst (λ n. IsTableBy system.signature n (label_by l) (accepted_by l) table) one by);
+    }
+
+pub AreLabelsFor-Is : (system : PatternSystem) (x : ℕ) (term : Tree) (l : AtomLabels) → column_count l ≡ 1 → TellsAlikeAtTerm system.signature term l
+    → AcceptsTerm system.signature term l → AreLabelsFor system (core.Is x term) (column_count l) (label_by l) (accepted_by l)
+AreLabelsFor-Is system x term l one tells accepts =
+    let alike = LabelsTellAlike-Is system (label_by l) x term tells in
+    record {
+      count = one ∙ sym (ap length (columns_of-Is x term));
+      alike = alike;
+      right =
+          λ table of by.
+          IsRightFor-Is system (label_by l) (accepted_by l) table x term alike (λ t is full. accepts t is)
+          (subst (λ n. IsTableOf system.signature n (label_by l) (accepted_by l) table) one of)
+          (subst (λ n. IsTableBy system.signature n (label_by l) (accepted_by l) table) one by);
+    }
+
+pub AreLabelsFor-Atom : (system : PatternSystem) (rel : core.Rel) (index x y : ℕ) (l : AtomLabels)
+    → ((columns : List ℕ) → AreColumns (core.Atom rel index x y) columns → column_count l ≡ length columns)
+    → ((columns : List ℕ) → AreColumns (core.Atom rel index x y) columns → TellsAlike system.signature (relation_atom system rel index x y columns) l)
+    → ((columns : List ℕ) → AreColumns (core.Atom rel index x y) columns → AcceptsTrue system.signature (relation_atom system rel index x y columns) l)
+    → AreLabelsFor system (core.Atom rel index x y) (column_count l) (label_by l) (accepted_by l)
+AreLabelsFor-Atom system rel index x y l count tells accepts =
+    let f = core.Atom rel index x y in
+    let are = AreColumns-columns_of f in
+    let same = count (columns_of f) are in
+    record {
+      count = same;
+      alike = tells (columns_of f) are;
+      right =
+          λ table of by.
+          IsRightFor-Atom system (label_by l) (accepted_by l) table rel index x y (tells (columns_of f) are) (λ t is full. accepts (columns_of f) are t is)
+          (subst (λ n. IsTableOf system.signature n (label_by l) (accepted_by l) table) same of)
+          (subst (λ n. IsTableBy system.signature n (label_by l) (accepted_by l) table) same by);
+    }
+
+pub one_step_reaches_not : (rel : core.Rel) → IsOneStepRelation rel → is_reaching (kind_for rel) ≡ false
+one_step_reaches_not core.Eq h = refl
+one_step_reaches_not core.Root h = refl
+one_step_reaches_not core.Below h = refl
+one_step_reaches_not core.Step h = refl
+one_step_reaches_not core.Par h = refl
+one_step_reaches_not core.Plus h = absurd h
+one_step_reaches_not core.Star h = absurd h
+one_step_reaches_not core.Conv h = absurd h
+
+-- a complement
+
+pub IsDecision-Not-table : (system : PatternSystem) (cap : ℕ) (f : core.Core) (body : Last) (table turned : Dta) → body ≡ Auto table
+    → listed_table turned ≡ complemented (listed_table table) → IsRightFor system f (as_answer body) → (IsPartOver system f cap → ⊥)
+    → IsDecision system (core.Not f) cap (Ok (Auto turned))
+IsDecision-Not-table system cap f body table turned is same right within =
+    let own : IsRightFor system f (OfTable (listed_table table)) = subst (λ a. IsRightFor system f (as_answer a)) is right in
+    record {
+      ok = subst (λ t. IsRightFor system (core.Not f) (OfTable t)) (sym same) (IsRightFor-Not-table system f (listed_table table) own);
+      within = λ over. within (IsPartOver-Not system f cap over);
+      over = tt;
+    }
+
+-- projections
+
+pub bound_has_column : (system : PatternSystem) (n : ℕ) (f : core.Core) (body : Last) (b : Bool) → body ≡ Truth b → IsRightFor system f (as_answer body)
+    → is_free n f ≡ true → ⊥
+bound_has_column system n f body b is right among =
+    let own : IsRightFor system f (OfValue b) = subst (λ a. IsRightFor system f (as_answer a)) is right in
+    Contains-none n (subst (λ ns. Contains ns n) own.answers.over (column-from_free f n among))
+
+pub IsDecision-closed : (system : PatternSystem) (n : ℕ) (f : core.Core) (cap : ℕ) (body : Last) (table : Dta) (b : Bool) → body ≡ Auto table
+    → IsRightFor system f (as_answer body) → is_free n f ≡ true → table.columns ≡ 1
+    → b ≡ some_below (length table.presences) (listed_table table).accepting → IsDecision system (core.Exists n f) cap (Ok (Truth b))
+IsDecision-closed system n f cap body table b is right among one says =
+    let own : IsRightFor system f (OfTable (listed_table table)) = subst (λ a. IsRightFor system f (as_answer a)) is right in
+    let whole : IsRightFor system (core.Exists n f) (OfValue b) =
+    subst (λ v. IsRightFor system (core.Exists n f) (OfValue v)) (sym says)
+    (IsRightFor-closed system n f (listed_table table) own among (sym own.answers.over.columns_are ∙ one)) in
+    record { ok = whole; within = IsPartOver-closed system (core.Exists n f) cap whole.answers.over; over = tt }
+
+pub bound_within : (system : PatternSystem) (n : ℕ) (f : core.Core) (table : Table) (columns : List ℕ) → AreColumns f columns
+    → IsRightFor system f (OfTable table) → is_free n f ≡ true → place_in columns n < table.columns
+bound_within system n f table columns are right among =
+    let low = bound_place system n f table right among in
+    let same : place_in columns n ≡ place_in (columns_of f) n = ap (λ ns. place_in ns n) (columns_of-unique f columns are) in
+    omega (arith, right.answers.over.columns_are)
+
+pub AreLabelsFor-Exists : (system : PatternSystem) (n : ℕ) (f : core.Core) (table own : Table) (columns : List ℕ) (c : ℕ) → own ≡ table → AreColumns f columns
+    → c ≡ place_in columns n → IsRightFor system f (OfTable table) → is_free n f ≡ true → 1 < table.columns
+    → AreLabelsFor system (core.Exists n f) (own.columns - 1) (label_of (project_rule own c)) (project_accepts own)
+AreLabelsFor-Exists system n f table own columns c same are at right among others =
+    let place : c ≡ place_in (columns_of f) n = at ∙ ap (λ ns. place_in ns n) (columns_of-unique f columns are) in
+    let count : table.columns - 1 ≡ length (columns_of (core.Exists n f)) =
+    omega (arith, bound_count system n f table right among, right.answers.over.columns_are) in
+    let some : 0 < length (columns_of (core.Exists n f)) = omega arith in
+    subst (λ t. AreLabelsFor system (core.Exists n f) (t.columns - 1) (label_of (project_rule t c)) (project_accepts t)) (sym same)
+    (subst (λ k. AreLabelsFor system (core.Exists n f) (table.columns - 1) (label_of (project_rule table k)) (project_accepts table)) (sym place)
+    (record {
+      count = count;
+      alike = LabelsTellAlike-projected system n f table right among;
+      right =
+          λ t of by.
+          IsRightFor-projected system n f table right among t some
+          (subst (λ k. IsTableOf system.signature k (label_of (project_rule table (place_in (columns_of f) n))) (project_accepts table) t) count of)
+          (subst (λ k. IsTableBy system.signature k (label_of (project_rule table (place_in (columns_of f) n))) (project_accepts table) t) count by);
+    }))

@@ -1,0 +1,157 @@
+-- How far deciding has come: the answers that are needed are kept, and no part so far is over the cap.
+use Rattle.std.specs.Prelude.{◌≡◌, ◌<◌, ◌≤◌, ◌+◌, ℕ, List, [], ◌∷◌, ◌++◌, length, get_or, Option, None, Some, refl}
+use Rattle.std.proofs.Common.{ap, sym, ◌∙◌, subst, arith, ⊎_elim, length-append}
+use Rattle.std.proofs.lemmas.Bool.{cases_eq}
+use Rattle.std.proofs.lemmas.List.{get_or_push, get_or_append_left, get_or_default}
+use Rattle.std.proofs.lemmas.List.Elements.{Contains-get_or}
+use Rattle.fort_theory.specs.Signatures.{Signature}
+use Rattle.fort_theory.specs.Patterns.{PatternSystem}
+use Rattle.fort_logic.specs.Cores as core
+use Rattle.fort_logic.specs.Cores.{Core}
+use Rattle.fort_logic.specs.PartLists.{AreParts}
+use Rattle.fort_logic.specs.Parts.{postorder}
+use Rattle.fort_logic.specs.Kinds.{kind_of}
+use Rattle.fort_logic.proofs.SameRoots.{pattern_structure}
+use Rattle.fort_logic.proofs.EachOnceUnique.{AreEachOnce-unique}
+use Rattle.fort_tables.specs.Tuples.{Tuple, IsTuple}
+use Rattle.fort_tables.specs.Entries.{Entry, tuples_of}
+use Rattle.fort_formulas.specs.KindView.{as_kind}
+use Rattle.fort_parts.specs.PartColumns.{columns_of}
+use Rattle.fort_parts.specs.AlikeParts.{IsPartOver, IsFirstOver}
+use Rattle.fort_parts.specs.PartAnswers.{IsAnswerTo}
+use Rattle.fort_parts.specs.DecidedCores.{IsDecided, IsOperandOf}
+use Rattle.fort_parts.specs.RightAnswers.{IsRightFor, HasTooMany}
+use Rattle.fort_parts.proofs.PartOrder.{IsEarlier, Contains-postorder, operand_earlier}
+use Rattle.fort_parts.proofs.PartFacts.{IsOverSystem-part, IsOneStep-part, BindsFree-part, columns_of-few}
+use Rattle.fort_engine.specs.declared.answer.Last.{Last}
+use Rattle.fort_engine.specs.declared.answer.Limit.{Limit}
+use Rattle.fort_engine.specs.AnswerView.{as_answer, IsLimit}
+use Rattle.fort_engine.specs.Uses.{AreLastUses, HasRightAnswer, AreKept}
+use Rattle.fort_engine.specs.Deciding.{IsFit, HasOperands}
+
+pub IsFit-part : (system : PatternSystem) (f : Core) (parts : List Core) (k : ℕ) → IsDecided system f → AreParts f parts → k < length parts
+    → IsFit system (get_or parts k core.True)
+IsFit-part system f parts k d are l =
+    let h = get_or parts k core.True in
+    let among = (are.same h).1 (Contains-get_or parts k core.True l) in
+    record {
+      over = IsOverSystem-part system f h d.over among;
+      one_step = IsOneStep-part f h d.one_step among;
+      binders = BindsFree-part f h d.well_formed.binders among;
+      few = columns_of-few f h d.well_formed among;
+    }
+
+-- the root is a part
+pub IsEarlier-root : (f : Core) (parts : List Core) → AreParts f parts → IsEarlier parts (length parts) f
+IsEarlier-root f parts are =
+    let there = (are.same f).0 (Contains-postorder f) in
+    record { place = there.0; before = there.1; is = get_or_default parts there.0 core.True f there.1 ∙ there.2 }
+
+pub record IsSoFar (system : PatternSystem) (parts : List Core) (uses : List ℕ) (cap k : ℕ) (kept : List (Option Last)) : Type 0 where
+  pub kept_are : AreKept system parts uses k kept
+  pub before : (j : ℕ) → j < k → IsPartOver system (get_or parts j core.True) cap → ⊥
+
+pub IsSoFar-none : (system : PatternSystem) (parts : List Core) (uses : List ℕ) (cap : ℕ) → IsSoFar system parts uses cap 0 []
+IsSoFar-none system parts uses cap =
+    record { kept_are = record { count = refl; each = λ j l m. absurd (omega arith) }; before = λ j l over. absurd (omega arith) }
+
+module _ (system : PatternSystem) (f : Core) (parts : List Core) (are : AreParts f parts) (root : ℕ) (uses : List ℕ) (last : AreLastUses parts root uses) (cap k : ℕ)
+    (kept : List (Option Last)) (far : IsSoFar system parts uses cap k kept) where
+  pub HasOperands-part : k < length parts → HasOperands system cap parts kept (get_or parts k core.True)
+  HasOperands-part l g o =
+      let early = operand_earlier f parts are k l g o in
+      record {
+        earlier = subst (λ n. IsEarlier parts n g) (sym far.kept_are.count) early;
+        right =
+            λ j m e.
+            let low : j < k = omega (arith, far.kept_are.count) in
+            let needed : k ≤ get_or uses j 0 = last.each j (omega arith) k l (subst (λ z. IsOperandOf z (get_or parts k core.True)) (sym e) o) in
+            subst (λ z. HasRightAnswer system z (get_or kept j None)) e (far.kept_are.each j low needed);
+        within = λ over. far.before early.place early.before (subst (λ z. IsPartOver system z cap) (sym early.is) over);
+      }
+
+  pub IsSoFar-more : (answer : Last) (less : List (Option Last)) → IsRightFor system (get_or parts k core.True) (as_answer answer)
+      → (IsPartOver system (get_or parts k core.True) cap → ⊥) → length less ≡ length (kept ++ Some answer ∷ [])
+      → ((j : ℕ) → j < length (kept ++ Some answer ∷ []) → k < get_or uses j 0 → get_or less j None ≡ get_or (kept ++ Some answer ∷ []) j None)
+      → IsSoFar system parts uses cap (k + 1) less
+  IsSoFar-more answer less right within count needed =
+      let long : length (kept ++ Some answer ∷ []) ≡ k + 1 = omega (arith, length-append kept (Some answer ∷ []), far.kept_are.count) in
+      record {
+        kept_are = record {
+          count = count ∙ long;
+          each =
+              λ j l m.
+              let same = needed j (omega arith) (omega arith) in
+              subst (HasRightAnswer system (get_or parts j core.True)) (sym same) (at j l m);
+        };
+        before = λ j l over. ⊎_elim (λ e. within (subst (λ i. IsPartOver system (get_or parts i core.True) cap) e over)) (λ other. far.before j (omega arith) over) (cases_eq j k);
+      }
+    where
+      at : (j : ℕ) → j < k + 1 → k + 1 ≤ get_or uses j 0 → HasRightAnswer system (get_or parts j core.True) (get_or (kept ++ Some answer ∷ []) j None)
+      at j l m =
+          ⊎_elim
+          (λ e.
+          let here : get_or (kept ++ Some answer ∷ []) j None ≡ Some answer = get_or_push kept (Some answer) None j (far.kept_are.count ∙ sym e) in
+          record { answer = answer; is = here; right = subst (λ i. IsRightFor system (get_or parts i core.True) (as_answer answer)) (sym e) right })
+          (λ other.
+          let low : j < k = omega arith in
+          subst (HasRightAnswer system (get_or parts j core.True)) (sym (get_or_append_left kept (Some answer ∷ []) None j (omega (arith, far.kept_are.count))))
+          (far.kept_are.each j low (omega arith)))
+          (cases_eq j k)
+
+  -- at the end
+
+  pub HasRightAnswer-root : k ≡ length parts → root < length parts → get_or parts root core.True ≡ f → HasRightAnswer system f (get_or kept root None)
+  HasRightAnswer-root end l is =
+      subst (λ z. HasRightAnswer system z (get_or kept root None)) is (far.kept_are.each root (omega arith) (omega (arith, last.root_is)))
+
+  pub none_over : k ≡ length parts → (ps : List Core) (j : ℕ) → AreParts f ps → j < length ps → IsPartOver system (get_or ps j core.True) cap → ⊥
+  none_over end ps j also l over =
+      let same : ps ≡ parts = AreEachOnce-unique (postorder f) ps parts also are in
+      far.before j (subst (λ n. j < n) (ap length same ∙ sym end) l) (subst (λ xs. IsPartOver system (get_or xs j core.True) cap) same over)
+
+  -- the first part over the cap
+
+  pub IsLimit-part : (limit : Limit) → k < length parts → limit.part ≡ k → as_kind limit.kind ≡ kind_of (get_or parts k core.True)
+      → HasTooMany system (get_or parts k core.True) cap limit.tuples → IsLimit system f cap limit
+  IsLimit-part limit l place kind many =
+      let over = IsPartOver-many system (get_or parts k core.True) cap limit.tuples many in
+      record {
+        first =
+            λ ps also.
+            let same : parts ≡ ps = AreEachOnce-unique (postorder f) parts ps are also in
+            subst (λ xs. IsFirstOver system xs cap limit.part) same
+            (subst (λ i. IsFirstOver system parts cap i) (sym place) (record { within = l; over = over; before = far.before }));
+        kind =
+            λ ps also.
+            let same : parts ≡ ps = AreEachOnce-unique (postorder f) parts ps are also in
+            subst (λ xs. as_kind limit.kind ≡ kind_of (get_or xs limit.part core.True)) same
+            (subst (λ i. as_kind limit.kind ≡ kind_of (get_or parts i core.True)) (sym place) kind);
+        tuples =
+            λ ps also.
+            let same : parts ≡ ps = AreEachOnce-unique (postorder f) parts ps are also in
+            subst (λ xs. HasTooMany system (get_or xs limit.part core.True) cap limit.tuples) same
+            (subst (λ i. HasTooMany system (get_or parts i core.True) cap limit.tuples) (sym place) many);
+      }
+    where
+      has_columns : (sig : Signature) (n : ℕ) (t : Tuple) → IsTuple sig n t → 0 < n
+      has_columns sig n [] is = absurd is.present
+      has_columns sig n (x ∷ t) is = omega (arith, is.width)
+
+      IsPartOver-many : (system : PatternSystem) (g : Core) (cap : ℕ) (nodes : List Entry) → HasTooMany system g cap nodes → IsPartOver system g cap
+      IsPartOver-many system g cap nodes many = record {
+        some = has_columns system.signature (length (columns_of g)) (get_or (tuples_of nodes) 0 []) (many.unlike.tuples 0 (omega (arith, many.unlike.many)));
+        over = (tuples_of nodes, many.unlike);
+      }
+
+-- what is taken of the answers that are kept
+
+pub IsAnswerTo-taken : (system : PatternSystem) (f : Core) (taken : Option Last) (answer : Last) → HasRightAnswer system f taken → taken ≡ Some answer
+    → IsAnswerTo (pattern_structure system) f (as_answer answer)
+IsAnswerTo-taken system f taken answer has is =
+    let both : Some has.answer ≡ Some answer = sym has.is ∙ is in
+    let same : has.answer ≡ answer = cc in
+    subst (λ a. IsAnswerTo (pattern_structure system) f (as_answer a)) same has.right.answers
+
+pub none_taken : (system : PatternSystem) (f : Core) (taken : Option Last) → HasRightAnswer system f taken → taken ≡ None → ⊥
+none_taken system f taken has is = let both : Some has.answer ≡ None = sym has.is ∙ is in absurd cc

@@ -1,0 +1,140 @@
+-- The labels of a product are those of a formula of two operands, whose answers are right.
+use Rattle.std.specs.Prelude.{◌≡◌, ◌<◌, ◌≤◌, ℕ, List, length, Contains, Ok, Bool, refl}
+use Rattle.std.proofs.Common.{ap, sym, ◌∙◌, subst, arith}
+use Rattle.fort_theory.specs.Signatures.{most_columns}
+use Rattle.fort_theory.specs.Patterns.{PatternSystem}
+use Rattle.fort_logic.specs.Cores.{Core}
+use Rattle.fort_logic.specs.Parts.{AreColumns}
+use Rattle.fort_tables.specs.Tables.{listed_table}
+use Rattle.fort_tables.specs.LabelRules.{label_of}
+use Rattle.fort_operations.specs.Products.{Connective, Operand, IsOperand, AreOperands, signature_of, connected, product_rule, product_accepts}
+use Rattle.fort_lockstep.specs.declared.dta.Dta.{Dta}
+use Rattle.fort_parts.specs.PartColumns.{columns_of, places_in}
+use Rattle.fort_parts.specs.PartAnswers.{Answer, OfValue, OfTable}
+use Rattle.fort_parts.specs.PartSteps.{operand_of}
+use Rattle.fort_parts.specs.RightAnswers.{IsRightFor, joined}
+use Rattle.fort_parts.proofs.PartColumnLaws.{columns_of-unique, first_within, second_within}
+use Rattle.fort_parts.proofs.StepTables.{IsOperand-answer}
+use Rattle.fort_parts.proofs.StepAnswers.{is_free-joined, closed-values, some-first, some-second, IsRightFor-values, IsPartOver-closed, LabelsTellAlike-joined, IsRightFor-joined}
+use Rattle.fort_engine.specs.declared.answer.Last.{Last}
+use Rattle.fort_engine.specs.declared.answer.Last.TheVariants.{Truth, Auto}
+use Rattle.fort_engine.specs.AnswerView.{as_answer}
+use Rattle.fort_engine.specs.Deciding.{IsDecision, AreLabelsFor, IsJoining}
+
+-- two truths
+
+pub IsDecision-truths : (system : PatternSystem) (cap : ℕ) (op : Connective) (h f g : Core) (first second : Last) (a b c : Bool) → h ≡ joined op f g
+    → first ≡ Truth a → second ≡ Truth b → c ≡ connected op a b → IsRightFor system f (as_answer first) → IsRightFor system g (as_answer second)
+    → IsDecision system h cap (Ok (Truth c))
+IsDecision-truths system cap op h f g first second a b c whole is also says one other =
+    let one_is : IsRightFor system f (OfValue a) = subst (λ z. IsRightFor system f (as_answer z)) is one in
+    let other_is : IsRightFor system g (OfValue b) = subst (λ z. IsRightFor system g (as_answer z)) also other in
+    let right : IsRightFor system h (OfValue c) =
+    subst (λ z. IsRightFor system z (OfValue c)) (sym whole)
+    (subst (λ v. IsRightFor system (joined op f g) (OfValue v)) (sym says) (IsRightFor-values system op f g a b one_is other_is)) in
+    record { ok = right; within = IsPartOver-closed system h cap right.answers.over; over = tt }
+
+-- a table among the operands has a column
+
+pub some_of_first : (system : PatternSystem) (op : Connective) (h f g : Core) (first : Last) (table : Dta) → h ≡ joined op f g → first ≡ Auto table
+    → IsRightFor system f (as_answer first) → 0 < length (columns_of h)
+some_of_first system op h f g first table whole is right =
+    subst (λ z. 0 < length (columns_of z)) (sym whole)
+    (some-first system op f g (listed_table table) (subst (λ z. IsRightFor system f (as_answer z)) is right))
+
+pub some_of_second : (system : PatternSystem) (op : Connective) (h f g : Core) (second : Last) (table : Dta) → h ≡ joined op f g → second ≡ Auto table
+    → IsRightFor system g (as_answer second) → 0 < length (columns_of h)
+some_of_second system op h f g second table whole is right =
+    subst (λ z. 0 < length (columns_of z)) (sym whole)
+    (some-second system op f g (listed_table table) (subst (λ z. IsRightFor system g (as_answer z)) is right))
+
+pub first_among : (op : Connective) (h f g : Core) (zs : List ℕ) → h ≡ joined op f g → AreColumns h zs → (n : ℕ) → Contains (columns_of f) n → Contains zs n
+first_among op h f g zs whole are n c =
+    subst (λ ns. Contains ns n) (sym (columns_of-unique h zs are))
+    (subst (λ z. Contains (columns_of z) n) (sym whole) (first_within (joined op f g) f g (is_free-joined op f g) n c))
+
+pub second_among : (op : Connective) (h f g : Core) (zs : List ℕ) → h ≡ joined op f g → AreColumns h zs → (n : ℕ) → Contains (columns_of g) n → Contains zs n
+second_among op h f g zs whole are n c =
+    subst (λ ns. Contains ns n) (sym (columns_of-unique h zs are))
+    (subst (λ z. Contains (columns_of z) n) (sym whole) (second_within (joined op f g) f g (is_free-joined op f g) n c))
+
+signature-joined : (system : PatternSystem) (op : Connective) (f g : Core) (first second : Answer) (ps qs : List ℕ) → IsRightFor system f first
+    → IsRightFor system g second → 0 < length (columns_of (joined op f g)) → signature_of (operand_of first ps) (operand_of second qs) ≡ system.signature
+signature-joined system op f g (OfTable table) second ps qs one other some = one.answers.over.signature
+signature-joined system op f g (OfValue a) (OfTable table) ps qs one other some = other.answers.over.signature
+signature-joined system op f g (OfValue a) (OfValue b) ps qs one other some =
+    absurd (let none = ap length (closed-values system op f g a b one other) in omega (arith, some))
+
+-- the operands on the columns of the whole, however they are written
+module _ (system : PatternSystem) (op : Connective) (h f g : Core) (first : Answer) (ps : List ℕ) (second : Answer) (qs : List ℕ) (columns : ℕ)
+    (join : IsJoining system op h f g first ps second qs columns) (x y : Operand) (first_is : x ≡ operand_of first ps) (second_is : y ≡ operand_of second qs) where
+  count_same : columns ≡ length (columns_of (joined op f g))
+  count_same = join.count ∙ ap (λ z. length (columns_of z)) join.whole
+
+  first_same : x ≡ operand_of first (places_in (columns_of (joined op f g)) (columns_of f))
+  first_same = first_is ∙ ap (operand_of first) (join.first_places ∙ ap (λ z. places_in (columns_of z) (columns_of f)) join.whole)
+
+  second_same : y ≡ operand_of second (places_in (columns_of (joined op f g)) (columns_of g))
+  second_same = second_is ∙ ap (operand_of second) (join.second_places ∙ ap (λ z. places_in (columns_of z) (columns_of g)) join.whole)
+
+  some_joined : 0 < length (columns_of (joined op f g))
+  some_joined = subst (λ n. 0 < n) count_same join.some
+
+  pub signature-product : signature_of x y ≡ system.signature
+  signature-product =
+      ap (λ z. signature_of z y) first_is
+      ∙ (ap (λ z. signature_of (operand_of first ps) z) second_is ∙ signature-joined system op f g first second ps qs join.first_right join.second_right some_joined)
+
+  moved : (z o : Operand) → z ≡ o → IsOperand system.signature (length (columns_of (joined op f g))) o → IsOperand (signature_of x y) columns z
+  moved z o e p =
+      subst (λ w. IsOperand (signature_of x y) columns w) (sym e)
+      (subst (λ n. IsOperand (signature_of x y) n o) (sym count_same)
+      (subst (λ s. IsOperand s (length (columns_of (joined op f g))) o) (sym signature-product) p))
+
+  pub AreOperands-product : AreOperands (signature_of x y) columns x y
+  AreOperands-product = record {
+    first_is =
+        moved x _ first_same
+        (IsOperand-answer system.signature (columns_of f) (columns_of (joined op f g)) first (first_within (joined op f g) f g (is_free-joined op f g)) join.first_right.answers.over);
+    second_is =
+        moved y _ second_same
+        (IsOperand-answer system.signature (columns_of g) (columns_of (joined op f g)) second (second_within (joined op f g) f g (is_free-joined op f g)) join.second_right.answers.over);
+  }
+
+  abbrev Labels : Core → ℕ → Connective → Operand → Operand → Type 0
+  Labels k n o u v = AreLabelsFor system k n (label_of (product_rule n u v)) (product_accepts o u v)
+
+  canonical : Labels (joined op f g) (length (columns_of (joined op f g))) op (operand_of first (places_in (columns_of (joined op f g)) (columns_of f)))
+      (operand_of second (places_in (columns_of (joined op f g)) (columns_of g)))
+  canonical = record {
+    count = refl;
+    alike = LabelsTellAlike-joined system op f g first second join.first_right join.second_right;
+    right = λ table of by. IsRightFor-joined system op f g first second table join.first_right join.second_right some_joined of by;
+  }
+
+  pub AreLabelsFor-product : (n : ℕ) (o : Connective) → n ≡ columns → o ≡ op → AreLabelsFor system h n (label_of (product_rule n x y)) (product_accepts o x y)
+  AreLabelsFor-product n o count same =
+      subst (λ k. Labels k n o x y) (sym join.whole)
+      (subst (λ m. Labels (joined op f g) m o x y) (sym (count ∙ count_same))
+      (subst (λ p. Labels (joined op f g) (length (columns_of (joined op f g))) p x y) (sym same)
+      (subst (λ u. Labels (joined op f g) (length (columns_of (joined op f g))) op u y) (sym first_same)
+      (subst (λ v. Labels (joined op f g) (length (columns_of (joined op f g))) op (operand_of first (places_in (columns_of (joined op f g)) (columns_of f))) v) (sym second_same)
+      canonical))))
+
+-- the places on the columns that are found
+pub IsJoining-places : (system : PatternSystem) (op : Connective) (h f g : Core) (first second : Answer) (zs ps qs : List ℕ) (count : ℕ) → h ≡ joined op f g
+    → AreColumns h zs → count ≡ length zs → ps ≡ places_in zs (columns_of f) → qs ≡ places_in zs (columns_of g) → 0 < length (columns_of h)
+    → length (columns_of h) ≤ most_columns → IsRightFor system f first → IsRightFor system g second → IsJoining system op h f g first ps second qs count
+IsJoining-places system op h f g first second zs ps qs count whole are long one_places other_places some few one other =
+    let same = columns_of-unique h zs are in
+    let number : count ≡ length (columns_of h) = long ∙ ap length same in
+    record {
+      whole = whole;
+      count = number;
+      some = subst (λ n. 0 < n) (sym number) some;
+      few = subst (λ n. n ≤ most_columns) (sym number) few;
+      first_places = one_places ∙ ap (λ z. places_in z (columns_of f)) same;
+      second_places = other_places ∙ ap (λ z. places_in z (columns_of g)) same;
+      first_right = one;
+      second_right = other;
+    }

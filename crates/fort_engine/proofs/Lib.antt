@@ -1,0 +1,7 @@
+pub mod OperandLaws
+pub mod PlaceLaws
+pub mod UseLaws
+pub mod AnswerLaws
+pub mod JoinLaws
+pub mod DecideLaws
+pub mod TestLaws

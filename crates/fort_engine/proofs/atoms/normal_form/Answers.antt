@@ -1,0 +1,8 @@
+use Rattle.fort_logic.specs.Cores as core
+use Rattle.fort_engine.proofs.AnswerLaws.{AreLabelsFor-Nf}
+use Rattle.fort_engine.proofs.atoms.normal_form.Goals as goal
+
+pub returns : goal.returns
+returns c x =
+    let l = c.in_ok-labels.ensures in
+    c.explored.ensures (core.Nf c.args.index x) (AreLabelsFor-Nf c.args.system.now c.args.index x c.in_ok-labels.labels l.columns l.alike l.accepted)

@@ -1,0 +1,11 @@
+use Rattle.fort_logic.specs.Cores as core
+use Rattle.fort_formulas.specs.CoreView.{as_rel}
+use Rattle.fort_engine.proofs.AnswerLaws.{AreLabelsFor-Atom}
+use Rattle.fort_engine.proofs.atoms.related.Goals as goal
+
+pub returns : goal.returns
+returns c =
+    let l = c.in_ok-labels.ensures in
+    let rel = as_rel c.args.rel in
+    c.explored.ensures (core.Atom rel c.args.index c.args.x c.args.y)
+    (AreLabelsFor-Atom c.args.system.now rel c.args.index c.args.x c.args.y c.in_ok-labels.labels l.columns l.alike l.accepted)

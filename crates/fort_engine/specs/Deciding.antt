@@ -1,0 +1,62 @@
+-- Inside: what a part meets that is decided, what is known of its operands, what a decision of it is, and which labels are a formula's.
+use Rattle.std.specs.Prelude.{◌≡◌, ℕ, ◌<◌, ◌≤◌, List, length, get_or, Bool, Option, None, Result, IfOk, IfErr, OnOk}
+use Rattle.fort_theory.specs.Signatures.{most_columns}
+use Rattle.fort_theory.specs.Patterns.{PatternSystem}
+use Rattle.fort_logic.specs.Cores as core
+use Rattle.fort_logic.specs.Parts.{BindsFree}
+use Rattle.fort_tables.specs.Tables.{Table}
+use Rattle.fort_tables.specs.Labels.{Labelling, IsTableOf}
+use Rattle.fort_tables.specs.LabelRules.{IsTableBy}
+use Rattle.fort_operations.specs.Products.{Connective}
+use Rattle.fort_parts.specs.PartColumns.{columns_of, places_in}
+use Rattle.fort_parts.specs.AlikeParts.{IsPartOver}
+use Rattle.fort_parts.specs.PartAnswers.{Answer, OfTable}
+use Rattle.fort_parts.specs.PartLabels.{LabelsTellAlike}
+use Rattle.fort_parts.specs.DecidedCores.{IsOverSystem, IsOneStep, IsOperandOf}
+use Rattle.fort_parts.specs.RightAnswers.{IsRightFor, HasTooMany, joined}
+use Rattle.fort_parts.proofs.PartOrder.{IsEarlier}
+use Rattle.fort_explore.specs.declared.table.ExploreFault.{ExploreFault}
+use Rattle.fort_explore.specs.Answer.{IfOver}
+use Rattle.fort_engine.specs.declared.answer.Last.{Last}
+use Rattle.fort_engine.specs.AnswerView.{as_answer}
+use Rattle.fort_engine.specs.Uses.{HasRightAnswer}
+
+-- its indices and terms are the system's, it is about single steps, and it is no wider than a tuple
+pub record IsFit (system : PatternSystem) (f : core.Core) : Type 0 where
+  pub over : IsOverSystem system f
+  pub one_step : IsOneStep f
+  pub binders : BindsFree f
+  pub few : length (columns_of f) ≤ most_columns
+
+-- the formula is an earlier part, its right answer is kept, and it is not over the cap
+pub record IsAnswered (system : PatternSystem) (cap : ℕ) (parts : List core.Core) (kept : List (Option Last)) (g : core.Core) : Type 0 where
+  pub earlier : IsEarlier parts (length kept) g
+  pub right : (j : ℕ) → j < length kept → get_or parts j core.True ≡ g → HasRightAnswer system g (get_or kept j None)
+  pub within : IsPartOver system g cap → ⊥
+
+abbrev pub HasOperands : PatternSystem → ℕ → List core.Core → List (Option Last) → core.Core → Type 0
+HasOperands system cap parts kept f = (g : core.Core) → IsOperandOf g f → IsAnswered system cap parts kept g
+
+-- a right answer, and then the formula is not over the cap; or tuples that show that it is
+pub record IsDecision (system : PatternSystem) (f : core.Core) (cap : ℕ) (result : Result Last ExploreFault) : Type 0 where
+  pub ok : IfOk result (λ a. IsRightFor system f (as_answer a))
+  pub within : OnOk result (IsPartOver system f cap → ⊥)
+  pub over : IfErr result (λ e. IfOver e (HasTooMany system f cap))
+
+-- labels of tuples of its columns, which tell when tuples are alike, and any table by which is right for it
+pub record AreLabelsFor (system : PatternSystem) (f : core.Core) (columns : ℕ) (label : Labelling) (accepting : List ℕ → Bool) : Type 0 where
+  pub count : columns ≡ length (columns_of f)
+  pub alike : LabelsTellAlike system f label
+  pub right : (table : Table) → IsTableOf system.signature columns label accepting table → IsTableBy system.signature columns label accepting table
+      → IsRightFor system f (OfTable table)
+
+-- h is f and g joined, with right answers to both and the places of their columns among those of h
+pub record IsJoining (system : PatternSystem) (op : Connective) (h f g : core.Core) (first : Answer) (places : List ℕ) (second : Answer) (others : List ℕ) (columns : ℕ) : Type 0 where
+  pub whole : h ≡ joined op f g
+  pub count : columns ≡ length (columns_of h)
+  pub some : 0 < columns
+  pub few : columns ≤ most_columns
+  pub first_places : places ≡ places_in (columns_of h) (columns_of f)
+  pub second_places : others ≡ places_in (columns_of h) (columns_of g)
+  pub first_right : IsRightFor system f first
+  pub second_right : IsRightFor system g second

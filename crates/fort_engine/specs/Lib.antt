@@ -1,0 +1,4 @@
+pub mod AnswerView
+pub mod Uses
+pub mod Deciding
+pub mod TestFormulas

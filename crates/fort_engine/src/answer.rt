@@ -1,0 +1,60 @@
+//! What formulas are decided to.
+use fort_formulas::Kind;
+use fort_lockstep::{Dag, Dta};
+use std::alloc::{AllocError, AllocFailed};
+
+/// The answer to a formula, or to a part of one.
+#[derive(Drop)]
+pub enum Last {
+    /// Without free variables, whether it is true.
+    Truth(bool),
+    /// The table over its columns, which are its free variables, ascending.
+    Auto(Dta),
+}
+
+/// How a formula was decided.
+#[derive(Drop)]
+pub struct Trace {
+    pub last: Last,
+}
+
+/// The first part with more labels than the cap.
+#[derive(Drop)]
+pub struct Limit {
+    /// Its number.
+    pub part: usize,
+    pub kind: Kind,
+    /// One more tuple than the cap, no two of them alike.
+    pub tuples: Dag,
+}
+
+/// Why there is no answer.
+#[derive(Drop)]
+pub enum EngineFault {
+    /// Want of memory.
+    Memory,
+    /// Some part has more labels than the cap.
+    Over(Limit),
+}
+
+impl From<AllocError> for EngineFault {
+    ghost use Rattle.std.specs.Prelude.{◌≡◌};
+    ghost use Rattle.fort_engine.specs.declared.answer.EngineFault.TheVariants.{Memory};
+
+    ghost from_gives = { λ _ r. r ≡ Memory };
+
+    fn from(_e: AllocError) -> EngineFault {
+        EngineFault::Memory
+    }
+}
+
+impl<T: Drop> From<AllocFailed<T>> for EngineFault {
+    ghost use Rattle.std.specs.Prelude.{◌≡◌};
+    ghost use Rattle.fort_engine.specs.declared.answer.EngineFault.TheVariants.{Memory};
+
+    ghost from_gives = { λ _ r. r ≡ Memory };
+
+    fn from(_e: AllocFailed<T>) -> EngineFault {
+        EngineFault::Memory
+    }
+}

@@ -1,0 +1,18 @@
+//! Decides core formulas over a system, part by part.
+#![tactic(auto)]
+
+mod answer;
+mod atoms;
+mod decide;
+mod explored;
+mod joined;
+mod operands;
+mod part;
+mod projected;
+mod uses;
+
+pub use answer::{EngineFault, Last, Limit, Trace};
+pub use decide::decide_core;
+
+#[cfg(test)]
+mod tests;
