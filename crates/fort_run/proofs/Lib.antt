@@ -3,3 +3,8 @@ pub mod OneInput
 pub mod OneAnswer
 pub mod Replies
 pub mod Fitting
+pub mod LinearRules
+pub mod SomeParts
+pub mod Deciding
+pub mod Readiness
+pub mod ReplyStatuses

@@ -1,5 +1,5 @@
 -- Words and bytes are owed one answer.
-use Rattle.std.proofs.Common.{◌≡◌, ℕ, ◌≤◌, List, sym, subst, arith}
+use Rattle.std.proofs.Common.{◌≡◌, ◌⊎◌, ℕ, ◌≤◌, List, inl, inr, sym, subst, arith}
 use Rattle.std.specs.Prelude.{All, Bool, Option, None, Some, IfSome}
 use Rattle.fort_theory.specs.Trees.{Tree}
 use Rattle.fort_theory.specs.Signatures.{IsGround, HasConstant}
@@ -9,43 +9,53 @@ use Rattle.fort_logic.proofs.Verdicts.{IsTrueOf-not_false}
 use Rattle.fort_io.specs.Devices.{Takes}
 use Rattle.fort_answers.specs.Requests.{Text, Request, Decide, Witness, Check, Sample}
 use Rattle.fort_answers.specs.CommandGrammar.{request_of}
-use Rattle.fort_answers.specs.Lines.{positive, negative, usage, refused, usage_text, yes_line, no_line, not_decided_yet}
-use Rattle.fort_answers.specs.DecideAnswer.{IsBuilt, Are, DecidesOf, DecideEarly, DecideAnswer, Early, InputRefused, FormulaUnfit, NotDecidedYet, Yes, No}
+use Rattle.fort_answers.specs.Lines.{positive, negative, usage, refused, limited, usage_text, yes_line, no_line, limit_line, not_decided_yet}
+use Rattle.fort_answers.specs.DecideAnswer.{IsBuilt, Are, DecidesOf, DecideEarly, DecideAnswer, Early, InputRefused, FormulaUnfit, NotDecidedYet, Limited, Yes, No, PassesCap, KeepsCap}
 use Rattle.fort_answers.specs.FitAnswer.{FitsSystem, IsUnfit}
 use Rattle.fort_answers.specs.InputAnswer.{IsInput, IsInputRefused}
 use Rattle.fort_answers.specs.Answer.{OwesTold, owed_early, owed, Answer, AnswerFor}
 use Rattle.fort_answers.proofs.OneFit.{IsUnfit-unique, FitsSystem-not_unfit, FitsSystem-unique, FitsSystem-ground}
 use Rattle.fort_answers.proofs.OneRequest.{Are-unique, IsAccepted-unique, DecideEarly-unique, early-without_input}
-use Rattle.fort_run.specs.Plain.{IsVerdict, Undecided, Holds, Fails}
-use Rattle.fort_run.specs.Answered.{Answers, OwesOnly, OwesOnlyEarly, IsDecidable}
+use Rattle.fort_answers.proofs.OneCap.{PassesCap-unique, PassesCap-not_kept}
+use Rattle.fort_run.specs.Plain.{IsVerdict, Undecided, Limits, Holds, Fails}
+use Rattle.fort_run.specs.Answered.{Answers, OwesOnly, OwesOnlyEarly, IsDecidable, IsDecidableWithin}
 use Rattle.fort_run.proofs.OneInput.{IsInputRefused-unique, IsInput-not_refused, IsInput-unique}
 
 -- the answer to a formula over a system: it speaks of more than the system has, or it is answered with the terms in it
-data Verdict (formula : Text) (f : Formula) (system : System) (status : ℕ) (text : Text) : Type 0 where
-  Unfit : (line : Text) → IsUnfit formula f system line → Are status text refused line → Verdict formula f system status text
-  Fit : (terms : List Tree) → FitsSystem formula f system terms → IsVerdict system terms f status text → Verdict formula f system status text
+data Verdict (formula : Text) (f : Formula) (states : ℕ) (system : System) (status : ℕ) (text : Text) : Type 0 where
+  Unfit : (line : Text) → IsUnfit formula f system line → Are status text refused line → Verdict formula f states system status text
+  Fit : (terms : List Tree) → FitsSystem formula f system terms → IsVerdict system terms f states status text → Verdict formula f states system status text
 
 -- the answer to a formula over an input
-data Reply (formula : Text) (f : Formula) (bytes : Text) (status : ℕ) (text : Text) : Type 0 where
-  Refuses : (line : Text) → IsInputRefused bytes line → Are status text refused line → Reply formula f bytes status text
-  Decides : (system : System) → IsInput bytes system → Verdict formula f system status text → Reply formula f bytes status text
+data Reply (formula : Text) (f : Formula) (states : ℕ) (bytes : Text) (status : ℕ) (text : Text) : Type 0 where
+  Refuses : (line : Text) → IsInputRefused bytes line → Are status text refused line → Reply formula f states bytes status text
+  Decides : (system : System) → IsInput bytes system → Verdict formula f states system status text → Reply formula f states bytes status text
 
-module _ (formula : Text) (f : Formula) (s s' : ℕ) (t t' : Text) where
-  IsVerdict-unique : (system : System) (terms : List Tree) → HasConstant system.signature → All (IsGround system.signature) terms
-      → IsVerdict system terms f s t → IsVerdict system terms f s' t' → Are s t s' t'
-  IsVerdict-unique system terms constant all (Undecided not are) (Undecided not' are') = Are-unique refused not_decided_yet s s' t t' are are'
-  IsVerdict-unique system terms constant all (Undecided not are) (Holds built holds are') = absurd (not built)
-  IsVerdict-unique system terms constant all (Undecided not are) (Fails built fails are') = absurd (not built)
-  IsVerdict-unique system terms constant all (Holds built holds are) (Undecided not are') = absurd (not built)
-  IsVerdict-unique system terms constant all (Holds built holds are) (Holds built' holds' are') = Are-unique positive yes_line s s' t t' are are'
-  IsVerdict-unique system terms constant all (Holds built holds are) (Fails built' fails are') =
-      absurd (IsTrueOf-not_false system terms f constant all holds fails)
-  IsVerdict-unique system terms constant all (Fails built fails are) (Undecided not are') = absurd (not built)
-  IsVerdict-unique system terms constant all (Fails built fails are) (Holds built' holds are') =
-      absurd (IsTrueOf-not_false system terms f constant all holds fails)
-  IsVerdict-unique system terms constant all (Fails built fails are) (Fails built' fails' are') = Are-unique negative no_line s s' t t' are are'
+module _ (formula : Text) (f : Formula) (states : ℕ) (s s' : ℕ) (t t' : Text) where
+  module _ (system : System) (terms : List Tree) (constant : HasConstant system.signature) (grounded : All (IsGround system.signature) terms) where
+    IsVerdict-unique : IsVerdict system terms f states s t → IsVerdict system terms f states s' t' → Are s t s' t'
+    IsVerdict-unique (Undecided not are) (Undecided not' are') = Are-unique refused not_decided_yet s s' t t' are are'
+    IsVerdict-unique (Undecided not are) (Limits built k kind over are') = absurd (not built)
+    IsVerdict-unique (Undecided not are) (Holds built keeps holds are') = absurd (not built)
+    IsVerdict-unique (Undecided not are) (Fails built keeps fails are') = absurd (not built)
+    IsVerdict-unique (Limits built k kind over are) (Undecided not are') = absurd (not built)
+    IsVerdict-unique (Limits built k kind over are) (Limits built' k' kind' over' are') =
+        let one = PassesCap-unique system terms f states k' k kind' kind over' over in
+        Are-unique limited (limit_line k kind states) s s' t t' are (subst (Are s' t' limited) one are')
+    IsVerdict-unique (Limits built k kind over are) (Holds built' keeps holds are') = absurd (PassesCap-not_kept system terms f states k kind over keeps)
+    IsVerdict-unique (Limits built k kind over are) (Fails built' keeps fails are') = absurd (PassesCap-not_kept system terms f states k kind over keeps)
+    IsVerdict-unique (Holds built keeps holds are) (Undecided not are') = absurd (not built)
+    IsVerdict-unique (Holds built keeps holds are) (Limits built' k kind over are') = absurd (PassesCap-not_kept system terms f states k kind over keeps)
+    IsVerdict-unique (Holds built keeps holds are) (Holds built' keeps' holds' are') = Are-unique positive yes_line s s' t t' are are'
+    IsVerdict-unique (Holds built keeps holds are) (Fails built' keeps' fails are') =
+        absurd (IsTrueOf-not_false system terms f constant grounded holds fails)
+    IsVerdict-unique (Fails built keeps fails are) (Undecided not are') = absurd (not built)
+    IsVerdict-unique (Fails built keeps fails are) (Limits built' k kind over are') = absurd (PassesCap-not_kept system terms f states k kind over keeps)
+    IsVerdict-unique (Fails built keeps fails are) (Holds built' keeps' holds are') =
+        absurd (IsTrueOf-not_false system terms f constant grounded holds fails)
+    IsVerdict-unique (Fails built keeps fails are) (Fails built' keeps' fails' are') = Are-unique negative no_line s s' t t' are are'
 
-  Verdict-unique : (system : System) (bytes : Text) → IsInput bytes system → Verdict formula f system s t → Verdict formula f system s' t' → Are s t s' t'
+  Verdict-unique : (system : System) (bytes : Text) → IsInput bytes system → Verdict formula f states system s t → Verdict formula f states system s' t' → Are s t s' t'
   Verdict-unique system bytes is (Unfit line says are) (Unfit line' says' are') =
       let one = IsUnfit-unique formula f system line' line says' says in
       Are-unique refused line s s' t t' are (subst (Are s' t' refused) one are')
@@ -54,9 +64,9 @@ module _ (formula : Text) (f : Formula) (s s' : ℕ) (t t' : Text) where
   Verdict-unique system bytes is (Fit terms fits verdict) (Fit terms' fits' verdict') =
       let one = FitsSystem-unique formula f system bytes terms' terms is fits' fits in
       IsVerdict-unique system terms is.problem.problem.constant (FitsSystem-ground formula f system terms fits) verdict
-      (subst (λ ts. IsVerdict system ts f s' t') one verdict')
+      (subst (λ ts. IsVerdict system ts f states s' t') one verdict')
 
-  Reply-unique : (bytes : Text) → Reply formula f bytes s t → Reply formula f bytes s' t' → Are s t s' t'
+  Reply-unique : (bytes : Text) → Reply formula f states bytes s t → Reply formula f states bytes s' t' → Are s t s' t'
   Reply-unique bytes (Refuses line says are) (Refuses line' says' are') =
       let one = IsInputRefused-unique bytes line' line says' says in
       Are-unique refused line s s' t t' are (subst (Are s' t' refused) one are')
@@ -64,12 +74,12 @@ module _ (formula : Text) (f : Formula) (s s' : ℕ) (t t' : Text) where
   Reply-unique bytes (Decides system is verdict) (Refuses line says are) = absurd (IsInput-not_refused bytes system line is says)
   Reply-unique bytes (Decides system is verdict) (Decides system' is' verdict') =
       let one = IsInput-unique bytes system' system is' is in
-      Verdict-unique system bytes is verdict (subst (λ x. Verdict formula f x s' t') one verdict')
+      Verdict-unique system bytes is verdict (subst (λ x. Verdict formula f states x s' t') one verdict')
 
 -- an answer for which nothing is read, or one to the formula that is asked
 data Staged (states : ℕ) (certificate : Bool) (formula bytes : Text) (status : ℕ) (text : Text) : Type 0 where
-  Unread : DecideEarly states certificate formula status text → Staged states certificate formula bytes status text
-  Asked : (f : Formula) → DecidesOf states certificate formula f → Reply formula f bytes status text → Staged states certificate formula bytes status text
+  Unread : DecideEarly certificate formula status text → Staged states certificate formula bytes status text
+  Asked : (f : Formula) → DecidesOf certificate formula f → Reply formula f states bytes status text → Staged states certificate formula bytes status text
 
 module _ (states : ℕ) (certificate : Bool) (formula : Text) where
   staged : (bytes : Text) (s : ℕ) (t : Text) → DecideAnswer states certificate formula bytes s t → Staged states certificate formula bytes s t
@@ -77,25 +87,28 @@ module _ (states : ℕ) (certificate : Bool) (formula : Text) where
   staged bytes s t (InputRefused f asks line says are) = Asked f asks (Refuses line says are)
   staged bytes s t (FormulaUnfit f asks system is line says are) = Asked f asks (Decides system is (Unfit line says are))
   staged bytes s t (NotDecidedYet f asks system is terms fits not are) = Asked f asks (Decides system is (Fit terms fits (Undecided not are)))
-  staged bytes s t (Yes f asks system is terms fits built holds are) = Asked f asks (Decides system is (Fit terms fits (Holds built holds are)))
-  staged bytes s t (No f asks system is terms fits built fails are) = Asked f asks (Decides system is (Fit terms fits (Fails built fails are)))
+  staged bytes s t (Limited f asks system is terms fits built k kind over are) =
+      Asked f asks (Decides system is (Fit terms fits (Limits built k kind over are)))
+  staged bytes s t (Yes f asks system is terms fits built keeps holds are) = Asked f asks (Decides system is (Fit terms fits (Holds built keeps holds are)))
+  staged bytes s t (No f asks system is terms fits built keeps fails are) = Asked f asks (Decides system is (Fit terms fits (Fails built keeps fails are)))
 
   Staged-unique : (bytes : Text) (s s' : ℕ) (t t' : Text) → Staged states certificate formula bytes s t → Staged states certificate formula bytes s' t' → Are s t s' t'
-  Staged-unique bytes s s' t t' (Unread early) (Unread early') = DecideEarly-unique states certificate formula s s' t t' early early'
-  Staged-unique bytes s s' t t' (Unread early) (Asked f asks reply) = absurd (early-without_input states certificate formula s t early f asks)
-  Staged-unique bytes s s' t t' (Asked f asks reply) (Unread early) = absurd (early-without_input states certificate formula s' t' early f asks)
+  Staged-unique bytes s s' t t' (Unread early) (Unread early') = DecideEarly-unique certificate formula s s' t t' early early'
+  Staged-unique bytes s s' t t' (Unread early) (Asked f asks reply) = absurd (early-without_input certificate formula s t early f asks)
+  Staged-unique bytes s s' t t' (Asked f asks reply) (Unread early) = absurd (early-without_input certificate formula s' t' early f asks)
   Staged-unique bytes s s' t t' (Asked f asks reply) (Asked f' asks' reply') =
       let one = IsAccepted-unique formula f' f asks'.accepted asks.accepted in
-      Reply-unique formula f s s' t t' bytes reply (subst (λ g. Reply formula g bytes s' t') one reply')
+      Reply-unique formula f states s s' t t' bytes reply (subst (λ g. Reply formula g states bytes s' t') one reply')
 
   pub DecideAnswer-unique : (bytes : Text) (s s' : ℕ) (t t' : Text) → DecideAnswer states certificate formula bytes s t
       → DecideAnswer states certificate formula bytes s' t' → Are s t s' t'
   DecideAnswer-unique bytes s s' t t' one other = Staged-unique bytes s s' t t' (staged bytes s t one) (staged bytes s' t' other)
 
-  -- a formula that is decided, over a system, is answered by YES or NO
-  pub decided_low : (f : Formula) (bytes : Text) (system : System) (terms : List Tree) (s : ℕ) (t : Text) → DecidesOf states certificate formula f → IsBuilt f
-      → IsInput bytes system → FitsSystem formula f system terms → DecideAnswer states certificate formula bytes s t → s ≤ negative
-  decided_low f bytes system terms s t asks built is fits (Early early) = absurd (early-without_input states certificate formula s t early f asks)
+  -- a formula that is decided, over a system, is answered by YES or NO, or by the part of it that is over the cap
+  pub decided_low : (f : Formula) (bytes : Text) (system : System) (terms : List Tree) (s : ℕ) (t : Text) → DecidesOf certificate formula f → IsBuilt f
+      → IsInput bytes system → FitsSystem formula f system terms → DecideAnswer states certificate formula bytes s t
+      → (s ≤ negative) ⊎ ((s ≡ limited) × (KeepsCap system terms f states → ⊥))
+  decided_low f bytes system terms s t asks built is fits (Early early) = absurd (early-without_input certificate formula s t early f asks)
   decided_low f bytes system terms s t asks built is fits (InputRefused g asks' line says are) = absurd (IsInput-not_refused bytes system line is says)
   decided_low f bytes system terms s t asks built is fits (FormulaUnfit g asks' system' is' line says are) =
       let one = IsAccepted-unique formula g f asks'.accepted asks.accepted in
@@ -104,8 +117,18 @@ module _ (states : ℕ) (certificate : Bool) (formula : Text) where
       (subst (λ x. IsUnfit formula f x line) same (subst (λ h. IsUnfit formula h system' line) one says)))
   decided_low f bytes system terms s t asks built is fits (NotDecidedYet g asks' system' is' terms' fits' not are) =
       absurd (not (subst IsBuilt (IsAccepted-unique formula f g asks.accepted asks'.accepted) built))
-  decided_low f bytes system terms s t asks built is fits (Yes g asks' system' is' terms' fits' built' holds are) = let e = are.same_status in omega arith
-  decided_low f bytes system terms s t asks built is fits (No g asks' system' is' terms' fits' built' fails are) = let e = are.same_status in omega arith
+  decided_low f bytes system terms s t asks built is fits (Limited g asks' system' is' terms' fits' built' k kind over are) =
+      let one : g ≡ f = IsAccepted-unique formula g f asks'.accepted asks.accepted in
+      let same : system' ≡ system = IsInput-unique bytes system' system is' is in
+      let at_system = subst (λ x. FitsSystem formula f x terms') same (subst (λ h. FitsSystem formula h system' terms') one fits') in
+      let all : terms' ≡ terms = FitsSystem-unique formula f system bytes terms' terms is at_system fits in
+      let there = subst (λ ts. PassesCap system ts f states k kind) all
+      (subst (λ x. PassesCap x terms' f states k kind) same (subst (λ h. PassesCap system' terms' h states k kind) one over)) in
+      inr (are.same_status, PassesCap-not_kept system terms f states k kind there)
+  decided_low f bytes system terms s t asks built is fits (Yes g asks' system' is' terms' fits' built' keeps holds are) =
+      inl (let e = are.same_status in omega arith)
+  decided_low f bytes system terms s t asks built is fits (No g asks' system' is' terms' fits' built' keeps fails are) =
+      inl (let e = are.same_status in omega arith)
 
 pub owed-unique : (request : Option Request) (bytes : Text) (s s' : ℕ) (t t' : Text) → owed request bytes s t → owed request bytes s' t' → Are s t s' t'
 owed-unique None bytes s s' t t' one other = Are-unique usage usage_text s s' t t' one other
@@ -153,10 +176,17 @@ Answers-early words told old new status given s t early =
     let same = owed-unique (request_of words) some.0 s status t given.text (owed_from_early (request_of words) some.0 s t early) some.1 in
     (same.same_status, subst (Takes old new) (sym same.same_text) given.taken)
 
-pub Answers-decided : (words : List Text) (told old new : Option Text) (status : ℕ) → Answers words told old new status → IsDecidable words told → status ≤ negative
-Answers-decided words told old new status given is =
-    let at_bytes : OwesTold (request_of words) (Some is.bytes) status given.text =
-    subst (λ o. OwesTold (request_of words) o status given.text) is.told_are given.owed in
-    let at_request : owed (Some (Decide is.states is.certificate is.formula)) is.bytes status given.text =
-    subst (λ r. owed r is.bytes status given.text) is.asked at_bytes in
-    decided_low is.states is.certificate is.formula is.f is.bytes is.system is.terms status given.text is.decides is.built is.input is.fits at_request
+module _ (words : List Text) (told old new : Option Text) (status : ℕ) (given : Answers words told old new status) where
+  decided_or_over : (is : IsDecidable words told) → (status ≤ negative) ⊎ ((status ≡ limited) × (KeepsCap is.system is.terms is.f is.states → ⊥))
+  decided_or_over is =
+      let at_bytes : OwesTold (request_of words) (Some is.bytes) status given.text =
+      subst (λ o. OwesTold (request_of words) o status given.text) is.told_are given.owed in
+      let at_request : owed (Some (Decide is.states is.certificate is.formula)) is.bytes status given.text =
+      subst (λ r. owed r is.bytes status given.text) is.asked at_bytes in
+      decided_low is.states is.certificate is.formula is.f is.bytes is.system is.terms status given.text is.decides is.built is.input is.fits at_request
+
+  pub Answers-decided : IsDecidable words told → (status ≤ negative) ⊎ (status ≡ limited)
+  Answers-decided is = elim (decided_or_over is) [ inl low ↦ inl low | inr over ↦ inr over.0 ]
+
+  pub Answers-kept : IsDecidableWithin words told → status ≤ negative
+  Answers-kept is = elim (decided_or_over is.decidable) [ inl low ↦ low | inr over ↦ absurd (over.1 is.keeps) ]

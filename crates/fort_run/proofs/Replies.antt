@@ -1,15 +1,14 @@
 -- From what was read to the answer that is owed.
 use Rattle.std.proofs.Common.{◌≡◌, ℕ, zero, suc, ◌+◌, ◌<◌, ◌≤◌, List, [], ◌∷◌, ◌++◌, length, refl, sym, ap, subst, ◌∙◌, append-nil, length-append, arith}
-use Rattle.std.specs.Prelude.{false, true, Bool, Option, Some, None, IfSome, MatchBool, MatchOption}
+use Rattle.std.specs.Prelude.{false, Option, Some, None, IfSome, MatchOption}
 use Rattle.std.specs.Io.KnownBytes.{Consumes, IsAtEnd}
 use Rattle.fort_theory.specs.Trees.{Tree}
 use Rattle.fort_theory.specs.Sides.{System}
 use Rattle.fort_theory.specs.Patterns.{PatternSystem, pattern_system}
 use Rattle.fort_logic.specs.Formulas.{Formula}
-use Rattle.fort_logic.specs.FreeNames.{free_names}
-use Rattle.fort_logic.specs.Truth.{IsTrueOf, IsFalseOf}
+use Rattle.fort_logic.specs.Translation.{core_of}
 use Rattle.fort_grammar.specs.Text.{BadByte, ExtraClose, Unclosed, TooDeep}
-use Rattle.fort_grammar.specs.Forms.{Form, Forms, NoForm, MoreForms, AreForms, AreFormsOf, End, Skip, AWord, AList}
+use Rattle.fort_grammar.specs.Forms.{Forms, NoForm, MoreForms, AreForms, AreFormsOf, End, Skip, AWord, AList}
 use Rattle.fort_grammar.specs.Declarations.{ProblemFault, BadForm, as_list}
 use Rattle.fort_grammar.specs.ProblemForms.{IsProblem, IsFirstProblemFault}
 use Rattle.fort_sexpr.specs.FormView.{form_count}
@@ -19,14 +18,16 @@ use Rattle.fort_sexpr.specs.declared.fault.SFault.TheVariants as sfaults
 use Rattle.fort_ari.specs.declared.fault.ProblemFault.{ProblemFault as ariFault}
 use Rattle.fort_ari.specs.Faults.{as_fault}
 use Rattle.fort_answers.specs.Requests.{Text}
-use Rattle.fort_answers.specs.Lines.{input_too_long, not_decided_yet, problem_fault_line, yes_line, no_line, positive, negative, refused}
-use Rattle.fort_answers.specs.DecideAnswer.{IsBuilt, Are, IsPlain, DecidesOf, FormulaRefused, Early, InputRefused, FormulaUnfit, NotDecidedYet, Yes, No}
+use Rattle.fort_answers.specs.Lines.{input_too_long, problem_fault_line, refused}
+use Rattle.fort_answers.specs.DecideAnswer.{Are, DecidesOf, FormulaRefused, Early, InputRefused, FormulaUnfit, NotDecidedYet, Limited, Yes, No}
 use Rattle.fort_answers.specs.FitAnswer.{FitsSystem, IsUnfit}
 use Rattle.fort_answers.specs.FormulaAnswer.{IsAccepted, IsRefused}
 use Rattle.fort_answers.specs.InputAnswer.{IsInput, IsInputRefused, TooLong, NoForms, NoProblem, FormBehind, input_limit}
 use Rattle.fort_answers.proofs.OneVerdict.{accepted-not_refused}
 use Rattle.fort_run.specs.Refusals.{SaysProblemFault, SaysTextFault}
-use Rattle.fort_run.specs.Plain.{IsVerdict, Undecided, Holds, Fails, PlainAnswers, PlainNeedsInput, PlainOwes}
+use Rattle.fort_engine.specs.declared.answer.Limit.{Limit}
+use Rattle.fort_engine.specs.AnswerView.{IsLimit}
+use Rattle.fort_run.specs.Plain.{IsVerdict, Undecided, Limits, Holds, Fails, PlainAnswers, PlainNeedsInput, PlainOwes, PlainLimit, PlainLimitTold}
 
 -- the forms of a text, counted
 pub count_of : (forms : Forms) → form_count forms ≡ length (as_list forms)
@@ -85,16 +86,18 @@ is_input bytes forms system next short are problem end =
       problem = record { forms = forms; are_forms = are; problem = subst (λ n. IsProblem bytes (as_list forms) system n) same problem };
     }
 
+-- some text is longer than any number says
+longer_than : (n : ℕ) → (bytes : List ℕ) × (n < length bytes)
+longer_than zero = (0 ∷ [], omega arith)
+longer_than (suc n) = let r = longer_than n in (0 ∷ r.0, omega (arith, r.1))
+
 -- ---- the plain request
 
 are : (status : ℕ) (text : Text) → Are status text status text
 are status text = record { same_status = refl; same_text = refl }
 
-plain_is : IsPlain 10000 false
-plain_is = record { states_are = refl; without = refl }
-
-asks : (text : Text) (f : Formula) → IsAccepted text f → DecidesOf 10000 false text f
-asks text f accepted = record { plain = plain_is; accepted = accepted }
+asks : (text : Text) (f : Formula) → IsAccepted text f → DecidesOf false text f
+asks text f accepted = record { without = refl; accepted = accepted }
 
 pub needs : (text : Text) (f : Formula) → IsAccepted text f → PlainNeedsInput text
 needs text f accepted = (f, asks text f accepted)
@@ -102,62 +105,68 @@ needs text f accepted = (f, asks text f accepted)
 pub refused_needs_nothing : (text line : Text) → IsRefused text line → PlainNeedsInput text → ⊥
 refused_needs_nothing text line says (f, asked) = accepted-not_refused text f line asked.accepted says
 
-pub owes_refusal : (text line : Text) (told : Option Text) → IsRefused text line → PlainOwes text told refused line
-owes_refusal text line None says = ([], Early (FormulaRefused plain_is line says (are refused line)))
-owes_refusal text line (Some bytes) says = Early (FormulaRefused plain_is line says (are refused line))
+module _ (states : ℕ) (text : Text) where
+  pub owes_refusal : (line : Text) (told : Option Text) → IsRefused text line → PlainOwes states text told refused line
+  owes_refusal line None says = ([], Early (FormulaRefused refl line says (are refused line)))
+  owes_refusal line (Some bytes) says = Early (FormulaRefused refl line says (are refused line))
 
-pub input_refused : (text : Text) (f : Formula) (bytes line : Text) → IsAccepted text f → IsInputRefused bytes line → PlainAnswers text bytes refused line
-input_refused text f bytes line accepted says = InputRefused f (asks text f accepted) line says (are refused line)
+  pub input_refused : (f : Formula) (bytes line : Text) → IsAccepted text f → IsInputRefused bytes line → PlainAnswers states text bytes refused line
+  input_refused f bytes line accepted says = InputRefused f (asks text f accepted) line says (are refused line)
 
--- a formula that speaks of more than the system of the input has
-pub unfit : (text : Text) (f : Formula) (bytes line : Text) (p : System) → IsAccepted text f → IsInput bytes p → IsUnfit text f p line
-    → PlainAnswers text bytes refused line
-unfit text f bytes line p accepted input says = FormulaUnfit f (asks text f accepted) p input line says (are refused line)
+  -- a formula that speaks of more than the system of the input has
+  pub unfit : (f : Formula) (bytes line : Text) (p : System) → IsAccepted text f → IsInput bytes p → IsUnfit text f p line
+      → PlainAnswers states text bytes refused line
+  unfit f bytes line p accepted input says = FormulaUnfit f (asks text f accepted) p input line says (are refused line)
 
--- what the verdict on a problem's system gives
-abbrev pub Decides : Bool → PatternSystem → Formula → Type 0
-Decides b system f = (bytes : List ℕ) (forms : List Form) (p : System) (next : ℕ) (terms : List Tree) → IsProblem bytes forms p next
-    → system ≡ pattern_system p → IsBuilt f → free_names f ≡ [] → MatchBool b (IsTrueOf p terms f) (IsFalseOf p terms f)
+  pub fit : (f : Formula) (bytes : Text) (p : System) (terms : List Tree) (status : ℕ) (line : Text) → IsAccepted text f → IsInput bytes p
+      → FitsSystem text f p terms → IsVerdict p terms f states status line → PlainAnswers states text bytes status line
+  fit f bytes p terms status line accepted input fits (Undecided not are) = NotDecidedYet f (asks text f accepted) p input terms fits not are
+  fit f bytes p terms status line accepted input fits (Limits built k kind over are) = Limited f (asks text f accepted) p input terms fits built k kind over are
+  fit f bytes p terms status line accepted input fits (Holds built keeps holds are) = Yes f (asks text f accepted) p input terms fits built keeps holds are
+  fit f bytes p terms status line accepted input fits (Fails built keeps fails are) = No f (asks text f accepted) p input terms fits built keeps fails are
 
--- the answers to a formula over the system of an input
-abbrev pub Answered : PatternSystem → Formula → ℕ → Text → Type 0
-Answered system f status line = (bytes : Text) (p : System) (terms : List Tree) → IsInput bytes p → system ≡ pattern_system p → free_names f ≡ []
-    → IsVerdict p terms f status line
+  -- a limit of the core formula over the system of the input
+  pub fit_limit : (f : Formula) (bytes : Text) (p : System) (system : PatternSystem) (terms : List Tree) (limit : Option Limit) → IsAccepted text f
+      → IsInput bytes p → FitsSystem text f p terms → system ≡ pattern_system p → IfSome limit (IsLimit system (core_of terms f) states)
+      → IfSome limit (PlainLimit states text bytes)
+  fit_limit f bytes p system terms None accepted input fits same is = tt
+  fit_limit f bytes p system terms (Some limit) accepted input fits same is = record {
+    states = states;
+    certificate = false;
+    formula = text;
+    asked = refl;
+    f = f;
+    decides = asks text f accepted;
+    system = p;
+    input = input;
+    terms = terms;
+    fits = fits;
+    is = subst (λ s. IsLimit s (core_of terms f) states limit) same is;
+  }
 
-pub is_undecided : (system : PatternSystem) (f : Formula) → (IsBuilt f → ⊥) → Answered system f refused not_decided_yet
-is_undecided system f not bytes p terms input is closed = Undecided not (are refused not_decided_yet)
+  -- the answer for the bytes that were read, all of them
+  pub answer_told : (old new : Option Text) (bytes : Text) (status : ℕ) (line : Text) → Consumes old new bytes → IsAtEnd new
+      → PlainAnswers states text bytes status line → PlainOwes states text old status line
+  answer_told None new bytes status line taken end answer = (bytes, answer)
+  answer_told (Some xs) None bytes status line taken end answer = absurd taken
+  answer_told (Some xs) (Some ys) bytes status line taken end answer =
+      let whole : xs ≡ bytes = taken ∙ ap (λ w. bytes ++ w) end ∙ append-nil bytes in
+      subst (λ b. PlainAnswers states text b status line) (sym whole) answer
 
-pub is_yes : (system : PatternSystem) (f : Formula) → IsBuilt f → Decides true system f → Answered system f positive yes_line
-is_yes system f built verdict bytes p terms input is closed =
-    Holds built (verdict bytes (as_list input.problem.forms) p _ terms input.problem.problem is built closed) (are positive yes_line)
+  told_are : (old new : Option Text) (bytes : Text) → Consumes old new bytes → IsAtEnd new → IfSome old (λ b. b ≡ bytes)
+  told_are None new bytes taken end = tt
+  told_are (Some xs) None bytes taken end = absurd taken
+  told_are (Some xs) (Some ys) bytes taken end = taken ∙ ap (λ w. bytes ++ w) end ∙ append-nil bytes
 
-pub is_no : (system : PatternSystem) (f : Formula) → IsBuilt f → Decides false system f → Answered system f negative no_line
-is_no system f built verdict bytes p terms input is closed =
-    Fails built (verdict bytes (as_list input.problem.forms) p _ terms input.problem.problem is built closed) (are negative no_line)
+  -- the same of a limit
+  pub limit_told : (old new : Option Text) (bytes : Text) (limit : Option Limit) → Consumes old new bytes → IsAtEnd new
+      → IfSome limit (PlainLimit states text bytes) → IfSome limit (PlainLimitTold states text old)
+  limit_told old new bytes None taken end has = tt
+  limit_told old new bytes (Some limit) taken end has = record { bytes = bytes; told_are = told_are old new bytes taken end; has = has }
 
-pub fit : (text : Text) (f : Formula) (bytes : Text) (p : System) (terms : List Tree) (status : ℕ) (line : Text) → IsAccepted text f → IsInput bytes p
-    → FitsSystem text f p terms → IsVerdict p terms f status line → PlainAnswers text bytes status line
-fit text f bytes p terms status line accepted input fits (Undecided not are) = NotDecidedYet f (asks text f accepted) p input terms fits not are
-fit text f bytes p terms status line accepted input fits (Holds built holds are) = Yes f (asks text f accepted) p input terms fits built holds are
-fit text f bytes p terms status line accepted input fits (Fails built fails are) = No f (asks text f accepted) p input terms fits built fails are
-
--- the answer for the bytes that were read, all of them
-pub answer_told : (text : Text) (old new : Option Text) (bytes : Text) (status : ℕ) (line : Text) → Consumes old new bytes → IsAtEnd new
-    → PlainAnswers text bytes status line → PlainOwes text old status line
-answer_told text None new bytes status line taken end answer = (bytes, answer)
-answer_told text (Some xs) None bytes status line taken end answer = absurd taken
-answer_told text (Some xs) (Some ys) bytes status line taken end answer =
-    let whole : xs ≡ bytes = taken ∙ ap (λ w. bytes ++ w) end ∙ append-nil bytes in
-    subst (λ b. PlainAnswers text b status line) (sym whole) answer
-
--- some text is longer than any number says
-longer_than : (n : ℕ) → (bytes : List ℕ) × (n < length bytes)
-longer_than zero = (0 ∷ [], omega arith)
-longer_than (suc n) = let r = longer_than n in (0 ∷ r.0, omega (arith, r.1))
-
-pub too_long_told : (text : Text) (f : Formula) (told : Option Text) → IsAccepted text f → IfSome told (λ bytes. input_limit < length bytes)
-    → PlainOwes text told refused input_too_long
-too_long_told text f None accepted long =
-    let some = longer_than input_limit in
-    (some.0, input_refused text f some.0 input_too_long accepted (TooLong some.1 refl))
-too_long_told text f (Some bytes) accepted long = input_refused text f bytes input_too_long accepted (TooLong long refl)
+  pub too_long_told : (f : Formula) (told : Option Text) → IsAccepted text f → IfSome told (λ bytes. input_limit < length bytes)
+      → PlainOwes states text told refused input_too_long
+  too_long_told f None accepted long =
+      let some = longer_than input_limit in
+      (some.0, input_refused f some.0 input_too_long accepted (TooLong some.1 refl))
+  too_long_told f (Some bytes) accepted long = input_refused f bytes input_too_long accepted (TooLong long refl)

@@ -7,7 +7,7 @@ use Rattle.fort_logic.specs.Formulas.{Formula}
 use Rattle.fort_io.specs.Devices.{Takes}
 use Rattle.fort_answers.specs.Requests.{Text, Decide}
 use Rattle.fort_answers.specs.CommandGrammar.{request_of}
-use Rattle.fort_answers.specs.DecideAnswer.{IsBuilt, DecidesOf}
+use Rattle.fort_answers.specs.DecideAnswer.{IsBuilt, KeepsCap, DecidesOf}
 use Rattle.fort_answers.specs.InputAnswer.{IsInput, input_limit}
 use Rattle.fort_answers.specs.FitAnswer.{FitsSystem}
 use Rattle.fort_answers.specs.Answer.{Answer, AnswerFor, EarlyAnswer}
@@ -45,7 +45,7 @@ pub record IsDecidable (words : List Text) (told : Option Text) : Type 0 where
   pub formula : Text
   pub asked : request_of words ≡ Some (Decide states certificate formula)
   pub f : Formula
-  pub decides : DecidesOf states certificate formula f
+  pub decides : DecidesOf certificate formula f
   pub built : IsBuilt f
   pub bytes : Text
   pub told_are : told ≡ Some bytes
@@ -53,3 +53,8 @@ pub record IsDecidable (words : List Text) (told : Option Text) : Type 0 where
   pub input : IsInput bytes system
   pub terms : List Tree
   pub fits : FitsSystem formula f system terms
+
+-- and each part of the formula keeps the cap
+pub record IsDecidableWithin (words : List Text) (told : Option Text) : Type 0 where
+  pub decidable : IsDecidable words told
+  pub keeps : KeepsCap decidable.system decidable.terms decidable.f decidable.states

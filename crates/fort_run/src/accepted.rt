@@ -1,5 +1,6 @@
 //! The formula of a text, or the line that refuses it.
-ghost use Rattle.std.specs.Prelude.{◌≡◌, ◌↔◌, ℕ, List, ◌<◌, ◌^◌, IsTrue, IfOk, IfErr, MatchOption};
+ghost use Rattle.std.specs.Prelude.{◌≡◌, ◌↔◌, ℕ, List, ◌<◌, ◌^◌, length, IsTrue, IfOk, IfErr, MatchOption};
+ghost use Rattle.fort_logic.specs.Mentions.{HasPlacesBelow};
 ghost use Rattle.fort_logic.specs.Translation.{IsFormulaTooWide};
 ghost use Rattle.fort_formula_grammar.specs.FormulaText.{IsFormulaText};
 ghost use Rattle.fort_answers.specs.FormulaAnswer.{IsAccepted, IsRefused};
@@ -46,6 +47,9 @@ fn refusal_of(alloc: Global, formula: &Formula) -> Result<Option<Vec<u8>>, Alloc
 pub fn accepted_formula(alloc: Global, text: &[u8]) -> Result<Parsed, Refusal>
     ensures ok { IfOk result (IsAcceptedAs text.now) }
     ensures short { IfOk result (λ p. AreShort p.grounds.items) }
+    ensures places { IfOk result (λ p.
+        HasPlacesBelow (length p.grounds.items) (as_formula p.formula)) }
+    ensures small { IfOk result (λ p. numbers_needed (as_formula p.formula) < 2 ^ 32) }
     ensures refused { IfErr result (RefusesFormula text.now) }
 {
     let parsed = match parse(alloc, text) {

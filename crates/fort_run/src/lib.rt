@@ -5,13 +5,16 @@ mod accepted;
 mod decide;
 mod fit;
 mod input;
+mod limit;
 mod outcome;
 mod refusal;
 mod reply;
 mod status;
+mod steps;
 #[cfg(test)]
 mod tests;
 mod top;
+mod verdict;
 
 pub use outcome::Outcome;
 pub use top::run;

@@ -1,30 +1,50 @@
 //! What the top call answers.
-ghost use Rattle.std.specs.Prelude.{◌≡◌};
+ghost use Rattle.std.specs.Prelude.{◌≡◌, None};
 ghost use Rattle.fort_answers.specs.Lines.{out_of_memory};
+ghost use Rattle.fort_run.specs.ReplyView.{status_of, limit_of};
 ghost use Rattle.fort_run.specs.StatusView.{code_of};
 
+use crate::reply::Reply;
 use crate::status::Status;
+use fort_engine::Limit;
 
 /// How a run ended.
-#[derive(Clone, Copy, Debug, PartialEq, Eq)]
+#[derive(Drop)]
 pub struct Outcome {
     /// 0 for YES, 1 for NO, 2 where the words are no request or one that isn't answered yet, 3 where the formula or the
-    /// input is refused, 5 for want of memory, 6 where a read and 7 where a write failed.
+    /// input is refused, 4 for LIMIT, 5 for want of memory, 6 where a read and 7 where a write failed.
     pub status: u8,
+    /// With 4, the part that is over the cap, and the tuples that show it.
+    pub limit: Option<Limit>,
 }
 
 impl Outcome {
     pub(crate) fn of(status: Status) -> Outcome
-        ensures { result.status ≡ code_of status }
+        ensures status { result.status ≡ code_of status }
+        ensures limit { result.limit ≡ None }
     {
         Outcome {
             status: status.code(),
+            limit: None,
+        }
+    }
+
+    /// That of a reply whose text was written.
+    pub(crate) fn of_reply(reply: Reply) -> Outcome
+        ensures status { result.status ≡ status_of reply }
+        ensures limit { result.limit ≡ limit_of reply }
+    {
+        let status = reply.status();
+        Outcome {
+            status: status.code(),
+            limit: reply.into_limit(),
         }
     }
 
     /// What a run ends with that found no memory for its words.
     pub fn out_of_memory() -> Outcome
-        ensures { result.status ≡ out_of_memory }
+        ensures status { result.status ≡ out_of_memory }
+        ensures limit { result.limit ≡ None }
     {
         Outcome::of(Status::OutOfMemory)
     }

@@ -40,7 +40,8 @@ impl<T: Drop> From<AllocFailed<T>> for Refusal {
     }
 }
 
-fn push_number(line: &mut Vec<u8>, n: usize) -> Result<(), AllocError>
+/// Adds a number's digits.
+pub fn push_number(line: &mut Vec<u8>, n: usize) -> Result<(), AllocError>
     ensures { OnOk result (line.new.items ≡ line.old.items ++ decimal n) }
 {
     let mut buffer = Buffer::new();

@@ -1,18 +1,21 @@
 //! Answers, with their texts and statuses.
 ghost use Rattle.std.specs.Prelude.{◌≡◌};
-ghost use Rattle.fort_run.specs.ReplyView.{status_of, text_of};
+ghost use Rattle.fort_run.specs.ReplyView.{status_of, text_of, limit_of};
 ghost use Rattle.fort_run.specs.StatusView.{code_of};
 
 use crate::status::Status;
+use fort_engine::Limit;
 
 /// What the program answers where neither memory nor a device withholds the answer.
-#[derive(Debug, Drop)]
+#[derive(Drop)]
 pub enum Reply {
     Usage,
     /// The line that refuses the formula or the input.
     Refused(Vec<u8>),
     InputTooLong,
     NotDecidedYet,
+    /// The line that tells which part of the formula is over the cap, and the limit.
+    Limited(Vec<u8>, Limit),
     Yes,
     No,
 }
@@ -31,6 +34,7 @@ impl Reply {
             Reply::Yes => Status::Positive,
             Reply::No => Status::Negative,
             Reply::Usage => Status::Usage,
+            Reply::Limited(_, _) => Status::Limited,
             Reply::Refused(_) | Reply::InputTooLong | Reply::NotDecidedYet => Status::Refused,
         }
     }
@@ -40,11 +44,21 @@ impl Reply {
     {
         match self {
             Reply::Usage => USAGE.as_bytes(),
-            Reply::Refused(line) => line,
+            Reply::Refused(line) | Reply::Limited(line, _) => line,
             Reply::InputTooLong => b"REFUSED input too long\n",
             Reply::NotDecidedYet => b"REFUSED formula not decided yet\n",
             Reply::Yes => b"YES\n",
             Reply::No => b"NO\n",
+        }
+    }
+
+    /// The limit, where a part of the formula is over the cap.
+    pub fn into_limit(self) -> Option<Limit>
+        ensures { result ≡ limit_of self }
+    {
+        match self {
+            Reply::Limited(_, limit) => Some(limit),
+            _ => None,
         }
     }
 }

@@ -13,6 +13,8 @@ pub enum Status {
     Usage,
     /// A formula or an input was refused.
     Refused,
+    /// Some part of the formula is over the cap.
+    Limited,
     OutOfMemory,
     ReadFailed,
     WriteFailed,
@@ -28,6 +30,7 @@ impl Status {
             Status::Negative => 1,
             Status::Usage => 2,
             Status::Refused => 3,
+            Status::Limited => 4,
             Status::OutOfMemory => 5,
             Status::ReadFailed => 6,
             Status::WriteFailed => 7,

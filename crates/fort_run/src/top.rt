@@ -1,11 +1,12 @@
 //! The top call.
-ghost use Rattle.std.specs.Prelude.{◌≡◌, ◌≤◌, ◌⊎◌, map, string_bytes, IfOk, IfSome, OnOk, IsErrOf};
+ghost use Rattle.std.specs.Prelude.{◌≡◌, ◌≤◌, ◌⊎◌, ◌↔◌, map, string_bytes, IfOk, IfSome, IsSome, OnOk, IsErrOf};
 ghost use Rattle.fort_io.specs.Devices.{FaultCounted};
 ghost use Rattle.fort_words.specs.RequestView.{as_request};
 ghost use Rattle.fort_answers.specs.Answer.{AnswerFor, AsksNothing, AsksSomething, NeedsInput, OwesTold};
-ghost use Rattle.fort_answers.specs.Lines.{last_answer, refused, negative, out_of_memory, read_failed, write_failed};
-ghost use Rattle.fort_run.specs.Answered.{Answers, CutsShort, IsDecidable, OwesOnly, OwesOnlyEarly, ReadsWhole};
-ghost use Rattle.fort_run.specs.ReplyView.{status_of, text_of};
+ghost use Rattle.fort_answers.specs.Lines.{last_answer, limited, negative, out_of_memory, read_failed, write_failed};
+ghost use Rattle.fort_run.specs.Answered.{Answers, CutsShort, IsDecidable, IsDecidableWithin, OwesOnly, OwesOnlyEarly, ReadsWhole};
+ghost use Rattle.fort_run.specs.ReplyView.{status_of, text_of, limit_of};
+ghost use Rattle.fort_run.specs.Limits.{HasLimitTold, IsLimitOf};
 
 use crate::decide::{Stop, decide};
 use crate::outcome::Outcome;
@@ -23,6 +24,8 @@ fn reply_to_request<S: Source>(
 ) -> Result<Reply, Stop>
     ensures ok { IfOk result (λ r.
         OwesTold (Some (as_request request.now)) (S.rest input.old) (status_of r) (text_of r)) }
+    ensures limit { IfOk result (λ r. IfSome (limit_of r)
+        (HasLimitTold (Some (as_request request.now)) (S.rest input.old))) }
     ensures whole { OnOk result (NeedsInput (as_request request.now) →
         ReadsWhole (S.rest input.old) (S.rest input.new)) }
     ensures fault { IsErrOf result Stop.Fault →
@@ -31,12 +34,12 @@ fn reply_to_request<S: Source>(
     ensures unread { (NeedsInput (as_request request.now) → ⊥) → input.new ≡ input.old }
     ensures never_falls { S.faults input.old ≤ S.faults input.new }
 {
-    match request {
+    match *request {
         Request::Decide {
-            states: 10_000,
+            states,
             certificate: false,
             formula,
-        } => decide(alloc, formula, input),
+        } => decide(alloc, states, formula, input),
         // The other requests aren't answered yet.
         _ => Ok(Reply::Usage),
     }
@@ -46,6 +49,8 @@ fn reply_to_request<S: Source>(
 fn reply_to<S: Source>(alloc: Global, words: &[String], input: &mut S) -> Result<Reply, Stop>
     ensures ok { IfOk result (λ r.
         AnswerFor (map string_bytes words.now) (S.rest input.old) (status_of r) (text_of r)) }
+    ensures limit { IfOk result (λ r. IfSome (limit_of r)
+        (IsLimitOf (map string_bytes words.now) (S.rest input.old))) }
     ensures whole { OnOk result (AsksSomething (map string_bytes words.now) →
         ReadsWhole (S.rest input.old) (S.rest input.new)) }
     ensures fault { IsErrOf result Stop.Fault →
@@ -79,6 +84,11 @@ pub fn run<S: Source, K: Sink>(
     ensures whole { result.status ≤ last_answer → AsksSomething (map string_bytes words.now) →
         ReadsWhole (S.rest input.old) (S.rest input.new) }
 
+    // With 4, and with no other status, there is a limit: the part that is over the cap, and the tuples that show it.
+    ensures limited { IsSome result.limit ↔ (result.status ≡ limited) }
+    ensures limit { IfSome result.limit
+        (IsLimitOf (map string_bytes words.now) (S.rest input.old)) }
+
     // With 7 a front of the answer's text was written, with 5 and 6 nothing.
     ensures cut_short { result.status ≡ write_failed → CutsShort (map string_bytes words.now)
         (S.rest input.old) (K.taken output.old) (K.taken output.new) }
@@ -86,7 +96,7 @@ pub fn run<S: Source, K: Sink>(
         output.new ≡ output.old }
 
     // No other status comes, 6 and 7 only by a fault that was counted, and 6 only after an accepted formula.
-    ensures statuses { (result.status ≤ refused) ⊎ ((result.status ≡ out_of_memory) ⊎
+    ensures statuses { (result.status ≤ last_answer) ⊎ ((result.status ≡ out_of_memory) ⊎
         ((result.status ≡ read_failed) ⊎ (result.status ≡ write_failed))) }
     ensures read_fault { result.status ≡ read_failed →
         FaultCounted (S.faults input.old) (S.faults input.new) }
@@ -97,13 +107,18 @@ pub fn run<S: Source, K: Sink>(
     // Where the words ask nothing, the source is as before.
     ensures unread { AsksNothing (map string_bytes words.now) → input.new ≡ input.old }
 
-    // Without a fault there is an answer, or want of memory; YES or NO, where the formula is one that is decided.
+    // Without a fault there is an answer, or want of memory; YES, NO or LIMIT, where the formula is one that is decided, and
+    // YES or NO, where each part of it keeps the cap.
     ensures complete { (FaultCounted (S.faults input.old) (S.faults input.new) → ⊥) →
         (FaultCounted (K.faults output.old) (K.faults output.new) → ⊥) →
-        (result.status ≤ refused) ⊎ (result.status ≡ out_of_memory) }
+        (result.status ≤ last_answer) ⊎ (result.status ≡ out_of_memory) }
     ensures decided { (FaultCounted (S.faults input.old) (S.faults input.new) → ⊥) →
         (FaultCounted (K.faults output.old) (K.faults output.new) → ⊥) →
-        IsDecidable (map string_bytes words.now) (S.rest input.old) →
+        IsDecidable (map string_bytes words.now) (S.rest input.old) → (result.status ≤ negative)
+        ⊎ ((result.status ≡ limited) ⊎ (result.status ≡ out_of_memory)) }
+    ensures kept { (FaultCounted (S.faults input.old) (S.faults input.new) → ⊥) →
+        (FaultCounted (K.faults output.old) (K.faults output.new) → ⊥) →
+        IsDecidableWithin (map string_bytes words.now) (S.rest input.old) →
         (result.status ≤ negative) ⊎ (result.status ≡ out_of_memory) }
 {
     let reply = match reply_to(alloc, words, input) {
@@ -112,7 +127,7 @@ pub fn run<S: Source, K: Sink>(
         Err(Stop::Fault) => return Outcome::of(Status::ReadFailed),
     };
     match write_all(output, reply.text()) {
-        Ok(()) => Outcome::of(reply.status()),
+        Ok(()) => Outcome::of_reply(reply),
         Err(_) => Outcome::of(Status::WriteFailed),
     }
 }

@@ -1,0 +1,47 @@
+//! The line of a limit.
+ghost use Rattle.std.specs.Prelude.{◌≡◌, IfOk};
+ghost use Rattle.fort_answers.specs.Lines as lines;
+ghost use Rattle.fort_formulas.specs.KindView.{as_kind};
+
+use crate::refusal::push_number;
+use fort_formulas::Kind;
+use std::alloc::{AllocError, Global};
+
+/// The word for a kind of formula.
+fn kind_word(kind: Kind) -> &'static [u8]
+    ensures { result.now ≡ lines.kind_word (as_kind kind) }
+{
+    match kind {
+        Kind::True => b"true",
+        Kind::Eq => b"eq",
+        Kind::Root => b"root",
+        Kind::Below => b"below",
+        Kind::Step => b"step",
+        Kind::Par => b"par",
+        Kind::Plus => b"plus",
+        Kind::Star => b"star",
+        Kind::Conv => b"conv",
+        Kind::Nf => b"nf",
+        Kind::Is => b"is",
+        Kind::Not => b"not",
+        Kind::And => b"and",
+        Kind::Or => b"or",
+        Kind::Iff => b"iff",
+        Kind::Exists => b"exists",
+        Kind::Infinite => b"infinite",
+    }
+}
+
+/// The line for part `k`, of this kind, over the cap.
+pub fn limit_line(alloc: Global, k: usize, kind: Kind, cap: u32) -> Result<Vec<u8>, AllocError>
+    ensures { IfOk result (λ line. line.items ≡ lines.limit_line k (as_kind kind) cap) }
+{
+    let mut line = Vec::from_slice(alloc, b"LIMIT ")?;
+    push_number(&mut line, k)?;
+    line.push(b' ')?;
+    line.extend_from_slice(kind_word(kind))?;
+    line.push(b' ')?;
+    push_number(&mut line, cap as usize)?;
+    line.push(b'\n')?;
+    Ok(line)
+}
