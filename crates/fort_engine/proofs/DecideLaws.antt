@@ -11,7 +11,7 @@ use Rattle.fort_logic.specs.Cores.{Core}
 use Rattle.fort_logic.specs.PartLists.{AreParts}
 use Rattle.fort_logic.specs.Parts.{postorder}
 use Rattle.fort_logic.specs.Kinds.{kind_of}
-use Rattle.fort_logic.proofs.SameRoots.{pattern_structure}
+use Rattle.fort_logic.specs.PatternStructures.{pattern_structure}
 use Rattle.fort_logic.proofs.EachOnceUnique.{AreEachOnce-unique}
 use Rattle.fort_tables.specs.Tuples.{Tuple, IsTuple}
 use Rattle.fort_tables.specs.Entries.{Entry, tuples_of}

@@ -12,35 +12,8 @@ use Rattle.fort_logic.specs.Parts.{is_free, BindsFree, IsWellFormed}
 use Rattle.fort_parts.specs.PartColumns.{numbers_below}
 use Rattle.fort_parts.specs.DecidedCores.{IsDecided, IsOperandOf}
 use Rattle.fort_parts.proofs.PartColumnLaws.{columns_of-unique}
-use Rattle.fort_parts.proofs.PartFacts.{each_part}
+use Rattle.fort_parts.proofs.PartFacts.{IsWellFormed-few}
 use Rattle.fort_engine.specs.TestFormulas.{some_step, both_kinds, always_differs}
-
-numbers-operand : (g h : Core) → IsOperandOf g h → numbers_below g ≤ numbers_below h
-numbers-operand g True o = absurd o
-numbers-operand g (Atom rel index x y) o = absurd o
-numbers-operand g (Nf index x) o = absurd o
-numbers-operand g (Is x t) o = absurd o
-numbers-operand g (Not f) o = let e = ap numbers_below o in omega arith
-numbers-operand g (And f h) o = ⊎_elim (λ s. let e = ap numbers_below s in omega arith) (λ s. let e = ap numbers_below s in omega arith) o
-numbers-operand g (Or f h) o = ⊎_elim (λ s. let e = ap numbers_below s in omega arith) (λ s. let e = ap numbers_below s in omega arith) o
-numbers-operand g (Iff f h) o = ⊎_elim (λ s. let e = ap numbers_below s in omega arith) (λ s. let e = ap numbers_below s in omega arith) o
-numbers-operand g (Exists n f) o = let e = ap numbers_below o in omega arith
-numbers-operand g (Infinite n f) o = let e = ap numbers_below o in omega arith
-
--- a formula of few numbers has few columns in each part
-IsWellFormed-few : (f : Core) → BindsFree f → numbers_below f ≤ most_columns → IsWellFormed f
-IsWellFormed-few f binds few = record {
-  binders = binds;
-  narrow =
-      λ wide.
-      let low : numbers_below wide.part ≤ most_columns =
-      each_part (λ g. numbers_below g ≤ most_columns) (λ g h o p. let l = numbers-operand g h o in omega arith) f wide.part few wide.among in
-      let same = ap length (columns_of-unique wide.part wide.columns wide.are_columns) in
-      let short =
-      length-filter_both (λ n. is_free n wide.part) (λ n. not (is_free n wide.part)) (λ n. refl) (range_with_len 0 (numbers_below wide.part)) in
-      let count = length-range_with_len 0 (numbers_below wide.part) in
-      omega (arith, wide.wide);
-}
 
 module _ (system : PatternSystem) (one : length system.rules ≡ 1) where
   first_index : IsIndexOf system.rules 1

@@ -2,7 +2,7 @@
 ghost use Rattle.std.specs.Prelude.{◌≡◌, ℕ, ◌<◌, ◌≤◌, List, map, length, slice_index_or, None, IfOk, IfErr, OnOk};
 ghost use Rattle.fort_logic.specs.Cores as theory;
 ghost use Rattle.fort_logic.specs.PartLists.{AreParts};
-ghost use Rattle.fort_logic.proofs.SameRoots.{pattern_structure};
+ghost use Rattle.fort_logic.specs.PatternStructures.{pattern_structure};
 ghost use Rattle.fort_formulas.specs.CoreView.{as_core};
 ghost use Rattle.fort_parts.specs.AlikeParts.{IsPartOver};
 ghost use Rattle.fort_parts.specs.DecidedCores.{IsDecided};

@@ -17,3 +17,4 @@ pub mod FreeNumbers
 pub mod TooWideLaws
 pub mod MentionLaws
 pub mod GroundWidths
+pub mod SomeEachOnce

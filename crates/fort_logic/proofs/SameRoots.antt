@@ -3,7 +3,7 @@ use Rattle.std.specs.Prelude.{◌↔◌, ℕ, All}
 use Rattle.fort_theory.specs.Trees.{Tree}
 use Rattle.fort_theory.specs.Signatures.{Signature, HasConstant}
 use Rattle.fort_theory.specs.Sides.{at_index, System, IsLinearSeparated}
-use Rattle.fort_theory.specs.Patterns.{PatternSystem, pattern_system}
+use Rattle.fort_theory.specs.Patterns.{pattern_system}
 use Rattle.fort_theory.specs.Rewriting.{Relation}
 use Rattle.fort_theory.specs.RootSteps.{RootStepAt}
 use Rattle.fort_theory.specs.PatternSteps.{PatternStepAt}
@@ -11,6 +11,7 @@ use Rattle.fort_theory.proofs.IndexLaws.{at_index-map, All-at_index}
 use Rattle.fort_theory.proofs.WithinRoots.{Within, Rewrites-within, RewritesBelow-within, RewritesAtMostOnce-within, RewritesEitherWay-within, Reduces-within, ReducesStrictly-within, Converts-within, RewritesInParallel-within, IsNormalForm-within}
 use Rattle.fort_theory.proofs.PatternSteps.{PatternStep-from_RootStep, RootStep-from_PatternStep}
 use Rattle.fort_logic.specs.Formulas.{SurfaceRel, Eq, Step, Star, Plus, Reflexive, Normal, Root, Below, Par, Either, Conv, Property, Cr, Wcr, Scr, Wn, Unr, Unc, Nfp, Formula, True, False, Related, Nf, Join, Has, Com, Not, And, Or, Imp, Iff, Exists, Forall, Infinite}
+use Rattle.fort_logic.specs.PatternStructures.{pattern_structure}
 use Rattle.fort_logic.specs.Truth.{Structure, structure_of, Assignment, with_name, Relates, AreJoinable, HasProperty, Commute, Holds}
 
 module _ (r q : Relation) (w : Within r q) (back : Within q r) where
@@ -103,10 +104,6 @@ Holds-same_root signature r q w back (Infinite x f) m = (
   (λ h ts none. h ts (λ t k. none t (k.0, (k.1.0, (Holds-same_root signature r q w back f (with_name m x t)).0 k.1.1)))),
   (λ h ts none. h ts (λ t k. none t (k.0, (k.1.0, (Holds-same_root signature r q w back f (with_name m x t)).1 k.1.1)))),
 )
-
--- a system of patterns with the root steps by its pairs
-abbrev pub pattern_structure : PatternSystem → Structure
-pattern_structure system = record { signature = system.signature; root = PatternStepAt system }
 
 -- truth by rules and truth by the rules' patterns
 pub Holds-by_patterns : (system : System) → HasConstant system.signature → All (All IsLinearSeparated) system.rules → (f : Formula) (m : Assignment)

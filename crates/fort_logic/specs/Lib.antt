@@ -11,3 +11,4 @@ pub mod PartLists
 pub mod Kinds
 pub mod Translation
 pub mod KeepsTruth
+pub mod PatternStructures

@@ -11,7 +11,7 @@ use Rattle.fort_logic.specs.Logic.{Surely}
 use Rattle.fort_logic.specs.Cores as core
 use Rattle.fort_logic.specs.Cores.{Rel, Core}
 use Rattle.fort_logic.specs.CoreTruth.{Places, RelatesBy, IsMetBy}
-use Rattle.fort_logic.proofs.SameRoots.{pattern_structure}
+use Rattle.fort_logic.specs.PatternStructures.{pattern_structure}
 use Rattle.fort_tables.specs.Tuples.{Tuple, IsTuple, IsFull}
 use Rattle.fort_tables.specs.Tables.{Table}
 use Rattle.fort_alike.specs.Atoms.{OfOne, OfTwo, Says, kind_for, pairs_for, relation_atom, normal_atom, IsTrueOf}

@@ -1,16 +1,19 @@
 -- What deciding asks of a formula holds of each part; a part has no more columns than a tuple may have.
-use Rattle.std.specs.Prelude.{◌<◌, ◌≤◌, [], ◌∷◌, ◌++◌, length, Contains}
-use Rattle.std.proofs.Common.{refl, sym, subst, inl, inr, ⊎_elim}
+use Rattle.std.specs.Prelude.{◌≡◌, ◌<◌, ◌≤◌, [], ◌∷◌, ◌++◌, length, not, Contains}
+use Rattle.std.specs.List.{range_with_len}
+use Rattle.std.proofs.Common.{refl, ap, sym, subst, arith, inl, inr, ⊎_elim}
 use Rattle.std.proofs.lemmas.Bool.{cases_lt}
 use Rattle.std.proofs.lemmas.List.Elements.{Contains-append_cases, Contains-push_cases}
+use Rattle.std.proofs.lemmas.List.FromFn.{length-range_with_len}
+use Rattle.std.proofs.lemmas.List.Filters.{length-filter_both}
 use Rattle.fort_theory.specs.Signatures.{most_columns}
 use Rattle.fort_theory.specs.Patterns.{PatternSystem}
 use Rattle.fort_theory.proofs.Members.{Contains-cons_cases, Contains-none}
 use Rattle.fort_logic.specs.Cores.{Core, True, Atom, Nf, Is, Not, And, Or, Iff, Exists, Infinite}
-use Rattle.fort_logic.specs.Parts.{postorder, BindsFree, IsWellFormed}
-use Rattle.fort_parts.specs.PartColumns.{columns_of}
+use Rattle.fort_logic.specs.Parts.{is_free, postorder, BindsFree, IsWellFormed}
+use Rattle.fort_parts.specs.PartColumns.{numbers_below, columns_of}
 use Rattle.fort_parts.specs.DecidedCores.{IsOverSystem, IsOneStep, IsOperandOf}
-use Rattle.fort_parts.proofs.PartColumnLaws.{AreColumns-columns_of}
+use Rattle.fort_parts.proofs.PartColumnLaws.{AreColumns-columns_of, columns_of-unique}
 
 -- what holds of operands where it holds of their formula holds of each part
 module _ (P : Core → Type 0) (step : (g h : Core) → IsOperandOf g h → P h → P g) where
@@ -92,3 +95,30 @@ columns_of-few f g is among =
     absurd (is.narrow (record { part = g; among = among; columns = columns_of g; are_columns = AreColumns-columns_of g; wide = l })))
     (λ (l : length (columns_of g) ≤ most_columns). l)
     (cases_lt most_columns (length (columns_of g)))
+
+numbers-operand : (g h : Core) → IsOperandOf g h → numbers_below g ≤ numbers_below h
+numbers-operand g True o = absurd o
+numbers-operand g (Atom rel index x y) o = absurd o
+numbers-operand g (Nf index x) o = absurd o
+numbers-operand g (Is x t) o = absurd o
+numbers-operand g (Not f) o = let e = ap numbers_below o in omega arith
+numbers-operand g (And f h) o = ⊎_elim (λ s. let e = ap numbers_below s in omega arith) (λ s. let e = ap numbers_below s in omega arith) o
+numbers-operand g (Or f h) o = ⊎_elim (λ s. let e = ap numbers_below s in omega arith) (λ s. let e = ap numbers_below s in omega arith) o
+numbers-operand g (Iff f h) o = ⊎_elim (λ s. let e = ap numbers_below s in omega arith) (λ s. let e = ap numbers_below s in omega arith) o
+numbers-operand g (Exists n f) o = let e = ap numbers_below o in omega arith
+numbers-operand g (Infinite n f) o = let e = ap numbers_below o in omega arith
+
+-- Result: a formula of few numbers has few columns in each part
+pub IsWellFormed-few : (f : Core) → BindsFree f → numbers_below f ≤ most_columns → IsWellFormed f
+IsWellFormed-few f binds few = record {
+  binders = binds;
+  narrow =
+      λ wide.
+      let low : numbers_below wide.part ≤ most_columns =
+      each_part (λ g. numbers_below g ≤ most_columns) (λ g h o p. let l = numbers-operand g h o in omega arith) f wide.part few wide.among in
+      let same = ap length (columns_of-unique wide.part wide.columns wide.are_columns) in
+      let short =
+      length-filter_both (λ n. is_free n wide.part) (λ n. not (is_free n wide.part)) (λ n. refl) (range_with_len 0 (numbers_below wide.part)) in
+      let count = length-range_with_len 0 (numbers_below wide.part) in
+      omega (arith, wide.wide);
+}

@@ -13,7 +13,8 @@ use Rattle.fort_theory.proofs.PatternSteps.{PatternStep-from_RootStep, RootStep-
 use Rattle.fort_logic.specs.Truth.{structure_of}
 use Rattle.fort_logic.specs.Cores.{Rel, Eq, Root, Below, Step, Par, Plus, Star, Conv, Core, True, Atom, Nf, Is, Not, And, Or, Iff, Exists, Infinite}
 use Rattle.fort_logic.specs.CoreTruth.{Places, with_number, RelatesBy, IsMetBy}
-use Rattle.fort_logic.proofs.SameRoots.{over, pattern_structure}
+use Rattle.fort_logic.specs.PatternStructures.{pattern_structure}
+use Rattle.fort_logic.proofs.SameRoots.{over}
 
 RelatesBy-same_root : (r q : Relation) → Within r q → (rel : Rel) → Within (RelatesBy r rel) (RelatesBy q rel)
 RelatesBy-same_root r q w Eq s t h = h

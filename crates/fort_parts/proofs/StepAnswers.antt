@@ -9,7 +9,7 @@ use Rattle.fort_theory.proofs.Members.{Contains-none, Contains-head}
 use Rattle.fort_logic.specs.Cores as core
 use Rattle.fort_logic.specs.Cores.{Core}
 use Rattle.fort_logic.specs.Parts.{is_free}
-use Rattle.fort_logic.proofs.SameRoots.{pattern_structure}
+use Rattle.fort_logic.specs.PatternStructures.{pattern_structure}
 use Rattle.fort_tables.specs.Tuples.{Tuple, IsTuple}
 use Rattle.fort_tables.specs.Entries.{Entry, AreNodes, tuples_of}
 use Rattle.fort_tables.specs.Tables.{Table}

@@ -3,7 +3,7 @@ use Rattle.std.specs.Prelude.{◌+◌, ℕ, List, length}
 use Rattle.fort_theory.specs.Patterns.{PatternSystem}
 use Rattle.fort_logic.specs.Cores as core
 use Rattle.fort_logic.specs.Cores.{Core}
-use Rattle.fort_logic.proofs.SameRoots.{pattern_structure}
+use Rattle.fort_logic.specs.PatternStructures.{pattern_structure}
 use Rattle.fort_tables.specs.Entries.{Entry, AreNodes, tuples_of}
 use Rattle.fort_alike.specs.UnlikeTuples.{AreUnlike}
 use Rattle.fort_operations.specs.Products.{Connective, And, Or, Iff}

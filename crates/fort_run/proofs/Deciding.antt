@@ -14,7 +14,7 @@ use Rattle.fort_logic.specs.KeepsTruth.{AreTheirPlaces, KeepsTruth}
 use Rattle.fort_logic.specs.Parts.{is_free, IsWellFormed}
 use Rattle.fort_logic.specs.Translation.{core_of}
 use Rattle.fort_logic.specs.Truth.{Assignment, structure_of, GivesTerms, Holds, IsTrueOf, IsFalseOf}
-use Rattle.fort_logic.proofs.SameRoots.{pattern_structure}
+use Rattle.fort_logic.specs.PatternStructures.{pattern_structure}
 use Rattle.fort_formulas.specs.KindView.{as_kind}
 use Rattle.fort_parts.specs.DecidedCores.{IsOverSystem, IsOneStep, IsDecided}
 use Rattle.fort_parts.specs.PartColumns.{columns_of}
@@ -30,7 +30,7 @@ use Rattle.fort_engine.specs.AnswerView.{IsLimit}
 use Rattle.fort_run.specs.declared.reply.Reply.{Reply}
 use Rattle.fort_run.specs.declared.reply.Reply.TheVariants as reply
 use Rattle.fort_run.specs.Plain.{IsVerdict, Limits, Holds as Verdict_holds, Fails}
-use Rattle.fort_run.specs.Ready.{IsReady, IsTrueCore, IsFalseCore, KeepsCapAt, DecidesCore}
+use Rattle.fort_run.specs.Ready.{IsReady, IsTrueCore, IsFalseCore, KeepsCapAt, ShowsLimit, DecidesCore}
 use Rattle.fort_run.specs.ReplyView.{status_of, text_of, limit_of}
 use Rattle.fort_run.proofs.LinearRules.{IsProblem-separated}
 use Rattle.fort_run.proofs.SomeParts.{some_parts}
@@ -105,8 +105,8 @@ verdict_of bytes p system f terms states core (reply.Refused line) input same re
 verdict_of bytes p system f terms states core reply.InputTooLong input same ready built keeps is d = absurd d
 verdict_of bytes p system f terms states core reply.NotDecidedYet input same ready built keeps is d = absurd d
 verdict_of bytes p system f terms states core (reply.Limited line limit) input same ready built keeps is d =
-    let there = subst (λ s. IsLimit s (core_of terms f) states limit) same (subst (λ c. IsLimit system c states limit) is d.0) in
-    Limits built limit.part (as_kind limit.kind) (passes p terms f states limit there) (record { same_status = refl; same_text = d.1 })
+    let there = subst (λ s. IsLimit s (core_of terms f) states limit) same (subst (λ c. IsLimit system c states limit) is d.is) in
+    Limits built limit.part (as_kind limit.kind) (passes p terms f states limit there) (record { same_status = refl; same_text = d.line_is })
 verdict_of bytes p system f terms states core reply.Yes input same ready built keeps is d =
     let grounded = subst (λ (s : PatternSystem). All (IsGround s.signature) terms) same ready.grounded in
     Verdict_holds built (subst (λ s. KeepsCapAt s (core_of terms f) states) same (subst (λ c. KeepsCapAt system c states) is d.0))
@@ -119,11 +119,11 @@ verdict_of bytes p system f terms states core reply.No input same ready built ke
     (record { same_status = refl; same_text = refl })
 
 pub limit_of_core : (system : PatternSystem) (f : Formula) (terms : List Tree) (states : ℕ) (core : Core) (r : Reply) → core ≡ core_of terms f
-    → DecidesCore system core states r → IfSome (limit_of r) (IsLimit system (core_of terms f) states)
+    → DecidesCore system core states r → IfSome (limit_of r) (ShowsLimit system (core_of terms f) states (text_of r))
 limit_of_core system f terms states core reply.Usage is d = tt
 limit_of_core system f terms states core (reply.Refused line) is d = tt
 limit_of_core system f terms states core reply.InputTooLong is d = tt
 limit_of_core system f terms states core reply.NotDecidedYet is d = tt
-limit_of_core system f terms states core (reply.Limited line limit) is d = subst (λ c. IsLimit system c states limit) is d.0
+limit_of_core system f terms states core (reply.Limited line limit) is d = subst (λ c. ShowsLimit system c states line.items limit) is d
 limit_of_core system f terms states core reply.Yes is d = tt
 limit_of_core system f terms states core reply.No is d = tt

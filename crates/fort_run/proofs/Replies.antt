@@ -17,6 +17,8 @@ use Rattle.fort_sexpr.specs.declared.fault.SFault.{SFault}
 use Rattle.fort_sexpr.specs.declared.fault.SFault.TheVariants as sfaults
 use Rattle.fort_ari.specs.declared.fault.ProblemFault.{ProblemFault as ariFault}
 use Rattle.fort_ari.specs.Faults.{as_fault}
+use Rattle.fort_io.specs.Devices.{Takes}
+use Rattle.fort_answers.specs.CommandGrammar.{request_of}
 use Rattle.fort_answers.specs.Requests.{Text}
 use Rattle.fort_answers.specs.Lines.{input_too_long, problem_fault_line, refused}
 use Rattle.fort_answers.specs.DecideAnswer.{Are, DecidesOf, FormulaRefused, Early, InputRefused, FormulaUnfit, NotDecidedYet, Limited, Yes, No}
@@ -27,6 +29,8 @@ use Rattle.fort_answers.proofs.OneVerdict.{accepted-not_refused}
 use Rattle.fort_run.specs.Refusals.{SaysProblemFault, SaysTextFault}
 use Rattle.fort_engine.specs.declared.answer.Limit.{Limit}
 use Rattle.fort_engine.specs.AnswerView.{IsLimit}
+use Rattle.fort_run.specs.Limits.{HasLimitTold, IsLimitOf}
+use Rattle.fort_run.specs.Ready.{ShowsLimit}
 use Rattle.fort_run.specs.Plain.{IsVerdict, Undecided, Limits, Holds, Fails, PlainAnswers, PlainNeedsInput, PlainOwes, PlainLimit, PlainLimitTold}
 
 -- the forms of a text, counted
@@ -126,11 +130,11 @@ module _ (states : ℕ) (text : Text) where
   fit f bytes p terms status line accepted input fits (Fails built keeps fails are) = No f (asks text f accepted) p input terms fits built keeps fails are
 
   -- a limit of the core formula over the system of the input
-  pub fit_limit : (f : Formula) (bytes : Text) (p : System) (system : PatternSystem) (terms : List Tree) (limit : Option Limit) → IsAccepted text f
-      → IsInput bytes p → FitsSystem text f p terms → system ≡ pattern_system p → IfSome limit (IsLimit system (core_of terms f) states)
-      → IfSome limit (PlainLimit states text bytes)
-  fit_limit f bytes p system terms None accepted input fits same is = tt
-  fit_limit f bytes p system terms (Some limit) accepted input fits same is = record {
+  pub fit_limit : (f : Formula) (bytes : Text) (p : System) (system : PatternSystem) (terms : List Tree) (line : Text) (limit : Option Limit) → IsAccepted text f
+      → IsInput bytes p → FitsSystem text f p terms → system ≡ pattern_system p → IfSome limit (ShowsLimit system (core_of terms f) states line)
+      → IfSome limit (PlainLimit states text bytes line)
+  fit_limit f bytes p system terms line None accepted input fits same is = tt
+  fit_limit f bytes p system terms line (Some limit) accepted input fits same is = record {
     states = states;
     certificate = false;
     formula = text;
@@ -141,7 +145,8 @@ module _ (states : ℕ) (text : Text) where
     input = input;
     terms = terms;
     fits = fits;
-    is = subst (λ s. IsLimit s (core_of terms f) states limit) same is;
+    is = subst (λ s. IsLimit s (core_of terms f) states limit) same is.is;
+    line_is = is.line_is;
   }
 
   -- the answer for the bytes that were read, all of them
@@ -159,10 +164,10 @@ module _ (states : ℕ) (text : Text) where
   told_are (Some xs) (Some ys) bytes taken end = taken ∙ ap (λ w. bytes ++ w) end ∙ append-nil bytes
 
   -- the same of a limit
-  pub limit_told : (old new : Option Text) (bytes : Text) (limit : Option Limit) → Consumes old new bytes → IsAtEnd new
-      → IfSome limit (PlainLimit states text bytes) → IfSome limit (PlainLimitTold states text old)
-  limit_told old new bytes None taken end has = tt
-  limit_told old new bytes (Some limit) taken end has = record { bytes = bytes; told_are = told_are old new bytes taken end; has = has }
+  pub limit_told : (old new : Option Text) (bytes line : Text) (limit : Option Limit) → Consumes old new bytes → IsAtEnd new
+      → IfSome limit (PlainLimit states text bytes line) → IfSome limit (PlainLimitTold states text old line)
+  limit_told old new bytes line None taken end has = tt
+  limit_told old new bytes line (Some limit) taken end has = record { bytes = bytes; told_are = told_are old new bytes taken end; has = has }
 
   pub too_long_told : (f : Formula) (told : Option Text) → IsAccepted text f → IfSome told (λ bytes. input_limit < length bytes)
       → PlainOwes states text told refused input_too_long
@@ -170,3 +175,11 @@ module _ (states : ℕ) (text : Text) where
       let some = longer_than input_limit in
       (some.0, input_refused f some.0 input_too_long accepted (TooLong some.1 refl))
   too_long_told f (Some bytes) accepted long = input_refused f bytes input_too_long accepted (TooLong long refl)
+
+-- the line of a limit was written
+pub limit_written : (words : List Text) (told old new : Option Text) (line written : Text) (limit : Option Limit)
+    → IfSome limit (HasLimitTold (request_of words) told line) → written ≡ line → Takes old new written
+    → IfSome limit (IsLimitOf words told old new)
+limit_written words told old new line written None has same taken = tt
+limit_written words told old new line written (Some limit) has same taken =
+    record { line = line; told_limit = has; taken = subst (Takes old new) same taken }

@@ -1,11 +1,14 @@
--- To believe: what the limit of a run shows: the first part over the cap of the core formula that the words ask about, its kind, and one more tuple than the cap, no two of them alike.
+-- To believe: what the limit of a run shows: the first part over the cap of the core formula that the words ask about, its kind, and one more tuple than the cap, no two of them alike; the line that is written tells of this limit.
 use Rattle.std.specs.Prelude.{◌≡◌, ℕ, Bool, List, Option, Some, IfSome}
 use Rattle.fort_theory.specs.Trees.{Tree}
 use Rattle.fort_theory.specs.Sides.{System}
 use Rattle.fort_theory.specs.Patterns.{pattern_system}
 use Rattle.fort_logic.specs.Formulas.{Formula}
 use Rattle.fort_logic.specs.Translation.{core_of}
+use Rattle.fort_formulas.specs.KindView.{as_kind}
+use Rattle.fort_io.specs.Devices.{Takes}
 use Rattle.fort_answers.specs.Requests.{Text, Request, Decide}
+use Rattle.fort_answers.specs.Lines.{limit_line}
 use Rattle.fort_answers.specs.CommandGrammar.{request_of}
 use Rattle.fort_answers.specs.DecideAnswer.{DecidesOf}
 use Rattle.fort_answers.specs.InputAnswer.{IsInput}
@@ -13,8 +16,12 @@ use Rattle.fort_answers.specs.FitAnswer.{FitsSystem}
 use Rattle.fort_engine.specs.declared.answer.Limit.{Limit}
 use Rattle.fort_engine.specs.AnswerView.{IsLimit}
 
--- the request is about a formula whose core formula over the system of these bytes has this limit
-pub record HasLimit (request : Option Request) (bytes : Text) (limit : Limit) : Type 0 where
+-- the line tells of this limit
+abbrev pub IsLineOf : (states : ℕ) → Limit → Text → Type 0
+IsLineOf states limit line = line ≡ limit_line limit.part (as_kind limit.kind) states
+
+-- the request is about a formula whose core formula over the system of these bytes has this limit, of which the line tells
+pub record HasLimit (request : Option Request) (bytes line : Text) (limit : Limit) : Type 0 where
   pub states : ℕ
   pub certificate : Bool
   pub formula : Text
@@ -26,12 +33,16 @@ pub record HasLimit (request : Option Request) (bytes : Text) (limit : Limit) : 
   pub terms : List Tree
   pub fits : FitsSystem formula f system terms
   pub is : IsLimit (pattern_system system) (core_of terms f) states limit
+  pub line_is : IsLineOf states limit line
 
 -- for the bytes that a source tells; for one that tells none, for some bytes
-pub record HasLimitTold (request : Option Request) (told : Option Text) (limit : Limit) : Type 0 where
+pub record HasLimitTold (request : Option Request) (told : Option Text) (line : Text) (limit : Limit) : Type 0 where
   pub bytes : Text
   pub told_are : IfSome told (λ b. b ≡ bytes)
-  pub has : HasLimit request bytes limit
+  pub has : HasLimit request bytes line limit
 
-abbrev pub IsLimitOf : List Text → Option Text → Limit → Type 0
-IsLimitOf words told limit = HasLimitTold (request_of words) told limit
+-- and from old to new the sink took the line
+pub record IsLimitOf (words : List Text) (told old new : Option Text) (limit : Limit) : Type 0 where
+  pub line : Text
+  pub told_limit : HasLimitTold (request_of words) told line limit
+  pub taken : Takes old new line

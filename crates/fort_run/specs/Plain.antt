@@ -27,11 +27,11 @@ PlainOwes states formula told status text = OwesTold (Some (plain states formula
 abbrev pub PlainAnswers : ℕ → Text → Text → ℕ → Text → Type 0
 PlainAnswers states formula bytes status text = Owes (plain states formula) bytes status text
 
-abbrev pub PlainLimit : ℕ → Text → Text → Limit → Type 0
-PlainLimit states formula bytes limit = HasLimit (Some (plain states formula)) bytes limit
+abbrev pub PlainLimit : ℕ → Text → (bytes line : Text) → Limit → Type 0
+PlainLimit states formula bytes line limit = HasLimit (Some (plain states formula)) bytes line limit
 
-abbrev pub PlainLimitTold : ℕ → Text → Option Text → Limit → Type 0
-PlainLimitTold states formula told limit = HasLimitTold (Some (plain states formula)) told limit
+abbrev pub PlainLimitTold : ℕ → Text → Option Text → (line : Text) → Limit → Type 0
+PlainLimitTold states formula told line limit = HasLimitTold (Some (plain states formula)) told line limit
 
 -- the input is a system whose pairs of patterns are these
 abbrev pub IsReadFrom : List ℕ → PatternSystem → Type 0

@@ -12,13 +12,13 @@ use Rattle.fort_logic.specs.Cores.{Core}
 use Rattle.fort_logic.specs.CoreTruth.{Places, IsMetBy}
 use Rattle.fort_logic.specs.PartLists.{AreParts}
 use Rattle.fort_logic.specs.Translation.{IsFormulaTooWide}
-use Rattle.fort_logic.proofs.SameRoots.{pattern_structure}
+use Rattle.fort_logic.specs.PatternStructures.{pattern_structure}
 use Rattle.fort_formulas.specs.NumbersNeeded.{numbers_needed}
-use Rattle.fort_formulas.specs.KindView.{as_kind}
 use Rattle.fort_parts.specs.AlikeParts.{IsPartOver}
 use Rattle.fort_parts.specs.PartAnswers.{AreGround}
 use Rattle.fort_engine.specs.AnswerView.{IsLimit}
-use Rattle.fort_answers.specs.Lines.{limit_line}
+use Rattle.fort_engine.specs.declared.answer.Limit.{Limit}
+use Rattle.fort_run.specs.Limits.{IsLineOf}
 use Rattle.fort_run.specs.declared.reply.Reply.{Reply}
 use Rattle.fort_run.specs.declared.reply.Reply.TheVariants.{Usage, Refused, InputTooLong, NotDecidedYet, Limited, Yes, No}
 
@@ -41,12 +41,17 @@ IsTrueCore system f = (v : Places) → AreGround system.signature v → IsMetBy 
 abbrev pub IsFalseCore : PatternSystem → Core → Type 0
 IsFalseCore system f = (v : Places) → AreGround system.signature v → IsMetBy (pattern_structure system) f v → ⊥
 
+-- a limit of a core formula, of which the line tells
+pub record ShowsLimit (system : PatternSystem) (f : Core) (cap : ℕ) (line : List ℕ) (limit : Limit) : Type 0 where
+  pub is : IsLimit system f cap limit
+  pub line_is : IsLineOf cap limit line
+
 -- what the reply says of a core formula that is decided
 abbrev pub DecidesCore : PatternSystem → Core → ℕ → Reply → Type 0
 DecidesCore system f cap Usage = ⊥
 DecidesCore system f cap (Refused line) = ⊥
 DecidesCore system f cap InputTooLong = ⊥
 DecidesCore system f cap NotDecidedYet = ⊥
-DecidesCore system f cap (Limited line limit) = IsLimit system f cap limit × (line.items ≡ limit_line limit.part (as_kind limit.kind) cap)
+DecidesCore system f cap (Limited line limit) = ShowsLimit system f cap line.items limit
 DecidesCore system f cap Yes = KeepsCapAt system f cap × IsTrueCore system f
 DecidesCore system f cap No = KeepsCapAt system f cap × IsFalseCore system f

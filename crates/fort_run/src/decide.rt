@@ -42,7 +42,7 @@ fn reply_to_bytes(
     ensures ok { IfOk result (λ r. (text : Text) → IsAcceptedAs text parsed.now
         → PlainAnswers states text bytes.items (status_of r) (text_of r)) }
     ensures limit { IfOk result (λ r. (text : Text) → IsAcceptedAs text parsed.now
-        → IfSome (limit_of r) (PlainLimit states text bytes.items)) }
+        → IfSome (limit_of r) (PlainLimit states text bytes.items (text_of r))) }
 {
     let system = match read_system(alloc, bytes) {
         Ok(system) => system,
@@ -67,7 +67,7 @@ fn reply_to_formula<S: Source>(
     ensures ok { IfOk result (λ r. (text : Text) → IsAcceptedAs text parsed.now
         → PlainOwes states text (S.rest input.old) (status_of r) (text_of r)) }
     ensures limit { IfOk result (λ r. (text : Text) → IsAcceptedAs text parsed.now
-        → IfSome (limit_of r) (PlainLimitTold states text (S.rest input.old))) }
+        → IfSome (limit_of r) (PlainLimitTold states text (S.rest input.old) (text_of r))) }
     ensures whole { OnOk result (ReadsWhole (S.rest input.old) (S.rest input.new)) }
     ensures fault { IsErrOf result Stop.Fault →
         FaultCounted (S.faults input.old) (S.faults input.new) }
@@ -96,7 +96,7 @@ pub fn decide<S: Source>(
     ensures ok { IfOk result (λ r. PlainOwes states text.now
         (S.rest input.old) (status_of r) (text_of r)) }
     ensures limit { IfOk result (λ r. IfSome (limit_of r)
-        (PlainLimitTold states text.now (S.rest input.old))) }
+        (PlainLimitTold states text.now (S.rest input.old) (text_of r))) }
     ensures whole { OnOk result (PlainNeedsInput text.now →
         ReadsWhole (S.rest input.old) (S.rest input.new)) }
     ensures fault { IsErrOf result Stop.Fault →

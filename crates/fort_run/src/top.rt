@@ -6,6 +6,7 @@ ghost use Rattle.fort_answers.specs.Answer.{AnswerFor, AsksNothing, AsksSomethin
 ghost use Rattle.fort_answers.specs.Lines.{last_answer, limited, negative, out_of_memory, read_failed, write_failed};
 ghost use Rattle.fort_run.specs.Answered.{Answers, CutsShort, IsDecidable, IsDecidableWithin, OwesOnly, OwesOnlyEarly, ReadsWhole};
 ghost use Rattle.fort_run.specs.ReplyView.{status_of, text_of, limit_of};
+ghost use Rattle.fort_answers.specs.CommandGrammar.{request_of};
 ghost use Rattle.fort_run.specs.Limits.{HasLimitTold, IsLimitOf};
 
 use crate::decide::{Stop, decide};
@@ -25,7 +26,7 @@ fn reply_to_request<S: Source>(
     ensures ok { IfOk result (λ r.
         OwesTold (Some (as_request request.now)) (S.rest input.old) (status_of r) (text_of r)) }
     ensures limit { IfOk result (λ r. IfSome (limit_of r)
-        (HasLimitTold (Some (as_request request.now)) (S.rest input.old))) }
+        (HasLimitTold (Some (as_request request.now)) (S.rest input.old) (text_of r))) }
     ensures whole { OnOk result (NeedsInput (as_request request.now) →
         ReadsWhole (S.rest input.old) (S.rest input.new)) }
     ensures fault { IsErrOf result Stop.Fault →
@@ -50,7 +51,7 @@ fn reply_to<S: Source>(alloc: Global, words: &[String], input: &mut S) -> Result
     ensures ok { IfOk result (λ r.
         AnswerFor (map string_bytes words.now) (S.rest input.old) (status_of r) (text_of r)) }
     ensures limit { IfOk result (λ r. IfSome (limit_of r)
-        (IsLimitOf (map string_bytes words.now) (S.rest input.old))) }
+        (HasLimitTold (request_of (map string_bytes words.now)) (S.rest input.old) (text_of r))) }
     ensures whole { OnOk result (AsksSomething (map string_bytes words.now) →
         ReadsWhole (S.rest input.old) (S.rest input.new)) }
     ensures fault { IsErrOf result Stop.Fault →
@@ -87,7 +88,8 @@ pub fn run<S: Source, K: Sink>(
     // With 4, and with no other status, there is a limit: the part that is over the cap, and the tuples that show it.
     ensures limited { IsSome result.limit ↔ (result.status ≡ limited) }
     ensures limit { IfSome result.limit
-        (IsLimitOf (map string_bytes words.now) (S.rest input.old)) }
+        (IsLimitOf (map string_bytes words.now) (S.rest input.old) (K.taken output.old)
+        (K.taken output.new)) }
 
     // With 7 a front of the answer's text was written, with 5 and 6 nothing.
     ensures cut_short { result.status ≡ write_failed → CutsShort (map string_bytes words.now)

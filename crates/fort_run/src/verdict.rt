@@ -11,9 +11,8 @@ ghost use Rattle.fort_parts.specs.PartColumns.{columns_of};
 ghost use Rattle.fort_parts.specs.SingleSteps.{IsAboutSteps};
 ghost use Rattle.fort_answers.specs.InputAnswer.{IsInput};
 ghost use Rattle.fort_answers.specs.Requests.{Text};
-ghost use Rattle.fort_engine.specs.AnswerView.{IsLimit};
 ghost use Rattle.fort_run.specs.Plain.{IsVerdict};
-ghost use Rattle.fort_run.specs.Ready.{IsReady, DecidesCore};
+ghost use Rattle.fort_run.specs.Ready.{IsReady, DecidesCore, ShowsLimit};
 ghost use Rattle.fort_run.specs.ReplyView.{status_of, text_of, limit_of};
 
 use crate::limit::limit_line;
@@ -81,7 +80,7 @@ pub fn verdict(
         → system.now ≡ pattern_system p
         → IsVerdict p terms.now (as_formula formula.now) states (status_of r) (text_of r)) }
     ensures limit { IfOk result (λ r. IfSome (limit_of r)
-        (IsLimit system.now (core_of terms.now (as_formula formula.now)) states)) }
+        (ShowsLimit system.now (core_of terms.now (as_formula formula.now)) states (text_of r))) }
 {
     if !is_about_steps(formula) {
         return Ok(Reply::NotDecidedYet);

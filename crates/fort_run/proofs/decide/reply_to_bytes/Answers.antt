@@ -2,13 +2,12 @@ use Rattle.std.proofs.Common.{sym, subst}
 use Rattle.std.specs.Prelude.{IfSome}
 use Rattle.std.proofs.lemmas.Result.{IfOk-weaker}
 use Rattle.fort_logic.specs.Translation.{core_of}
-use Rattle.fort_engine.specs.AnswerView.{IsLimit}
 use Rattle.fort_formulas.specs.FormulaView.{as_formula}
 use Rattle.fort_answers.specs.InputAnswer.{IsInputRefused}
 use Rattle.fort_answers.specs.FitAnswer.{IsUnfit}
 use Rattle.fort_run.proofs.FormulaRefusals.{refused_by_line}
 use Rattle.fort_run.specs.Plain.{IsVerdict}
-use Rattle.fort_run.specs.Ready.{IsReady}
+use Rattle.fort_run.specs.Ready.{IsReady, ShowsLimit}
 use Rattle.fort_run.specs.ReplyView.{status_of, text_of, limit_of}
 use Rattle.fort_run.proofs.Readiness.{ready}
 use Rattle.fort_run.proofs.Replies.{input_refused, unfit, fit, fit_limit}
@@ -52,6 +51,6 @@ returns-in-Ok-terms_of-clause-limit c =
     let input = c.in-Ok.ensures.ok in
     let terms = c.in-Ok-terms_of.terms.items in
     let fits = c.in-Ok-terms_of.ensures.ok text input.0 is.grounds input.2 in
-    fit_limit c.args.states text f c.args.bytes.items input.0 c.in-Ok.system terms (limit_of r) is.accepted input.1 fits input.2
-    (subst (λ ts. IfSome (limit_of r) (IsLimit c.in-Ok.system (core_of ts f) c.args.states)) c.deref.ensures.value says))
+    fit_limit c.args.states text f c.args.bytes.items input.0 c.in-Ok.system terms (text_of r) (limit_of r) is.accepted input.1 fits input.2
+    (subst (λ ts. IfSome (limit_of r) (ShowsLimit c.in-Ok.system (core_of ts f) c.args.states (text_of r))) c.deref.ensures.value says))
     c.verdict.ensures.limit

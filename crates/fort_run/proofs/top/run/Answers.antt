@@ -1,6 +1,7 @@
 use Rattle.std.proofs.Common.{inl, map, string_bytes, sym, subst}
 use Rattle.std.specs.Prelude.{IfSome}
 use Rattle.fort_run.specs.Limits.{IsLimitOf}
+use Rattle.fort_run.proofs.Replies.{limit_written}
 use Rattle.fort_run.proofs.OneAnswer.{Answers-told, Answers-early, Answers-decided, Answers-kept, answers}
 use Rattle.fort_run.proofs.ReplyStatuses.{decided_status, limit_shown, status_low}
 use Rattle.fort_run.proofs.top.run.Goals as goal
@@ -30,7 +31,9 @@ returns-in-Ok-write_all-clause-limited g c = limit_shown c.in-Ok.reply c.of_repl
 
 pub returns-in-Ok-write_all-clause-limit : goal.returns-in-Ok-write_all-clause-limit
 returns-in-Ok-write_all-clause-limit g c =
-    subst (λ l. IfSome l (IsLimitOf (map string_bytes c.args.words.now) (g.S.Source.rest c.args.input.now))) (sym c.of_reply.ensures.limit) c.in-Ok.ensures.limit
+    subst (λ l. IfSome l (IsLimitOf (map string_bytes c.args.words.now) (g.S.Source.rest c.args.input.now) (g.K.Sink.taken c.args.output.now) (g.K.Sink.taken c.write_all.new.sink)))
+    (sym c.of_reply.ensures.limit)
+    (limit_written (map string_bytes c.args.words.now) _ _ _ _ c.text.result.now _ c.in-Ok.ensures.limit c.text.ensures c.in-Ok-write_all.ensures.all)
 
 pub returns-in-Ok-write_all-clause-statuses : goal.returns-in-Ok-write_all-clause-statuses
 returns-in-Ok-write_all-clause-statuses g c = inl (status_low c.in-Ok.reply c.of_reply.result.status c.of_reply.ensures.status)
