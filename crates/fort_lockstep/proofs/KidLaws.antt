@@ -42,7 +42,7 @@ neither : (a b : Bool) → (a || b) ≡ false → (a ≡ false) × (b ≡ false)
 neither true b h = absurd cc
 neither false b h = (refl, h)
 
-nothing_left : (ps : List ℕ) (m : ℕ) (ws : List ℕ) → is_wanted (get_or ps m 0) ws ≡ false → kid_lists ps m ws false ≡ []
+pub nothing_left : (ps : List ℕ) (m : ℕ) (ws : List ℕ) → is_wanted (get_or ps m 0) ws ≡ false → kid_lists ps m ws false ≡ []
 nothing_left ps m [] h = refl
 nothing_left ps m (p ∷ ws) h =
     let r = neither (p == get_or ps m 0) (is_wanted (get_or ps m 0) ws) h in

@@ -4,6 +4,8 @@ pub mod WalkLaws
 pub mod KidLaws
 pub mod KidMembers
 pub mod AfterMembers
+pub mod CandidateLaws
+pub mod CandidateEntries
 pub mod Bounds
 pub mod EntryMembers
 pub mod StepLaws

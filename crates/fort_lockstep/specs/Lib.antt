@@ -2,6 +2,7 @@ pub mod Columns
 pub mod SymbolDigits
 pub mod RowDigits
 pub mod Walks
+pub mod Candidates
 pub mod WalkFacts
 pub mod EntriesView
 pub mod EntriesInside

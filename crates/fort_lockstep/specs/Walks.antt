@@ -91,6 +91,7 @@ pub record Place : Type 0 where
   pub stage : ℕ
   pub digits : List ℕ
   pub kids : List ℕ
+  pub wanted : List ℕ
 
 -- the entries after it
 abbrev pub entries_after : Signature → List ℕ → Place → List Entry

@@ -121,7 +121,8 @@ pub fn target_among<C: Comparisons>(
     ensures beside { IsBeside (pieces width (length targets.now) words.now) targets.now kids.now
         result }
     ensures grows { C.made comparisons.old ≤ C.made comparisons.new }
-    ensures cost { 2 ^ (C.made comparisons.new - C.made comparisons.old) ≤ 2 * length targets.now + 1 }
+    ensures cost { 2 ^ (C.made comparisons.new - C.made comparisons.old)
+        ≤ 2 * length targets.now + 1 }
 {
     let stage = stage_of(kids);
     let mut low = 0;

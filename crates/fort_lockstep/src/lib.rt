@@ -2,6 +2,7 @@
 #![tactic(auto)]
 
 mod bisect;
+mod candidates;
 mod counts;
 mod dag;
 mod digits;

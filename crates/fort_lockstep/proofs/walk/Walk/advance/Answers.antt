@@ -8,17 +8,17 @@ returns-then-self-presences-clause-next c = (nothing_past c.args.sig.now c.args.
 
 pub returns-in-Some-clause-next : goal.returns-in-Some-clause-next
 returns-in-Some-clause-next c =
-    let next = rw (c.states.ensures.states, c.wants_of-wanted.ensures, c.digits.ensures.digits, c.states-2.ensures.states) at c.in-Some.ensures.next in
+    let next = rw (c.states.ensures.states, c.requires.place.wanted, c.states-2.ensures.states) at c.in-Some.ensures.next in
     next_same_symbol c.args.sig.now c.args.presences.now (place c.args.self.now) c.in-Some.kids c.requires.place (omega arith) c.in-Some.ensures.stage_is c.in-Some.ensures.states next
 
 pub returns-in-Some-first_after-clause-next : goal.returns-in-Some-first_after-clause-next
 returns-in-Some-first_after-clause-next c =
-    let next = rw (c.states.ensures.states, c.wants_of-wanted.ensures, c.digits.ensures.digits, c.states-2.ensures.states) at c.in-None.ensures.next in
+    let next = rw (c.states.ensures.states, c.requires.place.wanted, c.states-2.ensures.states) at c.in-None.ensures.next in
     let found = rw c.copy.ensures at c.in-Some-first_after.ensures in
     next_found c.args.sig.now c.args.presences.now (place c.args.self.now) (place c.in-Some-first_after.found) c.requires.place (omega arith) next found
 
 pub returns-in-None-first_after-clause-next : goal.returns-in-None-first_after-clause-next
 returns-in-None-first_after-clause-next c =
-    let next = rw (c.states.ensures.states, c.wants_of-wanted.ensures, c.digits.ensures.digits, c.states-2.ensures.states) at c.in-None.ensures.next in
+    let next = rw (c.states.ensures.states, c.requires.place.wanted, c.states-2.ensures.states) at c.in-None.ensures.next in
     let rest = rw c.copy.ensures at c.in-None-first_after.ensures in
     (next_none c.args.sig.now c.args.presences.now (place c.args.self.now) c.requires.place next rest, refl)
