@@ -3,6 +3,10 @@ pub mod SymbolDigits
 pub mod RowDigits
 pub mod Walks
 pub mod WalkFacts
+pub mod DigitNumbers
+pub mod NumberPlaces
+pub mod SymbolSetView
+pub mod SymbolSetInside
 pub mod EntriesView
 pub mod EntriesInside
 pub mod Transitions

@@ -4,6 +4,7 @@
 mod bisect;
 mod counts;
 mod dag;
+mod digit_set;
 mod digits;
 mod dta;
 mod entries;
@@ -13,6 +14,7 @@ mod groups;
 mod kid_lists;
 mod kid_row;
 mod maker;
+mod number_set;
 mod place;
 mod row;
 mod states;
