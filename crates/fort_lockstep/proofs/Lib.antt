@@ -1,5 +1,8 @@
 pub mod InLaws
 pub mod DigitLaws
+pub mod DigitNumberLaws
+pub mod NumberPlaceLaws
+pub mod SymbolSetLaws
 pub mod WalkLaws
 pub mod KidLaws
 pub mod KidMembers

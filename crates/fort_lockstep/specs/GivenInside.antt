@@ -9,6 +9,8 @@ use Rattle.fort_lockstep.specs.declared.given.Given.TheInside.{Inside}
 
 abbrev pub parts_in : Inside → Parts
 parts_in a = record {
+  base = a.groups.symbols.base;
+  columns = a.groups.symbols.columns;
   presences = a.states.presences.items;
   firsts = a.states.firsts.items;
   entries = entries_of (in_order (transitions_of a.states.presences.items a.groups));

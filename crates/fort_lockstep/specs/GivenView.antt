@@ -1,8 +1,10 @@
--- Inside: states and entries with their targets.
+-- Inside: states and entries with their targets, and the base and the length of their tuple symbols' digits.
 use Rattle.std.specs.Prelude.{◌≡◌, ℕ, ◌<◌, List, length, get_or}
 use Rattle.fort_tables.specs.Entries.{Entry}
 
 pub record Parts : Type 0 where
+  pub base : ℕ
+  pub columns : ℕ
   pub presences : List ℕ
   pub firsts : List ℕ
   pub entries : List Entry

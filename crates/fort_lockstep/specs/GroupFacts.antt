@@ -17,7 +17,7 @@ abbrev pub groups_in : List ℕ → List Kept → List Group
 groups_in ps gs = map (group_in ps) gs
 
 abbrev pub transitions_of : List ℕ → Groups → List Transition
-transitions_of ps g = transitions_in g.symbols (groups_in ps g.list.items)
+transitions_of ps g = transitions_in g.symbols.digits (groups_in ps g.list.items)
 
 -- one group for each tuple symbol
 pub record AreApart (ss : List (List ℕ)) (gs : List Group) : Type 0 where
@@ -30,7 +30,7 @@ pub record AreKept (width : ℕ) (ps : List ℕ) (ss : List (List ℕ)) (gs : Li
   pub kept : (i : ℕ) → i < length gs → IsKept width ps (get_or gs i no_kept)
 
 abbrev pub AreGroups : ℕ → List ℕ → Groups → Type 0
-AreGroups width ps g = AreKept width ps g.symbols g.list.items
+AreGroups width ps g = AreKept width ps g.symbols.digits g.list.items
 
 -- the entries of a tuple symbol have all lists of states with the presences that these have
 pub record IsFull (entries : List Entry) (ps : List ℕ) (f : TupleSymbol) (ks : List ℕ) : Type 0 where

@@ -4,6 +4,10 @@ pub mod RowDigits
 pub mod Walks
 pub mod Candidates
 pub mod WalkFacts
+pub mod DigitNumbers
+pub mod NumberPlaces
+pub mod SymbolSetView
+pub mod SymbolSetInside
 pub mod EntriesView
 pub mod EntriesInside
 pub mod Transitions

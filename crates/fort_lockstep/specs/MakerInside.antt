@@ -1,5 +1,5 @@
 -- Inside: what the fields of a maker stand for.
-use Rattle.std.specs.Prelude.{◌≡◌, ◌<◌, ◌≤◌, ◌^◌, length}
+use Rattle.std.specs.Prelude.{◌≡◌, ◌+◌, ◌<◌, ◌≤◌, ◌^◌, length}
 use Rattle.fort_tables.specs.Tables.{Made}
 use Rattle.fort_lockstep.specs.WalkFacts.{place, entry_at, IsPlace}
 use Rattle.fort_lockstep.specs.Making.{made_of, IsMaking, Stands}
@@ -11,6 +11,8 @@ made_in a = made_of a.signature a.columns a.given
 pub record IsMaker (a : Inside) : Type 0 where
   pub some : 0 < a.columns
   pub narrow : a.columns ≤ 16
+  pub base : a.given.base ≡ length a.signature + 1
+  pub columns : a.given.columns ≡ a.columns
   pub few : length a.given.presences < 2 ^ 32
   pub width : length a.walk.digits ≡ a.columns
   pub placed : IsPlace a.signature (place a.walk)

@@ -10,6 +10,8 @@ abbrev pub made_of : Signature → ℕ → Parts → Made
 made_of sig columns g = record { signature = sig; columns = columns; presences = g.presences; entries = g.entries; targets = g.targets }
 
 pub record IsPushed (old : Parts) (e : Entry) (target : ℕ) (new : Parts) : Type 0 where
+  pub base : new.base ≡ old.base
+  pub columns : new.columns ≡ old.columns
   pub presences : new.presences ≡ (if target == length old.presences then old.presences ++ presence e.symbol ∷ [] else old.presences)
   pub firsts : new.firsts ≡ (if target == length old.presences then old.firsts ++ length old.entries ∷ [] else old.firsts)
   pub entries : new.entries ≡ old.entries ++ e ∷ []

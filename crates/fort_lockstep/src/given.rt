@@ -1,8 +1,10 @@
 //! The entries that have a target, and the states that they made.
-ghost use Rattle.std.specs.Prelude.{◌≡◌, ℕ, ◌+◌, ◌-◌, ◌*◌, ◌<◌, ◌≤◌, ◌^◌, [], ◌∷◌, ◌++◌, length, slice_index_or, IfOk, OnOk, OnErr};
+ghost use Rattle.std.specs.Prelude.{◌≡◌, ℕ, ◌+◌, ◌-◌, ◌*◌, ◌<◌, ◌≤◌, ◌^◌, [], ◌∷◌, ◌++◌, map, length, slice_index_or, IfOk, OnOk, OnErr};
 ghost use Rattle.fort_tables.specs.Entries.{Entry, entry};
 ghost use Rattle.fort_tables.specs.Tables.{target_in};
 ghost use Rattle.fort_lockstep.specs.SymbolCounts.{count_with};
+ghost use Rattle.fort_lockstep.specs.Columns.{digit_of};
+ghost use Rattle.fort_lockstep.specs.DigitNumbers.{AreDigits};
 ghost use Rattle.fort_lockstep.specs.GivenView.{AreEachOnce};
 ghost use Rattle.fort_lockstep.specs.Making.{IsPushed};
 ghost use Rattle.fort_lockstep.specs.GroupFacts.{IsDue, IsFull};
@@ -42,7 +44,11 @@ impl Model for Given {
 
 impl Given {
     /// No states yet; their presences are counted where they are below `width`.
-    pub fn new(alloc: Global, width: usize) -> Result<Given, Memory>
+    pub fn new(alloc: Global, width: usize, base: u32, columns: usize) -> Result<Given, Memory>
+        requires some { 0 < base }
+        requires narrow { columns ≤ 16 }
+        ensures base { IfOk result (λ g. g.base ≡ base) }
+        ensures columns { IfOk result (λ g. g.columns ≡ columns) }
         ensures presences { IfOk result (λ g. g.presences ≡ []) }
         ensures firsts { IfOk result (λ g. g.firsts ≡ []) }
         ensures entries { IfOk result (λ g. g.entries ≡ []) }
@@ -55,7 +61,7 @@ impl Given {
             counts: Counts::new(alloc, width)?,
         };
         let groups = Groups {
-            symbols: SymbolSet::new(alloc),
+            symbols: SymbolSet::new(alloc, base, columns),
             list: Vec::new(alloc),
         };
         Ok(Given {
@@ -105,6 +111,7 @@ impl Given {
     /// Gives an entry its target, which may be a new state.
     pub fn push(&mut self, row: Row, target: u32) -> Result<(), Memory>
         requires due { IsDue self.old.entries self.old.presences row }
+        requires fit { AreDigits self.old.base self.old.columns (map digit_of row.symbol) }
         requires small { target + 1 < 2 ^ 32 }
         ensures pushed { OnOk result (IsPushed self.old row target self.new) }
         ensures err { OnErr result (self.new ≡ self.old) }

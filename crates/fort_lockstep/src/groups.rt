@@ -2,6 +2,7 @@
 ghost use Rattle.std.specs.Prelude.{◌≡◌, ℕ, ◌+◌, ◌-◌, ◌*◌, ◌<◌, ◌≤◌, ◌^◌, [], map, length, slice_index_or, Contains, OnOk, OnErr};
 ghost use Rattle.fort_lockstep.specs.Transitions.{entries_of, in_order, transition, IsLast};
 ghost use Rattle.fort_lockstep.specs.Columns.{digit_of};
+ghost use Rattle.fort_lockstep.specs.DigitNumbers.{AreDigits};
 ghost use Rattle.fort_lockstep.specs.SymbolCounts.{count_with};
 ghost use Rattle.fort_lockstep.specs.Tallies.{IsBefore};
 ghost use Rattle.fort_lockstep.specs.GroupFacts.{transitions_of, AreGroups, IsFull, IsDue};
@@ -34,9 +35,13 @@ impl Groups {
         requires lawful { AreGroups states.now.counts.width states.now.presences.items self.old }
         requires due { IsDue (entries_of (in_order (transitions_of states.now.presences.items
             self.old))) states.now.presences.items row.now }
-        requires absent { (q : ℕ) → q < length self.old.symbols → slice_index_or self.old.symbols q
-            [] ≡ map digit_of row.now.symbol → ⊥ }
+        requires fit { AreDigits self.old.symbols.base self.old.symbols.columns (map digit_of
+            row.now.symbol) }
+        requires absent { (q : ℕ) → q < length self.old.symbols.digits
+            → slice_index_or self.old.symbols.digits q [] ≡ map digit_of row.now.symbol → ⊥ }
         ensures lawful { AreGroups states.now.counts.width states.now.presences.items self.new }
+        ensures base { self.new.symbols.base ≡ self.old.symbols.base }
+        ensures columns { self.new.symbols.columns ≡ self.old.symbols.columns }
         ensures ok { OnOk result (IsLast (transitions_of states.now.presences.items self.old)
             (transitions_of states.now.presences.items self.new) row.now target) }
         ensures count { OnOk result (length (transitions_of states.now.presences.items self.new)
@@ -46,10 +51,9 @@ impl Groups {
     {
         self.list.reserve(1)?;
         let sym = row.sym();
-        let digits = Vec::from_slice(alloc, sym.digits())?;
         let mut group = Group::new(alloc, states, row.kids())?;
         group.push(row.kids(), target)?;
-        self.symbols.push(digits)?;
+        self.symbols.push(alloc, sym.digits())?;
         self.list.push_reserved(group);
         Ok(())
     }
@@ -65,7 +69,11 @@ impl Groups {
         requires lawful { AreGroups states.now.counts.width states.now.presences.items self.old }
         requires due { IsDue (entries_of (in_order (transitions_of states.now.presences.items
             self.old))) states.now.presences.items row.now }
+        requires fit { AreDigits self.old.symbols.base self.old.symbols.columns (map digit_of
+            row.now.symbol) }
         ensures lawful { AreGroups states.now.counts.width states.now.presences.items self.new }
+        ensures base { self.new.symbols.base ≡ self.old.symbols.base }
+        ensures columns { self.new.symbols.columns ≡ self.old.symbols.columns }
         ensures ok { OnOk result (IsLast (transitions_of states.now.presences.items self.old)
             (transitions_of states.now.presences.items self.new) row.now target) }
         ensures count { OnOk result (length (transitions_of states.now.presences.items self.new)
@@ -100,8 +108,8 @@ impl Groups {
         ensures there { Contains (transitions_of states.now.presences.items self.now) (transition
             sym.now kids.now result) }
         ensures grows { C.made comparisons.old ≤ C.made comparisons.new }
-        ensures cost { 2 ^ (C.made comparisons.new - C.made comparisons.old) ≤ 2 * count_with sym.now
-            (entries_of (in_order (transitions_of states.now.presences.items self.now))) + 1 }
+        ensures cost { 2 ^ (C.made comparisons.new - C.made comparisons.old)
+            ≤ 2 * count_with sym.now (entries_of (in_order (transitions_of states.now.presences.items self.now))) + 1 }
     {
         match self.symbols.find(sym.digits()) {
             Some(number) => self.list[number].target(states, kids, comparisons),

@@ -8,7 +8,7 @@ use crate::given::Given;
 use crate::row::Row;
 use crate::walk::Walk;
 use fort_terms::{Memory, Signature};
-use std::alloc::{AllocError, Global};
+use std::alloc::Global;
 use std::marker::Model;
 use std::rc::Rc;
 
@@ -51,7 +51,8 @@ impl Maker {
         ensures targets { IfOk result (λ m. m.targets ≡ []) }
     {
         let signature = sig.copy(alloc)?;
-        let given = Given::new(alloc, counted(columns))?;
+        let base = signature.len() as u32 + 1;
+        let given = Given::new(alloc, counted(columns), base, columns)?;
         let mut walk = Walk::new(columns);
         let is_due = walk.advance(&signature, &[]);
         Ok(Maker {
@@ -100,14 +101,14 @@ impl Maker {
         ensures lawful { IfOk result IsListed }
     {
         let alloc = *finals.allocator();
-        let shared = Shared {
-            signature: self.signature,
-            columns: self.columns,
-            given: self.given,
-        };
-        match Rc::new(alloc, shared) {
-            Ok(shared) => Ok(Dta { shared, finals }),
-            Err(_unshared) => Err(AllocError),
-        }
+        let shared = Rc::new(
+            alloc,
+            Shared {
+                signature: self.signature,
+                columns: self.columns,
+                given: self.given,
+            },
+        )?;
+        Ok(Dta { shared, finals })
     }
 }

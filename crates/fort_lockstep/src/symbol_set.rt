@@ -1,51 +1,126 @@
 //! Sets of tuple symbols, by their digits.
-ghost use Rattle.std.specs.Prelude.{◌≡◌, ℕ, ◌<◌, [], ◌∷◌, ◌++◌, length, slice_index_or, OnOk, OnErr, MatchOption};
+ghost use Rattle.std.specs.Prelude.{◌≡◌, ℕ, ◌<◌, ◌≤◌, ◌^◌, [], ◌∷◌, ◌++◌, length, slice_index_or, IsTrue, OnOk, OnErr, MatchOption};
+ghost use Rattle.std.specs.Int.Digits.{number_from_digits, AllBelowBase};
+ghost use Rattle.fort_lockstep.specs.DigitNumbers.{AreDigits};
 
+use crate::digit_set::DigitSet;
+use crate::number_set::NumberSet;
 use fort_terms::Memory;
-use indexmap::IndexSet;
 use std::alloc::Global;
 use std::marker::Model;
 
-/// Digits of tuple symbols, numbered as they came.
+/// Digits by their number in the base, where there are few such numbers, else by their hash.
+#[derive(Drop)]
+pub enum Form {
+    Numbered(NumberSet),
+    Hashed(DigitSet),
+}
+
+/// Lists of digits below a base, in the order in which they came.
 #[derive(Drop)]
 pub struct SymbolSet {
-    set: IndexSet<Vec<u32>>,
+    base: u32,
+    columns: usize,
+    form: Form,
 }
 
 impl Model for SymbolSet {
-    ghost use Rattle.std.specs.Prelude.{ℕ, List, map, vec_items};
+    ghost use Rattle.fort_lockstep.specs.SymbolSetView.{Symbols};
 
-    ghost Value = { List (List ℕ) };
+    ghost Value = { Symbols };
 
-    ghost view = { λ r. map vec_items r.set.keys };
+    ghost use Rattle.fort_lockstep.specs.SymbolSetInside.{symbols_in, IsSymbolSet};
+
+    ghost view = { symbols_in };
+
+    ghost invariant = { IsSymbolSet };
+}
+
+/// Whether there are few numbers of that many digits.
+fn are_few(base: u32, columns: usize) -> bool
+    requires { columns ≤ 16 }
+    ensures { IsTrue result → base ^ columns ≤ 2 ^ 26 }
+{
+    match (base as usize).checked_pow(columns as u32) {
+        Some(count) => count <= 1 << 26,
+        None => false,
+    }
+}
+
+/// The number of digits in a base, the first one counting most.
+fn number_of(base: u32, digits: &[u32]) -> Option<u32>
+    requires { base ^ length digits.now ≤ 2 ^ 26 }
+    ensures { MatchOption result (AllBelowBase base digits.now → ⊥)
+        (λ n. AllBelowBase base digits.now × (n ≡ number_from_digits base digits.now)) }
+{
+    let mut number = 0;
+    for digit in digits {
+        if *digit >= base {
+            return None;
+        }
+        number = number * base + *digit;
+    }
+    Some(number)
 }
 
 impl SymbolSet {
-    pub fn new(alloc: Global) -> SymbolSet
-        ensures { result ≡ [] }
+    pub fn new(alloc: Global, base: u32, columns: usize) -> SymbolSet
+        requires some { 0 < base }
+        requires narrow { columns ≤ 16 }
+        ensures base { result.base ≡ base }
+        ensures columns { result.columns ≡ columns }
+        ensures none { result.digits ≡ [] }
     {
+        let form = if are_few(base, columns) {
+            Form::Numbered(NumberSet::new(alloc))
+        } else {
+            Form::Hashed(DigitSet::new(alloc))
+        };
         SymbolSet {
-            set: IndexSet::new(alloc),
+            base,
+            columns,
+            form,
         }
     }
 
     /// Appends digits that aren't there yet.
-    pub fn push(&mut self, digits: Vec<u32>) -> Result<(), Memory>
-        requires { (q : ℕ) → q < length self.old → slice_index_or self.old q []
-            ≡ digits.items → ⊥ }
-        ensures ok { OnOk result (self.new ≡ self.old ++ digits.items ∷ []) }
-        ensures err { OnErr result (self.new ≡ self.old) }
+    pub fn push(&mut self, alloc: Global, digits: &[u32]) -> Result<(), Memory>
+        requires fit { AreDigits self.old.base self.old.columns digits.now }
+        requires absent { (q : ℕ) → q < length self.old.digits
+            → slice_index_or self.old.digits q [] ≡ digits.now → ⊥ }
+        ensures base { self.new.base ≡ self.old.base }
+        ensures columns { self.new.columns ≡ self.old.columns }
+        ensures ok { OnOk result (self.new.digits ≡ self.old.digits ++ digits.now ∷ []) }
+        ensures err { OnErr result (self.new.digits ≡ self.old.digits) }
     {
-        let _added = self.set.insert(digits)?;
-        Ok(())
+        match &mut self.form {
+            Form::Numbered(set) => match number_of(self.base, digits) {
+                Some(number) => set.push(number),
+                None => unreachable!(),
+            },
+            Form::Hashed(set) => set.push(Vec::from_slice(alloc, digits)?),
+        }
     }
 
-    /// The number of the digits.
+    /// The place of the digits.
     pub fn find(&self, digits: &[u32]) -> Option<usize>
         ensures { MatchOption result
-            ((q : ℕ) → q < length self.now → slice_index_or self.now q [] ≡ digits.now → ⊥)
-            (λ q. (q < length self.now) × (slice_index_or self.now q [] ≡ digits.now)) }
+            ((q : ℕ) → q < length self.now.digits
+            → slice_index_or self.now.digits q [] ≡ digits.now → ⊥)
+            (λ q. (q < length self.now.digits)
+            × (slice_index_or self.now.digits q [] ≡ digits.now)) }
     {
-        self.set.get_index_of(digits)
+        match &self.form {
+            Form::Numbered(set) => {
+                if digits.len() != self.columns {
+                    return None;
+                }
+                match number_of(self.base, digits) {
+                    Some(number) => set.find(number),
+                    None => None,
+                }
+            }
+            Form::Hashed(set) => set.find(digits),
+        }
     }
 }

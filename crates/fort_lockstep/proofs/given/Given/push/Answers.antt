@@ -1,7 +1,9 @@
-use Rattle.std.proofs.Common.{◌≡◌, ◌+◌, ◌∷◌, [], ◌++◌, List, ℕ, length, ◌==◌, if◌then◌else◌, ap, sym, ◌∙◌, arith, subst}
+use Rattle.std.proofs.Common.{◌≡◌, ◌+◌, ◌∷◌, [], ◌++◌, List, ℕ, map, length, ◌==◌, if◌then◌else◌, ap, sym, ◌∙◌, arith, subst}
 use Rattle.fort_tables.specs.Tuples.{presence}
 use Rattle.fort_tables.specs.Entries.{Entry}
 use Rattle.fort_lockstep.specs.Transitions.{Transition, Group, in_order, entries_of, IsLast}
+use Rattle.fort_lockstep.specs.Columns.{digit_of}
+use Rattle.fort_lockstep.specs.DigitNumbers.{AreDigits}
 use Rattle.fort_lockstep.specs.GivenView.{Parts}
 use Rattle.fort_lockstep.specs.StateFacts.{IsSameStates, IsNoted, AreFirsts}
 use Rattle.fort_lockstep.specs.GroupFacts.{transitions_in, transitions_of, AreGroups, IsDue}
@@ -41,13 +43,13 @@ pushed s m s' g g' e q place same n lawful last count =
     let ps = s.presences.items in
     let one = subst (λ (ps : List ℕ). AreGroups m.counts.width ps g') same.presences lawful in
     let two = subst (λ w. AreGroups w ps g') same.width one in
-    let r = groups_noted s.counts.width ps s'.presences.items (presence e.symbol) g'.symbols g'.list.items (q == length ps) two n.presences in
+    let r = groups_noted s.counts.width ps s'.presences.items (presence e.symbol) g'.symbols.digits g'.list.items (q == length ps) two n.presences in
     let was = subst (λ (ps : List ℕ). IsLast (transitions_of ps g) (transitions_of ps g') e q) same.presences last in
     let many = subst (λ (ps : List ℕ). length (transitions_of ps g') ≡ length (transitions_of ps g) + 1) same.presences count in
     record {
       lawful = subst (λ w. AreGroups w s'.presences.items g') (sym n.width) r.lawful;
-      last = subst (λ (hs : List Group). IsLast (transitions_of ps g) (transitions_in g'.symbols hs) e q) (sym r.same) was;
-      count = ap (λ (hs : List Group). length (transitions_in g'.symbols hs)) r.same ∙ many;
+      last = subst (λ (hs : List Group). IsLast (transitions_of ps g) (transitions_in g'.symbols.digits hs) e q) (sym r.same) was;
+      count = ap (λ (hs : List Group). length (transitions_in g'.symbols.digits hs)) r.same ∙ many;
     }
 
 pub push-requires-clause-lawful : goal.push-requires-clause-lawful
@@ -62,6 +64,9 @@ push-requires-clause-due c =
     let a = c.self.inside in
     let due = subst (λ (p : Parts). IsDue p.entries p.presences c.args.row) (sym c.self.view_is) c.requires.due in
     subst (λ (ps : List ℕ). IsDue (entries_of (in_order (transitions_of ps a.groups))) ps c.args.row) (sym c.in_ok-make_room.ensures.same.presences) due
+
+pub push-requires-clause-fit : goal.push-requires-clause-fit
+push-requires-clause-fit c = subst (λ (p : Parts). AreDigits p.base p.columns (map digit_of c.args.row.symbol)) (sym c.self.view_is) c.requires.fit
 
 pub invariant_of-self-2 : goal.invariant_of-self-2
 invariant_of-self-2 c =
@@ -87,6 +92,8 @@ returns-clause-pushed c =
     let at : a.count ≡ length (entries_of (in_order (transitions_of a.states.presences.items a.groups))) = c.self.invariant.count ∙ sym (length-entries (transitions_of a.states.presences.items a.groups)) in
     let new : Parts = parts_in (record { alloc = a.alloc; states = c.note.new.self; groups = c.push.new.self; count = c.in-Some.count }) in
     let p : IsPushed (parts_in a) e c.args.target new = record {
+      base = c.push.ensures.base;
+      columns = c.push.ensures.columns;
       presences = n.presences;
       firsts = n.firsts ∙ ap (λ k. if c.args.target == length a.states.presences.items then a.states.firsts.items ++ k ∷ [] else a.states.firsts.items) at;
       entries = r.last.entries;

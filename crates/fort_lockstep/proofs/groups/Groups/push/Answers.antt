@@ -45,15 +45,15 @@ push-requires c =
     let s = c.args.states.now in
     let ps = s.presences.items in
     let e = c.args.row.now in
-    let h = here s.counts.width ps c.args.self.now.symbols c.args.self.now.list.items e c.in-Some.number c.index_mut-group.result.now c.requires.lawful c.requires.due c.in-Some.ensures.0 (c.in-Some.ensures.1 ∙ (c.digits.ensures ∙ ap (map digit_of) c.sym-sym.ensures)) c.index_mut-group.ensures.value in
-    let w = due_wants s.counts.width ps c.args.self.now.symbols c.args.self.now.list.items e c.in-Some.number c.index_mut-group.result.now h.lawful h.within h.digits h.is h.due in
+    let h = here s.counts.width ps c.args.self.now.symbols.digits c.args.self.now.list.items e c.in-Some.number c.index_mut-group.result.now c.requires.lawful c.requires.due c.in-Some.ensures.0 (c.in-Some.ensures.1 ∙ (c.digits.ensures ∙ ap (map digit_of) c.sym-sym.ensures)) c.index_mut-group.ensures.value in
+    let w = due_wants s.counts.width ps c.args.self.now.symbols.digits c.args.self.now.list.items e c.in-Some.number c.index_mut-group.result.now h.lawful h.within h.digits h.is h.due in
     ap length c.kids.ensures.states ∙ sym (ap length w ∙ length-wants ps e.kids)
 
 pub returns-in-Some-clause-lawful : goal.returns-in-Some-clause-lawful
 returns-in-Some-clause-lawful c =
     let s = c.args.states.now in
     let ps = s.presences.items in
-    let ss = c.args.self.now.symbols in
+    let ss = c.args.self.now.symbols.digits in
     let gs = c.args.self.now.list.items in
     let e = c.args.row.now in
     let j = c.in-Some.number in
@@ -67,7 +67,7 @@ pub returns-in-Some-clause-ok : goal.returns-in-Some-clause-ok
 returns-in-Some-clause-ok c =
     let s = c.args.states.now in
     let ps = s.presences.items in
-    let ss = c.args.self.now.symbols in
+    let ss = c.args.self.now.symbols.digits in
     let gs = c.args.self.now.list.items in
     let e = c.args.row.now in
     let j = c.in-Some.number in
@@ -79,7 +79,7 @@ pub returns-in-Some-clause-count : goal.returns-in-Some-clause-count
 returns-in-Some-clause-count c =
     let s = c.args.states.now in
     let ps = s.presences.items in
-    let ss = c.args.self.now.symbols in
+    let ss = c.args.self.now.symbols.digits in
     let gs = c.args.self.now.list.items in
     let e = c.args.row.now in
     let j = c.in-Some.number in

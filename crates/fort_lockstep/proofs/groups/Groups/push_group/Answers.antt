@@ -14,46 +14,46 @@ pub returns-clause-lawful : goal.returns-clause-lawful
 returns-clause-lawful c =
     let width = c.args.states.now.counts.width in
     let ps = c.args.states.now.presences.items in
-    let ss = c.args.self.now.symbols in
+    let ss = c.args.self.now.symbols.digits in
     let gs = c.args.self.now.list.items in
     let e = c.args.row.now in
     let q = c.args.target in
-    let w : c.in_ok-digits.digits.items ≡ map digit_of e.symbol = c.in_ok-digits.ensures.items ∙ (c.digits.ensures ∙ ap (map digit_of) c.sym-sym.ensures) in
+    let w : c.digits.result.now ≡ map digit_of e.symbol = c.digits.ensures ∙ ap (map digit_of) c.sym-sym.ensures in
     let fresh = subst (λ ks. IsNewKept width ps ks c.in_ok-group.group) c.kids.ensures.states c.in_ok-group.ensures in
     let grown = subst (λ ks. IsGrownKept c.in_ok-group.group ks q c.push.new.self) c.kids-2.ensures.states c.in_ok-push.ensures.ok in
-    let r = first_kept width ps ss gs c.in_ok-digits.digits.items e q c.in_ok-group.group c.push.new.self c.requires.lawful w c.requires.absent c.requires.due fresh grown in
+    let r = first_kept width ps ss gs c.digits.result.now e q c.in_ok-group.group c.push.new.self c.requires.lawful w c.requires.absent c.requires.due fresh grown in
     let list : c.push_reserved.new.self.items ≡ gs ++ c.push.new.self ∷ [] = c.push_reserved.ensures.items ∙ ap (λ (xs : List Kept). xs ++ c.push.new.self ∷ []) c.in_ok-reserve.ensures.items in
     subst (λ (xs : List (List ℕ)). AreKept width ps xs c.push_reserved.new.self.items) (sym c.in_ok-push-2.ensures.ok)
-    (subst (λ (xs : List Kept). AreKept width ps (ss ++ c.in_ok-digits.digits.items ∷ []) xs) (sym list) r.lawful)
+    (subst (λ (xs : List Kept). AreKept width ps (ss ++ c.digits.result.now ∷ []) xs) (sym list) r.lawful)
 
 pub returns-clause-ok : goal.returns-clause-ok
 returns-clause-ok c =
     let width = c.args.states.now.counts.width in
     let ps = c.args.states.now.presences.items in
-    let ss = c.args.self.now.symbols in
+    let ss = c.args.self.now.symbols.digits in
     let gs = c.args.self.now.list.items in
     let e = c.args.row.now in
     let q = c.args.target in
-    let w : c.in_ok-digits.digits.items ≡ map digit_of e.symbol = c.in_ok-digits.ensures.items ∙ (c.digits.ensures ∙ ap (map digit_of) c.sym-sym.ensures) in
+    let w : c.digits.result.now ≡ map digit_of e.symbol = c.digits.ensures ∙ ap (map digit_of) c.sym-sym.ensures in
     let fresh = subst (λ ks. IsNewKept width ps ks c.in_ok-group.group) c.kids.ensures.states c.in_ok-group.ensures in
     let grown = subst (λ ks. IsGrownKept c.in_ok-group.group ks q c.push.new.self) c.kids-2.ensures.states c.in_ok-push.ensures.ok in
-    let r = first_kept width ps ss gs c.in_ok-digits.digits.items e q c.in_ok-group.group c.push.new.self c.requires.lawful w c.requires.absent c.requires.due fresh grown in
+    let r = first_kept width ps ss gs c.digits.result.now e q c.in_ok-group.group c.push.new.self c.requires.lawful w c.requires.absent c.requires.due fresh grown in
     let list : c.push_reserved.new.self.items ≡ gs ++ c.push.new.self ∷ [] = c.push_reserved.ensures.items ∙ ap (λ (xs : List Kept). xs ++ c.push.new.self ∷ []) c.in_ok-reserve.ensures.items in
     subst (λ (xs : List (List ℕ)). IsLast (transitions_in ss (groups_in ps gs)) (transitions_in xs (groups_in ps c.push_reserved.new.self.items)) e q) (sym c.in_ok-push-2.ensures.ok)
-    (subst (λ (xs : List Kept). IsLast (transitions_in ss (groups_in ps gs)) (transitions_in (ss ++ c.in_ok-digits.digits.items ∷ []) (groups_in ps xs)) e q) (sym list) r.pushed)
+    (subst (λ (xs : List Kept). IsLast (transitions_in ss (groups_in ps gs)) (transitions_in (ss ++ c.digits.result.now ∷ []) (groups_in ps xs)) e q) (sym list) r.pushed)
 
 pub returns-clause-count : goal.returns-clause-count
 returns-clause-count c =
     let width = c.args.states.now.counts.width in
     let ps = c.args.states.now.presences.items in
-    let ss = c.args.self.now.symbols in
+    let ss = c.args.self.now.symbols.digits in
     let gs = c.args.self.now.list.items in
     let e = c.args.row.now in
     let q = c.args.target in
-    let w : c.in_ok-digits.digits.items ≡ map digit_of e.symbol = c.in_ok-digits.ensures.items ∙ (c.digits.ensures ∙ ap (map digit_of) c.sym-sym.ensures) in
+    let w : c.digits.result.now ≡ map digit_of e.symbol = c.digits.ensures ∙ ap (map digit_of) c.sym-sym.ensures in
     let fresh = subst (λ ks. IsNewKept width ps ks c.in_ok-group.group) c.kids.ensures.states c.in_ok-group.ensures in
     let grown = subst (λ ks. IsGrownKept c.in_ok-group.group ks q c.push.new.self) c.kids-2.ensures.states c.in_ok-push.ensures.ok in
-    let r = first_kept width ps ss gs c.in_ok-digits.digits.items e q c.in_ok-group.group c.push.new.self c.requires.lawful w c.requires.absent c.requires.due fresh grown in
+    let r = first_kept width ps ss gs c.digits.result.now e q c.in_ok-group.group c.push.new.self c.requires.lawful w c.requires.absent c.requires.due fresh grown in
     let list : c.push_reserved.new.self.items ≡ gs ++ c.push.new.self ∷ [] = c.push_reserved.ensures.items ∙ ap (λ (xs : List Kept). xs ++ c.push.new.self ∷ []) c.in_ok-reserve.ensures.items in
     ap (λ (xs : List (List ℕ)). length (transitions_in xs (groups_in ps c.push_reserved.new.self.items))) c.in_ok-push-2.ensures.ok
-    ∙ (ap (λ (xs : List Kept). length (transitions_in (ss ++ c.in_ok-digits.digits.items ∷ []) (groups_in ps xs))) list ∙ r.count)
+    ∙ (ap (λ (xs : List Kept). length (transitions_in (ss ++ c.digits.result.now ∷ []) (groups_in ps xs))) list ∙ r.count)

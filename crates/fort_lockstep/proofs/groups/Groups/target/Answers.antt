@@ -15,7 +15,7 @@ pub target-requires-clause-there : goal.target-requires-clause-there
 target-requires-clause-there g c =
     let s = c.args.states.now in
     let ps = s.presences.items in
-    let ss = c.args.self.now.symbols in
+    let ss = c.args.self.now.symbols.digits in
     let gs = c.args.self.now.list.items in
     let j = c.in-Some.number in
     let x = c.index.result.now in
@@ -27,7 +27,7 @@ pub target-requires-clause-full : goal.target-requires-clause-full
 target-requires-clause-full g c = λ e.
     let s = c.args.states.now in
     let ps = s.presences.items in
-    let ss = c.args.self.now.symbols in
+    let ss = c.args.self.now.symbols.digits in
     let gs = c.args.self.now.list.items in
     let ks = c.args.kids.now in
     let j = c.in-Some.number in
@@ -45,13 +45,13 @@ target-requires-clause-full g c = λ e.
 pub unreachable-requires : goal.unreachable-requires
 unreachable-requires g c =
     let ps = c.args.states.now.presences.items in
-    symbol_there c.args.self.now.symbols (groups_in ps c.args.self.now.list.items) c.args.sym.now c.args.kids.now c.requires.lawful.apart (c.requires.full.all c.args.kids.now c.requires.full.own) (λ q l e. c.in-None.ensures q l (e ∙ sym c.digits.ensures))
+    symbol_there c.args.self.now.symbols.digits (groups_in ps c.args.self.now.list.items) c.args.sym.now c.args.kids.now c.requires.lawful.apart (c.requires.full.all c.args.kids.now c.requires.full.own) (λ q l e. c.in-None.ensures q l (e ∙ sym c.digits.ensures))
 
 pub returns-clause-there : goal.returns-clause-there
 returns-clause-there g c =
     let s = c.args.states.now in
     let ps = s.presences.items in
-    let ss = c.args.self.now.symbols in
+    let ss = c.args.self.now.symbols.digits in
     let gs = c.args.self.now.list.items in
     let j = c.in-Some.number in
     let x = c.index.result.now in
@@ -65,7 +65,7 @@ pub returns-clause-cost : goal.returns-clause-cost
 returns-clause-cost g c =
     let s = c.args.states.now in
     let ps = s.presences.items in
-    let ss = c.args.self.now.symbols in
+    let ss = c.args.self.now.symbols.digits in
     let gs = c.args.self.now.list.items in
     let j = c.in-Some.number in
     let x = c.index.result.now in

@@ -1,9 +1,11 @@
-use Rattle.std.proofs.Common.{length, sym, ◌∙◌, subst, arith}
+use Rattle.std.proofs.Common.{ℕ, ◌+◌, map, length, sym, ◌∙◌, subst, arith}
 use Rattle.fort_tables.specs.Entries.{Entry}
 use Rattle.fort_tables.specs.Tables.{Made, IsMadeDue, IsAllowed, IsGiven}
 use Rattle.fort_lockstep.specs.WalkFacts.{place, entry_at}
 use Rattle.fort_lockstep.specs.MakerInside.{made_in}
-use Rattle.fort_lockstep.proofs.Bounds.{bound-up_to}
+use Rattle.fort_lockstep.specs.Columns.{digit_of}
+use Rattle.fort_lockstep.specs.DigitNumbers.{AreDigits}
+use Rattle.fort_lockstep.proofs.Bounds.{bound-up_to, symbol_digits}
 use Rattle.fort_lockstep.specs.Making.{made_of}
 use Rattle.fort_lockstep.proofs.GiveLaws.{pushed_few, at_due, given_grown, given_is, stands_after}
 use Rattle.fort_lockstep.specs.GroupFacts.{IsDue}
@@ -26,6 +28,8 @@ invariant_of-self-2 c =
     record {
       some = i.some;
       narrow = i.narrow;
+      base = c.in_ok-push.ensures.pushed.base ∙ i.base;
+      columns = c.in_ok-push.ensures.pushed.columns ∙ i.columns;
       few = pushed_few a.given g' c.row.result c.args.target i.few c.requires.few c.in_ok-push.ensures.pushed;
       width = c.advance-self-inside.ensures.width ∙ i.width;
       placed = c.advance-self-inside.ensures.place;
@@ -49,3 +53,15 @@ push-requires-clause-due c =
     let at = at_due (made_in a) (entry_at (place a.walk)) c.requires.allowed.0 a.is_due c.self.invariant.stands allowed.due in
     let due = standing_due_in a.signature a.columns a.given.presences a.given.entries (entry_at (place a.walk)) c.self.invariant.making.order at.standing in
     subst (λ (x : Entry). IsDue a.given.entries a.given.presences x) (sym c.row.ensures) due
+
+pub push-requires-clause-fit : goal.push-requires-clause-fit
+push-requires-clause-fit c =
+    let a = c.self.inside in
+    let i = c.self.invariant in
+    let last = entry_at (place a.walk) in
+    let allowed : IsAllowed (made_in a) c.requires.allowed.0 c.args.target = subst (λ (m : Made). IsAllowed m c.requires.allowed.0 c.args.target) (sym c.self.view_is) c.requires.allowed.1 in
+    let at = at_due (made_in a) last c.requires.allowed.0 a.is_due i.stands allowed.due in
+    let digits = symbol_digits a.signature a.columns last.symbol at.standing.is_entry.symbol in
+    subst (λ (x : Entry). AreDigits a.given.base a.given.columns (map digit_of x.symbol)) (sym c.row.ensures)
+    (subst (λ (b : ℕ). AreDigits b a.given.columns (map digit_of last.symbol)) (sym i.base)
+    (subst (λ (n : ℕ). AreDigits (length a.signature + 1) n (map digit_of last.symbol)) (sym i.columns) digits))

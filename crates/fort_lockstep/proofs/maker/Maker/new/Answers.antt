@@ -1,4 +1,4 @@
-use Rattle.std.proofs.Common.{◌∙◌, arith}
+use Rattle.std.proofs.Common.{◌+◌, ap, ◌∙◌, arith}
 use Rattle.fort_lockstep.specs.WalkFacts.{place}
 use Rattle.fort_lockstep.proofs.GiveLaws.{new_making, new_stands}
 use Rattle.fort_lockstep.proofs.maker.Maker.new.Goals as goal
@@ -14,6 +14,8 @@ invariant_of-result c =
     record {
       some = c.requires.some;
       narrow = c.requires.narrow;
+      base = c.in_ok-given.ensures.base ∙ ap (λ k. k + 1) c.len.ensures.count;
+      columns = c.in_ok-given.ensures.columns;
       few = rw c.in_ok-given.ensures.presences (omega arith);
       width = c.advance-is_due.ensures.width ∙ c.new-walk.ensures.width;
       placed = c.advance-is_due.ensures.place;

@@ -1,0 +1,10 @@
+-- Inside: the places of numbers in a list.
+use Rattle.std.specs.Prelude.{◌≡◌, ℕ, ◌+◌, ◌-◌, ◌<◌, ◌≤◌, ◌^◌, List, length, get_or}
+
+-- for each number up to the greatest of the list one more than its place there, or 0
+pub record ArePlaces (numbers places : List ℕ) : Type 0 where
+  pub small : length places ≤ 2 ^ 26
+  pub within : (q : ℕ) → q < length numbers → get_or numbers q 0 < length places
+  pub place : (q : ℕ) → q < length numbers → get_or places (get_or numbers q 0) 0 ≡ q + 1
+  pub inside : (n : ℕ) → n < length places → get_or places n 0 ≤ length numbers
+  pub number : (n : ℕ) → n < length places → 0 < get_or places n 0 → get_or numbers (get_or places n 0 - 1) 0 ≡ n

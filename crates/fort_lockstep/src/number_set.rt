@@ -1,0 +1,65 @@
+//! Sets of numbers, each found by one read.
+ghost use Rattle.std.specs.Prelude.{◌≡◌, ℕ, ◌<◌, ◌^◌, [], ◌∷◌, ◌++◌, length, slice_index, OnOk, OnErr, MatchOption};
+
+use fort_terms::Memory;
+use std::alloc::Global;
+use std::marker::Model;
+
+/// Numbers in the order in which they came, and for each number up to the greatest one more than its place, or 0.
+#[derive(Drop)]
+pub struct NumberSet {
+    numbers: Vec<u32>,
+    places: Vec<u32>,
+}
+
+impl Model for NumberSet {
+    ghost use Rattle.std.specs.Prelude.{ℕ, List};
+
+    ghost Value = { List ℕ };
+
+    ghost use Rattle.fort_lockstep.specs.NumberPlaces.{ArePlaces};
+
+    ghost view = { λ r. r.numbers.items };
+
+    ghost invariant = { λ r. ArePlaces r.numbers.items r.places.items };
+}
+
+impl NumberSet {
+    pub fn new(alloc: Global) -> NumberSet
+        ensures { result ≡ [] }
+    {
+        NumberSet {
+            numbers: Vec::new(alloc),
+            places: Vec::new(alloc),
+        }
+    }
+
+    /// Appends a number that isn't there yet; takes room for all numbers up to it.
+    pub fn push(&mut self, number: u32) -> Result<(), Memory>
+        requires small { number < 2 ^ 26 }
+        requires absent { (q : ℕ) → q < length self.old → slice_index self.old q ≡ number → ⊥ }
+        ensures ok { OnOk result (self.new ≡ self.old ++ number ∷ []) }
+        ensures err { OnErr result (self.new ≡ self.old) }
+    {
+        let at = number as usize;
+        let size = self.places.len().max(at + 1);
+        self.numbers.reserve(1)?;
+        self.places.resize(size, 0)?;
+        self.places[at] = self.numbers.len() as u32 + 1;
+        self.numbers.push_reserved(number);
+        Ok(())
+    }
+
+    /// The place of a number.
+    pub fn find(&self, number: u32) -> Option<usize>
+        ensures { MatchOption result
+            ((q : ℕ) → q < length self.now → slice_index self.now q ≡ number → ⊥)
+            (λ q. (q < length self.now) × (slice_index self.now q ≡ number)) }
+    {
+        let places = self.places.as_slice();
+        match places.get(number as usize) {
+            Some(place) => (*place as usize).checked_sub(1),
+            None => None,
+        }
+    }
+}
