@@ -235,3 +235,26 @@ stage_fits ps ws ks q a e = fits_seen q ks (omega (arith, e))
 
 pub newest_small : (ps ws ks : List ℕ) (q : ℕ) → AreOf ps ws ks → stage ks ≡ suc q → box ps ws (suc q) ≤ space ps ws
 newest_small ps ws ks q a e = omega (arith, box_rises ps ws (suc q) (length ps) (omega (arith, e, stage_within ps ws ks a)), box_whole ps ws)
+
+-- with one child the place is the child's rank
+pub unary_place : (ps : List ℕ) (w k : ℕ) → place_in_order ps (w ∷ []) (k ∷ []) ≡ rank_in w ps k
+unary_place ps w k = place_newest ps (w ∷ []) (k ∷ []) k (omega arith) ∙ omega arith
+
+-- with two children and the first one the newest
+pub newest_first : (ps : List ℕ) (v w k l : ℕ) → l ≤ k → place_in_order ps (v ∷ w ∷ []) (k ∷ l ∷ []) ≡ rank_in v ps k * rank_in w ps (suc k) + rank_in w ps l
+newest_first ps v w k l m =
+    let ws : List ℕ = v ∷ w ∷ [] in
+    let t : (k == k) ≡ true = grind (arith, nat_tests) in
+    let seen : inner ps (w ∷ []) k (k == k) (l ∷ []) ≡ rank_in w ps l = ap (λ b. inner ps (w ∷ []) k b (l ∷ [])) t ∙ omega arith in
+    let all = ap (λ n. rank_in v ps k * n) (shell_sum ps (w ∷ []) k) in
+    place_newest ps ws (k ∷ l ∷ []) k (omega arith) ∙ omega (arith, seen, all)
+
+-- and the second one the newest
+pub newest_second : (ps : List ℕ) (v w k l : ℕ) → k < l → l < length ps → get_or ps l 0 ≡ w → place_in_order ps (v ∷ w ∷ []) (k ∷ l ∷ []) ≡ rank_in v ps l * rank_in w ps l + rank_in v ps k
+newest_second ps v w k l m within is =
+    let ws : List ℕ = v ∷ w ∷ [] in
+    let t : (k == l) ≡ false = grind (arith, nat_tests) in
+    let seen : inner ps (w ∷ []) l (k == l) (l ∷ []) ≡ 0 = ap (λ b. inner ps (w ∷ []) l b (l ∷ [])) t ∙ omega arith in
+    let one : shell ps (w ∷ []) l ≡ 1 = omega (arith, rank_next w ps l within is) in
+    let all = ap (λ n. rank_in v ps k * n) one in
+    place_newest ps ws (k ∷ l ∷ []) l (omega arith) ∙ omega (arith, seen, all)

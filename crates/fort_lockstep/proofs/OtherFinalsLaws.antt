@@ -1,6 +1,6 @@
 -- A table with other accepting states, each of full presence, is one too.
 use Rattle.std.specs.Prelude.{◌≡◌, ℕ, ◌<◌, List, Bool, true, false, length, get_or}
-use Rattle.fort_tables.specs.Tables.{Listed, IsListed, listed_table, full_presence}
+use Rattle.fort_tables.specs.Tables.{Listed, IsListed, full_presence}
 use Rattle.fort_lockstep.specs.OtherFinals.{with_finals}
 
 pub IsListed-with_finals : (t : Listed) (finals : List Bool) → IsListed t

@@ -15,10 +15,10 @@ use std::marker::Model;
 /// The entries of one tuple symbol, in order: their targets, and their child states where these are not counted.
 #[derive(Drop)]
 pub struct Group {
-    wants: Vec<u16>,
-    is_counted: bool,
-    words: Vec<u32>,
     targets: Vec<u32>,
+    is_counted: bool,
+    wants: Vec<u16>,
+    words: Vec<u32>,
 }
 
 impl Model for Group {
@@ -55,10 +55,10 @@ impl Group {
         let presences = states.presences.as_slice();
         let wants = presences_at(alloc, presences, kids)?;
         Ok(Group {
-            wants,
-            is_counted: are_counted(presences, states.counts.width, kids),
-            words: Vec::new(alloc),
             targets: Vec::new(alloc),
+            is_counted: are_counted(presences, states.counts.width, kids),
+            wants,
+            words: Vec::new(alloc),
         })
     }
 

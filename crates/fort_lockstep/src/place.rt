@@ -1,5 +1,5 @@
 //! The place of child states in the order of entries, by counts of states.
-ghost use Rattle.std.specs.Prelude.{◌≡◌, ℕ, ◌+◌, ◌-◌, ◌*◌, ◌<◌, ◌≤◌, ◌^◌, length, slice_index, true, false, if◌then◌else◌, IsTrue, IfOk};
+ghost use Rattle.std.specs.Prelude.{◌≡◌, ℕ, ◌+◌, ◌-◌, ◌*◌, ◌<◌, ◌≤◌, ◌^◌, [], ◌∷◌, length, slice_index, true, false, if◌then◌else◌, IsTrue, IfOk};
 ghost use Rattle.fort_lockstep.specs.Ranks.{rank_in, space, AreOf, wants_at};
 ghost use Rattle.fort_lockstep.specs.InOrder.{box, inner, place_in_order};
 ghost use Rattle.fort_lockstep.specs.Tallies.{IsBefore, AreBelow, box_to, Fits};
@@ -113,8 +113,8 @@ pub fn are_counted(presences: &[u16], width: usize, kids: &[u32]) -> bool
     }
 }
 
-/// The place of counted child states among all lists of such states, in the order of entries.
-pub fn place_by_counts(presences: &[u16], counts: &Counts, kids: &[u32], count: usize) -> usize
+/// The place of counted child states, whatever their number.
+fn place_by_tally(presences: &[u16], counts: &Counts, kids: &[u32], count: usize) -> usize
     requires before { IsBefore presences.now counts.now.width counts.now.before.items }
     requires wants { AreBelow counts.now.width (wants_at presences.now kids.now) }
     requires are { AreOf presences.now (wants_at presences.now kids.now) kids.now }
@@ -131,4 +131,49 @@ pub fn place_by_counts(presences: &[u16], counts: &Counts, kids: &[u32], count: 
     let newest = (stage - 1) as u32;
     let found = tally_of(presences, counts, kids, newest);
     found.low + found.held
+}
+
+/// The place of two counted child states.
+fn place_of_two(presences: &[u16], counts: &Counts, first: u32, second: u32) -> usize
+    requires before { IsBefore presences.now counts.now.width counts.now.before.items }
+    requires wants { AreBelow counts.now.width (wants_at presences.now (first ∷ second ∷ [])) }
+    requires are { AreOf presences.now (wants_at presences.now (first ∷ second ∷ []))
+        (first ∷ second ∷ []) }
+    requires small { space presences.now (wants_at presences.now (first ∷ second ∷ []))
+        < 2 ^ 64 }
+    ensures { result ≡ place_in_order presences.now (wants_at presences.now (first ∷ second ∷ []))
+        (first ∷ second ∷ []) }
+{
+    let (first, second) = (first as usize, second as usize);
+    let (own, other) = (presences[first], presences[second]);
+    if first < second {
+        let older = count_before(presences, counts, second, own);
+        older * count_before(presences, counts, second, other)
+            + count_before(presences, counts, first, own)
+    } else {
+        let older = count_before(presences, counts, first, own);
+        older * count_before(presences, counts, first + 1, other)
+            + count_before(presences, counts, second, other)
+    }
+}
+
+/// The place of counted child states among all lists of such states, in the order of entries.
+pub fn place_by_counts(presences: &[u16], counts: &Counts, kids: &[u32], count: usize) -> usize
+    requires before { IsBefore presences.now counts.now.width counts.now.before.items }
+    requires wants { AreBelow counts.now.width (wants_at presences.now kids.now) }
+    requires are { AreOf presences.now (wants_at presences.now kids.now) kids.now }
+    requires room { space presences.now (wants_at presences.now kids.now) ≤ count }
+    requires few { length presences.now < 2 ^ 32 }
+    ensures place { result ≡ place_in_order presences.now (wants_at presences.now kids.now)
+        kids.now }
+    ensures below { result < count }
+{
+    match kids {
+        [kid] => {
+            let want = presences[*kid as usize];
+            count_before(presences, counts, *kid as usize, want)
+        }
+        [first, second] => place_of_two(presences, counts, *first, *second),
+        _ => place_by_tally(presences, counts, kids, count),
+    }
 }

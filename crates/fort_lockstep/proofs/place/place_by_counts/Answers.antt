@@ -1,58 +1,32 @@
-use Rattle.std.proofs.Common.{◌≡◌, suc, ◌-◌, arith}
-use Rattle.fort_tables.specs.Entries.{stage as stage_lem}
+use Rattle.std.proofs.Common.{◌≡◌, ℕ, ◌<◌, ◌≤◌, List, [], ◌∷◌, length, get_or, refl, ap, arith}
 use Rattle.fort_lockstep.specs.Ranks.{wants_at}
-use Rattle.fort_lockstep.proofs.InOrderLaws.{stage_within, in_order_below, place_newest, stage_fits, newest_small}
+use Rattle.fort_lockstep.specs.InOrder.{place_in_order}
+use Rattle.fort_lockstep.proofs.InOrderLaws.{in_order_below, unary_place}
 use Rattle.fort_lockstep.proofs.place.place_by_counts.Goals as goal
 
-pub returns-then-stage-eq0-clause-below : goal.returns-then-stage-eq0-clause-below
-returns-then-stage-eq0-clause-below c =
-    let ps = c.args.presences.now in
-    let ks = c.args.kids.now in
-    let ws = wants_at ps ks in
-    omega (arith, c.requires.room, in_order_below ps ws ks c.requires.are)
+one_child : (ks : List ℕ) → 1 ≤ length ks → length ks < 2 → ks ≡ get_or ks 0 0 ∷ []
+one_child [] h l = absurd (omega arith)
+one_child (k ∷ []) h l = refl
+one_child (k ∷ x ∷ ks) h l = absurd (omega arith)
 
-pub overflow_cast-newest : goal.overflow_cast-newest
-overflow_cast-newest c =
-    let ps = c.args.presences.now in
-    let ks = c.args.kids.now in
-    let ws = wants_at ps ks in
-    omega (arith, stage_within ps ws ks c.requires.are, c.requires.few, c.stage_of-stage.ensures)
+two_children : (ks : List ℕ) → 2 ≤ length ks → length ks < 3 → ks ≡ get_or ks 0 0 ∷ get_or ks 1 0 ∷ []
+two_children [] h l = absurd (omega arith)
+two_children (k ∷ []) h l = absurd (omega arith)
+two_children (k ∷ x ∷ []) h l = refl
+two_children (k ∷ x ∷ y ∷ ks) h l = absurd (omega arith)
 
-pub tally_of-found-requires-clause-fits : goal.tally_of-found-requires-clause-fits
-tally_of-found-requires-clause-fits c =
+pub returns-in-len1-clause-below : goal.returns-in-len1-clause-below
+returns-in-len1-clause-below c =
     let ps = c.args.presences.now in
     let ks = c.args.kids.now in
-    let ws = wants_at ps ks in
-    let e : stage_lem ks ≡ suc (c.stage_of-stage.result - 1) = omega (arith, c.stage_of-stage.ensures, c.if-stage-eq0.false) in
-    stage_fits ps ws ks (c.stage_of-stage.result - 1) c.requires.are e
+    let is = one_child ks c.in-len1.len_at_least c.in-len1.len_below in
+    let place = ap (λ (xs : List ℕ). place_in_order ps (wants_at ps xs) xs) is in
+    omega (arith, in_order_below ps (wants_at ps ks) ks c.requires.are, c.requires.room, place, unary_place ps (get_or ps (get_or ks 0 0) 0) (get_or ks 0 0), c.count_before.ensures)
 
-pub tally_of-found-requires-clause-newest : goal.tally_of-found-requires-clause-newest
-tally_of-found-requires-clause-newest c =
+pub returns-in-len2-clause-below : goal.returns-in-len2-clause-below
+returns-in-len2-clause-below c =
     let ps = c.args.presences.now in
     let ks = c.args.kids.now in
-    let ws = wants_at ps ks in
-    omega (arith, stage_within ps ws ks c.requires.are, c.stage_of-stage.ensures, c.if-stage-eq0.false)
-
-pub tally_of-found-requires-clause-small : goal.tally_of-found-requires-clause-small
-tally_of-found-requires-clause-small c =
-    let ps = c.args.presences.now in
-    let ks = c.args.kids.now in
-    let ws = wants_at ps ks in
-    let e : stage_lem ks ≡ suc (c.stage_of-stage.result - 1) = omega (arith, c.stage_of-stage.ensures, c.if-stage-eq0.false) in
-    omega (arith, newest_small ps ws ks (c.stage_of-stage.result - 1) c.requires.are e, c.requires.room, c.ranges.count)
-
-pub overflow_add-result : goal.overflow_add-result
-overflow_add-result c =
-    let ps = c.args.presences.now in
-    let ks = c.args.kids.now in
-    let ws = wants_at ps ks in
-    let e : stage_lem ks ≡ suc (c.stage_of-stage.result - 1) = omega (arith, c.stage_of-stage.ensures, c.if-stage-eq0.false) in
-    omega (arith, place_newest ps ws ks (c.stage_of-stage.result - 1) e, in_order_below ps ws ks c.requires.are, c.tally_of-found.ensures.low, c.tally_of-found.ensures.held, c.requires.room, c.ranges.count)
-
-pub returns-clause-below : goal.returns-clause-below
-returns-clause-below c =
-    let ps = c.args.presences.now in
-    let ks = c.args.kids.now in
-    let ws = wants_at ps ks in
-    let e : stage_lem ks ≡ suc (c.stage_of-stage.result - 1) = omega (arith, c.stage_of-stage.ensures, c.if-stage-eq0.false) in
-    omega (arith, place_newest ps ws ks (c.stage_of-stage.result - 1) e, in_order_below ps ws ks c.requires.are, c.requires.room, c.tally_of-found.ensures.low, c.tally_of-found.ensures.held)
+    let is = two_children ks c.in-len2.len_at_least c.in-len2.len_below in
+    let place = ap (λ (xs : List ℕ). place_in_order ps (wants_at ps xs) xs) is in
+    omega (arith, in_order_below ps (wants_at ps ks) ks c.requires.are, c.requires.room, place, c.place_of_two.ensures)

@@ -1,6 +1,6 @@
-use Rattle.std.proofs.Common.{◌≡◌, ◌+◌, ◌*◌, ◌<◌, length, get_or, ap, sym, ◌∙◌, arith}
+use Rattle.std.proofs.Common.{◌+◌, ◌*◌, get_or, ap, sym, ◌∙◌, arith}
 use Rattle.std.proofs.lemmas.Int.Digits.{number_more}
-use Rattle.fort_lockstep.proofs.DigitNumberLaws.{below_more, below_at, number_fits}
+use Rattle.fort_lockstep.proofs.DigitNumberLaws.{below_more, number_fits}
 use Rattle.fort_lockstep.proofs.symbol_set.number_of.Goals as goal
 
 pub overflow_mul-number : goal.overflow_mul-number

@@ -1,4 +1,4 @@
-use Rattle.std.proofs.Common.{◌≡◌, ℕ, ◌<◌, List, [], map, length, get_or, MatchOption, ap, sym, ◌∙◌, subst}
+use Rattle.std.proofs.Common.{◌≡◌, ℕ, ◌<◌, List, [], map, length, get_or, ap, sym, ◌∙◌, subst}
 use Rattle.fort_lockstep.specs.DigitNumbers.{AreDigits, digits_at}
 use Rattle.fort_lockstep.specs.SymbolSetView.{Symbols}
 use Rattle.fort_lockstep.specs.SymbolSetInside.{digits_in, IsForm, AreFewNumbers}
