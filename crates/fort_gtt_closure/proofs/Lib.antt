@@ -8,3 +8,9 @@ pub mod TableLaws
 pub mod AddedLaws
 pub mod OnceLaws
 pub mod NumberedLaws
+pub mod AwakeLaws
+pub mod ElementLaws
+pub mod GroupLaws
+pub mod WakeLaws
+pub mod SourceLaws
+pub mod StartLaws

@@ -1,9 +1,13 @@
 //! The closure of an anchored ground tree transducer: the pairs of states of which one reaches the other, each with its reason.
 #![tactic(auto)]
 
+mod agenda;
 mod closed;
 mod entry;
 mod grid;
+mod groups;
+mod links;
+mod marks;
 mod passes;
 mod reasons;
 

@@ -8,13 +8,23 @@ ghost use Rattle.fort_agtt.specs.AgttView.{NamesItsStates, transducer_of};
 ghost use Rattle.fort_gtt_closure.specs.declared.entry.Entry.{Entry};
 ghost use Rattle.fort_gtt_closure.specs.Reasons.{IsListed, IsNumbered};
 ghost use Rattle.fort_gtt_closure.specs.Passes.{IsListOfPasses, ListsEachOnce};
-ghost use Rattle.fort_gtt_closure.specs.Progress.{IsVisited, MarksBoth, Progress};
+ghost use Rattle.fort_gtt_closure.specs.Progress.{IsVisited, Progress};
+ghost use Rattle.fort_gtt_closure.specs.Ready.{IsGiven, IsReady};
 
+use crate::agenda::Agenda;
 use crate::entry::{Closed, Entry};
 use crate::grid::Grid;
+use crate::links::Links;
 use crate::reasons::{Inhabited, first_reason};
 use fort_agtt::Agtt;
 use std::alloc::{AllocError, Global};
+
+/// The pairs listed so far, and those that wait for their visit.
+#[derive(Drop)]
+struct Listing {
+    grid: Grid,
+    agenda: Agenda,
+}
 
 /// The pairs of a right and a left state of which the first reaches the second, in the order in
 /// which passes over all pairs find them.
@@ -33,77 +43,109 @@ pub fn close(alloc: Global, agtt: &Agtt) -> Result<Closed, AllocError>
         left: agtt.left.inhabited(alloc)?,
         right: agtt.right.inhabited(alloc)?,
     };
-    let mut grid = Grid::new(alloc, agtt.right.states, agtt.left.states)?;
+    let links = Links::new(alloc, agtt)?;
+    let mut listing = Listing {
+        grid: Grid::new(alloc, agtt.right.states, agtt.left.states)?,
+        agenda: Agenda::new(alloc, agtt)?,
+    };
     loop {
-        let before = grid.len();
-        pass(agtt, &inhabited, &mut grid)?;
-        if grid.len() == before {
+        let before = listing.grid.len();
+        pass(agtt, &inhabited, &links, &mut listing)?;
+        if listing.grid.len() == before {
             return Ok(Closed {
-                entries: grid.into_entries(),
+                entries: listing.grid.into_entries(),
             });
         }
     }
 }
 
-fn pass(agtt: &Agtt, inhabited: &Inhabited, grid: &mut Grid) -> Result<(), AllocError>
-    requires numbered { IsNumbered agtt.now }
-    requires marked { MarksBoth agtt.now inhabited.now }
-    requires height { grid.old.height ≡ agtt.now.right.states }
-    requires width { grid.old.width ≡ agtt.now.left.states }
+fn pass(
+    agtt: &Agtt,
+    inhabited: &Inhabited,
+    links: &Links,
+    listing: &mut Listing,
+) -> Result<(), AllocError>
+    requires given { IsGiven agtt.now inhabited.now links.now }
+    requires ready { IsReady agtt.now listing.old }
     ensures progress { OnOk result ((start : List Entry) →
-        Progress agtt.now start grid.old.entries.items 0 → Progress agtt.now start
-        grid.new.entries.items (agtt.now.right.states * agtt.now.left.states)) }
-    ensures height { grid.new.height ≡ grid.old.height }
-    ensures width { grid.new.width ≡ grid.old.width }
+        Progress agtt.now start listing.old.grid.entries.items 0 → Progress agtt.now start
+        listing.new.grid.entries.items (agtt.now.right.states * agtt.now.left.states)) }
+    ensures ready { OnOk result (IsReady agtt.now listing.new) }
 {
     for p in 0..agtt.right.states {
-        row(agtt, inhabited, grid, p)?;
+        row(agtt, inhabited, links, listing, p)?;
     }
     Ok(())
 }
 
-fn row(agtt: &Agtt, inhabited: &Inhabited, grid: &mut Grid, p: u32) -> Result<(), AllocError>
-    requires numbered { IsNumbered agtt.now }
-    requires marked { MarksBoth agtt.now inhabited.now }
-    requires height { grid.old.height ≡ agtt.now.right.states }
-    requires width { grid.old.width ≡ agtt.now.left.states }
+fn row(
+    agtt: &Agtt,
+    inhabited: &Inhabited,
+    links: &Links,
+    listing: &mut Listing,
+    p: u32,
+) -> Result<(), AllocError>
+    requires given { IsGiven agtt.now inhabited.now links.now }
+    requires ready { IsReady agtt.now listing.old }
     requires there { p < agtt.now.right.states }
     ensures progress { OnOk result ((start : List Entry) →
-        Progress agtt.now start grid.old.entries.items (p * agtt.now.left.states) →
-        Progress agtt.now start grid.new.entries.items ((p + 1) * agtt.now.left.states)) }
-    ensures height { grid.new.height ≡ grid.old.height }
-    ensures width { grid.new.width ≡ grid.old.width }
+        Progress agtt.now start listing.old.grid.entries.items (p * agtt.now.left.states) →
+        Progress agtt.now start listing.new.grid.entries.items ((p + 1) * agtt.now.left.states)) }
+    ensures ready { OnOk result (IsReady agtt.now listing.new) }
 {
     for q in 0..agtt.left.states {
-        visit(agtt, inhabited, grid, p, q)?;
+        visit(agtt, inhabited, links, listing, p, q)?;
+    }
+    Ok(())
+}
+
+/// A pair that doesn't wait isn't due.
+fn visit(
+    agtt: &Agtt,
+    inhabited: &Inhabited,
+    links: &Links,
+    listing: &mut Listing,
+    p: u32,
+    q: u32,
+) -> Result<(), AllocError>
+    requires given { IsGiven agtt.now inhabited.now links.now }
+    requires ready { IsReady agtt.now listing.old }
+    requires right { p < agtt.now.right.states }
+    requires left { q < agtt.now.left.states }
+    ensures visited { OnOk result
+        (IsVisited agtt.now p q listing.old.grid.entries.items listing.new.grid.entries.items) }
+    ensures ready { OnOk result (IsReady agtt.now listing.new) }
+{
+    if listing.agenda.waits(p, q) {
+        look(agtt, inhabited, links, listing, p, q)?;
     }
     Ok(())
 }
 
 /// Lists the pair if it isn't listed and follows.
-fn visit(
+fn look(
     agtt: &Agtt,
     inhabited: &Inhabited,
-    grid: &mut Grid,
+    links: &Links,
+    listing: &mut Listing,
     p: u32,
     q: u32,
 ) -> Result<(), AllocError>
-    requires numbered { IsNumbered agtt.now }
-    requires marked { MarksBoth agtt.now inhabited.now }
-    requires height { grid.old.height ≡ agtt.now.right.states }
-    requires width { grid.old.width ≡ agtt.now.left.states }
+    requires given { IsGiven agtt.now inhabited.now links.now }
+    requires ready { IsReady agtt.now listing.old }
     requires right { p < agtt.now.right.states }
     requires left { q < agtt.now.left.states }
     ensures visited { OnOk result
-        (IsVisited agtt.now p q grid.old.entries.items grid.new.entries.items) }
-    ensures height { grid.new.height ≡ grid.old.height }
-    ensures width { grid.new.width ≡ grid.old.width }
+        (IsVisited agtt.now p q listing.old.grid.entries.items listing.new.grid.entries.items) }
+    ensures ready { OnOk result (IsReady agtt.now listing.new) }
 {
-    if grid.has(p, q) {
+    listing.agenda.rest(p, q);
+    if listing.grid.has(p, q) {
         return Ok(());
     }
-    if let Some(why) = first_reason(agtt, inhabited, grid, p, q) {
-        grid.add(Entry { p, q, why })?;
+    if let Some(why) = first_reason(agtt, inhabited, &listing.grid, p, q) {
+        listing.grid.add(Entry { p, q, why })?;
+        listing.agenda.wake(links, &listing.grid, p, q)?;
     }
     Ok(())
 }

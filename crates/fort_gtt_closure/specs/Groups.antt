@@ -1,0 +1,14 @@
+-- Inside: pairs of numbers in groups, each group under a number.
+use Rattle.std.specs.Prelude.{◌≡◌, ℕ, ◌<◌, List, [], length, map, filter, nat_eq, vec_items, slice_index_or}
+use Rattle.fort_gtt_closure.specs.declared.groups.Groups.{Groups}
+
+abbrev pub lists : Groups → List (List (ℕ × ℕ))
+lists g = map vec_items g.groups.items
+
+abbrev pub group : Groups → ℕ → List (ℕ × ℕ)
+group g number = slice_index_or (lists g) number []
+
+-- as many groups, and the pairs in them by their first numbers
+pub record AreByFirst (count : ℕ) (pairs : List (ℕ × ℕ)) (g : Groups) : Type 0 where
+  pub count_same : length (lists g) ≡ count
+  pub each : (number : ℕ) → number < count → group g number ≡ filter (λ pair. nat_eq pair.0 number) pairs
