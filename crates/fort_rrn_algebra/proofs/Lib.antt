@@ -8,3 +8,4 @@ mod ChoiceSearch
 mod LabelWritten
 mod TableMade
 mod NegationLaws
+mod TestOrders

@@ -139,25 +139,44 @@ fn products_and_projections(rt: HostRuntime) -> Result<(), Fail> {
     Ok(())
 }
 
+/// The counts of a table of three columns, and of its projections.
+fn counts_of_three(alloc: Global, body: &Dta) -> Result<[(u32, u32); 4], AddFault> {
+    let mut all = [counts(body); 4];
+    if body.columns() == 3 {
+        for column in 0..3usize {
+            all[column + 1] = projected(alloc, body, column)?;
+        }
+    }
+    Ok(all)
+}
+
+/// The cylinder of the middle of three columns.
+fn middle_table(alloc: Global, signature: &Signature) -> Result<Dta, ExploreFault>
+    ensures columns { IfOk result (λ t. t.columns ≡ 3) }
+{
+    let first = first_table(alloc, signature)?;
+    widen(alloc, &first, &[1], 3)
+}
+
 /// The counts of the cylinder of the middle of three columns, and of its projections.
 fn counts_of_middle(alloc: Global) -> Result<[(u32, u32); 4], AddFault> {
     let signature = constant_and_unary(alloc)?;
-    let mut all = [(0u32, 0u32); 4];
-    match first_table(alloc, &signature) {
-        Ok(first) => match widen(alloc, &first, &[1], 3) {
-            Ok(body) => {
-                all[0] = counts(&body);
-                if body.columns() == 3 {
-                    for column in 0..3usize {
-                        all[column + 1] = projected(alloc, &body, column)?;
-                    }
-                }
-            }
-            Err(_) => return Err(AddFault::Memory),
-        },
-        Err(_) => return Err(AddFault::Memory),
+    match middle_table(alloc, &signature) {
+        Ok(body) => counts_of_three(alloc, &body),
+        Err(_) => Err(AddFault::Memory),
     }
-    Ok(all)
+}
+
+/// The same of that cylinder with its middle column in front.
+fn counts_of_turned(alloc: Global) -> Result<[(u32, u32); 4], AddFault> {
+    let signature = constant_and_unary(alloc)?;
+    match middle_table(alloc, &signature) {
+        Ok(body) => match permute(alloc, &body, &[1, 2, 0]) {
+            Ok(turned) => counts_of_three(alloc, &turned),
+            Err(_) => Err(AddFault::Memory),
+        },
+        Err(_) => Err(AddFault::Memory),
+    }
 }
 
 #[test]
@@ -167,5 +186,63 @@ fn columns_in_front_middle_and_end(rt: HostRuntime) -> Result<(), Fail> {
         counts_of_middle(rt.alloc())?,
         [(11, 1), (5, 1), (3, 1), (5, 1)]
     );
+    Ok(())
+}
+
+#[test]
+fn columns_in_another_order(rt: HostRuntime) -> Result<(), Fail> {
+    // The column with the test is the first one now.
+    assert_eq!(rt;
+        counts_of_turned(rt.alloc())?,
+        [(11, 1), (3, 1), (5, 1), (5, 1)]
+    );
+    Ok(())
+}
+
+/// Equality over one constant: both terms are the constant, or none is.
+fn equality_table(alloc: Global) -> Result<Dta, AddFault>
+    ensures columns { IfOk result (λ t. t.columns ≡ 2) }
+{
+    let mut signature = Signature::empty(alloc);
+    signature.add(b"a", 0)?;
+    match joined(alloc, &signature, Op::Iff) {
+        Ok(table) => Ok(table),
+        Err(_) => Err(AddFault::Memory),
+    }
+}
+
+/// The counts of a table that was explored.
+fn explored_counts(table: Result<Dta, ExploreFault>) -> Result<(u32, u32), AddFault> {
+    match table {
+        Ok(table) => Ok(counts(&table)),
+        Err(_) => Err(AddFault::Memory),
+    }
+}
+
+/// Equality over one constant: its counts, those of its complement, its exchange and a cylinder.
+fn counts_of_equality(alloc: Global) -> Result<[(u32, u32); 4], AddFault> {
+    let table = equality_table(alloc)?;
+    let complement = negate(alloc, &table)?;
+    let exchange = explored_counts(permute(alloc, &table, &[1, 0]))?;
+    let cylinder = explored_counts(widen(alloc, &table, &[0, 2], 3))?;
+    Ok([counts(&table), counts(&complement), exchange, cylinder])
+}
+
+/// How many pure states each column of equality over one constant has.
+fn pure_counts(alloc: Global) -> Result<[usize; 2], AddFault> {
+    let table = equality_table(alloc)?;
+    let first = pure_states(alloc, &table, 0)?;
+    let second = pure_states(alloc, &table, 1)?;
+    Ok([first.len(), second.len()])
+}
+
+#[test]
+fn equality_over_one_constant(rt: HostRuntime) -> Result<(), Fail> {
+    // Each presence has one tuple, and all tuples without absent columns are equal: three of two columns, seven of three.
+    assert_eq!(rt;
+        counts_of_equality(rt.alloc())?,
+        [(3, 1), (3, 0), (3, 1), (7, 1)]
+    );
+    assert_eq!(rt; pure_counts(rt.alloc())?, [1, 1]);
     Ok(())
 }
