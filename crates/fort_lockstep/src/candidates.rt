@@ -1,16 +1,17 @@
 //! The tuple symbols that can have an entry at a stage, one after another.
-ghost use Rattle.std.specs.Prelude.{◌≡◌, ℕ, ◌^◌, ◌+◌, ◌-◌, ◌<◌, ◌≤◌, List, [], ◌∷◌, ◌++◌, length, IfSome};
+ghost use Rattle.std.specs.Prelude.{◌≡◌, ℕ, ◌+◌, ◌-◌, ◌<◌, ◌≤◌, length, IfSome};
 ghost use Rattle.std.specs.List.{range_with_len};
 ghost use Rattle.fort_tables.specs.Tuples.{arity};
 ghost use Rattle.fort_lockstep.specs.Walks.{AreUpTo, GivesFirst};
 ghost use Rattle.fort_lockstep.specs.Candidates.{column_arity, narrowed, candidates, candidates_from, candidates_after, LeavesOut};
 
 use crate::digits::{DigitRow, digit_arity};
-use fort_terms::{Signature, Sym};
+use fort_terms::Signature;
 
-/// The children that have the presence in the columns so far, and the presence in those to come.
+/// The children `from..to`, which have the right presence in the columns so far.
 #[derive(Clone, Copy)]
 pub struct KidRange {
+    /// Bit i for column i of those to come.
     pub presence: u32,
     pub from: usize,
     pub to: usize,
@@ -61,7 +62,7 @@ fn greatest_arity(sig: &Signature) -> usize
     greatest
 }
 
-/// The children whose presence is that of the stage's newest state; at stage 0 there is no child.
+/// The children that may have the presence of the newest state; at stage 0 there is none.
 pub fn stage_range(sig: &Signature, presences: &[u16], stage: u32) -> KidRange
     requires { stage ≤ length presences.now }
     ensures { LeavesOut sig.now presences.now stage result }
