@@ -109,7 +109,8 @@ impl Groups {
             sym.now kids.now result) }
         ensures grows { C.made comparisons.old ≤ C.made comparisons.new }
         ensures cost { 2 ^ (C.made comparisons.new - C.made comparisons.old)
-            ≤ 2 * count_with sym.now (entries_of (in_order (transitions_of states.now.presences.items self.now))) + 1 }
+            ≤ 2 * count_with sym.now (entries_of (in_order
+            (transitions_of states.now.presences.items self.now))) + 1 }
     {
         match self.symbols.find(sym.digits()) {
             Some(number) => self.list[number].target(states, kids, comparisons),

@@ -101,14 +101,12 @@ impl Maker {
         ensures lawful { IfOk result IsListed }
     {
         let alloc = *finals.allocator();
-        let shared = Rc::new(
-            alloc,
-            Shared {
-                signature: self.signature,
-                columns: self.columns,
-                given: self.given,
-            },
-        )?;
+        let own = Shared {
+            signature: self.signature,
+            columns: self.columns,
+            given: self.given,
+        };
+        let shared = Rc::new(alloc, own)?;
         Ok(Dta { shared, finals })
     }
 }

@@ -5,10 +5,11 @@ use fort_terms::Memory;
 use std::alloc::Global;
 use std::marker::Model;
 
-/// Numbers in the order in which they came, and for each number up to the greatest one more than its place, or 0.
+/// Numbers in the order in which they came.
 #[derive(Drop)]
 pub struct NumberSet {
     numbers: Vec<u32>,
+    /// For each number up to the greatest one more than its place, or 0.
     places: Vec<u32>,
 }
 
