@@ -14,3 +14,4 @@ pub mod GroupLaws
 pub mod WakeLaws
 pub mod SourceLaws
 pub mod StartLaws
+pub mod TargetLaws

@@ -1,5 +1,5 @@
 -- Inside: the first reason for a pair, by tests.
-use Rattle.std.specs.Prelude.{ℕ, ◌+◌, List, [], ◌∷◌, Bool, true, false, slice_index_or, nat_eq, ◌&&◌, ◌||◌, Option, Some, None, position}
+use Rattle.std.specs.Prelude.{ℕ, ◌+◌, List, [], ◌∷◌, Bool, true, false, slice_index_or, nat_eq, ◌&&◌, ◌||◌, Option, Some, None, position, slice_get}
 use Rattle.fort_tree_automata.specs.declared.nta.Move.{Move}
 use Rattle.fort_agtt.specs.declared.agtt.Agtt.{Agtt}
 use Rattle.fort_gtt_closure.specs.declared.entry.Entry.{Entry}
@@ -37,6 +37,38 @@ if_met true o = o
 abbrev pub by_kids : List Entry → ℕ → ℕ → List Move → ℕ → List Move → Option (ℕ × ℕ)
 by_kids es p q lefts n [] = None
 by_kids es p q lefts n (right ∷ rights) = kids_at n (if_met (nat_eq right.target p) (by_left_move es right q lefts)) (by_kids es p q lefts (n + 1) rights)
+
+-- the targets of moves and the places of the moves, counted from n
+abbrev pub targets : ℕ → List Move → List (ℕ × ℕ)
+targets n [] = []
+targets n (m ∷ ms) = (m.target, n) ∷ targets (n + 1) ms
+
+abbrev pub if_first : Bool → ℕ → Option ℕ → Option ℕ
+if_first true k later = Some k
+if_first false k later = later
+
+-- the first second number that passes
+abbrev pub first_of : (ℕ → Bool) → List (ℕ × ℕ) → Option ℕ
+first_of test [] = None
+first_of test (x ∷ xs) = if_first (test x.1) x.1 (first_of test xs)
+
+-- a left move meets a right one, whatever their targets are
+abbrev pub meets : List Entry → Move → Option Move → Bool
+meets es right None = false
+meets es right (Some left) = nat_eq left.sym.0 right.sym.0 && all_listed es right.kids.items left.kids.items
+
+-- the first left move that meets a right one, among those at some places
+abbrev pub by_left_place : List Entry → List Move → List (ℕ × ℕ) → Move → Option ℕ
+by_left_place es lefts places right = first_of (λ j. meets es right (slice_get lefts j)) places
+
+abbrev pub if_move : (Move → Option ℕ) → Option Move → Option ℕ
+if_move f None = None
+if_move f (Some m) = f m
+
+-- the first places of a right and a left move that meet, among those at some places
+abbrev pub by_places : (Move → Option ℕ) → List Move → List (ℕ × ℕ) → Option (ℕ × ℕ)
+by_places f rights [] = None
+by_places f rights (x ∷ xs) = kids_at x.1 (if_move f (slice_get rights x.1)) (by_places f rights xs)
 
 abbrev pub by_silent_right : List Entry → ℕ → ℕ → List (ℕ × ℕ) → Option ℕ
 by_silent_right es p q steps = position (λ step. nat_eq step.1 p && is_listed es step.0 q) steps

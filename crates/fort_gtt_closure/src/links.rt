@@ -1,9 +1,11 @@
 //! What may come to follow by a pair that is listed: the moves, silent moves and pairs by the states
 //! that they lead from.
-ghost use Rattle.std.specs.Prelude.{◌≡◌, ◌<◌, ℕ, [], Contains, IfOk, OnOk, length};
+ghost use Rattle.std.specs.Prelude.{◌≡◌, ◌<◌, ◌^◌, ℕ, [], Contains, IfOk, OnOk, length};
 ghost use Rattle.fort_tree_automata.specs.declared.nta.Move.{Move};
 ghost use Rattle.fort_gtt_closure.specs.Groups.{group, lists};
 ghost use Rattle.fort_gtt_closure.specs.Links.{AreUses, Leads};
+ghost use Rattle.fort_gtt_closure.specs.Reasons.{IsNumbered};
+ghost use Rattle.fort_gtt_closure.specs.Scans.{targets};
 
 use crate::groups::{Groups, grouped};
 use fort_agtt::Agtt;
@@ -13,6 +15,10 @@ use std::alloc::{AllocError, Global};
 /// The uses of the right and of the left states, in groups under them.
 #[derive(Drop)]
 pub(crate) struct Links {
+    /// For a right state its right moves: it, and their places.
+    pub(crate) right_targets: Groups,
+    /// For a left state its left moves: it, and their places.
+    pub(crate) left_targets: Groups,
     /// For a child of right moves their symbols and targets.
     pub(crate) right_uses: Groups,
     /// For a child of left moves their symbols and targets.
@@ -27,11 +33,16 @@ pub(crate) struct Links {
 
 impl Links {
     pub(crate) fn new(alloc: Global, agtt: &Agtt) -> Result<Links, AllocError>
+        requires { IsNumbered agtt.now }
         ensures { IfOk result (Leads agtt.now) }
     {
         let right = &agtt.right;
         let left = &agtt.left;
+        let right_targets = targets(alloc, &right.moves)?;
+        let left_targets = targets(alloc, &left.moves)?;
         Ok(Links {
+            right_targets: grouped(alloc, right.states, &right_targets)?,
+            left_targets: grouped(alloc, left.states, &left_targets)?,
             right_uses: uses(alloc, right.states, &right.moves)?,
             left_uses: uses(alloc, left.states, &left.moves)?,
             right_silent: grouped(alloc, right.states, &right.silent)?,
@@ -39,6 +50,18 @@ impl Links {
             pairs: grouped(alloc, left.states, &agtt.pairs)?,
         })
     }
+}
+
+/// The targets of the moves with the moves' places.
+fn targets(alloc: Global, moves: &[Move]) -> Result<Vec<(u32, u32)>, AllocError>
+    requires { length moves.now < 2 ^ 32 }
+    ensures { IfOk result (λ found. found.items ≡ targets 0 moves.now) }
+{
+    let mut found = Vec::new(alloc);
+    for (k, step) in moves.iter().enumerate() {
+        found.push((step.target, k as u32))?;
+    }
+    Ok(found)
 }
 
 /// For each state the symbols and the targets of the moves that have it as a child.

@@ -143,7 +143,7 @@ fn look(
     if listing.grid.has(p, q) {
         return Ok(());
     }
-    if let Some(why) = first_reason(agtt, inhabited, &listing.grid, p, q) {
+    if let Some(why) = first_reason(agtt, inhabited, links, &listing.grid, p, q) {
         listing.grid.add(Entry { p, q, why })?;
         listing.agenda.wake(links, &listing.grid, p, q)?;
     }
