@@ -25,6 +25,23 @@ shifted_bit w k s n i e l =
     let a : 64 * k + s + i ≡ 64 * k + (s + i) = omega arith in
     ap (has_bit w) a ∙ (has_bit-in w k (s + i) l ∙ (ap (λ x. x == 1) (sym (bit_at-shift (get_or w k 0) s i)) ∙ ap (λ m. bit_at m i == 1) (sym e)))
 
+-- the lowest bit of a word that isn't 0 is within the word
+pub inside_word : (w : List ℕ) (k s n : ℕ) → s < 64 → get_or w k 0 < 2 ^ 64 → n ≡ get_or w k 0 / 2 ^ s → (n ≡ 0 → ⊥) → s + trailing_zeros w64 n < 64
+inside_word w k s n l small e some =
+    let word = get_or w k 0 in
+    let less : n ≤ word = subst (λ (m : ℕ). m ≤ word) (sym e) (div-le_self word (2 ^ s)) in
+    let pos : 0 < n = omega (arith, some) in
+    let low : n < 2 ^ 64 = omega arith in
+    let t = bit_at-trailing_zeros w64 n pos low in
+    let z = trailing_zeros w64 n in
+    ⊎_elim
+    (λ (h : s + z < 64). h)
+    (λ (h : 64 ≤ s + z).
+    let one : bit_at n z ≡ 1 = t.1 in
+    let none : bit_at n z ≡ 0 = ap (λ m. bit_at m z) e ∙ (bit_at-shift word s z ∙ bit_at_above word 64 (s + z) small h) in
+    absurd (omega (arith, one, none)))
+    (cases_lt (s + z) 64)
+
 -- a word that isn't 0 has its lowest bit as the next one
 pub hit_in_word : (w : List ℕ) (k s n : ℕ) → s < 64 → get_or w k 0 < 2 ^ 64 → n ≡ get_or w k 0 / 2 ^ s → (n ≡ 0 → ⊥) → IsNext (has_bit w) (64 * k + s) (64 * k + s + trailing_zeros w64 n)
 hit_in_word w k s n l small e some =
@@ -34,13 +51,7 @@ hit_in_word w k s n l small e some =
     let low : n < 2 ^ 64 = omega arith in
     let t = bit_at-trailing_zeros w64 n pos low in
     let z = trailing_zeros w64 n in
-    let inside : s + z < 64 =
-    ⊎_elim (λ (h : s + z < 64). h)
-    (λ (h : 64 ≤ s + z).
-    let one : bit_at n z ≡ 1 = t.1 in
-    let none : bit_at n z ≡ 0 = ap (λ m. bit_at m z) e ∙ (bit_at-shift word s z ∙ bit_at_above word 64 (s + z) small h) in
-    absurd (omega (arith, one, none)))
-    (cases_lt (s + z) 64) in
+    let inside = inside_word w k s n l small e some in
     record {
       low = omega arith;
       hit = shifted_bit w k s n z e inside ∙ eq-eqb (bit_at n z) 1 t.1;

@@ -1,11 +1,11 @@
 -- The columns of a tuple symbol, read one by one: those at some places, which are present, how many children they have.
-use Rattle.std.proofs.Common.{◌≡◌, ℕ, zero, suc, ◌+◌, ◌<◌, ◌≤◌, max, List, [], ◌∷◌, take, drop, length, get_or, slice_get, set, get_or-set_same, get_or-set_other, Option, None, Some, true, false, refl, ap, sym, ◌∙◌, arith, ⊎_elim}
+use Rattle.std.proofs.Common.{◌≡◌, ℕ, zero, suc, ◌+◌, ◌*◌, ◌<◌, ◌≤◌, max, nat_lt, Bool, IfSome, if◌then◌else◌, List, [], ◌∷◌, take, drop, length, get_or, slice_get, set, get_or-set_same, get_or-set_other, Option, None, Some, true, false, refl, ap, sym, ◌∙◌, arith, ⊎_elim}
 use Rattle.std.proofs.lemmas.List.{ext_get_or, length-map, get_or-map, length-take-le, get_or-take}
 use Rattle.std.proofs.lemmas.Bool.{cases_lt}
 use Rattle.std.proofs.lemmas.Option.{get_or_from_slice_get}
 use Rattle.std.specs.Option.{is_some}
 use Rattle.fort_theory.specs.Signatures.{Signature}
-use Rattle.fort_tables.specs.Tuples.{TupleSymbol, AreSymbols, symbol_kids, arity}
+use Rattle.fort_tables.specs.Tuples.{TupleSymbol, AreSymbols, symbol_kids, kid_presence, arity}
 use Rattle.fort_terms.specs.declared.sym.Sym.{Sym}
 use Rattle.fort_lockstep.specs.Columns.{as_column, as_symbol}
 use Rattle.fort_operations.specs.Selections.{selected, is_present}
@@ -70,3 +70,23 @@ selected_more f places columns at x l m e h k n =
     (λ (o : at ≤ k). let s : k ≡ at = omega arith in
     ap (λ i. as_column (get_or (set columns at x) i None)) s ∙ (ap as_column (get_or-set_same columns at x None m) ∙ (here ∙ ap (λ i. get_or (selected places f) i None) (sym s))))
     (cases_lt k at)
+
+-- the presence of a child, column by column
+pub kid_presence_at : (sig : Signature) (f : TupleSymbol) (i j : ℕ) → i < length f → kid_presence sig (drop i f) j ≡ kid_presence sig (get_or f i None ∷ []) j + 2 * kid_presence sig (drop (suc i) f) j
+kid_presence_at sig [] i j l = absurd (omega arith)
+kid_presence_at sig (None ∷ f) zero j l = omega arith
+kid_presence_at sig (Some g ∷ f) zero j l = omega arith
+kid_presence_at sig (x ∷ f) (suc i) j l = kid_presence_at sig f i j (omega arith)
+
+one_at_most : (b : Bool) → (if b then 1 else 0) ≤ 1
+one_at_most true = omega arith
+one_at_most false = omega arith
+
+pub kid_presence_one : (sig : Signature) (x : Option ℕ) (j : ℕ) → kid_presence sig (x ∷ []) j ≤ 1
+kid_presence_one sig None j = omega arith
+kid_presence_one sig (Some g) j = omega (arith, one_at_most (nat_lt j (arity sig g)))
+
+-- a column that was read is a symbol of the signature
+pub column_within : (sig : Signature) (f : TupleSymbol) (k : ℕ) (x : Option Sym) → AreSymbols sig f → slice_get f k ≡ Some (as_column x) → IfSome x (λ (g : Sym). g.0 < length sig)
+column_within sig f k None h e = tt
+column_within sig f k (Some g) h e = symbol_within sig f k g.0 h e

@@ -8,4 +8,9 @@ mod ChoiceSearch
 mod LabelWritten
 mod TableMade
 mod NegationLaws
+mod PlaceLaws
+mod SymbolNumbers
+mod ListingLaws
+mod LookUpLaws
+mod FlatSearch
 mod TestOrders

@@ -1,5 +1,5 @@
 -- The orders of columns of the crate's tests.
-use Rattle.std.proofs.Common.{◌≡◌, ℕ, zero, suc, ◌<◌, List, [], ◌∷◌, length, get_or, refl, sym, arith, subst}
+use Rattle.std.proofs.Common.{◌≡◌, ℕ, zero, suc, [], ◌∷◌, refl, sym, arith, subst}
 use Rattle.fort_operations.specs.OperationTruth.{UndoesOrder, IsOrder}
 
 turned : UndoesOrder (1 ∷ 2 ∷ 0 ∷ []) (2 ∷ 0 ∷ 1 ∷ [])

@@ -21,6 +21,10 @@ pub record IsSearched (body : Table) (c : ℕ) (labels : List (List ℕ)) (e : E
   pub column : c < body.columns
   pub over : IsOverLabels body.signature (body.columns - 1) (label_of (project_rule body c)) labels e
 
+-- the entry's symbol with one more column
+abbrev pub symbol_under : Entry → ℕ → ℕ → TupleSymbol
+symbol_under e c g = insert e.symbol c (Some g)
+
 -- a symbol in the column, above such an entry
 pub record AreChoices (body : Table) (c : ℕ) (alone : List ℕ) (labels : List (List ℕ)) (e : Entry) (g : ℕ) (f : TupleSymbol) (most : ℕ) : Type 0 where
   pub searched : IsSearched body c labels e

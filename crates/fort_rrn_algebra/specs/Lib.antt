@@ -2,4 +2,8 @@ pub mod Operands
 pub mod OperandRows
 pub mod Choices
 pub mod Negations
+pub mod Places
+pub mod Flats
+pub mod FlatFacts
+pub mod LookUps
 pub mod TestRules

@@ -1,15 +1,18 @@
 //! The search through the choices of states for the children under a symbol in the projected column.
-ghost use Rattle.std.specs.Prelude.{◌≡◌, ◌<◌, ◌≤◌, ◌+◌, ◌||◌, ◌==◌, ◌^◌, ℕ, false, take, length, slice_index, slice_index_or, IfSome, IfNone};
+ghost use Rattle.std.specs.Prelude.{◌≡◌, ◌<◌, ◌≤◌, ◌+◌, ◌||◌, ◌==◌, ◌^◌, ℕ, false, take, length, slice_index, slice_index_or, IfSome, IfNone, IsTrue};
 ghost use Rattle.fort_tables.specs.Tuples.{symbol_kids};
 ghost use Rattle.fort_tables.specs.BitRows.{words_for};
 ghost use Rattle.fort_tables.proofs.TableLaws.{IsKidState};
 ghost use Rattle.fort_operations.specs.Projections.{absent_state, has_state};
-ghost use Rattle.fort_rrn_algebra.specs.Choices.{IsNext, IsNextChoice, AreNoChoices, AreChoices, may_choose, is_reachable};
+ghost use Rattle.fort_rrn_algebra.specs.Choices.{IsNext, IsNextChoice, AreNoChoices, AreChoices, may_choose, is_reachable, symbol_under};
+ghost use Rattle.fort_rrn_algebra.specs.LookUps.{FindsUnder};
 
 use crate::bits::next_bit;
+use crate::flat::FlatTargets;
+use crate::look_up::LookUp;
 use crate::pure::next_pure;
 use fort_explore::{Rows, set_bit};
-use fort_lockstep::{Row, Table, TupleSym};
+use fort_lockstep::{Row, Table};
 use fort_terms::Sym;
 
 /// The state with the column absent, where it is `from` or a later one.
@@ -46,8 +49,6 @@ pub(crate) struct Choices<'a, T: Table> {
     pub(crate) row: &'a Row,
     pub(crate) rows: &'a Rows,
     pub(crate) sym: Sym,
-    /// The entry's symbol with `sym` in the column.
-    pub(crate) symbol: TupleSym,
     pub(crate) arity: usize,
 }
 
@@ -56,8 +57,9 @@ impl<'a, T: Table> Choices<'a, T> {
     fn next_state(&self, j: usize, from: u32) -> Option<usize>
         requires choices { AreChoices (T.table self.now.body.now) self.now.column
             self.now.alone.now self.now.rows.now.labels self.now.row.now self.now.sym.0
-            self.now.symbol self.now.arity }
-        requires child { j < symbol_kids (T.table self.now.body.now).signature self.now.symbol }
+            (symbol_under self.now.row.now self.now.column self.now.sym.0) self.now.arity }
+        requires child { j < symbol_kids (T.table self.now.body.now).signature
+            (symbol_under self.now.row.now self.now.column self.now.sym.0) }
         ensures some { IfSome result (IsNextChoice (T.table self.now.body.now) self.now.column
             self.now.rows.now.labels self.now.row.now self.now.arity j from) }
         ensures none { IfNone result (AreNoChoices (T.table self.now.body.now) self.now.column
@@ -74,36 +76,92 @@ impl<'a, T: Table> Choices<'a, T> {
         }
     }
 
-    /// Marks the states that some choice of states gives: `j` children have theirs, and `rest` have not.
-    pub(crate) fn visit(&self, chosen: [u32; 8], j: usize, rest: usize, out: &mut [u64])
+    /// Whether the states that may stand as child `j` are those of an own child's set.
+    fn is_in_set(&self, j: usize) -> bool
+        ensures { IsTrue result → (j < self.now.arity) × (j < length self.now.row.now.kids) }
+    {
+        j < self.arity && j < self.row.kids().len()
+    }
+
+    /// Marks the states that the states of an own child's set give as the last child, behind these.
+    fn mark_last(&self, flat: &FlatTargets, start: usize, before: &[u32], out: &mut [u64])
         requires choices { AreChoices (T.table self.now.body.now) self.now.column
             self.now.alone.now self.now.rows.now.labels self.now.row.now self.now.sym.0
-            self.now.symbol self.now.arity }
-        requires count { j + rest ≡ symbol_kids (T.table self.now.body.now).signature
-            self.now.symbol }
-        requires few { j + rest ≤ 8 }
-        requires before { (i : ℕ) → i < j → IsKidState (T.table self.now.body.now)
-            self.now.symbol i (slice_index_or chosen i 0) }
+            (symbol_under self.now.row.now self.now.column self.now.sym.0) self.now.arity }
+        requires flat { FindsUnder (T.table self.now.body.now)
+            (symbol_under self.now.row.now self.now.column self.now.sym.0) (LookUp.Flat flat start) }
+        requires count { length before.now + 1 ≡ symbol_kids (T.table self.now.body.now).signature
+            (symbol_under self.now.row.now self.now.column self.now.sym.0) }
+        requires in_set { length before.now < self.now.arity }
+        requires own { length before.now < length self.now.row.now.kids }
+        requires before { (i : ℕ) → i < length before.now → IsKidState (T.table self.now.body.now)
+            (symbol_under self.now.row.now self.now.column self.now.sym.0) i
+            (slice_index_or before.now i 0) }
         requires room { length out.old ≡ words_for (length (T.table self.now.body.now).presences)
             + 2 }
         ensures first { slice_index out.new 0 ≡ slice_index out.old 0 }
         ensures second { slice_index out.new 1 ≡ slice_index out.old 1 }
         ensures marked { (q : ℕ) → has_state out.new q ≡ (is_reachable
             (T.table self.now.body.now) (may_choose (T.table self.now.body.now) self.now.column
-            self.now.rows.now.labels self.now.row.now self.now.arity) self.now.symbol
-            (take j chosen) j rest q || has_state out.old q) }
+            self.now.rows.now.labels self.now.row.now self.now.arity)
+            (symbol_under self.now.row.now self.now.column self.now.sym.0) before.now
+            (length before.now) 1 q || has_state out.old q) }
+    {
+        let _states = self.body.states();
+        let _count = flat.listing.targets.len();
+        let j = before.len();
+        let kids = self.row.kids();
+        let set = self.rows.label(kids[j]);
+        let place = flat.spots.place_of(before);
+        flat.mark_set(start, place, set, out);
+    }
+
+    /// Marks the states that some choice of states gives: `j` children have theirs, and `rest` have not.
+    pub(crate) fn visit(
+        &self,
+        look_up: &LookUp<'_>,
+        chosen: [u32; 8],
+        j: usize,
+        rest: usize,
+        out: &mut [u64],
+    )
+        requires choices { AreChoices (T.table self.now.body.now) self.now.column
+            self.now.alone.now self.now.rows.now.labels self.now.row.now self.now.sym.0
+            (symbol_under self.now.row.now self.now.column self.now.sym.0) self.now.arity }
+        requires look_up { FindsUnder (T.table self.now.body.now)
+            (symbol_under self.now.row.now self.now.column self.now.sym.0) look_up.now }
+        requires count { j + rest ≡ symbol_kids (T.table self.now.body.now).signature
+            (symbol_under self.now.row.now self.now.column self.now.sym.0) }
+        requires few { j + rest ≤ 8 }
+        requires before { (i : ℕ) → i < j → IsKidState (T.table self.now.body.now)
+            (symbol_under self.now.row.now self.now.column self.now.sym.0) i
+            (slice_index_or chosen i 0) }
+        requires room { length out.old ≡ words_for (length (T.table self.now.body.now).presences)
+            + 2 }
+        ensures first { slice_index out.new 0 ≡ slice_index out.old 0 }
+        ensures second { slice_index out.new 1 ≡ slice_index out.old 1 }
+        ensures marked { (q : ℕ) → has_state out.new q ≡ (is_reachable
+            (T.table self.now.body.now) (may_choose (T.table self.now.body.now) self.now.column
+            self.now.rows.now.labels self.now.row.now self.now.arity)
+            (symbol_under self.now.row.now self.now.column self.now.sym.0) (take j chosen) j rest q || has_state out.old q) }
     {
         let _states = self.body.states();
         if rest == 0 {
-            let state = self.body.target(&self.symbol, &chosen[..j]);
+            let state = look_up.target(self.body, &chosen[..j]);
             set_bit(out, 128 + state as usize);
             return;
+        }
+        if rest == 1 && self.is_in_set(j) {
+            if let LookUp::Flat(flat, start) = look_up {
+                self.mark_last(*flat, *start, &chosen[..j], out);
+                return;
+            }
         }
         let mut from = 0;
         'states: while let Some(k) = self.next_state(j, from) {
             let mut next = chosen;
             next[j] = k as u32;
-            self.visit(next, j + 1, rest - 1, out);
+            self.visit(look_up, next, j + 1, rest - 1, out);
             from = k as u32 + 1;
         }
     }

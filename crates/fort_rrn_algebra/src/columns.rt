@@ -1,10 +1,11 @@
 //! Columns of tuple symbols.
-ghost use Rattle.std.specs.Prelude.{◌≡◌, ◌≤◌, length};
-ghost use Rattle.fort_tables.specs.Tuples.{AreSymbols, symbol_kids};
+ghost use Rattle.std.specs.Prelude.{◌≡◌, ◌<◌, ◌≤◌, ◌^◌, ◌-◌, [], ◌∷◌, length, IfSome};
+ghost use Rattle.fort_lockstep.specs.Columns.{as_column};
+ghost use Rattle.fort_tables.specs.Tuples.{AreSymbols, symbol_kids, kid_presence as kid_presence_lem};
 ghost use Rattle.fort_operations.specs.Selections.{selected as selected_lem, is_present as is_present_lem, ArePlaces};
 
 use fort_lockstep::TupleSym;
-use fort_terms::Signature;
+use fort_terms::{Signature, Sym};
 
 /// The columns at these places.
 pub(crate) fn selected(sym: &TupleSym, places: &[usize]) -> TupleSym
@@ -47,4 +48,28 @@ pub(crate) fn kid_count(sig: &Signature, sym: &TupleSym) -> usize
         }
     }
     count
+}
+
+/// Which columns child `j` has: bit i for column i.
+pub(crate) fn kid_presence(sig: &Signature, sym: &TupleSym, j: usize) -> u16
+    requires { AreSymbols sig.now sym.now }
+    ensures { result ≡ kid_presence_lem sig.now sym.now j }
+{
+    let _symbols = sig.len();
+    let mut presence = 0u32;
+    for k in 0..sym.len() {
+        presence = 2 * presence + has_kid(sig, sym.symbol(sym.len() - 1 - k), j);
+    }
+    presence as u16
+}
+
+/// 1 where the column's symbol has more than `j` arguments.
+fn has_kid(sig: &Signature, column: Option<Sym>, j: usize) -> u32
+    requires { IfSome column (λ g. g.0 < length sig.now) }
+    ensures { result ≡ kid_presence_lem sig.now (as_column column ∷ []) j }
+{
+    match column {
+        Some(symbol) if j < sig.arity(symbol) as usize => 1,
+        _ => 0,
+    }
 }

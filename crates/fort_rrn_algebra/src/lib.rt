@@ -4,7 +4,10 @@
 mod bits;
 mod choices;
 mod columns;
+mod flat;
+mod listing;
 pub mod local;
+mod look_up;
 mod negation;
 mod operand;
 mod product;

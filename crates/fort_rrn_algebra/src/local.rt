@@ -7,8 +7,9 @@ ghost use Rattle.fort_operations.specs.Projections.{ArePure, project_rule, proje
 ghost use Rattle.fort_tables.specs.BitRows.{words_for};
 ghost use Rattle.fort_rrn_algebra.specs.Operands.{operand_of, connective_of};
 
+use crate::look_up::Finder;
 use crate::operand::{Op, Operand};
-use crate::projection::{absent_target, mark};
+use crate::projection::write_label;
 use crate::words::{operand_accepts, operand_word};
 use fort_explore::{Rows, has_bit};
 use fort_lockstep::{Row, Table};
@@ -87,13 +88,7 @@ pub fn project_label<T: Table>(
     ensures { out.new ≡ entry_label (project_rule (T.table body.now) column) rows.now.labels
         row.now }
 {
-    let _states = body.states();
-    for word in out.iter_mut() {
-        *word = 0;
-    }
-    out[0] = row.presence() as u64;
-    out[1] = absent_target(body, column, row, rows) as u64;
-    mark(body, column, alone, row, rows, out);
+    write_label(body, &Finder::InTable, column, alone, row, rows, out);
 }
 
 /// Whether the projection accepts the tuples of terms with this label: whether the body accepts a state of the label's set.

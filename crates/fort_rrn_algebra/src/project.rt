@@ -1,13 +1,18 @@
 //! Projections: some term in one column.
-ghost use Rattle.std.specs.Prelude.{◌≡◌, ◌<◌, ◌-◌, ◌↔◌, IfOk, IsTrue};
+ghost use Rattle.std.specs.Prelude.{◌≡◌, ◌<◌, ◌-◌, ◌↔◌, IfOk, IfSome, IsTrue};
 ghost use Rattle.fort_tables.specs.Tuples.{Tuple, IsTuple};
 ghost use Rattle.fort_tables.specs.LabelRules.{label_of};
 ghost use Rattle.fort_operations.specs.Projections as projections;
 ghost use Rattle.fort_operations.proofs.OperandFacts.{ArePure-prop};
+ghost use Rattle.fort_rrn_algebra.specs.Flats.{IsFlatOf};
+ghost use Rattle.fort_rrn_algebra.specs.FlatFacts.{IfFlat-prop};
 ghost use Rattle.fort_operations.specs.Agreement.{AgreeAtSome, HaveOneState};
 ghost use Rattle.fort_operations.specs.OperationTruth.{TestsRelation, SomeCompletes, accepts as accepts_lem};
 
-use crate::local::{project_accepts, project_label, project_width};
+use crate::flat::FlatTargets;
+use crate::local::{project_accepts, project_width};
+use crate::look_up::Finder;
+use crate::projection::write_label;
 use crate::pure::pure_states;
 use fort_explore::{LocalRule, Rows};
 use fort_lockstep::{Row, Table};
@@ -22,8 +27,11 @@ pub struct Project<'a, T: Table> {
     column: usize,
     /// The body's states with this column alone present.
     alone: Vec<u32>,
+    /// The body's targets in one list, where its tuple symbols have few numbers.
+    flat: Option<FlatTargets>,
     ghost within: { column < (T.table body.now).columns },
     ghost another: { 1 < (T.table body.now).columns },
+    ghost finds: { IfSome flat (IsFlatOf (T.table body.now)) } by { IfFlat-prop (T.table body.now) flat },
     ghost pure: { projections.ArePure (T.table body.now) column alone.items } by { ArePure-prop (T.table body.now) column alone.items },
 }
 
@@ -50,10 +58,12 @@ impl<'a, T: Table> Project<'a, T> {
     {
         let _states = body.states();
         let alone = pure_states(alloc, body, column)?;
+        let flat = FlatTargets::of(alloc, body)?;
         Ok(Project {
             body,
             column,
             alone,
+            flat,
         })
     }
 }
@@ -83,7 +93,8 @@ impl<'a, T: Table> LocalRule for Project<'a, T> {
     }
 
     fn step(&self, row: &Row, rows: &Rows, out: &mut [u64]) {
-        project_label(self.body, self.column, &self.alone, row, rows, out)
+        let finder = Finder::of(self.body, self.flat.as_ref(), row, self.column);
+        write_label(self.body, &finder, self.column, &self.alone, row, rows, out)
     }
 
     fn accepts(&self, words: &[u64]) -> bool {

@@ -1,27 +1,67 @@
 //! What the label of a projection says of one entry.
-ghost use Rattle.std.specs.Prelude.{◌≡◌, ◌<◌, ◌≤◌, ◌+◌, ◌||◌, ◌^◌, ℕ, [], None, map, take, length, slice_index, slice_index_or};
+ghost use Rattle.std.specs.Prelude.{◌≡◌, ◌<◌, ◌+◌, ◌-◌, ◌||◌, ◌^◌, ℕ, [], None, map, take, length, slice_index, slice_index_or};
 ghost use Rattle.std.specs.List.{insert};
 ghost use Rattle.fort_tables.specs.Entries.{entry};
 ghost use Rattle.fort_tables.specs.BitRows.{words_for};
-ghost use Rattle.fort_operations.specs.Projections.{ArePure, absent_state, has_state, gives, gives_under};
+ghost use Rattle.fort_tables.specs.Labels.{IsOverLabels};
+ghost use Rattle.fort_tables.specs.LabelRules.{label_of, entry_label};
+ghost use Rattle.fort_operations.specs.Projections.{ArePure, absent_state, has_state, gives, gives_under, project_rule};
 ghost use Rattle.fort_rrn_algebra.specs.OperandRows.{labels_at};
 ghost use Rattle.fort_rrn_algebra.specs.Choices.{IsSearched};
+ghost use Rattle.fort_rrn_algebra.specs.LookUps.{FindsAbove};
 
 use crate::choices::Choices;
+use crate::look_up::Finder;
 use fort_explore::Rows;
 use fort_lockstep::{Row, Table};
 use fort_terms::Sym;
 
+/// Writes the label of an entry of the projection, whose targets are found so. `alone` are the body's pure states in the column.
+pub(crate) fn write_label<T: Table>(
+    body: &T,
+    finder: &Finder<'_>,
+    column: usize,
+    alone: &[u32],
+    row: &Row,
+    rows: &Rows,
+    out: &mut [u64],
+)
+    requires column { column < (T.table body.now).columns }
+    requires finder { FindsAbove (T.table body.now) row.now.symbol column finder.now }
+    requires alone { ArePure (T.table body.now) column alone.now }
+    requires over { IsOverLabels (T.table body.now).signature ((T.table body.now).columns - 1)
+        (label_of (project_rule (T.table body.now) column)) rows.now.labels row.now }
+    requires room { length out.old ≡ words_for (length (T.table body.now).presences) + 2 }
+    ensures { out.new ≡ entry_label (project_rule (T.table body.now) column) rows.now.labels
+        row.now }
+{
+    let _states = body.states();
+    for word in out.iter_mut() {
+        *word = 0;
+    }
+    out[0] = row.presence() as u64;
+    out[1] = absent_target(body, finder, column, row, rows) as u64;
+    mark(body, finder, column, alone, row, rows, out);
+}
+
 /// The body's state with the column absent.
-pub(crate) fn absent_target<T: Table>(body: &T, column: usize, row: &Row, rows: &Rows) -> u32
-    requires { IsSearched (T.table body.now) column rows.now.labels row.now }
+fn absent_target<T: Table>(
+    body: &T,
+    finder: &Finder<'_>,
+    column: usize,
+    row: &Row,
+    rows: &Rows,
+) -> u32
+    requires searched { IsSearched (T.table body.now) column rows.now.labels row.now }
+    requires finder { FindsAbove (T.table body.now) row.now.symbol column finder.now }
     ensures { result ≡ (T.table body.now).target (entry (insert row.now.symbol column None)
         (map absent_state (labels_at rows.now.labels row.now.kids))) }
 {
     let _states = body.states();
-    let symbol = row.sym().with_column(column, None);
+    let _columns = body.columns();
+    let look_up = finder.absent(row, column);
     let states = absent_states(row, rows);
-    body.target(&symbol, &states[..row.kids().len()])
+    look_up.target(body, &states[..row.kids().len()])
 }
 
 /// The children's states with the column absent.
@@ -42,8 +82,9 @@ fn absent_states(row: &Row, rows: &Rows) -> [u32; 8]
 }
 
 /// Marks each state that some term in the column gives.
-pub(crate) fn mark<T: Table>(
+fn mark<T: Table>(
     body: &T,
+    finder: &Finder<'_>,
     column: usize,
     alone: &[u32],
     row: &Row,
@@ -51,6 +92,7 @@ pub(crate) fn mark<T: Table>(
     out: &mut [u64],
 )
     requires searched { IsSearched (T.table body.now) column rows.now.labels row.now }
+    requires finder { FindsAbove (T.table body.now) row.now.symbol column finder.now }
     requires alone { ArePure (T.table body.now) column alone.now }
     requires room { length out.old ≡ words_for (length (T.table body.now).presences) + 2 }
     ensures first { slice_index out.new 0 ≡ slice_index out.old 0 }
@@ -60,13 +102,14 @@ pub(crate) fn mark<T: Table>(
 {
     let _states = body.states();
     for g in 0..body.signature().len() {
-        mark_under(body, column, alone, row, rows, Sym(g as u16), out);
+        mark_under(body, finder, column, alone, row, rows, Sym(g as u16), out);
     }
 }
 
 /// Marks each state that some term with this root gives.
 fn mark_under<T: Table>(
     body: &T,
+    finder: &Finder<'_>,
     column: usize,
     alone: &[u32],
     row: &Row,
@@ -75,6 +118,7 @@ fn mark_under<T: Table>(
     out: &mut [u64],
 )
     requires searched { IsSearched (T.table body.now) column rows.now.labels row.now }
+    requires finder { FindsAbove (T.table body.now) row.now.symbol column finder.now }
     requires alone { ArePure (T.table body.now) column alone.now }
     requires symbol { sym.0 < length (T.table body.now).signature }
     requires room { length out.old ≡ words_for (length (T.table body.now).presences) + 2 }
@@ -84,8 +128,10 @@ fn mark_under<T: Table>(
         row.now.symbol (labels_at rows.now.labels row.now.kids) q sym.0 || has_state out.old q) }
 {
     let _states = body.states();
+    let _columns = body.columns();
     let sig = body.signature();
     let _symbols = sig.len();
+    let look_up = finder.under(row, column, sym);
     let arity = sig.arity(sym) as usize;
     let choices = Choices {
         body,
@@ -94,8 +140,7 @@ fn mark_under<T: Table>(
         row,
         rows,
         sym,
-        symbol: row.sym().with_column(column, Some(sym)),
         arity,
     };
-    choices.visit([0; 8], 0, arity.max(row.kids().len()), out);
+    choices.visit(&look_up, [0; 8], 0, arity.max(row.kids().len()), out);
 }

@@ -1,16 +1,33 @@
-use Rattle.std.proofs.Common.{◌∙◌, ◌||◌, ap, length, arith}
+use Rattle.std.proofs.Common.{refl, ◌∙◌, ◌||◌, ap, length, arith}
 use Rattle.fort_tables.proofs.TupleLaws.{arity_from_get}
 use Rattle.fort_operations.specs.Projections.{has_state}
+use Rattle.fort_rrn_algebra.specs.Choices.{symbol_under}
+use Rattle.fort_rrn_algebra.proofs.LookUpLaws.{finder_is}
 use Rattle.fort_rrn_algebra.proofs.OperandEntries.{arity_small}
 use Rattle.fort_rrn_algebra.proofs.ProjectEntries.{choices_count}
 use Rattle.fort_rrn_algebra.proofs.LabelWritten.{choices_made, under_reachable}
 use Rattle.fort_rrn_algebra.proofs.projection.mark_under.Goals as goal
 
+pub under-look_up-requires : goal.under-look_up-requires
+under-look_up-requires g c =
+    let body = g.T.Table.table c.args.body.now in
+    (body, finder_is body c.args.column c.args.rows.now.labels c.args.row.now c.args.finder.now c.states-states.ensures.lawful c.requires.searched c.requires.finder, c.requires.symbol)
+
+pub visit-requires-clause-look_up : goal.visit-requires-clause-look_up
+visit-requires-clause-look_up g c =
+    let body = g.T.Table.table c.args.body.now in
+    c.under-look_up.ensures body (finder_is body c.args.column c.args.rows.now.labels c.args.row.now c.args.finder.now c.states-states.ensures.lawful c.requires.searched c.requires.finder) c.requires.symbol
+
+pub visit-requires-clause-choices : goal.visit-requires-clause-choices
+visit-requires-clause-choices g c =
+    let body = g.T.Table.table c.args.body.now in
+    choices_made body c.args.column c.args.alone.now c.args.rows.now.labels c.args.row.now c.signature-sig.result.now c.args.sym.0 c.args.row.now.symbol (symbol_under c.args.row.now c.args.column c.args.sym.0) c.arity-arity.result c.requires.searched c.requires.alone c.signature-sig.ensures c.requires.symbol refl refl c.arity-arity.ensures
+
 pub visit-requires-clause-count : goal.visit-requires-clause-count
 visit-requires-clause-count g c =
     let body = g.T.Table.table c.args.body.now in
-    let h = choices_made body c.args.column c.args.alone.now c.args.rows.now.labels c.args.row.now c.signature-sig.result.now c.args.sym.0 c.sym.result c.with_column.result c.arity-arity.result c.requires.searched c.requires.alone c.signature-sig.ensures c.requires.symbol c.sym.ensures c.with_column.ensures c.arity-arity.ensures in
-    omega (arith, choices_count body c.args.column c.args.alone.now c.args.rows.now.labels c.args.row.now c.args.sym.0 c.with_column.result c.arity-arity.result h, c.max.ensures, ap length c.kids.ensures.states)
+    let h = choices_made body c.args.column c.args.alone.now c.args.rows.now.labels c.args.row.now c.signature-sig.result.now c.args.sym.0 c.args.row.now.symbol (symbol_under c.args.row.now c.args.column c.args.sym.0) c.arity-arity.result c.requires.searched c.requires.alone c.signature-sig.ensures c.requires.symbol refl refl c.arity-arity.ensures in
+    omega (arith, choices_count body c.args.column c.args.alone.now c.args.rows.now.labels c.args.row.now c.args.sym.0 (symbol_under c.args.row.now c.args.column c.args.sym.0) c.arity-arity.result h, c.max.ensures, ap length c.kids.ensures.states)
 
 pub visit-requires-clause-few : goal.visit-requires-clause-few
 visit-requires-clause-few g c =
@@ -22,5 +39,5 @@ visit-requires-clause-few g c =
 pub returns-clause-marked : goal.returns-clause-marked
 returns-clause-marked g c = λ q.
     let body = g.T.Table.table c.args.body.now in
-    let h = choices_made body c.args.column c.args.alone.now c.args.rows.now.labels c.args.row.now c.signature-sig.result.now c.args.sym.0 c.sym.result c.with_column.result c.arity-arity.result c.requires.searched c.requires.alone c.signature-sig.ensures c.requires.symbol c.sym.ensures c.with_column.ensures c.arity-arity.ensures in
-    c.visit.ensures.marked q ∙ ap (λ b. b || has_state c.args.out.now q) (under_reachable body c.args.column c.args.alone.now c.args.rows.now.labels c.args.row.now c.args.sym.0 c.with_column.result c.arity-arity.result c.max.result q h (omega (arith, c.max.ensures, ap length c.kids.ensures.states)))
+    let h = choices_made body c.args.column c.args.alone.now c.args.rows.now.labels c.args.row.now c.signature-sig.result.now c.args.sym.0 c.args.row.now.symbol (symbol_under c.args.row.now c.args.column c.args.sym.0) c.arity-arity.result c.requires.searched c.requires.alone c.signature-sig.ensures c.requires.symbol refl refl c.arity-arity.ensures in
+    c.visit.ensures.marked q ∙ ap (λ b. b || has_state c.args.out.now q) (under_reachable body c.args.column c.args.alone.now c.args.rows.now.labels c.args.row.now c.args.sym.0 (symbol_under c.args.row.now c.args.column c.args.sym.0) c.arity-arity.result c.max.result q h (omega (arith, c.max.ensures, ap length c.kids.ensures.states)))

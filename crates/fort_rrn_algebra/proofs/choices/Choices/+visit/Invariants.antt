@@ -1,7 +1,7 @@
 use Rattle.std.proofs.Common.{◌≡◌, ℕ, ◌+◌, ◌-◌, ◌≤◌, ◌&&◌, ◌||◌, [], ◌∷◌, ◌++◌, take, length, get_or}
 use Rattle.fort_tables.specs.BitRows.{words_for}
 use Rattle.fort_operations.specs.Projections.{has_state, some_below}
-use Rattle.fort_rrn_algebra.specs.Choices.{may_choose, is_reachable}
+use Rattle.fort_rrn_algebra.specs.Choices.{may_choose, is_reachable, symbol_under}
 use Rattle.fort_rrn_algebra.proofs.choices.Choices.+visit.Given as goal
 
 abbrev pub decreases-visit : goal.decreases-visit
@@ -19,5 +19,5 @@ invariant-states g l =
       size : length l.out ≡ words_for (length body.presences) + 2;
       first : get_or l.out 0 0 ≡ get_or l.initial.out 0 0;
       second : get_or l.out 1 0 ≡ get_or l.initial.out 1 0;
-      marked : (q : ℕ) → has_state l.out q ≡ (some_below l.from (λ k. may l.j k && is_reachable body may l.self.symbol (take l.j l.chosen ++ k ∷ []) (l.j + 1) (l.rest - 1) q) || has_state l.initial.out q);
+      marked : (q : ℕ) → has_state l.out q ≡ (some_below l.from (λ k. may l.j k && is_reachable body may (symbol_under l.self.row.now l.self.column l.self.sym.0) (take l.j l.chosen ++ k ∷ []) (l.j + 1) (l.rest - 1) q) || has_state l.initial.out q);
     }

@@ -7,7 +7,7 @@ use Rattle.fort_tables.specs.BitRows.{words_for}
 use Rattle.fort_operations.specs.Projections.{absent_state, has_state, gives}
 use Rattle.fort_rrn_algebra.specs.OperandRows.{labels_at}
 use Rattle.fort_rrn_algebra.proofs.LabelWritten.{label_written, first_set, second_set, none_marked, or_nothing}
-use Rattle.fort_rrn_algebra.proofs.local.project_label.Goals as goal
+use Rattle.fort_rrn_algebra.proofs.projection.write_label.Goals as goal
 
 pub returns : goal.returns
 returns g c =

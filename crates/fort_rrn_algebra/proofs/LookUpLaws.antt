@@ -1,0 +1,38 @@
+-- The numbers of tuple symbols with one more column are within the flat form.
+use Rattle.std.proofs.Common.{◌≡◌, ℕ, suc, ◌+◌, ◌-◌, ◌*◌, ◌^◌, ◌<◌, List, length, None, Some, ap, arith, subst}
+use Rattle.std.specs.List.{insert}
+use Rattle.fort_tables.specs.Tuples.{TupleSymbol, IsTupleSymbol}
+use Rattle.fort_tables.specs.Entries.{Entry}
+use Rattle.fort_tables.specs.Tables.{Table, IsTable}
+use Rattle.fort_tables.proofs.InsertSymbolLaws.{IsTupleSymbol-insert_some, IsTupleSymbol-insert_none}
+use Rattle.fort_rrn_algebra.specs.Places.{number_of}
+use Rattle.fort_rrn_algebra.specs.Flats.{IsFlatOf}
+use Rattle.fort_rrn_algebra.specs.Choices.{IsSearched}
+use Rattle.fort_rrn_algebra.specs.LookUps.{FindsAbove, IsFinderOf}
+use Rattle.fort_rrn_algebra.specs.declared.look_up.Finder.{Finder}
+use Rattle.fort_rrn_algebra.specs.declared.flat.FlatTargets.{FlatTargets}
+use Rattle.fort_rrn_algebra.proofs.SymbolNumbers.{number_below, number_of-insert}
+
+symbol_below : (body : Table) (flat : FlatTargets) (f : TupleSymbol) → IsFlatOf body flat → IsTupleSymbol body.signature body.columns f → number_of flat.base f < flat.base ^ body.columns
+symbol_below body flat f h s = omega (arith, number_below body.signature flat.base f h.base_is s.symbols, ap (λ n. flat.base ^ n) s.width)
+
+pub absent_below : (body : Table) (flat : FlatTargets) (f : TupleSymbol) (c : ℕ) → IsFlatOf body flat → c < body.columns → IsTupleSymbol body.signature (body.columns - 1) f → number_of flat.base (insert f c None) < flat.base ^ body.columns
+absent_below body flat f c h l s =
+    let w : suc (body.columns - 1) ≡ body.columns = omega (arith, l) in
+    symbol_below body flat (insert f c None) h (subst (λ (n : ℕ). IsTupleSymbol body.signature n (insert f c None)) w (IsTupleSymbol-insert_none body.signature (body.columns - 1) f c (omega (arith, l)) s))
+
+pub under_below : (body : Table) (flat : FlatTargets) (f : TupleSymbol) (c g : ℕ) → IsFlatOf body flat → c < body.columns → g < length body.signature → IsTupleSymbol body.signature (body.columns - 1) f → number_of flat.base (insert f c (Some g)) < flat.base ^ body.columns
+under_below body flat f c g h l b s =
+    let w : suc (body.columns - 1) ≡ body.columns = omega (arith, l) in
+    symbol_below body flat (insert f c (Some g)) h (subst (λ (n : ℕ). IsTupleSymbol body.signature n (insert f c (Some g))) w (IsTupleSymbol-insert_some body.signature (body.columns - 1) f c g (omega (arith, l)) b s))
+
+pub under_is : (body : Table) (flat : FlatTargets) (f : TupleSymbol) (c g : ℕ) → c < body.columns → IsTupleSymbol body.signature (body.columns - 1) f → number_of flat.base (insert f c (Some g)) ≡ number_of flat.base (insert f c None) + suc g * flat.base ^ c
+under_is body flat f c g l s = number_of-insert flat.base f c g (omega (arith, l, s.width))
+
+pub finder_is : (body : Table) (c : ℕ) (labels : List (List ℕ)) (e : Entry) (finder : Finder) → IsTable body → IsSearched body c labels e → FindsAbove body e.symbol c finder → IsFinderOf body e.symbol c finder
+finder_is body c labels e finder is s h = record {
+  finds = h;
+  narrow = omega (arith, is.narrow);
+  column = s.column;
+  symbol = s.over.entry.symbol;
+}

@@ -1,0 +1,12 @@
+use Rattle.std.proofs.Common.{◌≡◌, ◌-◌, ◌==◌, suc, [], ◌∷◌, ◌++◌, take, get_or, if◌then◌else◌}
+use Rattle.fort_tables.specs.Tuples.{kid_presence}
+use Rattle.fort_rrn_algebra.specs.Flats.{joined_below, laid}
+use Rattle.fort_rrn_algebra.proofs.listing.+lay.Given as goal
+
+abbrev pub decreases-lay : goal.decreases-lay
+decreases-lay g l = l.rest
+
+abbrev pub invariant-loop-q : goal.invariant-loop-q
+invariant-loop-q g l =
+    let body = g.T.Table.table l.body in
+    l.targets.items ≡ l.initial.targets.items ++ joined_below l.q (λ k. if get_or body.presences k 0 == kid_presence body.signature l.symbol l.j then laid body l.symbol (take l.j l.chosen ++ k ∷ []) (suc l.j) (l.rest - 1) else [])

@@ -1,0 +1,174 @@
+//! The targets of a table in one list.
+ghost use Rattle.std.specs.Prelude.{◌≡◌, ◌≢◌, ℕ, ◌+◌, ◌-◌, ◌*◌, ◌<◌, ◌≤◌, ◌^◌, ◌&&◌, ◌||◌, ◌==◌, min, Bool, true, length, slice_index, slice_index_or, None};
+ghost use Rattle.std.specs.List.{insert};
+ghost use Rattle.fort_lockstep.specs.Columns.{as_column, digit_of};
+ghost use Rattle.fort_operations.specs.Projections.{has_state, some_below};
+ghost use Rattle.fort_rrn_algebra.specs.Places.{number_of, place_from, IsReadable, read_at, AreStatesIn};
+
+use fort_explore::set_bit;
+use fort_lockstep::TupleSym;
+use fort_terms::Sym;
+
+/// Where each state stands among the states of its presence.
+#[derive(Drop)]
+pub(crate) struct Spots {
+    /// The states' ranks, from 0.
+    pub(crate) ranks: Vec<u32>,
+    /// How many states have the state's presence.
+    pub(crate) alike: Vec<u32>,
+}
+
+/// The targets of all entries, those of one tuple symbol side by side.
+#[derive(Drop)]
+pub(crate) struct Listing {
+    /// Where the targets of a tuple symbol start, by its number.
+    pub(crate) starts: Vec<usize>,
+    pub(crate) targets: Vec<u32>,
+}
+
+/// The targets of a table in one list, a tuple symbol's in the order of its children's ranks, the last child's first.
+#[derive(Drop)]
+pub(crate) struct FlatTargets {
+    /// One more than there are symbols.
+    pub(crate) base: usize,
+    pub(crate) spots: Spots,
+    pub(crate) listing: Listing,
+}
+
+impl Spots {
+    /// The place of one more state behind a place. Where a later child has no state at all, places may grow past a word's range.
+    fn next_place(&self, place: usize, state: u32) -> usize
+        requires rank { state < length self.now.ranks.items }
+        requires count { state < length self.now.alike.items }
+        ensures { result ≡ min (min (place * slice_index self.now.alike.items state) (2 ^ 64 - 1)
+            + slice_index self.now.ranks.items state) (2 ^ 64 - 1) }
+    {
+        let count = self.alike[state as usize] as usize;
+        place
+            .saturating_mul(count)
+            .saturating_add(self.ranks[state as usize] as usize)
+    }
+
+    /// The place of child states.
+    pub(crate) fn place_of(&self, states: &[u32]) -> usize
+        requires { AreStatesIn self.now states.now }
+        ensures { result ≡ min (place_from self.now.ranks.items self.now.alike.items 0 states.now)
+            (2 ^ 64 - 1) }
+    {
+        let mut place = 0;
+        for state in states {
+            place = self.next_place(place, *state);
+        }
+        place
+    }
+}
+
+impl FlatTargets {
+    /// The target of the entry over these child states, where its tuple symbol's targets start there.
+    pub(crate) fn target(&self, start: usize, states: &[u32]) -> u32
+        requires states { AreStatesIn self.now.spots states.now }
+        requires within { start + place_from self.now.spots.ranks.items self.now.spots.alike.items
+            0 states.now < length self.now.listing.targets.items }
+        ensures { result ≡ slice_index self.now.listing.targets.items (start
+            + place_from self.now.spots.ranks.items self.now.spots.alike.items 0 states.now) }
+    {
+        let _count = self.listing.targets.len();
+        self.listing.targets[start + self.spots.place_of(states)]
+    }
+
+    /// The target where the last child has this state, and the ones before it are at this place.
+    fn target_behind(&self, start: usize, place: usize, state: usize) -> u32
+        requires { IsReadable self.now start place state }
+        ensures { result ≡ read_at self.now start place state }
+    {
+        let _count = self.listing.targets.len();
+        let behind = place * self.spots.alike[state] as usize + self.spots.ranks[state] as usize;
+        self.listing.targets[start + behind]
+    }
+
+    /// Marks the targets where the last child has any state of the set, and the ones before it are at this place.
+    pub(crate) fn mark_set(&self, start: usize, place: usize, set: &[u64], out: &mut [u64])
+        requires readable { (k : ℕ) → has_state set.now k ≡ true → IsReadable self.now start place k }
+        requires room { (k : ℕ) → has_state set.now k ≡ true
+            → read_at self.now start place k + 128 < 64 * length out.old }
+        requires few { length set.now < 2 ^ 32 }
+        requires label { 2 ≤ length set.now }
+        ensures first { slice_index out.new 0 ≡ slice_index out.old 0 }
+        ensures second { slice_index out.new 1 ≡ slice_index out.old 1 }
+        ensures marked { (q : ℕ) → has_state out.new q ≡ (some_below (64 * (length set.now - 2))
+            (λ k. has_state set.now k && (read_at self.now start place k == q))
+            || has_state out.old q) }
+    {
+        for i in 2..set.len() {
+            self.mark_word(start, place, set, i, out);
+        }
+    }
+
+    /// The same for the states of word `i` of the set alone, where those of the words before it are marked.
+    fn mark_word(&self, start: usize, place: usize, set: &[u64], i: usize, out: &mut [u64])
+        requires word { i < length set.now }
+        requires behind { 2 ≤ i }
+        requires readable { (k : ℕ) → has_state set.now k ≡ true → IsReadable self.now start place k }
+        requires room { (k : ℕ) → has_state set.now k ≡ true
+            → read_at self.now start place k + 128 < 64 * length out.old }
+        requires few { length set.now < 2 ^ 32 }
+        ensures first { slice_index out.new 0 ≡ slice_index out.old 0 }
+        ensures second { slice_index out.new 1 ≡ slice_index out.old 1 }
+        ensures marked { (q : ℕ) (before : Bool) → has_state out.old q ≡ (some_below (64 * (i - 2))
+            (λ k. has_state set.now k && (read_at self.now start place k == q)) || before)
+            → has_state out.new q ≡ (some_below (64 * (i - 2) + 64)
+            (λ k. has_state set.now k && (read_at self.now start place k == q)) || before) }
+    {
+        let mut rest = set[i];
+        let mut state = 64 * (i - 2);
+        'bits: while rest != 0 {
+            let skip = rest.trailing_zeros();
+            state += skip as usize;
+            set_bit(out, 128 + self.target_behind(start, place, state) as usize);
+            rest = (rest >> skip) >> 1;
+            state += 1;
+        }
+    }
+
+    /// The number of a tuple symbol with one more column, which is absent.
+    pub(crate) fn number_with_absent(&self, symbol: &TupleSym, column: usize) -> usize
+        requires column { column ≤ length symbol.now }
+        requires some { 0 < self.now.base }
+        requires few { self.now.base ^ (length symbol.now + 1) ≤ 4194304 }
+        requires small { number_of self.now.base (insert symbol.now column None) ≤ 4194304 }
+        ensures { result ≡ number_of self.now.base (insert symbol.now column None) }
+    {
+        let mut number = 0;
+        let mut power = 1;
+        for k in 0..symbol.len() + 1 {
+            number += power * digit_with_absent(symbol, column, k);
+            power *= self.base;
+        }
+        number
+    }
+}
+
+/// 0 for absent, one more than its number for a symbol.
+fn digit(column: Option<Sym>) -> usize
+    ensures { result ≡ digit_of (as_column column) }
+{
+    match column {
+        None => 0,
+        Some(symbol) => symbol.0 as usize + 1,
+    }
+}
+
+/// The digit of column `k` of the tuple symbol with one more column, which is absent.
+fn digit_with_absent(symbol: &TupleSym, place: usize, k: usize) -> usize
+    requires within { place ≤ length symbol.now }
+    requires column { k ≤ length symbol.now }
+    ensures { result ≡ digit_of (slice_index_or (insert symbol.now place None) k None) }
+{
+    if k < place {
+        digit(symbol.symbol(k))
+    } else if k == place {
+        0
+    } else {
+        digit(symbol.symbol(k - 1))
+    }
+}

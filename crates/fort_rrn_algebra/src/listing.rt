@@ -1,0 +1,206 @@
+//! A table's targets, put into one list.
+ghost use Rattle.std.specs.Prelude.{◌≡◌, ◌≢◌, ℕ, ◌+◌, ◌<◌, ◌≤◌, ◌^◌, ◌++◌, [], take, length, slice_index, slice_index_or, IfOk, IfSome, OnOk, suc};
+ghost use Rattle.fort_tables.specs.Tuples.{AreSymbols, IsTupleSymbol, symbol_kids, kid_presence as kid_presence_lem};
+ghost use Rattle.fort_lockstep.specs.Columns.{as_column, column_of as column_of_lem};
+ghost use Rattle.fort_rrn_algebra.specs.Places.{columns_at, AreSpots, AreRanks, AreAlike, AreCounts};
+ghost use Rattle.fort_rrn_algebra.specs.Flats.{laid, IsStateFor, AreLaid, IsFlatOf};
+
+use crate::columns::{is_present, kid_count, kid_presence};
+use crate::flat::{FlatTargets, Listing, Spots};
+use fort_lockstep::{Table, TupleSym};
+use fort_terms::{Memory, Sym};
+use std::alloc::Global;
+
+/// So many tuple symbols are numbered at most.
+const MOST_NUMBERS: usize = 4194304;
+
+/// How many numbers tuple symbols have, where they are few.
+fn number_count(base: usize, columns: usize) -> Option<usize>
+    requires { columns ≤ 16 }
+    ensures count { IfSome result (λ n. n ≡ base ^ columns) }
+    ensures few { IfSome result (λ n. n ≤ 4194304) }
+{
+    match base.checked_pow(columns as u32) {
+        Some(count) if count <= MOST_NUMBERS => Some(count),
+        _ => None,
+    }
+}
+
+/// The tuple symbol with this number.
+fn symbol_at(number: usize, base: usize, columns: usize) -> TupleSym
+    requires narrow { columns ≤ 16 }
+    requires some { 0 < base }
+    requires symbols { base ≤ 65536 }
+    ensures { result ≡ columns_at base columns number }
+{
+    let mut symbols = [None; 16];
+    let mut rest = number;
+    for k in 0..columns {
+        symbols[k] = column_of(rest % base);
+        rest /= base;
+    }
+    TupleSym::new(&symbols[..columns])
+}
+
+/// Absent for 0, the symbol before it else.
+fn column_of(digit: usize) -> Option<Sym>
+    requires { digit ≤ 65536 }
+    ensures { as_column result ≡ column_of_lem digit }
+{
+    if digit == 0 {
+        None
+    } else {
+        Some(Sym((digit - 1) as u16))
+    }
+}
+
+/// Each state's rank among the states of its presence; the counts are how many states have each presence.
+fn ranks_of<T: Table>(alloc: Global, body: &T, counts: &mut [u32]) -> Result<Vec<u32>, Memory>
+    requires size { length counts.old ≡ 2 ^ 16 }
+    requires none { (w : ℕ) → slice_index counts.old w ≡ 0 }
+    ensures ranks { IfOk result (λ ranks. AreRanks (T.table body.now).presences ranks.items) }
+    ensures counts { OnOk result (AreCounts (T.table body.now).presences counts.new) }
+{
+    let mut ranks = Vec::with_capacity(alloc, body.states() as usize)?;
+    for q in 0..body.states() {
+        let presence = body.presence(q) as usize;
+        ranks.push(counts[presence])?;
+        counts[presence] += 1;
+    }
+    Ok(ranks)
+}
+
+/// For each state how many have its presence.
+fn alike_of<T: Table>(alloc: Global, body: &T, counts: &[u32]) -> Result<Vec<u32>, Memory>
+    requires size { length counts.now ≡ 2 ^ 16 }
+    requires counts { AreCounts (T.table body.now).presences counts.now }
+    ensures { IfOk result (λ alike. AreAlike (T.table body.now).presences alike.items) }
+{
+    let mut alike = Vec::with_capacity(alloc, body.states() as usize)?;
+    for q in 0..body.states() {
+        alike.push(counts[body.presence(q) as usize])?;
+    }
+    Ok(alike)
+}
+
+/// So many zeros.
+fn zeros(alloc: Global, count: usize) -> Result<Vec<u32>, Memory>
+    ensures size { IfOk result (λ v. length v.items ≡ count) }
+    ensures none { IfOk result (λ v. (w : ℕ) → slice_index v.items w ≡ 0) }
+{
+    let numbers = vec![in alloc; 0u32; count]?;
+    Ok(numbers)
+}
+
+impl Spots {
+    /// The ranks of a table's states.
+    fn of<T: Table>(alloc: Global, body: &T) -> Result<Spots, Memory>
+        ensures { IfOk result (λ s. AreSpots (T.table body.now).presences s.ranks.items
+            s.alike.items) }
+    {
+        let mut counts = zeros(alloc, 65536)?;
+        let ranks = ranks_of(alloc, body, counts.as_mut_slice())?;
+        let alike = alike_of(alloc, body, &counts)?;
+        Ok(Spots { ranks, alike })
+    }
+}
+
+/// Appends the targets of a tuple symbol: `j` children have their states, and `rest` have not.
+fn lay<T: Table>(
+    body: &T,
+    symbol: &TupleSym,
+    chosen: [u32; 8],
+    j: usize,
+    rest: usize,
+    targets: &mut Vec<u32>,
+) -> Result<(), Memory>
+    requires symbol { IsTupleSymbol (T.table body.now).signature (T.table body.now).columns
+        symbol.now }
+    requires count { j + rest ≡ symbol_kids (T.table body.now).signature symbol.now }
+    requires few { j + rest ≤ 8 }
+    requires before { (i : ℕ) → i < j → IsStateFor (T.table body.now) symbol.now i
+        (slice_index_or chosen i 0) }
+    ensures { OnOk result (targets.new.items ≡ targets.old.items
+        ++ laid (T.table body.now) symbol.now (take j chosen) j rest) }
+{
+    let _states = body.states();
+    if rest == 0 {
+        targets.push(body.target(symbol, &chosen[..j]))?;
+        return Ok(());
+    }
+    let presence = kid_presence(body.signature(), symbol, j);
+    for q in 0..body.states() {
+        if body.presence(q) == presence {
+            let mut next = chosen;
+            next[j] = q;
+            lay(body, symbol, next, j + 1, rest - 1, targets)?;
+        }
+    }
+    Ok(())
+}
+
+impl Listing {
+    /// No targets yet.
+    fn new(alloc: Global, count: usize) -> Result<Listing, Memory>
+        ensures starts { IfOk result (λ l. l.starts.items ≡ []) }
+        ensures targets { IfOk result (λ l. l.targets.items ≡ []) }
+    {
+        Ok(Listing {
+            starts: Vec::with_capacity(alloc, count)?,
+            targets: Vec::new(alloc),
+        })
+    }
+
+    /// Appends the targets of the tuple symbol with the next number.
+    fn add<T: Table>(&mut self, body: &T, base: usize, number: usize) -> Result<(), Memory>
+        requires base { base ≡ suc (length (T.table body.now).signature) }
+        requires laid { AreLaid (T.table body.now) base number self.old.starts.items
+            self.old.targets.items }
+        ensures { OnOk result (AreLaid (T.table body.now) base (number + 1) self.new.starts.items
+            self.new.targets.items) }
+    {
+        let columns = body.columns();
+        let _symbols = body.signature().len();
+        self.starts.push(self.targets.len())?;
+        let symbol = symbol_at(number, base, columns);
+        if !is_present(&symbol) {
+            return Ok(());
+        }
+        let count = kid_count(body.signature(), &symbol);
+        lay(body, &symbol, [0; 8], 0, count, &mut self.targets)
+    }
+
+    /// The targets of the tuple symbols with the first numbers.
+    fn of<T: Table>(alloc: Global, body: &T, base: usize, count: usize) -> Result<Listing, Memory>
+        requires { base ≡ suc (length (T.table body.now).signature) }
+        ensures { IfOk result (λ l. AreLaid (T.table body.now) base count l.starts.items
+            l.targets.items) }
+    {
+        let mut listing = Listing::new(alloc, count)?;
+        for number in 0..count {
+            listing.add(body, base, number)?;
+        }
+        Ok(listing)
+    }
+}
+
+impl FlatTargets {
+    /// The targets of a table whose tuple symbols have few numbers.
+    pub(crate) fn of<T: Table>(alloc: Global, body: &T) -> Result<Option<FlatTargets>, Memory>
+        ensures { IfOk result (λ flat. IfSome flat (IsFlatOf (T.table body.now))) }
+    {
+        let base = body.signature().len() + 1;
+        match number_count(base, body.columns()) {
+            Some(count) => {
+                let spots = Spots::of(alloc, body)?;
+                let listing = Listing::of(alloc, body, base, count)?;
+                Ok(Some(FlatTargets {
+                    base,
+                    spots,
+                    listing,
+                }))
+            }
+            None => Ok(None),
+        }
+    }
+}
