@@ -11,57 +11,63 @@ use Rattle.fort_logic.specs.Truth.{structure_of}
 use Rattle.fort_logic.specs.Cores.{Rel, Atom as CoreAtom, Nf as CoreNf}
 use Rattle.fort_logic.specs.Parts.{AreColumns}
 use Rattle.fort_tables.specs.Tuples.{Tuple}
+use Rattle.fort_tables.specs.LabelRules.{label_of}
 use Rattle.fort_alike.specs.Atoms.{Atom, IsTrueOf, kind_for, relation_atom, normal_atom}
 use Rattle.fort_alike.specs.Alike.{is_reaching}
 use Rattle.fort_atom_labels.specs.ListedAtoms.{ListedAtom, listed}
-use Rattle.fort_atom_labels.specs.AtomRules.{atom_accepts}
+use Rattle.fort_atom_labels.specs.AtomRules.{atom_rule, atom_accepts}
+use Rattle.fort_atom_labels.specs.ClosureTests.{IsClosure}
 use Rattle.fort_atom_labels.specs.AssignedTuples.{tuple_of}
 use Rattle.fort_atom_labels.proofs.AtomMeans.{labels_alike, Decides-atom_accepts}
 use Rattle.fort_atom_labels.proofs.AtomTruth.{Decides-relation, Decides-normal, accepts_truth, accepts_normal_truth}
 use Rattle.fort_atom_labels.proofs.ClosureTestLaws.{IsClosure-unread}
-use Rattle.fort_context_closure.specs.PlainAtoms.{no_closure, atom_label, IsAtomOf, IsNormalAtomOf}
+use Rattle.fort_context_closure.specs.PlainAtoms.{no_closure, atom_label, IsAtomOf, IsNormalAtomOf, IsRelationAtomOf}
+use Rattle.fort_context_closure.specs.ClosedAtoms.{ClosedAtom, test_of, closed_label}
 use Rattle.fort_context_closure.specs.AtomLabelsView.{TellsAlike, AcceptsTrue, AcceptsRelated, AcceptsNormal, AcceptsMet}
 use Rattle.fort_context_closure.specs.declared.atom_labels.AtomLabels.TheVariants.{Relation, Normal}
 use Rattle.fort_context_closure.proofs.NormalLaws.{normal-label}
 
 -- relations
-module _ (atom : Atom) (a : ListedAtom) (h : IsAtomOf atom a) (plain : is_reaching atom.kind ≡ false) where
-  label-same : (t : Tuple) → atom_label a t ≡ atom_label (listed atom a.lefts a.rights) t
-  label-same t = ap (λ (z : Atom). atom_label (listed z a.lefts a.rights) t) h.same
+module _ (atom : Atom) (c : ClosedAtom) (h : IsAtomOf atom c.atom) (closes : IsClosure (listed atom c.atom.lefts c.atom.rights) (test_of c)) where
+  abbrev signed : ListedAtom
+  signed = listed atom c.atom.lefts c.atom.rights
+
+  label-same : (t : Tuple) → closed_label c t ≡ label_of (atom_rule signed (test_of c)) t
+  label-same t = ap (λ (z : Atom). label_of (atom_rule (listed z c.atom.lefts c.atom.rights) (test_of c)) t) h.same
 
   accepts-same : (t : Tuple)
-      → atom_accepts a (atom_label a t) ≡ atom_accepts (listed atom a.lefts a.rights) (atom_label (listed atom a.lefts a.rights) t)
-  accepts-same t = ap (λ (z : Atom). atom_accepts (listed z a.lefts a.rights) (atom_label (listed z a.lefts a.rights) t)) h.same
+      → atom_accepts c.atom (closed_label c t) ≡ atom_accepts signed (label_of (atom_rule signed (test_of c)) t)
+  accepts-same t =
+      ap (λ (z : Atom). atom_accepts (listed z c.atom.lefts c.atom.rights) (label_of (atom_rule (listed z c.atom.lefts c.atom.rights) (test_of c)) t)) h.same
 
-  pub TellsAlike-relation : TellsAlike atom.signature atom (Relation a)
+  pub TellsAlike-relation : TellsAlike atom.signature atom (Relation c)
   TellsAlike-relation t u ti ui =
-      let both = labels_alike (listed atom a.lefts a.rights) no_closure h.is_listed (IsClosure-unread (listed atom a.lefts a.rights) no_closure plain) t u ti ui in
+      let both = labels_alike signed (test_of c) h.is_listed closes t u ti ui in
       ((λ e. both.0 (sym (label-same t) ∙ (e ∙ label-same u))), (λ k. label-same t ∙ (both.1 k ∙ sym (label-same u))))
 
-  pub AcceptsTrue-relation : AcceptsTrue atom.signature atom (Relation a)
+  pub AcceptsTrue-relation : AcceptsTrue atom.signature atom (Relation c)
   AcceptsTrue-relation t ti =
-      subst (λ b. Decides b (IsTrueOf atom t)) (sym (accepts-same t))
-      (Decides-atom_accepts (listed atom a.lefts a.rights) no_closure h.is_listed (IsClosure-unread (listed atom a.lefts a.rights) no_closure plain) t ti)
+      subst (λ b. Decides b (IsTrueOf atom t)) (sym (accepts-same t)) (Decides-atom_accepts signed (test_of c) h.is_listed closes t ti)
 
 pub AcceptsRelated-relation : (system : PatternSystem) (rel : Rel) (index x y : ℕ) (columns : List ℕ) → AreColumns (CoreAtom rel index x y) columns
-    → (a : ListedAtom) (h : IsAtomOf (relation_atom system rel index x y columns) a)
-    → is_reaching (relation_atom system rel index x y columns).kind ≡ false → AcceptsRelated system rel index x y columns (Relation a)
-AcceptsRelated-relation system rel index x y columns are a h plain v g =
+    → (c : ClosedAtom) → IsRelationAtomOf system rel index x y c → AcceptsRelated system rel index x y columns (Relation c)
+AcceptsRelated-relation system rel index x y columns are c made v g =
     let atom = relation_atom system rel index x y columns in
-    subst (λ b. Decides b (RelatesBy (PatternStepAt system index) rel (v x) (v y))) (sym (accepts-same atom a h plain (tuple_of v columns)))
-    (Decides-relation system index a.lefts a.rights no_closure rel x y columns are h.is_listed
-    (IsClosure-unread (listed atom a.lefts a.rights) no_closure plain) v g)
+    let h = (made columns are).0 in
+    let closes = (made columns are).1 in
+    subst (λ b. Decides b (RelatesBy (PatternStepAt system index) rel (v x) (v y))) (sym (accepts-same atom c h closes (tuple_of v columns)))
+    (Decides-relation system index c.atom.lefts c.atom.rights (test_of c) rel x y columns are h.is_listed closes v g)
 
 pub AcceptsMet-relation : (s : System) → All (All IsLinearSeparated) s.rules → (system : PatternSystem) → system ≡ pattern_system s
     → (rel : Rel) (index x y : ℕ) (columns : List ℕ) → AreColumns (CoreAtom rel index x y) columns
-    → (a : ListedAtom) → IsAtomOf (relation_atom system rel index x y columns) a → is_reaching (kind_for rel) ≡ false
-    → AcceptsMet s (CoreAtom rel index x y) columns (Relation a)
-AcceptsMet-relation s apart system same rel index x y columns are a made plain v g =
+    → (c : ClosedAtom) → IsRelationAtomOf system rel index x y c → AcceptsMet s (CoreAtom rel index x y) columns (Relation c)
+AcceptsMet-relation s apart system same rel index x y columns are c made v g =
     let atom = relation_atom (pattern_system s) rel index x y columns in
-    let h : IsAtomOf atom a = subst (λ (p : PatternSystem). IsAtomOf (relation_atom p rel index x y columns) a) same made in
-    subst (λ b. (b ≡ true) ↔ IsMetBy (structure_of s) (CoreAtom rel index x y) v) (sym (accepts-same atom a h plain (tuple_of v columns)))
-    (accepts_truth s h.is_listed.constant apart index a.lefts a.rights no_closure rel x y columns are h.is_listed
-    (IsClosure-unread (listed atom a.lefts a.rights) no_closure plain) v g)
+    let whole : IsRelationAtomOf (pattern_system s) rel index x y c = subst (λ (p : PatternSystem). IsRelationAtomOf p rel index x y c) same made in
+    let h = (whole columns are).0 in
+    let closes = (whole columns are).1 in
+    subst (λ b. (b ≡ true) ↔ IsMetBy (structure_of s) (CoreAtom rel index x y) v) (sym (accepts-same atom c h closes (tuple_of v columns)))
+    (accepts_truth s h.is_listed.constant apart index c.atom.lefts c.atom.rights (test_of c) rel x y columns are h.is_listed closes v g)
 
 -- normal forms
 module _ (system : PatternSystem) (index : ℕ) (a : ListedAtom) (h : IsNormalAtomOf system index a) where

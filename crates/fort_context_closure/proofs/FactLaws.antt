@@ -1,12 +1,12 @@
 -- The facts that are written at a node are those of the rule.
-use Rattle.std.specs.Prelude.{◌≡◌, ℕ, ◌+◌, List, [], ◌∷◌, map, Option, Bool, false, ◌&&◌, ◌||◌, refl}
-use Rattle.std.proofs.Common.{ap, ◌∙◌, arith, true≢false}
+use Rattle.std.specs.Prelude.{◌≡◌, ℕ, ◌+◌, List, [], ◌∷◌, map, Option, Bool, ◌&&◌, ◌||◌, refl}
+use Rattle.std.proofs.Common.{ap, ◌∙◌, arith}
 use Rattle.fort_theory.specs.Patterns.{Pattern, Pair}
 use Rattle.fort_logic.specs.Cores.{Rel, Eq, Root, Below, Step, Par, Plus, Star, Conv}
-use Rattle.fort_alike.specs.Atoms.{EqKind, StepKind, BelowKind, ParKind, kind_for}
+use Rattle.fort_alike.specs.Atoms.{EqKind, StepKind, BelowKind, ParKind, StarKind, PlusKind, kind_for}
 use Rattle.fort_alike.specs.Alike.{Fact, facts_of, is_reaching}
 use Rattle.fort_atom_labels.specs.ListedAtoms.{Mark, OfBoth}
-use Rattle.fort_atom_labels.specs.AtomRules.{all_kids, one_kid, same_roots, root_test, fact_step}
+use Rattle.fort_atom_labels.specs.AtomRules.{all_kids, one_kid, some_kid, same_roots, root_test, fact_step}
 use Rattle.fort_context_closure.specs.RowBits.{bit_of}
 use Rattle.fort_context_closure.specs.FactTests.{fact_bit, fact_test}
 
@@ -40,24 +40,41 @@ module _ (base : ℕ) (equal root : Bool) (ws : List (List ℕ)) where
       let z : base ≡ base + 0 = omega arith in
       ap (λ y. (root || y) ∷ []) e ∙ ap (λ n. (root || (equal && all_kids (bit_of n) ws)) ∷ []) z
 
+  pub facts-Star : (a : Bool) → a ≡ (equal && all_kids (bit_of base) ws)
+      → (root || a) ∷ [] ≡ map (fact_test (fact_bit StarKind base) equal root ws) (facts_of StarKind)
+  facts-Star a e =
+      let z : base ≡ base + 0 = omega arith in
+      ap (λ y. (root || y) ∷ []) e ∙ ap (λ n. (root || (equal && all_kids (bit_of n) ws)) ∷ []) z
+
+  pub facts-Plus : (a b : Bool) → a ≡ (equal && all_kids (bit_of base) ws)
+      → b ≡ (equal && (all_kids (bit_of base) ws && some_kid (bit_of (base + 1)) ws))
+      → (root || a) ∷ (root || b) ∷ [] ≡ map (fact_test (fact_bit PlusKind base) equal root ws) (facts_of PlusKind)
+  facts-Plus a b e h =
+      let z : base ≡ base + 0 = omega arith in
+      ap (λ y. (root || y) ∷ (root || b) ∷ []) e
+      ∙ (ap (λ y. (root || (equal && all_kids (bit_of base) ws)) ∷ (root || y) ∷ []) h
+      ∙ ap
+      (λ n. (root || (equal && all_kids (bit_of n) ws)) ∷ (root || (equal && (all_kids (bit_of n) ws && some_kid (bit_of (base + 1)) ws))) ∷ [])
+      z)
+
 -- by the rule's bits, its test of the roots and its test of a root step
 module _ (bit : Mark → List ℕ → Bool) (pairs : List Pair) (closure : Pattern → Pattern → Bool) (x y : Option ℕ) (ws : List (List ℕ)) where
-  rule-facts : (rel : Rel) → is_reaching (kind_for rel) ≡ false
-      → map (fact_test (λ k. bit (OfBoth k)) (same_roots x y) (root_test false bit pairs closure x y ws) ws) (facts_of (kind_for rel))
-      ≡ map (fact_step false bit pairs closure x y ws) (facts_of (kind_for rel))
-  rule-facts Eq h = refl
-  rule-facts Root h = refl
-  rule-facts Below h = refl
-  rule-facts Step h = refl
-  rule-facts Par h = refl
-  rule-facts Plus h = absurd (true≢false h)
-  rule-facts Star h = absurd (true≢false h)
-  rule-facts Conv h = absurd (true≢false h)
+  rule-facts : (rel : Rel)
+      → map (fact_test (λ k. bit (OfBoth k)) (same_roots x y) (root_test (is_reaching (kind_for rel)) bit pairs closure x y ws) ws) (facts_of (kind_for rel))
+      ≡ map (fact_step (is_reaching (kind_for rel)) bit pairs closure x y ws) (facts_of (kind_for rel))
+  rule-facts Eq = refl
+  rule-facts Root = refl
+  rule-facts Below = refl
+  rule-facts Step = refl
+  rule-facts Par = refl
+  rule-facts Plus = refl
+  rule-facts Star = refl
+  rule-facts Conv = refl
 
-  pub facts-are : (rel : Rel) → is_reaching (kind_for rel) ≡ false → (base : ℕ) (equal root : Bool)
+  pub facts-are : (rel : Rel) (base : ℕ) (equal root : Bool)
       → ((k : Fact) (w : List ℕ) → fact_bit (kind_for rel) base k w ≡ bit (OfBoth k) w)
-      → equal ≡ same_roots x y → root ≡ root_test false bit pairs closure x y ws
+      → equal ≡ same_roots x y → root ≡ root_test (is_reaching (kind_for rel)) bit pairs closure x y ws
       → map (fact_test (fact_bit (kind_for rel) base) equal root ws) (facts_of (kind_for rel))
-      ≡ map (fact_step false bit pairs closure x y ws) (facts_of (kind_for rel))
-  facts-are rel plain base equal root reads e h =
-      (λ i. map (fact_test (λ k w. reads k w i) (e i) (h i) ws) (facts_of (kind_for rel))) ∙ rule-facts rel plain
+      ≡ map (fact_step (is_reaching (kind_for rel)) bit pairs closure x y ws) (facts_of (kind_for rel))
+  facts-are rel base equal root reads e h =
+      (λ i. map (fact_test (λ k w. reads k w i) (e i) (h i) ws) (facts_of (kind_for rel))) ∙ rule-facts rel

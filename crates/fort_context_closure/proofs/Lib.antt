@@ -13,3 +13,8 @@ pub mod NormalMakerLaws
 pub mod AtomLabelsLaws
 pub mod LocalLaws
 pub mod LocalTermLaws
+pub mod ReachLaws
+pub mod ClosureLaws
+pub mod ReachRowLaws
+pub mod RuleListLaws
+pub mod HandedLaws

@@ -11,11 +11,10 @@ use Rattle.fort_atom_labels.specs.AtomRules.{same_pattern, place, marks_of, bit_
 use Rattle.fort_atom_labels.specs.ListedAtoms.{Mark, OfFirst, OfSecond, OfBoth, ListedAtom, AreArguments}
 use Rattle.fort_alike.specs.Alike.{Fact, facts_of, is_reaching}
 use Rattle.fort_atom_labels.proofs.Bits.{Decides-same_pattern}
-use Rattle.fort_context_closure.specs.LocalAtoms.{first_place, all_placed, placed, pair_placed, pair_has, handed_in, local_relation}
-use Rattle.fort_context_closure.specs.PlainAtoms.{no_closure}
+use Rattle.fort_context_closure.specs.LocalAtoms.{first_place, all_placed, placed, pair_has, handed_in, local_relation}
 use Rattle.fort_theory.specs.Signatures.{Signature}
 use Rattle.fort_logic.specs.Cores.{Rel, Eq, Root, Below, Step, Par, Plus, Star, Conv}
-use Rattle.fort_alike.specs.Atoms.{kind_for}
+use Rattle.fort_alike.specs.Atoms.{pairs_for}
 use Rattle.fort_tables.specs.Entries.{Entry}
 use Rattle.fort_tables.specs.LabelRules.{entry_label}
 use Rattle.fort_context_closure.specs.RowBits.{bit_of, labels_at}
@@ -87,7 +86,7 @@ all_placed-child from none listed ps labels kids j p b l m is e =
     ∙ ap (λ c. c && all_placed from none listed (as_patterns (drop (j + 1) ps)) rest) (sym e)))
 
 -- the place of a mark is the first place of its pattern
-place-cases : (n none place : ℕ) (xs : List theory.Pattern) (q : theory.Pattern) (b : Bool) → first_place (suc n) none xs q ≡ suc n + place
+pub place-cases : (n none place : ℕ) (xs : List theory.Pattern) (q : theory.Pattern) (b : Bool) → first_place (suc n) none xs q ≡ suc n + place
     → (if b then n else first_place (suc n) none xs q) ≡ n + (if b then 0 else suc place)
 place-cases n none place xs q true h = omega arith
 place-cases n none place xs q false h = omega (arith, h)
@@ -166,7 +165,7 @@ length-marks_of a =
       length-map (facts_of a.atom.kind) OfBoth,
     )
 
-map-patterns : (f : theory.Pattern → Bool) (ps : List Pattern) → map (λ p. f (as_pattern p)) ps ≡ map f (map as_pattern ps)
+pub map-patterns : (f : theory.Pattern → Bool) (ps : List Pattern) → map (λ p. f (as_pattern p)) ps ≡ map f (map as_pattern ps)
 map-patterns f [] = refl
 map-patterns f (p ∷ ps) = ap (λ bs. f (as_pattern p) ∷ bs) (map-patterns f ps)
 
@@ -177,18 +176,6 @@ module _ (a : ListedAtom) (none : ℕ) (e : none ≡ length (marks_of a)) (x y :
   firsts-placed ps is =
       map-patterns (placed 0 none a.lefts x ws) ps
       ∙ (λ i. map (λ p. placed-inside 0 none a.lefts (bit_in a) OfFirst (reads-first a none e) x ws p i) (is i))
-
-  pub seconds-placed : (ps : List Pattern) → map as_pattern ps ≡ a.rights
-      → map (λ p. placed (length a.lefts) none a.rights y ws (as_pattern p)) ps ≡ map (inside (bit_in a) OfSecond y ws) a.rights
-  seconds-placed ps is =
-      map-patterns (placed (length a.lefts) none a.rights y ws) ps
-      ∙ (λ i. map (λ p. placed-inside (length a.lefts) none a.rights (bit_in a) OfSecond (reads-second a none e) y ws p i) (is i))
-
-  pub root-placed : (pairs : List theory.Pair) (closure : theory.Pattern → theory.Pattern → Bool)
-      → any_pair (pair_placed none a.lefts a.rights x y ws) pairs ≡ root_test false (bit_in a) pairs closure x y ws
-  root-placed pairs closure = λ i.
-      any_pair (λ r. placed-inside 0 none a.lefts (bit_in a) OfFirst (reads-first a none e) x ws r.0 i
-      && placed-inside (length a.lefts) none a.rights (bit_in a) OfSecond (reads-second a none e) y ws r.1 i) pairs
 
 pub first-within : (columns first second : ℕ) → AreArguments columns first second → first < columns
 first-within columns first second (inl w) = let e = w.0 in let h = w.1 in omega arith
@@ -202,17 +189,17 @@ second-within columns first second (inr (inr w)) = let e = w.0 in let h = w.2 in
 
 -- of a relation that is no equation nothing is left out
 pub handed-label : (sig : Signature) (pairs : List theory.Pair) (rel : Rel) (x y : ℕ) (lefts rights : List theory.Pattern) (columns : List ℕ)
-    (labels : List (List ℕ)) (e : Entry) → is_reaching (kind_for rel) ≡ false → (rel ≡ Eq → ⊥)
-    → entry_label (atom_rule (handed_in sig pairs rel x y lefts rights columns) no_closure) labels e
-    ≡ entry_label (atom_rule (local_relation sig pairs rel x y lefts rights columns) no_closure) labels e
-handed-label sig pairs Eq x y lefts rights columns labels e plain other = absurd (other refl)
-handed-label sig pairs Root x y lefts rights columns labels e plain other = refl
-handed-label sig pairs Below x y lefts rights columns labels e plain other = refl
-handed-label sig pairs Step x y lefts rights columns labels e plain other = refl
-handed-label sig pairs Par x y lefts rights columns labels e plain other = refl
-handed-label sig pairs Plus x y lefts rights columns labels e plain other = absurd (true≢false plain)
-handed-label sig pairs Star x y lefts rights columns labels e plain other = absurd (true≢false plain)
-handed-label sig pairs Conv x y lefts rights columns labels e plain other = absurd (true≢false plain)
+    (closure : theory.Pattern → theory.Pattern → Bool) (labels : List (List ℕ)) (e : Entry) → (rel ≡ Eq → ⊥)
+    → entry_label (atom_rule (handed_in sig (pairs_for rel pairs) rel x y lefts rights columns) closure) labels e
+    ≡ entry_label (atom_rule (local_relation sig pairs rel x y lefts rights columns) closure) labels e
+handed-label sig pairs Eq x y lefts rights columns closure labels e other = absurd (other refl)
+handed-label sig pairs Root x y lefts rights columns closure labels e other = refl
+handed-label sig pairs Below x y lefts rights columns closure labels e other = refl
+handed-label sig pairs Step x y lefts rights columns closure labels e other = refl
+handed-label sig pairs Par x y lefts rights columns closure labels e other = refl
+handed-label sig pairs Plus x y lefts rights columns closure labels e other = refl
+handed-label sig pairs Star x y lefts rights columns closure labels e other = refl
+handed-label sig pairs Conv x y lefts rights columns closure labels e other = refl
 
 -- what is read from a label of root steps, by first places
 pub accepts-handed_root : (sig : Signature) (pairs : List theory.Pair) (x y : ℕ) (lefts rights : List theory.Pattern) (columns : List ℕ) (w : List ℕ) (none : ℕ)

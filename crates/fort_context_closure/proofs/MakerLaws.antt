@@ -1,21 +1,29 @@
 -- What is made of the rules of a system's index is the atom of that index.
-use Rattle.std.specs.Prelude.{◌≡◌, ℕ, List, [], map, length, Contains, false, refl}
-use Rattle.std.proofs.Common.{sym, subst, ◌∙◌, arith, true≢false}
+use Rattle.std.specs.Prelude.{◌≡◌, ℕ, List, [], map, length, Contains, true, refl}
+use Rattle.std.proofs.Common.{sym, subst, ◌∙◌, arith}
 use Rattle.fort_theory.specs.Patterns.{Pattern, Pair, PatternSystem, IsSystem}
 use Rattle.fort_theory.specs.PatternOrder.{AreSubpatternsInOrder, HaveArguments}
 use Rattle.fort_theory.specs.Sides.{at_index}
 use Rattle.fort_theory.proofs.ClosedPatterns.{HaveArguments-within, subpatterns-self}
 use Rattle.fort_theory.proofs.Lists.{Contains-map}
 use Rattle.fort_theory.proofs.Members.{Contains-none}
-use Rattle.fort_logic.specs.Cores.{Rel, Eq, Root, Below, Step, Par, Plus, Star, Conv}
+use Rattle.fort_logic.specs.Cores.{Rel, Eq, Atom as CoreAtom}
 use Rattle.fort_formulas.specs.declared.core_formula.Rel as formulas
 use Rattle.fort_formulas.specs.declared.core_formula.Rel.TheVariants as rels
 use Rattle.fort_formulas.specs.CoreView.{as_rel}
-use Rattle.fort_alike.specs.Atoms.{kind_for, pairs_for, relation_atom}
+use Rattle.fort_terms.specs.PatternView.{as_pair, as_pattern}
+use Rattle.fort_logic.specs.Parts.{AreColumns}
+use Rattle.fort_alike.specs.Atoms.{Atom, kind_for, pairs_for, relation_atom}
 use Rattle.fort_alike.specs.Alike.{is_reaching}
 use Rattle.fort_atom_labels.specs.ListedAtoms.{ListedAtom, listed, IsListedAtom}
+use Rattle.fort_atom_labels.specs.ClosureTests.{IsClosure, ListsClosure, closure_test}
+use Rattle.fort_atom_labels.proofs.ClosureTestLaws.{IsClosure-listed}
 use Rattle.fort_atom_labels.proofs.SystemAtoms.{IsListedAtom-relation}
-use Rattle.fort_context_closure.specs.PlainAtoms.{IsOfRules, IsRelationAtomOf}
+use Rattle.fort_gtt_closure.specs.declared.entry.Entry.{Entry}
+use Rattle.fort_context_closure.specs.PlainAtoms.{IsAtomOf, IsOfRules, IsRelationAtomOf}
+use Rattle.fort_context_closure.specs.ClosedAtoms.{ClosedAtom, numbers_of}
+use Rattle.fort_context_closure.specs.declared.rule_list.RuleList.{RuleList}
+use Rattle.fort_context_closure.specs.RuleLists.{ListsRules}
 
 -- lists in order
 pub HaveArguments-order : (tops ps : List Pattern) → AreSubpatternsInOrder tops ps → HaveArguments ps
@@ -33,21 +41,11 @@ AreSubpatternsInOrder-none = record {
   ordered = λ i j l m. absurd (omega arith);
 }
 
--- the rules of a relation that is no equation
-pub pairs-plain : (rel : Rel) (pairs : List Pair) → is_reaching (kind_for rel) ≡ false → (rel ≡ Eq → ⊥) → pairs ≡ pairs_for rel pairs
-pairs-plain Eq pairs plain other = absurd (other refl)
-pairs-plain Root pairs plain other = refl
-pairs-plain Below pairs plain other = refl
-pairs-plain Step pairs plain other = refl
-pairs-plain Par pairs plain other = refl
-pairs-plain Plus pairs plain other = absurd (true≢false plain)
-pairs-plain Star pairs plain other = absurd (true≢false plain)
-pairs-plain Conv pairs plain other = absurd (true≢false plain)
-
 pub relation-made : (system : PatternSystem) → IsSystem system → (rel : Rel) (index x y : ℕ) (pairs : List Pair) (lefts rights : List Pattern) (a : ListedAtom)
     → pairs ≡ pairs_for rel (at_index index system.rules)
     → AreSubpatternsInOrder (map (λ (pair : Pair). pair.0) pairs) lefts → AreSubpatternsInOrder (map (λ (pair : Pair). pair.1) pairs) rights
-    → IsOfRules rel x y pairs lefts rights a → IsRelationAtomOf system rel index x y a
+    → IsOfRules rel x y pairs lefts rights a → (columns : List ℕ) → AreColumns (CoreAtom rel index x y) columns
+    → IsAtomOf (relation_atom system rel index x y columns) a
 relation-made system is rel index x y pairs lefts rights a e l r h columns are = record {
   same = h.same index columns are ∙ (λ i. record {
     signature = [];
@@ -64,6 +62,32 @@ relation-made system is rel index x y pairs lefts rights a e l r h columns are =
       (subst (λ (ps : List Pair). AreSubpatternsInOrder (map (λ (pair : Pair). pair.0) ps) lefts) e l)
       (subst (λ (ps : List Pair). AreSubpatternsInOrder (map (λ (pair : Pair). pair.1) ps) rights) e r)));
 }
+
+-- by its own rules
+pub ListsRules-own : (pairs : List Pair) (list : RuleList) → ListsRules pairs list → ListsRules (map as_pair list.rules.items) list
+ListsRules-own pairs list h = subst (λ (ps : List Pair). ListsRules ps list) (sym h.rules) h
+
+-- with the entries of a closure
+pub relation-closed : (system : PatternSystem) → IsSystem system → (rel : Rel) (index x y : ℕ) (list : RuleList) (es : List Entry) (c : ClosedAtom)
+    → ListsRules (pairs_for rel (at_index index system.rules)) list
+    → IsOfRules rel x y (map as_pair list.rules.items) (map as_pattern list.lefts.items) (map as_pattern list.rights.items) c.atom → c.entries ≡ es
+    → ((columns : List ℕ) → AreColumns (CoreAtom rel index x y) columns → is_reaching (kind_for rel) ≡ true
+    → ListsClosure (listed (relation_atom system rel index x y columns) (map as_pattern list.lefts.items) (map as_pattern list.rights.items)) (numbers_of es))
+    → IsRelationAtomOf system rel index x y c
+relation-closed system is rel index x y list es c lists made same exact columns are =
+    let lefts : List Pattern = map as_pattern list.lefts.items in
+    let rights : List Pattern = map as_pattern list.rights.items in
+    let atom : Atom = relation_atom system rel index x y columns in
+    let left_order = subst (λ (ps : List Pair). AreSubpatternsInOrder (map (λ (pair : Pair). pair.0) ps) lefts) (sym lists.rules) lists.left_order in
+    let right_order = subst (λ (ps : List Pair). AreSubpatternsInOrder (map (λ (pair : Pair). pair.1) ps) rights) (sym lists.rules) lists.right_order in
+    let listed_are = IsListedAtom-relation system is index rel x y columns are lefts rights lists.left_order lists.right_order in
+    let closes : IsClosure (listed atom lefts rights) (closure_test rights lefts (numbers_of es)) =
+    IsClosure-listed (listed atom lefts rights) listed_are (numbers_of es) (exact columns are) in (
+      relation-made system is rel index x y (map as_pair list.rules.items) lefts rights c.atom lists.rules left_order right_order made columns are,
+      subst (λ (ls : List Pattern). IsClosure (listed atom ls c.atom.rights) (closure_test c.atom.rights ls (numbers_of c.entries))) (sym made.lefts_are)
+          (subst (λ (rs : List Pattern). IsClosure (listed atom lefts rs) (closure_test rs lefts (numbers_of c.entries))) (sym made.rights_are)
+          (subst (λ (xs : List Entry). IsClosure (listed atom lefts rights) (closure_test rights lefts (numbers_of xs))) (sym same) closes)),
+    )
 
 -- of the program and of the definitions
 pub not_eq : (rel : formulas.Rel) → (rel ≡ rels.Eq → ⊥) → as_rel rel ≡ Eq → ⊥

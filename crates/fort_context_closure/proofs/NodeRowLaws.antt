@@ -10,7 +10,7 @@ use Rattle.fort_tables.specs.LabelRules.{entry_label}
 use Rattle.fort_alike.specs.Atoms.{AtomKind}
 use Rattle.fort_alike.specs.Alike.{Fact, facts_of, is_reaching}
 use Rattle.fort_atom_labels.specs.ListedAtoms.{Mark, OfFirst, OfSecond, OfBoth, ListedAtom, listed}
-use Rattle.fort_atom_labels.specs.AtomRules.{marks_of, row_of, inside, root_test, mark_step, bit_in, atom_rule, any_pair, place, accepts_by, atom_accepts}
+use Rattle.fort_atom_labels.specs.AtomRules.{marks_of, row_of, inside, first_step, second_step, root_test, mark_step, bit_in, atom_rule, any_pair, place, accepts_by, atom_accepts}
 use Rattle.fort_atom_labels.specs.PatternNumbers.{PatternNumber, number_inside}
 use Rattle.fort_atom_labels.proofs.BitPlaces.{NoneTwice}
 use Rattle.fort_atom_labels.proofs.PatternNumberLaws.{first_bit, second_bit, fact_bit, first_row, second_row}
@@ -19,7 +19,6 @@ use Rattle.fort_context_closure.specs.declared.rule_places.RulePlaces.{RulePlace
 use Rattle.fort_context_closure.specs.NumberedView.{AreNumbersOf}
 use Rattle.fort_context_closure.specs.RowBits.{labels_at, bit_of, HasBits, IsRow}
 use Rattle.fort_context_closure.specs.RulePlaces.{pair_at, AreWithin, some_rule}
-use Rattle.fort_context_closure.specs.PlainAtoms.{no_closure}
 use Rattle.fort_context_closure.proofs.RulePlaceLaws.{some_rule-any_pair}
 
 map-numbers : (f : PatternNumber → Bool) (g : Pattern → Bool) (listed : List Pattern) (rows : List PatternNumber) → length rows ≡ length listed
@@ -30,23 +29,45 @@ map-numbers f g (p ∷ listed) [] l h = absurd (omega arith)
 map-numbers f g (p ∷ listed) (r ∷ rows) l h =
     ap (λ b. b ∷ map f rows) (h 0 (omega arith)) ∙ ap (λ bs. g p ∷ bs) (map-numbers f g listed rows (omega arith) (λ k m. h (suc k) (omega arith)))
 
-module _ (a : ListedAtom) (plain : is_reaching a.atom.kind ≡ false) where
+module _ (a : ListedAtom) (closure : Pattern → Pattern → Bool) where
   abbrev pub node_marks : Option ℕ → Option ℕ → List (List ℕ) → Mark → Bool
-  node_marks x y ws = mark_step false (bit_in a) a.atom.pairs no_closure x y ws
+  node_marks x y ws = mark_step (is_reaching a.atom.kind) (bit_in a) a.atom.pairs closure x y ws
 
   -- a row with these bits is the label
   pub label-is : (labels : List (List ℕ)) (e : Entry) (out : List ℕ) (bits : List Bool)
       → bits ≡ map (node_marks (get_or e.symbol a.atom.first None) (get_or e.symbol a.atom.second None) (labels_at labels e.kids)) (marks_of a)
       → length out ≡ suc (words_for (length (marks_of a))) → IsRow (presence e.symbol) bits out
-      → out ≡ entry_label (atom_rule a no_closure) labels e
+      → out ≡ entry_label (atom_rule a closure) labels e
   label-is labels e out bits same l h =
       row_is out (marks_of a) (presence e.symbol) (node_marks (get_or e.symbol a.atom.first None) (get_or e.symbol a.atom.second None) (labels_at labels e.kids)) l h.words h.first_is
       (λ q m. h.bits_are q ∙ ap (λ bs. get_or bs q false) same)
-      ∙ ap
-      (λ b. row_of (marks_of a) (presence e.symbol)
-      (mark_step b (bit_in a) a.atom.pairs no_closure (get_or e.symbol a.atom.first None) (get_or e.symbol a.atom.second None) (labels_at labels e.kids))) (sym plain)
 
-  -- by numbers
+  -- a root step, in the row that is written
+  pub root-own : (x y : Option ℕ) (ws : List (List ℕ)) (firsts seconds : List Bool) (rules : List RulePlaces) (w : List ℕ)
+      → firsts ≡ map (first_step (is_reaching a.atom.kind) (bit_in a) a.atom.pairs closure x ws) a.lefts
+      → seconds ≡ map (second_step (is_reaching a.atom.kind) (bit_in a) a.atom.pairs closure y ws) a.rights
+      → AreWithin a.lefts a.rights rules → a.atom.pairs ≡ map (pair_at a.lefts a.rights) rules → HasBits (firsts ++ seconds) w
+      → some_rule (length a.lefts) rules w ≡ root_test (is_reaching a.atom.kind) (bit_in a) a.atom.pairs closure x y ws
+  root-own x y ws firsts seconds rules w f s within are h =
+      let F : Pattern → Bool = first_step (is_reaching a.atom.kind) (bit_in a) a.atom.pairs closure x ws in
+      let S : Pattern → Bool = second_step (is_reaching a.atom.kind) (bit_in a) a.atom.pairs closure y ws in
+      let n : length (map F a.lefts) ≡ length a.lefts = length-map a.lefts F in
+      let own : HasBits (map F a.lefts ++ map S a.rights) w = λ q. h q ∙ (λ i. get_or (f i ++ s i) q false) in
+      some_rule-any_pair a.lefts a.rights (λ r. F r.0 && S r.1) (length a.lefts) w rules
+      (λ r c.
+      let l = (within r c).0 in
+      let m = (within r c).1 in
+      let here : bit_of r.left w ≡ F (get_or a.lefts r.left Any) =
+      own r.left ∙ (get_or_append_left (map F a.lefts) (map S a.rights) false r.left (omega (arith, l, n)) ∙ get_or-map F a.lefts r.left Any false l) in
+      let there : bit_of (length a.lefts + r.right) w ≡ S (get_or a.rights r.right Any) =
+      own (length a.lefts + r.right)
+      ∙ (ap (λ k. get_or (map F a.lefts ++ map S a.rights) (k + r.right) false) (sym n)
+      ∙ (get_or-append-add (map F a.lefts) (map S a.rights) r.right false ∙ get_or-map S a.rights r.right Any false m)) in
+      λ i. here i && there i)
+      ∙ ap (any_pair (λ r. F r.0 && S r.1)) (sym are)
+
+-- by numbers
+module _ (a : ListedAtom) where
   module _ (once : NoneTwice (marks_of a)) where
     pub firsts-are : (rows : List PatternNumber) (x : Option ℕ) (ws : List (List ℕ)) → AreNumbersOf a.lefts rows
         → map (λ p. number_inside 0 p x ws) rows ≡ map (inside (bit_in a) OfFirst x ws) a.lefts
@@ -72,29 +93,6 @@ module _ (a : ListedAtom) (plain : is_reaching a.atom.kind ≡ false) where
         ap (λ k. bit_of k w && bit_of (length a.lefts + r.right) w) z
         ∙ (ap (λ b. b && bit_of (length a.lefts + r.right) w) (first_bit a once r.left (get_or a.lefts r.left Any) w l refl)
         ∙ ap (λ b. bit_in a (OfFirst (get_or a.lefts r.left Any)) w && b) (second_bit a once r.right (get_or a.rights r.right Any) w m refl)))
-
-  -- a root step, in the row that is written
-  pub root-own : (x y : Option ℕ) (ws : List (List ℕ)) (firsts seconds : List Bool) (rules : List RulePlaces) (w : List ℕ)
-      → firsts ≡ map (inside (bit_in a) OfFirst x ws) a.lefts → seconds ≡ map (inside (bit_in a) OfSecond y ws) a.rights
-      → AreWithin a.lefts a.rights rules → a.atom.pairs ≡ map (pair_at a.lefts a.rights) rules → HasBits (firsts ++ seconds) w
-      → some_rule (length a.lefts) rules w ≡ root_test false (bit_in a) a.atom.pairs no_closure x y ws
-  root-own x y ws firsts seconds rules w f s within are h =
-      let F : Pattern → Bool = inside (bit_in a) OfFirst x ws in
-      let S : Pattern → Bool = inside (bit_in a) OfSecond y ws in
-      let n : length (map F a.lefts) ≡ length a.lefts = length-map a.lefts F in
-      let own : HasBits (map F a.lefts ++ map S a.rights) w = λ q. h q ∙ (λ i. get_or (f i ++ s i) q false) in
-      some_rule-any_pair a.lefts a.rights (λ r. F r.0 && S r.1) (length a.lefts) w rules
-      (λ r c.
-      let l = (within r c).0 in
-      let m = (within r c).1 in
-      let here : bit_of r.left w ≡ F (get_or a.lefts r.left Any) =
-      own r.left ∙ (get_or_append_left (map F a.lefts) (map S a.rights) false r.left (omega (arith, l, n)) ∙ get_or-map F a.lefts r.left Any false l) in
-      let there : bit_of (length a.lefts + r.right) w ≡ S (get_or a.rights r.right Any) =
-      own (length a.lefts + r.right)
-      ∙ (ap (λ k. get_or (map F a.lefts ++ map S a.rights) (k + r.right) false) (sym n)
-      ∙ (get_or-append-add (map F a.lefts) (map S a.rights) r.right false ∙ get_or-map S a.rights r.right Any false m)) in
-      λ i. here i && there i)
-      ∙ ap (any_pair (λ r. F r.0 && S r.1)) (sym are)
 
 -- the bit of a fact that alone tells whether the atom holds
 pub accepts-fact : (a : ListedAtom) (kind : AtomKind) (k : Fact) (w : List ℕ) (q : ℕ) → a.atom.kind ≡ kind

@@ -25,16 +25,16 @@ normal sig pairs lefts = listed (record { signature = sig; columns = 1; first = 
 module _ (sig : Signature) (pairs : List Pair) (lefts : List Pattern) where
   marks-normal : (x y : Option ℕ) (ws : List (List ℕ))
       → map (inside (bit_in (normal sig pairs lefts)) OfFirst x ws) lefts ++ fact_step false (bit_in (normal sig pairs lefts)) pairs no_closure x y ws IsNormal ∷ []
-      ≡ map (node_marks (normal sig pairs lefts) refl x y ws) (marks_of (normal sig pairs lefts))
+      ≡ map (node_marks (normal sig pairs lefts) no_closure x y ws) (marks_of (normal sig pairs lefts))
   marks-normal x y ws =
       ap (λ bs. bs ++ fact_step false (bit_in (normal sig pairs lefts)) pairs no_closure x y ws IsNormal ∷ [])
       (sym (append-nil (map (inside (bit_in (normal sig pairs lefts)) OfFirst x ws) lefts)))
-      ∙ sym (map-marks (node_marks (normal sig pairs lefts) refl x y ws) lefts [] (IsNormal ∷ []))
+      ∙ sym (map-marks (node_marks (normal sig pairs lefts) no_closure x y ws) lefts [] (IsNormal ∷ []))
 
   pub normal-are : (x y : Option ℕ) (ws : List (List ℕ)) (firsts : List Bool) (on : Bool)
       → firsts ≡ map (inside (bit_in (normal sig pairs lefts)) OfFirst x ws) lefts
       → on ≡ fact_step false (bit_in (normal sig pairs lefts)) pairs no_closure x y ws IsNormal
-      → firsts ++ on ∷ [] ≡ map (node_marks (normal sig pairs lefts) refl x y ws) (marks_of (normal sig pairs lefts))
+      → firsts ++ on ∷ [] ≡ map (node_marks (normal sig pairs lefts) no_closure x y ws) (marks_of (normal sig pairs lefts))
   normal-are x y ws firsts on f o = (λ i. f i ++ o i ∷ []) ∙ marks-normal x y ws
 
   pub normal-on : (x y : Option ℕ) (ws : List (List ℕ)) (base : ℕ) (there reducible all : Bool) → base ≡ length lefts → there ≡ is_there x
@@ -74,8 +74,8 @@ module _ (sig tag : Signature) (pairs others : List Pair) (lefts : List Pattern)
       λ i. is_there x && (not (e i) && all_kids (bit_in (normal sig pairs lefts) (OfBoth IsNormal)) ws)
 
   marks-same : (x y : Option ℕ) (ws : List (List ℕ))
-      → map (node_marks (normal sig pairs lefts) refl x y ws) (marks_of (normal sig pairs lefts))
-      ≡ map (node_marks (normal tag others lefts) refl x y ws) (marks_of (normal tag others lefts))
+      → map (node_marks (normal sig pairs lefts) no_closure x y ws) (marks_of (normal sig pairs lefts))
+      ≡ map (node_marks (normal tag others lefts) no_closure x y ws) (marks_of (normal tag others lefts))
   marks-same x y ws =
       sym (marks-normal sig pairs lefts x y ws)
       ∙ (ap (λ b. map (inside (bit_in (normal sig pairs lefts)) OfFirst x ws) lefts ++ b ∷ []) (fact-same x y ws) ∙ marks-normal tag others lefts x y ws)

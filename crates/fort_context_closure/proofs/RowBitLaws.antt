@@ -8,7 +8,7 @@ use Rattle.std.proofs.lemmas.List.{drop_more, drop_all, get_or_past, get_or_push
 use Rattle.fort_tables.specs.BitRows.{has_bit}
 use Rattle.fort_tables.proofs.BitRowLaws.{has_bit-drop}
 use Rattle.fort_tables.proofs.EqualTests.{test_from_apart}
-use Rattle.fort_atom_labels.specs.AtomRules.{all_kids, one_kid}
+use Rattle.fort_atom_labels.specs.AtomRules.{all_kids, one_kid, some_kid}
 use Rattle.fort_context_closure.specs.RowBits.{labels_at, HasBits}
 
 -- bits
@@ -93,6 +93,13 @@ pub all_kids-child : (t : List ℕ → Bool) (labels : List (List ℕ)) (kids : 
 all_kids-child t labels kids j b l e =
     rw (drop_more (labels_at labels kids) j [] (child-within labels kids j l), label-here labels kids j l)
     (ap (λ c. c && all_kids t (drop (j + 1) (labels_at labels kids))) (sym e))
+
+pub some_kid-child : (t : List ℕ → Bool) (labels : List (List ℕ)) (kids : List ℕ) (j : ℕ) (b : Bool) → j < length kids
+    → b ≡ t (get_or labels (get_or kids j 0) [])
+    → some_kid t (drop j (labels_at labels kids)) ≡ (b || some_kid t (drop (j + 1) (labels_at labels kids)))
+some_kid-child t labels kids j b l e =
+    rw (drop_more (labels_at labels kids) j [] (child-within labels kids j l), label-here labels kids j l)
+    (ap (λ c. c || some_kid t (drop (j + 1) (labels_at labels kids))) (sym e))
 
 pub one_kid-child : (t o : List ℕ → Bool) (labels : List (List ℕ)) (kids : List ℕ) (j : ℕ) (b c : Bool) → j < length kids
     → b ≡ (t (get_or labels (get_or kids j 0) []) && all_kids o (drop (j + 1) (labels_at labels kids))) → c ≡ o (get_or labels (get_or kids j 0) [])

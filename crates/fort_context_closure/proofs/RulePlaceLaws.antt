@@ -1,5 +1,6 @@
 -- Rules by places: one more at the end; some rule that has both its bits, against some pair that passes a test.
 use Rattle.std.specs.Prelude.{◌≡◌, ℕ, ◌+◌, ◌<◌, List, [], ◌∷◌, ◌++◌, map, length, take, get_or, Contains, Bool, ◌||◌, refl}
+use Rattle.std.specs.List.{list_any}
 use Rattle.std.proofs.Common.{sym, ap, ◌∙◌, subst, inl, inr}
 use Rattle.std.proofs.lemmas.List.{take_more, map-append}
 use Rattle.std.proofs.lemmas.List.Elements.{Contains-append_cases}
@@ -40,10 +41,15 @@ ArePlacesOf-more lefts rights rules i item places place l is h k =
     subst (λ ps. ArePlacesOf lefts rights ps (places ++ place ∷ [])) (sym more)
     (ArePlacesOf-append lefts rights (map as_pair (take i rules)) (as_pair item ∷ []) places (place ∷ []) h k)
 
+pub list_any-any_pair : (lefts rights : List Pattern) (t : Pair → Bool) (u : RulePlaces → Bool) (rules : List RulePlaces)
+    → ((r : RulePlaces) → Contains rules r → u r ≡ t (pair_at lefts rights r))
+    → list_any u rules ≡ any_pair t (map (pair_at lefts rights) rules)
+list_any-any_pair lefts rights t u [] h = refl
+list_any-any_pair lefts rights t u (r ∷ rules) h =
+    ap (λ b. b || list_any u rules) (h r (Contains-head r rules))
+    ∙ ap (λ b. t (pair_at lefts rights r) || b) (list_any-any_pair lefts rights t u rules (λ s c. h s (Contains-behind r rules s c)))
+
 pub some_rule-any_pair : (lefts rights : List Pattern) (t : Pair → Bool) (base : ℕ) (w : List ℕ) (rules : List RulePlaces)
     → ((r : RulePlaces) → Contains rules r → has_both base w r ≡ t (pair_at lefts rights r))
     → some_rule base rules w ≡ any_pair t (map (pair_at lefts rights) rules)
-some_rule-any_pair lefts rights t base w [] h = refl
-some_rule-any_pair lefts rights t base w (r ∷ rules) h =
-    ap (λ b. b || some_rule base rules w) (h r (Contains-head r rules))
-    ∙ ap (λ b. t (pair_at lefts rights r) || b) (some_rule-any_pair lefts rights t base w rules (λ s c. h s (Contains-behind r rules s c)))
+some_rule-any_pair lefts rights t base w rules h = list_any-any_pair lefts rights t (has_both base w) rules h

@@ -1,4 +1,4 @@
--- Nothing to believe: a listed atom as lists of numbers, from which it is read again.
+-- Nothing to believe: an atom with the entries of a closure as lists of numbers, from which it is read again.
 use Rattle.std.specs.Prelude.{◌≡◌, ℕ, List, [], ◌∷◌, get_or, refl}
 use Rattle.std.proofs.Common.{ap}
 use Rattle.std.specs.Coded.{Coded, code_by, coded×, coded_list, coded_ℕ}
@@ -8,6 +8,10 @@ use Rattle.fort_theory.specs.Patterns.{Pattern, Pair}
 use Rattle.fort_theory.specs.PatternCode.{pattern_code}
 use Rattle.fort_alike.specs.Atoms.{AtomKind, EqKind, RootKind, StepKind, BelowKind, ParKind, NfKind, StarKind, PlusKind}
 use Rattle.fort_atom_labels.specs.ListedAtoms.{ListedAtom, listed}
+use Rattle.fort_gtt_closure.specs.declared.entry.Entry.{Entry}
+use Rattle.fort_gtt_closure.specs.declared.entry.Why.{Why}
+use Rattle.fort_gtt_closure.specs.declared.entry.Why.TheVariants as whys
+use Rattle.fort_context_closure.specs.ClosedAtoms.{ClosedAtom}
 
 abbrev pub kind_number : AtomKind → ℕ
 kind_number EqKind = 0
@@ -58,8 +62,40 @@ fields_again a = ap (λ k. listed (record {
   pairs = a.atom.pairs;
 }) a.lefts a.rights) (kind_again a.atom.kind)
 
-abbrev pub atom_code : Coded ListedAtom
-atom_code =
+abbrev pub listed_code : Coded ListedAtom
+listed_code =
     code_by Fields
     (coded× (coded× (coded× (coded× signature_code (coded_list coded_ℕ)) (coded_list (coded× pattern_code pattern_code))) (coded_list pattern_code)) (coded_list pattern_code))
     fields_of from_fields fields_again
+
+-- the kind of a reason, and its places
+abbrev pub why_numbers : Why → List ℕ
+why_numbers whys.Any = 0 ∷ []
+why_numbers (whys.Kids k j) = 1 ∷ k ∷ j ∷ []
+why_numbers (whys.SilentRight k) = 2 ∷ k ∷ []
+why_numbers (whys.SilentLeft k) = 3 ∷ k ∷ []
+why_numbers (whys.Pair k) = 4 ∷ k ∷ []
+
+abbrev pub why_back : List ℕ → Why
+why_back ns =
+    let k = get_or ns 1 0 in
+    get_or (whys.Any ∷ whys.Kids k (get_or ns 2 0) ∷ whys.SilentRight k ∷ whys.SilentLeft k ∷ whys.Pair k ∷ []) (get_or ns 0 0) whys.Any
+
+pub why_again : (why : Why) → why_back (why_numbers why) ≡ why
+why_again whys.Any = refl
+why_again (whys.Kids k j) = refl
+why_again (whys.SilentRight k) = refl
+why_again (whys.SilentLeft k) = refl
+why_again (whys.Pair k) = refl
+
+abbrev pub entry_code : Coded Entry
+entry_code =
+    code_by ((ℕ × ℕ) × List ℕ) (coded× (coded× coded_ℕ coded_ℕ) (coded_list coded_ℕ))
+    (λ (e : Entry). ((e.p, e.q), why_numbers e.why))
+    (λ w. record { p = w.0.0; q = w.0.1; why = why_back w.1 })
+    (λ (e : Entry). ap (λ (why : Why). record { p = e.p; q = e.q; why = why }) (why_again e.why))
+
+abbrev pub atom_code : Coded ClosedAtom
+atom_code =
+    code_by (ListedAtom × List Entry) (coded× listed_code (coded_list entry_code))
+    (λ (c : ClosedAtom). (c.atom, c.entries)) (λ w. record { atom = w.0; entries = w.1 }) (λ _. refl)

@@ -22,29 +22,36 @@ use Rattle.fort_atom_labels.specs.AtomRules.{marks_of, atom_rule, atom_accepts}
 use Rattle.fort_atom_labels.specs.AssignedTuples.{tuple_of}
 use Rattle.fort_atom_labels.specs.TermRule.{term_rule, term_accepts}
 use Rattle.fort_context_closure.specs.PlainAtoms.{no_closure, atom_label}
+use Rattle.fort_context_closure.specs.ClosedAtoms.{test_of, closed_label}
+use Rattle.fort_gtt_closure.specs.declared.entry.Entry.{Entry}
 use Rattle.fort_context_closure.specs.TermNodes.{first_tree}
 use Rattle.fort_context_closure.specs.declared.atom_labels.AtomLabels.{AtomLabels}
 use Rattle.fort_context_closure.specs.declared.atom_labels.AtomLabels.TheVariants.{Relation, Normal, Is}
 
 abbrev pub column_count : AtomLabels → ℕ
-column_count (Relation a) = a.atom.columns
+column_count (Relation c) = c.atom.atom.columns
 column_count (Normal a) = a.atom.columns
 column_count (Is l) = 1
 
 abbrev pub word_count : AtomLabels → ℕ
-word_count (Relation a) = suc (words_for (length (marks_of a)))
+word_count (Relation c) = suc (words_for (length (marks_of c.atom)))
 word_count (Normal a) = suc (words_for (length (marks_of a)))
 word_count (Is l) = 2
 
 abbrev pub label_by : AtomLabels → Labelling
-label_by (Relation a) = atom_label a
+label_by (Relation c) = closed_label c
 label_by (Normal a) = atom_label a
 label_by (Is l) = label_of (term_rule [] l)
 
 abbrev pub accepted_by : AtomLabels → List ℕ → Bool
-accepted_by (Relation a) w = atom_accepts a w
+accepted_by (Relation c) w = atom_accepts c.atom w
 accepted_by (Normal a) w = atom_accepts a w
 accepted_by (Is l) w = term_accepts l (first_tree l) w
+
+abbrev pub entries_of : AtomLabels → List Entry
+entries_of (Relation c) = c.entries
+entries_of (Normal a) = []
+entries_of (Is l) = []
 
 -- two optional tuples over the signature have one label exactly where they are alike at the atom
 abbrev pub TellsAlike : Signature → Atom → AtomLabels → Type 0
@@ -80,11 +87,11 @@ AcceptsTerm sig term l = (t : Tuple) → IsTuple sig 1 t → Decides (accepted_b
 
 -- the first word of a label is the presence, and all labels have one width
 pub TellsPresence-by : (l : AtomLabels) (sig : Signature) → TellsPresence sig (column_count l) (label_by l)
-TellsPresence-by (Relation a) sig = TellsPresence-rule sig (atom_rule a no_closure) (λ f ws. refl)
+TellsPresence-by (Relation c) sig = TellsPresence-rule sig (atom_rule c.atom (test_of c)) (λ f ws. refl)
 TellsPresence-by (Normal a) sig = TellsPresence-rule sig (atom_rule a no_closure) (λ f ws. refl)
 TellsPresence-by (Is l) sig = TellsPresence-rule sig (term_rule [] l) (λ f ws. refl)
 
 pub HasWidth-by : (l : AtomLabels) (sig : Signature) → HasWidth sig (column_count l) (label_by l) (word_count l)
-HasWidth-by (Relation a) sig = HasWidth-rule sig (atom_rule a no_closure) (suc (words_for (length (marks_of a)))) (λ f ws. length-row_of (marks_of a) (presence f) _)
+HasWidth-by (Relation c) sig = HasWidth-rule sig (atom_rule c.atom (test_of c)) (suc (words_for (length (marks_of c.atom)))) (λ f ws. length-row_of (marks_of c.atom) (presence f) _)
 HasWidth-by (Normal a) sig = HasWidth-rule sig (atom_rule a no_closure) (suc (words_for (length (marks_of a)))) (λ f ws. length-row_of (marks_of a) (presence f) _)
 HasWidth-by (Is l) sig = HasWidth-rule sig (term_rule [] l) 2 (λ f ws. refl)

@@ -3,7 +3,7 @@ use Rattle.std.specs.Prelude.{ℕ, ◌+◌, List, map, Bool, false, ◌&&◌, �
 use Rattle.fort_alike.specs.Atoms.{AtomKind}
 use Rattle.fort_alike.specs.Alike.{Fact, Same, Steps, StepsBelow, StepsInParallel, IsNormal, Goes, GoesStrictly, facts_of}
 use Rattle.fort_atom_labels.specs.ListedAtoms.{OfBoth}
-use Rattle.fort_atom_labels.specs.AtomRules.{place, all_kids, one_kid}
+use Rattle.fort_atom_labels.specs.AtomRules.{place, all_kids, one_kid, some_kid}
 use Rattle.fort_context_closure.specs.RowBits.{bit_of}
 
 -- the facts of a kind have the bits from this one on, in their order
@@ -16,5 +16,5 @@ fact_test bit equal root ws Steps = root || (equal && one_kid (bit Steps) (bit S
 fact_test bit equal root ws StepsBelow = equal && one_kid (bit Steps) (bit Same) ws
 fact_test bit equal root ws StepsInParallel = root || (equal && all_kids (bit StepsInParallel) ws)
 fact_test bit equal root ws IsNormal = false
-fact_test bit equal root ws Goes = false
-fact_test bit equal root ws GoesStrictly = false
+fact_test bit equal root ws Goes = root || (equal && all_kids (bit Goes) ws)
+fact_test bit equal root ws GoesStrictly = root || (equal && (all_kids (bit Goes) ws && some_kid (bit GoesStrictly) ws))

@@ -37,9 +37,10 @@ placed from none listed None ws p = false
 placed from none listed (Some f) ws Any = true
 placed from none listed (Some f) ws (At g ps) = (g == f) && all_placed from none listed ps ws
 
--- the left side at the first root, and the right side at the second, whose bits follow those of the left patterns
-abbrev pub pair_placed : (none : ℕ) (lefts rights : List Pattern) → (x y : Option ℕ) → List (List ℕ) → Pair → Bool
-pair_placed none lefts rights x y ws r = placed 0 none lefts x ws r.0 && placed (length lefts) none rights y ws r.1
+-- a rule from left to right, or backwards
+abbrev pub turned : Bool → Pair → Pair
+turned false pair = pair
+turned true pair = (pair.1, pair.0)
 
 -- the bits of a pair's sides in a label
 abbrev pub pair_has : (none : ℕ) (lefts rights : List Pattern) → List ℕ → Pair → Bool

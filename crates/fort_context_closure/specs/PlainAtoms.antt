@@ -1,4 +1,4 @@
--- To believe: an atom without its signature, whose labels are the same; a rule of labels that asks no closure; which label of an atom has which bits.
+-- To believe: an atom without its signature, whose labels are the same; a rule of labels that asks no closure.
 use Rattle.std.specs.Prelude.{◌≡◌, ℕ, List, [], map, length, ◌==◌, Bool, false}
 use Rattle.std.specs.List.{position_or_len}
 use Rattle.fort_theory.specs.Patterns.{Pattern, Pair, PatternSystem}
@@ -10,6 +10,8 @@ use Rattle.fort_tables.specs.LabelRules.{label_of}
 use Rattle.fort_alike.specs.Atoms.{Atom, NfKind, kind_for, relation_atom, normal_atom}
 use Rattle.fort_atom_labels.specs.ListedAtoms.{ListedAtom, listed, IsListedAtom}
 use Rattle.fort_atom_labels.specs.AtomRules.{atom_rule}
+use Rattle.fort_atom_labels.specs.ClosureTests.{IsClosure}
+use Rattle.fort_context_closure.specs.ClosedAtoms.{ClosedAtom, test_of}
 
 -- of the kinds of single steps, whose rule asks none
 abbrev pub no_closure : Pattern → Pattern → Bool
@@ -40,10 +42,12 @@ pub record IsNormalAtomOf (system : PatternSystem) (index : ℕ) (a : ListedAtom
   pub left_sides : map (λ (pair : Pair). pair.0) a.atom.pairs ≡ map (λ (pair : Pair). pair.0) (at_index index system.rules)
   pub is_listed : IsListedAtom (listed (normal_atom system index) a.lefts [])
 
--- the atom x REL y for the rules of an index, whichever list is that of its columns
-abbrev pub IsRelationAtomOf : PatternSystem → Rel → (index x y : ℕ) → ListedAtom → Type 0
-IsRelationAtomOf system rel index x y a =
-    (columns : List ℕ) → AreColumns (CoreAtom rel index x y) columns → IsAtomOf (relation_atom system rel index x y columns) a
+-- the atom x REL y for the rules of an index, whichever list is that of its columns, and a test of its closure
+abbrev pub IsRelationAtomOf : PatternSystem → Rel → (index x y : ℕ) → ClosedAtom → Type 0
+IsRelationAtomOf system rel index x y c =
+    (columns : List ℕ) → AreColumns (CoreAtom rel index x y) columns
+    → IsAtomOf (relation_atom system rel index x y columns) c.atom
+    × IsClosure (listed (relation_atom system rel index x y columns) c.atom.lefts c.atom.rights) (test_of c)
 
 -- a listed atom of these rules and patterns, whichever list is that of its columns
 pub record IsOfRules (rel : Rel) (x y : ℕ) (pairs : List Pair) (lefts rights : List Pattern) (a : ListedAtom) : Type 0 where

@@ -1,5 +1,5 @@
 -- Inside: what the fields of the bits of a relation stand for.
-use Rattle.std.specs.Prelude.{◌≡◌, ◌<◌, ◌^◌, List, [], map, length, false}
+use Rattle.std.specs.Prelude.{◌≡◌, ◌<◌, ◌^◌, List, [], map, length, true}
 use Rattle.fort_theory.specs.Patterns.{Pattern}
 use Rattle.fort_terms.specs.PatternView.{as_pattern}
 use Rattle.fort_formulas.specs.CoreView.{as_rel}
@@ -10,6 +10,8 @@ use Rattle.fort_atom_labels.specs.AtomRules.{marks_of}
 use Rattle.fort_atom_labels.proofs.BitPlaces.{NoneTwice}
 use Rattle.fort_context_closure.specs.NumberedView.{AreNumbersOf}
 use Rattle.fort_context_closure.specs.RulePlaces.{pair_at, AreWithin}
+use Rattle.fort_context_closure.specs.ClosedAtoms.{ClosedAtom, numbers_of}
+use Rattle.fort_context_closure.specs.ReachRows.{IsReach, NoPatternTwice}
 use Rattle.fort_context_closure.specs.declared.relation.RelationBits.TheInside.{Inside}
 
 abbrev pub left_patterns : Inside → List Pattern
@@ -19,8 +21,8 @@ abbrev pub right_patterns : Inside → List Pattern
 right_patterns b = map as_pattern b.right_patterns.items
 
 -- the pairs are read off the places of their sides
-abbrev pub atom_seen : Inside → ListedAtom
-atom_seen b = listed (record {
+abbrev pub listed_seen : Inside → ListedAtom
+listed_seen b = listed (record {
   signature = [];
   columns = b.arguments.columns;
   first = b.arguments.first;
@@ -29,12 +31,18 @@ atom_seen b = listed (record {
   pairs = map (pair_at (left_patterns b) (right_patterns b)) b.rules.items;
 }) (left_patterns b) (right_patterns b)
 
+abbrev pub atom_seen : Inside → ClosedAtom
+atom_seen b = record { atom = listed_seen b; entries = b.closed.entries.items }
+
 pub record IsRelation (b : Inside) : Type 0 where
   pub left_numbers : AreNumbersOf (left_patterns b) b.lefts.items
   pub right_numbers : AreNumbersOf (right_patterns b) b.rights.items
   pub left_few : length b.left_patterns.items < 2 ^ 32
   pub right_few : length b.right_patterns.items < 2 ^ 32
   pub within : AreWithin (left_patterns b) (right_patterns b) b.rules.items
-  pub once : NoneTwice (marks_of (atom_seen b))
-  pub plain : is_reaching (kind_for (as_rel b.rel)) ≡ false
+  pub once : NoneTwice (marks_of (listed_seen b))
+  pub left_once : NoPatternTwice (left_patterns b)
+  pub right_once : NoPatternTwice (right_patterns b)
+  pub reaching : is_reaching (kind_for (as_rel b.rel)) ≡ true
+      → IsReach (length (left_patterns b)) (length (right_patterns b)) (numbers_of b.closed.entries.items) b.reach
   pub arguments : AreArguments b.arguments.columns b.arguments.first b.arguments.second

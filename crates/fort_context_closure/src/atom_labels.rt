@@ -1,20 +1,21 @@
 //! The labels of an atom, whichever it is.
-ghost use Rattle.std.specs.Prelude.{◌≡◌, ℕ, List, [], ◌∷◌, length, false, All, IfOk};
-ghost use Rattle.fort_theory.specs.Sides.{IsIndexOf};
+ghost use Rattle.std.specs.Prelude.{◌≡◌, ℕ, List, [], ◌∷◌, length, All, IfOk};
+ghost use Rattle.fort_theory.specs.Sides.{IsIndexOf, at_index};
 ghost use Rattle.fort_theory.specs.Sides as sides;
 ghost use Rattle.fort_theory.specs.Patterns.{pattern_system};
 ghost use Rattle.fort_theory.specs.Signatures as theory;
 ghost use Rattle.fort_logic.specs.Cores as cores;
 ghost use Rattle.fort_logic.specs.Parts as parts;
 ghost use Rattle.fort_formulas.specs.CoreView.{as_rel};
-ghost use Rattle.fort_alike.specs.Atoms.{kind_for, relation_atom, normal_atom};
-ghost use Rattle.fort_alike.specs.Alike.{is_reaching};
+ghost use Rattle.fort_alike.specs.Atoms.{relation_atom, normal_atom};
+ghost use Rattle.fort_context_closure.specs.ClosedAtoms.{ListsClosureFor, ListsPasses};
 
 use crate::normal::NormalBits;
 use crate::relation::RelationBits;
 use crate::term_labels::TermLabels;
 use fort_explore::{Labeller, Rows};
 use fort_formulas::Rel;
+use fort_gtt_closure::{Closed, Entry};
 use fort_lockstep::Row;
 use fort_terms::{Memory, System, Term};
 use std::alloc::Global;
@@ -31,10 +32,10 @@ pub enum AtomLabels {
 }
 
 impl AtomLabels {
-    ghost use Rattle.fort_context_closure.specs.AtomLabelsView.{column_count, TellsAlike, AcceptsTrue, AcceptsRelated, AcceptsNormal, AcceptsMet, TellsAlikeAtTerm, AcceptsTerm};
+    ghost use Rattle.fort_context_closure.specs.AtomLabelsView.{column_count, entries_of, TellsAlike, AcceptsTrue, AcceptsRelated, AcceptsNormal, AcceptsMet, TellsAlikeAtTerm, AcceptsTerm};
 
     /// The labels of "x is related to y". The columns stand in the order of the variables' numbers; there is one where both are one
-    /// variable. So far for the relations of single steps.
+    /// variable.
     pub fn atom(
         alloc: Global,
         system: &System,
@@ -44,7 +45,6 @@ impl AtomLabels {
         y: u32,
     ) -> Result<AtomLabels, Memory>
         requires index { IsIndexOf system.now.rules index }
-        requires single { is_reaching (kind_for (as_rel rel)) ≡ false }
         ensures columns { IfOk result (λ l. (columns : List ℕ)
             → parts.AreColumns (cores.Atom (as_rel rel) index x y) columns
             → column_count l ≡ length columns) }
@@ -63,8 +63,57 @@ impl AtomLabels {
             → system.now ≡ pattern_system s → All (All sides.IsLinearSeparated) s.rules
             → parts.AreColumns (cores.Atom (as_rel rel) index x y) columns
             → AcceptsMet s (cores.Atom (as_rel rel) index x y) columns l) }
+        ensures closure { IfOk result (λ l. ListsPasses (as_rel rel)
+            (at_index index system.now.rules) (entries_of l)) }
     {
         Ok(AtomLabels::Relation(RelationBits::new(alloc, system, index, rel, x, y)?))
+    }
+
+    /// The same, by a closure that is handed in. It serves where the entries list exactly the closure of the rules.
+    pub fn atom_with_closure(
+        alloc: Global,
+        system: &System,
+        index: u32,
+        rel: Rel,
+        x: u32,
+        y: u32,
+        closed: Closed,
+    ) -> Result<AtomLabels, Memory>
+        requires index { IsIndexOf system.now.rules index }
+        requires listed { ListsClosureFor system.now (as_rel rel) index closed.entries.items }
+        ensures columns { IfOk result (λ l. (columns : List ℕ)
+            → parts.AreColumns (cores.Atom (as_rel rel) index x y) columns
+            → column_count l ≡ length columns) }
+        ensures alike { IfOk result (λ l. (columns : List ℕ)
+            → parts.AreColumns (cores.Atom (as_rel rel) index x y) columns
+            → TellsAlike system.now.signature
+            (relation_atom system.now (as_rel rel) index x y columns) l) }
+        ensures accepted { IfOk result (λ l. (columns : List ℕ)
+            → parts.AreColumns (cores.Atom (as_rel rel) index x y) columns
+            → AcceptsTrue system.now.signature
+            (relation_atom system.now (as_rel rel) index x y columns) l) }
+        ensures related { IfOk result (λ l. (columns : List ℕ)
+            → parts.AreColumns (cores.Atom (as_rel rel) index x y) columns
+            → AcceptsRelated system.now (as_rel rel) index x y columns l) }
+        ensures truth { IfOk result (λ l. (s : sides.System) (columns : List ℕ)
+            → system.now ≡ pattern_system s → All (All sides.IsLinearSeparated) s.rules
+            → parts.AreColumns (cores.Atom (as_rel rel) index x y) columns
+            → AcceptsMet s (cores.Atom (as_rel rel) index x y) columns l) }
+        ensures closure { IfOk result (λ l. entries_of l ≡ closed.entries.items) }
+    {
+        Ok(AtomLabels::Relation(RelationBits::with_closure(
+            alloc, system, index, rel, x, y, closed,
+        )?))
+    }
+
+    /// The entries of the rules' closure by which a reduction or a conversion is told, in their order; none of the other labels.
+    pub fn closure(&self) -> &[Entry]
+        ensures { result.now ≡ entries_of self.now }
+    {
+        match self {
+            AtomLabels::Relation(bits) => bits.closure(),
+            AtomLabels::Normal(_) | AtomLabels::Is(_) => &[],
+        }
     }
 
     /// The labels of "the variable is a normal form", of one column.

@@ -1,6 +1,6 @@
 //! The bits of a label behind its first word, in the row that is written and in the labels of the children.
 ghost use Rattle.std.specs.Prelude.{◌≡◌, ℕ, ◌+◌, ◌*◌, ◌<◌, ◌≤◌, ◌^◌, List, [], ◌∷◌, ◌++◌, Bool, length, drop, ◌-◌, ◌&&◌, slice_index_or};
-ghost use Rattle.fort_atom_labels.specs.AtomRules.{all_kids, one_kid, same_roots as same_roots_lem, is_there as is_there_lem};
+ghost use Rattle.fort_atom_labels.specs.AtomRules.{all_kids, one_kid, some_kid, same_roots as same_roots_lem, is_there as is_there_lem};
 ghost use Rattle.fort_lockstep.specs.Columns.{as_column};
 ghost use Rattle.fort_context_closure.specs.RowBits.{HasBits, IsRow, bit_of, labels_at};
 
@@ -112,6 +112,22 @@ pub(crate) fn one_has(bit: usize, other: usize, row: &Row, rows: &Rows) -> bool
         }
         if !has_mark(rows.label(kids[j]), other) {
             return false;
+        }
+    }
+    false
+}
+
+/// Whether some child has the bit.
+pub(crate) fn some_has(bit: usize, row: &Row, rows: &Rows) -> bool
+    requires bit { bit < 2 ^ 63 }
+    requires within { (j : ℕ) → j < length row.now.kids
+        → slice_index_or row.now.kids j 0 < length rows.now.labels }
+    ensures { result ≡ some_kid (bit_of bit) (labels_at rows.now.labels row.now.kids) }
+{
+    let kids = row.kids();
+    for j in 0..kids.len() {
+        if has_mark(rows.label(kids[j]), bit) {
+            return true;
         }
     }
     false

@@ -1,13 +1,13 @@
 //! The facts of an atom on its two arguments, at a node.
-ghost use Rattle.std.specs.Prelude.{◌≡◌, ℕ, ◌+◌, ◌*◌, ◌-◌, ◌<◌, ◌≤◌, ◌^◌, List, ◌++◌, map, Bool, false, ◌&&◌, length, slice_index_or};
-ghost use Rattle.fort_atom_labels.specs.AtomRules.{all_kids, one_kid};
+ghost use Rattle.std.specs.Prelude.{◌≡◌, ℕ, ◌+◌, ◌*◌, ◌-◌, ◌<◌, ◌≤◌, ◌^◌, List, ◌++◌, map, Bool, ◌&&◌, length, slice_index_or};
+ghost use Rattle.fort_atom_labels.specs.AtomRules.{all_kids, one_kid, some_kid};
 ghost use Rattle.fort_alike.specs.Atoms.{kind_for};
-ghost use Rattle.fort_alike.specs.Alike.{is_reaching, facts_of};
+ghost use Rattle.fort_alike.specs.Alike.{facts_of};
 ghost use Rattle.fort_formulas.specs.CoreView.{as_rel};
 ghost use Rattle.fort_context_closure.specs.RowBits.{HasBits, bit_of, labels_at};
 ghost use Rattle.fort_context_closure.specs.FactTests.{fact_bit, fact_test};
 
-use crate::bits::{all_have, one_has, put_mark};
+use crate::bits::{all_have, one_has, put_mark, some_has};
 use fort_explore::Rows;
 use fort_formulas::Rel;
 use fort_lockstep::Row;
@@ -47,6 +47,18 @@ fn one_under(equal: bool, bit: usize, other: usize, row: &Row, rows: &Rows) -> b
     equal && one_has(bit, other, row, rows)
 }
 
+/// Whether the roots are one symbol, all children have the first bit, and some child has the other one.
+fn some_under(equal: bool, bit: usize, other: usize, row: &Row, rows: &Rows) -> bool
+    requires bit { bit < 2 ^ 63 }
+    requires other { other < 2 ^ 63 }
+    requires within { (j : ℕ) → j < length row.now.kids
+        → slice_index_or row.now.kids j 0 < length rows.now.labels }
+    ensures { result ≡ (equal && (all_kids (bit_of bit) (labels_at rows.now.labels row.now.kids)
+        && some_kid (bit_of other) (labels_at rows.now.labels row.now.kids))) }
+{
+    equal && (all_have(bit, row, rows) && some_has(other, row, rows))
+}
+
 /// Writes the facts at a node, from bit `base` on: `equal` tells whether the roots are one symbol, `root` whether there is a root
 /// step.
 pub(crate) fn write_facts(
@@ -58,7 +70,6 @@ pub(crate) fn write_facts(
     rows: &Rows,
     out: &mut [u64],
 )
-    requires kind { is_reaching (kind_for (as_rel rel)) ≡ false }
     requires small { base < 2 ^ 62 }
     requires room { base + length (facts_of (kind_for (as_rel rel)))
         ≤ 64 * (length out.old - 1) }
@@ -82,7 +93,14 @@ pub(crate) fn write_facts(
             put_mark(out, base + 1, root | below);
             put_mark(out, base + 2, below);
         }
-        Rel::Par => put_mark(out, base, root | all_under(equal, base, row, rows)),
-        Rel::Plus | Rel::Star | Rel::Conv => unreachable!(),
+        Rel::Par | Rel::Star | Rel::Conv => {
+            put_mark(out, base, root | all_under(equal, base, row, rows));
+        }
+        Rel::Plus => {
+            let goes = all_under(equal, base, row, rows);
+            put_mark(out, base, root | goes);
+            let strictly = some_under(equal, base, base + 1, row, rows);
+            put_mark(out, base + 1, root | strictly);
+        }
     }
 }

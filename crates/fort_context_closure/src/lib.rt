@@ -4,13 +4,17 @@
 mod arguments;
 mod atom_labels;
 mod bits;
+mod closure;
 mod facts;
 pub mod local;
 mod local_terms;
 mod nodes;
 mod normal;
 mod numbered;
+mod reach;
+mod reached;
 mod relation;
+mod rule_list;
 mod rule_places;
 mod side_places;
 mod term_labels;

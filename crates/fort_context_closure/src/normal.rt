@@ -31,9 +31,9 @@ impl Model for NormalBits {
 
     ghost Value = { ListedAtom };
 
-    ghost use Rattle.fort_context_closure.specs.AtomCode.{atom_code};
+    ghost use Rattle.fort_context_closure.specs.AtomCode.{listed_code};
 
-    ghost coded = { atom_code };
+    ghost coded = { listed_code };
 
     ghost view = { normal_seen };
 

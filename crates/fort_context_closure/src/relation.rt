@@ -1,10 +1,9 @@
 //! The labels of an atom that relates two terms, by bits.
-ghost use Rattle.std.specs.Prelude.{◌≡◌, ℕ, ◌+◌, ◌*◌, ◌-◌, ◌<◌, ◌≤◌, ◌^◌, suc, List, [], ◌++◌, map, Bool, false, length, slice_index_or, IfOk};
-ghost use Rattle.fort_theory.specs.Sides.{IsIndexOf};
+ghost use Rattle.std.specs.Prelude.{◌≡◌, ℕ, ◌+◌, ◌*◌, ◌-◌, ◌<◌, ◌≤◌, ◌^◌, suc, List, [], ◌++◌, map, Bool, true, length, slice_index_or, IfOk};
+ghost use Rattle.fort_theory.specs.Sides.{IsIndexOf, at_index};
 ghost use Rattle.fort_theory.specs.PatternOrder.{AreSubpatternsInOrder};
 ghost use Rattle.fort_logic.specs.Cores as cores;
 ghost use Rattle.fort_logic.specs.Parts as parts;
-ghost use Rattle.fort_terms.specs.PatternView.{as_pair, as_pattern};
 ghost use Rattle.fort_formulas.specs.CoreView.{as_rel};
 ghost use Rattle.fort_tables.specs.BitRows.{words_for};
 ghost use Rattle.fort_tables.specs.LabelRules.{entry_label};
@@ -15,21 +14,32 @@ ghost use Rattle.fort_atom_labels.specs.ListedAtoms.{AreArguments};
 ghost use Rattle.fort_atom_labels.specs.AtomRules.{marks_of, atom_rule, atom_accepts};
 ghost use Rattle.fort_atom_labels.specs.PatternNumbers.{number_inside};
 ghost use Rattle.fort_context_closure.specs.RowBits.{HasBits, labels_at};
-ghost use Rattle.fort_context_closure.specs.PlainAtoms.{no_closure, IsRelationAtomOf, IsOfRules};
+ghost use Rattle.fort_context_closure.specs.PlainAtoms.{IsRelationAtomOf, IsOfRules};
+ghost use Rattle.fort_context_closure.specs.ClosedAtoms.{ListsClosureFor, ListsPasses, numbers_of, pattern_bits, test_of};
+ghost use Rattle.fort_context_closure.specs.Closures.{IsClosureOf};
+ghost use Rattle.fort_context_closure.specs.ReachRows.{IsReach};
+ghost use Rattle.fort_context_closure.specs.RuleLists.{ListsRules};
+ghost use Rattle.fort_terms.specs.PatternView.{as_pair, as_pattern};
 
 use crate::arguments::{Arguments, arguments_of};
 use crate::bits::{clear, has_mark, put_first, same_roots};
+use crate::closure::closure_of;
 use crate::facts::{fact_count, write_facts};
 use crate::numbered::{Numbered, number_patterns, write_inside};
+use crate::reach::{Reach, reach_of};
+use crate::reached::{Node, add_reached};
+use crate::rule_list::{RuleList, rules_of};
 use crate::rule_places::{RulePlaces, places_of_rules, some_rule};
 use fort_explore::Rows;
 use fort_formulas::Rel;
+use fort_gtt_closure::{Closed, Entry};
 use fort_lockstep::Row;
-use fort_terms::{Memory, Pattern, System};
+use fort_terms::{Memory, Pattern, Sym, System};
 use std::alloc::Global;
 use std::marker::Model;
 
-/// The bits of the labels of an atom that relates two terms. It is seen as the atom, without its signature, which no label reads.
+/// The bits of the labels of an atom that relates two terms. It is seen as the atom, without its signature, which no label reads, and
+/// the entries of the closure that its labels go by.
 #[derive(Drop)]
 pub struct RelationBits {
     rel: Rel,
@@ -40,13 +50,15 @@ pub struct RelationBits {
     lefts: Vec<Numbered>,
     rights: Vec<Numbered>,
     rules: Vec<RulePlaces>,
+    reach: Reach,
+    closed: Closed,
 }
 
 impl Model for RelationBits {
-    ghost use Rattle.fort_atom_labels.specs.ListedAtoms.{ListedAtom};
+    ghost use Rattle.fort_context_closure.specs.ClosedAtoms.{ClosedAtom};
     ghost use Rattle.fort_context_closure.specs.RelationView.{atom_seen, IsRelation};
 
-    ghost Value = { ListedAtom };
+    ghost Value = { ClosedAtom };
 
     ghost use Rattle.fort_context_closure.specs.AtomCode.{atom_code};
 
@@ -58,7 +70,7 @@ impl Model for RelationBits {
 }
 
 impl RelationBits {
-    /// An equation has no rules and no patterns.
+    /// By the closure that the rules have.
     pub(crate) fn new(
         alloc: Global,
         system: &System,
@@ -67,67 +79,87 @@ impl RelationBits {
         x: u32,
         y: u32,
     ) -> Result<RelationBits, Memory>
-        requires index { IsIndexOf system.now.rules index }
-        requires plain { is_reaching (kind_for (as_rel rel)) ≡ false }
-        ensures { IfOk result (IsRelationAtomOf system.now (as_rel rel) index x y) }
+        requires { IsIndexOf system.now.rules index }
+        ensures atom { IfOk result (IsRelationAtomOf system.now (as_rel rel) index x y) }
+        ensures passes { IfOk result (λ c. ListsPasses (as_rel rel)
+            (at_index index system.now.rules) c.entries) }
     {
         // A system keeps to the law of systems.
         let _lawful = system.signature();
-        match rel {
-            Rel::Eq => {
-                let none: &[(Pattern, Pattern)] = &[];
-                RelationBits::of_rules(alloc, rel, x, y, Vec::new(alloc), Vec::new(alloc), none)
-            }
-            _ => {
-                let lefts = system.left_patterns(alloc, index)?;
-                let rights = system.right_patterns(alloc, index)?;
-                RelationBits::of_rules(alloc, rel, x, y, lefts, rights, system.rules(index))
-            }
-        }
+        let list = rules_of(alloc, system, index, rel)?;
+        let closed = closure_for(alloc, rel, &list)?;
+        RelationBits::of_rules(alloc, rel, x, y, list, closed)
     }
 
-    /// By the patterns of the rules' sides.
+    /// By a closure that is handed in.
+    pub(crate) fn with_closure(
+        alloc: Global,
+        system: &System,
+        index: u32,
+        rel: Rel,
+        x: u32,
+        y: u32,
+        closed: Closed,
+    ) -> Result<RelationBits, Memory>
+        requires index { IsIndexOf system.now.rules index }
+        requires listed { ListsClosureFor system.now (as_rel rel) index closed.entries.items }
+        ensures atom { IfOk result (IsRelationAtomOf system.now (as_rel rel) index x y) }
+        ensures entries { IfOk result (λ c. c.entries ≡ closed.entries.items) }
+    {
+        // A system keeps to the law of systems.
+        let _lawful = system.signature();
+        let list = rules_of(alloc, system, index, rel)?;
+        RelationBits::of_rules(alloc, rel, x, y, list, closed)
+    }
+
+    /// By rules, the patterns of their sides, and a closure.
     fn of_rules(
         alloc: Global,
         rel: Rel,
         x: u32,
         y: u32,
-        lefts: Vec<Pattern>,
-        rights: Vec<Pattern>,
-        rules: &[(Pattern, Pattern)],
+        list: RuleList,
+        closed: Closed,
     ) -> Result<RelationBits, Memory>
-        requires plain { is_reaching (kind_for (as_rel rel)) ≡ false }
-        requires left_order { AreSubpatternsInOrder
-            (map (λ pair. pair.0) (map as_pair rules.now)) (map as_pattern lefts.items) }
-        requires right_order { AreSubpatternsInOrder
-            (map (λ pair. pair.1) (map as_pair rules.now)) (map as_pattern rights.items) }
-        ensures { IfOk result (IsOfRules (as_rel rel) x y (map as_pair rules.now)
-            (map as_pattern lefts.items) (map as_pattern rights.items)) }
+        requires { ListsRules (map as_pair list.rules.items) list }
+        ensures { IfOk result (λ c. IsOfRules (as_rel rel) x y (map as_pair list.rules.items)
+            (map as_pattern list.lefts.items) (map as_pattern list.rights.items) c.atom
+            × (c.entries ≡ closed.entries.items)) }
     {
-        let numbered_lefts = number_patterns(alloc, &lefts)?;
-        let numbered_rights = number_patterns(alloc, &rights)?;
-        let places = places_of_rules(alloc, rules, &lefts, &rights)?;
+        let lefts = number_patterns(alloc, &list.lefts)?;
+        let rights = number_patterns(alloc, &list.rights)?;
+        let rules = places_of_rules(alloc, &list.rules, &list.lefts, &list.rights)?;
+        let reach = reach_for(alloc, rel, lefts.len(), rights.len(), &closed)?;
         Ok(RelationBits {
             rel,
             arguments: arguments_of(x, y),
-            left_patterns: lefts,
-            right_patterns: rights,
-            lefts: numbered_lefts,
-            rights: numbered_rights,
-            rules: places,
+            left_patterns: list.lefts,
+            right_patterns: list.rights,
+            lefts,
+            rights,
+            rules,
+            reach,
+            closed,
         })
+    }
+
+    /// The entries of the closure, with their reasons.
+    pub(crate) fn closure(&self) -> &[Entry]
+        ensures { result.now ≡ self.now.entries }
+    {
+        &self.closed.entries
     }
 
     /// How many bits the patterns and facts have.
     fn mark_count(&self) -> usize
-        ensures count { result ≡ length (marks_of self.now) }
+        ensures count { result ≡ length (marks_of self.now.atom) }
         ensures few { result < 2 ^ 34 }
     {
         self.lefts.len() + self.rights.len() + fact_count(self.rel)
     }
 
     pub(crate) fn columns(&self) -> usize
-        ensures count { result ≡ self.now.atom.columns }
+        ensures count { result ≡ self.now.atom.atom.columns }
         ensures some { 0 < result }
         ensures narrow { result ≤ 2 }
     {
@@ -136,25 +168,24 @@ impl RelationBits {
 
     /// The number of words.
     pub(crate) fn width(&self) -> usize
-        ensures { result ≡ suc (words_for (length (marks_of self.now))) }
+        ensures { result ≡ suc (words_for (length (marks_of self.now.atom))) }
     {
         1 + (self.mark_count() + 63) / 64
     }
 
     /// The label of an entry over states with these labels.
     pub(crate) fn step(&self, row: &Row, rows: &Rows, out: &mut [u64])
-        requires columns { length row.now.symbol ≡ self.now.atom.columns }
+        requires columns { length row.now.symbol ≡ self.now.atom.atom.columns }
         requires within { (j : ℕ) → j < length row.now.kids
             → slice_index_or row.now.kids j 0 < length rows.now.labels }
-        requires room { length out.old ≡ suc (words_for (length (marks_of self.now))) }
-        ensures { out.new ≡ entry_label (atom_rule self.now no_closure) rows.now.labels row.now }
+        requires room { length out.old ≡ suc (words_for (length (marks_of self.now.atom))) }
+        ensures { out.new ≡ entry_label (atom_rule self.now.atom (test_of self.now))
+            rows.now.labels row.now }
     {
-        clear(out);
         let first = row.sym().symbol(self.arguments.first);
         let second = row.sym().symbol(self.arguments.second);
+        self.write_patterns(first, second, row, rows, out);
         let right_base = self.lefts.len();
-        write_inside(&self.lefts, 0, first, row, rows, out);
-        write_inside(&self.rights, right_base, second, row, rows, out);
         let root = some_rule(&self.rules, right_base, out);
         let base = right_base + self.rights.len();
         write_facts(
@@ -169,18 +200,95 @@ impl RelationBits {
         put_first(out, row.presence() as u64);
     }
 
+    /// Writes the bits of the patterns at a node with these roots.
+    fn write_patterns(
+        &self,
+        first: Option<Sym>,
+        second: Option<Sym>,
+        row: &Row,
+        rows: &Rows,
+        out: &mut [u64],
+    )
+        requires within { (j : ℕ) → j < length row.now.kids
+            → slice_index_or row.now.kids j 0 < length rows.now.labels }
+        requires room { length out.old ≡ suc (words_for (length (marks_of self.now.atom))) }
+        ensures { HasBits (pattern_bits self.now (as_column first) (as_column second)
+            (labels_at rows.now.labels row.now.kids)) out.new }
+    {
+        clear(out);
+        let right_base = self.lefts.len();
+        write_inside(&self.lefts, 0, first, row, rows, out);
+        write_inside(&self.rights, right_base, second, row, rows, out);
+        if !is_reduction(self.rel) {
+            return;
+        }
+        let node = Node { first, second };
+        add_reached(
+            &self.lefts,
+            &self.rights,
+            &self.reach,
+            &self.rules,
+            node,
+            row,
+            rows,
+            out,
+        );
+    }
+
     /// Whether the relation holds of the terms whose label this is.
     pub(crate) fn accepts(&self, label: &[u64]) -> bool
-        ensures { result ≡ atom_accepts self.now label.now }
+        ensures { result ≡ atom_accepts self.now.atom label.now }
     {
         let right_base = self.lefts.len();
         let base = right_base + self.rights.len();
         match self.rel {
             Rel::Root => some_rule(&self.rules, right_base, label),
-            Rel::Eq | Rel::Par => has_mark(label, base),
-            Rel::Step => has_mark(label, base + 1),
+            Rel::Eq | Rel::Par | Rel::Star | Rel::Conv => has_mark(label, base),
+            Rel::Step | Rel::Plus => has_mark(label, base + 1),
             Rel::Below => has_mark(label, base + 2),
-            Rel::Plus | Rel::Star | Rel::Conv => unreachable!(),
         }
     }
+}
+
+/// Whether the relation is about reductions.
+fn is_reduction(rel: Rel) -> bool
+    ensures { result ≡ is_reaching (kind_for (as_rel rel)) }
+{
+    matches!(rel, Rel::Plus | Rel::Star | Rel::Conv)
+}
+
+/// The closure of the rules where the relation is about reductions.
+fn closure_for(alloc: Global, rel: Rel, list: &RuleList) -> Result<Closed, Memory>
+    requires { ListsRules (map as_pair list.now.rules.items) list.now }
+    ensures { IfOk result (λ closed. is_reaching (kind_for (as_rel rel)) ≡ true
+        → IsClosureOf list.now closed.entries.items) }
+{
+    if !is_reduction(rel) {
+        return Ok(Closed {
+            entries: Vec::new(alloc),
+        });
+    }
+    closure_of(alloc, list)
+}
+
+/// The closure's rows where the relation is about reductions.
+fn reach_for(
+    alloc: Global,
+    rel: Rel,
+    lefts: usize,
+    rights: usize,
+    closed: &Closed,
+) -> Result<Reach, Memory>
+    requires left { lefts < 2 ^ 32 }
+    requires right { rights < 2 ^ 32 }
+    ensures { IfOk result (λ reach. is_reaching (kind_for (as_rel rel)) ≡ true
+        → IsReach lefts rights (numbers_of closed.now.entries.items) reach) }
+{
+    if !is_reduction(rel) {
+        return Ok(Reach {
+            firsts: Vec::new(alloc),
+            seconds: Vec::new(alloc),
+        });
+    }
+    reach_of(alloc, lefts, rights, &closed.entries)
 }

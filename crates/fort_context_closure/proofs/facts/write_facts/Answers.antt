@@ -1,7 +1,7 @@
-use Rattle.std.proofs.Common.{List, ◌++◌, Bool, subst, arith, ◌+◌, ◌||◌, [], ◌∷◌}
+use Rattle.std.proofs.Common.{List, ◌++◌, Bool, subst, arith, inl, inr, ◌+◌, ◌||◌, [], ◌∷◌}
 use Rattle.fort_context_closure.specs.RowBits.{HasBits, labels_at}
 use Rattle.fort_context_closure.proofs.RowBitLaws.{HasBits-two, HasBits-three, length-pushed}
-use Rattle.fort_context_closure.proofs.FactLaws.{facts-Step, facts-Below, facts-Par}
+use Rattle.fort_context_closure.proofs.FactLaws.{facts-Step, facts-Below, facts-Par, facts-Star, facts-Plus}
 use Rattle.fort_context_closure.proofs.facts.write_facts.Goals as goal
 
 pub returns-in-Step : goal.returns-in-Step
@@ -29,6 +29,20 @@ returns-in-Below c bits l h =
 pub returns-in-Par : goal.returns-in-Par
 returns-in-Par c bits l h =
     let ws = labels_at c.args.rows.now.labels c.args.row.now.kids in
-    rw c.in-Par.is
-    (subst (λ (bs : List Bool). HasBits (bits ++ bs) c.put_mark-in-Par.new.out) (facts-Par c.args.base c.args.equal c.args.root ws _ c.all_under-in-Par.ensures)
-    (c.put_mark-in-Par.ensures bits l h))
+    let put = c.put_mark-in-Par.ensures bits l h in
+    elim c.in-Par.is [
+      | inl e ↦ rw e (subst (λ (bs : List Bool). HasBits (bits ++ bs) c.put_mark-in-Par.new.out) (facts-Par c.args.base c.args.equal c.args.root ws _ c.all_under-in-Par.ensures) put)
+      | inr m ↦ elim m [
+        | inl e ↦ rw e (subst (λ (bs : List Bool). HasBits (bits ++ bs) c.put_mark-in-Par.new.out) (facts-Star c.args.base c.args.equal c.args.root ws _ c.all_under-in-Par.ensures) put)
+        | inr e ↦ rw e (subst (λ (bs : List Bool). HasBits (bits ++ bs) c.put_mark-in-Par.new.out) (facts-Star c.args.base c.args.equal c.args.root ws _ c.all_under-in-Par.ensures) put)
+      ]
+    ]
+
+pub returns-in-Plus : goal.returns-in-Plus
+returns-in-Plus c bits l h =
+    let ws = labels_at c.args.rows.now.labels c.args.row.now.kids in
+    rw c.in-Plus.is
+    (subst (λ (bs : List Bool). HasBits (bits ++ bs) c.put_mark-in-Plus-2.new.out)
+    (facts-Plus c.args.base c.args.equal c.args.root ws _ _ c.all_under-goes.ensures c.some_under-strictly.ensures)
+    (HasBits-two bits _ _ c.put_mark-in-Plus-2.new.out
+    (c.put_mark-in-Plus-2.ensures _ (length-pushed bits _ c.args.base l) (c.put_mark-in-Plus.ensures bits l h))))

@@ -1,3 +1,4 @@
+use Rattle.fort_context_closure.specs.PlainAtoms.{no_closure}
 use Rattle.std.proofs.Common.{◌≡◌, ℕ, suc, ◌+◌, List, [], ◌∷◌, ◌++◌, Bool, None, not, ◌&&◌, map, length, get_or, slice_get, refl, sym, ap, ◌∙◌, arith}
 use Rattle.std.proofs.lemmas.List.{length-map}
 use Rattle.std.proofs.lemmas.Option.{get_or_from_slice_get}
@@ -46,5 +47,5 @@ returns c sig =
     let room : length c.args.out.now ≡ suc (words_for (length (marks_of a))) = rw none_is at c.requires.room in
     let wide : length c.put_first.new.out ≡ suc (words_for (length (marks_of a))) =
     omega (arith, room, c.clear.auto.out, c.write_at.auto.out, c.put_mark.auto.out, c.put_first.auto.out) in
-    label-is a refl labels e c.put_first.new.out (firsts ++ on ∷ [])
-    (same ∙ (λ k. map (node_marks a refl (sym at_root k) (sym at_root k) ws) (marks_of a))) wide row
+    label-is a no_closure labels e c.put_first.new.out (firsts ++ on ∷ [])
+    (same ∙ (λ k. map (node_marks a no_closure (sym at_root k) (sym at_root k) ws) (marks_of a))) wide row

@@ -1,4 +1,4 @@
-use Rattle.std.proofs.Common.{◌≡◌, ℕ, suc, ◌+◌, List, [], ◌++◌, Bool, None, map, length, get_or, slice_get, refl, sym, ap, subst, ◌∙◌, arith}
+use Rattle.std.proofs.Common.{◌≡◌, ℕ, suc, ◌+◌, List, [], ◌++◌, Bool, ◌&&◌, None, map, length, get_or, slice_get, refl, sym, ap, subst, ◌∙◌, arith}
 use Rattle.std.proofs.lemmas.List.{length-map, length-append}
 use Rattle.std.proofs.lemmas.Option.{get_or_from_slice_get}
 use Rattle.fort_theory.specs.Patterns as theory
@@ -8,16 +8,19 @@ use Rattle.fort_tables.specs.Tuples.{TupleSymbol, presence}
 use Rattle.fort_tables.specs.BitRows.{words_for}
 use Rattle.fort_lockstep.specs.Columns.{as_column}
 use Rattle.fort_formulas.specs.CoreView.{as_rel}
-use Rattle.fort_alike.specs.Atoms.{kind_for}
-use Rattle.fort_alike.specs.Alike.{facts_of}
-use Rattle.fort_atom_labels.specs.AtomRules.{marks_of}
+use Rattle.fort_alike.specs.Atoms.{kind_for, pairs_for}
+use Rattle.fort_alike.specs.Alike.{facts_of, is_reaching}
+use Rattle.fort_atom_labels.specs.AtomRules.{marks_of, bit_in, any_pair, first_step, second_step, root_test}
+use Rattle.fort_atom_labels.specs.ClosureTests.{closure_test}
 use Rattle.fort_context_closure.specs.RowBits.{HasBits, IsRow, labels_at}
 use Rattle.fort_context_closure.specs.FactTests.{fact_bit, fact_test}
-use Rattle.fort_context_closure.specs.LocalAtoms.{placed, handed_in}
-use Rattle.fort_context_closure.specs.PlainAtoms.{no_closure}
+use Rattle.fort_context_closure.specs.LocalAtoms.{handed_in}
+use Rattle.fort_context_closure.specs.declared.local.Handed.{Handed}
+use Rattle.fort_context_closure.specs.HandedView.{first_by, second_by}
 use Rattle.fort_context_closure.proofs.NodeRowLaws.{node_marks, label-is}
 use Rattle.fort_context_closure.proofs.RelationLaws.{bits-are}
-use Rattle.fort_context_closure.proofs.LocalLaws.{length-marks_of, firsts-placed, seconds-placed, root-placed, first-within, second-within}
+use Rattle.fort_context_closure.proofs.LocalLaws.{length-marks_of, map-patterns, first-within, second-within}
+use Rattle.fort_context_closure.proofs.HandedLaws.{first_step-same, second_step-same}
 use Rattle.fort_context_closure.proofs.local.relation_label.Goals as goal
 
 pub symbol-requires : goal.symbol-requires
@@ -37,9 +40,9 @@ returns c sig columns are =
     let rel = as_rel c.args.rel in
     let ls : List theory.Pattern = map as_pattern c.args.left.now in
     let rs : List theory.Pattern = map as_pattern c.args.right.now in
-    let pairs : List theory.Pair = map as_pair c.args.rules.now in
+    let pairs : List theory.Pair = pairs_for rel (map as_pair c.args.rules.now) in
+    let closure = closure_test rs ls c.args.closure.now in
     let a = handed_in sig pairs rel c.args.x c.args.y ls rs columns in
-    let plain = c.requires.single in
     let labels : List (List ℕ) = c.args.rows.now.labels in
     let e = c.args.row.now in
     let ws : List (List ℕ) = labels_at labels e.kids in
@@ -49,30 +52,32 @@ returns c sig columns are =
     let left_size : length c.args.left.now ≡ length ls = sym (length-map c.args.left.now as_pattern) in
     let right_size : length c.args.right.now ≡ length rs = sym (length-map c.args.right.now as_pattern) in
     let none_is : none ≡ length (marks_of a) = omega (arith, left_size, right_size, c.fact_count.ensures, length-marks_of a) in
-    let f : Pattern → Bool = λ p. placed 0 none ls x ws (as_pattern p) in
-    let s : Pattern → Bool = λ p. placed (length ls) none rs y ws (as_pattern p) in
-    let firsts : List Bool = map f c.args.left.now in
-    let seconds : List Bool = map s c.args.right.now in
-    let firsts_are = firsts-placed a none none_is x y ws c.args.left.now refl in
-    let seconds_are = seconds-placed a none none_is x y ws c.args.right.now refl in
-    let one : HasBits firsts c.write_at.new.out = c.write_at.ensures [] refl c.clear.ensures in
-    let size : length firsts ≡ length c.args.left.now = length-map c.args.left.now f in
-    let two : HasBits (firsts ++ seconds) c.write_at-2.new.out =
-    subst (λ n. HasBits (firsts ++ map (λ p. placed n none rs y ws (as_pattern p)) c.args.right.now) c.write_at-2.new.out) left_size
-    (c.write_at-2.ensures firsts size one) in
+    let h : Handed = record { rel = c.args.rel; rules = c.args.rules; left = c.args.left; right = c.args.right; closure = c.args.closure; none = none } in
+    let b = is_reaching (kind_for rel) in
+    let firsts : List Bool = map (λ p. first_by h x ws (as_pattern p)) c.args.left.now in
+    let seconds : List Bool = map (λ p. second_by h y ws (as_pattern p)) c.args.right.now in
+    let firsts_are : firsts ≡ map (first_step b (bit_in a) pairs closure x ws) ls =
+    map-patterns (first_by h x ws) c.args.left.now ∙ (λ i. map (λ p. first_step-same h a refl refl none_is b pairs closure x ws p i) ls) in
+    let seconds_are : seconds ≡ map (second_step b (bit_in a) pairs closure y ws) rs =
+    map-patterns (second_by h y ws) c.args.right.now ∙ (λ i. map (λ p. second_step-same h a refl refl none_is b pairs closure y ws p i) rs) in
+    let one : HasBits firsts c.write_firsts.new.out = c.write_firsts.ensures [] refl c.clear.ensures in
+    let size : length firsts ≡ length c.args.left.now = length-map c.args.left.now (λ p. first_by h x ws (as_pattern p)) in
+    let two : HasBits (firsts ++ seconds) c.write_seconds.new.out = c.write_seconds.ensures firsts size one in
     let sizes : length (firsts ++ seconds) ≡ length c.args.left.now + length c.args.right.now =
-    omega (arith, size, length-append firsts seconds, length-map c.args.right.now s) in
+    omega (arith, size, length-append firsts seconds, length-map c.args.right.now (λ p. second_by h y ws (as_pattern p))) in
     let bases : length c.args.left.now + length c.args.right.now ≡ length ls + length rs = omega (arith, left_size, right_size) in
-    let root = c.some_rule_at-root.ensures ∙ root-placed a none none_is x y ws pairs no_closure in
+    let root : c.has_root-root.result ≡ root_test b (bit_in a) pairs closure x y ws =
+    c.has_root-root.ensures
+    ∙ (λ i. any_pair (λ r. first_step-same h a refl refl none_is b pairs closure x ws r.0 i && second_step-same h a refl refl none_is b pairs closure y ws r.1 i) pairs) in
     let bits : List Bool = (firsts ++ seconds)
-    ++ map (fact_test (fact_bit (kind_for rel) (length ls + length rs)) c.same_roots-equal.result c.some_rule_at-root.result ws) (facts_of (kind_for rel)) in
+    ++ map (fact_test (fact_bit (kind_for rel) (length ls + length rs)) c.same_roots-equal.result c.has_root-root.result ws) (facts_of (kind_for rel)) in
     let all : HasBits bits c.write_facts.new.out =
     subst
-    (λ n. HasBits ((firsts ++ seconds) ++ map (fact_test (fact_bit (kind_for rel) n) c.same_roots-equal.result c.some_rule_at-root.result ws) (facts_of (kind_for rel)))
+    (λ n. HasBits ((firsts ++ seconds) ++ map (fact_test (fact_bit (kind_for rel) n) c.same_roots-equal.result c.has_root-root.result ws) (facts_of (kind_for rel)))
     c.write_facts.new.out) bases (c.write_facts.ensures (firsts ++ seconds) sizes two) in
     let row : IsRow (presence e.symbol) bits c.put_first.new.out = rw c.presence.ensures at (c.put_first.ensures bits all) in
     let same =
-    bits-are sig rel plain a.atom.columns a.atom.first a.atom.second pairs ls rs x y ws c.same_roots-equal.result c.some_rule_at-root.result c.same_roots-equal.ensures root
+    bits-are sig rel a.atom.columns a.atom.first a.atom.second pairs ls rs closure x y ws c.same_roots-equal.result c.has_root-root.result c.same_roots-equal.ensures root
     firsts seconds firsts_are seconds_are in
     let of = c.arguments_of-arguments.ensures in
     let at_first : get_or e.symbol a.atom.first None ≡ x =
@@ -84,6 +89,6 @@ returns c sig columns are =
     let total : length c.args.left.now + length c.args.right.now + length (facts_of (kind_for rel)) ≡ length (marks_of a) = omega (arith, left_size, right_size, length-marks_of a) in
     let room : length c.args.out.now ≡ suc (words_for (length (marks_of a))) = rw total at c.requires.room in
     let wide : length c.put_first.new.out ≡ suc (words_for (length (marks_of a))) =
-    omega (arith, room, c.clear.auto.out, c.write_at.auto.out, c.write_at-2.auto.out, c.write_facts.auto.out, c.put_first.auto.out) in
-    label-is a plain labels e c.put_first.new.out bits
-    (same ∙ (λ k. map (node_marks a plain (sym at_first k) (sym at_second k) ws) (marks_of a))) wide row
+    omega (arith, room, c.clear.auto.out, c.write_firsts.auto.out, c.write_seconds.auto.out, c.write_facts.auto.out, c.put_first.auto.out) in
+    label-is a closure labels e c.put_first.new.out bits
+    (same ∙ (λ k. map (node_marks a closure (sym at_first k) (sym at_second k) ws) (marks_of a))) wide row

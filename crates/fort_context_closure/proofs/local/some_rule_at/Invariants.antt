@@ -1,12 +1,13 @@
 use Rattle.std.proofs.Common.{◌≡◌, map, drop}
-use Rattle.fort_terms.specs.PatternView.{as_pattern, as_pair}
+use Rattle.fort_terms.specs.PatternView.{as_pair}
 use Rattle.fort_lockstep.specs.Columns.{as_column}
 use Rattle.fort_atom_labels.specs.AtomRules.{any_pair}
-use Rattle.fort_context_closure.specs.LocalAtoms.{pair_placed}
+use Rattle.fort_context_closure.specs.HandedView.{rule_by}
+use Rattle.fort_context_closure.specs.LocalAtoms.{turned}
 use Rattle.fort_context_closure.specs.RowBits.{labels_at}
 use Rattle.fort_context_closure.proofs.local.some_rule_at.Given as goal
 
 abbrev pub invariant-loop-rule : goal.invariant-loop-rule
 invariant-loop-rule l =
-    let test = pair_placed l.none (map as_pattern l.left) (map as_pattern l.right) (as_column l.node.first) (as_column l.node.second) (labels_at l.rows.labels l.row.kids) in
-    any_pair test (map as_pair l.rules) ≡ any_pair test (map as_pair (drop l.rule-index l.rules))
+    let test = rule_by l.handed (as_column l.node.first) (as_column l.node.second) (labels_at l.rows.labels l.row.kids) in
+    any_pair test (map (turned l.back) (map as_pair l.handed.rules.now)) ≡ any_pair test (map (turned l.back) (map as_pair (drop l.rule-index l.handed.rules.now)))

@@ -1,3 +1,4 @@
+use Rattle.fort_context_closure.specs.PlainAtoms.{no_closure}
 use Rattle.std.proofs.Common.{◌≡◌, ℕ, suc, List, [], ◌∷◌, ◌++◌, Bool, None, not, ◌&&◌, map, length, get_or, slice_get, refl, sym, ap, ◌∙◌, arith}
 use Rattle.std.proofs.lemmas.List.{length-map}
 use Rattle.std.proofs.lemmas.Option.{get_or_from_slice_get}
@@ -29,7 +30,7 @@ returns c =
     let x = as_column c.symbol-root.result in
     let f : PatternNumber → Bool = λ p. number_inside 0 p x ws in
     let firsts : List Bool = map f b.lefts.items in
-    let firsts_are = firsts-are a refl is.once b.lefts.items x ws is.numbers in
+    let firsts_are = firsts-are a is.once b.lefts.items x ws is.numbers in
     let left_size : length b.lefts.items ≡ c.len-base.result = sym (ap length c.deref.ensures.value) ∙ (c.deref.ensures.len ∙ sym c.len-base.ensures) in
     let base : c.len-base.result ≡ length ls = sym left_size ∙ is.numbers.count in
     let one : HasBits firsts c.write_inside.new.out = rw c.deref.ensures.value at (c.write_inside.ensures [] refl c.clear.ensures) in
@@ -44,5 +45,5 @@ returns c =
     get_or_from_slice_get e.symbol 0 x None (ap (λ (g : TupleSymbol). slice_get g 0) (sym c.sym.ensures) ∙ c.symbol-root.ensures) in
     let size_out : length c.put_first.new.out ≡ suc (words_for (length (marks_of a))) = rw (← c.self.view_is) at wide in
     rw (← c.self.view_is)
-    (label-is a refl labels e c.put_first.new.out (firsts ++ on ∷ [])
-    (same ∙ (λ k. map (node_marks a refl (sym at_root k) (sym at_root k) ws) (marks_of a))) size_out row)
+    (label-is a no_closure labels e c.put_first.new.out (firsts ++ on ∷ [])
+    (same ∙ (λ k. map (node_marks a no_closure (sym at_root k) (sym at_root k) ws) (marks_of a))) size_out row)

@@ -1,39 +1,46 @@
-use Rattle.std.proofs.Common.{◌≡◌, List, [], map, ◌∙◌, refl}
+use Rattle.std.proofs.Common.{List, map, sym, subst}
 use Rattle.std.proofs.lemmas.Result.{IfOk-weaker}
 use Rattle.fort_theory.specs.Sides.{at_index}
 use Rattle.fort_theory.specs.Patterns.{Pattern, Pair}
-use Rattle.fort_theory.specs.PatternOrder.{AreSubpatternsInOrder}
-use Rattle.fort_terms.specs.PatternView.{as_pair, as_pattern}
+use Rattle.fort_terms.specs.PatternView.{as_pattern}
 use Rattle.fort_formulas.specs.CoreView.{as_rel}
-use Rattle.fort_alike.specs.Atoms.{pairs_for}
-use Rattle.fort_context_closure.proofs.MakerLaws.{relation-made, pairs-plain, not_eq, AreSubpatternsInOrder-none}
+use Rattle.fort_alike.specs.Atoms.{pairs_for, relation_atom}
+use Rattle.fort_atom_labels.proofs.SystemAtoms.{IsListedAtom-relation}
+use Rattle.fort_gtt_closure.specs.declared.entry.Entry.{Entry}
+use Rattle.fort_gtt_closure.specs.Passes.{IsListOfPasses}
+use Rattle.fort_context_closure.proofs.MakerLaws.{ListsRules-own, relation-closed}
+use Rattle.fort_context_closure.proofs.ClosureLaws.{root_steps_of, ListsClosure-passes}
 use Rattle.fort_context_closure.proofs.relation.RelationBits.new.Goals as goal
 
-pub returns-in_ok-rights-in_default : goal.returns-in_ok-rights-in_default
-returns-in_ok-rights-in_default c =
-    let rel = as_rel c.args.rel in
-    let pairs : List Pair = map as_pair c.rules.result.now in
-    let lefts : List Pattern = map as_pattern c.in_ok-lefts-in_default.lefts.items in
-    let rights : List Pattern = map as_pattern c.in_ok-rights-in_default.rights.items in
-    let are : pairs ≡ at_index c.args.index c.args.system.now.rules = c.rules.ensures.pairs in
-    let left_order : AreSubpatternsInOrder (map (λ (pair : Pair). pair.0) pairs) lefts = rw are c.in_ok-lefts-in_default.ensures in
-    let right_order : AreSubpatternsInOrder (map (λ (pair : Pair). pair.1) pairs) rights = rw are c.in_ok-rights-in_default.ensures in
-    IfOk-weaker c.of_rules-in_default.result _ _
-    (λ a made.
-    relation-made c.args.system.now c.signature-lawful.ensures.lawful rel c.args.index c.args.x c.args.y pairs lefts rights a
-    (are ∙ pairs-plain rel (at_index c.args.index c.args.system.now.rules) c.requires.plain (not_eq c.args.rel c.in_default.not-Eq))
-    left_order right_order made)
-    c.of_rules-in_default.ensures
+pub closure_for-requires : goal.closure_for-requires
+closure_for-requires c = ListsRules-own _ c.in_ok-list.list c.in_ok-list.ensures
 
-pub returns-in-Eq : goal.returns-in-Eq
-returns-in-Eq c =
-    let none : List Pair = [] in
-    let lefts : List Pattern = map as_pattern c.new.result.items in
-    let rights : List Pattern = map as_pattern c.new-in-Eq.result.items in
-    let left_order : AreSubpatternsInOrder [] lefts = rw c.new.ensures.items AreSubpatternsInOrder-none in
-    let right_order : AreSubpatternsInOrder [] rights = rw c.new-in-Eq.ensures.items AreSubpatternsInOrder-none in
-    let plain : none ≡ pairs_for (as_rel c.args.rel) (at_index c.args.index c.args.system.now.rules) = rw c.in-Eq.is refl in
+pub of_rules-requires : goal.of_rules-requires
+of_rules-requires c = ListsRules-own _ c.in_ok-list.list c.in_ok-list.ensures
+
+pub returns-clause-atom : goal.returns-clause-atom
+returns-clause-atom c =
+    let system = c.args.system.now in
+    let rel = as_rel c.args.rel in
+    let list = c.in_ok-list.list in
+    let lists = c.in_ok-list.ensures in
+    let es : List Entry = c.in_ok-closed.closed.entries.items in
+    let lawful = c.signature-lawful.ensures.lawful in
     IfOk-weaker c.of_rules.result _ _
-    (λ a made.
-    relation-made c.args.system.now c.signature-lawful.ensures.lawful (as_rel c.args.rel) c.args.index c.args.x c.args.y none lefts rights a plain left_order right_order made)
+    (λ cl made.
+    relation-closed system lawful rel c.args.index c.args.x c.args.y list es cl lists made.0 made.1
+    (λ columns are e.
+    ListsClosure-passes (relation_atom system rel c.args.index c.args.x c.args.y columns) list es
+    (IsListedAtom-relation system lawful c.args.index rel c.args.x c.args.y columns are (map as_pattern list.lefts.items) (map as_pattern list.rights.items)
+    lists.left_order lists.right_order) lists (c.in_ok-closed.ensures e)))
+    c.of_rules.ensures
+
+pub returns-clause-passes : goal.returns-clause-passes
+returns-clause-passes c =
+    let pairs : List Pair = pairs_for (as_rel c.args.rel) (at_index c.args.index c.args.system.now.rules) in
+    let list = c.in_ok-list.list in
+    IfOk-weaker c.of_rules.result _ _
+    (λ cl made e.
+    let w = c.in_ok-closed.ensures e in
+    (w.agtt, root_steps_of pairs list c.in_ok-list.ensures w.agtt w.is, subst (IsListOfPasses w.agtt) (sym made.1) w.passes))
     c.of_rules.ensures

@@ -1,5 +1,5 @@
 use Rattle.std.proofs.Common.{◌≡◌}
-use Rattle.fort_context_closure.proofs.tests.state_of.Given as goal
+use Rattle.fort_context_closure.proofs.tests.tables.are_entries_right.Given as goal
 
 abbrev pub invariant-loop : goal.invariant-loop
 invariant-loop l = record {

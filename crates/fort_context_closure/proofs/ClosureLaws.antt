@@ -1,0 +1,86 @@
+-- The transducer over the patterns of a list of rules is one of their root steps; the entries of its closure list exactly the closure over patterns.
+use Rattle.std.specs.Prelude.{◌≡◌, ◌↔◌, ℕ, ◌<◌, List, map, length, get_or, Contains, refl}
+use Rattle.std.proofs.Common.{subst, sym}
+use Rattle.std.proofs.lemmas.Option.{slice_get-get_or, get_or_from_slice_get}
+use Rattle.std.proofs.lemmas.List.Elements.{Contains-get_or}
+use Rattle.fort_theory.specs.Signatures.{Signature}
+use Rattle.fort_theory.specs.Patterns.{Pattern, Any, Pair, FitsPattern}
+use Rattle.fort_reachability.specs.TreeAutomata.{FitsAutomaton}
+use Rattle.fort_reachability.specs.Transducers.{FitsTransducer}
+use Rattle.fort_reachability.specs.ClosureTables.{InClosure}
+use Rattle.fort_reachability.specs.PatternClosures.{InPatternClosure}
+use Rattle.fort_reachability.proofs.PatternAutomata.{FitsAutomaton-from_patterns}
+use Rattle.fort_reachability.proofs.PatternTransducers.{IsPatternTransducer, InClosure-ReachesInstance}
+use Rattle.fort_reachability.proofs.PatternClosureExact.{InPatternClosure-ReachesInstance}
+use Rattle.fort_terms.specs.PatternView.{as_pair, as_pattern}
+use Rattle.fort_tree_automata.specs.PatternMoves.{StandsAt}
+use Rattle.fort_tree_automata.proofs.PatternMovesLaws.{StandsAt-below}
+use Rattle.fort_agtt.specs.declared.agtt.Agtt.{Agtt}
+use Rattle.fort_agtt.specs.AgttView.{NamesItsStates, transducer_of}
+use Rattle.fort_agtt.specs.RootSteps.{ArePlaces, HasRootSteps}
+use Rattle.fort_agtt.proofs.RootStepsLaws.{IsPatternTransducer-rules, NamesItsStates-rules}
+use Rattle.fort_gtt_closure.specs.declared.entry.Entry.{Entry}
+use Rattle.fort_alike.specs.Atoms.{Atom}
+use Rattle.fort_atom_labels.specs.ListedAtoms.{ListedAtom, listed, IsListedAtom}
+use Rattle.fort_atom_labels.specs.ClosureTests.{ListsClosure}
+use Rattle.fort_atom_labels.proofs.ClosedLists.{ArePatterns, ArePatterns-lefts, ArePatterns-rights}
+use Rattle.fort_context_closure.specs.ClosedAtoms.{numbers_of}
+use Rattle.fort_context_closure.specs.Closures.{IsClosureOf, IsTransducerOf}
+use Rattle.fort_context_closure.specs.declared.rule_list.RuleList.{RuleList}
+use Rattle.fort_context_closure.specs.RuleLists.{ListsRules}
+
+abbrev lefts_of : RuleList → List Pattern
+lefts_of list = map as_pattern list.lefts.items
+
+abbrev rights_of : RuleList → List Pattern
+rights_of list = map as_pattern list.rights.items
+
+module _ (pairs : List Pair) (list : RuleList) (lists : ListsRules pairs list) (agtt : Agtt) (is : IsTransducerOf list agtt) where
+  abbrev pub root_steps_of : HasRootSteps pairs agtt
+  root_steps_of = record {
+    lefts = lefts_of list;
+    rights = rights_of list;
+    left_patterns = lists.left_order;
+    right_patterns = lists.right_order;
+    left_states = is.left_states;
+    right_states = is.right_states;
+    places = subst (λ (ps : List Pair). ArePlaces (lefts_of list) (rights_of list) ps agtt.pairs.items) lists.rules is.places;
+  }
+
+  pub NamesItsStates-list : NamesItsStates agtt
+  NamesItsStates-list = NamesItsStates-rules pairs agtt root_steps_of
+
+  pub IsPatternTransducer-list : IsPatternTransducer (transducer_of agtt) (StandsAt (lefts_of list)) (StandsAt (rights_of list)) pairs
+  IsPatternTransducer-list = IsPatternTransducer-rules pairs agtt root_steps_of
+
+-- what stands in a list of fitting patterns fits
+fits-at : (sig : Signature) (ps : List Pattern) → ArePatterns sig ps → (q : ℕ) (p : Pattern) → StandsAt ps q p → FitsPattern sig p
+fits-at sig ps are q p h =
+    are.fit p (subst (Contains ps) (get_or_from_slice_get ps q p Any h) (Contains-get_or ps q Any (StandsAt-below ps q p h)))
+
+pub ListsClosure-passes : (atom : Atom) (list : RuleList) (es : List Entry) → IsListedAtom (listed atom (lefts_of list) (rights_of list)) → ListsRules atom.pairs list
+    → IsClosureOf list es → ListsClosure (listed atom (lefts_of list) (rights_of list)) (numbers_of es)
+ListsClosure-passes atom list es is lists made i j l m =
+    let a : ListedAtom = listed atom (lefts_of list) (rights_of list) in
+    let steps = IsPatternTransducer-list atom.pairs list lists made.agtt made.is in
+    let fits : FitsTransducer atom.signature (transducer_of made.agtt) = record {
+      constant = is.constant;
+      left =
+          FitsAutomaton-from_patterns atom.signature (transducer_of made.agtt).left (StandsAt (lefts_of list)) steps.left
+          (fits-at atom.signature (lefts_of list) (ArePatterns-lefts a is));
+      right =
+          FitsAutomaton-from_patterns atom.signature (transducer_of made.agtt).right (StandsAt (rights_of list)) steps.right
+          (fits-at atom.signature (rights_of list) (ArePatterns-rights a is));
+    } in
+    let p : Pattern = get_or (rights_of list) i Any in
+    let q : Pattern = get_or (lefts_of list) j Any in
+    let right_at : StandsAt (rights_of list) i p = slice_get-get_or (rights_of list) i Any l in
+    let left_at : StandsAt (lefts_of list) j q = slice_get-get_or (lefts_of list) j Any m in
+    let instances =
+    InClosure-ReachesInstance atom.signature (transducer_of made.agtt) (StandsAt (lefts_of list)) (StandsAt (rights_of list)) atom.pairs steps fits i j p q right_at left_at in
+    let patterns =
+    InPatternClosure-ReachesInstance atom.signature is.constant atom.pairs is.fit p q (fits-at atom.signature (rights_of list) (ArePatterns-rights a is) i p right_at)
+    (fits-at atom.signature (lefts_of list) (ArePatterns-lefts a is) j q left_at) in (
+      (λ c. patterns.1 (instances.0 ((made.table i j).0 c))),
+      (λ h. (made.table i j).1 (instances.1 (patterns.0 h))),
+    )

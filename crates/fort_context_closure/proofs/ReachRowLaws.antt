@@ -1,0 +1,276 @@
+-- Rows of bits for a closure: rows with no bit on, one more bit, one more entry; and the bits of one row added to another.
+use Rattle.std.specs.Prelude.{◌≡◌, ◌≢◌, ◌⊎◌, ℕ, zero, suc, ◌+◌, ◌*◌, ◌/◌, ◌%◌, ◌<◌, ◌≤◌, List, [], ◌∷◌, ◌++◌, map, length, take, drop, set, get_or, Contains, Bool, true, false, Decides, nat_lt, ◌&&◌, ◌||◌, ◌==◌, refl}
+use Prim.Native.Nat.{max}
+use Rattle.std.specs.List.{list_any}
+use Rattle.std.proofs.Math.Bool.{or_assoc}
+use Rattle.std.specs.Int.{bit_at}
+use Rattle.std.proofs.Common.{sym, ap, subst, ◌∙◌, arith, inl, inr, eq-eqb, ⊎_elim}
+use Rattle.std.specs.Int.Bits.{bit_or}
+use Rattle.std.proofs.lemmas.Bool.{cases_eq, cases_lt}
+use Rattle.std.proofs.lemmas.Nat.Bits.{bit_at_or, bit_at-lt}
+use Rattle.std.proofs.lemmas.Bool.Decides.{Decides-eqb, Decides-ltb, Decides-like, Decides-and, Decides-or}
+use Rattle.std.proofs.lemmas.List.{get_or-set_same, get_or-set_other, length-set, take_more, map-append, length-append, get_or_append_left, get_or_push, get_or_past}
+use Rattle.std.proofs.lemmas.List.Elements.{Contains-append_left, Contains-append_right, Contains-append_cases}
+use Rattle.fort_theory.proofs.Members.{Contains-none, Contains-cons_cases, Contains-head}
+use Rattle.fort_tables.specs.BitRows.{has_bit, words_for}
+use Rattle.fort_tables.proofs.BitRowLaws.{has_bit-drop, has_bit-past}
+use Rattle.fort_tables.proofs.EqualTests.{test_from_apart}
+use Rattle.fort_atom_labels.proofs.Bits.{Decides-false, same_from_iff}
+use Rattle.fort_context_closure.proofs.RowBitLaws.{HasBits-none}
+use Rattle.fort_gtt_closure.specs.declared.entry.Entry.{Entry}
+use Rattle.fort_context_closure.specs.RowBits.{bit_of}
+use Rattle.fort_context_closure.specs.ClosedAtoms.{numbers_of}
+use Rattle.fort_context_closure.specs.declared.reach.Reach.{Reach}
+use Rattle.fort_context_closure.specs.ReachRows.{row_in, SetsBit, AreClear, firsts_of, seconds_of, is_within, HasRows, IsReach, MarksEntry}
+
+-- one more bit of one row
+
+behind-same : (bit q : ℕ) → (64 + bit == 64 * 1 + q) ≡ (bit == q)
+behind-same bit q =
+    same_from_iff (64 + bit == 64 * 1 + q) (bit == q) (Decides-eqb (64 + bit) (64 * 1 + q)) (Decides-eqb bit q) ((λ e. omega (arith, e)), (λ e. omega (arith, e)))
+
+pub SetsBit-set : (old : List (List ℕ)) (row bit : ℕ) (w : List ℕ) → row < length old → length w ≡ length (row_in old row)
+    → ((i : ℕ) → has_bit w i ≡ ((64 + bit == i) || has_bit (row_in old row) i)) → SetsBit old row bit (set old row w)
+SetsBit-set old row bit w l size h = record {
+  count = length-set old row w;
+  widths = λ k.
+      ⊎_elim
+      (λ (e : row ≡ k). subst (λ j. length (row_in (set old row w) j) ≡ length (row_in old j)) e (ap length (get_or-set_same old row w [] l) ∙ size))
+      (λ (n : row ≡ k → ⊥). ap length (get_or-set_other old row k w [] (λ e. n (sym e))))
+      (cases_eq row k);
+  bits = λ k q.
+      ⊎_elim
+      (λ (e : row ≡ k).
+      subst (λ j. bit_of q (row_in (set old row w) j) ≡ (((row == j) && (bit == q)) || bit_of q (row_in old j))) e
+      (ap (bit_of q) (get_or-set_same old row w [] l)
+      ∙ (has_bit-drop 1 w q
+      ∙ (h (64 * 1 + q)
+      ∙ ((λ i. behind-same bit q i || sym (has_bit-drop 1 (row_in old row) q) i)
+      ∙ ap (λ t. (t && (bit == q)) || bit_of q (row_in old row)) (sym (eq-eqb row row refl)))))))
+      (λ (n : row ≡ k → ⊥).
+      ap (bit_of q) (get_or-set_other old row k w [] (λ e. n (sym e)))
+      ∙ ap (λ t. (t && (bit == q)) || bit_of q (row_in old k)) (sym (test_from_apart row k n)))
+      (cases_eq row k);
+}
+
+-- rows with no bit on
+
+no_bits : (w : List ℕ) (q : ℕ) → ((i : ℕ) → i < length w → get_or w i 0 ≡ 0) → bit_of q w ≡ false
+no_bits w q h = HasBits-none w h q
+
+pub AreClear-none : (width : ℕ) → AreClear 0 width []
+AreClear-none width = record {
+  many = refl;
+  widths = λ k l. absurd (omega arith);
+  bits = λ k q. let none : List ℕ = [] in no_bits none q (λ i l. refl);
+}
+
+pub AreClear-push : (count width : ℕ) (rows : List (List ℕ)) (w : List ℕ) → AreClear count width rows → length w ≡ width → ((i : ℕ) → i < length w → get_or w i 0 ≡ 0)
+    → AreClear (count + 1) width (rows ++ w ∷ [])
+AreClear-push count width rows w h size off = record {
+  many = omega (arith, h.many, length-append rows (w ∷ []));
+  widths = λ k l.
+      ⊎_elim
+      (λ m. ap length (get_or_append_left rows (w ∷ []) [] k m) ∙ h.widths k (omega (arith, m, h.many)))
+      (λ m. let e : length rows ≡ k = omega (arith, m, l, h.many) in ap length (get_or_push rows w [] k e) ∙ size)
+      (cases_lt k (length rows));
+  bits = λ k q.
+      ⊎_elim
+      (λ m. ap (bit_of q) (get_or_append_left rows (w ∷ []) [] k m) ∙ h.bits k q)
+      (λ m.
+      ⊎_elim
+      (λ (e : length rows ≡ k). ap (bit_of q) (get_or_push rows w [] k e) ∙ no_bits w q off)
+      (λ (n : length rows ≡ k → ⊥).
+      let none : List ℕ = [] in
+      ap (bit_of q) (get_or_past (rows ++ w ∷ []) k none (past k m n)) ∙ no_bits none q (λ i l. refl))
+      (cases_eq (length rows) k))
+      (cases_lt k (length rows));
+}
+  where
+    past : (k : ℕ) → length rows ≤ k → (length rows ≡ k → ⊥) → length (rows ++ w ∷ []) ≤ k
+    past k m n =
+        let one : List (List ℕ) = w ∷ [] in
+        let other : length rows ≢ k = n in
+        omega (arith, length-append rows one, m, other)
+
+-- one more of a list
+
+list_any-push : {A : Type 0} (test : A → Bool) (xs : List A) (x : A) → list_any test (xs ++ x ∷ []) ≡ (list_any test xs || test x)
+list_any-push test [] x = or-nothing (test x)
+  where
+    or-nothing : (b : Bool) → (b || false) ≡ b
+    or-nothing true = refl
+    or-nothing false = refl
+list_any-push test (y ∷ xs) x = ap (λ b. test y || b) (list_any-push test xs x) ∙ sym (or_assoc (test y) (list_any test xs) (test x))
+
+pub list_any-more : {A : Type 0} (test : A → Bool) (xs : List A) (i : ℕ) (x : A) → i < length xs → x ≡ get_or xs i x
+    → list_any test (take (i + 1) xs) ≡ (list_any test (take i xs) || test x)
+list_any-more test xs i x l at =
+    ap (list_any test) (take_more xs i x l) ∙ (list_any-push test (take i xs) (get_or xs i x) ∙ ap (λ y. list_any test (take i xs) || test y) (sym at))
+
+-- one more entry
+
+pub Decides-is_within : (lefts : ℕ) (reach : Reach) (entry : Entry)
+    → Decides (is_within lefts reach entry) ((entry.p < length (firsts_of reach)) × (entry.q < lefts))
+Decides-is_within lefts reach entry =
+    Decides-and (nat_lt entry.p (length (firsts_of reach))) (nat_lt entry.q lefts) (Decides-ltb entry.p (length (firsts_of reach))) (Decides-ltb entry.q lefts)
+
+module _ (lefts rights : ℕ) (reach new : Reach) (numbers : List (ℕ × ℕ)) (entry : Entry) (is : IsReach lefts rights numbers reach) (marks : MarksEntry lefts reach entry new) where
+  abbrev further : List (ℕ × ℕ)
+  further = numbers ++ (entry.p, entry.q) ∷ []
+
+  pair-is : (p q : ℕ) → entry.p ≡ p → entry.q ≡ q → Contains further (p, q)
+  pair-is p q e h =
+      let same : (ℕ × ℕ) = (entry.p, entry.q) in
+      let pair : same ≡ (p, q) = λ i. (e i, h i) in
+      Contains-append_right numbers ((entry.p, entry.q) ∷ []) (p, q) (subst (Contains ((entry.p, entry.q) ∷ [])) pair (Contains-head same []))
+
+  pair-cases : (p q : ℕ) → Contains further (p, q) → Contains numbers (p, q) ⊎ ((entry.p ≡ p) × (entry.q ≡ q))
+  pair-cases p q c = elim (Contains-append_cases numbers ((entry.p, entry.q) ∷ []) (p, q) c) [
+    | inl l ↦ inl l
+    | inr r ↦ elim (Contains-cons_cases (entry.p, entry.q) [] (p, q) r) [
+      | inl e ↦ inr (ap (λ (z : ℕ × ℕ). z.0) e, ap (λ (z : ℕ × ℕ). z.1) e)
+      | inr n ↦ absurd (Contains-none (p, q) n)
+    ]
+  ]
+
+  firsts-more : (p q : ℕ) → p < rights → Decides (bit_of q (row_in (firsts_of new) p)) ((q < lefts) × Contains further (p, q))
+  firsts-more p q l =
+      let size : length (firsts_of reach) ≡ rights = is.rows.first_count in
+      subst (λ b. Decides b ((q < lefts) × Contains further (p, q))) (sym (marks.firsts p q))
+      (Decides-like ((is_within lefts reach entry && ((entry.p == p) && (entry.q == q))) || bit_of q (row_in (firsts_of reach) p))
+      (λ s. elim s [
+        | inl w ↦ (let e : entry.q ≡ q = w.1.1 in let m : entry.q < lefts = w.0.1 in (omega (arith, e, m), pair-is p q w.1.0 w.1.1))
+        | inr h ↦ (h.0, Contains-append_left numbers ((entry.p, entry.q) ∷ []) (p, q) h.1)
+      ])
+      (λ h. elim (pair-cases p q h.1) [
+        | inl c ↦ inr (h.0, c)
+        | inr w ↦ (let e = w.0 in let f = w.1 in let m = h.0 in inl ((omega (arith, e, l, size), omega (arith, f, m)), w))
+      ])
+      (Decides-or (is_within lefts reach entry && ((entry.p == p) && (entry.q == q))) (bit_of q (row_in (firsts_of reach) p))
+      (Decides-and (is_within lefts reach entry) ((entry.p == p) && (entry.q == q)) (Decides-is_within lefts reach entry)
+      (Decides-and (entry.p == p) (entry.q == q) (Decides-eqb entry.p p) (Decides-eqb entry.q q))) (is.firsts_are p q l)))
+
+  seconds-more : (q k : ℕ) → q < lefts
+      → Decides (bit_of k (row_in (seconds_of new) q)) ((p : ℕ) × (lefts + p ≡ k) × (p < rights) × Contains further (p, q))
+  seconds-more q k l =
+      let size : length (firsts_of reach) ≡ rights = is.rows.first_count in
+      subst (λ b. Decides b ((p : ℕ) × (lefts + p ≡ k) × (p < rights) × Contains further (p, q))) (sym (marks.seconds q k))
+      (Decides-like ((is_within lefts reach entry && ((entry.q == q) && (lefts + entry.p == k))) || bit_of k (row_in (seconds_of reach) q))
+      (λ s. elim s [
+        | inl w ↦ (let m : entry.p < length (firsts_of reach) = w.0.0 in (entry.p, w.1.1, omega (arith, m, size), pair-is entry.p q refl w.1.0))
+        | inr h ↦ (h.0, h.1, h.2, Contains-append_left numbers ((entry.p, entry.q) ∷ []) (h.0, q) h.3)
+      ])
+      (λ h. elim (pair-cases h.0 q h.3) [
+        | inl c ↦ inr (h.0, h.1, h.2, c)
+        | inr w ↦ (
+            let e : entry.p ≡ h.0 = w.0 in
+            let f : entry.q ≡ q = w.1 in
+            let at : lefts + h.0 ≡ k = h.1 in
+            let m : h.0 < rights = h.2 in
+            inl ((omega (arith, e, m, size), omega (arith, f, l)), (f, omega (arith, e, at)))
+            )
+      ])
+      (Decides-or (is_within lefts reach entry && ((entry.q == q) && (lefts + entry.p == k))) (bit_of k (row_in (seconds_of reach) q))
+      (Decides-and (is_within lefts reach entry) ((entry.q == q) && (lefts + entry.p == k)) (Decides-is_within lefts reach entry)
+      (Decides-and (entry.q == q) (lefts + entry.p == k) (Decides-eqb entry.q q) (Decides-eqb (lefts + entry.p) k))) (is.seconds_are q k l)))
+
+  pub IsReach-more : IsReach lefts rights further new
+  IsReach-more = record {
+    rows = record {
+      first_count = marks.first_count ∙ is.rows.first_count;
+      second_count = marks.second_count ∙ is.rows.second_count;
+      first_width = λ p l. marks.first_widths p ∙ is.rows.first_width p l;
+      second_width = λ q l. marks.second_widths q ∙ is.rows.second_width q l;
+    };
+    firsts_are = firsts-more;
+    seconds_are = seconds-more;
+  }
+
+-- what the marks of an entry change
+
+pub MarksEntry-none : (lefts : ℕ) (reach : Reach) (entry : Entry) → is_within lefts reach entry ≡ false → MarksEntry lefts reach entry reach
+MarksEntry-none lefts reach entry off = record {
+  first_count = refl;
+  second_count = refl;
+  first_widths = λ k. refl;
+  second_widths = λ k. refl;
+  firsts = λ p q. ap (λ t. (t && ((entry.p == p) && (entry.q == q))) || bit_of q (row_in (firsts_of reach) p)) (sym off);
+  seconds = λ q k. ap (λ t. (t && ((entry.q == q) && (lefts + entry.p == k))) || bit_of k (row_in (seconds_of reach) q)) (sym off);
+}
+
+pub MarksEntry-both : (lefts : ℕ) (old new : Reach) (entry : Entry) → is_within lefts old entry ≡ true
+    → SetsBit (firsts_of old) entry.p entry.q (firsts_of new) → SetsBit (seconds_of old) entry.q (lefts + entry.p) (seconds_of new) → MarksEntry lefts old entry new
+MarksEntry-both lefts old new entry on f s = record {
+  first_count = f.count;
+  second_count = s.count;
+  first_widths = f.widths;
+  second_widths = s.widths;
+  firsts = λ p q. f.bits p q ∙ ap (λ t. (t && ((entry.p == p) && (entry.q == q))) || bit_of q (row_in (firsts_of old) p)) (sym on);
+  seconds = λ q k. s.bits q k ∙ ap (λ t. (t && ((entry.q == q) && (lefts + entry.p == k))) || bit_of k (row_in (seconds_of old) q)) (sym on);
+}
+
+-- before the first entry
+pub IsReach-clear : (lefts rights width : ℕ) (reach : Reach) → width ≡ suc (words_for (lefts + rights)) → AreClear rights width (firsts_of reach) → AreClear lefts width (seconds_of reach)
+    → IsReach lefts rights [] reach
+IsReach-clear lefts rights width reach wide f s = record {
+  rows = record {
+    first_count = f.many;
+    second_count = s.many;
+    first_width = λ p l. f.widths p l ∙ wide;
+    second_width = λ q l. s.widths q l ∙ wide;
+  };
+  firsts_are = λ p q l.
+      let none : List (ℕ × ℕ) = [] in
+      subst (λ b. Decides b ((q < lefts) × Contains none (p, q))) (sym (f.bits p q)) (Decides-false (λ h. Contains-none (p, q) h.1));
+  seconds_are = λ q k l.
+      let none : List (ℕ × ℕ) = [] in
+      subst (λ b. Decides b ((p : ℕ) × (lefts + p ≡ k) × (p < rights) × Contains none (p, q))) (sym (s.bits q k)) (Decides-false (λ h. Contains-none (h.0, q) h.3));
+}
+
+-- one more entry of a list
+pub IsReach-entry : (lefts rights : ℕ) (reach new : Reach) (es : List Entry) (i : ℕ) (entry : Entry) → i < length es → entry ≡ get_or es i entry
+    → IsReach lefts rights (numbers_of (take i es)) reach → MarksEntry lefts reach entry new → IsReach lefts rights (numbers_of (take (i + 1) es)) new
+IsReach-entry lefts rights reach new es i entry l at is marks =
+    let number : Entry → ℕ × ℕ = λ (e : Entry). (e.p, e.q) in
+    let more : numbers_of (take (i + 1) es) ≡ numbers_of (take i es) ++ (entry.p, entry.q) ∷ [] =
+    ap numbers_of (take_more es i entry l) ∙ (map-append number (take i es) (get_or es i entry ∷ [])
+    ∙ ap (λ (e : Entry). numbers_of (take i es) ++ (e.p, e.q) ∷ []) (sym at)) in
+    subst (λ ns. IsReach lefts rights ns new) (sym more) (IsReach-more lefts rights reach new (numbers_of (take i es)) entry is marks)
+
+-- the bits of two words together
+
+bit-or : (a b : ℕ) → a < 2 → b < 2 → (max a b == 1) ≡ ((a == 1) || (b == 1))
+bit-or zero zero l m = refl
+bit-or zero (suc zero) l m = refl
+bit-or zero (suc (suc b)) l m = absurd (omega arith)
+bit-or (suc zero) zero l m = refl
+bit-or (suc zero) (suc zero) l m = refl
+bit-or (suc zero) (suc (suc b)) l m = absurd (omega arith)
+bit-or (suc (suc a)) b l m = absurd (omega arith)
+
+pub or-off : (a b : Bool) → b ≡ false → a ≡ (a || b)
+or-off true b e = refl
+or-off false b e = sym e
+
+has_bit-added : (old row new : List ℕ)
+    → ((i : ℕ) → i < length row → get_or new i 0 ≡ bit_or (get_or old i 0) (get_or row i 0))
+    → ((i : ℕ) → length row ≤ i → get_or new i 0 ≡ get_or old i 0)
+    → (k : ℕ) → has_bit new k ≡ (has_bit old k || has_bit row k)
+has_bit-added old row new before after k =
+    ⊎_elim
+    (λ l.
+    ap (λ w. bit_at w (k % 64) == 1) (before (k / 64) l)
+    ∙ (ap (λ b. b == 1) (bit_at_or (get_or old (k / 64) 0) (get_or row (k / 64) 0) (k % 64))
+    ∙ bit-or (bit_at (get_or old (k / 64) 0) (k % 64)) (bit_at (get_or row (k / 64) 0) (k % 64)) (bit_at-lt (get_or old (k / 64) 0) (k % 64))
+    (bit_at-lt (get_or row (k / 64) 0) (k % 64))))
+    (λ l. ap (λ w. bit_at w (k % 64) == 1) (after (k / 64) l) ∙ or-off (has_bit old k) (has_bit row k) (has_bit-past row k l))
+    (cases_lt (k / 64) (length row))
+
+pub bit_of-added : (old row new : List ℕ)
+    → ((i : ℕ) → i < length row → get_or new i 0 ≡ bit_or (get_or old i 0) (get_or row i 0))
+    → ((i : ℕ) → length row ≤ i → get_or new i 0 ≡ get_or old i 0)
+    → (q : ℕ) → bit_of q new ≡ (bit_of q old || bit_of q row)
+bit_of-added old row new before after q =
+    has_bit-drop 1 new q
+    ∙ (has_bit-added old row new before after (64 * 1 + q) ∙ (λ i. sym (has_bit-drop 1 old q) i || sym (has_bit-drop 1 row q) i))

@@ -1,0 +1,73 @@
+//! The closure of some rules: which right pattern reaches which left pattern.
+ghost use Rattle.std.specs.Prelude.{◌≡◌, ◌<◌, ◌^◌, IfOk, Contains, length, map};
+ghost use Rattle.fort_theory.specs.Patterns as theory;
+ghost use Rattle.fort_terms.specs.PatternView.{as_pair, as_pattern};
+ghost use Rattle.fort_tree_automata.specs.PatternMoves.{IsClosedInOrder};
+ghost use Rattle.fort_agtt.specs.AgttView.{NamesItsStates};
+ghost use Rattle.fort_agtt.specs.RootSteps.{ArePlaces};
+ghost use Rattle.fort_gtt_closure.specs.Reasons.{IsNumbered};
+ghost use Rattle.fort_context_closure.specs.RuleLists.{ListsRules};
+ghost use Rattle.fort_context_closure.specs.Closures.{IsClosureOf, IsTransducerOf};
+
+use crate::rule_list::RuleList;
+use fort_agtt::Agtt;
+use fort_gtt_closure::{Closed, close};
+use fort_terms::{Memory, Pattern};
+use fort_tree_automata::{pattern_automaton, place};
+use std::alloc::{AllocError, Global};
+
+/// The closure of the transducer whose states are the patterns.
+pub(crate) fn closure_of(alloc: Global, list: &RuleList) -> Result<Closed, Memory>
+    requires { ListsRules (map as_pair list.now.rules.items) list.now }
+    ensures { IfOk result (λ closed. IsClosureOf list.now closed.entries.items) }
+{
+    let agtt = transducer(alloc, list)?;
+    let closed = close(alloc, &agtt)?;
+    Ok(closed)
+}
+
+/// The transducer of the rules' root steps. Lists of 2^32 rules or patterns or more, for which there are no numbers, are want of memory.
+fn transducer(alloc: Global, list: &RuleList) -> Result<Agtt, Memory>
+    requires { ListsRules (map as_pair list.now.rules.items) list.now }
+    ensures states { IfOk result (IsTransducerOf list.now) }
+    ensures named { IfOk result NamesItsStates }
+    ensures numbered { IfOk result IsNumbered }
+{
+    let most = u32::MAX as usize;
+    if list.lefts.len() > most {
+        return Err(AllocError);
+    }
+    if list.rights.len() > most {
+        return Err(AllocError);
+    }
+    if list.rules.len() > most {
+        return Err(AllocError);
+    }
+    let left = pattern_automaton(alloc, &list.lefts)?;
+    let right = pattern_automaton(alloc, &list.rights)?;
+    let pairs = places(alloc, &list.rules, &list.lefts, &list.rights)?;
+    Ok(Agtt { left, right, pairs })
+}
+
+/// The places of the two sides of each rule.
+fn places(
+    alloc: Global,
+    rules: &[(Pattern, Pattern)],
+    lefts: &[Pattern],
+    rights: &[Pattern],
+) -> Result<Vec<(u32, u32)>, Memory>
+    requires left_closed { IsClosedInOrder (map as_pattern lefts.now) }
+    requires right_closed { IsClosedInOrder (map as_pattern rights.now) }
+    requires left_few { length lefts.now < 2 ^ 32 }
+    requires right_few { length rights.now < 2 ^ 32 }
+    requires among { (pair : theory.Pair) → Contains (map as_pair rules.now) pair →
+        Contains (map as_pattern lefts.now) pair.0 × Contains (map as_pattern rights.now) pair.1 }
+    ensures { IfOk result (λ ps. ArePlaces (map as_pattern lefts.now)
+        (map as_pattern rights.now) (map as_pair rules.now) ps.items) }
+{
+    let mut pairs = Vec::new(alloc);
+    for rule in rules {
+        pairs.push((place(lefts, &rule.0), place(rights, &rule.1)))?;
+    }
+    Ok(pairs)
+}
