@@ -11,7 +11,7 @@ use Rattle.fort_logic.specs.Kinds.{Kind, kind_of}
 use Rattle.fort_logic.specs.PartLists.{AreParts}
 use Rattle.fort_logic.specs.Translation.{core_of}
 use Rattle.fort_parts.specs.AlikeParts.{IsPartOver, IsFirstOver}
-use Rattle.fort_parts.specs.SingleSteps.{IsAboutSteps}
+use Rattle.fort_parts.specs.WithoutInfinite.{IsWithoutInfinite}
 use Rattle.fort_answers.specs.Requests.{Text}
 use Rattle.fort_answers.specs.Lines.{positive, negative, usage, refused, limited, usage_text, yes_line, no_line, limit_line, not_decided_yet}
 use Rattle.fort_answers.specs.FormulaAnswer.{IsAccepted, IsRefused}
@@ -20,7 +20,7 @@ use Rattle.fort_answers.specs.FitAnswer.{FitsSystem, IsUnfit}
 
 -- which formulas are decided today
 abbrev pub IsBuilt : Formula → Type 0
-IsBuilt f = IsAboutSteps f
+IsBuilt f = IsWithoutInfinite f
 
 -- ---- the cap on each part of the core formula
 

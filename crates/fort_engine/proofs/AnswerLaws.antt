@@ -10,8 +10,7 @@ use Rattle.fort_logic.specs.Parts.{is_free, AreColumns}
 use Rattle.fort_tables.specs.Tables.{Table, listed_table}
 use Rattle.fort_tables.specs.Labels.{Labelling, HasMoreLabels, IsTableOf}
 use Rattle.fort_tables.specs.LabelRules.{label_of, IsTableBy}
-use Rattle.fort_alike.specs.Atoms.{kind_for, relation_atom, normal_atom}
-use Rattle.fort_alike.specs.Alike.{is_reaching}
+use Rattle.fort_alike.specs.Atoms.{relation_atom, normal_atom}
 use Rattle.fort_operations.specs.Projections.{some_below, project_rule, project_accepts}
 use Rattle.fort_operations.specs.OperationTruth.{complemented}
 use Rattle.fort_context_closure.specs.declared.atom_labels.AtomLabels.{AtomLabels}
@@ -20,7 +19,6 @@ use Rattle.fort_lockstep.specs.declared.dta.Dta.{Dta}
 use Rattle.fort_parts.specs.PartColumns.{columns_of, place_in}
 use Rattle.fort_parts.specs.AlikeParts.{IsPartOver}
 use Rattle.fort_parts.specs.PartAnswers.{OfValue, OfTable}
-use Rattle.fort_parts.specs.DecidedCores.{IsOneStepRelation}
 use Rattle.fort_parts.specs.RightAnswers.{IsRightFor}
 use Rattle.fort_parts.proofs.PartColumnLaws.{AreColumns-columns_of, columns_of-unique, columns_of-Nf, columns_of-Is, column-from_free}
 use Rattle.fort_parts.proofs.StepAnswers.{IsRightFor-Not-table, IsPartOver-Not, IsPartOver-closed, IsPartOver-few, bound_place, bound_count, LabelsTellAlike-projected, IsRightFor-projected, IsRightFor-closed}
@@ -92,16 +90,6 @@ AreLabelsFor-Atom system rel index x y l count tells accepts =
           (subst (λ n. IsTableOf system.signature n (label_by l) (accepted_by l) table) same of)
           (subst (λ n. IsTableBy system.signature n (label_by l) (accepted_by l) table) same by);
     }
-
-pub one_step_reaches_not : (rel : core.Rel) → IsOneStepRelation rel → is_reaching (kind_for rel) ≡ false
-one_step_reaches_not core.Eq h = refl
-one_step_reaches_not core.Root h = refl
-one_step_reaches_not core.Below h = refl
-one_step_reaches_not core.Step h = refl
-one_step_reaches_not core.Par h = refl
-one_step_reaches_not core.Plus h = absurd h
-one_step_reaches_not core.Star h = absurd h
-one_step_reaches_not core.Conv h = absurd h
 
 -- a complement
 

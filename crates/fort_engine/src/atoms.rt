@@ -3,7 +3,6 @@ ghost use Rattle.std.specs.Prelude.{◌≡◌, ℕ};
 ghost use Rattle.fort_theory.specs.Sides.{IsIndexOf};
 ghost use Rattle.fort_logic.specs.Cores as theory;
 ghost use Rattle.fort_formulas.specs.CoreView.{as_rel};
-ghost use Rattle.fort_parts.specs.DecidedCores.{IsOneStepRelation};
 ghost use Rattle.fort_engine.specs.Deciding.{IsDecision};
 
 use crate::answer::Last;
@@ -24,8 +23,7 @@ pub(crate) fn related(
     y: u32,
     cap: u32,
 ) -> Result<Last, ExploreFault>
-    requires index { IsIndexOf system.now.rules index }
-    requires single { IsOneStepRelation (as_rel rel) }
+    requires { IsIndexOf system.now.rules index }
     ensures { IsDecision system.now (theory.Atom (as_rel rel) index x y) cap result }
 {
     let labels = AtomLabels::atom(alloc, system, index, rel, x, y)?;

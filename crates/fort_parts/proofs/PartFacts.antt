@@ -12,7 +12,7 @@ use Rattle.fort_theory.proofs.Members.{Contains-cons_cases, Contains-none}
 use Rattle.fort_logic.specs.Cores.{Core, True, Atom, Nf, Is, Not, And, Or, Iff, Exists, Infinite}
 use Rattle.fort_logic.specs.Parts.{is_free, postorder, BindsFree, IsWellFormed}
 use Rattle.fort_parts.specs.PartColumns.{numbers_below, columns_of}
-use Rattle.fort_parts.specs.DecidedCores.{IsOverSystem, IsOneStep, IsOperandOf}
+use Rattle.fort_parts.specs.DecidedCores.{IsOverSystem, HasNoInfinite, IsOperandOf}
 use Rattle.fort_parts.proofs.PartColumnLaws.{AreColumns-columns_of, columns_of-unique}
 
 -- what holds of operands where it holds of their formula holds of each part
@@ -53,17 +53,17 @@ over-operand system g (Iff f h) o p = ⊎_elim (λ e. subst (IsOverSystem system
 over-operand system g (Exists n f) o p = subst (IsOverSystem system) (sym o) p
 over-operand system g (Infinite n f) o p = subst (IsOverSystem system) (sym o) p
 
-one_step-operand : (g h : Core) → IsOperandOf g h → IsOneStep h → IsOneStep g
-one_step-operand g True o p = absurd o
-one_step-operand g (Atom rel index x y) o p = absurd o
-one_step-operand g (Nf index x) o p = absurd o
-one_step-operand g (Is x t) o p = absurd o
-one_step-operand g (Not f) o p = subst IsOneStep (sym o) p
-one_step-operand g (And f h) o p = ⊎_elim (λ e. subst IsOneStep (sym e) p.0) (λ e. subst IsOneStep (sym e) p.1) o
-one_step-operand g (Or f h) o p = ⊎_elim (λ e. subst IsOneStep (sym e) p.0) (λ e. subst IsOneStep (sym e) p.1) o
-one_step-operand g (Iff f h) o p = ⊎_elim (λ e. subst IsOneStep (sym e) p.0) (λ e. subst IsOneStep (sym e) p.1) o
-one_step-operand g (Exists n f) o p = subst IsOneStep (sym o) p
-one_step-operand g (Infinite n f) o p = absurd p
+no_infinite-operand : (g h : Core) → IsOperandOf g h → HasNoInfinite h → HasNoInfinite g
+no_infinite-operand g True o p = absurd o
+no_infinite-operand g (Atom rel index x y) o p = absurd o
+no_infinite-operand g (Nf index x) o p = absurd o
+no_infinite-operand g (Is x t) o p = absurd o
+no_infinite-operand g (Not f) o p = subst HasNoInfinite (sym o) p
+no_infinite-operand g (And f h) o p = ⊎_elim (λ e. subst HasNoInfinite (sym e) p.0) (λ e. subst HasNoInfinite (sym e) p.1) o
+no_infinite-operand g (Or f h) o p = ⊎_elim (λ e. subst HasNoInfinite (sym e) p.0) (λ e. subst HasNoInfinite (sym e) p.1) o
+no_infinite-operand g (Iff f h) o p = ⊎_elim (λ e. subst HasNoInfinite (sym e) p.0) (λ e. subst HasNoInfinite (sym e) p.1) o
+no_infinite-operand g (Exists n f) o p = subst HasNoInfinite (sym o) p
+no_infinite-operand g (Infinite n f) o p = absurd p
 
 binds-operand : (g h : Core) → IsOperandOf g h → BindsFree h → BindsFree g
 binds-operand g True o p = absurd o
@@ -81,8 +81,8 @@ binds-operand g (Infinite n f) o p = subst BindsFree (sym o) p.1
 pub IsOverSystem-part : (system : PatternSystem) (f g : Core) → IsOverSystem system f → Contains (postorder f) g → IsOverSystem system g
 IsOverSystem-part system f g = each_part (IsOverSystem system) (over-operand system) f g
 
-pub IsOneStep-part : (f g : Core) → IsOneStep f → Contains (postorder f) g → IsOneStep g
-IsOneStep-part f g = each_part IsOneStep one_step-operand f g
+pub HasNoInfinite-part : (f g : Core) → HasNoInfinite f → Contains (postorder f) g → HasNoInfinite g
+HasNoInfinite-part f g = each_part HasNoInfinite no_infinite-operand f g
 
 pub BindsFree-part : (f g : Core) → BindsFree f → Contains (postorder f) g → BindsFree g
 BindsFree-part f g = each_part BindsFree binds-operand f g

@@ -3,7 +3,7 @@ use Rattle.std.specs.Prelude.{◌≡◌, ◌⊎◌}
 use Rattle.fort_theory.specs.Signatures.{IsGround}
 use Rattle.fort_theory.specs.Patterns.{PatternSystem}
 use Rattle.fort_theory.specs.Sides.{IsIndexOf}
-use Rattle.fort_logic.specs.Cores.{Rel, Eq, Root, Below, Step, Par, Plus, Star, Conv, Core, True, Atom, Nf, Is, Not, And, Or, Iff, Exists, Infinite}
+use Rattle.fort_logic.specs.Cores.{Core, True, Atom, Nf, Is, Not, And, Or, Iff, Exists, Infinite}
 use Rattle.fort_logic.specs.Parts.{IsWellFormed}
 
 -- each index is one of the system, each term is ground
@@ -19,34 +19,23 @@ IsOverSystem system (Iff f g) = IsOverSystem system f × IsOverSystem system g
 IsOverSystem system (Exists n f) = IsOverSystem system f
 IsOverSystem system (Infinite n f) = IsOverSystem system f
 
--- equality, one step or one parallel step; no reduction of several
-abbrev pub IsOneStepRelation : Rel → Type 0
-IsOneStepRelation Eq = Unit {0}
-IsOneStepRelation Root = Unit {0}
-IsOneStepRelation Below = Unit {0}
-IsOneStepRelation Step = Unit {0}
-IsOneStepRelation Par = Unit {0}
-IsOneStepRelation Plus = ⊥
-IsOneStepRelation Star = ⊥
-IsOneStepRelation Conv = ⊥
-
--- no reduction and no "infinitely many" stands in it
-abbrev pub IsOneStep : Core → Type 0
-IsOneStep True = Unit {0}
-IsOneStep (Atom rel index x y) = IsOneStepRelation rel
-IsOneStep (Nf index x) = Unit {0}
-IsOneStep (Is x term) = Unit {0}
-IsOneStep (Not f) = IsOneStep f
-IsOneStep (And f g) = IsOneStep f × IsOneStep g
-IsOneStep (Or f g) = IsOneStep f × IsOneStep g
-IsOneStep (Iff f g) = IsOneStep f × IsOneStep g
-IsOneStep (Exists n f) = IsOneStep f
-IsOneStep (Infinite n f) = ⊥
+-- no "infinitely many" stands in it
+abbrev pub HasNoInfinite : Core → Type 0
+HasNoInfinite True = Unit {0}
+HasNoInfinite (Atom rel index x y) = Unit {0}
+HasNoInfinite (Nf index x) = Unit {0}
+HasNoInfinite (Is x term) = Unit {0}
+HasNoInfinite (Not f) = HasNoInfinite f
+HasNoInfinite (And f g) = HasNoInfinite f × HasNoInfinite g
+HasNoInfinite (Or f g) = HasNoInfinite f × HasNoInfinite g
+HasNoInfinite (Iff f g) = HasNoInfinite f × HasNoInfinite g
+HasNoInfinite (Exists n f) = HasNoInfinite f
+HasNoInfinite (Infinite n f) = ⊥
 
 pub record IsDecided (system : PatternSystem) (f : Core) : Type 0 where
   pub well_formed : IsWellFormed f
   pub over : IsOverSystem system f
-  pub one_step : IsOneStep f
+  pub no_infinite : HasNoInfinite f
 
 -- g stands in h at once
 abbrev pub IsOperandOf : Core → Core → Type 0

@@ -5,4 +5,4 @@ pub mod PartSteps
 pub mod PartLabels
 pub mod DecidedCores
 pub mod RightAnswers
-pub mod SingleSteps
+pub mod WithoutInfinite

@@ -16,12 +16,12 @@ use Rattle.fort_logic.specs.Translation.{core_of}
 use Rattle.fort_logic.specs.Truth.{Assignment, structure_of, GivesTerms, Holds, IsTrueOf, IsFalseOf}
 use Rattle.fort_logic.specs.PatternStructures.{pattern_structure}
 use Rattle.fort_formulas.specs.KindView.{as_kind}
-use Rattle.fort_parts.specs.DecidedCores.{IsOverSystem, IsOneStep, IsDecided}
+use Rattle.fort_parts.specs.DecidedCores.{IsOverSystem, HasNoInfinite, IsDecided}
 use Rattle.fort_parts.specs.PartColumns.{columns_of}
-use Rattle.fort_parts.specs.SingleSteps.{IsAboutSteps}
+use Rattle.fort_parts.specs.WithoutInfinite.{IsWithoutInfinite}
 use Rattle.fort_parts.proofs.PartColumnLaws.{is_free-from_column}
 use Rattle.fort_parts.proofs.SameCoreRoots.{IsMetBy-by_patterns}
-use Rattle.fort_parts.proofs.TranslatedCores.{IsOverSystem-core_of, IsOneStep-core_of}
+use Rattle.fort_parts.proofs.TranslatedCores.{IsOverSystem-core_of, HasNoInfinite-core_of}
 use Rattle.fort_answers.specs.DecideAnswer.{IsBuilt, PassesCap}
 use Rattle.fort_answers.specs.InputAnswer.{IsInput}
 use Rattle.fort_answers.specs.Requests.{Text}
@@ -51,14 +51,14 @@ closed_columns f core closed numbers =
     omega arith)
 
 -- what deciding asks
-pub decided_core : (f : Formula) (system : PatternSystem) (terms : List Tree) (core : Core) → IsSystem system → IsReady f system terms → IsAboutSteps f
+pub decided_core : (f : Formula) (system : PatternSystem) (terms : List Tree) (core : Core) → IsSystem system → IsReady f system terms → IsWithoutInfinite f
     → IsWellFormed core → core ≡ core_of terms f → IsDecided system core
-decided_core f system terms core lawful ready steps well is =
+decided_core f system terms core lawful ready finite well is =
     let first : IsIndexOf system.rules 1 = record { low = omega arith; high = lawful.some } in
     record {
       well_formed = well;
       over = subst (IsOverSystem system) (sym is) (IsOverSystem-core_of system first terms ready.grounded f ready.within ready.has_terms);
-      one_step = subst IsOneStep (sym is) (IsOneStep-core_of terms f steps);
+      no_infinite = subst HasNoInfinite (sym is) (HasNoInfinite-core_of terms f finite);
     }
 
 -- ---- from the core formula to the formula

@@ -10,11 +10,11 @@ mod outcome;
 mod refusal;
 mod reply;
 mod status;
-mod steps;
 #[cfg(test)]
 mod tests;
 mod top;
 mod verdict;
+mod without_infinite;
 
 pub use outcome::Outcome;
 pub use top::run;
