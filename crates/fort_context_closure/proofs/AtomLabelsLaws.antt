@@ -1,5 +1,5 @@
 -- The labels of an atom tell apart what is not alike, and are accepted where the atom holds.
-use Rattle.std.specs.Prelude.{◌≡◌, ◌↔◌, ℕ, List, [], ◌∷◌, All, true, false, Decides, refl}
+use Rattle.std.specs.Prelude.{◌≡◌, ◌↔◌, ℕ, List, [], ◌∷◌, All, true, Decides, refl}
 use Rattle.std.proofs.Common.{sym, ap, subst, ◌∙◌}
 use Rattle.fort_theory.specs.Sides.{at_index, System, IsLinearSeparated}
 use Rattle.fort_theory.specs.Patterns.{PatternSystem, pattern_system}
@@ -12,8 +12,7 @@ use Rattle.fort_logic.specs.Cores.{Rel, Atom as CoreAtom, Nf as CoreNf}
 use Rattle.fort_logic.specs.Parts.{AreColumns}
 use Rattle.fort_tables.specs.Tuples.{Tuple}
 use Rattle.fort_tables.specs.LabelRules.{label_of}
-use Rattle.fort_alike.specs.Atoms.{Atom, IsTrueOf, kind_for, relation_atom, normal_atom}
-use Rattle.fort_alike.specs.Alike.{is_reaching}
+use Rattle.fort_alike.specs.Atoms.{Atom, IsTrueOf, relation_atom, normal_atom}
 use Rattle.fort_atom_labels.specs.ListedAtoms.{ListedAtom, listed}
 use Rattle.fort_atom_labels.specs.AtomRules.{atom_rule, atom_accepts}
 use Rattle.fort_atom_labels.specs.ClosureTests.{IsClosure}

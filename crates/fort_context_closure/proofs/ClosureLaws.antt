@@ -1,18 +1,15 @@
 -- The transducer over the patterns of a list of rules is one of their root steps; the entries of its closure list exactly the closure over patterns.
-use Rattle.std.specs.Prelude.{◌≡◌, ◌↔◌, ℕ, ◌<◌, List, map, length, get_or, Contains, refl}
-use Rattle.std.proofs.Common.{subst, sym}
+use Rattle.std.specs.Prelude.{ℕ, List, map, get_or, Contains}
+use Rattle.std.proofs.Common.{subst}
 use Rattle.std.proofs.lemmas.Option.{slice_get-get_or, get_or_from_slice_get}
 use Rattle.std.proofs.lemmas.List.Elements.{Contains-get_or}
 use Rattle.fort_theory.specs.Signatures.{Signature}
 use Rattle.fort_theory.specs.Patterns.{Pattern, Any, Pair, FitsPattern}
-use Rattle.fort_reachability.specs.TreeAutomata.{FitsAutomaton}
 use Rattle.fort_reachability.specs.Transducers.{FitsTransducer}
-use Rattle.fort_reachability.specs.ClosureTables.{InClosure}
-use Rattle.fort_reachability.specs.PatternClosures.{InPatternClosure}
 use Rattle.fort_reachability.proofs.PatternAutomata.{FitsAutomaton-from_patterns}
 use Rattle.fort_reachability.proofs.PatternTransducers.{IsPatternTransducer, InClosure-ReachesInstance}
 use Rattle.fort_reachability.proofs.PatternClosureExact.{InPatternClosure-ReachesInstance}
-use Rattle.fort_terms.specs.PatternView.{as_pair, as_pattern}
+use Rattle.fort_terms.specs.PatternView.{as_pattern}
 use Rattle.fort_tree_automata.specs.PatternMoves.{StandsAt}
 use Rattle.fort_tree_automata.proofs.PatternMovesLaws.{StandsAt-below}
 use Rattle.fort_agtt.specs.declared.agtt.Agtt.{Agtt}

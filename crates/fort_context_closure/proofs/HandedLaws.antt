@@ -1,5 +1,5 @@
 -- What is read of rules, patterns and a closure that are handed in is what the rule of labels asks for.
-use Rattle.std.specs.Prelude.{◌≡◌, ℕ, zero, suc, ◌+◌, ◌<◌, List, [], ◌∷◌, ◌++◌, map, length, drop, get_or, Option, Bool, true, false, ◌&&◌, ◌||◌, refl}
+use Rattle.std.specs.Prelude.{◌≡◌, ℕ, suc, ◌+◌, ◌<◌, List, [], ◌∷◌, ◌++◌, map, length, drop, get_or, Option, Bool, true, false, ◌&&◌, ◌||◌, refl}
 use Rattle.std.proofs.Common.{sym, ap, ◌∙◌, arith}
 use Rattle.std.proofs.Math.Bool.{or_assoc}
 use Rattle.std.proofs.lemmas.List.{drop_more}
@@ -11,7 +11,7 @@ use Rattle.fort_formulas.specs.declared.core_formula.Rel.TheVariants as rels
 use Rattle.fort_formulas.specs.CoreView.{as_rel}
 use Rattle.fort_alike.specs.Atoms.{kind_for, pairs_for, both_ways}
 use Rattle.fort_alike.specs.Alike.{is_reaching}
-use Rattle.fort_atom_labels.specs.ListedAtoms.{Mark, OfFirst, OfSecond, ListedAtom}
+use Rattle.fort_atom_labels.specs.ListedAtoms.{OfFirst, OfSecond, ListedAtom}
 use Rattle.fort_atom_labels.specs.AtomRules.{same_pattern, marks_of, any_pair, inside, first_step, second_step, bit_in}
 use Rattle.fort_atom_labels.specs.ClosureTests.{pattern_place}
 use Rattle.fort_context_closure.specs.RowBits.{bit_of}

@@ -7,9 +7,9 @@ use Rattle.fort_theory.specs.Patterns as theory
 use Rattle.fort_terms.specs.declared.pattern.Pattern.{Pattern}
 use Rattle.fort_terms.specs.PatternView.{as_pattern, as_patterns}
 use Rattle.fort_terms.specs.PatternKeys.{pattern_eq}
-use Rattle.fort_atom_labels.specs.AtomRules.{same_pattern, place, marks_of, bit_in, all_inside, inside, any_pair, root_test, atom_rule, atom_accepts}
+use Rattle.fort_atom_labels.specs.AtomRules.{same_pattern, place, marks_of, bit_in, all_inside, inside, any_pair, atom_rule, atom_accepts}
 use Rattle.fort_atom_labels.specs.ListedAtoms.{Mark, OfFirst, OfSecond, OfBoth, ListedAtom, AreArguments}
-use Rattle.fort_alike.specs.Alike.{Fact, facts_of, is_reaching}
+use Rattle.fort_alike.specs.Alike.{Fact, facts_of}
 use Rattle.fort_atom_labels.proofs.Bits.{Decides-same_pattern}
 use Rattle.fort_context_closure.specs.LocalAtoms.{first_place, all_placed, placed, pair_has, handed_in, local_relation}
 use Rattle.fort_theory.specs.Signatures.{Signature}

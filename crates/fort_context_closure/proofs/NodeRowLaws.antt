@@ -10,7 +10,7 @@ use Rattle.fort_tables.specs.LabelRules.{entry_label}
 use Rattle.fort_alike.specs.Atoms.{AtomKind}
 use Rattle.fort_alike.specs.Alike.{Fact, facts_of, is_reaching}
 use Rattle.fort_atom_labels.specs.ListedAtoms.{Mark, OfFirst, OfSecond, OfBoth, ListedAtom, listed}
-use Rattle.fort_atom_labels.specs.AtomRules.{marks_of, row_of, inside, first_step, second_step, root_test, mark_step, bit_in, atom_rule, any_pair, place, accepts_by, atom_accepts}
+use Rattle.fort_atom_labels.specs.AtomRules.{marks_of, inside, first_step, second_step, root_test, mark_step, bit_in, atom_rule, any_pair, place, accepts_by, atom_accepts}
 use Rattle.fort_atom_labels.specs.PatternNumbers.{PatternNumber, number_inside}
 use Rattle.fort_atom_labels.proofs.BitPlaces.{NoneTwice}
 use Rattle.fort_atom_labels.proofs.PatternNumberLaws.{first_bit, second_bit, fact_bit, first_row, second_row}

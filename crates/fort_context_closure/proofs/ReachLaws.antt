@@ -6,7 +6,7 @@ use Rattle.std.proofs.Math.Bool.{and_comm}
 use Rattle.std.proofs.lemmas.Bool.{cases_lt}
 use Rattle.std.proofs.lemmas.Bool.Decides.{Decides-eqb, Decides-like, Decides-and, Decides-or}
 use Rattle.std.proofs.lemmas.List.{get_or_append_left, get_or-append-add, get_or-map, get_or_past, length-append, length-map}
-use Rattle.fort_theory.specs.Patterns.{Pattern, Any, Pair}
+use Rattle.fort_theory.specs.Patterns.{Pattern, Any}
 use Rattle.fort_theory.specs.PatternOrder.{PatternBefore}
 use Rattle.fort_theory.proofs.ClosedPatterns.{PatternBefore-irreflexive}
 use Rattle.fort_theory.proofs.Members.{Contains-none, Contains-cons_cases, Contains-head, Contains-behind}

@@ -1,5 +1,5 @@
 -- Rows of bits for a closure: rows with no bit on, one more bit, one more entry; and the bits of one row added to another.
-use Rattle.std.specs.Prelude.{◌≡◌, ◌≢◌, ◌⊎◌, ℕ, zero, suc, ◌+◌, ◌*◌, ◌/◌, ◌%◌, ◌<◌, ◌≤◌, List, [], ◌∷◌, ◌++◌, map, length, take, drop, set, get_or, Contains, Bool, true, false, Decides, nat_lt, ◌&&◌, ◌||◌, ◌==◌, refl}
+use Rattle.std.specs.Prelude.{◌≡◌, ◌≢◌, ◌⊎◌, ℕ, zero, suc, ◌+◌, ◌*◌, ◌/◌, ◌%◌, ◌<◌, ◌≤◌, List, [], ◌∷◌, ◌++◌, length, take, set, get_or, Contains, Bool, true, false, Decides, nat_lt, ◌&&◌, ◌||◌, ◌==◌, refl}
 use Prim.Native.Nat.{max}
 use Rattle.std.specs.List.{list_any}
 use Rattle.std.proofs.Math.Bool.{or_assoc}
@@ -21,7 +21,7 @@ use Rattle.fort_gtt_closure.specs.declared.entry.Entry.{Entry}
 use Rattle.fort_context_closure.specs.RowBits.{bit_of}
 use Rattle.fort_context_closure.specs.ClosedAtoms.{numbers_of}
 use Rattle.fort_context_closure.specs.declared.reach.Reach.{Reach}
-use Rattle.fort_context_closure.specs.ReachRows.{row_in, SetsBit, AreClear, firsts_of, seconds_of, is_within, HasRows, IsReach, MarksEntry}
+use Rattle.fort_context_closure.specs.ReachRows.{row_in, SetsBit, AreClear, firsts_of, seconds_of, is_within, IsReach, MarksEntry}
 
 -- one more bit of one row
 

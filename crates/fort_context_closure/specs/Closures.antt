@@ -1,5 +1,5 @@
 -- Inside: the transducer of a list of rules, and the entries of its closure.
-use Rattle.std.specs.Prelude.{◌≡◌, ◌↔◌, ℕ, List, map}
+use Rattle.std.specs.Prelude.{◌↔◌, ℕ, List, map}
 use Rattle.fort_reachability.specs.ClosureTables.{InClosure}
 use Rattle.fort_terms.specs.PatternView.{as_pair, as_pattern}
 use Rattle.fort_agtt.specs.declared.agtt.Agtt.{Agtt}

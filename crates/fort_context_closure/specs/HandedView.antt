@@ -1,5 +1,5 @@
 -- Inside: what is read of the rules, patterns and closure that are handed in.
-use Rattle.std.specs.Prelude.{ℕ, ◌+◌, ◌^◌, ◌<◌, List, [], length, map, Option, Bool, false, ◌&&◌}
+use Rattle.std.specs.Prelude.{ℕ, ◌^◌, ◌<◌, List, length, map, Option, Bool, false, ◌&&◌}
 use Rattle.fort_theory.specs.Patterns.{Pattern, Pair}
 use Rattle.fort_terms.specs.PatternView.{as_pattern, as_pair}
 use Rattle.fort_formulas.specs.CoreView.{as_rel}

@@ -1,4 +1,4 @@
-use Rattle.std.proofs.Common.{◌≡◌, ℕ, List, Bool, ◌||◌, map, refl, sym, ap, ◌∙◌}
+use Rattle.std.proofs.Common.{List, Bool, ◌||◌, map, refl, sym, ap, ◌∙◌}
 use Rattle.fort_theory.specs.Patterns.{Pair}
 use Rattle.fort_terms.specs.PatternView.{as_pair}
 use Rattle.fort_formulas.specs.declared.core_formula.Rel.{Rel}

@@ -1,4 +1,4 @@
-use Rattle.std.proofs.Common.{◌≡◌, ℕ, List, Bool, ◌||◌, map, ap, ◌∙◌, inl, inr}
+use Rattle.std.proofs.Common.{◌≡◌, ℕ, List, ◌||◌, map, ap, ◌∙◌, inl, inr}
 use Rattle.std.proofs.Math.Bool.{or_assoc}
 use Rattle.fort_theory.specs.Patterns.{Pair}
 use Rattle.fort_terms.specs.PatternView.{as_pattern, as_pair}

@@ -1,4 +1,4 @@
-use Rattle.std.proofs.Common.{◌≡◌, true, false, refl, ◌∙◌}
+use Rattle.std.proofs.Common.{◌≡◌, true, false, refl}
 use Rattle.fort_context_closure.specs.RowBits.{bit_of}
 use Rattle.fort_context_closure.proofs.ReachRowLaws.{or-off}
 use Rattle.fort_context_closure.proofs.reach.add_row.Goals as goal

@@ -1,4 +1,4 @@
-use Rattle.std.proofs.Common.{◌≡◌, ℕ, ◌<◌, length, arith}
+use Rattle.std.proofs.Common.{arith}
 use Rattle.fort_context_closure.proofs.ReachRowLaws.{bit_of-added}
 use Rattle.fort_context_closure.proofs.reach.add_words.Goals as goal
 

@@ -1,4 +1,4 @@
-use Rattle.std.proofs.Common.{◌≡◌, ◌<◌, ℕ, List, map, length, get_or, replicate, ap, ◌∙◌, arith, rules}
+use Rattle.std.proofs.Common.{◌≡◌, ℕ, List, map, length, get_or, replicate, ap, ◌∙◌, arith, rules}
 use Rattle.std.specs.Prelude.{vec_items}
 use Rattle.std.proofs.lemmas.List.{map-append, get_or-replicate, length-replicate}
 use Rattle.fort_context_closure.proofs.ReachRowLaws.{AreClear-none, AreClear-push}

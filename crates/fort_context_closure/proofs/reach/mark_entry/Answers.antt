@@ -1,8 +1,8 @@
-use Rattle.std.proofs.Common.{◌≡◌, ◌<◌, ◌≤◌, ℕ, true, false, length, map, arith}
+use Rattle.std.proofs.Common.{◌<◌, length, arith}
 use Rattle.std.specs.Prelude.{vec_items}
 use Rattle.std.proofs.lemmas.List.{length-map}
 use Rattle.fort_context_closure.specs.declared.reach.Reach.{Reach}
-use Rattle.fort_context_closure.specs.ReachRows.{firsts_of, seconds_of, is_within}
+use Rattle.fort_context_closure.specs.ReachRows.{firsts_of, is_within}
 use Rattle.fort_context_closure.proofs.ReachLaws.{off}
 use Rattle.fort_context_closure.proofs.ReachRowLaws.{Decides-is_within, MarksEntry-none, MarksEntry-both}
 use Rattle.fort_context_closure.proofs.reach.mark_entry.Goals as goal

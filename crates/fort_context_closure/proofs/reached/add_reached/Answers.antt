@@ -1,5 +1,4 @@
-use Rattle.std.proofs.Common.{◌≡◌, ℕ, List, Bool, ◌||◌, sym, ap, ◌∙◌, arith, take, get_or}
-use Rattle.std.specs.Prelude.{Contains}
+use Rattle.std.proofs.Common.{List, Bool, ◌||◌, sym, ap, ◌∙◌, arith, take, get_or}
 use Rattle.std.specs.List.{list_any}
 use Rattle.std.proofs.Math.Bool.{or_assoc}
 use Rattle.std.proofs.lemmas.List.{take_all, get_or_default}

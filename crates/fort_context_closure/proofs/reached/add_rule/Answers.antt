@@ -1,4 +1,4 @@
-use Rattle.std.proofs.Common.{◌≡◌, ℕ, ◌+◌, List, None, Bool, ◌&&◌, ◌||◌, length, get_or, map, sym, ap, ◌∙◌}
+use Rattle.std.proofs.Common.{◌≡◌, ℕ, List, None, Bool, ◌&&◌, ◌||◌, length, get_or, ap, ◌∙◌}
 use Rattle.std.proofs.Math.Bool.{or_assoc}
 use Rattle.std.proofs.lemmas.List.{get_or_default}
 use Rattle.fort_lockstep.specs.Columns.{as_column}

@@ -1,4 +1,4 @@
-use Rattle.std.proofs.Common.{◌≡◌, List, ◌++◌, map, ap, ◌∙◌}
+use Rattle.std.proofs.Common.{◌≡◌, List, ◌++◌, map, ◌∙◌}
 use Rattle.fort_theory.specs.Patterns.{Pair}
 use Rattle.fort_theory.specs.Sides.{at_index}
 use Rattle.fort_terms.specs.BothWays.{exchanged}

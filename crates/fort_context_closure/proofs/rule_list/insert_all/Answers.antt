@@ -1,6 +1,4 @@
-use Rattle.std.proofs.Common.{map, ◌∷◌, []}
 use Rattle.std.proofs.lemmas.List.{map-append}
-use Rattle.fort_terms.specs.PatternView.{as_pattern}
 use Rattle.fort_terms.proofs.SubpatternsLaws.{HasMore-inserted, HasMore-append}
 use Rattle.fort_context_closure.proofs.rule_list.insert_all.Goals as goal
 

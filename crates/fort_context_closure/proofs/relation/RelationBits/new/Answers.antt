@@ -1,7 +1,7 @@
 use Rattle.std.proofs.Common.{List, map, sym, subst}
 use Rattle.std.proofs.lemmas.Result.{IfOk-weaker}
 use Rattle.fort_theory.specs.Sides.{at_index}
-use Rattle.fort_theory.specs.Patterns.{Pattern, Pair}
+use Rattle.fort_theory.specs.Patterns.{Pair}
 use Rattle.fort_terms.specs.PatternView.{as_pattern}
 use Rattle.fort_formulas.specs.CoreView.{as_rel}
 use Rattle.fort_alike.specs.Atoms.{pairs_for, relation_atom}

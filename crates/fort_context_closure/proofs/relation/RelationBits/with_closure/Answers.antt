@@ -1,4 +1,4 @@
-use Rattle.std.proofs.Common.{map, List}
+use Rattle.std.proofs.Common.{map}
 use Rattle.std.proofs.lemmas.Result.{IfOk-weaker}
 use Rattle.fort_terms.specs.PatternView.{as_pattern}
 use Rattle.fort_formulas.specs.CoreView.{as_rel}

@@ -1,11 +1,10 @@
-use Rattle.std.proofs.Common.{◌≡◌, ℕ, suc, ◌+◌, ◌≤◌, List, [], ◌++◌, Bool, true, false, map, length, refl, sym, ap, subst, ◌∙◌, arith}
-use Rattle.std.proofs.lemmas.List.{length-map, length-append}
-use Rattle.fort_theory.specs.Patterns.{Pattern}
+use Rattle.std.proofs.Common.{◌≡◌, ℕ, suc, ◌+◌, ◌≤◌, List, [], ◌++◌, Bool, true, map, length, refl, sym, subst, arith}
+use Rattle.std.proofs.lemmas.List.{length-map}
 use Rattle.fort_formulas.specs.CoreView.{as_rel}
 use Rattle.fort_lockstep.specs.Columns.{as_column}
 use Rattle.fort_tables.specs.BitRows.{words_for}
 use Rattle.fort_alike.specs.Atoms.{kind_for}
-use Rattle.fort_alike.specs.Alike.{is_reaching, facts_of}
+use Rattle.fort_alike.specs.Alike.{is_reaching}
 use Rattle.fort_atom_labels.specs.AtomRules.{marks_of}
 use Rattle.fort_atom_labels.specs.PatternNumbers.{PatternNumber, number_inside}
 use Rattle.fort_context_closure.specs.RowBits.{HasBits, labels_at}

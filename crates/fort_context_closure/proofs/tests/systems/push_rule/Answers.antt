@@ -1,5 +1,4 @@
 use Rattle.std.proofs.Common.{length, ap, ◌∙◌, arith}
-use Rattle.fort_theory.specs.Patterns.{Pair}
 use Rattle.fort_theory.specs.Sides.{IsIndexOf, count_all}
 use Rattle.fort_theory.proofs.IndexLaws.{count_all-pushed_at, length-pushed_at}
 use Rattle.fort_context_closure.proofs.tests.systems.push_rule.Goals as goal

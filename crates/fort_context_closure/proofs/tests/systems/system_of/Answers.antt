@@ -1,4 +1,4 @@
-use Rattle.std.proofs.Common.{◌≡◌, ℕ, zero, suc, List, length, refl, ap, ◌∙◌, arith}
+use Rattle.std.proofs.Common.{◌≡◌, ℕ, zero, suc, length, refl, ap, ◌∙◌, arith}
 use Rattle.fort_theory.specs.Patterns.{Pair}
 use Rattle.fort_theory.specs.Sides.{count_all, empty_lists}
 use Rattle.fort_theory.proofs.IndexLaws.{length-empty_lists}
