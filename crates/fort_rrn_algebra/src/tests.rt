@@ -1,9 +1,9 @@
 //! Products, projections, cylinders and exchanges of a table that knows one constant.
-ghost use Rattle.std.specs.Prelude.{◌≡◌, ◌<◌, ◌+◌, [], ◌∷◌, length, None, slice_index_or, slice_get, IfOk, codes};
+ghost use Rattle.std.specs.Prelude.{◌≡◌, ◌<◌, ◌+◌, ℕ, [], ◌∷◌, map, length, None, slice_index_or, slice_get, IfOk, codes};
 ghost use Rattle.fort_theory.specs.Signatures.{symbol};
 ghost use Rattle.fort_tables.specs.Tables.{IsListed};
 ghost use Rattle.fort_lockstep.specs.Columns.{as_column};
-ghost use Rattle.fort_rrn_algebra.specs.TestRules.{is_first as is_first_lem};
+ghost use Rattle.fort_rrn_algebra.specs.TestRules.{is_first as is_first_lem, other_height as other_height_lem, height_if_equal as height_if_equal_lem};
 
 use super::*;
 use fort_explore::{ByRule, ExploreFault, LocalRule, Rows, explore};
@@ -105,15 +105,19 @@ fn joined(alloc: Global, signature: &Signature, op: Op) -> Result<Dta, ExploreFa
 /// The counts of a product, and of its projections.
 fn counts_of(alloc: Global, op: Op) -> Result<[(u32, u32); 3], AddFault> {
     let signature = constant_and_unary(alloc)?;
-    let mut all = [(0u32, 0u32); 3];
     match joined(alloc, &signature, op) {
-        Ok(body) => {
-            all[0] = counts(&body);
-            for column in 0..2usize {
-                all[column + 1] = projected(alloc, &body, column)?;
-            }
-        }
-        Err(_) => return Err(AddFault::Memory),
+        Ok(body) => counts_of_two(alloc, &body),
+        Err(_) => Err(AddFault::Memory),
+    }
+}
+
+/// The counts of a table of two columns, and of its projections.
+fn counts_of_two(alloc: Global, body: &Dta) -> Result<[(u32, u32); 3], AddFault>
+    requires { body.now.columns ≡ 2 }
+{
+    let mut all = [counts(body); 3];
+    for column in 0..2usize {
+        all[column + 1] = projected(alloc, body, column)?;
     }
     Ok(all)
 }
@@ -244,5 +248,109 @@ fn equality_over_one_constant(rt: HostRuntime) -> Result<(), Fail> {
         [(3, 1), (3, 0), (3, 1), (7, 1)]
     );
     assert_eq!(rt; pure_counts(rt.alloc())?, [1, 1]);
+    Ok(())
+}
+
+/// Equality of two terms over a constant and a unary symbol, which tells odd heights from even ones.
+#[derive(Drop)]
+struct EqualHeights<'a> {
+    signature: &'a Signature,
+}
+
+/// One symbol above terms that are equal and odd (1) or even (2), or not equal (0).
+fn other_height(height: u64) -> u64
+    ensures { result ≡ other_height_lem height }
+{
+    if height == 1 {
+        2
+    } else if height == 2 {
+        1
+    } else {
+        0
+    }
+}
+
+/// 1 or 2 for equal terms of odd or even height, or 0; the children's answer is at hand.
+fn height_if_equal(first: Option<Sym>, second: Option<Sym>, kids: u64) -> u64
+    ensures { result ≡ height_if_equal_lem (as_column first) (as_column second) kids }
+{
+    if is_first(first) == 1 {
+        is_first(second)
+    } else if is_first(second) == 1 {
+        0
+    } else {
+        other_height(kids)
+    }
+}
+
+/// The second word of the first child's label, or 0.
+fn height_of_kids(row: &Row, rows: &Rows) -> u64
+    requires { (j : ℕ) → j < length row.now.kids → slice_index_or row.now.kids j 0 < length
+        rows.now.labels }
+    ensures { result ≡ slice_index_or (slice_index_or (map (λ q. slice_index_or rows.now.labels q
+        []) row.now.kids) 0 []) 1 0 }
+{
+    match row.kids().first() {
+        Some(kid) => rows.label(*kid).get(1).copied().unwrap_or(0),
+        None => 0,
+    }
+}
+
+impl<'a> LocalRule for EqualHeights<'a> {
+    ghost use Rattle.std.specs.Prelude.{refl};
+    ghost use Rattle.fort_rrn_algebra.specs.TestRules.{heights_rule, heights_accepts};
+
+    ghost rule = { λ s. heights_rule s.signature.now };
+
+    ghost word_count = { λ _. 2 };
+
+    ghost accepting = { λ _. heights_accepts };
+
+    ghost tells = { λ _ f ws. refl };
+
+    ghost has_words = { λ _ f ws. refl };
+
+    fn columns(&self) -> usize {
+        2
+    }
+
+    fn width(&self) -> usize {
+        2
+    }
+
+    fn step(&self, row: &Row, rows: &Rows, out: &mut [u64]) {
+        let first = row.sym().symbol(0);
+        let second = row.sym().symbol(1);
+        out[0] = row.presence() as u64;
+        out[1] = height_if_equal(first, second, height_of_kids(row, rows));
+    }
+
+    fn accepts(&self, label: &[u64]) -> bool {
+        label.get(1).copied().unwrap_or(0) != 0
+    }
+}
+
+/// The table of equality with its two heights.
+fn heights_table(alloc: Global, signature: &Signature) -> Result<Dta, ExploreFault>
+    ensures columns { IfOk result (λ t. t.columns ≡ 2) }
+{
+    explore(alloc, signature, &ByRule(&EqualHeights { signature }), 10)
+}
+
+/// The counts of that table, and of its projections.
+fn counts_of_heights(alloc: Global) -> Result<[(u32, u32); 3], AddFault> {
+    let signature = constant_and_unary(alloc)?;
+    match heights_table(alloc, &signature) {
+        Ok(body) => counts_of_two(alloc, &body),
+        Err(_) => Err(AddFault::Memory),
+    }
+}
+
+#[test]
+fn states_that_accept_alike(rt: HostRuntime) -> Result<(), Fail> {
+    // A state for each column alone; full tuples are unequal (U), or equal and odd (O) or even (E).
+    // O and E accept the same, and one symbol leads from each to the other. A label of a projection
+    // is the state with the column absent, the same for all, and a set: {U, O} or {U, E}.
+    assert_eq!(rt; counts_of_heights(rt.alloc())?, [(5, 2), (2, 2), (2, 2)]);
     Ok(())
 }
