@@ -16,7 +16,7 @@ use Rattle.fort_atom_labels.specs.AtomRules.{same_pattern, marks_of, any_pair, i
 use Rattle.fort_atom_labels.specs.ClosureTests.{pattern_place}
 use Rattle.fort_context_closure.specs.RowBits.{bit_of}
 use Rattle.fort_context_closure.specs.LocalAtoms.{first_place, placed, turned}
-use Rattle.fort_context_closure.specs.declared.local.Handed.{Handed}
+use Rattle.fort_context_closure.specs.declared.handed.Handed.{Handed}
 use Rattle.fort_context_closure.specs.HandedView.{left_list, right_list, closure_by, bit_by, starts_by, ends_by, first_by, second_by}
 use Rattle.fort_context_closure.proofs.LocalLaws.{place-cases, placed-inside, reads-first, reads-second}
 

@@ -10,7 +10,7 @@ use Rattle.fort_atom_labels.specs.AtomRules.{first_step, second_step}
 use Rattle.fort_atom_labels.specs.ClosureTests.{closure_test}
 use Rattle.fort_context_closure.specs.RowBits.{bit_of}
 use Rattle.fort_context_closure.specs.LocalAtoms.{first_place, placed}
-use Rattle.fort_context_closure.specs.declared.local.Handed.{Handed}
+use Rattle.fort_context_closure.specs.declared.handed.Handed.{Handed}
 
 abbrev pub left_list : Handed → List Pattern
 left_list h = map as_pattern h.left.now

@@ -1,5 +1,5 @@
 //! The closure of some rules: which right pattern reaches which left pattern.
-ghost use Rattle.std.specs.Prelude.{◌≡◌, ◌<◌, ◌^◌, IfOk, Contains, length, map};
+ghost use Rattle.std.specs.Prelude.{◌<◌, ◌^◌, IfOk, Contains, length, map};
 ghost use Rattle.fort_theory.specs.Patterns as theory;
 ghost use Rattle.fort_terms.specs.PatternView.{as_pair, as_pattern};
 ghost use Rattle.fort_tree_automata.specs.PatternMoves.{IsClosedInOrder};

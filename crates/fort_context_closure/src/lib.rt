@@ -6,6 +6,7 @@ mod atom_labels;
 mod bits;
 mod closure;
 mod facts;
+mod handed;
 pub mod local;
 mod local_terms;
 mod nodes;

@@ -1,18 +1,13 @@
 //! The labels of an atom that relates two terms, by bits.
-ghost use Rattle.std.specs.Prelude.{◌≡◌, ℕ, ◌+◌, ◌*◌, ◌-◌, ◌<◌, ◌≤◌, ◌^◌, suc, List, [], ◌++◌, map, Bool, true, length, slice_index_or, IfOk};
+ghost use Rattle.std.specs.Prelude.{◌≡◌, ℕ, ◌+◌, ◌-◌, ◌<◌, ◌≤◌, ◌^◌, suc, map, true, length, slice_index_or, IfOk};
 ghost use Rattle.fort_theory.specs.Sides.{IsIndexOf, at_index};
-ghost use Rattle.fort_theory.specs.PatternOrder.{AreSubpatternsInOrder};
-ghost use Rattle.fort_logic.specs.Cores as cores;
-ghost use Rattle.fort_logic.specs.Parts as parts;
 ghost use Rattle.fort_formulas.specs.CoreView.{as_rel};
 ghost use Rattle.fort_tables.specs.BitRows.{words_for};
 ghost use Rattle.fort_tables.specs.LabelRules.{entry_label};
 ghost use Rattle.fort_lockstep.specs.Columns.{as_column};
-ghost use Rattle.fort_alike.specs.Atoms.{kind_for, relation_atom};
+ghost use Rattle.fort_alike.specs.Atoms.{kind_for};
 ghost use Rattle.fort_alike.specs.Alike.{is_reaching};
-ghost use Rattle.fort_atom_labels.specs.ListedAtoms.{AreArguments};
 ghost use Rattle.fort_atom_labels.specs.AtomRules.{marks_of, atom_rule, atom_accepts};
-ghost use Rattle.fort_atom_labels.specs.PatternNumbers.{number_inside};
 ghost use Rattle.fort_context_closure.specs.RowBits.{HasBits, labels_at};
 ghost use Rattle.fort_context_closure.specs.PlainAtoms.{IsRelationAtomOf, IsOfRules};
 ghost use Rattle.fort_context_closure.specs.ClosedAtoms.{ListsClosureFor, ListsPasses, numbers_of, pattern_bits, test_of};

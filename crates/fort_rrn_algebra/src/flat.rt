@@ -88,7 +88,8 @@ impl FlatTargets {
 
     /// Marks the targets where the last child has any state of the set, and the ones before it are at this place.
     pub(crate) fn mark_set(&self, start: usize, place: usize, set: &[u64], out: &mut [u64])
-        requires readable { (k : ℕ) → has_state set.now k ≡ true → IsReadable self.now start place k }
+        requires readable { (k : ℕ) → has_state set.now k ≡ true
+            → IsReadable self.now start place k }
         requires room { (k : ℕ) → has_state set.now k ≡ true
             → read_at self.now start place k + 128 < 64 * length out.old }
         requires few { length set.now < 2 ^ 32 }
@@ -108,7 +109,8 @@ impl FlatTargets {
     fn mark_word(&self, start: usize, place: usize, set: &[u64], i: usize, out: &mut [u64])
         requires word { i < length set.now }
         requires behind { 2 ≤ i }
-        requires readable { (k : ℕ) → has_state set.now k ≡ true → IsReadable self.now start place k }
+        requires readable { (k : ℕ) → has_state set.now k ≡ true
+            → IsReadable self.now start place k }
         requires room { (k : ℕ) → has_state set.now k ≡ true
             → read_at self.now start place k + 128 < 64 * length out.old }
         requires few { length set.now < 2 ^ 32 }

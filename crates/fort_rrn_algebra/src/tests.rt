@@ -1,4 +1,4 @@
-//! Products, projections, cylinders and exchanges of a table that knows one constant.
+//! Products, projections, cylinders and exchanges of small tables.
 ghost use Rattle.std.specs.Prelude.{◌≡◌, ◌<◌, ◌+◌, ℕ, [], ◌∷◌, map, length, None, slice_index_or, slice_get, IfOk, codes};
 ghost use Rattle.fort_theory.specs.Signatures.{symbol};
 ghost use Rattle.fort_tables.specs.Tables.{IsListed};

@@ -14,7 +14,7 @@ use Rattle.fort_atom_labels.specs.ClosureTests.{closure_test}
 use Rattle.fort_context_closure.specs.RowBits.{HasBits, IsRow, labels_at}
 use Rattle.fort_context_closure.specs.FactTests.{fact_bit, fact_test}
 use Rattle.fort_context_closure.specs.LocalAtoms.{handed_in}
-use Rattle.fort_context_closure.specs.declared.local.Handed.{Handed}
+use Rattle.fort_context_closure.specs.declared.handed.Handed.{Handed}
 use Rattle.fort_context_closure.specs.HandedView.{first_by, second_by}
 use Rattle.fort_context_closure.proofs.NodeRowLaws.{node_marks, label-is}
 use Rattle.fort_context_closure.proofs.RelationLaws.{bits-are}

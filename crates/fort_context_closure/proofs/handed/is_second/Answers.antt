@@ -13,7 +13,7 @@ use Rattle.fort_context_closure.specs.HandedView.{left_list, right_list, ends_by
 use Rattle.std.proofs.lemmas.List.{length-map}
 use Rattle.fort_context_closure.specs.LocalAtoms.{placed}
 use Rattle.fort_context_closure.proofs.HandedLaws.{any_pair-one, any_pair-both, plain-others, second-plain, second-reached}
-use Rattle.fort_context_closure.proofs.local.is_second.Goals as goal
+use Rattle.fort_context_closure.proofs.handed.is_second.Goals as goal
 
 pub returns-in-Plus : goal.returns-in-Plus
 returns-in-Plus c =

@@ -3,7 +3,7 @@ use Rattle.fort_lockstep.specs.Columns.{as_column}
 use Rattle.fort_terms.specs.PatternView.{as_pattern}
 use Rattle.fort_context_closure.specs.HandedView.{first_by}
 use Rattle.fort_context_closure.specs.RowBits.{HasBits, labels_at}
-use Rattle.fort_context_closure.proofs.local.write_firsts.Given as goal
+use Rattle.fort_context_closure.proofs.handed.write_firsts.Given as goal
 
 abbrev pub invariant-loop-k : goal.invariant-loop-k
 invariant-loop-k l =

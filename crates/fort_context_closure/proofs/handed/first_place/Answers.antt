@@ -1,6 +1,6 @@
 use Rattle.std.proofs.Common.{◌+◌, sym, ◌∙◌, arith}
 use Rattle.fort_context_closure.proofs.LocalLaws.{first_place-here, first_place-further}
-use Rattle.fort_context_closure.proofs.local.first_place.Goals as goal
+use Rattle.fort_context_closure.proofs.handed.first_place.Goals as goal
 
 pub returns-then-eq-clause-place : goal.returns-then-eq-clause-place
 returns-then-eq-clause-place c =

@@ -9,7 +9,7 @@ use Rattle.fort_atom_labels.specs.AtomRules.{any_pair}
 use Rattle.fort_context_closure.specs.RowBits.{labels_at}
 use Rattle.fort_context_closure.specs.HandedView.{rule_by}
 use Rattle.fort_context_closure.proofs.HandedLaws.{any_pair-one, any_pair-both, pairs-others}
-use Rattle.fort_context_closure.proofs.local.has_root.Goals as goal
+use Rattle.fort_context_closure.proofs.handed.has_root.Goals as goal
 
 pub returns-in-Eq : goal.returns-in-Eq
 returns-in-Eq c = rw c.in-Eq.is refl

@@ -3,7 +3,7 @@ use Rattle.std.proofs.lemmas.List.{length-map}
 use Rattle.fort_terms.specs.PatternView.{as_pattern}
 use Rattle.fort_context_closure.specs.RowBits.{labels_at}
 use Rattle.fort_context_closure.proofs.LocalLaws.{all_placed-short, all_placed-child}
-use Rattle.fort_context_closure.proofs.local.are_at.Goals as goal
+use Rattle.fort_context_closure.proofs.handed.are_at.Goals as goal
 
 pub returns-then-kids-args : goal.returns-then-kids-args
 returns-then-kids-args c =

@@ -1,7 +1,7 @@
 use Rattle.std.proofs.Common.{◌≡◌, ◌+◌, map, drop}
 use Rattle.fort_terms.specs.PatternView.{as_pattern}
 use Rattle.fort_context_closure.specs.LocalAtoms.{first_place}
-use Rattle.fort_context_closure.proofs.local.first_place.Given as goal
+use Rattle.fort_context_closure.proofs.handed.first_place.Given as goal
 
 abbrev pub invariant-loop-k : goal.invariant-loop-k
 invariant-loop-k l =

@@ -2,7 +2,7 @@ use Rattle.std.proofs.Common.{◌≡◌, map, drop}
 use Rattle.fort_terms.specs.PatternView.{as_pattern, as_patterns}
 use Rattle.fort_context_closure.specs.LocalAtoms.{all_placed}
 use Rattle.fort_context_closure.specs.RowBits.{labels_at}
-use Rattle.fort_context_closure.proofs.local.are_at.Given as goal
+use Rattle.fort_context_closure.proofs.handed.are_at.Given as goal
 
 -- the arguments that are left decide
 abbrev pub invariant-loop-j : goal.invariant-loop-j

@@ -4,7 +4,7 @@ use Rattle.fort_terms.specs.PatternView.{as_pattern}
 use Rattle.fort_atom_labels.specs.ClosureTests.{pattern_place, is_listed}
 use Rattle.fort_context_closure.specs.HandedView.{left_list, right_list}
 use Rattle.fort_context_closure.proofs.HandedLaws.{first_place-pattern}
-use Rattle.fort_context_closure.proofs.local.does_reach.Goals as goal
+use Rattle.fort_context_closure.proofs.handed.does_reach.Goals as goal
 
 pub returns : goal.returns
 returns c =

@@ -4,7 +4,7 @@ use Rattle.fort_lockstep.specs.Columns.{as_column}
 use Rattle.fort_context_closure.specs.HandedView.{rule_by}
 use Rattle.fort_context_closure.specs.RowBits.{labels_at}
 use Rattle.fort_context_closure.proofs.HandedLaws.{any_pair-item}
-use Rattle.fort_context_closure.proofs.local.some_rule_at.Goals as goal
+use Rattle.fort_context_closure.proofs.handed.some_rule_at.Goals as goal
 
 pub returns-then-is_rule_at : goal.returns-then-is_rule_at
 returns-then-is_rule_at c =

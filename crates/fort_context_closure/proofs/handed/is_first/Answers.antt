@@ -11,7 +11,7 @@ use Rattle.fort_atom_labels.specs.AtomRules.{any_pair}
 use Rattle.fort_context_closure.specs.RowBits.{labels_at}
 use Rattle.fort_context_closure.specs.HandedView.{starts_by}
 use Rattle.fort_context_closure.proofs.HandedLaws.{any_pair-one, any_pair-both, plain-others, first-plain, first-reached}
-use Rattle.fort_context_closure.proofs.local.is_first.Goals as goal
+use Rattle.fort_context_closure.proofs.handed.is_first.Goals as goal
 
 pub returns-in-Plus : goal.returns-in-Plus
 returns-in-Plus c =

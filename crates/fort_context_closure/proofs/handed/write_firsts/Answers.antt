@@ -6,7 +6,7 @@ use Rattle.fort_terms.specs.PatternView.{as_pattern}
 use Rattle.fort_context_closure.specs.HandedView.{first_by}
 use Rattle.fort_context_closure.specs.RowBits.{HasBits, labels_at}
 use Rattle.fort_context_closure.proofs.RowBitLaws.{HasBits-more, length-part}
-use Rattle.fort_context_closure.proofs.local.write_firsts.Goals as goal
+use Rattle.fort_context_closure.proofs.handed.write_firsts.Goals as goal
 
 pub loop-k-preserved : goal.loop-k-preserved
 loop-k-preserved c bits l h =
