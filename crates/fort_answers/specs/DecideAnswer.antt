@@ -11,16 +11,11 @@ use Rattle.fort_logic.specs.Kinds.{Kind, kind_of}
 use Rattle.fort_logic.specs.PartLists.{AreParts}
 use Rattle.fort_logic.specs.Translation.{core_of}
 use Rattle.fort_parts.specs.AlikeParts.{IsPartOver, IsFirstOver}
-use Rattle.fort_parts.specs.WithoutInfinite.{IsWithoutInfinite}
 use Rattle.fort_answers.specs.Requests.{Text}
-use Rattle.fort_answers.specs.Lines.{positive, negative, usage, refused, limited, usage_text, yes_line, no_line, limit_line, not_decided_yet}
+use Rattle.fort_answers.specs.Lines.{positive, negative, usage, refused, limited, usage_text, yes_line, no_line, limit_line}
 use Rattle.fort_answers.specs.FormulaAnswer.{IsAccepted, IsRefused}
 use Rattle.fort_answers.specs.InputAnswer.{IsInput, IsInputRefused}
 use Rattle.fort_answers.specs.FitAnswer.{FitsSystem, IsUnfit}
-
--- which formulas are decided today
-abbrev pub IsBuilt : Formula → Type 0
-IsBuilt f = IsWithoutInfinite f
 
 -- ---- the cap on each part of the core formula
 
@@ -64,15 +59,12 @@ pub data DecideAnswer (states : ℕ) (certificate : Bool) (formula bytes : Text)
       → Are status text refused line → DecideAnswer states certificate formula bytes status text
   FormulaUnfit : (f : Formula) → DecidesOf certificate formula f → (system : System) → IsInput bytes system
       → (line : Text) → IsUnfit formula f system line → Are status text refused line → DecideAnswer states certificate formula bytes status text
-  NotDecidedYet : (f : Formula) → DecidesOf certificate formula f → (system : System) → IsInput bytes system
-      → (terms : List Tree) → FitsSystem formula f system terms → (IsBuilt f → ⊥) → Are status text refused not_decided_yet
-      → DecideAnswer states certificate formula bytes status text
   Limited : (f : Formula) → DecidesOf certificate formula f → (system : System) → IsInput bytes system
-      → (terms : List Tree) → FitsSystem formula f system terms → IsBuilt f → (k : ℕ) (kind : Kind) → PassesCap system terms f states k kind
+      → (terms : List Tree) → FitsSystem formula f system terms → (k : ℕ) (kind : Kind) → PassesCap system terms f states k kind
       → Are status text limited (limit_line k kind states) → DecideAnswer states certificate formula bytes status text
   Yes : (f : Formula) → DecidesOf certificate formula f → (system : System) → IsInput bytes system
-      → (terms : List Tree) → FitsSystem formula f system terms → IsBuilt f → KeepsCap system terms f states → IsTrueOf system terms f
+      → (terms : List Tree) → FitsSystem formula f system terms → KeepsCap system terms f states → IsTrueOf system terms f
       → Are status text positive yes_line → DecideAnswer states certificate formula bytes status text
   No : (f : Formula) → DecidesOf certificate formula f → (system : System) → IsInput bytes system
-      → (terms : List Tree) → FitsSystem formula f system terms → IsBuilt f → KeepsCap system terms f states → IsFalseOf system terms f
+      → (terms : List Tree) → FitsSystem formula f system terms → KeepsCap system terms f states → IsFalseOf system terms f
       → Are status text negative no_line → DecideAnswer states certificate formula bytes status text

@@ -76,10 +76,6 @@ formula_index i = numbered (codes "REFUSED formula index ") i
 abbrev pub formula_term : ℕ → List ℕ
 formula_term i = numbered (codes "REFUSED formula term at ") i
 
--- the formula is one that isn't decided yet
-abbrev pub not_decided_yet : List ℕ
-not_decided_yet = line (codes "REFUSED formula not decided yet")
-
 abbrev pub text_fault_line : TextFault → List ℕ
 text_fault_line (BadByte i) = numbered (codes "REFUSED text bad byte at ") i
 text_fault_line (ExtraClose i) = numbered (codes "REFUSED text extra close at ") i

@@ -1,4 +1,4 @@
--- Which answers are right: by a formula's labels, of atoms, of a complement, of a projection.
+-- Which answers are right: by a formula's labels, of atoms, of a complement, of a projection, of "infinitely many".
 use Rattle.std.specs.Prelude.{◌≡◌, ◌<◌, ℕ, ◌-◌, List, length, Contains, Bool, true, false, Ok, refl}
 use Rattle.std.proofs.Common.{ap, sym, ◌∙◌, subst, arith}
 use Rattle.fort_theory.specs.Trees.{Tree}
@@ -13,6 +13,7 @@ use Rattle.fort_tables.specs.LabelRules.{label_of, IsTableBy}
 use Rattle.fort_alike.specs.Atoms.{relation_atom, normal_atom}
 use Rattle.fort_operations.specs.Projections.{some_below, project_rule, project_accepts}
 use Rattle.fort_operations.specs.OperationTruth.{complemented}
+use Rattle.fort_counts.specs.ManyLabels.{TellsMany, many_rule, many_accepts, many_value}
 use Rattle.fort_context_closure.specs.declared.atom_labels.AtomLabels.{AtomLabels}
 use Rattle.fort_context_closure.specs.AtomLabelsView.{column_count, label_by, accepted_by, TellsAlike, AcceptsTrue, TellsAlikeAtTerm, AcceptsTerm}
 use Rattle.fort_lockstep.specs.declared.dta.Dta.{Dta}
@@ -21,7 +22,7 @@ use Rattle.fort_parts.specs.AlikeParts.{IsPartOver}
 use Rattle.fort_parts.specs.PartAnswers.{OfValue, OfTable}
 use Rattle.fort_parts.specs.RightAnswers.{IsRightFor}
 use Rattle.fort_parts.proofs.PartColumnLaws.{AreColumns-columns_of, columns_of-unique, columns_of-Nf, columns_of-Is, column-from_free}
-use Rattle.fort_parts.proofs.StepAnswers.{IsRightFor-Not-table, IsPartOver-Not, IsPartOver-closed, IsPartOver-few, bound_place, bound_count, LabelsTellAlike-projected, IsRightFor-projected, IsRightFor-closed}
+use Rattle.fort_parts.proofs.StepAnswers.{IsRightFor-Not-table, IsPartOver-Not, IsPartOver-closed, IsPartOver-few, bound_place, bound_count, LabelsTellAlike-projected, IsRightFor-projected, IsRightFor-closed, LabelsTellAlike-many, IsRightFor-many, IsRightFor-many_closed}
 use Rattle.fort_parts.proofs.AtomResults.{IsRightFor-Atom, IsRightFor-Nf, IsRightFor-Is, LabelsTellAlike-Nf, LabelsTellAlike-Is}
 use Rattle.fort_engine.specs.declared.answer.Last.{Last}
 use Rattle.fort_engine.specs.declared.answer.Last.TheVariants.{Truth, Auto}
@@ -148,3 +149,39 @@ AreLabelsFor-Exists system n f table own columns c same are at right among other
           (subst (λ k. IsTableOf system.signature k (label_of (project_rule table (place_in (columns_of f) n))) (project_accepts table) t) count of)
           (subst (λ k. IsTableBy system.signature k (label_of (project_rule table (place_in (columns_of f) n))) (project_accepts table) t) count by);
     }))
+
+-- infinitely many
+
+pub IsDecision-many_closed : (system : PatternSystem) (n : ℕ) (f : core.Core) (cap : ℕ) (table : Table) (columns : List ℕ) (c : ℕ) (many : ℕ → Bool) (b : Bool)
+    → AreColumns f columns → c ≡ place_in columns n → IsRightFor system f (OfTable table) → is_free n f ≡ true → table.columns ≡ 1 → TellsMany table c many
+    → b ≡ many_value table c many → IsDecision system (core.Infinite n f) cap (Ok (Truth b))
+IsDecision-many_closed system n f cap table columns c many b are at right among one tells says =
+    let place : c ≡ place_in (columns_of f) n = at ∙ ap (λ ns. place_in ns n) (columns_of-unique f columns are) in
+    let whole : IsRightFor system (core.Infinite n f) (OfValue (many_value table (place_in (columns_of f) n) many)) =
+    IsRightFor-many_closed system n f table many right among (subst (λ k. TellsMany table k many) place tells) (sym right.answers.over.columns_are ∙ one) in
+    let own : IsRightFor system (core.Infinite n f) (OfValue b) =
+    subst (λ v. IsRightFor system (core.Infinite n f) (OfValue v)) (sym (says ∙ ap (λ k. many_value table k many) place)) whole in
+    record { ok = own; within = IsPartOver-closed system (core.Infinite n f) cap own.answers.over; over = tt }
+
+pub AreLabelsFor-Infinite : (system : PatternSystem) (n : ℕ) (f : core.Core) (table own : Table) (columns : List ℕ) (c d : ℕ) (many few : ℕ → Bool) → own ≡ table
+    → AreColumns f columns → c ≡ place_in columns n → d ≡ c → few ≡ many → IsRightFor system f (OfTable table) → is_free n f ≡ true → 1 < table.columns
+    → TellsMany table c many
+    → AreLabelsFor system (core.Infinite n f) (own.columns - 1) (label_of (many_rule own d few)) (many_accepts own)
+AreLabelsFor-Infinite system n f table own columns c d many few same are at also alike_many right among others tells =
+    let place : c ≡ place_in (columns_of f) n = at ∙ ap (λ ns. place_in ns n) (columns_of-unique f columns are) in
+    let there : TellsMany table (place_in (columns_of f) n) many = subst (λ k. TellsMany table k many) place tells in
+    let count : table.columns - 1 ≡ length (columns_of (core.Infinite n f)) =
+    omega (arith, bound_count system n f table right among, right.answers.over.columns_are) in
+    let some : 0 < length (columns_of (core.Infinite n f)) = omega arith in
+    subst (λ t. AreLabelsFor system (core.Infinite n f) (t.columns - 1) (label_of (many_rule t d few)) (many_accepts t)) (sym same)
+    (subst (λ p. AreLabelsFor system (core.Infinite n f) (table.columns - 1) (label_of (many_rule table d p)) (many_accepts table)) (sym alike_many)
+    (subst (λ k. AreLabelsFor system (core.Infinite n f) (table.columns - 1) (label_of (many_rule table k many)) (many_accepts table)) (sym (also ∙ place))
+    (record {
+      count = count;
+      alike = LabelsTellAlike-many system n f table many right among there;
+      right =
+          λ t of by.
+          IsRightFor-many system n f table many right among there t some
+          (subst (λ k. IsTableOf system.signature k (label_of (many_rule table (place_in (columns_of f) n) many)) (many_accepts table) t) count of)
+          (subst (λ k. IsTableBy system.signature k (label_of (many_rule table (place_in (columns_of f) n) many)) (many_accepts table) t) count by);
+    })))

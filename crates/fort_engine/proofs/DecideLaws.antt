@@ -22,7 +22,7 @@ use Rattle.fort_parts.specs.PartAnswers.{IsAnswerTo}
 use Rattle.fort_parts.specs.DecidedCores.{IsDecided, IsOperandOf}
 use Rattle.fort_parts.specs.RightAnswers.{IsRightFor, HasTooMany}
 use Rattle.fort_parts.proofs.PartOrder.{IsEarlier, Contains-postorder, operand_earlier}
-use Rattle.fort_parts.proofs.PartFacts.{IsOverSystem-part, HasNoInfinite-part, BindsFree-part, columns_of-few}
+use Rattle.fort_parts.proofs.PartFacts.{IsOverSystem-part, BindsFree-part, columns_of-few}
 use Rattle.fort_engine.specs.declared.answer.Last.{Last}
 use Rattle.fort_engine.specs.declared.answer.Limit.{Limit}
 use Rattle.fort_engine.specs.AnswerView.{as_answer, IsLimit}
@@ -36,7 +36,6 @@ IsFit-part system f parts k d are l =
     let among = (are.same h).1 (Contains-get_or parts k core.True l) in
     record {
       over = IsOverSystem-part system f h d.over among;
-      no_infinite = HasNoInfinite-part f h d.no_infinite among;
       binders = BindsFree-part f h d.well_formed.binders among;
       few = columns_of-few f h d.well_formed among;
     }

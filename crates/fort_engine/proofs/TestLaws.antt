@@ -20,22 +20,22 @@ module _ (system : PatternSystem) (one : length system.rules ≡ 1) where
   first_index = record { low = omega arith; high = omega arith }
 
   pub IsDecided-Step : IsDecided system (Atom Step 1 0 1)
-  IsDecided-Step = record { well_formed = IsWellFormed-few (Atom Step 1 0 1) tt (omega arith); over = first_index; no_infinite = tt }
+  IsDecided-Step = record { well_formed = IsWellFormed-few (Atom Step 1 0 1) tt (omega arith); over = first_index }
 
   pub IsDecided-Nf : IsDecided system (Nf 1 0)
-  IsDecided-Nf = record { well_formed = IsWellFormed-few (Nf 1 0) tt (omega arith); over = first_index; no_infinite = tt }
+  IsDecided-Nf = record { well_formed = IsWellFormed-few (Nf 1 0) tt (omega arith); over = first_index }
 
   pub IsDecided-some_step : (f : Core) → f ≡ some_step → IsDecided system f
   IsDecided-some_step f e =
       subst (IsDecided system) (sym e)
-      (record { well_formed = IsWellFormed-few some_step (refl, (refl, tt)) (omega arith); over = first_index; no_infinite = tt })
+      (record { well_formed = IsWellFormed-few some_step (refl, (refl, tt)) (omega arith); over = first_index })
 
   pub IsDecided-both_kinds : (f : Core) → f ≡ both_kinds → IsDecided system f
   IsDecided-both_kinds f e =
       subst (IsDecided system) (sym e)
-      (record { well_formed = IsWellFormed-few both_kinds (refl, (tt, (refl, tt))) (omega arith); over = (first_index, first_index); no_infinite = (tt, tt) })
+      (record { well_formed = IsWellFormed-few both_kinds (refl, (tt, (refl, tt))) (omega arith); over = (first_index, first_index) })
 
   pub IsDecided-always_differs : (f : Core) → f ≡ always_differs → IsDecided system f
   IsDecided-always_differs f e =
       subst (IsDecided system) (sym e)
-      (record { well_formed = IsWellFormed-few always_differs (refl, (refl, tt)) (omega arith); over = first_index; no_infinite = tt })
+      (record { well_formed = IsWellFormed-few always_differs (refl, (refl, tt)) (omega arith); over = first_index })

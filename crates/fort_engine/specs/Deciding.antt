@@ -12,7 +12,7 @@ use Rattle.fort_parts.specs.PartColumns.{columns_of, places_in}
 use Rattle.fort_parts.specs.AlikeParts.{IsPartOver}
 use Rattle.fort_parts.specs.PartAnswers.{Answer, OfTable}
 use Rattle.fort_parts.specs.PartLabels.{LabelsTellAlike}
-use Rattle.fort_parts.specs.DecidedCores.{IsOverSystem, HasNoInfinite, IsOperandOf}
+use Rattle.fort_parts.specs.DecidedCores.{IsOverSystem, IsOperandOf}
 use Rattle.fort_parts.specs.RightAnswers.{IsRightFor, HasTooMany, joined}
 use Rattle.fort_parts.proofs.PartOrder.{IsEarlier}
 use Rattle.fort_explore.specs.declared.table.ExploreFault.{ExploreFault}
@@ -21,10 +21,9 @@ use Rattle.fort_engine.specs.declared.answer.Last.{Last}
 use Rattle.fort_engine.specs.AnswerView.{as_answer}
 use Rattle.fort_engine.specs.Uses.{HasRightAnswer}
 
--- its indices and terms are the system's, no "infinitely many" stands in it, and it is no wider than a tuple
+-- its indices and terms are the system's, and it is no wider than a tuple
 pub record IsFit (system : PatternSystem) (f : core.Core) : Type 0 where
   pub over : IsOverSystem system f
-  pub no_infinite : HasNoInfinite f
   pub binders : BindsFree f
   pub few : length (columns_of f) ≤ most_columns
 

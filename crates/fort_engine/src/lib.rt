@@ -3,6 +3,7 @@
 
 mod answer;
 mod atoms;
+mod counted;
 mod decide;
 mod explored;
 mod joined;

@@ -10,6 +10,7 @@ ghost use Rattle.fort_engine.specs.Deciding.{IsFit, HasOperands, IsDecision};
 
 use crate::answer::Last;
 use crate::atoms::{normal_form, related, this_term};
+use crate::counted::count;
 use crate::joined::join;
 use crate::operands::{Answered, kept_answer};
 use crate::projected::project;
@@ -75,6 +76,12 @@ pub(crate) fn decide_part<'a>(
             &kept_answer(parts, kept, f.as_core()),
             cap,
         ),
-        Core::Infinite(_, _) => unreachable!(),
+        Core::Infinite(n, f) => count(
+            alloc,
+            system,
+            *n,
+            &kept_answer(parts, kept, f.as_core()),
+            cap,
+        ),
     }
 }

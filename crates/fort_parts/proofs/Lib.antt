@@ -10,3 +10,4 @@ pub mod StepAnswers
 pub mod AtomResults
 pub mod TranslatedCores
 pub mod SameCoreRoots
+pub mod NamedColumns

@@ -35,11 +35,17 @@ below n (Iff f g) h =
 below n (Exists x f) h = below n f (and_parts (not (x == n)) (is_free n f) h).1
 below n (Infinite x f) h = below n f (and_parts (not (x == n)) (is_free n f) h).1
 
-Contains-range : (n k : ℕ) → n < k → Contains (range_with_len 0 k) n
+pub Contains-range : (n k : ℕ) → n < k → Contains (range_with_len 0 k) n
 Contains-range n k l =
     subst (Contains (range_with_len 0 k)) (let at = get_or-range_with_len 0 k n 0 l in omega arith) (Contains-get_or (range_with_len 0 k) n 0 (omega (arith, length-range_with_len 0 k)))
 
-ascending-range : (k : ℕ) → IsStrictlyIncreasing (range_with_len 0 k)
+pub range-below : (n k : ℕ) → Contains (range_with_len 0 k) n → n < k
+range-below n k c =
+    let l : c.0 < k = let low = c.1 in omega (arith, length-range_with_len 0 k) in
+    let at = get_or-range_with_len 0 k c.0 0 l in
+    let e = get_or_default (range_with_len 0 k) c.0 0 n c.1 ∙ c.2 in omega arith
+
+pub ascending-range : (k : ℕ) → IsStrictlyIncreasing (range_with_len 0 k)
 ascending-range k i l =
     let len = length-range_with_len 0 k in
     let a = get_or-range_with_len 0 k i 0 (omega arith) in

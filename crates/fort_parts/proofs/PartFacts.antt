@@ -1,5 +1,5 @@
 -- What deciding asks of a formula holds of each part; a part has no more columns than a tuple may have.
-use Rattle.std.specs.Prelude.{◌≡◌, ◌<◌, ◌≤◌, [], ◌∷◌, ◌++◌, length, not, Contains}
+use Rattle.std.specs.Prelude.{◌<◌, ◌≤◌, [], ◌∷◌, ◌++◌, length, not, Contains}
 use Rattle.std.specs.List.{range_with_len}
 use Rattle.std.proofs.Common.{refl, ap, sym, subst, arith, inl, inr, ⊎_elim}
 use Rattle.std.proofs.lemmas.Bool.{cases_lt}
@@ -12,7 +12,7 @@ use Rattle.fort_theory.proofs.Members.{Contains-cons_cases, Contains-none}
 use Rattle.fort_logic.specs.Cores.{Core, True, Atom, Nf, Is, Not, And, Or, Iff, Exists, Infinite}
 use Rattle.fort_logic.specs.Parts.{is_free, postorder, BindsFree, IsWellFormed}
 use Rattle.fort_parts.specs.PartColumns.{numbers_below, columns_of}
-use Rattle.fort_parts.specs.DecidedCores.{IsOverSystem, HasNoInfinite, IsOperandOf}
+use Rattle.fort_parts.specs.DecidedCores.{IsOverSystem, IsOperandOf}
 use Rattle.fort_parts.proofs.PartColumnLaws.{AreColumns-columns_of, columns_of-unique}
 
 -- what holds of operands where it holds of their formula holds of each part
@@ -53,18 +53,6 @@ over-operand system g (Iff f h) o p = ⊎_elim (λ e. subst (IsOverSystem system
 over-operand system g (Exists n f) o p = subst (IsOverSystem system) (sym o) p
 over-operand system g (Infinite n f) o p = subst (IsOverSystem system) (sym o) p
 
-no_infinite-operand : (g h : Core) → IsOperandOf g h → HasNoInfinite h → HasNoInfinite g
-no_infinite-operand g True o p = absurd o
-no_infinite-operand g (Atom rel index x y) o p = absurd o
-no_infinite-operand g (Nf index x) o p = absurd o
-no_infinite-operand g (Is x t) o p = absurd o
-no_infinite-operand g (Not f) o p = subst HasNoInfinite (sym o) p
-no_infinite-operand g (And f h) o p = ⊎_elim (λ e. subst HasNoInfinite (sym e) p.0) (λ e. subst HasNoInfinite (sym e) p.1) o
-no_infinite-operand g (Or f h) o p = ⊎_elim (λ e. subst HasNoInfinite (sym e) p.0) (λ e. subst HasNoInfinite (sym e) p.1) o
-no_infinite-operand g (Iff f h) o p = ⊎_elim (λ e. subst HasNoInfinite (sym e) p.0) (λ e. subst HasNoInfinite (sym e) p.1) o
-no_infinite-operand g (Exists n f) o p = subst HasNoInfinite (sym o) p
-no_infinite-operand g (Infinite n f) o p = absurd p
-
 binds-operand : (g h : Core) → IsOperandOf g h → BindsFree h → BindsFree g
 binds-operand g True o p = absurd o
 binds-operand g (Atom rel index x y) o p = absurd o
@@ -80,9 +68,6 @@ binds-operand g (Infinite n f) o p = subst BindsFree (sym o) p.1
 -- Results: what deciding asks holds of each part
 pub IsOverSystem-part : (system : PatternSystem) (f g : Core) → IsOverSystem system f → Contains (postorder f) g → IsOverSystem system g
 IsOverSystem-part system f g = each_part (IsOverSystem system) (over-operand system) f g
-
-pub HasNoInfinite-part : (f g : Core) → HasNoInfinite f → Contains (postorder f) g → HasNoInfinite g
-HasNoInfinite-part f g = each_part HasNoInfinite no_infinite-operand f g
 
 pub BindsFree-part : (f g : Core) → BindsFree f → Contains (postorder f) g → BindsFree g
 BindsFree-part f g = each_part BindsFree binds-operand f g

@@ -1,6 +1,5 @@
 -- Structures over one signature whose root steps relate the same trees have the same core formulas true.
 use Rattle.std.specs.Prelude.{◌↔◌, ℕ, All}
-use Rattle.fort_theory.specs.Trees.{Tree}
 use Rattle.fort_theory.specs.Signatures.{Signature, HasConstant}
 use Rattle.fort_theory.specs.Sides.{at_index, System, IsLinearSeparated}
 use Rattle.fort_theory.specs.Patterns.{pattern_system}

@@ -17,6 +17,9 @@ use Rattle.fort_operations.specs.Projections.{project_rule}
 use Rattle.fort_operations.specs.OperationTruth.{complemented}
 use Rattle.fort_operations.specs.Agreement.{AgreeAtBoth, AgreeAtSome}
 use Rattle.fort_operations.proofs.AgreementLaws.{TellsAtOperand, both_alike, project_alike}
+use Rattle.fort_counts.specs.ManyLabels.{TellsMany, many_rule}
+use Rattle.fort_counts.specs.ManyAgreement.{AgreeAtMany}
+use Rattle.fort_counts.proofs.ManyAgreementLaws.{many_alike}
 use Rattle.fort_parts.specs.PartColumns.{columns_of, place_in, places_in}
 use Rattle.fort_parts.specs.AlikeParts.{AlikeAt, IsPartOver}
 use Rattle.fort_parts.specs.PartAnswers.{Answer, OfValue, OfTable, IsTableOver, FitsColumns}
@@ -70,6 +73,19 @@ project_tells_alike system n f body over low count tells t u is also =
     λ s h. subst (λ z. IsTuple z (body.columns - 1) s) (sym over.signature) (subst (λ k. IsTuple system.signature k s) own h) in
     subst (λ z. (label_of (project_rule body c) t ≡ label_of (project_rule body c) u) ↔ AgreeAtSome z c (AlikeAt system f) t u) over.signature
     (project_alike body c (AlikeAt system f) over.lawful over.reached (omega (arith, over.columns_are)) tells t u (moved t is) (moved u also))
+
+-- the same for "infinitely many", with what is known of the counts
+pub many_tells_alike : (system : PatternSystem) (n : ℕ) (f : Core) (body : Table) (many : ℕ → Bool) → IsTableOver system.signature (columns_of f) body
+    → TellsMany body (place_in (columns_of f) n) many → place_in (columns_of f) n < length (columns_of f)
+    → length (columns_of (core.Infinite n f)) + 1 ≡ length (columns_of f) → TellsAlike system f (OfTable body)
+    → LabelsTellAlike system (core.Infinite n f) (label_of (many_rule body (place_in (columns_of f) n) many))
+many_tells_alike system n f body many over tells_many low count tells t u is also =
+    let c = place_in (columns_of f) n in
+    let own : length (columns_of (core.Infinite n f)) ≡ body.columns - 1 = omega (arith, over.columns_are) in
+    let moved : (s : Tuple) → IsTuple system.signature (length (columns_of (core.Infinite n f))) s → IsTuple body.signature (body.columns - 1) s =
+    λ s h. subst (λ z. IsTuple z (body.columns - 1) s) (sym over.signature) (subst (λ k. IsTuple system.signature k s) own h) in
+    subst (λ z. (label_of (many_rule body c many) t ≡ label_of (many_rule body c many) u) ↔ AgreeAtMany z c (AlikeAt system f) t u) over.signature
+    (many_alike body c many (AlikeAt system f) over.lawful over.reached (omega (arith, over.columns_are)) tells_many tells t u (moved t is) (moved u also))
 
 -- Result: a table of such labels tells when tuples are alike
 pub TellsAlike-labels : (system : PatternSystem) (f : Core) (label : Labelling) (accepting : List ℕ → Bool) (table : Table) → LabelsTellAlike system f label

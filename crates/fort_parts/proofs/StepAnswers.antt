@@ -1,4 +1,4 @@
--- Results for whoever decides part by part: what is made of right answers by a complement, a connective, a projection is right, and more labels than a cap are too many.
+-- Results for whoever decides part by part: what is made of right answers by a complement, a connective, a projection, a count is right, and more labels than a cap are too many.
 use Rattle.std.specs.Prelude.{◌≡◌, ◌↔◌, ◌⊎◌, ℕ, zero, suc, ◌+◌, ◌<◌, ◌≤◌, ◌||◌, not, List, [], ◌∷◌, length, get_or, Contains, Bool, true, refl}
 use Rattle.std.specs.List.{insert}
 use Rattle.std.proofs.Common.{ap, sym, ◌∙◌, subst, arith, inl, inr, ⊎_elim}
@@ -19,16 +19,17 @@ use Rattle.fort_operations.specs.Products.{Connective, And, Or, Iff, connected, 
 use Rattle.fort_operations.specs.Projections.{some_below, project_rule, project_accepts}
 use Rattle.fort_operations.specs.OperationTruth.{complemented}
 use Rattle.fort_operations.specs.Agreement.{AgreeAtBoth}
+use Rattle.fort_counts.specs.ManyLabels.{TellsMany, many_rule, many_accepts, many_value}
 use Rattle.fort_parts.specs.PartColumns.{columns_of, place_in, places_in}
 use Rattle.fort_parts.specs.AlikeParts.{AlikeAt, IsPartOver}
 use Rattle.fort_parts.specs.PartAnswers.{Answer, OfValue, OfTable, said, TellsTruth}
-use Rattle.fort_parts.specs.PartSteps.{SaysBoth, SaysSome, operand_of}
+use Rattle.fort_parts.specs.PartSteps.{SaysBoth, SaysSome, SaysMany, operand_of}
 use Rattle.fort_parts.specs.PartLabels.{LabelsTellAlike}
 use Rattle.fort_parts.specs.RightAnswers.{IsRightFor, HasTooMany, joined}
 use Rattle.fort_parts.proofs.PartColumnLaws.{columns_of-bound, first_within, second_within, is_free-from_column, column-from_free, place_of-member}
-use Rattle.fort_parts.proofs.StepTruth.{TellsTruth-True, TellsTruth-Not, TellsTruth-And, TellsTruth-Or, TellsTruth-Iff, TellsTruth-Exists}
-use Rattle.fort_parts.proofs.StepTables.{IsTableOver-labels, SaysNot-values, IsTableOver-complemented, SaysNot-tables, SaysBoth-values, SaysBoth-tables, SaysSome-tables, SaysSome-value}
-use Rattle.fort_parts.proofs.StepAlike.{product_alike, TellsAlike-Not, project_tells_alike, TellsAlike-labels, IsPartOver-labels}
+use Rattle.fort_parts.proofs.StepTruth.{TellsTruth-True, TellsTruth-Not, TellsTruth-And, TellsTruth-Or, TellsTruth-Iff, TellsTruth-Exists, TellsTruth-Infinite}
+use Rattle.fort_parts.proofs.StepTables.{IsTableOver-labels, SaysNot-values, IsTableOver-complemented, SaysNot-tables, SaysBoth-values, SaysBoth-tables, SaysSome-tables, SaysSome-value, SaysMany-tables, SaysMany-value}
+use Rattle.fort_parts.proofs.StepAlike.{product_alike, TellsAlike-Not, project_tells_alike, many_tells_alike, TellsAlike-labels, IsPartOver-labels}
 
 -- no column, no free number
 no_columns : (f : Core) → ((n : ℕ) → is_free n f ≡ true → ⊥) → columns_of f ≡ []
@@ -191,6 +192,10 @@ IsPartOver-few system f label cap tells few over = few ((IsPartOver-labels syste
 
 -- ---- projections
 
+empty_list : (xs : List ℕ) → length xs ≡ 0 → xs ≡ []
+empty_list [] e = refl
+empty_list (x ∷ xs) e = absurd (omega arith)
+
 module _ (system : PatternSystem) (n : ℕ) (f : Core) (body : Table) (right : IsRightFor system f (OfTable body)) (among : is_free n f ≡ true) where
   pub bound_place : place_in (columns_of f) n < length (columns_of f)
   bound_place = (place_of-member (columns_of f) n (column-from_free f n among)).within
@@ -242,7 +247,7 @@ module _ (system : PatternSystem) (n : ℕ) (f : Core) (body : Table) (right : I
       let none : length (columns_of h) ≡ 0 = omega (arith, bound_count) in
       record {
         answers = record {
-          over = empty (columns_of h) none;
+          over = empty_list (columns_of h) none;
           truth =
               TellsTruth-Exists (pattern_structure system) n f (OfTable body) (OfValue (some_below (length body.presences) body.accepting)) among
               (subst (λ k. SaysSome system.signature k (place_in (columns_of f) n) (OfTable body) (OfValue (some_below (length body.presences) body.accepting))) (sym none)
@@ -250,7 +255,48 @@ module _ (system : PatternSystem) (n : ℕ) (f : Core) (body : Table) (right : I
         };
         alike = tt;
       }
-    where
-      empty : (xs : List ℕ) → length xs ≡ 0 → xs ≡ []
-      empty [] e = refl
-      empty (x ∷ xs) e = absurd (omega arith)
+
+-- ---- infinitely many
+
+module _ (system : PatternSystem) (n : ℕ) (f : Core) (body : Table) (many : ℕ → Bool) (right : IsRightFor system f (OfTable body)) (among : is_free n f ≡ true)
+    (tells : TellsMany body (place_in (columns_of f) n) many) where
+  abbrev pub many_label : Labelling
+  many_label = label_of (many_rule body (place_in (columns_of f) n) many)
+
+  pub LabelsTellAlike-many : LabelsTellAlike system (core.Infinite n f) many_label
+  LabelsTellAlike-many =
+      many_tells_alike system n f body many right.answers.over tells (bound_place system n f body right among) (bound_count system n f body right among) right.alike
+
+  pub IsRightFor-many : (table : Table) → 0 < length (columns_of (core.Infinite n f))
+      → IsTableOf system.signature (length (columns_of (core.Infinite n f))) many_label (many_accepts body) table
+      → IsTableBy system.signature (length (columns_of (core.Infinite n f))) many_label (many_accepts body) table
+      → IsRightFor system (core.Infinite n f) (OfTable table)
+  IsRightFor-many table some of by =
+      let h = core.Infinite n f in
+      record {
+        answers = record {
+          over = IsTableOver-labels system.signature (columns_of h) (length (columns_of h)) table many_label (many_accepts body) some refl by;
+          truth =
+              TellsTruth-Infinite (pattern_structure system) n f (OfTable body) (OfTable table) among
+              (SaysMany-tables system.signature (columns_of f) (length (columns_of h)) (place_in (columns_of f) n) many body table right.answers.over tells
+              (bound_place system n f body right among) (bound_count system n f body right among) some by) right.answers.truth;
+        };
+        alike = TellsAlike-labels system h many_label (many_accepts body) table LabelsTellAlike-many of;
+      }
+
+  -- the only column of the body
+  pub IsRightFor-many_closed : length (columns_of f) ≡ 1 → IsRightFor system (core.Infinite n f) (OfValue (many_value body (place_in (columns_of f) n) many))
+  IsRightFor-many_closed one =
+      let h = core.Infinite n f in
+      let none : length (columns_of h) ≡ 0 = omega (arith, bound_count system n f body right among) in
+      record {
+        answers = record {
+          over = empty_list (columns_of h) none;
+          truth =
+              TellsTruth-Infinite (pattern_structure system) n f (OfTable body) (OfValue (many_value body (place_in (columns_of f) n) many)) among
+              (subst (λ k. SaysMany system.signature k (place_in (columns_of f) n) (OfTable body) (OfValue (many_value body (place_in (columns_of f) n) many))) (sym none)
+              (SaysMany-value system.signature (columns_of f) (place_in (columns_of f) n) many body right.answers.over tells (bound_place system n f body right among) one))
+              right.answers.truth;
+        };
+        alike = tt;
+      }

@@ -4,6 +4,7 @@ use Rattle.std.specs.List.{insert}
 use Rattle.std.proofs.Common.{ap, sym, ◌∙◌, subst, arith}
 use Rattle.std.proofs.lemmas.List.{length-map, get_or-map}
 use Rattle.std.proofs.lemmas.List.Elements.{Contains-get_or}
+use Rattle.fort_logic.specs.Logic.{HasInfinitelyMany}
 use Rattle.fort_theory.specs.Trees.{Tree}
 use Rattle.fort_theory.specs.Signatures.{Signature, IsGround}
 use Rattle.fort_tables.specs.Tuples.{Tuple, IsTuple}
@@ -17,10 +18,12 @@ use Rattle.fort_operations.specs.OperationTruth.{accepts, said_by, complemented}
 use Rattle.fort_operations.proofs.SearchLaws.{found_below, below_found}
 use Rattle.fort_operations.proofs.SelectionLaws.{present_from_full}
 use Rattle.fort_operations.proofs.TruthLaws.{product_tests, project_decides}
+use Rattle.fort_counts.specs.ManyLabels.{TellsMany, many_rule, many_accepts, many_value}
+use Rattle.fort_counts.proofs.ManyTruth.{many_weaker, many_decides, many_value_decides}
 use Rattle.fort_operations.proofs.TableTruth.{IsTable-complemented, IsReached-complemented, complement_decides}
 use Rattle.fort_parts.specs.PartColumns.{place_in, places_in}
 use Rattle.fort_parts.specs.PartAnswers.{Answer, OfValue, OfTable, said, IsTableOver, FitsColumns}
-use Rattle.fort_parts.specs.PartSteps.{AreTerms, SaysNot, SaysBoth, SaysSome, operand_of}
+use Rattle.fort_parts.specs.PartSteps.{AreTerms, SaysNot, SaysBoth, SaysSome, SaysMany, operand_of}
 use Rattle.fort_parts.proofs.PartColumnLaws.{place_of-member}
 
 -- a tuple of one term or more is a tuple of a table
@@ -156,3 +159,32 @@ SaysSome-value sig columns c body over low one t terms =
           (record { width = refl; present = tt; grounded = (subst (λ s. IsGround s w.0) (sym over.signature) w.1, tt) }) in
           below_found (length body.presences) body.accepting (state_of body (Some w.0 ∷ [])) (table_state body over.lawful (Some w.0 ∷ []) it).within w.2),
     ))
+
+-- ---- infinitely many
+
+-- a column beside others
+pub SaysMany-tables : (sig : Signature) (columns : List ℕ) (n c : ℕ) (many : ℕ → Bool) (body table : Table) → IsTableOver sig columns body → TellsMany body c many
+    → c < length columns → n + 1 ≡ length columns → 0 < n → IsTableBy sig n (label_of (many_rule body c many)) (many_accepts body) table
+    → SaysMany sig n c (OfTable body) (OfTable table)
+SaysMany-tables sig columns n c many body table over tells low count some by t terms =
+    let is = IsTuple-terms sig n t some terms in
+    let own : n ≡ body.columns - 1 = omega (arith, over.columns_are) in
+    let it : IsTuple body.signature (body.columns - 1) t = subst (λ s. IsTuple s (body.columns - 1) t) (sym over.signature) (subst (λ k. IsTuple sig k t) own is) in
+    let d =
+    many_decides body c many (λ s. accepts body s ≡ true) over.lawful over.reached (omega (arith, over.columns_are)) tells (λ s h f. ((λ e. e), (λ e. e))) t it terms.full in
+    let e : accepts table t ≡ many_accepts body (label_of (many_rule body c many) t) = by.full t is terms.full in (
+      (λ h. many_weaker _ _ (λ u w. (subst (λ s. IsGround s u) over.signature w.0, w.1)) (d.0 (sym e ∙ h))),
+      (λ w. e ∙ d.1 (many_weaker _ _ (λ u k. (subst (λ s. IsGround s u) (sym over.signature) k.0, k.1)) w)),
+    )
+
+-- the only column
+pub SaysMany-value : (sig : Signature) (columns : List ℕ) (c : ℕ) (many : ℕ → Bool) (body : Table) → IsTableOver sig columns body → TellsMany body c many → c < length columns
+    → length columns ≡ 1 → SaysMany sig 0 c (OfTable body) (OfValue (many_value body c many))
+SaysMany-value sig columns c many body over tells low one t terms =
+    let sole : body.columns ≡ 1 = over.columns_are ∙ one in
+    let d =
+    many_value_decides body c many (λ s. accepts body s ≡ true) over.lawful over.reached (omega (arith, over.columns_are)) sole tells (λ s h f. ((λ e. e), (λ e. e))) in
+    subst (λ s. Decides (many_value body c many) (HasInfinitelyMany (λ (u : Tree). IsGround sig u × (accepts body (insert s c (Some u)) ≡ true)))) (sym (no_columns t terms.width)) (
+      (λ h. many_weaker _ _ (λ u w. (subst (λ s. IsGround s u) over.signature w.0, w.1)) (d.0 h)),
+      (λ w. d.1 (many_weaker _ _ (λ u k. (subst (λ s. IsGround s u) (sym over.signature) k.0, k.1)) w)),
+    )

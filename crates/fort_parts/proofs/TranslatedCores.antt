@@ -1,4 +1,4 @@
--- The core formula of a formula whose indices are the system's, and in which ground terms are written, is over the system; it has no "infinitely many" where the formula speaks of no infinite set.
+-- The core formula of a formula whose indices are the system's, and in which ground terms are written, is over the system.
 use Rattle.std.specs.Prelude.{ℕ, ◌+◌, ◌<◌, List, [], ◌∷◌, ◌++◌, length, reverse, Contains, All, Bool, true, false, if◌then◌else◌}
 use Rattle.std.proofs.lemmas.List.Elements.{All-get_or, Contains-append_left, Contains-append_right}
 use Rattle.fort_theory.specs.Trees.{Tree, Node, Nil}
@@ -13,8 +13,7 @@ use Rattle.fort_logic.specs.Mentions.{indices, places, places_in}
 use Rattle.fort_logic.specs.Cores.{Core, Atom, Nf, And, Not, Exists, Infinite, Star, Step, Conv}
 use Rattle.fort_logic.specs.Parts.{is_free}
 use Rattle.fort_logic.specs.Translation.{some, every, infinitely_many, implies, equal, at_most_one_step, normalises, joins, related, forks, property_core, commutes, about, about_both, core_in, core_of, number_in}
-use Rattle.fort_parts.specs.DecidedCores.{IsOverSystem, HasNoInfinite}
-use Rattle.fort_parts.specs.WithoutInfinite.{IsWithoutInfinite}
+use Rattle.fort_parts.specs.DecidedCores.{IsOverSystem}
 
 -- what holds of both ways of a choice
 either : (P : Core → Type 0) (b : Bool) (f g : Core) → P f → P g → P (if b then f else g)
@@ -130,89 +129,3 @@ module _ (system : PatternSystem) (first : IsIndexOf system.rules 1) (terms : Li
   pub IsOverSystem-core_of : (f : Formula) → ((y : ℕ) → Contains (indices f) y → IsIndexOf system.rules y) → ((k : ℕ) → Contains (places f) k → k < length terms)
       → IsOverSystem system (core_of terms f)
   IsOverSystem-core_of f i p = over-core_in (reverse (free_names f)) f (i, p)
-
-finite-some : (n : ℕ) (f : Core) → HasNoInfinite f → HasNoInfinite (some n f)
-finite-some n f h = either HasNoInfinite (is_free n f) (Exists n f) f h h
-
-finite-every : (n : ℕ) (f : Core) → HasNoInfinite f → HasNoInfinite (every n f)
-finite-every n f h = finite-some n (Not f) h
-
-finite-related : (rel : SurfaceRel) (index x y : ℕ) → HasNoInfinite (related rel index x y)
-finite-related surface.Eq index x y = tt
-finite-related surface.Step index x y = tt
-finite-related surface.Star index x y = tt
-finite-related surface.Plus index x y = tt
-finite-related surface.Reflexive index x y = (tt, tt)
-finite-related surface.Normal index x y = (tt, tt)
-finite-related surface.Root index x y = tt
-finite-related surface.Below index x y = tt
-finite-related surface.Par index x y = tt
-finite-related surface.Either index x y = (tt, tt)
-finite-related surface.Conv index x y = tt
-
-finite-joins : (index n x y : ℕ) → HasNoInfinite (joins index n x y)
-finite-joins index n x y = finite-some n (And (Atom Star index x n) (Atom Star index y n)) (tt, tt)
-
--- where two reductions or steps part, the rest
-finite-forking : (rel : ℕ → ℕ → Core) (n : ℕ) (f : Core) → ((x y : ℕ) → HasNoInfinite (rel x y)) → HasNoInfinite f
-    → HasNoInfinite (every n (every (n + 1) (implies (forks rel (n + 2) n (n + 1)) f)))
-finite-forking rel n f part h =
-    let whole = implies (forks rel (n + 2) n (n + 1)) f in
-    finite-every n (every (n + 1) whole) (finite-every (n + 1) whole
-    (finite-some (n + 2) (And (rel (n + 2) n) (rel (n + 2) (n + 1))) (part (n + 2) n, part (n + 2) (n + 1)), h))
-
-finite-property : (p : Property) (index n : ℕ) → HasNoInfinite (property_core p index n)
-finite-property surface.Cr index n = finite-forking (Atom Star index) n (joins index (n + 2) n (n + 1)) (λ x y. tt) (finite-joins index (n + 2) n (n + 1))
-finite-property surface.Wcr index n = finite-forking (Atom Step index) n (joins index (n + 2) n (n + 1)) (λ x y. tt) (finite-joins index (n + 2) n (n + 1))
-finite-property surface.Scr index n =
-    let met = And (at_most_one_step index n (n + 2)) (Atom Star index (n + 1) (n + 2)) in
-    finite-forking (Atom Step index) n (some (n + 2) met) (λ x y. tt) (finite-some (n + 2) met ((tt, tt), tt))
-finite-property surface.Wn index n =
-    finite-every n (some (n + 1) (normalises index n (n + 1))) (finite-some (n + 1) (normalises index n (n + 1)) (tt, tt))
-finite-property surface.Unr index n = finite-forking (normalises index) n (equal n (n + 1)) (λ x y. (tt, tt)) tt
-finite-property surface.Unc index n =
-    let whole = implies (And (And (Atom Conv index n (n + 1)) (Nf index n)) (Nf index (n + 1))) (equal n (n + 1)) in
-    finite-every n (every (n + 1) whole) (finite-every (n + 1) whole (((tt, tt), tt), tt))
-finite-property surface.Nfp index n =
-    let whole = implies (And (Atom Conv index n (n + 1)) (Nf index (n + 1))) (Atom Star index n (n + 1)) in
-    finite-every n (every (n + 1) whole) (finite-every (n + 1) whole ((tt, tt), tt))
-
-finite-commutes : (n : ℕ) → HasNoInfinite (commutes n)
-finite-commutes n =
-    let parted = And (Atom Star 1 (n + 2) n) (Atom Star 2 (n + 2) (n + 1)) in
-    let met = And (Atom Star 2 n (n + 2)) (Atom Star 1 (n + 1) (n + 2)) in
-    let whole = implies (some (n + 2) parted) (some (n + 2) met) in
-    finite-every n (every (n + 1) whole) (finite-every (n + 1) whole (finite-some (n + 2) parted (tt, tt), finite-some (n + 2) met (tt, tt)))
-
-finite-about : (terms : List Tree) (scope : List Name) (n : ℕ) (a : Argument) (make : ℕ → ℕ → Core) → ((m x : ℕ) → HasNoInfinite (make m x))
-    → HasNoInfinite (about terms scope n a make)
-finite-about terms scope n (surface.Var x) make h = h n (number_in scope x)
-finite-about terms scope n (surface.Ground k) make h = (tt, h (n + 1) n)
-
-finite-about_both : (terms : List Tree) (scope : List Name) (n : ℕ) (a b : Argument) (make : ℕ → ℕ → ℕ → Core) → ((m x y : ℕ) → HasNoInfinite (make m x y))
-    → HasNoInfinite (about_both terms scope n a b make)
-finite-about_both terms scope n a b make h =
-    finite-about terms scope n a (λ m x. about terms scope m b (λ k y. make k x y)) (λ m x. finite-about terms scope m b (λ k y. make k x y) (λ k y. h k x y))
-
-finite-core_in : (terms : List Tree) (scope : List Name) (f : Formula) → IsWithoutInfinite f → HasNoInfinite (core_in terms scope f)
-finite-core_in terms scope surface.True h = tt
-finite-core_in terms scope surface.False h = tt
-finite-core_in terms scope (surface.Related rel a b index) h =
-    finite-about_both terms scope (length scope) a b (λ n x y. related rel index x y) (λ n x y. finite-related rel index x y)
-finite-core_in terms scope (surface.Nf a index) h = finite-about terms scope (length scope) a (λ n x. Nf index x) (λ n x. tt)
-finite-core_in terms scope (surface.Join a b index) h =
-    finite-about_both terms scope (length scope) a b (λ n x y. joins index n x y) (λ n x y. finite-joins index n x y)
-finite-core_in terms scope (surface.Has p index) h = finite-property p index (length scope)
-finite-core_in terms scope surface.Com h = finite-commutes (length scope)
-finite-core_in terms scope (surface.Not f) h = finite-core_in terms scope f h
-finite-core_in terms scope (surface.And f g) h = (finite-core_in terms scope f h.0, finite-core_in terms scope g h.1)
-finite-core_in terms scope (surface.Or f g) h = (finite-core_in terms scope f h.0, finite-core_in terms scope g h.1)
-finite-core_in terms scope (surface.Imp f g) h = (finite-core_in terms scope f h.0, finite-core_in terms scope g h.1)
-finite-core_in terms scope (surface.Iff f g) h = (finite-core_in terms scope f h.0, finite-core_in terms scope g h.1)
-finite-core_in terms scope (surface.Exists x f) h = finite-some (length scope) (core_in terms (x ∷ scope) f) (finite-core_in terms (x ∷ scope) f h)
-finite-core_in terms scope (surface.Forall x f) h = finite-every (length scope) (core_in terms (x ∷ scope) f) (finite-core_in terms (x ∷ scope) f h)
-finite-core_in terms scope (surface.Infinite x f) h = absurd h
-
--- Result
-pub HasNoInfinite-core_of : (terms : List Tree) (f : Formula) → IsWithoutInfinite f → HasNoInfinite (core_of terms f)
-HasNoInfinite-core_of terms f h = finite-core_in terms (reverse (free_names f)) f h

@@ -1,29 +1,14 @@
 -- To believe: when two optional tuples are alike at a core formula, over its columns; a part is over a cap where there are more tuples than it, no two of them alike.
-use Rattle.std.specs.Prelude.{◌↔◌, ℕ, ◌<◌, List, length, get_or, Some}
-use Rattle.std.specs.List.{insert}
-use Rattle.fort_theory.specs.Trees.{Tree}
-use Rattle.fort_theory.specs.Signatures.{Signature, IsGround}
+use Rattle.std.specs.Prelude.{ℕ, ◌<◌, List, length, get_or}
 use Rattle.fort_theory.specs.Patterns.{PatternSystem}
-use Rattle.fort_logic.specs.Logic.{HasInfinitelyMany}
 use Rattle.fort_logic.specs.Cores.{Core, True, Atom, Nf, Is, Not, And, Or, Iff, Exists, Infinite}
-use Rattle.fort_tables.specs.Tuples.{Tuple}
 use Rattle.fort_alike.specs.Atoms.{relation_atom, normal_atom}
 use Rattle.fort_alike.specs.Alike.{Alike}
 use Rattle.fort_alike.specs.AlikeAtTerm.{AlikeAtTerm}
 use Rattle.fort_alike.specs.UnlikeTuples.{IsOver}
 use Rattle.fort_operations.specs.Agreement.{Agreement, AgreeAtBoth, AgreeAtSome}
+use Rattle.fort_counts.specs.ManyAgreement.{AgreeAtMany}
 use Rattle.fort_parts.specs.PartColumns.{columns_of, place_in, places_in}
-
--- infinitely many terms in column c complete the tuple to one that agrees with this completion of it
-abbrev pub HasManyLike : Signature → ℕ → Agreement → Tuple → Tree → Type 0
-HasManyLike sig c agree t x = HasInfinitelyMany (λ v. IsGround sig v × agree (insert t c (Some v)) (insert t c (Some x)))
-
--- for "infinitely many terms in column c": as for "some", and where two completions agree, infinitely many terms agree with the one
--- exactly where infinitely many do with the other
-pub record AgreeAtMany (sig : Signature) (c : ℕ) (agree : Agreement) (t u : Tuple) : Type 0 where
-  pub some : AgreeAtSome sig c agree t u
-  pub many : (x y : Tree) → IsGround sig x → IsGround sig y → agree (insert t c (Some x)) (insert u c (Some y))
-      → HasManyLike sig c agree t x ↔ HasManyLike sig c agree u y
 
 -- a formula without columns has no tuples
 abbrev pub AlikeAt : PatternSystem → Core → Agreement

@@ -1,4 +1,4 @@
--- To believe: what deciding asks of a core formula over a system: it is well-formed, its indices are the system's, its terms are ground; which formulas are decided so far; and what the operands of a formula are.
+-- To believe: what deciding asks of a core formula over a system: it is well-formed, its indices are the system's, its terms are ground; and what the operands of a formula are.
 use Rattle.std.specs.Prelude.{◌≡◌, ◌⊎◌}
 use Rattle.fort_theory.specs.Signatures.{IsGround}
 use Rattle.fort_theory.specs.Patterns.{PatternSystem}
@@ -19,23 +19,9 @@ IsOverSystem system (Iff f g) = IsOverSystem system f × IsOverSystem system g
 IsOverSystem system (Exists n f) = IsOverSystem system f
 IsOverSystem system (Infinite n f) = IsOverSystem system f
 
--- no "infinitely many" stands in it
-abbrev pub HasNoInfinite : Core → Type 0
-HasNoInfinite True = Unit {0}
-HasNoInfinite (Atom rel index x y) = Unit {0}
-HasNoInfinite (Nf index x) = Unit {0}
-HasNoInfinite (Is x term) = Unit {0}
-HasNoInfinite (Not f) = HasNoInfinite f
-HasNoInfinite (And f g) = HasNoInfinite f × HasNoInfinite g
-HasNoInfinite (Or f g) = HasNoInfinite f × HasNoInfinite g
-HasNoInfinite (Iff f g) = HasNoInfinite f × HasNoInfinite g
-HasNoInfinite (Exists n f) = HasNoInfinite f
-HasNoInfinite (Infinite n f) = ⊥
-
 pub record IsDecided (system : PatternSystem) (f : Core) : Type 0 where
   pub well_formed : IsWellFormed f
   pub over : IsOverSystem system f
-  pub no_infinite : HasNoInfinite f
 
 -- g stands in h at once
 abbrev pub IsOperandOf : Core → Core → Type 0

@@ -5,4 +5,3 @@ pub mod PartSteps
 pub mod PartLabels
 pub mod DecidedCores
 pub mod RightAnswers
-pub mod WithoutInfinite

@@ -1,6 +1,7 @@
--- To believe: how the answer of a formula comes from those of its operands, on tuples of terms over its columns: the complement, a connective of what the operands say of their own columns, and whether some term in one column is accepted.
+-- To believe: how the answer of a formula comes from those of its operands, on tuples of terms over its columns: the complement, a connective of what the operands say of their own columns, and whether some term, or infinitely many terms, in one column are accepted.
 use Rattle.std.specs.Prelude.{◌≡◌, ℕ, List, length, true, not, Decides, Some}
 use Rattle.std.specs.List.{insert}
+use Rattle.fort_logic.specs.Logic.{HasInfinitelyMany}
 use Rattle.fort_theory.specs.Trees.{Tree}
 use Rattle.fort_theory.specs.Signatures.{Signature, IsGround}
 use Rattle.fort_tables.specs.Tuples.{Tuple, IsFull, AreGroundColumns}
@@ -27,6 +28,12 @@ SaysBoth sig columns op places first others second answer =
 abbrev pub SaysSome : Signature → ℕ → (c : ℕ) → (body answer : Answer) → Type 0
 SaysSome sig columns c body answer =
     (t : Tuple) → AreTerms sig columns t → Decides (said answer t) ((u : Tree) × IsGround sig u × (said body (insert t c (Some u)) ≡ true))
+
+-- infinitely many terms in column c of the body
+abbrev pub SaysMany : Signature → ℕ → (c : ℕ) → (body answer : Answer) → Type 0
+SaysMany sig columns c body answer =
+    (t : Tuple) → AreTerms sig columns t
+    → Decides (said answer t) (HasInfinitelyMany (λ (u : Tree). IsGround sig u × (said body (insert t c (Some u)) ≡ true)))
 
 -- an answer as an operand of a product
 abbrev pub operand_of : Answer → List ℕ → Operand

@@ -3,8 +3,8 @@ mod ColumnLaws
 mod StateLists
 mod PureSearch
 mod OperandEntries
-mod ProjectEntries
-mod ChoiceSearch
+pub mod ProjectEntries
+pub mod ChoiceSearch
 mod LabelWritten
 mod TableMade
 mod NegationLaws

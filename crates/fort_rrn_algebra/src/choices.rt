@@ -16,7 +16,7 @@ use fort_lockstep::{Row, Table};
 use fort_terms::Sym;
 
 /// The state with the column absent, where it is `from` or a later one.
-fn next_absent(label: &[u64], from: u32) -> Option<usize>
+pub fn next_absent(label: &[u64], from: u32) -> Option<usize>
     ensures some { IfSome result (IsNext (λ k. absent_state label.now == k) from) }
     ensures none { IfNone result ((k : ℕ) → from ≤ k → (absent_state label.now == k) ≡ false) }
 {
@@ -29,7 +29,7 @@ fn next_absent(label: &[u64], from: u32) -> Option<usize>
 }
 
 /// The first state of a label's set from `from` on.
-pub(crate) fn next_in_set(label: &[u64], from: u32) -> Option<usize>
+pub fn next_in_set(label: &[u64], from: u32) -> Option<usize>
     requires { length label.now < 2 ^ 32 }
     ensures some { IfSome result (IsNext (has_state label.now) from) }
     ensures none { IfNone result ((k : ℕ) → from ≤ k → has_state label.now k ≡ false) }

@@ -17,11 +17,12 @@ mod pure;
 mod tables;
 mod words;
 
+pub use choices::{next_absent, next_in_set};
 pub use negation::negate;
 pub use operand::{Op, Operand};
 pub use product::Both;
 pub use project::Project;
-pub use pure::pure_states;
+pub use pure::{next_pure, pure_states};
 pub use tables::{permute, widen};
 
 #[cfg(test)]

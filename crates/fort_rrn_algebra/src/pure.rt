@@ -40,7 +40,7 @@ fn first_from(numbers: &[u32], from: u32) -> usize
 }
 
 /// The first of the pure states from `from` on.
-pub(crate) fn next_pure(alone: &[u32], from: u32) -> Option<usize>
+pub fn next_pure(alone: &[u32], from: u32) -> Option<usize>
     requires { (body : tables.Table) × (column : ℕ) × ArePure body column alone.now }
     ensures some { (body : tables.Table) (column : ℕ) → ArePure body column alone.now
         → IfSome result (IsNext (is_pure_lem body column) from) }

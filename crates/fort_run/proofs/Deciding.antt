@@ -16,13 +16,12 @@ use Rattle.fort_logic.specs.Translation.{core_of}
 use Rattle.fort_logic.specs.Truth.{Assignment, structure_of, GivesTerms, Holds, IsTrueOf, IsFalseOf}
 use Rattle.fort_logic.specs.PatternStructures.{pattern_structure}
 use Rattle.fort_formulas.specs.KindView.{as_kind}
-use Rattle.fort_parts.specs.DecidedCores.{IsOverSystem, HasNoInfinite, IsDecided}
+use Rattle.fort_parts.specs.DecidedCores.{IsOverSystem, IsDecided}
 use Rattle.fort_parts.specs.PartColumns.{columns_of}
-use Rattle.fort_parts.specs.WithoutInfinite.{IsWithoutInfinite}
 use Rattle.fort_parts.proofs.PartColumnLaws.{is_free-from_column}
 use Rattle.fort_parts.proofs.SameCoreRoots.{IsMetBy-by_patterns}
-use Rattle.fort_parts.proofs.TranslatedCores.{IsOverSystem-core_of, HasNoInfinite-core_of}
-use Rattle.fort_answers.specs.DecideAnswer.{IsBuilt, PassesCap}
+use Rattle.fort_parts.proofs.TranslatedCores.{IsOverSystem-core_of}
+use Rattle.fort_answers.specs.DecideAnswer.{PassesCap}
 use Rattle.fort_answers.specs.InputAnswer.{IsInput}
 use Rattle.fort_answers.specs.Requests.{Text}
 use Rattle.fort_engine.specs.declared.answer.Limit.{Limit}
@@ -51,14 +50,12 @@ closed_columns f core closed numbers =
     omega arith)
 
 -- what deciding asks
-pub decided_core : (f : Formula) (system : PatternSystem) (terms : List Tree) (core : Core) → IsSystem system → IsReady f system terms → IsWithoutInfinite f
-    → IsWellFormed core → core ≡ core_of terms f → IsDecided system core
-decided_core f system terms core lawful ready finite well is =
+pub decided_core : (f : Formula) (system : PatternSystem) (terms : List Tree) (core : Core) → IsSystem system → IsReady f system terms → IsWellFormed core → core ≡ core_of terms f → IsDecided system core
+decided_core f system terms core lawful ready well is =
     let first : IsIndexOf system.rules 1 = record { low = omega arith; high = lawful.some } in
     record {
       well_formed = well;
       over = subst (IsOverSystem system) (sym is) (IsOverSystem-core_of system first terms ready.grounded f ready.within ready.has_terms);
-      no_infinite = subst HasNoInfinite (sym is) (HasNoInfinite-core_of terms f finite);
     }
 
 -- ---- from the core formula to the formula
@@ -98,23 +95,22 @@ module _ (bytes : Text) (p : System) (input : IsInput bytes p) (f : Formula) (te
 
 -- the reply to the core formula is the answer to the formula
 pub verdict_of : (bytes : Text) (p : System) (system : PatternSystem) (f : Formula) (terms : List Tree) (states : ℕ) (core : Core) (r : Reply) → IsInput bytes p
-    → system ≡ pattern_system p → IsReady f system terms → IsBuilt f → KeepsTruth terms f core → core ≡ core_of terms f → DecidesCore system core states r
+    → system ≡ pattern_system p → IsReady f system terms → KeepsTruth terms f core → core ≡ core_of terms f → DecidesCore system core states r
     → IsVerdict p terms f states (status_of r) (text_of r)
-verdict_of bytes p system f terms states core reply.Usage input same ready built keeps is d = absurd d
-verdict_of bytes p system f terms states core (reply.Refused line) input same ready built keeps is d = absurd d
-verdict_of bytes p system f terms states core reply.InputTooLong input same ready built keeps is d = absurd d
-verdict_of bytes p system f terms states core reply.NotDecidedYet input same ready built keeps is d = absurd d
-verdict_of bytes p system f terms states core (reply.Limited line limit) input same ready built keeps is d =
+verdict_of bytes p system f terms states core reply.Usage input same ready keeps is d = absurd d
+verdict_of bytes p system f terms states core (reply.Refused line) input same ready keeps is d = absurd d
+verdict_of bytes p system f terms states core reply.InputTooLong input same ready keeps is d = absurd d
+verdict_of bytes p system f terms states core (reply.Limited line limit) input same ready keeps is d =
     let there = subst (λ s. IsLimit s (core_of terms f) states limit) same (subst (λ c. IsLimit system c states limit) is d.is) in
-    Limits built limit.part (as_kind limit.kind) (passes p terms f states limit there) (record { same_status = refl; same_text = d.line_is })
-verdict_of bytes p system f terms states core reply.Yes input same ready built keeps is d =
+    Limits limit.part (as_kind limit.kind) (passes p terms f states limit there) (record { same_status = refl; same_text = d.line_is })
+verdict_of bytes p system f terms states core reply.Yes input same ready keeps is d =
     let grounded = subst (λ (s : PatternSystem). All (IsGround s.signature) terms) same ready.grounded in
-    Verdict_holds built (subst (λ s. KeepsCapAt s (core_of terms f) states) same (subst (λ c. KeepsCapAt system c states) is d.0))
+    Verdict_holds (subst (λ s. KeepsCapAt s (core_of terms f) states) same (subst (λ c. KeepsCapAt system c states) is d.0))
     (is_true bytes p input f terms grounded ready.closed core keeps (subst (λ s. IsTrueCore s core) same d.1))
     (record { same_status = refl; same_text = refl })
-verdict_of bytes p system f terms states core reply.No input same ready built keeps is d =
+verdict_of bytes p system f terms states core reply.No input same ready keeps is d =
     let grounded = subst (λ (s : PatternSystem). All (IsGround s.signature) terms) same ready.grounded in
-    Fails built (subst (λ s. KeepsCapAt s (core_of terms f) states) same (subst (λ c. KeepsCapAt system c states) is d.0))
+    Fails (subst (λ s. KeepsCapAt s (core_of terms f) states) same (subst (λ c. KeepsCapAt system c states) is d.0))
     (is_false bytes p input f terms grounded ready.closed core keeps (subst (λ s. IsFalseCore s core) same d.1))
     (record { same_status = refl; same_text = refl })
 
@@ -123,7 +119,6 @@ pub limit_of_core : (system : PatternSystem) (f : Formula) (terms : List Tree) (
 limit_of_core system f terms states core reply.Usage is d = tt
 limit_of_core system f terms states core (reply.Refused line) is d = tt
 limit_of_core system f terms states core reply.InputTooLong is d = tt
-limit_of_core system f terms states core reply.NotDecidedYet is d = tt
 limit_of_core system f terms states core (reply.Limited line limit) is d = subst (λ c. ShowsLimit system c states line.items limit) is d
 limit_of_core system f terms states core reply.Yes is d = tt
 limit_of_core system f terms states core reply.No is d = tt

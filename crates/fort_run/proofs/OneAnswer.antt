@@ -9,15 +9,15 @@ use Rattle.fort_logic.proofs.Verdicts.{IsTrueOf-not_false}
 use Rattle.fort_io.specs.Devices.{Takes}
 use Rattle.fort_answers.specs.Requests.{Text, Request, Decide, Witness, Check, Sample}
 use Rattle.fort_answers.specs.CommandGrammar.{request_of}
-use Rattle.fort_answers.specs.Lines.{positive, negative, usage, refused, limited, usage_text, yes_line, no_line, limit_line, not_decided_yet}
-use Rattle.fort_answers.specs.DecideAnswer.{IsBuilt, Are, DecidesOf, DecideEarly, DecideAnswer, Early, InputRefused, FormulaUnfit, NotDecidedYet, Limited, Yes, No, PassesCap, KeepsCap}
+use Rattle.fort_answers.specs.Lines.{positive, negative, usage, refused, limited, usage_text, yes_line, no_line, limit_line}
+use Rattle.fort_answers.specs.DecideAnswer.{Are, DecidesOf, DecideEarly, DecideAnswer, Early, InputRefused, FormulaUnfit, Limited, Yes, No, PassesCap, KeepsCap}
 use Rattle.fort_answers.specs.FitAnswer.{FitsSystem, IsUnfit}
 use Rattle.fort_answers.specs.InputAnswer.{IsInput, IsInputRefused}
 use Rattle.fort_answers.specs.Answer.{OwesTold, owed_early, owed, Answer, AnswerFor}
 use Rattle.fort_answers.proofs.OneFit.{IsUnfit-unique, FitsSystem-not_unfit, FitsSystem-unique, FitsSystem-ground}
 use Rattle.fort_answers.proofs.OneRequest.{Are-unique, IsAccepted-unique, DecideEarly-unique, early-without_input}
 use Rattle.fort_answers.proofs.OneCap.{PassesCap-unique, PassesCap-not_kept}
-use Rattle.fort_run.specs.Plain.{IsVerdict, Undecided, Limits, Holds, Fails}
+use Rattle.fort_run.specs.Plain.{IsVerdict, Limits, Holds, Fails}
 use Rattle.fort_run.specs.Answered.{Answers, OwesOnly, OwesOnlyEarly, IsDecidable, IsDecidableWithin}
 use Rattle.fort_run.proofs.OneInput.{IsInputRefused-unique, IsInput-not_refused, IsInput-unique}
 
@@ -34,26 +34,19 @@ data Reply (formula : Text) (f : Formula) (states : ℕ) (bytes : Text) (status 
 module _ (formula : Text) (f : Formula) (states : ℕ) (s s' : ℕ) (t t' : Text) where
   module _ (system : System) (terms : List Tree) (constant : HasConstant system.signature) (grounded : All (IsGround system.signature) terms) where
     IsVerdict-unique : IsVerdict system terms f states s t → IsVerdict system terms f states s' t' → Are s t s' t'
-    IsVerdict-unique (Undecided not are) (Undecided not' are') = Are-unique refused not_decided_yet s s' t t' are are'
-    IsVerdict-unique (Undecided not are) (Limits built k kind over are') = absurd (not built)
-    IsVerdict-unique (Undecided not are) (Holds built keeps holds are') = absurd (not built)
-    IsVerdict-unique (Undecided not are) (Fails built keeps fails are') = absurd (not built)
-    IsVerdict-unique (Limits built k kind over are) (Undecided not are') = absurd (not built)
-    IsVerdict-unique (Limits built k kind over are) (Limits built' k' kind' over' are') =
+    IsVerdict-unique (Limits k kind over are) (Limits k' kind' over' are') =
         let one = PassesCap-unique system terms f states k' k kind' kind over' over in
         Are-unique limited (limit_line k kind states) s s' t t' are (subst (Are s' t' limited) one are')
-    IsVerdict-unique (Limits built k kind over are) (Holds built' keeps holds are') = absurd (PassesCap-not_kept system terms f states k kind over keeps)
-    IsVerdict-unique (Limits built k kind over are) (Fails built' keeps fails are') = absurd (PassesCap-not_kept system terms f states k kind over keeps)
-    IsVerdict-unique (Holds built keeps holds are) (Undecided not are') = absurd (not built)
-    IsVerdict-unique (Holds built keeps holds are) (Limits built' k kind over are') = absurd (PassesCap-not_kept system terms f states k kind over keeps)
-    IsVerdict-unique (Holds built keeps holds are) (Holds built' keeps' holds' are') = Are-unique positive yes_line s s' t t' are are'
-    IsVerdict-unique (Holds built keeps holds are) (Fails built' keeps' fails are') =
+    IsVerdict-unique (Limits k kind over are) (Holds keeps holds are') = absurd (PassesCap-not_kept system terms f states k kind over keeps)
+    IsVerdict-unique (Limits k kind over are) (Fails keeps fails are') = absurd (PassesCap-not_kept system terms f states k kind over keeps)
+    IsVerdict-unique (Holds keeps holds are) (Limits k kind over are') = absurd (PassesCap-not_kept system terms f states k kind over keeps)
+    IsVerdict-unique (Holds keeps holds are) (Holds keeps' holds' are') = Are-unique positive yes_line s s' t t' are are'
+    IsVerdict-unique (Holds keeps holds are) (Fails keeps' fails are') =
         absurd (IsTrueOf-not_false system terms f constant grounded holds fails)
-    IsVerdict-unique (Fails built keeps fails are) (Undecided not are') = absurd (not built)
-    IsVerdict-unique (Fails built keeps fails are) (Limits built' k kind over are') = absurd (PassesCap-not_kept system terms f states k kind over keeps)
-    IsVerdict-unique (Fails built keeps fails are) (Holds built' keeps' holds are') =
+    IsVerdict-unique (Fails keeps fails are) (Limits k kind over are') = absurd (PassesCap-not_kept system terms f states k kind over keeps)
+    IsVerdict-unique (Fails keeps fails are) (Holds keeps' holds are') =
         absurd (IsTrueOf-not_false system terms f constant grounded holds fails)
-    IsVerdict-unique (Fails built keeps fails are) (Fails built' keeps' fails' are') = Are-unique negative no_line s s' t t' are are'
+    IsVerdict-unique (Fails keeps fails are) (Fails keeps' fails' are') = Are-unique negative no_line s s' t t' are are'
 
   Verdict-unique : (system : System) (bytes : Text) → IsInput bytes system → Verdict formula f states system s t → Verdict formula f states system s' t' → Are s t s' t'
   Verdict-unique system bytes is (Unfit line says are) (Unfit line' says' are') =
@@ -86,11 +79,10 @@ module _ (states : ℕ) (certificate : Bool) (formula : Text) where
   staged bytes s t (Early early) = Unread early
   staged bytes s t (InputRefused f asks line says are) = Asked f asks (Refuses line says are)
   staged bytes s t (FormulaUnfit f asks system is line says are) = Asked f asks (Decides system is (Unfit line says are))
-  staged bytes s t (NotDecidedYet f asks system is terms fits not are) = Asked f asks (Decides system is (Fit terms fits (Undecided not are)))
-  staged bytes s t (Limited f asks system is terms fits built k kind over are) =
-      Asked f asks (Decides system is (Fit terms fits (Limits built k kind over are)))
-  staged bytes s t (Yes f asks system is terms fits built keeps holds are) = Asked f asks (Decides system is (Fit terms fits (Holds built keeps holds are)))
-  staged bytes s t (No f asks system is terms fits built keeps fails are) = Asked f asks (Decides system is (Fit terms fits (Fails built keeps fails are)))
+  staged bytes s t (Limited f asks system is terms fits k kind over are) =
+      Asked f asks (Decides system is (Fit terms fits (Limits k kind over are)))
+  staged bytes s t (Yes f asks system is terms fits keeps holds are) = Asked f asks (Decides system is (Fit terms fits (Holds keeps holds are)))
+  staged bytes s t (No f asks system is terms fits keeps fails are) = Asked f asks (Decides system is (Fit terms fits (Fails keeps fails are)))
 
   Staged-unique : (bytes : Text) (s s' : ℕ) (t t' : Text) → Staged states certificate formula bytes s t → Staged states certificate formula bytes s' t' → Are s t s' t'
   Staged-unique bytes s s' t t' (Unread early) (Unread early') = DecideEarly-unique certificate formula s s' t t' early early'
@@ -105,19 +97,17 @@ module _ (states : ℕ) (certificate : Bool) (formula : Text) where
   DecideAnswer-unique bytes s s' t t' one other = Staged-unique bytes s s' t t' (staged bytes s t one) (staged bytes s' t' other)
 
   -- a formula that is decided, over a system, is answered by YES or NO, or by the part of it that is over the cap
-  pub decided_low : (f : Formula) (bytes : Text) (system : System) (terms : List Tree) (s : ℕ) (t : Text) → DecidesOf certificate formula f → IsBuilt f
+  pub decided_low : (f : Formula) (bytes : Text) (system : System) (terms : List Tree) (s : ℕ) (t : Text) → DecidesOf certificate formula f
       → IsInput bytes system → FitsSystem formula f system terms → DecideAnswer states certificate formula bytes s t
       → (s ≤ negative) ⊎ ((s ≡ limited) × (KeepsCap system terms f states → ⊥))
-  decided_low f bytes system terms s t asks built is fits (Early early) = absurd (early-without_input certificate formula s t early f asks)
-  decided_low f bytes system terms s t asks built is fits (InputRefused g asks' line says are) = absurd (IsInput-not_refused bytes system line is says)
-  decided_low f bytes system terms s t asks built is fits (FormulaUnfit g asks' system' is' line says are) =
+  decided_low f bytes system terms s t asks is fits (Early early) = absurd (early-without_input certificate formula s t early f asks)
+  decided_low f bytes system terms s t asks is fits (InputRefused g asks' line says are) = absurd (IsInput-not_refused bytes system line is says)
+  decided_low f bytes system terms s t asks is fits (FormulaUnfit g asks' system' is' line says are) =
       let one = IsAccepted-unique formula g f asks'.accepted asks.accepted in
       let same = IsInput-unique bytes system' system is' is in
       absurd (FitsSystem-not_unfit formula f system terms line fits
       (subst (λ x. IsUnfit formula f x line) same (subst (λ h. IsUnfit formula h system' line) one says)))
-  decided_low f bytes system terms s t asks built is fits (NotDecidedYet g asks' system' is' terms' fits' not are) =
-      absurd (not (subst IsBuilt (IsAccepted-unique formula f g asks.accepted asks'.accepted) built))
-  decided_low f bytes system terms s t asks built is fits (Limited g asks' system' is' terms' fits' built' k kind over are) =
+  decided_low f bytes system terms s t asks is fits (Limited g asks' system' is' terms' fits' k kind over are) =
       let one : g ≡ f = IsAccepted-unique formula g f asks'.accepted asks.accepted in
       let same : system' ≡ system = IsInput-unique bytes system' system is' is in
       let at_system = subst (λ x. FitsSystem formula f x terms') same (subst (λ h. FitsSystem formula h system' terms') one fits') in
@@ -125,9 +115,9 @@ module _ (states : ℕ) (certificate : Bool) (formula : Text) where
       let there = subst (λ ts. PassesCap system ts f states k kind) all
       (subst (λ x. PassesCap x terms' f states k kind) same (subst (λ h. PassesCap system' terms' h states k kind) one over)) in
       inr (are.same_status, PassesCap-not_kept system terms f states k kind there)
-  decided_low f bytes system terms s t asks built is fits (Yes g asks' system' is' terms' fits' built' keeps holds are) =
+  decided_low f bytes system terms s t asks is fits (Yes g asks' system' is' terms' fits' keeps holds are) =
       inl (let e = are.same_status in omega arith)
-  decided_low f bytes system terms s t asks built is fits (No g asks' system' is' terms' fits' built' keeps fails are) =
+  decided_low f bytes system terms s t asks is fits (No g asks' system' is' terms' fits' keeps fails are) =
       inl (let e = are.same_status in omega arith)
 
 pub owed-unique : (request : Option Request) (bytes : Text) (s s' : ℕ) (t t' : Text) → owed request bytes s t → owed request bytes s' t' → Are s t s' t'
@@ -183,7 +173,7 @@ module _ (words : List Text) (told old new : Option Text) (status : ℕ) (given 
       subst (λ o. OwesTold (request_of words) o status given.text) is.told_are given.owed in
       let at_request : owed (Some (Decide is.states is.certificate is.formula)) is.bytes status given.text =
       subst (λ r. owed r is.bytes status given.text) is.asked at_bytes in
-      decided_low is.states is.certificate is.formula is.f is.bytes is.system is.terms status given.text is.decides is.built is.input is.fits at_request
+      decided_low is.states is.certificate is.formula is.f is.bytes is.system is.terms status given.text is.decides is.input is.fits at_request
 
   pub Answers-decided : IsDecidable words told → (status ≤ negative) ⊎ (status ≡ limited)
   Answers-decided is = elim (decided_or_over is) [ inl low ↦ inl low | inr over ↦ inr over.0 ]

@@ -21,7 +21,7 @@ use Rattle.fort_io.specs.Devices.{Takes}
 use Rattle.fort_answers.specs.CommandGrammar.{request_of}
 use Rattle.fort_answers.specs.Requests.{Text}
 use Rattle.fort_answers.specs.Lines.{input_too_long, problem_fault_line, refused}
-use Rattle.fort_answers.specs.DecideAnswer.{Are, DecidesOf, FormulaRefused, Early, InputRefused, FormulaUnfit, NotDecidedYet, Limited, Yes, No}
+use Rattle.fort_answers.specs.DecideAnswer.{Are, DecidesOf, FormulaRefused, Early, InputRefused, FormulaUnfit, Limited, Yes, No}
 use Rattle.fort_answers.specs.FitAnswer.{FitsSystem, IsUnfit}
 use Rattle.fort_answers.specs.FormulaAnswer.{IsAccepted, IsRefused}
 use Rattle.fort_answers.specs.InputAnswer.{IsInput, IsInputRefused, TooLong, NoForms, NoProblem, FormBehind, input_limit}
@@ -31,7 +31,7 @@ use Rattle.fort_engine.specs.declared.answer.Limit.{Limit}
 use Rattle.fort_engine.specs.AnswerView.{IsLimit}
 use Rattle.fort_run.specs.Limits.{HasLimitTold, IsLimitOf}
 use Rattle.fort_run.specs.Ready.{ShowsLimit}
-use Rattle.fort_run.specs.Plain.{IsVerdict, Undecided, Limits, Holds, Fails, PlainAnswers, PlainNeedsInput, PlainOwes, PlainLimit, PlainLimitTold}
+use Rattle.fort_run.specs.Plain.{IsVerdict, Limits, Holds, Fails, PlainAnswers, PlainNeedsInput, PlainOwes, PlainLimit, PlainLimitTold}
 
 -- the forms of a text, counted
 pub count_of : (forms : Forms) → form_count forms ≡ length (as_list forms)
@@ -124,10 +124,9 @@ module _ (states : ℕ) (text : Text) where
 
   pub fit : (f : Formula) (bytes : Text) (p : System) (terms : List Tree) (status : ℕ) (line : Text) → IsAccepted text f → IsInput bytes p
       → FitsSystem text f p terms → IsVerdict p terms f states status line → PlainAnswers states text bytes status line
-  fit f bytes p terms status line accepted input fits (Undecided not are) = NotDecidedYet f (asks text f accepted) p input terms fits not are
-  fit f bytes p terms status line accepted input fits (Limits built k kind over are) = Limited f (asks text f accepted) p input terms fits built k kind over are
-  fit f bytes p terms status line accepted input fits (Holds built keeps holds are) = Yes f (asks text f accepted) p input terms fits built keeps holds are
-  fit f bytes p terms status line accepted input fits (Fails built keeps fails are) = No f (asks text f accepted) p input terms fits built keeps fails are
+  fit f bytes p terms status line accepted input fits (Limits k kind over are) = Limited f (asks text f accepted) p input terms fits k kind over are
+  fit f bytes p terms status line accepted input fits (Holds keeps holds are) = Yes f (asks text f accepted) p input terms fits keeps holds are
+  fit f bytes p terms status line accepted input fits (Fails keeps fails are) = No f (asks text f accepted) p input terms fits keeps fails are
 
   -- a limit of the core formula over the system of the input
   pub fit_limit : (f : Formula) (bytes : Text) (p : System) (system : PatternSystem) (terms : List Tree) (line : Text) (limit : Option Limit) → IsAccepted text f

@@ -4,14 +4,13 @@ use Rattle.std.proofs.Common.{refl, inl, inr, sym, subst, ◌∙◌, arith, true
 use Rattle.fort_answers.specs.Lines.{negative, limited, out_of_memory, last_answer}
 use Rattle.fort_engine.specs.declared.answer.Limit.{Limit}
 use Rattle.fort_run.specs.declared.reply.Reply.{Reply}
-use Rattle.fort_run.specs.declared.reply.Reply.TheVariants.{Usage, Refused, InputTooLong, NotDecidedYet, Limited, Yes, No}
+use Rattle.fort_run.specs.declared.reply.Reply.TheVariants.{Usage, Refused, InputTooLong, Limited, Yes, No}
 use Rattle.fort_run.specs.ReplyView.{status_of, limit_of}
 
 shown : (r : Reply) → IsSome (limit_of r) ↔ (status_of r ≡ limited)
 shown Usage = ((λ h. absurd (true≢false (sym h))), (λ e. absurd (omega arith)))
 shown (Refused line) = ((λ h. absurd (true≢false (sym h))), (λ e. absurd (omega arith)))
 shown InputTooLong = ((λ h. absurd (true≢false (sym h))), (λ e. absurd (omega arith)))
-shown NotDecidedYet = ((λ h. absurd (true≢false (sym h))), (λ e. absurd (omega arith)))
 shown (Limited line limit) = ((λ h. refl), (λ e. refl))
 shown Yes = ((λ h. absurd (true≢false (sym h))), (λ e. absurd (omega arith)))
 shown No = ((λ h. absurd (true≢false (sym h))), (λ e. absurd (omega arith)))
@@ -24,7 +23,6 @@ low : (r : Reply) → status_of r ≤ last_answer
 low Usage = omega arith
 low (Refused line) = omega arith
 low InputTooLong = omega arith
-low NotDecidedYet = omega arith
 low (Limited line limit) = omega arith
 low Yes = omega arith
 low No = omega arith

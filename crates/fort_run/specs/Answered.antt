@@ -7,7 +7,7 @@ use Rattle.fort_logic.specs.Formulas.{Formula}
 use Rattle.fort_io.specs.Devices.{Takes}
 use Rattle.fort_answers.specs.Requests.{Text, Decide}
 use Rattle.fort_answers.specs.CommandGrammar.{request_of}
-use Rattle.fort_answers.specs.DecideAnswer.{IsBuilt, KeepsCap, DecidesOf}
+use Rattle.fort_answers.specs.DecideAnswer.{KeepsCap, DecidesOf}
 use Rattle.fort_answers.specs.InputAnswer.{IsInput, input_limit}
 use Rattle.fort_answers.specs.FitAnswer.{FitsSystem}
 use Rattle.fort_answers.specs.Answer.{Answer, AnswerFor, EarlyAnswer}
@@ -38,7 +38,7 @@ pub record CutsShort (words : List Text) (told : Option Text) (old new : Option 
 abbrev pub ReadsWhole : Option Text → Option Text → Type 0
 ReadsWhole old new = IsAtEnd new ⊎ IfSome old (λ bytes. input_limit < length bytes)
 
--- the words ask whether a formula is true that is decided today, and the bytes are a system with all that the formula speaks of
+-- the words ask whether a formula is true, and the bytes are a system with all that the formula speaks of
 pub record IsDecidable (words : List Text) (told : Option Text) : Type 0 where
   pub states : ℕ
   pub certificate : Bool
@@ -46,7 +46,6 @@ pub record IsDecidable (words : List Text) (told : Option Text) : Type 0 where
   pub asked : request_of words ≡ Some (Decide states certificate formula)
   pub f : Formula
   pub decides : DecidesOf certificate formula f
-  pub built : IsBuilt f
   pub bytes : Text
   pub told_are : told ≡ Some bytes
   pub system : System

@@ -7,8 +7,8 @@ use Rattle.fort_logic.specs.Formulas.{Formula}
 use Rattle.fort_logic.specs.Kinds.{Kind}
 use Rattle.fort_logic.specs.Truth.{IsTrueOf, IsFalseOf}
 use Rattle.fort_answers.specs.Requests.{Text, Request, Decide}
-use Rattle.fort_answers.specs.Lines.{positive, negative, refused, limited, yes_line, no_line, limit_line, not_decided_yet}
-use Rattle.fort_answers.specs.DecideAnswer.{Are, IsBuilt, PassesCap, KeepsCap}
+use Rattle.fort_answers.specs.Lines.{positive, negative, limited, yes_line, no_line, limit_line}
+use Rattle.fort_answers.specs.DecideAnswer.{Are, PassesCap, KeepsCap}
 use Rattle.fort_answers.specs.InputAnswer.{IsInput}
 use Rattle.fort_answers.specs.Answer.{NeedsInput, Owes, OwesTold}
 use Rattle.fort_engine.specs.declared.answer.Limit.{Limit}
@@ -39,10 +39,9 @@ IsReadFrom bytes system = (p : theory.System) × IsInput bytes p × (system ≡ 
 
 -- the answer to a formula over a system, with these ground terms in it
 pub data IsVerdict (system : theory.System) (terms : List Tree) (f : Formula) (states status : ℕ) (text : Text) : Type 0 where
-  Undecided : (IsBuilt f → ⊥) → Are status text refused not_decided_yet → IsVerdict system terms f states status text
-  Limits : IsBuilt f → (k : ℕ) (kind : Kind) → PassesCap system terms f states k kind → Are status text limited (limit_line k kind states)
+  Limits : (k : ℕ) (kind : Kind) → PassesCap system terms f states k kind → Are status text limited (limit_line k kind states)
       → IsVerdict system terms f states status text
-  Holds : IsBuilt f → KeepsCap system terms f states → IsTrueOf system terms f → Are status text positive yes_line
+  Holds : KeepsCap system terms f states → IsTrueOf system terms f → Are status text positive yes_line
       → IsVerdict system terms f states status text
-  Fails : IsBuilt f → KeepsCap system terms f states → IsFalseOf system terms f → Are status text negative no_line
+  Fails : KeepsCap system terms f states → IsFalseOf system terms f → Are status text negative no_line
       → IsVerdict system terms f states status text

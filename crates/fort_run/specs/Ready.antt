@@ -20,7 +20,7 @@ use Rattle.fort_engine.specs.AnswerView.{IsLimit}
 use Rattle.fort_engine.specs.declared.answer.Limit.{Limit}
 use Rattle.fort_run.specs.Limits.{IsLineOf}
 use Rattle.fort_run.specs.declared.reply.Reply.{Reply}
-use Rattle.fort_run.specs.declared.reply.Reply.TheVariants.{Usage, Refused, InputTooLong, NotDecidedYet, Limited, Yes, No}
+use Rattle.fort_run.specs.declared.reply.Reply.TheVariants.{Usage, Refused, InputTooLong, Limited, Yes, No}
 
 -- closed and not too wide, with a ground term for each that is written in it, and with indices of the system alone
 pub record IsReady (f : Formula) (system : PatternSystem) (terms : List Tree) : Type 0 where
@@ -51,7 +51,6 @@ abbrev pub DecidesCore : PatternSystem → Core → ℕ → Reply → Type 0
 DecidesCore system f cap Usage = ⊥
 DecidesCore system f cap (Refused line) = ⊥
 DecidesCore system f cap InputTooLong = ⊥
-DecidesCore system f cap NotDecidedYet = ⊥
 DecidesCore system f cap (Limited line limit) = ShowsLimit system f cap line.items limit
 DecidesCore system f cap Yes = KeepsCapAt system f cap × IsTrueCore system f
 DecidesCore system f cap No = KeepsCapAt system f cap × IsFalseCore system f

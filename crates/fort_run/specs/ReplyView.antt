@@ -1,16 +1,15 @@
 -- Inside: which status and which text each reply of the program is, and the limit that it shows, if any.
 use Rattle.std.specs.Prelude.{ℕ, List, Option, Some, None}
 use Rattle.fort_answers.specs.Lines as status
-use Rattle.fort_answers.specs.Lines.{usage_text, input_too_long, not_decided_yet, yes_line, no_line}
+use Rattle.fort_answers.specs.Lines.{usage_text, input_too_long, yes_line, no_line}
 use Rattle.fort_engine.specs.declared.answer.Limit.{Limit}
 use Rattle.fort_run.specs.declared.reply.Reply.{Reply}
-use Rattle.fort_run.specs.declared.reply.Reply.TheVariants.{Usage, Refused, InputTooLong, NotDecidedYet, Limited, Yes, No}
+use Rattle.fort_run.specs.declared.reply.Reply.TheVariants.{Usage, Refused, InputTooLong, Limited, Yes, No}
 
 abbrev pub status_of : Reply → ℕ
 status_of Usage = status.usage
 status_of (Refused line) = status.refused
 status_of InputTooLong = status.refused
-status_of NotDecidedYet = status.refused
 status_of (Limited line limit) = status.limited
 status_of Yes = status.positive
 status_of No = status.negative
@@ -19,7 +18,6 @@ abbrev pub text_of : Reply → List ℕ
 text_of Usage = usage_text
 text_of (Refused line) = line.items
 text_of InputTooLong = input_too_long
-text_of NotDecidedYet = not_decided_yet
 text_of (Limited line limit) = line.items
 text_of Yes = yes_line
 text_of No = no_line
@@ -28,7 +26,6 @@ abbrev pub limit_of : Reply → Option Limit
 limit_of Usage = None
 limit_of (Refused line) = None
 limit_of InputTooLong = None
-limit_of NotDecidedYet = None
 limit_of (Limited line limit) = Some limit
 limit_of Yes = None
 limit_of No = None

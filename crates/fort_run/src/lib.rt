@@ -14,7 +14,6 @@ mod status;
 mod tests;
 mod top;
 mod verdict;
-mod without_infinite;
 
 pub use outcome::Outcome;
 pub use top::run;

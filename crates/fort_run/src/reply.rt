@@ -13,7 +13,6 @@ pub enum Reply {
     /// The line that refuses the formula or the input.
     Refused(Vec<u8>),
     InputTooLong,
-    NotDecidedYet,
     /// The line that tells which part of the formula is over the cap, and the limit.
     Limited(Vec<u8>, Limit),
     Yes,
@@ -35,7 +34,7 @@ impl Reply {
             Reply::No => Status::Negative,
             Reply::Usage => Status::Usage,
             Reply::Limited(_, _) => Status::Limited,
-            Reply::Refused(_) | Reply::InputTooLong | Reply::NotDecidedYet => Status::Refused,
+            Reply::Refused(_) | Reply::InputTooLong => Status::Refused,
         }
     }
 
@@ -46,7 +45,6 @@ impl Reply {
             Reply::Usage => USAGE.as_bytes(),
             Reply::Refused(line) | Reply::Limited(line, _) => line,
             Reply::InputTooLong => b"REFUSED input too long\n",
-            Reply::NotDecidedYet => b"REFUSED formula not decided yet\n",
             Reply::Yes => b"YES\n",
             Reply::No => b"NO\n",
         }

@@ -8,7 +8,6 @@ ghost use Rattle.fort_formulas.specs.CoreView.{as_core};
 ghost use Rattle.fort_formulas.specs.FormulaView.{as_formula};
 ghost use Rattle.fort_parts.specs.DecidedCores.{IsDecided};
 ghost use Rattle.fort_parts.specs.PartColumns.{columns_of};
-ghost use Rattle.fort_parts.specs.WithoutInfinite.{IsWithoutInfinite};
 ghost use Rattle.fort_answers.specs.InputAnswer.{IsInput};
 ghost use Rattle.fort_answers.specs.Requests.{Text};
 ghost use Rattle.fort_run.specs.Plain.{IsVerdict};
@@ -17,21 +16,19 @@ ghost use Rattle.fort_run.specs.ReplyView.{status_of, text_of, limit_of};
 
 use crate::limit::limit_line;
 use crate::reply::Reply;
-use crate::without_infinite::is_without_infinite;
 use fort_engine::{EngineFault, Last, decide_core};
 use fort_formulas::{Core, CoreFault, Formula, to_core};
 use fort_terms::{System, Term};
 use std::alloc::{AllocError, Global};
 
-/// The core formula of a formula that speaks of no infinite set.
+/// The core formula of a formula that speaks of nothing but what the system has.
 fn core_for(
     alloc: Global,
     system: &System,
     formula: &Formula,
     terms: &[Term],
 ) -> Result<Core, AllocError>
-    requires ready { IsReady (as_formula formula.now) system.now terms.now }
-    requires finite { IsWithoutInfinite (as_formula formula.now) }
+    requires { IsReady (as_formula formula.now) system.now terms.now }
     ensures is { IfOk result (λ c. as_core c ≡ core_of terms.now (as_formula formula.now)) }
     ensures truth { IfOk result (λ c.
         KeepsTruth terms.now (as_formula formula.now) (as_core c)) }
@@ -82,9 +79,6 @@ pub fn verdict(
     ensures limit { IfOk result (λ r. IfSome (limit_of r)
         (ShowsLimit system.now (core_of terms.now (as_formula formula.now)) states (text_of r))) }
 {
-    if !is_without_infinite(formula) {
-        return Ok(Reply::NotDecidedYet);
-    }
     let core = core_for(alloc, system, formula, terms)?;
     decided(alloc, system, &core, states)
 }

@@ -77,3 +77,16 @@ returns-in-Exists c =
     let is = ap as_core c.kept_answer-in-Exists.ensures.core ∙ c.as_core-in-Exists.ensures in
     subst (λ z. IsDecision a.system.now (as_core z) a.cap c.project.result) (sym c.in-Exists.is)
     (subst (λ z. IsDecision a.system.now (core.Exists c.in-Exists.n z) a.cap c.project.result) is c.project.ensures)
+
+pub count-requires-clause-right : goal.count-requires-clause-right
+count-requires-clause-right c =
+    let a = c.args in
+    operand_right a.system.now a.cap (map as_core a.parts.now) a.kept.now a.core.now c.as_core-in-Infinite.result.now c.kept_answer-in-Infinite.result.core.now c.in-Infinite.f c.kept_answer-in-Infinite.result.answer.now
+    c.requires.operands (subst (λ z. IsOperandOf c.in-Infinite.f (as_core z)) (sym c.in-Infinite.is) refl) c.as_core-in-Infinite.ensures c.kept_answer-in-Infinite.ensures.core c.kept_answer-in-Infinite.ensures.right
+
+pub returns-in-Infinite : goal.returns-in-Infinite
+returns-in-Infinite c =
+    let a = c.args in
+    let is = ap as_core c.kept_answer-in-Infinite.ensures.core ∙ c.as_core-in-Infinite.ensures in
+    subst (λ z. IsDecision a.system.now (as_core z) a.cap c.count.result) (sym c.in-Infinite.is)
+    (subst (λ z. IsDecision a.system.now (core.Infinite c.in-Infinite.n z) a.cap c.count.result) is c.count.ensures)

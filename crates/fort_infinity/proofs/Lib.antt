@@ -1,0 +1,8 @@
+mod ListLaws
+mod ChildrenLaws
+mod RankingLaws
+mod RoundLaws
+mod TryLaws
+mod LeastLaws
+mod ManyMarks
+mod ChoiceLaws

@@ -1,0 +1,7 @@
+pub mod CountView
+pub mod StateListsView
+pub mod Children
+pub mod RankTests
+pub mod Rankings
+pub mod LeastUnranked
+pub mod TestRules

@@ -1,0 +1,19 @@
+//! How many terms give each state, and the labels of "infinitely many".
+#![tactic(auto)]
+
+mod children;
+mod count;
+mod counts;
+mod lists;
+pub mod local;
+mod many;
+mod many_choices;
+mod many_entry;
+mod ranks;
+
+pub use count::Count;
+pub use counts::pure_counts;
+pub use many::Many;
+
+#[cfg(test)]
+mod tests;
