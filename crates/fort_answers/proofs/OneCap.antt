@@ -14,7 +14,7 @@ use Rattle.fort_logic.specs.Translation.{core_of}
 use Rattle.fort_logic.proofs.EachOnceUnique.{AreEachOnce-unique}
 use Rattle.fort_parts.specs.AlikeParts.{IsFirstOver}
 use Rattle.fort_answers.specs.Lines.{limit_line}
-use Rattle.fort_answers.specs.DecideAnswer.{PassesCap, KeepsCap}
+use Rattle.fort_answers.specs.SystemAnswer.{PassesCap, KeepsCap}
 
 IsFirstOver-unique : (system : PatternSystem) (parts : List Core) (n j k : ℕ) → IsFirstOver system parts n j → IsFirstOver system parts n k → j ≡ k
 IsFirstOver-unique system parts n j k one other =

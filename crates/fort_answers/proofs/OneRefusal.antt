@@ -2,16 +2,13 @@
 use Rattle.std.proofs.Common.{◌≡◌, List, ℕ, ◌∷◌, ap, sym, subst, ◌∙◌}
 use Rattle.fort_logic.specs.Formulas.{Formula, Name}
 use Rattle.fort_logic.specs.FreeNames.{free_names}
-use Rattle.fort_logic.specs.Translation.{IsFormulaTooWide}
 use Rattle.fort_formula_grammar.specs.FormulaText.{IsFormulaText}
 use Rattle.fort_formula_grammar.proofs.OneFormula.{IsFormulaText-unique, IsFirstFormulaFault-unique, no_formula_fault}
 use Rattle.fort_answers.specs.Lines.{formula_fault_line, formula_open}
-use Rattle.fort_answers.specs.FormulaAnswer.{IsRefused, Faulty, Wide, Open}
+use Rattle.fort_answers.specs.FormulaAnswer.{IsRefused, Faulty, Wide, IsRefusedClosed, Refused, Open}
+use Rattle.fort_answers.proofs.OneVerdict.{accepted-not_refused}
 
 module _ (text : List ℕ) (f g : Formula) (left : IsFormulaText text f) (right : IsFormulaText text g) where
-  same_width : IsFormulaTooWide f → IsFormulaTooWide g
-  same_width wide = subst IsFormulaTooWide (IsFormulaText-unique left right) wide
-
   same_free : free_names f ≡ free_names g
   same_free = ap free_names (IsFormulaText-unique left right)
 
@@ -21,11 +18,12 @@ module _ (text : List ℕ) (f g : Formula) (left : IsFormulaText text f) (right 
 pub IsRefused-unique : (text line line' : List ℕ) → IsRefused text line → IsRefused text line' → line ≡ line'
 IsRefused-unique text line line' (Faulty x first e) (Faulty y first' e') = e ∙ (ap formula_fault_line (IsFirstFormulaFault-unique first first') ∙ sym e')
 IsRefused-unique text line line' (Faulty x first e) (Wide g read wide e') = absurd (no_formula_fault read first)
-IsRefused-unique text line line' (Faulty x first e) (Open g read narrow y ys free e') = absurd (no_formula_fault read first)
 IsRefused-unique text line line' (Wide f read wide e) (Faulty y first e') = absurd (no_formula_fault read first)
 IsRefused-unique text line line' (Wide f read wide e) (Wide g read' wide' e') = e ∙ sym e'
-IsRefused-unique text line line' (Wide f read wide e) (Open g read' narrow y ys free e') = absurd (narrow (same_width text f g read read' wide))
-IsRefused-unique text line line' (Open f read narrow x xs free e) (Faulty y first e') = absurd (no_formula_fault read first)
-IsRefused-unique text line line' (Open f read narrow x xs free e) (Wide g read' wide e') = absurd (narrow (same_width text g f read' read wide))
-IsRefused-unique text line line' (Open f read narrow x xs free e) (Open g read' narrow' y ys free' e') =
-    e ∙ (ap formula_open (same_first text f g read read' x y xs ys free free') ∙ sym e')
+
+pub IsRefusedClosed-unique : (text line line' : List ℕ) → IsRefusedClosed text line → IsRefusedClosed text line' → line ≡ line'
+IsRefusedClosed-unique text line line' (Refused faulty) (Refused faulty') = IsRefused-unique text line line' faulty faulty'
+IsRefusedClosed-unique text line line' (Refused faulty) (Open g accepted y ys free e') = absurd (accepted-not_refused text g line accepted faulty)
+IsRefusedClosed-unique text line line' (Open f accepted x xs free e) (Refused faulty) = absurd (accepted-not_refused text f line' accepted faulty)
+IsRefusedClosed-unique text line line' (Open f accepted x xs free e) (Open g accepted' y ys free' e') =
+    e ∙ (ap formula_open (same_first text f g accepted.read accepted'.read x y xs ys free free') ∙ sym e')

@@ -5,10 +5,12 @@ use Rattle.fort_logic.specs.Formulas.{Formula}
 use Rattle.fort_formula_grammar.proofs.OneFormula.{IsFormulaText-unique}
 use Rattle.fort_answers.specs.Requests.{Text}
 use Rattle.fort_answers.specs.Lines.{usage, refused, usage_text}
-use Rattle.fort_answers.specs.FormulaAnswer.{IsAccepted}
-use Rattle.fort_answers.specs.DecideAnswer.{Are, DecidesOf, DecideEarly, NotAnsweredYet, FormulaRefused}
-use Rattle.fort_answers.proofs.OneVerdict.{accepted-not_refused}
-use Rattle.fort_answers.proofs.OneRefusal.{IsRefused-unique}
+use Rattle.fort_answers.specs.FormulaAnswer.{IsAccepted, IsAcceptedClosed}
+use Rattle.fort_answers.specs.SystemAnswer.{Are}
+use Rattle.fort_answers.specs.DecideAnswer.{DecidesOf, DecideEarly, NotAnsweredYet, FormulaRefused}
+use Rattle.fort_answers.specs.WitnessAnswer.{WitnessEarly}
+use Rattle.fort_answers.proofs.OneVerdict.{accepted-not_refused, closed-not_refused}
+use Rattle.fort_answers.proofs.OneRefusal.{IsRefused-unique, IsRefusedClosed-unique}
 
 -- two that are the same are one
 pub Are-unique : (n : ℕ) (x : Text) (status status' : ℕ) (text text' : Text) → Are status text n x → Are status' text' n x → Are status text status' text'
@@ -19,16 +21,27 @@ Are-unique n x status status' text text' are are' =
 pub IsAccepted-unique : (text : Text) (f f' : Formula) → IsAccepted text f → IsAccepted text f' → f ≡ f'
 IsAccepted-unique text f f' is is' = IsFormulaText-unique is.read is'.read
 
+pub IsAcceptedClosed-unique : (text : Text) (f f' : Formula) → IsAcceptedClosed text f → IsAcceptedClosed text f' → f ≡ f'
+IsAcceptedClosed-unique text f f' is is' = IsAccepted-unique text f f' is.accepted is'.accepted
+
 pub DecideEarly-unique : (certificate : Bool) (formula : Text) (s s' : ℕ) (t t' : Text) → DecideEarly certificate formula s t
     → DecideEarly certificate formula s' t' → Are s t s' t'
 DecideEarly-unique certificate formula s s' t t' (NotAnsweredYet with are) (NotAnsweredYet with' are') = Are-unique usage usage_text s s' t t' are are'
 DecideEarly-unique certificate formula s s' t t' (NotAnsweredYet with are) (FormulaRefused without line says are') = absurd (true≢false (sym with ∙ without))
 DecideEarly-unique certificate formula s s' t t' (FormulaRefused without line says are) (NotAnsweredYet with are') = absurd (true≢false (sym with ∙ without))
 DecideEarly-unique certificate formula s s' t t' (FormulaRefused without line says are) (FormulaRefused without' line' says' are') =
-    let one : line' ≡ line = IsRefused-unique formula line' line says' says in
+    let one : line' ≡ line = IsRefusedClosed-unique formula line' line says' says in
     Are-unique refused line s s' t t' are (subst (Are s' t' refused) one are')
 
 pub early-without_input : (certificate : Bool) (formula : Text) (s : ℕ) (t : Text) → DecideEarly certificate formula s t
     → (f : Formula) → DecidesOf certificate formula f → ⊥
 early-without_input certificate formula s t (NotAnsweredYet with are) f asks = true≢false (sym with ∙ asks.without)
-early-without_input certificate formula s t (FormulaRefused without line says are) f asks = accepted-not_refused formula f line asks.accepted says
+early-without_input certificate formula s t (FormulaRefused without line says are) f asks = closed-not_refused formula f line asks.accepted says
+
+pub WitnessEarly-unique : (formula : Text) (s s' : ℕ) (t t' : Text) → WitnessEarly formula s t → WitnessEarly formula s' t' → Are s t s' t'
+WitnessEarly-unique formula s s' t t' one other =
+    Are-unique refused one.refusal s s' t t' one.are
+    (subst (Are s' t' refused) (IsRefused-unique formula other.refusal one.refusal other.refused_both one.refused_both) other.are)
+
+pub witness_early-without_input : (formula : Text) (s : ℕ) (t : Text) → WitnessEarly formula s t → (f : Formula) → IsAccepted formula f → ⊥
+witness_early-without_input formula s t early f taken = accepted-not_refused formula f early.refusal taken early.refused_both

@@ -1,10 +1,13 @@
 -- To believe: the one status and text that the program owes to words and bytes: the usage text where the words ask nothing, else what the request owes.
-use Rattle.std.specs.Prelude.{ℕ, List, Option, Some, None}
+use Rattle.std.specs.Prelude.{◌≡◌, ℕ, List, Option, Some, None}
 use Rattle.fort_logic.specs.Formulas.{Formula}
 use Rattle.fort_answers.specs.Requests.{Text, Request, Decide, Witness, Check, Sample}
 use Rattle.fort_answers.specs.CommandGrammar.{request_of}
 use Rattle.fort_answers.specs.Lines.{usage, usage_text}
-use Rattle.fort_answers.specs.DecideAnswer.{Are, DecidesOf, DecideEarly, DecideAnswer}
+use Rattle.fort_answers.specs.FormulaAnswer.{IsAccepted}
+use Rattle.fort_answers.specs.SystemAnswer.{Are}
+use Rattle.fort_answers.specs.DecideAnswer.{DecidesOf, DecideEarly, DecideAnswer}
+use Rattle.fort_answers.specs.WitnessAnswer.{WitnessEarly, WitnessAnswer}
 
 -- to no request, and to one that isn't answered yet
 abbrev pub OwesUsage : ℕ → Text → Type 0
@@ -13,23 +16,34 @@ OwesUsage status text = Are status text usage usage_text
 -- what a request owes before anything is read
 abbrev pub OwesEarly : Request → ℕ → Text → Type 0
 OwesEarly (Decide states certificate formula) status text = DecideEarly certificate formula status text
-OwesEarly (Witness states formula) status text = OwesUsage status text
+OwesEarly (Witness states formula) status text = WitnessEarly formula status text
 OwesEarly (Check formula) status text = OwesUsage status text
 OwesEarly (Sample n) status text = OwesUsage status text
 
 -- what a request owes for these bytes
 abbrev pub Owes : Request → Text → ℕ → Text → Type 0
 Owes (Decide states certificate formula) bytes status text = DecideAnswer states certificate formula bytes status text
-Owes (Witness states formula) bytes status text = OwesUsage status text
+Owes (Witness states formula) bytes status text = WitnessAnswer states formula bytes status text
 Owes (Check formula) bytes status text = OwesUsage status text
 Owes (Sample n) bytes status text = OwesUsage status text
 
 -- a request for which the input is read
 abbrev pub NeedsInput : Request → Type 0
 NeedsInput (Decide states certificate formula) = (f : Formula) × DecidesOf certificate formula f
-NeedsInput (Witness states formula) = ⊥
+NeedsInput (Witness states formula) = (f : Formula) × IsAccepted formula f
 NeedsInput (Check formula) = ⊥
 NeedsInput (Sample n) = ⊥
+
+-- a request about this formula, that this text is, with this cap
+abbrev pub AsksAbout : Request → ℕ → Text → Formula → Type 0
+AsksAbout (Decide states certificate formula) cap text f = (cap ≡ states) × (text ≡ formula) × DecidesOf certificate formula f
+AsksAbout (Witness states formula) cap text f = (cap ≡ states) × (text ≡ formula) × IsAccepted formula f
+AsksAbout (Check formula) cap text f = ⊥
+AsksAbout (Sample n) cap text f = ⊥
+
+abbrev pub IsAbout : Option Request → ℕ → Text → Formula → Type 0
+IsAbout None cap text f = ⊥
+IsAbout (Some request) cap text f = AsksAbout request cap text f
 
 -- what the words owe; by the request that they are, if they are one
 

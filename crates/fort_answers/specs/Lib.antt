@@ -4,5 +4,7 @@ pub mod Lines
 pub mod FormulaAnswer
 pub mod InputAnswer
 pub mod FitAnswer
+pub mod SystemAnswer
 pub mod DecideAnswer
+pub mod WitnessAnswer
 pub mod Answer

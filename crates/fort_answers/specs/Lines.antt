@@ -24,6 +24,13 @@ yes_line = line (codes "YES")
 abbrev pub no_line : List ℕ
 no_line = line (codes "NO")
 
+-- the first line of the answer that some terms satisfy a formula
+abbrev pub witness_line : List ℕ
+witness_line = line (codes "WITNESS")
+
+abbrev pub none_line : List ℕ
+none_line = line (codes "NONE")
+
 abbrev pub input_too_long : List ℕ
 input_too_long = line (codes "REFUSED input too long")
 

@@ -2,8 +2,11 @@
 use Rattle.std.specs.Prelude.{◌≡◌, ℕ, Bool, true, false, List, [], ◌∷◌, Option, None, Some, slice_get, ◌↔◌, IsTrue, IfSome, MatchBool, MatchOption}
 use Rattle.std.proofs.Common.{Vec, Global, sym, ap, subst}
 use Rattle.fort_formula_grammar.specs.FormulaText.{FormulaFault, IsFirstFormulaFault}
-use Rattle.fort_answers.specs.FormulaAnswer.{IsRefused, Faulty}
+use Rattle.fort_answers.specs.FormulaAnswer.{IsRefused, Faulty, Refused}
 use Rattle.fort_answers.specs.Lines.{formula_fault_line}
+use Rattle.fort_run.specs.declared.question.Question.{Question}
+use Rattle.fort_run.specs.declared.question.Question.TheVariants.{Truth, Terms}
+use Rattle.fort_run.specs.Asked.{IsRefusedBy}
 use Rattle.fort_run.specs.declared.refusal.Refusal.{Refusal}
 use Rattle.fort_run.specs.declared.refusal.Refusal.TheVariants.{Line}
 use Rattle.fort_run.specs.Refusals.{Refuses}
@@ -26,6 +29,11 @@ pub faulty : (text line : List ℕ) (fault : Option FormulaFault) → IfSome fau
     → IsRefused text line
 faulty text line None first says = absurd says
 faulty text line (Some fault) first says = Faulty fault first says
+
+-- what is refused is so whatever is asked
+pub refused_both : (question : Question) (text line : List ℕ) → IsRefused text line → IsRefusedBy question text line
+refused_both Truth text line says = Refused says
+refused_both Terms text line says = says
 
 -- the line of a refusal is one by which something is refused
 pub refused_by_line : (P : List ℕ → Type 0) (r : Refusal) (line : Vec ℕ Global) → r ≡ Line line → Refuses P r → P line.items

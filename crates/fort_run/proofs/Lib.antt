@@ -8,3 +8,5 @@ pub mod SomeParts
 pub mod Deciding
 pub mod Readiness
 pub mod ReplyStatuses
+pub mod WitnessTruth
+pub mod WitnessVerdicts

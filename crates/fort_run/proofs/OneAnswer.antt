@@ -1,137 +1,225 @@
 -- Words and bytes are owed one answer.
-use Rattle.std.proofs.Common.{◌≡◌, ◌⊎◌, ℕ, ◌≤◌, List, inl, inr, sym, subst, arith}
-use Rattle.std.specs.Prelude.{All, Bool, Option, None, Some, IfSome}
+use Rattle.std.proofs.Common.{◌≡◌, ◌⊎◌, ℕ, ◌≤◌, List, map, inl, inr, sym, subst, arith, ⊎_elim}
+use Rattle.std.specs.Prelude.{All, Bool, Option, None, Some, IfSome, ◌++◌}
 use Rattle.fort_theory.specs.Trees.{Tree}
 use Rattle.fort_theory.specs.Signatures.{IsGround, HasConstant}
 use Rattle.fort_theory.specs.Sides.{System}
 use Rattle.fort_logic.specs.Formulas.{Formula}
+use Rattle.fort_logic.specs.FreeNames.{free_names}
+use Rattle.fort_logic.specs.Truth.{IsFalseOf}
 use Rattle.fort_logic.proofs.Verdicts.{IsTrueOf-not_false}
 use Rattle.fort_io.specs.Devices.{Takes}
+use Rattle.fort_order.proofs.TupleOrderLaws.{not_after_none}
 use Rattle.fort_answers.specs.Requests.{Text, Request, Decide, Witness, Check, Sample}
 use Rattle.fort_answers.specs.CommandGrammar.{request_of}
-use Rattle.fort_answers.specs.Lines.{positive, negative, usage, refused, limited, usage_text, yes_line, no_line, limit_line}
-use Rattle.fort_answers.specs.DecideAnswer.{Are, DecidesOf, DecideEarly, DecideAnswer, Early, InputRefused, FormulaUnfit, Limited, Yes, No, PassesCap, KeepsCap}
+use Rattle.fort_answers.specs.Lines.{positive, negative, usage, refused, limited, usage_text, yes_line, no_line, witness_line, none_line, limit_line}
+use Rattle.fort_answers.specs.SystemAnswer.{Are, PassesCap, KeepsCap, IsAnswerable, IsUnanswerable, InputRefused, FormulaUnfit, Limited}
+use Rattle.fort_answers.specs.DecideAnswer.{DecidesOf, DecideEarly, TruthVerdict, Yes, No, DecideAnswer}
+use Rattle.fort_answers.specs.DecideAnswer as decide
+use Rattle.fort_answers.specs.WitnessAnswer.{AreWitnesses, AreLeastWitnesses, bindings, WitnessVerdict, Found, NotFound, WitnessEarly, WitnessAnswer}
+use Rattle.fort_answers.specs.WitnessAnswer as witness
+use Rattle.fort_answers.specs.FormulaAnswer.{IsAccepted}
 use Rattle.fort_answers.specs.FitAnswer.{FitsSystem, IsUnfit}
-use Rattle.fort_answers.specs.InputAnswer.{IsInput, IsInputRefused}
-use Rattle.fort_answers.specs.Answer.{OwesTold, owed_early, owed, Answer, AnswerFor}
+use Rattle.fort_answers.specs.InputAnswer.{IsInput}
+use Rattle.fort_answers.specs.Answer.{OwesTold, owed_early, owed, Answer, AnswerFor, IsAbout}
 use Rattle.fort_answers.proofs.OneFit.{IsUnfit-unique, FitsSystem-not_unfit, FitsSystem-unique, FitsSystem-ground}
-use Rattle.fort_answers.proofs.OneRequest.{Are-unique, IsAccepted-unique, DecideEarly-unique, early-without_input}
+use Rattle.fort_answers.proofs.OneRequest.{Are-unique, IsAccepted-unique, IsAcceptedClosed-unique, DecideEarly-unique, early-without_input, WitnessEarly-unique, witness_early-without_input}
 use Rattle.fort_answers.proofs.OneCap.{PassesCap-unique, PassesCap-not_kept}
-use Rattle.fort_run.specs.Plain.{IsVerdict, Limits, Holds, Fails}
 use Rattle.fort_run.specs.Answered.{Answers, OwesOnly, OwesOnlyEarly, IsDecidable, IsDecidableWithin}
 use Rattle.fort_run.proofs.OneInput.{IsInputRefused-unique, IsInput-not_refused, IsInput-unique}
+use Rattle.fort_run.proofs.WitnessTruth.{terms-one}
 
--- the answer to a formula over a system: it speaks of more than the system has, or it is answered with the terms in it
-data Verdict (formula : Text) (f : Formula) (states : ℕ) (system : System) (status : ℕ) (text : Text) : Type 0 where
-  Unfit : (line : Text) → IsUnfit formula f system line → Are status text refused line → Verdict formula f states system status text
-  Fit : (terms : List Tree) → FitsSystem formula f system terms → IsVerdict system terms f states status text → Verdict formula f states system status text
+-- ---- verdicts
 
--- the answer to a formula over an input
-data Reply (formula : Text) (f : Formula) (states : ℕ) (bytes : Text) (status : ℕ) (text : Text) : Type 0 where
-  Refuses : (line : Text) → IsInputRefused bytes line → Are status text refused line → Reply formula f states bytes status text
-  Decides : (system : System) → IsInput bytes system → Verdict formula f states system status text → Reply formula f states bytes status text
+TruthVerdict-unique : (system : System) (terms : List Tree) (f : Formula) (s s' : ℕ) (t t' : Text) → HasConstant system.signature
+    → All (IsGround system.signature) terms → TruthVerdict system terms f s t → TruthVerdict system terms f s' t' → Are s t s' t'
+TruthVerdict-unique system terms f s s' t t' constant grounded (Yes holds are) (Yes holds' are') = Are-unique positive yes_line s s' t t' are are'
+TruthVerdict-unique system terms f s s' t t' constant grounded (Yes holds are) (No fails are') =
+    absurd (IsTrueOf-not_false system terms f constant grounded holds fails)
+TruthVerdict-unique system terms f s s' t t' constant grounded (No fails are) (Yes holds are') =
+    absurd (IsTrueOf-not_false system terms f constant grounded holds fails)
+TruthVerdict-unique system terms f s s' t t' constant grounded (No fails are) (No fails' are') = Are-unique negative no_line s s' t t' are are'
 
-module _ (formula : Text) (f : Formula) (states : ℕ) (s s' : ℕ) (t t' : Text) where
-  module _ (system : System) (terms : List Tree) (constant : HasConstant system.signature) (grounded : All (IsGround system.signature) terms) where
-    IsVerdict-unique : IsVerdict system terms f states s t → IsVerdict system terms f states s' t' → Are s t s' t'
-    IsVerdict-unique (Limits k kind over are) (Limits k' kind' over' are') =
-        let one = PassesCap-unique system terms f states k' k kind' kind over' over in
-        Are-unique limited (limit_line k kind states) s s' t t' are (subst (Are s' t' limited) one are')
-    IsVerdict-unique (Limits k kind over are) (Holds keeps holds are') = absurd (PassesCap-not_kept system terms f states k kind over keeps)
-    IsVerdict-unique (Limits k kind over are) (Fails keeps fails are') = absurd (PassesCap-not_kept system terms f states k kind over keeps)
-    IsVerdict-unique (Holds keeps holds are) (Limits k kind over are') = absurd (PassesCap-not_kept system terms f states k kind over keeps)
-    IsVerdict-unique (Holds keeps holds are) (Holds keeps' holds' are') = Are-unique positive yes_line s s' t t' are are'
-    IsVerdict-unique (Holds keeps holds are) (Fails keeps' fails are') =
-        absurd (IsTrueOf-not_false system terms f constant grounded holds fails)
-    IsVerdict-unique (Fails keeps fails are) (Limits k kind over are') = absurd (PassesCap-not_kept system terms f states k kind over keeps)
-    IsVerdict-unique (Fails keeps fails are) (Holds keeps' holds are') =
-        absurd (IsTrueOf-not_false system terms f constant grounded holds fails)
-    IsVerdict-unique (Fails keeps fails are) (Fails keeps' fails' are') = Are-unique negative no_line s s' t t' are are'
+TruthVerdict-low : (system : System) (terms : List Tree) (f : Formula) (s : ℕ) (t : Text) → TruthVerdict system terms f s t → s ≤ negative
+TruthVerdict-low system terms f s t (Yes holds are) = let e = are.same_status in omega arith
+TruthVerdict-low system terms f s t (No fails are) = let e = are.same_status in omega arith
 
-  Verdict-unique : (system : System) (bytes : Text) → IsInput bytes system → Verdict formula f states system s t → Verdict formula f states system s' t' → Are s t s' t'
-  Verdict-unique system bytes is (Unfit line says are) (Unfit line' says' are') =
-      let one = IsUnfit-unique formula f system line' line says' says in
-      Are-unique refused line s s' t t' are (subst (Are s' t' refused) one are')
-  Verdict-unique system bytes is (Unfit line says are) (Fit terms fits verdict) = absurd (FitsSystem-not_unfit formula f system terms line fits says)
-  Verdict-unique system bytes is (Fit terms fits verdict) (Unfit line says are) = absurd (FitsSystem-not_unfit formula f system terms line fits says)
-  Verdict-unique system bytes is (Fit terms fits verdict) (Fit terms' fits' verdict') =
-      let one = FitsSystem-unique formula f system bytes terms' terms is fits' fits in
-      IsVerdict-unique system terms is.problem.problem.constant (FitsSystem-ground formula f system terms fits) verdict
-      (subst (λ ts. IsVerdict system ts f states s' t') one verdict')
+AreLeastWitnesses-unique : (system : System) (terms : List Tree) (f : Formula) (ts us : List Tree) → AreLeastWitnesses system terms f ts
+    → AreLeastWitnesses system terms f us → ts ≡ us
+AreLeastWitnesses-unique system terms f ts us one other =
+    ⊎_elim (λ e. terms-one ts us e) (λ before. absurd (not_after_none (map Some us) (map Some ts) (other.least ts one.are) before)) (one.least us other.are)
 
-  Reply-unique : (bytes : Text) → Reply formula f states bytes s t → Reply formula f states bytes s' t' → Are s t s' t'
-  Reply-unique bytes (Refuses line says are) (Refuses line' says' are') =
-      let one = IsInputRefused-unique bytes line' line says' says in
-      Are-unique refused line s s' t t' are (subst (Are s' t' refused) one are')
-  Reply-unique bytes (Refuses line says are) (Decides system is verdict) = absurd (IsInput-not_refused bytes system line is says)
-  Reply-unique bytes (Decides system is verdict) (Refuses line says are) = absurd (IsInput-not_refused bytes system line is says)
-  Reply-unique bytes (Decides system is verdict) (Decides system' is' verdict') =
-      let one = IsInput-unique bytes system' system is' is in
-      Verdict-unique system bytes is verdict (subst (λ x. Verdict formula f states x s' t') one verdict')
+none_found : (system : System) (terms : List Tree) (f : Formula) (ts : List Tree) → AreWitnesses system terms f ts → IsFalseOf system terms f → ⊥
+none_found system terms f ts are fails = fails are.assignment are.grounded are.given are.holds
 
--- an answer for which nothing is read, or one to the formula that is asked
-data Staged (states : ℕ) (certificate : Bool) (formula bytes : Text) (status : ℕ) (text : Text) : Type 0 where
-  Unread : DecideEarly certificate formula status text → Staged states certificate formula bytes status text
-  Asked : (f : Formula) → DecidesOf certificate formula f → Reply formula f states bytes status text → Staged states certificate formula bytes status text
+WitnessVerdict-unique : (system : System) (terms : List Tree) (f : Formula) (s s' : ℕ) (t t' : Text) → WitnessVerdict system terms f s t
+    → WitnessVerdict system terms f s' t' → Are s t s' t'
+WitnessVerdict-unique system terms f s s' t t' (Found ts least are) (Found us least' are') =
+    let text : List Tree → Text = λ xs. witness_line ++ bindings system.signature (free_names f) xs in
+    Are-unique positive (text ts) s s' t t' are
+    (subst (λ xs. Are s' t' positive (text xs)) (AreLeastWitnesses-unique system terms f us ts least' least) are')
+WitnessVerdict-unique system terms f s s' t t' (Found ts least are) (NotFound none are') = absurd (none_found system terms f ts least.are none)
+WitnessVerdict-unique system terms f s s' t t' (NotFound none are) (Found us least are') = absurd (none_found system terms f us least.are none)
+WitnessVerdict-unique system terms f s s' t t' (NotFound none are) (NotFound none' are') = Are-unique negative none_line s s' t t' are are'
 
-module _ (states : ℕ) (certificate : Bool) (formula : Text) where
-  staged : (bytes : Text) (s : ℕ) (t : Text) → DecideAnswer states certificate formula bytes s t → Staged states certificate formula bytes s t
-  staged bytes s t (Early early) = Unread early
-  staged bytes s t (InputRefused f asks line says are) = Asked f asks (Refuses line says are)
-  staged bytes s t (FormulaUnfit f asks system is line says are) = Asked f asks (Decides system is (Unfit line says are))
-  staged bytes s t (Limited f asks system is terms fits k kind over are) =
-      Asked f asks (Decides system is (Fit terms fits (Limits k kind over are)))
-  staged bytes s t (Yes f asks system is terms fits keeps holds are) = Asked f asks (Decides system is (Fit terms fits (Holds keeps holds are)))
-  staged bytes s t (No f asks system is terms fits keeps fails are) = Asked f asks (Decides system is (Fit terms fits (Fails keeps fails are)))
+WitnessVerdict-low : (system : System) (terms : List Tree) (f : Formula) (s : ℕ) (t : Text) → WitnessVerdict system terms f s t → s ≤ negative
+WitnessVerdict-low system terms f s t (Found ts least are) = let e = are.same_status in omega arith
+WitnessVerdict-low system terms f s t (NotFound none are) = let e = are.same_status in omega arith
 
-  Staged-unique : (bytes : Text) (s s' : ℕ) (t t' : Text) → Staged states certificate formula bytes s t → Staged states certificate formula bytes s' t' → Are s t s' t'
-  Staged-unique bytes s s' t t' (Unread early) (Unread early') = DecideEarly-unique certificate formula s s' t t' early early'
-  Staged-unique bytes s s' t t' (Unread early) (Asked f asks reply) = absurd (early-without_input certificate formula s t early f asks)
-  Staged-unique bytes s s' t t' (Asked f asks reply) (Unread early) = absurd (early-without_input certificate formula s' t' early f asks)
-  Staged-unique bytes s s' t t' (Asked f asks reply) (Asked f' asks' reply') =
-      let one = IsAccepted-unique formula f' f asks'.accepted asks.accepted in
-      Reply-unique formula f states s s' t t' bytes reply (subst (λ g. Reply formula g states bytes s' t') one reply')
+-- ---- what withholds a verdict
 
-  pub DecideAnswer-unique : (bytes : Text) (s s' : ℕ) (t t' : Text) → DecideAnswer states certificate formula bytes s t
-      → DecideAnswer states certificate formula bytes s' t' → Are s t s' t'
-  DecideAnswer-unique bytes s s' t t' one other = Staged-unique bytes s s' t t' (staged bytes s t one) (staged bytes s' t' other)
+module _ (states : ℕ) (formula : Text) (f : Formula) (bytes : Text) where
+  -- two systems with their terms are one
+  module _ (system system' : System) (terms terms' : List Tree) (is : IsInput bytes system) (is' : IsInput bytes system')
+      (fits : FitsSystem formula f system terms) (fits' : FitsSystem formula f system' terms') where
+    pub same_system : system' ≡ system
+    same_system = IsInput-unique bytes system' system is' is
 
-  -- a formula that is decided, over a system, is answered by YES or NO, or by the part of it that is over the cap
-  pub decided_low : (f : Formula) (bytes : Text) (system : System) (terms : List Tree) (s : ℕ) (t : Text) → DecidesOf certificate formula f
-      → IsInput bytes system → FitsSystem formula f system terms → DecideAnswer states certificate formula bytes s t
-      → (s ≤ negative) ⊎ ((s ≡ limited) × (KeepsCap system terms f states → ⊥))
-  decided_low f bytes system terms s t asks is fits (Early early) = absurd (early-without_input certificate formula s t early f asks)
-  decided_low f bytes system terms s t asks is fits (InputRefused g asks' line says are) = absurd (IsInput-not_refused bytes system line is says)
-  decided_low f bytes system terms s t asks is fits (FormulaUnfit g asks' system' is' line says are) =
-      let one = IsAccepted-unique formula g f asks'.accepted asks.accepted in
-      let same = IsInput-unique bytes system' system is' is in
-      absurd (FitsSystem-not_unfit formula f system terms line fits
-      (subst (λ x. IsUnfit formula f x line) same (subst (λ h. IsUnfit formula h system' line) one says)))
-  decided_low f bytes system terms s t asks is fits (Limited g asks' system' is' terms' fits' k kind over are) =
-      let one : g ≡ f = IsAccepted-unique formula g f asks'.accepted asks.accepted in
-      let same : system' ≡ system = IsInput-unique bytes system' system is' is in
-      let at_system = subst (λ x. FitsSystem formula f x terms') same (subst (λ h. FitsSystem formula h system' terms') one fits') in
-      let all : terms' ≡ terms = FitsSystem-unique formula f system bytes terms' terms is at_system fits in
-      let there = subst (λ ts. PassesCap system ts f states k kind) all
-      (subst (λ x. PassesCap x terms' f states k kind) same (subst (λ h. PassesCap system' terms' h states k kind) one over)) in
-      inr (are.same_status, PassesCap-not_kept system terms f states k kind there)
-  decided_low f bytes system terms s t asks is fits (Yes g asks' system' is' terms' fits' keeps holds are) =
-      inl (let e = are.same_status in omega arith)
-  decided_low f bytes system terms s t asks is fits (No g asks' system' is' terms' fits' keeps fails are) =
-      inl (let e = are.same_status in omega arith)
+    pub same_terms : terms' ≡ terms
+    same_terms = FitsSystem-unique formula f system bytes terms' terms is (subst (λ x. FitsSystem formula f x terms') same_system fits') fits
+
+    pub over_both : (P : System → List Tree → Type 0) → P system' terms' → P system terms
+    over_both P h = subst (P system) same_terms (subst (λ x. P x terms') same_system h)
+
+  not_both : (system system' : System) (terms : List Tree) (line : Text) → IsInput bytes system → IsInput bytes system' → FitsSystem formula f system terms
+      → IsUnfit formula f system' line → ⊥
+  not_both system system' terms line is is' fits says =
+      FitsSystem-not_unfit formula f system terms line fits (subst (λ x. IsUnfit formula f x line) (IsInput-unique bytes system' system is' is) says)
+
+  IsUnanswerable-unique : (s s' : ℕ) (t t' : Text) → IsUnanswerable states formula f bytes s t → IsUnanswerable states formula f bytes s' t' → Are s t s' t'
+  IsUnanswerable-unique s s' t t' (InputRefused line says are) (InputRefused line' says' are') =
+      Are-unique refused line s s' t t' are (subst (Are s' t' refused) (IsInputRefused-unique bytes line' line says' says) are')
+  IsUnanswerable-unique s s' t t' (InputRefused line says are) (FormulaUnfit system is line' says' are') = absurd (IsInput-not_refused bytes system line is says)
+  IsUnanswerable-unique s s' t t' (InputRefused line says are) (Limited system is terms fits k kind over are') = absurd (IsInput-not_refused bytes system line is says)
+  IsUnanswerable-unique s s' t t' (FormulaUnfit system is line says are) (InputRefused line' says' are') = absurd (IsInput-not_refused bytes system line' is says')
+  IsUnanswerable-unique s s' t t' (FormulaUnfit system is line says are) (FormulaUnfit system' is' line' says' are') =
+      let there = subst (λ x. IsUnfit formula f x line') (IsInput-unique bytes system' system is' is) says' in
+      Are-unique refused line s s' t t' are (subst (Are s' t' refused) (IsUnfit-unique formula f system line' line there says) are')
+  IsUnanswerable-unique s s' t t' (FormulaUnfit system is line says are) (Limited system' is' terms fits k kind over are') =
+      absurd (not_both system' system terms line is' is fits says)
+  IsUnanswerable-unique s s' t t' (Limited system is terms fits k kind over are) (InputRefused line says are') = absurd (IsInput-not_refused bytes system line is says)
+  IsUnanswerable-unique s s' t t' (Limited system is terms fits k kind over are) (FormulaUnfit system' is' line says are') =
+      absurd (not_both system system' terms line is is' fits says)
+  IsUnanswerable-unique s s' t t' (Limited system is terms fits k kind over are) (Limited system' is' terms' fits' k' kind' over' are') =
+      let there = over_both system system' terms terms' is is' fits fits' (λ x xs. PassesCap x xs f states k' kind') over' in
+      Are-unique limited (limit_line k kind states) s s' t t' are
+      (subst (Are s' t' limited) (PassesCap-unique system terms f states k' k kind' kind there over) are')
+
+  -- nothing withholds the verdict on an input over which it is given
+  IsUnanswerable-answerable : (system : System) (terms : List Tree) (s : ℕ) (t : Text) → IsAnswerable states formula f bytes system terms
+      → IsUnanswerable states formula f bytes s t → ⊥
+  IsUnanswerable-answerable system terms s t is (InputRefused line says are) = IsInput-not_refused bytes system line is.input says
+  IsUnanswerable-answerable system terms s t is (FormulaUnfit system' is' line says are) = not_both system system' terms line is.input is' is.fits says
+  IsUnanswerable-answerable system terms s t is (Limited system' is' terms' fits' k kind over are) =
+      PassesCap-not_kept system terms f states k kind
+      (over_both system system' terms terms' is.input is' is.fits fits' (λ x xs. PassesCap x xs f states k kind) over) is.keeps
+
+  -- a verdict that is withheld over a system with all that the formula speaks of is withheld by the cap
+  IsUnanswerable-limited : (system : System) (terms : List Tree) (s : ℕ) (t : Text) → IsInput bytes system → FitsSystem formula f system terms
+      → IsUnanswerable states formula f bytes s t → (s ≡ limited) × (KeepsCap system terms f states → ⊥)
+  IsUnanswerable-limited system terms s t is fits (InputRefused line says are) = absurd (IsInput-not_refused bytes system line is says)
+  IsUnanswerable-limited system terms s t is fits (FormulaUnfit system' is' line says are) = absurd (not_both system system' terms line is is' fits says)
+  IsUnanswerable-limited system terms s t is fits (Limited system' is' terms' fits' k kind over are) = (
+    are.same_status,
+    PassesCap-not_kept system terms f states k kind (over_both system system' terms terms' is is' fits fits' (λ x xs. PassesCap x xs f states k kind) over),
+  )
+
+-- ---- answers
+
+module _ (states : ℕ) (certificate : Bool) (formula bytes : Text) where
+  pub DecideAnswer-unique : (s s' : ℕ) (t t' : Text) → DecideAnswer states certificate formula bytes s t → DecideAnswer states certificate formula bytes s' t' → Are s t s' t'
+  DecideAnswer-unique s s' t t' (decide.Early early) (decide.Early early') = DecideEarly-unique certificate formula s s' t t' early early'
+  DecideAnswer-unique s s' t t' (decide.Early early) (decide.Unanswerable f asks held) = absurd (early-without_input certificate formula s t early f asks)
+  DecideAnswer-unique s s' t t' (decide.Early early) (decide.Decided f asks system terms is verdict) =
+      absurd (early-without_input certificate formula s t early f asks)
+  DecideAnswer-unique s s' t t' (decide.Unanswerable f asks held) (decide.Early early) = absurd (early-without_input certificate formula s' t' early f asks)
+  DecideAnswer-unique s s' t t' (decide.Unanswerable f asks held) (decide.Unanswerable g asks' held') =
+      IsUnanswerable-unique states formula f bytes s s' t t' held
+      (subst (λ h. IsUnanswerable states formula h bytes s' t') (IsAcceptedClosed-unique formula g f asks'.accepted asks.accepted) held')
+  DecideAnswer-unique s s' t t' (decide.Unanswerable f asks held) (decide.Decided g asks' system terms is verdict) =
+      absurd (IsUnanswerable-answerable states formula g bytes system terms s t is
+      (subst (λ h. IsUnanswerable states formula h bytes s t) (IsAcceptedClosed-unique formula f g asks.accepted asks'.accepted) held))
+  DecideAnswer-unique s s' t t' (decide.Decided f asks system terms is verdict) (decide.Early early) =
+      absurd (early-without_input certificate formula s' t' early f asks)
+  DecideAnswer-unique s s' t t' (decide.Decided f asks system terms is verdict) (decide.Unanswerable g asks' held') =
+      absurd (IsUnanswerable-answerable states formula f bytes system terms s' t' is
+      (subst (λ h. IsUnanswerable states formula h bytes s' t') (IsAcceptedClosed-unique formula g f asks'.accepted asks.accepted) held'))
+  DecideAnswer-unique s s' t t' (decide.Decided f asks system terms is verdict) (decide.Decided g asks' system' terms' is' verdict') =
+      let one = IsAcceptedClosed-unique formula g f asks'.accepted asks.accepted in
+      let their = subst (λ h. FitsSystem formula h system' terms') one is'.fits in
+      let says = subst (λ h. TruthVerdict system' terms' h s' t') one verdict' in
+      TruthVerdict-unique system terms f s s' t t' is.input.problem.problem.constant (FitsSystem-ground formula f system terms is.fits) verdict
+      (over_both states formula f bytes system system' terms terms' is.input is'.input is.fits their (λ x xs. TruthVerdict x xs f s' t') says)
+
+  -- over a system with all that the formula speaks of, the answer is YES or NO, or the part of it that is over the cap
+  decide_low : (f : Formula) (system : System) (terms : List Tree) (s : ℕ) (t : Text) → DecidesOf certificate formula f → IsInput bytes system
+      → FitsSystem formula f system terms → DecideAnswer states certificate formula bytes s t → (s ≤ negative) ⊎ ((s ≡ limited) × (KeepsCap system terms f states → ⊥))
+  decide_low f system terms s t asks is fits (decide.Early early) = absurd (early-without_input certificate formula s t early f asks)
+  decide_low f system terms s t asks is fits (decide.Unanswerable g asks' held) =
+      inr (IsUnanswerable-limited states formula f bytes system terms s t is fits
+      (subst (λ h. IsUnanswerable states formula h bytes s t) (IsAcceptedClosed-unique formula g f asks'.accepted asks.accepted) held))
+  decide_low f system terms s t asks is fits (decide.Decided g asks' system' terms' is' verdict) = inl (TruthVerdict-low system' terms' g s t verdict)
+
+module _ (states : ℕ) (formula bytes : Text) where
+  pub WitnessAnswer-unique : (s s' : ℕ) (t t' : Text) → WitnessAnswer states formula bytes s t → WitnessAnswer states formula bytes s' t' → Are s t s' t'
+  WitnessAnswer-unique s s' t t' (witness.Early early) (witness.Early early') = WitnessEarly-unique formula s s' t t' early early'
+  WitnessAnswer-unique s s' t t' (witness.Early early) (witness.Unanswerable f accepted held) = absurd (witness_early-without_input formula s t early f accepted)
+  WitnessAnswer-unique s s' t t' (witness.Early early) (witness.Answered f accepted system terms is verdict) =
+      absurd (witness_early-without_input formula s t early f accepted)
+  WitnessAnswer-unique s s' t t' (witness.Unanswerable f accepted held) (witness.Early early) = absurd (witness_early-without_input formula s' t' early f accepted)
+  WitnessAnswer-unique s s' t t' (witness.Unanswerable f accepted held) (witness.Unanswerable g accepted' held') =
+      IsUnanswerable-unique states formula f bytes s s' t t' held
+      (subst (λ h. IsUnanswerable states formula h bytes s' t') (IsAccepted-unique formula g f accepted' accepted) held')
+  WitnessAnswer-unique s s' t t' (witness.Unanswerable f accepted held) (witness.Answered g accepted' system terms is verdict) =
+      absurd (IsUnanswerable-answerable states formula g bytes system terms s t is
+      (subst (λ h. IsUnanswerable states formula h bytes s t) (IsAccepted-unique formula f g accepted accepted') held))
+  WitnessAnswer-unique s s' t t' (witness.Answered f accepted system terms is verdict) (witness.Early early) =
+      absurd (witness_early-without_input formula s' t' early f accepted)
+  WitnessAnswer-unique s s' t t' (witness.Answered f accepted system terms is verdict) (witness.Unanswerable g accepted' held') =
+      absurd (IsUnanswerable-answerable states formula f bytes system terms s' t' is
+      (subst (λ h. IsUnanswerable states formula h bytes s' t') (IsAccepted-unique formula g f accepted' accepted) held'))
+  WitnessAnswer-unique s s' t t' (witness.Answered f accepted system terms is verdict) (witness.Answered g accepted' system' terms' is' verdict') =
+      let one = IsAccepted-unique formula g f accepted' accepted in
+      let their = subst (λ h. FitsSystem formula h system' terms') one is'.fits in
+      let says = subst (λ h. WitnessVerdict system' terms' h s' t') one verdict' in
+      WitnessVerdict-unique system terms f s s' t t' verdict
+      (over_both states formula f bytes system system' terms terms' is.input is'.input is.fits their (λ x xs. WitnessVerdict x xs f s' t') says)
+
+  -- over a system with all that the formula speaks of, the answer is the least terms or NONE, or the part of it that is over the cap
+  witness_low : (f : Formula) (system : System) (terms : List Tree) (s : ℕ) (t : Text) → IsAccepted formula f → IsInput bytes system
+      → FitsSystem formula f system terms → WitnessAnswer states formula bytes s t → (s ≤ negative) ⊎ ((s ≡ limited) × (KeepsCap system terms f states → ⊥))
+  witness_low f system terms s t accepted is fits (witness.Early early) = absurd (witness_early-without_input formula s t early f accepted)
+  witness_low f system terms s t accepted is fits (witness.Unanswerable g accepted' held) =
+      inr (IsUnanswerable-limited states formula f bytes system terms s t is fits
+      (subst (λ h. IsUnanswerable states formula h bytes s t) (IsAccepted-unique formula g f accepted' accepted) held))
+  witness_low f system terms s t accepted is fits (witness.Answered g accepted' system' terms' is' verdict) = inl (WitnessVerdict-low system' terms' g s t verdict)
+
+-- Result: a request about a formula, over a system with all that it speaks of, is answered so
+pub answered_low : (request : Option Request) (cap : ℕ) (formula : Text) (f : Formula) (bytes : Text) (system : System) (terms : List Tree) (s : ℕ) (t : Text)
+    → IsAbout request cap formula f → IsInput bytes system → FitsSystem formula f system terms → owed request bytes s t
+    → (s ≤ negative) ⊎ ((s ≡ limited) × (KeepsCap system terms f cap → ⊥))
+answered_low None cap formula f bytes system terms s t about is fits answer = absurd about
+answered_low (Some (Decide states certificate text)) cap formula f bytes system terms s t about is fits answer =
+    subst (λ n. (s ≤ negative) ⊎ ((s ≡ limited) × (KeepsCap system terms f n → ⊥))) (sym about.0)
+    (decide_low states certificate text bytes f system terms s t about.2 is (subst (λ x. FitsSystem x f system terms) about.1 fits) answer)
+answered_low (Some (Witness states text)) cap formula f bytes system terms s t about is fits answer =
+    subst (λ n. (s ≤ negative) ⊎ ((s ≡ limited) × (KeepsCap system terms f n → ⊥))) (sym about.0)
+    (witness_low states text bytes f system terms s t about.2 is (subst (λ x. FitsSystem x f system terms) about.1 fits) answer)
+answered_low (Some (Check text)) cap formula f bytes system terms s t about is fits answer = absurd about
+answered_low (Some (Sample n)) cap formula f bytes system terms s t about is fits answer = absurd about
 
 pub owed-unique : (request : Option Request) (bytes : Text) (s s' : ℕ) (t t' : Text) → owed request bytes s t → owed request bytes s' t' → Are s t s' t'
 owed-unique None bytes s s' t t' one other = Are-unique usage usage_text s s' t t' one other
 owed-unique (Some (Decide states certificate formula)) bytes s s' t t' one other = DecideAnswer-unique states certificate formula bytes s s' t t' one other
-owed-unique (Some (Witness states formula)) bytes s s' t t' one other = Are-unique usage usage_text s s' t t' one other
+owed-unique (Some (Witness states formula)) bytes s s' t t' one other = WitnessAnswer-unique states formula bytes s s' t t' one other
 owed-unique (Some (Check formula)) bytes s s' t t' one other = Are-unique usage usage_text s s' t t' one other
 owed-unique (Some (Sample n)) bytes s s' t t' one other = Are-unique usage usage_text s s' t t' one other
 
 -- what is owed before anything is read is owed for any bytes
 pub owed_from_early : (request : Option Request) (bytes : Text) (s : ℕ) (t : Text) → owed_early request s t → owed request bytes s t
 owed_from_early None bytes s t owes = owes
-owed_from_early (Some (Decide states certificate formula)) bytes s t owes = Early owes
-owed_from_early (Some (Witness states formula)) bytes s t owes = owes
+owed_from_early (Some (Decide states certificate formula)) bytes s t owes = decide.Early owes
+owed_from_early (Some (Witness states formula)) bytes s t owes = witness.Early owes
 owed_from_early (Some (Check formula)) bytes s t owes = owes
 owed_from_early (Some (Sample n)) bytes s t owes = owes
 
@@ -171,9 +259,7 @@ module _ (words : List Text) (told old new : Option Text) (status : ℕ) (given 
   decided_or_over is =
       let at_bytes : OwesTold (request_of words) (Some is.bytes) status given.text =
       subst (λ o. OwesTold (request_of words) o status given.text) is.told_are given.owed in
-      let at_request : owed (Some (Decide is.states is.certificate is.formula)) is.bytes status given.text =
-      subst (λ r. owed r is.bytes status given.text) is.asked at_bytes in
-      decided_low is.states is.certificate is.formula is.f is.bytes is.system is.terms status given.text is.decides is.input is.fits at_request
+      answered_low (request_of words) is.states is.formula is.f is.bytes is.system is.terms status given.text is.about is.input is.fits at_bytes
 
   pub Answers-decided : IsDecidable words told → (status ≤ negative) ⊎ (status ≡ limited)
   Answers-decided is = elim (decided_or_over is) [ inl low ↦ inl low | inr over ↦ inr over.0 ]

@@ -1,11 +1,12 @@
 -- A formula that was read, over the system of an input that has all that it speaks of, is ready to be decided.
-use Rattle.std.specs.Prelude.{◌≡◌, suc, List, [], ◌∷◌, length, map, All, refl}
+use Rattle.std.specs.Prelude.{◌≡◌, ℕ, suc, List, [], ◌∷◌, length, map, All, refl}
 use Rattle.std.proofs.Common.{sym, ap, subst, ◌∙◌, arith}
 use Rattle.std.proofs.lemmas.List.{length-map}
 use Rattle.fort_theory.specs.Trees.{Tree}
 use Rattle.fort_theory.specs.Signatures.{Signature, IsGround}
 use Rattle.fort_theory.specs.Sides.{System}
 use Rattle.fort_theory.specs.Patterns.{PatternSystem, pattern_system}
+use Rattle.fort_logic.specs.Formulas.{Formula}
 use Rattle.fort_logic.specs.Mentions.{HasPlacesBelow}
 use Rattle.fort_formula_grammar.specs.FormulaText.{Ground}
 use Rattle.fort_formula_grammar.proofs.LowIndices.{indices-low}
@@ -14,7 +15,11 @@ use Rattle.fort_formulas.specs.FormulaView.{as_formula}
 use Rattle.fort_formula_parser.specs.declared.parsed.Parsed.{Parsed}
 use Rattle.fort_formula_parser.specs.ParsedView.{as_ground}
 use Rattle.fort_answers.specs.FitAnswer.{AreTermsOf, FitsSystem}
+use Rattle.fort_answers.specs.FormulaAnswer.{IsAccepted}
 use Rattle.fort_answers.proofs.OneFit.{FitsSystem-ground}
+use Rattle.fort_run.specs.declared.question.Question.{Question}
+use Rattle.fort_run.specs.declared.question.Question.TheVariants.{Truth, Terms}
+use Rattle.fort_run.specs.Asked.{IsAskable, IsClosedFor}
 use Rattle.fort_run.specs.Accepted.{IsRead}
 use Rattle.fort_run.specs.Ready.{IsReady}
 use Rattle.fort_run.proofs.Fitting.{number_is, signature_is}
@@ -25,7 +30,16 @@ AreTermsOf-count signature [] (t ∷ ts) are = absurd are
 AreTermsOf-count signature (g ∷ gs) [] are = absurd are
 AreTermsOf-count signature (g ∷ gs) (t ∷ ts) are = ap suc (AreTermsOf-count signature gs ts are.1)
 
-module _ (parsed : Parsed) (read : IsRead parsed) (p : System) (system : PatternSystem) (terms : List Tree) (same : system ≡ pattern_system p)
+-- of a closed formula or any
+accepted_of : (question : Question) (text : List ℕ) (f : Formula) → IsAskable question text f → IsAccepted text f
+accepted_of Truth text f askable = askable.accepted
+accepted_of Terms text f askable = askable
+
+closed_of : (question : Question) (text : List ℕ) (f : Formula) → IsAskable question text f → IsClosedFor question f
+closed_of Truth text f askable = askable.closed
+closed_of Terms text f askable = tt
+
+module _ (question : Question) (parsed : Parsed) (read : IsRead question parsed) (p : System) (system : PatternSystem) (terms : List Tree) (same : system ≡ pattern_system p)
     (fits : FitsSystem read.text (as_formula parsed.formula) p terms) where
   count : length parsed.grounds.items ≡ length terms
   count =
@@ -33,16 +47,21 @@ module _ (parsed : Parsed) (read : IsRead parsed) (p : System) (system : Pattern
       ∙ (ap length (AreGroundsOf-unique read.text (map as_ground parsed.grounds.items) fits.grounds read.is.grounds fits.are_grounds)
       ∙ AreTermsOf-count p.signature fits.grounds terms fits.are_terms)
 
+  accepted : IsAccepted read.text (as_formula parsed.formula)
+  accepted = accepted_of question read.text (as_formula parsed.formula) read.is.askable
+
+  pub closed_for : IsClosedFor question (as_formula parsed.formula)
+  closed_for = closed_of question read.text (as_formula parsed.formula) read.is.askable
+
   pub ready : IsReady (as_formula parsed.formula) system terms
   ready = record {
     small = read.small;
-    narrow = read.is.accepted.narrow;
-    closed = read.is.accepted.closed;
+    narrow = accepted.narrow;
     has_terms = subst (λ n. HasPlacesBelow n (as_formula parsed.formula)) count read.places;
     grounded = subst (λ s. All (IsGround s) terms) (sym (signature_is system.signature system p refl same)) (FitsSystem-ground read.text (as_formula parsed.formula) p terms fits);
     within =
         λ index c. record {
-          low = indices-low read.is.accepted.read index c;
+          low = indices-low accepted.read index c;
           high = (let below = fits.within index c in let number = number_is (length system.rules) system p refl same in omega arith);
         };
   }

@@ -21,17 +21,24 @@ use Rattle.fort_io.specs.Devices.{Takes}
 use Rattle.fort_answers.specs.CommandGrammar.{request_of}
 use Rattle.fort_answers.specs.Requests.{Text}
 use Rattle.fort_answers.specs.Lines.{input_too_long, problem_fault_line, refused}
-use Rattle.fort_answers.specs.DecideAnswer.{Are, DecidesOf, FormulaRefused, Early, InputRefused, FormulaUnfit, Limited, Yes, No}
+use Rattle.fort_answers.specs.SystemAnswer.{Are, IsAnswerable, IsUnanswerable, InputRefused, FormulaUnfit, Limited}
+use Rattle.fort_answers.specs.DecideAnswer.{DecidesOf, FormulaRefused, Decided}
+use Rattle.fort_answers.specs.DecideAnswer as decide
+use Rattle.fort_answers.specs.WitnessAnswer.{Answered}
+use Rattle.fort_answers.specs.WitnessAnswer as witness
+use Rattle.fort_answers.specs.Answer.{IsAbout}
 use Rattle.fort_answers.specs.FitAnswer.{FitsSystem, IsUnfit}
-use Rattle.fort_answers.specs.FormulaAnswer.{IsAccepted, IsRefused}
+use Rattle.fort_answers.specs.FormulaAnswer.{IsAcceptedClosed}
 use Rattle.fort_answers.specs.InputAnswer.{IsInput, IsInputRefused, TooLong, NoForms, NoProblem, FormBehind, input_limit}
-use Rattle.fort_answers.proofs.OneVerdict.{accepted-not_refused}
+use Rattle.fort_answers.proofs.OneVerdict.{accepted-not_refused, closed-not_refused}
 use Rattle.fort_run.specs.Refusals.{SaysProblemFault, SaysTextFault}
 use Rattle.fort_engine.specs.declared.answer.Limit.{Limit}
 use Rattle.fort_engine.specs.AnswerView.{IsLimit}
 use Rattle.fort_run.specs.Limits.{HasLimitTold, IsLimitOf}
 use Rattle.fort_run.specs.Ready.{ShowsLimit}
-use Rattle.fort_run.specs.Plain.{IsVerdict, Limits, Holds, Fails, PlainAnswers, PlainNeedsInput, PlainOwes, PlainLimit, PlainLimitTold}
+use Rattle.fort_run.specs.declared.question.Question.{Question}
+use Rattle.fort_run.specs.declared.question.Question.TheVariants.{Truth, Terms}
+use Rattle.fort_run.specs.Asked.{request_for, IsAskable, IsRefusedBy, QuestionNeedsInput, OwesToQuestion, AnswersQuestion, QuestionLimit, QuestionLimitTold, VerdictOn, IsVerdict, Limits, Says}
 
 -- the forms of a text, counted
 pub count_of : (forms : Forms) → form_count forms ≡ length (as_list forms)
@@ -95,51 +102,77 @@ longer_than : (n : ℕ) → (bytes : List ℕ) × (n < length bytes)
 longer_than zero = (0 ∷ [], omega arith)
 longer_than (suc n) = let r = longer_than n in (0 ∷ r.0, omega (arith, r.1))
 
--- ---- the plain request
+-- ---- questions
 
 are : (status : ℕ) (text : Text) → Are status text status text
 are status text = record { same_status = refl; same_text = refl }
 
-asks : (text : Text) (f : Formula) → IsAccepted text f → DecidesOf false text f
+asks : (text : Text) (f : Formula) → IsAcceptedClosed text f → DecidesOf false text f
 asks text f accepted = record { without = refl; accepted = accepted }
 
-pub needs : (text : Text) (f : Formula) → IsAccepted text f → PlainNeedsInput text
-needs text f accepted = (f, asks text f accepted)
+pub needs : (question : Question) (text : Text) (f : Formula) → IsAskable question text f → QuestionNeedsInput question text
+needs Truth text f askable = (f, asks text f askable)
+needs Terms text f askable = (f, askable)
 
-pub refused_needs_nothing : (text line : Text) → IsRefused text line → PlainNeedsInput text → ⊥
-refused_needs_nothing text line says (f, asked) = accepted-not_refused text f line asked.accepted says
+pub refused_needs_nothing : (question : Question) (text line : Text) → IsRefusedBy question text line → QuestionNeedsInput question text → ⊥
+refused_needs_nothing Truth text line says (f, asked) = closed-not_refused text f line asked.accepted says
+refused_needs_nothing Terms text line says (f, accepted) = accepted-not_refused text f line accepted says
 
-module _ (states : ℕ) (text : Text) where
-  pub owes_refusal : (line : Text) (told : Option Text) → IsRefused text line → PlainOwes states text told refused line
-  owes_refusal line None says = ([], Early (FormulaRefused refl line says (are refused line)))
-  owes_refusal line (Some bytes) says = Early (FormulaRefused refl line says (are refused line))
+refused_early : (question : Question) (states : ℕ) (text line bytes : Text) → IsRefusedBy question text line → AnswersQuestion question states text bytes refused line
+refused_early Truth states text line bytes says = decide.Early (FormulaRefused refl line says (are refused line))
+refused_early Terms states text line bytes says = witness.Early (record { refusal = line; refused_both = says; are = are refused line })
 
-  pub input_refused : (f : Formula) (bytes line : Text) → IsAccepted text f → IsInputRefused bytes line → PlainAnswers states text bytes refused line
-  input_refused f bytes line accepted says = InputRefused f (asks text f accepted) line says (are refused line)
+about : (question : Question) (states : ℕ) (text : Text) (f : Formula) → IsAskable question text f → IsAbout (Some (request_for question states text)) states text f
+about Truth states text f askable = (refl, refl, asks text f askable)
+about Terms states text f askable = (refl, refl, askable)
+
+module _ (question : Question) (states : ℕ) (text : Text) where
+  pub owes_refusal : (line : Text) (told : Option Text) → IsRefusedBy question text line → OwesToQuestion question states text told refused line
+  owes_refusal line None says = ([], refused_early question states text line [] says)
+  owes_refusal line (Some bytes) says = refused_early question states text line bytes says
+
+  withheld : (f : Formula) (bytes : Text) (status : ℕ) (line : Text) → IsAskable question text f → IsUnanswerable states text f bytes status line
+      → AnswersQuestion question states text bytes status line
+  withheld f bytes status line = by question
+    where
+      by : (q : Question) → IsAskable q text f → IsUnanswerable states text f bytes status line → AnswersQuestion q states text bytes status line
+      by Truth askable held = decide.Unanswerable f (asks text f askable) held
+      by Terms askable held = witness.Unanswerable f askable held
+
+  answered : (f : Formula) (bytes : Text) (p : System) (terms : List Tree) (status : ℕ) (line : Text) → IsAskable question text f
+      → IsAnswerable states text f bytes p terms → VerdictOn question p terms f status line → AnswersQuestion question states text bytes status line
+  answered f bytes p terms status line = by question
+    where
+      by : (q : Question) → IsAskable q text f → IsAnswerable states text f bytes p terms → VerdictOn q p terms f status line
+          → AnswersQuestion q states text bytes status line
+      by Truth askable is verdict = Decided f (asks text f askable) p terms is verdict
+      by Terms askable is verdict = Answered f askable p terms is verdict
+
+  pub input_refused : (f : Formula) (bytes line : Text) → IsAskable question text f → IsInputRefused bytes line → AnswersQuestion question states text bytes refused line
+  input_refused f bytes line askable says = withheld f bytes refused line askable (InputRefused line says (are refused line))
 
   -- a formula that speaks of more than the system of the input has
-  pub unfit : (f : Formula) (bytes line : Text) (p : System) → IsAccepted text f → IsInput bytes p → IsUnfit text f p line
-      → PlainAnswers states text bytes refused line
-  unfit f bytes line p accepted input says = FormulaUnfit f (asks text f accepted) p input line says (are refused line)
+  pub unfit : (f : Formula) (bytes line : Text) (p : System) → IsAskable question text f → IsInput bytes p → IsUnfit text f p line
+      → AnswersQuestion question states text bytes refused line
+  unfit f bytes line p askable input says = withheld f bytes refused line askable (FormulaUnfit p input line says (are refused line))
 
-  pub fit : (f : Formula) (bytes : Text) (p : System) (terms : List Tree) (status : ℕ) (line : Text) → IsAccepted text f → IsInput bytes p
-      → FitsSystem text f p terms → IsVerdict p terms f states status line → PlainAnswers states text bytes status line
-  fit f bytes p terms status line accepted input fits (Limits k kind over are) = Limited f (asks text f accepted) p input terms fits k kind over are
-  fit f bytes p terms status line accepted input fits (Holds keeps holds are) = Yes f (asks text f accepted) p input terms fits keeps holds are
-  fit f bytes p terms status line accepted input fits (Fails keeps fails are) = No f (asks text f accepted) p input terms fits keeps fails are
+  pub fit : (f : Formula) (bytes : Text) (p : System) (terms : List Tree) (status : ℕ) (line : Text) → IsAskable question text f → IsInput bytes p
+      → FitsSystem text f p terms → IsVerdict question p terms f states status line → AnswersQuestion question states text bytes status line
+  fit f bytes p terms status line askable input fits (Limits k kind over are) =
+      withheld f bytes status line askable (Limited p input terms fits k kind over are)
+  fit f bytes p terms status line askable input fits (Says keeps verdict) =
+      answered f bytes p terms status line askable (record { input = input; fits = fits; keeps = keeps }) verdict
 
   -- a limit of the core formula over the system of the input
-  pub fit_limit : (f : Formula) (bytes : Text) (p : System) (system : PatternSystem) (terms : List Tree) (line : Text) (limit : Option Limit) → IsAccepted text f
-      → IsInput bytes p → FitsSystem text f p terms → system ≡ pattern_system p → IfSome limit (ShowsLimit system (core_of terms f) states line)
-      → IfSome limit (PlainLimit states text bytes line)
-  fit_limit f bytes p system terms line None accepted input fits same is = tt
-  fit_limit f bytes p system terms line (Some limit) accepted input fits same is = record {
+  pub fit_limit : (f : Formula) (bytes : Text) (p : System) (system : PatternSystem) (terms : List Tree) (line : Text) (limit : Option Limit)
+      → IsAskable question text f → IsInput bytes p → FitsSystem text f p terms → system ≡ pattern_system p
+      → IfSome limit (ShowsLimit system (core_of terms f) states line) → IfSome limit (QuestionLimit question states text bytes line)
+  fit_limit f bytes p system terms line None askable input fits same is = tt
+  fit_limit f bytes p system terms line (Some limit) askable input fits same is = record {
     states = states;
-    certificate = false;
     formula = text;
-    asked = refl;
     f = f;
-    decides = asks text f accepted;
+    about = about question states text f askable;
     system = p;
     input = input;
     terms = terms;
@@ -150,12 +183,12 @@ module _ (states : ℕ) (text : Text) where
 
   -- the answer for the bytes that were read, all of them
   pub answer_told : (old new : Option Text) (bytes : Text) (status : ℕ) (line : Text) → Consumes old new bytes → IsAtEnd new
-      → PlainAnswers states text bytes status line → PlainOwes states text old status line
+      → AnswersQuestion question states text bytes status line → OwesToQuestion question states text old status line
   answer_told None new bytes status line taken end answer = (bytes, answer)
   answer_told (Some xs) None bytes status line taken end answer = absurd taken
   answer_told (Some xs) (Some ys) bytes status line taken end answer =
       let whole : xs ≡ bytes = taken ∙ ap (λ w. bytes ++ w) end ∙ append-nil bytes in
-      subst (λ b. PlainAnswers states text b status line) (sym whole) answer
+      subst (λ b. AnswersQuestion question states text b status line) (sym whole) answer
 
   told_are : (old new : Option Text) (bytes : Text) → Consumes old new bytes → IsAtEnd new → IfSome old (λ b. b ≡ bytes)
   told_are None new bytes taken end = tt
@@ -164,16 +197,16 @@ module _ (states : ℕ) (text : Text) where
 
   -- the same of a limit
   pub limit_told : (old new : Option Text) (bytes line : Text) (limit : Option Limit) → Consumes old new bytes → IsAtEnd new
-      → IfSome limit (PlainLimit states text bytes line) → IfSome limit (PlainLimitTold states text old line)
+      → IfSome limit (QuestionLimit question states text bytes line) → IfSome limit (QuestionLimitTold question states text old line)
   limit_told old new bytes line None taken end has = tt
   limit_told old new bytes line (Some limit) taken end has = record { bytes = bytes; told_are = told_are old new bytes taken end; has = has }
 
-  pub too_long_told : (f : Formula) (told : Option Text) → IsAccepted text f → IfSome told (λ bytes. input_limit < length bytes)
-      → PlainOwes states text told refused input_too_long
-  too_long_told f None accepted long =
+  pub too_long_told : (f : Formula) (told : Option Text) → IsAskable question text f → IfSome told (λ bytes. input_limit < length bytes)
+      → OwesToQuestion question states text told refused input_too_long
+  too_long_told f None askable long =
       let some = longer_than input_limit in
-      (some.0, input_refused f some.0 input_too_long accepted (TooLong some.1 refl))
-  too_long_told f (Some bytes) accepted long = input_refused f bytes input_too_long accepted (TooLong long refl)
+      (some.0, input_refused f some.0 input_too_long askable (TooLong some.1 refl))
+  too_long_told f (Some bytes) askable long = input_refused f bytes input_too_long askable (TooLong long refl)
 
 -- the line of a limit was written
 pub limit_written : (words : List Text) (told old new : Option Text) (line written : Text) (limit : Option Limit)

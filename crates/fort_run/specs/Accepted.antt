@@ -1,4 +1,4 @@
--- Inside: an accepted formula as it was read, and a formula that is read beside a system.
+-- Inside: a formula as it was read, and a formula that is read beside a system.
 use Rattle.std.specs.Prelude.{◌≡◌, ℕ, ◌<◌, ◌^◌, List, length, map}
 use Rattle.fort_theory.specs.Sides as theory
 use Rattle.fort_theory.specs.Patterns.{PatternSystem, pattern_system}
@@ -8,17 +8,18 @@ use Rattle.fort_formulas.specs.FormulaView.{as_formula}
 use Rattle.fort_formulas.specs.NumbersNeeded.{numbers_needed}
 use Rattle.fort_formula_parser.specs.declared.parsed.Parsed.{Parsed}
 use Rattle.fort_formula_parser.specs.ParsedView.{as_ground, AreShort}
-use Rattle.fort_answers.specs.FormulaAnswer.{IsAccepted}
+use Rattle.fort_run.specs.declared.question.Question.{Question}
+use Rattle.fort_run.specs.Asked.{IsAskable}
 
--- the text is accepted as the formula, with these ground terms
-pub record IsAcceptedAs (text : List ℕ) (parsed : Parsed) : Type 0 where
-  pub accepted : IsAccepted text (as_formula parsed.formula)
+-- the text is a formula of which this may be asked, with these ground terms
+pub record IsAskedAs (question : Question) (text : List ℕ) (parsed : Parsed) : Type 0 where
+  pub askable : IsAskable question text (as_formula parsed.formula)
   pub grounds : AreGroundsOf text (map as_ground parsed.grounds.items)
 
 -- what holds of each text that was read
-pub record IsRead (parsed : Parsed) : Type 0 where
+pub record IsRead (question : Question) (parsed : Parsed) : Type 0 where
   pub text : List ℕ
-  pub is : IsAcceptedAs text parsed
+  pub is : IsAskedAs question text parsed
   pub short : AreShort parsed.grounds.items
   pub places : HasPlacesBelow (length parsed.grounds.items) (as_formula parsed.formula)
   pub small : numbers_needed (as_formula parsed.formula) < 2 ^ 32

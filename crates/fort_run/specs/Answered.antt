@@ -1,16 +1,16 @@
 -- To believe: what a run leaves where it answers, that no other answer is owed, how far it read, and what it leaves where a fault of the sink cuts the answer short.
-use Rattle.std.specs.Prelude.{◌≡◌, ℕ, ◌<◌, ◌⊎◌, Bool, List, ◌++◌, length, Option, Some, IfSome}
+use Rattle.std.specs.Prelude.{◌≡◌, ℕ, ◌<◌, ◌⊎◌, List, ◌++◌, length, Option, Some, IfSome}
 use Rattle.std.specs.Io.KnownBytes.{IsAtEnd}
 use Rattle.fort_theory.specs.Trees.{Tree}
 use Rattle.fort_theory.specs.Sides.{System}
 use Rattle.fort_logic.specs.Formulas.{Formula}
 use Rattle.fort_io.specs.Devices.{Takes}
-use Rattle.fort_answers.specs.Requests.{Text, Decide}
+use Rattle.fort_answers.specs.Requests.{Text}
 use Rattle.fort_answers.specs.CommandGrammar.{request_of}
-use Rattle.fort_answers.specs.DecideAnswer.{KeepsCap, DecidesOf}
+use Rattle.fort_answers.specs.SystemAnswer.{KeepsCap}
 use Rattle.fort_answers.specs.InputAnswer.{IsInput, input_limit}
 use Rattle.fort_answers.specs.FitAnswer.{FitsSystem}
-use Rattle.fort_answers.specs.Answer.{Answer, AnswerFor, EarlyAnswer}
+use Rattle.fort_answers.specs.Answer.{Answer, AnswerFor, EarlyAnswer, IsAbout}
 
 -- the status is the answer's, and the sink took the answer's text, all of it
 pub record Answers (words : List Text) (told : Option Text) (old new : Option Text) (status : ℕ) : Type 0 where
@@ -38,14 +38,12 @@ pub record CutsShort (words : List Text) (told : Option Text) (old new : Option 
 abbrev pub ReadsWhole : Option Text → Option Text → Type 0
 ReadsWhole old new = IsAtEnd new ⊎ IfSome old (λ bytes. input_limit < length bytes)
 
--- the words ask whether a formula is true, and the bytes are a system with all that the formula speaks of
+-- the words ask about a formula, and the bytes are a system with all that the formula speaks of
 pub record IsDecidable (words : List Text) (told : Option Text) : Type 0 where
   pub states : ℕ
-  pub certificate : Bool
   pub formula : Text
-  pub asked : request_of words ≡ Some (Decide states certificate formula)
   pub f : Formula
-  pub decides : DecidesOf certificate formula f
+  pub about : IsAbout (request_of words) states formula f
   pub bytes : Text
   pub told_are : told ≡ Some bytes
   pub system : System

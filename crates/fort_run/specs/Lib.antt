@@ -4,5 +4,6 @@ pub mod Refusals
 pub mod Accepted
 pub mod Limits
 pub mod Ready
-pub mod Plain
+pub mod Asked
 pub mod Answered
+pub mod Witnesses

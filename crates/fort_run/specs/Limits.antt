@@ -1,5 +1,5 @@
 -- To believe: what the limit of a run shows: the first part over the cap of the core formula that the words ask about, its kind, and one more tuple than the cap, no two of them alike; the line that is written tells of this limit.
-use Rattle.std.specs.Prelude.{◌≡◌, ℕ, Bool, List, Option, Some, IfSome}
+use Rattle.std.specs.Prelude.{◌≡◌, ℕ, List, Option, IfSome}
 use Rattle.fort_theory.specs.Trees.{Tree}
 use Rattle.fort_theory.specs.Sides.{System}
 use Rattle.fort_theory.specs.Patterns.{pattern_system}
@@ -7,12 +7,12 @@ use Rattle.fort_logic.specs.Formulas.{Formula}
 use Rattle.fort_logic.specs.Translation.{core_of}
 use Rattle.fort_formulas.specs.KindView.{as_kind}
 use Rattle.fort_io.specs.Devices.{Takes}
-use Rattle.fort_answers.specs.Requests.{Text, Request, Decide}
+use Rattle.fort_answers.specs.Requests.{Text, Request}
 use Rattle.fort_answers.specs.Lines.{limit_line}
 use Rattle.fort_answers.specs.CommandGrammar.{request_of}
-use Rattle.fort_answers.specs.DecideAnswer.{DecidesOf}
 use Rattle.fort_answers.specs.InputAnswer.{IsInput}
 use Rattle.fort_answers.specs.FitAnswer.{FitsSystem}
+use Rattle.fort_answers.specs.Answer.{IsAbout}
 use Rattle.fort_engine.specs.declared.answer.Limit.{Limit}
 use Rattle.fort_engine.specs.AnswerView.{IsLimit}
 
@@ -23,11 +23,9 @@ IsLineOf states limit line = line ≡ limit_line limit.part (as_kind limit.kind)
 -- the request is about a formula whose core formula over the system of these bytes has this limit, of which the line tells
 pub record HasLimit (request : Option Request) (bytes line : Text) (limit : Limit) : Type 0 where
   pub states : ℕ
-  pub certificate : Bool
   pub formula : Text
-  pub asked : request ≡ Some (Decide states certificate formula)
   pub f : Formula
-  pub decides : DecidesOf certificate formula f
+  pub about : IsAbout request states formula f
   pub system : System
   pub input : IsInput bytes system
   pub terms : List Tree

@@ -10,9 +10,10 @@ use Rattle.fort_ari.specs.declared.fault.ProblemFault.{ProblemFault}
 use Rattle.fort_ari.specs.Faults.{as_fault}
 use Rattle.fort_formula_parser.specs.declared.fault.FFault.{FFault}
 use Rattle.fort_formula_parser.specs.Faults.{as_formula_fault}
-use Rattle.fort_answers.specs.FormulaAnswer.{IsRefused}
 use Rattle.fort_answers.specs.InputAnswer.{IsInputRefused}
 use Rattle.fort_answers.specs.Lines.{formula_fault_line, formula_term, text_fault_line, problem_fault_line}
+use Rattle.fort_run.specs.declared.question.Question.{Question}
+use Rattle.fort_run.specs.Asked.{IsRefusedBy}
 use Rattle.fort_run.specs.declared.refusal.Refusal.{Refusal}
 use Rattle.fort_run.specs.declared.refusal.Refusal.TheVariants as refusal
 
@@ -35,8 +36,8 @@ Refuses P refusal.Memory = Unit {0}
 Refuses P (refusal.Line line) = P line.items
 
 -- the refusal of a formula's text is owed to it
-abbrev pub RefusesFormula : List ℕ → Refusal → Type 0
-RefusesFormula text = Refuses (IsRefused text)
+abbrev pub RefusesFormula : Question → List ℕ → Refusal → Type 0
+RefusesFormula question text = Refuses (IsRefusedBy question text)
 
 -- the refusal of an input is owed to it
 abbrev pub RefusesInput : List ℕ → Refusal → Type 0

@@ -1,15 +1,18 @@
 //! The formula of a text, or the line that refuses it.
-ghost use Rattle.std.specs.Prelude.{◌≡◌, ◌↔◌, ℕ, List, ◌<◌, ◌^◌, length, IsTrue, IfOk, IfErr, MatchOption};
+ghost use Rattle.std.specs.Prelude.{◌≡◌, ◌↔◌, ℕ, List, ◌<◌, ◌^◌, [], length, IsTrue, IfOk, IfErr, MatchOption};
+ghost use Rattle.fort_logic.specs.FreeNames as names;
 ghost use Rattle.fort_logic.specs.Mentions.{HasPlacesBelow};
 ghost use Rattle.fort_logic.specs.Translation.{IsFormulaTooWide};
 ghost use Rattle.fort_formula_grammar.specs.FormulaText.{IsFormulaText};
-ghost use Rattle.fort_answers.specs.FormulaAnswer.{IsAccepted, IsRefused};
+ghost use Rattle.fort_answers.specs.FormulaAnswer.{IsAccepted, IsRefused, IsAcceptedClosed, IsRefusedClosed};
 ghost use Rattle.fort_formulas.specs.FormulaView.{as_formula};
 ghost use Rattle.fort_formulas.specs.NumbersNeeded.{numbers_needed};
 ghost use Rattle.fort_formula_parser.specs.ParsedView.{AreShort};
-ghost use Rattle.fort_run.specs.Accepted.{IsAcceptedAs};
+ghost use Rattle.fort_run.specs.Accepted.{IsAskedAs};
+ghost use Rattle.fort_run.specs.Asked.{IsAskable, IsRefusedBy};
 ghost use Rattle.fort_run.specs.Refusals.{RefusesFormula};
 
+use crate::question::Question;
 use crate::refusal::{Refusal, formula_line, open_line};
 use fort_formula_parser::{Parsed, parse};
 use fort_formulas::{CoreFault, Formula, free_names, too_wide};
@@ -27,15 +30,11 @@ fn is_too_wide(alloc: Global, formula: &Formula) -> Result<bool, AllocError>
     }
 }
 
-/// The line that refuses a formula that could be read, if there is one.
-fn refusal_of(alloc: Global, formula: &Formula) -> Result<Option<Vec<u8>>, AllocError>
-    requires { numbers_needed (as_formula formula.now) < 2 ^ 32 }
-    ensures { IfOk result (λ refusal. (text : List ℕ) → IsFormulaText text (as_formula formula.now)
-        → MatchOption refusal (IsAccepted text (as_formula formula.now)) (λ line. IsRefused text line.items)) }
+/// The line that refuses a formula that is taken, but not closed.
+fn open_refusal(alloc: Global, formula: &Formula) -> Result<Option<Vec<u8>>, AllocError>
+    ensures { IfOk result (λ refusal. (text : List ℕ) → IsAccepted text (as_formula formula.now)
+        → MatchOption refusal (IsAcceptedClosed text (as_formula formula.now)) (λ line. IsRefusedClosed text line.items)) }
 {
-    if is_too_wide(alloc, formula)? {
-        return Ok(Some(Vec::from_slice(alloc, b"REFUSED formula too wide\n")?));
-    }
     let names = free_names(alloc, formula)?;
     match names.first() {
         Some(name) => Ok(Some(open_line(alloc, name.as_bytes())?)),
@@ -43,20 +42,40 @@ fn refusal_of(alloc: Global, formula: &Formula) -> Result<Option<Vec<u8>>, Alloc
     }
 }
 
-/// The closed formula of a text, with the ground terms that are written in it.
-pub fn accepted_formula(alloc: Global, text: &[u8]) -> Result<Parsed, Refusal>
-    ensures ok { IfOk result (IsAcceptedAs text.now) }
+/// The line that refuses a formula that could be read, if there is one.
+fn refusal_of(
+    alloc: Global,
+    question: Question,
+    formula: &Formula,
+) -> Result<Option<Vec<u8>>, AllocError>
+    requires { numbers_needed (as_formula formula.now) < 2 ^ 32 }
+    ensures { IfOk result (λ refusal. (text : List ℕ) → IsFormulaText text (as_formula formula.now)
+        → MatchOption refusal (IsAskable question text (as_formula formula.now))
+        (λ line. IsRefusedBy question text line.items)) }
+{
+    if is_too_wide(alloc, formula)? {
+        return Ok(Some(Vec::from_slice(alloc, b"REFUSED formula too wide\n")?));
+    }
+    match question {
+        Question::Truth => open_refusal(alloc, formula),
+        Question::Terms => Ok(None),
+    }
+}
+
+/// The formula of a text of which this may be asked, with the ground terms that are written in it.
+pub fn accepted_formula(alloc: Global, question: Question, text: &[u8]) -> Result<Parsed, Refusal>
+    ensures ok { IfOk result (IsAskedAs question text.now) }
     ensures short { IfOk result (λ p. AreShort p.grounds.items) }
     ensures places { IfOk result (λ p.
         HasPlacesBelow (length p.grounds.items) (as_formula p.formula)) }
     ensures small { IfOk result (λ p. numbers_needed (as_formula p.formula) < 2 ^ 32) }
-    ensures refused { IfErr result (RefusesFormula text.now) }
+    ensures refused { IfErr result (RefusesFormula question text.now) }
 {
     let parsed = match parse(alloc, text) {
         Ok(parsed) => parsed,
         Err(fault) => return Err(Refusal::Line(formula_line(alloc, &fault)?)),
     };
-    match refusal_of(alloc, &parsed.formula)? {
+    match refusal_of(alloc, question, &parsed.formula)? {
         None => Ok(parsed),
         Some(line) => Err(Refusal::Line(line)),
     }

@@ -1,7 +1,7 @@
 //! The system of an input, or the line that refuses it.
 ghost use Rattle.std.specs.Prelude.{◌≤◌, length, IfOk, IfErr};
 ghost use Rattle.fort_answers.specs.InputAnswer.{input_limit};
-ghost use Rattle.fort_run.specs.Plain.{IsReadFrom};
+ghost use Rattle.fort_run.specs.Asked.{IsReadFrom};
 ghost use Rattle.fort_run.specs.Refusals.{RefusesInput};
 
 use crate::refusal::{Refusal, form_line, problem_line, text_line};

@@ -2,11 +2,12 @@
 #![tactic(auto)]
 
 mod accepted;
-mod decide;
 mod fit;
+mod formula;
 mod input;
 mod limit;
 mod outcome;
+mod question;
 mod refusal;
 mod reply;
 mod status;
@@ -14,6 +15,7 @@ mod status;
 mod tests;
 mod top;
 mod verdict;
+mod witness;
 
 pub use outcome::Outcome;
 pub use top::run;

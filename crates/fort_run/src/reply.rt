@@ -17,6 +17,9 @@ pub enum Reply {
     Limited(Vec<u8>, Limit),
     Yes,
     No,
+    /// The whole text that tells the least terms.
+    Found(Vec<u8>),
+    NotFound,
 }
 
 const USAGE: &str = "usage: fort decide [--states N] [--certificate] FORMULA
@@ -30,8 +33,8 @@ impl Reply {
         ensures { code_of result ≡ status_of self.now }
     {
         match self {
-            Reply::Yes => Status::Positive,
-            Reply::No => Status::Negative,
+            Reply::Yes | Reply::Found(_) => Status::Positive,
+            Reply::No | Reply::NotFound => Status::Negative,
             Reply::Usage => Status::Usage,
             Reply::Limited(_, _) => Status::Limited,
             Reply::Refused(_) | Reply::InputTooLong => Status::Refused,
@@ -44,6 +47,8 @@ impl Reply {
         match self {
             Reply::Usage => USAGE.as_bytes(),
             Reply::Refused(line) | Reply::Limited(line, _) => line,
+            Reply::Found(text) => text,
+            Reply::NotFound => b"NONE\n",
             Reply::InputTooLong => b"REFUSED input too long\n",
             Reply::Yes => b"YES\n",
             Reply::No => b"NO\n",

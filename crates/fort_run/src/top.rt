@@ -9,8 +9,9 @@ ghost use Rattle.fort_run.specs.ReplyView.{status_of, text_of, limit_of};
 ghost use Rattle.fort_answers.specs.CommandGrammar.{request_of};
 ghost use Rattle.fort_run.specs.Limits.{HasLimitTold, IsLimitOf};
 
-use crate::decide::{Stop, decide};
+use crate::formula::{Stop, ask};
 use crate::outcome::Outcome;
+use crate::question::Question;
 use crate::reply::Reply;
 use crate::status::Status;
 use fort_io::{Sink, Source, write_all};
@@ -40,7 +41,10 @@ fn reply_to_request<S: Source>(
             states,
             certificate: false,
             formula,
-        } => decide(alloc, states, formula, input),
+        } => ask(alloc, Question::Truth, states, formula, input),
+        Request::Witness { states, formula } => {
+            ask(alloc, Question::Terms, states, formula, input)
+        }
         // The other requests aren't answered yet.
         _ => Ok(Reply::Usage),
     }
@@ -109,8 +113,8 @@ pub fn run<S: Source, K: Sink>(
     // Where the words ask nothing, the source is as before.
     ensures unread { AsksNothing (map string_bytes words.now) → input.new ≡ input.old }
 
-    // Without a fault there is an answer, or want of memory; YES, NO or LIMIT, where the formula is one that is decided, and
-    // YES or NO, where each part of it keeps the cap.
+    // Without a fault there is an answer, or want of memory; 0, 1 or 4 where the words ask about a formula and the bytes are a
+    // system with all that it speaks of, and 0 or 1 where each part of it keeps the cap.
     ensures complete { (FaultCounted (S.faults input.old) (S.faults input.new) → ⊥) →
         (FaultCounted (K.faults output.old) (K.faults output.new) → ⊥) →
         (result.status ≤ last_answer) ⊎ (result.status ≡ out_of_memory) }

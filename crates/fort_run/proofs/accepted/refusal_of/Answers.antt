@@ -1,16 +1,21 @@
-use Rattle.std.proofs.Common.{sym, ◌∙◌, ap}
-use Rattle.fort_answers.specs.FormulaAnswer.{Wide, Open}
-use Rattle.fort_answers.specs.Lines.{formula_open}
+use Rattle.std.proofs.Common.{sym, subst}
+use Rattle.std.specs.Prelude.{MatchOption}
+use Rattle.std.proofs.lemmas.Result.{IfOk-weaker}
+use Rattle.fort_run.specs.Asked.{IsAskable, IsRefusedBy}
+use Rattle.fort_answers.specs.FormulaAnswer.{Wide}
 use Rattle.fort_formulas.specs.FormulaView.{as_formula}
-use Rattle.fort_run.proofs.FormulaRefusals.{told, untold, first_of_names}
+use Rattle.fort_run.proofs.FormulaRefusals.{told, untold, refused_both}
 use Rattle.fort_run.proofs.accepted.refusal_of.Goals as goal
 
 pub returns-then-branch : goal.returns-then-branch
 returns-then-branch c = λ text read.
-    Wide (as_formula c.args.formula.now) read (told c.in_ok-is_too_wide.field-0 _ c.in_ok-is_too_wide.ensures c.if-branch.true) c.in_ok-from_slice.ensures.items
+    refused_both c.args.question text c.in_ok-from_slice.field-0.items
+    (Wide (as_formula c.args.formula.now) read (told c.in_ok-is_too_wide.field-0 _ c.in_ok-is_too_wide.ensures c.if-branch.true) c.in_ok-from_slice.ensures.items)
 
-pub returns-in-Some : goal.returns-in-Some
-returns-in-Some c = λ text read.
-    let first = first_of_names c.deref.result.now c.in-Some.name.now c.in-Some.ensures.value in
-    Open (as_formula c.args.formula.now) read (untold c.in_ok-is_too_wide.field-0 _ c.in_ok-is_too_wide.ensures c.if-branch.false) c.in-Some.name.now first.0
-    (sym c.in_ok-names.ensures ∙ (sym c.deref.ensures.value ∙ first.1)) (c.in_ok-open_line-in-Some.ensures ∙ ap formula_open c.as_bytes.ensures)
+pub returns-in-Truth : goal.returns-in-Truth
+returns-in-Truth c =
+    let f = as_formula c.args.formula.now in
+    IfOk-weaker c.open_refusal.result _ _ (λ refusal says. λ text read.
+    subst (λ q. MatchOption refusal (IsAskable q text f) (λ line. IsRefusedBy q text line.items)) (sym c.in-Truth.is)
+    (says text (record { read = read; narrow = untold c.in_ok-is_too_wide.field-0 _ c.in_ok-is_too_wide.ensures c.if-branch.false })))
+    c.open_refusal.ensures

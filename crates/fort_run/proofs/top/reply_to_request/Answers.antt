@@ -1,12 +1,20 @@
-use Rattle.std.proofs.Common.{refl, subst}
+use Rattle.std.proofs.Common.{◌≡◌, refl, subst}
 use Rattle.std.proofs.lemmas.Result.{on_ok_weaker}
 use Rattle.fort_words.specs.RequestView.{as_request}
+use Rattle.fort_answers.specs.Requests.{Witness}
 use Rattle.fort_answers.specs.Answer.{NeedsInput}
 use Rattle.fort_run.proofs.top.reply_to_request.Goals as goal
 
 pub returns-in-Decide-default-false-default-clause-whole : goal.returns-in-Decide-default-false-default-clause-whole
 returns-in-Decide-default-false-default-clause-whole g c =
-    on_ok_weaker c.decide.result (λ whole needs.
+    on_ok_weaker c.ask.result (λ whole needs.
     let there = subst (λ r. NeedsInput (as_request r)) c.in-Decide-default-false-default.is needs in
     whole (there.0, record { without = refl; accepted = rw c.in-Decide-default-false-default.formula-is there.1.accepted }))
-    c.decide.ensures.whole
+    c.ask.ensures.whole
+
+pub returns-in-Witness-clause-whole : goal.returns-in-Witness-clause-whole
+returns-in-Witness-clause-whole g c =
+    on_ok_weaker c.ask-in-Witness.result (λ whole needs.
+    let e : as_request c.args.request.now ≡ Witness c.in-Witness.states c.in-Witness.formula.now = cc in
+    whole (subst NeedsInput e needs))
+    c.ask-in-Witness.ensures.whole

@@ -1,0 +1,56 @@
+-- To believe: what `witness` owes for a formula's text and the bytes of an input: the least terms for its free variables that satisfy it, in the order of tuples, or that there are none.
+use Rattle.std.specs.Prelude.{◌≡◌, ℕ, List, [], ◌∷◌, ◌++◌, map, Some, codes}
+use Rattle.fort_theory.specs.Trees.{Tree}
+use Rattle.fort_theory.specs.Signatures.{Signature}
+use Rattle.fort_theory.specs.Sides.{System}
+use Rattle.fort_logic.specs.Formulas.{Name, Formula, Var}
+use Rattle.fort_logic.specs.FreeNames.{free_names}
+use Rattle.fort_logic.specs.Truth.{Assignment, IsGroundAssignment, GivesTerms, Holds, structure_of, IsFalseOf}
+use Rattle.fort_order.specs.TupleOrder.{NotAfter}
+use Rattle.fort_order.specs.TermText.{term_text}
+use Rattle.fort_answers.specs.Requests.{Text}
+use Rattle.fort_answers.specs.Lines.{positive, negative, refused, line, witness_line, none_line}
+use Rattle.fort_answers.specs.FormulaAnswer.{IsAccepted, IsRefused}
+use Rattle.fort_answers.specs.SystemAnswer.{Are, IsAnswerable, IsUnanswerable}
+
+-- the trees of the free names, in the order of their first free occurrences
+abbrev pub free_trees : Formula → Assignment → List Tree
+free_trees f m = map (λ x. m (Var x)) (free_names f)
+
+-- some ground terms satisfy the formula, and these are those of its free names
+pub record AreWitnesses (system : System) (terms : List Tree) (f : Formula) (ts : List Tree) : Type 0 where
+  pub assignment : Assignment
+  pub grounded : IsGroundAssignment (structure_of system) assignment
+  pub given : GivesTerms terms assignment
+  pub holds : Holds (structure_of system) f assignment
+  pub are : ts ≡ free_trees f assignment
+
+-- and they come before all others
+pub record AreLeastWitnesses (system : System) (terms : List Tree) (f : Formula) (ts : List Tree) : Type 0 where
+  pub are : AreWitnesses system terms f ts
+  pub least : (us : List Tree) → AreWitnesses system terms f us → NotAfter (map Some ts) (map Some us)
+
+-- a line for each name with its term
+abbrev pub bindings : Signature → List Name → List Tree → Text
+bindings sig [] ts = []
+bindings sig (x ∷ xs) [] = []
+bindings sig (x ∷ xs) (t ∷ ts) = line (x ++ (codes " = " ++ term_text sig t)) ++ bindings sig xs ts
+
+-- the least terms that satisfy the formula, or that it is false whatever its variables are
+pub data WitnessVerdict (system : System) (terms : List Tree) (f : Formula) (status : ℕ) (text : Text) : Type 0 where
+  Found : (ts : List Tree) → AreLeastWitnesses system terms f ts → Are status text positive (witness_line ++ bindings system.signature (free_names f) ts)
+      → WitnessVerdict system terms f status text
+  NotFound : IsFalseOf system terms f → Are status text negative none_line → WitnessVerdict system terms f status text
+
+-- what is owed before anything is read
+pub record WitnessEarly (formula : Text) (status : ℕ) (text : Text) : Type 0 where
+  pub refusal : Text
+  pub refused_both : IsRefused formula refusal
+  pub are : Are status text refused refusal
+
+-- what is owed for these bytes
+pub data WitnessAnswer (states : ℕ) (formula bytes : Text) (status : ℕ) (text : Text) : Type 0 where
+  Early : WitnessEarly formula status text → WitnessAnswer states formula bytes status text
+  Unanswerable : (f : Formula) → IsAccepted formula f → IsUnanswerable states formula f bytes status text → WitnessAnswer states formula bytes status text
+  Answered : (f : Formula) → IsAccepted formula f → (system : System) (terms : List Tree) → IsAnswerable states formula f bytes system terms
+      → WitnessVerdict system terms f status text → WitnessAnswer states formula bytes status text

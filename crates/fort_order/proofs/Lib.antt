@@ -1,0 +1,4 @@
+pub mod LexLaws
+pub mod TupleOrderLaws
+pub mod KidOrderLaws
+pub mod LeastLaws

@@ -1,0 +1,3 @@
+pub mod TupleOrder
+pub mod LeastTuple
+pub mod TermText

@@ -1,0 +1,69 @@
+-- Inside: what may be asked of a formula, the request that asks it, and what is owed to it.
+use Rattle.std.specs.Prelude.{◌≡◌, ℕ, false, List, [], Option, Some}
+use Rattle.fort_theory.specs.Trees.{Tree}
+use Rattle.fort_theory.specs.Sides as theory
+use Rattle.fort_theory.specs.Patterns.{PatternSystem, pattern_system}
+use Rattle.fort_logic.specs.Formulas.{Formula}
+use Rattle.fort_logic.specs.FreeNames.{free_names}
+use Rattle.fort_logic.specs.Kinds.{Kind}
+use Rattle.fort_answers.specs.Requests.{Text, Request, Decide, Witness}
+use Rattle.fort_answers.specs.Lines.{limited, limit_line}
+use Rattle.fort_answers.specs.FormulaAnswer.{IsAccepted, IsRefused, IsAcceptedClosed, IsRefusedClosed}
+use Rattle.fort_answers.specs.InputAnswer.{IsInput}
+use Rattle.fort_answers.specs.SystemAnswer.{Are, PassesCap, KeepsCap}
+use Rattle.fort_answers.specs.DecideAnswer.{TruthVerdict}
+use Rattle.fort_answers.specs.WitnessAnswer.{WitnessVerdict}
+use Rattle.fort_answers.specs.Answer.{NeedsInput, Owes, OwesTold}
+use Rattle.fort_engine.specs.declared.answer.Limit.{Limit}
+use Rattle.fort_run.specs.declared.question.Question.{Question}
+use Rattle.fort_run.specs.declared.question.Question.TheVariants.{Truth, Terms}
+use Rattle.fort_run.specs.Limits.{HasLimit, HasLimitTold}
+
+-- a certificate isn't given yet
+abbrev pub request_for : Question → ℕ → Text → Request
+request_for Truth states formula = Decide states false formula
+request_for Terms states formula = Witness states formula
+
+-- the text is a formula of which this may be asked
+abbrev pub IsAskable : Question → Text → Formula → Type 0
+IsAskable Truth text f = IsAcceptedClosed text f
+IsAskable Terms text f = IsAccepted text f
+
+abbrev pub IsRefusedBy : Question → Text → (line : Text) → Type 0
+IsRefusedBy Truth text line = IsRefusedClosed text line
+IsRefusedBy Terms text line = IsRefused text line
+
+-- truth is asked of closed formulas
+abbrev pub IsClosedFor : Question → Formula → Type 0
+IsClosedFor Truth f = free_names f ≡ []
+IsClosedFor Terms f = Unit {0}
+
+-- whatever the cap is
+abbrev pub QuestionNeedsInput : Question → Text → Type 0
+QuestionNeedsInput question formula = NeedsInput (request_for question 1 formula)
+
+abbrev pub OwesToQuestion : Question → ℕ → Text → Option Text → ℕ → Text → Type 0
+OwesToQuestion question states formula told status text = OwesTold (Some (request_for question states formula)) told status text
+
+abbrev pub AnswersQuestion : Question → ℕ → Text → Text → ℕ → Text → Type 0
+AnswersQuestion question states formula bytes status text = Owes (request_for question states formula) bytes status text
+
+abbrev pub QuestionLimit : Question → ℕ → Text → (bytes line : Text) → Limit → Type 0
+QuestionLimit question states formula bytes line limit = HasLimit (Some (request_for question states formula)) bytes line limit
+
+abbrev pub QuestionLimitTold : Question → ℕ → Text → Option Text → (line : Text) → Limit → Type 0
+QuestionLimitTold question states formula told line limit = HasLimitTold (Some (request_for question states formula)) told line limit
+
+-- the input is a system whose pairs of patterns are these
+abbrev pub IsReadFrom : List ℕ → PatternSystem → Type 0
+IsReadFrom bytes system = (p : theory.System) × IsInput bytes p × (system ≡ pattern_system p)
+
+abbrev pub VerdictOn : Question → theory.System → List Tree → Formula → ℕ → Text → Type 0
+VerdictOn Truth system terms f status text = TruthVerdict system terms f status text
+VerdictOn Terms system terms f status text = WitnessVerdict system terms f status text
+
+-- the answer to a question about a formula over a system, with these ground terms in it
+pub data IsVerdict (question : Question) (system : theory.System) (terms : List Tree) (f : Formula) (states status : ℕ) (text : Text) : Type 0 where
+  Limits : (k : ℕ) (kind : Kind) → PassesCap system terms f states k kind → Are status text limited (limit_line k kind states)
+      → IsVerdict question system terms f states status text
+  Says : KeepsCap system terms f states → VerdictOn question system terms f status text → IsVerdict question system terms f states status text

@@ -1,0 +1,81 @@
+//! The least terms that satisfy a formula.
+ghost use Rattle.std.specs.Prelude.{◌≡◌, ◌<◌, ◌^◌, ◌++◌, List, None, map, length, vec_items, IfOk};
+ghost use Rattle.fort_theory.specs.Signatures as signatures;
+ghost use Rattle.fort_theory.specs.Sides as theory;
+ghost use Rattle.fort_theory.specs.Patterns.{PatternSystem, pattern_system};
+ghost use Rattle.fort_theory.specs.Trees.{Tree};
+ghost use Rattle.fort_logic.specs.FreeNames as names;
+ghost use Rattle.fort_formulas.specs.FormulaView.{as_formula};
+ghost use Rattle.fort_tables.specs.Entries.{AreNodes};
+ghost use Rattle.fort_answers.specs.InputAnswer.{IsInput};
+ghost use Rattle.fort_answers.specs.Lines.{witness_line};
+ghost use Rattle.fort_answers.specs.Requests.{Text};
+ghost use Rattle.fort_answers.specs.WitnessAnswer.{bindings};
+ghost use Rattle.fort_run.specs.Asked.{VerdictOn};
+ghost use Rattle.fort_run.specs.Ready.{IsDecidedBy};
+ghost use Rattle.fort_run.specs.ReplyView.{status_of, text_of, limit_of};
+ghost use Rattle.fort_run.specs.Witnesses.{AreLastTerms};
+ghost use Rattle.fort_run.specs.declared.question.Question.TheVariants.{Terms};
+
+use crate::reply::Reply;
+use fort_engine::Last;
+use fort_formulas::{Formula, free_names};
+use fort_lockstep::{Dag, Table};
+use fort_terms::Signature;
+use fort_witness::{least, write_term};
+use std::alloc::{AllocError, Global};
+
+/// A line for each free variable, with the term in its column of the last node.
+fn witness_text(
+    alloc: Global,
+    signature: &Signature,
+    formula: &Formula,
+    dag: &Dag,
+) -> Result<Vec<u8>, AllocError>
+    requires few { length dag.now < 2 ^ 32 }
+    requires terms { (ts : List Tree) × AreLastTerms signature.now
+        (names.free_names (as_formula formula.now)) dag.now ts }
+    ensures { IfOk result (λ text. (ts : List Tree)
+        → AreLastTerms signature.now (names.free_names (as_formula formula.now)) dag.now ts
+        → text.items ≡ witness_line
+        ++ bindings signature.now (names.free_names (as_formula formula.now)) ts) }
+{
+    let names = free_names(alloc, formula)?;
+    let last = (dag.len() - 1) as u32;
+    let mut text = Vec::from_slice(alloc, b"WITNESS\n")?;
+    for column in 0..names.len() {
+        text.extend_from_slice(names[column].as_bytes())?;
+        text.extend_from_slice(b" = ")?;
+        write_term(alloc, dag, last, column, signature, &mut text)?;
+        text.push(b'\n')?;
+    }
+    Ok(text)
+}
+
+/// The least terms for the free variables of a formula that satisfy it, by the answer to its core formula.
+pub fn witness(
+    alloc: Global,
+    signature: &Signature,
+    formula: &Formula,
+    last: &Last,
+) -> Result<Reply, AllocError>
+    requires { (system : PatternSystem) × (terms : List Tree) × (signature.now ≡ system.signature)
+        × IsDecidedBy (as_formula formula.now) system terms last.now }
+    ensures says { IfOk result (λ r. (p : theory.System) (terms : List Tree) (bytes : Text)
+        → IsInput bytes p → signature.now ≡ p.signature
+        → IsDecidedBy (as_formula formula.now) (pattern_system p) terms last.now
+        → VerdictOn Terms p terms (as_formula formula.now) (status_of r) (text_of r)) }
+    ensures limit { IfOk result (λ r. limit_of r ≡ None) }
+{
+    match last {
+        Last::Truth(true) => Ok(Reply::Found(Vec::from_slice(alloc, b"WITNESS\n")?)),
+        Last::Truth(false) => Ok(Reply::NotFound),
+        Last::Auto(table) => {
+            let _states = table.states();
+            match least(alloc, table)? {
+                Some(dag) => Ok(Reply::Found(witness_text(alloc, signature, formula, &dag)?)),
+                None => Ok(Reply::NotFound),
+            }
+        }
+    }
+}

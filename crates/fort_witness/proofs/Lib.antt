@@ -1,0 +1,10 @@
+pub mod RowOrderLaws
+pub mod RowsLeftLaws
+pub mod RoundLaws
+pub mod NextLaws
+pub mod FoundLaws
+pub mod SortLaws
+pub mod NodesLaws
+pub mod SearchLaws
+pub mod TextLaws
+pub mod WitnessLaws
