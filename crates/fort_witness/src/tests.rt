@@ -261,7 +261,8 @@ const PAIRS: [((u64, u64), (u64, u64), &str); 12] = [
     ((1, 2), (1, 1), "a, a"),
     // columns of different heights: the first column's root decides
     ((1, 3), (3, 2), "(f a), b"),
-    ((12, 13), (13, 12), "(f b), (g (f a) (f a))"),
+    // a child tuple is as high as its highest tree: here its root decides, f before b
+    ((12, 13), (13, 12), "(f (f a)), (g (f a) (f a))"),
     // two trees that need two steps
     ((4, 8), (4, 8), "(g a a), (g b b)"),
     ((13, 13), (13, 13), "(f b), (f b)"),
