@@ -3,12 +3,16 @@ use crate::labeller::Labeller;
 use crate::rows::Rows;
 use crate::rule::LocalRule;
 use fort_lockstep::Row;
+use fort_terms::Memory;
+use std::alloc::Global;
 
 /// The labeller of a local rule: it gives a tuple the label of the rule.
 #[derive(Drop)]
 pub struct ByRule<'a, R: LocalRule>(pub &'a R);
 
 impl<'a, R: LocalRule> Labeller for ByRule<'a, R> {
+    type Memo = ();
+
     ghost use Rattle.std.specs.Prelude.{◌≡◌, ℕ, List, Bool};
     ghost use Rattle.fort_tables.specs.LabelRules.{label_of};
     ghost use Rattle.fort_tables.proofs.LabelRuleLaws.{TellsPresence-rule, HasWidth-rule};
@@ -28,6 +32,8 @@ impl<'a, R: LocalRule> Labeller for ByRule<'a, R> {
     ghost has_width = { λ s sig _. HasWidth-rule sig (R.rule s.0.now) (R.word_count s.0.now)
         (R.has_words s.0.now) };
 
+    ghost fits = { λ _ _. Unit {0} };
+
     fn columns(&self) -> usize {
         self.0.columns()
     }
@@ -36,7 +42,11 @@ impl<'a, R: LocalRule> Labeller for ByRule<'a, R> {
         self.0.width()
     }
 
-    fn step(&self, row: &Row, rows: &Rows, out: &mut [u64]) {
+    fn memo(&self, _alloc: Global) -> Result<(), Memory> {
+        Ok(())
+    }
+
+    fn step(&self, row: &Row, rows: &Rows, _memo: &mut (), out: &mut [u64]) {
         self.0.step(row, rows, out)
     }
 

@@ -50,6 +50,7 @@ pub fn place_of<G: Ledger, L: Labeller>(
     labeller: &L,
     found: &mut Found,
     row: &Row,
+    memo: &mut L::Memo,
     out: &mut [u64],
     steps: &mut Steps<G>,
 ) -> Result<usize, Memory>
@@ -58,7 +59,9 @@ pub fn place_of<G: Ledger, L: Labeller>(
         found.old.firsts found.old.labels.labels row.now }
     requires same { found.old.numbers ≡ found.old.labels.labels }
     requires width { found.old.labels.width ≡ L.word_count labeller.now }
+    requires kept { L.fits labeller.now memo.old }
     requires room { length out.old ≡ L.word_count labeller.now }
+    ensures kept { L.fits labeller.now memo.new }
     ensures placed { IfOk result (λ q. (sig : theory.Signature) → L.serves labeller.now sig
         → IsReady sig (L.column_count labeller.now) (L.label labeller.now)
         found.old.firsts found.old.labels.labels row.now
@@ -70,7 +73,7 @@ pub fn place_of<G: Ledger, L: Labeller>(
     ensures steps { steps.new ≡ steps.old + 1 }
 {
     steps.tick();
-    labeller.step(row, &found.labels, out);
+    labeller.step(row, &found.labels, memo, out);
     match found.numbers.find(out) {
         Some(q) => Ok(q),
         None => {

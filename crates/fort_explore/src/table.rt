@@ -142,13 +142,14 @@ pub fn explore_counted<G: Ledger, L: Labeller>(
     let mut maker = Maker::new(alloc, sig, labeller.columns())?;
     let mut words = vec![in alloc; 0u64; labeller.width()]?;
     let out = words.as_mut_slice();
+    let mut memo = labeller.memo(alloc)?;
     let mut found = Found {
         labels: Rows::new(alloc, labeller.width(), 0)?,
         numbers: LabelSet::new(alloc),
         firsts: Dag::new(alloc),
     };
     'entries: while let Some(row) = maker.due() {
-        let q = place_of(alloc, labeller, &mut found, &row, out, steps)?;
+        let q = place_of(alloc, labeller, &mut found, &row, &mut memo, out, steps)?;
         if found.labels.len() > cap as usize {
             return Err(ExploreFault::Over(found.firsts));
         }

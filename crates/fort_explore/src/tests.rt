@@ -82,6 +82,8 @@ fn write_pair(row: &Row, rows: &Rows, out: &mut [u64])
 }
 
 impl Labeller for AtMost {
+    type Memo = ();
+
     ghost use Rattle.std.specs.Prelude.{◌≡◌, ℕ, List};
     ghost use Rattle.fort_explore.specs.TestLabels.{pair_label, pair_accepting};
     ghost use Rattle.fort_explore.specs.TestLaws.{pair_tells, pair_has};
@@ -100,6 +102,8 @@ impl Labeller for AtMost {
 
     ghost has_width = { λ _ sig _. pair_has sig };
 
+    ghost fits = { λ _ _. Unit {0} };
+
     fn columns(&self) -> usize {
         2
     }
@@ -108,7 +112,11 @@ impl Labeller for AtMost {
         4
     }
 
-    fn step(&self, row: &Row, rows: &Rows, out: &mut [u64]) {
+    fn memo(&self, _alloc: Global) -> Result<(), Memory> {
+        Ok(())
+    }
+
+    fn step(&self, row: &Row, rows: &Rows, _memo: &mut (), out: &mut [u64]) {
         write_pair(row, rows, out)
     }
 

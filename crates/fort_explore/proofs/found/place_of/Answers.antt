@@ -21,7 +21,7 @@ returns-in-Some-clause-placed g c = λ sig s r.
     let n = g.L.Labeller.column_count c.args.labeller.now in
     let label = g.L.Labeller.label c.args.labeller.now in
     let q = c.in-Some.q in
-    let gives = c.step.ensures sig s (record { entry = r.entry; are = known_labels sig n label f.firsts f.labels.labels r.known }) in
+    let gives = c.step.ensures.gives sig s (record { entry = r.entry; are = known_labels sig n label f.firsts f.labels.labels r.known }) in
     placed_old sig n label f.firsts f.labels.labels c.args.row.now q _ (g.met.L.Labeller.tells_presence c.args.labeller.now sig s) r gives
     (omega (arith, ap length c.requires.same, c.in-Some.ensures.0)) (ap (λ (ws : List (List ℕ)). get_or ws q []) (sym c.requires.same) ∙ c.in-Some.ensures.1)
 
@@ -30,7 +30,7 @@ returns-in_ok-note-in-None-clause-placed g c = λ sig s r.
     let f = c.args.found.now in
     let n = g.L.Labeller.column_count c.args.labeller.now in
     let label = g.L.Labeller.label c.args.labeller.now in
-    let gives = c.step.ensures sig s (record { entry = r.entry; are = known_labels sig n label f.firsts f.labels.labels r.known }) in
+    let gives = c.step.ensures.gives sig s (record { entry = r.entry; are = known_labels sig n label f.firsts f.labels.labels r.known }) in
     let absent = rw c.requires.same at c.in-None.ensures in
     rw c.len-q.ensures
     (placed_new sig n label f.firsts f.labels.labels c.args.row.now _ c.note.new.self.firsts c.note.new.self.labels.labels

@@ -45,6 +45,7 @@ entries-preserved g c =
       exploring = exploring_give c.args.sig.now n label c.entries.maker c.give.new.self f.firsts c.place_of.new.found.firsts f.labels.labels c.place_of.new.found.labels.labels c.in-Some.row c.in_ok-q.q x due p given;
       same = c.in_ok-q.ensures.same;
       width = c.in_ok-q.ensures.width ∙ c.entries.invariant.width;
+      kept = c.place_of.ensures.kept;
       room = c.place_of.auto.out ∙ c.entries.invariant.room;
       few = omega (arith, c.len.ensures);
       steps = omega (arith, c.place_of.ensures.steps, c.entries.invariant.steps, length-appended c.entries.maker.targets c.give.new.self.targets c.in_ok-q.q given.targets);

@@ -7,6 +7,7 @@ invariant-entries g l = record {
   exploring : IsExploring l.sig (g.L.Labeller.column_count l.labeller) (g.L.Labeller.label l.labeller) l.maker l.found.firsts l.found.labels.labels;
   same : l.found.numbers ≡ l.found.labels.labels;
   width : l.found.labels.width ≡ g.L.Labeller.word_count l.labeller;
+  kept : g.L.Labeller.fits l.labeller l.memo;
   room : length l.out ≡ g.L.Labeller.word_count l.labeller;
   few : length l.found.labels.labels ≤ l.cap;
   steps : l.steps ≡ l.initial.steps + length l.maker.targets;
