@@ -18,7 +18,7 @@ IfNone_then None h k = k h
 IfNone_then (Some x) h k = tt
 
 -- what the three kinds of children say
-label_is : (labels : List (List ℕ)) (e : Entry) (j : ℕ) (w : List ℕ) (ks : List ℕ) → w ≡ get_or labels (get_or ks j 0) [] → ks ≡ e.kids → j < length e.kids → w ≡ get_or (labels_at labels e.kids) j []
+pub label_is : (labels : List (List ℕ)) (e : Entry) (j : ℕ) (w : List ℕ) (ks : List ℕ) → w ≡ get_or labels (get_or ks j 0) [] → ks ≡ e.kids → j < length e.kids → w ≡ get_or (labels_at labels e.kids) j []
 label_is labels e j w ks p q l = p ∙ (ap (λ (xs : List ℕ). get_or labels (get_or xs j 0) []) q ∙ sym (label_at labels e.kids j l))
 
 pub absent_same : (body : Table) (c : ℕ) (labels : List (List ℕ)) (e : Entry) (most j : ℕ) (w ks : List ℕ) → w ≡ get_or labels (get_or ks j 0) [] → ks ≡ e.kids → most ≤ j → j < length e.kids → (k : ℕ) → (absent_state w == k) ≡ may_choose body c labels e most j k
@@ -34,7 +34,7 @@ pub kid_state_small : (body : Table) (f : TupleSymbol) (j k : ℕ) → IsTable b
 kid_state_small body f j k is h = subst (λ (q : ℕ). q < length body.presences) h.state (table_state body is h.tuple h.is_tuple).within
 
 pub next_choice : (body : Table) (c : ℕ) (alone : List ℕ) (labels : List (List ℕ)) (e : Entry) (g : ℕ) (f : TupleSymbol) (most : ℕ) → IsTable body → IsReached body → AreChoices body c alone labels e g f most
-    → (j from k : ℕ) → j < symbol_kids body.signature f → (p : ℕ → Bool) → ((i : ℕ) → p i ≡ may_choose body c labels e most j i) → IsNext p from k → IsNextChoice body c labels e most j from k
+    → (j from k : ℕ) → j < symbol_kids body.signature f → (p : ℕ → Bool) → ((i : ℕ) → p i ≡ may_choose body c labels e most j i) → IsNext p from k → IsNextChoice body (may_choose body c labels e most j) from k
 next_choice body c alone labels e g f most is reached h j from k l p same n =
     let hit : may_choose body c labels e most j k ≡ true = sym (same k) ∙ n.hit in
     record {
@@ -42,7 +42,7 @@ next_choice body c alone labels e g f most is reached h j from k l p same n =
       within = kid_state_small body f j k is (choice_state body c alone labels e g f most is reached h j k l hit);
     }
 
-pub none_choice : (body : Table) (c : ℕ) (labels : List (List ℕ)) (e : Entry) (most j from : ℕ) (p : ℕ → Bool) → ((i : ℕ) → p i ≡ may_choose body c labels e most j i) → ((i : ℕ) → from ≤ i → p i ≡ false) → AreNoChoices body c labels e most j from
+pub none_choice : (body : Table) (c : ℕ) (labels : List (List ℕ)) (e : Entry) (most j from : ℕ) (p : ℕ → Bool) → ((i : ℕ) → p i ≡ may_choose body c labels e most j i) → ((i : ℕ) → from ≤ i → p i ≡ false) → AreNoChoices body (may_choose body c labels e most j) from
 none_choice body c labels e most j from p same n = λ i a b. sym (same i) ∙ n i a
 
 -- the entry of a whole choice

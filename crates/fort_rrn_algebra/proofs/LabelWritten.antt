@@ -1,5 +1,5 @@
 -- The label of a projection as it is written: the first two words, and then the bits that are marked.
-use Rattle.std.proofs.Common.{◌≡◌, ◌≢◌, ℕ, ◌+◌, ◌*◌, ◌/◌, ◌%◌, ◌<◌, ◌≤◌, ◌||◌, ◌==◌, List, [], ◌∷◌, drop, set, length, get_or, Some, max, Bool, true, false, ⊎_elim, refl, ap, sym, ◌∙◌, arith, get_or-set_same, get_or-set_other, length-drop}
+use Rattle.std.proofs.Common.{◌≡◌, ◌≢◌, ℕ, ◌+◌, ◌*◌, ◌/◌, ◌%◌, ◌<◌, ◌≤◌, ◌&&◌, ◌||◌, ◌==◌, List, [], ◌∷◌, drop, set, length, get_or, Some, max, Bool, true, false, ⊎_elim, refl, ap, sym, ◌∙◌, arith, get_or-set_same, get_or-set_other, length-drop}
 use Rattle.std.proofs.lemmas.Bool.{cases_lt}
 use Rattle.std.proofs.lemmas.List.{get_or_past, get_or-drop, length-set}
 use Rattle.std.proofs.lemmas.Nat.Bits.{bit_at-zero}
@@ -7,14 +7,16 @@ use Rattle.std.specs.Int.{bit_at}
 use Rattle.std.specs.List.{insert}
 use Rattle.fort_theory.specs.Signatures.{Signature, arity_of}
 use Rattle.fort_tables.specs.Tuples.{TupleSymbol, arity}
-use Rattle.fort_tables.specs.Entries.{Entry}
+use Rattle.fort_tables.specs.Entries.{Entry, entry}
 use Rattle.fort_tables.specs.Tables.{Table}
 use Rattle.fort_tables.specs.BitRows.{AreWords, has_bit, bit_row, words_for}
 use Rattle.fort_tables.proofs.TupleLaws.{arity_from_get}
 use Rattle.fort_tables.proofs.BitRowLaws.{has_bit-drop, bit_row_is}
-use Rattle.fort_operations.specs.Projections.{has_state, gives_under, ArePure}
+use Rattle.fort_operations.specs.Projections.{has_state, may_stand, some_choice, ArePure}
 use Rattle.fort_rrn_algebra.specs.OperandRows.{labels_at}
 use Rattle.fort_rrn_algebra.specs.Choices.{IsSearched, AreChoices, may_choose, is_reachable}
+use Rattle.fort_rrn_algebra.specs.Scopes.{takes, may_in, gives_in}
+use Rattle.fort_rrn_algebra.specs.declared.scope.Scope.{Scope}
 use Rattle.fort_rrn_algebra.proofs.ProjectEntries.{length-labels_at}
 
 two_words : (w : List ℕ) → 2 ≤ length w → w ≡ get_or w 0 0 ∷ get_or w 1 0 ∷ drop 2 w
@@ -50,6 +52,10 @@ none_marked xs a b q h =
     ap (λ x. bit_at x ((128 + q) % 64) == 1) (get_or-set_other (set xs 0 a) 1 at b 0 ne ∙ (get_or-set_other xs 0 at a 0 no ∙ none))
     ∙ ap (λ x. x == 1) (bit_at-zero ((128 + q) % 64))
 
+-- nor in words that are all 0
+pub none_in_zeros : (w : List ℕ) (q : ℕ) → ((k : ℕ) → get_or w k 0 ≡ 0) → has_state w q ≡ false
+none_in_zeros w q h = ap (λ x. bit_at x ((128 + q) % 64) == 1) (h ((128 + q) / 64)) ∙ ap (λ x. x == 1) (bit_at-zero ((128 + q) % 64))
+
 pub or_nothing : (a b : Bool) → b ≡ false → (a || b) ≡ a
 or_nothing true b h = refl
 or_nothing false b h = h
@@ -65,11 +71,19 @@ choices_made body c alone labels e sig g s f most searched pure same l p q a = r
 }
 
 -- what the search reaches from the first child on is what the symbol gives
-pub under_reachable : (body : Table) (c : ℕ) (alone : List ℕ) (labels : List (List ℕ)) (e : Entry) (g : ℕ) (f : TupleSymbol) (most count q : ℕ) → AreChoices body c alone labels e g f most → count ≡ max most (length e.kids)
-    → is_reachable body (may_choose body c labels e most) f [] 0 count q ≡ gives_under body c e.symbol (labels_at labels e.kids) q g
-under_reachable body c alone labels e g f most count q h k =
+pub under_reachable : (body : Table) (c : ℕ) (alone : List ℕ) (labels : List (List ℕ)) (e : Entry) (scope : Scope) (g : ℕ) (f : TupleSymbol) (most count q : ℕ) → AreChoices body c alone labels e g f most → takes scope most ≡ true → count ≡ max most (length e.kids)
+    → is_reachable body (may_in scope (may_choose body c labels e most)) f [] 0 count q ≡ gives_in body c e.symbol (labels_at labels e.kids) scope q g
+under_reachable body c alone labels e scope g f most count q h taken k =
     let ws = labels_at labels e.kids in
-    let n : count ≡ max (arity body.signature g) (length ws) = omega (arith, k, h.arity_is, length-labels_at labels e.kids) in
-    ap (λ z. is_reachable body (may_choose body c labels e most) z [] 0 count q) h.symbol
-    ∙ (ap (λ a. is_reachable body (may_choose body c labels e a) (insert e.symbol c (Some g)) [] 0 count q) h.arity_is
-    ∙ ap (λ m. is_reachable body (may_choose body c labels e (arity body.signature g)) (insert e.symbol c (Some g)) [] 0 m q) n)
+    let a = arity body.signature g in
+    let n : count ≡ max a (length ws) = omega (arith, k, h.arity_is, length-labels_at labels e.kids) in
+    ap (λ z. is_reachable body (may_in scope (may_choose body c labels e most)) z [] 0 count q) h.symbol
+    ∙ (ap (λ y. is_reachable body (may_in scope (may_choose body c labels e y)) (insert e.symbol c (Some g)) [] 0 count q) h.arity_is
+    ∙ (ap (λ m. is_reachable body (may_in scope (may_choose body c labels e a)) (insert e.symbol c (Some g)) [] 0 m q) n
+    ∙ ap (λ b. b && is_reachable body (may_in scope (may_choose body c labels e a)) (insert e.symbol c (Some g)) [] 0 (max a (length ws)) q) (sym (ap (takes scope) (sym h.arity_is) ∙ taken))))
+
+-- a symbol that isn't in the scope gives nothing
+pub none_taken : (body : Table) (c : ℕ) (f : TupleSymbol) (ws : List (List ℕ)) (scope : Scope) (q g : ℕ) (old : Bool) → takes scope (arity body.signature g) ≡ false → old ≡ (gives_in body c f ws scope q g || old)
+none_taken body c f ws scope q g old h =
+    let a = arity body.signature g in
+    ap (λ b. (b && some_choice (length body.presences) (may_in scope (may_stand body c a ws)) 0 (max a (length ws)) (λ ks. body.target (entry (insert f c (Some g)) ks) == q)) || old) (sym h)

@@ -5,10 +5,15 @@ mod PureSearch
 mod OperandEntries
 pub mod ProjectEntries
 pub mod ChoiceSearch
+mod ScopeLaws
+mod ImageLaws
+mod ImagesKept
 mod LabelWritten
 mod TableMade
 mod NegationLaws
 mod PlaceLaws
+mod ListedLaws
+mod ChainLaws
 mod SymbolNumbers
 mod ListingLaws
 mod LookUpLaws

@@ -166,11 +166,24 @@ lay_there body f chosen j q n old mid new l e h m =
     ∙ (append_assoc old (joined_below q g) (laid body f (take (j + 1) (set chosen j q)) (j + 1) n)
     ∙ ap (λ xs. old ++ xs) (ap (λ xs. joined_below q g ++ xs) (sym here) ∙ sym (joined_more q g))))
 
-pub lay_not : (body : Table) (f : TupleSymbol) (before : List ℕ) (j q n : ℕ) (old mid : List ℕ) → (get_or body.presences q 0 ≡ kid_presence body.signature f j → ⊥) → mid ≡ old ++ joined_below q (lists_behind body f before j n) → mid ≡ old ++ joined_below (q + 1) (lists_behind body f before j n)
-lay_not body f before j q n old mid e h =
+-- lists between two numbers that are all empty
+joined_over : (g : ℕ → List ℕ) (m d : ℕ) → ((k : ℕ) → m ≤ k → k < m + d → g k ≡ []) → joined_below (m + d) g ≡ joined_below m g
+joined_over g m zero h = let z : m + 0 ≡ m = omega arith in ap (λ n. joined_below n g) z
+joined_over g m (suc d) h =
+    let s : m + suc d ≡ suc (m + d) = omega arith in
+    ap (λ n. joined_below n g) s
+    ∙ (ap (λ xs. joined_below (m + d) g ++ xs) (h (m + d) (omega arith) (omega arith))
+    ∙ (append-nil (joined_below (m + d) g) ∙ joined_over g m d (λ k a b. h k a (omega (arith, b)))))
+
+-- states of other presences add nothing
+pub lay_to : (body : Table) (f : TupleSymbol) (before : List ℕ) (j n m q : ℕ) (old mid : List ℕ) → m ≤ q → ((k : ℕ) → m ≤ k → k < q → get_or body.presences k 0 ≡ kid_presence body.signature f j → ⊥)
+    → mid ≡ old ++ joined_below m (lists_behind body f before j n) → mid ≡ old ++ joined_below q (lists_behind body f before j n)
+lay_to body f before j n m q old mid le none h =
     let g = lists_behind body f before j n in
-    let none : g q ≡ [] = block_not (get_or body.presences q 0 == kid_presence body.signature f j) (laid body f (before ++ q ∷ []) (suc j) n) (test_from_apart (get_or body.presences q 0) (kid_presence body.signature f j) e) in
-    h ∙ ap (λ xs. old ++ xs) (sym (joined_more q g ∙ (ap (λ xs. joined_below q g ++ xs) none ∙ append-nil (joined_below q g))))
+    let d : m + (q - m) ≡ q = omega (arith, le) in
+    let over = joined_over g m (q - m) (λ k a b. block_not (get_or body.presences k 0 == kid_presence body.signature f j) (laid body f (before ++ k ∷ []) (suc j) n)
+    (test_from_apart (get_or body.presences k 0) (kid_presence body.signature f j) (none k a (omega (arith, b, d))))) in
+    h ∙ ap (λ xs. old ++ xs) (sym over ∙ ap (λ z. joined_below z g) d)
 
 -- the entry of a whole choice of child states
 pub states_entry : (body : Table) (f : TupleSymbol) (chosen : List ℕ) (j : ℕ) → IsTupleSymbol body.signature body.columns f → j ≡ symbol_kids body.signature f → j ≤ length chosen → ((i : ℕ) → i < j → IsStateFor body f i (get_or chosen i 0)) → IsTableEntry body (entry f (take j chosen))

@@ -38,12 +38,12 @@ abbrev pub may_choose : Table → ℕ → List (List ℕ) → Entry → ℕ → 
 may_choose body c labels e arity j k = may_stand body c arity (labels_at labels e.kids) j k
 
 -- the first state from `from` on that may stand there; none from there on
-pub record IsNextChoice (body : Table) (c : ℕ) (labels : List (List ℕ)) (e : Entry) (most j from k : ℕ) : Type 0 where
-  pub next : IsNext (may_choose body c labels e most j) from k
+pub record IsNextChoice (body : Table) (may : ℕ → Bool) (from k : ℕ) : Type 0 where
+  pub next : IsNext may from k
   pub within : k < length body.presences
 
-abbrev pub AreNoChoices : Table → ℕ → List (List ℕ) → Entry → ℕ → ℕ → ℕ → Type 0
-AreNoChoices body c labels e most j from = HoldsNowhere (may_choose body c labels e most j) from (length body.presences)
+abbrev pub AreNoChoices : Table → (ℕ → Bool) → ℕ → Type 0
+AreNoChoices body may from = HoldsNowhere may from (length body.presences)
 
 -- whether the target is q for some choice of the remaining children, the first j being chosen
 abbrev pub is_reachable : Table → (ℕ → ℕ → Bool) → TupleSymbol → List ℕ → ℕ → ℕ → ℕ → Bool

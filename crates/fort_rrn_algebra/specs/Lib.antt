@@ -1,9 +1,13 @@
 pub mod Operands
 pub mod OperandRows
+pub mod Scopes
 pub mod Choices
+pub mod ImageFacts
 pub mod Negations
 pub mod Places
+pub mod Chains
 pub mod Flats
 pub mod FlatFacts
+pub mod ListedOperands
 pub mod LookUps
 pub mod TestRules

@@ -1,5 +1,5 @@
 -- Inside: the number of a tuple symbol, and the place of child states by their ranks.
-use Rattle.std.specs.Prelude.{◌≡◌, ℕ, zero, suc, ◌+◌, ◌*◌, ◌/◌, ◌%◌, ◌^◌, ◌<◌, List, [], ◌∷◌, length, get_or}
+use Rattle.std.specs.Prelude.{◌≡◌, ℕ, zero, suc, ◌+◌, ◌*◌, ◌/◌, ◌%◌, ◌<◌, List, [], ◌∷◌, length, get_or}
 use Rattle.fort_tables.specs.Tuples.{TupleSymbol}
 use Rattle.fort_lockstep.specs.Columns.{column_of, digit_of}
 use Rattle.fort_lockstep.specs.Ranks.{count_of, rank_in}
@@ -33,7 +33,7 @@ pub record AreAlike (ps alike : List ℕ) : Type 0 where
 
 -- for each presence how many states have it
 abbrev pub AreCounts : List ℕ → List ℕ → Type 0
-AreCounts ps counts = (w : ℕ) → w < 2 ^ 16 → get_or counts w 0 ≡ count_of w ps
+AreCounts ps counts = (w : ℕ) → w < length counts → get_or counts w 0 ≡ count_of w ps
 
 pub record AreSpots (ps ranks alike : List ℕ) : Type 0 where
   pub ranks_are : AreRanks ps ranks

@@ -1,16 +1,19 @@
 //! The search through the choices of states for the children under a symbol in the projected column.
-ghost use Rattle.std.specs.Prelude.{◌≡◌, ◌<◌, ◌≤◌, ◌+◌, ◌||◌, ◌==◌, ◌^◌, ℕ, false, take, length, slice_index, slice_index_or, IfSome, IfNone, IsTrue};
+ghost use Rattle.std.specs.Prelude.{◌≡◌, ◌<◌, ◌≤◌, ◌+◌, ◌||◌, ◌==◌, ◌^◌, ℕ, Bool, false, take, length, slice_index, slice_index_or, IfSome, IfNone, IsTrue};
 ghost use Rattle.fort_tables.specs.Tuples.{symbol_kids};
 ghost use Rattle.fort_tables.specs.BitRows.{words_for};
 ghost use Rattle.fort_tables.proofs.TableLaws.{IsKidState};
 ghost use Rattle.fort_operations.specs.Projections.{absent_state, has_state};
 ghost use Rattle.fort_rrn_algebra.specs.Choices.{IsNext, IsNextChoice, AreNoChoices, AreChoices, may_choose, is_reachable, symbol_under};
 ghost use Rattle.fort_rrn_algebra.specs.LookUps.{FindsUnder};
+ghost use Rattle.fort_rrn_algebra.specs.OperandRows.{labels_at};
+ghost use Rattle.fort_rrn_algebra.specs.Scopes.{may_in, IsScoped};
 
 use crate::bits::next_bit;
 use crate::flat::FlatTargets;
 use crate::look_up::LookUp;
 use crate::pure::next_pure;
+use crate::scope::Scope;
 use fort_explore::{Rows, set_bit};
 use fort_lockstep::{Row, Table};
 use fort_terms::Sym;
@@ -40,6 +43,18 @@ pub fn next_in_set(label: &[u64], from: u32) -> Option<usize>
     }
 }
 
+/// This state, where it is `from` or a later one.
+fn next_one(state: u32, from: u32) -> Option<usize>
+    ensures some { IfSome result (IsNext (λ k. state == k) from) }
+    ensures none { IfNone result ((k : ℕ) → from ≤ k → (state == k) ≡ false) }
+{
+    if from <= state {
+        Some(state as usize)
+    } else {
+        None
+    }
+}
+
 /// A symbol in the projected column above an entry over labels of the projection.
 #[derive(Drop)]
 pub(crate) struct Choices<'a, T: Table> {
@@ -50,20 +65,23 @@ pub(crate) struct Choices<'a, T: Table> {
     pub(crate) rows: &'a Rows,
     pub(crate) sym: Sym,
     pub(crate) arity: usize,
+    pub(crate) scope: Scope,
 }
 
 impl<'a, T: Table> Choices<'a, T> {
-    /// The first state from `from` on that may stand as child `j`.
-    fn next_state(&self, j: usize, from: u32) -> Option<usize>
+    /// The first state from `from` on that may stand as child `j`, whatever the scope.
+    fn next_own(&self, j: usize, from: u32) -> Option<usize>
         requires choices { AreChoices (T.table self.now.body.now) self.now.column
             self.now.alone.now self.now.rows.now.labels self.now.row.now self.now.sym.0
             (symbol_under self.now.row.now self.now.column self.now.sym.0) self.now.arity }
         requires child { j < symbol_kids (T.table self.now.body.now).signature
             (symbol_under self.now.row.now self.now.column self.now.sym.0) }
-        ensures some { IfSome result (IsNextChoice (T.table self.now.body.now) self.now.column
-            self.now.rows.now.labels self.now.row.now self.now.arity j from) }
-        ensures none { IfNone result (AreNoChoices (T.table self.now.body.now) self.now.column
-            self.now.rows.now.labels self.now.row.now self.now.arity j from) }
+        ensures some { IfSome result (IsNextChoice (T.table self.now.body.now)
+            (may_choose (T.table self.now.body.now) self.now.column self.now.rows.now.labels
+            self.now.row.now self.now.arity j) from) }
+        ensures none { IfNone result (AreNoChoices (T.table self.now.body.now)
+            (may_choose (T.table self.now.body.now) self.now.column self.now.rows.now.labels
+            self.now.row.now self.now.arity j) from) }
     {
         let _states = self.body.states();
         let kids = self.row.kids();
@@ -76,11 +94,36 @@ impl<'a, T: Table> Choices<'a, T> {
         }
     }
 
+    /// The first state from `from` on that may stand as child `j`.
+    fn next_state(&self, j: usize, from: u32) -> Option<usize>
+        requires choices { AreChoices (T.table self.now.body.now) self.now.column
+            self.now.alone.now self.now.rows.now.labels self.now.row.now self.now.sym.0
+            (symbol_under self.now.row.now self.now.column self.now.sym.0) self.now.arity }
+        requires scope { IsScoped self.now.scope (labels_at self.now.rows.now.labels
+            self.now.row.now.kids) self.now.arity }
+        requires child { j < symbol_kids (T.table self.now.body.now).signature
+            (symbol_under self.now.row.now self.now.column self.now.sym.0) }
+        ensures some { IfSome result (IsNextChoice (T.table self.now.body.now)
+            (may_in self.now.scope (may_choose (T.table self.now.body.now) self.now.column
+            self.now.rows.now.labels self.now.row.now self.now.arity) j) from) }
+        ensures none { IfNone result (AreNoChoices (T.table self.now.body.now)
+            (may_in self.now.scope (may_choose (T.table self.now.body.now) self.now.column
+            self.now.rows.now.labels self.now.row.now self.now.arity) j) from) }
+    {
+        let _states = self.body.states();
+        match self.scope.state_at(j) {
+            Some(state) => next_one(state, from),
+            None => self.next_own(j, from),
+        }
+    }
+
     /// Whether the states that may stand as child `j` are those of an own child's set.
     fn is_in_set(&self, j: usize) -> bool
-        ensures { IsTrue result → (j < self.now.arity) × (j < length self.now.row.now.kids) }
+        ensures place { IsTrue result → (j < self.now.arity) × (j < length self.now.row.now.kids) }
+        ensures all { IsTrue result → (may : ℕ → ℕ → Bool) (k : ℕ)
+            → may_in self.now.scope may j k ≡ may j k }
     {
-        j < self.arity && j < self.row.kids().len()
+        j < self.arity && j < self.row.kids().len() && self.scope.state_at(j).is_none()
     }
 
     /// Marks the states that the states of an own child's set give as the last child, behind these.
@@ -128,6 +171,8 @@ impl<'a, T: Table> Choices<'a, T> {
         requires choices { AreChoices (T.table self.now.body.now) self.now.column
             self.now.alone.now self.now.rows.now.labels self.now.row.now self.now.sym.0
             (symbol_under self.now.row.now self.now.column self.now.sym.0) self.now.arity }
+        requires scope { IsScoped self.now.scope (labels_at self.now.rows.now.labels
+            self.now.row.now.kids) self.now.arity }
         requires look_up { FindsUnder (T.table self.now.body.now)
             (symbol_under self.now.row.now self.now.column self.now.sym.0) look_up.now }
         requires count { j + rest ≡ symbol_kids (T.table self.now.body.now).signature
@@ -141,8 +186,9 @@ impl<'a, T: Table> Choices<'a, T> {
         ensures first { slice_index out.new 0 ≡ slice_index out.old 0 }
         ensures second { slice_index out.new 1 ≡ slice_index out.old 1 }
         ensures marked { (q : ℕ) → has_state out.new q ≡ (is_reachable
-            (T.table self.now.body.now) (may_choose (T.table self.now.body.now) self.now.column
-            self.now.rows.now.labels self.now.row.now self.now.arity)
+            (T.table self.now.body.now) (may_in self.now.scope (may_choose
+            (T.table self.now.body.now) self.now.column self.now.rows.now.labels
+            self.now.row.now self.now.arity))
             (symbol_under self.now.row.now self.now.column self.now.sym.0) (take j chosen) j rest q
             || has_state out.old q) }
     {

@@ -53,7 +53,8 @@ pub(crate) fn kid_count(sig: &Signature, sym: &TupleSym) -> usize
 /// Which columns child `j` has: bit i for column i.
 pub(crate) fn kid_presence(sig: &Signature, sym: &TupleSym, j: usize) -> u16
     requires { AreSymbols sig.now sym.now }
-    ensures { result ≡ kid_presence_lem sig.now sym.now j }
+    ensures value { result ≡ kid_presence_lem sig.now sym.now j }
+    ensures bound { result < 2 ^ length sym.now }
 {
     let _symbols = sig.len();
     let mut presence = 0u32;

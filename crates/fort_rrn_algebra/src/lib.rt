@@ -2,9 +2,13 @@
 #![tactic(auto)]
 
 mod bits;
+mod chains;
 mod choices;
 mod columns;
 mod flat;
+mod imaged;
+mod images;
+mod listed;
 mod listing;
 pub mod local;
 mod look_up;
@@ -12,8 +16,10 @@ mod negation;
 mod operand;
 mod product;
 mod project;
+mod projecting;
 mod projection;
 mod pure;
+mod scope;
 mod tables;
 mod words;
 
@@ -22,6 +28,7 @@ pub use negation::negate;
 pub use operand::{Op, Operand};
 pub use product::Both;
 pub use project::Project;
+pub use projecting::Projecting;
 pub use pure::{next_pure, pure_states};
 pub use tables::{permute, widen};
 

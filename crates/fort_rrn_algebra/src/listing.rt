@@ -3,8 +3,10 @@ ghost use Rattle.std.specs.Prelude.{◌≡◌, ◌≢◌, ℕ, ◌+◌, ◌<◌,
 ghost use Rattle.fort_tables.specs.Tuples.{AreSymbols, IsTupleSymbol, symbol_kids, kid_presence as kid_presence_lem};
 ghost use Rattle.fort_lockstep.specs.Columns.{as_column, column_of as column_of_lem};
 ghost use Rattle.fort_rrn_algebra.specs.Places.{columns_at, AreSpots, AreRanks, AreAlike, AreCounts};
+ghost use Rattle.fort_rrn_algebra.specs.Chains.{AreChains};
 ghost use Rattle.fort_rrn_algebra.specs.Flats.{laid, IsStateFor, AreLaid, IsFlatOf};
 
+use crate::chains::{Chains, equal_numbers, presence_count};
 use crate::columns::{is_present, kid_count, kid_presence};
 use crate::flat::{FlatTargets, Listing, Spots};
 use fort_lockstep::{Table, TupleSym};
@@ -56,8 +58,9 @@ fn column_of(digit: usize) -> Option<Sym>
 
 /// Each state's rank among the states of its presence; the counts are how many states have each presence.
 fn ranks_of<T: Table>(alloc: Global, body: &T, counts: &mut [u32]) -> Result<Vec<u32>, Memory>
-    requires size { length counts.old ≡ 2 ^ 16 }
-    requires none { (w : ℕ) → slice_index counts.old w ≡ 0 }
+    requires none { (w : ℕ) → w < length counts.old → slice_index counts.old w ≡ 0 }
+    requires within { (q : ℕ) → q < length (T.table body.now).presences
+        → slice_index (T.table body.now).presences q < length counts.old }
     ensures ranks { IfOk result (λ ranks. AreRanks (T.table body.now).presences ranks.items) }
     ensures counts { OnOk result (AreCounts (T.table body.now).presences counts.new) }
 {
@@ -72,7 +75,8 @@ fn ranks_of<T: Table>(alloc: Global, body: &T, counts: &mut [u32]) -> Result<Vec
 
 /// For each state how many have its presence.
 fn alike_of<T: Table>(alloc: Global, body: &T, counts: &[u32]) -> Result<Vec<u32>, Memory>
-    requires size { length counts.now ≡ 2 ^ 16 }
+    requires within { (q : ℕ) → q < length (T.table body.now).presences
+        → slice_index (T.table body.now).presences q < length counts.now }
     requires counts { AreCounts (T.table body.now).presences counts.now }
     ensures { IfOk result (λ alike. AreAlike (T.table body.now).presences alike.items) }
 {
@@ -83,22 +87,13 @@ fn alike_of<T: Table>(alloc: Global, body: &T, counts: &[u32]) -> Result<Vec<u32
     Ok(alike)
 }
 
-/// So many zeros.
-fn zeros(alloc: Global, count: usize) -> Result<Vec<u32>, Memory>
-    ensures size { IfOk result (λ v. length v.items ≡ count) }
-    ensures none { IfOk result (λ v. (w : ℕ) → slice_index v.items w ≡ 0) }
-{
-    let numbers = vec![in alloc; 0u32; count]?;
-    Ok(numbers)
-}
-
 impl Spots {
     /// The ranks of a table's states.
     fn of<T: Table>(alloc: Global, body: &T) -> Result<Spots, Memory>
         ensures { IfOk result (λ s. AreSpots (T.table body.now).presences s.ranks.items
             s.alike.items) }
     {
-        let mut counts = zeros(alloc, 65536)?;
+        let mut counts = equal_numbers(alloc, 0, presence_count(body))?;
         let ranks = ranks_of(alloc, body, counts.as_mut_slice())?;
         let alike = alike_of(alloc, body, &counts)?;
         Ok(Spots { ranks, alike })
@@ -108,12 +103,15 @@ impl Spots {
 /// Appends the targets of a tuple symbol: `j` children have their states, and `rest` have not.
 fn lay<T: Table>(
     body: &T,
+    chains: &Chains,
     symbol: &TupleSym,
     chosen: [u32; 8],
     j: usize,
     rest: usize,
     targets: &mut Vec<u32>,
 ) -> Result<(), Memory>
+    requires chains { AreChains (T.table body.now).columns (T.table body.now).presences
+        chains.now.firsts.items chains.now.nexts.items }
     requires symbol { IsTupleSymbol (T.table body.now).signature (T.table body.now).columns
         symbol.now }
     requires count { j + rest ≡ symbol_kids (T.table body.now).signature symbol.now }
@@ -128,13 +126,12 @@ fn lay<T: Table>(
         targets.push(body.target(symbol, &chosen[..j]))?;
         return Ok(());
     }
-    let presence = kid_presence(body.signature(), symbol, j);
-    for q in 0..body.states() {
-        if body.presence(q) == presence {
-            let mut next = chosen;
-            next[j] = q;
-            lay(body, symbol, next, j + 1, rest - 1, targets)?;
-        }
+    let mut q = chains.first(kid_presence(body.signature(), symbol, j));
+    'states: while q < body.states() {
+        let mut next = chosen;
+        next[j] = q;
+        lay(body, chains, symbol, next, j + 1, rest - 1, targets)?;
+        q = chains.next(q);
     }
     Ok(())
 }
@@ -152,7 +149,15 @@ impl Listing {
     }
 
     /// Appends the targets of the tuple symbol with the next number.
-    fn add<T: Table>(&mut self, body: &T, base: usize, number: usize) -> Result<(), Memory>
+    fn add<T: Table>(
+        &mut self,
+        body: &T,
+        chains: &Chains,
+        base: usize,
+        number: usize,
+    ) -> Result<(), Memory>
+        requires chains { AreChains (T.table body.now).columns (T.table body.now).presences
+            chains.now.firsts.items chains.now.nexts.items }
         requires base { base ≡ suc (length (T.table body.now).signature) }
         requires laid { AreLaid (T.table body.now) base number self.old.starts.items
             self.old.targets.items }
@@ -167,18 +172,26 @@ impl Listing {
             return Ok(());
         }
         let count = kid_count(body.signature(), &symbol);
-        lay(body, &symbol, [0; 8], 0, count, &mut self.targets)
+        lay(body, chains, &symbol, [0; 8], 0, count, &mut self.targets)
     }
 
     /// The targets of the tuple symbols with the first numbers.
-    fn of<T: Table>(alloc: Global, body: &T, base: usize, count: usize) -> Result<Listing, Memory>
-        requires { base ≡ suc (length (T.table body.now).signature) }
+    fn of<T: Table>(
+        alloc: Global,
+        body: &T,
+        chains: &Chains,
+        base: usize,
+        count: usize,
+    ) -> Result<Listing, Memory>
+        requires chains { AreChains (T.table body.now).columns (T.table body.now).presences
+            chains.now.firsts.items chains.now.nexts.items }
+        requires base { base ≡ suc (length (T.table body.now).signature) }
         ensures { IfOk result (λ l. AreLaid (T.table body.now) base count l.starts.items
             l.targets.items) }
     {
         let mut listing = Listing::new(alloc, count)?;
         for number in 0..count {
-            listing.add(body, base, number)?;
+            listing.add(body, chains, base, number)?;
         }
         Ok(listing)
     }
@@ -193,7 +206,8 @@ impl FlatTargets {
         match number_count(base, body.columns()) {
             Some(count) => {
                 let spots = Spots::of(alloc, body)?;
-                let listing = Listing::of(alloc, body, base, count)?;
+                let chains = Chains::of(alloc, body)?;
+                let listing = Listing::of(alloc, body, &chains, base, count)?;
                 Ok(Some(FlatTargets {
                     base,
                     spots,

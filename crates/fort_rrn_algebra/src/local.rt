@@ -7,10 +7,11 @@ ghost use Rattle.fort_operations.specs.Projections.{ArePure, project_rule, proje
 ghost use Rattle.fort_tables.specs.BitRows.{words_for};
 ghost use Rattle.fort_rrn_algebra.specs.Operands.{operand_of, connective_of};
 
+use crate::listed::write_both;
 use crate::look_up::Finder;
 use crate::operand::{Op, Operand};
 use crate::projection::write_label;
-use crate::words::{operand_accepts, operand_word};
+use crate::words::operand_accepts;
 use fort_explore::{Rows, has_bit};
 use fort_lockstep::{Row, Table};
 
@@ -33,9 +34,7 @@ pub fn both_label<T: Table>(
     ensures { out.new ≡ entry_label (product_rule (length row.now.symbol)
         (operand_of T.table first.now) (operand_of T.table second.now)) rows.now.labels row.now }
 {
-    out[0] = row.presence() as u64;
-    out[1] = operand_word(first, 1, row, rows);
-    out[2] = operand_word(second, 2, row, rows);
+    write_both(first, None, second, None, row, rows, out);
 }
 
 /// Whether the product with this connective accepts the tuples of terms with this label.

@@ -23,12 +23,12 @@ use std::alloc::Global;
 /// states that the terms of the column give.
 #[derive(Drop)]
 pub struct Project<'a, T: Table> {
-    body: &'a T,
-    column: usize,
+    pub(crate) body: &'a T,
+    pub(crate) column: usize,
     /// The body's states with this column alone present.
-    alone: Vec<u32>,
+    pub(crate) alone: Vec<u32>,
     /// The body's targets in one list, where its tuple symbols have few numbers.
-    flat: Option<FlatTargets>,
+    pub(crate) flat: Option<FlatTargets>,
     ghost within: { column < (T.table body.now).columns },
     ghost another: { 1 < (T.table body.now).columns },
     ghost finds: { IfSome flat (IsFlatOf (T.table body.now)) } by { IfFlat-prop (T.table body.now) flat },

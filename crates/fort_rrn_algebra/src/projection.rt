@@ -1,17 +1,20 @@
 //! What the label of a projection says of one entry.
-ghost use Rattle.std.specs.Prelude.{◌≡◌, ◌<◌, ◌+◌, ◌-◌, ◌||◌, ◌^◌, ℕ, [], None, map, take, length, slice_index, slice_index_or};
+ghost use Rattle.std.specs.Prelude.{◌≡◌, ◌<◌, ◌≤◌, ◌+◌, ◌-◌, ◌||◌, ◌^◌, ℕ, false, [], None, map, take, length, slice_index, slice_index_or};
 ghost use Rattle.std.specs.List.{insert};
+ghost use Rattle.fort_tables.specs.Tuples.{presence};
 ghost use Rattle.fort_tables.specs.Entries.{entry};
 ghost use Rattle.fort_tables.specs.BitRows.{words_for};
 ghost use Rattle.fort_tables.specs.Labels.{IsOverLabels};
 ghost use Rattle.fort_tables.specs.LabelRules.{label_of, entry_label};
-ghost use Rattle.fort_operations.specs.Projections.{ArePure, absent_state, has_state, gives, gives_under, project_rule};
+ghost use Rattle.fort_operations.specs.Projections.{ArePure, absent_state, has_state, project_rule};
 ghost use Rattle.fort_rrn_algebra.specs.OperandRows.{labels_at};
 ghost use Rattle.fort_rrn_algebra.specs.Choices.{IsSearched};
 ghost use Rattle.fort_rrn_algebra.specs.LookUps.{FindsAbove};
+ghost use Rattle.fort_rrn_algebra.specs.Scopes.{FitsScope, gives_in, some_gives};
 
 use crate::choices::Choices;
 use crate::look_up::Finder;
+use crate::scope::Scope;
 use fort_explore::Rows;
 use fort_lockstep::{Row, Table};
 use fort_terms::Sym;
@@ -35,13 +38,40 @@ pub(crate) fn write_label<T: Table>(
     ensures { out.new ≡ entry_label (project_rule (T.table body.now) column) rows.now.labels
         row.now }
 {
-    let _states = body.states();
-    for word in out.iter_mut() {
-        *word = 0;
-    }
+    write_front(body, finder, column, row, rows, out);
+    mark(body, finder, column, alone, row, rows, Scope::All, out);
+}
+
+/// Writes the presence and the body's state with the column absent, and no state into the set.
+pub(crate) fn write_front<T: Table>(
+    body: &T,
+    finder: &Finder<'_>,
+    column: usize,
+    row: &Row,
+    rows: &Rows,
+    out: &mut [u64],
+)
+    requires searched { IsSearched (T.table body.now) column rows.now.labels row.now }
+    requires finder { FindsAbove (T.table body.now) row.now.symbol column finder.now }
+    requires room { 2 ≤ length out.old }
+    ensures first { slice_index out.new 0 ≡ presence row.now.symbol }
+    ensures second { slice_index out.new 1 ≡ (T.table body.now).target (entry
+        (insert row.now.symbol column None)
+        (map absent_state (labels_at rows.now.labels row.now.kids))) }
+    ensures none { (q : ℕ) → has_state out.new q ≡ false }
+{
+    clear(out);
     out[0] = row.presence() as u64;
     out[1] = absent_target(body, finder, column, row, rows) as u64;
-    mark(body, finder, column, alone, row, rows, out);
+}
+
+/// Sets all words to 0.
+pub(crate) fn clear(words: &mut [u64])
+    ensures { (k : ℕ) → slice_index words.new k ≡ 0 }
+{
+    for word in words.iter_mut() {
+        *word = 0;
+    }
 }
 
 /// The body's state with the column absent.
@@ -81,32 +111,44 @@ fn absent_states(row: &Row, rows: &Rows) -> [u32; 8]
     states
 }
 
-/// Marks each state that some term in the column gives.
-fn mark<T: Table>(
+/// Marks each state that some symbol of the scope in the column gives.
+pub(crate) fn mark<T: Table>(
     body: &T,
     finder: &Finder<'_>,
     column: usize,
     alone: &[u32],
     row: &Row,
     rows: &Rows,
+    scope: Scope,
     out: &mut [u64],
 )
     requires searched { IsSearched (T.table body.now) column rows.now.labels row.now }
     requires finder { FindsAbove (T.table body.now) row.now.symbol column finder.now }
     requires alone { ArePure (T.table body.now) column alone.now }
+    requires scope { FitsScope (labels_at rows.now.labels row.now.kids) scope }
     requires room { length out.old ≡ words_for (length (T.table body.now).presences) + 2 }
     ensures first { slice_index out.new 0 ≡ slice_index out.old 0 }
     ensures second { slice_index out.new 1 ≡ slice_index out.old 1 }
-    ensures marked { (q : ℕ) → has_state out.new q ≡ (gives (T.table body.now) column
-        row.now.symbol (labels_at rows.now.labels row.now.kids) q || has_state out.old q) }
+    ensures marked { (q : ℕ) → has_state out.new q ≡ (some_gives (T.table body.now) column
+        row.now.symbol (labels_at rows.now.labels row.now.kids) scope q || has_state out.old q) }
 {
     let _states = body.states();
     for g in 0..body.signature().len() {
-        mark_under(body, finder, column, alone, row, rows, Sym(g as u16), out);
+        mark_under(
+            body,
+            finder,
+            column,
+            alone,
+            row,
+            rows,
+            Sym(g as u16),
+            scope,
+            out,
+        );
     }
 }
 
-/// Marks each state that some term with this root gives.
+/// Marks each state that this symbol gives, where it is one of the scope.
 fn mark_under<T: Table>(
     body: &T,
     finder: &Finder<'_>,
@@ -115,24 +157,30 @@ fn mark_under<T: Table>(
     row: &Row,
     rows: &Rows,
     sym: Sym,
+    scope: Scope,
     out: &mut [u64],
 )
     requires searched { IsSearched (T.table body.now) column rows.now.labels row.now }
     requires finder { FindsAbove (T.table body.now) row.now.symbol column finder.now }
     requires alone { ArePure (T.table body.now) column alone.now }
     requires symbol { sym.0 < length (T.table body.now).signature }
+    requires scope { FitsScope (labels_at rows.now.labels row.now.kids) scope }
     requires room { length out.old ≡ words_for (length (T.table body.now).presences) + 2 }
     ensures first { slice_index out.new 0 ≡ slice_index out.old 0 }
     ensures second { slice_index out.new 1 ≡ slice_index out.old 1 }
-    ensures marked { (q : ℕ) → has_state out.new q ≡ (gives_under (T.table body.now) column
-        row.now.symbol (labels_at rows.now.labels row.now.kids) q sym.0 || has_state out.old q) }
+    ensures marked { (q : ℕ) → has_state out.new q ≡ (gives_in (T.table body.now) column
+        row.now.symbol (labels_at rows.now.labels row.now.kids) scope q sym.0
+        || has_state out.old q) }
 {
     let _states = body.states();
     let _columns = body.columns();
     let sig = body.signature();
     let _symbols = sig.len();
-    let look_up = finder.under(row, column, sym);
     let arity = sig.arity(sym) as usize;
+    if !scope.takes(arity) {
+        return;
+    }
+    let look_up = finder.under(row, column, sym);
     let choices = Choices {
         body,
         column,
@@ -141,6 +189,7 @@ fn mark_under<T: Table>(
         rows,
         sym,
         arity,
+        scope,
     };
     choices.visit(&look_up, [0; 8], 0, arity.max(row.kids().len()), out);
 }

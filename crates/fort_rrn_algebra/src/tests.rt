@@ -99,7 +99,8 @@ fn joined(alloc: Global, signature: &Signature, op: Op) -> Result<Dta, ExploreFa
         Operand::Auto(&first, &[1]),
         2,
     );
-    explore(alloc, first.signature(), &ByRule(&both), 100)
+    let listed = both.listed(alloc)?;
+    explore(alloc, first.signature(), &ByRule(&listed), 100)
 }
 
 /// The counts of a product, and of its projections.
@@ -128,7 +129,7 @@ fn projected(alloc: Global, body: &Dta, column: usize) -> Result<(u32, u32), Add
     requires another { 1 < body.now.columns }
 {
     let project = Project::new(alloc, body, column)?;
-    match explore(alloc, body.signature(), &ByRule(&project), 100) {
+    match explore(alloc, body.signature(), &Projecting(&project), 100) {
         Ok(table) => Ok(counts(&table)),
         Err(_) => Err(AddFault::Memory),
     }
@@ -352,5 +353,23 @@ fn states_that_accept_alike(rt: HostRuntime) -> Result<(), Fail> {
     // O and E accept the same, and one symbol leads from each to the other. A label of a projection
     // is the state with the column absent, the same for all, and a set: {U, O} or {U, E}.
     assert_eq!(rt; counts_of_heights(rt.alloc())?, [(5, 2), (2, 2), (2, 2)]);
+    Ok(())
+}
+
+/// The counts of a conjunction over a constant and a symbol of two arguments, and of its projections.
+fn counts_over_fork(alloc: Global) -> Result<[(u32, u32); 3], AddFault> {
+    let mut signature = Signature::empty(alloc);
+    signature.add(b"a", 0)?;
+    signature.add(b"g", 2)?;
+    match joined(alloc, &signature, Op::And) {
+        Ok(body) => counts_of_two(alloc, &body),
+        Err(_) => Err(AddFault::Memory),
+    }
+}
+
+#[test]
+fn projections_over_two_arguments(rt: HostRuntime) -> Result<(), Fail> {
+    // As over a symbol of one argument: a, and any other term.
+    assert_eq!(rt; counts_over_fork(rt.alloc())?, [(8, 1), (2, 1), (2, 1)]);
     Ok(())
 }

@@ -1,31 +1,52 @@
-use Rattle.std.proofs.Common.{◌≡◌, ℕ, ◌-◌, ◌<◌, ◌++◌, Vec, Global, take, length, ap, sym, ◌∙◌, arith}
+use Rattle.std.proofs.Common.{◌≡◌, ◌+◌, ◌-◌, ◌^◌, ◌<◌, ◌++◌, take, length, ap, sym, ◌∙◌, arith}
+use Rattle.std.proofs.lemmas.List.{append-nil}
 use Rattle.fort_tables.specs.Tuples.{kid_presence}
 use Rattle.fort_rrn_algebra.specs.Flats.{joined_below}
-use Rattle.fort_rrn_algebra.proofs.ListingLaws.{lists_behind, laid_turn, lay_there, lay_not}
+use Rattle.fort_rrn_algebra.proofs.ListingLaws.{lists_behind, laid_turn, lay_there, lay_to}
 use Rattle.fort_rrn_algebra.proofs.listing.+lay.Goals as goal
-use Rattle.fort_rrn_algebra.proofs.listing.+lay.Goals.{then-presence+in_ok-lay, else-presence}
 
-pub loop-q-preserved : goal.loop-q-preserved
-loop-q-preserved g t c =
+pub first-q-requires : goal.first-q-requires
+first-q-requires g t c = omega (arith, c.kid_presence.ensures.bound, c.requires.chains.size, ap (λ n. 2 ^ n) c.requires.symbol.width)
+
+pub states-init : goal.states-init
+states-init g t c =
     let body = g.T.Table.table c.args.body.now in
     let f = c.args.symbol.now in
-    let q = c.loop-q.q in
+    let old = c.args.targets.now.items in
+    let w : c.kid_presence.result ≡ kid_presence body.signature f c.args.j = c.kid_presence.ensures.value ∙ ap (λ s. kid_presence s f c.args.j) c.signature.ensures in
+    let low : c.kid_presence.result < 2 ^ body.columns = omega (arith, c.kid_presence.ensures.bound, ap (λ n. 2 ^ n) c.requires.symbol.width) in
+    let first = rw (← c.first-q.ensures) at (c.requires.chains.first c.kid_presence.result low) in
+    record {
+      laid = lay_to body f (take c.args.j c.args.chosen) c.args.j (c.args.rest - 1) 0 c.first-q.result old old (omega arith) (λ k a b e. first.none k a b (e ∙ sym w)) (sym (append-nil old));
+      high = first.high;
+      has = λ l. first.has l ∙ w;
+    }
+
+pub states-preserved : goal.states-preserved
+states-preserved g t c =
+    let body = g.T.Table.table c.args.body.now in
+    let f = c.args.symbol.now in
+    let old = c.args.targets.now.items in
+    let q = c.states.q in
+    let v = c.states.invariant in
+    let there : q < length body.presences = omega (arith, c.states-test.true) in
+    let has = v.has there in
     let long : c.args.j < length c.args.chosen = omega (arith, c.requires.few, c.if-rest-eq0.false) in
-    elim c.if-presence.branch [
-      | then-presence+in_ok-lay w ↦ ap (λ (v : Vec ℕ Global). v.items) w.targets-is
-          ∙ lay_there body f c.args.chosen c.args.j q (c.args.rest - 1) c.args.targets.now.items c.loop-q.targets.items w.lay.new.targets.items long
-          (sym c.presence.ensures ∙ (w.if-presence.true ∙ (c.kid_presence-presence.ensures ∙ ap (λ s. kid_presence s f c.args.j) c.signature.ensures))) c.loop-q.invariant w.in_ok-lay.ensures
-      | else-presence w ↦ ap (λ (v : Vec ℕ Global). v.items) w.targets-is
-          ∙ lay_not body f (take c.args.j c.args.chosen) c.args.j q (c.args.rest - 1) c.args.targets.now.items c.loop-q.targets.items
-          (λ e. w.if-presence.false (c.presence.ensures ∙ (e ∙ sym (c.kid_presence-presence.ensures ∙ ap (λ s. kid_presence s f c.args.j) c.signature.ensures)))) c.loop-q.invariant
-    ]
+    let next = rw (← c.next-q.ensures) at (c.requires.chains.next q (omega arith) there) in
+    let here = lay_there body f c.args.chosen c.args.j q (c.args.rest - 1) old c.states.targets.items c.lay.new.targets.items long has v.laid c.in_ok-lay.ensures in
+    record {
+      laid = lay_to body f (take c.args.j c.args.chosen) c.args.j (c.args.rest - 1) (q + 1) c.next-q.result old c.lay.new.targets.items (omega (arith, next.low))
+          (λ k a b e. next.none k (omega (arith, a)) b (e ∙ sym has)) here;
+      high = next.high;
+      has = λ l. next.has l ∙ has;
+    }
 
 pub returns : goal.returns
 returns g t c =
     let body = g.T.Table.table c.args.body.now in
     let f = c.args.symbol.now in
-    let e : c.loop-q.q ≡ length body.presences = omega (arith, c.loop-q-test.false) in
+    let e : c.states.q ≡ length body.presences = omega (arith, c.states-test.false, c.states.invariant.high) in
     let before = take c.args.j c.args.chosen in
-    c.loop-q.invariant
+    c.states.invariant.laid
     ∙ ap (λ xs. c.args.targets.now.items ++ xs)
     (ap (λ n. joined_below n (lists_behind body f before c.args.j (c.args.rest - 1))) e ∙ sym (laid_turn body f before c.args.j c.args.rest c.if-rest-eq0.false))

@@ -1,4 +1,4 @@
-use Rattle.std.proofs.Common.{◌≡◌, ℕ, ◌<◌, ◌^◌, get_or, length}
+use Rattle.std.proofs.Common.{◌≡◌, ℕ, ◌<◌, get_or, length}
 use Rattle.fort_lockstep.specs.Ranks.{rank_in}
 use Rattle.fort_rrn_algebra.proofs.listing.ranks_of.Given as goal
 
@@ -7,7 +7,7 @@ invariant-loop-q g l =
     let ps = (g.T.Table.table l.body).presences in
     record {
       size : length l.ranks.items ≡ l.q;
-      long : length l.counts ≡ 2 ^ 16;
+      long : length l.counts ≡ length l.initial.counts;
       done : (k : ℕ) → k < l.q → get_or l.ranks.items k 0 ≡ rank_in (get_or ps k 0) ps k;
-      counts : (w : ℕ) → w < 2 ^ 16 → get_or l.counts w 0 ≡ rank_in w ps l.q;
+      counts : (w : ℕ) → w < length l.initial.counts → get_or l.counts w 0 ≡ rank_in w ps l.q;
     }

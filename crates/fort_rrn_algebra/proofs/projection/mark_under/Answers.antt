@@ -1,11 +1,14 @@
-use Rattle.std.proofs.Common.{refl, ◌∙◌, ◌||◌, ap, length, arith}
+use Rattle.std.proofs.Common.{refl, ◌∙◌, ◌||◌, ap, sym, length, arith}
+use Rattle.fort_tables.specs.Tuples.{arity}
+use Rattle.fort_rrn_algebra.specs.OperandRows.{labels_at}
+use Rattle.fort_rrn_algebra.specs.Scopes.{takes}
 use Rattle.fort_tables.proofs.TupleLaws.{arity_from_get}
 use Rattle.fort_operations.specs.Projections.{has_state}
 use Rattle.fort_rrn_algebra.specs.Choices.{symbol_under}
 use Rattle.fort_rrn_algebra.proofs.LookUpLaws.{finder_is}
 use Rattle.fort_rrn_algebra.proofs.OperandEntries.{arity_small}
 use Rattle.fort_rrn_algebra.proofs.ProjectEntries.{choices_count}
-use Rattle.fort_rrn_algebra.proofs.LabelWritten.{choices_made, under_reachable}
+use Rattle.fort_rrn_algebra.proofs.LabelWritten.{choices_made, under_reachable, none_taken}
 use Rattle.fort_rrn_algebra.proofs.projection.mark_under.Goals as goal
 
 pub under-look_up-requires : goal.under-look_up-requires
@@ -36,8 +39,18 @@ visit-requires-clause-few g c =
     let is = (arity_from_get sig c.args.sym.0 c.arity-arity.result c.arity-arity.ensures).0 in
     omega (arith, c.max.ensures, c.kids.ensures.few, small, is)
 
+pub visit-requires-clause-scope : goal.visit-requires-clause-scope
+visit-requires-clause-scope g c = record { fits = c.requires.scope; taken = sym c.takes.ensures ∙ c.if-not-takes.false }
+
+pub returns-then-not-takes-clause-marked : goal.returns-then-not-takes-clause-marked
+returns-then-not-takes-clause-marked g c = λ q.
+    let body = g.T.Table.table c.args.body.now in
+    let is = (arity_from_get c.signature-sig.result.now c.args.sym.0 c.arity-arity.result c.arity-arity.ensures).0 in
+    none_taken body c.args.column c.args.row.now.symbol (labels_at c.args.rows.now.labels c.args.row.now.kids) c.args.scope q c.args.sym.0 (has_state c.args.out.now q)
+    (rw (ap (λ z. arity z c.args.sym.0) (sym c.signature-sig.ensures)) (ap (takes c.args.scope) is ∙ (sym c.takes.ensures ∙ c.if-not-takes.true)))
+
 pub returns-clause-marked : goal.returns-clause-marked
 returns-clause-marked g c = λ q.
     let body = g.T.Table.table c.args.body.now in
     let h = choices_made body c.args.column c.args.alone.now c.args.rows.now.labels c.args.row.now c.signature-sig.result.now c.args.sym.0 c.args.row.now.symbol (symbol_under c.args.row.now c.args.column c.args.sym.0) c.arity-arity.result c.requires.searched c.requires.alone c.signature-sig.ensures c.requires.symbol refl refl c.arity-arity.ensures in
-    c.visit.ensures.marked q ∙ ap (λ b. b || has_state c.args.out.now q) (under_reachable body c.args.column c.args.alone.now c.args.rows.now.labels c.args.row.now c.args.sym.0 (symbol_under c.args.row.now c.args.column c.args.sym.0) c.arity-arity.result c.max.result q h (omega (arith, c.max.ensures, ap length c.kids.ensures.states)))
+    c.visit.ensures.marked q ∙ ap (λ b. b || has_state c.args.out.now q) (under_reachable body c.args.column c.args.alone.now c.args.rows.now.labels c.args.row.now c.args.scope c.args.sym.0 (symbol_under c.args.row.now c.args.column c.args.sym.0) c.arity-arity.result c.max.result q h (sym c.takes.ensures ∙ c.if-not-takes.false) (omega (arith, c.max.ensures, ap length c.kids.ensures.states)))

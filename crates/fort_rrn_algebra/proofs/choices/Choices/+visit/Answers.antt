@@ -5,6 +5,9 @@ use Rattle.fort_operations.specs.Projections.{has_state}
 use Rattle.fort_rrn_algebra.specs.Choices.{may_choose, is_reachable, symbol_under}
 use Rattle.fort_rrn_algebra.proofs.ProjectEntries.{choice_state, choices_symbol}
 use Rattle.fort_rrn_algebra.proofs.ChoiceSearch.{whole_entry, kid_state_more, reachable_turn, reachable_end, turn, turn_last, reach_chosen}
+use Rattle.fort_rrn_algebra.specs.OperandRows.{labels_at}
+use Rattle.fort_rrn_algebra.specs.Scopes.{may_in}
+use Rattle.fort_rrn_algebra.proofs.ScopeLaws.{may_from_scope}
 use Rattle.fort_rrn_algebra.proofs.FlatSearch.{shift_test}
 use Rattle.fort_rrn_algebra.proofs.choices.Choices.+visit.Goals as goal
 
@@ -30,7 +33,7 @@ returns-then-rest-eq0-clause-marked g t c = λ q.
     let s = c.args.self.now in
     let f = symbol_under s.row.now s.column s.sym.0 in
     let body = g.T.Table.table s.body.now in
-    let may = may_choose body s.column s.rows.now.labels s.row.now s.arity in
+    let may = may_in s.scope (may_choose body s.column s.rows.now.labels s.row.now s.arity) in
     let before = take c.args.j c.args.chosen in
     let symbol = choices_symbol body s.column s.alone.now s.rows.now.labels s.row.now s.sym.0 f s.arity c.requires.choices in
     let whole = whole_entry body f c.args.chosen c.args.j c.states-states.ensures.lawful symbol (omega (arith, c.requires.count, c.if-rest-eq0.true)) (omega (arith, c.requires.few)) c.requires.before in
@@ -44,21 +47,25 @@ visit-requires g t c κs within =
     let s = c.args.self.now in
     let body = g.T.Table.table s.body.now in
     let here : c.args.j < symbol_kids body.signature (symbol_under s.row.now s.column s.sym.0) = omega (arith, c.requires.count, c.if-rest-eq0.false) in
-    let state = choice_state body s.column s.alone.now s.rows.now.labels s.row.now s.sym.0 (symbol_under s.row.now s.column s.sym.0) s.arity c.states-states.ensures.lawful c.states-states.ensures.reached c.requires.choices c.args.j c.in-Some.k here c.in-Some.ensures.some.next.hit in (
+    let state = choice_state body s.column s.alone.now s.rows.now.labels s.row.now s.sym.0 (symbol_under s.row.now s.column s.sym.0) s.arity c.states-states.ensures.lawful c.states-states.ensures.reached c.requires.choices c.args.j c.in-Some.k here
+    (may_from_scope body s.column s.arity (labels_at s.rows.now.labels s.row.now.kids) s.scope c.args.j c.in-Some.k c.requires.scope c.in-Some.ensures.some.next.hit) in (
       omega (arith, c.decreases, c.if-rest-eq0.false),
       (
         within,
         (
           c.requires.choices,
           (
-            c.requires.look_up,
+            c.requires.scope,
             (
-              omega (arith, c.requires.count, c.if-rest-eq0.false),
+              c.requires.look_up,
               (
-                omega (arith, c.requires.few, c.if-rest-eq0.false),
+                omega (arith, c.requires.count, c.if-rest-eq0.false),
                 (
-                  kid_state_more body (symbol_under s.row.now s.column s.sym.0) c.args.chosen c.args.j c.in-Some.k (omega (arith, c.requires.few, c.if-rest-eq0.false)) c.requires.before state,
-                  c.states.invariant.size,
+                  omega (arith, c.requires.few, c.if-rest-eq0.false),
+                  (
+                    kid_state_more body (symbol_under s.row.now s.column s.sym.0) c.args.chosen c.args.j c.in-Some.k (omega (arith, c.requires.few, c.if-rest-eq0.false)) c.requires.before state,
+                    c.states.invariant.size,
+                  ),
                 ),
               ),
             ),
@@ -71,7 +78,7 @@ pub states-preserved : goal.states-preserved
 states-preserved g t c =
     let s = c.args.self.now in
     let body = g.T.Table.table s.body.now in
-    let may = may_choose body s.column s.rows.now.labels s.row.now s.arity in
+    let may = may_in s.scope (may_choose body s.column s.rows.now.labels s.row.now s.arity) in
     let i = c.states.invariant in
     let n = c.in-Some.ensures.some in
     let long : c.args.j < length c.args.chosen = omega (arith, c.requires.few, c.if-rest-eq0.false) in
@@ -89,7 +96,7 @@ pub returns-clause-marked : goal.returns-clause-marked
 returns-clause-marked g t c = λ q.
     let s = c.args.self.now in
     let body = g.T.Table.table s.body.now in
-    let may = may_choose body s.column s.rows.now.labels s.row.now s.arity in
+    let may = may_in s.scope (may_choose body s.column s.rows.now.labels s.row.now s.arity) in
     let old = has_state c.args.out.now q in
     turn_last (may c.args.j) (λ k. is_reachable body may (symbol_under s.row.now s.column s.sym.0) (take c.args.j c.args.chosen ++ k ∷ []) (c.args.j + 1) (c.args.rest - 1) q) c.states.from (length body.presences) (has_state c.states.out q) old c.states.invariant.within c.in_default-next_state.ensures.none (c.states.invariant.marked q)
     ∙ ap (λ b. b || old) (sym (reachable_turn body may (symbol_under s.row.now s.column s.sym.0) (take c.args.j c.args.chosen) c.args.j c.args.rest q c.if-rest-eq0.false))

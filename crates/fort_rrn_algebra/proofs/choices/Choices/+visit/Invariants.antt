@@ -1,6 +1,7 @@
 use Rattle.std.proofs.Common.{◌≡◌, ℕ, ◌+◌, ◌-◌, ◌≤◌, ◌&&◌, ◌||◌, [], ◌∷◌, ◌++◌, take, length, get_or}
 use Rattle.fort_tables.specs.BitRows.{words_for}
 use Rattle.fort_operations.specs.Projections.{has_state, some_below}
+use Rattle.fort_rrn_algebra.specs.Scopes.{may_in}
 use Rattle.fort_rrn_algebra.specs.Choices.{may_choose, is_reachable, symbol_under}
 use Rattle.fort_rrn_algebra.proofs.choices.Choices.+visit.Given as goal
 
@@ -13,7 +14,7 @@ decreases-states g l = length (g.T.Table.table l.self.body.now).presences - l.fr
 abbrev pub invariant-states : goal.invariant-states
 invariant-states g l =
     let body = g.T.Table.table l.self.body.now in
-    let may = may_choose body l.self.column l.self.rows.now.labels l.self.row.now l.self.arity in
+    let may = may_in l.self.scope (may_choose body l.self.column l.self.rows.now.labels l.self.row.now l.self.arity) in
     record {
       within : l.from ≤ length body.presences;
       size : length l.out ≡ words_for (length body.presences) + 2;

@@ -1,0 +1,125 @@
+-- The columns at some places as a number: one more in front; how many children they have; the step of an operand.
+use Rattle.std.proofs.Common.{◌≡◌, ℕ, zero, suc, ◌+◌, ◌-◌, ◌*◌, ◌^◌, ◌<◌, ◌≤◌, List, [], ◌∷◌, take, drop, length, get_or, slice_get, Option, None, Some, Bool, true, false, map, refl, ap, sym, subst, ◌∙◌, arith}
+use Rattle.std.proofs.Math.Nat.{mul-le-mul_right}
+use Rattle.std.proofs.lemmas.List.{length-map, get_or-map, drop_more}
+use Rattle.std.proofs.lemmas.Option.{get_or_from_slice_get, slice_get-get_or}
+use Rattle.fort_theory.specs.Signatures.{Signature}
+use Rattle.fort_tables.specs.Tuples.{TupleSymbol, AreSymbols, symbol_kids}
+use Rattle.fort_tables.specs.Entries.{Entry, entry}
+use Rattle.fort_tables.specs.Tables.{Table, IsTable, IsTableEntry}
+use Rattle.fort_lockstep.specs.Columns.{digit_of}
+use Rattle.fort_operations.specs.Selections.{selected, is_present}
+use Rattle.fort_operations.specs.Products.{OfTable, operand_step, state_at}
+use Rattle.fort_operations.proofs.SelectionLaws.{AreSymbols-selected}
+use Rattle.fort_rrn_algebra.specs.Places.{number_of, place_from, AreStatesIn}
+use Rattle.fort_rrn_algebra.specs.Flats.{IsFlatOf, flat_place}
+use Rattle.fort_rrn_algebra.specs.OperandRows.{labels_at, IsOverWords, IsOperandEntry}
+use Rattle.fort_rrn_algebra.specs.declared.flat.FlatTargets.{FlatTargets}
+use Rattle.fort_rrn_algebra.proofs.SymbolNumbers.{number_below}
+use Rattle.fort_rrn_algebra.proofs.OperandEntries.{own_signature, operand_entry}
+
+-- numbers from the last column on
+pub number_behind : (base : ℕ) (f : TupleSymbol) (i : ℕ) → i < length f → number_of base (drop i f) ≡ digit_of (get_or f i None) + base * number_of base (drop (i + 1) f)
+number_behind base f i l = ap (number_of base) (drop_more f i None l)
+
+larger : (base n : ℕ) → 0 < base → n ≤ base * n
+larger base n h = let m = mul-le-mul_right {m = 1} {n = base} n h in omega (arith, m)
+
+pub number_of-drop : (base : ℕ) (f : TupleSymbol) (i : ℕ) → 0 < base → number_of base (drop i f) ≤ number_of base f
+number_of-drop base [] zero h = omega arith
+number_of-drop base [] (suc i) h = omega arith
+number_of-drop base (x ∷ f) zero h = omega arith
+number_of-drop base (x ∷ f) (suc i) h = omega (arith, number_of-drop base f i h, larger base (number_of base f) h)
+
+-- 0 is the number of what has no column
+pub number_absent : (base : ℕ) (f : TupleSymbol) → 0 < base → number_of base f ≡ 0 → is_present f ≡ false
+number_absent base [] h e = refl
+number_absent base (None ∷ f) h e = number_absent base f h (omega (arith, e, larger base (number_of base f) h))
+number_absent base (Some g ∷ f) h e = absurd (omega (arith, e))
+
+absent_number : (base : ℕ) (f : TupleSymbol) → is_present f ≡ false → number_of base f ≡ 0
+absent_number base [] e = refl
+absent_number base (None ∷ f) e = omega (arith, ap (λ n. base * n) (absent_number base f e))
+absent_number base (Some g ∷ f) e = absurd cc
+
+pub number_present : (base : ℕ) (f : TupleSymbol) → (number_of base f ≡ 0 → ⊥) → is_present f ≡ true
+number_present base f h =
+    let F : Bool → Type 0 = λ b. is_present f ≡ b → b ≡ true in
+    let both : (b : Bool) → F b = λ b. elim b as F [ true ↦ (λ e. refl) | false ↦ (λ e. absurd (h (absent_number base f e))) ] in
+    both (is_present f) refl
+
+-- one of the columns
+pub selected_at : (f : TupleSymbol) (places : List ℕ) (k : ℕ) (x : Option ℕ) → k < length places → slice_get f (get_or places k 0) ≡ Some x → slice_get (selected places f) k ≡ Some x
+selected_at f places k x l e =
+    slice_get-get_or (selected places f) k None (omega (arith, l, length-map places (λ p. get_or f p None)))
+    ∙ ap Some (get_or-map (λ p. get_or f p None) places k 0 None l ∙ get_or_from_slice_get f (get_or places k 0) x None e)
+
+pub selected_is : (f : TupleSymbol) (places : List ℕ) (k : ℕ) (x : Option ℕ) → k < length places → slice_get f (get_or places k 0) ≡ Some x → get_or (selected places f) k None ≡ x
+selected_is f places k x l e = get_or-map (λ p. get_or f p None) places k 0 None l ∙ get_or_from_slice_get f (get_or places k 0) x None e
+
+-- one more column in front
+pub number_turn : (base : ℕ) (f : TupleSymbol) (places : List ℕ) (k p number : ℕ) (x : Option ℕ) → k < length places → p ≡ length places - 1 - k → slice_get f (get_or places p 0) ≡ Some x → number ≡ number_of base (drop (length places - k) (selected places f))
+    → digit_of x + base * number ≡ number_of base (drop (length places - (k + 1)) (selected places f))
+number_turn base f places k p number x l e s h =
+    let g = selected places f in
+    let i = length places - (k + 1) in
+    let same : p ≡ i = omega (arith, e) in
+    let low : i < length places = omega (arith, l) in
+    let long : i < length g = omega (arith, low, length-map places (λ p. get_or f p None)) in
+    let at : get_or g i None ≡ x = selected_is f places i x low (ap (λ q. slice_get f (get_or places q 0)) (sym same) ∙ s) in
+    let next : i + 1 ≡ length places - k = omega (arith, l) in
+    let rest : number_of base (drop (i + 1) g) ≡ number = ap (λ n. number_of base (drop n g)) next ∙ sym h in
+    sym (number_behind base g i long ∙ (λ j. digit_of (at j) + base * rest j))
+
+-- the step of an operand
+pub step_absent : (table : Table) (places : List ℕ) (i : ℕ) (f : TupleSymbol) (ws : List (List ℕ)) → is_present (selected places f) ≡ false → operand_step i (OfTable table places) f ws ≡ 0
+step_absent table places i f ws e = rw e refl
+
+pub step_present : (table : Table) (places : List ℕ) (i : ℕ) (f : TupleSymbol) (ws : List (List ℕ)) → is_present (selected places f) ≡ true
+    → operand_step i (OfTable table places) f ws ≡ suc (table.target (entry (selected places f) (map (state_at i) (take (symbol_kids table.signature (selected places f)) ws))))
+step_present table places i f ws e = rw e refl
+
+-- the number of an operand's columns
+pub selected_below : (table : Table) (list : FlatTargets) (places : List ℕ) (f : TupleSymbol) → IsFlatOf table list → length places ≡ table.columns → AreSymbols table.signature (selected places f)
+    → number_of list.base (selected places f) < list.base ^ table.columns
+selected_below table list places f h w s =
+    let e : length (selected places f) ≡ table.columns = length-map places (λ p. get_or f p None) ∙ w in
+    omega (arith, number_below table.signature list.base (selected places f) h.base_is s, ap (λ n. list.base ^ n) e)
+
+-- an entry's states have ranks
+pub states_in : (table : Table) (list : FlatTargets) (e : Entry) → IsFlatOf table list → IsTableEntry table e → AreStatesIn list.spots e.kids
+states_in table list e h is = λ i l. (omega (arith, is.within i l, h.spots.ranks_are.size), omega (arith, is.within i l, h.spots.alike_are.size))
+
+-- the operand's columns are of its signature
+pub operand_symbols : (sig : Signature) (n : ℕ) (table : Table) (places : List ℕ) (i : ℕ) (labels : List (List ℕ)) (e : Entry) → IsOverWords sig n (OfTable table places) i labels e → AreSymbols table.signature (selected places e.symbol)
+operand_symbols sig n table places i labels e over = AreSymbols-selected table.signature places e.symbol (own_signature sig n table places i labels e over).entry.symbol.symbols
+
+-- the operand's entry, where its columns have a number
+pub entry_numbered : (sig : Signature) (n : ℕ) (table : Table) (list : FlatTargets) (places : List ℕ) (i : ℕ) (labels : List (List ℕ)) (e : Entry) (number : ℕ) → IsTable table → IsOverWords sig n (OfTable table places) i labels e
+    → number ≡ number_of list.base (selected places e.symbol) → (number ≡ 0 → ⊥) → IsOperandEntry table places i e (labels_at labels e.kids)
+entry_numbered sig n table list places i labels e number is over m h =
+    operand_entry n table places i labels e is (own_signature sig n table places i labels e over) (number_present list.base (selected places e.symbol) (λ z. h (m ∙ z)))
+
+-- where its target stands
+module _ (table : Table) (list : FlatTargets) (places : List ℕ) (i : ℕ) (ws : List (List ℕ)) (e : Entry) (is : IsFlatOf table list) (x : IsOperandEntry table places i e ws)
+    (number start count : ℕ) (states : List ℕ) (m : number ≡ number_of list.base (selected places e.symbol)) (s : start ≡ get_or list.listing.starts.items number 0)
+    (c : count ≡ symbol_kids table.signature (selected places e.symbol)) (k : states ≡ map (state_at i) (take count ws)) where
+  abbrev own : Entry
+  own = entry (selected places e.symbol) (map (state_at i) (take (symbol_kids table.signature (selected places e.symbol)) ws))
+
+  own_states : states ≡ own.kids
+  own_states = k ∙ ap (λ n. map (state_at i) (take n ws)) c
+
+  own_place : start + place_from list.spots.ranks.items list.spots.alike.items 0 states ≡ flat_place list own
+  own_place =
+      let at = s ∙ ap (λ n. get_or list.listing.starts.items n 0) m in
+      λ j. at j + place_from list.spots.ranks.items list.spots.alike.items 0 (own_states j)
+
+  pub states_ranked : AreStatesIn list.spots states
+  states_ranked = subst (AreStatesIn list.spots) (sym own_states) (states_in table list own is x.entry)
+
+  pub place_within : start + place_from list.spots.ranks.items list.spots.alike.items 0 states < length list.listing.targets.items
+  place_within = omega (arith, own_place, (is.entries own x.entry).within)
+
+  pub target_listed : get_or list.listing.targets.items (start + place_from list.spots.ranks.items list.spots.alike.items 0 states) 0 ≡ table.target own
+  target_listed = ap (λ p. get_or list.listing.targets.items p 0) own_place ∙ (is.entries own x.entry).is

@@ -1,0 +1,85 @@
+//! The states of a table by their presences.
+ghost use Rattle.std.specs.Prelude.{◌≡◌, ℕ, ◌<◌, ◌^◌, length, slice_index, IfOk};
+ghost use Rattle.fort_rrn_algebra.specs.Chains.{AreChains};
+
+use fort_lockstep::Table;
+use fort_terms::Memory;
+use std::alloc::Global;
+
+/// The states of each presence in order, each with the one that comes next; the number of states stands for none.
+#[derive(Drop)]
+pub(crate) struct Chains {
+    /// The first state of each presence.
+    firsts: Vec<u32>,
+    /// The next state of a state's presence.
+    nexts: Vec<u32>,
+}
+
+/// How many presences there may be.
+pub(crate) fn presence_count<T: Table>(body: &T) -> usize
+    ensures count { result ≡ 2 ^ (T.table body.now).columns }
+    ensures within { (q : ℕ) → q < length (T.table body.now).presences
+        → slice_index (T.table body.now).presences q < result }
+{
+    let _states = body.states();
+    2usize.pow(body.columns() as u32)
+}
+
+/// So many equal numbers.
+pub(crate) fn equal_numbers(alloc: Global, number: u32, count: usize) -> Result<Vec<u32>, Memory>
+    ensures size { IfOk result (λ v. length v.items ≡ count) }
+    ensures equal { IfOk result (λ v. (w : ℕ) → w < count → slice_index v.items w ≡ number) }
+{
+    let numbers = vec![in alloc; number; count]?;
+    Ok(numbers)
+}
+
+/// Puts each state before the states behind it.
+fn chain<T: Table>(body: &T, firsts: &mut [u32], nexts: &mut [u32])
+    requires size { length firsts.old ≡ 2 ^ (T.table body.now).columns }
+    requires states { length nexts.old ≡ length (T.table body.now).presences }
+    requires none { (w : ℕ) → w < 2 ^ (T.table body.now).columns
+        → slice_index firsts.old w ≡ length (T.table body.now).presences }
+    requires within { (q : ℕ) → q < length (T.table body.now).presences
+        → slice_index (T.table body.now).presences q < 2 ^ (T.table body.now).columns }
+    ensures { AreChains (T.table body.now).columns (T.table body.now).presences firsts.new
+        nexts.new }
+{
+    let count = body.states();
+    for k in 0..count {
+        let q = count - 1 - k;
+        let presence = body.presence(q) as usize;
+        nexts[q as usize] = firsts[presence];
+        firsts[presence] = q;
+    }
+}
+
+impl Chains {
+    /// The chains of a table's states.
+    pub(crate) fn of<T: Table>(alloc: Global, body: &T) -> Result<Chains, Memory>
+        ensures { IfOk result (λ c. AreChains (T.table body.now).columns
+            (T.table body.now).presences c.firsts.items c.nexts.items) }
+    {
+        let count = body.states();
+        let mut firsts = equal_numbers(alloc, count, presence_count(body))?;
+        let mut nexts = equal_numbers(alloc, count, count as usize)?;
+        chain(body, firsts.as_mut_slice(), nexts.as_mut_slice());
+        Ok(Chains { firsts, nexts })
+    }
+
+    /// The first state of a presence.
+    pub(crate) fn first(&self, presence: u16) -> u32
+        requires { presence < length self.now.firsts.items }
+        ensures { result ≡ slice_index self.now.firsts.items presence }
+    {
+        self.firsts[presence as usize]
+    }
+
+    /// The next state of a state's presence.
+    pub(crate) fn next(&self, state: u32) -> u32
+        requires { state < length self.now.nexts.items }
+        ensures { result ≡ slice_index self.now.nexts.items state }
+    {
+        self.nexts[state as usize]
+    }
+}

@@ -1,0 +1,169 @@
+//! The labels of products by the operands' targets in lists.
+ghost use Rattle.std.specs.Prelude.{◌≡◌, ◌<◌, ◌≤◌, ◌+◌, ◌*◌, ◌^◌, length, slice_index, IfOk, IfSome};
+ghost use Rattle.fort_theory.specs.Signatures as theory;
+ghost use Rattle.fort_tables.specs.Tuples.{AreSymbols, symbol_kids};
+ghost use Rattle.fort_tables.specs.Labels.{IsOverLabels};
+ghost use Rattle.fort_tables.specs.LabelRules.{label_of, entry_label};
+ghost use Rattle.fort_lockstep.specs.Columns.{as_column, digit_of};
+ghost use Rattle.fort_operations.specs.Products as products;
+ghost use Rattle.fort_operations.specs.Selections.{selected, ArePlaces};
+ghost use Rattle.fort_rrn_algebra.specs.Operands.{operand_of};
+ghost use Rattle.fort_rrn_algebra.specs.OperandRows.{IsOverWords, labels_at};
+ghost use Rattle.fort_rrn_algebra.specs.Places.{number_of};
+ghost use Rattle.fort_rrn_algebra.specs.Flats.{IsFlatOf};
+ghost use Rattle.fort_rrn_algebra.specs.ListedOperands.{IsListOf};
+
+use crate::flat::FlatTargets;
+use crate::operand::Operand;
+use crate::words::{operand_word, states_at};
+use fort_explore::Rows;
+use fort_lockstep::{Row, Table, TupleSym};
+use fort_terms::{Memory, Signature, Sym};
+use std::alloc::Global;
+
+/// An operand's targets in one list, where its tuple symbols have few numbers.
+pub(crate) fn list_of<T: Table>(
+    alloc: Global,
+    operand: &Operand<'_, T>,
+) -> Result<Option<FlatTargets>, Memory>
+    ensures { IfOk result (λ list. IfSome list (IsListOf (operand_of T.table operand.now))) }
+{
+    match operand {
+        Operand::Auto(table, _) => FlatTargets::of(alloc, *table),
+        Operand::Truth(_) => Ok(None),
+    }
+}
+
+/// The number of a tuple symbol with one more column in front.
+fn number_before(column: Option<Sym>, base: usize, number: usize) -> usize
+    requires { digit_of (as_column column) + base * number < 2 ^ 64 }
+    ensures { result ≡ digit_of (as_column column) + base * number }
+{
+    match column {
+        None => base * number,
+        Some(symbol) => symbol.0 as usize + 1 + base * number,
+    }
+}
+
+/// The number of the columns at these places.
+fn selected_number(base: usize, sym: &TupleSym, places: &[usize]) -> usize
+    requires some { 0 < base }
+    requires within { ArePlaces (length sym.now) places.now }
+    requires small { number_of base (selected places.now sym.now) < 4194304 }
+    ensures { result ≡ number_of base (selected places.now sym.now) }
+{
+    let mut number = 0;
+    for k in 0..places.len() {
+        let column = sym.symbol(places[places.len() - 1 - k]);
+        number = number_before(column, base, number);
+    }
+    number
+}
+
+/// How many children the columns at these places have.
+fn selected_kids(sig: &Signature, sym: &TupleSym, places: &[usize]) -> usize
+    requires within { ArePlaces (length sym.now) places.now }
+    requires symbols { AreSymbols sig.now (selected places.now sym.now) }
+    ensures count { result ≡ symbol_kids sig.now (selected places.now sym.now) }
+    ensures few { result ≤ 8 }
+{
+    let _symbols = sig.len();
+    let mut count = 0;
+    for k in 0..places.len() {
+        if let Some(symbol) = sym.symbol(places[k]) {
+            let arity = sig.arity(symbol) as usize;
+            if count < arity {
+                count = arity;
+            }
+        }
+    }
+    count
+}
+
+/// Where the targets of the tuple symbol with this number start.
+fn start_at(list: &FlatTargets, number: usize) -> usize
+    requires { number < length list.now.listing.starts.items }
+    ensures { result ≡ slice_index list.now.listing.starts.items number }
+{
+    list.listing.starts[number]
+}
+
+/// A table's word as an operand.
+fn listed_word<T: Table>(
+    table: &T,
+    list: &FlatTargets,
+    places: &[usize],
+    at: usize,
+    row: &Row,
+    rows: &Rows,
+) -> u64
+    requires list { IsFlatOf (T.table table.now) list.now }
+    requires over { (sig : theory.Signature) × IsOverWords sig (length row.now.symbol)
+        (products.OfTable (T.table table.now) places.now) at rows.now.labels row.now }
+    ensures { result ≡ products.operand_step at (products.OfTable (T.table table.now) places.now)
+        row.now.symbol (labels_at rows.now.labels row.now.kids) }
+{
+    let _columns = table.columns();
+    let _states = table.states();
+    let symbol = row.sym();
+    let number = selected_number(list.base, &symbol, places);
+    if number == 0 {
+        return 0;
+    }
+    let count = selected_kids(table.signature(), &symbol, places);
+    let states = states_at(row, rows, at, count);
+    list.target(start_at(list, number), &states[..count]) as u64 + 1
+}
+
+/// An operand's word, by its targets in one list where there is one.
+pub(crate) fn word_by<T: Table>(
+    operand: &Operand<'_, T>,
+    list: Option<&FlatTargets>,
+    at: usize,
+    row: &Row,
+    rows: &Rows,
+) -> u64
+    requires list { IfSome list (λ l. IsListOf (operand_of T.table operand.now) l.now) }
+    requires over { (sig : theory.Signature) × IsOverWords sig (length row.now.symbol)
+        (operand_of T.table operand.now) at rows.now.labels row.now }
+    ensures { result ≡ products.operand_step at (operand_of T.table operand.now) row.now.symbol
+        (labels_at rows.now.labels row.now.kids) }
+{
+    match list {
+        None => operand_word(operand, at, row, rows),
+        Some(list) => match operand {
+            Operand::Auto(table, places) => listed_word(*table, list, places, at, row, rows),
+            Operand::Truth(_) => 0,
+        },
+    }
+}
+
+/// Writes the label of an entry of a product, by the operands' targets in one list where there is one.
+pub(crate) fn write_both<T: Table>(
+    first: &Operand<'_, T>,
+    first_list: Option<&FlatTargets>,
+    second: &Operand<'_, T>,
+    second_list: Option<&FlatTargets>,
+    row: &Row,
+    rows: &Rows,
+    out: &mut [u64],
+)
+    requires first_list { IfSome first_list
+        (λ l. IsListOf (operand_of T.table first.now) l.now) }
+    requires second_list { IfSome second_list
+        (λ l. IsListOf (operand_of T.table second.now) l.now) }
+    requires operands { products.AreOperands (products.signature_of (operand_of T.table first.now)
+        (operand_of T.table second.now)) (length row.now.symbol) (operand_of T.table first.now)
+        (operand_of T.table second.now) }
+    requires over { IsOverLabels (products.signature_of (operand_of T.table first.now)
+        (operand_of T.table second.now)) (length row.now.symbol) (label_of (products.product_rule
+        (length row.now.symbol) (operand_of T.table first.now) (operand_of T.table second.now)))
+        rows.now.labels row.now }
+    requires room { length out.old ≡ 3 }
+    ensures { out.new ≡ entry_label (products.product_rule (length row.now.symbol)
+        (operand_of T.table first.now) (operand_of T.table second.now)) rows.now.labels row.now }
+{
+    out[0] = row.presence() as u64;
+    out[1] = word_by(first, first_list, 1, row, rows);
+    out[2] = word_by(second, second_list, 2, row, rows);
+}
