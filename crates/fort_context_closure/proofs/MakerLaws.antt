@@ -2,9 +2,9 @@
 use Rattle.std.specs.Prelude.{◌≡◌, ℕ, List, [], map, length, Contains, true, refl}
 use Rattle.std.proofs.Common.{sym, subst, ◌∙◌, arith}
 use Rattle.fort_theory.specs.Patterns.{Pattern, Pair, PatternSystem, IsSystem}
-use Rattle.fort_theory.specs.PatternOrder.{AreSubpatternsInOrder, HaveArguments}
+use Rattle.fort_theory.specs.PatternOrder.{AreSubpatternsInOrder}
 use Rattle.fort_theory.specs.Sides.{at_index}
-use Rattle.fort_theory.proofs.ClosedPatterns.{HaveArguments-within, subpatterns-self}
+use Rattle.fort_theory.proofs.ClosedPatterns.{subpatterns-self}
 use Rattle.fort_theory.proofs.Lists.{Contains-map}
 use Rattle.fort_theory.proofs.Members.{Contains-none}
 use Rattle.fort_logic.specs.Cores.{Rel, Eq, Atom as CoreAtom}
@@ -26,9 +26,6 @@ use Rattle.fort_context_closure.specs.declared.rule_list.RuleList.{RuleList}
 use Rattle.fort_context_closure.specs.RuleLists.{ListsRules}
 
 -- lists in order
-pub HaveArguments-order : (tops ps : List Pattern) → AreSubpatternsInOrder tops ps → HaveArguments ps
-HaveArguments-order tops ps h = HaveArguments-within tops ps (λ p c. (h.same p).0 c) (λ p q c w. (h.same q).1 w)
-
 pub Contains-left_side : (pairs : List Pair) (ps : List Pattern) → AreSubpatternsInOrder (map (λ (pair : Pair). pair.0) pairs) ps → (pair : Pair) → Contains pairs pair → Contains ps pair.0
 Contains-left_side pairs ps h pair c = (h.same pair.0).1 (pair.0, Contains-map (λ (pair : Pair). pair.0) pairs pair c, subpatterns-self pair.0)
 

@@ -145,6 +145,8 @@ impl AtomLabels {
 }
 
 impl Labeller for AtomLabels {
+    type Memo = ();
+
     ghost use Rattle.fort_context_closure.specs.AtomLabelsView as view;
 
     ghost serves = { λ _ _. Unit {0} };
@@ -160,6 +162,8 @@ impl Labeller for AtomLabels {
     ghost tells_presence = { λ l sig _. view.TellsPresence-by l sig };
 
     ghost has_width = { λ l sig _. view.HasWidth-by l sig };
+
+    ghost fits = { λ _ _. Unit {0} };
 
     fn columns(&self) -> usize {
         match self {
@@ -177,11 +181,15 @@ impl Labeller for AtomLabels {
         }
     }
 
-    fn step(&self, row: &Row, rows: &Rows, out: &mut [u64]) {
+    fn memo(&self, _alloc: Global) -> Result<(), Memory> {
+        Ok(())
+    }
+
+    fn step(&self, row: &Row, rows: &Rows, _memo: &mut (), out: &mut [u64]) {
         match self {
             AtomLabels::Relation(bits) => bits.step(row, rows, out),
             AtomLabels::Normal(bits) => bits.step(row, rows, out),
-            AtomLabels::Is(labels) => labels.step(row, rows, out),
+            AtomLabels::Is(labels) => labels.step(row, rows, &mut (), out),
         }
     }
 

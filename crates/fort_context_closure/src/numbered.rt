@@ -1,8 +1,9 @@
 //! Patterns by the places of their arguments, and their test at a node by the bits of the children.
 ghost use Rattle.std.specs.Prelude.{◌≡◌, ℕ, ◌+◌, ◌*◌, ◌-◌, ◌<◌, ◌≤◌, ◌^◌, List, [], ◌++◌, Bool, map, length, get_or, slice_index_or, drop, Contains, IfOk, OnOk};
 ghost use Rattle.fort_theory.specs.Patterns.{Any};
-ghost use Rattle.fort_theory.specs.PatternOrder.{AllAmong, HaveArguments};
+ghost use Rattle.fort_theory.specs.PatternOrder.{AllAmong};
 ghost use Rattle.fort_terms.specs.PatternView.{as_pattern, as_patterns};
+ghost use Rattle.fort_tree_automata.specs.PatternMoves.{IsClosedInOrder};
 ghost use Rattle.fort_lockstep.specs.Columns.{as_column};
 ghost use Rattle.fort_atom_labels.specs.PatternNumbers.{AreAt, IsNumberOf, all_at, number_inside};
 ghost use Rattle.fort_context_closure.specs.NumberedView.{AreNumbersOf};
@@ -12,6 +13,7 @@ use crate::bits::{has_mark, put_mark};
 use fort_explore::Rows;
 use fort_lockstep::Row;
 use fort_terms::{Memory, Pattern, Sym};
+use fort_tree_automata::place;
 use std::alloc::{AllocError, Global};
 use std::marker::Model;
 
@@ -34,7 +36,7 @@ impl Model for Numbered {
 
 /// Each pattern by numbers, in the list's order. A list of 2^32 patterns or more, for which there are no numbers, is want of memory.
 pub(crate) fn number_patterns(alloc: Global, patterns: &[Pattern]) -> Result<Vec<Numbered>, Memory>
-    requires { HaveArguments (map as_pattern patterns.now) }
+    requires { IsClosedInOrder (map as_pattern patterns.now) }
     ensures few { OnOk result (length patterns.now < 2 ^ 32) }
     ensures numbers { IfOk result (λ rows.
         AreNumbersOf (map as_pattern patterns.now) rows.items) }
@@ -51,7 +53,7 @@ pub(crate) fn number_patterns(alloc: Global, patterns: &[Pattern]) -> Result<Vec
 
 fn number_of(alloc: Global, pattern: &Pattern, patterns: &[Pattern]) -> Result<Numbered, Memory>
     requires few { length patterns.now < 2 ^ 32 }
-    requires closed { HaveArguments (map as_pattern patterns.now) }
+    requires closed { IsClosedInOrder (map as_pattern patterns.now) }
     requires listed { Contains (map as_pattern patterns.now) (as_pattern pattern.now) }
     ensures { IfOk result (λ row.
         IsNumberOf (map as_pattern patterns.now) row (as_pattern pattern.now)) }
@@ -71,30 +73,27 @@ fn number_of(alloc: Global, pattern: &Pattern, patterns: &[Pattern]) -> Result<N
 /// The places of some arguments, all of which are in the list.
 fn places_of(alloc: Global, args: &[Pattern], patterns: &[Pattern]) -> Result<Vec<u32>, Memory>
     requires few { length patterns.now < 2 ^ 32 }
+    requires closed { IsClosedInOrder (map as_pattern patterns.now) }
     requires among { AllAmong (map as_pattern patterns.now) (as_patterns args.now) }
     ensures { IfOk result (λ places.
         AreAt (map as_pattern patterns.now) places.items (as_patterns args.now)) }
 {
     let mut places = Vec::with_capacity(alloc, args.len())?;
     for arg in args {
-        places.push(place_of(arg, patterns) as u32)?;
+        places.push(place_of(arg, patterns))?;
     }
     Ok(places)
 }
 
-/// The first place of a pattern that is in the list.
-pub(crate) fn place_of(pattern: &Pattern, patterns: &[Pattern]) -> usize
-    requires { Contains (map as_pattern patterns.now) (as_pattern pattern.now) }
+/// The place of a pattern that is in the list.
+pub(crate) fn place_of(pattern: &Pattern, patterns: &[Pattern]) -> u32
+    requires few { length patterns.now < 2 ^ 32 }
+    requires closed { IsClosedInOrder (map as_pattern patterns.now) }
+    requires listed { Contains (map as_pattern patterns.now) (as_pattern pattern.now) }
     ensures within { result < length patterns.now }
     ensures at { get_or (map as_pattern patterns.now) result Any ≡ as_pattern pattern.now }
 {
-    // Asked once for each argument of an atom's patterns, so a search from the front will do.
-    for (place, listed) in patterns.iter().enumerate() {
-        if listed == pattern {
-            return place;
-        }
-    }
-    unreachable!()
+    place(patterns, pattern)
 }
 
 /// Whether the pattern is at a node of this root symbol over the row's children, whose labels have the bits of the list's patterns

@@ -2,6 +2,7 @@
 ghost use Rattle.std.specs.Prelude.{◌≡◌, ◌<◌, ◌^◌, ◌≤◌, IfOk, Contains, length, map, [], ◌∷◌};
 ghost use Rattle.fort_theory.specs.Patterns as theory;
 ghost use Rattle.fort_terms.specs.PatternView.{as_pair, as_pattern};
+ghost use Rattle.fort_tree_automata.specs.PatternMoves.{IsClosedInOrder};
 ghost use Rattle.fort_context_closure.specs.RulePlaces.{ArePlacesOf, some_rule as some_rule_lem};
 
 use crate::bits::has_mark;
@@ -23,6 +24,8 @@ pub(crate) fn places_of_rules(
     lefts: &[Pattern],
     rights: &[Pattern],
 ) -> Result<Vec<RulePlaces>, Memory>
+    requires left_closed { IsClosedInOrder (map as_pattern lefts.now) }
+    requires right_closed { IsClosedInOrder (map as_pattern rights.now) }
     requires left_few { length lefts.now < 2 ^ 32 }
     requires right_few { length rights.now < 2 ^ 32 }
     requires among { (pair : theory.Pair) → Contains (map as_pair rules.now) pair →
@@ -38,6 +41,8 @@ pub(crate) fn places_of_rules(
 }
 
 fn places_of_rule(rule: &(Pattern, Pattern), lefts: &[Pattern], rights: &[Pattern]) -> RulePlaces
+    requires left_closed { IsClosedInOrder (map as_pattern lefts.now) }
+    requires right_closed { IsClosedInOrder (map as_pattern rights.now) }
     requires left_few { length lefts.now < 2 ^ 32 }
     requires right_few { length rights.now < 2 ^ 32 }
     requires left { Contains (map as_pattern lefts.now) (as_pattern rule.now.0) }
@@ -46,8 +51,8 @@ fn places_of_rule(rule: &(Pattern, Pattern), lefts: &[Pattern], rights: &[Patter
         (as_pair rule.now ∷ []) (result ∷ []) }
 {
     RulePlaces {
-        left: place_of(&rule.0, lefts) as u32,
-        right: place_of(&rule.1, rights) as u32,
+        left: place_of(&rule.0, lefts),
+        right: place_of(&rule.1, rights),
     }
 }
 

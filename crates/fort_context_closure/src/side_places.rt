@@ -2,6 +2,7 @@
 ghost use Rattle.std.specs.Prelude.{◌≡◌, ◌<◌, ◌^◌, ℕ, IfOk, Contains, length, map, [], ◌∷◌};
 ghost use Rattle.fort_theory.specs.Patterns as theory;
 ghost use Rattle.fort_terms.specs.PatternView.{as_pair, as_pattern};
+ghost use Rattle.fort_tree_automata.specs.PatternMoves.{IsClosedInOrder};
 ghost use Rattle.fort_context_closure.specs.SidePlaces.{AreSidesOf, some_side as some_side_lem};
 
 use crate::bits::has_mark;
@@ -16,6 +17,7 @@ pub(crate) fn places_of_sides(
     lefts: &[Pattern],
 ) -> Result<Vec<u32>, Memory>
     requires few { length lefts.now < 2 ^ 32 }
+    requires closed { IsClosedInOrder (map as_pattern lefts.now) }
     requires among { (pair : theory.Pair) → Contains (map as_pair rules.now) pair →
         Contains (map as_pattern lefts.now) pair.0 }
     ensures { IfOk result (λ places. AreSidesOf (map as_pattern lefts.now)
@@ -23,7 +25,7 @@ pub(crate) fn places_of_sides(
 {
     let mut places = Vec::with_capacity(alloc, rules.len())?;
     for rule in rules {
-        places.push(place_of(&rule.0, lefts) as u32)?;
+        places.push(place_of(&rule.0, lefts))?;
     }
     Ok(places)
 }

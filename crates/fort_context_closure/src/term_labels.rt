@@ -142,6 +142,8 @@ pub(crate) fn number_word(label: &[u64]) -> u64
 }
 
 impl Labeller for TermLabels {
+    type Memo = ();
+
     ghost use Rattle.std.specs.Prelude.{◌≡◌, ℕ, List, [], refl};
     ghost use Rattle.fort_tables.specs.LabelRules.{label_of};
     ghost use Rattle.fort_tables.proofs.LabelRuleLaws.{TellsPresence-rule, HasWidth-rule};
@@ -162,6 +164,8 @@ impl Labeller for TermLabels {
 
     ghost has_width = { λ l sig _. HasWidth-rule sig (term_rule [] l) 2 (λ f ws. refl) };
 
+    ghost fits = { λ _ _. Unit {0} };
+
     fn columns(&self) -> usize {
         1
     }
@@ -170,7 +174,11 @@ impl Labeller for TermLabels {
         2
     }
 
-    fn step(&self, row: &Row, rows: &Rows, out: &mut [u64]) {
+    fn memo(&self, _alloc: Global) -> Result<(), Memory> {
+        Ok(())
+    }
+
+    fn step(&self, row: &Row, rows: &Rows, _memo: &mut (), out: &mut [u64]) {
         out[0] = row.presence() as u64;
         out[1] = number(&self.nodes, row, rows);
     }

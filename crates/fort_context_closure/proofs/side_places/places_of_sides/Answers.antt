@@ -5,8 +5,8 @@ use Rattle.fort_terms.specs.PatternView.{as_pair, as_pattern}
 use Rattle.fort_context_closure.proofs.SidePlaceLaws.{AreSidesOf-more}
 use Rattle.fort_context_closure.proofs.side_places.places_of_sides.Goals as goal
 
-pub place_of-requires : goal.place_of-requires
-place_of-requires c =
+pub place_of-requires-clause-listed : goal.place_of-requires-clause-listed
+place_of-requires-clause-listed c =
     c.requires.among (as_pair c.rule-item.result)
     (Contains-map as_pair c.args.rules.now c.rule-item.result (c.loop-rule.rule-index, c.loop-rule-test.true, sym c.rule-item.is))
 

@@ -1,17 +1,22 @@
 use Rattle.std.proofs.Common.{map, ◌∙◌, refl}
 use Rattle.fort_theory.specs.Sides.{at_index}
 use Rattle.fort_terms.specs.PatternView.{as_pattern}
+use Rattle.fort_tree_automata.proofs.SubpatternsClosed.{IsClosedInOrder-subpatterns}
 use Rattle.fort_atom_labels.proofs.MarkSets.{NoneTwice-ordered}
 use Rattle.fort_atom_labels.proofs.SystemAtoms.{IsListedAtom-normal}
 use Rattle.fort_context_closure.specs.declared.normal.NormalBits.TheInside.{Inside}
 use Rattle.fort_context_closure.specs.NormalView.{normal_seen}
 use Rattle.fort_context_closure.specs.SidePlaces.{AreSidesOf}
-use Rattle.fort_context_closure.proofs.MakerLaws.{HaveArguments-order, Contains-left_side, AreSubpatternsInOrder-none}
+use Rattle.fort_context_closure.proofs.MakerLaws.{Contains-left_side, AreSubpatternsInOrder-none}
 use Rattle.fort_context_closure.proofs.NormalMakerLaws.{sides-made}
 use Rattle.fort_context_closure.proofs.normal.NormalBits.new.Goals as goal
 
 pub number_patterns-requires : goal.number_patterns-requires
-number_patterns-requires c = rw c.deref.ensures.value (HaveArguments-order _ (map as_pattern c.in_ok-patterns.patterns.items) c.in_ok-patterns.ensures)
+number_patterns-requires c = rw c.deref.ensures.value (IsClosedInOrder-subpatterns _ (map as_pattern c.in_ok-patterns.patterns.items) c.in_ok-patterns.ensures)
+
+pub places_of_sides-requires-clause-closed : goal.places_of_sides-requires-clause-closed
+places_of_sides-requires-clause-closed c =
+    rw c.deref-2.ensures.value (IsClosedInOrder-subpatterns _ (map as_pattern c.in_ok-patterns.patterns.items) c.in_ok-patterns.ensures)
 
 pub places_of_sides-requires-clause-among : goal.places_of_sides-requires-clause-among
 places_of_sides-requires-clause-among c =

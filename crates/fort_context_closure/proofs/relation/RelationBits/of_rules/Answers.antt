@@ -4,6 +4,7 @@ use Rattle.fort_theory.specs.Patterns.{Pattern}
 use Rattle.fort_terms.specs.PatternView.{as_pair, as_pattern}
 use Rattle.fort_formulas.specs.CoreView.{as_rel}
 use Rattle.fort_alike.specs.Atoms.{kind_for}
+use Rattle.fort_tree_automata.proofs.SubpatternsClosed.{IsClosedInOrder-subpatterns}
 use Rattle.fort_atom_labels.proofs.MarkSets.{NoneTwice-ordered}
 use Rattle.fort_context_closure.specs.declared.relation.RelationBits.TheInside.{Inside}
 use Rattle.fort_context_closure.specs.ClosedAtoms.{numbers_of}
@@ -11,15 +12,21 @@ use Rattle.fort_context_closure.specs.NumberedView.{AreNumbersOf}
 use Rattle.fort_context_closure.specs.ReachRows.{IsReach}
 use Rattle.fort_context_closure.specs.RelationView.{listed_seen}
 use Rattle.fort_context_closure.specs.RulePlaces.{ArePlacesOf}
-use Rattle.fort_context_closure.proofs.MakerLaws.{HaveArguments-order, Contains-left_side, Contains-right_side}
+use Rattle.fort_context_closure.proofs.MakerLaws.{Contains-left_side, Contains-right_side}
 use Rattle.fort_context_closure.proofs.ReachLaws.{NoPatternTwice-ordered}
 use Rattle.fort_context_closure.proofs.relation.RelationBits.of_rules.Goals as goal
 
 pub number_patterns-requires : goal.number_patterns-requires
-number_patterns-requires c = rw c.deref.ensures.value (HaveArguments-order _ (map as_pattern c.args.list.lefts.items) c.requires.left_order)
+number_patterns-requires c = rw c.deref.ensures.value (IsClosedInOrder-subpatterns _ (map as_pattern c.args.list.lefts.items) c.requires.left_order)
 
 pub number_patterns-requires-2 : goal.number_patterns-requires-2
-number_patterns-requires-2 c = rw c.deref-2.ensures.value (HaveArguments-order _ (map as_pattern c.args.list.rights.items) c.requires.right_order)
+number_patterns-requires-2 c = rw c.deref-2.ensures.value (IsClosedInOrder-subpatterns _ (map as_pattern c.args.list.rights.items) c.requires.right_order)
+
+pub places_of_rules-requires-clause-left_closed : goal.places_of_rules-requires-clause-left_closed
+places_of_rules-requires-clause-left_closed c = rw c.deref-4.ensures.value (IsClosedInOrder-subpatterns _ (map as_pattern c.args.list.lefts.items) c.requires.left_order)
+
+pub places_of_rules-requires-clause-right_closed : goal.places_of_rules-requires-clause-right_closed
+places_of_rules-requires-clause-right_closed c = rw c.deref-5.ensures.value (IsClosedInOrder-subpatterns _ (map as_pattern c.args.list.rights.items) c.requires.right_order)
 
 pub places_of_rules-requires-clause-among : goal.places_of_rules-requires-clause-among
 places_of_rules-requires-clause-among c = rw (c.deref-3.ensures.value, c.deref-4.ensures.value, c.deref-5.ensures.value) (λ pair k. (
