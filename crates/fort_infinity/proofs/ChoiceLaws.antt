@@ -8,7 +8,7 @@ use Rattle.fort_counts.specs.ManyEntries.{IsManyEntry}
 use Rattle.fort_counts.proofs.ManyEntryLaws.{absent_state_small}
 use Rattle.fort_rrn_algebra.specs.Choices.{IsNext, IsNextChoice, may_choose}
 
-pub next_choice : (body : Table) (c : ℕ) (labels : List (List ℕ)) (e : Entry) (most j from k : ℕ) (p : ℕ → Bool) → ((i : ℕ) → p i ≡ may_choose body c labels e most j i) → k < length body.presences → IsNext p from k → IsNextChoice body c labels e most j from k
+pub next_choice : (body : Table) (c : ℕ) (labels : List (List ℕ)) (e : Entry) (most j from k : ℕ) (p : ℕ → Bool) → ((i : ℕ) → p i ≡ may_choose body c labels e most j i) → k < length body.presences → IsNext p from k → IsNextChoice body (may_choose body c labels e most j) from k
 next_choice body c labels e most j from k p same l n = record {
   next = record { low = n.low; hit = sym (same k) ∙ n.hit; before = λ i a b. sym (same i) ∙ n.before i a b };
   within = l;

@@ -7,7 +7,7 @@ ghost use Rattle.fort_tables.proofs.TableLaws.{IsKidState};
 ghost use Rattle.fort_operations.specs.Projections.{ArePure, has_state};
 ghost use Rattle.fort_counts.specs.ManyLabels.{has_many, kid_has_many as kid_has_many_lem};
 ghost use Rattle.fort_counts.specs.ManyEntries.{kid_labels, AreManyChoices, finds, may_be, gives_state, gives_endless, has_endless};
-ghost use Rattle.fort_rrn_algebra.specs.Choices.{IsNext, IsNextChoice, AreNoChoices};
+ghost use Rattle.fort_rrn_algebra.specs.Choices.{IsNext, IsNextChoice, AreNoChoices, may_choose};
 ghost use Rattle.fort_infinity.specs.CountView.{is_many};
 
 use crate::count::{Count, is_many_at};
@@ -71,10 +71,12 @@ impl<'a, T: Table> ManyChoices<'a, T> {
             self.now.row.now self.now.sym.0 self.now.symbol self.now.arity }
         requires pure { ArePure (T.table self.now.body.now) self.now.column self.now.alone.now }
         requires child { j < symbol_kids (T.table self.now.body.now).signature self.now.symbol }
-        ensures some { IfSome result (IsNextChoice (T.table self.now.body.now) self.now.column
-            self.now.rows.now.labels self.now.row.now self.now.arity j from) }
-        ensures none { IfNone result (AreNoChoices (T.table self.now.body.now) self.now.column
-            self.now.rows.now.labels self.now.row.now self.now.arity j from) }
+        ensures some { IfSome result (IsNextChoice (T.table self.now.body.now)
+            (may_choose (T.table self.now.body.now) self.now.column self.now.rows.now.labels
+            self.now.row.now self.now.arity j) from) }
+        ensures none { IfNone result (AreNoChoices (T.table self.now.body.now)
+            (may_choose (T.table self.now.body.now) self.now.column self.now.rows.now.labels
+            self.now.row.now self.now.arity j) from) }
     {
         let states = self.body.states();
         let kids = self.row.kids();
