@@ -56,7 +56,8 @@ pub(crate) fn count(
     requires among { parts.is_free number (as_core body.now.core.now) ≡ true }
     requires right { IsRightFor system.now (as_core body.now.core.now)
         (as_answer body.now.answer.now) }
-    ensures { IsDecision system.now (theory.Infinite number (as_core body.now.core.now)) cap result }
+    ensures { IsDecision system.now (theory.Infinite number (as_core body.now.core.now)) cap
+        result }
 {
     match body.answer {
         Last::Truth(_) => unreachable!(),

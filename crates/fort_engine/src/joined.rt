@@ -62,7 +62,8 @@ fn product_table<'a>(
         (as_answer first.now) places.now (as_answer second.now) others.now columns
         → IsDecision system.now h cap result }
 {
-    let product = Both::new(op, operand(first, places), operand(second, others), columns);
+    let plain = Both::new(op, operand(first, places), operand(second, others), columns);
+    let product = plain.listed(alloc)?;
     explored(alloc, system, &ByRule(&product), cap)
 }
 

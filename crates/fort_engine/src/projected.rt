@@ -15,10 +15,10 @@ ghost use Rattle.fort_engine.specs.Deciding.{IsDecision};
 use crate::answer::Last;
 use crate::explored::explored;
 use crate::operands::{Answered, column_of};
-use fort_explore::{ByRule, ExploreFault};
+use fort_explore::ExploreFault;
 use fort_formulas::{Core, free};
 use fort_lockstep::{Dta, Table};
-use fort_rrn_algebra::Project;
+use fort_rrn_algebra::{Project, Projecting};
 use fort_terms::System;
 use std::alloc::Global;
 
@@ -50,7 +50,7 @@ fn project_table(
 {
     let columns = free(alloc, core)?;
     let projection = Project::new(alloc, table, column_of(&columns, number))?;
-    explored(alloc, system, &ByRule(&projection), cap)
+    explored(alloc, system, &Projecting(&projection), cap)
 }
 
 /// Decides "for some value of this variable" of a formula.
