@@ -1,0 +1,34 @@
+-- To believe: what a certificate is made of.
+use Rattle.std.specs.Prelude.{ℕ, Bool, List}
+use Rattle.fort_counts.specs.Counts.{Count}
+
+-- of the rules as they are, or with each rule also reversed
+pub data Which : Type 0 where
+  Star : Which
+  Conv : Which
+
+-- why a pair of patterns is in a closure: one of them is that of all terms; by the pairs of their children; by the rule of this number
+pub data Why : Type 0 where
+  Any : Why
+  Kids : Why
+  Rule : ℕ → Why
+
+-- the numbers of a right and a left pattern
+pub record Pair : Type 0 where
+  pub p : ℕ
+  pub q : ℕ
+  pub why : Why
+
+-- the pairs of a closure of the system of an index; the targets of a part's entries; the counts of the pure states of a part's body; the
+-- value of a part without columns
+pub data Step : Type 0 where
+  Closure : Which → (index : ℕ) → List Pair → Step
+  Part : (part : ℕ) → (targets : List ℕ) → Step
+  Counts : (part : ℕ) → List Count → Step
+  Value : (part : ℕ) → Bool → Step
+
+-- the number of its first form, its verdict, and its steps
+pub record Certificate : Type 0 where
+  pub first : ℕ
+  pub verdict : Bool
+  pub steps : List Step

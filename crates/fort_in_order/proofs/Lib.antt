@@ -1,0 +1,14 @@
+pub mod StageLaws
+pub mod PartLaws
+pub mod PartOutcomes
+pub mod PartTables
+pub mod PartByLabels
+pub mod ClosureOutcomes
+pub mod ClosureExact
+pub mod OrderedLists
+pub mod CountOutcomes
+pub mod RuleLaws
+pub mod CheckedLaws
+pub mod WrittenParts
+pub mod WrittenClosures
+pub mod WrittenLaws

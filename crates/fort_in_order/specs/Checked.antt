@@ -1,0 +1,117 @@
+-- To believe: when a certificate of a closed formula is in order, and with which verdict; and which form of another fails first, at which place and why.
+use Rattle.std.specs.Prelude.{◌≡◌, ℕ, ◌+◌, Bool, List, [], ◌∷◌, ◌++◌, length, get_or, Option, None, Some}
+use Rattle.fort_theory.specs.Patterns.{PatternSystem}
+use Rattle.fort_logic.specs.Cores as core
+use Rattle.fort_logic.specs.Cores.{Core}
+use Rattle.fort_logic.specs.PartLists.{AreParts}
+use Rattle.fort_tables.specs.Entries.{Entry}
+use Rattle.fort_tables.specs.Tables.{Table, listed_table}
+use Rattle.fort_counts.specs.Counts as counts
+use Rattle.fort_parts.specs.PartColumns.{columns_of, place_in}
+use Rattle.fort_parts.specs.PartAnswers.{OfValue, OfTable}
+use Rattle.fort_certificate_grammar.specs.Certificates as certificates
+use Rattle.fort_certificate_grammar.specs.Certificates.{Which, Pair as Item, Step, Closure, Part, Counts, Certificate}
+use Rattle.fort_in_order.specs.Outcomes.{Reason, Due, Value, Verdict, StepOutcome, Fine, Fails}
+use Rattle.fort_in_order.specs.PartSteps.{IsRightPart, IsPartFailure, part_table}
+use Rattle.fort_in_order.specs.ClosureSteps.{ClosureRules, AreClosureRules, IsClosureOutcome}
+use Rattle.fort_in_order.specs.CountSteps.{IsCountOutcome}
+use Rattle.fort_in_order.specs.Dues.{DueStep, due_of, dues}
+use Rattle.fort_in_order.specs.Made.{Made, nothing_made, with_closure, with_counts, with_answer}
+use Rattle.fort_in_order.specs.PartRules.{Local, IsLocalOf, IsCounted, IsValueOf}
+
+-- what comes of the items of a closure; of the counts of part k
+pub record IsClosureJudged (system : PatternSystem) (which : Which) (index : ℕ) (items : List Item) (outcome : StepOutcome) : Type 0 where
+  pub rules : ClosureRules
+  pub rules_are : AreClosureRules system which index rules
+  pub is : IsClosureOutcome rules items outcome
+
+pub record IsCountJudged (parts : List Core) (made : Made) (k : ℕ) (marks : List counts.Count) (outcome : StepOutcome) : Type 0 where
+  pub number : ℕ
+  pub body : Core
+  pub table : Table
+  pub states : List ℕ
+  pub part : get_or parts k core.True ≡ core.Infinite number body
+  pub counted : IsCounted parts made number body table states
+  pub is : IsCountOutcome table (place_in (columns_of body) number) states marks outcome
+
+-- a step is fine after what was made before, and what is made then
+pub data IsFine (system : PatternSystem) (parts : List Core) (made : Made) : Step → Made → Type 0 where
+  FineClosure : {which : Which} {index : ℕ} {items : List Item} → IsClosureJudged system which index items Fine
+      → IsFine system parts made (Closure which index items) (with_closure made which index items)
+  FinePart : {k : ℕ} {targets : List ℕ} (local : Local) (entries : List Entry) (labels : List (List ℕ))
+      → IsLocalOf system parts made k (get_or parts k core.True) local → IsRightPart local.rule targets entries labels
+      → IsFine system parts made (Part k targets)
+      (with_answer made k (OfTable (listed_table (part_table local.rule local.accepting entries targets labels))))
+  FineCounts : {k : ℕ} {marks : List counts.Count} → IsCountJudged parts made k marks Fine
+      → IsFine system parts made (Counts k marks) (with_counts made k marks)
+  FineValue : {k : ℕ} {value : Bool} → IsValueOf parts made k (get_or parts k core.True) value
+      → IsFine system parts made (certificates.Value k value) (with_answer made k (OfValue value))
+
+-- a step fails at a place
+pub data IsFailing (system : PatternSystem) (parts : List Core) (made : Made) : Step → ℕ → Reason → Type 0 where
+  FailingClosure : {which : Which} {index : ℕ} {items : List Item} {place : ℕ} {reason : Reason}
+      → IsClosureJudged system which index items (Fails place reason)
+      → IsFailing system parts made (Closure which index items) place reason
+  FailingPart : {k : ℕ} {targets : List ℕ} {place : ℕ} {reason : Reason} (local : Local)
+      → IsLocalOf system parts made k (get_or parts k core.True) local
+      → IsPartFailure local.rule targets place reason → IsFailing system parts made (Part k targets) place reason
+  FailingCounts : {k : ℕ} {marks : List counts.Count} {place : ℕ} {reason : Reason} → IsCountJudged parts made k marks (Fails place reason)
+      → IsFailing system parts made (Counts k marks) place reason
+  FailingValue : {k : ℕ} {value : Bool} (own : Bool) → IsValueOf parts made k (get_or parts k core.True) own → (value ≡ own → ⊥)
+      → IsFailing system parts made (certificates.Value k value) 0 Value
+
+-- these steps, one by one, are those due, and each is a step from what was made before to what is made then
+pub data AreSteps (IsStep : Made → Step → Made → Type 0) : Made → List DueStep → List Step → Made → Type 0 where
+  NoSteps : {made : Made} → AreSteps IsStep made [] [] made
+  MoreSteps : {made next last : Made} {s : Step} {d : DueStep} {ds : List DueStep} {ss : List Step} → due_of s ≡ d → IsStep made s next
+      → AreSteps IsStep next ds ss last → AreSteps IsStep made (d ∷ ds) (s ∷ ss) last
+
+-- the value of the last step
+abbrev pub last_value : List Step → Option Bool
+last_value [] = None
+last_value (certificates.Value k value ∷ []) = Some value
+last_value (s ∷ []) = None
+last_value (s ∷ t ∷ ss) = last_value (t ∷ ss)
+
+-- in order with a verdict; or the form of this number fails
+pub data Outcome : Type 0 where
+  Certified : Bool → Outcome
+  Rejected : (form place : ℕ) → Reason → Outcome
+
+-- the steps in front are fine; what is left then of those due, and of those that are there
+pub record IsUpTo (system : PatternSystem) (parts : List Core) (c : Certificate) (front : List Step) (wanted : List DueStep)
+    (rest : List Step) (made : Made) : Type 0 where
+  pub done : List DueStep
+  pub dues_are : dues (length system.rules) parts ≡ done ++ wanted
+  pub steps_are : c.steps ≡ front ++ rest
+  pub fine : AreSteps (IsFine system parts) nothing_made done front made
+
+-- the number of the form behind these steps
+abbrev pub form_behind : Certificate → List Step → ℕ
+form_behind c front = c.first + 1 + length front
+
+-- what comes of a certificate of a formula with these parts
+pub data IsChecked (system : PatternSystem) (parts : List Core) (c : Certificate) : Outcome → Type 0 where
+  InOrder : (made : Made) → AreSteps (IsFine system parts) nothing_made (dues (length system.rules) parts) c.steps made
+      → last_value c.steps ≡ Some c.verdict → IsChecked system parts c (Certified c.verdict)
+  OtherVerdict : (made : Made) (value : Bool) → AreSteps (IsFine system parts) nothing_made (dues (length system.rules) parts) c.steps made
+      → last_value c.steps ≡ Some value → (c.verdict ≡ value → ⊥) → IsChecked system parts c (Rejected c.first 0 Verdict)
+  Failing : (front rest : List Step) (s : Step) (d : DueStep) (wanted : List DueStep) (made : Made) (place : ℕ) (reason : Reason)
+      → IsUpTo system parts c front (d ∷ wanted) (s ∷ rest) made → due_of s ≡ d → IsFailing system parts made s place reason
+      → IsChecked system parts c (Rejected (form_behind c front) place reason)
+  NotDue : (front rest : List Step) (s : Step) (d : DueStep) (wanted : List DueStep) (made : Made)
+      → IsUpTo system parts c front (d ∷ wanted) (s ∷ rest) made → (due_of s ≡ d → ⊥)
+      → IsChecked system parts c (Rejected (form_behind c front) 0 Due)
+  OneTooMany : (front rest : List Step) (s : Step) (made : Made) → IsUpTo system parts c front [] (s ∷ rest) made
+      → IsChecked system parts c (Rejected (form_behind c front) 0 Due)
+  Missing : (front : List Step) (d : DueStep) (wanted : List DueStep) (made : Made) → IsUpTo system parts c front (d ∷ wanted) [] made
+      → IsChecked system parts c (Rejected (form_behind c front) 0 Due)
+
+-- of a formula over a system
+pub record HasOutcome (system : PatternSystem) (f : Core) (c : Certificate) (outcome : Outcome) : Type 0 where
+  pub parts : List Core
+  pub parts_are : AreParts f parts
+  pub checked : IsChecked system parts c outcome
+
+abbrev pub IsInOrder : PatternSystem → Core → Certificate → Bool → Type 0
+IsInOrder system f c verdict = HasOutcome system f c (Certified verdict)

@@ -1,0 +1,64 @@
+-- To believe: which steps a certificate of a closed formula has to have, and in which order.
+use Rattle.std.specs.Prelude.{ℕ, zero, suc, Bool, true, false, ◌&&◌, ◌==◌, nat_lt, List, [], ◌∷◌, ◌++◌, length, if◌then◌else◌}
+use Rattle.std.specs.List.{list_any}
+use Rattle.fort_logic.specs.Cores as core
+use Rattle.fort_logic.specs.Cores.{Core}
+use Rattle.fort_parts.specs.PartColumns.{columns_of}
+use Rattle.fort_certificate_grammar.specs.Certificates.{Which, Star, Conv, Step, Closure, Part, Counts, Value}
+
+-- what a step is about
+pub data DueStep : Type 0 where
+  OfClosure : Which → (index : ℕ) → DueStep
+  OfPart : ℕ → DueStep
+  OfCounts : ℕ → DueStep
+  OfValue : ℕ → DueStep
+
+abbrev pub due_of : Step → DueStep
+due_of (Closure which index items) = OfClosure which index
+due_of (Part k targets) = OfPart k
+due_of (Counts k counts) = OfCounts k
+due_of (Value k value) = OfValue k
+
+-- whether a relation is told by the closure of an index
+abbrev pub reads : Which → core.Rel → Bool
+reads Star core.Star = true
+reads Star core.Plus = true
+reads Conv core.Conv = true
+reads which other = false
+
+-- whether a formula asks for the closure of this index
+abbrev pub asks : Which → ℕ → Core → Bool
+asks which i (core.Atom rel index x y) = reads which rel && (index == i)
+asks which i other = false
+
+abbrev pub closure_due : List Core → ℕ → Which → List DueStep
+closure_due parts i which = if list_any (asks which i) parts then (OfClosure which i ∷ []) else []
+
+-- for n indices from i on
+abbrev pub closures_due : List Core → (n i : ℕ) → List DueStep
+closures_due parts zero i = []
+closures_due parts (suc n) i = closure_due parts i Star ++ (closure_due parts i Conv ++ closures_due parts n (suc i))
+
+abbrev pub has_columns : Core → Bool
+has_columns f = nat_lt 0 (length (columns_of f))
+
+-- a negation with columns has no step: its table is its body's, with the accepting states turned
+abbrev pub is_turned : Core → Bool
+is_turned (core.Not f) = has_columns f
+is_turned other = false
+
+abbrev pub counts_due : ℕ → Core → List DueStep
+counts_due k (core.Infinite n f) = OfCounts k ∷ []
+counts_due k other = []
+
+abbrev pub answer_due : ℕ → Core → List DueStep
+answer_due k f = if has_columns f then (if is_turned f then [] else (OfPart k ∷ [])) else (OfValue k ∷ [])
+
+-- the parts from number k on
+abbrev pub parts_due : ℕ → List Core → List DueStep
+parts_due k [] = []
+parts_due k (f ∷ fs) = counts_due k f ++ (answer_due k f ++ parts_due (suc k) fs)
+
+-- of a formula with these parts, over a system of this many indices
+abbrev pub dues : (indices : ℕ) → List Core → List DueStep
+dues indices parts = closures_due parts indices 1 ++ parts_due 0 parts

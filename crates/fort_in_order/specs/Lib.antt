@@ -1,0 +1,10 @@
+pub mod Outcomes
+pub mod PartSteps
+pub mod ClosureSteps
+pub mod CountSteps
+pub mod Dues
+pub mod Made
+pub mod PartRules
+pub mod Checked
+pub mod Passes
+pub mod Written

@@ -1,0 +1,66 @@
+-- To believe: the certificate that is written: it is in order, with one state for each label, closures by passes, the greatest heights, and of the children that show infinitely many the least.
+use Rattle.std.specs.Prelude.{◌≡◌, ℕ, ◌<◌, List, [], length, get_or, Some}
+use Rattle.fort_theory.specs.Patterns.{PatternSystem}
+use Rattle.fort_logic.specs.Cores as core
+use Rattle.fort_logic.specs.Cores.{Core}
+use Rattle.fort_logic.specs.PartLists.{AreParts}
+use Rattle.fort_tables.specs.Entries.{Entry}
+use Rattle.fort_tables.specs.Tables.{Table}
+use Rattle.fort_counts.specs.Counts as counts
+use Rattle.fort_counts.specs.Counts.{Finite, IsCountOf}
+use Rattle.fort_parts.specs.PartColumns.{columns_of, place_in}
+use Rattle.fort_certificate_grammar.specs.Certificates.{Which, Pair as Item, Step, Closure, Part, Counts, Value, Certificate}
+use Rattle.fort_in_order.specs.PartSteps.{IsRightPart}
+use Rattle.fort_in_order.specs.ClosureSteps.{ClosureRules, AreClosureRules}
+use Rattle.fort_in_order.specs.Dues.{dues}
+use Rattle.fort_in_order.specs.Made.{Made, nothing_made}
+use Rattle.fort_in_order.specs.PartRules.{Local, IsLocalOf, IsCounted}
+use Rattle.fort_in_order.specs.Checked.{IsFine, AreSteps, last_value}
+use Rattle.fort_in_order.specs.Passes.{IsListOfPasses}
+
+pub record IsWrittenClosure (system : PatternSystem) (which : Which) (index : ℕ) (items : List Item) : Type 0 where
+  pub rules : ClosureRules
+  pub rules_are : AreClosureRules system which index rules
+  pub passes : IsListOfPasses rules items
+
+-- no two states have one label
+abbrev pub NoLabelTwice : List (List ℕ) → Type 0
+NoLabelTwice labels = (i j : ℕ) → i < length labels → j < length labels → get_or labels i [] ≡ get_or labels j [] → i ≡ j
+
+pub record IsWrittenPart (system : PatternSystem) (parts : List Core) (made : Made) (k : ℕ) (targets : List ℕ) : Type 0 where
+  pub local : Local
+  pub entries : List Entry
+  pub labels : List (List ℕ)
+  pub local_is : IsLocalOf system parts made k (get_or parts k core.True) local
+  pub right : IsRightPart local.rule targets entries labels
+  pub once : NoLabelTwice labels
+
+-- each mark is the count of its state: the greatest height, or the least child that infinitely many terms give
+pub record IsWrittenCounts (parts : List Core) (made : Made) (k : ℕ) (marks : List counts.Count) : Type 0 where
+  pub number : ℕ
+  pub body : Core
+  pub table : Table
+  pub states : List ℕ
+  pub part : get_or parts k core.True ≡ core.Infinite number body
+  pub counted : IsCounted parts made number body table states
+  pub count : length marks ≡ length states
+  pub are : (i : ℕ) → i < length marks → IsCountOf table (place_in (columns_of body) number) (get_or states i 0) (get_or marks i (Finite 0))
+
+abbrev pub IsAsWritten : PatternSystem → List Core → Made → Step → Type 0
+IsAsWritten system parts made (Closure which index items) = IsWrittenClosure system which index items
+IsAsWritten system parts made (Part k targets) = IsWrittenPart system parts made k targets
+IsAsWritten system parts made (Counts k marks) = IsWrittenCounts parts made k marks
+IsAsWritten system parts made (Value k value) = Unit {0}
+
+-- a fine step, and as it is written
+pub record IsWrittenStep (system : PatternSystem) (parts : List Core) (made : Made) (s : Step) (next : Made) : Type 0 where
+  pub fine : IsFine system parts made s next
+  pub written : IsAsWritten system parts made s
+
+-- of a formula over a system
+pub record IsWritten (system : PatternSystem) (f : Core) (c : Certificate) : Type 0 where
+  pub parts : List Core
+  pub parts_are : AreParts f parts
+  pub made : Made
+  pub steps : AreSteps (IsWrittenStep system parts) nothing_made (dues (length system.rules) parts) c.steps made
+  pub verdict : last_value c.steps ≡ Some c.verdict

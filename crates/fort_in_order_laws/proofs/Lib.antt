@@ -1,0 +1,13 @@
+pub mod MadeTables
+pub mod AtomTables
+pub mod JoinedTables
+pub mod RightParts
+pub mod FineSteps
+pub mod CertifiedTruth
+pub mod ListedParts
+pub mod EntryWalks
+pub mod StepLists
+pub mod WrittenSteps
+pub mod LabelledParts
+pub mod LabelledKinds
+pub mod Example

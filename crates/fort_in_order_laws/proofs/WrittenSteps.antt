@@ -1,0 +1,49 @@
+-- Steps as they are written: closures by passes, tables with one state for each label, counts of states, values.
+use Rattle.std.proofs.Common.{◌≡◌, ℕ, List, Bool, get_or, subst}
+use Rattle.fort_theory.specs.Patterns.{PatternSystem}
+use Rattle.fort_logic.specs.Cores as core
+use Rattle.fort_logic.specs.Cores.{Core}
+use Rattle.fort_tables.specs.Tables.{Table, Listed, listed_table}
+use Rattle.fort_counts.specs.Counts as counts
+use Rattle.fort_counts.specs.Counts.{AreCounts}
+use Rattle.fort_parts.specs.PartColumns.{columns_of, place_in}
+use Rattle.fort_parts.specs.PartAnswers.{OfValue, OfTable}
+use Rattle.fort_certificate_grammar.specs.Certificates as certificates
+use Rattle.fort_certificate_grammar.specs.Certificates.{Which, Pair as Item, Step, Closure, Part, Counts, Certificate}
+use Rattle.fort_in_order.specs.ClosureSteps.{ClosureRules, AreClosureRules}
+use Rattle.fort_in_order.specs.Made.{Made, with_closure, with_counts, with_answer}
+use Rattle.fort_in_order.specs.PartRules.{Local, IsLocalOf, IsCounted, IsValueOf}
+use Rattle.fort_in_order.specs.Checked.{IsFine, FineClosure, FinePart, FineCounts, FineValue}
+use Rattle.fort_in_order.specs.Passes.{IsListOfPasses}
+use Rattle.fort_in_order.specs.Written.{IsWrittenStep}
+use Rattle.fort_in_order.proofs.CountOutcomes.{IsCountOutcome-rules}
+use Rattle.fort_in_order.proofs.WrittenClosures.{IsClosureOutcome-passes}
+use Rattle.fort_in_order_laws.proofs.ListedParts.{HasRightTargets}
+
+module _ (system : PatternSystem) (parts : List Core) (made : Made) where
+  pub written_closure : (which : Which) (index : ℕ) (items : List Item) (c : ClosureRules) → AreClosureRules system which index c → IsListOfPasses c items
+      → IsWrittenStep system parts made (Closure which index items) (with_closure made which index items)
+  written_closure which index items c are passes = record {
+    fine = FineClosure (record { rules = c; rules_are = are; is = IsClosureOutcome-passes c items passes });
+    written = record { rules = c; rules_are = are; passes = passes };
+  }
+
+  -- the table itself is what is made
+  pub written_part : (k : ℕ) (local : Local) (t : Listed) → IsLocalOf system parts made k (get_or parts k core.True) local → HasRightTargets local.rule local.accepting t
+      → IsWrittenStep system parts made (Part k t.targets) (with_answer made k (OfTable (listed_table t)))
+  written_part k local t is h = record {
+    fine = subst (λ (x : Listed). IsFine system parts made (Part k t.targets) (with_answer made k (OfTable (listed_table x)))) h.again (FinePart local t.entries h.labels is h.right);
+    written = record { local = local; entries = t.entries; labels = h.labels; local_is = is; right = h.right; once = h.once };
+  }
+
+  pub written_counts : (k n : ℕ) (f : Core) (body : Table) (states : List ℕ) (marks : List counts.Count) → get_or parts k core.True ≡ core.Infinite n f → IsCounted parts made n f body states
+      → AreCounts body (place_in (columns_of f) n) states marks → IsWrittenStep system parts made (Counts k marks) (with_counts made k marks)
+  written_counts k n f body states marks part counted are =
+      let c = place_in (columns_of f) n in
+      record {
+        fine = FineCounts (record { number = n; body = f; table = body; states = states; part = part; counted = counted; is = IsCountOutcome-rules body c states marks counted.pure are.count are.rules });
+        written = record { number = n; body = f; table = body; states = states; part = part; counted = counted; count = are.count; are = are.are };
+      }
+
+  pub written_value : (k : ℕ) (value : Bool) → IsValueOf parts made k (get_or parts k core.True) value → IsWrittenStep system parts made (certificates.Value k value) (with_answer made k (OfValue value))
+  written_value k value h = record { fine = FineValue h; written = tt }
