@@ -1,0 +1,203 @@
+-- Elements that fit, read one after another.
+use Rattle.std.proofs.Common.{◌≡◌, ℕ, zero, suc, ◌+◌, ◌-◌, ◌<◌, ◌≤◌, ◌==◌, Bool, true, false, if◌then◌else◌, List, [], ◌∷◌, ◌++◌, map, length, get_or, slice_get, take, drop, Option, None, Some, refl, ap, sym, ◌∙◌, subst, arith}
+use Rattle.std.specs.List.{AllZip}
+use Rattle.std.proofs.lemmas.Bool.Decides.{nat_tests}
+use Rattle.std.proofs.lemmas.List.{take_all, take_more, length-drop, get_or-drop}
+use Rattle.std.proofs.lemmas.Option.{slice_get_within, get_or_from_slice_get}
+use Rattle.std.proofs.lemmas.Slice.Zip.{all_zipped_more}
+use Rattle.fort_grammar.specs.Forms.{Form}
+use Rattle.fort_grammar.specs.Declarations.{word_of, elements_of, IsHeaded}
+use Rattle.fort_counts.specs.Counts.{Count}
+use Rattle.fort_certificate_grammar.specs.Certificates.{Which, Pair, Step, Closure, Part, Counts, Value}
+use Rattle.fort_certificate_grammar.specs.CertificateForms.{Version, OfOne, OfSeveral, version_for, which_word, verdict_word, IsNumberForm, IsPairForm, IsCountForm, IsStepForm, ClosureForm, IndexedForm, PartForm, CountsForm, ValueForm}
+use Rattle.fort_certificate_grammar.specs.CertificateFaults.{Slot, Fits, StepHead, ClosureHead, PartHead, CountsHead, ValueHead, head_word, slots_of, rest_of}
+use Rattle.fort_certificate_grammar.specs.FilledSlots.{FitAll}
+use Rattle.fort_certificate_grammar.proofs.StepSlots.{filled, same_parts, heads_same}
+use Rattle.fort_certificate.specs.declared.slot.Head.{Head}
+use Rattle.fort_certificate.specs.ReadView.{as_head}
+use Rattle.fort_certificate.specs.Checking.{IsSomeStep, AreElementsOf}
+
+-- a list from one place up to another
+abbrev pub between : {A : Type 0} → ℕ → ℕ → List A → List A
+between from i xs = take (i - from) (drop from xs)
+
+pub between_none : {A : Type 0} (from : ℕ) (xs : List A) → between from from xs ≡ []
+between_none from xs = let none : from - from ≡ 0 = omega arith in rw none refl
+
+pub between_more : {A : Type 0} (xs : List A) (from i : ℕ) (x : A) → from ≤ i → slice_get xs i ≡ Some x → between from (i + 1) xs ≡ between from i xs ++ x ∷ []
+between_more xs from i x low here =
+    let next : (i + 1) - from ≡ (i - from) + 1 = omega (arith, low) in
+    let place : from + (i - from) ≡ i = omega (arith, low) in
+    let inside : i - from < length (drop from xs) = omega (arith, low, slice_get_within xs i x here, length-drop from xs) in
+    let element : get_or (drop from xs) (i - from) x ≡ x =
+    get_or-drop from xs (i - from) x ∙ (ap (λ k. get_or xs k x) place ∙ get_or_from_slice_get xs i x x here) in
+    ap (λ k. take k (drop from xs)) next ∙ (take_more (drop from xs) (i - from) x inside ∙ ap (λ y. between from i xs ++ y ∷ []) element)
+
+pub between_all : {A : Type 0} (xs : List A) (from i : ℕ) → length xs ≤ i → between from i xs ≡ drop from xs
+between_all xs from i end = take_all (i - from) (drop from xs) (omega (arith, end, length-drop from xs))
+
+-- one more of forms that are values
+pub each_more : {A : Type 0} (R : Form → A → Type 0) (fs : List Form) (from i : ℕ) (f : Form) (xs : List A) (x : A) → from ≤ i → slice_get fs i ≡ Some f
+    → AllZip R (between from i fs) xs → R f x → AllZip R (between from (i + 1) fs) (xs ++ x ∷ [])
+each_more R fs from i f xs x low here each one =
+    subst (λ gs. AllZip R gs (xs ++ x ∷ [])) (sym (between_more fs from i f low here)) (all_zipped_more R (between from i fs) xs f x each one)
+
+pub each_end : {A : Type 0} (R : Form → A → Type 0) (fs : List Form) (from i : ℕ) (xs : List A) → length fs ≤ i → AllZip R (between from i fs) xs
+    → AllZip R (drop from fs) xs
+each_end R fs from i xs end each = subst (λ gs. AllZip R gs xs) (between_all fs from i end) each
+
+pub each_map : {A B : Type 0} (R : Form → B → Type 0) (view : A → B) (fs : List Form) (xs : List A) → AllZip (λ f x. R f (view x)) fs xs
+    → AllZip R fs (map view xs)
+each_map R view [] [] h = tt
+each_map R view [] (y ∷ ys) h = absurd h
+each_map R view (g ∷ gs) [] h = absurd h
+each_map R view (g ∷ gs) (y ∷ ys) h = (h.0, each_map R view gs ys h.1)
+
+pub some_at : {A : Type 0} (R : Form → A → Type 0) (fs : List Form) (from i : ℕ) (f : Form) (xs : List A) → AllZip R (drop from fs) xs → from ≤ i
+    → slice_get fs i ≡ Some f → (x : A) × R f x
+some_at R [] zero zero f xs h l e = absurd cc
+some_at R [] zero (suc i) f xs h l e = absurd cc
+some_at R [] (suc from) i f xs h l e = absurd cc
+some_at R (g ∷ gs) zero i f [] h l e = absurd h
+some_at R (g ∷ gs) zero zero f (x ∷ xs) h l e = let same : g ≡ f = cc in (x, subst (λ y. R y x) same h.0)
+some_at R (g ∷ gs) zero (suc i) f (x ∷ xs) h l e = some_at R gs zero i f xs h.1 (omega arith) e
+some_at R (g ∷ gs) (suc from) zero f xs h l e = absurd (omega (arith, l))
+some_at R (g ∷ gs) (suc from) (suc i) f xs h l e = some_at R gs from i f xs h (omega (arith, l)) e
+
+-- versions by the number of systems
+pub version_one : (n : ℕ) → n ≡ 1 → version_for n ≡ OfOne
+version_one n e = ap version_for e
+
+pub version_several : (n : ℕ) → (n ≡ 1 → ⊥) → version_for n ≡ OfSeveral
+version_several n other = go (n == 1) refl
+  where
+    go : (b : Bool) → (n == 1) ≡ b → (if b then OfOne else OfSeveral) ≡ OfSeveral
+    go true e = let same : n ≡ 1 = grind (arith, nat_tests) in absurd (other same)
+    go false e = refl
+
+-- what fits the last slot does so at each place
+pub fits_at : (bytes : List ℕ) (s : Slot) (fs : List Form) (from i : ℕ) (f : Form) → FitAll bytes [] (Some s) (drop from fs) → from ≤ i → slice_get fs i ≡ Some f
+    → Fits bytes f s
+fits_at bytes s fs from i f fit low here = go fs from i fit low here
+  where
+    first : (gs : List Form) (k : ℕ) → FitAll bytes [] (Some s) gs → slice_get gs k ≡ Some f → Fits bytes f s
+    first [] k h e = absurd cc
+    first (g ∷ gs) zero h e = let same : g ≡ f = cc in subst (λ x. Fits bytes x s) same h.0
+    first (g ∷ gs) (suc k) h e = first gs k h.1 e
+
+    go : (gs : List Form) (from i : ℕ) → FitAll bytes [] (Some s) (drop from gs) → from ≤ i → slice_get gs i ≡ Some f → Fits bytes f s
+    go gs zero i h l e = first gs i h e
+    go [] (suc from) i h l e = absurd cc
+    go (g ∷ gs) (suc from) zero h l e = absurd (omega (arith, l))
+    go (g ∷ gs) (suc from) (suc i) h l e = go gs from i h (omega (arith, l)) e
+
+-- a slot that stands once
+pub record FitsNext (bytes : List ℕ) (s : Slot) (ss : List Slot) (last : Option Slot) (fs : List Form) (k : ℕ) : Type 0 where
+  pub inside : k < length fs
+  pub fits : (f : Form) → slice_get fs k ≡ Some f → Fits bytes f s
+  pub rest : FitAll bytes ss last (drop (k + 1) fs)
+
+pub fits_next : (bytes : List ℕ) (s : Slot) (ss : List Slot) (last : Option Slot) (fs : List Form) (k : ℕ) → FitAll bytes (s ∷ ss) last (drop k fs)
+    → FitsNext bytes s ss last fs k
+fits_next bytes s ss last [] zero h = absurd h
+fits_next bytes s ss last [] (suc k) h = absurd h
+fits_next bytes s ss last (f ∷ fs) zero h = record {
+  inside = omega arith;
+  fits = λ g e. let same : f ≡ g = cc in subst (λ x. Fits bytes x s) same h.0;
+  rest = h.1;
+}
+fits_next bytes s ss last (f ∷ fs) (suc k) h =
+    let later = fits_next bytes s ss last fs k h in
+    let one : suc k + 1 ≡ suc (k + 1) = omega arith in
+    record { inside = omega (arith, later.inside); fits = later.fits; rest = rw one later.rest }
+
+-- a step fills the slots of its head
+pub step_fills : (bytes : List ℕ) (version : Version) (f : Form) (s : Step) (which : StepHead) (fs : List Form) → IsStepForm bytes version f s
+    → IsHeaded bytes (head_word which) f → elements_of f ≡ Some fs → FitAll bytes (slots_of which version) (rest_of which) (drop 1 fs)
+step_fills bytes version f s which fs h headed is =
+    let x = filled bytes version f s h in
+    let w : x.which ≡ which = heads_same bytes f x.head headed.first x.others headed.others x.which which x.is headed.is x.headed headed.head in
+    let same : fs ≡ x.head ∷ x.others = (let i = x.is in cc) in
+    subst (λ gs. FitAll bytes (slots_of which version) (rest_of which) (drop 1 gs)) (sym same)
+    (subst (λ (y : StepHead). FitAll bytes (slots_of y version) (rest_of y) x.others) w x.fit)
+
+pub step_elements : (bytes : List ℕ) (version : Version) (f : Form) (s : Step) → IsStepForm bytes version f s → elements_of f ≡ None → ⊥
+step_elements bytes version f s h e = let is = (filled bytes version f s h).is in absurd cc
+
+pub step_headed : (bytes : List ℕ) (version : Version) (f : Form) (s : Step) → IsStepForm bytes version f s
+    → (which : StepHead) × IsHeaded bytes (head_word which) f
+step_headed bytes version f s h =
+    let x = filled bytes version f s h in
+    let headed : IsHeaded bytes (head_word x.which) f = record { first = x.head; others = x.others; is = x.is; head = x.headed } in
+    (x.which, headed)
+
+-- before and behind the reading of a list by its head
+module _ (bytes other : List ℕ) (version : Version) (f : Form) (head which : Head) (fs : List Form) (same : other ≡ bytes) (is : head ≡ which)
+    (headed : IsHeaded bytes (head_word (as_head head)) f) (elements : elements_of f ≡ Some fs) where
+  now_headed : IsHeaded bytes (head_word (as_head which)) f
+  now_headed = subst (λ (h : Head). IsHeaded bytes (head_word (as_head h)) f) is headed
+
+  pub list_fills : IsSomeStep bytes version f → FitAll other (slots_of (as_head which) version) (rest_of (as_head which)) (drop 1 fs)
+  list_fills some =
+      subst (λ (b : List ℕ). FitAll b (slots_of (as_head which) version) (rest_of (as_head which)) (drop 1 fs)) (sym same)
+      (step_fills bytes version f some.0 (as_head which) fs some.1 now_headed elements)
+
+  pub list_read : (s : Step) → AreElementsOf other version (as_head which) fs s → IsStepForm bytes version f s
+  list_read s made =
+      subst (λ (b : List ℕ). IsStepForm b version f s) same
+      (made f elements (subst (λ (b : List ℕ). IsHeaded b (head_word (as_head which)) f) (sym same) now_headed))
+
+-- the elements of a step, put together
+module _ (bytes : List ℕ) (f : Form) where
+  headed_first : (word : List ℕ) (a : Form) (fs : List Form) → IsHeaded bytes word f → elements_of f ≡ Some (a ∷ fs) → word_of bytes a ≡ Some word
+  headed_first word a fs h is = ap (word_of bytes) (same_parts f a h.first fs h.others is h.is).head ∙ h.head
+
+  pub part_made : (version : Version) (fs : List Form) (b : Form) (k : ℕ) (ns : List ℕ) → slice_get fs 1 ≡ Some b → IsNumberForm bytes b k
+      → AllZip (IsNumberForm bytes) (drop 2 fs) ns → elements_of f ≡ Some fs → IsHeaded bytes (head_word PartHead) f → IsStepForm bytes version f (Part k ns)
+  part_made version [] b k ns here n each is headed = absurd cc
+  part_made version (a ∷ []) b k ns here n each is headed = absurd cc
+  part_made version (a ∷ c ∷ fs) b k ns here n each is headed =
+      let same : b ≡ c = cc in
+      PartForm a c fs is (headed_first (head_word PartHead) a (c ∷ fs) headed is) (subst (λ x. IsNumberForm bytes x k) same n) each
+
+  pub counts_made : (version : Version) (fs : List Form) (b : Form) (k : ℕ) (ns : List Count) → slice_get fs 1 ≡ Some b → IsNumberForm bytes b k
+      → AllZip (IsCountForm bytes) (drop 2 fs) ns → elements_of f ≡ Some fs → IsHeaded bytes (head_word CountsHead) f → IsStepForm bytes version f (Counts k ns)
+  counts_made version [] b k ns here n each is headed = absurd cc
+  counts_made version (a ∷ []) b k ns here n each is headed = absurd cc
+  counts_made version (a ∷ c ∷ fs) b k ns here n each is headed =
+      let same : b ≡ c = cc in
+      CountsForm a c fs is (headed_first (head_word CountsHead) a (c ∷ fs) headed is) (subst (λ x. IsNumberForm bytes x k) same n) each
+
+  pub value_made : (version : Version) (fs : List Form) (b d : Form) (k : ℕ) (v : Bool) → FitAll bytes [] None (drop 3 fs) → slice_get fs 1 ≡ Some b
+      → slice_get fs 2 ≡ Some d → IsNumberForm bytes b k → word_of bytes d ≡ Some (verdict_word v) → elements_of f ≡ Some fs
+      → IsHeaded bytes (head_word ValueHead) f → IsStepForm bytes version f (Value k v)
+  value_made version [] b d k v end here there n word is headed = absurd cc
+  value_made version (a ∷ []) b d k v end here there n word is headed = absurd cc
+  value_made version (a ∷ c ∷ []) b d k v end here there n word is headed = absurd cc
+  value_made version (a ∷ c ∷ e ∷ []) b d k v end here there n word is headed =
+      let same : b ≡ c = cc in
+      let alike : d ≡ e = cc in
+      ValueForm a c e is (headed_first (head_word ValueHead) a (c ∷ e ∷ []) headed is) (subst (λ x. IsNumberForm bytes x k) same n)
+      (subst (λ x. word_of bytes x ≡ Some (verdict_word v)) alike word)
+  value_made version (a ∷ c ∷ e ∷ g ∷ fs) b d k v end here there n word is headed = absurd end
+
+  pub closure_made : (version : Version) (fs : List Form) (b : Form) (w : Which) (ps : List Pair) → version ≡ OfOne → slice_get fs 1 ≡ Some b
+      → word_of bytes b ≡ Some (which_word w) → AllZip (IsPairForm bytes) (drop 2 fs) ps → elements_of f ≡ Some fs
+      → IsHeaded bytes (head_word ClosureHead) f → IsStepForm bytes version f (Closure w 1 ps)
+  closure_made version [] b w ps one here word each is headed = absurd cc
+  closure_made version (a ∷ []) b w ps one here word each is headed = absurd cc
+  closure_made version (a ∷ c ∷ fs) b w ps one here word each is headed =
+      let same : b ≡ c = cc in
+      ClosureForm a c fs one is (headed_first (head_word ClosureHead) a (c ∷ fs) headed is) (subst (λ x. word_of bytes x ≡ Some (which_word w)) same word) each
+
+  pub indexed_made : (version : Version) (fs : List Form) (b d : Form) (w : Which) (k : ℕ) (ps : List Pair) → version ≡ OfSeveral → slice_get fs 1 ≡ Some b
+      → slice_get fs 2 ≡ Some d → word_of bytes b ≡ Some (which_word w) → IsNumberForm bytes d k → AllZip (IsPairForm bytes) (drop 3 fs) ps
+      → elements_of f ≡ Some fs → IsHeaded bytes (head_word ClosureHead) f → IsStepForm bytes version f (Closure w k ps)
+  indexed_made version [] b d w k ps several here there word n each is headed = absurd cc
+  indexed_made version (a ∷ []) b d w k ps several here there word n each is headed = absurd cc
+  indexed_made version (a ∷ c ∷ []) b d w k ps several here there word n each is headed = absurd cc
+  indexed_made version (a ∷ c ∷ e ∷ fs) b d w k ps several here there word n each is headed =
+      let same : b ≡ c = cc in
+      let alike : d ≡ e = cc in
+      IndexedForm a c e fs several is (headed_first (head_word ClosureHead) a (c ∷ e ∷ fs) headed is)
+      (subst (λ x. word_of bytes x ≡ Some (which_word w)) same word) (subst (λ x. IsNumberForm bytes x k) alike n) each

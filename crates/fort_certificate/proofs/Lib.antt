@@ -1,0 +1,8 @@
+pub mod LineLaws
+pub mod ValueLaws
+pub mod SlotLaws
+pub mod HeaderLaws
+pub mod StepsLaws
+pub mod FaultLaws
+pub mod BuildLaws
+pub mod ReadLaws

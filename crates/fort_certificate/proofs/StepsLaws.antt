@@ -1,0 +1,132 @@
+-- Forms that are steps, one after another, and the first that is none.
+use Rattle.std.proofs.Common.{◌≡◌, ℕ, zero, suc, ◌+◌, ◌-◌, ◌<◌, ◌≤◌, Bool, List, [], ◌∷◌, ◌++◌, length, get_or, slice_get, take, drop, Option, Some, refl, ap, sym, ◌∙◌, subst, arith}
+use Rattle.std.proofs.lemmas.List.{drop_more, drop_all, take_all, take_more, length-drop, length-take-le, get_or-drop}
+use Rattle.std.proofs.lemmas.List.{take-append-drop}
+use Rattle.std.proofs.lemmas.Option.{slice_get_within, get_or_from_slice_get}
+use Rattle.std.proofs.lemmas.Slice.Zip.{all_zipped_more}
+use Rattle.fort_grammar.specs.Forms.{Form, Forms, NoForm, MoreForms, Word, ListForm, AreFormsOf}
+use Rattle.fort_grammar.specs.Declarations.{as_list, elements_of, IsHeaded}
+use Rattle.fort_sexpr.specs.FormCode.{node_count, node_counts}
+use Rattle.fort_sexpr.specs.FormView.{form_count, form_at}
+use Rattle.fort_sexpr.proofs.FormLists.{node_counts-AreForms}
+use Rattle.fort_certificate_grammar.specs.CertificateForms.{Version, version_for, IsStepForm, IsHeaderForm}
+use Rattle.fort_certificate_grammar.specs.CertificateFaults as grammar
+use Rattle.fort_certificate_grammar.specs.CertificateFaults.{CertificateFault, FaultKind, fault_of, StepHead, head_word, slots_of, rest_of, AreBad, IsBadStep, BadElement, IsBadHeader, IsFirstCertificateFault, WithoutHeader, InHeader, InStep}
+use Rattle.fort_certificate_grammar.specs.FilledSlots.{FitAll}
+use Rattle.fort_certificate_grammar.proofs.StepSlots.{step_from_filled}
+use Rattle.fort_certificate.specs.Checking.{IsSomeStep, AreSomeSteps, HasBadStep, IsSomeCertificate}
+
+-- the forms of a text as a list
+pub form_at-list : (fs : Forms) (i : ℕ) (f : Form) → form_at fs i ≡ Some f → slice_get (as_list fs) i ≡ Some f
+form_at-list NoForm i f e = absurd cc
+form_at-list (MoreForms g gs) zero f e = e
+form_at-list (MoreForms g gs) (suc i) f e = form_at-list gs i f e
+
+pub form_count-list : (fs : Forms) → form_count fs ≡ length (as_list fs)
+form_count-list NoForm = refl
+form_count-list (MoreForms f fs) = ap suc (form_count-list fs)
+
+some_node : (f : Form) → 1 ≤ node_count f
+some_node (Word from to) = omega arith
+some_node (ListForm from to fs) = omega arith
+
+form_count-node_counts : (fs : Forms) → form_count fs ≤ node_counts fs
+form_count-node_counts NoForm = omega arith
+form_count-node_counts (MoreForms f fs) = omega (arith, some_node f, form_count-node_counts fs)
+
+-- a text has fewer forms than bytes, or as many
+pub form_count-bytes : (bytes : List ℕ) (fs : Forms) → AreFormsOf bytes fs → form_count fs ≤ length bytes
+form_count-bytes bytes fs h = omega (arith, node_counts-AreForms h.stand, form_count-node_counts fs)
+
+-- one step
+pub step_fits : (bytes : List ℕ) (version : Version) (f : Form) (which : StepHead) (fs : List Form) (slots : List grammar.Slot) (last : Option grammar.Slot)
+    → IsHeaded bytes (head_word which) f → elements_of f ≡ Some fs → slots ≡ slots_of which version → last ≡ rest_of which
+    → FitAll bytes slots last (drop 1 fs) → IsSomeStep bytes version f
+step_fits bytes version f which fs slots last headed is e g fit =
+    let same : fs ≡ headed.first ∷ headed.others = (let i = headed.is in cc) in
+    step_from_filled bytes version f which headed.first headed.others headed.is headed.head
+    (subst (λ gs. FitAll bytes (slots_of which version) (rest_of which) (drop 1 gs)) same
+    (subst (λ l. FitAll bytes (slots_of which version) l (drop 1 fs)) g (subst (λ ss. FitAll bytes ss last (drop 1 fs)) e fit)))
+
+pub step_bad : (bytes : List ℕ) (version : Version) (f : Form) (which : StepHead) (fs : List Form) (slots : List grammar.Slot) (last : Option grammar.Slot)
+    (kind : FaultKind) → IsHeaded bytes (head_word which) f → elements_of f ≡ Some fs → slots ≡ slots_of which version → last ≡ rest_of which
+    → AreBad bytes slots last (drop 1 fs) kind → (i : ℕ) → IsBadStep bytes version i f (fault_of i kind)
+step_bad bytes version f which fs slots last kind headed is e g bad i =
+    let same : fs ≡ headed.first ∷ headed.others = (let i = headed.is in cc) in
+    BadElement which headed.first headed.others kind headed.is headed.head
+    (subst (λ gs. AreBad bytes (slots_of which version) (rest_of which) (drop 1 gs) kind) same
+    (subst (λ l. AreBad bytes (slots_of which version) l (drop 1 fs) kind) g (subst (λ ss. AreBad bytes ss last (drop 1 fs) kind) e bad)))
+
+-- the steps from one number up to another
+abbrev pub AreStepsUpTo : List ℕ → Version → List Form → ℕ → ℕ → Type 0
+AreStepsUpTo bytes version all from i = AreSomeSteps bytes version (take (i - from) (drop from all))
+
+pub steps_none : (bytes : List ℕ) (version : Version) (all : List Form) (from : ℕ) → AreStepsUpTo bytes version all from from
+steps_none bytes version all from =
+    let none : from - from ≡ 0 = omega arith in
+    rw none ([], tt)
+
+module _ (bytes : List ℕ) (version : Version) (all : List Form) (from i : ℕ) (f : Form) (steps : AreStepsUpTo bytes version all from i) (low : from ≤ i)
+    (here : slice_get all i ≡ Some f) where
+  inside : i - from < length (drop from all)
+  inside = omega (arith, low, slice_get_within all i f here, length-drop from all)
+
+  element : get_or (drop from all) (i - from) f ≡ f
+  element =
+      let e : from + (i - from) ≡ i = omega (arith, low) in
+      get_or-drop from all (i - from) f ∙ (ap (λ k. get_or all k f) e ∙ get_or_from_slice_get all i f f here)
+
+  pub steps_more : IsSomeStep bytes version f → AreStepsUpTo bytes version all from (i + 1)
+  steps_more one =
+      let next : (i + 1) - from ≡ (i - from) + 1 = omega (arith, low) in
+      let grown : take ((i + 1) - from) (drop from all) ≡ take (i - from) (drop from all) ++ f ∷ [] =
+      ap (λ k. take k (drop from all)) next
+      ∙ (take_more (drop from all) (i - from) f inside ∙ ap (λ g. take (i - from) (drop from all) ++ g ∷ []) element) in
+      rw grown (steps.0 ++ one.0 ∷ [], all_zipped_more (IsStepForm bytes version) (take (i - from) (drop from all)) steps.0 f one.0 steps.1 one.1)
+
+  pub steps_bad : (fault : CertificateFault) → IsBadStep bytes version i f fault → HasBadStep bytes version from (drop from all) fault
+  steps_bad fault bad =
+      let long : length (take (i - from) (drop from all)) ≡ i - from = length-take-le (i - from) (drop from all) (omega (arith, inside)) in
+      let place : i ≡ from + length (take (i - from) (drop from all)) = omega (arith, long, low) in
+      record {
+        before = take (i - from) (drop from all);
+        f = f;
+        after = drop ((i - from) + 1) (drop from all);
+        steps = steps.0;
+        is = sym (take-append-drop (i - from) (drop from all))
+            ∙ ap (λ gs. take (i - from) (drop from all) ++ gs)
+            (drop_more (drop from all) (i - from) f inside ∙ ap (λ g. g ∷ drop ((i - from) + 1) (drop from all)) element);
+        fine = steps.1;
+        bad = subst (λ k. IsBadStep bytes version k f fault) place bad;
+      }
+
+pub steps_all : (bytes : List ℕ) (version : Version) (all : List Form) (from i : ℕ) → AreStepsUpTo bytes version all from i → length all ≤ i
+    → AreSomeSteps bytes version (drop from all)
+steps_all bytes version all from i steps end =
+    subst (AreSomeSteps bytes version) (take_all (i - from) (drop from all) (omega (arith, end, length-drop from all))) steps
+
+-- the header, and the steps behind it
+module _ (bytes : List ℕ) (number : ℕ) (all : List Form) (from : ℕ) (header : Form) (here : slice_get all from ≡ Some header) where
+  split : drop from all ≡ header ∷ drop (from + 1) all
+  split =
+      drop_more all from header (slice_get_within all from header here)
+      ∙ ap (λ g. g ∷ drop (from + 1) all) (get_or_from_slice_get all from header header here)
+
+  pub header_bad : (fault : CertificateFault) → IsBadHeader bytes (version_for number) from header fault → IsFirstCertificateFault bytes number all from fault
+  header_bad fault bad = InHeader header (drop (from + 1) all) fault split bad
+
+  pub step_is_bad : (verdict : Bool) (fault : CertificateFault) → IsHeaderForm bytes (version_for number) header verdict
+      → HasBadStep bytes (version_for number) (from + 1) (drop (from + 1) all) fault → IsFirstCertificateFault bytes number all from fault
+  step_is_bad verdict fault headed h =
+      InStep header verdict h.before h.after h.steps h.f fault (split ∙ ap (λ gs. header ∷ gs) h.is) headed h.fine h.bad
+
+  pub some_certificate : (verdict : Bool) → IsHeaderForm bytes (version_for number) header verdict
+      → AreSomeSteps bytes (version_for number) (drop (from + 1) all) → IsSomeCertificate bytes number all from verdict
+  some_certificate verdict headed steps = (
+    steps.0,
+    record { header = header; others = drop (from + 1) all; first = refl; split = split; headed = headed; are_steps = steps.1 },
+  )
+
+pub no_header : (bytes : List ℕ) (number : ℕ) (all : List Form) (from : ℕ) → length all ≤ from
+    → IsFirstCertificateFault bytes number all from (grammar.BadForm from)
+no_header bytes number all from end = WithoutHeader (drop_all from all end)

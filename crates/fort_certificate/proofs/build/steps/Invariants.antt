@@ -1,0 +1,10 @@
+use Rattle.std.specs.List.{AllZip}
+use Rattle.fort_grammar.specs.Declarations.{as_list}
+use Rattle.fort_certificate_grammar.specs.CertificateForms.{version_for, IsStepForm}
+use Rattle.fort_steps.specs.StepView.{as_step}
+use Rattle.fort_certificate.proofs.BuildLaws.{between}
+use Rattle.fort_certificate.proofs.build.steps.Given as goal
+
+abbrev pub invariant-steps : goal.invariant-steps
+invariant-steps l =
+    AllZip (λ f x. IsStepForm l.forms.bytes (version_for l.systems) f (as_step x)) (between l.from l.i (as_list l.forms.forms)) l.steps.items

@@ -1,0 +1,46 @@
+use Rattle.std.proofs.Common.{◌+◌, drop, arith}
+use Rattle.std.proofs.lemmas.Result.{err_from_is_err_and}
+use Rattle.fort_grammar.specs.Declarations.{as_list}
+use Rattle.fort_certificate_grammar.specs.CertificateForms.{version_for}
+use Rattle.fort_certificate_grammar.specs.CertificateFaults.{IsBadHeader, IsFirstCertificateFault}
+use Rattle.fort_certificate.specs.Checking.{HasBadStep}
+use Rattle.fort_certificate.proofs.FaultLaws.{fault_then}
+use Rattle.fort_certificate.proofs.StepsLaws.{form_at-list, form_count-list, header_bad, step_is_bad, some_certificate, no_header}
+use Rattle.fort_certificate.proofs.check.check.Goals as goal
+
+pub returns-then-from-len-clause-fault : goal.returns-then-from-len-clause-fault
+returns-then-from-len-clause-fault c =
+    no_header _ c.args.number (as_list c.args.forms.now.forms) c.args.from
+    (omega (arith, c.if-from-len.true, c.len.ensures.count, form_count-list c.args.forms.now.forms))
+
+pub returns-in_err-verdict-clause-fault : goal.returns-in_err-verdict-clause-fault
+returns-in_err-verdict-clause-fault c =
+    let p = err_from_is_err_and c.from_residual.result c.from_residual.ensures.1 in
+    let bytes = c.args.forms.now.bytes in
+    let number = c.args.number in
+    let all = as_list c.args.forms.now.forms in
+    let from = c.args.from in
+    let header = c.form.result.form in
+    let here = form_at-list c.args.forms.now.forms from header c.form.ensures.form in
+    rw (p.1, p.2) (fault_then (IsBadHeader bytes (version_for number) from header) (IsFirstCertificateFault bytes number all from) c.in_err-verdict.field-0.0
+    (header_bad bytes number all from header here) (rw c.form.ensures.bytes at c.in_err-verdict.ensures.fault))
+
+pub returns-in_err-check_steps-clause-fault : goal.returns-in_err-check_steps-clause-fault
+returns-in_err-check_steps-clause-fault c =
+    let p = err_from_is_err_and c.from_residual-in_err-check_steps.result c.from_residual-in_err-check_steps.ensures.1 in
+    let bytes = c.args.forms.now.bytes in
+    let number = c.args.number in
+    let all = as_list c.args.forms.now.forms in
+    let from = c.args.from in
+    let header = c.form.result.form in
+    let here = form_at-list c.args.forms.now.forms from header c.form.ensures.form in
+    rw (p.1, p.2) (fault_then (HasBadStep bytes (version_for number) (from + 1) (drop (from + 1) all)) (IsFirstCertificateFault bytes number all from)
+    c.in_err-check_steps.field-0.0
+    (λ g bad. step_is_bad bytes number all from header here c.in_ok-verdict.verdict g (rw c.form.ensures.bytes at c.in_ok-verdict.ensures.ok) bad)
+    c.in_err-check_steps.ensures.fault)
+
+pub returns-clause-ok : goal.returns-clause-ok
+returns-clause-ok c =
+    let here = form_at-list c.args.forms.now.forms c.args.from c.form.result.form c.form.ensures.form in
+    some_certificate _ c.args.number (as_list c.args.forms.now.forms) c.args.from _ here c.in_ok-verdict.verdict
+    (rw c.form.ensures.bytes at c.in_ok-verdict.ensures.ok) c.in_ok-check_steps.ensures.ok

@@ -1,0 +1,5 @@
+use Rattle.fort_certificate.proofs.ValueLaws.{two_elements}
+use Rattle.fort_certificate.proofs.value.two_words.Goals as goal
+
+pub returns-in_err-first-clause-none : goal.returns-in_err-first-clause-none
+returns-in_err-first-clause-none c = rw c.from_residual.ensures (λ u v h. let es = two_elements _ _ u v h in c.in_err-first.ensures.none es.0 es.1 es.2)

@@ -1,0 +1,34 @@
+-- Inside: that forms are steps, and which is the first that is none.
+use Rattle.std.specs.Prelude.{◌≡◌, ℕ, ◌+◌, Bool, List, ◌∷◌, ◌++◌, length, Some}
+use Rattle.std.specs.List.{AllZip}
+use Rattle.fort_grammar.specs.Forms.{Form}
+use Rattle.fort_grammar.specs.Declarations.{elements_of, IsHeaded}
+use Rattle.fort_certificate_grammar.specs.Certificates.{Step}
+use Rattle.fort_certificate_grammar.specs.CertificateForms.{Version, IsStepForm, IsCertificate}
+use Rattle.fort_certificate_grammar.specs.CertificateFaults.{CertificateFault, StepHead, head_word, IsBadStep}
+
+abbrev pub IsSomeStep : List ℕ → Version → Form → Type 0
+IsSomeStep bytes version f = (s : Step) × IsStepForm bytes version f s
+
+abbrev pub AreSomeSteps : List ℕ → Version → List Form → Type 0
+AreSomeSteps bytes version fs = (ss : List Step) × AllZip (IsStepForm bytes version) fs ss
+
+-- a form with these elements, headed so, is the step
+abbrev pub AreElementsOf : List ℕ → Version → StepHead → List Form → Step → Type 0
+AreElementsOf bytes version which fs s =
+    (f : Form) → elements_of f ≡ Some fs → IsHeaded bytes (head_word which) f → IsStepForm bytes version f s
+
+-- the fault of the first that is no step; i is the number of the first of the forms
+pub record HasBadStep (bytes : List ℕ) (version : Version) (i : ℕ) (fs : List Form) (fault : CertificateFault) : Type 0 where
+  pub before : List Form
+  pub f : Form
+  pub after : List Form
+  pub steps : List Step
+  pub is : fs ≡ before ++ f ∷ after
+  pub fine : AllZip (IsStepForm bytes version) before steps
+  pub bad : IsBadStep bytes version (i + length before) f fault
+
+-- a certificate of this verdict
+abbrev pub IsSomeCertificate : List ℕ → ℕ → List Form → ℕ → Bool → Type 0
+IsSomeCertificate bytes number forms from verdict =
+    (steps : List Step) × IsCertificate bytes number forms from (record { first = from; verdict = verdict; steps = steps })

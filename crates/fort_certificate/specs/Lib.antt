@@ -1,0 +1,6 @@
+pub mod Lines
+pub mod Again
+pub mod Faults
+pub mod ReadView
+pub mod Checking
+pub mod CertificateView

@@ -1,0 +1,47 @@
+//! Reads a certificate.
+ghost use Rattle.std.specs.Prelude.{IfOk, IfErr, IfSome, IsErrOf};
+ghost use Rattle.fort_grammar.specs.Declarations.{as_list};
+ghost use Rattle.fort_certificate_grammar.specs.Certificates as certificates;
+ghost use Rattle.fort_certificate_grammar.specs.CertificateForms.{IsCertificate};
+ghost use Rattle.fort_certificate_grammar.specs.CertificateFaults.{IsFirstCertificateFault};
+ghost use Rattle.fort_certificate.specs.declared.fault.CertificateFault.TheVariants.{Memory};
+ghost use Rattle.fort_certificate.specs.CertificateView.{as_certificate};
+ghost use Rattle.fort_certificate.specs.Faults.{as_fault};
+
+use crate::build::steps;
+use crate::check::check;
+use crate::fault::CertificateFault;
+use fort_sexpr::Forms;
+use fort_steps::Step;
+use std::alloc::Global;
+
+/// A verdict, and the steps that are to show it.
+#[derive(Debug, PartialEq, Eq, Drop)]
+pub struct Certificate {
+    /// The number of the header's form.
+    pub first: u32,
+    pub verdict: bool,
+    pub steps: Vec<Step>,
+}
+
+/// Reads the certificate that the forms from a number on are, of a problem of so many systems, or finds their first fault.
+pub fn read(
+    alloc: Global,
+    forms: &Forms,
+    from: u32,
+    number: u32,
+) -> Result<Certificate, CertificateFault>
+    ensures ok { IfOk result (λ c. IsCertificate forms.now.bytes number
+        (as_list forms.now.forms) from (as_certificate c)) }
+    ensures fault { IfErr result (λ fault. IfSome (as_fault fault)
+        (IsFirstCertificateFault forms.now.bytes number (as_list forms.now.forms) from)) }
+    ensures memory { IsErrOf result Memory → (c : certificates.Certificate) ×
+        IsCertificate forms.now.bytes number (as_list forms.now.forms) from c }
+{
+    let verdict = check(forms, from, number)?;
+    Ok(Certificate {
+        first: from,
+        verdict,
+        steps: steps(alloc, forms, from as usize + 1, number)?,
+    })
+}

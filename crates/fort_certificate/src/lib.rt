@@ -1,0 +1,16 @@
+//! Certificates as text, and read from the forms of a text.
+#![tactic(auto)]
+
+mod build;
+mod certificate;
+mod check;
+mod fault;
+mod slot;
+mod value;
+mod word;
+mod words;
+mod write;
+
+pub use certificate::{Certificate, read};
+pub use fault::CertificateFault;
+pub use write::text;

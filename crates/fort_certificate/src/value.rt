@@ -1,0 +1,176 @@
+//! Reads the elements of a step, each by itself, or says what is wrong with it.
+ghost use Rattle.std.specs.Prelude.{◌≡◌, ℕ, Bool, List, [], ◌∷◌, Some, IfSome, IfNone, IfOk, IfErr};
+ghost use Rattle.fort_grammar.specs.Declarations.{word_of, IsListOfWords};
+ghost use Rattle.fort_certificate_grammar.specs.Certificates as certificates;
+ghost use Rattle.fort_certificate_grammar.specs.CertificateForms.{which_word, verdict_word, IsNumberForm, IsWhyWord, IsPairForm, IsCountForm};
+ghost use Rattle.fort_certificate_grammar.specs.CertificateFaults.{WhichSlot, NumberSlot, VerdictSlot, PairSlot, CountSlot, Fits, IsBadAt};
+ghost use Rattle.fort_steps.specs.StepView.{as_which, as_why, as_pair, as_count};
+ghost use Rattle.fort_certificate.specs.ReadView.{as_kind};
+
+use crate::word::{is_same, number_of};
+use fort_sexpr::Form;
+use fort_steps::{ClosureEntry, Count, Reason, Which};
+
+/// What is wrong with an element.
+#[derive(Clone, Copy, Debug, PartialEq, Eq)]
+pub(crate) enum Wrong {
+    /// Its shape.
+    Form,
+    /// A word of it that should be a number.
+    Number,
+}
+
+pub(crate) fn which_in(form: &Form) -> Option<Which>
+    ensures some { IfSome result (λ which.
+        word_of form.now.bytes form.now.form ≡ Some (which_word (as_which which))) }
+    ensures none { IfNone result (Fits form.now.bytes form.now.form WhichSlot → ⊥) }
+{
+    if form.is_word(b"star") {
+        return Some(Which::Star);
+    }
+    if form.is_word(b"conv") {
+        return Some(Which::Conv);
+    }
+    None
+}
+
+/// The verdict that a word is.
+pub(crate) fn verdict_of(word: &[u8]) -> Option<bool>
+    ensures some { IfSome result (λ verdict. word.now ≡ verdict_word verdict) }
+    ensures none { IfNone result ((verdict : Bool) → word.now ≡ verdict_word verdict → ⊥) }
+{
+    if is_same(word, b"yes") {
+        return Some(true);
+    }
+    if is_same(word, b"no") {
+        return Some(false);
+    }
+    None
+}
+
+pub(crate) fn verdict_in(form: &Form) -> Option<bool>
+    ensures some { IfSome result (λ verdict.
+        word_of form.now.bytes form.now.form ≡ Some (verdict_word verdict)) }
+    ensures none { IfNone result (Fits form.now.bytes form.now.form VerdictSlot → ⊥) }
+{
+    match form.word() {
+        Some(word) => verdict_of(word),
+        None => None,
+    }
+}
+
+pub(crate) fn number_in(form: &Form) -> Result<u32, Wrong>
+    ensures ok { IfOk result (λ n. IsNumberForm form.now.bytes form.now.form n) }
+    ensures err { IfErr result (λ wrong.
+        IsBadAt form.now.bytes form.now.form NumberSlot (as_kind wrong)) }
+{
+    let Some(word) = form.word() else {
+        return Err(Wrong::Form);
+    };
+    match number_of(word) {
+        Some(n) => Ok(n),
+        None => Err(Wrong::Number),
+    }
+}
+
+/// The words of a list of two.
+#[derive(Clone, Copy)]
+struct TwoWords<'a> {
+    first: &'a [u8],
+    second: &'a [u8],
+}
+
+fn two_words<'a>(form: &Form<'a>) -> Option<TwoWords<'a>>
+    ensures some { IfSome result (λ w. IsListOfWords form.now.bytes form.now.form
+        (w.first.now ∷ w.second.now ∷ [])) }
+    ensures none { IfNone result ((u v : List ℕ) →
+        IsListOfWords form.now.bytes form.now.form (u ∷ v ∷ []) → ⊥) }
+{
+    let (first, second) = form.two()?;
+    Some(TwoWords {
+        first: first.word()?,
+        second: second.word()?,
+    })
+}
+
+/// The words of a list of three.
+#[derive(Clone, Copy)]
+pub(crate) struct ThreeWords<'a> {
+    pub first: &'a [u8],
+    pub second: &'a [u8],
+    pub third: &'a [u8],
+}
+
+pub(crate) fn three_words<'a>(form: &Form<'a>) -> Option<ThreeWords<'a>>
+    ensures some { IfSome result (λ w. IsListOfWords form.now.bytes form.now.form
+        (w.first.now ∷ w.second.now ∷ w.third.now ∷ [])) }
+    ensures none { IfNone result ((u v w : List ℕ) →
+        IsListOfWords form.now.bytes form.now.form (u ∷ v ∷ w ∷ []) → ⊥) }
+{
+    let (first, second, third) = form.three()?;
+    Some(ThreeWords {
+        first: first.word()?,
+        second: second.word()?,
+        third: third.word()?,
+    })
+}
+
+/// The reason that a word is.
+fn reason_of(word: &[u8]) -> Option<Reason>
+    ensures some { IfSome result (λ why. IsWhyWord word.now (as_why why)) }
+    ensures none { IfNone result ((why : certificates.Why) → IsWhyWord word.now why → ⊥) }
+{
+    if is_same(word, b"any") {
+        return Some(Reason::Any);
+    }
+    if is_same(word, b"kids") {
+        return Some(Reason::Kids);
+    }
+    match number_of(word) {
+        Some(rule) => Some(Reason::Rule(rule)),
+        None => None,
+    }
+}
+
+pub(crate) fn entry_in(form: &Form) -> Result<ClosureEntry, Wrong>
+    ensures ok { IfOk result (λ e. IsPairForm form.now.bytes form.now.form (as_pair e)) }
+    ensures err { IfErr result (λ wrong.
+        IsBadAt form.now.bytes form.now.form PairSlot (as_kind wrong)) }
+{
+    let Some(words) = three_words(form) else {
+        return Err(Wrong::Form);
+    };
+    let Some(p) = number_of(words.first) else {
+        return Err(Wrong::Number);
+    };
+    let Some(q) = number_of(words.second) else {
+        return Err(Wrong::Number);
+    };
+    let Some(why) = reason_of(words.third) else {
+        return Err(Wrong::Number);
+    };
+    Ok(ClosureEntry { p, q, why })
+}
+
+pub(crate) fn count_in(form: &Form) -> Result<Count, Wrong>
+    ensures ok { IfOk result (λ n. IsCountForm form.now.bytes form.now.form (as_count n)) }
+    ensures err { IfErr result (λ wrong.
+        IsBadAt form.now.bytes form.now.form CountSlot (as_kind wrong)) }
+{
+    let Some(words) = two_words(form) else {
+        return Err(Wrong::Form);
+    };
+    if is_same(words.first, b"fin") {
+        return match number_of(words.second) {
+            Some(height) => Ok(Count::Finite(height)),
+            None => Err(Wrong::Number),
+        };
+    }
+    if is_same(words.first, b"inf") {
+        return match number_of(words.second) {
+            Some(child) => Ok(Count::Infinite(child)),
+            None => Err(Wrong::Number),
+        };
+    }
+    Err(Wrong::Form)
+}

@@ -1,0 +1,187 @@
+//! Writes a certificate.
+ghost use Rattle.std.specs.Prelude.{◌≡◌, ◌++◌, ◌∷◌, map, decimal, OnOk, IfOk};
+ghost use Rattle.fort_certificate_grammar.specs.Certificates as certificates;
+ghost use Rattle.fort_certificate_grammar.specs.CertificateForms.{version_for};
+ghost use Rattle.fort_certificate_grammar.specs.CertificateText.{line_of, element_text, pair_element, count_element, index_elements, step_elements, header_elements, certificate_text};
+ghost use Rattle.fort_steps.specs.StepView.{as_which, as_pair, as_count, as_step};
+ghost use Rattle.fort_certificate.specs.Again.{IsReadBehind};
+ghost use Rattle.fort_certificate.specs.Lines.{tails};
+
+use crate::words::{push_digits, push_number, push_reason, push_verdict, push_version, push_which};
+use fort_steps::{ClosureEntry, Count, Step, Which};
+use std::alloc::{AllocError, Global};
+
+fn push_entry(out: &mut Vec<u8>, entry: &ClosureEntry) -> Result<(), AllocError>
+    ensures { OnOk result (out.new.items ≡
+        out.old.items ++ 32 ∷ element_text (pair_element (as_pair entry.now))) }
+{
+    out.extend_from_slice(b" (")?;
+    push_digits(out, entry.p)?;
+    push_number(out, entry.q)?;
+    push_reason(out, entry.why)?;
+    out.push(b')')?;
+    Ok(())
+}
+
+fn push_entries(out: &mut Vec<u8>, entries: &[ClosureEntry]) -> Result<(), AllocError>
+    ensures { OnOk result (out.new.items ≡ out.old.items ++
+        tails (map (λ e. element_text (pair_element (as_pair e))) entries.now)) }
+{
+    for entry in entries {
+        push_entry(out, entry)?;
+    }
+    Ok(())
+}
+
+/// The index of a closure, where there are several systems.
+fn push_index(out: &mut Vec<u8>, number: u32, index: u32) -> Result<(), AllocError>
+    ensures { OnOk result (out.new.items ≡ out.old.items ++
+        tails (map element_text (index_elements (version_for number) index))) }
+{
+    if number == 1 {
+        return Ok(());
+    }
+    push_number(out, index)
+}
+
+fn push_closure(
+    out: &mut Vec<u8>,
+    number: u32,
+    which: Which,
+    index: u32,
+    entries: &[ClosureEntry],
+) -> Result<(), AllocError>
+    ensures { OnOk result (out.new.items ≡
+        out.old.items ++ line_of (step_elements (version_for number)
+        (certificates.Closure (as_which which) index (map as_pair entries.now)))) }
+{
+    out.extend_from_slice(b"(closure")?;
+    push_which(out, which)?;
+    push_index(out, number, index)?;
+    push_entries(out, entries)?;
+    out.extend_from_slice(b")\n")?;
+    Ok(())
+}
+
+fn push_targets(out: &mut Vec<u8>, targets: &[u32]) -> Result<(), AllocError>
+    ensures { OnOk result (out.new.items ≡ out.old.items ++ tails (map decimal targets.now)) }
+{
+    for target in targets {
+        push_number(out, *target)?;
+    }
+    Ok(())
+}
+
+fn push_part(out: &mut Vec<u8>, number: u32, part: u32, targets: &[u32]) -> Result<(), AllocError>
+    ensures { OnOk result (out.new.items ≡
+        out.old.items ++ line_of (step_elements (version_for number)
+        (certificates.Part part targets.now))) }
+{
+    out.extend_from_slice(b"(part")?;
+    push_number(out, part)?;
+    push_targets(out, targets)?;
+    out.extend_from_slice(b")\n")?;
+    Ok(())
+}
+
+fn push_count(out: &mut Vec<u8>, count: &Count) -> Result<(), AllocError>
+    ensures { OnOk result (out.new.items ≡
+        out.old.items ++ 32 ∷ element_text (count_element (as_count count.now))) }
+{
+    match *count {
+        Count::Finite(height) => {
+            out.extend_from_slice(b" (fin")?;
+            push_number(out, height)?;
+        }
+        Count::Infinite(child) => {
+            out.extend_from_slice(b" (inf")?;
+            push_number(out, child)?;
+        }
+    }
+    out.push(b')')?;
+    Ok(())
+}
+
+fn push_each_count(out: &mut Vec<u8>, counts: &[Count]) -> Result<(), AllocError>
+    ensures { OnOk result (out.new.items ≡ out.old.items ++
+        tails (map (λ n. element_text (count_element (as_count n))) counts.now)) }
+{
+    for count in counts {
+        push_count(out, count)?;
+    }
+    Ok(())
+}
+
+fn push_counts(
+    out: &mut Vec<u8>,
+    number: u32,
+    part: u32,
+    counts: &[Count],
+) -> Result<(), AllocError>
+    ensures { OnOk result (out.new.items ≡
+        out.old.items ++ line_of (step_elements (version_for number)
+        (certificates.Counts part (map as_count counts.now)))) }
+{
+    out.extend_from_slice(b"(counts")?;
+    push_number(out, part)?;
+    push_each_count(out, counts)?;
+    out.extend_from_slice(b")\n")?;
+    Ok(())
+}
+
+fn push_value(out: &mut Vec<u8>, number: u32, part: u32, value: bool) -> Result<(), AllocError>
+    ensures { OnOk result (out.new.items ≡
+        out.old.items ++ line_of (step_elements (version_for number)
+        (certificates.Value part value))) }
+{
+    out.extend_from_slice(b"(value")?;
+    push_number(out, part)?;
+    push_verdict(out, value)?;
+    out.extend_from_slice(b")\n")?;
+    Ok(())
+}
+
+fn push_step(out: &mut Vec<u8>, number: u32, step: &Step) -> Result<(), AllocError>
+    ensures { OnOk result (out.new.items ≡
+        out.old.items ++ line_of (step_elements (version_for number) (as_step step.now))) }
+{
+    match step {
+        Step::Closure(which, index, entries) => {
+            push_closure(out, number, *which, *index, entries.as_slice())
+        }
+        Step::Part(part, targets) => push_part(out, number, *part, targets.as_slice()),
+        Step::Counts(part, counts) => push_counts(out, number, *part, counts.as_slice()),
+        Step::Value(part, value) => push_value(out, number, *part, *value),
+    }
+}
+
+fn push_header(out: &mut Vec<u8>, number: u32, verdict: bool) -> Result<(), AllocError>
+    ensures { OnOk result (out.new.items ≡
+        out.old.items ++ line_of (header_elements (version_for number) verdict)) }
+{
+    out.extend_from_slice(b"(certificate")?;
+    push_version(out, number)?;
+    push_verdict(out, verdict)?;
+    out.extend_from_slice(b")\n")?;
+    Ok(())
+}
+
+/// The text of a certificate of a problem of so many systems.
+pub fn text(
+    alloc: Global,
+    number: u32,
+    verdict: bool,
+    steps: &[Step],
+) -> Result<Vec<u8>, AllocError>
+    ensures text { IfOk result (λ text.
+        text.items ≡ certificate_text number verdict (map as_step steps.now)) }
+    ensures again { IfOk result (λ text.
+        IsReadBehind number verdict (map as_step steps.now) text.items) }
+{
+    let mut out = Vec::new(alloc);
+    push_header(&mut out, number, verdict)?;
+    for step in steps {
+        push_step(&mut out, number, step)?;
+    }
+    Ok(out)
+}
