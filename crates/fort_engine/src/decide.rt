@@ -19,7 +19,7 @@ use fort_terms::System;
 use std::alloc::Global;
 
 /// Lets go of the answers that no part after part `k` needs.
-fn drop_idle(kept: &mut Vec<Option<Last>>, uses: &[usize], k: usize)
+pub fn drop_idle(kept: &mut Vec<Option<Last>>, uses: &[usize], k: usize)
     requires { length kept.old.items ≤ length uses.now }
     ensures count { length kept.new.items ≡ length kept.old.items }
     ensures needed { (j : ℕ) → j < length kept.old.items → k < slice_index_or uses.now j 0

@@ -13,7 +13,10 @@ mod projected;
 mod uses;
 
 pub use answer::{EngineFault, Last, Limit, Trace};
-pub use decide::decide_core;
+pub use decide::{decide_core, drop_idle};
+pub use operands::place_of;
+pub use part::decide_part;
+pub use uses::last_uses;
 
 #[cfg(test)]
 mod tests;

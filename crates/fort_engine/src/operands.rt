@@ -22,7 +22,7 @@ pub(crate) struct Answered<'a> {
 }
 
 /// The place of a formula among the parts before `end`.
-pub(crate) fn place_of(parts: &[Core], core: &Core, end: usize) -> usize
+pub fn place_of(parts: &[Core], core: &Core, end: usize) -> usize
     requires within { end ≤ length parts.now }
     requires there { IsEarlier (map as_core parts.now) end (as_core core.now) }
     ensures before { result < end }

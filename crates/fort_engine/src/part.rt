@@ -34,7 +34,7 @@ fn complement(alloc: Global, body: &Answered<'_>) -> Result<Last, ExploreFault>
 }
 
 /// Decides a part from the answers to the parts before it.
-pub(crate) fn decide_part<'a>(
+pub fn decide_part<'a>(
     alloc: Global,
     system: &System,
     core: &'a Core,

@@ -36,7 +36,7 @@ fn last_use(parts: &[Core], j: usize) -> usize
 }
 
 /// For each part the last one that needs its answer; the root's is needed to the end.
-pub(crate) fn last_uses(alloc: Global, parts: &[Core], root: usize) -> Result<Vec<usize>, Memory>
+pub fn last_uses(alloc: Global, parts: &[Core], root: usize) -> Result<Vec<usize>, Memory>
     requires { root < length parts.now }
     ensures { IfOk result (λ uses. AreLastUses (map as_core parts.now) root uses.items) }
 {
