@@ -6,6 +6,8 @@ mod certificate;
 mod check;
 mod fault;
 mod slot;
+#[cfg(test)]
+mod tests;
 mod value;
 mod word;
 mod words;
