@@ -13,11 +13,11 @@ unfolding made_system
 made_system-constant zero some = absurd (omega arith)
 made_system-constant (suc n) some = (0, refl)
 
-constant_rule-separated : (size i : ℕ) → IsLinearSeparated (constant_rule size i)
+pub constant_rule-separated : (size i : ℕ) → IsLinearSeparated (constant_rule size i)
 unfolding IsDistinct
 constant_rule-separated size i = record { left = tt; right = tt; separated = λ v c d. Contains-none v c }
 
-f_rule-separated : (size : ℕ) → IsLinearSeparated (f_rule size)
+pub f_rule-separated : (size : ℕ) → IsLinearSeparated (f_rule size)
 unfolding IsDistinct
 f_rule-separated size = record { left = (tt, tt); right = tt; separated = λ v c d. Contains-none v d }
 
