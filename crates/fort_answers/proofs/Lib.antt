@@ -3,3 +3,6 @@ pub mod OneRefusal
 pub mod OneRequest
 pub mod OneFit
 pub mod OneCap
+pub mod MadeLaws
+pub mod OneSample
+pub mod SampleSizes

@@ -1,5 +1,5 @@
 -- The text of a formula has one line that refuses it.
-use Rattle.std.proofs.Common.{◌≡◌, List, ℕ, ◌∷◌, ap, sym, subst, ◌∙◌}
+use Rattle.std.proofs.Common.{◌≡◌, List, ℕ, ◌∷◌, ap, sym, ◌∙◌}
 use Rattle.fort_logic.specs.Formulas.{Formula, Name}
 use Rattle.fort_logic.specs.FreeNames.{free_names}
 use Rattle.fort_formula_grammar.specs.FormulaText.{IsFormulaText}

@@ -8,24 +8,25 @@ use Rattle.fort_answers.specs.FormulaAnswer.{IsAccepted}
 use Rattle.fort_answers.specs.SystemAnswer.{Are}
 use Rattle.fort_answers.specs.DecideAnswer.{DecidesOf, DecideEarly, DecideAnswer}
 use Rattle.fort_answers.specs.WitnessAnswer.{WitnessEarly, WitnessAnswer}
+use Rattle.fort_answers.specs.SampleAnswer.{SampleAnswer}
 
 -- to no request, and to one that isn't answered yet
 abbrev pub OwesUsage : ℕ → Text → Type 0
 OwesUsage status text = Are status text usage usage_text
 
--- what a request owes before anything is read
+-- what a request owes before anything is read; a sample needs no bytes
 abbrev pub OwesEarly : Request → ℕ → Text → Type 0
 OwesEarly (Decide states certificate formula) status text = DecideEarly certificate formula status text
 OwesEarly (Witness states formula) status text = WitnessEarly formula status text
 OwesEarly (Check formula) status text = OwesUsage status text
-OwesEarly (Sample n) status text = OwesUsage status text
+OwesEarly (Sample n) status text = SampleAnswer n status text
 
 -- what a request owes for these bytes
 abbrev pub Owes : Request → Text → ℕ → Text → Type 0
 Owes (Decide states certificate formula) bytes status text = DecideAnswer states certificate formula bytes status text
 Owes (Witness states formula) bytes status text = WitnessAnswer states formula bytes status text
 Owes (Check formula) bytes status text = OwesUsage status text
-Owes (Sample n) bytes status text = OwesUsage status text
+Owes (Sample n) bytes status text = SampleAnswer n status text
 
 -- a request for which the input is read
 abbrev pub NeedsInput : Request → Type 0

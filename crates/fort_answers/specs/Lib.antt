@@ -7,4 +7,7 @@ pub mod FitAnswer
 pub mod SystemAnswer
 pub mod DecideAnswer
 pub mod WitnessAnswer
+pub mod MadeProblem
+pub mod SampleSizes
+pub mod SampleAnswer
 pub mod Answer

@@ -24,16 +24,13 @@ use Rattle.fort_parts.proofs.TranslatedCores.{IsOverSystem-core_of}
 use Rattle.fort_answers.specs.Lines.{positive, negative, yes_line, no_line}
 use Rattle.fort_answers.specs.SystemAnswer.{PassesCap}
 use Rattle.fort_answers.specs.DecideAnswer.{TruthVerdict, Yes, No}
-use Rattle.fort_answers.specs.InputAnswer.{IsInput}
-use Rattle.fort_answers.specs.Requests.{Text}
 use Rattle.fort_engine.specs.declared.answer.Limit.{Limit}
 use Rattle.fort_engine.specs.declared.answer.Last.{Last}
 use Rattle.fort_engine.specs.declared.answer.Last.TheVariants.{Truth as Value, Auto}
 use Rattle.fort_engine.specs.AnswerView.{as_answer, IsLimit}
 use Rattle.fort_lockstep.specs.declared.dta.Dta.{Dta}
 use Rattle.fort_tables.specs.Tables.{listed_table}
-use Rattle.fort_run.specs.Ready.{IsReady, IsDecidedBy}
-use Rattle.fort_run.proofs.LinearRules.{IsProblem-separated}
+use Rattle.fort_run.specs.Ready.{IsLawful, IsReady, IsDecidedBy}
 use Rattle.fort_run.proofs.SomeParts.{some_parts}
 
 no_name : (n : ℕ) (x : Name) → slice_get [] n ≡ Some x → ⊥
@@ -65,15 +62,14 @@ passes system terms f cap limit is =
       kind_is = is.kind parts.0 parts.1;
     }
 
-module _ (bytes : Text) (p : System) (input : IsInput bytes p) (f : Formula) (terms : List Tree) (last : Last)
+module _ (p : System) (lawful : IsLawful p) (f : Formula) (terms : List Tree) (last : Last)
     (decided : IsDecidedBy f (pattern_system p) terms last) where
   -- the formula of names is true of the trees of which the core formula is
   pub same_truth : (m : Assignment) (v : Places) → GivesTerms terms m → AreTheirPlaces f m v
       → Holds (structure_of p) f m ↔ IsMetBy (pattern_structure (pattern_system p)) (core_of terms f) v
   same_truth m v given places =
-      let constant = input.problem.problem.constant in
-      let one = decided.keeps p constant decided.ready.grounded m v given places in
-      let two = IsMetBy-by_patterns p constant (IsProblem-separated bytes _ p _ input.problem.problem) (core_of terms f) v in
+      let one = decided.keeps p lawful.constant decided.ready.grounded m v given places in
+      let two = IsMetBy-by_patterns p lawful.constant lawful.separated (core_of terms f) v in
       ((λ h. two.0 (one.0 h)), (λ h. one.1 (two.1 h)))
 
   -- the core formula of a closed formula is true of any trees, or of none

@@ -10,3 +10,5 @@ pub mod Readiness
 pub mod ReplyStatuses
 pub mod WitnessTruth
 pub mod WitnessVerdicts
+pub mod Properties
+pub mod SampleLines

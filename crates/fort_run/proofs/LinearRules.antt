@@ -1,4 +1,4 @@
--- The rules of a problem are linear and variable-separated.
+-- The system of an input has a constant, and rules that are linear and variable-separated.
 use Rattle.std.specs.Prelude.{◌≡◌, ℕ, zero, suc, ◌+◌, ◌==◌, ◌<◌, ◌≤◌, List, [], ◌∷◌, length, filter, All, Contains, nat_eq, false}
 use Rattle.std.specs.List.{AllByRecursion, IsDistinct, range_with_len}
 use Rattle.std.proofs.Common.{sym, subst, inl, inr, arith, ◌∙◌}
@@ -11,6 +11,8 @@ use Rattle.fort_theory.proofs.IndexLaws.{at_index-get}
 use Rattle.fort_grammar.specs.Forms.{Form}
 use Rattle.fort_grammar.specs.RuleForms.{IsSide, IndexedRule, IsRule, AreRules, rules_of}
 use Rattle.fort_grammar.specs.ProblemForms.{IsProblem}
+use Rattle.fort_answers.specs.InputAnswer.{IsInput}
+use Rattle.fort_run.specs.Ready.{IsLawful}
 use Rattle.fort_ari.proofs.SideLaws.{variables-IsSide}
 use Rattle.fort_tables.proofs.EqualTests.{test_from_apart}
 
@@ -72,8 +74,7 @@ separated_rules bytes number signature forms given are index r c =
     let among = Contains-from_filter (λ (x : IndexedRule). x.index == index) given from.0 from.1 in
     subst IsLinearSeparated from.2 (separated_among bytes number signature forms given are from.0 among.0)
 
--- Result
-pub IsProblem-separated : (bytes : List ℕ) (forms : List Form) (system : System) (next : ℕ) → IsProblem bytes forms system next
+IsProblem-separated : (bytes : List ℕ) (forms : List Form) (system : System) (next : ℕ) → IsProblem bytes forms system next
     → All (All IsLinearSeparated) system.rules
 IsProblem-separated bytes forms system next p =
     All-from_get_or (All IsLinearSeparated) system.rules [] (λ i below.
@@ -81,3 +82,10 @@ IsProblem-separated bytes forms system next p =
     (All-weaker (Contains (rules_of (suc i) p.given)) IsLinearSeparated
     (λ r c. separated_rules bytes (length system.rules) system.signature p.rules p.given p.are_rules (suc i) r c) (rules_of (suc i) p.given)
     (All-contains_itself (rules_of (suc i) p.given))))
+
+-- Result
+pub IsInput-lawful : (bytes : List ℕ) (system : System) → IsInput bytes system → IsLawful system
+IsInput-lawful bytes system is = record {
+  constant = is.problem.problem.constant;
+  separated = IsProblem-separated bytes _ system _ is.problem.problem;
+}

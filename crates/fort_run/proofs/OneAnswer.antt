@@ -24,6 +24,9 @@ use Rattle.fort_answers.specs.InputAnswer.{IsInput}
 use Rattle.fort_answers.specs.Answer.{OwesTold, owed_early, owed, Answer, AnswerFor, IsAbout}
 use Rattle.fort_answers.proofs.OneFit.{IsUnfit-unique, FitsSystem-not_unfit, FitsSystem-unique, FitsSystem-ground}
 use Rattle.fort_answers.proofs.OneRequest.{Are-unique, IsAccepted-unique, IsAcceptedClosed-unique, DecideEarly-unique, early-without_input, WitnessEarly-unique, witness_early-without_input}
+use Rattle.fort_answers.specs.SampleSizes.{KeepsSampleSize}
+use Rattle.fort_answers.proofs.OneSample.{SampleAnswer-unique}
+use Rattle.fort_answers.proofs.SampleSizes.{sample_sizes}
 use Rattle.fort_answers.proofs.OneCap.{PassesCap-unique, PassesCap-not_kept}
 use Rattle.fort_run.specs.Answered.{Answers, OwesOnly, OwesOnlyEarly, IsDecidable, IsDecidableWithin}
 use Rattle.fort_run.proofs.OneInput.{IsInputRefused-unique, IsInput-not_refused, IsInput-unique}
@@ -208,12 +211,13 @@ answered_low (Some (Witness states text)) cap formula f bytes system terms s t a
 answered_low (Some (Check text)) cap formula f bytes system terms s t about is fits answer = absurd about
 answered_low (Some (Sample n)) cap formula f bytes system terms s t about is fits answer = absurd about
 
-pub owed-unique : (request : Option Request) (bytes : Text) (s s' : ℕ) (t t' : Text) → owed request bytes s t → owed request bytes s' t' → Are s t s' t'
-owed-unique None bytes s s' t t' one other = Are-unique usage usage_text s s' t t' one other
-owed-unique (Some (Decide states certificate formula)) bytes s s' t t' one other = DecideAnswer-unique states certificate formula bytes s s' t t' one other
-owed-unique (Some (Witness states formula)) bytes s s' t t' one other = WitnessAnswer-unique states formula bytes s s' t t' one other
-owed-unique (Some (Check formula)) bytes s s' t t' one other = Are-unique usage usage_text s s' t t' one other
-owed-unique (Some (Sample n)) bytes s s' t t' one other = Are-unique usage usage_text s s' t t' one other
+pub owed-unique : (request : Option Request) (bytes : Text) (s s' : ℕ) (t t' : Text) → KeepsSampleSize request → owed request bytes s t
+    → owed request bytes s' t' → Are s t s' t'
+owed-unique None bytes s s' t t' size one other = Are-unique usage usage_text s s' t t' one other
+owed-unique (Some (Decide states certificate formula)) bytes s s' t t' size one other = DecideAnswer-unique states certificate formula bytes s s' t t' one other
+owed-unique (Some (Witness states formula)) bytes s s' t t' size one other = WitnessAnswer-unique states formula bytes s s' t t' one other
+owed-unique (Some (Check formula)) bytes s s' t t' size one other = Are-unique usage usage_text s s' t t' one other
+owed-unique (Some (Sample n)) bytes s s' t t' size one other = SampleAnswer-unique n s s' t t' size.low one other
 
 -- what is owed before anything is read is owed for any bytes
 pub owed_from_early : (request : Option Request) (bytes : Text) (s : ℕ) (t : Text) → owed_early request s t → owed request bytes s t
@@ -241,7 +245,7 @@ answers words told old new text line status s owed same_text same_status taken =
 pub Answers-only : (words : List Text) (bytes : Text) (old new : Option Text) (status : ℕ) → Answers words (Some bytes) old new status
     → (s : ℕ) (t : Text) → Answer words bytes s t → (s ≡ status) × Takes old new t
 Answers-only words bytes old new status given s t answer =
-    let same = owed-unique (request_of words) bytes s status t given.text answer given.owed in
+    let same = owed-unique (request_of words) bytes s status t given.text (sample_sizes words) answer given.owed in
     (same.same_status, subst (Takes old new) (sym same.same_text) given.taken)
 
 pub Answers-told : (words : List Text) (told old new : Option Text) (status : ℕ) → Answers words told old new status → IfSome told (OwesOnly words old new status)
@@ -251,7 +255,7 @@ Answers-told words (Some bytes) old new status answers = Answers-only words byte
 pub Answers-early : (words : List Text) (told old new : Option Text) (status : ℕ) → Answers words told old new status → OwesOnlyEarly words old new status
 Answers-early words told old new status given s t early =
     let some = bytes_told (request_of words) told status given.text given.owed in
-    let same = owed-unique (request_of words) some.0 s status t given.text (owed_from_early (request_of words) some.0 s t early) some.1 in
+    let same = owed-unique (request_of words) some.0 s status t given.text (sample_sizes words) (owed_from_early (request_of words) some.0 s t early) some.1 in
     (same.same_status, subst (Takes old new) (sym same.same_text) given.taken)
 
 module _ (words : List Text) (told old new : Option Text) (status : ℕ) (given : Answers words told old new status) where

@@ -23,12 +23,10 @@ use Rattle.fort_operations.proofs.SelectionLaws.{present_from_full}
 use Rattle.fort_parts.specs.PartColumns.{columns_of}
 use Rattle.fort_parts.specs.PartAnswers.{said, AreGround}
 use Rattle.fort_parts.proofs.NamedColumns.{columns_of-core_of, number_of_name}
-use Rattle.fort_answers.specs.InputAnswer.{IsInput}
-use Rattle.fort_answers.specs.Requests.{Text}
 use Rattle.fort_answers.specs.WitnessAnswer.{AreWitnesses}
 use Rattle.fort_engine.specs.declared.answer.Last.{Last}
 use Rattle.fort_engine.specs.AnswerView.{as_answer}
-use Rattle.fort_run.specs.Ready.{IsDecidedBy}
+use Rattle.fort_run.specs.Ready.{IsLawful, IsDecidedBy}
 use Rattle.fort_run.proofs.Deciding.{same_truth}
 
 -- an element of a list, or a default, where P holds of both
@@ -75,13 +73,13 @@ abbrev assigned : List Tree → List Tree → List Name → Tree → Assignment
 assigned ts terms names d (Var x) = get_or ts (number_in (reverse names) x) d
 assigned ts terms names d (Ground k) = get_or terms k d
 
-module _ (bytes : Text) (p : System) (input : IsInput bytes p) (f : Formula) (terms : List Tree) (last : Last)
+module _ (p : System) (lawful : IsLawful p) (f : Formula) (terms : List Tree) (last : Last)
     (decided : IsDecidedBy f (pattern_system p) terms last) where
   abbrev d : Tree
-  d = Node input.problem.problem.constant.0 Nil
+  d = Node lawful.constant.0 Nil
 
   d-ground : IsGround p.signature d
-  d-ground = (input.problem.problem.constant.1, tt)
+  d-ground = (lawful.constant.1, tt)
 
   abbrev place : List Tree → Places
   place ts = λ n. get_or ts n d
@@ -128,7 +126,7 @@ module _ (bytes : Text) (p : System) (input : IsInput bytes p) (f : Formula) (te
       ap (λ us. get_or us n d) are.are
       ∙ (get_or-map (λ y. m (Var y)) (free_names f) n [] d l ∙ ap (λ y. m (Var y)) (get_or_from_slice_get (free_names f) n x [] at)) in
       (decides ts (witnesses-count ts are) (witnesses-ground ts are)).1
-      ((same_truth bytes p input f terms last decided m (place ts) are.given places).0 are.holds)
+      ((same_truth p lawful f terms last decided m (place ts) are.given places).0 are.holds)
 
   -- Result
   pub witnesses-said : (ts : List Tree) → length ts ≡ length (free_names f) → All (IsGround p.signature) ts → said (as_answer last) (map Some ts) ≡ true
@@ -141,7 +139,7 @@ module _ (bytes : Text) (p : System) (input : IsInput bytes p) (f : Formula) (te
         assignment = m;
         grounded = assigned-ground ts all;
         given = given;
-        holds = (same_truth bytes p input f terms last decided m (place ts) given places).1 ((decides ts len all).0 e);
+        holds = (same_truth p lawful f terms last decided m (place ts) given places).1 ((decides ts len all).0 e);
         are =
             ext_get_or d ts (map (λ x. m (Var x)) (free_names f)) (len ∙ sym (length-map (free_names f) (λ x. m (Var x))))
             (λ k l.

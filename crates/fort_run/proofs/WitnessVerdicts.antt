@@ -27,14 +27,13 @@ use Rattle.fort_witness.specs.Texts.{term_at, column_text, text_at}
 use Rattle.fort_parts.specs.PartColumns.{columns_of}
 use Rattle.fort_parts.specs.PartAnswers.{OfValue, OfTable, IsAnswerTo, said}
 use Rattle.fort_parts.proofs.NamedColumns.{columns_of-core_of}
-use Rattle.fort_answers.specs.InputAnswer.{IsInput}
 use Rattle.fort_answers.specs.Lines.{line, positive, negative, witness_line, none_line}
 use Rattle.fort_answers.specs.Requests.{Text}
 use Rattle.fort_answers.specs.WitnessAnswer.{free_trees, AreWitnesses, bindings, WitnessVerdict, Found, NotFound}
 use Rattle.fort_engine.specs.declared.answer.Last.{Last}
 use Rattle.fort_engine.specs.declared.answer.Last.TheVariants.{Truth as Value, Auto}
 use Rattle.fort_engine.specs.AnswerView.{as_answer}
-use Rattle.fort_run.specs.Ready.{IsDecidedBy}
+use Rattle.fort_run.specs.Ready.{IsLawful, IsDecidedBy}
 use Rattle.fort_run.specs.Witnesses.{AreLastTerms}
 use Rattle.fort_run.proofs.WitnessTruth.{full-terms, IsTuple-terms, terms_in, terms-one, witnesses-count, witnesses-ground, said-witnesses, witnesses-said}
 
@@ -46,7 +45,7 @@ no_items : {A : Type 0} (xs : List A) → length xs ≡ 0 → xs ≡ []
 no_items [] e = refl
 no_items (x ∷ xs) e = absurd (omega arith)
 
-module _ (bytes : Text) (p : System) (input : IsInput bytes p) (f : Formula) (terms : List Tree) (last : Last)
+module _ (p : System) (lawful : IsLawful p) (f : Formula) (terms : List Tree) (last : Last)
     (decided : IsDecidedBy f (pattern_system p) terms last) where
   count : length (columns_of (core_of terms f)) ≡ length (free_names f)
   count = ap length (columns_of-core_of terms f) ∙ length-range_with_len 0 (length (free_names f))
@@ -62,12 +61,12 @@ module _ (bytes : Text) (p : System) (input : IsInput bytes p) (f : Formula) (te
 
     none-after : (us : List Tree) → AreWitnesses p terms f us → NotAfter [] (map Some us)
     none-after us are =
-        inl (ap (map Some) (sym (no_items us (witnesses-count bytes p input f terms last decided us are ∙ closed))))
+        inl (ap (map Some) (sym (no_items us (witnesses-count p lawful f terms last decided us are ∙ closed))))
 
     pub value-found : b ≡ true → WitnessVerdict p terms f positive witness_line
     value-found e =
         let said_true = ap (λ a. said (as_answer a) []) is ∙ e in
-        Found [] (record { are = witnesses-said bytes p input f terms last decided [] (sym closed) (All-nil (IsGround p.signature)) said_true; least = none-after })
+        Found [] (record { are = witnesses-said p lawful f terms last decided [] (sym closed) (All-nil (IsGround p.signature)) said_true; least = none-after })
         (record { same_status = refl; same_text = sym (ap (λ w. witness_line ++ w) (no_bindings p.signature (free_names f)) ∙ append-nil witness_line) })
 
     pub value-not_found : b ≡ false → WitnessVerdict p terms f negative none_line
@@ -75,7 +74,7 @@ module _ (bytes : Text) (p : System) (input : IsInput bytes p) (f : Formula) (te
         NotFound
         (λ m ground given h.
         let ts = free_trees f m in
-        let said_true = said-witnesses bytes p input f terms last decided ts (record { assignment = m; grounded = ground; given = given; holds = h; are = refl }) in
+        let said_true = said-witnesses p lawful f terms last decided ts (record { assignment = m; grounded = ground; given = given; holds = h; are = refl }) in
         let said_false = ap (λ a. said (as_answer a) (map Some ts)) is ∙ e in
         let absurdity : true ≡ false = sym said_true ∙ said_false in cc)
         (record { same_status = refl; same_text = refl })
@@ -93,12 +92,12 @@ module _ (bytes : Text) (p : System) (input : IsInput bytes p) (f : Formula) (te
     columns-count = own-table.over.columns_are ∙ count
 
     accepted : (ts : List Tree) → AreWitnesses p terms f ts → accepts (listed_table table) (map Some ts) ≡ true
-    accepted ts are = sym (ap (λ a. said (as_answer a) (map Some ts)) is) ∙ said-witnesses bytes p input f terms last decided ts are
+    accepted ts are = sym (ap (λ a. said (as_answer a) (map Some ts)) is) ∙ said-witnesses p lawful f terms last decided ts are
 
     tuple : (ts : List Tree) → AreWitnesses p terms f ts → IsTuple (listed_table table).signature (listed_table table).columns (map Some ts)
     tuple ts are =
         subst (λ s. IsTuple s (listed_table table).columns (map Some ts)) (sym own-table.over.signature)
-        (subst (λ n. IsTuple p.signature n (map Some ts)) (sym columns-count) (IsTuple-terms p.signature (length (free_names f)) ts names-some (witnesses-count bytes p input f terms last decided ts are) (witnesses-ground bytes p input f terms last decided ts are)))
+        (subst (λ n. IsTuple p.signature n (map Some ts)) (sym columns-count) (IsTuple-terms p.signature (length (free_names f)) ts names-some (witnesses-count p lawful f terms last decided ts are) (witnesses-ground p lawful f terms last decided ts are)))
 
     pub table-not_found : AcceptsNone (listed_table table) → WitnessVerdict p terms f negative none_line
     table-not_found none =
@@ -119,7 +118,7 @@ module _ (bytes : Text) (p : System) (input : IsInput bytes p) (f : Formula) (te
         let said_true = ap (λ a. said (as_answer a) (map Some ts)) is ∙ holds in
         Found ts
         (record {
-          are = witnesses-said bytes p input f terms last decided ts are.count ground said_true;
+          are = witnesses-said p lawful f terms last decided ts are.count ground said_true;
           least =
               λ us their.
               subst (λ t. NotAfter t (map Some us)) are.terms

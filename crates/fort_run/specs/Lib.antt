@@ -7,3 +7,4 @@ pub mod Ready
 pub mod Asked
 pub mod Answered
 pub mod Witnesses
+pub mod Samples

@@ -1,8 +1,8 @@
 -- Inside: a formula that was accepted, over a system that has all that it speaks of, and what deciding its core formula shows.
 use Rattle.std.specs.Prelude.{ℕ, ◌<◌, ◌^◌, List, length, get_or, Contains, All}
 use Rattle.fort_theory.specs.Trees.{Tree}
-use Rattle.fort_theory.specs.Signatures.{IsGround}
-use Rattle.fort_theory.specs.Sides.{IsIndexOf}
+use Rattle.fort_theory.specs.Signatures.{IsGround, HasConstant}
+use Rattle.fort_theory.specs.Sides.{System, IsLinearSeparated, IsIndexOf}
 use Rattle.fort_theory.specs.Patterns.{PatternSystem}
 use Rattle.fort_logic.specs.Formulas.{Formula}
 use Rattle.fort_logic.specs.Mentions.{indices, HasTermsFor}
@@ -19,6 +19,11 @@ use Rattle.fort_engine.specs.AnswerView.{as_answer, IsLimit}
 use Rattle.fort_engine.specs.declared.answer.Last.{Last}
 use Rattle.fort_engine.specs.declared.answer.Limit.{Limit}
 use Rattle.fort_run.specs.Limits.{IsLineOf}
+
+-- what every system that is asked about keeps: a constant, and rules that are linear and variable-separated
+pub record IsLawful (system : System) : Type 0 where
+  pub constant : HasConstant system.signature
+  pub separated : All (All IsLinearSeparated) system.rules
 
 -- not too wide, with a ground term for each that is written in it, and with indices of the system alone
 pub record IsReady (f : Formula) (system : PatternSystem) (terms : List Tree) : Type 0 where

@@ -10,6 +10,7 @@ mod outcome;
 mod question;
 mod refusal;
 mod reply;
+mod sample;
 mod status;
 #[cfg(test)]
 mod tests;

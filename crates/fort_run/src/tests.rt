@@ -6,6 +6,16 @@ use std::test::Fail;
 
 const ONE: &str = "(format TRS)\n(fun a 0)\n";
 
+const SAMPLE: &str = "sample 1
+CR NO
+WCR NO
+SCR NO
+WN NO
+UNR YES
+UNC YES
+NFP YES
+";
+
 fn strings(alloc: Global, words: &[&str]) -> Result<Vec<String>, AllocError> {
     let mut all = Vec::new(alloc);
     for word in words {
@@ -86,5 +96,27 @@ fn faults_of_devices(rt: HostRuntime) -> Result<(), Fail> {
     let mut sink = MemSink::new(alloc, 100, 100, &no_calls)?;
     let outcome = run(alloc, refused.as_slice(), &mut source, &mut sink);
     assert_eq!(rt; outcome.status, 3, "nothing is read");
+    Ok(())
+}
+
+#[test]
+fn samples_cut_short(rt: HostRuntime) -> Result<(), Fail> {
+    let alloc = rt.alloc();
+    let no_calls: [u64; 0] = [];
+    let words = strings(alloc, &["fort", "sample", "1"])?;
+    // The room, the piece and the failing call of the sink; the source fails at its first call, which never comes.
+    for (room, write, writes, status, text) in [
+        (100, 10, &no_calls[..], 0, SAMPLE),
+        (100, 10, &[1][..], 7, "sample 1\nC"),
+        (20, 100, &no_calls[..], 7, "sample 1\nCR NO\nWCR N"),
+        (0, 100, &no_calls[..], 7, ""),
+    ] {
+        let mut source = MemSource::new(alloc, b"", 8, &[0])?;
+        let mut sink = MemSink::new(alloc, room, write, writes)?;
+        let outcome = run(alloc, words.as_slice(), &mut source, &mut sink);
+        assert_eq!(rt; outcome.status, status, "{text}");
+        assert_eq!(rt; sink.taken(), text.as_bytes(), "{status}");
+        assert!(rt; outcome.limit.is_none(), "{status}");
+    }
     Ok(())
 }

@@ -2,6 +2,7 @@
 ghost use Rattle.std.specs.Prelude.{◌≡◌, ◌≤◌, ◌⊎◌, ◌↔◌, map, string_bytes, IfOk, IfSome, IsSome, OnOk, IsErrOf};
 ghost use Rattle.fort_io.specs.Devices.{FaultCounted};
 ghost use Rattle.fort_words.specs.RequestView.{as_request};
+ghost use Rattle.fort_answers.specs.SampleSizes.{HasSampleSize};
 ghost use Rattle.fort_answers.specs.Answer.{AnswerFor, AsksNothing, AsksSomething, NeedsInput, OwesTold};
 ghost use Rattle.fort_answers.specs.Lines.{last_answer, limited, negative, out_of_memory, read_failed, write_failed};
 ghost use Rattle.fort_run.specs.Answered.{Answers, CutsShort, IsDecidable, IsDecidableWithin, OwesOnly, OwesOnlyEarly, ReadsWhole};
@@ -13,6 +14,7 @@ use crate::formula::{Stop, ask};
 use crate::outcome::Outcome;
 use crate::question::Question;
 use crate::reply::Reply;
+use crate::sample::sample;
 use crate::status::Status;
 use fort_io::{Sink, Source, write_all};
 use fort_words::{Request, read_request};
@@ -24,6 +26,7 @@ fn reply_to_request<S: Source>(
     request: &Request<'_>,
     input: &mut S,
 ) -> Result<Reply, Stop>
+    requires { HasSampleSize (as_request request.now) }
     ensures ok { IfOk result (λ r.
         OwesTold (Some (as_request request.now)) (S.rest input.old) (status_of r) (text_of r)) }
     ensures limit { IfOk result (λ r. IfSome (limit_of r)
@@ -45,6 +48,10 @@ fn reply_to_request<S: Source>(
         Request::Witness { states, formula } => {
             ask(alloc, Question::Terms, states, formula, input)
         }
+        Request::Sample { n } => match sample(alloc, n) {
+            Ok(reply) => Ok(reply),
+            Err(AllocError) => Err(Stop::Memory),
+        },
         // The other requests aren't answered yet.
         _ => Ok(Reply::Usage),
     }

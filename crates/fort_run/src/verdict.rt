@@ -9,10 +9,8 @@ ghost use Rattle.fort_logic.specs.Translation.{core_of};
 ghost use Rattle.fort_formulas.specs.CoreView.{as_core};
 ghost use Rattle.fort_formulas.specs.FormulaView.{as_formula};
 ghost use Rattle.fort_parts.specs.DecidedCores.{IsDecided};
-ghost use Rattle.fort_answers.specs.InputAnswer.{IsInput};
-ghost use Rattle.fort_answers.specs.Requests.{Text};
 ghost use Rattle.fort_run.specs.Asked.{IsClosedFor, IsVerdict, VerdictOn};
-ghost use Rattle.fort_run.specs.Ready.{IsReady, IsDecidedBy, ShowsLimit};
+ghost use Rattle.fort_run.specs.Ready.{IsLawful, IsReady, IsDecidedBy, ShowsLimit};
 ghost use Rattle.fort_run.specs.ReplyView.{status_of, text_of, limit_of};
 ghost use Rattle.fort_run.specs.declared.question.Question.TheVariants.{Truth};
 
@@ -51,8 +49,8 @@ fn core_for(
 fn truth(last: &Last) -> Reply
     requires { (f : logic.Formula) × (system : PatternSystem) × (terms : List Tree)
         × IsClosedFor Truth f × IsDecidedBy f system terms last.now }
-    ensures says { (f : logic.Formula) (p : theory.System) (terms : List Tree) (bytes : Text)
-        → IsInput bytes p → IsClosedFor Truth f → IsDecidedBy f (pattern_system p) terms last.now
+    ensures says { (f : logic.Formula) (p : theory.System) (terms : List Tree)
+        → IsLawful p → IsClosedFor Truth f → IsDecidedBy f (pattern_system p) terms last.now
         → VerdictOn Truth p terms f (status_of result) (text_of result) }
     ensures limit { limit_of result ≡ None }
 {
@@ -74,8 +72,8 @@ fn reply_to_question(
     requires closed { IsClosedFor question (as_formula formula.now) }
     requires decided { (terms : List Tree)
         × IsDecidedBy (as_formula formula.now) system.now terms last.now }
-    ensures says { IfOk result (λ r. (p : theory.System) (terms : List Tree) (bytes : Text)
-        → IsInput bytes p → system.now ≡ pattern_system p
+    ensures says { IfOk result (λ r. (p : theory.System) (terms : List Tree)
+        → IsLawful p → system.now ≡ pattern_system p
         → IsDecidedBy (as_formula formula.now) system.now terms last.now
         → VerdictOn question p terms (as_formula formula.now) (status_of r) (text_of r)) }
     ensures limit { IfOk result (λ r. limit_of r ≡ None) }
@@ -97,7 +95,7 @@ pub fn verdict(
 ) -> Result<Reply, AllocError>
     requires ready { IsReady (as_formula formula.now) system.now terms.now }
     requires closed { IsClosedFor question (as_formula formula.now) }
-    ensures ok { IfOk result (λ r. (bytes : Text) (p : theory.System) → IsInput bytes p
+    ensures ok { IfOk result (λ r. (p : theory.System) → IsLawful p
         → system.now ≡ pattern_system p
         → IsVerdict question p terms.now (as_formula formula.now) states (status_of r) (text_of r)) }
     ensures limit { IfOk result (λ r. IfSome (limit_of r)

@@ -7,12 +7,10 @@ ghost use Rattle.fort_theory.specs.Trees.{Tree};
 ghost use Rattle.fort_logic.specs.FreeNames as names;
 ghost use Rattle.fort_formulas.specs.FormulaView.{as_formula};
 ghost use Rattle.fort_tables.specs.Entries.{AreNodes};
-ghost use Rattle.fort_answers.specs.InputAnswer.{IsInput};
 ghost use Rattle.fort_answers.specs.Lines.{witness_line};
-ghost use Rattle.fort_answers.specs.Requests.{Text};
 ghost use Rattle.fort_answers.specs.WitnessAnswer.{bindings};
 ghost use Rattle.fort_run.specs.Asked.{VerdictOn};
-ghost use Rattle.fort_run.specs.Ready.{IsDecidedBy};
+ghost use Rattle.fort_run.specs.Ready.{IsLawful, IsDecidedBy};
 ghost use Rattle.fort_run.specs.ReplyView.{status_of, text_of, limit_of};
 ghost use Rattle.fort_run.specs.Witnesses.{AreLastTerms};
 ghost use Rattle.fort_run.specs.declared.question.Question.TheVariants.{Terms};
@@ -61,8 +59,8 @@ pub fn witness(
 ) -> Result<Reply, AllocError>
     requires { (system : PatternSystem) × (terms : List Tree) × (signature.now ≡ system.signature)
         × IsDecidedBy (as_formula formula.now) system terms last.now }
-    ensures says { IfOk result (λ r. (p : theory.System) (terms : List Tree) (bytes : Text)
-        → IsInput bytes p → signature.now ≡ p.signature
+    ensures says { IfOk result (λ r. (p : theory.System) (terms : List Tree)
+        → IsLawful p → signature.now ≡ p.signature
         → IsDecidedBy (as_formula formula.now) (pattern_system p) terms last.now
         → VerdictOn Terms p terms (as_formula formula.now) (status_of r) (text_of r)) }
     ensures limit { IfOk result (λ r. limit_of r ≡ None) }

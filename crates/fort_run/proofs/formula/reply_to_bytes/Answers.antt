@@ -5,6 +5,7 @@ use Rattle.fort_logic.specs.Translation.{core_of}
 use Rattle.fort_formulas.specs.FormulaView.{as_formula}
 use Rattle.fort_answers.specs.InputAnswer.{IsInputRefused}
 use Rattle.fort_answers.specs.FitAnswer.{IsUnfit}
+use Rattle.fort_run.proofs.LinearRules.{IsInput-lawful}
 use Rattle.fort_run.proofs.FormulaRefusals.{refused_by_line}
 use Rattle.fort_run.specs.Asked.{IsVerdict}
 use Rattle.fort_run.specs.Ready.{IsReady, ShowsLimit}
@@ -47,7 +48,7 @@ returns-in-Ok-terms_of-clause-ok c =
     let terms = c.in-Ok-terms_of.terms.items in
     let fits = c.in-Ok-terms_of.ensures.ok text input.0 is.grounds input.2 in
     fit c.args.question c.args.states text f c.args.bytes.items input.0 terms (status_of r) (text_of r) is.askable input.1 fits
-    (subst (λ ts. IsVerdict c.args.question input.0 ts f c.args.states (status_of r) (text_of r)) c.deref.ensures.value (says c.args.bytes.items input.0 input.1 input.2)))
+    (subst (λ ts. IsVerdict c.args.question input.0 ts f c.args.states (status_of r) (text_of r)) c.deref.ensures.value (says input.0 (IsInput-lawful c.args.bytes.items input.0 input.1) input.2)))
     c.verdict.ensures.ok
 
 pub returns-in-Ok-terms_of-clause-limit : goal.returns-in-Ok-terms_of-clause-limit

@@ -8,16 +8,16 @@ use Rattle.fort_run.specs.ReplyView.{status_of, text_of}
 use Rattle.fort_run.proofs.verdict.reply_to_question.Goals as goal
 
 pub returns-in-Truth-clause-says : goal.returns-in-Truth-clause-says
-returns-in-Truth-clause-says c = λ p terms bytes input same decided.
+returns-in-Truth-clause-says c = λ p terms lawful same decided.
     let f = as_formula c.args.formula.now in
     subst (λ q. VerdictOn q p terms f (status_of c.truth.result) (text_of c.truth.result)) (sym c.in-Truth.is)
-    (c.truth.ensures.says f p terms bytes input (subst (λ q. IsClosedFor q f) c.in-Truth.is c.requires.closed)
+    (c.truth.ensures.says f p terms lawful (subst (λ q. IsClosedFor q f) c.in-Truth.is c.requires.closed)
     (subst (λ s. IsDecidedBy f s terms c.args.last.now) same decided))
 
 pub returns-in-Terms-clause-says : goal.returns-in-Terms-clause-says
 returns-in-Terms-clause-says c =
     let f = as_formula c.args.formula.now in
-    IfOk-weaker c.witness.result _ _ (λ r says. λ p terms bytes input same decided.
+    IfOk-weaker c.witness.result _ _ (λ r says. λ p terms lawful same decided.
     subst (λ q. VerdictOn q p terms f (status_of r) (text_of r)) (sym c.in-Terms.is)
-    (says p terms bytes input (c.signature.ensures.same ∙ ap (λ (s : PatternSystem). s.signature) same) (subst (λ s. IsDecidedBy f s terms c.args.last.now) same decided)))
+    (says p terms lawful (c.signature.ensures.same ∙ ap (λ (s : PatternSystem). s.signature) same) (subst (λ s. IsDecidedBy f s terms c.args.last.now) same decided)))
     c.witness.ensures.says

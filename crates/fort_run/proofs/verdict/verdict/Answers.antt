@@ -20,10 +20,10 @@ returns-in-Ok-clause-ok c =
     let f = as_formula c.args.formula.now in
     let terms = c.args.terms.now in
     let system = c.args.system.now in
-    IfOk-weaker c.reply_to_question.result _ _ (λ r says. λ bytes p input same.
+    IfOk-weaker c.reply_to_question.result _ _ (λ r says. λ p lawful same.
     Says
     (subst (λ s. KeepsCapAt s (core_of terms f) c.args.states) same (subst (λ k. KeepsCapAt system k c.args.states) c.in_ok-core.ensures.is c.in-Ok.ensures.within))
-    (says p terms bytes input same
+    (says p terms lawful same
     (record {
       ready = c.requires.ready;
       keeps = subst (KeepsTruth terms f) c.in_ok-core.ensures.is c.in_ok-core.ensures.truth;
@@ -32,7 +32,7 @@ returns-in-Ok-clause-ok c =
     c.reply_to_question.ensures.says
 
 pub returns-clause-ok : goal.returns-clause-ok
-returns-clause-ok c = λ bytes p input same.
+returns-clause-ok c = λ p lawful same.
     let f = as_formula c.args.formula.now in
     let terms = c.args.terms.now in
     let limit = c.in-Err-Over.limit in

@@ -1,4 +1,4 @@
-use Rattle.std.proofs.Common.{◌≡◌, ◌≤◌, ◌++◌, true, false, length, sym, subst, arith}
+use Rattle.std.proofs.Common.{◌≡◌, ◌++◌, true, false, sym, subst, arith}
 use Rattle.std.specs.Prelude.{IfSome, IfNone}
 use Rattle.fort_logic.specs.FreeNames.{free_names}
 use Rattle.fort_tables.specs.Tables.{listed_table}
@@ -24,27 +24,27 @@ witness_text-requires-clause-terms c =
     (one.0, subst (λ s. AreLastTerms s (free_names f) c.in-Some.dag one.0) (sym c.requires.2) one.1)
 
 pub returns-in_ok-from_slice-in-Truth-true-clause-says : goal.returns-in_ok-from_slice-in-Truth-true-clause-says
-returns-in_ok-from_slice-in-Truth-true-clause-says c = λ p terms bytes input same decided.
+returns-in_ok-from_slice-in-Truth-true-clause-says c = λ p terms lawful same decided.
     let f = as_formula c.args.formula.now in
     subst (λ t. WitnessVerdict p terms f positive t) (sym c.in_ok-from_slice-in-Truth-true.ensures.items)
-    (value-found bytes p input f terms c.args.last.now decided c.in-Truth-true.field-0 c.in-Truth-true.is (let e : c.in-Truth-true.field-0 ≡ true = cc in e))
+    (value-found p lawful f terms c.args.last.now decided c.in-Truth-true.field-0 c.in-Truth-true.is (let e : c.in-Truth-true.field-0 ≡ true = cc in e))
 
 pub returns-in-Truth-false-clause-says : goal.returns-in-Truth-false-clause-says
-returns-in-Truth-false-clause-says c = λ p terms bytes input same decided.
-    value-not_found bytes p input (as_formula c.args.formula.now) terms c.args.last.now decided c.in-Truth-false.field-0 c.in-Truth-false.is
+returns-in-Truth-false-clause-says c = λ p terms lawful same decided.
+    value-not_found p lawful (as_formula c.args.formula.now) terms c.args.last.now decided c.in-Truth-false.field-0 c.in-Truth-false.is
     (let e : c.in-Truth-false.field-0 ≡ false = cc in e)
 
 pub returns-in_ok-witness_text-in-Some-clause-says : goal.returns-in_ok-witness_text-in-Some-clause-says
-returns-in_ok-witness_text-in-Some-clause-says c = λ p terms bytes input same decided.
+returns-in_ok-witness_text-in-Some-clause-says c = λ p terms lawful same decided.
     let f = as_formula c.args.formula.now in
     let w = subst (λ o. IfSome o (λ nodes. IsWitness (listed_table c.in-Auto.table) nodes)) c.in-Some.is c.in_ok-dag-in-Auto.ensures.some in
     let one = last_terms_of f _ terms c.args.last.now c.in-Auto.table c.in-Some.dag c.in-Auto.is decided w in
     let here = subst (λ s. AreLastTerms s (free_names f) c.in-Some.dag one.0) (sym same) one.1 in
     let text = c.in_ok-witness_text-in-Some.ensures one.0 here in
-    table-found bytes p input f terms c.args.last.now decided c.in-Auto.table c.in-Auto.is c.in-Some.dag one.0 c.in_ok-witness_text-in-Some.field-0.items w one.1
+    table-found p lawful f terms c.args.last.now decided c.in-Auto.table c.in-Auto.is c.in-Some.dag one.0 c.in_ok-witness_text-in-Some.field-0.items w one.1
     (subst (λ s. c.in_ok-witness_text-in-Some.field-0.items ≡ witness_line ++ bindings s (free_names f) one.0) same text)
 
 pub returns-in-None-clause-says : goal.returns-in-None-clause-says
-returns-in-None-clause-says c = λ p terms bytes input same decided.
-    table-not_found bytes p input (as_formula c.args.formula.now) terms c.args.last.now decided c.in-Auto.table c.in-Auto.is
+returns-in-None-clause-says c = λ p terms lawful same decided.
+    table-not_found p lawful (as_formula c.args.formula.now) terms c.args.last.now decided c.in-Auto.table c.in-Auto.is
     (subst (λ o. IfNone o (AcceptsNone (listed_table c.in-Auto.table))) c.in-None.is c.in_ok-dag-in-Auto.ensures.none)

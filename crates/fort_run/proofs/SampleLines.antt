@@ -1,0 +1,65 @@
+-- The lines of a sample, one after another, and the answer that they are.
+use Rattle.std.proofs.Common.{◌≡◌, ℕ, List, [], ◌∷◌, ◌++◌, refl, sym, ap, ◌∙◌, append-nil, append_assoc}
+use Rattle.std.specs.Prelude.{codes, decimal}
+use Rattle.fort_theory.specs.Sides.{System}
+use Rattle.fort_theory.specs.Patterns.{PatternSystem, pattern_system}
+use Rattle.fort_logic.specs.Formulas.{Property, Has}
+use Rattle.fort_formula_grammar.specs.Tokens.{property_text}
+use Rattle.fort_answers.specs.Requests.{Text}
+use Rattle.fort_answers.specs.Lines.{positive}
+use Rattle.fort_answers.specs.DecideAnswer as decide
+use Rattle.fort_answers.specs.MadeProblem.{made_system}
+use Rattle.fort_answers.specs.SampleAnswer.{sample_cap, sample_line, sample_properties, PropertyVerdict, Over, Yes, No, IsPropertyLine, ArePropertyLines, SampleAnswer}
+use Rattle.fort_answers.specs.SampleSizes.{IsSampleSize}
+use Rattle.fort_answers.proofs.MadeLaws.{made_system-constant, made_system-separated}
+use Rattle.fort_run.specs.declared.question.Question.TheVariants.{Truth}
+use Rattle.fort_run.specs.Asked.{IsVerdict, Limits, Says}
+use Rattle.fort_run.specs.Ready.{IsLawful}
+use Rattle.fort_run.specs.Samples.{AddsLine, AddsLines}
+
+-- whether a property holds is what its line says
+property_says : (p : System) (q : Property) (status : ℕ) (text : Text) → IsVerdict Truth p [] (Has q 1) sample_cap status text → PropertyVerdict p q text
+property_says p q status text (Limits k kind over are) = Over k kind over are.same_text
+property_says p q status text (Says keeps (decide.Yes holds are)) = Yes keeps holds are.same_text
+property_says p q status text (Says keeps (decide.No fails are)) = No keeps fails are.same_text
+
+-- the name, a blank and the answer are a line
+pub line_added : (system : PatternSystem) (q : Property) (status : ℕ) (answer t0 t1 t2 t3 name : Text)
+    → ((p : System) → IsLawful p → system ≡ pattern_system p → IsVerdict Truth p [] (Has q 1) sample_cap status answer)
+    → name ≡ property_text q → t1 ≡ t0 ++ name → t2 ≡ t1 ++ codes " " → t3 ≡ t2 ++ answer → AddsLine system q t0 t3
+line_added system q status answer t0 t1 t2 t3 name says named first second third = λ p lawful same. (
+  property_text q ++ (codes " " ++ answer),
+  third ∙ (ap (λ t. t ++ answer) (second ∙ ap (λ t. t ++ codes " ") (first ∙ ap (λ t. t0 ++ t) named)) ∙ regroup t0 (property_text q) (codes " ") answer),
+  record { verdict = answer; says = property_says p q status answer (says p lawful same); is = refl },
+)
+  where
+    regroup : (a b c d : Text) → ((a ++ b) ++ c) ++ d ≡ a ++ (b ++ (c ++ d))
+    regroup a b c d = simp append_assoc
+
+-- ---- lines one after another
+
+ArePropertyLines-push : (p : System) (qs : List Property) (q : Property) (lines line : Text) → ArePropertyLines p qs lines → IsPropertyLine p q line
+    → ArePropertyLines p (qs ++ q ∷ []) (lines ++ line)
+ArePropertyLines-push p [] q lines line are is = (line, [], is, refl, ap (λ t. t ++ line) are ∙ sym (append-nil line))
+ArePropertyLines-push p (r ∷ qs) q lines line (first, rest, here, behind, split) is =
+    (first, rest ++ line, here, ArePropertyLines-push p qs q rest line behind is, ap (λ t. t ++ line) split ∙ append_assoc first rest line)
+
+pub no_lines : (system : PatternSystem) (t : Text) → AddsLines system [] t t
+no_lines system t = λ p lawful same. ([], sym (append-nil t), refl)
+
+pub more_lines : (system : PatternSystem) (qs : List Property) (q : Property) (t0 t1 t2 : Text) → AddsLines system qs t0 t1 → AddsLine system q t1 t2
+    → AddsLines system (qs ++ q ∷ []) t0 t2
+more_lines system qs q t0 t1 t2 before here = λ p lawful same.
+    let b = before p lawful same in
+    let h = here p lawful same in
+    (b.0 ++ h.0, h.1 ∙ (ap (λ t. t ++ h.0) b.1 ∙ append_assoc t0 b.0 h.0), ArePropertyLines-push p qs q b.0 h.0 b.2 h.2)
+
+-- ---- the answer
+
+pub sample_answer : (n : ℕ) (system : PatternSystem) (t0 t1 t2 t3 : Text) → IsSampleSize n → system ≡ pattern_system (made_system n) → t0 ≡ codes "sample "
+    → t1 ≡ t0 ++ decimal n → t2 ≡ t1 ++ 10 ∷ [] → AddsLines system sample_properties t2 t3 → SampleAnswer n positive t3
+sample_answer n system t0 t1 t2 t3 size made first second third added =
+    let lawful : IsLawful (made_system n) = record { constant = made_system-constant n size.low; separated = made_system-separated n } in
+    let a = added (made_system n) lawful made in
+    let head : t2 ≡ sample_line n = third ∙ ap (λ t. t ++ 10 ∷ []) (second ∙ ap (λ t. t ++ decimal n) first) in
+    record { lines = a.0; are_lines = a.2; are = record { same_status = refl; same_text = a.1 ∙ ap (λ t. t ++ a.0) head } }

@@ -1,0 +1,2 @@
+pub mod MadeNames
+pub mod MadeRules
