@@ -57,7 +57,7 @@ fn refusal_of(
         return Ok(Some(Vec::from_slice(alloc, b"REFUSED formula too wide\n")?));
     }
     match question {
-        Question::Truth => open_refusal(alloc, formula),
+        Question::Truth | Question::Certificate => open_refusal(alloc, formula),
         Question::Terms => Ok(None),
     }
 }

@@ -7,4 +7,6 @@ pub enum Question {
     Truth,
     /// The least terms for its free variables that satisfy it.
     Terms,
+    /// A certificate of whether it is true; it must be closed.
+    Certificate,
 }

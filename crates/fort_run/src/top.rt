@@ -52,8 +52,13 @@ fn reply_to_request<S: Source>(
             Ok(reply) => Ok(reply),
             Err(AllocError) => Err(Stop::Memory),
         },
-        // The other requests aren't answered yet.
-        _ => Ok(Reply::Usage),
+        Request::Decide {
+            states,
+            certificate: true,
+            formula,
+        } => ask(alloc, Question::Certificate, states, formula, input),
+        // This request isn't answered yet.
+        Request::Check { .. } => Ok(Reply::Usage),
     }
 }
 

@@ -24,7 +24,7 @@ use fort_terms::{System, Term};
 use std::alloc::{AllocError, Global};
 
 /// The core formula of a formula that speaks of nothing but what the system has.
-fn core_for(
+pub fn core_for(
     alloc: Global,
     system: &System,
     formula: &Formula,
@@ -79,7 +79,7 @@ fn reply_to_question(
     ensures limit { IfOk result (λ r. limit_of r ≡ None) }
 {
     match question {
-        Question::Truth => Ok(truth(last)),
+        Question::Truth | Question::Certificate => Ok(truth(last)),
         Question::Terms => witness(alloc, system.signature(), formula, last),
     }
 }
@@ -102,6 +102,16 @@ pub fn verdict(
         (ShowsLimit system.now (core_of terms.now (as_formula formula.now)) states (text_of r))) }
 {
     let core = core_for(alloc, system, formula, terms)?;
+    if question == Question::Certificate {
+        return match fort_trace::decide_with_steps(alloc, system, &core, states) {
+            Ok(r) => Ok(Reply::Found(fort_certificate::text(alloc, system.number(), r.verdict, r.steps.as_slice())?)),
+            Err(EngineFault::Memory) => Err(AllocError),
+            Err(EngineFault::Over(limit)) => {
+                let line = limit_line(alloc, limit.part, limit.kind, states)?;
+                Ok(Reply::Limited(line, limit))
+            }
+        };
+    }
     match decide_core(alloc, system, &core, states) {
         Ok(trace) => reply_to_question(alloc, question, system, formula, &trace.last),
         Err(EngineFault::Memory) => Err(AllocError),

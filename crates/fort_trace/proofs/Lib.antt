@@ -1,0 +1,7 @@
+pub mod ListLaws
+pub mod TargetLaws
+pub mod ClosureLaws
+pub mod CountLaws
+pub mod AnswerLaws
+pub mod RecordLaws
+pub mod TestLaws

@@ -1,0 +1,355 @@
+-- The steps of a part make its answer, and the recording goes on with the next part.
+use Rattle.std.proofs.Common.{◌≡◌, ℕ, zero, suc, ◌+◌, ◌<◌, ◌≤◌, List, [], ◌∷◌, ◌++◌, map, take, length, get_or, Bool, true, false, nat_lt, Option, None, Some, Ok, true≢false, refl, ap, sym, ◌∙◌, arith, subst, inl, inr, ⊎_elim, append_assoc, append-nil, length-append}
+use Rattle.std.proofs.lemmas.Bool.{cases_eq, cases_Bool, lt-ltb}
+use Rattle.std.proofs.lemmas.List.{take_all, length-take-le, get_or_push, get_or_append_left}
+use Rattle.std.proofs.Math.Seq.{take-suc}
+use Rattle.std.proofs.lemmas.List.Elements.{Contains-get_or}
+use Rattle.fort_theory.specs.Signatures.{most_columns}
+use Rattle.fort_theory.specs.Patterns.{PatternSystem, IsSystem}
+use Rattle.fort_logic.specs.Cores as core
+use Rattle.fort_logic.specs.Cores.{Core}
+use Rattle.fort_logic.specs.Parts.{postorder, BindsFree, IsClosed}
+use Rattle.fort_logic.specs.PartLists.{AreParts}
+use Rattle.fort_logic.specs.Kinds.{kind_of}
+use Rattle.fort_logic.specs.PatternStructures.{pattern_structure}
+use Rattle.fort_tables.specs.Tables.{Listed, listed_table}
+use Rattle.fort_parts.specs.PartColumns.{columns_of}
+use Rattle.fort_parts.specs.PartAnswers.{Answer, OfValue, OfTable, IsAnswerTo}
+use Rattle.fort_parts.specs.DecidedCores.{IsDecided, IsOperandOf}
+use Rattle.fort_parts.specs.RightAnswers.{IsRightFor, HasTooMany}
+use Rattle.fort_parts.specs.AlikeParts.{IsPartOver}
+use Rattle.fort_formulas.specs.KindView.{as_kind}
+use Rattle.fort_parts.proofs.PartFacts.{BindsFree-part, columns_of-few}
+use Rattle.fort_certificate_grammar.specs.Certificates as certificates
+use Rattle.fort_in_order.specs.Dues.{DueStep, has_columns, is_turned, closures_due, counts_due, answer_due, parts_due, dues}
+use Rattle.fort_in_order.specs.Made.{Made, nothing_made, IsPartAt, IsAnswerOf, OfStep, Turned}
+use Rattle.fort_in_order.specs.Checked.{AreSteps, last_value}
+use Rattle.fort_in_order.specs.Written.{IsWrittenStep, IsWritten}
+use Rattle.fort_in_order.proofs.RuleLaws.{part_one, answer_one}
+use Rattle.fort_in_order_laws.proofs.FineSteps.{HasClosures}
+use Rattle.fort_in_order_laws.proofs.CertifiedTruth.{moved_answer, asked_closures, last_part, no_columns_closed}
+use Rattle.fort_in_order_laws.proofs.StepLists.{steps_append, parts_due-push}
+use Rattle.fort_in_order_laws.proofs.AnsweredParts.{AreOperandsRight, AreCountsRight, labels_of, value_of}
+use Rattle.fort_in_order_laws.proofs.StepsOfParts.{last_value-push, kept_answer, AreCountsDone, IsAnswerDone, no_counts_done, counts_done, value_done, table_done, turned_done, HasClosures-written}
+use Rattle.fort_engine.specs.declared.answer.Last.{Last}
+use Rattle.fort_engine.specs.declared.answer.Last.TheVariants.{Truth, Auto}
+use Rattle.fort_engine.specs.AnswerView.{as_answer, IsLimit}
+use Rattle.fort_engine.specs.declared.answer.Limit.{Limit}
+use Rattle.fort_engine.specs.Uses.{AreLastUses, HasRightAnswer}
+use Rattle.fort_engine.specs.Deciding.{IsFit, HasOperands, IsDecision}
+use Rattle.fort_engine.proofs.DecideLaws.{IsFit-part, IsSoFar-none, HasOperands-part, IsSoFar-more, HasRightAnswer-root, none_over, IsLimit-part}
+use Rattle.fort_steps.specs.declared.step.Step.{Step}
+use Rattle.fort_steps.specs.StepView.{as_step}
+use Rattle.fort_trace.specs.Recording.{AddsSteps, AreOperandsMade, CountsAdded, is_negation, AnswerAdded, HasRightSteps, IsReadyFor, IsPartRecorded, IsRecordedTo, IsPlanned, IsRecording}
+
+-- ---- one part
+
+operands_right : (system : PatternSystem) (cap : ℕ) (parts : List Core) (made : Made) (kept : List (Option Last)) (f : Core) → HasOperands system cap parts kept f → AreOperandsMade parts made kept f
+    → AreOperandsRight system parts made f
+operands_right system cap parts made kept f operands made_are g o =
+    let h = operands g o in
+    let r = h.right h.earlier.place h.earlier.before h.earlier.is in
+    record { answer = as_answer r.answer; made_is = made_are g o h.earlier.place r.answer h.earlier.before h.earlier.is r.is; right = r.right }
+
+-- the counts of part k
+record HasCountsDone (system : PatternSystem) (parts : List Core) (k : ℕ) (made : Made) (f : Core) (old new : List Step) : Type 0 where
+  added : List certificates.Step
+  mid : Made
+  all : map as_step new ≡ map as_step old ++ added
+  done : AreCountsDone system parts k made f added mid
+
+module _ (system : PatternSystem) (root : Core) (parts : List Core) (are : AreParts root parts) (k : ℕ) (made : Made) (closures : HasClosures system parts (1 + length system.rules) made) where
+  no_counts : (f : Core) (old new : List Step) → counts_due k f ≡ [] → AreCountsRight system parts made k f → new ≡ old → HasCountsDone system parts k made f old new
+  no_counts f old new e counts same = record {
+    added = [];
+    mid = made;
+    all = ap (map as_step) same ∙ sym (append-nil (map as_step old));
+    done = no_counts_done system parts k made closures f e counts;
+  }
+
+  counts_recorded : (f : Core) (old new : List Step) → get_or parts k core.True ≡ f → AreOperandsRight system parts made f → CountsAdded parts made k f old new → HasCountsDone system parts k made f old new
+  counts_recorded core.True old new e operands h = no_counts core.True old new refl tt h
+  counts_recorded (core.Atom rel index x y) old new e operands h = no_counts (core.Atom rel index x y) old new refl tt h
+  counts_recorded (core.Nf index x) old new e operands h = no_counts (core.Nf index x) old new refl tt h
+  counts_recorded (core.Is x term) old new e operands h = no_counts (core.Is x term) old new refl tt h
+  counts_recorded (core.Not f) old new e operands h = no_counts (core.Not f) old new refl tt h
+  counts_recorded (core.And f g) old new e operands h = no_counts (core.And f g) old new refl tt h
+  counts_recorded (core.Or f g) old new e operands h = no_counts (core.Or f g) old new refl tt h
+  counts_recorded (core.Iff f g) old new e operands h = no_counts (core.Iff f g) old new refl tt h
+  counts_recorded (core.Exists n f) old new e operands h = no_counts (core.Exists n f) old new refl tt h
+  counts_recorded (core.Infinite n f) old new e operands h =
+      let r = operands f refl in
+      let m = h.made_are in
+      let same = answer_one root parts are made f r.answer (OfTable m.table) r.made_is m.body in
+      record {
+        added = certificates.Counts k h.counts ∷ [];
+        mid = _;
+        all = h.step;
+        done = counts_done system parts k made closures n f m.table m.are.states h.counts e m.body (subst (IsRightFor system f) same r.right) m.are.pure m.are.counts;
+      }
+
+-- with columns a negation is turned
+turned_negation : (f : Core) → has_columns f ≡ true → is_turned f ≡ is_negation f
+turned_negation core.True h = refl
+turned_negation (core.Atom rel index x y) h = refl
+turned_negation (core.Nf index x) h = refl
+turned_negation (core.Is x term) h = refl
+turned_negation (core.Not f) h = h
+turned_negation (core.And f g) h = refl
+turned_negation (core.Or f g) h = refl
+turned_negation (core.Iff f g) h = refl
+turned_negation (core.Exists n f) h = refl
+turned_negation (core.Infinite n f) h = refl
+
+-- its answer
+record HasAnswerDone (system : PatternSystem) (parts : List Core) (k : ℕ) (made : Made) (answer : Last) (old new : List Step) : Type 0 where
+  added : List certificates.Step
+  last : Made
+  all : map as_step new ≡ map as_step old ++ added
+  done : IsAnswerDone system parts k made (as_answer answer) added last
+  value : (v : Bool) → answer ≡ Truth v → last_value (map as_step new) ≡ Some v
+
+truth_same : (a b : Bool) → Truth a ≡ Truth b → a ≡ b
+truth_same a b h = cc
+
+module _ (system : PatternSystem) (is : IsSystem system) (root : Core) (decided : IsDecided system root) (parts : List Core) (are : AreParts root parts) (k : ℕ) (within : k < length parts) where
+  abbrev own : Core
+  own = get_or parts k core.True
+
+  binds : BindsFree own
+  binds = BindsFree-part root own decided.well_formed.binders ((are.same own).1 (Contains-get_or parts k core.True within))
+
+  few : length (columns_of own) ≤ most_columns
+  few = columns_of-few root own decided.well_formed ((are.same own).1 (Contains-get_or parts k core.True within))
+
+  answer_recorded : (made : Made) (answer : Last) (old new : List Step) → HasClosures system parts (1 + length system.rules) made → AreOperandsRight system parts made own → AreCountsRight system parts made k own
+      → IsRightFor system own (as_answer answer) → (is_turned own ≡ true → IsAnswerOf parts made own (as_answer answer)) → AnswerAdded k own answer old new → HasAnswerDone system parts k made answer old new
+  answer_recorded made (Truth b) old new closures operands counts right turned h =
+      let none : has_columns own ≡ false = ap (λ xs. nat_lt 0 (length xs)) right.answers.over in
+      let value = value_of system is parts made k own b none binds operands counts right.answers in
+      record {
+        added = certificates.Value k b ∷ [];
+        last = _;
+        all = h;
+        done = value_done system parts k made closures within b none value;
+        value = λ v e. ap last_value h ∙ (last_value-push (map as_step old) k b ∙ ap Some (truth_same b v e));
+      }
+  answer_recorded made (Auto table) old new closures operands counts right turned h =
+      let some : has_columns own ≡ true = lt-ltb 0 (length (columns_of own)) right.answers.over.some in
+      let same = turned_negation own some in
+      elim (cases_Bool (is_negation own)) [
+        | inl negation ↦ record {
+          added = [];
+          last = made;
+          all = ap (map as_step) (h.turned negation) ∙ sym (append-nil (map as_step old));
+          done = turned_done system parts k made closures within (OfTable (listed_table table)) some (same ∙ negation) (turned (same ∙ negation));
+          value = λ v e. absurd cc;
+        }
+        | inr other ↦
+            let t = h.targets other in
+            let asked = asked_closures system root parts are is decided k made within closures in
+            let labels = labels_of system is parts made k own some (same ∙ other) few binds asked operands counts in
+            record {
+              added = certificates.Part k table.targets ∷ [];
+              last = _;
+              all = t.step;
+              done = table_done system parts k made closures within is table some (same ∙ other) labels t.lawful t.finals right;
+              value = λ v e. absurd cc;
+            }
+      ]
+
+  -- Result
+  pub part_recorded : (cap : ℕ) (kept : List (Option Last)) (made : Made) (answer : Last) (old mid new : List Step) → HasOperands system cap parts kept own → HasClosures system parts (1 + length system.rules) made
+      → AreOperandsMade parts made kept own → CountsAdded parts made k own old mid → IsRightFor system own (as_answer answer) → (is_turned own ≡ true → IsAnswerOf parts made own (as_answer answer))
+      → AnswerAdded k own answer mid new → IsPartRecorded system parts k made answer old new
+  part_recorded cap kept made answer old mid new operands closures made_are counts right turned added =
+      let before = operands_right system cap parts made kept own operands made_are in
+      let c = counts_recorded system root parts are k made closures own old mid refl before counts in
+      let after : AreOperandsRight system parts c.mid own =
+      λ g o. let r = before g o in record { answer = r.answer; made_is = moved_answer parts made c.mid g r.answer (sym c.done.answers) r.made_is; right = r.right } in
+      let a =
+      answer_recorded c.mid answer mid new c.done.closures after c.done.counts right (λ t. moved_answer parts made c.mid own (as_answer answer) (sym c.done.answers) (turned t)) added in
+      record {
+        added = c.added ++ a.added;
+        last = a.last;
+        all = a.all ∙ (ap (λ xs. xs ++ a.added) c.all ∙ append_assoc (map as_step old) c.added a.added);
+        done = steps_append (IsWrittenStep system parts) made c.mid a.last (counts_due k own) (answer_due k own) c.added a.added c.done.done a.done.done;
+        closures = a.done.closures;
+        others = λ j other. a.done.others j other ∙ ap (λ (m : ℕ → Answer). m j) c.done.answers;
+        is = a.done.is;
+        value = a.value;
+      }
+
+-- ---- part after part
+
+-- the answer of a part that has a step
+made_at : (root : Core) (parts : List Core) → AreParts root parts → (k : ℕ) (made : Made) (f : Core) (answer : Answer) → IsPartAt parts k f → is_turned f ≡ false → IsAnswerOf parts made f answer → made.answers k ≡ answer
+made_at root parts are k made f answer at t (OfStep i p u a) = ap made.answers (part_one root parts are f k i at p) ∙ a
+made_at root parts are k made f answer at t (Turned body h r) = absurd (true≢false (sym h ∙ t))
+
+some_same : (a b : Last) → Some a ≡ Some b → a ≡ b
+some_same a b h = cc
+
+pub IsRecordedTo-none : (system : PatternSystem) (parts : List Core) (uses : List ℕ) (steps : List Step) → AddsSteps system parts nothing_made (closures_due parts (length system.rules) 1) [] steps
+    → IsRecordedTo system parts uses 0 [] steps
+IsRecordedTo-none system parts uses steps h = record {
+  made = h.last;
+  done = subst (λ (ds : List DueStep). AreSteps (IsWrittenStep system parts) nothing_made ds (map as_step steps) h.last) (sym (append-nil (closures_due parts (length system.rules) 1)))
+      (subst (λ (ss : List certificates.Step). AreSteps (IsWrittenStep system parts) nothing_made (closures_due parts (length system.rules) 1) ss h.last) (sym h.all) h.done);
+  closures = HasClosures-written system parts h.last h.added h.done;
+  right = λ j l m t. absurd (omega arith);
+  kept_made = λ j a l m e. absurd (omega arith);
+  value = λ j v l m e. absurd (omega arith);
+}
+
+module _ (system : PatternSystem) (root : Core) (decided : IsDecided system root) (parts : List Core) (are : AreParts root parts) (place : ℕ) (uses : List ℕ) (last : AreLastUses parts place uses) (k : ℕ)
+    (kept : List (Option Last)) (steps : List Step) (count : length kept ≡ k) (far : IsRecordedTo system parts uses k kept steps) where
+  pub IsReadyFor-part : k < length parts → IsReadyFor system root parts k kept far.made
+  IsReadyFor-part within = record {
+    decided = decided;
+    are = are;
+    closures = far.closures;
+    right = far.right;
+    operands = λ g o j a l e f.
+        let needed : k ≤ get_or uses j 0 = last.each j (omega arith) k within (subst (λ z. IsOperandOf z (get_or parts k core.True)) (sym e) o) in
+        subst (λ (z : Core). IsAnswerOf parts far.made z (as_answer a)) e (far.kept_made j a (omega arith) needed f);
+  }
+
+  module _ (within : k < length parts) (answer : Last) (right : IsRightFor system (get_or parts k core.True) (as_answer answer)) (new : List Step) (part : IsPartRecorded system parts k far.made answer steps new)
+      (less : List (Option Last)) (needed : (j : ℕ) → j < k + 1 → k < get_or uses j 0 → get_or less j None ≡ get_or (kept ++ Some answer ∷ []) j None) where
+    one_more : parts_due 0 (take (k + 1) parts) ≡ parts_due 0 (take k parts) ++ (counts_due k (get_or parts k core.True) ++ answer_due k (get_or parts k core.True))
+    one_more =
+        let f = get_or parts k core.True in
+        let n : k + 1 ≡ suc k = omega arith in
+        let long : length (take k parts) ≡ k = length-take-le k parts (omega arith) in
+        let at : 0 + length (take k parts) ≡ k = omega arith in
+        ap (λ i. parts_due 0 (take i parts)) n
+        ∙ (ap (parts_due 0) (take-suc parts k core.True within)
+        ∙ (parts_due-push 0 (take k parts) f
+        ∙ ap (λ i. parts_due 0 (take k parts) ++ (counts_due i f ++ answer_due i f)) at))
+
+    done_more : AreSteps (IsWrittenStep system parts) nothing_made (closures_due parts (length system.rules) 1 ++ parts_due 0 (take (k + 1) parts)) (map as_step new) part.last
+    done_more =
+        let cs = closures_due parts (length system.rules) 1 in
+        let f = get_or parts k core.True in
+        let all = steps_append (IsWrittenStep system parts) nothing_made far.made part.last (cs ++ parts_due 0 (take k parts)) (counts_due k f ++ answer_due k f) (map as_step steps) part.added far.done part.done in
+        subst (λ (ds : List DueStep). AreSteps (IsWrittenStep system parts) nothing_made ds (map as_step new) part.last)
+        (append_assoc cs (parts_due 0 (take k parts)) (counts_due k f ++ answer_due k f) ∙ ap (λ ds. cs ++ ds) (sym one_more))
+        (subst (λ (ss : List certificates.Step). AreSteps (IsWrittenStep system parts) nothing_made ((cs ++ parts_due 0 (take k parts)) ++ (counts_due k f ++ answer_due k f)) ss part.last) (sym part.all) all)
+
+    right_more : HasRightSteps system parts (k + 1) part.last
+    right_more j l m t =
+        ⊎_elim
+        (λ (e : j ≡ k).
+        let own : is_turned (get_or parts k core.True) ≡ false = ap (λ i. is_turned (get_or parts i core.True)) (sym e) ∙ t in
+        let at = made_at root parts are k part.last (get_or parts k core.True) (as_answer answer) (within, refl) own part.is in
+        subst (λ (i : ℕ). IsAnswerTo (pattern_structure system) (get_or parts i core.True) (part.last.answers i)) (sym e)
+        (subst (λ (a : Answer). IsAnswerTo (pattern_structure system) (get_or parts k core.True) a) (sym at) right.answers))
+        (λ other. subst (λ (a : Answer). IsAnswerTo (pattern_structure system) (get_or parts j core.True) a) (sym (part.others j other)) (far.right j (omega arith) m t))
+        (cases_eq j k)
+
+    -- what is kept at a place
+    at_end : get_or (kept ++ Some answer ∷ []) k None ≡ Some answer
+    at_end = get_or_push kept (Some answer) None k count
+
+    kept_more : (j : ℕ) (a : Last) → j < k + 1 → k + 1 ≤ get_or uses j 0 → get_or less j None ≡ Some a → IsAnswerOf parts part.last (get_or parts j core.True) (as_answer a)
+    kept_more j a l m e =
+        let there : get_or (kept ++ Some answer ∷ []) j None ≡ Some a = sym (needed j l (omega arith)) ∙ e in
+        ⊎_elim
+        (λ (z : j ≡ k).
+        let same : answer ≡ a = some_same answer a (sym at_end ∙ (ap (λ i. get_or (kept ++ Some answer ∷ []) i None) (sym z) ∙ there)) in
+        subst (λ (i : ℕ). IsAnswerOf parts part.last (get_or parts i core.True) (as_answer a)) (sym z) (subst (λ (b : Last). IsAnswerOf parts part.last (get_or parts k core.True) (as_answer b)) same part.is))
+        (λ other.
+        let low : j < k = omega arith in
+        let here : get_or kept j None ≡ Some a = sym (get_or_append_left kept (Some answer ∷ []) None j (omega arith)) ∙ there in
+        kept_answer root parts are k far.made part.last part.others (get_or parts j core.True) (as_answer a) j low (omega arith) refl (far.kept_made j a low (omega arith) here))
+        (cases_eq j k)
+
+    pub IsRecordedTo-more : IsRecordedTo system parts uses (k + 1) less new
+    IsRecordedTo-more = record {
+      made = part.last;
+      done = done_more;
+      closures = part.closures;
+      right = right_more;
+      kept_made = kept_more;
+      value = λ j v e m f.
+          let z : j ≡ k = omega arith in
+          let there : get_or (kept ++ Some answer ∷ []) j None ≡ Some (Truth v) = sym (needed j (omega arith) (omega arith)) ∙ f in
+          part.value v (some_same answer (Truth v) (sym at_end ∙ (ap (λ i. get_or (kept ++ Some answer ∷ []) i None) (sym z) ∙ there)));
+    }
+
+  -- at the end
+  pub IsWritten-end : k ≡ length parts → (n : ℕ) (v : Bool) → n + 1 ≡ k → k ≤ get_or uses n 0 → get_or kept n None ≡ Some (Truth v) → (ss : List Step) → ss ≡ steps
+      → (first : ℕ) → IsWritten system root (record { first = first; verdict = v; steps = map as_step ss })
+  IsWritten-end end n v next needed e ss same first =
+      let cs = closures_due parts (length system.rules) 1 in
+      let all : take k parts ≡ parts = take_all k parts (omega arith) in
+      record {
+        parts = parts;
+        parts_are = are;
+        made = far.made;
+        steps = subst (λ (xs : List Step). AreSteps (IsWrittenStep system parts) nothing_made (dues (length system.rules) parts) (map as_step xs) far.made) (sym same)
+            (subst (λ (ps : List Core). AreSteps (IsWrittenStep system parts) nothing_made (cs ++ parts_due 0 ps) (map as_step steps) far.made) all far.done);
+        verdict = ap (λ xs. last_value (map as_step xs)) same ∙ far.value n v next needed e;
+      }
+
+-- ---- with what the engine knows
+
+pub IsRecording-none : (system : PatternSystem) (parts : List Core) (uses : List ℕ) (cap : ℕ) (steps : List Step) → AddsSteps system parts nothing_made (closures_due parts (length system.rules) 1) [] steps
+    → IsRecording system parts uses cap 0 [] steps
+IsRecording-none system parts uses cap steps h = record { far = IsSoFar-none system parts uses cap; recorded = IsRecordedTo-none system parts uses steps h }
+
+module _ (system : PatternSystem) (root : Core) (parts : List Core) (place : ℕ) (uses : List ℕ) (plan : IsPlanned system root parts place uses) (cap k : ℕ) (kept : List (Option Last)) (steps : List Step)
+    (r : IsRecording system parts uses cap k kept steps) where
+  module _ (within : k < length parts) where
+    pub IsFit-next : IsFit system (get_or parts k core.True)
+    IsFit-next = IsFit-part system root parts k plan.decided plan.are within
+
+    pub HasOperands-next : HasOperands system cap parts kept (get_or parts k core.True)
+    HasOperands-next = HasOperands-part system root parts plan.are place uses plan.last cap k kept r.far within
+
+    pub IsReadyFor-next : IsReadyFor system root parts k kept r.recorded.made
+    IsReadyFor-next = IsReadyFor-part system root plan.decided parts plan.are place uses plan.last k kept steps r.far.kept_are.count r.recorded within
+
+    pub IsRecording-more : (answer : Last) → IsDecision system (get_or parts k core.True) cap (Ok answer) → (new : List Step) → IsPartRecorded system parts k r.recorded.made answer steps new
+        → (less : List (Option Last)) → length less ≡ length (kept ++ Some answer ∷ [])
+        → ((j : ℕ) → j < length (kept ++ Some answer ∷ []) → k < get_or uses j 0 → get_or less j None ≡ get_or (kept ++ Some answer ∷ []) j None)
+        → IsRecording system parts uses cap (k + 1) less new
+    IsRecording-more answer decided new part less count needed = record {
+      far = IsSoFar-more system root parts plan.are place uses plan.last cap k kept r.far answer less decided.ok decided.within count needed;
+      recorded = IsRecordedTo-more system root plan.decided parts plan.are place uses plan.last k kept steps r.far.kept_are.count r.recorded within answer decided.ok new part less
+          (λ j l m. needed j (omega (arith, length-append kept (Some answer ∷ []), r.far.kept_are.count)) m);
+    }
+
+    pub IsLimit-next : (limit : Limit) → limit.part ≡ k → as_kind limit.kind ≡ kind_of (get_or parts k core.True) → HasTooMany system (get_or parts k core.True) cap limit.tuples → IsLimit system root cap limit
+    IsLimit-next limit at kind many = IsLimit-part system root parts plan.are place uses plan.last cap k kept r.far limit within at kind many
+
+  module _ (end : k ≡ length parts) (low : place < length parts) (is : get_or parts place core.True ≡ root) where
+    pub taken_right : HasRightAnswer system root (get_or kept place None)
+    taken_right = HasRightAnswer-root system root parts plan.are place uses plan.last cap k kept r.far end low is
+
+    pub none_over_end : (ps : List Core) (j : ℕ) → AreParts root ps → j < length ps → IsPartOver system (get_or ps j core.True) cap → ⊥
+    none_over_end ps j also l over = none_over system root parts plan.are place uses plan.last cap k kept r.far end ps j also l over
+
+    -- the root is the last part
+    root_last : (n : ℕ) → length parts ≡ suc n → place ≡ n
+    root_last n e =
+        let at = last_part root parts plan.are n e in
+        part_one root parts plan.are root place n (low, is) (omega arith, at)
+
+    pub IsWritten-root : (v : Bool) → get_or kept place None ≡ Some (Truth v) → (first : ℕ) → IsWritten system root (record { first = first; verdict = v; steps = map as_step steps })
+    IsWritten-root v e first =
+        let next : place + 1 ≡ k = by (length parts) refl in
+        IsWritten-end system root plan.decided parts plan.are place uses plan.last k kept steps r.far.kept_are.count r.recorded end place v next (omega (arith, plan.last.root_is)) e steps refl first
+      where
+        by : (n : ℕ) → length parts ≡ n → place + 1 ≡ k
+        by zero e = absurd (omega arith)
+        by (suc n) e = let at = root_last n e in omega arith
+
+-- a closed formula has a truth
+pub no_table : (system : PatternSystem) (f : Core) (taken : Option Last) (table : Listed) → IsClosed f → HasRightAnswer system f taken → taken ≡ Some (Auto table) → ⊥
+no_table system f taken table closed has e =
+    let same : has.answer ≡ Auto table = some_same has.answer (Auto table) (sym has.is ∙ e) in
+    let right : IsRightFor system f (OfTable (listed_table table)) = subst (λ a. IsRightFor system f (as_answer a)) same has.right in
+    let some : has_columns f ≡ true = lt-ltb 0 (length (columns_of f)) right.answers.over.some in
+    true≢false (sym some ∙ no_columns_closed f closed)

@@ -1,0 +1,3 @@
+pub mod RecordedView
+pub mod Recording
+pub mod TestFormulas

@@ -1,0 +1,134 @@
+-- Inside: steps behind those that are recorded, what is known before a part is decided, and what it adds.
+use Rattle.std.specs.Prelude.{◌≡◌, ℕ, ◌+◌, ◌<◌, ◌≤◌, ◌^◌, List, [], ◌∷◌, ◌++◌, map, take, length, get_or, Bool, true, false, Option, None, Some}
+use Rattle.fort_theory.specs.Patterns.{PatternSystem}
+use Rattle.fort_logic.specs.Cores as core
+use Rattle.fort_logic.specs.Cores.{Core}
+use Rattle.fort_logic.specs.PartLists.{AreParts}
+use Rattle.fort_logic.specs.PatternStructures.{pattern_structure}
+use Rattle.fort_tables.specs.Tables.{Table, Listed, IsListed}
+use Rattle.fort_operations.specs.Projections.{ArePure}
+use Rattle.fort_counts.specs.Counts as counts
+use Rattle.fort_counts.specs.Counts.{AreCounts}
+use Rattle.fort_parts.specs.PartColumns.{columns_of, place_in}
+use Rattle.fort_parts.specs.PartAnswers.{OfTable, IsAnswerTo}
+use Rattle.fort_parts.specs.DecidedCores.{IsDecided, IsOperandOf}
+use Rattle.fort_certificate_grammar.specs.Certificates as certificates
+use Rattle.fort_in_order.specs.Dues.{DueStep, is_turned, counts_due, answer_due, parts_due, closures_due}
+use Rattle.fort_in_order.specs.Made.{Made, nothing_made, IsAnswerOf}
+use Rattle.fort_in_order.specs.Checked.{AreSteps, last_value}
+use Rattle.fort_in_order.specs.Written.{IsWrittenStep}
+use Rattle.fort_in_order_laws.proofs.FineSteps.{HasClosures}
+use Rattle.fort_engine.specs.declared.answer.Last.{Last}
+use Rattle.fort_engine.specs.declared.answer.Last.TheVariants.{Truth, Auto}
+use Rattle.fort_engine.specs.AnswerView.{as_answer}
+use Rattle.fort_engine.specs.Uses.{AreLastUses}
+use Rattle.fort_engine.proofs.DecideLaws.{IsSoFar}
+use Rattle.fort_steps.specs.declared.step.Step.{Step}
+use Rattle.fort_steps.specs.StepView.{as_step}
+
+-- the steps behind the old ones are those due, each as it is written, and make the last
+pub record AddsSteps (system : PatternSystem) (parts : List Core) (made : Made) (due : List DueStep) (old new : List Step) : Type 0 where
+  pub added : List certificates.Step
+  pub last : Made
+  pub all : map as_step new ≡ map as_step old ++ added
+  pub done : AreSteps (IsWrittenStep system parts) made due added last
+
+-- one more step
+abbrev pub IsOneMore : List Step → certificates.Step → List Step → Type 0
+IsOneMore old s new = map as_step new ≡ map as_step old ++ s ∷ []
+
+-- the answer to a formula that is kept is the one that the steps make
+abbrev pub IsKeptMade : List Core → Made → List (Option Last) → Core → Type 0
+IsKeptMade parts made kept g =
+    (j : ℕ) (a : Last) → j < length kept → get_or parts j core.True ≡ g → get_or kept j None ≡ Some a → IsAnswerOf parts made g (as_answer a)
+
+abbrev pub AreOperandsMade : List Core → Made → List (Option Last) → Core → Type 0
+AreOperandsMade parts made kept f = (g : Core) → IsOperandOf g f → IsKeptMade parts made kept g
+
+-- the counts of the states of a table of g with the column of the number n alone present
+pub record AreMarks (n : ℕ) (g : Core) (table : Table) (marks : List counts.Count) : Type 0 where
+  pub states : List ℕ
+  pub pure : ArePure table (place_in (columns_of g) n) states
+  pub counts : AreCounts table (place_in (columns_of g) n) states marks
+
+-- those of the table that the steps make for g
+pub record AreMarksMade (parts : List Core) (made : Made) (n : ℕ) (g : Core) (marks : List counts.Count) : Type 0 where
+  pub table : Table
+  pub body : IsAnswerOf parts made g (OfTable table)
+  pub are : AreMarks n g table marks
+
+-- the counts of part k, which is "infinitely many" of g
+pub record AreCountsAdded (parts : List Core) (made : Made) (k n : ℕ) (g : Core) (old new : List Step) : Type 0 where
+  pub counts : List counts.Count
+  pub step : IsOneMore old (certificates.Counts k counts) new
+  pub made_are : AreMarksMade parts made n g counts
+
+abbrev pub CountsAdded : List Core → Made → ℕ → Core → (old new : List Step) → Type 0
+CountsAdded parts made k (core.Infinite n g) old new = AreCountsAdded parts made k n g old new
+CountsAdded parts made k other old new = new ≡ old
+
+pub record AreTargetsAdded (k : ℕ) (table : Listed) (old new : List Step) : Type 0 where
+  pub step : IsOneMore old (certificates.Part k table.targets) new
+  pub finals : length table.finals ≡ length table.presences
+  pub lawful : IsListed table
+
+abbrev pub is_negation : Core → Bool
+is_negation (core.Not f) = true
+is_negation other = false
+
+-- the table of a negation is its body's, and has no step
+pub record IsTableAdded (k : ℕ) (f : Core) (table : Listed) (old new : List Step) : Type 0 where
+  pub turned : is_negation f ≡ true → new ≡ old
+  pub targets : is_negation f ≡ false → AreTargetsAdded k table old new
+
+-- the answer of part k
+abbrev pub AnswerAdded : ℕ → Core → Last → (old new : List Step) → Type 0
+AnswerAdded k f (Truth b) old new = IsOneMore old (certificates.Value k b) new
+AnswerAdded k f (Auto table) old new = IsTableAdded k f table old new
+
+-- the answers of earlier parts that have a step are right
+abbrev pub HasRightSteps : PatternSystem → List Core → ℕ → Made → Type 0
+HasRightSteps system parts k made =
+    (j : ℕ) → j < k → j < length parts → is_turned (get_or parts j core.True) ≡ false
+    → IsAnswerTo (pattern_structure system) (get_or parts j core.True) (made.answers j)
+
+-- what is known before part k
+pub record IsReadyFor (system : PatternSystem) (root : Core) (parts : List Core) (k : ℕ) (kept : List (Option Last)) (made : Made) : Type 0 where
+  pub decided : IsDecided system root
+  pub are : AreParts root parts
+  pub closures : HasClosures system parts (1 + length system.rules) made
+  pub right : HasRightSteps system parts k made
+  pub operands : AreOperandsMade parts made kept (get_or parts k core.True)
+
+-- its steps, which make its answer and leave the others
+pub record IsPartRecorded (system : PatternSystem) (parts : List Core) (k : ℕ) (made : Made) (answer : Last) (old new : List Step) : Type 0 where
+  pub added : List certificates.Step
+  pub last : Made
+  pub all : map as_step new ≡ map as_step old ++ added
+  pub done : AreSteps (IsWrittenStep system parts) made (counts_due k (get_or parts k core.True) ++ answer_due k (get_or parts k core.True)) added last
+  pub closures : HasClosures system parts (1 + length system.rules) last
+  pub others : (j : ℕ) → (j ≡ k → ⊥) → last.answers j ≡ made.answers j
+  pub is : IsAnswerOf parts last (get_or parts k core.True) (as_answer answer)
+  pub value : (v : Bool) → answer ≡ Truth v → last_value (map as_step new) ≡ Some v
+
+-- the steps of the closures and of the first k parts, which make the answers that are kept
+pub record IsRecordedTo (system : PatternSystem) (parts : List Core) (uses : List ℕ) (k : ℕ) (kept : List (Option Last)) (steps : List Step) : Type 0 where
+  pub made : Made
+  pub done : AreSteps (IsWrittenStep system parts) nothing_made (closures_due parts (length system.rules) 1 ++ parts_due 0 (take k parts)) (map as_step steps) made
+  pub closures : HasClosures system parts (1 + length system.rules) made
+  pub right : HasRightSteps system parts k made
+  pub kept_made : (j : ℕ) (a : Last) → j < k → k ≤ get_or uses j 0 → get_or kept j None ≡ Some a
+      → IsAnswerOf parts made (get_or parts j core.True) (as_answer a)
+  pub value : (j : ℕ) (v : Bool) → j + 1 ≡ k → k ≤ get_or uses j 0 → get_or kept j None ≡ Some (Truth v) → last_value (map as_step steps) ≡ Some v
+
+-- the parts of a formula to be decided, numbered by 32 bits, with their last uses
+pub record IsPlanned (system : PatternSystem) (root : Core) (parts : List Core) (place : ℕ) (uses : List ℕ) : Type 0 where
+  pub decided : IsDecided system root
+  pub are : AreParts root parts
+  pub last : AreLastUses parts place uses
+  pub few : length parts < 2 ^ 32
+
+-- the first k parts are decided and recorded
+pub record IsRecording (system : PatternSystem) (parts : List Core) (uses : List ℕ) (cap k : ℕ) (kept : List (Option Last)) (steps : List Step) : Type 0 where
+  pub far : IsSoFar system parts uses cap k kept
+  pub recorded : IsRecordedTo system parts uses k kept steps

@@ -1,0 +1,165 @@
+//! The closures that the parts of a formula ask for, as steps.
+ghost use Rattle.std.specs.Prelude.{◌≡◌, ◌++◌, map, length, IfOk, OnOk};
+ghost use Rattle.std.specs.List.{list_any};
+ghost use Rattle.fort_theory.specs.Sides.{IsIndexOf};
+ghost use Rattle.fort_formulas.specs.CoreView.{as_core, as_rel};
+ghost use Rattle.fort_certificate_grammar.specs.Certificates.{Star, Conv};
+ghost use Rattle.fort_in_order.specs.ClosureSteps.{relation_of};
+ghost use Rattle.fort_in_order.specs.Dues as dues;
+ghost use Rattle.fort_in_order.specs.Dues.{closure_due, closures_due};
+ghost use Rattle.fort_in_order.specs.Made.{Made};
+ghost use Rattle.fort_in_order.specs.Written.{IsWrittenClosure};
+ghost use Rattle.fort_steps.specs.StepView.{as_which, as_why, as_pair};
+ghost use Rattle.fort_written_closures.specs.ItemView as items;
+ghost use Rattle.fort_trace.specs.Recording.{AddsSteps};
+
+use fort_context_closure::AtomLabels;
+use fort_formulas::{Core, Rel};
+use fort_gtt_closure::{Entry, Why};
+use fort_steps::{ClosureEntry, Reason, Step, Which};
+use fort_terms::{Memory, System};
+use std::alloc::Global;
+
+/// Whether a closure tells a relation.
+fn reads(which: Which, rel: Rel) -> bool
+    ensures { result ≡ dues.reads (as_which which) (as_rel rel) }
+{
+    match which {
+        Which::Star => matches!(rel, Rel::Star | Rel::Plus),
+        Which::Conv => matches!(rel, Rel::Conv),
+    }
+}
+
+/// Whether a formula asks for the closure of an index.
+fn asks(which: Which, index: u32, core: &Core) -> bool
+    ensures { result ≡ dues.asks (as_which which) index (as_core core.now) }
+{
+    match core {
+        Core::Atom(rel, own, _, _) => reads(which, *rel) && *own == index,
+        Core::True | Core::Nf(_, _) | Core::Is(_, _) => false,
+        Core::Not(_) | Core::Exists(_, _) | Core::Infinite(_, _) => false,
+        Core::And(_, _) | Core::Or(_, _) | Core::Iff(_, _) => false,
+    }
+}
+
+/// Whether some part does.
+fn some_asks(which: Which, index: u32, parts: &[Core]) -> bool
+    ensures { result ≡ list_any (dues.asks (as_which which) index) (map as_core parts.now) }
+{
+    for part in parts {
+        if asks(which, index, part) {
+            return true;
+        }
+    }
+    false
+}
+
+/// The reason in a certificate. An automaton of patterns has no silent moves.
+fn reason(why: Why) -> Reason
+    ensures { as_why result ≡ items.as_why why }
+{
+    match why {
+        Why::Any => Reason::Any,
+        Why::Kids(_, _) | Why::SilentRight(_) | Why::SilentLeft(_) => Reason::Kids,
+        Why::Pair(rule) => Reason::Rule(rule),
+    }
+}
+
+fn listed(alloc: Global, entries: &[Entry]) -> Result<Vec<ClosureEntry>, Memory>
+    ensures { IfOk result (λ list. map as_pair list.items ≡ items.as_items entries.now) }
+{
+    let mut list = Vec::with_capacity(alloc, entries.len())?;
+    for entry in entries {
+        list.push(ClosureEntry {
+            p: entry.p,
+            q: entry.q,
+            why: reason(entry.why),
+        })?;
+    }
+    Ok(list)
+}
+
+/// The relation that a closure tells.
+fn relation(which: Which) -> Rel
+    ensures { as_rel result ≡ relation_of (as_which which) }
+{
+    match which {
+        Which::Star => Rel::Star,
+        Which::Conv => Rel::Conv,
+    }
+}
+
+/// The closure of an index, as passes list it.
+fn closure(
+    alloc: Global,
+    system: &System,
+    which: Which,
+    index: u32,
+) -> Result<Vec<ClosureEntry>, Memory>
+    requires { IsIndexOf system.now.rules index }
+    ensures { IfOk result (λ list. IsWrittenClosure system.now (as_which which) index
+        (map as_pair list.items)) }
+{
+    // A system keeps to the law of systems.
+    let _lawful = system.signature();
+    let labels = AtomLabels::atom(alloc, system, index, relation(which), 0, 1)?;
+    let list = listed(alloc, labels.closure())?;
+    Ok(list)
+}
+
+/// The step of the closure of an index, where some part asks for it.
+fn push_closure(
+    alloc: Global,
+    system: &System,
+    parts: &[Core],
+    which: Which,
+    index: u32,
+    steps: &mut Vec<Step>,
+) -> Result<(), Memory>
+    requires { IsIndexOf system.now.rules index }
+    ensures { OnOk result ((made : Made) → AddsSteps system.now (map as_core parts.now) made
+        (closure_due (map as_core parts.now) index (as_which which))
+        steps.old.items steps.new.items) }
+{
+    if !some_asks(which, index, parts) {
+        return Ok(());
+    }
+    let entries = closure(alloc, system, which, index)?;
+    steps.push(Step::Closure(which, index, entries))?;
+    Ok(())
+}
+
+/// The steps of the closures of an index.
+fn push_both(
+    alloc: Global,
+    system: &System,
+    parts: &[Core],
+    index: u32,
+    steps: &mut Vec<Step>,
+) -> Result<(), Memory>
+    requires { IsIndexOf system.now.rules index }
+    ensures { OnOk result ((made : Made) → AddsSteps system.now (map as_core parts.now) made
+        (closure_due (map as_core parts.now) index Star
+        ++ closure_due (map as_core parts.now) index Conv) steps.old.items steps.new.items) }
+{
+    push_closure(alloc, system, parts, Which::Star, index, steps)?;
+    push_closure(alloc, system, parts, Which::Conv, index, steps)?;
+    Ok(())
+}
+
+/// The steps of all closures, index by index.
+pub(crate) fn push_closures(
+    alloc: Global,
+    system: &System,
+    parts: &[Core],
+    steps: &mut Vec<Step>,
+) -> Result<(), Memory>
+    ensures { OnOk result ((made : Made) → AddsSteps system.now (map as_core parts.now) made
+        (closures_due (map as_core parts.now) (length system.now.rules) 1)
+        steps.old.items steps.new.items) }
+{
+    for i in 0..system.number() {
+        push_both(alloc, system, parts, i + 1, steps)?;
+    }
+    Ok(())
+}

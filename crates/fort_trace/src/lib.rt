@@ -1,0 +1,13 @@
+//! Decides closed core formulas over a system, with the steps of a certificate.
+#![tactic(auto)]
+
+mod answers;
+mod closures;
+mod counts;
+mod decide;
+mod targets;
+
+pub use decide::{Recorded, decide_with_steps};
+
+#[cfg(test)]
+mod tests;
