@@ -1,12 +1,13 @@
 -- The lines that refuse formulas are owed to their texts.
-use Rattle.std.specs.Prelude.{◌≡◌, ℕ, Bool, true, false, List, [], ◌∷◌, Option, None, Some, slice_get, ◌↔◌, IsTrue, IfSome, MatchBool, MatchOption}
-use Rattle.std.proofs.Common.{Vec, Global, sym, ap, subst}
+use Rattle.std.specs.Prelude.{◌≡◌, ◌⊎◌, ℕ, Bool, true, false, List, [], ◌∷◌, Option, None, Some, slice_get, ◌↔◌, IsTrue, IfSome, MatchBool, MatchOption}
+use Rattle.std.proofs.Common.{Vec, Global, inl, inr, sym, ap, subst}
 use Rattle.fort_formula_grammar.specs.FormulaText.{FormulaFault, IsFirstFormulaFault}
-use Rattle.fort_answers.specs.FormulaAnswer.{IsRefused, Faulty, Refused}
+use Rattle.fort_logic.specs.Formulas.{Formula}
+use Rattle.fort_answers.specs.FormulaAnswer.{IsRefused, Faulty, IsAcceptedClosed, IsRefusedClosed, Refused}
 use Rattle.fort_answers.specs.Lines.{formula_fault_line}
 use Rattle.fort_run.specs.declared.question.Question.{Question}
-use Rattle.fort_run.specs.declared.question.Question.TheVariants.{Truth, Terms}
-use Rattle.fort_run.specs.Asked.{IsRefusedBy}
+use Rattle.fort_run.specs.declared.question.Question.TheVariants.{Truth, Terms, Certificate}
+use Rattle.fort_run.specs.Asked.{IsAskable, IsRefusedBy}
 use Rattle.fort_run.specs.declared.refusal.Refusal.{Refusal}
 use Rattle.fort_run.specs.declared.refusal.Refusal.TheVariants.{Line}
 use Rattle.fort_run.specs.Refusals.{Refuses}
@@ -34,6 +35,16 @@ faulty text line (Some fault) first says = Faulty fault first says
 pub refused_both : (question : Question) (text line : List ℕ) → IsRefused text line → IsRefusedBy question text line
 refused_both Truth text line says = Refused says
 refused_both Terms text line says = says
+refused_both Certificate text line says = Refused says
+
+-- of a closed formula truth may be asked, and a certificate of it
+pub closed_refusal : (question : Question) (text : List ℕ) (f : Formula) (refusal : Option (Vec ℕ Global)) → (question ≡ Truth) ⊎ (question ≡ Certificate)
+    → MatchOption refusal (IsAcceptedClosed text f) (λ line. IsRefusedClosed text line.items)
+    → MatchOption refusal (IsAskable question text f) (λ line. IsRefusedBy question text line.items)
+closed_refusal question text f refusal (inl is) says =
+    subst (λ q. MatchOption refusal (IsAskable q text f) (λ line. IsRefusedBy q text line.items)) (sym is) says
+closed_refusal question text f refusal (inr is) says =
+    subst (λ q. MatchOption refusal (IsAskable q text f) (λ line. IsRefusedBy q text line.items)) (sym is) says
 
 -- the line of a refusal is one by which something is refused
 pub refused_by_line : (P : List ℕ → Type 0) (r : Refusal) (line : Vec ℕ Global) → r ≡ Line line → Refuses P r → P line.items

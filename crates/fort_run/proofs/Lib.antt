@@ -6,6 +6,7 @@ pub mod Fitting
 pub mod LinearRules
 pub mod SomeParts
 pub mod Deciding
+pub mod PosedQuestions
 pub mod Readiness
 pub mod ReplyStatuses
 pub mod WitnessTruth

@@ -1,24 +1,30 @@
 -- Words and bytes are owed one answer.
 use Rattle.std.proofs.Common.{◌≡◌, ◌⊎◌, ℕ, ◌≤◌, List, map, inl, inr, sym, subst, arith, ⊎_elim}
-use Rattle.std.specs.Prelude.{All, Bool, Option, None, Some, IfSome, ◌++◌}
+use Rattle.std.specs.Prelude.{All, Bool, true, false, length, Option, None, Some, IfSome, ◌++◌}
 use Rattle.fort_theory.specs.Trees.{Tree}
 use Rattle.fort_theory.specs.Signatures.{IsGround, HasConstant}
 use Rattle.fort_theory.specs.Sides.{System}
+use Rattle.fort_theory.specs.Patterns.{pattern_system}
 use Rattle.fort_logic.specs.Formulas.{Formula}
 use Rattle.fort_logic.specs.FreeNames.{free_names}
+use Rattle.fort_logic.specs.Translation.{core_of}
 use Rattle.fort_logic.specs.Truth.{IsFalseOf}
 use Rattle.fort_logic.proofs.Verdicts.{IsTrueOf-not_false}
+use Rattle.fort_certificate_grammar.specs.Certificates.{Step}
+use Rattle.fort_certificate_grammar.specs.CertificateText.{certificate_text}
+use Rattle.fort_in_order.proofs.WrittenLaws.{IsWritten-one}
 use Rattle.fort_io.specs.Devices.{Takes}
 use Rattle.fort_order.proofs.TupleOrderLaws.{not_after_none}
 use Rattle.fort_answers.specs.Requests.{Text, Request, Decide, Witness, Check, Sample}
 use Rattle.fort_answers.specs.CommandGrammar.{request_of}
 use Rattle.fort_answers.specs.Lines.{positive, negative, usage, refused, limited, usage_text, yes_line, no_line, witness_line, none_line, limit_line}
 use Rattle.fort_answers.specs.SystemAnswer.{Are, PassesCap, KeepsCap, IsAnswerable, IsUnanswerable, InputRefused, FormulaUnfit, Limited}
-use Rattle.fort_answers.specs.DecideAnswer.{DecidesOf, DecideEarly, TruthVerdict, Yes, No, DecideAnswer}
+use Rattle.fort_answers.specs.DecideAnswer.{TruthVerdict, Yes, No, DecideVerdict, DecideAnswer}
 use Rattle.fort_answers.specs.DecideAnswer as decide
 use Rattle.fort_answers.specs.WitnessAnswer.{AreWitnesses, AreLeastWitnesses, bindings, WitnessVerdict, Found, NotFound, WitnessEarly, WitnessAnswer}
 use Rattle.fort_answers.specs.WitnessAnswer as witness
-use Rattle.fort_answers.specs.FormulaAnswer.{IsAccepted}
+use Rattle.fort_answers.specs.CertificateAnswer.{CertificateVerdict}
+use Rattle.fort_answers.specs.FormulaAnswer.{IsAccepted, IsAcceptedClosed}
 use Rattle.fort_answers.specs.FitAnswer.{FitsSystem, IsUnfit}
 use Rattle.fort_answers.specs.InputAnswer.{IsInput}
 use Rattle.fort_answers.specs.Answer.{OwesTold, owed_early, owed, Answer, AnswerFor, IsAbout}
@@ -46,6 +52,28 @@ TruthVerdict-unique system terms f s s' t t' constant grounded (No fails are) (N
 TruthVerdict-low : (system : System) (terms : List Tree) (f : Formula) (s : ℕ) (t : Text) → TruthVerdict system terms f s t → s ≤ negative
 TruthVerdict-low system terms f s t (Yes holds are) = let e = are.same_status in omega arith
 TruthVerdict-low system terms f s t (No fails are) = let e = are.same_status in omega arith
+
+CertificateVerdict-unique : (system : System) (terms : List Tree) (f : Formula) (s s' : ℕ) (t t' : Text) → CertificateVerdict system terms f s t
+    → CertificateVerdict system terms f s' t' → Are s t s' t'
+CertificateVerdict-unique system terms f s s' t t' one other =
+    let text : Bool → List Step → Text = λ v ss. certificate_text (length system.rules) v ss in
+    let same = IsWritten-one (pattern_system system) (core_of terms f) other.certificate one.certificate other.written one.written in
+    Are-unique positive (text one.certificate.verdict one.certificate.steps) s s' t t' one.are
+    (subst (λ v. Are s' t' positive (text v one.certificate.steps)) same.verdict
+    (subst (λ ss. Are s' t' positive (text other.certificate.verdict ss)) same.steps other.are))
+
+CertificateVerdict-low : (system : System) (terms : List Tree) (f : Formula) (s : ℕ) (t : Text) → CertificateVerdict system terms f s t → s ≤ negative
+CertificateVerdict-low system terms f s t says = let e = says.are.same_status in omega arith
+
+DecideVerdict-unique : (certificate : Bool) (system : System) (terms : List Tree) (f : Formula) (s s' : ℕ) (t t' : Text) → HasConstant system.signature
+    → All (IsGround system.signature) terms → DecideVerdict certificate system terms f s t → DecideVerdict certificate system terms f s' t' → Are s t s' t'
+DecideVerdict-unique false system terms f s s' t t' constant grounded one other = TruthVerdict-unique system terms f s s' t t' constant grounded one other
+DecideVerdict-unique true system terms f s s' t t' constant grounded one other = CertificateVerdict-unique system terms f s s' t t' one other
+
+DecideVerdict-low : (certificate : Bool) (system : System) (terms : List Tree) (f : Formula) (s : ℕ) (t : Text)
+    → DecideVerdict certificate system terms f s t → s ≤ negative
+DecideVerdict-low false system terms f s t says = TruthVerdict-low system terms f s t says
+DecideVerdict-low true system terms f s t says = CertificateVerdict-low system terms f s t says
 
 AreLeastWitnesses-unique : (system : System) (terms : List Tree) (f : Formula) (ts us : List Tree) → AreLeastWitnesses system terms f ts
     → AreLeastWitnesses system terms f us → ts ≡ us
@@ -131,37 +159,37 @@ module _ (states : ℕ) (formula : Text) (f : Formula) (bytes : Text) where
 
 module _ (states : ℕ) (certificate : Bool) (formula bytes : Text) where
   pub DecideAnswer-unique : (s s' : ℕ) (t t' : Text) → DecideAnswer states certificate formula bytes s t → DecideAnswer states certificate formula bytes s' t' → Are s t s' t'
-  DecideAnswer-unique s s' t t' (decide.Early early) (decide.Early early') = DecideEarly-unique certificate formula s s' t t' early early'
-  DecideAnswer-unique s s' t t' (decide.Early early) (decide.Unanswerable f asks held) = absurd (early-without_input certificate formula s t early f asks)
-  DecideAnswer-unique s s' t t' (decide.Early early) (decide.Decided f asks system terms is verdict) =
-      absurd (early-without_input certificate formula s t early f asks)
-  DecideAnswer-unique s s' t t' (decide.Unanswerable f asks held) (decide.Early early) = absurd (early-without_input certificate formula s' t' early f asks)
-  DecideAnswer-unique s s' t t' (decide.Unanswerable f asks held) (decide.Unanswerable g asks' held') =
+  DecideAnswer-unique s s' t t' (decide.Early early) (decide.Early early') = DecideEarly-unique formula s s' t t' early early'
+  DecideAnswer-unique s s' t t' (decide.Early early) (decide.Unanswerable f accepted held) = absurd (early-without_input formula s t early f accepted)
+  DecideAnswer-unique s s' t t' (decide.Early early) (decide.Decided f accepted system terms is verdict) =
+      absurd (early-without_input formula s t early f accepted)
+  DecideAnswer-unique s s' t t' (decide.Unanswerable f accepted held) (decide.Early early) = absurd (early-without_input formula s' t' early f accepted)
+  DecideAnswer-unique s s' t t' (decide.Unanswerable f accepted held) (decide.Unanswerable g accepted' held') =
       IsUnanswerable-unique states formula f bytes s s' t t' held
-      (subst (λ h. IsUnanswerable states formula h bytes s' t') (IsAcceptedClosed-unique formula g f asks'.accepted asks.accepted) held')
-  DecideAnswer-unique s s' t t' (decide.Unanswerable f asks held) (decide.Decided g asks' system terms is verdict) =
+      (subst (λ h. IsUnanswerable states formula h bytes s' t') (IsAcceptedClosed-unique formula g f accepted' accepted) held')
+  DecideAnswer-unique s s' t t' (decide.Unanswerable f accepted held) (decide.Decided g accepted' system terms is verdict) =
       absurd (IsUnanswerable-answerable states formula g bytes system terms s t is
-      (subst (λ h. IsUnanswerable states formula h bytes s t) (IsAcceptedClosed-unique formula f g asks.accepted asks'.accepted) held))
-  DecideAnswer-unique s s' t t' (decide.Decided f asks system terms is verdict) (decide.Early early) =
-      absurd (early-without_input certificate formula s' t' early f asks)
-  DecideAnswer-unique s s' t t' (decide.Decided f asks system terms is verdict) (decide.Unanswerable g asks' held') =
+      (subst (λ h. IsUnanswerable states formula h bytes s t) (IsAcceptedClosed-unique formula f g accepted accepted') held))
+  DecideAnswer-unique s s' t t' (decide.Decided f accepted system terms is verdict) (decide.Early early) =
+      absurd (early-without_input formula s' t' early f accepted)
+  DecideAnswer-unique s s' t t' (decide.Decided f accepted system terms is verdict) (decide.Unanswerable g accepted' held') =
       absurd (IsUnanswerable-answerable states formula f bytes system terms s' t' is
-      (subst (λ h. IsUnanswerable states formula h bytes s' t') (IsAcceptedClosed-unique formula g f asks'.accepted asks.accepted) held'))
-  DecideAnswer-unique s s' t t' (decide.Decided f asks system terms is verdict) (decide.Decided g asks' system' terms' is' verdict') =
-      let one = IsAcceptedClosed-unique formula g f asks'.accepted asks.accepted in
+      (subst (λ h. IsUnanswerable states formula h bytes s' t') (IsAcceptedClosed-unique formula g f accepted' accepted) held'))
+  DecideAnswer-unique s s' t t' (decide.Decided f accepted system terms is verdict) (decide.Decided g accepted' system' terms' is' verdict') =
+      let one = IsAcceptedClosed-unique formula g f accepted' accepted in
       let their = subst (λ h. FitsSystem formula h system' terms') one is'.fits in
-      let says = subst (λ h. TruthVerdict system' terms' h s' t') one verdict' in
-      TruthVerdict-unique system terms f s s' t t' is.input.problem.problem.constant (FitsSystem-ground formula f system terms is.fits) verdict
-      (over_both states formula f bytes system system' terms terms' is.input is'.input is.fits their (λ x xs. TruthVerdict x xs f s' t') says)
+      let says = subst (λ h. DecideVerdict certificate system' terms' h s' t') one verdict' in
+      DecideVerdict-unique certificate system terms f s s' t t' is.input.problem.problem.constant (FitsSystem-ground formula f system terms is.fits) verdict
+      (over_both states formula f bytes system system' terms terms' is.input is'.input is.fits their (λ x xs. DecideVerdict certificate x xs f s' t') says)
 
-  -- over a system with all that the formula speaks of, the answer is YES or NO, or the part of it that is over the cap
-  decide_low : (f : Formula) (system : System) (terms : List Tree) (s : ℕ) (t : Text) → DecidesOf certificate formula f → IsInput bytes system
+  -- over a system with all that the formula speaks of, the answer is YES, NO or a certificate, or the part of it that is over the cap
+  decide_low : (f : Formula) (system : System) (terms : List Tree) (s : ℕ) (t : Text) → IsAcceptedClosed formula f → IsInput bytes system
       → FitsSystem formula f system terms → DecideAnswer states certificate formula bytes s t → (s ≤ negative) ⊎ ((s ≡ limited) × (KeepsCap system terms f states → ⊥))
-  decide_low f system terms s t asks is fits (decide.Early early) = absurd (early-without_input certificate formula s t early f asks)
-  decide_low f system terms s t asks is fits (decide.Unanswerable g asks' held) =
+  decide_low f system terms s t accepted is fits (decide.Early early) = absurd (early-without_input formula s t early f accepted)
+  decide_low f system terms s t accepted is fits (decide.Unanswerable g accepted' held) =
       inr (IsUnanswerable-limited states formula f bytes system terms s t is fits
-      (subst (λ h. IsUnanswerable states formula h bytes s t) (IsAcceptedClosed-unique formula g f asks'.accepted asks.accepted) held))
-  decide_low f system terms s t asks is fits (decide.Decided g asks' system' terms' is' verdict) = inl (TruthVerdict-low system' terms' g s t verdict)
+      (subst (λ h. IsUnanswerable states formula h bytes s t) (IsAcceptedClosed-unique formula g f accepted' accepted) held))
+  decide_low f system terms s t accepted is fits (decide.Decided g accepted' system' terms' is' verdict) = inl (DecideVerdict-low certificate system' terms' g s t verdict)
 
 module _ (states : ℕ) (formula bytes : Text) where
   pub WitnessAnswer-unique : (s s' : ℕ) (t t' : Text) → WitnessAnswer states formula bytes s t → WitnessAnswer states formula bytes s' t' → Are s t s' t'

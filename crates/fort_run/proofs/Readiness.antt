@@ -18,7 +18,7 @@ use Rattle.fort_answers.specs.FitAnswer.{AreTermsOf, FitsSystem}
 use Rattle.fort_answers.specs.FormulaAnswer.{IsAccepted}
 use Rattle.fort_answers.proofs.OneFit.{FitsSystem-ground}
 use Rattle.fort_run.specs.declared.question.Question.{Question}
-use Rattle.fort_run.specs.declared.question.Question.TheVariants.{Truth, Terms}
+use Rattle.fort_run.specs.declared.question.Question.TheVariants.{Truth, Terms, Certificate}
 use Rattle.fort_run.specs.Asked.{IsAskable, IsClosedFor}
 use Rattle.fort_run.specs.Accepted.{IsRead}
 use Rattle.fort_run.specs.Ready.{IsReady}
@@ -34,10 +34,12 @@ AreTermsOf-count signature (g ∷ gs) (t ∷ ts) are = ap suc (AreTermsOf-count 
 accepted_of : (question : Question) (text : List ℕ) (f : Formula) → IsAskable question text f → IsAccepted text f
 accepted_of Truth text f askable = askable.accepted
 accepted_of Terms text f askable = askable
+accepted_of Certificate text f askable = askable.accepted
 
 closed_of : (question : Question) (text : List ℕ) (f : Formula) → IsAskable question text f → IsClosedFor question f
 closed_of Truth text f askable = askable.closed
 closed_of Terms text f askable = tt
+closed_of Certificate text f askable = askable.closed
 
 module _ (question : Question) (parsed : Parsed) (read : IsRead question parsed) (p : System) (system : PatternSystem) (terms : List Tree) (same : system ≡ pattern_system p)
     (fits : FitsSystem read.text (as_formula parsed.formula) p terms) where

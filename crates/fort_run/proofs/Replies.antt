@@ -1,6 +1,6 @@
 -- From what was read to the answer that is owed.
 use Rattle.std.proofs.Common.{◌≡◌, ℕ, zero, suc, ◌+◌, ◌<◌, ◌≤◌, List, [], ◌∷◌, ◌++◌, length, refl, sym, ap, subst, ◌∙◌, append-nil, length-append, arith}
-use Rattle.std.specs.Prelude.{false, Option, Some, None, IfSome, MatchOption}
+use Rattle.std.specs.Prelude.{Option, Some, None, IfSome, MatchOption}
 use Rattle.std.specs.Io.KnownBytes.{Consumes, IsAtEnd}
 use Rattle.fort_theory.specs.Trees.{Tree}
 use Rattle.fort_theory.specs.Sides.{System}
@@ -22,13 +22,12 @@ use Rattle.fort_answers.specs.CommandGrammar.{request_of}
 use Rattle.fort_answers.specs.Requests.{Text}
 use Rattle.fort_answers.specs.Lines.{input_too_long, problem_fault_line, refused}
 use Rattle.fort_answers.specs.SystemAnswer.{Are, IsAnswerable, IsUnanswerable, InputRefused, FormulaUnfit, Limited}
-use Rattle.fort_answers.specs.DecideAnswer.{DecidesOf, FormulaRefused, Decided}
+use Rattle.fort_answers.specs.DecideAnswer.{Decided}
 use Rattle.fort_answers.specs.DecideAnswer as decide
 use Rattle.fort_answers.specs.WitnessAnswer.{Answered}
 use Rattle.fort_answers.specs.WitnessAnswer as witness
 use Rattle.fort_answers.specs.Answer.{IsAbout}
 use Rattle.fort_answers.specs.FitAnswer.{FitsSystem, IsUnfit}
-use Rattle.fort_answers.specs.FormulaAnswer.{IsAcceptedClosed}
 use Rattle.fort_answers.specs.InputAnswer.{IsInput, IsInputRefused, TooLong, NoForms, NoProblem, FormBehind, input_limit}
 use Rattle.fort_answers.proofs.OneVerdict.{accepted-not_refused, closed-not_refused}
 use Rattle.fort_run.specs.Refusals.{SaysProblemFault, SaysTextFault}
@@ -37,7 +36,7 @@ use Rattle.fort_engine.specs.AnswerView.{IsLimit}
 use Rattle.fort_run.specs.Limits.{HasLimitTold, IsLimitOf}
 use Rattle.fort_run.specs.Ready.{ShowsLimit}
 use Rattle.fort_run.specs.declared.question.Question.{Question}
-use Rattle.fort_run.specs.declared.question.Question.TheVariants.{Truth, Terms}
+use Rattle.fort_run.specs.declared.question.Question.TheVariants.{Truth, Terms, Certificate}
 use Rattle.fort_run.specs.Asked.{request_for, IsAskable, IsRefusedBy, QuestionNeedsInput, OwesToQuestion, AnswersQuestion, QuestionLimit, QuestionLimitTold, VerdictOn, IsVerdict, Limits, Says}
 
 -- the forms of a text, counted
@@ -107,24 +106,25 @@ longer_than (suc n) = let r = longer_than n in (0 ∷ r.0, omega (arith, r.1))
 are : (status : ℕ) (text : Text) → Are status text status text
 are status text = record { same_status = refl; same_text = refl }
 
-asks : (text : Text) (f : Formula) → IsAcceptedClosed text f → DecidesOf false text f
-asks text f accepted = record { without = refl; accepted = accepted }
-
 pub needs : (question : Question) (text : Text) (f : Formula) → IsAskable question text f → QuestionNeedsInput question text
-needs Truth text f askable = (f, asks text f askable)
+needs Truth text f askable = (f, askable)
 needs Terms text f askable = (f, askable)
+needs Certificate text f askable = (f, askable)
 
 pub refused_needs_nothing : (question : Question) (text line : Text) → IsRefusedBy question text line → QuestionNeedsInput question text → ⊥
-refused_needs_nothing Truth text line says (f, asked) = closed-not_refused text f line asked.accepted says
+refused_needs_nothing Truth text line says (f, accepted) = closed-not_refused text f line accepted says
 refused_needs_nothing Terms text line says (f, accepted) = accepted-not_refused text f line accepted says
+refused_needs_nothing Certificate text line says (f, accepted) = closed-not_refused text f line accepted says
 
 refused_early : (question : Question) (states : ℕ) (text line bytes : Text) → IsRefusedBy question text line → AnswersQuestion question states text bytes refused line
-refused_early Truth states text line bytes says = decide.Early (FormulaRefused refl line says (are refused line))
+refused_early Truth states text line bytes says = decide.Early (record { refusal = line; refused_both = says; are = are refused line })
 refused_early Terms states text line bytes says = witness.Early (record { refusal = line; refused_both = says; are = are refused line })
+refused_early Certificate states text line bytes says = decide.Early (record { refusal = line; refused_both = says; are = are refused line })
 
 about : (question : Question) (states : ℕ) (text : Text) (f : Formula) → IsAskable question text f → IsAbout (Some (request_for question states text)) states text f
-about Truth states text f askable = (refl, refl, asks text f askable)
+about Truth states text f askable = (refl, refl, askable)
 about Terms states text f askable = (refl, refl, askable)
+about Certificate states text f askable = (refl, refl, askable)
 
 module _ (question : Question) (states : ℕ) (text : Text) where
   pub owes_refusal : (line : Text) (told : Option Text) → IsRefusedBy question text line → OwesToQuestion question states text told refused line
@@ -136,8 +136,9 @@ module _ (question : Question) (states : ℕ) (text : Text) where
   withheld f bytes status line = by question
     where
       by : (q : Question) → IsAskable q text f → IsUnanswerable states text f bytes status line → AnswersQuestion q states text bytes status line
-      by Truth askable held = decide.Unanswerable f (asks text f askable) held
+      by Truth askable held = decide.Unanswerable f askable held
       by Terms askable held = witness.Unanswerable f askable held
+      by Certificate askable held = decide.Unanswerable f askable held
 
   answered : (f : Formula) (bytes : Text) (p : System) (terms : List Tree) (status : ℕ) (line : Text) → IsAskable question text f
       → IsAnswerable states text f bytes p terms → VerdictOn question p terms f status line → AnswersQuestion question states text bytes status line
@@ -145,8 +146,9 @@ module _ (question : Question) (states : ℕ) (text : Text) where
     where
       by : (q : Question) → IsAskable q text f → IsAnswerable states text f bytes p terms → VerdictOn q p terms f status line
           → AnswersQuestion q states text bytes status line
-      by Truth askable is verdict = Decided f (asks text f askable) p terms is verdict
+      by Truth askable is verdict = Decided f askable p terms is verdict
       by Terms askable is verdict = Answered f askable p terms is verdict
+      by Certificate askable is verdict = Decided f askable p terms is verdict
 
   pub input_refused : (f : Formula) (bytes line : Text) → IsAskable question text f → IsInputRefused bytes line → AnswersQuestion question states text bytes refused line
   input_refused f bytes line askable says = withheld f bytes refused line askable (InputRefused line says (are refused line))

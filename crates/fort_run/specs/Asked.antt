@@ -1,5 +1,5 @@
 -- Inside: what may be asked of a formula, the request that asks it, and what is owed to it.
-use Rattle.std.specs.Prelude.{◌≡◌, ℕ, false, List, [], Option, Some}
+use Rattle.std.specs.Prelude.{◌≡◌, ℕ, true, false, List, [], Option, Some}
 use Rattle.fort_theory.specs.Trees.{Tree}
 use Rattle.fort_theory.specs.Sides as theory
 use Rattle.fort_theory.specs.Patterns.{PatternSystem, pattern_system}
@@ -12,31 +12,35 @@ use Rattle.fort_answers.specs.FormulaAnswer.{IsAccepted, IsRefused, IsAcceptedCl
 use Rattle.fort_answers.specs.InputAnswer.{IsInput}
 use Rattle.fort_answers.specs.SystemAnswer.{Are, PassesCap, KeepsCap}
 use Rattle.fort_answers.specs.DecideAnswer.{TruthVerdict}
+use Rattle.fort_answers.specs.CertificateAnswer.{CertificateVerdict}
 use Rattle.fort_answers.specs.WitnessAnswer.{WitnessVerdict}
 use Rattle.fort_answers.specs.Answer.{NeedsInput, Owes, OwesTold}
 use Rattle.fort_engine.specs.declared.answer.Limit.{Limit}
 use Rattle.fort_run.specs.declared.question.Question.{Question}
-use Rattle.fort_run.specs.declared.question.Question.TheVariants.{Truth, Terms}
+use Rattle.fort_run.specs.declared.question.Question.TheVariants.{Truth, Terms, Certificate}
 use Rattle.fort_run.specs.Limits.{HasLimit, HasLimitTold}
 
--- a certificate isn't given yet
 abbrev pub request_for : Question → ℕ → Text → Request
 request_for Truth states formula = Decide states false formula
 request_for Terms states formula = Witness states formula
+request_for Certificate states formula = Decide states true formula
 
 -- the text is a formula of which this may be asked
 abbrev pub IsAskable : Question → Text → Formula → Type 0
 IsAskable Truth text f = IsAcceptedClosed text f
 IsAskable Terms text f = IsAccepted text f
+IsAskable Certificate text f = IsAcceptedClosed text f
 
 abbrev pub IsRefusedBy : Question → Text → (line : Text) → Type 0
 IsRefusedBy Truth text line = IsRefusedClosed text line
 IsRefusedBy Terms text line = IsRefused text line
+IsRefusedBy Certificate text line = IsRefusedClosed text line
 
--- truth is asked of closed formulas
+-- truth, and a certificate of it, is asked of closed formulas
 abbrev pub IsClosedFor : Question → Formula → Type 0
 IsClosedFor Truth f = free_names f ≡ []
 IsClosedFor Terms f = Unit {0}
+IsClosedFor Certificate f = free_names f ≡ []
 
 -- whatever the cap is
 abbrev pub QuestionNeedsInput : Question → Text → Type 0
@@ -61,6 +65,7 @@ IsReadFrom bytes system = (p : theory.System) × IsInput bytes p × (system ≡ 
 abbrev pub VerdictOn : Question → theory.System → List Tree → Formula → ℕ → Text → Type 0
 VerdictOn Truth system terms f status text = TruthVerdict system terms f status text
 VerdictOn Terms system terms f status text = WitnessVerdict system terms f status text
+VerdictOn Certificate system terms f status text = CertificateVerdict system terms f status text
 
 -- the answer to a question about a formula over a system, with these ground terms in it
 pub data IsVerdict (question : Question) (system : theory.System) (terms : List Tree) (f : Formula) (states status : ℕ) (text : Text) : Type 0 where

@@ -5,6 +5,7 @@ pub mod Accepted
 pub mod Limits
 pub mod Ready
 pub mod Asked
+pub mod Posed
 pub mod Answered
 pub mod Witnesses
 pub mod Samples

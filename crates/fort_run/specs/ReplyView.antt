@@ -4,7 +4,7 @@ use Rattle.fort_answers.specs.Lines as status
 use Rattle.fort_answers.specs.Lines.{usage_text, input_too_long, yes_line, no_line, none_line}
 use Rattle.fort_engine.specs.declared.answer.Limit.{Limit}
 use Rattle.fort_run.specs.declared.reply.Reply.{Reply}
-use Rattle.fort_run.specs.declared.reply.Reply.TheVariants.{Usage, Refused, InputTooLong, Limited, Yes, No, Found, NotFound, Sampled}
+use Rattle.fort_run.specs.declared.reply.Reply.TheVariants.{Usage, Refused, InputTooLong, Limited, Yes, No, Found, NotFound, Certificate, Sampled}
 
 abbrev pub status_of : Reply → ℕ
 status_of Usage = status.usage
@@ -15,6 +15,7 @@ status_of Yes = status.positive
 status_of No = status.negative
 status_of (Found text) = status.positive
 status_of NotFound = status.negative
+status_of (Certificate text) = status.positive
 status_of (Sampled text) = status.positive
 
 abbrev pub text_of : Reply → List ℕ
@@ -26,6 +27,7 @@ text_of Yes = yes_line
 text_of No = no_line
 text_of (Found text) = text.items
 text_of NotFound = none_line
+text_of (Certificate text) = text.items
 text_of (Sampled text) = text.items
 
 abbrev pub limit_of : Reply → Option Limit
@@ -37,4 +39,5 @@ limit_of Yes = None
 limit_of No = None
 limit_of (Found text) = None
 limit_of NotFound = None
+limit_of (Certificate text) = None
 limit_of (Sampled text) = None

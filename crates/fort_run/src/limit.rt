@@ -1,9 +1,12 @@
-//! The line of a limit.
+//! The line of a limit, and the reply that has it.
 ghost use Rattle.std.specs.Prelude.{◌≡◌, IfOk};
 ghost use Rattle.fort_answers.specs.Lines as lines;
 ghost use Rattle.fort_formulas.specs.KindView.{as_kind};
+ghost use Rattle.fort_run.specs.Posed.{TellsLimit};
 
 use crate::refusal::push_number;
+use crate::reply::Reply;
+use fort_engine::EngineFault;
 use fort_formulas::Kind;
 use std::alloc::{AllocError, Global};
 
@@ -33,7 +36,7 @@ fn kind_word(kind: Kind) -> &'static [u8]
 }
 
 /// The line for part `k`, of this kind, over the cap.
-pub fn limit_line(alloc: Global, k: usize, kind: Kind, cap: u32) -> Result<Vec<u8>, AllocError>
+fn limit_line(alloc: Global, k: usize, kind: Kind, cap: u32) -> Result<Vec<u8>, AllocError>
     ensures { IfOk result (λ line. line.items ≡ lines.limit_line k (as_kind kind) cap) }
 {
     let mut line = Vec::from_slice(alloc, b"LIMIT ")?;
@@ -44,4 +47,17 @@ pub fn limit_line(alloc: Global, k: usize, kind: Kind, cap: u32) -> Result<Vec<u
     push_number(&mut line, cap as usize)?;
     line.push(b'\n')?;
     Ok(line)
+}
+
+/// The reply to a fault of deciding, which is over this cap or wants memory.
+pub fn limit_reply(alloc: Global, fault: EngineFault, cap: u32) -> Result<Reply, AllocError>
+    ensures { IfOk result (TellsLimit fault cap) }
+{
+    match fault {
+        EngineFault::Memory => Err(AllocError),
+        EngineFault::Over(limit) => {
+            let line = limit_line(alloc, limit.part, limit.kind, cap)?;
+            Ok(Reply::Limited(line, limit))
+        }
+    }
 }

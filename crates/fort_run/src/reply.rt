@@ -20,6 +20,8 @@ pub enum Reply {
     /// The whole text that tells the least terms.
     Found(Vec<u8>),
     NotFound,
+    /// The whole text of the certificate that is written, of either verdict.
+    Certificate(Vec<u8>),
     /// The whole text of a sample.
     Sampled(Vec<u8>),
 }
@@ -35,7 +37,9 @@ impl Reply {
         ensures { code_of result ≡ status_of self.now }
     {
         match self {
-            Reply::Yes | Reply::Found(_) | Reply::Sampled(_) => Status::Positive,
+            Reply::Yes | Reply::Found(_) | Reply::Certificate(_) | Reply::Sampled(_) => {
+                Status::Positive
+            }
             Reply::No | Reply::NotFound => Status::Negative,
             Reply::Usage => Status::Usage,
             Reply::Limited(_, _) => Status::Limited,
@@ -49,7 +53,7 @@ impl Reply {
         match self {
             Reply::Usage => USAGE.as_bytes(),
             Reply::Refused(line) | Reply::Limited(line, _) => line,
-            Reply::Found(text) | Reply::Sampled(text) => text,
+            Reply::Found(text) | Reply::Certificate(text) | Reply::Sampled(text) => text,
             Reply::NotFound => b"NONE\n",
             Reply::InputTooLong => b"REFUSED input too long\n",
             Reply::Yes => b"YES\n",

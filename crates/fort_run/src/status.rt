@@ -5,9 +5,9 @@ ghost use Rattle.fort_run.specs.StatusView.{code_of};
 /// How a run ended.
 #[derive(Clone, Copy, Debug, PartialEq, Eq)]
 pub enum Status {
-    /// YES.
+    /// YES, WITNESS, a certificate or a sample.
     Positive,
-    /// NO.
+    /// NO or NONE.
     Negative,
     /// The usage text.
     Usage,

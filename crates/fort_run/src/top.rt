@@ -45,6 +45,11 @@ fn reply_to_request<S: Source>(
             certificate: false,
             formula,
         } => ask(alloc, Question::Truth, states, formula, input),
+        Request::Decide {
+            states,
+            certificate: true,
+            formula,
+        } => ask(alloc, Question::Certificate, states, formula, input),
         Request::Witness { states, formula } => {
             ask(alloc, Question::Terms, states, formula, input)
         }
@@ -52,11 +57,6 @@ fn reply_to_request<S: Source>(
             Ok(reply) => Ok(reply),
             Err(AllocError) => Err(Stop::Memory),
         },
-        Request::Decide {
-            states,
-            certificate: true,
-            formula,
-        } => ask(alloc, Question::Certificate, states, formula, input),
         // This request isn't answered yet.
         Request::Check { .. } => Ok(Reply::Usage),
     }

@@ -1,5 +1,5 @@
 //! What a formula comes to over a system.
-ghost use Rattle.std.specs.Prelude.{◌≡◌, List, None, IfOk, IfSome};
+ghost use Rattle.std.specs.Prelude.{◌≡◌, List, None, IfOk, IfErr, IfSome, OnOk};
 ghost use Rattle.fort_theory.specs.Sides as theory;
 ghost use Rattle.fort_theory.specs.Patterns.{PatternSystem, pattern_system};
 ghost use Rattle.fort_theory.specs.Trees.{Tree};
@@ -9,18 +9,21 @@ ghost use Rattle.fort_logic.specs.Translation.{core_of};
 ghost use Rattle.fort_formulas.specs.CoreView.{as_core};
 ghost use Rattle.fort_formulas.specs.FormulaView.{as_formula};
 ghost use Rattle.fort_parts.specs.DecidedCores.{IsDecided};
+ghost use Rattle.fort_engine.specs.AnswerView.{IfOver, IsLimit};
 ghost use Rattle.fort_run.specs.Asked.{IsClosedFor, IsVerdict, VerdictOn};
-ghost use Rattle.fort_run.specs.Ready.{IsLawful, IsReady, IsDecidedBy, ShowsLimit};
+ghost use Rattle.fort_run.specs.Posed.{IsPosed, SaysOn};
+ghost use Rattle.fort_run.specs.Ready.{IsLawful, IsReady, IsDecidedBy, KeepsCapAt, ShowsLimit};
 ghost use Rattle.fort_run.specs.ReplyView.{status_of, text_of, limit_of};
-ghost use Rattle.fort_run.specs.declared.question.Question.TheVariants.{Truth};
+ghost use Rattle.fort_run.specs.declared.question.Question.TheVariants.{Truth, Terms, Certificate};
 
-use crate::limit::limit_line;
+use crate::limit::limit_reply;
 use crate::question::Question;
 use crate::reply::Reply;
 use crate::witness::witness;
 use fort_engine::{EngineFault, Last, decide_core};
 use fort_formulas::{Core, CoreFault, Formula, to_core};
 use fort_terms::{System, Term};
+use fort_trace::decide_with_steps;
 use std::alloc::{AllocError, Global};
 
 /// The core formula of a formula that speaks of nothing but what the system has.
@@ -46,7 +49,7 @@ pub fn core_for(
 }
 
 /// Whether the formula is true.
-fn truth(last: &Last) -> Reply
+fn truth_of(last: &Last) -> Reply
     requires { (f : logic.Formula) × (system : PatternSystem) × (terms : List Tree)
         × IsClosedFor Truth f × IsDecidedBy f system terms last.now }
     ensures says { (f : logic.Formula) (p : theory.System) (terms : List Tree)
@@ -61,26 +64,98 @@ fn truth(last: &Last) -> Reply
     }
 }
 
-/// The reply to a question, by the answer to the core formula.
+/// Whether a formula is true, by its core formula.
+fn truth(
+    alloc: Global,
+    system: &System,
+    core: &Core,
+    states: u32,
+) -> Result<Reply, EngineFault>
+    requires { (f : logic.Formula) × (terms : List Tree)
+        × IsPosed Truth f system.now terms (as_core core.now) }
+    ensures says { IfOk result (λ r. (f : logic.Formula)
+        → SaysOn Truth f system.now (as_core core.now) r) }
+    ensures plain { IfOk result (λ r. limit_of r ≡ None) }
+    ensures within { OnOk result (KeepsCapAt system.now (as_core core.now) states) }
+    ensures over { IfErr result (λ e. IfOver e (IsLimit system.now (as_core core.now) states)) }
+{
+    match decide_core(alloc, system, core, states) {
+        Ok(trace) => Ok(truth_of(&trace.last)),
+        Err(fault) => Err(fault),
+    }
+}
+
+/// The least terms that satisfy a formula, by its core formula.
+fn least_terms(
+    alloc: Global,
+    system: &System,
+    formula: &Formula,
+    core: &Core,
+    states: u32,
+) -> Result<Reply, EngineFault>
+    requires { (terms : List Tree)
+        × IsPosed Terms (as_formula formula.now) system.now terms (as_core core.now) }
+    ensures says { IfOk result (SaysOn Terms (as_formula formula.now) system.now (as_core core.now)) }
+    ensures plain { IfOk result (λ r. limit_of r ≡ None) }
+    ensures within { OnOk result (KeepsCapAt system.now (as_core core.now) states) }
+    ensures over { IfErr result (λ e. IfOver e (IsLimit system.now (as_core core.now) states)) }
+{
+    let trace = match decide_core(alloc, system, core, states) {
+        Ok(trace) => trace,
+        Err(fault) => return Err(fault),
+    };
+    match witness(alloc, system.signature(), formula, &trace.last) {
+        Ok(reply) => Ok(reply),
+        Err(AllocError) => Err(EngineFault::Memory),
+    }
+}
+
+/// The certificate that is written for a formula, by its core formula.
+fn certificate(
+    alloc: Global,
+    system: &System,
+    core: &Core,
+    states: u32,
+) -> Result<Reply, EngineFault>
+    requires { (f : logic.Formula) × (terms : List Tree)
+        × IsPosed Certificate f system.now terms (as_core core.now) }
+    ensures says { IfOk result (λ r. (f : logic.Formula)
+        → SaysOn Certificate f system.now (as_core core.now) r) }
+    ensures plain { IfOk result (λ r. limit_of r ≡ None) }
+    ensures within { OnOk result (KeepsCapAt system.now (as_core core.now) states) }
+    ensures over { IfErr result (λ e. IfOver e (IsLimit system.now (as_core core.now) states)) }
+{
+    let recorded = match decide_with_steps(alloc, system, core, states) {
+        Ok(recorded) => recorded,
+        Err(fault) => return Err(fault),
+    };
+    match fort_certificate::text(alloc, system.number(), recorded.verdict, &recorded.steps) {
+        Ok(text) => Ok(Reply::Certificate(text)),
+        Err(AllocError) => Err(EngineFault::Memory),
+    }
+}
+
+/// The reply to a question, by the core formula.
 fn reply_to_question(
     alloc: Global,
     question: Question,
     system: &System,
     formula: &Formula,
-    last: &Last,
-) -> Result<Reply, AllocError>
-    requires closed { IsClosedFor question (as_formula formula.now) }
-    requires decided { (terms : List Tree)
-        × IsDecidedBy (as_formula formula.now) system.now terms last.now }
-    ensures says { IfOk result (λ r. (p : theory.System) (terms : List Tree)
-        → IsLawful p → system.now ≡ pattern_system p
-        → IsDecidedBy (as_formula formula.now) system.now terms last.now
-        → VerdictOn question p terms (as_formula formula.now) (status_of r) (text_of r)) }
-    ensures limit { IfOk result (λ r. limit_of r ≡ None) }
+    core: &Core,
+    states: u32,
+) -> Result<Reply, EngineFault>
+    requires { (terms : List Tree)
+        × IsPosed question (as_formula formula.now) system.now terms (as_core core.now) }
+    ensures says { IfOk result
+        (SaysOn question (as_formula formula.now) system.now (as_core core.now)) }
+    ensures plain { IfOk result (λ r. limit_of r ≡ None) }
+    ensures within { OnOk result (KeepsCapAt system.now (as_core core.now) states) }
+    ensures over { IfErr result (λ e. IfOver e (IsLimit system.now (as_core core.now) states)) }
 {
     match question {
-        Question::Truth | Question::Certificate => Ok(truth(last)),
-        Question::Terms => witness(alloc, system.signature(), formula, last),
+        Question::Truth => truth(alloc, system, core, states),
+        Question::Terms => least_terms(alloc, system, formula, core, states),
+        Question::Certificate => certificate(alloc, system, core, states),
     }
 }
 
@@ -102,22 +177,8 @@ pub fn verdict(
         (ShowsLimit system.now (core_of terms.now (as_formula formula.now)) states (text_of r))) }
 {
     let core = core_for(alloc, system, formula, terms)?;
-    if question == Question::Certificate {
-        return match fort_trace::decide_with_steps(alloc, system, &core, states) {
-            Ok(r) => Ok(Reply::Found(fort_certificate::text(alloc, system.number(), r.verdict, r.steps.as_slice())?)),
-            Err(EngineFault::Memory) => Err(AllocError),
-            Err(EngineFault::Over(limit)) => {
-                let line = limit_line(alloc, limit.part, limit.kind, states)?;
-                Ok(Reply::Limited(line, limit))
-            }
-        };
-    }
-    match decide_core(alloc, system, &core, states) {
-        Ok(trace) => reply_to_question(alloc, question, system, formula, &trace.last),
-        Err(EngineFault::Memory) => Err(AllocError),
-        Err(EngineFault::Over(limit)) => {
-            let line = limit_line(alloc, limit.part, limit.kind, states)?;
-            Ok(Reply::Limited(line, limit))
-        }
+    match reply_to_question(alloc, question, system, formula, &core, states) {
+        Ok(reply) => Ok(reply),
+        Err(fault) => limit_reply(alloc, fault, states),
     }
 }

@@ -1,4 +1,4 @@
-use Rattle.std.proofs.Common.{◌≡◌, refl, subst}
+use Rattle.std.proofs.Common.{◌≡◌, subst}
 use Rattle.std.proofs.lemmas.Result.{on_ok_weaker}
 use Rattle.fort_words.specs.RequestView.{as_request}
 use Rattle.fort_answers.specs.Requests.{Witness}
@@ -9,8 +9,15 @@ pub returns-in-Decide-default-false-default-clause-whole : goal.returns-in-Decid
 returns-in-Decide-default-false-default-clause-whole g c =
     on_ok_weaker c.ask.result (λ whole needs.
     let there = subst (λ r. NeedsInput (as_request r)) c.in-Decide-default-false-default.is needs in
-    whole (there.0, record { without = refl; accepted = rw c.in-Decide-default-false-default.formula-is there.1.accepted }))
+    whole (there.0, rw c.in-Decide-default-false-default.formula-is there.1))
     c.ask.ensures.whole
+
+pub returns-in-Decide-default-true-default-clause-whole : goal.returns-in-Decide-default-true-default-clause-whole
+returns-in-Decide-default-true-default-clause-whole g c =
+    on_ok_weaker c.ask-in-Decide-default-true-default.result (λ whole needs.
+    let there = subst (λ r. NeedsInput (as_request r)) c.in-Decide-default-true-default.is needs in
+    whole (there.0, rw c.in-Decide-default-true-default.formula-is there.1))
+    c.ask-in-Decide-default-true-default.ensures.whole
 
 pub returns-in-Witness-clause-whole : goal.returns-in-Witness-clause-whole
 returns-in-Witness-clause-whole g c =

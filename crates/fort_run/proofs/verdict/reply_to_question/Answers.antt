@@ -1,23 +1,42 @@
-use Rattle.std.proofs.Common.{sym, ap, subst, ◌∙◌}
+use Rattle.std.proofs.Common.{sym, subst}
 use Rattle.std.proofs.lemmas.Result.{IfOk-weaker}
-use Rattle.fort_theory.specs.Patterns.{PatternSystem}
+use Rattle.fort_formulas.specs.CoreView.{as_core}
 use Rattle.fort_formulas.specs.FormulaView.{as_formula}
-use Rattle.fort_run.specs.Asked.{IsClosedFor, VerdictOn}
-use Rattle.fort_run.specs.Ready.{IsDecidedBy}
-use Rattle.fort_run.specs.ReplyView.{status_of, text_of}
+use Rattle.fort_run.specs.Posed.{IsPosed, SaysOn}
 use Rattle.fort_run.proofs.verdict.reply_to_question.Goals as goal
 
-pub returns-in-Truth-clause-says : goal.returns-in-Truth-clause-says
-returns-in-Truth-clause-says c = λ p terms lawful same decided.
+pub truth-requires : goal.truth-requires
+truth-requires c =
     let f = as_formula c.args.formula.now in
-    subst (λ q. VerdictOn q p terms f (status_of c.truth.result) (text_of c.truth.result)) (sym c.in-Truth.is)
-    (c.truth.ensures.says f p terms lawful (subst (λ q. IsClosedFor q f) c.in-Truth.is c.requires.closed)
-    (subst (λ s. IsDecidedBy f s terms c.args.last.now) same decided))
+    (f, c.requires.0, subst (λ q. IsPosed q f c.args.system.now c.requires.0 (as_core c.args.core.now)) c.in-Truth.is c.requires.1)
+
+pub least_terms-requires : goal.least_terms-requires
+least_terms-requires c =
+    let f = as_formula c.args.formula.now in
+    (c.requires.0, subst (λ q. IsPosed q f c.args.system.now c.requires.0 (as_core c.args.core.now)) c.in-Terms.is c.requires.1)
+
+pub certificate-requires : goal.certificate-requires
+certificate-requires c =
+    let f = as_formula c.args.formula.now in
+    (f, c.requires.0, subst (λ q. IsPosed q f c.args.system.now c.requires.0 (as_core c.args.core.now)) c.in-Certificate.is c.requires.1)
+
+pub returns-in-Truth-clause-says : goal.returns-in-Truth-clause-says
+returns-in-Truth-clause-says c =
+    let f = as_formula c.args.formula.now in
+    IfOk-weaker c.truth.result _ _ (λ r says.
+    subst (λ q. SaysOn q f c.args.system.now (as_core c.args.core.now) r) (sym c.in-Truth.is) (says f))
+    c.truth.ensures.says
 
 pub returns-in-Terms-clause-says : goal.returns-in-Terms-clause-says
 returns-in-Terms-clause-says c =
     let f = as_formula c.args.formula.now in
-    IfOk-weaker c.witness.result _ _ (λ r says. λ p terms lawful same decided.
-    subst (λ q. VerdictOn q p terms f (status_of r) (text_of r)) (sym c.in-Terms.is)
-    (says p terms lawful (c.signature.ensures.same ∙ ap (λ (s : PatternSystem). s.signature) same) (subst (λ s. IsDecidedBy f s terms c.args.last.now) same decided)))
-    c.witness.ensures.says
+    IfOk-weaker c.least_terms.result _ _ (λ r says.
+    subst (λ q. SaysOn q f c.args.system.now (as_core c.args.core.now) r) (sym c.in-Terms.is) says)
+    c.least_terms.ensures.says
+
+pub returns-in-Certificate-clause-says : goal.returns-in-Certificate-clause-says
+returns-in-Certificate-clause-says c =
+    let f = as_formula c.args.formula.now in
+    IfOk-weaker c.certificate.result _ _ (λ r says.
+    subst (λ q. SaysOn q f c.args.system.now (as_core c.args.core.now) r) (sym c.in-Certificate.is) (says f))
+    c.certificate.ensures.says

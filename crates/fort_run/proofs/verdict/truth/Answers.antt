@@ -1,14 +1,21 @@
-use Rattle.std.proofs.Common.{◌≡◌, true, false}
-use Rattle.fort_run.proofs.Deciding.{true_verdict, false_verdict, no_table}
+use Rattle.std.proofs.Common.{subst}
+use Rattle.fort_formulas.specs.CoreView.{as_core}
+use Rattle.fort_run.specs.Ready.{IsDecidedBy}
+use Rattle.fort_run.specs.declared.question.Question.TheVariants.{Truth}
+use Rattle.fort_run.proofs.PosedQuestions.{decided_by}
 use Rattle.fort_run.proofs.verdict.truth.Goals as goal
 
-pub unreachable-requires : goal.unreachable-requires
-unreachable-requires c = no_table c.requires.0 c.requires.1 c.requires.2 c.args.last.now c.in-Auto.field-0 c.in-Auto.is c.requires.3 c.requires.4
+pub decide_core-requires : goal.decide_core-requires
+decide_core-requires c = c.requires.2.decided
 
-pub returns-in-Truth-true-clause-says : goal.returns-in-Truth-true-clause-says
-returns-in-Truth-true-clause-says c = λ f p terms lawful closed decided.
-    true_verdict p lawful f terms c.args.last.now decided closed c.in-Truth-true.field-0 c.in-Truth-true.is (let e : c.in-Truth-true.field-0 ≡ true = cc in e)
+pub truth_of-requires : goal.truth_of-requires
+truth_of-requires c =
+    let system = c.args.system.now in
+    (c.requires.0, system, c.requires.1, c.requires.2.closed,
+    decided_by Truth c.requires.0 system c.requires.1 (as_core c.args.core.now) c.in-Ok.trace.last c.requires.2 c.in-Ok.ensures.truth)
 
-pub returns-in-Truth-false-clause-says : goal.returns-in-Truth-false-clause-says
-returns-in-Truth-false-clause-says c = λ f p terms lawful closed decided.
-    false_verdict p lawful f terms c.args.last.now decided closed c.in-Truth-false.field-0 c.in-Truth-false.is (let e : c.in-Truth-false.field-0 ≡ false = cc in e)
+pub returns-in-Ok-clause-says : goal.returns-in-Ok-clause-says
+returns-in-Ok-clause-says c = λ f p terms lawful same posed.
+    c.truth_of.ensures.says f p terms lawful posed.closed
+    (subst (λ s. IsDecidedBy f s terms c.in-Ok.trace.last) same
+    (decided_by Truth f c.args.system.now terms (as_core c.args.core.now) c.in-Ok.trace.last posed c.in-Ok.ensures.truth))

@@ -1,0 +1,95 @@
+-- A question that is put to a core formula: what its answer, the certificate that is written for it, or its limit says to the question.
+use Rattle.std.specs.Prelude.{◌≡◌, ℕ, ◌<◌, List, [], map, length, IfSome}
+use Rattle.std.proofs.Common.{refl, sym, ap, subst, ◌∙◌, arith}
+use Rattle.fort_theory.specs.Trees.{Tree}
+use Rattle.fort_theory.specs.Sides.{System}
+use Rattle.fort_theory.specs.Patterns.{PatternSystem, pattern_system}
+use Rattle.fort_logic.specs.Formulas.{Formula}
+use Rattle.fort_logic.specs.FreeNames.{free_names}
+use Rattle.fort_logic.specs.Cores.{Core}
+use Rattle.fort_logic.specs.KeepsTruth.{KeepsTruth}
+use Rattle.fort_logic.specs.Parts.{IsClosed}
+use Rattle.fort_logic.specs.PatternStructures.{pattern_structure}
+use Rattle.fort_logic.specs.Translation.{core_of}
+use Rattle.fort_logic.proofs.FreeNumbers.{core_of-free}
+use Rattle.fort_parts.specs.PartAnswers.{IsAnswerTo}
+use Rattle.fort_formulas.specs.KindView.{as_kind}
+use Rattle.fort_certificate_grammar.specs.CertificateText.{certificate_text}
+use Rattle.fort_in_order.specs.Written.{IsWritten}
+use Rattle.fort_steps.specs.StepView.{as_step}
+use Rattle.fort_trace.specs.declared.decide.Recorded.{Recorded}
+use Rattle.fort_trace.specs.RecordedView.{as_certificate}
+use Rattle.fort_answers.specs.Requests.{Text}
+use Rattle.fort_answers.specs.Lines.{positive}
+use Rattle.fort_answers.specs.CertificateAnswer.{CertificateVerdict}
+use Rattle.fort_engine.specs.declared.answer.EngineFault.{EngineFault}
+use Rattle.fort_engine.specs.declared.answer.EngineFault.TheVariants.{Memory, Over}
+use Rattle.fort_engine.specs.declared.answer.Last.{Last}
+use Rattle.fort_engine.specs.AnswerView.{as_answer, IfOver, IsLimit}
+use Rattle.fort_run.specs.declared.question.Question.{Question}
+use Rattle.fort_run.specs.declared.question.Question.TheVariants.{Certificate}
+use Rattle.fort_run.specs.declared.reply.Reply.{Reply}
+use Rattle.fort_run.specs.Asked.{IsVerdict, Limits, Says}
+use Rattle.fort_run.specs.Posed.{IsPosed, SaysOn, TellsLimit}
+use Rattle.fort_run.specs.Ready.{IsLawful, IsDecidedBy, KeepsCapAt, ShowsLimit}
+use Rattle.fort_run.specs.ReplyView.{status_of, text_of, limit_of}
+use Rattle.fort_run.proofs.Deciding.{passes}
+use Rattle.fort_run.proofs.Fitting.{number_is}
+
+-- the answer to the core formula
+pub decided_by : (question : Question) (f : Formula) (system : PatternSystem) (terms : List Tree) (c : Core) (last : Last) → IsPosed question f system terms c
+    → IsAnswerTo (pattern_structure system) c (as_answer last) → IsDecidedBy f system terms last
+decided_by question f system terms c last posed answer = record {
+  ready = posed.ready;
+  keeps = subst (KeepsTruth terms f) posed.is posed.keeps;
+  answer = subst (λ k. IsAnswerTo (pattern_structure system) k (as_answer last)) posed.is answer;
+}
+
+-- no number is free in the core formula of a closed formula
+pub closed_core : (f : Formula) (system : PatternSystem) (terms : List Tree) (c : Core) → IsPosed Certificate f system terms c → IsClosed c
+closed_core f system terms c posed =
+    subst IsClosed (sym posed.is) (λ n free.
+    let below : n < length (free_names f) = core_of-free terms f n free in
+    let none : length (free_names f) ≡ 0 = ap length posed.closed in
+    omega arith)
+
+-- the text of the steps that were recorded
+pub certificate_says : (f : Formula) (p : System) (system : PatternSystem) (terms : List Tree) (c : Core) (r : Recorded) (number : ℕ) (text : Text)
+    → system ≡ pattern_system p → IsPosed Certificate f system terms c → ((first : ℕ) → IsWritten system c (as_certificate first r))
+    → number ≡ length system.rules → text ≡ certificate_text number r.verdict (map as_step r.steps.items) → CertificateVerdict p terms f positive text
+certificate_says f p system terms c r number text same posed written count spelled =
+    let own : IsWritten system (core_of terms f) (as_certificate 0 r) = subst (λ k. IsWritten system k (as_certificate 0 r)) posed.is (written 0) in
+    record {
+      certificate = as_certificate 0 r;
+      written = subst (λ s. IsWritten s (core_of terms f) (as_certificate 0 r)) same own;
+      are = record {
+        same_status = refl;
+        same_text = spelled ∙ ap (λ n. certificate_text n r.verdict (map as_step r.steps.items)) (number_is number system p count same);
+      };
+    }
+
+-- ---- verdicts
+
+-- no part is over the cap
+pub verdict_says : (question : Question) (f : Formula) (p : System) (system : PatternSystem) (terms : List Tree) (c : Core) (states : ℕ) (reply : Reply) → IsLawful p
+    → system ≡ pattern_system p → IsPosed question f system terms c → KeepsCapAt system c states → SaysOn question f system c reply
+    → IsVerdict question p terms f states (status_of reply) (text_of reply)
+verdict_says question f p system terms c states reply lawful same posed keeps says =
+    Says (subst (λ s. KeepsCapAt s (core_of terms f) states) same (subst (λ k. KeepsCapAt system k states) posed.is keeps)) (says p terms lawful same posed)
+
+-- some part is
+pub limit_says : (question : Question) (f : Formula) (p : System) (system : PatternSystem) (terms : List Tree) (c : Core) (states : ℕ) (fault : EngineFault)
+    (reply : Reply) → system ≡ pattern_system p → c ≡ core_of terms f → IfOver fault (IsLimit system c states) → TellsLimit fault states reply
+    → IsVerdict question p terms f states (status_of reply) (text_of reply)
+limit_says question f p system terms c states Memory reply same is over tells = absurd tells
+limit_says question f p system terms c states (Over limit) reply same is over tells =
+    let own = subst (λ k. IsLimit system k states limit) is over in
+    Limits limit.part (as_kind limit.kind) (passes p terms f states limit (subst (λ s. IsLimit s (core_of terms f) states limit) same own))
+    (record { same_status = tells.1; same_text = tells.2 })
+
+pub limit_shows : (system : PatternSystem) (c k : Core) (states : ℕ) (fault : EngineFault) (reply : Reply) → c ≡ k → IfOver fault (IsLimit system c states)
+    → TellsLimit fault states reply → IfSome (limit_of reply) (ShowsLimit system k states (text_of reply))
+limit_shows system c k states Memory reply is over tells = absurd tells
+limit_shows system c k states (Over limit) reply is over tells =
+    subst (λ o. IfSome o (ShowsLimit system k states (text_of reply))) (sym tells.0)
+    (record { is = subst (λ x. IsLimit system x states limit) is over; line_is = tells.2 })

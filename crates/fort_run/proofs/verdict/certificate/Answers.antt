@@ -1,0 +1,15 @@
+use Rattle.std.proofs.Common.{ap, ◌∙◌}
+use Rattle.fort_formulas.specs.CoreView.{as_core}
+use Rattle.fort_run.proofs.PosedQuestions.{closed_core, certificate_says}
+use Rattle.fort_run.proofs.verdict.certificate.Goals as goal
+
+pub decide_with_steps-requires-clause-decided : goal.decide_with_steps-requires-clause-decided
+decide_with_steps-requires-clause-decided c = c.requires.2.decided
+
+pub decide_with_steps-requires-clause-closed : goal.decide_with_steps-requires-clause-closed
+decide_with_steps-requires-clause-closed c = closed_core c.requires.0 c.args.system.now c.requires.1 (as_core c.args.core.now) c.requires.2
+
+pub returns-in-Ok-text-clause-says : goal.returns-in-Ok-text-clause-says
+returns-in-Ok-text-clause-says c = λ f p terms lawful same posed.
+    certificate_says f p c.args.system.now terms (as_core c.args.core.now) c.in-Ok.recorded c.number.result c.in-Ok-text.text.items same posed
+    c.in-Ok.ensures.written c.number.ensures.count c.in-Ok-text.ensures.text
