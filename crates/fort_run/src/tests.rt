@@ -6,6 +6,24 @@ use std::test::Fail;
 
 const ONE: &str = "(format TRS)\n(fun a 0)\n";
 
+/// No term is a normal form.
+const RESTLESS: &str = "(format TRS)
+(fun k0 0) (fun s 1)
+(rule x1 (s k0)) (rule (s x1) k0)
+(rule k0 k0)
+";
+
+const ALL_NORMAL: &str = "(certificate 1 yes)
+(part 0 0)
+(value 2 no)
+(value 3 yes)
+";
+
+const NONE_NORMAL: &str = "(certificate 1 no)
+(part 0 0 1 1)
+(value 1 no)
+";
+
 const SAMPLE: &str = "sample 1
 CR NO
 WCR NO
@@ -68,6 +86,20 @@ fn inputs_at_the_limit(rt: HostRuntime) -> Result<(), Fail> {
         let (status, printed) = answer(rt.alloc(), &words, input.as_slice())?;
         assert_eq!(rt; status, 3, "of {length} bytes");
         assert_eq!(rt; printed.as_slice(), text.as_bytes(), "of {length} bytes");
+    }
+    Ok(())
+}
+
+#[test]
+fn certificates_of_either_verdict(rt: HostRuntime) -> Result<(), Fail> {
+    for (input, formula, text) in [
+        (ONE, "forall x (NF(x))", ALL_NORMAL),
+        (RESTLESS, "exists z, z (NF(z))", NONE_NORMAL),
+    ] {
+        let words = ["fort", "decide", "--certificate", formula];
+        let (status, printed) = answer(rt.alloc(), &words, input.as_bytes())?;
+        assert_eq!(rt; status, 0, "{formula}");
+        assert_eq!(rt; printed.as_slice(), text.as_bytes(), "{formula}");
     }
     Ok(())
 }

@@ -65,12 +65,7 @@ fn truth_of(last: &Last) -> Reply
 }
 
 /// Whether a formula is true, by its core formula.
-fn truth(
-    alloc: Global,
-    system: &System,
-    core: &Core,
-    states: u32,
-) -> Result<Reply, EngineFault>
+fn truth(alloc: Global, system: &System, core: &Core, states: u32) -> Result<Reply, EngineFault>
     requires { (f : logic.Formula) × (terms : List Tree)
         × IsPosed Truth f system.now terms (as_core core.now) }
     ensures says { IfOk result (λ r. (f : logic.Formula)

@@ -13,9 +13,12 @@ decide_core-requires c = c.requires.1.decided
 pub witness-requires : goal.witness-requires
 witness-requires c =
     let f = as_formula c.args.formula.now in
-    let system = c.args.system.now in
-    (system, c.requires.0, c.signature.ensures.same,
-    decided_by Terms f system c.requires.0 (as_core c.args.core.now) c.in-Ok.trace.last c.requires.1 c.in-Ok.ensures.truth)
+    let system = c.args.system.now in (
+      system,
+      c.requires.0,
+      c.signature.ensures.same,
+      decided_by Terms f system c.requires.0 (as_core c.args.core.now) c.in-Ok.trace.last c.requires.1 c.in-Ok.ensures.truth,
+    )
 
 pub returns-in-Ok-witness-clause-says : goal.returns-in-Ok-witness-clause-says
 returns-in-Ok-witness-clause-says c = λ p terms lawful same posed.

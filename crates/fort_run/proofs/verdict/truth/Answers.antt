@@ -10,9 +10,13 @@ decide_core-requires c = c.requires.2.decided
 
 pub truth_of-requires : goal.truth_of-requires
 truth_of-requires c =
-    let system = c.args.system.now in
-    (c.requires.0, system, c.requires.1, c.requires.2.closed,
-    decided_by Truth c.requires.0 system c.requires.1 (as_core c.args.core.now) c.in-Ok.trace.last c.requires.2 c.in-Ok.ensures.truth)
+    let system = c.args.system.now in (
+      c.requires.0,
+      system,
+      c.requires.1,
+      c.requires.2.closed,
+      decided_by Truth c.requires.0 system c.requires.1 (as_core c.args.core.now) c.in-Ok.trace.last c.requires.2 c.in-Ok.ensures.truth,
+    )
 
 pub returns-in-Ok-clause-says : goal.returns-in-Ok-clause-says
 returns-in-Ok-clause-says c = λ f p terms lawful same posed.
