@@ -70,7 +70,7 @@ fn truth(alloc: Global, system: &System, core: &Core, states: u32) -> Result<Rep
         × IsPosed Truth f system.now terms (as_core core.now) }
     ensures says { IfOk result (λ r. (f : logic.Formula)
         → SaysOn Truth f system.now (as_core core.now) r) }
-    ensures plain { IfOk result (λ r. limit_of r ≡ None) }
+    ensures limit { IfOk result (λ r. limit_of r ≡ None) }
     ensures within { OnOk result (KeepsCapAt system.now (as_core core.now) states) }
     ensures over { IfErr result (λ e. IfOver e (IsLimit system.now (as_core core.now) states)) }
 {
@@ -91,7 +91,7 @@ fn least_terms(
     requires { (terms : List Tree)
         × IsPosed Terms (as_formula formula.now) system.now terms (as_core core.now) }
     ensures says { IfOk result (SaysOn Terms (as_formula formula.now) system.now (as_core core.now)) }
-    ensures plain { IfOk result (λ r. limit_of r ≡ None) }
+    ensures limit { IfOk result (λ r. limit_of r ≡ None) }
     ensures within { OnOk result (KeepsCapAt system.now (as_core core.now) states) }
     ensures over { IfErr result (λ e. IfOver e (IsLimit system.now (as_core core.now) states)) }
 {
@@ -116,7 +116,7 @@ fn certificate(
         × IsPosed Certificate f system.now terms (as_core core.now) }
     ensures says { IfOk result (λ r. (f : logic.Formula)
         → SaysOn Certificate f system.now (as_core core.now) r) }
-    ensures plain { IfOk result (λ r. limit_of r ≡ None) }
+    ensures limit { IfOk result (λ r. limit_of r ≡ None) }
     ensures within { OnOk result (KeepsCapAt system.now (as_core core.now) states) }
     ensures over { IfErr result (λ e. IfOver e (IsLimit system.now (as_core core.now) states)) }
 {
@@ -143,7 +143,7 @@ fn reply_to_question(
         × IsPosed question (as_formula formula.now) system.now terms (as_core core.now) }
     ensures says { IfOk result
         (SaysOn question (as_formula formula.now) system.now (as_core core.now)) }
-    ensures plain { IfOk result (λ r. limit_of r ≡ None) }
+    ensures limit { IfOk result (λ r. limit_of r ≡ None) }
     ensures within { OnOk result (KeepsCapAt system.now (as_core core.now) states) }
     ensures over { IfErr result (λ e. IfOver e (IsLimit system.now (as_core core.now) states)) }
 {

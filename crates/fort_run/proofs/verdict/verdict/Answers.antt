@@ -38,7 +38,7 @@ returns-in-Ok-clause-ok c = λ p lawful same.
 pub returns-in-Ok-clause-limit : goal.returns-in-Ok-clause-limit
 returns-in-Ok-clause-limit c =
     subst (λ o. IfSome o (ShowsLimit c.args.system.now (core_of c.args.terms.now (as_formula c.args.formula.now)) c.args.states (text_of c.in-Ok.reply)))
-    (sym c.in-Ok.ensures.plain) tt
+    (sym c.in-Ok.ensures.limit) tt
 
 pub returns-in-Err-clause-ok : goal.returns-in-Err-clause-ok
 returns-in-Err-clause-ok c =
