@@ -1,12 +1,11 @@
 //! The counts of "infinitely many", as steps.
-ghost use Rattle.std.specs.Prelude.{◌≡◌, ◌<◌, ◌≤◌, ℕ, true, map, length, slice_index_or, Contains, IfOk, OnOk};
+ghost use Rattle.std.specs.Prelude.{◌≡◌, ◌<◌, ◌≤◌, ℕ, true, map, length, slice_index_or, IfOk, OnOk};
 ghost use Rattle.fort_theory.specs.Patterns.{PatternSystem};
 ghost use Rattle.fort_logic.specs.Cores as theory;
 ghost use Rattle.fort_logic.specs.Parts as logic;
 ghost use Rattle.fort_tables.specs.Tables.{listed_table};
 ghost use Rattle.fort_formulas.specs.CoreView.{as_core};
 ghost use Rattle.fort_infinity.specs.CountView as counted;
-ghost use Rattle.fort_parts.specs.PartColumns.{place_in};
 ghost use Rattle.fort_parts.specs.PartAnswers.{OfTable};
 ghost use Rattle.fort_parts.specs.RightAnswers.{IsRightFor};
 ghost use Rattle.fort_in_order.specs.Made.{Made};
@@ -15,7 +14,7 @@ ghost use Rattle.fort_steps.specs.StepView.{as_count};
 ghost use Rattle.fort_trace.specs.Recording.{AreMarks, AreMarksMade, IsKeptMade, AreOperandsMade, CountsAdded};
 
 use crate::answers::kept_answer;
-use fort_engine::Last;
+use fort_engine::{Last, column_of};
 use fort_formulas::{Core, free};
 use fort_infinity::{Count, pure_counts};
 use fort_lockstep::{Dta, Table};
@@ -41,19 +40,6 @@ fn marks(alloc: Global, counts: &[Count]) -> Result<Vec<Mark>, Memory>
         marks.push(mark(*count))?;
     }
     Ok(marks)
-}
-
-/// The place of a number among columns.
-fn column_of(columns: &[u32], number: u32) -> usize
-    requires { Contains columns.now number }
-    ensures { result ≡ place_in columns.now number }
-{
-    for place in 0..columns.len() {
-        if columns[place] == number {
-            return place;
-        }
-    }
-    unreachable!()
 }
 
 /// The marks of the states of a formula's table in which this variable alone is present.

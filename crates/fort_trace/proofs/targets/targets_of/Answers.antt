@@ -52,6 +52,5 @@ returns-clause-targets c =
     (last_in t c.loop-row.entries.signature c.loop-row.entries.columns c.deref.result.now c.loop-row.entries.last i.signature i.columns
     (c.deref.ensures.value ∙ c.in_ok-presences.ensures.all) c.in_default.ensures.none)
 
--- open until `Dta::entries` says it: each state of a table has one truth
 pub returns-clause-finals : goal.returns-clause-finals
-returns-clause-finals c = ?
+returns-clause-finals c = c.entries-entries.ensures.finals
