@@ -47,6 +47,16 @@ abbrev pub GivesFirst : {A : Type 0} → List A → (A → List A) → Option A 
 GivesFirst rest after None = rest ≡ []
 GivesFirst rest after (Some x) = rest ≡ x ∷ after x
 
+-- a value where the flag is set
+abbrev pub some_if : {A : Type 0} → Bool → A → Option A
+some_if true x = Some x
+some_if false x = None
+
+-- a first digit with the others
+abbrev pub with_others : List ℕ → Option ℕ → Option (List ℕ)
+with_others ds None = None
+with_others ds (Some d) = Some (d ∷ ds)
+
 -- all lists of this many digits up to n, in order
 abbrev pub digit_lists : ℕ → ℕ → List (List ℕ)
 digit_lists n zero = [] ∷ []

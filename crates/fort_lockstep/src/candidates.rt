@@ -1,8 +1,8 @@
 //! The tuple symbols that can have an entry at a stage, one after another.
-ghost use Rattle.std.specs.Prelude.{◌≡◌, ℕ, ◌+◌, ◌-◌, ◌<◌, ◌≤◌, length, IfSome};
+ghost use Rattle.std.specs.Prelude.{◌≡◌, ℕ, ◌+◌, ◌-◌, ◌<◌, ◌≤◌, ◌∷◌, length, IfSome};
 ghost use Rattle.std.specs.List.{range_with_len};
 ghost use Rattle.fort_tables.specs.Tuples.{arity};
-ghost use Rattle.fort_lockstep.specs.Walks.{AreUpTo, GivesFirst};
+ghost use Rattle.fort_lockstep.specs.Walks.{AreUpTo, GivesFirst, some_if, with_others};
 ghost use Rattle.fort_lockstep.specs.Candidates.{column_arity, narrowed, candidates, candidates_from, candidates_after, LeavesOut};
 
 use crate::digits::{DigitRow, digit_arity};
@@ -82,71 +82,86 @@ pub fn stage_range(sig: &Signature, presences: &[u16], stage: u32) -> KidRange
     }
 }
 
-/// The first candidate of this many columns.
+/// Writes the first candidate over these digits; where there is none, they are any.
 #[cycle(candidates)]
-fn first_candidate(sig: &Signature, range: KidRange, columns: usize) -> Option<DigitRow>
-    requires few { columns ≤ 16 }
-    ensures width { IfSome result (λ ds. length ds ≡ columns) }
-    ensures digits { IfSome result (λ ds. AreUpTo (length sig.now) ds) }
-    ensures next { GivesFirst (candidates sig.now range columns) (candidates_after sig.now range)
-        result }
+fn write_first(sig: &Signature, range: KidRange, digits: &mut [u32]) -> bool
+    ensures width { length digits.new ≡ length digits.old }
+    ensures digits { IfSome (some_if result digits.new) (AreUpTo (length sig.now)) }
+    ensures next { GivesFirst (candidates sig.now range (length digits.old))
+        (candidates_after sig.now range) (some_if result digits.new) }
 {
     if range.to <= range.from {
-        return None;
+        return false;
     }
-    if columns == 0 {
-        Some(DigitRow::zeros(0))
-    } else {
-        first_candidate_from(sig, range, columns - 1, 0)
+    match digits.split_first_mut() {
+        None => true,
+        Some((first, others)) => match write_first_from(sig, range, others, 0) {
+            Some(digit) => {
+                *first = digit;
+                true
+            }
+            None => false,
+        },
     }
 }
 
-/// The first candidate that begins with the digit `from` or a later one, with this many others.
+/// The first digit of the first candidate that begins with `from` or a later one; its others are written over these.
 #[cycle(candidates)]
-fn first_candidate_from(
-    sig: &Signature,
-    range: KidRange,
-    others: usize,
-    from: u32,
-) -> Option<DigitRow>
-    requires few { others < 16 }
+fn write_first_from(sig: &Signature, range: KidRange, others: &mut [u32], from: u32) -> Option<u32>
     requires from { from ≤ length sig.now + 1 }
-    ensures width { IfSome result (λ ds. length ds ≡ others + 1) }
-    ensures digits { IfSome result (λ ds. AreUpTo (length sig.now) ds) }
-    ensures next { GivesFirst (candidates_from sig.now range others
-        (range_with_len from (length sig.now + 1 - from))) (candidates_after sig.now range) result }
+    ensures width { length others.new ≡ length others.old }
+    ensures digits { IfSome result (λ d. AreUpTo (length sig.now) (d ∷ others.new)) }
+    ensures next { GivesFirst (candidates_from sig.now range (length others.old)
+        (range_with_len from (length sig.now + 1 - from))) (candidates_after sig.now range)
+        (with_others others.new result) }
 {
     for digit in from..sig.len() as u32 + 1 {
-        match first_candidate(sig, range.with_column(column_arity(sig, digit)), others) {
-            Some(row) => return Some(row.with_first(digit)),
-            None => {}
+        if write_first(sig, range.with_column(column_arity(sig, digit)), others) {
+            return Some(digit);
         }
     }
     None
 }
 
-/// The candidate after these digits.
-pub fn next_candidate(sig: &Signature, range: KidRange, digits: &[u32]) -> Option<DigitRow>
-    requires few { length digits.now ≤ 16 }
-    requires symbols { AreUpTo (length sig.now) digits.now }
-    ensures width { IfSome result (λ ds. length ds ≡ length digits.now) }
-    ensures digits { IfSome result (λ ds. AreUpTo (length sig.now) ds) }
-    ensures next { GivesFirst (candidates_after sig.now range digits.now)
-        (candidates_after sig.now range) result }
+/// Writes the candidate after these digits over them; where there is none, they are any.
+fn write_next(sig: &Signature, range: KidRange, digits: &mut [u32]) -> bool
+    requires symbols { AreUpTo (length sig.now) digits.old }
+    ensures width { length digits.new ≡ length digits.old }
+    ensures digits { IfSome (some_if result digits.new) (AreUpTo (length sig.now)) }
+    ensures next { GivesFirst (candidates_after sig.now range digits.old)
+        (candidates_after sig.now range) (some_if result digits.new) }
 {
     if range.to <= range.from {
-        return None;
+        return false;
     }
     // its clause says that the signature is lawful
     let _count = sig.len();
-    match digits.split_first() {
-        None => None,
-        Some((digit, digits)) => {
-            let inner = range.with_column(column_arity(sig, *digit));
-            match next_candidate(sig, inner, digits) {
-                Some(later) => Some(later.with_first(*digit)),
-                None => first_candidate_from(sig, range, digits.len(), *digit + 1),
+    match digits.split_first_mut() {
+        None => false,
+        Some((first, others)) => {
+            if write_next(sig, range.with_column(column_arity(sig, *first)), others) {
+                return true;
+            }
+            match write_first_from(sig, range, others, *first + 1) {
+                Some(digit) => {
+                    *first = digit;
+                    true
+                }
+                None => false,
             }
         }
     }
+}
+
+/// Goes to the candidate after these digits; where there is none, they are any.
+pub fn to_next_candidate(sig: &Signature, range: KidRange, row: &mut DigitRow) -> bool
+    requires symbols { AreUpTo (length sig.now) row.old }
+    ensures width { length row.new ≡ length row.old }
+    ensures digits { IfSome (some_if result row.new) (AreUpTo (length sig.now)) }
+    ensures next { GivesFirst (candidates_after sig.now range row.old)
+        (candidates_after sig.now range) (some_if result row.new) }
+{
+    let start = row.start;
+    let digits = &mut row.digits;
+    write_next(sig, range, &mut digits[start..])
 }

@@ -51,6 +51,7 @@ impl Dta {
         ensures columns { result.columns ≡ self.now.columns }
         ensures start { result.last ≡ no_entry self.now.columns }
         ensures lawful { IsListed self.now }
+        ensures finals { length self.now.finals ≡ length self.now.presences }
     {
         let shared = self.shared.as_ref();
         Entries::new(&shared.signature, shared.columns)

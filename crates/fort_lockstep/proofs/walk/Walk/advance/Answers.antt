@@ -1,6 +1,6 @@
 use Rattle.std.proofs.Common.{arith, refl}
 use Rattle.fort_lockstep.specs.WalkFacts.{place}
-use Rattle.fort_lockstep.proofs.StepLaws.{nothing_past, next_same_symbol, next_found, next_none}
+use Rattle.fort_lockstep.proofs.StepLaws.{nothing_past, next_same_symbol, next_found, next_none, same_place}
 use Rattle.fort_lockstep.proofs.walk.Walk.advance.Goals as goal
 
 pub returns-then-self-presences-clause-next : goal.returns-then-self-presences-clause-next
@@ -11,14 +11,14 @@ returns-in-Some-clause-next c =
     let next = rw (c.states.ensures.states, c.requires.place.wanted, c.states-2.ensures.states) at c.in-Some.ensures.next in
     next_same_symbol c.args.sig.now c.args.presences.now (place c.args.self.now) c.in-Some.kids c.requires.place (omega arith) c.in-Some.ensures.stage_is c.in-Some.ensures.states next
 
-pub returns-in-Some-first_after-clause-next : goal.returns-in-Some-first_after-clause-next
-returns-in-Some-first_after-clause-next c =
+pub returns-then-find_after-clause-next : goal.returns-then-find_after-clause-next
+returns-then-find_after-clause-next c =
     let next = rw (c.states.ensures.states, c.requires.place.wanted, c.states-2.ensures.states) at c.in-None.ensures.next in
-    let found = rw c.copy.ensures at c.in-Some-first_after.ensures in
-    next_found c.args.sig.now c.args.presences.now (place c.args.self.now) (place c.in-Some-first_after.found) c.requires.place (omega arith) next found
+    next_found c.args.sig.now c.args.presences.now (place c.args.self.now) (place c.find_after.new.self) c.requires.place (omega arith) next c.if-find_after.ensures.next
 
-pub returns-in-None-first_after-clause-next : goal.returns-in-None-first_after-clause-next
-returns-in-None-first_after-clause-next c =
-    let next = rw (c.states.ensures.states, c.requires.place.wanted, c.states-2.ensures.states) at c.in-None.ensures.next in
-    let rest = rw c.copy.ensures at c.in-None-first_after.ensures in
-    (next_none c.args.sig.now c.args.presences.now (place c.args.self.now) c.requires.place next rest, refl)
+pub returns-else-find_after-clause-next : goal.returns-else-find_after-clause-next
+returns-else-find_after-clause-next c =
+    let next = rw (c.states.ensures.states, c.requires.place.wanted, c.states-2.ensures.states) at c.in-None.ensures.next in (
+      next_none c.args.sig.now c.args.presences.now (place c.args.self.now) c.requires.place next c.if-find_after.ensures.next,
+      same_place c.args.self.now c.find_after.new.self c.copy-digits.result (c.if-find_after.ensures.none refl) c.copy-digits.ensures,
+    )
