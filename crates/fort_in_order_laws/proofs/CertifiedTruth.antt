@@ -37,11 +37,11 @@ use Rattle.fort_in_order_laws.proofs.RightParts.{some_columns, HasCountsFor, Has
 use Rattle.fort_in_order_laws.proofs.FineSteps.{cut_steps, counts_step, part_step, value_step, one_step, no_step, chosen, passed_over, itself, value_number, HasClosures, closures_done}
 
 -- answers by what was made depend on the answers that were made alone
-moved_answer : (parts : List Core) (made other : Made) (f : Core) (answer : Answer) → made.answers ≡ other.answers → IsAnswerOf parts made f answer → IsAnswerOf parts other f answer
+pub moved_answer : (parts : List Core) (made other : Made) (f : Core) (answer : Answer) → made.answers ≡ other.answers → IsAnswerOf parts made f answer → IsAnswerOf parts other f answer
 moved_answer parts made other f answer e (OfStep k p t a) = OfStep k p t (sym (ap (λ (g : ℕ → Answer). g k) e) ∙ a)
 moved_answer parts made other f answer e (Turned {f = g} body h r) = Turned body h (moved_answer parts made other g (OfTable body) e r)
 
-moved_counted : (parts : List Core) (made other : Made) (n : ℕ) (f : Core) (body : Table) (states : List ℕ) → made.answers ≡ other.answers → IsCounted parts made n f body states → IsCounted parts other n f body states
+pub moved_counted : (parts : List Core) (made other : Made) (n : ℕ) (f : Core) (body : Table) (states : List ℕ) → made.answers ≡ other.answers → IsCounted parts made n f body states → IsCounted parts other n f body states
 moved_counted parts made other n f body states e h = record { body_is = moved_answer parts made other f (OfTable body) e h.body_is; pure = h.pure }
 
 -- ---- which closures a formula asks for
@@ -173,7 +173,7 @@ module _ (system : PatternSystem) (root : Core) (parts : List Core) (are : ArePa
     abbrev AreRightBelow : ℕ → (Which → ℕ → List certificates.Pair) → Type 0
     AreRightBelow i made = (which : Which) (j : ℕ) → 1 ≤ j → j < i → list_any (asks which j) parts ≡ true → IsClosureJudged system which j (made which j) Fine
 
-    asked_closures : (k : ℕ) (made : Made) → k < length parts → HasClosures system parts (1 + length system.rules) made → HasClosuresFor system made (get_or parts k core.True)
+    pub asked_closures : (k : ℕ) (made : Made) → k < length parts → HasClosures system parts (1 + length system.rules) made → HasClosuresFor system made (get_or parts k core.True)
     asked_closures k made l has which i asked =
         let f = get_or parts k core.True in
         let c = Contains-get_or parts k core.True l in
@@ -313,7 +313,7 @@ under (core.Iff f k) g c = under_two f k (core.Iff f k) g refl (inl refl) (inr r
 under (core.Exists n f) g c = under_one f (core.Exists n f) g refl refl (λ x d. under f x d) c
 under (core.Infinite n f) g c = under_one f (core.Infinite n f) g refl refl (λ x d. under f x d) c
 
-last_part : (root : Core) (parts : List Core) → AreParts root parts → (n : ℕ) → length parts ≡ suc n → get_or parts n core.True ≡ root
+pub last_part : (root : Core) (parts : List Core) → AreParts root parts → (n : ℕ) → length parts ≡ suc n → get_or parts n core.True ≡ root
 last_part root parts are n count =
     let g = get_or parts n core.True in
     let l : n < length parts = omega arith in
@@ -328,14 +328,14 @@ last_part root parts are n count =
 
 -- ---- the theorem
 
-no_columns_closed : (f : Core) → IsClosed f → has_columns f ≡ false
+pub no_columns_closed : (f : Core) → IsClosed f → has_columns f ≡ false
 no_columns_closed f closed = by (has_columns f) refl
   where
     by : (b : Bool) → has_columns f ≡ b → has_columns f ≡ false
     by false e = e
     by true e = absurd (let l = some_columns f e in closed (get_or (columns_of f) 0 0) (is_free-from_column f (get_or (columns_of f) 0 0) (Contains-get_or (columns_of f) 0 0 l)))
 
-turned_closed : (f : Core) → has_columns f ≡ false → is_turned f ≡ false
+pub turned_closed : (f : Core) → has_columns f ≡ false → is_turned f ≡ false
 turned_closed core.True h = refl
 turned_closed (core.Atom rel index x y) h = refl
 turned_closed (core.Nf index x) h = refl

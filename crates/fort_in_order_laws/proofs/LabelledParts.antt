@@ -50,7 +50,7 @@ assigned sig (n ∷ ns) (Some u ∷ t) constant up len full grounded =
     }
 
 -- two truths that decide the same are one
-one_decided : (a b : Bool) (P : Type 0) → Decides a P → Decides b P → a ≡ b
+pub one_decided : (a b : Bool) (P : Type 0) → Decides a P → Decides b P → a ≡ b
 one_decided true true P d e = refl
 one_decided true false P d e = sym (e.1 (d.0 refl))
 one_decided false true P d e = d.1 (e.0 refl)

@@ -6,8 +6,11 @@ pub mod FineSteps
 pub mod CertifiedTruth
 pub mod ListedParts
 pub mod EntryWalks
+pub mod SidePatterns
 pub mod StepLists
 pub mod WrittenSteps
 pub mod LabelledParts
 pub mod LabelledKinds
+pub mod AnsweredParts
+pub mod StepsOfParts
 pub mod Example

@@ -1,0 +1,229 @@
+-- Where the answers of its operands are made and right, a part with columns has labels, and one without has one value.
+use Rattle.std.proofs.Common.{◌≡◌, ℕ, ◌<◌, ◌≤◌, List, length, map, get_or, Bool, true, false, not, ◌||◌, ◌==◌, eq-eqb, true≢false, refl, ap, sym, ◌∙◌, arith, subst, inl, inr, ⊎_elim}
+use Rattle.std.specs.Prelude.{Contains}
+use Rattle.std.proofs.lemmas.Bool.{cases_lt}
+use Rattle.std.proofs.lemmas.List.Elements.{Contains-get_or}
+use Rattle.fort_theory.specs.Trees.{Node, Nil}
+use Rattle.fort_theory.specs.Sides.{at_index}
+use Rattle.fort_theory.specs.Signatures.{HasConstant, most_columns}
+use Rattle.fort_theory.specs.Patterns.{Pair, PatternSystem, IsSystem}
+use Rattle.fort_logic.specs.Cores as core
+use Rattle.fort_logic.specs.Cores.{Core}
+use Rattle.fort_logic.specs.CoreTruth.{Places, IsMetBy}
+use Rattle.fort_logic.specs.Parts.{is_free, BindsFree}
+use Rattle.fort_logic.specs.PatternStructures.{pattern_structure}
+use Rattle.fort_tables.specs.Tables.{Table}
+use Rattle.fort_alike.specs.Atoms.{pairs_for}
+use Rattle.fort_operations.specs.Products.{Connective, And, Or, Iff, connected}
+use Rattle.fort_operations.specs.Projections.{some_below}
+use Rattle.fort_counts.specs.Counts.{KeepRules, count_at}
+use Rattle.fort_counts.specs.ManyLabels.{TellsMany, many_value}
+use Rattle.fort_counts.proofs.TellsLaws.{TellsMany-marks}
+use Rattle.fort_parts.specs.PartColumns.{columns_of, place_in}
+use Rattle.fort_parts.specs.PartAnswers.{Answer, OfValue, OfTable, AreGround, IsAnswerTo}
+use Rattle.fort_parts.specs.DecidedCores.{IsOperandOf}
+use Rattle.fort_parts.specs.RightAnswers.{IsRightFor, joined}
+use Rattle.fort_parts.proofs.PartColumnLaws.{column-from_free, first_within, second_within}
+use Rattle.fort_parts.proofs.StepAnswers.{is_free-joined}
+use Rattle.fort_in_order.specs.Dues.{has_columns, is_turned}
+use Rattle.fort_in_order.specs.Made.{Made, IsAnswerOf}
+use Rattle.fort_in_order.specs.PartRules.{Local, closure_for, relation_local, normal_local, term_local, product_local, project_local, many_local, is_many, IsRelationLocal, IsNormalLocal, IsCounted, IsLocalOf, IsValueOf}
+use Rattle.fort_in_order_laws.proofs.AtomTables.{HasClosuresFor}
+use Rattle.fort_in_order_laws.proofs.JoinedTables.{bound_within, true_right, not_value_right, values_right, some_value_right, many_value_right}
+use Rattle.fort_in_order_laws.proofs.RightParts.{some_columns, none_columns}
+use Rattle.fort_in_order_laws.proofs.LabelledParts.{AreLabelsOf, one_decided}
+use Rattle.fort_in_order_laws.proofs.LabelledKinds.{labels_relation, labels_normal, labels_term, labels_joined, labels_projected, labels_counted}
+use Rattle.fort_in_order_laws.proofs.SidePatterns.{patterns_in_order, side_patterns}
+
+-- the answer that the steps make, which is right
+pub record IsMadeRight (system : PatternSystem) (parts : List Core) (made : Made) (g : Core) : Type 0 where
+  pub answer : Answer
+  pub made_is : IsAnswerOf parts made g answer
+  pub right : IsRightFor system g answer
+
+abbrev pub AreOperandsRight : PatternSystem → List Core → Made → Core → Type 0
+AreOperandsRight system parts made f = (g : Core) → IsOperandOf g f → IsMadeRight system parts made g
+
+-- the counts of part k, which is "infinitely many" of g, hold by their rules
+pub record IsCountedRight (system : PatternSystem) (parts : List Core) (made : Made) (k n : ℕ) (g : Core) : Type 0 where
+  pub table : Table
+  pub states : List ℕ
+  pub counted : IsCounted parts made n g table states
+  pub right : IsRightFor system g (OfTable table)
+  pub rules : KeepRules table (place_in (columns_of g) n) (count_at states (made.counts k))
+
+abbrev pub AreCountsRight : PatternSystem → List Core → Made → ℕ → Core → Type 0
+AreCountsRight system parts made k (core.Infinite n g) = IsCountedRight system parts made k n g
+AreCountsRight system parts made k other = Unit {0}
+
+-- the labels of a part, whose tables are right
+pub record HasLabels (system : PatternSystem) (parts : List Core) (made : Made) (k : ℕ) (f : Core) : Type 0 where
+  pub local : Local
+  pub is : IsLocalOf system parts made k f local
+  pub labels : AreLabelsOf system f local
+
+-- ---- tables where there are columns, values where there are none
+
+free_some : (g : Core) (n : ℕ) → is_free n g ≡ true → 0 < length (columns_of g)
+free_some g n h = let c = column-from_free g n h in omega (arith, c.1)
+
+of_table : (system : PatternSystem) (g : Core) (a : Answer) → IsRightFor system g a → 0 < length (columns_of g) → (t : Table) × (a ≡ OfTable t)
+of_table system g (OfValue b) right some = absurd (let e : length (columns_of g) ≡ 0 = ap length right.answers.over in omega arith)
+of_table system g (OfTable t) right some = (t, refl)
+
+of_value : (system : PatternSystem) (g : Core) (a : Answer) → IsRightFor system g a → length (columns_of g) ≡ 0 → (b : Bool) × (a ≡ OfValue b)
+of_value system g (OfValue b) right none = (b, refl)
+of_value system g (OfTable t) right none = absurd (let l : 0 < length (columns_of g) = right.answers.over.some in omega arith)
+
+record IsTableRight (system : PatternSystem) (parts : List Core) (made : Made) (g : Core) : Type 0 where
+  table : Table
+  made_is : IsAnswerOf parts made g (OfTable table)
+  right : IsRightFor system g (OfTable table)
+
+table_right : (system : PatternSystem) (parts : List Core) (made : Made) (g : Core) → IsMadeRight system parts made g → 0 < length (columns_of g) → IsTableRight system parts made g
+table_right system parts made g h some =
+    let t = of_table system g h.answer h.right some in
+    record { table = t.0; made_is = subst (IsAnswerOf parts made g) t.1 h.made_is; right = subst (IsRightFor system g) t.1 h.right }
+
+record IsValueRight (system : PatternSystem) (parts : List Core) (made : Made) (g : Core) : Type 0 where
+  value : Bool
+  made_is : IsAnswerOf parts made g (OfValue value)
+  right : IsRightFor system g (OfValue value)
+
+own_value : (system : PatternSystem) (parts : List Core) (made : Made) (g : Core) → IsMadeRight system parts made g → length (columns_of g) ≡ 0 → IsValueRight system parts made g
+own_value system parts made g h none =
+    let b = of_value system g h.answer h.right none in
+    record { value = b.0; made_is = subst (IsAnswerOf parts made g) b.1 h.made_is; right = subst (IsRightFor system g) b.1 h.right }
+
+none_within : (h g : Core) → length (columns_of h) ≡ 0 → ((n : ℕ) → Contains (columns_of g) n → Contains (columns_of h) n) → length (columns_of g) ≡ 0
+none_within h g none within =
+    ⊎_elim
+    (λ (l : 0 < length (columns_of g)).
+    let c = within (get_or (columns_of g) 0 0) (Contains-get_or (columns_of g) 0 0 l) in
+    absurd (omega (arith, c.1)))
+    (λ l. omega arith)
+    (cases_lt 0 (length (columns_of g)))
+
+-- ---- what counts tell
+
+counts_tell : (system : PatternSystem) (parts : List Core) (made : Made) (k n : ℕ) (g : Core) → is_free n g ≡ true → (h : IsCountedRight system parts made k n g)
+    → TellsMany h.table (place_in (columns_of g) n) (is_many h.states (made.counts k))
+counts_tell system parts made k n g among h =
+    TellsMany-marks h.table (place_in (columns_of g) n) (count_at h.states (made.counts k)) h.right.answers.over.lawful h.right.answers.over.reached
+    (omega (arith, bound_within n g among, h.right.answers.over.columns_are)) h.rules
+
+-- ---- labels
+
+module _ (system : PatternSystem) (is : IsSystem system) (parts : List Core) (made : Made) (k : ℕ) where
+  -- Result
+  pub labels_of : (f : Core) → has_columns f ≡ true → is_turned f ≡ false → length (columns_of f) ≤ most_columns → BindsFree f → HasClosuresFor system made f
+      → AreOperandsRight system parts made f → AreCountsRight system parts made k f → HasLabels system parts made k f
+  labels_of core.True columns turned few binds closures operands counts = absurd (true≢false (sym columns))
+  labels_of (core.Atom rel index x y) columns turned few binds closures operands counts =
+      let s = side_patterns (pairs_for rel (at_index index system.rules)) in
+      let local : Local = relation_local system rel index x y s.0 s.1 (closure_for made rel index) in
+      let h : IsRelationLocal system made rel index x y local = record { lefts = s.0; rights = s.1; patterns = s.2; is = refl } in
+      record { local = local; is = h; labels = labels_relation system is made rel index x y local few closures h }
+  labels_of (core.Nf index x) columns turned few binds closures operands counts =
+      let p = patterns_in_order (map (λ (pair : Pair). pair.0) (at_index index system.rules)) in
+      let local : Local = normal_local system index p.0 in
+      let h : IsNormalLocal system index local = record { lefts = p.0; patterns = p.1; is = refl } in
+      record { local = local; is = h; labels = labels_normal system is index x local h }
+  labels_of (core.Is x term) columns turned few binds closures operands counts =
+      record { local = term_local system.signature term; is = refl; labels = labels_term system is x term }
+  labels_of (core.Not f) columns turned few binds closures operands counts = absurd (true≢false (sym columns ∙ turned))
+  labels_of (core.And f g) columns turned few binds closures operands counts =
+      let a = operands f (inl refl) in
+      let b = operands g (inr refl) in
+      record {
+        local = product_local And (core.And f g) f g a.answer b.answer;
+        is = record { first = a.answer; second = b.answer; first_is = a.made_is; second_is = b.made_is; is = refl };
+        labels = labels_joined system And f g a.answer b.answer (some_columns (core.And f g) columns) few a.right b.right;
+      }
+  labels_of (core.Or f g) columns turned few binds closures operands counts =
+      let a = operands f (inl refl) in
+      let b = operands g (inr refl) in
+      record {
+        local = product_local Or (core.Or f g) f g a.answer b.answer;
+        is = record { first = a.answer; second = b.answer; first_is = a.made_is; second_is = b.made_is; is = refl };
+        labels = labels_joined system Or f g a.answer b.answer (some_columns (core.Or f g) columns) few a.right b.right;
+      }
+  labels_of (core.Iff f g) columns turned few binds closures operands counts =
+      let a = operands f (inl refl) in
+      let b = operands g (inr refl) in
+      record {
+        local = product_local Iff (core.Iff f g) f g a.answer b.answer;
+        is = record { first = a.answer; second = b.answer; first_is = a.made_is; second_is = b.made_is; is = refl };
+        labels = labels_joined system Iff f g a.answer b.answer (some_columns (core.Iff f g) columns) few a.right b.right;
+      }
+  labels_of (core.Exists n f) columns turned few binds closures operands counts =
+      let t = table_right system parts made f (operands f refl) (free_some f n binds.0) in
+      record {
+        local = project_local t.table (place_in (columns_of f) n);
+        is = record { body = t.table; body_is = t.made_is; is = refl };
+        labels = labels_projected system n f t.table binds.0 (some_columns (core.Exists n f) columns) few t.right;
+      }
+  labels_of (core.Infinite n f) columns turned few binds closures operands counts =
+      let many = is_many counts.states (made.counts k) in
+      record {
+        local = many_local counts.table (place_in (columns_of f) n) many;
+        is = record { body = counts.table; states = counts.states; counted = counts.counted; is = refl };
+        labels = labels_counted system n f many counts.table binds.0 (some_columns (core.Infinite n f) columns) few counts.right (counts_tell system parts made k n f binds.0 counts);
+      }
+
+  -- ---- values
+
+  one_truth : (f : Core) (a b : Bool) → IsAnswerTo (pattern_structure system) f (OfValue a) → IsAnswerTo (pattern_structure system) f (OfValue b) → a ≡ b
+  one_truth f a b h l =
+      let constant : HasConstant system.signature = is.constant in
+      let v : Places = λ n. Node constant.0 Nil in
+      let grounded : AreGround system.signature v = λ n. (constant.1, tt) in
+      one_decided a b (IsMetBy (pattern_structure system) f v) (h.truth v grounded) (l.truth v grounded)
+
+  has_one : (f : Core) (n : ℕ) → is_free n f ≡ true → has_columns f ≡ false → ⊥
+  has_one f n h none = let l = free_some f n h in let e = none_columns f none in omega arith
+
+  record AreValuesRight (op : Connective) (f g : Core) (value : Bool) : Type 0 where
+    first : IsValueRight system parts made f
+    second : IsValueRight system parts made g
+    says : value ≡ connected op first.value second.value
+
+  values_of : (op : Connective) (f g : Core) (value : Bool) → IsMadeRight system parts made f → IsMadeRight system parts made g → IsAnswerTo (pattern_structure system) (joined op f g) (OfValue value)
+      → AreValuesRight op f g value
+  values_of op f g value one other right =
+      let none : length (columns_of (joined op f g)) ≡ 0 = ap length right.over in
+      let a = own_value system parts made f one (none_within (joined op f g) f none (first_within (joined op f g) f g (is_free-joined op f g))) in
+      let b = own_value system parts made g other (none_within (joined op f g) g none (second_within (joined op f g) f g (is_free-joined op f g))) in
+      record { first = a; second = b; says = one_truth (joined op f g) value (connected op a.value b.value) right (values_right system op f g a.value b.value right.over a.right.answers b.right.answers) }
+
+  -- Result
+  pub value_of : (f : Core) (value : Bool) → has_columns f ≡ false → BindsFree f → AreOperandsRight system parts made f → AreCountsRight system parts made k f
+      → IsAnswerTo (pattern_structure system) f (OfValue value) → IsValueOf parts made k f value
+  value_of core.True value none binds operands counts right = one_truth core.True value true right (true_right system)
+  value_of (core.Atom rel index x y) value none binds operands counts right = has_one (core.Atom rel index x y) x (ap (λ b. b || (y == x)) (eq-eqb x x refl)) none
+  value_of (core.Nf index x) value none binds operands counts right = has_one (core.Nf index x) x (eq-eqb x x refl) none
+  value_of (core.Is x term) value none binds operands counts right = has_one (core.Is x term) x (eq-eqb x x refl) none
+  value_of (core.Not f) value none binds operands counts right =
+      let b = own_value system parts made f (operands f refl) (none_columns f none) in
+      (b.value, b.made_is, one_truth (core.Not f) value (not b.value) right (not_value_right system f b.value b.right.answers))
+  value_of (core.And f g) value none binds operands counts right =
+      let v = values_of And f g value (operands f (inl refl)) (operands g (inr refl)) right in
+      record { first = v.first.value; second = v.second.value; first_is = v.first.made_is; second_is = v.second.made_is; is = v.says }
+  value_of (core.Or f g) value none binds operands counts right =
+      let v = values_of Or f g value (operands f (inl refl)) (operands g (inr refl)) right in
+      record { first = v.first.value; second = v.second.value; first_is = v.first.made_is; second_is = v.second.made_is; is = v.says }
+  value_of (core.Iff f g) value none binds operands counts right =
+      let v = values_of Iff f g value (operands f (inl refl)) (operands g (inr refl)) right in
+      record { first = v.first.value; second = v.second.value; first_is = v.first.made_is; second_is = v.second.made_is; is = v.says }
+  value_of (core.Exists n f) value none binds operands counts right =
+      let t = table_right system parts made f (operands f refl) (free_some f n binds.0) in
+      (t.table, t.made_is, one_truth (core.Exists n f) value (some_below (length t.table.presences) t.table.accepting) right (some_value_right system n f t.table binds.0 (ap length right.over) t.right.answers))
+  value_of (core.Infinite n f) value none binds operands counts right =
+      let many = is_many counts.states (made.counts k) in
+      record {
+        body = counts.table;
+        states = counts.states;
+        counted = counts.counted;
+        is = one_truth (core.Infinite n f) value (many_value counts.table (place_in (columns_of f) n) many) right
+            (many_value_right system n f many counts.table binds.0 (ap length right.over) counts.right.answers (counts_tell system parts made k n f binds.0 counts));
+      }

@@ -1,0 +1,141 @@
+-- The steps of one part behind those before it: its counts, and its answer; what was made before stays.
+use Rattle.std.proofs.Common.{◌≡◌, ℕ, ◌+◌, ◌<◌, List, [], ◌∷◌, ◌++◌, length, get_or, Bool, true, false, ◌==◌, if◌then◌else◌, Some, refl, sym, ◌∙◌, arith, subst}
+use Rattle.fort_theory.specs.Patterns.{PatternSystem, IsSystem}
+use Rattle.fort_logic.specs.Cores as core
+use Rattle.fort_logic.specs.Cores.{Core}
+use Rattle.fort_logic.specs.PartLists.{AreParts}
+use Rattle.fort_tables.specs.Tables.{Table, Listed, listed_table, IsListed}
+use Rattle.fort_tables.proofs.EqualTests.{test_from_apart}
+use Rattle.fort_operations.specs.Projections.{ArePure}
+use Rattle.fort_counts.specs.Counts as counts
+use Rattle.fort_counts.specs.Counts.{AreCounts, KeepRules, count_at}
+use Rattle.fort_parts.specs.PartColumns.{columns_of, place_in}
+use Rattle.fort_parts.specs.PartAnswers.{Answer, OfValue, OfTable}
+use Rattle.fort_parts.specs.DecidedCores.{IsOperandOf}
+use Rattle.fort_parts.specs.RightAnswers.{IsRightFor}
+use Rattle.fort_parts.proofs.PartOrder.{operand_earlier}
+use Rattle.fort_certificate_grammar.specs.Certificates.{Step, Part, Counts, Value}
+use Rattle.fort_in_order.specs.Dues.{DueStep, OfPart, OfValue, has_columns, is_turned, closures_due, counts_due, answer_due}
+use Rattle.fort_in_order.specs.Made.{Made, nothing_made, with_counts, with_answer, IsAnswerOf, OfStep, Turned}
+use Rattle.fort_in_order.specs.PartRules.{IsCounted, IsValueOf}
+use Rattle.fort_in_order.specs.Checked.{IsFine, AreSteps, NoSteps, MoreSteps, last_value}
+use Rattle.fort_in_order.specs.Written.{IsWrittenStep}
+use Rattle.fort_in_order.proofs.RuleLaws.{part_one}
+use Rattle.fort_in_order_laws.proofs.FineSteps.{HasClosures, closures_done, chosen, passed_over, itself}
+use Rattle.fort_in_order_laws.proofs.CertifiedTruth.{moved_counted, turned_closed}
+use Rattle.fort_in_order_laws.proofs.WrittenSteps.{written_part, written_counts, written_value}
+use Rattle.fort_in_order_laws.proofs.LabelledParts.{right_targets_of}
+use Rattle.fort_in_order_laws.proofs.AnsweredParts.{AreCountsRight, HasLabels}
+
+pub last_value-push : (ss : List Step) (k : ℕ) (v : Bool) → last_value (ss ++ Value k v ∷ []) ≡ Some v
+last_value-push [] k v = refl
+last_value-push (s ∷ []) k v = refl
+last_value-push (s ∷ t ∷ ss) k v = last_value-push (t ∷ ss) k v
+
+-- an answer that was made stays, where those of other parts than k do
+pub kept_answer : (root : Core) (parts : List Core) → AreParts root parts → (k : ℕ) (made other : Made) → ((j : ℕ) → (j ≡ k → ⊥) → other.answers j ≡ made.answers j)
+    → (g : Core) (answer : Answer) (j : ℕ) → j < k → j < length parts → get_or parts j core.True ≡ g → IsAnswerOf parts made g answer → IsAnswerOf parts other g answer
+kept_answer root parts are k made other others g answer j l m e (OfStep i p t a) =
+    let same : i ≡ j = part_one root parts are g i j p (m, e) in
+    OfStep i p t (others i (λ z. omega arith) ∙ a)
+kept_answer root parts are k made other others g answer j l m e (Turned {f = f} body h r) =
+    let o : IsOperandOf f (get_or parts j core.True) = subst (IsOperandOf f) (sym e) refl in
+    let before = operand_earlier root parts are j m f o in
+    Turned body h (kept_answer root parts are k made other others f (OfTable body) before.place (omega (arith, before.before)) (omega (arith, before.before)) before.is r)
+
+-- the counts of part k
+pub record AreCountsDone (system : PatternSystem) (parts : List Core) (k : ℕ) (made : Made) (f : Core) (added : List Step) (mid : Made) : Type 0 where
+  pub done : AreSteps (IsWrittenStep system parts) made (counts_due k f) added mid
+  pub closures : HasClosures system parts (1 + length system.rules) mid
+  pub answers : mid.answers ≡ made.answers
+  pub counts : AreCountsRight system parts mid k f
+
+-- its answer
+pub record IsAnswerDone (system : PatternSystem) (parts : List Core) (k : ℕ) (made : Made) (answer : Answer) (added : List Step) (last : Made) : Type 0 where
+  pub done : AreSteps (IsWrittenStep system parts) made (answer_due k (get_or parts k core.True)) added last
+  pub closures : HasClosures system parts (1 + length system.rules) last
+  pub others : (j : ℕ) → (j ≡ k → ⊥) → last.answers j ≡ made.answers j
+  pub is : IsAnswerOf parts last (get_or parts k core.True) answer
+
+module _ (system : PatternSystem) (parts : List Core) (k : ℕ) (made : Made) (closures : HasClosures system parts (1 + length system.rules) made) where
+  pub no_counts_done : (f : Core) → counts_due k f ≡ [] → AreCountsRight system parts made k f → AreCountsDone system parts k made f [] made
+  no_counts_done f e counts = record {
+    done = subst (λ (ds : List DueStep). AreSteps (IsWrittenStep system parts) made ds [] made) (sym e) NoSteps;
+    closures = closures;
+    answers = refl;
+    counts = counts;
+  }
+
+  pub counts_done : (n : ℕ) (g : Core) (table : Table) (states : List ℕ) (marks : List counts.Count) → get_or parts k core.True ≡ core.Infinite n g → IsAnswerOf parts made g (OfTable table)
+      → IsRightFor system g (OfTable table) → ArePure table (place_in (columns_of g) n) states → AreCounts table (place_in (columns_of g) n) states marks
+      → AreCountsDone system parts k made (core.Infinite n g) (Counts k marks ∷ []) (with_counts made k marks)
+  counts_done n g table states marks part body right pure are =
+      let counted : IsCounted parts made n g table states = record { body_is = body; pure = pure } in
+      let mid = with_counts made k marks in
+      record {
+        done = MoreSteps refl (written_counts system parts made k n g table states marks part counted are) NoSteps;
+        closures = closures;
+        answers = refl;
+        counts = record {
+          table = table;
+          states = states;
+          counted = moved_counted parts made mid n g table states refl counted;
+          right = right;
+          rules = subst (λ (ms : List counts.Count). KeepRules table (place_in (columns_of g) n) (count_at states ms)) (sym (chosen (k == k) marks (made.counts k) (itself k))) are.rules;
+        };
+      }
+
+  module _ (within : k < length parts) where
+    abbrev own : Core
+    own = get_or parts k core.True
+
+    others_kept : (answer : Answer) (j : ℕ) → (j ≡ k → ⊥) → (with_answer made k answer).answers j ≡ made.answers j
+    others_kept answer j other = passed_over (j == k) answer (made.answers j) (test_from_apart j k other)
+
+    pub value_done : (b : Bool) → has_columns own ≡ false → IsValueOf parts made k own b → IsAnswerDone system parts k made (OfValue b) (Value k b ∷ []) (with_answer made k (OfValue b))
+    value_done b none is = record {
+      done = subst (λ (ds : List DueStep). AreSteps (IsWrittenStep system parts) made ds (Value k b ∷ []) (with_answer made k (OfValue b)))
+          (sym (passed_over (has_columns own) (if is_turned own then [] else (OfPart k ∷ [])) (OfValue k ∷ []) none))
+          (MoreSteps refl (written_value system parts made k b is) NoSteps);
+      closures = closures;
+      others = others_kept (OfValue b);
+      is = OfStep k (within, refl) (turned_closed own none) (chosen (k == k) (OfValue b) (made.answers k) (itself k));
+    }
+
+    pub table_done : IsSystem system → (t : Listed) → has_columns own ≡ true → is_turned own ≡ false → HasLabels system parts made k own → IsListed t → length t.finals ≡ length t.presences
+        → IsRightFor system own (OfTable (listed_table t)) → IsAnswerDone system parts k made (OfTable (listed_table t)) (Part k t.targets ∷ []) (with_answer made k (OfTable (listed_table t)))
+    table_done lawful t some turned labels listed count right =
+        let targets = right_targets_of system lawful.constant own labels.local labels.labels t listed count right in
+        let answer = OfTable (listed_table t) in
+        record {
+          done = subst (λ (ds : List DueStep). AreSteps (IsWrittenStep system parts) made ds (Part k t.targets ∷ []) (with_answer made k answer))
+              (sym (chosen (has_columns own) (if is_turned own then [] else (OfPart k ∷ [])) (OfValue k ∷ []) some ∙ passed_over (is_turned own) [] (OfPart k ∷ []) turned))
+              (MoreSteps refl (written_part system parts made k labels.local t labels.is targets) NoSteps);
+          closures = closures;
+          others = others_kept answer;
+          is = OfStep k (within, refl) turned (chosen (k == k) answer (made.answers k) (itself k));
+        }
+
+    pub turned_done : (answer : Answer) → has_columns own ≡ true → is_turned own ≡ true → IsAnswerOf parts made own answer → IsAnswerDone system parts k made answer [] made
+    turned_done answer some turned is = record {
+      done = subst (λ (ds : List DueStep). AreSteps (IsWrittenStep system parts) made ds [] made)
+          (sym (chosen (has_columns own) (if is_turned own then [] else (OfPart k ∷ [])) (OfValue k ∷ []) some ∙ chosen (is_turned own) [] (OfPart k ∷ []) turned))
+          NoSteps;
+      closures = closures;
+      others = λ j other. refl;
+      is = is;
+    }
+
+-- ---- steps as they are written are fine
+
+module _ (system : PatternSystem) (parts : List Core) where
+  fine_steps : (made last : Made) (ds : List DueStep) (ss : List Step) → AreSteps (IsWrittenStep system parts) made ds ss last → AreSteps (IsFine system parts) made ds ss last
+  fine_steps made last ds ss NoSteps = NoSteps
+  fine_steps made last ds ss (MoreSteps {next = x} {ds = es} {ss = us} e h more) = MoreSteps e h.fine (fine_steps x last es us more)
+
+  -- once the closures are written, each that some part asks for is right
+  pub HasClosures-written : (last : Made) (ss : List Step) → AreSteps (IsWrittenStep system parts) nothing_made (closures_due parts (length system.rules) 1) ss last
+      → HasClosures system parts (1 + length system.rules) last
+  HasClosures-written last ss h =
+      closures_done system parts (length system.rules) 1 nothing_made last ss (λ which j low l asked. absurd (omega arith))
+      (fine_steps nothing_made last (closures_due parts (length system.rules) 1) ss h)
