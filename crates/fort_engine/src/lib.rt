@@ -14,7 +14,7 @@ mod uses;
 
 pub use answer::{EngineFault, Last, Limit, Trace};
 pub use decide::{decide_core, drop_idle};
-pub use operands::place_of;
+pub use operands::{column_of, place_of};
 pub use part::decide_part;
 pub use uses::last_uses;
 

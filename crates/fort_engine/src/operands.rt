@@ -58,7 +58,7 @@ pub(crate) fn kept_answer<'a>(
 }
 
 /// The place of a number among ascending columns.
-pub(crate) fn column_of(columns: &[u32], number: u32) -> usize
+pub fn column_of(columns: &[u32], number: u32) -> usize
     requires { Contains columns.now number }
     ensures { result ≡ place_in columns.now number }
 {
