@@ -1,13 +1,12 @@
 -- What a request owes before anything is read is one answer, and it is no request for which the input is read.
-use Rattle.std.proofs.Common.{◌≡◌, ℕ, sym, subst, ◌∙◌, true≢false}
-use Rattle.std.specs.Prelude.{Bool}
+use Rattle.std.proofs.Common.{◌≡◌, ℕ, sym, subst, ◌∙◌}
 use Rattle.fort_logic.specs.Formulas.{Formula}
 use Rattle.fort_formula_grammar.proofs.OneFormula.{IsFormulaText-unique}
 use Rattle.fort_answers.specs.Requests.{Text}
-use Rattle.fort_answers.specs.Lines.{usage, refused, usage_text}
+use Rattle.fort_answers.specs.Lines.{refused}
 use Rattle.fort_answers.specs.FormulaAnswer.{IsAccepted, IsAcceptedClosed}
 use Rattle.fort_answers.specs.SystemAnswer.{Are}
-use Rattle.fort_answers.specs.DecideAnswer.{DecidesOf, DecideEarly, NotAnsweredYet, FormulaRefused}
+use Rattle.fort_answers.specs.DecideAnswer.{DecideEarly}
 use Rattle.fort_answers.specs.WitnessAnswer.{WitnessEarly}
 use Rattle.fort_answers.proofs.OneVerdict.{accepted-not_refused, closed-not_refused}
 use Rattle.fort_answers.proofs.OneRefusal.{IsRefused-unique, IsRefusedClosed-unique}
@@ -24,19 +23,13 @@ IsAccepted-unique text f f' is is' = IsFormulaText-unique is.read is'.read
 pub IsAcceptedClosed-unique : (text : Text) (f f' : Formula) → IsAcceptedClosed text f → IsAcceptedClosed text f' → f ≡ f'
 IsAcceptedClosed-unique text f f' is is' = IsAccepted-unique text f f' is.accepted is'.accepted
 
-pub DecideEarly-unique : (certificate : Bool) (formula : Text) (s s' : ℕ) (t t' : Text) → DecideEarly certificate formula s t
-    → DecideEarly certificate formula s' t' → Are s t s' t'
-DecideEarly-unique certificate formula s s' t t' (NotAnsweredYet with are) (NotAnsweredYet with' are') = Are-unique usage usage_text s s' t t' are are'
-DecideEarly-unique certificate formula s s' t t' (NotAnsweredYet with are) (FormulaRefused without line says are') = absurd (true≢false (sym with ∙ without))
-DecideEarly-unique certificate formula s s' t t' (FormulaRefused without line says are) (NotAnsweredYet with are') = absurd (true≢false (sym with ∙ without))
-DecideEarly-unique certificate formula s s' t t' (FormulaRefused without line says are) (FormulaRefused without' line' says' are') =
-    let one : line' ≡ line = IsRefusedClosed-unique formula line' line says' says in
-    Are-unique refused line s s' t t' are (subst (Are s' t' refused) one are')
+pub DecideEarly-unique : (formula : Text) (s s' : ℕ) (t t' : Text) → DecideEarly formula s t → DecideEarly formula s' t' → Are s t s' t'
+DecideEarly-unique formula s s' t t' one other =
+    Are-unique refused one.refusal s s' t t' one.are
+    (subst (Are s' t' refused) (IsRefusedClosed-unique formula other.refusal one.refusal other.refused_both one.refused_both) other.are)
 
-pub early-without_input : (certificate : Bool) (formula : Text) (s : ℕ) (t : Text) → DecideEarly certificate formula s t
-    → (f : Formula) → DecidesOf certificate formula f → ⊥
-early-without_input certificate formula s t (NotAnsweredYet with are) f asks = true≢false (sym with ∙ asks.without)
-early-without_input certificate formula s t (FormulaRefused without line says are) f asks = closed-not_refused formula f line asks.accepted says
+pub early-without_input : (formula : Text) (s : ℕ) (t : Text) → DecideEarly formula s t → (f : Formula) → IsAcceptedClosed formula f → ⊥
+early-without_input formula s t early f taken = closed-not_refused formula f early.refusal taken early.refused_both
 
 pub WitnessEarly-unique : (formula : Text) (s s' : ℕ) (t t' : Text) → WitnessEarly formula s t → WitnessEarly formula s' t' → Are s t s' t'
 WitnessEarly-unique formula s s' t t' one other =

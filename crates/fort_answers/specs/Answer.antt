@@ -4,9 +4,9 @@ use Rattle.fort_logic.specs.Formulas.{Formula}
 use Rattle.fort_answers.specs.Requests.{Text, Request, Decide, Witness, Check, Sample}
 use Rattle.fort_answers.specs.CommandGrammar.{request_of}
 use Rattle.fort_answers.specs.Lines.{usage, usage_text}
-use Rattle.fort_answers.specs.FormulaAnswer.{IsAccepted}
+use Rattle.fort_answers.specs.FormulaAnswer.{IsAccepted, IsAcceptedClosed}
 use Rattle.fort_answers.specs.SystemAnswer.{Are}
-use Rattle.fort_answers.specs.DecideAnswer.{DecidesOf, DecideEarly, DecideAnswer}
+use Rattle.fort_answers.specs.DecideAnswer.{DecideEarly, DecideAnswer}
 use Rattle.fort_answers.specs.WitnessAnswer.{WitnessEarly, WitnessAnswer}
 use Rattle.fort_answers.specs.SampleAnswer.{SampleAnswer}
 
@@ -16,7 +16,7 @@ OwesUsage status text = Are status text usage usage_text
 
 -- what a request owes before anything is read; a sample needs no bytes
 abbrev pub OwesEarly : Request → ℕ → Text → Type 0
-OwesEarly (Decide states certificate formula) status text = DecideEarly certificate formula status text
+OwesEarly (Decide states certificate formula) status text = DecideEarly formula status text
 OwesEarly (Witness states formula) status text = WitnessEarly formula status text
 OwesEarly (Check formula) status text = OwesUsage status text
 OwesEarly (Sample n) status text = SampleAnswer n status text
@@ -30,14 +30,14 @@ Owes (Sample n) bytes status text = SampleAnswer n status text
 
 -- a request for which the input is read
 abbrev pub NeedsInput : Request → Type 0
-NeedsInput (Decide states certificate formula) = (f : Formula) × DecidesOf certificate formula f
+NeedsInput (Decide states certificate formula) = (f : Formula) × IsAcceptedClosed formula f
 NeedsInput (Witness states formula) = (f : Formula) × IsAccepted formula f
 NeedsInput (Check formula) = ⊥
 NeedsInput (Sample n) = ⊥
 
 -- a request about this formula, that this text is, with this cap
 abbrev pub AsksAbout : Request → ℕ → Text → Formula → Type 0
-AsksAbout (Decide states certificate formula) cap text f = (cap ≡ states) × (text ≡ formula) × DecidesOf certificate formula f
+AsksAbout (Decide states certificate formula) cap text f = (cap ≡ states) × (text ≡ formula) × IsAcceptedClosed formula f
 AsksAbout (Witness states formula) cap text f = (cap ≡ states) × (text ≡ formula) × IsAccepted formula f
 AsksAbout (Check formula) cap text f = ⊥
 AsksAbout (Sample n) cap text f = ⊥

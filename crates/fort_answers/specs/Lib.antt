@@ -11,3 +11,5 @@ pub mod MadeProblem
 pub mod SampleSizes
 pub mod SampleAnswer
 pub mod Answer
+pub mod CertificateAnswer
+pub mod CheckAnswer

@@ -1,0 +1,19 @@
+-- To believe: what `decide --certificate` owes where nothing withholds the verdict: the text of the certificate that is written for the formula over the system.
+use Rattle.std.specs.Prelude.{ℕ, List, length}
+use Rattle.fort_theory.specs.Trees.{Tree}
+use Rattle.fort_theory.specs.Sides.{System}
+use Rattle.fort_theory.specs.Patterns.{pattern_system}
+use Rattle.fort_logic.specs.Formulas.{Formula}
+use Rattle.fort_logic.specs.Translation.{core_of}
+use Rattle.fort_certificate_grammar.specs.Certificates.{Certificate}
+use Rattle.fort_certificate_grammar.specs.CertificateText.{certificate_text}
+use Rattle.fort_in_order.specs.Written.{IsWritten}
+use Rattle.fort_answers.specs.Requests.{Text}
+use Rattle.fort_answers.specs.Lines.{positive}
+use Rattle.fort_answers.specs.SystemAnswer.{Are}
+
+-- with either verdict the status is the same
+pub record CertificateVerdict (system : System) (terms : List Tree) (f : Formula) (status : ℕ) (text : Text) : Type 0 where
+  pub certificate : Certificate
+  pub written : IsWritten (pattern_system system) (core_of terms f) certificate
+  pub are : Are status text positive (certificate_text (length system.rules) certificate.verdict certificate.steps)
