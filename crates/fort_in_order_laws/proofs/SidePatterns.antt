@@ -175,11 +175,13 @@ within_to (t ∷ ts) p top c h =
 -- Results
 pub patterns_in_order : (tops : List Pattern) → (ps : List Pattern) × AreSubpatternsInOrder tops ps
 patterns_in_order tops =
-    let r = in_order (all_within tops) in
-    (r.list, record {
-      same = λ p. ((λ c. within_from tops p (r.from p c)), (λ w. r.kept p (within_to tops p w.0 w.1 w.2)));
-      ordered = order_at r.list r.ordered;
-    })
+    let r = in_order (all_within tops) in (
+      r.list,
+      record {
+        same = λ p. ((λ c. within_from tops p (r.from p c)), (λ w. r.kept p (within_to tops p w.0 w.1 w.2)));
+        ordered = order_at r.list r.ordered;
+      },
+    )
 
 pub side_patterns : (pairs : List Pair) → (lefts rights : List Pattern) × AreSidePatterns pairs lefts rights
 side_patterns pairs =
