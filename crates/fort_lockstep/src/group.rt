@@ -9,13 +9,14 @@ use crate::bisect::{Comparisons, target_among};
 use crate::place::{are_counted, place_by_counts, presences_at};
 use crate::states::States;
 use fort_terms::Memory;
+use smallvec::SmallVec;
 use std::alloc::Global;
 use std::marker::Model;
 
 /// The entries of one tuple symbol, in order: their targets, and their child states where these are not counted.
 #[derive(Drop)]
 pub struct Group {
-    targets: Vec<u32>,
+    targets: SmallVec<u32, 2>,
     is_counted: bool,
     wants: Vec<u16>,
     words: Vec<u32>,
@@ -55,7 +56,7 @@ impl Group {
         let presences = states.presences.as_slice();
         let wants = presences_at(alloc, presences, kids)?;
         Ok(Group {
-            targets: Vec::new(alloc),
+            targets: SmallVec::new(alloc),
             is_counted: are_counted(presences, states.counts.width, kids),
             wants,
             words: Vec::new(alloc),
