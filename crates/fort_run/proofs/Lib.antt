@@ -13,3 +13,4 @@ pub mod WitnessTruth
 pub mod WitnessVerdicts
 pub mod Properties
 pub mod SampleLines
+pub mod WrittenNumbers
