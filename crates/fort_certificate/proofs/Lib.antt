@@ -6,3 +6,4 @@ pub mod StepsLaws
 pub mod FaultLaws
 pub mod BuildLaws
 pub mod ReadLaws
+mod SmallLaws

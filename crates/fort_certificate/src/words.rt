@@ -1,7 +1,7 @@
 //! The words of a certificate, each behind a blank.
 ghost use Rattle.std.specs.Prelude.{◌≡◌, ◌∷◌, ◌++◌, decimal, OnOk};
 ghost use Rattle.fort_certificate_grammar.specs.CertificateForms.{version_for, version_word, verdict_word, which_word};
-ghost use Rattle.fort_certificate_grammar.specs.CertificateText.{why_word};
+ghost use Rattle.fort_certificate_grammar.specs.CertificateText.{why_word, IsSmall, IsSmallWhy};
 ghost use Rattle.fort_steps.specs.StepView.{as_which, as_why};
 
 use fort_steps::{Reason, Which};
@@ -9,14 +9,16 @@ use itoa::Buffer;
 use std::alloc::AllocError;
 
 pub(crate) fn push_digits(out: &mut Vec<u8>, n: u32) -> Result<(), AllocError>
-    ensures { OnOk result (out.new.items ≡ out.old.items ++ decimal n) }
+    ensures text { OnOk result (out.new.items ≡ out.old.items ++ decimal n) }
+    ensures small { OnOk result (IsSmall n) }
 {
     let mut buffer = Buffer::new();
     out.extend_from_slice(buffer.format(n).as_bytes())
 }
 
 pub(crate) fn push_number(out: &mut Vec<u8>, n: u32) -> Result<(), AllocError>
-    ensures { OnOk result (out.new.items ≡ out.old.items ++ 32 ∷ decimal n) }
+    ensures text { OnOk result (out.new.items ≡ out.old.items ++ 32 ∷ decimal n) }
+    ensures small { OnOk result (IsSmall n) }
 {
     out.push(b' ')?;
     push_digits(out, n)
@@ -56,7 +58,8 @@ pub(crate) fn push_which(out: &mut Vec<u8>, which: Which) -> Result<(), AllocErr
 }
 
 pub(crate) fn push_reason(out: &mut Vec<u8>, why: Reason) -> Result<(), AllocError>
-    ensures { OnOk result (out.new.items ≡ out.old.items ++ 32 ∷ why_word (as_why why)) }
+    ensures text { OnOk result (out.new.items ≡ out.old.items ++ 32 ∷ why_word (as_why why)) }
+    ensures small { OnOk result (IsSmallWhy (as_why why)) }
 {
     match why {
         Reason::Any => out.extend_from_slice(b" any"),

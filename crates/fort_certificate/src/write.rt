@@ -2,9 +2,10 @@
 ghost use Rattle.std.specs.Prelude.{◌≡◌, ◌++◌, ◌∷◌, map, decimal, OnOk, IfOk};
 ghost use Rattle.fort_certificate_grammar.specs.Certificates as certificates;
 ghost use Rattle.fort_certificate_grammar.specs.CertificateForms.{version_for};
-ghost use Rattle.fort_certificate_grammar.specs.CertificateText.{line_of, element_text, pair_element, count_element, index_elements, step_elements, header_elements, certificate_text};
+ghost use Rattle.fort_certificate_grammar.specs.CertificateText.{line_of, element_text, pair_element, count_element, index_elements, step_elements, header_elements, certificate_text, IsSmall, IsSmallPair, IsSmallCount};
+ghost use Rattle.std.specs.List.{AllByRecursion};
 ghost use Rattle.fort_steps.specs.StepView.{as_which, as_pair, as_count, as_step};
-ghost use Rattle.fort_certificate.specs.Again.{IsReadBehind};
+ghost use Rattle.fort_certificate.specs.Again.{IsReadBehind, HasSmallNumbers};
 ghost use Rattle.fort_certificate.specs.Lines.{tails};
 
 use crate::words::{push_digits, push_number, push_reason, push_verdict, push_version, push_which};
@@ -12,8 +13,9 @@ use fort_steps::{ClosureEntry, Count, Step, Which};
 use std::alloc::{AllocError, Global};
 
 fn push_entry(out: &mut Vec<u8>, entry: &ClosureEntry) -> Result<(), AllocError>
-    ensures { OnOk result (out.new.items ≡
+    ensures text { OnOk result (out.new.items ≡
         out.old.items ++ 32 ∷ element_text (pair_element (as_pair entry.now))) }
+    ensures small { OnOk result (IsSmallPair (as_pair entry.now)) }
 {
     out.extend_from_slice(b" (")?;
     push_digits(out, entry.p)?;
@@ -24,8 +26,9 @@ fn push_entry(out: &mut Vec<u8>, entry: &ClosureEntry) -> Result<(), AllocError>
 }
 
 fn push_entries(out: &mut Vec<u8>, entries: &[ClosureEntry]) -> Result<(), AllocError>
-    ensures { OnOk result (out.new.items ≡ out.old.items ++
+    ensures text { OnOk result (out.new.items ≡ out.old.items ++
         tails (map (λ e. element_text (pair_element (as_pair e))) entries.now)) }
+    ensures small { OnOk result (AllByRecursion IsSmallPair (map as_pair entries.now)) }
 {
     for entry in entries {
         push_entry(out, entry)?;
@@ -51,9 +54,11 @@ fn push_closure(
     index: u32,
     entries: &[ClosureEntry],
 ) -> Result<(), AllocError>
-    ensures { OnOk result (out.new.items ≡
+    ensures text { OnOk result (out.new.items ≡
         out.old.items ++ line_of (step_elements (version_for number)
         (certificates.Closure (as_which which) index (map as_pair entries.now)))) }
+    ensures small { OnOk result (HasSmallNumbers
+        (certificates.Closure (as_which which) index (map as_pair entries.now))) }
 {
     out.extend_from_slice(b"(closure")?;
     push_which(out, which)?;
@@ -64,7 +69,8 @@ fn push_closure(
 }
 
 fn push_targets(out: &mut Vec<u8>, targets: &[u32]) -> Result<(), AllocError>
-    ensures { OnOk result (out.new.items ≡ out.old.items ++ tails (map decimal targets.now)) }
+    ensures text { OnOk result (out.new.items ≡ out.old.items ++ tails (map decimal targets.now)) }
+    ensures small { OnOk result (AllByRecursion IsSmall targets.now) }
 {
     for target in targets {
         push_number(out, *target)?;
@@ -73,9 +79,10 @@ fn push_targets(out: &mut Vec<u8>, targets: &[u32]) -> Result<(), AllocError>
 }
 
 fn push_part(out: &mut Vec<u8>, number: u32, part: u32, targets: &[u32]) -> Result<(), AllocError>
-    ensures { OnOk result (out.new.items ≡
+    ensures text { OnOk result (out.new.items ≡
         out.old.items ++ line_of (step_elements (version_for number)
         (certificates.Part part targets.now))) }
+    ensures small { OnOk result (HasSmallNumbers (certificates.Part part targets.now)) }
 {
     out.extend_from_slice(b"(part")?;
     push_number(out, part)?;
@@ -85,8 +92,9 @@ fn push_part(out: &mut Vec<u8>, number: u32, part: u32, targets: &[u32]) -> Resu
 }
 
 fn push_count(out: &mut Vec<u8>, count: &Count) -> Result<(), AllocError>
-    ensures { OnOk result (out.new.items ≡
+    ensures text { OnOk result (out.new.items ≡
         out.old.items ++ 32 ∷ element_text (count_element (as_count count.now))) }
+    ensures small { OnOk result (IsSmallCount (as_count count.now)) }
 {
     match *count {
         Count::Finite(height) => {
@@ -103,8 +111,9 @@ fn push_count(out: &mut Vec<u8>, count: &Count) -> Result<(), AllocError>
 }
 
 fn push_each_count(out: &mut Vec<u8>, counts: &[Count]) -> Result<(), AllocError>
-    ensures { OnOk result (out.new.items ≡ out.old.items ++
+    ensures text { OnOk result (out.new.items ≡ out.old.items ++
         tails (map (λ n. element_text (count_element (as_count n))) counts.now)) }
+    ensures small { OnOk result (AllByRecursion IsSmallCount (map as_count counts.now)) }
 {
     for count in counts {
         push_count(out, count)?;
@@ -118,9 +127,11 @@ fn push_counts(
     part: u32,
     counts: &[Count],
 ) -> Result<(), AllocError>
-    ensures { OnOk result (out.new.items ≡
+    ensures text { OnOk result (out.new.items ≡
         out.old.items ++ line_of (step_elements (version_for number)
         (certificates.Counts part (map as_count counts.now)))) }
+    ensures small { OnOk result (HasSmallNumbers
+        (certificates.Counts part (map as_count counts.now))) }
 {
     out.extend_from_slice(b"(counts")?;
     push_number(out, part)?;
@@ -130,9 +141,10 @@ fn push_counts(
 }
 
 fn push_value(out: &mut Vec<u8>, number: u32, part: u32, value: bool) -> Result<(), AllocError>
-    ensures { OnOk result (out.new.items ≡
+    ensures text { OnOk result (out.new.items ≡
         out.old.items ++ line_of (step_elements (version_for number)
         (certificates.Value part value))) }
+    ensures small { OnOk result (HasSmallNumbers (certificates.Value part value)) }
 {
     out.extend_from_slice(b"(value")?;
     push_number(out, part)?;
@@ -142,8 +154,9 @@ fn push_value(out: &mut Vec<u8>, number: u32, part: u32, value: bool) -> Result<
 }
 
 fn push_step(out: &mut Vec<u8>, number: u32, step: &Step) -> Result<(), AllocError>
-    ensures { OnOk result (out.new.items ≡
+    ensures text { OnOk result (out.new.items ≡
         out.old.items ++ line_of (step_elements (version_for number) (as_step step.now))) }
+    ensures small { OnOk result (HasSmallNumbers (as_step step.now)) }
 {
     match step {
         Step::Closure(which, index, entries) => {
@@ -177,6 +190,7 @@ pub fn text(
         text.items ≡ certificate_text number verdict (map as_step steps.now)) }
     ensures again { IfOk result (λ text.
         IsReadBehind number verdict (map as_step steps.now) text.items) }
+    ensures small { OnOk result (AllByRecursion HasSmallNumbers (map as_step steps.now)) }
 {
     let mut out = Vec::new(alloc);
     push_header(&mut out, number, verdict)?;

@@ -6,10 +6,10 @@ use Rattle.fort_certificate.specs.Lines.{tails}
 use Rattle.fort_certificate.proofs.LineLaws.{counts_line}
 use Rattle.fort_certificate.proofs.write.push_counts.Goals as goal
 
-pub returns : goal.returns
-returns c =
+pub returns-clause-text : goal.returns-clause-text
+returns-clause-text c =
     c.in_ok-extend_from_slice-2.ensures.items
-    ∙ (ap (λ xs. xs ++ (41 ∷ 10 ∷ [])) (c.in_ok-push_each_count.ensures
-    ∙ ap (λ xs. xs ++ tails (map (λ n. element_text (count_element (as_count n))) c.args.counts.now)) (c.in_ok-push_number.ensures
+    ∙ (ap (λ xs. xs ++ (41 ∷ 10 ∷ [])) (c.in_ok-push_each_count.ensures.text
+    ∙ ap (λ xs. xs ++ tails (map (λ n. element_text (count_element (as_count n))) c.args.counts.now)) (c.in_ok-push_number.ensures.text
     ∙ ap (λ xs. xs ++ (32 ∷ decimal c.args.part)) c.in_ok-extend_from_slice.ensures.items))
     ∙ counts_line c.args.out.now.items (version_for c.args.number) c.args.part c.args.counts.now)

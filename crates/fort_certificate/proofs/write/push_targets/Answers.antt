@@ -2,15 +2,19 @@ use Rattle.std.proofs.Common.{◌++◌, ◌∷◌, map, get_or, decimal, ap, ◌
 use Rattle.std.proofs.lemmas.List.{take_all}
 use Rattle.fort_certificate.specs.Lines.{tails}
 use Rattle.fort_certificate.proofs.LineLaws.{tails_more}
+use Rattle.fort_certificate.proofs.SmallLaws.{all_small}
 use Rattle.fort_certificate.proofs.write.push_targets.Goals as goal
 
 pub loop-target-preserved : goal.loop-target-preserved
 loop-target-preserved c =
-    c.in_ok-push_number.ensures
+    c.in_ok-push_number.ensures.text
     ∙ (ap (λ xs. xs ++ (32 ∷ decimal (get_or c.args.targets.now c.loop-target.target-index 0))) c.loop-target.invariant
     ∙ tails_more c.args.out.now.items decimal c.args.targets.now c.loop-target.target-index 0 c.loop-target-test.true)
 
-pub returns : goal.returns
-returns c =
+pub returns-clause-small : goal.returns-clause-small
+returns-clause-small c = all_small c.args.targets.now (λ i. omega (arith, c.type_inv.targets i))
+
+pub returns-clause-text : goal.returns-clause-text
+returns-clause-text c =
     c.loop-target.invariant
     ∙ ap (λ ns. c.args.out.now.items ++ tails (map decimal ns)) (take_all c.loop-target.target-index c.args.targets.now (omega arith))

@@ -1,18 +1,27 @@
 use Rattle.std.proofs.Common.{◌≡◌, ◌++◌, ap, sym, subst, ◌∙◌, arith, map}
+use Rattle.std.specs.List.{AllByRecursion}
 use Rattle.std.proofs.lemmas.List.{take_all}
 use Rattle.fort_certificate_grammar.specs.CertificateForms.{version_for}
 use Rattle.fort_certificate_grammar.specs.CertificateText.{line_of, step_elements, certificate_text}
 use Rattle.fort_steps.specs.StepView.{as_step}
 use Rattle.fort_certificate_grammar.proofs.Again.{behind_again}
-use Rattle.fort_certificate.specs.Again.{IsReadBehind}
+use Rattle.fort_certificate.specs.Again.{IsReadBehind, HasSmallNumbers}
+use Rattle.fort_certificate.proofs.SmallLaws.{small_more}
 use Rattle.fort_certificate.proofs.LineLaws.{steps_more}
 use Rattle.fort_certificate.proofs.write.text.Goals as goal
 
 pub loop-step-preserved : goal.loop-step-preserved
 loop-step-preserved c =
-    c.in_ok-push_step.ensures
-    ∙ (ap (λ xs. xs ++ line_of (step_elements (version_for c.args.number) (as_step c.step-item.result))) c.loop-step.invariant
-    ∙ steps_more c.args.number c.args.verdict c.args.steps.now c.loop-step.step-index c.step-item.result c.loop-step-test.true c.step-item.is)
+    let i = c.loop-step.invariant in
+    let steps = c.args.steps.now in
+    let here = c.loop-step.step-index in
+    record {
+      text = c.in_ok-push_step.ensures.text
+          ∙ (ap (λ xs. xs ++ line_of (step_elements (version_for c.args.number) (as_step c.step-item.result))) i.text
+          ∙ steps_more c.args.number c.args.verdict steps here c.step-item.result c.loop-step-test.true c.step-item.is);
+      small = small_more as_step HasSmallNumbers steps here c.step-item.result c.loop-step-test.true i.small
+          (subst (λ s. HasSmallNumbers (as_step s)) c.step-item.is c.in_ok-push_step.ensures.small);
+    }
 
 pub returns : goal.returns
 returns c =
@@ -20,6 +29,7 @@ returns c =
     let verdict = c.args.verdict in
     let steps = map as_step c.args.steps.now in
     let is : c.loop-step.out.items ≡ certificate_text number verdict steps =
-    c.loop-step.invariant
+    c.loop-step.invariant.text
     ∙ ap (λ ss. certificate_text number verdict (map as_step ss)) (take_all c.loop-step.step-index c.args.steps.now (omega arith)) in
-    record { text = is; again = subst (IsReadBehind number verdict steps) (sym is) (λ can front forms are. behind_again number front forms verdict steps are can) }
+    let small = subst (λ ss. AllByRecursion HasSmallNumbers (map as_step ss)) (take_all c.loop-step.step-index c.args.steps.now (omega arith)) c.loop-step.invariant.small in
+    record { text = is; again = subst (IsReadBehind number verdict steps) (sym is) (λ can front forms are. behind_again number front forms verdict steps are can); small = small }

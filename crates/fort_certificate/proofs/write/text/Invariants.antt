@@ -1,7 +1,12 @@
 use Rattle.std.proofs.Common.{◌≡◌, map, take}
+use Rattle.std.specs.List.{AllByRecursion}
 use Rattle.fort_certificate_grammar.specs.CertificateText.{certificate_text}
 use Rattle.fort_steps.specs.StepView.{as_step}
+use Rattle.fort_certificate.specs.Again.{HasSmallNumbers}
 use Rattle.fort_certificate.proofs.write.text.Given as goal
 
 abbrev pub invariant-loop-step : goal.invariant-loop-step
-invariant-loop-step l = l.out.items ≡ certificate_text l.number l.verdict (map as_step (take l.step-index l.steps))
+invariant-loop-step l = record {
+  text : l.out.items ≡ certificate_text l.number l.verdict (map as_step (take l.step-index l.steps));
+  small : AllByRecursion HasSmallNumbers (map as_step (take l.step-index l.steps));
+}
