@@ -79,12 +79,16 @@ module _ (text : Text) (f : Formula) (system : System) where
       let same = AreGroundsOf-unique text fits.grounds gs fits.are_grounds are ∙ no_term.split in
       all_read system.signature no_term.front no_term.back g terms (subst (λ xs. AreTermsOf system.signature xs terms) same fits.are_terms) no_term.no_term
 
+  pub FitsSystem-one : (terms terms' : List Tree) → IsDistinct bytes_eq (names_of system.signature) → FitsSystem text f system terms
+      → FitsSystem text f system terms' → terms ≡ terms'
+  FitsSystem-one terms terms' distinct fits fits' =
+      let same = AreGroundsOf-unique text fits'.grounds fits.grounds fits'.are_grounds fits.are_grounds in
+      AreTermsOf-unique system.signature fits.grounds terms terms' distinct fits.are_terms
+      (subst (λ xs. AreTermsOf system.signature xs terms') same fits'.are_terms)
+
   pub FitsSystem-unique : (bytes : Text) (terms terms' : List Tree) → IsInput bytes system → FitsSystem text f system terms
       → FitsSystem text f system terms' → terms ≡ terms'
-  FitsSystem-unique bytes terms terms' input fits fits' =
-      let same = AreGroundsOf-unique text fits'.grounds fits.grounds fits'.are_grounds fits.are_grounds in
-      AreTermsOf-unique system.signature fits.grounds terms terms' input.problem.problem.declares.distinct fits.are_terms
-      (subst (λ xs. AreTermsOf system.signature xs terms') same fits'.are_terms)
+  FitsSystem-unique bytes terms terms' input fits fits' = FitsSystem-one terms terms' input.problem.problem.declares.distinct fits fits'
 
   pub FitsSystem-ground : (terms : List Tree) → FitsSystem text f system terms → All (IsGround system.signature) terms
   FitsSystem-ground terms fits = AreTermsOf-ground system.signature fits.grounds terms fits.are_terms

@@ -18,10 +18,11 @@ use Rattle.fort_in_order.specs.Outcomes.{Reason}
 use Rattle.fort_in_order.specs.Checked.{Outcome, Certified, Rejected, HasOutcome}
 use Rattle.fort_answers.specs.Requests.{Text}
 use Rattle.fort_answers.specs.Lines.{positive, negative, refused, line, input_too_long, text_fault_line, problem_fault_line}
-use Rattle.fort_answers.specs.FormulaAnswer.{IsAcceptedClosed, IsRefusedClosed}
+use Rattle.fort_answers.specs.FormulaAnswer.{IsAcceptedClosed}
 use Rattle.fort_answers.specs.InputAnswer.{input_limit}
 use Rattle.fort_answers.specs.FitAnswer.{FitsSystem, IsUnfit}
 use Rattle.fort_answers.specs.SystemAnswer.{Are}
+use Rattle.fort_answers.specs.DecideAnswer.{DecideEarly}
 
 -- ---- lines
 
@@ -85,15 +86,9 @@ abbrev pub OwesOutcome : Outcome → ℕ → Text → Type 0
 OwesOutcome (Certified verdict) status text = Are status text positive (certified_line verdict)
 OwesOutcome (Rejected form place reason) status text = Are status text negative (rejected_line form place reason)
 
--- what is owed before anything is read
-pub record CheckEarly (formula : Text) (status : ℕ) (text : Text) : Type 0 where
-  pub refusal : Text
-  pub refused_both : IsRefusedClosed formula refusal
-  pub are : Are status text refused refusal
-
--- what is owed for these bytes
+-- what is owed for these bytes; before anything is read it is what `decide` owes
 pub data CheckAnswer (formula bytes : Text) (status : ℕ) (text : Text) : Type 0 where
-  Early : CheckEarly formula status text → CheckAnswer formula bytes status text
+  Early : DecideEarly formula status text → CheckAnswer formula bytes status text
   InputRefused : (f : Formula) → IsAcceptedClosed formula f → (refusal : Text) → IsCertifiedInputRefused bytes refusal
       → Are status text refused refusal → CheckAnswer formula bytes status text
   FormulaUnfit : (f : Formula) → IsAcceptedClosed formula f → (system : System) (c : Certificate) → IsCertifiedInput bytes system c

@@ -10,6 +10,6 @@ pub mod WitnessAnswer
 pub mod MadeProblem
 pub mod SampleSizes
 pub mod SampleAnswer
-pub mod Answer
 pub mod CertificateAnswer
 pub mod CheckAnswer
+pub mod Answer

@@ -1,0 +1,80 @@
+-- A certificate that is written for a formula over a system is accepted behind that system, with its verdict.
+use Rattle.std.proofs.Common.{◌≡◌, ℕ, ◌≤◌, List, ◌∷◌, ◌++◌, length, drop, refl, ap, sym, ◌∙◌, subst}
+use Rattle.std.specs.Prelude.{Some, Option, codes}
+use Rattle.std.proofs.Math.Seq.{drop-append_seam}
+use Rattle.fort_theory.specs.Trees.{Tree}
+use Rattle.fort_theory.specs.Sides.{System}
+use Rattle.fort_theory.specs.Patterns.{pattern_system}
+use Rattle.fort_logic.specs.Formulas.{Formula}
+use Rattle.fort_logic.specs.Translation.{core_of}
+use Rattle.fort_grammar.specs.Forms.{Form}
+use Rattle.fort_grammar.specs.Declarations.{as_list, word_of, AreWords, IsListOfWords, IsHeaded}
+use Rattle.fort_grammar.specs.ProblemForms.{BeginsOtherwise, IsProblem}
+use Rattle.fort_certificate_grammar.specs.Certificates.{Certificate}
+use Rattle.fort_certificate_grammar.specs.CertificateForms.{IsCertificate}
+use Rattle.fort_certificate_grammar.specs.CertificateAgain.{IsReadAgain}
+use Rattle.fort_certificate_grammar.proofs.Again.{behind_again}
+use Rattle.fort_in_order.specs.Checked.{Certified}
+use Rattle.fort_in_order.specs.Written.{IsWritten}
+use Rattle.fort_in_order.proofs.WrittenLaws.{IsInOrder-written}
+use Rattle.fort_answers.specs.Requests.{Text}
+use Rattle.fort_answers.specs.Lines.{positive}
+use Rattle.fort_answers.specs.FormulaAnswer.{IsAcceptedClosed}
+use Rattle.fort_answers.specs.InputAnswer.{IsInput, input_limit}
+use Rattle.fort_answers.specs.FitAnswer.{FitsSystem}
+use Rattle.fort_answers.specs.CertificateAnswer.{CertificateVerdict}
+use Rattle.fort_answers.specs.CheckAnswer.{IsCertifiedInput, CheckAnswer, Checked, certified_line}
+use Rattle.fort_answers.proofs.LongerTexts.{problem_too}
+
+first_word : (bytes : List ℕ) (f : Form) (fs : List Form) (word : List ℕ) (words : List (List ℕ)) → AreWords bytes (f ∷ fs) (word ∷ words)
+    → word_of bytes f ≡ Some word
+first_word bytes f fs word words h = h.0
+
+-- the form has one first word
+headed_same : (bytes : List ℕ) (f : Form) (head word : List ℕ) (words : List (List ℕ)) → IsListOfWords bytes f (head ∷ words) → IsHeaded bytes word f → head ≡ word
+headed_same bytes f head word words l a =
+    let same : l.elements ≡ a.first ∷ a.others = cc in
+    let there : word_of bytes a.first ≡ Some head = first_word bytes a.first a.others head words (subst (λ fs. AreWords bytes fs (head ∷ words)) same l.words_are) in
+    let both : ◌≡◌ {A = Option (List ℕ)} (Some head) (Some word) = sym there ∙ a.head in cc
+
+module _ (bytes : List ℕ) (number : ℕ) (front others : List Form) (c : Certificate) (forms : List Form) (behind : forms ≡ front ++ others)
+    (is : IsCertificate bytes number forms (length front) c) where
+  others_are : others ≡ is.header ∷ is.others
+  others_are = sym (drop-append_seam front others) ∙ (ap (drop (length front)) (sym behind) ∙ is.split)
+
+  -- the first form behind the problem is the header
+  begins_otherwise : (word : List ℕ) → (codes "certificate" ≡ word → ⊥) → BeginsOtherwise bytes word others
+  begins_otherwise word other =
+      subst (BeginsOtherwise bytes word) (sym others_are) (λ a. other (headed_same bytes is.header (codes "certificate") word _ is.headed a))
+
+-- result: behind an LF
+pub written_accepted : (formula : Text) (f : Formula) (bytes : Text) (system : System) (terms : List Tree) (s : ℕ) (text : Text) → IsAcceptedClosed formula f
+    → IsInput bytes system → FitsSystem formula f system terms → (v : CertificateVerdict system terms f s text)
+    → length (bytes ++ 10 ∷ text) ≤ input_limit → CheckAnswer formula (bytes ++ 10 ∷ text) positive (certified_line v.certificate.verdict)
+written_accepted formula f bytes system terms s text accepted input fits v short =
+    let c = v.certificate in
+    let forms = input.problem.forms in
+    let whole = bytes ++ 10 ∷ text in
+    let again = subst (λ t. IsReadAgain (bytes ++ 10 ∷ t) (length system.rules) forms (record { first = length (as_list forms); verdict = c.verdict; steps = c.steps }))
+    (sym v.are.same_text) (behind_again (length system.rules) bytes forms c.verdict c.steps input.problem.are_forms v.small) in
+    let d : Certificate = record { first = length (as_list forms); verdict = c.verdict; steps = c.steps } in
+    let otherwise = begins_otherwise whole (length system.rules) (as_list forms) again.others d (as_list again.forms) again.behind again.certificate in
+    let problem = problem_too bytes (10 ∷ text) forms system again.others input.problem.are_forms input.problem.problem
+    (otherwise (codes "fun") (λ e. absurd cc)) (otherwise (codes "rule") (λ e. absurd cc)) in
+    let is : IsCertifiedInput whole system d = record {
+      short = short;
+      forms = again.forms;
+      are_forms = again.are_forms;
+      next = length (as_list forms);
+      problem = subst (λ fs. IsProblem whole fs system (length (as_list forms))) (sym again.behind) problem;
+      certificate = again.certificate;
+    } in
+    let again_written : IsWritten (pattern_system system) (core_of terms f) d = record {
+      parts = v.written.parts;
+      parts_are = v.written.parts_are;
+      made = v.written.made;
+      steps = v.written.steps;
+      verdict = v.written.verdict;
+    } in
+    Checked f accepted system d is terms fits (Certified c.verdict) (IsInOrder-written (pattern_system system) (core_of terms f) d again_written)
+    (record { same_status = refl; same_text = refl })
