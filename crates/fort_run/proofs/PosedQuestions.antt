@@ -1,5 +1,6 @@
 -- A question that is put to a core formula: what its answer, the certificate that is written for it, or its limit says to the question.
-use Rattle.std.specs.Prelude.{◌≡◌, ℕ, ◌<◌, List, [], map, length, IfSome}
+use Rattle.std.specs.Prelude.{◌≡◌, ℕ, ◌<◌, List, map, length, IfSome}
+use Rattle.std.specs.List.{AllByRecursion}
 use Rattle.std.proofs.Common.{refl, sym, ap, subst, ◌∙◌, arith}
 use Rattle.fort_theory.specs.Trees.{Tree}
 use Rattle.fort_theory.specs.Sides.{System}
@@ -14,7 +15,9 @@ use Rattle.fort_logic.specs.Translation.{core_of}
 use Rattle.fort_logic.proofs.FreeNumbers.{core_of-free}
 use Rattle.fort_parts.specs.PartAnswers.{IsAnswerTo}
 use Rattle.fort_formulas.specs.KindView.{as_kind}
-use Rattle.fort_certificate_grammar.specs.CertificateText.{certificate_text}
+use Rattle.fort_certificate_grammar.specs.CertificateForms.{version_for}
+use Rattle.fort_certificate_grammar.specs.CertificateText.{certificate_text, CanBeWritten}
+use Rattle.fort_certificate.specs.Again.{HasSmallNumbers}
 use Rattle.fort_in_order.specs.Written.{IsWritten}
 use Rattle.fort_steps.specs.StepView.{as_step}
 use Rattle.fort_trace.specs.declared.decide.Recorded.{Recorded}
@@ -35,6 +38,7 @@ use Rattle.fort_run.specs.Ready.{IsLawful, IsDecidedBy, KeepsCapAt, ShowsLimit}
 use Rattle.fort_run.specs.ReplyView.{status_of, text_of, limit_of}
 use Rattle.fort_run.proofs.Deciding.{passes}
 use Rattle.fort_run.proofs.Fitting.{number_is}
+use Rattle.fort_run.proofs.WrittenNumbers.{written_numbers}
 
 -- the answer to the core formula
 pub decided_by : (question : Question) (f : Formula) (system : PatternSystem) (terms : List Tree) (c : Core) (last : Last) → IsPosed question f system terms c
@@ -56,12 +60,17 @@ closed_core f system terms c posed =
 -- the text of the steps that were recorded
 pub certificate_says : (f : Formula) (p : System) (system : PatternSystem) (terms : List Tree) (c : Core) (r : Recorded) (number : ℕ) (text : Text)
     → system ≡ pattern_system p → IsPosed Certificate f system terms c → ((first : ℕ) → IsWritten system c (as_certificate first r))
-    → number ≡ length system.rules → text ≡ certificate_text number r.verdict (map as_step r.steps.items) → CertificateVerdict p terms f positive text
-certificate_says f p system terms c r number text same posed written count spelled =
+    → AllByRecursion HasSmallNumbers (map as_step r.steps.items) → number ≡ length system.rules
+    → text ≡ certificate_text number r.verdict (map as_step r.steps.items) → CertificateVerdict p terms f positive text
+certificate_says f p system terms c r number text same posed written numbers count spelled =
     let own : IsWritten system (core_of terms f) (as_certificate 0 r) = subst (λ k. IsWritten system k (as_certificate 0 r)) posed.is (written 0) in
+    let there : IsWritten (pattern_system p) (core_of terms f) (as_certificate 0 r) = subst (λ s. IsWritten s (core_of terms f) (as_certificate 0 r)) same own in
+    let rules : length (pattern_system p).rules ≡ length p.rules = number_is (length (pattern_system p).rules) (pattern_system p) p refl refl in
     record {
       certificate = as_certificate 0 r;
-      written = subst (λ s. IsWritten s (core_of terms f) (as_certificate 0 r)) same own;
+      written = there;
+      small = subst (λ n. AllByRecursion (CanBeWritten (version_for n)) (map as_step r.steps.items)) rules
+          (written_numbers (pattern_system p) (core_of terms f) (as_certificate 0 r) there numbers);
       are = record {
         same_status = refl;
         same_text = spelled ∙ ap (λ n. certificate_text n r.verdict (map as_step r.steps.items)) (number_is number system p count same);

@@ -12,4 +12,4 @@ decide_with_steps-requires-clause-closed c = closed_core c.requires.0 c.args.sys
 pub returns-in-Ok-text-clause-says : goal.returns-in-Ok-text-clause-says
 returns-in-Ok-text-clause-says c = λ f p terms lawful same posed.
     certificate_says f p c.args.system.now terms (as_core c.args.core.now) c.in-Ok.recorded c.number.result c.in-Ok-text.text.items same posed
-    c.in-Ok.ensures.written c.number.ensures.count c.in-Ok-text.ensures.text
+    c.in-Ok.ensures.written c.in-Ok-text.ensures.small c.number.ensures.count c.in-Ok-text.ensures.text
