@@ -1,10 +1,7 @@
-use Rattle.std.proofs.Common.{sym, subst}
-use Rattle.std.specs.Prelude.{MatchOption}
 use Rattle.std.proofs.lemmas.Result.{IfOk-weaker}
-use Rattle.fort_run.specs.Asked.{IsAskable, IsRefusedBy}
 use Rattle.fort_answers.specs.FormulaAnswer.{Wide}
 use Rattle.fort_formulas.specs.FormulaView.{as_formula}
-use Rattle.fort_run.proofs.FormulaRefusals.{told, untold, refused_both}
+use Rattle.fort_run.proofs.FormulaRefusals.{closed_refusal, told, untold, refused_both}
 use Rattle.fort_run.proofs.accepted.refusal_of.Goals as goal
 
 pub returns-then-branch : goal.returns-then-branch
@@ -16,6 +13,6 @@ pub returns-in-Truth : goal.returns-in-Truth
 returns-in-Truth c =
     let f = as_formula c.args.formula.now in
     IfOk-weaker c.open_refusal.result _ _ (λ refusal says. λ text read.
-    subst (λ q. MatchOption refusal (IsAskable q text f) (λ line. IsRefusedBy q text line.items)) (sym c.in-Truth.is)
+    closed_refusal c.args.question text f refusal c.in-Truth.is
     (says text (record { read = read; narrow = untold c.in_ok-is_too_wide.field-0 _ c.in_ok-is_too_wide.ensures c.if-branch.false })))
     c.open_refusal.ensures

@@ -7,17 +7,17 @@ use Rattle.fort_run.proofs.top.reply_to_request.Goals as goal
 
 pub returns-in-Decide-default-false-default-clause-whole : goal.returns-in-Decide-default-false-default-clause-whole
 returns-in-Decide-default-false-default-clause-whole g c =
-    on_ok_weaker c.ask.result (λ whole needs.
+    on_ok_weaker c.ask-in-Decide-default-false-default.result (λ whole needs.
     let there = subst (λ r. NeedsInput (as_request r)) c.in-Decide-default-false-default.is needs in
     whole (there.0, rw c.in-Decide-default-false-default.formula-is there.1))
-    c.ask.ensures.whole
+    c.ask-in-Decide-default-false-default.ensures.whole
 
 pub returns-in-Decide-default-true-default-clause-whole : goal.returns-in-Decide-default-true-default-clause-whole
 returns-in-Decide-default-true-default-clause-whole g c =
-    on_ok_weaker c.ask-in-Decide-default-true-default.result (λ whole needs.
+    on_ok_weaker c.ask.result (λ whole needs.
     let there = subst (λ r. NeedsInput (as_request r)) c.in-Decide-default-true-default.is needs in
     whole (there.0, rw c.in-Decide-default-true-default.formula-is there.1))
-    c.ask-in-Decide-default-true-default.ensures.whole
+    c.ask.ensures.whole
 
 pub returns-in-Witness-clause-whole : goal.returns-in-Witness-clause-whole
 returns-in-Witness-clause-whole g c =

@@ -40,15 +40,15 @@ returns-in-Ok-clause-limit c =
     subst (λ o. IfSome o (ShowsLimit c.args.system.now (core_of c.args.terms.now (as_formula c.args.formula.now)) c.args.states (text_of c.in-Ok.reply)))
     (sym c.in-Ok.ensures.limit) tt
 
-pub returns-in-Err-clause-ok : goal.returns-in-Err-clause-ok
-returns-in-Err-clause-ok c =
+pub returns-clause-ok : goal.returns-clause-ok
+returns-clause-ok c =
     IfOk-weaker c.limit_reply.result _ _ (λ r tells. λ p lawful same.
     limit_says c.args.question (as_formula c.args.formula.now) p c.args.system.now c.args.terms.now (as_core c.in_ok-core.core) c.args.states c.in-Err.fault r same
     c.in_ok-core.ensures.is c.in-Err.ensures.over tells)
     c.limit_reply.ensures
 
-pub returns-in-Err-clause-limit : goal.returns-in-Err-clause-limit
-returns-in-Err-clause-limit c =
+pub returns-clause-limit : goal.returns-clause-limit
+returns-clause-limit c =
     IfOk-weaker c.limit_reply.result _ _ (λ r tells.
     limit_shows c.args.system.now (as_core c.in_ok-core.core) (core_of c.args.terms.now (as_formula c.args.formula.now)) c.args.states c.in-Err.fault r
     c.in_ok-core.ensures.is c.in-Err.ensures.over tells)
