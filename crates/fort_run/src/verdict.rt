@@ -90,7 +90,8 @@ fn least_terms(
 ) -> Result<Reply, EngineFault>
     requires { (terms : List Tree)
         × IsPosed Terms (as_formula formula.now) system.now terms (as_core core.now) }
-    ensures says { IfOk result (SaysOn Terms (as_formula formula.now) system.now (as_core core.now)) }
+    ensures says { IfOk result
+        (SaysOn Terms (as_formula formula.now) system.now (as_core core.now)) }
     ensures limit { IfOk result (λ r. limit_of r ≡ None) }
     ensures within { OnOk result (KeepsCapAt system.now (as_core core.now) states) }
     ensures over { IfErr result (λ e. IfOver e (IsLimit system.now (as_core core.now) states)) }

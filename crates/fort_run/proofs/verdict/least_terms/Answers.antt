@@ -1,4 +1,4 @@
-use Rattle.std.proofs.Common.{sym, ap, subst, ◌∙◌}
+use Rattle.std.proofs.Common.{ap, subst, ◌∙◌}
 use Rattle.fort_theory.specs.Patterns.{PatternSystem}
 use Rattle.fort_formulas.specs.CoreView.{as_core}
 use Rattle.fort_formulas.specs.FormulaView.{as_formula}
