@@ -1,0 +1,12 @@
+pub mod EntryOrders
+pub mod TableLaws
+pub mod TargetLaws
+pub mod NumberedLaws
+pub mod PairPlaces
+pub mod PairLaws
+pub mod PairStepLaws
+pub mod MarkLaws
+pub mod MarkSearch
+pub mod DueLists
+pub mod DueTests
+pub mod PureStates

@@ -1,0 +1,9 @@
+use Rattle.fort_check_steps.specs.TableInside.{table_in}
+use Rattle.fort_check_steps.proofs.TableLaws.{IsTable-turned, IsReached-turned}
+use Rattle.fort_check_steps.proofs.table.PartTableTable.states.Goals as goal
+
+pub returns-clause-lawful : goal.returns-clause-lawful
+returns-clause-lawful c = rw (← c.self.view_is) (IsTable-turned (table_in c.self.inside) c.self.invariant.listed.table)
+
+pub returns-clause-reached : goal.returns-clause-reached
+returns-clause-reached c = rw (← c.self.view_is) (IsReached-turned (table_in c.self.inside) c.self.invariant.listed.reached)

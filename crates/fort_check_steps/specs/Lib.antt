@@ -1,0 +1,15 @@
+pub mod StepAnswers
+pub mod Room
+pub mod Held
+pub mod OnePlace
+pub mod Orders
+pub mod Turned
+pub mod TableInside
+pub mod NumberedView
+pub mod PairTests
+pub mod PairSteps
+pub mod Marks
+pub mod DueView
+pub mod AtomLocals
+pub mod TestRule
+pub mod AtomLaws

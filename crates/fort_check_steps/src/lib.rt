@@ -1,0 +1,35 @@
+//! Checks the steps of certificates one by one, by the definition of one in order: closures, the tables of parts, the marks of states.
+#![tactic(auto)]
+
+mod atoms;
+mod closure;
+mod dues;
+mod failure;
+mod finals;
+mod marks;
+mod numbered;
+mod numbering;
+mod order;
+mod pairs;
+mod part;
+mod projected;
+mod room;
+mod rules;
+mod table;
+mod targets;
+
+pub use atoms::{Normal, Related, ThisTerm};
+pub use closure::check_closure;
+pub use dues::{DueStep, has_columns, is_about, steps_due};
+pub use failure::{Failure, Reason, failed};
+pub use marks::{MarkRoom, check_marks, put_pure};
+pub use numbered::{Numbered, RuleNumbers};
+pub use pairs::PairRules;
+pub use part::check_part;
+pub use projected::Projected;
+pub use room::{PartRoom, most_states};
+pub use rules::{both_ways, closure_rules};
+pub use table::PartTable;
+
+#[cfg(test)]
+mod tests;

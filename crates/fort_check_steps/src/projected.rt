@@ -1,0 +1,71 @@
+//! The rule of a projection, over pure states that are handed in.
+ghost use Rattle.std.specs.Prelude.{◌≡◌, ◌<◌};
+ghost use Rattle.fort_operations.specs.Projections as projections;
+ghost use Rattle.fort_operations.proofs.OperandFacts.{ArePure-prop};
+
+use fort_explore::{LocalRule, Rows};
+use fort_lockstep::{Row, Table};
+use fort_rrn_algebra::local::{project_accepts, project_label, project_width};
+
+/// The labels of a projection: of a tuple of the other columns, the presence, the body's state with the column absent, and the set of
+/// states that the terms of the column give.
+#[derive(Drop)]
+pub struct Projected<'a, T: Table> {
+    body: &'a T,
+    column: usize,
+    /// The body's states with this column alone present.
+    alone: &'a [u32],
+    ghost within: { column < (T.table body.now).columns },
+    ghost another: { 1 < (T.table body.now).columns },
+    ghost pure: { projections.ArePure (T.table body.now) column alone.now } by { ArePure-prop (T.table body.now) column alone.now },
+}
+
+impl<'a, T: Table> Projected<'a, T> {
+    /// The projection of a body that has another column. It takes no memory.
+    pub fn new(body: &'a T, column: usize, alone: &'a [u32]) -> Projected<'a, T>
+        requires column { column < (T.table body.now).columns }
+        requires another { 1 < (T.table body.now).columns }
+        requires pure { projections.ArePure (T.table body.now) column alone.now }
+        ensures body { result.body.now ≡ body.now }
+        ensures column { result.column ≡ column }
+    {
+        Projected {
+            body,
+            column,
+            alone,
+        }
+    }
+}
+
+impl<'a, T: Table> LocalRule for Projected<'a, T> {
+    ghost use Rattle.std.specs.Prelude.{◌+◌, length, refl};
+    ghost use Rattle.fort_tables.specs.BitRows.{words_for};
+    ghost use Rattle.fort_operations.specs.Projections as projections;
+    ghost use Rattle.fort_operations.proofs.ProjectLabels.{length-project_rule};
+
+    ghost rule = { λ p. projections.project_rule (T.table p.body.now) p.column };
+
+    ghost word_count = { λ p. words_for (length (T.table p.body.now).presences) + 2 };
+
+    ghost accepting = { λ p. projections.project_accepts (T.table p.body.now) };
+
+    ghost tells = { λ p f ws. refl };
+
+    ghost has_words = { λ p f ws. length-project_rule (T.table p.body.now) p.column f ws };
+
+    fn columns(&self) -> usize {
+        self.body.columns() - 1
+    }
+
+    fn width(&self) -> usize {
+        project_width(self.body.states() as usize)
+    }
+
+    fn step(&self, row: &Row, rows: &Rows, out: &mut [u64]) {
+        project_label(self.body, self.column, self.alone, row, rows, out)
+    }
+
+    fn accepts(&self, words: &[u64]) -> bool {
+        project_accepts(self.body, words)
+    }
+}

@@ -1,0 +1,64 @@
+//! The rules of a closure, by numbers.
+ghost use Rattle.std.specs.Prelude.{◌≡◌, ◌<◌, ◌^◌, length, IfOk};
+ghost use Rattle.fort_theory.specs.Sides.{IsIndexOf, at_index};
+ghost use Rattle.fort_terms.specs.BothWays.{both_ways as both_ways_lem};
+ghost use Rattle.fort_steps.specs.StepView.{as_which};
+ghost use Rattle.fort_check_steps.specs.PairSteps.{HasPairRules, HasClosureRules};
+
+use crate::numbering::{number_patterns, number_rules};
+use crate::pairs::PairRules;
+use fort_steps::Which;
+use fort_terms::{Memory, System};
+use std::alloc::{AllocError, Global};
+
+/// The most rules that have a system of each of them both ways.
+const MOST_RULES: usize = 4096;
+
+/// The rules of an index, and the patterns of their sides. Lists of 2^32 patterns or more, for which there are no numbers, are want of
+/// memory.
+fn rules_of(alloc: Global, system: &System, index: u32) -> Result<PairRules, Memory>
+    requires { IsIndexOf system.now.rules index }
+    ensures { IfOk result (HasPairRules (at_index index system.now.rules)) }
+{
+    let lefts = system.left_patterns(alloc, index)?;
+    let rights = system.right_patterns(alloc, index)?;
+    let left_numbers = number_patterns(alloc, &lefts)?;
+    let right_numbers = number_patterns(alloc, &rights)?;
+    let rules = number_rules(alloc, system.rules(index), &lefts, &rights)?;
+    Ok(PairRules {
+        rights: right_numbers,
+        lefts: left_numbers,
+        rules,
+    })
+}
+
+/// A system whose only index has the rules of this one, and then each from right to left. More rules than a system has are want of
+/// memory.
+pub fn both_ways(alloc: Global, system: &System, index: u32) -> Result<System, Memory>
+    requires { IsIndexOf system.now.rules index }
+    ensures { IfOk result (λ s. s ≡ both_ways_lem system.now index) }
+{
+    if system.rules(index).len() > MOST_RULES {
+        return Err(AllocError);
+    }
+    system.both_ways(alloc, index)
+}
+
+/// The rules of a closure. More rules than a system has, or more patterns than there are numbers for, are want of memory.
+pub fn closure_rules(
+    alloc: Global,
+    system: &System,
+    which: Which,
+    index: u32,
+) -> Result<PairRules, Memory>
+    requires { IsIndexOf system.now.rules index }
+    ensures { IfOk result (HasClosureRules system.now (as_which which) index) }
+{
+    match which {
+        Which::Star => rules_of(alloc, system, index),
+        Which::Conv => {
+            let both = both_ways(alloc, system, index)?;
+            rules_of(alloc, &both, 1)
+        }
+    }
+}

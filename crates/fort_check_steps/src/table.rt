@@ -1,0 +1,132 @@
+//! The tables of parts that were checked.
+ghost use Rattle.std.specs.Prelude.{◌≡◌, ◌<◌, ◌≤◌, ◌^◌, ◌==◌, ℕ, List, Bool, length};
+ghost use Rattle.fort_tables.specs.LabelRules.{LabelRule};
+ghost use Rattle.fort_tables.specs.Tables.{full_presence, IsListed};
+ghost use Rattle.fort_check_steps.specs.Turned.{turned_by};
+ghost use Rattle.fort_check_steps.specs.Held.{HoldsPart, held_table};
+
+use crate::order::place_among;
+use crate::room::PartRoom;
+use fort_lockstep::{Row, Table, TupleSym};
+use fort_terms::Signature;
+use std::marker::Model;
+
+/// The table of a part that was checked, with so many negations around the part.
+#[derive(Drop)]
+pub struct PartTable<'a> {
+    signature: &'a Signature,
+    columns: usize,
+    targets: &'a [u32],
+    room: &'a PartRoom,
+    turns: usize,
+}
+
+impl<'a> Model for PartTable<'a> {
+    ghost use Rattle.fort_check_steps.specs.Turned.{TurnedTable};
+
+    ghost Value = { TurnedTable };
+
+    ghost use Rattle.fort_check_steps.specs.TableInside.{table_in, IsPartTable};
+
+    ghost view = { table_in };
+
+    ghost invariant = { IsPartTable };
+}
+
+impl<'a> PartTable<'a> {
+    /// The table that a room holds, under so many negations.
+    pub fn new(
+        signature: &'a Signature,
+        columns: usize,
+        targets: &'a [u32],
+        room: &'a PartRoom,
+        turns: usize,
+    ) -> PartTable<'a>
+        requires few { length targets.now < 2 ^ 32 }
+        requires holds { (r : LabelRule) × (accepting : (List ℕ → Bool))
+            × (r.signature ≡ signature.now) × (r.columns ≡ columns)
+            × HoldsPart r accepting targets.now room.now }
+        ensures table { (r : LabelRule) → (accepting : (List ℕ → Bool))
+            → r.signature ≡ signature.now → r.columns ≡ columns
+            → HoldsPart r accepting targets.now room.now
+            → result.table ≡ held_table r accepting targets.now room.now }
+        ensures turns { result.turns ≡ turns }
+    {
+        PartTable {
+            signature,
+            columns,
+            targets,
+            room,
+            turns,
+        }
+    }
+
+    /// The entries of the table, in their order.
+    pub fn entries(&self) -> &[Row]
+        ensures entries { result.now ≡ self.now.table.entries }
+        ensures lawful { IsListed self.now.table }
+    {
+        self.room.entries.as_slice()
+    }
+
+    /// The states of the entries.
+    pub fn targets(&self) -> &[u32]
+        ensures targets { result.now ≡ self.now.table.targets }
+        ensures lawful { IsListed self.now.table }
+    {
+        self.targets
+    }
+}
+
+/// Whether a presence is that of tuples with all columns.
+fn is_full(presence: u16, columns: usize) -> bool
+    requires { columns ≤ 16 }
+    ensures { result ≡ (presence == full_presence columns) }
+{
+    u32::from(presence) == (1u32 << columns) - 1
+}
+
+/// Whether a state is accepting under so many negations.
+fn turned(turns: usize, is_full: bool, is_final: bool) -> bool
+    ensures { result ≡ turned_by turns is_full is_final }
+{
+    let mut truth = is_final;
+    for turn in 0..turns {
+        truth = is_full && !truth;
+    }
+    truth
+}
+
+impl<'a> Table for PartTable<'a> {
+    ghost use Rattle.fort_check_steps.specs.Turned.{turned_table};
+
+    ghost table = { turned_table };
+
+    fn signature(&self) -> &Signature {
+        self.signature
+    }
+
+    fn columns(&self) -> usize {
+        self.columns
+    }
+
+    fn states(&self) -> u32 {
+        self.room.presences.len() as u32
+    }
+
+    fn presence(&self, q: u32) -> u16 {
+        self.room.presences[q as usize]
+    }
+
+    fn is_final(&self, q: u32) -> bool {
+        turned(
+            self.turns,
+            is_full(self.room.presences[q as usize], self.columns),
+            self.room.finals[q as usize],
+        )
+    }
+
+    fn target(&self, sym: &TupleSym, kids: &[u32]) -> u32 {
+        self.targets[place_among(self.room.entries.as_slice(), sym, kids)]
+    }
+}

@@ -1,0 +1,101 @@
+//! The targets of a part, held against the entries in their order.
+ghost use Rattle.std.specs.Prelude.{◌≡◌, ◌<◌, ◌≤◌, ◌^◌, [], map, length, vec_len, vec_capacity, OnOk, IfErr};
+ghost use Rattle.fort_tables.specs.Labels.{first_word, IsOverLabels, AreLabels};
+ghost use Rattle.fort_tables.specs.LabelRules.{IsLabelRule, label_of};
+ghost use Rattle.fort_in_order.specs.PartSteps.{IsPartOutcome, IsRightPart};
+ghost use Rattle.fort_check_steps.specs.OnePlace.{IsTaken, IsRefused};
+ghost use Rattle.fort_check_steps.specs.Room.{most_states};
+ghost use Rattle.fort_check_steps.specs.StepAnswers.{outcome_of};
+
+use crate::failure::{Failure, Reason, failed};
+use fort_explore::{LocalRule, Rows};
+use fort_lockstep::{Entries, Row};
+use fort_terms::Signature;
+
+/// Holds a target against the entry that is due.
+fn take_target<R: LocalRule>(
+    rule: &R,
+    row: &Row,
+    target: u32,
+    presences: &mut Vec<u16>,
+    rows: &mut Rows,
+    out: &mut [u64],
+) -> Result<(), Reason>
+    requires over { IsOverLabels (R.rule rule.now).signature (R.rule rule.now).columns
+        (label_of (R.rule rule.now)) rows.old.labels row.now }
+    requires width { rows.old.width ≡ R.word_count rule.now }
+    requires words { length out.old ≡ R.word_count rule.now }
+    requires room { target ≡ length rows.old.labels → length rows.old.labels < rows.old.room }
+    requires spare { target ≡ length rows.old.labels
+        → vec_len presences.old < vec_capacity presences.old }
+    ensures taken { OnOk result (IsTaken (R.rule rule.now) row.now target presences.old.items
+        presences.new.items rows.old.labels rows.new.labels) }
+    ensures refused { IfErr result (IsRefused (R.rule rule.now) row.now target rows.old.labels) }
+    ensures width { rows.new.width ≡ rows.old.width }
+    ensures room { rows.new.room ≡ rows.old.room }
+    ensures capacity { vec_capacity presences.new ≡ vec_capacity presences.old }
+{
+    if target as usize > rows.len() {
+        return Err(Reason::Target);
+    }
+    rule.step(row, rows, out);
+    if target as usize == rows.len() {
+        presences.push_reserved(row.presence());
+        rows.push(out);
+        return Ok(());
+    }
+    if rows.label(target) == out {
+        Ok(())
+    } else {
+        Err(Reason::Label)
+    }
+}
+
+/// Holds the targets against the entries in their order.
+pub fn check_targets<R: LocalRule>(
+    rule: &R,
+    sig: &Signature,
+    targets: &[u32],
+    given: &mut Vec<Row>,
+    presences: &mut Vec<u16>,
+    rows: &mut Rows,
+    out: &mut [u64],
+) -> Result<(), Failure>
+    requires signature { (R.rule rule.now).signature ≡ sig.now }
+    requires few { length targets.now < 2 ^ 32 }
+    requires no_entries { given.old.items ≡ [] }
+    requires no_presences { presences.old.items ≡ [] }
+    requires no_rows { rows.old.labels ≡ [] }
+    requires width { rows.old.width ≡ R.word_count rule.now }
+    requires words { length out.old ≡ R.word_count rule.now }
+    requires room { most_states targets.now ≤ rows.old.room }
+    requires places { length targets.now ≤ vec_capacity given.old }
+    requires spare { most_states targets.now ≤ vec_capacity presences.old }
+    ensures outcome { IsPartOutcome (R.rule rule.now) targets.now (outcome_of result) }
+    ensures right { OnOk result (IsRightPart (R.rule rule.now) targets.now given.new.items
+        rows.new.labels) }
+    ensures lawful { IsLabelRule (R.rule rule.now) }
+    ensures states { OnOk result (length rows.new.labels ≤ most_states targets.now) }
+    ensures labels { OnOk result (AreLabels (R.rule rule.now).signature (R.rule rule.now).columns
+        (label_of (R.rule rule.now)) rows.new.labels) }
+    ensures presences { OnOk result (presences.new.items ≡ map first_word rows.new.labels) }
+    ensures width { rows.new.width ≡ rows.old.width }
+    ensures room { rows.new.room ≡ rows.old.room }
+    ensures entries_capacity { vec_capacity given.new ≡ vec_capacity given.old }
+    ensures capacity { vec_capacity presences.new ≡ vec_capacity presences.old }
+{
+    let mut entries = Entries::new(sig, rule.columns());
+    'targets: for place in 0..targets.len() {
+        match entries.next(presences.as_slice()) {
+            Some(row) => match take_target(rule, &row, targets[place], presences, rows, out) {
+                Ok(()) => given.push_reserved(row),
+                Err(reason) => return failed(place, reason),
+            },
+            None => return failed(place, Reason::Long),
+        }
+    }
+    match entries.next(presences.as_slice()) {
+        Some(_) => failed(targets.len(), Reason::Short),
+        None => Ok(()),
+    }
+}
