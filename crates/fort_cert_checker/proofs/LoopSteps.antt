@@ -1,0 +1,287 @@
+-- One more step at a place: what it needs is there, and behind it the rooms hold on.
+use Rattle.std.specs.Prelude.{◌≡◌, ℕ, zero, suc, ◌+◌, ◌*◌, ◌<◌, ◌≤◌, List, [], ◌∷◌, ◌++◌, take, drop, set, map, length, get_or, Contains, Option, ◌⊎◌, Bool, Result, Ok, Err, OnOk, IfErr, refl}
+use Rattle.std.proofs.Common.{sym, ap, ◌∙◌, subst, arith, ⊎_elim, Vec, Global}
+use Rattle.std.proofs.lemmas.Bool.{cases_eq}
+use Rattle.std.proofs.lemmas.List.{length-set, length-take-le, take_more}
+use Rattle.std.proofs.lemmas.List.Elements.{Contains-get_or, Contains-push_cases}
+use Rattle.fort_theory.specs.Patterns.{PatternSystem}
+use Rattle.fort_logic.specs.Cores as core
+use Rattle.fort_logic.specs.Cores.{Core}
+use Rattle.fort_certificate_grammar.specs.Certificates.{Which, Pair as Item, Step, Closure, Part, Counts, Value, Certificate}
+use Rattle.fort_in_order.specs.Dues.{DueStep, OfClosure, OfPart, due_of, dues}
+use Rattle.fort_in_order.specs.Outcomes.{Reason, StepOutcome, Fine, Fails}
+use Rattle.fort_in_order.specs.Made.{Made, with_closure}
+use Rattle.fort_in_order.specs.Checked.{IsClosureJudged, IsFine, FineClosure, IsFailing, FailingClosure, IsUpTo}
+use Rattle.fort_check_steps.specs.declared.failure.Failure.{Failure}
+use Rattle.fort_check_steps.specs.StepAnswers.{as_reason, outcome_of}
+use Rattle.fort_formulas.specs.declared.core_formula.Core as formulas
+use Rattle.fort_formulas.specs.CoreView.{as_core}
+use Rattle.fort_steps.specs.declared.count.Count.{Count}
+use Rattle.fort_steps.specs.declared.step.Step as steps
+use Rattle.fort_steps.specs.declared.step.Step.TheVariants as variants
+use Rattle.fort_steps.specs.StepView.{as_step}
+use Rattle.fort_check_steps.specs.declared.room.PartRoom.{PartRoom}
+use Rattle.fort_check_steps.specs.declared.marks.MarkRoom.{MarkRoom}
+use Rattle.fort_cert_checker.specs.declared.plan.Plan.{Plan}
+use Rattle.fort_cert_checker.specs.declared.making.ClosurePlan.{ClosurePlan}
+use Rattle.fort_cert_checker.specs.Abouts.{IsOnlyAbout}
+use Rattle.fort_cert_checker.specs.Pasts.{IsElement, IsMarkRoomFor}
+use Rattle.fort_cert_checker.specs.Makings.{AreMade, IsClosureFor, IsRoomFor}
+use Rattle.fort_cert_checker.specs.Fronts.{IsAtPlace, IsRoomHeld, AreHeld, IsReady, IsLoopAt, IsStepDue, IsOwnDue, IsDueBehind, IsHeldAfter, IsFineStep, part_in}
+use Rattle.fort_cert_checker.proofs.DueKeys.{key}
+use Rattle.fort_cert_checker.proofs.FrontTells.{answer_kept}
+use Rattle.fort_cert_checker.proofs.FrontKnows.{later_key, only_due}
+use Rattle.fort_cert_checker.proofs.LoopLaws.{at_step, at_next}
+use Rattle.fort_cert_checker.proofs.LoopKnows.{IsNoClosure, own_within, own_due}
+
+-- ---- a list with one element set
+
+set_own : {A : Type 0} (xs : List A) (k : ℕ) (x d : A) → k < length xs → get_or (set xs k x) k d ≡ x
+set_own [] k x d l = absurd (omega arith)
+set_own (y ∷ xs) zero x d l = refl
+set_own (y ∷ xs) (suc k) x d l = set_own xs k x d (omega arith)
+
+set_other : {A : Type 0} (xs : List A) (k j : ℕ) (x d : A) → (j ≡ k → ⊥) → get_or (set xs k x) j d ≡ get_or xs j d
+set_other [] k j x d apart = refl
+set_other (y ∷ xs) zero zero x d apart = absurd (apart refl)
+set_other (y ∷ xs) zero (suc j) x d apart = refl
+set_other (y ∷ xs) (suc k) zero x d apart = refl
+set_other (y ∷ xs) (suc k) (suc j) x d apart = set_other xs k j x d (λ e. apart (ap suc e))
+
+set_behind : {A : Type 0} (front back : List A) (x : A) → front ++ set back 0 x ≡ set (front ++ back) (length front) x
+set_behind [] back x = refl
+set_behind (y ∷ front) back x = ap (λ zs. y ∷ zs) (set_behind front back x)
+
+take_at : {A : Type 0} (xs : List A) (k j : ℕ) (d : A) → j < k → get_or (take k xs) j d ≡ get_or xs j d
+take_at xs zero j d l = absurd (omega arith)
+take_at [] (suc k) j d l = refl
+take_at (y ∷ xs) (suc k) zero d l = refl
+take_at (y ∷ xs) (suc k) (suc j) d l = take_at xs k j d (omega arith)
+
+map_at : {A B : Type 0} (f : A → B) (xs : List A) (n : ℕ) (d : A) (e : B) → n < length (map f xs) → get_or (map f xs) n e ≡ f (get_or xs n d)
+map_at f [] n d e l = absurd (omega arith)
+map_at f (x ∷ xs) zero d e l = refl
+map_at f (x ∷ xs) (suc n) d e l = map_at f xs n d e (omega arith)
+
+pub step_at : (xs : List steps.Step) (ss : List Step) (n : ℕ) (d : steps.Step) (e : Step) → ss ≡ map as_step xs → n < length ss → get_or ss n e ≡ as_step (get_or xs n d)
+step_at xs ss n d e same l = ap (λ (zs : List Step). get_or zs n e) same ∙ map_at as_step xs n d e (omega (arith, l, ap length same))
+
+pub core_at : (xs : List formulas.Core) (n : ℕ) (d : formulas.Core) → n < length (map as_core xs) → as_core (get_or xs n d) ≡ get_or (map as_core xs) n core.True
+core_at xs n d l = sym (map_at as_core xs n d core.True l)
+
+get_same : {A : Type 0} (xs : List A) (k : ℕ) (d e : A) → k < length xs → get_or xs k d ≡ get_or xs k e
+get_same [] k d e l = absurd (omega arith)
+get_same (x ∷ xs) zero d e l = refl
+get_same (x ∷ xs) (suc k) d e l = get_same xs k d e (omega arith)
+
+pub element_at : {A : Type 0} (xs : List A) (k : ℕ) (e : A) → k < length xs → IsElement xs k (get_or xs k e)
+element_at xs k e l = (l, λ d. get_same xs k d e l)
+
+behind_at : {A : Type 0} (front back : List A) (d e : A) → 0 < length back → get_or (front ++ back) (length front) d ≡ get_or back 0 e
+behind_at [] [] d e l = absurd (omega arith)
+behind_at [] (x ∷ back) d e l = refl
+behind_at (y ∷ front) back d e l = behind_at front back d e l
+
+pub first_behind : {A : Type 0} (xs front back : List A) (k : ℕ) (e : A) → xs ≡ front ++ back → length front ≡ k → 0 < length back → k < length xs → IsElement xs k (get_or back 0 e)
+first_behind {A = A} xs front back k e whole count some low = (
+  low,
+  λ d.
+      ap (λ (zs : List A). get_or zs k d) whole ∙ (ap (λ i. get_or (front ++ back) i d) (sym count) ∙ behind_at front back d e some),
+)
+
+pub set_first_behind : {A : Type 0} (xs front back : List A) (k : ℕ) (x : A) → xs ≡ front ++ back → length front ≡ k → front ++ set back 0 x ≡ set xs k x
+set_first_behind xs front back k x whole count = set_behind front back x ∙ (ap (λ i. set (front ++ back) i x) count ∙ ap (λ zs. set zs k x) (sym whole))
+
+made_again : {A : Type 0} (P : ℕ → A → Type 0) (n : ℕ) (xs : List A) (k : ℕ) (x : A) → AreMade P n xs → P k x → AreMade P n (set xs k x)
+made_again P n xs k x h one = record {
+  count = length-set xs k x ∙ h.count;
+  each = λ j d l. ⊎_elim
+      (λ (e : j ≡ k). subst (P j) (sym (ap (λ i. get_or (set xs k x) i d) e ∙ set_own xs k x d (omega (arith, e, l, h.count)))) (subst (λ (i : ℕ). P i x) (sym e) one))
+      (λ apart. subst (P j) (sym (set_other xs k j x d apart)) (h.each j d l))
+      (cases_eq j k);
+}
+
+element_kept : {A : Type 0} (xs : List A) (k j : ℕ) (x y : A) → (j ≡ k → ⊥) → IsElement xs j y → IsElement (set xs k x) j y
+element_kept xs k j x y apart h = (omega (arith, length-set xs k x, h.0), λ d. set_other xs k j x d apart ∙ h.1 d)
+
+-- the part that a step names
+pub named : (s : steps.Step) (k : ℕ) → ((xs : Vec ℕ Global) × (s ≡ variants.Part k xs)) ⊎ (((xs : Vec Count Global) × (s ≡ variants.Counts k xs)) ⊎ ((b : Bool) × (s ≡ variants.Value k b)))
+    → (part_in (as_step s) ≡ k) × IsNoClosure (due_of (as_step s))
+named s k h =
+    ⊎_elim
+    (λ a. subst (λ (t : steps.Step). (part_in (as_step t) ≡ k) × IsNoClosure (due_of (as_step t))) (sym a.1) (refl, tt))
+    (λ b. ⊎_elim
+    (λ a. subst (λ (t : steps.Step). (part_in (as_step t) ≡ k) × IsNoClosure (due_of (as_step t))) (sym a.1) (refl, tt))
+    (λ a. subst (λ (t : steps.Step). (part_in (as_step t) ≡ k) × IsNoClosure (due_of (as_step t))) (sym a.1) (refl, tt))
+    b)
+    h
+
+own_key : (n : ℕ) (s : Step) → IsNoClosure (due_of s) → key n (due_of s) ≤ 2 * (n + part_in s) + 3
+own_key n (Closure w i xs) plain = absurd plain
+own_key n (Part k targets) plain = omega arith
+own_key n (Counts k marks) plain = omega arith
+own_key n (Value k value) plain = omega arith
+
+module _ (system : PatternSystem) (root : Core) (parts : List Core) (c : Certificate) (plans : List Plan) (closures : List (Option ClosurePlan)) (rooms : List PartRoom) (marks : List MarkRoom) (n : ℕ) (made : Made)
+    (h : IsLoopAt system root parts c plans closures rooms marks n made) (due : IsStepDue system parts c n) (s : Step) (is : get_or c.steps n s ≡ s) where
+  due_is : get_or (dues (length system.rules) parts) n (due_of s) ≡ due_of s
+  due_is = sym (due.about s (due_of s)) ∙ ap due_of is
+
+  up : IsUpTo system parts c (take n c.steps) (due_of s ∷ drop (n + 1) (dues (length system.rules) parts)) (s ∷ drop (n + 1) c.steps) made
+  up = at_step system parts c n made h.place (due_of s) due.due_low due_is s due.low is
+
+  alone : IsOnlyAbout c.steps s
+  alone = only_due system parts c (take n c.steps) (drop (n + 1) c.steps) s (due_of s) (drop (n + 1) (dues (length system.rules) parts)) made up refl
+
+  there : Contains c.steps s
+  there = subst (Contains c.steps) is (Contains-get_or c.steps n s due.low)
+
+  before : (t : Step) → Contains (take n c.steps) t → key (length system.rules) (due_of t) < key (length system.rules) (due_of s)
+  before = later_key system parts c (take n c.steps) (drop (n + 1) c.steps) s (due_of s) (drop (n + 1) (dues (length system.rules) parts)) made up refl
+
+  place_next : (next : Made) → IsFine system parts made s next → IsAtPlace system parts c (n + 1) next
+  place_next next fine = at_next system parts c n made h.place (due_of s) due.due_low due_is s due.low is root h.ready.are refl next fine
+
+  -- the rooms hold on
+  held_next : (others : List PartRoom) (next : Made) → IsFine system parts made s next
+      → ((j : ℕ) (r : PartRoom) → key (length system.rules) (OfPart j) < key (length system.rules) (due_of s) → IsElement rooms j r → IsElement others j r)
+      → ((j : ℕ) (targets : List ℕ) → s ≡ Part j targets → IsRoomHeld system parts others next j targets) → AreHeld system parts others (take (n + 1) c.steps) next
+  held_next others next fine old own = λ j targets m.
+      let more : take (n + 1) c.steps ≡ take n c.steps ++ s ∷ [] = take_more c.steps n s due.low ∙ ap (λ x. take n c.steps ++ x ∷ []) is in
+      ⊎_elim
+      (λ a.
+      let l = before (Part j targets) a in
+      let r = h.held j targets a in
+      record {
+        room = r.room;
+        table = r.table;
+        room_at = old j r.room l r.room_at;
+        held = r.held;
+        made_is = answer_kept (length system.rules) system root parts h.ready.are j s made next l fine ∙ r.made_is;
+      })
+      (λ e. own j targets e)
+      (Contains-push_cases (take n c.steps) s (Part j targets) (subst (λ (xs : List Step). Contains xs (Part j targets)) more m))
+
+  -- ---- of a part
+
+  module _ (k : ℕ) (named_is : part_in s ≡ k) (plain : IsNoClosure (due_of s)) where
+    pub within : k < length parts
+    within =
+        let l = own_within system root parts c plans rooms (take n c.steps) (drop (n + 1) c.steps) s (due_of s) (drop (n + 1) (dues (length system.rules) parts)) made up h.ready.are h.ready.decided h.place.tells h.held
+        h.ready.plans_made h.ready.few s refl plain in
+        omega (arith, l, named_is)
+
+    pub plan_low : k < length plans
+    plan_low = omega (arith, within, h.ready.plans_made.count)
+
+    pub room_low : k < length rooms
+    room_low = omega (arith, within, h.ready.rooms_made.count)
+
+    pub mark_low : k < length marks
+    mark_low = omega (arith, within, h.ready.marks_made.count)
+
+    module _ (p : Plan) (room : PartRoom) (mark : MarkRoom) (plan_at : IsElement plans k p) (room_at : IsElement rooms k room) (mark_at : IsElement marks k mark) where
+      own_room : IsRoomFor c.steps k p room
+      own_room = subst (IsRoomFor c.steps k p) (room_at.1 room) (subst (λ (q : Plan). IsRoomFor c.steps k q (get_or rooms k room)) (plan_at.1 p) (h.ready.rooms_made.each k room within p))
+
+      own_mark : IsMarkRoomFor c.steps p.work mark
+      own_mark = subst (IsMarkRoomFor c.steps p.work) (mark_at.1 mark) (subst (λ (q : Plan). IsMarkRoomFor c.steps q.work (get_or marks k mark)) (plan_at.1 p) (h.ready.marks_made.each k mark within p))
+
+      pub behind : (front : List PartRoom) (f : Core) → front ≡ take k rooms → f ≡ get_or parts k core.True → IsDueBehind system parts c.steps plans front made f p s room mark
+      behind front f front_is f_is = λ past past_is.
+          let low : (j : ℕ) (r : PartRoom) → j < part_in s → IsElement rooms j r → IsElement past.rooms.now j r =
+          λ j r l e. subst (λ (rs : List PartRoom). IsElement rs j r) (sym (past_is.rooms_are ∙ front_is))
+          (omega (arith, l, named_is, length-take-le k rooms (omega (arith, room_low))), λ d. take_at rooms k j d (omega (arith, l, named_is)) ∙ e.1 d) in
+          subst (λ (g : Core). IsOwnDue system parts past made g p s room mark) (ap (λ (i : ℕ). get_or parts i core.True) named_is ∙ sym f_is)
+          (own_due system root parts c plans rooms (take n c.steps) (drop (n + 1) c.steps) s (due_of s) (drop (n + 1) (dues (length system.rules) parts)) made up h.ready.are h.ready.decided h.place.tells h.held
+          h.ready.plans_made h.ready.few past past_is.signature past_is.steps past_is.plans_are p room mark own_mark s refl plain there alone low
+          (subst (λ (i : ℕ). IsElement plans i p) (sym named_is) plan_at) (subst (λ (i : ℕ). IsRoomFor c.steps i p room) (sym named_is) own_room))
+
+      -- behind the step
+      module _ (new_room : PartRoom) (new_mark : MarkRoom) (keeps_room : (ss : List Step) (q : Plan) → IsOnlyAbout ss s → IsRoomFor ss (part_in s) q room → IsRoomFor ss (part_in s) q new_room)
+          (keeps_mark : IsMarkRoomFor c.steps p.work new_mark) where
+        pub part_ready : IsReady system root parts c.steps plans closures (set rooms k new_room) (set marks k new_mark)
+        part_ready =
+            let kept : IsRoomFor c.steps k p new_room =
+            subst (λ (i : ℕ). IsRoomFor c.steps i p new_room) named_is (keeps_room c.steps p alone (subst (λ (i : ℕ). IsRoomFor c.steps i p room) (sym named_is) own_room)) in
+            record {
+              are = h.ready.are;
+              decided = h.ready.decided;
+              few = h.ready.few;
+              plans_made = h.ready.plans_made;
+              rooms_made = made_again (λ j r. (d : Plan) → IsRoomFor c.steps j (get_or plans j d) r) (length parts) rooms k new_room h.ready.rooms_made
+                  (λ d. subst (λ (q : Plan). IsRoomFor c.steps k q new_room) (sym (plan_at.1 d)) kept);
+              marks_made = made_again (λ j r. (d : Plan) → IsMarkRoomFor c.steps (get_or plans j d).work r) (length parts) marks k new_mark h.ready.marks_made
+                  (λ d. subst (λ (q : Plan). IsMarkRoomFor c.steps q.work new_mark) (sym (plan_at.1 d)) keeps_mark);
+              closures_made = h.ready.closures_made;
+            }
+
+        pub part_next : IsFineStep system parts made s new_room → (next : Made) × IsLoopAt system root parts c plans closures (set rooms k new_room) (set marks k new_mark) (n + 1) next
+        part_next fine = (
+          fine.next,
+          record {
+            ready = part_ready;
+            place = place_next fine.next fine.fine;
+            held = held_next (set rooms k new_room) fine.next fine.fine
+                (λ j r l e. element_kept rooms k j new_room r (λ same. let top = own_key (length system.rules) s plain in omega (arith, l, top, same, named_is)) e)
+                (λ j targets e.
+                let w = subst (λ (t : Step). IsHeldAfter system parts fine.next t new_room) e fine.after in
+                let j_is : k ≡ j = sym named_is ∙ ap part_in e in
+                record {
+                  room = new_room;
+                  table = w.0;
+                  room_at = subst (λ (i : ℕ). IsElement (set rooms k new_room) i new_room) j_is (omega (arith, length-set rooms k new_room, room_low), λ d. set_own rooms k new_room d room_low);
+                  held = w.1;
+                  made_is = w.2;
+                });
+          },
+        )
+
+  -- ---- of a closure
+
+  module _ (which : Which) (index : ℕ) (items : List Item) (e : s ≡ Closure which index items) (old : Option ClosurePlan) (old_at : get_or closures n old ≡ old) where
+    pub closure_low : n < length closures
+    closure_low = omega (arith, due.due_low, h.ready.closures_made.count)
+
+    at_own : get_or (dues (length system.rules) parts) n (OfPart 0) ≡ OfClosure which index
+    at_own = sym (due.about s (OfPart 0)) ∙ (ap due_of is ∙ ap due_of e)
+
+    pub closure_for : IsClosureFor system (OfClosure which index) old
+    closure_for = subst (λ (d : DueStep). IsClosureFor system d old) at_own
+        (subst (IsClosureFor system (get_or (dues (length system.rules) parts) n (OfPart 0))) old_at (h.ready.closures_made.each n old due.due_low))
+
+    module _ (new : Option ClosurePlan) (keeps : (d : DueStep) → IsClosureFor system d old → IsClosureFor system d new) where
+      pub closure_ready : IsReady system root parts c.steps plans (set closures n new) rooms marks
+      closure_ready = record {
+        are = h.ready.are;
+        decided = h.ready.decided;
+        few = h.ready.few;
+        plans_made = h.ready.plans_made;
+        rooms_made = h.ready.rooms_made;
+        marks_made = h.ready.marks_made;
+        closures_made = made_again (λ j q. IsClosureFor system (get_or (dues (length system.rules) parts) j (OfPart 0)) q) (length (dues (length system.rules) parts)) closures n new h.ready.closures_made
+            (subst (λ (d : DueStep). IsClosureFor system d new) (sym at_own) (keeps (OfClosure which index) closure_for));
+      }
+
+      pub closure_next : (next : Made) → IsFine system parts made s next → IsLoopAt system root parts c plans (set closures n new) rooms marks (n + 1) next
+      closure_next next fine = record {
+        ready = closure_ready;
+        place = place_next next fine;
+        held = held_next rooms next fine (λ j r l x. x) (λ j targets f. let z : Part j targets ≡ Closure which index items = sym f ∙ e in absurd cc);
+      }
+
+      pub closure_done : (o : StepOutcome) → IsClosureJudged system which index items o → o ≡ Fine → (next : Made) × IsLoopAt system root parts c plans (set closures n new) rooms marks (n + 1) next
+      closure_done o judged fine =
+          let next = with_closure made which index items in
+          (next, closure_next next (subst (λ (x : Step). IsFine system parts made x next) (sym e) (FineClosure (subst (IsClosureJudged system which index items) fine judged))))
+
+    pub closure_fails : (o : StepOutcome) → IsClosureJudged system which index items o → (at : ℕ) (reason : Reason) → o ≡ Fails at reason → IsFailing system parts made s at reason
+    closure_fails o judged at reason fails = subst (λ (x : Step). IsFailing system parts made x at reason) (sym e) (FailingClosure (subst (IsClosureJudged system which index items) fails judged))
+
+pub when_fine : {U : Type 0} {P : Type 0} (result : Result U Failure) → (outcome_of result ≡ Fine → P) → OnOk result P
+when_fine (Ok u) by = by refl
+when_fine (Err e) by = tt
+
+pub when_failing : {U : Type 0} {P : Failure → Type 0} (result : Result U Failure) → ((e : Failure) → outcome_of result ≡ Fails e.place (as_reason e.reason) → P e) → IfErr result P
+when_failing (Ok u) by = tt
+when_failing (Err e) by = by e refl

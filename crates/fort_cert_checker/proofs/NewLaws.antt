@@ -1,0 +1,40 @@
+-- The closures that are due are of the system's indices.
+use Rattle.std.proofs.Common.{◌≡◌, ℕ, zero, suc, ◌+◌, ◌<◌, ◌≤◌, Bool, true, false, List, [], ◌∷◌, ◌++◌, length, sym, arith, ⊎_elim}
+use Rattle.std.specs.Prelude.{if◌then◌else◌, Contains}
+use Rattle.std.specs.List.{list_any}
+use Rattle.std.proofs.lemmas.List.Elements.{Contains-append_cases}
+use Rattle.fort_theory.specs.Sides.{IsIndexOf}
+use Rattle.fort_theory.proofs.Members.{Contains-none, Contains-cons_cases}
+use Rattle.fort_logic.specs.Cores.{Core}
+use Rattle.fort_certificate_grammar.specs.Certificates.{Which, Star, Conv}
+use Rattle.fort_in_order.specs.Dues.{OfClosure, asks, closure_due, closures_due, parts_due, dues}
+use Rattle.fort_cert_checker.proofs.DueKeys.{parts_for}
+
+abbrev IsAmong : (i n j : ℕ) → Type 0
+IsAmong i n j = (i ≤ j) × (j < i + n)
+
+module _ (parts : List Core) (which : Which) (j : ℕ) where
+  of_closure : (i : ℕ) (w : Which) → Contains (closure_due parts i w) (OfClosure which j) → j ≡ i
+  of_closure i w c = by (list_any (asks w i) parts) c
+    where
+      by : (b : Bool) → Contains (if b then (OfClosure w i ∷ []) else []) (OfClosure which j) → j ≡ i
+      by true k = ⊎_elim (λ e. let same : i ≡ j = cc in sym same) (λ m. absurd (Contains-none (OfClosure which j) m)) (Contains-cons_cases (OfClosure w i) [] (OfClosure which j) k)
+      by false k = absurd (Contains-none (OfClosure which j) k)
+
+  among : (n i : ℕ) → Contains (closures_due parts n i) (OfClosure which j) → IsAmong i n j
+  among zero i c = absurd (Contains-none (OfClosure which j) c)
+  among (suc n) i c =
+      ⊎_elim
+      (λ a. let e = of_closure i Star a in (omega (arith, e), omega (arith, e)))
+      (λ b. ⊎_elim
+      (λ a. let e = of_closure i Conv a in (omega (arith, e), omega (arith, e)))
+      (λ later. let h = among n (suc i) later in (omega (arith, h.0), omega (arith, h.1)))
+      (Contains-append_cases (closure_due parts i Conv) (closures_due parts n (suc i)) (OfClosure which j) b))
+      (Contains-append_cases (closure_due parts i Star) (closure_due parts i Conv ++ closures_due parts n (suc i)) (OfClosure which j) c)
+
+pub index_due : {A : Type 0} (rules : List (List A)) (parts : List Core) (which : Which) (j : ℕ) → Contains (dues (length rules) parts) (OfClosure which j) → IsIndexOf rules j
+index_due rules parts which j c =
+    ⊎_elim
+    (λ a. let h = among parts which j (length rules) 1 a in record { low = h.0; high = omega (arith, h.1) })
+    (λ b. absurd (parts_for 0 parts (OfClosure which j) b))
+    (Contains-append_cases (closures_due parts (length rules) 1) (parts_due 0 parts) (OfClosure which j) c)

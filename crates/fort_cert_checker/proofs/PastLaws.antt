@@ -1,0 +1,57 @@
+-- The table of an earlier part, as its room holds it.
+use Rattle.std.specs.Prelude.{◌≡◌, ℕ, zero, suc, ◌^◌, ◌<◌, List, length, get_or, vec_len, Bool, refl}
+use Rattle.std.proofs.Common.{sym, ap, ◌∙◌, subst, arith}
+use Rattle.fort_tables.specs.Tables.{Table, Listed, listed_table}
+use Rattle.fort_tables.specs.LabelRules.{LabelRule}
+use Rattle.fort_operations.specs.OperationTruth.{complemented}
+use Rattle.fort_check_steps.specs.declared.room.PartRoom.{PartRoom}
+use Rattle.fort_check_steps.specs.Held.{HoldsPart, held_table}
+use Rattle.fort_check_steps.specs.Turned.{TurnedTable, turned_table}
+use Rattle.fort_cert_checker.specs.declared.plan.Source.{Source}
+use Rattle.fort_cert_checker.specs.declared.plan.Plan.{Plan}
+use Rattle.fort_cert_checker.specs.declared.past.Past.{Past}
+use Rattle.fort_cert_checker.specs.Sources.{turned}
+use Rattle.fort_cert_checker.specs.Pasts.{IsTableAt}
+
+turned_of : (n : ℕ) (l : Listed) → turned_table (record { table = l; turns = n }) ≡ turned n (listed_table l)
+turned_of zero l = refl
+turned_of (suc n) l = ap complemented (turned_of n l)
+
+pub turned_is : (t : TurnedTable) (l : Listed) (n : ℕ) (own table : Table) → t.table ≡ l → t.turns ≡ n → listed_table l ≡ own → table ≡ turned n own → turned_table t ≡ table
+turned_is t l n own table a b e h =
+    let same : t ≡ record { table = l; turns = n } = λ i. record { table = a i; turns = b i } in
+    ap turned_table same ∙ (turned_of n l ∙ (ap (turned n) e ∙ sym h))
+
+module _ (past : Past) (s : Source) (table : Table) (h : IsTableAt past s table) (p : Plan) (room : PartRoom) (targets : List ℕ) (columns : ℕ) (plan_is : p ≡ get_or past.plans.now s.part p)
+    (room_is : room ≡ get_or past.rooms.now s.part room) (count : columns ≡ vec_len (get_or past.plans.now s.part p).columns) (targets_are : targets ≡ h.targets) where
+  pub targets_few : length targets < 2 ^ 32
+  targets_few = omega (arith, h.few, ap length targets_are)
+
+  plan_same : p ≡ h.plan
+  plan_same = plan_is ∙ h.plan_at.1 p
+
+  room_same : room ≡ h.room
+  room_same = room_is ∙ h.room_at.1 room
+
+  columns_same : columns ≡ length h.plan.columns.items
+  columns_same = let e : vec_len p.columns ≡ length p.columns.items = omega (arith, p.columns.ok.0) in count ∙ (ap (λ (q : Plan). vec_len q.columns) (sym plan_is) ∙ (e ∙ ap (λ (q : Plan). length q.columns.items) plan_same))
+
+  own_columns : h.held.rule.columns ≡ columns
+  own_columns = h.held.columns_are ∙ sym columns_same
+
+  own_holds : HoldsPart h.held.rule h.held.accepting targets room
+  own_holds =
+      subst (λ (r : PartRoom). HoldsPart h.held.rule h.held.accepting targets r) (sym room_same)
+      (subst (λ (qs : List ℕ). HoldsPart h.held.rule h.held.accepting qs h.room) (sym targets_are) h.held.holds)
+
+  pub table_holds : (r : LabelRule) × (accepting : (List ℕ → Bool)) × (r.signature ≡ past.signature.now) × (r.columns ≡ columns) × HoldsPart r accepting targets room
+  table_holds = (h.held.rule, h.held.accepting, h.held.signature, own_columns, own_holds)
+
+  pub table_made : (t : TurnedTable)
+      → ((r : LabelRule) (accepting : (List ℕ → Bool)) → r.signature ≡ past.signature.now → r.columns ≡ columns → HoldsPart r accepting targets room → t.table ≡ held_table r accepting targets room)
+      → t.turns ≡ s.turns → turned_table t ≡ table
+  table_made t made turns =
+      let own = made h.held.rule h.held.accepting h.held.signature own_columns own_holds in
+      let there : listed_table (held_table h.held.rule h.held.accepting targets room) ≡ h.own =
+      (λ i. listed_table (held_table h.held.rule h.held.accepting (targets_are i) (room_same i))) ∙ h.held.is in
+      turned_is t (held_table h.held.rule h.held.accepting targets room) s.turns h.own table own turns there h.is

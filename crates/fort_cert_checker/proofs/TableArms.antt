@@ -1,0 +1,369 @@
+-- The targets of a part, work by work: what its check needs, and that its rule is the one that the part is to have.
+use Rattle.std.specs.Prelude.{◌≡◌, ℕ, zero, suc, ◌++◌, false, ◌+◌, ◌*◌, ◌^◌, ◌<◌, List, [], ◌∷◌, map, length, get_or, vec_len, nat_lt, ◌-◌, Bool, true, Result, refl}
+use Rattle.std.proofs.Common.{sym, ap, ◌∙◌, subst, arith, true≢false, Vec, Global}
+use Rattle.std.proofs.lemmas.Bool.{lt-ltb}
+use Rattle.std.proofs.lemmas.List.{length-map}
+use Rattle.fort_theory.specs.Signatures.{Signature}
+use Rattle.fort_theory.specs.Sides.{IsIndexOf}
+use Rattle.fort_theory.specs.Patterns.{PatternSystem}
+use Rattle.fort_logic.specs.Cores as core
+use Rattle.fort_logic.specs.Cores.{Core}
+use Rattle.fort_logic.specs.Parts.{is_free, BindsFree}
+use Rattle.fort_tables.specs.BitRows.{words_for}
+use Rattle.fort_tables.specs.Tables.{Table}
+use Rattle.fort_operations.specs.Projections.{ArePure, ArePureBelow, is_pure}
+use Rattle.fort_counts.specs.Counts as counts
+use Rattle.fort_counts.specs.Counts.{KeepRules, count_at}
+use Rattle.fort_context_closure.specs.LocalAtoms.{mark_count}
+use Rattle.fort_parts.specs.PartColumns.{columns_of, place_in}
+use Rattle.fort_parts.specs.PartAnswers.{Answer}
+use Rattle.fort_parts.specs.DecidedCores.{IsOverSystem, IsOperandOf}
+use Rattle.fort_parts.specs.RightAnswers.{joined}
+use Rattle.fort_parts.proofs.PartColumnLaws.{columns_of-Nf, columns_of-Is}
+use Rattle.fort_certificate_grammar.specs.Certificates.{Step, Part, Counts}
+use Rattle.fort_in_order.specs.ClosureSteps.{numbers_of}
+use Rattle.fort_in_order.specs.Dues.{has_columns, is_turned}
+use Rattle.fort_in_order.specs.Made.{Made}
+use Rattle.fort_in_order.specs.PartRules.{closure_for, IsLocalOf, term_local, project_local, many_local, is_many, IsCounted}
+use Rattle.fort_in_order_laws.proofs.RightParts.{some_columns}
+use Rattle.fort_in_order_laws.proofs.JoinedTables.{bound_within, bound_many}
+use Rattle.fort_terms.specs.declared.pattern.Pattern.{Pattern}
+use Rattle.fort_terms.specs.PatternView.{as_pattern}
+use Rattle.fort_formulas.specs.CoreView.{as_rel}
+use Rattle.fort_rrn_algebra.specs.declared.operand.Op.{Op}
+use Rattle.fort_rrn_algebra.specs.Operands.{connective_of}
+use Rattle.fort_infinity.specs.declared.count.Count.{Count}
+use Rattle.fort_infinity.specs.CountView.{as_count as as_mark}
+use Rattle.fort_check_steps.specs.declared.failure.Failure.{Failure}
+use Rattle.fort_check_steps.specs.declared.room.PartRoom.{PartRoom}
+use Rattle.fort_check_steps.specs.declared.marks.MarkRoom.{MarkRoom}
+use Rattle.fort_check_steps.specs.Room.{HasRoom, most_states}
+use Rattle.fort_check_steps.proofs.PureStates.{pure_push, pure_left}
+use Rattle.fort_check_steps.specs.Marks.{HasMarkRoom}
+use Rattle.fort_cert_checker.specs.declared.plan.Source.{Source}
+use Rattle.fort_cert_checker.specs.declared.plan.Operand.{Operand}
+use Rattle.fort_cert_checker.specs.declared.plan.RelationLists.{RelationLists}
+use Rattle.fort_cert_checker.specs.declared.plan.Work.{Work}
+use Rattle.fort_cert_checker.specs.declared.plan.Work.TheVariants.{Truth, Negation, Relation, Normal, Term, Product, Projection, Many}
+use Rattle.fort_cert_checker.specs.declared.plan.Plan.{Plan}
+use Rattle.fort_cert_checker.specs.declared.past.Past.{Past}
+use Rattle.fort_cert_checker.specs.Abouts.{IsOnlyAbout}
+use Rattle.fort_cert_checker.specs.Sources.{IsSourceOf}
+use Rattle.fort_cert_checker.specs.AtomPlans as own
+use Rattle.fort_cert_checker.specs.Joins.{joined_local, AreJoined}
+use Rattle.fort_cert_checker.specs.Plans.{IsClosureRead, IsRelationPlan, IsNormalPlan, IsTermPlan, IsNegationPlan, IsProductPlan, IsProjectionPlan, IsManyPlan, IsWorkOf, IsWidthFor}
+use Rattle.fort_cert_checker.specs.Pasts.{steps_of, IsTableAt, IsAnswerAt, IsPartStep, IsClosureKnown, IsMarkRoomFor, AreCountsKnown, IsTableDue, IsTableStep}
+use Rattle.fort_cert_checker.proofs.JoinFits.{operand_first, operand_second}
+use Rattle.fort_cert_checker.proofs.KnownAnswers.{IsKnown, IsKnownTable, known_answer, known_table}
+use Rattle.fort_cert_checker.proofs.LocalRules.{relation_local_is}
+use Rattle.fort_cert_checker.proofs.PartLocals.{joined_local_is, joined_fit, projected_local_is, many_local_is}
+
+has_some : (n : ℕ) → 0 < n → nat_lt 0 n ≡ true
+has_some n l = lt-ltb 0 n l
+
+-- the pure states below some number
+pub some_pure : (body : Table) (c n : ℕ) → (states : List ℕ) × ArePureBelow body c n states
+some_pure body c zero = ([], record { each = λ i l. absurd (omega arith); all = λ q l. absurd (omega arith); ascending = λ i j l m. absurd (omega arith) })
+some_pure body c (suc n) =
+    let w = some_pure body c n in
+    let one : n + 1 ≡ suc n = omega arith in
+    subst (λ (m : ℕ). (states : List ℕ) × ArePureBelow body c m states) one (by (is_pure body c n) refl w)
+  where
+    by : (b : Bool) → is_pure body c n ≡ b → ((states : List ℕ) × ArePureBelow body c n states) → (states : List ℕ) × ArePureBelow body c (n + 1) states
+    by true e w = (w.0 ++ n ∷ [], pure_push body c n w.0 w.1 e)
+    by false e w = (w.0, pure_left body c n w.0 w.1 e)
+
+closure_is : (ss : List Step) (made : Made) (rel : core.Rel) (index : ℕ) (pairs : List (ℕ × ℕ)) → IsClosureRead ss rel index pairs → IsClosureKnown ss made rel index → pairs ≡ numbers_of (closure_for made rel index)
+closure_is ss made core.Eq index pairs r k = r
+closure_is ss made core.Root index pairs r k = r
+closure_is ss made core.Below index pairs r k = r
+closure_is ss made core.Step index pairs r k = r
+closure_is ss made core.Par index pairs r k = r
+closure_is ss made core.Plus index pairs r k = r k.0 k.1 ∙ ap numbers_of (sym k.2)
+closure_is ss made core.Star index pairs r k = r k.0 k.1 ∙ ap numbers_of (sym k.2)
+closure_is ss made core.Conv index pairs r k = r k.0 k.1 ∙ ap numbers_of (sym k.2)
+
+module _ (system : PatternSystem) (parts : List Core) (past : Past) (k : ℕ) (made : Made) (f : Core) (p : Plan) (targets : List ℕ) (room : PartRoom) (marks : MarkRoom)
+    (due : IsTableDue system parts past k made f p targets room marks) where
+  abbrev ss : List Step
+  ss = steps_of past
+
+  sized_for : (w : ℕ) → room.rows.width ≡ w → HasRoom w targets room
+  sized_for w e = subst (λ (n : ℕ). HasRoom n targets room) e due.sized
+
+  at_work : (w : Work) → p.work ≡ w → IsWorkOf system parts (steps_of past) k f w
+  at_work w e = subst (IsWorkOf system parts (steps_of past) k f) e due.due.plan.work
+
+  width_for : (w : Work) → p.work ≡ w → IsWidthFor (steps_of past) w room.rows.width
+  width_for w e = subst (λ (v : Work). IsWidthFor (steps_of past) v room.rows.width) e due.width
+
+  marks_for : (w : Work) → p.work ≡ w → IsMarkRoomFor (steps_of past) w marks
+  marks_for w e = subst (λ (v : Work). IsMarkRoomFor (steps_of past) v marks) e due.marks_sized
+
+  operand_is : (g h : Core) → f ≡ h → IsOperandOf g h → IsOperandOf g (get_or parts k core.True)
+  operand_is g h e o = subst (IsOperandOf g) (sym (due.due.part ∙ e)) o
+
+  module _ (r : RelationLists) (is : p.work ≡ Relation r) where
+    relation_plan : IsRelationPlan system (steps_of past) f r
+    relation_plan = at_work (Relation r) is
+
+    pub relation_index : IsIndexOf system.rules r.index
+    relation_index = subst (IsOverSystem system) relation_plan.whole due.due.fit.over
+
+    pub relation_left : length r.left.items < 2 ^ 32
+    relation_left = relation_plan.left_few
+
+    pub relation_right : length r.right.items < 2 ^ 32
+    relation_right = relation_plan.right_few
+
+    pub relation_room : HasRoom (suc (words_for (mark_count (as_rel r.rel) (length r.left.items) (length r.right.items)))) targets room
+    relation_room = sized_for _ (width_for (Relation r) is)
+
+    pub relation_step : {U : Type 0} (new : PartRoom) (result : Result U Failure) → IsPartStep (own.related_local system r) targets new result → IsTableStep system parts k made f targets new result
+    relation_step new result step =
+        let h = relation_plan in
+        let rel = as_rel r.rel in
+        let pairs = closure_is (steps_of past) made rel r.index r.closure.items h.closure (due.due.known.closures rel r.index r.x r.y (due.due.part ∙ h.whole)) in
+        let local = own.related_local system r in
+        record {
+          local = local;
+          local_is = subst (λ (g : Core). IsLocalOf system parts made k g local) (sym h.whole) (record {
+            lefts = map as_pattern r.left.items;
+            rights = map as_pattern r.right.items;
+            patterns = h.patterns;
+            is = relation_local_is system rel r.index r.x r.y (map as_pattern r.left.items) (map as_pattern r.right.items) r.closure.items (closure_for made rel r.index) h.patterns pairs;
+          });
+          signature = refl;
+          columns_are = ap (λ (g : Core). length (columns_of g)) (sym h.whole);
+          step = step;
+        }
+
+  pub normal_plan : (index : ℕ) (left : Vec Pattern Global) → p.work ≡ Normal index left → (xs : List Pattern) → xs ≡ left.items → IsNormalPlan system f index xs
+  normal_plan index left e xs same = subst (IsNormalPlan system f index) (sym same) (at_work (Normal index left) e)
+
+  pub normal_room : (index : ℕ) (left : Vec Pattern Global) → p.work ≡ Normal index left → (xs : List Pattern) → xs ≡ left.items → HasRoom (suc (words_for (length xs + 1))) targets room
+  normal_room index left e xs same =
+      subst (λ (ps : List Pattern). HasRoom (suc (words_for (length ps + 1))) targets room) (sym same) (sized_for _ (width_for (Normal index left) e))
+
+  pub term_plan : p.work ≡ Term → IsTermPlan f
+  term_plan e = at_work Term e
+
+  pub term_room : p.work ≡ Term → HasRoom 2 targets room
+  term_room e = sized_for 2 (width_for Term e)
+
+  pub product_plan : (op : Op) (first second : Operand) → p.work ≡ Product op first second → IsProductPlan parts f op first second
+  product_plan op first second e = at_work (Product op first second) e
+
+  pub product_room : (op : Op) (first second : Operand) → p.work ≡ Product op first second → HasRoom 3 targets room
+  product_room op first second e = sized_for 3 (width_for (Product op first second) e)
+
+  pub many_plan : (s : Source) (c : ℕ) (ns : Vec Count Global) → p.work ≡ Many s c ns → (xs : List Count) → xs ≡ ns.items → IsManyPlan parts (steps_of past) k f s c xs
+  many_plan s c ns e xs same = subst (IsManyPlan parts (steps_of past) k f s c) (sym same) (at_work (Many s c ns) e)
+
+  pub many_width : (s : Source) (c : ℕ) (ns : Vec Count Global) → p.work ≡ Many s c ns → (qs : List ℕ) → IsOnlyAbout (steps_of past) (Part s.part qs) → room.rows.width ≡ words_for (2 * most_states qs) + 2
+  many_width s c ns e = width_for (Many s c ns) e
+
+  pub many_sized : (s : Source) (c : ℕ) (ns : Vec Count Global) → p.work ≡ Many s c ns → (xs : List Count) → xs ≡ ns.items → (qs : List ℕ) → IsOnlyAbout (steps_of past) (Part s.part qs)
+      → HasMarkRoom (most_states qs) (length xs) marks
+  many_sized s c ns e xs same qs only = subst (λ (ms : List Count). HasMarkRoom (most_states qs) (length ms) marks) (sym same) (marks_for (Many s c ns) e qs only)
+
+  pub not_truth : p.work ≡ Truth → ⊥
+  not_truth e =
+      let whole : f ≡ core.True = at_work Truth e in
+      true≢false (sym due.columns ∙ ap has_columns whole)
+
+  pub not_negation : (s : Source) → p.work ≡ Negation s → ⊥
+  not_negation s e =
+      let h : IsNegationPlan parts f s = at_work (Negation s) e in
+      true≢false (sym due.columns ∙ (ap has_columns h.whole ∙ (sym (ap is_turned h.whole) ∙ due.plain)))
+
+  module _ (index : ℕ) (left : List Pattern) (plan : IsNormalPlan system f index left) where
+    pub normal_index : IsIndexOf system.rules index
+    normal_index = subst (IsOverSystem system) plan.whole due.due.fit.over
+
+    pub normal_step : {U : Type 0} (new : PartRoom) (result : Result U Failure) → IsPartStep (own.normal_local system index (map as_pattern left)) targets new result → IsTableStep system parts k made f targets new result
+    normal_step new result step =
+        let local = own.normal_local system index (map as_pattern left) in
+        record {
+          local = local;
+          local_is = subst (λ (g : Core). IsLocalOf system parts made k g local) (sym plan.whole) (record { lefts = map as_pattern left; patterns = plan.patterns; is = refl });
+          signature = refl;
+          columns_are = sym (ap (λ (g : Core). length (columns_of g)) plan.whole ∙ ap length (columns_of-Nf index plan.number));
+          step = step;
+        }
+
+  pub term_step : {U : Type 0} (plan : IsTermPlan f) (new : PartRoom) (result : Result U Failure) → IsPartStep (term_local system.signature plan.term) targets new result → IsTableStep system parts k made f targets new result
+  term_step plan new result step =
+      let local = term_local system.signature plan.term in
+      record {
+        local = local;
+        local_is = subst (λ (g : Core). IsLocalOf system parts made k g local) (sym plan.whole) refl;
+        signature = refl;
+        columns_are = sym (ap (λ (g : Core). length (columns_of g)) plan.whole ∙ ap length (columns_of-Is plan.number plan.term));
+        step = step;
+      }
+
+  module _ (op : Op) (first second : Operand) (plan : IsProductPlan parts f op first second) (columns : ℕ) (count : columns ≡ vec_len p.columns) where
+    pub one : IsKnown system parts past k made due.due.known plan.one first.source
+    one = known_answer system parts past k made due.due.known plan.one (operand_is plan.one (joined (connective_of op) plan.one plan.other) plan.whole (operand_first (connective_of op) plan.one plan.other)) first.source plan.one_is.source
+
+    pub other : IsKnown system parts past k made due.due.known plan.other second.source
+    other = known_answer system parts past k made due.due.known plan.other (operand_is plan.other (joined (connective_of op) plan.one plan.other) plan.whole (operand_second (connective_of op) plan.one plan.other)) second.source plan.other_is.source
+
+    count_is : columns ≡ length (columns_of f)
+    count_is = let e : vec_len p.columns ≡ length p.columns.items = omega (arith, p.columns.ok.0) in count ∙ (e ∙ ap length due.due.plan.columns)
+
+    pub product_joined : AreJoined past.signature.now columns one.answer first.places.items other.answer second.places.items
+    product_joined =
+        subst (λ (sig : Signature). AreJoined sig columns one.answer first.places.items other.answer second.places.items) (sym due.due.known.signature)
+        (joined_fit system.signature f (connective_of op) plan.one plan.other one.answer other.answer columns first.places.items second.places.items plan.whole (some_columns f due.columns) due.due.fit.few one.fits other.fits count_is
+        plan.one_is.places plan.other_is.places)
+
+    pub product_answers : (a b : Answer) × IsAnswerAt past first.source a × IsAnswerAt past second.source b × AreJoined past.signature.now columns a first.places.items b second.places.items
+    product_answers = (one.answer, other.answer, one.at, other.at, product_joined)
+
+    pub product_step : {U : Type 0} (new : PartRoom) (result : Result U Failure)
+        → ((a b : Answer) → IsAnswerAt past first.source a → IsAnswerAt past second.source b → IsPartStep (joined_local (connective_of op) columns a first.places.items b second.places.items) targets new result)
+        → IsTableStep system parts k made f targets new result
+    product_step new result step = record {
+      local = joined_local (connective_of op) columns one.answer first.places.items other.answer second.places.items;
+      local_is = joined_local_is system parts k made f (connective_of op) plan.one plan.other one.answer other.answer columns first.places.items second.places.items plan.whole one.is other.is count_is plan.one_is.places
+          plan.other_is.places;
+      signature = product_joined.signature ∙ due.due.known.signature;
+      columns_are = count_is;
+      step = step one.answer other.answer one.at other.at;
+    }
+
+  -- the table of a body in which a number is bound
+  module _ (n : ℕ) (g : Core) (operand : IsOperandOf g (get_or parts k core.True)) (s : Source) (source : IsSourceOf parts g s.part s.turns) (among : is_free n g ≡ true) (c : ℕ)
+      (column : c ≡ place_in (columns_of g) n) (bound : length (columns_of f) + 1 ≡ length (columns_of g)) where
+    low : c < length (columns_of g)
+    low = subst (λ (d : ℕ). d < length (columns_of g)) (sym column) (bound_within n g among)
+
+    pub body : IsKnownTable system parts past k made due.due.known g s
+    body = known_table system parts past k made due.due.known g operand s source (has_some (length (columns_of g)) (omega (arith, low)))
+
+    pub body_signature : body.table.signature ≡ past.signature.now
+    body_signature = body.over.signature ∙ sym due.due.known.signature
+
+    pub body_column : c < body.table.columns
+    body_column = omega (arith, low, body.over.columns_are)
+
+    pub body_another : 1 < body.table.columns
+    body_another = omega (arith, bound, body.over.columns_are, some_columns f due.columns)
+
+    pub body_columns : body.table.columns - 1 ≡ length (columns_of f)
+    body_columns = omega (arith, bound, body.over.columns_are)
+
+    pub body_only : IsOnlyAbout (steps_of past) (Part s.part body.targets)
+    body_only = subst (λ (qs : List ℕ). IsOnlyAbout (steps_of past) (Part s.part qs)) body.targets_are body.at.only
+
+  module _ (s : Source) (c : ℕ) (is : p.work ≡ Projection s c) where
+    pub projection_plan : IsProjectionPlan parts f s c
+    projection_plan = at_work (Projection s c) is
+
+    projection_free : is_free projection_plan.number projection_plan.body ≡ true
+    projection_free = (subst BindsFree projection_plan.whole due.due.fit.binders).0
+
+    projection_bound : length (columns_of f) + 1 ≡ length (columns_of projection_plan.body)
+    projection_bound = ap (λ (h : Core). length (columns_of h) + 1) projection_plan.whole ∙ bound_many projection_plan.number projection_plan.body projection_free
+
+    projection_operand : IsOperandOf projection_plan.body (get_or parts k core.True)
+    projection_operand = operand_is projection_plan.body (core.Exists projection_plan.number projection_plan.body) projection_plan.whole refl
+
+    projected : IsKnownTable system parts past k made due.due.known projection_plan.body s
+    projected = body projection_plan.number projection_plan.body projection_operand s projection_plan.source projection_free c projection_plan.column projection_bound
+
+    pub projection_needs : (table : Table) × IsTableAt past s table × (table.signature ≡ past.signature.now) × (c < table.columns) × (1 < table.columns) × HasRoom (words_for (length table.presences) + 2) targets room
+        × HasMarkRoom (length table.presences) 0 marks
+    unfolding projected body
+    projection_needs =
+        let q = projection_plan in
+        let only = body_only q.number q.body projection_operand s q.source projection_free c q.column projection_bound in
+        let m : HasMarkRoom (most_states projected.targets) 0 marks = marks_for (Projection s c) is projected.targets only in (
+          projected.table,
+          projected.at,
+          body_signature q.number q.body projection_operand s q.source projection_free c q.column projection_bound,
+          body_column q.number q.body projection_operand s q.source projection_free c q.column projection_bound,
+          body_another q.number q.body projection_operand s q.source projection_free c q.column projection_bound,
+          sized_for _ (width_for (Projection s c) is projected.targets only ∙ ap (λ (w : ℕ). words_for w + 2) (sym projected.states)),
+          subst (λ (w : ℕ). HasMarkRoom w 0 marks) (sym projected.states) m,
+        )
+
+    pub projection_step : {U : Type 0} (new : PartRoom) (result : Result U Failure) → ((table : Table) → IsTableAt past s table → IsPartStep (project_local table c) targets new result)
+        → IsTableStep system parts k made f targets new result
+    unfolding projected body
+    projection_step new result step =
+        let q = projection_plan in
+        record {
+          local = project_local projected.table c;
+          local_is = projected_local_is system parts k made f q.number q.body projected.table c q.whole projected.is q.column;
+          signature = body_signature q.number q.body projection_operand s q.source projection_free c q.column projection_bound ∙ due.due.known.signature;
+          columns_are = body_columns q.number q.body projection_operand s q.source projection_free c q.column projection_bound;
+          step = step projected.table projected.at;
+        }
+
+  module _ (s : Source) (c : ℕ) (ns : List Count) (is : (own_marks : List counts.Count) → IsOnlyAbout (steps_of past) (Counts k own_marks) → map as_mark ns ≡ own_marks) (plan : IsManyPlan parts (steps_of past) k f s c ns)
+      (sized : (qs : List ℕ) → IsOnlyAbout (steps_of past) (Part s.part qs) → room.rows.width ≡ words_for (2 * most_states qs) + 2)
+      (marks_sized : (qs : List ℕ) → IsOnlyAbout (steps_of past) (Part s.part qs) → HasMarkRoom (most_states qs) (length ns) marks) where
+    many_free : is_free plan.number plan.body ≡ true
+    many_free = (subst BindsFree plan.whole due.due.fit.binders).0
+
+    many_bound : length (columns_of f) + 1 ≡ length (columns_of plan.body)
+    many_bound = ap (λ (h : Core). length (columns_of h) + 1) plan.whole ∙ bound_many plan.number plan.body many_free
+
+    many_operand : IsOperandOf plan.body (get_or parts k core.True)
+    many_operand = operand_is plan.body (core.Infinite plan.number plan.body) plan.whole refl
+
+    pub many_known : IsKnownTable system parts past k made due.due.known plan.body s
+    many_known = body plan.number plan.body many_operand s plan.source many_free c plan.column many_bound
+
+    many_counts : AreCountsKnown parts past made k
+    many_counts = due.counts plan.number plan.body (due.due.part ∙ plan.whole)
+
+    many_made : made.counts k ≡ map as_mark ns
+    many_made = many_counts.made_is ∙ sym (is many_counts.marks many_counts.only)
+
+    many_marks : (states : List ℕ) → ArePure many_known.table c states → (length ns ≡ length states) × KeepRules many_known.table c (count_at states (map as_mark ns))
+    many_marks states pure =
+        let counted : IsCounted parts made plan.number plan.body many_known.table states =
+        record { body_is = many_known.is; pure = subst (λ (d : ℕ). ArePure many_known.table d states) plan.column pure } in
+        let keep = many_counts.rules plan.number plan.body many_known.table states (due.due.part ∙ plan.whole) counted in (
+          sym (length-map ns as_mark) ∙ (sym (ap length many_made) ∙ keep.1),
+          subst (λ (d : ℕ). KeepRules many_known.table d (count_at states (map as_mark ns))) (sym plan.column)
+              (subst (λ (ms : List counts.Count). KeepRules many_known.table (place_in (columns_of plan.body) plan.number) (count_at states ms)) many_made keep.0),
+        )
+
+    pub many_needs : (table : Table) × IsTableAt past s table × (table.signature ≡ past.signature.now) × (c < table.columns) × (1 < table.columns) × HasRoom (words_for (2 * length table.presences) + 2) targets room
+        × HasMarkRoom (length table.presences) 0 marks × ((states : List ℕ) → ArePure table c states → (length ns ≡ length states) × KeepRules table c (count_at states (map as_mark ns)))
+    unfolding many_known body
+    many_needs =
+        let only = body_only plan.number plan.body many_operand s plan.source many_free c plan.column many_bound in
+        let m = marks_sized many_known.targets only in (
+          many_known.table,
+          many_known.at,
+          body_signature plan.number plan.body many_operand s plan.source many_free c plan.column many_bound,
+          body_column plan.number plan.body many_operand s plan.source many_free c plan.column many_bound,
+          body_another plan.number plan.body many_operand s plan.source many_free c plan.column many_bound,
+          sized_for _ (sized many_known.targets only ∙ ap (λ (w : ℕ). words_for (2 * w) + 2) (sym many_known.states)),
+          subst (λ (w : ℕ). HasMarkRoom w 0 marks) (sym many_known.states) (record { pure = m.pure; holds = omega arith }),
+          many_marks,
+        )
+
+    -- the pure states of the table that is known
+    pub many_states : (states : List ℕ) × ArePure many_known.table c states
+    many_states = some_pure many_known.table c (length many_known.table.presences)
+
+    pub many_step : {U : Type 0} (new : PartRoom) (result : Result U Failure)
+        → ((table : Table) (states : List ℕ) → IsTableAt past s table → ArePure table c states → IsPartStep (many_local table c (is_many states (map as_mark ns))) targets new result)
+        → IsTableStep system parts k made f targets new result
+    unfolding many_known body
+    many_step new result step =
+        let states = many_states.0 in
+        let pure = many_states.1 in record {
+          local = many_local many_known.table c (is_many states (map as_mark ns));
+          local_is = many_local_is system parts k made f plan.number plan.body many_known.table c states (map as_mark ns) plan.whole many_known.is plan.column pure many_made;
+          signature = body_signature plan.number plan.body many_operand s plan.source many_free c plan.column many_bound ∙ due.due.known.signature;
+          columns_are = body_columns plan.number plan.body many_operand s plan.source many_free c plan.column many_bound;
+          step = step many_known.table states many_known.at pure;
+        }

@@ -1,0 +1,68 @@
+use Rattle.std.proofs.Common.{◌≡◌, List, map, length, refl, sym, ap, subst, ◌∙◌, arith}
+use Rattle.std.specs.Prelude.{Contains}
+use Rattle.std.proofs.lemmas.List.{length-map}
+use Rattle.fort_logic.specs.PartLists.{AreParts}
+use Rattle.fort_in_order.specs.Dues.{DueStep, OfClosure, dues}
+use Rattle.fort_formulas.specs.CoreView.{as_core}
+use Rattle.fort_steps.specs.StepView.{as_step}
+use Rattle.fort_check_steps.specs.DueView.{as_due}
+use Rattle.fort_cert_checker.specs.Fronts.{IsReady}
+use Rattle.fort_cert_checker.specs.Makings.{AreClosuresMade, ArePlansMade, AreRoomsMade, AreMarksMade}
+use Rattle.fort_cert_checker.proofs.NewLaws.{index_due}
+use Rattle.fort_cert_checker.proofs.LoopKnows.{fit_part}
+use Rattle.fort_cert_checker.proofs.checker.Checker.new.Goals as goal
+
+pub closure_plans-requires : goal.closure_plans-requires
+closure_plans-requires c = λ which index among.
+    let rules = c.args.system.now.rules in
+    let parts = map as_core c.in_ok-parts.parts.items in
+    let all : map as_due c.deref-2.result.now ≡ dues (length rules) parts =
+    ap (map as_due) c.deref-2.ensures.value
+    ∙ (c.in_ok-dues.ensures ∙ (ap (λ n. dues n (map as_core c.deref.result.now)) c.number.ensures.count
+    ∙ ap (λ ps. dues (length rules) (map as_core ps)) c.deref.ensures.value)) in
+    index_due rules parts which index (subst (λ (ds : List DueStep). Contains ds (OfClosure which index)) all among)
+
+pub plans_of-requires-clause-fit : goal.plans_of-requires-clause-fit
+plans_of-requires-clause-fit c = λ f among.
+    fit_part c.args.system.now (as_core c.args.core.now) (map as_core c.deref-3.result.now)
+    (subst (λ ps. AreParts (as_core c.args.core.now) (map as_core ps)) (sym c.deref-3.ensures.value) c.in_ok-parts.ensures) c.requires.decided f among
+
+pub returns : goal.returns
+returns c =
+    let system = c.args.system.now in
+    let rules = system.rules in
+    let steps = c.as_slice-steps.result.now in
+    let parts = map as_core c.in_ok-parts.parts.items in
+    let plans = c.in_ok-plans.plans.items in
+    let steps_are : steps ≡ c.args.certificate.now.steps.items = c.as_slice-steps.ensures.value in
+    let due_are : map as_due c.in_ok-dues.dues.items ≡ dues (length rules) parts =
+    c.in_ok-dues.ensures ∙ (ap (λ n. dues n (map as_core c.deref.result.now)) c.number.ensures.count
+    ∙ ap (λ ps. dues (length rules) (map as_core ps)) c.deref.ensures.value) in
+    let count : length parts ≡ length c.in_ok-parts.parts.items = length-map c.in_ok-parts.parts.items as_core in
+    let plans_made : ArePlansMade system parts (map as_step steps) (length parts) plans =
+    subst (λ n. ArePlansMade system parts (map as_step steps) n plans) (sym count)
+    (subst (λ ps. ArePlansMade system (map as_core ps) (map as_step steps) (length ps) plans) c.deref-3.ensures.value c.in_ok-plans.ensures) in
+    record {
+      system_is = refl;
+      certificate_is = refl;
+      lawful = c.number.ensures.lawful;
+      closed = c.requires.closed;
+      forms = omega (arith, c.if-forms.false, c.saturating_add-forms.ensures, c.as_slice-steps.ensures.len, ap length steps_are);
+      dues = due_are;
+      ready = subst (λ ss. IsReady system (as_core c.args.core.now) parts (map as_step ss) plans c.in_ok-closures.closures.items c.in_ok-rooms.rooms.items c.in_ok-marks.marks.items) steps_are
+          record {
+            are = c.in_ok-parts.ensures;
+            decided = c.requires.decided;
+            few = c.if-not-have_few.ensures refl;
+            plans_made = plans_made;
+            rooms_made = subst (λ n. AreRoomsMade (map as_step steps) plans n c.in_ok-rooms.rooms.items) plans_made.count
+                (subst (λ ps. AreRoomsMade (map as_step steps) ps (length ps) c.in_ok-rooms.rooms.items) c.deref-4.ensures.value c.in_ok-rooms.ensures);
+            marks_made = subst (λ n. AreMarksMade (map as_step steps) plans n c.in_ok-marks.marks.items) plans_made.count
+                (subst (λ ps. AreMarksMade (map as_step steps) ps (length ps) c.in_ok-marks.marks.items) c.deref-5.ensures.value c.in_ok-marks.ensures);
+            closures_made =
+                let made = subst (λ ds. AreClosuresMade system (map as_due ds) (length ds) c.in_ok-closures.closures.items) c.deref-2.ensures.value c.in_ok-closures.ensures in
+                let n : length c.in_ok-dues.dues.items ≡ length (dues (length rules) parts) = sym (length-map c.in_ok-dues.dues.items as_due) ∙ ap length due_are in
+                subst (λ n. AreClosuresMade system (dues (length rules) parts) n c.in_ok-closures.closures.items) n
+                (subst (λ ds. AreClosuresMade system ds (length c.in_ok-dues.dues.items) c.in_ok-closures.closures.items) due_are made);
+          };
+    }

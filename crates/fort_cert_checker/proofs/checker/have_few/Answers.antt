@@ -1,0 +1,21 @@
+use Rattle.std.proofs.Common.{List, map, take, subst, ◌∙◌, ap, refl, arith, ⊎_elim}
+use Rattle.std.specs.Prelude.{Contains}
+use Rattle.std.proofs.lemmas.List.{take_all, map_more}
+use Rattle.std.proofs.lemmas.List.Elements.{Contains-push_cases}
+use Rattle.fort_certificate_grammar.specs.Certificates as theory
+use Rattle.fort_certificate_grammar.specs.Certificates.{Part}
+use Rattle.fort_steps.specs.StepView.{as_step}
+use Rattle.fort_cert_checker.specs.Fronts.{HasFewTargets}
+use Rattle.fort_cert_checker.proofs.checker.have_few.Goals as goal
+
+pub loop-step-preserved : goal.loop-step-preserved
+loop-step-preserved c = λ k targets among.
+    let item = c.step-item.result in
+    let more = map_more as_step c.args.steps.now c.loop-step.step-index item c.loop-step-test.true in
+    ⊎_elim
+    (λ before. c.loop-step.invariant k targets before)
+    (λ here. c.if-not-has_few.ensures refl k targets (ap as_step c.step-item.is ∙ here))
+    (Contains-push_cases (map as_step (take c.loop-step.step-index c.args.steps.now)) _ (Part k targets) (subst (λ (ss : List theory.Step). Contains ss (Part k targets)) more among))
+
+pub returns : goal.returns
+returns c = λ yes. subst (λ ss. HasFewTargets (map as_step ss)) (take_all c.loop-step.step-index c.args.steps.now (omega arith)) c.loop-step.invariant

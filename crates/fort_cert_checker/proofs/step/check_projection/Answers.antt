@@ -1,0 +1,52 @@
+use Rattle.std.proofs.Common.{◌≡◌, ◌<◌, ◌≤◌, ℕ, length, vec_capacity, ◌+◌, sym, ap, ◌∙◌, subst, arith}
+use Rattle.fort_tables.specs.BitRows.{words_for}
+use Rattle.fort_tables.specs.Tables.{Table}
+use Rattle.fort_in_order.specs.PartRules.{project_local}
+use Rattle.fort_check_steps.specs.Turned.{turned_table}
+use Rattle.fort_check_steps.specs.Room.{HasRoom}
+use Rattle.fort_cert_checker.specs.Pasts.{IsPartStep}
+use Rattle.fort_cert_checker.proofs.RoomLaws.{room_again}
+use Rattle.fort_cert_checker.proofs.step.check_projection.Goals as goal
+
+pub put_pure-requires-clause-column : goal.put_pure-requires-clause-column
+put_pure-requires-clause-column c =
+    let b = c.requires.body in
+    subst (λ (t : Table). c.args.column < t.columns) (sym (c.table-body.ensures b.0 b.1)) b.3
+
+pub put_pure-requires-clause-spare : goal.put_pure-requires-clause-spare
+put_pure-requires-clause-spare c =
+    let b = c.requires.body in
+    subst (λ (t : Table). length t.presences ≤ vec_capacity c.clear.new.self) (sym (c.table-body.ensures b.0 b.1)) (omega (arith, b.6.pure, c.clear.ensures.capacity))
+
+pub new-rule-requires-clause-column : goal.new-rule-requires-clause-column
+new-rule-requires-clause-column c =
+    let b = c.requires.body in
+    subst (λ (t : Table). c.args.column < t.columns) (sym (c.table-body.ensures b.0 b.1)) b.3
+
+pub new-rule-requires-clause-another : goal.new-rule-requires-clause-another
+new-rule-requires-clause-another c =
+    let b = c.requires.body in
+    subst (λ (t : Table). 1 < t.columns) (sym (c.table-body.ensures b.0 b.1)) b.4
+
+pub check_part-requires-clause-signature : goal.check_part-requires-clause-signature
+check_part-requires-clause-signature c =
+    let b = c.requires.body in
+    ap (λ (t : Table). t.signature) (ap turned_table c.new-rule.ensures.body ∙ c.table-body.ensures b.0 b.1) ∙ b.2
+
+pub check_part-requires-clause-room : goal.check_part-requires-clause-room
+check_part-requires-clause-room c =
+    let b = c.requires.body in
+    subst (λ (t : Table). HasRoom (words_for (length t.presences) + 2) c.args.targets.now c.args.room.now) (sym (ap turned_table c.new-rule.ensures.body ∙ c.table-body.ensures b.0 b.1)) b.5
+
+pub returns-clause-room : goal.returns-clause-room
+returns-clause-room c =
+    let b = c.requires.body in
+    room_again (words_for (length b.0.presences) + 2) c.args.targets.now c.args.room.now c.check_part.new.room b.5
+    (subst (λ (t : Table). HasRoom (words_for (length t.presences) + 2) c.args.targets.now c.check_part.new.room) (ap turned_table c.new-rule.ensures.body ∙ c.table-body.ensures b.0 b.1) c.check_part.ensures.room)
+
+pub returns-clause-step : goal.returns-clause-step
+returns-clause-step c table at =
+    let own : turned_table c.new-rule.result.body.now ≡ table = ap turned_table c.new-rule.ensures.body ∙ c.table-body.ensures table at in
+    subst (λ (n : ℕ). IsPartStep (project_local table n) c.args.targets.now c.check_part.new.room c.check_part.result) c.new-rule.ensures.column
+    (subst (λ (t : Table). IsPartStep (project_local t c.new-rule.result.column) c.args.targets.now c.check_part.new.room c.check_part.result) own
+    (record { outcome = c.check_part.ensures.outcome; held = c.check_part.ensures.held }))

@@ -1,0 +1,13 @@
+pub mod Abouts
+pub mod KnownMarks
+pub mod Sources
+pub mod Plans
+pub mod Joins
+pub mod Pasts
+pub mod AtomPlans
+pub mod Makings
+pub mod Values
+pub mod Fronts
+pub mod Checkers
+pub mod OutcomeView
+pub mod TestFormulas

@@ -1,0 +1,49 @@
+-- Inside: what is made before a check, for each step that is due and for each part.
+use Rattle.std.specs.Prelude.{◌≡◌, ℕ, ◌*◌, ◌<◌, ◌≤◌, List, length, get_or, Option, None, Some}
+use Rattle.fort_theory.specs.Patterns.{PatternSystem}
+use Rattle.fort_logic.specs.Cores as core
+use Rattle.fort_logic.specs.Cores.{Core}
+use Rattle.fort_certificate_grammar.specs.Certificates.{Which, Step, Part}
+use Rattle.fort_in_order.specs.Dues.{DueStep, OfClosure, OfPart, OfCounts, OfValue}
+use Rattle.fort_check_steps.specs.PairSteps.{HasClosureRules}
+use Rattle.fort_check_steps.specs.declared.room.PartRoom.{PartRoom}
+use Rattle.fort_check_steps.specs.declared.marks.MarkRoom.{MarkRoom}
+use Rattle.fort_check_steps.specs.Room.{HasRoom}
+use Rattle.fort_cert_checker.specs.Abouts.{IsOnlyAbout}
+use Rattle.fort_cert_checker.specs.Plans.{IsPlanOf, IsWidthFor}
+use Rattle.fort_cert_checker.specs.Pasts.{IsMarkRoomFor}
+use Rattle.fort_cert_checker.specs.declared.plan.Plan.{Plan}
+use Rattle.fort_cert_checker.specs.declared.making.ClosurePlan.{ClosurePlan}
+
+-- as many as n, each right at its place
+pub record AreMade {A : Type 0} (IsRight : ℕ → A → Type 0) (n : ℕ) (xs : List A) : Type 0 where
+  pub count : length xs ≡ n
+  pub each : (k : ℕ) (d : A) → k < n → IsRight k (get_or xs k d)
+
+pub record IsClosurePlan (system : PatternSystem) (which : Which) (index : ℕ) (p : ClosurePlan) : Type 0 where
+  pub rules : HasClosureRules system which index p.rules
+  pub room : length p.rules.rights.items * length p.rules.lefts.items ≤ 64 * length p.listed.items
+
+abbrev pub IsClosureFor : PatternSystem → DueStep → Option ClosurePlan → Type 0
+IsClosureFor system (OfClosure which index) (Some p) = IsClosurePlan system which index p
+IsClosureFor system (OfClosure which index) None = ⊥
+IsClosureFor system (OfPart k) p = Unit {0}
+IsClosureFor system (OfCounts k) p = Unit {0}
+IsClosureFor system (OfValue k) p = Unit {0}
+
+abbrev pub AreClosuresMade : PatternSystem → List DueStep → ℕ → List (Option ClosurePlan) → Type 0
+AreClosuresMade system dues n ps = AreMade (λ k p. IsClosureFor system (get_or dues k (OfPart 0)) p) n ps
+
+abbrev pub ArePlansMade : PatternSystem → List Core → List Step → ℕ → List Plan → Type 0
+ArePlansMade system parts ss n ps = AreMade (λ k p. IsPlanOf system parts ss k (get_or parts k core.True) p) n ps
+
+-- room for the targets of part k
+pub record IsRoomFor (ss : List Step) (k : ℕ) (p : Plan) (r : PartRoom) : Type 0 where
+  pub width : IsWidthFor ss p.work r.rows.width
+  pub sized : (targets : List ℕ) → IsOnlyAbout ss (Part k targets) → HasRoom r.rows.width targets r
+
+abbrev pub AreRoomsMade : List Step → List Plan → ℕ → List PartRoom → Type 0
+AreRoomsMade ss ps n rs = AreMade (λ k r. (d : Plan) → IsRoomFor ss k (get_or ps k d) r) n rs
+
+abbrev pub AreMarksMade : List Step → List Plan → ℕ → List MarkRoom → Type 0
+AreMarksMade ss ps n rs = AreMade (λ k r. (d : Plan) → IsMarkRoomFor ss (get_or ps k d).work r) n rs

@@ -1,0 +1,160 @@
+-- Inside: the answers of earlier parts, by steps, plans and rooms; what a part's step is checked by, and what comes of it.
+use Rattle.std.specs.Prelude.{◌≡◌, ℕ, ◌^◌, ◌<◌, List, map, length, get_or, Bool, true, false, Result, OnOk}
+use Rattle.fort_theory.specs.Patterns.{PatternSystem}
+use Rattle.fort_theory.specs.Signatures.{Signature}
+use Rattle.fort_logic.specs.Cores as core
+use Rattle.fort_logic.specs.Cores.{Core}
+use Rattle.fort_tables.specs.Tables.{Table, listed_table}
+use Rattle.fort_tables.specs.LabelRules.{LabelRule}
+use Rattle.fort_counts.specs.Counts.{Count}
+use Rattle.fort_parts.specs.PartColumns.{columns_of}
+use Rattle.fort_parts.specs.PartAnswers.{Answer, OfValue, OfTable}
+use Rattle.fort_certificate_grammar.specs.Certificates.{Star, Conv, Pair as Item, Step, Closure, Part, Counts, Value}
+use Rattle.fort_in_order.specs.PartSteps.{IsPartOutcome}
+use Rattle.fort_in_order.specs.Dues.{has_columns, is_turned}
+use Rattle.fort_in_order.specs.Made.{Made}
+use Rattle.fort_in_order.specs.PartRules.{Local, IsLocalOf}
+use Rattle.fort_steps.specs.StepView.{as_step}
+use Rattle.fort_check_steps.specs.declared.room.PartRoom.{PartRoom}
+use Rattle.fort_check_steps.specs.declared.failure.Failure.{Failure}
+use Rattle.fort_check_steps.specs.StepAnswers.{outcome_of}
+use Rattle.fort_check_steps.specs.Held.{HoldsPart, held_table}
+use Rattle.fort_check_steps.specs.Turned.{turned_table}
+use Rattle.fort_check_steps.specs.Room.{HasRoom, most_states}
+use Rattle.fort_check_steps.specs.Marks.{HasMarkRoom}
+use Rattle.fort_check_steps.specs.declared.marks.MarkRoom.{MarkRoom}
+use Rattle.fort_cert_checker.specs.Abouts.{IsOnlyAbout}
+use Rattle.fort_cert_checker.specs.KnownMarks.{HasMarksFor}
+use Rattle.fort_cert_checker.specs.Sources.{turned}
+use Rattle.fort_cert_checker.specs.Plans.{AreParted, IsFitPart, IsPlanOf, IsWidthFor}
+use Rattle.fort_cert_checker.specs.declared.plan.Work.{Work}
+use Rattle.fort_cert_checker.specs.declared.plan.Work.TheVariants.{Projection, Many}
+use Rattle.fort_cert_checker.specs.declared.plan.Source.{Source}
+use Rattle.fort_cert_checker.specs.declared.plan.Plan.{Plan}
+use Rattle.fort_cert_checker.specs.declared.past.Past.{Past}
+use Rattle.fort_cert_checker.specs.declared.past.Answer as answers
+use Rattle.fort_cert_checker.specs.declared.past.Answer.TheVariants as variants
+
+-- a room holds the table of a part's step, by some rule over this signature and so many columns
+pub record IsHeld (sig : Signature) (columns : ℕ) (targets : List ℕ) (room : PartRoom) (table : Table) : Type 0 where
+  pub rule : LabelRule
+  pub accepting : List ℕ → Bool
+  pub signature : rule.signature ≡ sig
+  pub columns_are : rule.columns ≡ columns
+  pub holds : HoldsPart rule accepting targets room
+  pub is : listed_table (held_table rule accepting targets room) ≡ table
+
+-- the steps, as the definitions have them
+abbrev pub steps_of : Past → List Step
+steps_of past = map as_step past.steps.now
+
+-- what stands at this place
+abbrev pub IsElement : {A : Type 0} → List A → ℕ → A → Type 0
+IsElement {A} xs k x = (k < length xs) × ((d : A) → get_or xs k d ≡ x)
+
+-- the table of a source
+pub record IsTableAt (past : Past) (s : Source) (table : Table) : Type 0 where
+  pub plan : Plan
+  pub room : PartRoom
+  pub targets : List ℕ
+  pub own : Table
+  pub plan_at : IsElement past.plans.now s.part plan
+  pub room_at : IsElement past.rooms.now s.part room
+  pub only : IsOnlyAbout (steps_of past) (Part s.part targets)
+  pub few : length targets < 2 ^ 32
+  pub some : 0 < length plan.columns.items
+  pub held : IsHeld past.signature.now (length plan.columns.items) targets room own
+  pub is : table ≡ turned s.turns own
+
+pub record IsTruthAt (past : Past) (s : Source) (truth : Bool) : Type 0 where
+  pub plan : Plan
+  pub plan_at : IsElement past.plans.now s.part plan
+  pub none : length plan.columns.items ≡ 0
+  pub only : IsOnlyAbout (steps_of past) (Value s.part truth)
+
+abbrev pub IsAnswerAt : Past → Source → Answer → Type 0
+IsAnswerAt past s (OfValue truth) = IsTruthAt past s truth
+IsAnswerAt past s (OfTable table) = IsTableAt past s table
+
+abbrev pub as_answer : answers.Answer → Answer
+as_answer (variants.Truth truth) = OfValue truth
+as_answer (variants.Auto table) = OfTable (turned_table table)
+
+-- what comes of the step of a part by this rule
+pub record IsPartStep {U : Type 0} (local : Local) (targets : List ℕ) (room : PartRoom) (result : Result U Failure) : Type 0 where
+  pub outcome : IsPartOutcome local.rule targets (outcome_of result)
+  pub held : OnOk result (HoldsPart local.rule local.accepting targets room)
+
+-- the items of the closure that a relation reads
+abbrev pub IsClosureKnown : List Step → Made → core.Rel → ℕ → Type 0
+IsClosureKnown ss made core.Star index = (items : List Item) × IsOnlyAbout ss (Closure Star index items) × (made.closures Star index ≡ items)
+IsClosureKnown ss made core.Plus index = (items : List Item) × IsOnlyAbout ss (Closure Star index items) × (made.closures Star index ≡ items)
+IsClosureKnown ss made core.Conv index = (items : List Item) × IsOnlyAbout ss (Closure Conv index items) × (made.closures Conv index ≡ items)
+IsClosureKnown ss made other index = Unit {0}
+
+pub record IsTableKnown (sig : Signature) (parts : List Core) (past : Past) (made : Made) (j : ℕ) : Type 0 where
+  pub targets : List ℕ
+  pub room : PartRoom
+  pub table : Table
+  pub only : IsOnlyAbout (steps_of past) (Part j targets)
+  pub room_at : IsElement past.rooms.now j room
+  pub few : length targets < 2 ^ 32
+  pub held : IsHeld sig (length (columns_of (get_or parts j core.True))) targets room table
+  pub made_is : made.answers j ≡ OfTable table
+
+pub record IsValueKnown (past : Past) (made : Made) (j : ℕ) : Type 0 where
+  pub value : Bool
+  pub only : IsOnlyAbout (steps_of past) (Value j value)
+  pub made_is : made.answers j ≡ OfValue value
+
+pub record AreCountsKnown (parts : List Core) (past : Past) (made : Made) (k : ℕ) : Type 0 where
+  pub marks : List Count
+  pub only : IsOnlyAbout (steps_of past) (Counts k marks)
+  pub made_is : made.counts k ≡ marks
+  pub rules : HasMarksFor parts made k (get_or parts k core.True)
+
+-- what is known of the answers that part k needs, where this was made
+pub record KnowsPast (system : PatternSystem) (parts : List Core) (past : Past) (k : ℕ) (made : Made) : Type 0 where
+  pub parted : AreParted parts
+  pub within : k < length parts
+  pub signature : past.signature.now ≡ system.signature
+  pub plans : (j : ℕ) → j < length parts → (p : Plan) × IsElement past.plans.now j p × (p.columns.items ≡ columns_of (get_or parts j core.True))
+  pub tables : (j : ℕ) → j < k → has_columns (get_or parts j core.True) ≡ true → is_turned (get_or parts j core.True) ≡ false → IsTableKnown system.signature parts past made j
+  pub values : (j : ℕ) → j < k → has_columns (get_or parts j core.True) ≡ false → is_turned (get_or parts j core.True) ≡ false → IsValueKnown past made j
+  pub closures : (rel : core.Rel) (index x y : ℕ) → get_or parts k core.True ≡ core.Atom rel index x y → IsClosureKnown (steps_of past) made rel index
+
+-- part k is this formula, which may be checked by this plan
+pub record IsPartDue (system : PatternSystem) (parts : List Core) (past : Past) (k : ℕ) (made : Made) (f : Core) (p : Plan) : Type 0 where
+  pub known : KnowsPast system parts past k made
+  pub part : get_or parts k core.True ≡ f
+  pub plan : IsPlanOf system parts (steps_of past) k f p
+  pub fit : IsFitPart system f
+
+-- the counts of an "infinitely many" are known before its answer
+abbrev pub KnowsCounts : List Core → Past → ℕ → Made → Type 0
+KnowsCounts parts past k made = (n : ℕ) (g : Core) → get_or parts k core.True ≡ core.Infinite n g → AreCountsKnown parts past made k
+
+-- room for the pure states of a source, and for so many marks
+abbrev pub IsMarkRoomFor : List Step → Work → MarkRoom → Type 0
+IsMarkRoomFor ss (Projection s c) room = (targets : List ℕ) → IsOnlyAbout ss (Part s.part targets) → HasMarkRoom (most_states targets) 0 room
+IsMarkRoomFor ss (Many s c marks) room = (targets : List ℕ) → IsOnlyAbout ss (Part s.part targets) → HasMarkRoom (most_states targets) (length marks.items) room
+IsMarkRoomFor ss other room = Unit {0}
+
+-- the targets are due, and there is room for them
+pub record IsTableDue (system : PatternSystem) (parts : List Core) (past : Past) (k : ℕ) (made : Made) (f : Core) (p : Plan) (targets : List ℕ) (room : PartRoom) (marks : MarkRoom) : Type 0 where
+  pub due : IsPartDue system parts past k made f p
+  pub columns : has_columns f ≡ true
+  pub plain : is_turned f ≡ false
+  pub counts : KnowsCounts parts past k made
+  pub few : length targets < 2 ^ 32
+  pub width : IsWidthFor (steps_of past) p.work room.rows.width
+  pub sized : HasRoom room.rows.width targets room
+  pub marks_sized : IsMarkRoomFor (steps_of past) p.work marks
+
+-- the step of part k by the rule that it is to have
+pub record IsTableStep {U : Type 0} (system : PatternSystem) (parts : List Core) (k : ℕ) (made : Made) (f : Core) (targets : List ℕ) (room : PartRoom) (result : Result U Failure) : Type 0 where
+  pub local : Local
+  pub local_is : IsLocalOf system parts made k f local
+  pub signature : local.rule.signature ≡ system.signature
+  pub columns_are : local.rule.columns ≡ length (columns_of f)
+  pub step : IsPartStep local targets room result

@@ -1,0 +1,205 @@
+//! What a check needs, taken before it: the rules of closures, the plans of parts, and room.
+ghost use Rattle.std.specs.Prelude.{◌≡◌, ℕ, ◌+◌, ◌*◌, ◌<◌, ◌≤◌, ◌^◌, List, map, length, slice_index_or, Contains, Option, IfOk};
+ghost use Rattle.fort_theory.specs.Patterns.{PatternSystem};
+ghost use Rattle.fort_theory.specs.Sides.{IsIndexOf};
+ghost use Rattle.fort_logic.specs.Cores as theory;
+ghost use Rattle.fort_certificate_grammar.specs.Certificates as theory_steps;
+ghost use Rattle.fort_certificate_grammar.specs.Certificates.{Part};
+ghost use Rattle.fort_in_order.specs.Dues as definitions;
+ghost use Rattle.fort_formulas.specs.CoreView.{as_core};
+ghost use Rattle.fort_steps.specs.StepView.{as_step, as_which};
+ghost use Rattle.fort_check_steps.specs.DueView.{as_due};
+ghost use Rattle.fort_check_steps.specs.Room.{most_states as most_states_lem};
+ghost use Rattle.fort_check_steps.specs.Marks.{HasMarkRoom};
+ghost use Rattle.fort_cert_checker.specs.Abouts.{IsOnlyAbout};
+ghost use Rattle.fort_cert_checker.specs.Plans.{AreParted, IsFitPart, IsPlanOf, IsWidthFor};
+ghost use Rattle.fort_cert_checker.specs.Pasts.{IsMarkRoomFor};
+ghost use Rattle.fort_cert_checker.specs.Makings.{IsClosurePlan, IsClosureFor, IsRoomFor, AreClosuresMade, ArePlansMade, AreRoomsMade, AreMarksMade};
+
+use crate::about::targets_of;
+use crate::plan::{Plan, Source, Work};
+use fort_check_steps::{DueStep, MarkRoom, PairRules, PartRoom, closure_rules, most_states};
+use fort_context_closure::local::{atom_width, is_width, nf_width};
+use fort_formulas::Core;
+use fort_infinity::local::many_width;
+use fort_rrn_algebra::local::project_width;
+use fort_steps::{Step, Which};
+use fort_terms::{Memory, System};
+use std::alloc::{AllocError, Global};
+
+/// What a closure is checked by, with a bit for each of its pairs.
+#[derive(Drop)]
+pub(crate) struct ClosurePlan {
+    pub rules: PairRules,
+    pub listed: Vec<u64>,
+}
+
+/// More pairs than there are numbers for are want of memory.
+fn closure_plan(
+    alloc: Global,
+    system: &System,
+    which: Which,
+    index: u32,
+) -> Result<ClosurePlan, Memory>
+    requires { IsIndexOf system.now.rules index }
+    ensures { IfOk result (IsClosurePlan system.now (as_which which) index) }
+{
+    let rules = closure_rules(alloc, system, which, index)?;
+    let bits = match rules.rights.len().checked_mul(rules.lefts.len()) {
+        Some(bits) => bits,
+        None => return Err(AllocError),
+    };
+    let listed = vec![in alloc; 0u64; bits.div_ceil(64)]?;
+    Ok(ClosurePlan { rules, listed })
+}
+
+fn plan_for(alloc: Global, system: &System, due: DueStep) -> Result<Option<ClosurePlan>, Memory>
+    requires { (which : theory_steps.Which) (index : ℕ)
+        → as_due due ≡ definitions.OfClosure which index → IsIndexOf system.now.rules index }
+    ensures { IfOk result (IsClosureFor system.now (as_due due)) }
+{
+    match due {
+        DueStep::Closure(which, index) => {
+            let plan = closure_plan(alloc, system, which, index)?;
+            Ok(Some(plan))
+        }
+        _ => Ok(None),
+    }
+}
+
+/// For each step that is due, what it is checked by where it is a closure.
+pub(crate) fn closure_plans(
+    alloc: Global,
+    system: &System,
+    dues: &[DueStep],
+) -> Result<Vec<Option<ClosurePlan>>, Memory>
+    requires { (which : theory_steps.Which) (index : ℕ)
+        → Contains (map as_due dues.now) (definitions.OfClosure which index)
+        → IsIndexOf system.now.rules index }
+    ensures { IfOk result (λ plans. AreClosuresMade system.now (map as_due dues.now)
+        (length dues.now) plans.items) }
+{
+    let mut plans = Vec::with_capacity(alloc, dues.len())?;
+    for due in dues {
+        plans.push(plan_for(alloc, system, *due)?)?;
+    }
+    Ok(plans)
+}
+
+/// The plan of each part.
+pub(crate) fn plans_of(
+    alloc: Global,
+    system: &System,
+    steps: &[Step],
+    parts: &[Core],
+) -> Result<Vec<Plan>, Memory>
+    requires few { length parts.now < 2 ^ 32 }
+    requires parts { AreParted (map as_core parts.now) }
+    requires fit { (f : theory.Core) → Contains (map as_core parts.now) f
+        → IsFitPart system.now f }
+    ensures { IfOk result (λ plans. ArePlansMade system.now (map as_core parts.now)
+        (map as_step steps.now) (length parts.now) plans.items) }
+{
+    let mut plans = Vec::with_capacity(alloc, parts.len())?;
+    for k in 0..parts.len() {
+        plans.push(Plan::new(alloc, system, steps, parts, k)?)?;
+    }
+    Ok(plans)
+}
+
+/// The most states of the table of a source. More than there are numbers for are want of memory.
+fn states_of(steps: &[Step], source: Source) -> Result<usize, Memory>
+    ensures few { IfOk result (λ n. n < 2 ^ 32) }
+    ensures states { IfOk result (λ n. (targets : List ℕ)
+        → IsOnlyAbout (map as_step steps.now) (Part source.part targets)
+        → n ≡ most_states_lem targets) }
+{
+    let states = most_states(targets_of(steps, source.part));
+    if states > u32::MAX as usize {
+        return Err(AllocError);
+    }
+    Ok(states)
+}
+
+/// The words of the labels of a part.
+fn width_of(steps: &[Step], plan: &Plan) -> Result<usize, Memory>
+    requires { (system : PatternSystem) × (parts : List theory.Core) × (k : ℕ)
+        × (f : theory.Core) × IsPlanOf system parts (map as_step steps.now) k f plan.now }
+    ensures some { IfOk result (λ width. 0 < width) }
+    ensures width { IfOk result (IsWidthFor (map as_step steps.now) plan.now.work) }
+{
+    match &plan.work {
+        Work::Relation(lists) => Ok(atom_width(lists.rel, lists.left.len(), lists.right.len())),
+        Work::Normal(_, left) => Ok(nf_width(left.len())),
+        Work::Term => Ok(is_width()),
+        Work::Product(_, _, _) => Ok(3),
+        Work::Projection(source, _) => Ok(project_width(states_of(steps, *source)?)),
+        Work::Many(source, _, _) => Ok(many_width(states_of(steps, *source)?)),
+        Work::Truth | Work::Negation(_) => Ok(1),
+    }
+}
+
+fn room_of(alloc: Global, steps: &[Step], k: u32, plan: &Plan) -> Result<PartRoom, Memory>
+    requires { (system : PatternSystem) × (parts : List theory.Core) × (j : ℕ)
+        × (f : theory.Core) × IsPlanOf system parts (map as_step steps.now) j f plan.now }
+    ensures { IfOk result (IsRoomFor (map as_step steps.now) k plan.now) }
+{
+    let width = width_of(steps, plan)?;
+    PartRoom::new(alloc, width, targets_of(steps, k))
+}
+
+/// The room of each part.
+pub(crate) fn rooms_of(
+    alloc: Global,
+    steps: &[Step],
+    plans: &[Plan],
+) -> Result<Vec<PartRoom>, Memory>
+    requires few { length plans.now < 2 ^ 32 }
+    requires plans { (system : PatternSystem) × (parts : List theory.Core)
+        × ArePlansMade system parts (map as_step steps.now) (length plans.now) plans.now }
+    ensures { IfOk result (λ rooms. AreRoomsMade (map as_step steps.now) plans.now
+        (length plans.now) rooms.items) }
+{
+    let mut rooms = Vec::with_capacity(alloc, plans.len())?;
+    for k in 0..plans.len() {
+        rooms.push(room_of(alloc, steps, k as u32, &plans[k])?)?;
+    }
+    Ok(rooms)
+}
+
+fn mark_room(alloc: Global, states: usize, marks: usize) -> Result<MarkRoom, Memory>
+    ensures { IfOk result (HasMarkRoom states marks) }
+{
+    Ok(MarkRoom {
+        states: Vec::with_capacity(alloc, states)?,
+        holds: Vec::with_capacity(alloc, marks)?,
+    })
+}
+
+fn marks_for(alloc: Global, steps: &[Step], plan: &Plan) -> Result<MarkRoom, Memory>
+    ensures { IfOk result (IsMarkRoomFor (map as_step steps.now) plan.now.work) }
+{
+    match &plan.work {
+        Work::Projection(source, _) => mark_room(alloc, states_of(steps, *source)?, 0),
+        Work::Many(source, _, marks) => {
+            mark_room(alloc, states_of(steps, *source)?, marks.len())
+        }
+        _ => mark_room(alloc, 0, 0),
+    }
+}
+
+/// Room for the marks of each part.
+pub(crate) fn mark_rooms(
+    alloc: Global,
+    steps: &[Step],
+    plans: &[Plan],
+) -> Result<Vec<MarkRoom>, Memory>
+    ensures { IfOk result (λ rooms. AreMarksMade (map as_step steps.now) plans.now
+        (length plans.now) rooms.items) }
+{
+    let mut rooms = Vec::with_capacity(alloc, plans.len())?;
+    for plan in plans {
+        rooms.push(marks_for(alloc, steps, plan)?)?;
+    }
+    Ok(rooms)
+}

@@ -1,0 +1,97 @@
+//! The answers of earlier parts.
+ghost use Rattle.std.specs.Prelude.{◌≡◌, Bool, length};
+ghost use Rattle.fort_tables.specs.Tables as tables;
+ghost use Rattle.fort_operations.specs.Projections.{some_below};
+ghost use Rattle.fort_parts.specs.PartAnswers as parts;
+ghost use Rattle.fort_parts.specs.PartSteps.{operand_of};
+ghost use Rattle.fort_rrn_algebra.specs.Operands as algebra;
+ghost use Rattle.fort_check_steps.specs.Turned.{turned_table};
+ghost use Rattle.fort_cert_checker.specs.Pasts.{IsTableAt, IsTruthAt, IsAnswerAt, as_answer};
+
+use crate::about::{targets_of, value_of};
+use crate::plan::{Plan, Source};
+use fort_check_steps::{PartRoom, PartTable};
+use fort_lockstep::Table;
+use fort_rrn_algebra::Operand;
+use fort_steps::Step;
+use fort_terms::Signature;
+
+/// The steps, the plans of parts, and the rooms of those before some part.
+#[derive(Clone, Copy)]
+pub(crate) struct Past<'a> {
+    pub signature: &'a Signature,
+    pub steps: &'a [Step],
+    pub plans: &'a [Plan],
+    pub rooms: &'a [PartRoom],
+}
+
+/// The answer of an earlier part.
+#[derive(Drop)]
+pub(crate) enum Answer<'a> {
+    Truth(bool),
+    Auto(PartTable<'a>),
+}
+
+impl<'a> Past<'a> {
+    /// The table of a part with columns.
+    pub(crate) fn table(&self, source: Source) -> PartTable<'a>
+        requires { (table : tables.Table) × IsTableAt self.now source table }
+        ensures { (table : tables.Table) → IsTableAt self.now source table
+            → turned_table result ≡ table }
+    {
+        let plan = &self.plans[source.part as usize];
+        PartTable::new(
+            self.signature,
+            plan.columns.len(),
+            targets_of(self.steps, source.part),
+            &self.rooms[source.part as usize],
+            source.turns,
+        )
+    }
+
+    /// The truth of a part without columns.
+    pub(crate) fn truth(&self, source: Source) -> bool
+        ensures { (truth : Bool) → IsTruthAt self.now source truth → result ≡ truth }
+    {
+        value_of(self.steps, source.part)
+    }
+
+    pub(crate) fn answer(&self, source: Source) -> Answer<'a>
+        requires { (answer : parts.Answer) × IsAnswerAt self.now source answer }
+        ensures { (answer : parts.Answer) → IsAnswerAt self.now source answer
+            → as_answer result ≡ answer }
+    {
+        if self.plans[source.part as usize].columns.is_empty() {
+            Answer::Truth(self.truth(source))
+        } else {
+            Answer::Auto(self.table(source))
+        }
+    }
+}
+
+/// An answer as an operand of a product.
+pub(crate) fn factor<'b, 'a>(
+    answer: &'b Answer<'a>,
+    places: &'b [usize],
+) -> Operand<'b, PartTable<'a>>
+    ensures { algebra.operand_of turned_table result ≡ operand_of (as_answer answer.now)
+        places.now }
+{
+    match answer {
+        Answer::Truth(truth) => Operand::Truth(*truth),
+        Answer::Auto(table) => Operand::Auto(table, places),
+    }
+}
+
+/// Whether some state is accepting.
+pub(crate) fn accepts_some<T: Table>(table: &T) -> bool
+    ensures { result ≡ some_below (length (T.table table.now).presences)
+        (T.table table.now).accepting }
+{
+    for q in 0..table.states() {
+        if table.is_final(q) {
+            return true;
+        }
+    }
+    false
+}

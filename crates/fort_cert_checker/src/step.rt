@@ -1,0 +1,260 @@
+//! The checks of a part's steps.
+ghost use Rattle.std.specs.Prelude.{◌≡◌, ℕ, suc, ◌+◌, ◌*◌, ◌<◌, ◌≤◌, ◌^◌, List, map, length, Bool, slice_index_or, OnOk};
+ghost use Rattle.fort_theory.specs.Sides.{IsIndexOf};
+ghost use Rattle.fort_logic.specs.Cores as theory;
+ghost use Rattle.fort_tables.specs.BitRows.{words_for};
+ghost use Rattle.fort_tables.specs.Tables as tables;
+ghost use Rattle.fort_counts.specs.Counts.{KeepRules, count_at, is_infinite};
+ghost use Rattle.fort_operations.specs.Projections.{ArePure};
+ghost use Rattle.fort_parts.specs.PartAnswers as answers;
+ghost use Rattle.fort_rrn_algebra.specs.Operands.{connective_of};
+ghost use Rattle.fort_infinity.specs.CountView.{as_count as as_mark, is_many};
+ghost use Rattle.fort_terms.specs.PatternView.{as_pattern};
+ghost use Rattle.fort_formulas.specs.CoreView.{as_core, as_rel};
+ghost use Rattle.fort_context_closure.specs.LocalAtoms.{mark_count};
+ghost use Rattle.fort_atom_labels.specs.Subterms.{subterms};
+ghost use Rattle.fort_in_order.specs.PartRules.{Local, term_local, project_local, many_local};
+ghost use Rattle.fort_check_steps.specs.Room.{HasRoom};
+ghost use Rattle.fort_check_steps.specs.Marks.{HasMarkRoom};
+ghost use Rattle.fort_in_order.specs.Made.{Made};
+ghost use Rattle.fort_theory.specs.Trees.{Tree};
+ghost use Rattle.fort_cert_checker.specs.Plans.{IsTermPlan};
+ghost use Rattle.fort_cert_checker.specs.AtomPlans.{related_local, normal_local};
+ghost use Rattle.fort_cert_checker.specs.Joins.{AreJoined, joined_local};
+ghost use Rattle.fort_cert_checker.specs.Pasts.{IsAnswerAt, IsTableAt, IsPartStep, IsTableDue, IsTableStep};
+
+use crate::past::{Past, factor};
+use crate::plan::{Operand, Plan, RelationLists, Source, Work};
+use fort_check_steps::{
+    Failure, MarkRoom, Normal, PartRoom, Projected, Related, ThisTerm, check_part, put_pure,
+};
+use fort_formulas::Core;
+use fort_infinity::{Count, Many};
+use fort_rrn_algebra::{Both, Op};
+use fort_terms::{Pattern, System, Term};
+
+/// Holds the targets of a relation.
+fn check_relation(
+    system: &System,
+    lists: &RelationLists,
+    targets: &[u32],
+    room: &mut PartRoom,
+) -> Result<(), Failure>
+    requires index { IsIndexOf system.now.rules lists.now.index }
+    requires left_few { length lists.now.left.items < 2 ^ 32 }
+    requires right_few { length lists.now.right.items < 2 ^ 32 }
+    requires few { length targets.now < 2 ^ 32 }
+    requires room { HasRoom (suc (words_for (mark_count (as_rel lists.now.rel)
+        (length lists.now.left.items) (length lists.now.right.items)))) targets.now room.old }
+    ensures step { IsPartStep (related_local system.now lists.now) targets.now room.new result }
+    ensures room { HasRoom (suc (words_for (mark_count (as_rel lists.now.rel)
+        (length lists.now.left.items) (length lists.now.right.items)))) targets.now room.new }
+{
+    let signature = system.signature();
+    let rule = Related {
+        signature,
+        rules: system.rules(lists.index),
+        rel: lists.rel,
+        x: lists.x,
+        y: lists.y,
+        left: &lists.left,
+        right: &lists.right,
+        closure: &lists.closure,
+    };
+    check_part(&rule, signature, targets, room)
+}
+
+/// Holds the targets of normal forms.
+fn check_normal(
+    system: &System,
+    index: u32,
+    left: &[Pattern],
+    targets: &[u32],
+    room: &mut PartRoom,
+) -> Result<(), Failure>
+    requires index { IsIndexOf system.now.rules index }
+    requires left_few { length left.now < 2 ^ 32 }
+    requires few { length targets.now < 2 ^ 32 }
+    requires room { HasRoom (suc (words_for (length left.now + 1))) targets.now room.old }
+    ensures step { IsPartStep (normal_local system.now index (map as_pattern left.now)) targets.now
+        room.new result }
+    ensures room { HasRoom (suc (words_for (length left.now + 1))) targets.now room.new }
+{
+    let signature = system.signature();
+    let rules = system.rules(index);
+    let rule = Normal {
+        signature,
+        rules,
+        left,
+    };
+    check_part(&rule, signature, targets, room)
+}
+
+/// Holds the targets of a term.
+fn check_term(
+    system: &System,
+    term: &Term,
+    targets: &[u32],
+    room: &mut PartRoom,
+) -> Result<(), Failure>
+    requires subterms { length (subterms term.now) < 2 ^ 32 }
+    requires few { length targets.now < 2 ^ 32 }
+    requires room { HasRoom 2 targets.now room.old }
+    ensures step { IsPartStep (term_local system.now.signature term.now) targets.now room.new
+        result }
+    ensures room { HasRoom 2 targets.now room.new }
+{
+    let signature = system.signature();
+    check_part(&ThisTerm { signature, term }, signature, targets, room)
+}
+
+/// Holds the targets of the term that the formula names.
+fn check_own_term(
+    system: &System,
+    core: &Core,
+    targets: &[u32],
+    room: &mut PartRoom,
+) -> Result<(), Failure>
+    requires term { IsTermPlan (as_core core.now) }
+    requires few { length targets.now < 2 ^ 32 }
+    requires room { HasRoom 2 targets.now room.old }
+    ensures step { (number : ℕ) (term : Tree) → as_core core.now ≡ theory.Is number term
+        → IsPartStep (term_local system.now.signature term) targets.now room.new result }
+    ensures room { HasRoom 2 targets.now room.new }
+{
+    match core {
+        Core::Is(_, term) => check_term(system, term, targets, room),
+        _ => unreachable!(),
+    }
+}
+
+/// Holds the targets of a product over so many columns.
+fn check_product(
+    op: Op,
+    columns: usize,
+    first: &Operand,
+    second: &Operand,
+    past: &Past<'_>,
+    targets: &[u32],
+    room: &mut PartRoom,
+) -> Result<(), Failure>
+    requires answers { (a b : answers.Answer) × IsAnswerAt past.now first.now.source a
+        × IsAnswerAt past.now second.now.source b × AreJoined past.now.signature.now columns a
+        first.now.places.items b second.now.places.items }
+    requires few { length targets.now < 2 ^ 32 }
+    requires room { HasRoom 3 targets.now room.old }
+    ensures step { (a b : answers.Answer) → IsAnswerAt past.now first.now.source a
+        → IsAnswerAt past.now second.now.source b → IsPartStep (joined_local (connective_of op)
+        columns a first.now.places.items b second.now.places.items) targets.now room.new result }
+    ensures room { HasRoom 3 targets.now room.new }
+{
+    let one = past.answer(first.source);
+    let other = past.answer(second.source);
+    let rule = Both::new(
+        op,
+        factor(&one, &first.places),
+        factor(&other, &second.places),
+        columns,
+    );
+    check_part(&rule, past.signature, targets, room)
+}
+
+/// Holds the targets of a projection.
+fn check_projection(
+    past: &Past<'_>,
+    source: Source,
+    column: usize,
+    targets: &[u32],
+    room: &mut PartRoom,
+    marks: &mut MarkRoom,
+) -> Result<(), Failure>
+    requires body { (table : tables.Table) × IsTableAt past.now source table
+        × (table.signature ≡ past.now.signature.now) × (column < table.columns)
+        × (1 < table.columns) × HasRoom (words_for (length table.presences) + 2) targets.now
+        room.old × HasMarkRoom (length table.presences) 0 marks.old }
+    requires few { length targets.now < 2 ^ 32 }
+    ensures step { (table : tables.Table) → IsTableAt past.now source table
+        → IsPartStep (project_local table column) targets.now room.new result }
+    ensures room { (width : ℕ) → HasRoom width targets.now room.old
+        → HasRoom width targets.now room.new }
+    ensures marks { (states count : ℕ) → HasMarkRoom states count marks.old
+        → HasMarkRoom states count marks.new }
+{
+    let body = past.table(source);
+    marks.states.clear();
+    put_pure(&body, column, &mut marks.states);
+    let rule = Projected::new(&body, column, &marks.states);
+    check_part(&rule, past.signature, targets, room)
+}
+
+/// Holds the targets of "infinitely many".
+fn check_many(
+    past: &Past<'_>,
+    source: Source,
+    column: usize,
+    counts: &[Count],
+    targets: &[u32],
+    room: &mut PartRoom,
+    marks: &mut MarkRoom,
+) -> Result<(), Failure>
+    requires body { (table : tables.Table) × IsTableAt past.now source table
+        × (table.signature ≡ past.now.signature.now) × (column < table.columns)
+        × (1 < table.columns) × HasRoom (words_for (2 * length table.presences) + 2) targets.now
+        room.old × HasMarkRoom (length table.presences) 0 marks.old
+        × ((states : List ℕ) → ArePure table column states
+        → (length counts.now ≡ length states)
+        × KeepRules table column (count_at states (map as_mark counts.now))) }
+    requires few { length targets.now < 2 ^ 32 }
+    ensures step { (table : tables.Table) (states : List ℕ) → IsTableAt past.now source table
+        → ArePure table column states → IsPartStep (many_local table column
+        (λ q. is_infinite (count_at states (map as_mark counts.now) q))) targets.now room.new
+        result }
+    ensures room { (width : ℕ) → HasRoom width targets.now room.old
+        → HasRoom width targets.now room.new }
+    ensures marks { (states count : ℕ) → HasMarkRoom states count marks.old
+        → HasMarkRoom states count marks.new }
+{
+    let body = past.table(source);
+    marks.states.clear();
+    put_pure(&body, column, &mut marks.states);
+    let rule = Many::new(&body, column, &marks.states, counts);
+    check_part(&rule, past.signature, targets, room)
+}
+
+/// Holds the targets of a part against the labels that it is to have.
+pub(crate) fn check_table(
+    system: &System,
+    core: &Core,
+    plan: &Plan,
+    past: &Past<'_>,
+    targets: &[u32],
+    room: &mut PartRoom,
+    marks: &mut MarkRoom,
+) -> Result<(), Failure>
+    requires due { (parts : List theory.Core) × (k : ℕ) × (made : Made) × IsTableDue system.now
+        parts past.now k made (as_core core.now) plan.now targets.now room.old marks.old }
+    ensures step { (parts : List theory.Core) (k : ℕ) (made : Made) → IsTableDue system.now
+        parts past.now k made (as_core core.now) plan.now targets.now room.old marks.old
+        → IsTableStep system.now parts k made (as_core core.now) targets.now room.new result }
+    ensures room { (width : ℕ) → HasRoom width targets.now room.old
+        → HasRoom width targets.now room.new }
+    ensures marks { (states count : ℕ) → HasMarkRoom states count marks.old
+        → HasMarkRoom states count marks.new }
+{
+    match &plan.work {
+        Work::Relation(lists) => check_relation(system, lists, targets, room),
+        Work::Normal(index, left) => check_normal(system, *index, left, targets, room),
+        Work::Term => check_own_term(system, core, targets, room),
+        Work::Product(op, first, second) => {
+            let columns = plan.columns.len();
+            check_product(*op, columns, first, second, past, targets, room)
+        }
+        Work::Projection(source, column) => {
+            check_projection(past, *source, *column, targets, room, marks)
+        }
+        Work::Many(source, column, counts) => {
+            check_many(past, *source, *column, counts, targets, room, marks)
+        }
+        Work::Truth | Work::Negation(_) => unreachable!(),
+    }
+}

@@ -1,0 +1,160 @@
+//! The check of one step, which is the one due at its place.
+ghost use Rattle.std.specs.Prelude.{◌≡◌, ℕ, ◌+◌, ◌<◌, List, map, length, slice_index_or, OnOk, IfErr};
+ghost use Rattle.fort_theory.specs.Patterns.{PatternSystem};
+ghost use Rattle.fort_logic.specs.Cores as theory;
+ghost use Rattle.fort_formulas.specs.CoreView.{as_core};
+ghost use Rattle.fort_certificate_grammar.specs.Certificates as certificates;
+ghost use Rattle.fort_steps.specs.StepView.{as_step, as_pair};
+ghost use Rattle.fort_in_order.specs.Dues as definitions;
+ghost use Rattle.fort_in_order.specs.Made.{Made};
+ghost use Rattle.fort_in_order.specs.Checked.{IsClosureJudged, IsFailing};
+ghost use Rattle.fort_check_steps.specs.StepAnswers.{outcome_of, as_reason};
+ghost use Rattle.fort_cert_checker.specs.Abouts.{IsOnlyAbout};
+ghost use Rattle.fort_cert_checker.specs.Pasts.{IsMarkRoomFor};
+ghost use Rattle.fort_cert_checker.specs.Makings.{IsClosureFor, IsRoomFor};
+ghost use Rattle.fort_cert_checker.specs.declared.plan.Plan as plans;
+ghost use Rattle.fort_cert_checker.specs.Fronts.{IsReady, IsLoopAt, IsStepDue, IsDueBehind, IsFineStep, part_in};
+
+use crate::making::ClosurePlan;
+use crate::past::Past;
+use crate::plan::Plan;
+use crate::step::check_table;
+use crate::value::{check_counts, check_value};
+use fort_check_steps::{Failure, MarkRoom, PartRoom, check_closure};
+use fort_formulas::Core;
+use fort_steps::{ClosureEntry, Step};
+use fort_terms::System;
+
+/// What a check reads.
+#[derive(Clone, Copy)]
+pub(crate) struct Given<'a> {
+    pub system: &'a System,
+    pub steps: &'a [Step],
+    pub parts: &'a [Core],
+    pub plans: &'a [Plan],
+}
+
+fn check_pairs(plan: &mut Option<ClosurePlan>, entries: &[ClosureEntry]) -> Result<(), Failure>
+    requires due { (system : PatternSystem) × (which : certificates.Which) × (index : ℕ)
+        × IsClosureFor system (definitions.OfClosure which index) plan.old }
+    ensures judged { (system : PatternSystem) (which : certificates.Which) (index : ℕ)
+        → IsClosureFor system (definitions.OfClosure which index) plan.old
+        → IsClosureJudged system which index (map as_pair entries.now) (outcome_of result) }
+    ensures kept { (system : PatternSystem) (d : definitions.DueStep)
+        → IsClosureFor system d plan.old → IsClosureFor system d plan.new }
+{
+    match plan {
+        Some(plan) => check_closure(&plan.rules, entries, plan.listed.as_mut_slice()),
+        None => unreachable!(),
+    }
+}
+
+/// A step that names a part.
+fn check_own(
+    given: &Given<'_>,
+    core: &Core,
+    plan: &Plan,
+    step: &Step,
+    front: &[PartRoom],
+    room: &mut PartRoom,
+    marks: &mut MarkRoom,
+) -> Result<(), Failure>
+    requires due { (made : Made) × IsDueBehind given.now.system.now (map as_core given.now.parts.now)
+        (map as_step given.now.steps.now) given.now.plans.now front.now made (as_core core.now) plan.now
+        (as_step step.now) room.old marks.old }
+    ensures fine { OnOk result ((made : Made) → IsDueBehind given.now.system.now
+        (map as_core given.now.parts.now) (map as_step given.now.steps.now) given.now.plans.now front.now made
+        (as_core core.now) plan.now (as_step step.now) room.old marks.old
+        → IsFineStep given.now.system.now (map as_core given.now.parts.now) made (as_step step.now)
+        room.new) }
+    ensures failing { IfErr result (λ e. (made : Made) → IsDueBehind given.now.system.now
+        (map as_core given.now.parts.now) (map as_step given.now.steps.now) given.now.plans.now front.now made
+        (as_core core.now) plan.now (as_step step.now) room.old marks.old
+        → IsFailing given.now.system.now (map as_core given.now.parts.now) made (as_step step.now)
+        e.place (as_reason e.reason)) }
+    ensures room { (ss : List certificates.Step) (p : plans.Plan)
+        → IsOnlyAbout ss (as_step step.now)
+        → IsRoomFor ss (part_in (as_step step.now)) p room.old
+        → IsRoomFor ss (part_in (as_step step.now)) p room.new }
+    ensures marks { (made : Made) → IsDueBehind given.now.system.now
+        (map as_core given.now.parts.now) (map as_step given.now.steps.now) given.now.plans.now front.now made
+        (as_core core.now) plan.now (as_step step.now) room.old marks.old
+        → IsMarkRoomFor (map as_step given.now.steps.now) plan.now.work marks.new }
+{
+    let past = Past {
+        signature: given.system.signature(),
+        steps: given.steps,
+        plans: given.plans,
+        rooms: front,
+    };
+    match step {
+        Step::Part(_, targets) => check_table(
+            given.system,
+            core,
+            plan,
+            &past,
+            targets,
+            room,
+            marks,
+        ),
+        Step::Counts(_, counts) => check_counts(plan, &past, counts, marks),
+        Step::Value(_, value) => check_value(plan, &past, *value, marks),
+        Step::Closure(_, _, _) => unreachable!(),
+    }
+}
+
+/// Checks the step at a place, which is the one that is due there.
+pub(crate) fn check_step(
+    given: &Given<'_>,
+    place: usize,
+    closures: &mut [Option<ClosurePlan>],
+    rooms: &mut [PartRoom],
+    marks: &mut [MarkRoom],
+) -> Result<(), Failure>
+    requires due { (root : theory.Core) × (c : certificates.Certificate) × (made : Made)
+        × (c.steps ≡ map as_step given.now.steps.now)
+        × IsLoopAt given.now.system.now root (map as_core given.now.parts.now) c given.now.plans.now
+        closures.old rooms.old marks.old place made
+        × IsStepDue given.now.system.now (map as_core given.now.parts.now) c place }
+    ensures fine { OnOk result ((root : theory.Core) (c : certificates.Certificate) (made : Made)
+        → c.steps ≡ map as_step given.now.steps.now
+        → IsLoopAt given.now.system.now root (map as_core given.now.parts.now) c given.now.plans.now
+        closures.old rooms.old marks.old place made
+        → IsStepDue given.now.system.now (map as_core given.now.parts.now) c place
+        → (next : Made) × IsLoopAt given.now.system.now root (map as_core given.now.parts.now) c
+        given.now.plans.now closures.new rooms.new marks.new (place + 1) next) }
+    ensures failing { IfErr result (λ e. (root : theory.Core) (c : certificates.Certificate)
+        (made : Made) (s : certificates.Step) → c.steps ≡ map as_step given.now.steps.now
+        → IsLoopAt given.now.system.now root (map as_core given.now.parts.now) c given.now.plans.now
+        closures.old rooms.old marks.old place made
+        → IsStepDue given.now.system.now (map as_core given.now.parts.now) c place
+        → IsFailing given.now.system.now (map as_core given.now.parts.now) made
+        (slice_index_or c.steps place s) e.place (as_reason e.reason)) }
+    ensures ready { (root : theory.Core) (c : certificates.Certificate) (made : Made)
+        → c.steps ≡ map as_step given.now.steps.now
+        → IsLoopAt given.now.system.now root (map as_core given.now.parts.now) c given.now.plans.now
+        closures.old rooms.old marks.old place made
+        → IsStepDue given.now.system.now (map as_core given.now.parts.now) c place
+        → IsReady given.now.system.now root (map as_core given.now.parts.now) c.steps given.now.plans.now
+        closures.new rooms.new marks.new }
+{
+    let step = &given.steps[place];
+    match step {
+        Step::Closure(_, _, entries) => check_pairs(&mut closures[place], entries),
+        Step::Part(k, _) | Step::Counts(k, _) | Step::Value(k, _) => {
+            let part = *k as usize;
+            let core = &given.parts[part];
+            let plan = &given.plans[part];
+            let (front, back) = rooms.split_at_mut(part);
+            check_own(
+                given,
+                core,
+                plan,
+                step,
+                front,
+                &mut back[0],
+                &mut marks[part],
+            )
+        }
+    }
+}
