@@ -9,8 +9,9 @@ use Rattle.fort_answers.specs.SystemAnswer.{Are}
 use Rattle.fort_answers.specs.DecideAnswer.{DecideEarly, DecideAnswer}
 use Rattle.fort_answers.specs.WitnessAnswer.{WitnessEarly, WitnessAnswer}
 use Rattle.fort_answers.specs.SampleAnswer.{SampleAnswer}
+use Rattle.fort_answers.specs.CheckAnswer.{CheckAnswer}
 
--- to no request, and to one that isn't answered yet
+-- to words that are no request
 abbrev pub OwesUsage : ℕ → Text → Type 0
 OwesUsage status text = Are status text usage usage_text
 
@@ -18,24 +19,24 @@ OwesUsage status text = Are status text usage usage_text
 abbrev pub OwesEarly : Request → ℕ → Text → Type 0
 OwesEarly (Decide states certificate formula) status text = DecideEarly formula status text
 OwesEarly (Witness states formula) status text = WitnessEarly formula status text
-OwesEarly (Check formula) status text = OwesUsage status text
+OwesEarly (Check formula) status text = DecideEarly formula status text
 OwesEarly (Sample n) status text = SampleAnswer n status text
 
 -- what a request owes for these bytes
 abbrev pub Owes : Request → Text → ℕ → Text → Type 0
 Owes (Decide states certificate formula) bytes status text = DecideAnswer states certificate formula bytes status text
 Owes (Witness states formula) bytes status text = WitnessAnswer states formula bytes status text
-Owes (Check formula) bytes status text = OwesUsage status text
+Owes (Check formula) bytes status text = CheckAnswer formula bytes status text
 Owes (Sample n) bytes status text = SampleAnswer n status text
 
 -- a request for which the input is read
 abbrev pub NeedsInput : Request → Type 0
 NeedsInput (Decide states certificate formula) = (f : Formula) × IsAcceptedClosed formula f
 NeedsInput (Witness states formula) = (f : Formula) × IsAccepted formula f
-NeedsInput (Check formula) = ⊥
+NeedsInput (Check formula) = (f : Formula) × IsAcceptedClosed formula f
 NeedsInput (Sample n) = ⊥
 
--- a request about this formula, that this text is, with this cap
+-- a request to decide about this formula, that this text is, with this cap
 abbrev pub AsksAbout : Request → ℕ → Text → Formula → Type 0
 AsksAbout (Decide states certificate formula) cap text f = (cap ≡ states) × (text ≡ formula) × IsAcceptedClosed formula f
 AsksAbout (Witness states formula) cap text f = (cap ≡ states) × (text ≡ formula) × IsAccepted formula f

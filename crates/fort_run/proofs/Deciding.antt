@@ -30,6 +30,7 @@ use Rattle.fort_engine.specs.declared.answer.Last.TheVariants.{Truth as Value, A
 use Rattle.fort_engine.specs.AnswerView.{as_answer, IsLimit}
 use Rattle.fort_lockstep.specs.declared.dta.Dta.{Dta}
 use Rattle.fort_tables.specs.Tables.{listed_table}
+use Rattle.fort_run.specs.Certified.{IsTruth}
 use Rattle.fort_run.specs.Ready.{IsLawful, IsReady, IsDecidedBy}
 use Rattle.fort_run.proofs.SomeParts.{some_parts}
 
@@ -91,6 +92,13 @@ module _ (p : System) (lawful : IsLawful p) (f : Formula) (terms : List Tree) (l
 
     pub false_verdict : b ≡ false → TruthVerdict p terms f negative no_line
     false_verdict e = No (λ m ground given h. let one = (says m ground given).1 h in let zero : false ≡ true = sym e ∙ one in cc) (record { same_status = refl; same_text = refl })
+
+    -- what the core formula comes to is the formula's truth
+    pub is_truth : IsTruth b p terms f
+    is_truth = elim b as (λ x. ((m : Assignment) → IsGroundAssignment (structure_of p) m → GivesTerms terms m → Decides x (Holds (structure_of p) f m)) → IsTruth x p terms f) [
+      | true ↦ (λ s. λ m ground given. (s m ground given).0 refl)
+      | false ↦ (λ s. λ m ground given h. let one = (s m ground given).1 h in absurd cc)
+    ] says
 
 -- a closed formula has no table
 pub no_table : (f : Formula) (system : PatternSystem) (terms : List Tree) (last : Last) (table : Dta) → last ≡ Auto table → free_names f ≡ []

@@ -1,6 +1,10 @@
 pub mod FormulaRefusals
+pub mod InputStages
 pub mod OneInput
+pub mod OneCheck
+pub mod CheckReplies
 pub mod OneAnswer
+pub mod PrintedCertificates
 pub mod Replies
 pub mod Fitting
 pub mod LinearRules

@@ -11,6 +11,8 @@ use Rattle.fort_theory.proofs.IndexLaws.{at_index-get}
 use Rattle.fort_grammar.specs.Forms.{Form}
 use Rattle.fort_grammar.specs.RuleForms.{IsSide, IndexedRule, IsRule, AreRules, rules_of}
 use Rattle.fort_grammar.specs.ProblemForms.{IsProblem}
+use Rattle.fort_certificate_grammar.specs.Certificates.{Certificate}
+use Rattle.fort_answers.specs.CheckAnswer.{IsCertifiedInput}
 use Rattle.fort_answers.specs.InputAnswer.{IsInput}
 use Rattle.fort_run.specs.Ready.{IsLawful}
 use Rattle.fort_ari.proofs.SideLaws.{variables-IsSide}
@@ -83,9 +85,12 @@ IsProblem-separated bytes forms system next p =
     (λ r c. separated_rules bytes (length system.rules) system.signature p.rules p.given p.are_rules (suc i) r c) (rules_of (suc i) p.given)
     (All-contains_itself (rules_of (suc i) p.given))))
 
--- Result
+IsProblem-lawful : (bytes : List ℕ) (forms : List Form) (system : System) (next : ℕ) → IsProblem bytes forms system next → IsLawful system
+IsProblem-lawful bytes forms system next p = record { constant = p.constant; separated = IsProblem-separated bytes forms system next p }
+
+-- Results
 pub IsInput-lawful : (bytes : List ℕ) (system : System) → IsInput bytes system → IsLawful system
-IsInput-lawful bytes system is = record {
-  constant = is.problem.problem.constant;
-  separated = IsProblem-separated bytes _ system _ is.problem.problem;
-}
+IsInput-lawful bytes system is = IsProblem-lawful bytes _ system _ is.problem.problem
+
+pub IsCertifiedInput-lawful : (bytes : List ℕ) (system : System) (c : Certificate) → IsCertifiedInput bytes system c → IsLawful system
+IsCertifiedInput-lawful bytes system c is = IsProblem-lawful bytes _ system _ is.problem

@@ -24,6 +24,7 @@ use Rattle.fort_answers.specs.DecideAnswer as decide
 use Rattle.fort_answers.specs.WitnessAnswer.{AreWitnesses, AreLeastWitnesses, bindings, WitnessVerdict, Found, NotFound, WitnessEarly, WitnessAnswer}
 use Rattle.fort_answers.specs.WitnessAnswer as witness
 use Rattle.fort_answers.specs.CertificateAnswer.{CertificateVerdict}
+use Rattle.fort_answers.specs.CheckAnswer as check
 use Rattle.fort_answers.specs.FormulaAnswer.{IsAccepted, IsAcceptedClosed}
 use Rattle.fort_answers.specs.FitAnswer.{FitsSystem, IsUnfit}
 use Rattle.fort_answers.specs.InputAnswer.{IsInput}
@@ -35,6 +36,8 @@ use Rattle.fort_answers.proofs.OneSample.{SampleAnswer-unique}
 use Rattle.fort_answers.proofs.SampleSizes.{sample_sizes}
 use Rattle.fort_answers.proofs.OneCap.{PassesCap-unique, PassesCap-not_kept}
 use Rattle.fort_run.specs.Answered.{Answers, OwesOnly, OwesOnlyEarly, IsDecidable, IsDecidableWithin}
+use Rattle.fort_run.specs.Certified.{IsCheckable}
+use Rattle.fort_run.proofs.OneCheck.{CheckAnswer-unique, check_low}
 use Rattle.fort_run.proofs.OneInput.{IsInputRefused-unique, IsInput-not_refused, IsInput-unique}
 use Rattle.fort_run.proofs.WitnessTruth.{terms-one}
 
@@ -244,7 +247,7 @@ pub owed-unique : (request : Option Request) (bytes : Text) (s s' : ℕ) (t t' :
 owed-unique None bytes s s' t t' size one other = Are-unique usage usage_text s s' t t' one other
 owed-unique (Some (Decide states certificate formula)) bytes s s' t t' size one other = DecideAnswer-unique states certificate formula bytes s s' t t' one other
 owed-unique (Some (Witness states formula)) bytes s s' t t' size one other = WitnessAnswer-unique states formula bytes s s' t t' one other
-owed-unique (Some (Check formula)) bytes s s' t t' size one other = Are-unique usage usage_text s s' t t' one other
+owed-unique (Some (Check formula)) bytes s s' t t' size one other = CheckAnswer-unique formula bytes s s' t t' one other
 owed-unique (Some (Sample n)) bytes s s' t t' size one other = SampleAnswer-unique n s s' t t' size.low one other
 
 -- what is owed before anything is read is owed for any bytes
@@ -252,7 +255,7 @@ pub owed_from_early : (request : Option Request) (bytes : Text) (s : ℕ) (t : T
 owed_from_early None bytes s t owes = owes
 owed_from_early (Some (Decide states certificate formula)) bytes s t owes = decide.Early owes
 owed_from_early (Some (Witness states formula)) bytes s t owes = witness.Early owes
-owed_from_early (Some (Check formula)) bytes s t owes = owes
+owed_from_early (Some (Check formula)) bytes s t owes = check.Early owes
 owed_from_early (Some (Sample n)) bytes s t owes = owes
 
 -- what a source tells is some bytes
@@ -298,3 +301,10 @@ module _ (words : List Text) (told old new : Option Text) (status : ℕ) (given 
 
   pub Answers-kept : IsDecidableWithin words told → status ≤ negative
   Answers-kept is = elim (decided_or_over is.decidable) [ inl low ↦ low | inr over ↦ absurd (over.1 is.keeps) ]
+
+  pub Answers-checked : IsCheckable words told → status ≤ negative
+  Answers-checked is =
+      let at_bytes : OwesTold (request_of words) (Some is.bytes) status given.text =
+      subst (λ o. OwesTold (request_of words) o status given.text) is.told_are given.owed in
+      check_low is.formula is.bytes is.f is.system is.certificate is.terms status given.text is.accepted is.input is.fits
+      (subst (λ r. owed r is.bytes status given.text) is.asked at_bytes)

@@ -19,18 +19,20 @@ use Rattle.fort_ari.specs.declared.fault.ProblemFault.{ProblemFault as ariFault}
 use Rattle.fort_ari.specs.Faults.{as_fault}
 use Rattle.fort_io.specs.Devices.{Takes}
 use Rattle.fort_answers.specs.CommandGrammar.{request_of}
-use Rattle.fort_answers.specs.Requests.{Text}
+use Rattle.fort_answers.specs.Requests.{Text, Request}
 use Rattle.fort_answers.specs.Lines.{input_too_long, problem_fault_line, refused}
 use Rattle.fort_answers.specs.SystemAnswer.{Are, IsAnswerable, IsUnanswerable, InputRefused, FormulaUnfit, Limited}
 use Rattle.fort_answers.specs.DecideAnswer.{Decided}
 use Rattle.fort_answers.specs.DecideAnswer as decide
 use Rattle.fort_answers.specs.WitnessAnswer.{Answered}
 use Rattle.fort_answers.specs.WitnessAnswer as witness
-use Rattle.fort_answers.specs.Answer.{IsAbout}
+use Rattle.fort_answers.specs.Answer.{IsAbout, owed, OwesTold}
 use Rattle.fort_answers.specs.FitAnswer.{FitsSystem, IsUnfit}
 use Rattle.fort_answers.specs.InputAnswer.{IsInput, IsInputRefused, TooLong, NoForms, NoProblem, FormBehind, input_limit}
 use Rattle.fort_answers.proofs.OneVerdict.{accepted-not_refused, closed-not_refused}
-use Rattle.fort_run.specs.Refusals.{SaysProblemFault, SaysTextFault}
+use Rattle.fort_run.specs.Refusals.{SaysProblemFault, SaysTextFault, IsTextRefused, IsProblemRefused, Refuses, RefusesInput}
+use Rattle.fort_run.specs.declared.refusal.Refusal.{Refusal}
+use Rattle.fort_run.specs.declared.refusal.Refusal.TheVariants as refusals
 use Rattle.fort_engine.specs.declared.answer.Limit.{Limit}
 use Rattle.fort_engine.specs.AnswerView.{IsLimit}
 use Rattle.fort_run.specs.Limits.{HasLimitTold, IsLimitOf}
@@ -58,24 +60,35 @@ pub few_forms : (bytes : Text) (forms : Forms) → AreFormsOf bytes forms → fo
 few_forms bytes forms are = let r = forms_within bytes 0 (length bytes) forms are.stand in omega arith
 
 -- the lines of a text's faults
-pub text_refused : (bytes : Text) (fault : SFault) (line : Text) → length bytes ≤ input_limit
-    → IsFirstFaultUnlessMemory bytes fault → SaysTextFault fault line → IsInputRefused bytes line
-text_refused bytes sfaults.Memory line short first says = absurd says
-text_refused bytes (sfaults.BadByte i) line short first says = NoForms short (BadByte i) first says
-text_refused bytes (sfaults.ExtraClose i) line short first says = NoForms short (ExtraClose i) first says
-text_refused bytes (sfaults.Unclosed i) line short first says = NoForms short (Unclosed i) first says
-text_refused bytes (sfaults.TooDeep i) line short first says = NoForms short (TooDeep i) first says
+pub text_refused : (bytes : Text) (fault : SFault) (line : Text) → IsFirstFaultUnlessMemory bytes fault → SaysTextFault fault line → IsTextRefused bytes line
+text_refused bytes sfaults.Memory line first says = absurd says
+text_refused bytes (sfaults.BadByte i) line first says = record { fault = BadByte i; first = first; says = says }
+text_refused bytes (sfaults.ExtraClose i) line first says = record { fault = ExtraClose i; first = first; says = says }
+text_refused bytes (sfaults.Unclosed i) line first says = record { fault = Unclosed i; first = first; says = says }
+text_refused bytes (sfaults.TooDeep i) line first says = record { fault = TooDeep i; first = first; says = says }
 
-refused_by : (bytes : Text) (forms : Forms) (fault : Option ProblemFault) (line : Text) → length bytes ≤ input_limit
-    → AreFormsOf bytes forms → IfSome fault (IsFirstProblemFault bytes (as_list forms)) → MatchOption fault ⊥ (λ x. line ≡ problem_fault_line x)
-    → IsInputRefused bytes line
-refused_by bytes forms None line short are first says = absurd says
-refused_by bytes forms (Some x) line short are first says = NoProblem short forms are x first says
+refused_by : (bytes : Text) (forms : Forms) (fault : Option ProblemFault) (line : Text) → IfSome fault (IsFirstProblemFault bytes (as_list forms))
+    → MatchOption fault ⊥ (λ x. line ≡ problem_fault_line x) → IsProblemRefused bytes forms line
+refused_by bytes forms None line first says = absurd says
+refused_by bytes forms (Some x) line first says = record { fault = x; first = first; says = says }
 
 -- the lines of a problem's faults
-pub problem_refused : (bytes : Text) (forms : Forms) (fault : ariFault) (line : Text) → length bytes ≤ input_limit
-    → AreFormsOf bytes forms → IfSome (as_fault fault) (IsFirstProblemFault bytes (as_list forms)) → SaysProblemFault fault line → IsInputRefused bytes line
-problem_refused bytes forms fault line short are first says = refused_by bytes forms (as_fault fault) line short are first says
+pub problem_refused : (bytes : Text) (forms : Forms) (fault : ariFault) (line : Text) → IfSome (as_fault fault) (IsFirstProblemFault bytes (as_list forms))
+    → SaysProblemFault fault line → IsProblemRefused bytes forms line
+problem_refused bytes forms fault line first says = refused_by bytes forms (as_fault fault) line first says
+
+-- a refusal for one cause is one for another
+pub refuses_by : (P Q : List ℕ → Type 0) (r : Refusal) → ((line : List ℕ) → P line → Q line) → Refuses P r → Refuses Q r
+refuses_by P Q refusals.Memory by says = tt
+refuses_by P Q (refusals.Line line) by says = by line.items says
+
+pub system_text_refused : (bytes : Text) (r : Refusal) → length bytes ≤ input_limit → Refuses (IsTextRefused bytes) r → RefusesInput bytes r
+system_text_refused bytes r short = refuses_by (IsTextRefused bytes) (IsInputRefused bytes) r (λ line t. NoForms short t.fault t.first t.says)
+
+pub system_problem_refused : (bytes : Text) (forms : Forms) (r : Refusal) → length bytes ≤ input_limit → AreFormsOf bytes forms
+    → Refuses (IsProblemRefused bytes forms) r → RefusesInput bytes r
+system_problem_refused bytes forms r short are =
+    refuses_by (IsProblemRefused bytes forms) (IsInputRefused bytes) r (λ line p. NoProblem short forms are p.fault p.first p.says)
 
 pub form_behind : (bytes : Text) (forms : Forms) (system : System) (next : ℕ) (line : Text) → length bytes ≤ input_limit
     → AreFormsOf bytes forms → IsProblem bytes (as_list forms) system next → next < form_count forms → line ≡ problem_fault_line (BadForm next)
@@ -101,9 +114,26 @@ longer_than : (n : ℕ) → (bytes : List ℕ) × (n < length bytes)
 longer_than zero = (0 ∷ [], omega arith)
 longer_than (suc n) = let r = longer_than n in (0 ∷ r.0, omega (arith, r.1))
 
+-- the bytes that were read, all of them, are those that were told
+pub told_are : (old new : Option Text) (bytes : Text) → Consumes old new bytes → IsAtEnd new → IfSome old (λ b. b ≡ bytes)
+told_are None new bytes taken end = tt
+told_are (Some xs) None bytes taken end = absurd taken
+told_are (Some xs) (Some ys) bytes taken end = taken ∙ ap (λ w. bytes ++ w) end ∙ append-nil bytes
+
+pub owes_told : (request : Option Request) (told : Option Text) (bytes : Text) (status : ℕ) (line : Text) → IfSome told (λ b. b ≡ bytes)
+    → owed request bytes status line → OwesTold request told status line
+owes_told request None bytes status line are answer = (bytes, answer)
+owes_told request (Some xs) bytes status line are answer = subst (λ b. owed request b status line) (sym are) answer
+
+-- what is refused for its length is so for what was told
+pub long_told : (request : Option Request) (told : Option Text) (status : ℕ) (line : Text) → ((bytes : Text) → input_limit < length bytes → owed request bytes status line)
+    → IfSome told (λ bytes. input_limit < length bytes) → OwesTold request told status line
+long_told request None status line owes long = let some = longer_than input_limit in (some.0, owes some.0 some.1)
+long_told request (Some bytes) status line owes long = owes bytes long
+
 -- ---- questions
 
-are : (status : ℕ) (text : Text) → Are status text status text
+pub are : (status : ℕ) (text : Text) → Are status text status text
 are status text = record { same_status = refl; same_text = refl }
 
 pub needs : (question : Question) (text : Text) (f : Formula) → IsAskable question text f → QuestionNeedsInput question text
@@ -186,16 +216,8 @@ module _ (question : Question) (states : ℕ) (text : Text) where
   -- the answer for the bytes that were read, all of them
   pub answer_told : (old new : Option Text) (bytes : Text) (status : ℕ) (line : Text) → Consumes old new bytes → IsAtEnd new
       → AnswersQuestion question states text bytes status line → OwesToQuestion question states text old status line
-  answer_told None new bytes status line taken end answer = (bytes, answer)
-  answer_told (Some xs) None bytes status line taken end answer = absurd taken
-  answer_told (Some xs) (Some ys) bytes status line taken end answer =
-      let whole : xs ≡ bytes = taken ∙ ap (λ w. bytes ++ w) end ∙ append-nil bytes in
-      subst (λ b. AnswersQuestion question states text b status line) (sym whole) answer
-
-  told_are : (old new : Option Text) (bytes : Text) → Consumes old new bytes → IsAtEnd new → IfSome old (λ b. b ≡ bytes)
-  told_are None new bytes taken end = tt
-  told_are (Some xs) None bytes taken end = absurd taken
-  told_are (Some xs) (Some ys) bytes taken end = taken ∙ ap (λ w. bytes ++ w) end ∙ append-nil bytes
+  answer_told old new bytes status line taken end answer =
+      owes_told (Some (request_for question states text)) old bytes status line (told_are old new bytes taken end) answer
 
   -- the same of a limit
   pub limit_told : (old new : Option Text) (bytes line : Text) (limit : Option Limit) → Consumes old new bytes → IsAtEnd new
@@ -205,10 +227,9 @@ module _ (question : Question) (states : ℕ) (text : Text) where
 
   pub too_long_told : (f : Formula) (told : Option Text) → IsAskable question text f → IfSome told (λ bytes. input_limit < length bytes)
       → OwesToQuestion question states text told refused input_too_long
-  too_long_told f None askable long =
-      let some = longer_than input_limit in
-      (some.0, input_refused f some.0 input_too_long askable (TooLong some.1 refl))
-  too_long_told f (Some bytes) askable long = input_refused f bytes input_too_long askable (TooLong long refl)
+  too_long_told f told askable long =
+      long_told (Some (request_for question states text)) told refused input_too_long
+      (λ bytes over. input_refused f bytes input_too_long askable (TooLong over refl)) long
 
 -- the line of a limit was written
 pub limit_written : (words : List Text) (told old new : Option Text) (line written : Text) (limit : Option Limit)

@@ -4,7 +4,7 @@ use Rattle.std.proofs.Common.{refl, inl, inr, sym, subst, ◌∙◌, arith, true
 use Rattle.fort_answers.specs.Lines.{negative, limited, out_of_memory, last_answer}
 use Rattle.fort_engine.specs.declared.answer.Limit.{Limit}
 use Rattle.fort_run.specs.declared.reply.Reply.{Reply}
-use Rattle.fort_run.specs.declared.reply.Reply.TheVariants.{Usage, Refused, InputTooLong, Limited, Yes, No, Found, NotFound, Certificate, Sampled}
+use Rattle.fort_run.specs.declared.reply.Reply.TheVariants.{Usage, Refused, InputTooLong, Limited, Yes, No, Found, NotFound, Certificate, Sampled, Certified, Rejected}
 use Rattle.fort_run.specs.ReplyView.{status_of, limit_of}
 
 shown : (r : Reply) → IsSome (limit_of r) ↔ (status_of r ≡ limited)
@@ -18,6 +18,8 @@ shown (Found text) = ((λ h. absurd (true≢false (sym h))), (λ e. absurd (omeg
 shown NotFound = ((λ h. absurd (true≢false (sym h))), (λ e. absurd (omega arith)))
 shown (Certificate text) = ((λ h. absurd (true≢false (sym h))), (λ e. absurd (omega arith)))
 shown (Sampled text) = ((λ h. absurd (true≢false (sym h))), (λ e. absurd (omega arith)))
+shown (Certified verdict) = ((λ h. absurd (true≢false (sym h))), (λ e. absurd (omega arith)))
+shown (Rejected line) = ((λ h. absurd (true≢false (sym h))), (λ e. absurd (omega arith)))
 
 pub limit_shown : (r : Reply) (limit : Option Limit) (status : ℕ) → limit ≡ limit_of r → status ≡ status_of r → IsSome limit ↔ (status ≡ limited)
 limit_shown r limit status same is =
@@ -34,6 +36,8 @@ low (Found text) = omega arith
 low NotFound = omega arith
 low (Certificate text) = omega arith
 low (Sampled text) = omega arith
+low (Certified verdict) = omega arith
+low (Rejected line) = omega arith
 
 pub status_low : (r : Reply) (status : ℕ) → status ≡ status_of r → status ≤ last_answer
 status_low r status is = subst (λ s. s ≤ last_answer) (sym is) (low r)

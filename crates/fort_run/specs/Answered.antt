@@ -38,7 +38,7 @@ pub record CutsShort (words : List Text) (told : Option Text) (old new : Option 
 abbrev pub ReadsWhole : Option Text → Option Text → Type 0
 ReadsWhole old new = IsAtEnd new ⊎ IfSome old (λ bytes. input_limit < length bytes)
 
--- the words ask about a formula, and the bytes are a system with all that the formula speaks of
+-- the words ask to decide a formula or to find terms for it, and the bytes are a system with all that the formula speaks of
 pub record IsDecidable (words : List Text) (told : Option Text) : Type 0 where
   pub states : ℕ
   pub formula : Text

@@ -9,3 +9,5 @@ pub mod Posed
 pub mod Answered
 pub mod Witnesses
 pub mod Samples
+pub mod Certified
+pub mod Checked

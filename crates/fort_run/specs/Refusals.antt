@@ -3,14 +3,21 @@ use Rattle.std.specs.Prelude.{◌≡◌, List, ℕ, MatchOption}
 use Rattle.fort_theory.specs.Signatures.{Signature}
 use Rattle.fort_formula_grammar.specs.FormulaText.{Ground}
 use Rattle.fort_answers.specs.FitAnswer.{IsFirstWithoutTerm}
-use Rattle.fort_grammar.specs.Text.{BadByte, ExtraClose, Unclosed, TooDeep}
+use Rattle.fort_grammar.specs.Text.{TextFault, IsFirstFault, BadByte, ExtraClose, Unclosed, TooDeep}
+use Rattle.fort_grammar.specs.Forms.{Forms}
+use Rattle.fort_grammar.specs.Declarations as grammar
+use Rattle.fort_grammar.specs.Declarations.{as_list}
+use Rattle.fort_grammar.specs.ProblemForms.{IsFirstProblemFault}
 use Rattle.fort_sexpr.specs.declared.fault.SFault.{SFault}
 use Rattle.fort_sexpr.specs.declared.fault.SFault.TheVariants as faults
 use Rattle.fort_ari.specs.declared.fault.ProblemFault.{ProblemFault}
 use Rattle.fort_ari.specs.Faults.{as_fault}
 use Rattle.fort_formula_parser.specs.declared.fault.FFault.{FFault}
 use Rattle.fort_formula_parser.specs.Faults.{as_formula_fault}
+use Rattle.fort_certificate.specs.declared.fault.CertificateFault.{CertificateFault}
+use Rattle.fort_certificate.specs.Faults as certificates
 use Rattle.fort_answers.specs.InputAnswer.{IsInputRefused}
+use Rattle.fort_answers.specs.CheckAnswer.{IsCertifiedInputRefused, certificate_fault_line}
 use Rattle.fort_answers.specs.Lines.{formula_fault_line, formula_term, text_fault_line, problem_fault_line}
 use Rattle.fort_run.specs.declared.question.Question.{Question}
 use Rattle.fort_run.specs.Asked.{IsRefusedBy}
@@ -27,6 +34,9 @@ SaysTextFault (faults.TooDeep i) line = line ≡ text_fault_line (TooDeep i)
 abbrev pub SaysProblemFault : ProblemFault → List ℕ → Type 0
 SaysProblemFault fault line = MatchOption (as_fault fault) ⊥ (λ f. line ≡ problem_fault_line f)
 
+abbrev pub SaysCertificateFault : CertificateFault → List ℕ → Type 0
+SaysCertificateFault fault line = MatchOption (certificates.as_fault fault) ⊥ (λ f. line ≡ certificate_fault_line f)
+
 abbrev pub SaysFormulaFault : FFault → List ℕ → Type 0
 SaysFormulaFault fault line = MatchOption (as_formula_fault fault) ⊥ (λ f. line ≡ formula_fault_line f)
 
@@ -39,9 +49,25 @@ Refuses P (refusal.Line line) = P line.items
 abbrev pub RefusesFormula : Question → List ℕ → Refusal → Type 0
 RefusesFormula question text = Refuses (IsRefusedBy question text)
 
+-- the line says the first fault of a text
+pub record IsTextRefused (bytes line : List ℕ) : Type 0 where
+  pub fault : TextFault
+  pub first : IsFirstFault bytes fault
+  pub says : line ≡ text_fault_line fault
+
+-- that of the forms of a text as a problem
+pub record IsProblemRefused (bytes : List ℕ) (forms : Forms) (line : List ℕ) : Type 0 where
+  pub fault : grammar.ProblemFault
+  pub first : IsFirstProblemFault bytes (as_list forms) fault
+  pub says : line ≡ problem_fault_line fault
+
 -- the refusal of an input is owed to it
 abbrev pub RefusesInput : List ℕ → Refusal → Type 0
 RefusesInput bytes = Refuses (IsInputRefused bytes)
+
+-- likewise of one with a certificate
+abbrev pub RefusesCertified : List ℕ → Refusal → Type 0
+RefusesCertified bytes = Refuses (IsCertifiedInputRefused bytes)
 
 -- the line names the first braces in which no ground term stands
 pub record NamesTerm (signature : Signature) (grounds : List Ground) (line : List ℕ) : Type 0 where

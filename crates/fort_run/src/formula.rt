@@ -20,7 +20,7 @@ use fort_io::{ReadAll, Source, read_all};
 use std::alloc::{AllocError, Global};
 
 /// The most bytes of an input.
-const INPUT_LIMIT: usize = 67_108_864;
+pub const INPUT_LIMIT: usize = 67_108_864;
 
 /// Why there is no reply.
 #[derive(Clone, Copy, Debug, PartialEq, Eq)]

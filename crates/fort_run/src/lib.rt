@@ -2,6 +2,8 @@
 #![tactic(auto)]
 
 mod accepted;
+mod certified;
+mod checked;
 mod fit;
 mod formula;
 mod input;
@@ -9,6 +11,7 @@ mod limit;
 mod outcome;
 mod question;
 mod refusal;
+mod rejection;
 mod reply;
 mod sample;
 mod status;

@@ -1,9 +1,11 @@
 //! The lines that refuse formulas and inputs.
 ghost use Rattle.std.specs.Prelude.{◌≡◌, ◌++◌, IfOk, OnOk, decimal};
 ghost use Rattle.fort_answers.specs.Lines as lines;
-ghost use Rattle.fort_run.specs.Refusals.{SaysFormulaFault, SaysProblemFault, SaysTextFault};
+ghost use Rattle.fort_answers.specs.CheckAnswer.{certificate_line as certificate_line_lem};
+ghost use Rattle.fort_run.specs.Refusals.{SaysCertificateFault, SaysFormulaFault, SaysProblemFault, SaysTextFault};
 
 use fort_ari::ProblemFault;
+use fort_certificate::CertificateFault;
 use fort_formula_parser::FFault;
 use fort_sexpr::SFault;
 use itoa::Buffer;
@@ -128,5 +130,28 @@ pub fn problem_line(alloc: Global, fault: &ProblemFault) -> Result<Vec<u8>, Allo
         ProblemFault::LeftRepeats(i, name) => form_line(alloc, *i, b" left side repeats ", name),
         ProblemFault::RightRepeats(i, name) => form_line(alloc, *i, b" right side repeats ", name),
         ProblemFault::Shares(i, name) => form_line(alloc, *i, b" sides share ", name),
+    }
+}
+
+/// The line of a refusal of the form with a number, as one of a certificate: what it is.
+fn certificate_form(alloc: Global, i: u32, what: &[u8]) -> Result<Vec<u8>, AllocError>
+    ensures { IfOk result (λ line. line.items ≡ certificate_line_lem i what.now) }
+{
+    let mut line = Vec::from_slice(alloc, b"REFUSED certificate form ")?;
+    push_number(&mut line, i as usize)?;
+    line.extend_from_slice(what)?;
+    line.push(b'\n')?;
+    Ok(line)
+}
+
+/// The line of a certificate's first fault.
+pub fn certificate_line(alloc: Global, fault: CertificateFault) -> Result<Vec<u8>, AllocError>
+    ensures { IfOk result (λ line. SaysCertificateFault fault line.items) }
+{
+    match fault {
+        CertificateFault::Memory => Err(AllocError),
+        CertificateFault::BadForm(i) => certificate_form(alloc, i, b" bad form"),
+        CertificateFault::BadNumber(i) => certificate_form(alloc, i, b" bad number"),
+        CertificateFault::Version(i) => certificate_form(alloc, i, b" version"),
     }
 }

@@ -24,6 +24,10 @@ pub enum Reply {
     Certificate(Vec<u8>),
     /// The whole text of a sample.
     Sampled(Vec<u8>),
+    /// A certificate is in order, with this verdict.
+    Certified(bool),
+    /// The line that tells which form of a certificate fails.
+    Rejected(Vec<u8>),
 }
 
 const USAGE: &str = "usage: fort decide [--states N] [--certificate] FORMULA
@@ -37,10 +41,9 @@ impl Reply {
         ensures { code_of result ≡ status_of self.now }
     {
         match self {
-            Reply::Yes | Reply::Found(_) | Reply::Certificate(_) | Reply::Sampled(_) => {
-                Status::Positive
-            }
-            Reply::No | Reply::NotFound => Status::Negative,
+            Reply::Yes | Reply::Found(_) | Reply::Certificate(_) => Status::Positive,
+            Reply::Sampled(_) | Reply::Certified(_) => Status::Positive,
+            Reply::No | Reply::NotFound | Reply::Rejected(_) => Status::Negative,
             Reply::Usage => Status::Usage,
             Reply::Limited(_, _) => Status::Limited,
             Reply::Refused(_) | Reply::InputTooLong => Status::Refused,
@@ -52,12 +55,14 @@ impl Reply {
     {
         match self {
             Reply::Usage => USAGE.as_bytes(),
-            Reply::Refused(line) | Reply::Limited(line, _) => line,
+            Reply::Refused(line) | Reply::Limited(line, _) | Reply::Rejected(line) => line,
             Reply::Found(text) | Reply::Certificate(text) | Reply::Sampled(text) => text,
             Reply::NotFound => b"NONE\n",
             Reply::InputTooLong => b"REFUSED input too long\n",
             Reply::Yes => b"YES\n",
             Reply::No => b"NO\n",
+            Reply::Certified(true) => b"CERTIFIED YES\n",
+            Reply::Certified(false) => b"CERTIFIED NO\n",
         }
     }
 

@@ -5,9 +5,9 @@ ghost use Rattle.fort_run.specs.StatusView.{code_of};
 /// How a run ended.
 #[derive(Clone, Copy, Debug, PartialEq, Eq)]
 pub enum Status {
-    /// YES, WITNESS, a certificate or a sample.
+    /// YES, WITNESS, a certificate, a sample or CERTIFIED.
     Positive,
-    /// NO or NONE.
+    /// NO, NONE or REJECTED.
     Negative,
     /// The usage text.
     Usage,

@@ -24,6 +24,24 @@ const NONE_NORMAL: &str = "(certificate 1 no)
 (value 1 no)
 ";
 
+/// Each term reaches infinitely many.
+const GROWING: &str = "(format TRS)
+(fun a 0)
+(fun f 1)
+(rule a (f a))
+";
+
+const ALL_GROW: &str = "(certificate 1 yes)
+(closure star (0 0 kids))
+(part 0 0 1 2 3 4 5 6 7 3 4 7 5 6 8 7 8)
+(counts 1 (fin 0) (inf 3))
+(part 1 0 1 2 2)
+(value 3 no)
+(value 4 yes)
+";
+
+const EACH_GROWS: &str = "forall x (infinite y (x ->* y))";
+
 const SAMPLE: &str = "sample 1
 CR NO
 WCR NO
@@ -149,6 +167,72 @@ fn samples_cut_short(rt: HostRuntime) -> Result<(), Fail> {
         assert_eq!(rt; outcome.status, status, "{text}");
         assert_eq!(rt; sink.taken(), text.as_bytes(), "{status}");
         assert!(rt; outcome.limit.is_none(), "{status}");
+    }
+    Ok(())
+}
+
+/// The problem of growing terms and its certificate.
+fn certified(alloc: Global) -> Result<String, AllocError> {
+    let mut text = String::from_str(alloc, GROWING)?;
+    text.push_str(ALL_GROW)?;
+    Ok(text)
+}
+
+#[test]
+fn checks_at_failing_sources(rt: HostRuntime) -> Result<(), Fail> {
+    let alloc = rt.alloc();
+    let input = certified(alloc)?;
+    let words = strings(alloc, &["fort", "check", EACH_GROWS])?;
+    let pieces = input.len().div_ceil(16) as u64;
+    // At the last call there is nothing left to read.
+    for call in 0..pieces + 2 {
+        let mut source = MemSource::new(alloc, input.as_bytes(), 16, &[call])?;
+        let mut sink = MemSink::new(alloc, 100, 100, &[])?;
+        let outcome = run(alloc, words.as_slice(), &mut source, &mut sink);
+        let (status, text) = if call <= pieces {
+            (6, "")
+        } else {
+            (0, "CERTIFIED YES\n")
+        };
+        assert_eq!(rt; outcome.status, status, "call {call}");
+        assert_eq!(rt; sink.taken(), text.as_bytes(), "call {call}");
+    }
+    Ok(())
+}
+
+#[test]
+fn certificates_at_failing_sinks(rt: HostRuntime) -> Result<(), Fail> {
+    let alloc = rt.alloc();
+    let words = strings(alloc, &["fort", "decide", "--certificate", EACH_GROWS])?;
+    let pieces = ALL_GROW.len().div_ceil(16) as u64;
+    for call in 0..pieces + 1 {
+        let mut source = MemSource::new(alloc, GROWING.as_bytes(), 16, &[])?;
+        let mut sink = MemSink::new(alloc, 1000, 16, &[call])?;
+        let outcome = run(alloc, words.as_slice(), &mut source, &mut sink);
+        let status = if call < pieces { 7 } else { 0 };
+        let taken = ALL_GROW.len().min(16 * call as usize);
+        assert_eq!(rt; outcome.status, status, "call {call}");
+        assert_eq!(rt; sink.taken(), &ALL_GROW.as_bytes()[..taken], "call {call}");
+    }
+    Ok(())
+}
+
+#[test]
+fn checks_at_failing_sinks(rt: HostRuntime) -> Result<(), Fail> {
+    let alloc = rt.alloc();
+    let input = certified(alloc)?;
+    let words = strings(alloc, &["fort", "check", EACH_GROWS])?;
+    for (room, calls, status, text) in [
+        (100, &[1][..], 7, "CERTIF"),
+        (100, &[2][..], 7, "CERTIFIED YE"),
+        (4, &[][..], 7, "CERT"),
+        (14, &[][..], 0, "CERTIFIED YES\n"),
+    ] {
+        let mut source = MemSource::new(alloc, input.as_bytes(), 100, &[])?;
+        let mut sink = MemSink::new(alloc, room, 6, calls)?;
+        let outcome = run(alloc, words.as_slice(), &mut source, &mut sink);
+        assert_eq!(rt; outcome.status, status, "{text}");
+        assert_eq!(rt; sink.taken(), text.as_bytes(), "{status}");
     }
     Ok(())
 }

@@ -1,15 +1,18 @@
 //! The top call.
-ghost use Rattle.std.specs.Prelude.{◌≡◌, ◌≤◌, ◌⊎◌, ◌↔◌, map, string_bytes, IfOk, IfSome, IsSome, OnOk, IsErrOf};
+ghost use Rattle.std.specs.Prelude.{◌≡◌, ◌≤◌, ◌⊎◌, ◌↔◌, ℕ, true, map, string_bytes, IfOk, IfSome, IsSome, OnOk, IsErrOf};
 ghost use Rattle.fort_io.specs.Devices.{FaultCounted};
 ghost use Rattle.fort_words.specs.RequestView.{as_request};
 ghost use Rattle.fort_answers.specs.SampleSizes.{HasSampleSize};
-ghost use Rattle.fort_answers.specs.Answer.{AnswerFor, AsksNothing, AsksSomething, NeedsInput, OwesTold};
-ghost use Rattle.fort_answers.specs.Lines.{last_answer, limited, negative, out_of_memory, read_failed, write_failed};
+ghost use Rattle.fort_answers.specs.Requests.{Text, Decide, Check as CheckOf};
+ghost use Rattle.fort_answers.specs.Answer.{Answer, AnswerFor, AsksNothing, AsksSomething, NeedsInput, OwesTold};
+ghost use Rattle.fort_answers.specs.Lines.{last_answer, limited, negative, positive, out_of_memory, read_failed, write_failed};
 ghost use Rattle.fort_run.specs.Answered.{Answers, CutsShort, IsDecidable, IsDecidableWithin, OwesOnly, OwesOnlyEarly, ReadsWhole};
+ghost use Rattle.fort_run.specs.Certified.{IsCertifiedTold, CertifiesTruth, IsCheckable, IsAcceptedBehind};
 ghost use Rattle.fort_run.specs.ReplyView.{status_of, text_of, limit_of};
 ghost use Rattle.fort_answers.specs.CommandGrammar.{request_of};
 ghost use Rattle.fort_run.specs.Limits.{HasLimitTold, IsLimitOf};
 
+use crate::checked::check;
 use crate::formula::{Stop, ask};
 use crate::outcome::Outcome;
 use crate::question::Question;
@@ -29,6 +32,8 @@ fn reply_to_request<S: Source>(
     requires { HasSampleSize (as_request request.now) }
     ensures ok { IfOk result (λ r.
         OwesTold (Some (as_request request.now)) (S.rest input.old) (status_of r) (text_of r)) }
+    ensures certified { IfOk result (λ r. (formula : Text) → as_request request.now ≡ CheckOf formula
+        → status_of r ≡ positive → IsCertifiedTold formula (S.rest input.old) (text_of r)) }
     ensures limit { IfOk result (λ r. IfSome (limit_of r)
         (HasLimitTold (Some (as_request request.now)) (S.rest input.old) (text_of r))) }
     ensures whole { OnOk result (NeedsInput (as_request request.now) →
@@ -57,8 +62,7 @@ fn reply_to_request<S: Source>(
             Ok(reply) => Ok(reply),
             Err(AllocError) => Err(Stop::Memory),
         },
-        // This request isn't answered yet.
-        Request::Check { .. } => Ok(Reply::Usage),
+        Request::Check { formula } => check(alloc, formula, input),
     }
 }
 
@@ -66,6 +70,9 @@ fn reply_to_request<S: Source>(
 fn reply_to<S: Source>(alloc: Global, words: &[String], input: &mut S) -> Result<Reply, Stop>
     ensures ok { IfOk result (λ r.
         AnswerFor (map string_bytes words.now) (S.rest input.old) (status_of r) (text_of r)) }
+    ensures certified { IfOk result (λ r. (formula : Text)
+        → request_of (map string_bytes words.now) ≡ Some (CheckOf formula)
+        → status_of r ≡ positive → IsCertifiedTold formula (S.rest input.old) (text_of r)) }
     ensures limit { IfOk result (λ r. IfSome (limit_of r)
         (HasLimitTold (request_of (map string_bytes words.now)) (S.rest input.old) (text_of r))) }
     ensures whole { OnOk result (AsksSomething (map string_bytes words.now) →
@@ -101,6 +108,16 @@ pub fn run<S: Source, K: Sink>(
     ensures whole { result.status ≤ last_answer → AsksSomething (map string_bytes words.now) →
         ReadsWhole (S.rest input.old) (S.rest input.new) }
 
+    // CERTIFIED says the formula's truth, whoever wrote the certificate; a certificate that is owed is certified in its turn.
+    ensures certified { (formula : Text)
+        → request_of (map string_bytes words.now) ≡ Some (CheckOf formula)
+        → result.status ≡ positive → CertifiesTruth formula
+        (S.rest input.old) (K.taken output.old) (K.taken output.new) }
+    ensures accepted { (states : ℕ) (formula bytes text : Text)
+        → request_of (map string_bytes words.now) ≡ Some (Decide states true formula)
+        → Answer (map string_bytes words.now) bytes positive text
+        → IsAcceptedBehind formula bytes text }
+
     // With 4, and with no other status, there is a limit: the part that is over the cap, and the tuples that show it.
     ensures limited { IsSome result.limit ↔ (result.status ≡ limited) }
     ensures limit { IfSome result.limit
@@ -125,8 +142,8 @@ pub fn run<S: Source, K: Sink>(
     // Where the words ask nothing, the source is as before.
     ensures unread { AsksNothing (map string_bytes words.now) → input.new ≡ input.old }
 
-    // Without a fault there is an answer, or want of memory; 0, 1 or 4 where the words ask about a formula and the bytes are a
-    // system with all that it speaks of, and 0 or 1 where each part of it keeps the cap.
+    // Without a fault there is an answer, or want of memory; 0, 1 or 4 where the words ask to decide and the bytes are a system
+    // with all that the formula speaks of, 0 or 1 where each part of it keeps the cap, and where the words ask to check.
     ensures complete { (FaultCounted (S.faults input.old) (S.faults input.new) → ⊥) →
         (FaultCounted (K.faults output.old) (K.faults output.new) → ⊥) →
         (result.status ≤ last_answer) ⊎ (result.status ≡ out_of_memory) }
@@ -137,6 +154,10 @@ pub fn run<S: Source, K: Sink>(
     ensures kept { (FaultCounted (S.faults input.old) (S.faults input.new) → ⊥) →
         (FaultCounted (K.faults output.old) (K.faults output.new) → ⊥) →
         IsDecidableWithin (map string_bytes words.now) (S.rest input.old) →
+        (result.status ≤ negative) ⊎ (result.status ≡ out_of_memory) }
+    ensures checked { (FaultCounted (S.faults input.old) (S.faults input.new) → ⊥) →
+        (FaultCounted (K.faults output.old) (K.faults output.new) → ⊥) →
+        IsCheckable (map string_bytes words.now) (S.rest input.old) →
         (result.status ≤ negative) ⊎ (result.status ≡ out_of_memory) }
 {
     let reply = match reply_to(alloc, words, input) {

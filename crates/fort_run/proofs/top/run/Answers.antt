@@ -1,8 +1,10 @@
-use Rattle.std.proofs.Common.{inl, map, string_bytes, sym, subst}
+use Rattle.std.proofs.Common.{inl, map, string_bytes, sym, subst, ◌∙◌}
 use Rattle.std.specs.Prelude.{IfSome}
 use Rattle.fort_run.specs.Limits.{IsLimitOf}
 use Rattle.fort_run.proofs.Replies.{limit_written}
-use Rattle.fort_run.proofs.OneAnswer.{Answers-told, Answers-early, Answers-decided, Answers-kept, answers}
+use Rattle.fort_run.proofs.CheckReplies.{certifies_truth}
+use Rattle.fort_run.proofs.PrintedCertificates.{printed_accepted}
+use Rattle.fort_run.proofs.OneAnswer.{Answers-told, Answers-early, Answers-decided, Answers-kept, Answers-checked, answers}
 use Rattle.fort_run.proofs.ReplyStatuses.{decided_status, limit_shown, status_low}
 use Rattle.fort_run.proofs.top.run.Goals as goal
 
@@ -40,3 +42,25 @@ returns-in-Ok-write_all-clause-statuses g c = inl (status_low c.in-Ok.reply c.of
 
 pub returns-in-Ok-write_all-clause-complete : goal.returns-in-Ok-write_all-clause-complete
 returns-in-Ok-write_all-clause-complete g c = λ read write. inl (status_low c.in-Ok.reply c.of_reply.result.status c.of_reply.ensures.status)
+
+pub returns-in-Ok-write_all-clause-checked : goal.returns-in-Ok-write_all-clause-checked
+returns-in-Ok-write_all-clause-checked g c = λ read write is.
+    inl (Answers-checked (map string_bytes c.args.words.now) (g.S.Source.rest c.args.input.now) (g.K.Sink.taken c.args.output.now) (g.K.Sink.taken c.write_all.new.sink) c.of_reply.result.status
+    (answers (map string_bytes c.args.words.now) _ _ _ c.text.result.now _ _ _ c.in-Ok.ensures.ok c.text.ensures c.of_reply.ensures.status c.in-Ok-write_all.ensures.all) is)
+
+pub returns-in-Ok-write_all-clause-certified : goal.returns-in-Ok-write_all-clause-certified
+returns-in-Ok-write_all-clause-certified g c = λ formula asked e.
+    certifies_truth formula _ _ _ c.text.result.now _ (c.in-Ok.ensures.certified formula asked (sym c.of_reply.ensures.status ∙ e)) c.text.ensures
+    c.in-Ok-write_all.ensures.all
+
+pub returns-in-Ok-write_all-clause-accepted : goal.returns-in-Ok-write_all-clause-accepted
+returns-in-Ok-write_all-clause-accepted g c = printed_accepted (map string_bytes c.args.words.now)
+
+pub returns-in-Err-Memory-clause-accepted : goal.returns-in-Err-Memory-clause-accepted
+returns-in-Err-Memory-clause-accepted g c = printed_accepted (map string_bytes c.args.words.now)
+
+pub returns-in-Err-Fault-clause-accepted : goal.returns-in-Err-Fault-clause-accepted
+returns-in-Err-Fault-clause-accepted g c = printed_accepted (map string_bytes c.args.words.now)
+
+pub returns-in-Err-clause-accepted : goal.returns-in-Err-clause-accepted
+returns-in-Err-clause-accepted g c = printed_accepted (map string_bytes c.args.words.now)

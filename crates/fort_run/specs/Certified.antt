@@ -1,0 +1,83 @@
+-- To believe: what CERTIFIED says, whoever wrote the certificate; that `check` answers where there is all that it speaks of; that a certificate which is owed is accepted behind the bytes of its problem.
+use Rattle.std.specs.Prelude.{◌≡◌, ℕ, ◌≤◌, Bool, true, false, List, ◌∷◌, ◌++◌, length, Option, Some, IfSome}
+use Rattle.fort_theory.specs.Trees.{Tree}
+use Rattle.fort_theory.specs.Sides.{System}
+use Rattle.fort_logic.specs.Formulas.{Formula}
+use Rattle.fort_logic.specs.Truth.{IsTrueOf, IsFalseOf}
+use Rattle.fort_grammar.specs.Forms.{Forms, AreFormsOf}
+use Rattle.fort_grammar.specs.Declarations.{as_list}
+use Rattle.fort_grammar.specs.ProblemForms.{IsProblem}
+use Rattle.fort_certificate_grammar.specs.Certificates.{Step, Certificate}
+use Rattle.fort_certificate_grammar.specs.CertificateText.{certificate_text}
+use Rattle.fort_io.specs.Devices.{Takes}
+use Rattle.fort_answers.specs.Requests.{Text, Check}
+use Rattle.fort_answers.specs.CommandGrammar.{request_of}
+use Rattle.fort_answers.specs.Lines.{positive}
+use Rattle.fort_answers.specs.FormulaAnswer.{IsAcceptedClosed}
+use Rattle.fort_answers.specs.InputAnswer.{input_limit}
+use Rattle.fort_answers.specs.FitAnswer.{FitsSystem}
+use Rattle.fort_answers.specs.CheckAnswer.{IsCertifiedInput, CheckAnswer, certified_line}
+
+-- ---- what CERTIFIED says
+
+abbrev pub IsTruth : Bool → System → List Tree → Formula → Type 0
+IsTruth true system terms f = IsTrueOf system terms f
+IsTruth false system terms f = IsFalseOf system terms f
+
+-- the first forms of the bytes are the system
+pub record BeginsWith (bytes : Text) (system : System) : Type 0 where
+  pub forms : Forms
+  pub are_forms : AreFormsOf bytes forms
+  pub next : ℕ
+  pub problem : IsProblem bytes (as_list forms) system next
+
+-- the line says the formula's truth over the system with which the bytes begin
+pub record IsCertified (formula bytes line : Text) : Type 0 where
+  pub f : Formula
+  pub accepted : IsAcceptedClosed formula f
+  pub system : System
+  pub begins : BeginsWith bytes system
+  pub terms : List Tree
+  pub fits : FitsSystem formula f system terms
+  pub verdict : Bool
+  pub is : IsTruth verdict system terms f
+  pub says : line ≡ certified_line verdict
+
+-- it is what is owed to the bytes that were told; where none were, to some bytes
+pub record IsCertifiedTold (formula : Text) (told : Option Text) (line : Text) : Type 0 where
+  pub bytes : Text
+  pub told_are : IfSome told (λ b. b ≡ bytes)
+  pub owed : CheckAnswer formula bytes positive line
+  pub certified : IsCertified formula bytes line
+
+-- from old to new the sink took the line
+pub record CertifiesTruth (formula : Text) (told old new : Option Text) : Type 0 where
+  pub line : Text
+  pub certified : IsCertifiedTold formula told line
+  pub taken : Takes old new line
+
+-- ---- when `check` answers
+
+-- the words ask to check a certificate, and the bytes are one behind a system with all that the formula speaks of
+pub record IsCheckable (words : List Text) (told : Option Text) : Type 0 where
+  pub formula : Text
+  pub asked : request_of words ≡ Some (Check formula)
+  pub f : Formula
+  pub accepted : IsAcceptedClosed formula f
+  pub bytes : Text
+  pub told_are : told ≡ Some bytes
+  pub system : System
+  pub certificate : Certificate
+  pub input : IsCertifiedInput bytes system certificate
+  pub terms : List Tree
+  pub fits : FitsSystem formula f system terms
+
+-- ---- what a printed certificate is worth
+
+-- the text is a certificate; behind the bytes and an LF it is accepted with the verdict of its header, where the whole keeps the limit of inputs
+pub record IsAcceptedBehind (formula bytes text : Text) : Type 0 where
+  pub number : ℕ
+  pub verdict : Bool
+  pub steps : List Step
+  pub is : text ≡ certificate_text number verdict steps
+  pub accepted : length (bytes ++ 10 ∷ text) ≤ input_limit → CheckAnswer formula (bytes ++ 10 ∷ text) positive (certified_line verdict)
