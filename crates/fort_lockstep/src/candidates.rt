@@ -1,5 +1,5 @@
 //! The tuple symbols that can have an entry at a stage, one after another.
-ghost use Rattle.std.specs.Prelude.{◌≡◌, ℕ, ◌+◌, ◌-◌, ◌<◌, ◌≤◌, ◌∷◌, length, IfSome};
+ghost use Rattle.std.specs.Prelude.{◌≡◌, ℕ, ◌+◌, ◌-◌, ◌<◌, ◌≤◌, ◌∷◌, length, IfSome, IsTrue};
 ghost use Rattle.std.specs.List.{range_with_len};
 ghost use Rattle.fort_tables.specs.Tuples.{arity};
 ghost use Rattle.fort_lockstep.specs.Walks.{AreUpTo, GivesFirst, some_if, with_others};
@@ -49,6 +49,16 @@ fn column_arity(sig: &Signature, digit: u32) -> usize
     } else {
         digit_arity(sig, digit)
     }
+}
+
+/// Whether a column has no children, and none with the next symbol.
+pub fn has_next_constant(sig: &Signature, digit: u32) -> bool
+    ensures { IsTrue result → (digit < length sig.now) × (column_arity sig.now digit ≡ 0)
+        × (column_arity sig.now (digit + 1) ≡ 0) }
+{
+    (digit as usize) < sig.len()
+        && column_arity(sig, digit) == 0
+        && column_arity(sig, digit + 1) == 0
 }
 
 /// The greatest arity of a symbol.
