@@ -53,7 +53,7 @@ impl Maker {
         let signature = sig.copy(alloc)?;
         let base = signature.len() as u32 + 1;
         let given = Given::new(alloc, counted(columns), base, columns)?;
-        let mut walk = Walk::new(columns);
+        let mut walk = Walk::new(&signature, columns);
         let is_due = walk.advance(&signature, &[]);
         Ok(Maker {
             signature,

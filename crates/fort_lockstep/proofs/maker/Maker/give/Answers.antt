@@ -33,6 +33,7 @@ invariant_of-self-2 c =
       few = pushed_few a.given g' c.row.result c.args.target i.few c.requires.few c.in_ok-push.ensures.pushed;
       width = c.advance-self-inside.ensures.width ∙ i.width;
       placed = c.advance-self-inside.ensures.place;
+      most = rw c.advance-self-inside.ensures.most i.most;
       making = r.making;
       stands = stands_after (made_of a.signature a.columns g') old new c.advance-self-inside.result r.up_to i.width next;
     }

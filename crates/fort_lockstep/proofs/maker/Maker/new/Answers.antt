@@ -3,9 +3,6 @@ use Rattle.fort_lockstep.specs.WalkFacts.{place}
 use Rattle.fort_lockstep.proofs.GiveLaws.{new_making, new_stands}
 use Rattle.fort_lockstep.proofs.maker.Maker.new.Goals as goal
 
-pub advance-is_due-requires-clause-place : goal.advance-is_due-requires-clause-place
-advance-is_due-requires-clause-place c = c.new-walk.ensures.place c.in_ok-signature.signature
-
 pub invariant_of-result : goal.invariant_of-result
 invariant_of-result c =
     let sig = c.in_ok-signature.signature in
@@ -19,6 +16,7 @@ invariant_of-result c =
       few = rw c.in_ok-given.ensures.presences (omega arith);
       width = c.advance-is_due.ensures.width ∙ c.new-walk.ensures.width;
       placed = c.advance-is_due.ensures.place;
+      most = rw c.advance-is_due.ensures.most c.new-walk.ensures.most;
       making = new_making sig n g c.in_ok-given.ensures.presences c.in_ok-given.ensures.firsts c.in_ok-given.ensures.entries c.in_ok-given.ensures.targets;
       stands = new_stands sig n g (place c.new-walk.result) (place c.advance-is_due.new.self) c.advance-is_due.result c.in_ok-given.ensures.presences c.in_ok-given.ensures.entries c.new-walk.ensures.start c.new-walk.ensures.width c.advance-is_due.ensures.next;
     }
