@@ -9,7 +9,7 @@ use Rattle.fort_tables.specs.Entries.{entry, stage}
 use Rattle.fort_lockstep.specs.Columns.{symbol_of}
 use Rattle.fort_lockstep.specs.Candidates.{column_arity}
 use Rattle.fort_lockstep.specs.Walks.{AreUpTo, Place, wants, wants_from, digit_lists, digits_after, stage_kids, stage_kids_after, stage_entries}
-use Rattle.fort_lockstep.specs.WalkFacts.{IsPlace, IsInStage, IsFound}
+use Rattle.fort_lockstep.specs.WalkFacts.{IsPlace, IsFound}
 use Rattle.fort_lockstep.proofs.WalkLaws.{found_there}
 
 -- a column without children counts for nothing

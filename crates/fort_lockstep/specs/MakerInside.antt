@@ -17,6 +17,7 @@ pub record IsMaker (a : Inside) : Type 0 where
   pub few : length a.given.presences < 2 ^ 32
   pub width : length a.walk.digits ≡ a.columns
   pub placed : IsPlace a.signature (place a.walk)
+  pub row : a.row ≡ entry_at (place a.walk)
   pub most : AreAtMost a.signature a.walk.most
   pub making : IsMaking a.signature a.columns a.given.presences a.given.firsts a.given.entries a.given.targets
   pub stands : Stands (made_in a) (entry_at (place a.walk)) a.is_due
