@@ -148,8 +148,8 @@ pub fn explore_counted<G: Ledger, L: Labeller>(
         numbers: LabelSet::new(alloc),
         firsts: Dag::new(alloc),
     };
-    'entries: while let Some(row) = maker.due() {
-        let q = place_of(alloc, labeller, &mut found, &row, &mut memo, out, steps)?;
+    'entries: while let Some(row) = maker.due_row() {
+        let q = place_of(alloc, labeller, &mut found, row, &mut memo, out, steps)?;
         if found.labels.len() > cap as usize {
             return Err(ExploreFault::Over(found.firsts));
         }

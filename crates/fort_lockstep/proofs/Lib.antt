@@ -12,6 +12,7 @@ pub mod CandidateEntries
 pub mod Bounds
 pub mod EntryMembers
 pub mod StepLaws
+pub mod RaiseLaws
 pub mod MakingLaws
 pub mod FinishLaws
 pub mod GiveLaws

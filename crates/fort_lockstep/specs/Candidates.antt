@@ -1,5 +1,5 @@
 -- Inside: the tuple symbols among whose children's presences a given one stands, as lists of digits.
-use Rattle.std.specs.Prelude.{◌≡◌, ℕ, zero, suc, ◌+◌, ◌-◌, ◌/◌, ◌%◌, ◌≤◌, max, min, List, [], ◌∷◌, ◌++◌, map, length, ◌==◌, nat_lt, if◌then◌else◌}
+use Rattle.std.specs.Prelude.{◌≡◌, ℕ, zero, suc, ◌+◌, ◌-◌, ◌/◌, ◌%◌, ◌<◌, ◌≤◌, max, min, List, [], ◌∷◌, ◌++◌, map, length, ◌==◌, nat_lt, if◌then◌else◌}
 use Rattle.std.specs.List.{flat_map, range_with_len}
 use Rattle.fort_theory.specs.Signatures.{Signature}
 use Rattle.fort_tables.specs.Tuples.{arity}
@@ -33,6 +33,10 @@ candidates_from sig r c es = flat_map (λ d. map (λ ds. d ∷ ds) (candidates s
 abbrev pub candidates_after : Signature → KidRange → List ℕ → List (List ℕ)
 candidates_after sig r [] = []
 candidates_after sig r (d ∷ ds) = map (λ es. d ∷ es) (candidates_after sig (narrowed r (column_arity sig d)) ds) ++ candidates_from sig r (length ds) (range_with_len (d + 1) (length sig + 1 - (d + 1)))
+
+-- no symbol has more arguments
+abbrev pub AreAtMost : Signature → ℕ → Type 0
+AreAtMost sig most = (g : ℕ) → g < length sig → arity sig g ≤ most
 
 -- what leaves no child has no entry at the stage
 abbrev pub LeavesOut : Signature → List ℕ → ℕ → KidRange → Type 0

@@ -1,9 +1,9 @@
 //! The tuple symbols that can have an entry at a stage, one after another.
-ghost use Rattle.std.specs.Prelude.{◌≡◌, ℕ, ◌+◌, ◌-◌, ◌<◌, ◌≤◌, ◌∷◌, length, IfSome};
+ghost use Rattle.std.specs.Prelude.{◌≡◌, ℕ, ◌+◌, ◌-◌, ◌<◌, ◌≤◌, ◌∷◌, length, IfSome, IsTrue};
 ghost use Rattle.std.specs.List.{range_with_len};
-ghost use Rattle.fort_tables.specs.Tuples.{arity};
+ghost use Rattle.fort_theory.specs.Signatures as theory;
 ghost use Rattle.fort_lockstep.specs.Walks.{AreUpTo, GivesFirst, some_if, with_others};
-ghost use Rattle.fort_lockstep.specs.Candidates.{column_arity, narrowed, candidates, candidates_from, candidates_after, LeavesOut};
+ghost use Rattle.fort_lockstep.specs.Candidates.{column_arity, narrowed, candidates, candidates_from, candidates_after, AreAtMost, LeavesOut};
 
 use crate::digits::{DigitRow, digit_arity};
 use fort_terms::Signature;
@@ -51,9 +51,19 @@ fn column_arity(sig: &Signature, digit: u32) -> usize
     }
 }
 
+/// Whether a column has no children, and none with the next symbol.
+pub fn has_next_constant(sig: &Signature, digit: u32) -> bool
+    ensures { IsTrue result → (digit < length sig.now) × (column_arity sig.now digit ≡ 0)
+        × (column_arity sig.now (digit + 1) ≡ 0) }
+{
+    (digit as usize) < sig.len()
+        && column_arity(sig, digit) == 0
+        && column_arity(sig, digit + 1) == 0
+}
+
 /// The greatest arity of a symbol.
-fn greatest_arity(sig: &Signature) -> usize
-    ensures { (g : ℕ) → g < length sig.now → arity sig.now g ≤ result }
+pub fn greatest_arity(sig: &Signature) -> usize
+    ensures { AreAtMost sig.now result }
 {
     let mut greatest = 0;
     for digit in 1..sig.len() as u32 + 1 {
@@ -62,10 +72,11 @@ fn greatest_arity(sig: &Signature) -> usize
     greatest
 }
 
-/// The children that may have the presence of the newest state; at stage 0 there is none.
-pub fn stage_range(sig: &Signature, presences: &[u16], stage: u32) -> KidRange
+/// The children that may have the presence of the newest state, of `most` at most; at stage 0 there is none.
+pub fn stage_range(most: usize, presences: &[u16], stage: u32) -> KidRange
     requires { stage ≤ length presences.now }
-    ensures { LeavesOut sig.now presences.now stage result }
+    ensures { (sig : theory.Signature) → AreAtMost sig most
+        → LeavesOut sig presences.now stage result }
 {
     if stage == 0 {
         KidRange {
@@ -77,7 +88,7 @@ pub fn stage_range(sig: &Signature, presences: &[u16], stage: u32) -> KidRange
         KidRange {
             presence: u32::from(presences[(stage - 1) as usize]),
             from: 0,
-            to: greatest_arity(sig),
+            to: most,
         }
     }
 }

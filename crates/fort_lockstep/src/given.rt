@@ -109,11 +109,11 @@ impl Given {
     }
 
     /// Gives an entry its target, which may be a new state.
-    pub fn push(&mut self, row: Row, target: u32) -> Result<(), Memory>
-        requires due { IsDue self.old.entries self.old.presences row }
-        requires fit { AreDigits self.old.base self.old.columns (map digit_of row.symbol) }
+    pub fn push(&mut self, row: &Row, target: u32) -> Result<(), Memory>
+        requires due { IsDue self.old.entries self.old.presences row.now }
+        requires fit { AreDigits self.old.base self.old.columns (map digit_of row.now.symbol) }
         requires small { target + 1 < 2 ^ 32 }
-        ensures pushed { OnOk result (IsPushed self.old row target self.new) }
+        ensures pushed { OnOk result (IsPushed self.old row.now target self.new) }
         ensures err { OnErr result (self.new ≡ self.old) }
     {
         let count = match self.count.checked_add(1) {
@@ -121,7 +121,7 @@ impl Given {
             None => return Err(AllocError),
         };
         self.states.make_room()?;
-        self.groups.push(self.alloc, &self.states, &row, target)?;
+        self.groups.push(self.alloc, &self.states, row, target)?;
         self.states.note(row, target, self.count);
         self.count = count;
         Ok(())

@@ -50,10 +50,9 @@ impl Groups {
             ≡ transitions_of states.now.presences.items self.old) }
     {
         self.list.reserve(1)?;
-        let sym = row.sym();
         let mut group = Group::new(alloc, states, row.kids())?;
         group.push(row.kids(), target)?;
-        self.symbols.push(alloc, sym.digits())?;
+        self.symbols.push(alloc, row.digits())?;
         self.list.push_reserved(group);
         Ok(())
     }
@@ -81,8 +80,7 @@ impl Groups {
         ensures err { OnErr result (transitions_of states.now.presences.items self.new
             ≡ transitions_of states.now.presences.items self.old) }
     {
-        let sym = row.sym();
-        match self.symbols.find(sym.digits()) {
+        match self.symbols.find(row.digits()) {
             Some(number) => {
                 let group = &mut self.list[number];
                 group.push(row.kids(), target)

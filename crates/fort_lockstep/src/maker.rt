@@ -19,6 +19,8 @@ pub struct Maker {
     columns: usize,
     given: Given,
     walk: Walk,
+    /// The entry at which the walk stands.
+    row: Row,
     is_due: bool,
 }
 
@@ -53,13 +55,15 @@ impl Maker {
         let signature = sig.copy(alloc)?;
         let base = signature.len() as u32 + 1;
         let given = Given::new(alloc, counted(columns), base, columns)?;
-        let mut walk = Walk::new(columns);
+        let mut walk = Walk::new(&signature, columns);
         let is_due = walk.advance(&signature, &[]);
+        let row = walk.row();
         Ok(Maker {
             signature,
             columns,
             given,
             walk,
+            row,
             is_due,
         })
     }
@@ -70,13 +74,20 @@ impl Maker {
         ensures none { IfNone result (IsComplete self.now) }
         ensures counted { length self.now.targets < 2 ^ 64 }
     {
-        let _count = self.given.len();
-        let _symbols = self.signature.len();
-        if !self.is_due {
-            return None;
+        match self.due_row() {
+            Some(row) => Some(*row),
+            None => None,
         }
-        let walk = &self.walk;
-        Some(walk.row())
+    }
+
+    /// The same, as the maker has it.
+    pub fn due_row(&self) -> Option<&Row>
+        ensures some { IfSome result (λ e. IsMadeDue self.now e.now) }
+        ensures none { IfNone result (IsComplete self.now) }
+        ensures counted { length self.now.targets < 2 ^ 64 }
+    {
+        let _count = self.given.len();
+        if self.is_due { Some(&self.row) } else { None }
     }
 
     /// Gives the due entry its target, an earlier state or the next new one.
@@ -88,8 +99,9 @@ impl Maker {
         ensures err { OnErr result (self.new ≡ self.old) }
     {
         let _symbols = self.signature.len();
-        self.given.push(self.walk.row(), target)?;
+        self.given.push(&self.row, target)?;
         self.is_due = self.walk.advance(&self.signature, self.given.presences());
+        self.walk.write_row(&mut self.row);
         Ok(())
     }
 

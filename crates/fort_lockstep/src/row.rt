@@ -1,7 +1,8 @@
 //! Entries.
-ghost use Rattle.std.specs.Prelude.{◌≡◌, ◌≤◌, ◌^◌, ◌<◌, ◌↔◌, length, IsTrue};
+ghost use Rattle.std.specs.Prelude.{◌≡◌, ℕ, ◌≤◌, ◌^◌, ◌<◌, ◌↔◌, map, length, slice_index_or, IsTrue};
 ghost use Rattle.fort_tables.specs.Tuples.{presence};
 ghost use Rattle.fort_tables.specs.Entries.{entry};
+ghost use Rattle.fort_lockstep.specs.Columns.{symbol_of, digit_of};
 
 use crate::digits::presence_of;
 use crate::symbol::TupleSym;
@@ -47,6 +48,30 @@ impl Row {
             count: kids.len(),
             kids: states,
         }
+    }
+
+    /// Becomes the entry of a symbol's digits and these states.
+    pub(crate) fn put(&mut self, digits: &[u32], kids: &[u32])
+        requires short { length digits.now ≤ 16 }
+        requires small { (k : ℕ) → slice_index_or digits.now k 0 ≤ 65536 }
+        requires few { length kids.now ≤ 8 }
+        ensures symbol { self.new.symbol ≡ symbol_of digits.now }
+        ensures kids { self.new.kids ≡ kids.now }
+    {
+        self.len = digits.len();
+        self.digits = [0; 16];
+        self.digits[..digits.len()].copy_from_slice(digits);
+        self.count = kids.len();
+        self.kids = [0; 8];
+        self.kids[..kids.len()].copy_from_slice(kids);
+    }
+
+    /// 0 stands for absent, and one more than its number for a symbol.
+    pub(crate) fn digits(&self) -> &[u32]
+        ensures { result.now ≡ map digit_of self.now.symbol }
+    {
+        let digits = &self.digits;
+        &digits[..self.len]
     }
 
     pub fn sym(&self) -> TupleSym

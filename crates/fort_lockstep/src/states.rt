@@ -35,7 +35,7 @@ impl States {
     }
 
     /// Notes the target of the entry at this place, which may be a new state.
-    pub fn note(&mut self, row: Row, target: u32, place: usize)
+    pub fn note(&mut self, row: &Row, target: u32, place: usize)
         requires presences { vec_len self.old.presences < vec_capacity self.old.presences }
         requires firsts { vec_len self.old.firsts < vec_capacity self.old.firsts }
         requires first_entries { vec_len self.old.first_entries < vec_capacity
@@ -45,13 +45,13 @@ impl States {
         requires before { IsBefore self.old.presences.items self.old.counts.width
             self.old.counts.before.items }
         requires small { target + 1 < 2 ^ 32 }
-        ensures { IsNoted self.old row target place self.new }
+        ensures { IsNoted self.old row.now target place self.new }
     {
         if target as usize == self.presences.len() {
             self.counts.push(row.presence());
             self.presences.push_reserved(row.presence());
             self.firsts.push_reserved(place);
-            self.first_entries.push_reserved(row);
+            self.first_entries.push_reserved(*row);
         }
     }
 }

@@ -16,9 +16,9 @@ returns-then-len-cap g c =
     let n = g.L.Labeller.column_count c.args.labeller.now in
     let label = g.L.Labeller.label c.args.labeller.now in
     let x = c.entries.invariant.exploring in
-    let ready = exploring_ready c.args.sig.now n label c.entries.maker f.firsts f.labels.labels c.in-Some.row x c.in-Some.ensures.some in
+    let ready = exploring_ready c.args.sig.now n label c.entries.maker f.firsts f.labels.labels c.in-Some.row.now x c.in-Some.ensures.some in
     let p = c.in_ok-q.ensures.placed c.args.sig.now c.requires ready in
-    let over = placed_over c.args.sig.now n label f.firsts c.place_of.new.found.firsts f.labels.labels c.place_of.new.found.labels.labels c.in-Some.row c.in_ok-q.q c.args.cap p c.entries.invariant.few (omega (arith, c.len.ensures)) in
+    let over = placed_over c.args.sig.now n label f.firsts c.place_of.new.found.firsts f.labels.labels c.place_of.new.found.labels.labels c.in-Some.row.now c.in_ok-q.q c.args.cap p c.entries.invariant.few (omega (arith, c.len.ensures)) in
     record { ok = tt; table = tt; listed = tt; few = tt; over = over.0; nodes = over.1; steps = tt }
 
 pub give-requires-clause-allowed : goal.give-requires-clause-allowed
@@ -27,9 +27,9 @@ give-requires-clause-allowed g c =
     let n = g.L.Labeller.column_count c.args.labeller.now in
     let label = g.L.Labeller.label c.args.labeller.now in
     let x = c.entries.invariant.exploring in
-    let ready = exploring_ready c.args.sig.now n label c.entries.maker f.firsts f.labels.labels c.in-Some.row x c.in-Some.ensures.some in
+    let ready = exploring_ready c.args.sig.now n label c.entries.maker f.firsts f.labels.labels c.in-Some.row.now x c.in-Some.ensures.some in
     let p = c.in_ok-q.ensures.placed c.args.sig.now c.requires ready in
-    (c.in-Some.row, exploring_allowed c.args.sig.now n label c.entries.maker f.firsts c.place_of.new.found.firsts f.labels.labels c.place_of.new.found.labels.labels c.in-Some.row c.in_ok-q.q x c.in-Some.ensures.some p)
+    (c.in-Some.row.now, exploring_allowed c.args.sig.now n label c.entries.maker f.firsts c.place_of.new.found.firsts f.labels.labels c.place_of.new.found.labels.labels c.in-Some.row.now c.in_ok-q.q x c.in-Some.ensures.some p)
 
 pub entries-preserved : goal.entries-preserved
 entries-preserved g c =
@@ -38,11 +38,11 @@ entries-preserved g c =
     let label = g.L.Labeller.label c.args.labeller.now in
     let x = c.entries.invariant.exploring in
     let due = c.in-Some.ensures.some in
-    let ready = exploring_ready c.args.sig.now n label c.entries.maker f.firsts f.labels.labels c.in-Some.row x due in
+    let ready = exploring_ready c.args.sig.now n label c.entries.maker f.firsts f.labels.labels c.in-Some.row.now x due in
     let p = c.in_ok-q.ensures.placed c.args.sig.now c.requires ready in
-    let given = c.in_ok-give.ensures.given c.in-Some.row due in
+    let given = c.in_ok-give.ensures.given c.in-Some.row.now due in
     record {
-      exploring = exploring_give c.args.sig.now n label c.entries.maker c.give.new.self f.firsts c.place_of.new.found.firsts f.labels.labels c.place_of.new.found.labels.labels c.in-Some.row c.in_ok-q.q x due p given;
+      exploring = exploring_give c.args.sig.now n label c.entries.maker c.give.new.self f.firsts c.place_of.new.found.firsts f.labels.labels c.place_of.new.found.labels.labels c.in-Some.row.now c.in_ok-q.q x due p given;
       same = c.in_ok-q.ensures.same;
       width = c.in_ok-q.ensures.width ∙ c.entries.invariant.width;
       kept = c.place_of.ensures.kept;
@@ -85,7 +85,7 @@ pub overflow_cast-q : goal.overflow_cast-q
 overflow_cast-q g c =
     let f = c.entries.found in
     let x = c.entries.invariant.exploring in
-    let ready = exploring_ready c.args.sig.now _ (g.L.Labeller.label c.args.labeller.now) c.entries.maker f.firsts f.labels.labels c.in-Some.row x c.in-Some.ensures.some in
+    let ready = exploring_ready c.args.sig.now _ (g.L.Labeller.label c.args.labeller.now) c.entries.maker f.firsts f.labels.labels c.in-Some.row.now x c.in-Some.ensures.some in
     let p = c.in_ok-q.ensures.placed c.args.sig.now c.requires ready in
     omega (arith, p.within, c.len.ensures, c.if-len-cap.false, c.ranges.cap.fits)
 
@@ -93,7 +93,7 @@ pub give-requires-clause-few : goal.give-requires-clause-few
 give-requires-clause-few g c =
     let f = c.entries.found in
     let x = c.entries.invariant.exploring in
-    let ready = exploring_ready c.args.sig.now _ (g.L.Labeller.label c.args.labeller.now) c.entries.maker f.firsts f.labels.labels c.in-Some.row x c.in-Some.ensures.some in
+    let ready = exploring_ready c.args.sig.now _ (g.L.Labeller.label c.args.labeller.now) c.entries.maker f.firsts f.labels.labels c.in-Some.row.now x c.in-Some.ensures.some in
     let p = c.in_ok-q.ensures.placed c.args.sig.now c.requires ready in
     omega (arith, p.within, c.len.ensures, c.if-len-cap.false, c.ranges.cap.fits)
 
@@ -130,4 +130,4 @@ returns-in_err-finals-clause-nodes g c =
 pub place_of-requires-clause-ready : goal.place_of-requires-clause-ready
 place_of-requires-clause-ready g c =
     let f = c.entries.found in
-    (c.args.sig.now, c.requires, exploring_ready c.args.sig.now _ (g.L.Labeller.label c.args.labeller.now) c.entries.maker f.firsts f.labels.labels c.in-Some.row c.entries.invariant.exploring c.in-Some.ensures.some)
+    (c.args.sig.now, c.requires, exploring_ready c.args.sig.now _ (g.L.Labeller.label c.args.labeller.now) c.entries.maker f.firsts f.labels.labels c.in-Some.row.now c.entries.invariant.exploring c.in-Some.ensures.some)

@@ -62,16 +62,16 @@ push-requires-clause-lawful c =
 pub push-requires-clause-due : goal.push-requires-clause-due
 push-requires-clause-due c =
     let a = c.self.inside in
-    let due = subst (λ (p : Parts). IsDue p.entries p.presences c.args.row) (sym c.self.view_is) c.requires.due in
-    subst (λ (ps : List ℕ). IsDue (entries_of (in_order (transitions_of ps a.groups))) ps c.args.row) (sym c.in_ok-make_room.ensures.same.presences) due
+    let due = subst (λ (p : Parts). IsDue p.entries p.presences c.args.row.now) (sym c.self.view_is) c.requires.due in
+    subst (λ (ps : List ℕ). IsDue (entries_of (in_order (transitions_of ps a.groups))) ps c.args.row.now) (sym c.in_ok-make_room.ensures.same.presences) due
 
 pub push-requires-clause-fit : goal.push-requires-clause-fit
-push-requires-clause-fit c = subst (λ (p : Parts). AreDigits p.base p.columns (map digit_of c.args.row.symbol)) (sym c.self.view_is) c.requires.fit
+push-requires-clause-fit c = subst (λ (p : Parts). AreDigits p.base p.columns (map digit_of c.args.row.now.symbol)) (sym c.self.view_is) c.requires.fit
 
 pub invariant_of-self-2 : goal.invariant_of-self-2
 invariant_of-self-2 c =
     let a = c.self.inside in
-    let e = c.args.row in
+    let e = c.args.row.now in
     let same = c.in_ok-make_room.ensures.same in
     let n = noted_from a.states c.make_room.new.self c.note.new.self e c.args.target a.count same c.note.ensures in
     let r = pushed a.states c.make_room.new.self c.note.new.self a.groups c.push.new.self e c.args.target a.count same n c.in_ok-push.ensures.lawful c.in_ok-push.ensures.ok c.in_ok-push.ensures.count in
@@ -85,7 +85,7 @@ invariant_of-self-2 c =
 pub returns-clause-pushed : goal.returns-clause-pushed
 returns-clause-pushed c =
     let a = c.self.inside in
-    let e = c.args.row in
+    let e = c.args.row.now in
     let same = c.in_ok-make_room.ensures.same in
     let n = noted_from a.states c.make_room.new.self c.note.new.self e c.args.target a.count same c.note.ensures in
     let r = pushed a.states c.make_room.new.self c.note.new.self a.groups c.push.new.self e c.args.target a.count same n c.in_ok-push.ensures.lawful c.in_ok-push.ensures.ok c.in_ok-push.ensures.count in

@@ -45,7 +45,7 @@ push-requires c =
     let s = c.args.states.now in
     let ps = s.presences.items in
     let e = c.args.row.now in
-    let h = here s.counts.width ps c.args.self.now.symbols.digits c.args.self.now.list.items e c.in-Some.number c.index_mut-group.result.now c.requires.lawful c.requires.due c.in-Some.ensures.0 (c.in-Some.ensures.1 ∙ (c.digits.ensures ∙ ap (map digit_of) c.sym-sym.ensures)) c.index_mut-group.ensures.value in
+    let h = here s.counts.width ps c.args.self.now.symbols.digits c.args.self.now.list.items e c.in-Some.number c.index_mut-group.result.now c.requires.lawful c.requires.due c.in-Some.ensures.0 (c.in-Some.ensures.1 ∙ c.digits.ensures) c.index_mut-group.ensures.value in
     let w = due_wants s.counts.width ps c.args.self.now.symbols.digits c.args.self.now.list.items e c.in-Some.number c.index_mut-group.result.now h.lawful h.within h.digits h.is h.due in
     ap length c.kids.ensures.states ∙ sym (ap length w ∙ length-wants ps e.kids)
 
@@ -58,7 +58,7 @@ returns-in-Some-clause-lawful c =
     let e = c.args.row.now in
     let j = c.in-Some.number in
     let g = c.index_mut-group.result.now in
-    let h = here s.counts.width ps ss gs e j g c.requires.lawful c.requires.due c.in-Some.ensures.0 (c.in-Some.ensures.1 ∙ (c.digits.ensures ∙ ap (map digit_of) c.sym-sym.ensures)) c.index_mut-group.ensures.value in
+    let h = here s.counts.width ps ss gs e j g c.requires.lawful c.requires.due c.in-Some.ensures.0 (c.in-Some.ensures.1 ∙ c.digits.ensures) c.index_mut-group.ensures.value in
     either c.push.result (IsGrownKept g c.kids.result.now c.args.target c.push.new.self) (c.push.new.self ≡ g) (AreKept s.counts.width ps ss (slice_set gs j c.push.new.self)) c.push.ensures.ok c.push.ensures.err
     (λ n. (pushed s.counts.width ps ss gs e j c.args.target g c.push.new.self c.kids.result.now h c.kids.ensures.states n).lawful)
     (λ n. same s.counts.width ps ss gs e j g c.push.new.self h n)
@@ -72,7 +72,7 @@ returns-in-Some-clause-ok c =
     let e = c.args.row.now in
     let j = c.in-Some.number in
     let g = c.index_mut-group.result.now in
-    let h = here s.counts.width ps ss gs e j g c.requires.lawful c.requires.due c.in-Some.ensures.0 (c.in-Some.ensures.1 ∙ (c.digits.ensures ∙ ap (map digit_of) c.sym-sym.ensures)) c.index_mut-group.ensures.value in
+    let h = here s.counts.width ps ss gs e j g c.requires.lawful c.requires.due c.in-Some.ensures.0 (c.in-Some.ensures.1 ∙ c.digits.ensures) c.index_mut-group.ensures.value in
     on_ok_weaker c.push.result (λ n. (pushed s.counts.width ps ss gs e j c.args.target g c.push.new.self c.kids.result.now h c.kids.ensures.states n).pushed) c.push.ensures.ok
 
 pub returns-in-Some-clause-count : goal.returns-in-Some-clause-count
@@ -84,5 +84,5 @@ returns-in-Some-clause-count c =
     let e = c.args.row.now in
     let j = c.in-Some.number in
     let g = c.index_mut-group.result.now in
-    let h = here s.counts.width ps ss gs e j g c.requires.lawful c.requires.due c.in-Some.ensures.0 (c.in-Some.ensures.1 ∙ (c.digits.ensures ∙ ap (map digit_of) c.sym-sym.ensures)) c.index_mut-group.ensures.value in
+    let h = here s.counts.width ps ss gs e j g c.requires.lawful c.requires.due c.in-Some.ensures.0 (c.in-Some.ensures.1 ∙ c.digits.ensures) c.index_mut-group.ensures.value in
     on_ok_weaker c.push.result (λ n. (pushed s.counts.width ps ss gs e j c.args.target g c.push.new.self c.kids.result.now h c.kids.ensures.states n).count) c.push.ensures.ok

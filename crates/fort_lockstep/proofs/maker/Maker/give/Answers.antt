@@ -12,8 +12,8 @@ use Rattle.fort_lockstep.specs.GroupFacts.{IsDue}
 use Rattle.fort_lockstep.proofs.FullLaws.{standing_due_in}
 use Rattle.fort_lockstep.proofs.maker.Maker.give.Goals as goal
 
-pub row-requires-clause-small : goal.row-requires-clause-small
-row-requires-clause-small c = bound-up_to 65536 (length c.self.inside.signature) c.self.inside.walk.digits (omega (arith, c.len-symbols.ensures.lawful.few)) c.self.invariant.placed.digits
+pub write_row-requires-clause-small : goal.write_row-requires-clause-small
+write_row-requires-clause-small c = bound-up_to 65536 (length c.self.inside.signature) c.advance-self-inside.new.self.digits (omega (arith, c.len-symbols.ensures.lawful.few)) c.advance-self-inside.ensures.place.digits
 
 pub invariant_of-self-2 : goal.invariant_of-self-2
 invariant_of-self-2 c =
@@ -23,16 +23,18 @@ invariant_of-self-2 c =
     let new = place c.advance-self-inside.new.self in
     let g' = c.push.new.self in
     let allowed : IsAllowed (made_in a) c.requires.allowed.0 c.args.target = subst (λ (m : Made). IsAllowed m c.requires.allowed.0 c.args.target) (sym c.self.view_is) c.requires.allowed.1 in
-    let r = given_grown a.signature a.columns a.given g' c.row.result (entry_at old) c.requires.allowed.0 a.is_due c.args.target i.making i.stands allowed c.row.ensures c.in_ok-push.ensures.pushed in
+    let r = given_grown a.signature a.columns a.given g' a.row (entry_at old) c.requires.allowed.0 a.is_due c.args.target i.making i.stands allowed c.self.invariant.row c.in_ok-push.ensures.pushed in
     let next = rw c.presences.ensures at c.advance-self-inside.ensures.next in
     record {
       some = i.some;
       narrow = i.narrow;
       base = c.in_ok-push.ensures.pushed.base ∙ i.base;
       columns = c.in_ok-push.ensures.pushed.columns ∙ i.columns;
-      few = pushed_few a.given g' c.row.result c.args.target i.few c.requires.few c.in_ok-push.ensures.pushed;
+      few = pushed_few a.given g' a.row c.args.target i.few c.requires.few c.in_ok-push.ensures.pushed;
       width = c.advance-self-inside.ensures.width ∙ i.width;
       placed = c.advance-self-inside.ensures.place;
+      row = c.write_row.ensures;
+      most = rw c.advance-self-inside.ensures.most i.most;
       making = r.making;
       stands = stands_after (made_of a.signature a.columns g') old new c.advance-self-inside.result r.up_to i.width next;
     }
@@ -44,7 +46,7 @@ returns-clause-given c = λ e d.
     let due : IsMadeDue (made_in a) e = subst (λ (m : Made). IsMadeDue m e) (sym c.self.view_is) d in
     let at = at_due (made_in a) (entry_at (place a.walk)) e a.is_due c.self.invariant.stands due in
     subst (λ (m : Made). IsGiven m e c.args.target (made_of a.signature a.columns g')) c.self.view_is
-    (given_is a.signature a.columns a.given g' c.row.result e c.args.target (c.row.ensures ∙ at.same) c.in_ok-push.ensures.pushed)
+    (given_is a.signature a.columns a.given g' a.row e c.args.target (c.self.invariant.row ∙ at.same) c.in_ok-push.ensures.pushed)
 
 pub push-requires-clause-due : goal.push-requires-clause-due
 push-requires-clause-due c =
@@ -52,7 +54,7 @@ push-requires-clause-due c =
     let allowed : IsAllowed (made_in a) c.requires.allowed.0 c.args.target = subst (λ (m : Made). IsAllowed m c.requires.allowed.0 c.args.target) (sym c.self.view_is) c.requires.allowed.1 in
     let at = at_due (made_in a) (entry_at (place a.walk)) c.requires.allowed.0 a.is_due c.self.invariant.stands allowed.due in
     let due = standing_due_in a.signature a.columns a.given.presences a.given.entries (entry_at (place a.walk)) c.self.invariant.making.order at.standing in
-    subst (λ (x : Entry). IsDue a.given.entries a.given.presences x) (sym c.row.ensures) due
+    subst (λ (x : Entry). IsDue a.given.entries a.given.presences x) (sym c.self.invariant.row) due
 
 pub push-requires-clause-fit : goal.push-requires-clause-fit
 push-requires-clause-fit c =
@@ -62,6 +64,6 @@ push-requires-clause-fit c =
     let allowed : IsAllowed (made_in a) c.requires.allowed.0 c.args.target = subst (λ (m : Made). IsAllowed m c.requires.allowed.0 c.args.target) (sym c.self.view_is) c.requires.allowed.1 in
     let at = at_due (made_in a) last c.requires.allowed.0 a.is_due i.stands allowed.due in
     let digits = symbol_digits a.signature a.columns last.symbol at.standing.is_entry.symbol in
-    subst (λ (x : Entry). AreDigits a.given.base a.given.columns (map digit_of x.symbol)) (sym c.row.ensures)
+    subst (λ (x : Entry). AreDigits a.given.base a.given.columns (map digit_of x.symbol)) (sym c.self.invariant.row)
     (subst (λ (b : ℕ). AreDigits b a.given.columns (map digit_of last.symbol)) (sym i.base)
     (subst (λ (n : ℕ). AreDigits (length a.signature + 1) n (map digit_of last.symbol)) (sym i.columns) digits))

@@ -1,10 +1,11 @@
-use Rattle.std.proofs.Common.{◌+◌, ap, ◌∙◌, arith}
+use Rattle.std.proofs.Common.{◌+◌, ap, ◌∙◌, arith, length}
 use Rattle.fort_lockstep.specs.WalkFacts.{place}
+use Rattle.fort_lockstep.proofs.Bounds.{bound-up_to}
 use Rattle.fort_lockstep.proofs.GiveLaws.{new_making, new_stands}
 use Rattle.fort_lockstep.proofs.maker.Maker.new.Goals as goal
 
-pub advance-is_due-requires-clause-place : goal.advance-is_due-requires-clause-place
-advance-is_due-requires-clause-place c = c.new-walk.ensures.place c.in_ok-signature.signature
+pub row-row-requires-clause-small : goal.row-row-requires-clause-small
+row-row-requires-clause-small c = bound-up_to 65536 (length c.in_ok-signature.signature) c.advance-is_due.new.self.digits (omega (arith, c.len.ensures.lawful.few)) c.advance-is_due.ensures.place.digits
 
 pub invariant_of-result : goal.invariant_of-result
 invariant_of-result c =
@@ -19,6 +20,8 @@ invariant_of-result c =
       few = rw c.in_ok-given.ensures.presences (omega arith);
       width = c.advance-is_due.ensures.width ∙ c.new-walk.ensures.width;
       placed = c.advance-is_due.ensures.place;
+      row = c.row-row.ensures;
+      most = rw c.advance-is_due.ensures.most c.new-walk.ensures.most;
       making = new_making sig n g c.in_ok-given.ensures.presences c.in_ok-given.ensures.firsts c.in_ok-given.ensures.entries c.in_ok-given.ensures.targets;
       stands = new_stands sig n g (place c.new-walk.result) (place c.advance-is_due.new.self) c.advance-is_due.result c.in_ok-given.ensures.presences c.in_ok-given.ensures.entries c.new-walk.ensures.start c.new-walk.ensures.width c.advance-is_due.ensures.next;
     }

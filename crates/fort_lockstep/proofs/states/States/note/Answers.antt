@@ -19,7 +19,7 @@ returns-then-target-len c =
     let one = c.presence.ensures in
     let two = c.push_reserved.ensures.items ∙ ap (λ x. ps ++ x ∷ []) c.presence-then-target-len.ensures in
     let start : IsBefore (ps ++ c.presence.result ∷ []) old.counts.width new.before.items = before_push ps old.counts.width c.presence.result old.counts.before.items new.before.items c.requires.before c.push.ensures.row in
-    let grown : IsBefore (ps ++ presence c.args.row.symbol ∷ []) new.width new.before.items = subst (λ w. IsBefore (ps ++ presence c.args.row.symbol ∷ []) w new.before.items) (sym c.push.ensures.width) (subst (λ x. IsBefore (ps ++ x ∷ []) old.counts.width new.before.items) one start) in
+    let grown : IsBefore (ps ++ presence c.args.row.now.symbol ∷ []) new.width new.before.items = subst (λ w. IsBefore (ps ++ presence c.args.row.now.symbol ∷ []) w new.before.items) (sym c.push.ensures.width) (subst (λ x. IsBefore (ps ++ x ∷ []) old.counts.width new.before.items) one start) in
     record {
       presences = two ∙ sym (if_equal c.args.target (length ps) _ _ is);
       firsts = c.push_reserved-then-target-len.ensures.items ∙ sym (if_equal c.args.target (length ps) _ _ is);

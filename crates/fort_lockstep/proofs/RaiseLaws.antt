@@ -1,0 +1,74 @@
+-- The first entry behind a digit that is one more, where neither symbol has arguments.
+use Rattle.std.proofs.Common.{◌≡◌, ℕ, zero, suc, ◌+◌, ◌-◌, ◌*◌, ◌<◌, ◌≤◌, max, List, [], ◌∷◌, ◌++◌, map, length, nat_lt, if◌then◌else◌, refl, ap, sym, ◌∙◌, arith, subst}
+use Rattle.std.specs.List.{flat_map, range_with_len}
+use Rattle.std.proofs.lemmas.List.{length-append}
+use Rattle.std.proofs.lemmas.Bool.{le-ltb}
+use Rattle.fort_theory.specs.Signatures.{Signature}
+use Rattle.fort_tables.specs.Tuples.{TupleSymbol, arity, symbol_kids, kid_presence}
+use Rattle.fort_tables.specs.Entries.{entry, stage}
+use Rattle.fort_lockstep.specs.Columns.{symbol_of}
+use Rattle.fort_lockstep.specs.Candidates.{column_arity}
+use Rattle.fort_lockstep.specs.Walks.{AreUpTo, Place, wants, wants_from, digit_lists, digits_after, stage_kids, stage_kids_after, stage_entries}
+use Rattle.fort_lockstep.specs.WalkFacts.{IsPlace, IsFound}
+use Rattle.fort_lockstep.proofs.WalkLaws.{found_there}
+
+-- a column without children counts for nothing
+kids_before : (sig : Signature) (ds : List ℕ) (d : ℕ) → column_arity sig d ≡ 0 → symbol_kids sig (symbol_of (ds ++ d ∷ [])) ≡ symbol_kids sig (symbol_of ds)
+kids_before sig [] zero z = refl
+kids_before sig [] (suc g) z = omega (arith, z)
+kids_before sig (zero ∷ ds) d z = kids_before sig ds d z
+kids_before sig (suc g ∷ ds) d z = ap (max (arity sig g)) (kids_before sig ds d z)
+
+presence_before : (sig : Signature) (ds : List ℕ) (d j : ℕ) → column_arity sig d ≡ 0 → kid_presence sig (symbol_of (ds ++ d ∷ [])) j ≡ kid_presence sig (symbol_of ds) j
+presence_before sig [] zero j z = refl
+presence_before sig [] (suc g) j z = ap (λ a. (if nat_lt j a then 1 else 0) + 2 * 0) z ∙ ap (λ b. (if b then 1 else 0) + 2 * 0) (le-ltb j 0 (omega arith))
+presence_before sig (zero ∷ ds) d j z = ap (λ n. 2 * n) (presence_before sig ds d j z)
+presence_before sig (suc g ∷ ds) d j z = ap (λ n. (if nat_lt j (arity sig g) then 1 else 0) + 2 * n) (presence_before sig ds d j z)
+
+wants_same : (sig : Signature) (f g : TupleSymbol) (j n : ℕ) → ((i : ℕ) → kid_presence sig f i ≡ kid_presence sig g i) → wants_from sig f j n ≡ wants_from sig g j n
+wants_same sig f g j zero h = refl
+wants_same sig f g j (suc n) h = λ i. h j i ∷ wants_same sig f g (j + 1) n h i
+
+wants_before : (sig : Signature) (ds : List ℕ) (d : ℕ) → column_arity sig d ≡ 0 → wants sig (symbol_of (ds ++ d ∷ [])) ≡ wants sig (symbol_of ds)
+wants_before sig ds d z =
+    ap (wants_from sig (symbol_of (ds ++ d ∷ [])) 0) (kids_before sig ds d z)
+    ∙ wants_same sig (symbol_of (ds ++ d ∷ [])) (symbol_of ds) 0 (symbol_kids sig (symbol_of ds)) (λ j. presence_before sig ds d j z)
+
+-- the list that comes next
+next_list : (n : ℕ) (ds : List ℕ) (d : ℕ) → d < n → digits_after n (ds ++ d ∷ []) ≡ (ds ++ (d + 1) ∷ []) ∷ digits_after n (ds ++ (d + 1) ∷ [])
+next_list n [] d l =
+    let e : n - d ≡ suc (n - (d + 1)) = omega arith in
+    ap (λ k. flat_map (λ e. map (λ es. e ∷ es) (digit_lists n 0)) (range_with_len (d + 1) k)) e
+next_list n (c ∷ ds) d l =
+    let others : ℕ → List (List ℕ) = λ k. flat_map (λ e. map (λ es. e ∷ es) (digit_lists n k)) (range_with_len (c + 1) (n - c)) in
+    let same : length (ds ++ d ∷ []) ≡ length (ds ++ (d + 1) ∷ []) = length-append ds (d ∷ []) ∙ sym (length-append ds ((d + 1) ∷ [])) in
+    ap (λ xs. map (λ es. c ∷ es) xs ++ others (length (ds ++ d ∷ []))) (next_list n ds d l)
+    ∙ ap (λ k. (c ∷ (ds ++ (d + 1) ∷ [])) ∷ (map (λ es. c ∷ es) (digits_after n (ds ++ (d + 1) ∷ [])) ++ others k)) same
+
+up_to_next : (n : ℕ) (ds : List ℕ) (d : ℕ) → d < n → AreUpTo n (ds ++ d ∷ []) → AreUpTo n (ds ++ (d + 1) ∷ [])
+up_to_next n [] d l h = (omega arith, tt)
+up_to_next n (c ∷ ds) d l h = (h.0, up_to_next n ds d l h.1)
+
+pub raised_found : (sig : Signature) (ps : List ℕ) (pl : Place) (ds : List ℕ) (d : ℕ) (next ks : List ℕ) → IsPlace sig pl → pl.stage ≤ length ps → pl.digits ≡ ds ++ d ∷ [] → next ≡ ds ++ (d + 1) ∷ []
+    → d < length sig → column_arity sig d ≡ 0 → column_arity sig (d + 1) ≡ 0
+    → AreUpTo (pl.stage - 1) ks → stage ks ≡ pl.stage → stage_kids ps pl.stage pl.wanted ≡ ks ∷ stage_kids_after ps pl.stage pl.wanted ks
+    → IsFound sig ps pl.stage pl.digits record { stage = pl.stage; digits = next; kids = ks; wanted = pl.wanted }
+raised_found sig ps pl ds d next ks p within old new l z z' u s first =
+    let new_place : Place = record { stage = pl.stage; digits = next; kids = ks; wanted = pl.wanted } in
+    let wanted : pl.wanted ≡ wants sig (symbol_of next) = p.wanted ∙ (ap (λ xs. wants sig (symbol_of xs)) old ∙ (wants_before sig ds d z ∙ (sym (wants_before sig ds (d + 1) z') ∙ ap (λ xs. wants sig (symbol_of xs)) (sym new)))) in
+    let placed : IsPlace sig new_place = record {
+      stage = s;
+      digits = subst (AreUpTo (length sig)) (sym new) (up_to_next (length sig) ds d l (subst (AreUpTo (length sig)) old p.digits));
+      kids = u;
+      wanted = wanted;
+    } in
+    let width : length next ≡ length pl.digits = ap length new ∙ (length-append ds ((d + 1) ∷ []) ∙ (sym (length-append ds (d ∷ [])) ∙ ap length (sym old))) in
+    let lists : digits_after (length sig) pl.digits ≡ next ∷ digits_after (length sig) next = ap (digits_after (length sig)) old ∙ (next_list (length sig) ds d l ∙ ap (λ xs. xs ∷ digits_after (length sig) xs) (sym new)) in
+    let there : stage_kids ps pl.stage (wants sig (symbol_of next)) ≡ ks ∷ stage_kids_after ps pl.stage (wants sig (symbol_of next)) ks = subst (λ (ws : List ℕ). stage_kids ps pl.stage ws ≡ ks ∷ stage_kids_after ps pl.stage ws ks) wanted first in
+    found_there sig ps pl.stage pl.stage pl.digits pl.digits new_place within refl refl
+    (record {
+      placed = placed;
+      at_stage = refl;
+      width = width;
+      next = ap (stage_entries sig ps pl.stage) lists ∙ ap (λ ls. map (entry (symbol_of next)) ls ++ stage_entries sig ps pl.stage (digits_after (length sig) next)) there;
+    })
