@@ -21,6 +21,7 @@ mod side_places;
 mod term_labels;
 
 pub use atom_labels::AtomLabels;
+pub use relation::RelationBits;
 pub use term_labels::TermLabels;
 
 #[cfg(test)]
