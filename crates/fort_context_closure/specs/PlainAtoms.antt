@@ -42,6 +42,7 @@ pub record IsNormalAtomOf (system : PatternSystem) (index : ℕ) (a : ListedAtom
   }) a.lefts []
   pub left_sides : map (λ (pair : Pair). pair.0) a.atom.pairs ≡ map (λ (pair : Pair). pair.0) (at_index index system.rules)
   pub is_listed : IsListedAtom (listed (normal_atom system index) a.lefts [])
+  pub left_order : AreSubpatternsInOrder (map (λ (pair : Pair). pair.0) (at_index index system.rules)) a.lefts
 
 -- the atom x REL y for the rules of an index, whichever list is that of its columns, and a test of its closure
 abbrev pub IsRelationAtomOf : PatternSystem → Rel → (index x y : ℕ) → ClosedAtom → Type 0

@@ -270,17 +270,23 @@ fn is_reduction(rel: Rel) -> bool
     matches!(rel, Rel::Plus | Rel::Star | Rel::Conv)
 }
 
-/// Pairs as entries of a closure. No label reads their reasons.
+/// A pair as an entry of a closure. No label reads the reason.
+fn entry_of(pair: (u32, u32)) -> Entry
+    ensures { (result.p, result.q) ≡ pair }
+{
+    Entry {
+        p: pair.0,
+        q: pair.1,
+        why: Why::Any,
+    }
+}
+
 fn entries_of(alloc: Global, pairs: &[(u32, u32)]) -> Result<Vec<Entry>, Memory>
     ensures { IfOk result (λ entries. numbers_of entries.items ≡ pairs.now) }
 {
     let mut entries = Vec::with_capacity(alloc, pairs.len())?;
-    for (p, q) in pairs {
-        entries.push(Entry {
-            p: *p,
-            q: *q,
-            why: Why::Any,
-        })?;
+    for pair in pairs {
+        entries.push(entry_of(*pair))?;
     }
     Ok(entries)
 }
