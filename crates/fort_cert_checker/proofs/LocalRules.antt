@@ -1,53 +1,53 @@
--- The rules that the program makes of rules, patterns and pairs are those that a part is to have.
-use Rattle.std.specs.Prelude.{◌≡◌, ℕ, List, [], ◌∷◌, map, Contains, refl}
-use Rattle.std.proofs.Common.{sym, ap, ◌∙◌, subst}
+-- The rules by the labels that the program makes are those that a part is to have.
+use Rattle.std.specs.Prelude.{◌≡◌, ℕ, List}
+use Rattle.std.proofs.Common.{ap, ◌∙◌}
+use Rattle.fort_theory.specs.Signatures.{Signature}
 use Rattle.fort_theory.specs.Sides.{at_index}
 use Rattle.fort_theory.specs.Patterns.{Pattern, Pair, PatternSystem}
-use Rattle.fort_theory.specs.PatternOrder.{AreSubpatternsInOrder}
-use Rattle.fort_theory.proofs.Members.{Contains-none, Contains-head}
-use Rattle.fort_logic.specs.Cores.{Rel, Eq, Root, Below, Step, Par, Plus, Star, Conv}
-use Rattle.fort_alike.specs.Atoms.{pairs_for}
-use Rattle.fort_atom_labels.specs.AtomRules.{atom_accepts}
-use Rattle.fort_context_closure.specs.LocalAtoms as atoms
+use Rattle.fort_logic.specs.Cores.{Rel, Atom}
+use Rattle.fort_alike.specs.Atoms as kinds
+use Rattle.fort_alike.specs.Atoms.{relation_atom}
+use Rattle.fort_atom_labels.specs.ListedAtoms.{ListedAtom, listed}
+use Rattle.fort_atom_labels.specs.AtomRules.{atom_rule, atom_accepts}
+use Rattle.fort_atom_labels.specs.ClosureTests.{closure_test}
+use Rattle.fort_context_closure.specs.ClosedAtoms as closures
+use Rattle.fort_context_closure.specs.ClosedAtoms.{ClosedAtom}
+use Rattle.fort_context_closure.specs.PlainAtoms.{no_closure, IsByPairs, IsNormalAtomOf}
+use Rattle.fort_context_closure.proofs.NormalLaws.{normal, normal-step}
+use Rattle.fort_parts.specs.PartColumns.{columns_of}
+use Rattle.fort_parts.proofs.PartColumnLaws.{AreColumns-columns_of}
 use Rattle.fort_certificate_grammar.specs.Certificates.{Pair as Item}
-use Rattle.fort_in_order.specs.ClosureSteps.{AreSidePatterns, numbers_of}
+use Rattle.fort_in_order.specs.ClosureSteps.{numbers_of}
 use Rattle.fort_in_order.specs.PartRules.{Local, relation_local, normal_local}
-use Rattle.fort_check_steps.specs.AtomLocals.{related_atom, related_rule, normal_rule}
+use Rattle.fort_check_steps.specs.AtomLocals.{signed}
+use Rattle.fort_cert_checker.specs.AtomPlans as own
 
--- nothing has no patterns within
-no_patterns : (tops ps : List Pattern) → tops ≡ [] → AreSubpatternsInOrder tops ps → ps ≡ []
-no_patterns tops [] e h = refl
-no_patterns tops (p ∷ ps) e h = absurd (let w = (h.same p).0 (Contains-head p ps) in Contains-none w.0 (subst (λ (xs : List Pattern). Contains xs w.0) e w.1))
-
-abbrev pub made_local : PatternSystem → Rel → (index x y : ℕ) → (lefts rights : List Pattern) → List (ℕ × ℕ) → Local
-made_local system rel index x y lefts rights pairs = record {
-  rule = related_rule system.signature (at_index index system.rules) rel x y lefts rights pairs;
-  accepting = atom_accepts (related_atom system.signature (at_index index system.rules) rel x y lefts rights);
-}
+abbrev normal_by : Signature → List Pair → List Pattern → Local
+normal_by sig pairs lefts = record { rule = atom_rule (normal sig pairs lefts) no_closure; accepting = atom_accepts (normal sig pairs lefts) }
 
 -- Result
-pub relation_local_is : (system : PatternSystem) (rel : Rel) (index x y : ℕ) (lefts rights : List Pattern) (pairs : List (ℕ × ℕ)) (items : List Item)
-    → AreSidePatterns (pairs_for rel (at_index index system.rules)) lefts rights → pairs ≡ numbers_of items
-    → made_local system rel index x y lefts rights pairs ≡ relation_local system rel index x y lefts rights items
-relation_local_is system Eq index x y lefts rights pairs items h e =
-    let a : lefts ≡ [] = no_patterns (map (λ (pair : Pair). pair.0) []) lefts refl h.left in
-    let b : rights ≡ [] = no_patterns (map (λ (pair : Pair). pair.1) []) rights refl h.right in
-    ap (made_local system Eq index x y lefts rights) e
-    ∙ (ap (λ (ps : List Pattern). made_local system Eq index x y ps rights (numbers_of items)) a
-    ∙ (ap (λ (ps : List Pattern). made_local system Eq index x y [] ps (numbers_of items)) b
-    ∙ (ap (λ (ps : List Pattern). relation_local system Eq index x y ps [] items) (sym a)
-    ∙ ap (λ (ps : List Pattern). relation_local system Eq index x y lefts ps items) (sym b))))
-relation_local_is system Root index x y lefts rights pairs items h e = ap (made_local system Root index x y lefts rights) e
-relation_local_is system Below index x y lefts rights pairs items h e = ap (made_local system Below index x y lefts rights) e
-relation_local_is system Step index x y lefts rights pairs items h e = ap (made_local system Step index x y lefts rights) e
-relation_local_is system Par index x y lefts rights pairs items h e = ap (made_local system Par index x y lefts rights) e
-relation_local_is system Plus index x y lefts rights pairs items h e = ap (made_local system Plus index x y lefts rights) e
-relation_local_is system Star index x y lefts rights pairs items h e = ap (made_local system Star index x y lefts rights) e
-relation_local_is system Conv index x y lefts rights pairs items h e = ap (made_local system Conv index x y lefts rights) e
+pub relation_local_is : (system : PatternSystem) (rel : Rel) (index x y : ℕ) (pairs : List (ℕ × ℕ)) (items : List Item) (c : ClosedAtom)
+    → IsByPairs system rel index x y pairs c → pairs ≡ numbers_of items
+    → own.related_local system c ≡ relation_local system rel index x y c.atom.lefts c.atom.rights items
+relation_local_is system rel index x y pairs items c h e =
+    let sig = system.signature in
+    let f = Atom rel index x y in
+    let lefts = c.atom.lefts in
+    let rights = c.atom.rights in
+    let here : signed sig c.atom ≡ listed (relation_atom system rel index x y (columns_of f)) lefts rights =
+    ap (λ (a : kinds.Atom). signed sig (listed a lefts rights)) (h.rules.same index (columns_of f) (AreColumns-columns_of f)) in
+    let numbers : closures.numbers_of c.entries ≡ numbers_of items = h.numbers_are ∙ e in
+    λ i. record { rule = atom_rule (here i) (closure_test rights lefts (numbers i)); accepting = atom_accepts (here i) }
 
 -- Result
-
-pub normal_is : (system : PatternSystem) (index : ℕ) (lefts : List Pattern)
-    → ◌≡◌ {A = Local} (record { rule = normal_rule system.signature (at_index index system.rules) lefts; accepting = atom_accepts (atoms.local_normal system.signature (at_index index system.rules) lefts) })
-    (normal_local system index lefts)
-normal_is system index lefts = refl
+pub normal_local_is : (system : PatternSystem) (index : ℕ) (a : ListedAtom) → IsNormalAtomOf system index a
+    → own.normal_local system a ≡ normal_local system index a.lefts
+normal_local_is system index a h =
+    let sig = system.signature in
+    let pairs = at_index index system.rules in
+    let seen : own.normal_local system a ≡ normal_by sig a.atom.pairs a.lefts =
+    ap (own.normal_local system) h.same in
+    seen ∙ (λ i. record {
+      rule = record { signature = sig; columns = 1; step = λ f ws. normal-step sig sig a.atom.pairs pairs a.lefts h.left_sides f ws i };
+      accepting = atom_accepts (normal sig pairs a.lefts);
+    })

@@ -47,7 +47,7 @@ if_err (Err e) by h = by e h
 pub marks_kept : (ss : List Step) (w : Work) (old new : MarkRoom) → IsMarkRoomFor ss w old → ((states count : ℕ) → HasMarkRoom states count old → HasMarkRoom states count new) → IsMarkRoomFor ss w new
 marks_kept ss Truth old new h keep = h
 marks_kept ss (Relation r) old new h keep = h
-marks_kept ss (Normal index left) old new h keep = h
+marks_kept ss (Normal a) old new h keep = h
 marks_kept ss Term old new h keep = h
 marks_kept ss (Negation s) old new h keep = h
 marks_kept ss (Product op a b) old new h keep = h

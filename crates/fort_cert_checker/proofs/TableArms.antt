@@ -1,10 +1,9 @@
 -- The targets of a part, work by work: what its check needs, and that its rule is the one that the part is to have.
-use Rattle.std.specs.Prelude.{◌≡◌, ℕ, zero, suc, ◌++◌, false, ◌+◌, ◌*◌, ◌^◌, ◌<◌, List, [], ◌∷◌, map, length, get_or, vec_len, nat_lt, ◌-◌, Bool, true, Result, refl}
+use Rattle.std.specs.Prelude.{◌≡◌, ℕ, zero, suc, ◌++◌, false, ◌+◌, ◌*◌, ◌<◌, List, [], ◌∷◌, map, length, get_or, vec_len, nat_lt, ◌-◌, Bool, true, Result, refl}
 use Rattle.std.proofs.Common.{sym, ap, ◌∙◌, subst, arith, true≢false, Vec, Global}
 use Rattle.std.proofs.lemmas.Bool.{lt-ltb}
 use Rattle.std.proofs.lemmas.List.{length-map}
 use Rattle.fort_theory.specs.Signatures.{Signature}
-use Rattle.fort_theory.specs.Sides.{IsIndexOf}
 use Rattle.fort_theory.specs.Patterns.{PatternSystem}
 use Rattle.fort_logic.specs.Cores as core
 use Rattle.fort_logic.specs.Cores.{Core}
@@ -14,22 +13,21 @@ use Rattle.fort_tables.specs.Tables.{Table}
 use Rattle.fort_operations.specs.Projections.{ArePure, ArePureBelow, is_pure}
 use Rattle.fort_counts.specs.Counts as counts
 use Rattle.fort_counts.specs.Counts.{KeepRules, count_at}
-use Rattle.fort_context_closure.specs.LocalAtoms.{mark_count}
+use Rattle.fort_atom_labels.specs.ListedAtoms.{ListedAtom}
+use Rattle.fort_atom_labels.specs.AtomRules.{marks_of}
+use Rattle.fort_context_closure.specs.ClosedAtoms.{ClosedAtom}
 use Rattle.fort_parts.specs.PartColumns.{columns_of, place_in}
 use Rattle.fort_parts.specs.PartAnswers.{Answer}
-use Rattle.fort_parts.specs.DecidedCores.{IsOverSystem, IsOperandOf}
+use Rattle.fort_parts.specs.DecidedCores.{IsOperandOf}
 use Rattle.fort_parts.specs.RightAnswers.{joined}
 use Rattle.fort_parts.proofs.PartColumnLaws.{columns_of-Nf, columns_of-Is}
 use Rattle.fort_certificate_grammar.specs.Certificates.{Step, Part, Counts}
 use Rattle.fort_in_order.specs.ClosureSteps.{numbers_of}
 use Rattle.fort_in_order.specs.Dues.{has_columns, is_turned}
 use Rattle.fort_in_order.specs.Made.{Made}
-use Rattle.fort_in_order.specs.PartRules.{closure_for, IsLocalOf, term_local, project_local, many_local, is_many, IsCounted}
+use Rattle.fort_in_order.specs.PartRules.{Local, closure_for, IsLocalOf, term_local, project_local, many_local, is_many, IsCounted}
 use Rattle.fort_in_order_laws.proofs.RightParts.{some_columns}
 use Rattle.fort_in_order_laws.proofs.JoinedTables.{bound_within, bound_many}
-use Rattle.fort_terms.specs.declared.pattern.Pattern.{Pattern}
-use Rattle.fort_terms.specs.PatternView.{as_pattern}
-use Rattle.fort_formulas.specs.CoreView.{as_rel}
 use Rattle.fort_rrn_algebra.specs.declared.operand.Op.{Op}
 use Rattle.fort_rrn_algebra.specs.Operands.{connective_of}
 use Rattle.fort_infinity.specs.declared.count.Count.{Count}
@@ -42,7 +40,6 @@ use Rattle.fort_check_steps.proofs.PureStates.{pure_push, pure_left}
 use Rattle.fort_check_steps.specs.Marks.{HasMarkRoom}
 use Rattle.fort_cert_checker.specs.declared.plan.Source.{Source}
 use Rattle.fort_cert_checker.specs.declared.plan.Operand.{Operand}
-use Rattle.fort_cert_checker.specs.declared.plan.RelationLists.{RelationLists}
 use Rattle.fort_cert_checker.specs.declared.plan.Work.{Work}
 use Rattle.fort_cert_checker.specs.declared.plan.Work.TheVariants.{Truth, Negation, Relation, Normal, Term, Product, Projection, Many}
 use Rattle.fort_cert_checker.specs.declared.plan.Plan.{Plan}
@@ -55,7 +52,7 @@ use Rattle.fort_cert_checker.specs.Plans.{IsClosureRead, IsRelationPlan, IsNorma
 use Rattle.fort_cert_checker.specs.Pasts.{steps_of, IsTableAt, IsAnswerAt, IsPartStep, IsClosureKnown, IsMarkRoomFor, AreCountsKnown, IsTableDue, IsTableStep}
 use Rattle.fort_cert_checker.proofs.JoinFits.{operand_first, operand_second}
 use Rattle.fort_cert_checker.proofs.KnownAnswers.{IsKnown, IsKnownTable, known_answer, known_table}
-use Rattle.fort_cert_checker.proofs.LocalRules.{relation_local_is}
+use Rattle.fort_cert_checker.proofs.LocalRules.{relation_local_is, normal_local_is}
 use Rattle.fort_cert_checker.proofs.PartLocals.{joined_local_is, joined_fit, projected_local_is, many_local_is}
 
 has_some : (n : ℕ) → 0 < n → nat_lt 0 n ≡ true
@@ -103,47 +100,51 @@ module _ (system : PatternSystem) (parts : List Core) (past : Past) (k : ℕ) (m
   operand_is : (g h : Core) → f ≡ h → IsOperandOf g h → IsOperandOf g (get_or parts k core.True)
   operand_is g h e o = subst (IsOperandOf g) (sym (due.due.part ∙ e)) o
 
-  module _ (r : RelationLists) (is : p.work ≡ Relation r) where
-    relation_plan : IsRelationPlan system (steps_of past) f r
-    relation_plan = at_work (Relation r) is
+  module _ (c : ClosedAtom) (is : p.work ≡ Relation c) where
+    relation_plan : IsRelationPlan system (steps_of past) f c
+    relation_plan = at_work (Relation c) is
 
-    pub relation_index : IsIndexOf system.rules r.index
-    relation_index = subst (IsOverSystem system) relation_plan.whole due.due.fit.over
+    pub relation_room : HasRoom (suc (words_for (length (marks_of c.atom)))) targets room
+    relation_room = sized_for _ (width_for (Relation c) is)
 
-    pub relation_left : length r.left.items < 2 ^ 32
-    relation_left = relation_plan.left_few
-
-    pub relation_right : length r.right.items < 2 ^ 32
-    relation_right = relation_plan.right_few
-
-    pub relation_room : HasRoom (suc (words_for (mark_count (as_rel r.rel) (length r.left.items) (length r.right.items)))) targets room
-    relation_room = sized_for _ (width_for (Relation r) is)
-
-    pub relation_step : {U : Type 0} (new : PartRoom) (result : Result U Failure) → IsPartStep (own.related_local system r) targets new result → IsTableStep system parts k made f targets new result
+    pub relation_step : {U : Type 0} (new : PartRoom) (result : Result U Failure) → IsPartStep (own.related_local system c) targets new result → IsTableStep system parts k made f targets new result
     relation_step new result step =
         let h = relation_plan in
-        let rel = as_rel r.rel in
-        let pairs = closure_is (steps_of past) made rel r.index r.closure.items h.closure (due.due.known.closures rel r.index r.x r.y (due.due.part ∙ h.whole)) in
-        let local = own.related_local system r in
+        let pairs = closure_is (steps_of past) made h.rel h.index h.pairs h.closure (due.due.known.closures h.rel h.index h.first h.second (due.due.part ∙ h.whole)) in
+        let local = own.related_local system c in
+        let same = relation_local_is system h.rel h.index h.first h.second h.pairs (closure_for made h.rel h.index) c h.labels pairs in
         record {
           local = local;
           local_is = subst (λ (g : Core). IsLocalOf system parts made k g local) (sym h.whole) (record {
-            lefts = map as_pattern r.left.items;
-            rights = map as_pattern r.right.items;
-            patterns = h.patterns;
-            is = relation_local_is system rel r.index r.x r.y (map as_pattern r.left.items) (map as_pattern r.right.items) r.closure.items (closure_for made rel r.index) h.patterns pairs;
+            lefts = c.atom.lefts;
+            rights = c.atom.rights;
+            patterns = record { left = h.labels.left_order; right = h.labels.right_order };
+            is = same;
           });
           signature = refl;
-          columns_are = ap (λ (g : Core). length (columns_of g)) (sym h.whole);
+          columns_are = ap (λ (l : Local). l.rule.columns) same ∙ ap (λ (g : Core). length (columns_of g)) (sym h.whole);
           step = step;
         }
 
-  pub normal_plan : (index : ℕ) (left : Vec Pattern Global) → p.work ≡ Normal index left → (xs : List Pattern) → xs ≡ left.items → IsNormalPlan system f index xs
-  normal_plan index left e xs same = subst (IsNormalPlan system f index) (sym same) (at_work (Normal index left) e)
+  module _ (a : ListedAtom) (is : p.work ≡ Normal a) where
+    normal_plan : IsNormalPlan system f a
+    normal_plan = at_work (Normal a) is
 
-  pub normal_room : (index : ℕ) (left : Vec Pattern Global) → p.work ≡ Normal index left → (xs : List Pattern) → xs ≡ left.items → HasRoom (suc (words_for (length xs + 1))) targets room
-  normal_room index left e xs same =
-      subst (λ (ps : List Pattern). HasRoom (suc (words_for (length ps + 1))) targets room) (sym same) (sized_for _ (width_for (Normal index left) e))
+    pub normal_room : HasRoom (suc (words_for (length (marks_of a)))) targets room
+    normal_room = sized_for _ (width_for (Normal a) is)
+
+    pub normal_step : {U : Type 0} (new : PartRoom) (result : Result U Failure) → IsPartStep (own.normal_local system a) targets new result → IsTableStep system parts k made f targets new result
+    normal_step new result step =
+        let h = normal_plan in
+        let local = own.normal_local system a in
+        let same = normal_local_is system h.index a h.labels in
+        record {
+          local = local;
+          local_is = subst (λ (g : Core). IsLocalOf system parts made k g local) (sym h.whole) (record { lefts = a.lefts; patterns = h.labels.left_order; is = same });
+          signature = refl;
+          columns_are = ap (λ (l : Local). l.rule.columns) same ∙ sym (ap (λ (g : Core). length (columns_of g)) h.whole ∙ ap length (columns_of-Nf h.index h.number));
+          step = step;
+        }
 
   pub term_plan : p.work ≡ Term → IsTermPlan f
   term_plan e = at_work Term e
@@ -176,21 +177,6 @@ module _ (system : PatternSystem) (parts : List Core) (past : Past) (k : ℕ) (m
   not_negation s e =
       let h : IsNegationPlan parts f s = at_work (Negation s) e in
       true≢false (sym due.columns ∙ (ap has_columns h.whole ∙ (sym (ap is_turned h.whole) ∙ due.plain)))
-
-  module _ (index : ℕ) (left : List Pattern) (plan : IsNormalPlan system f index left) where
-    pub normal_index : IsIndexOf system.rules index
-    normal_index = subst (IsOverSystem system) plan.whole due.due.fit.over
-
-    pub normal_step : {U : Type 0} (new : PartRoom) (result : Result U Failure) → IsPartStep (own.normal_local system index (map as_pattern left)) targets new result → IsTableStep system parts k made f targets new result
-    normal_step new result step =
-        let local = own.normal_local system index (map as_pattern left) in
-        record {
-          local = local;
-          local_is = subst (λ (g : Core). IsLocalOf system parts made k g local) (sym plan.whole) (record { lefts = map as_pattern left; patterns = plan.patterns; is = refl });
-          signature = refl;
-          columns_are = sym (ap (λ (g : Core). length (columns_of g)) plan.whole ∙ ap length (columns_of-Nf index plan.number));
-          step = step;
-        }
 
   pub term_step : {U : Type 0} (plan : IsTermPlan f) (new : PartRoom) (result : Result U Failure) → IsPartStep (term_local system.signature plan.term) targets new result → IsTableStep system parts k made f targets new result
   term_step plan new result step =

@@ -27,8 +27,6 @@ use Rattle.fort_in_order.specs.PartRules.{IsValueOf, IsCounted, is_many}
 use Rattle.fort_in_order.specs.Checked.{IsCountJudged}
 use Rattle.fort_in_order_laws.proofs.RightParts.{some_columns, none_columns}
 use Rattle.fort_in_order_laws.proofs.JoinedTables.{bound_within}
-use Rattle.fort_formulas.specs.CoreView.{as_rel}
-use Rattle.fort_terms.specs.declared.pattern.Pattern.{Pattern}
 use Rattle.fort_rrn_algebra.specs.declared.operand.Op.{Op}
 use Rattle.fort_rrn_algebra.specs.Operands.{connective_of}
 use Rattle.fort_infinity.specs.declared.count.Count.{Count}
@@ -38,7 +36,8 @@ use Rattle.fort_check_steps.specs.Room.{most_states}
 use Rattle.fort_check_steps.specs.Marks.{HasMarkRoom}
 use Rattle.fort_cert_checker.specs.declared.plan.Source.{Source}
 use Rattle.fort_cert_checker.specs.declared.plan.Operand.{Operand}
-use Rattle.fort_cert_checker.specs.declared.plan.RelationLists.{RelationLists}
+use Rattle.fort_atom_labels.specs.ListedAtoms.{ListedAtom}
+use Rattle.fort_context_closure.specs.ClosedAtoms.{ClosedAtom}
 use Rattle.fort_cert_checker.specs.declared.plan.Work.{Work}
 use Rattle.fort_cert_checker.specs.declared.plan.Work.TheVariants.{Truth, Negation, Relation, Normal, Term, Product, Projection, Many}
 use Rattle.fort_cert_checker.specs.declared.plan.Plan.{Plan}
@@ -198,20 +197,20 @@ module _ (system : PatternSystem) (parts : List Core) (past : Past) (k : ℕ) (m
         let w = some_pure body.table c (length body.table.presences) in
         many_value_is system parts k made f plan.number plan.body body.table c w.0 (map as_mark xs) plan.whole body.is plan.column w.1 many_made value (told body.table w.0 body.at w.1)
 
-  pub not_atom : (r : RelationLists) → p.work ≡ Relation r → ⊥
+  pub not_atom : (r : ClosedAtom) → p.work ≡ Relation r → ⊥
   not_atom r e =
       let h : IsRelationPlan system (steps_of past) f r = work_is (Relation r) e in
-      let g = core.Atom (as_rel r.rel) r.index r.x r.y in
-      let free : is_free r.x g ≡ true = ap (λ (b : Bool). b || (r.y == r.x)) (eq-eqb r.x r.x refl) in
-      let c = column-from_free g r.x free in
+      let g = core.Atom h.rel h.index h.first h.second in
+      let free : is_free h.first g ≡ true = ap (λ (b : Bool). b || (h.second == h.first)) (eq-eqb h.first h.first refl) in
+      let c = column-from_free g h.first free in
       let none = none_columns f due.columns in
       omega (arith, none, ap (λ (x : Core). length (columns_of x)) h.whole, c.1)
 
-  pub not_normal : (index : ℕ) (left : Vec Pattern Global) → p.work ≡ Normal index left → ⊥
-  not_normal index left e =
-      let h = work_is (Normal index left) e in
+  pub not_normal : (a : ListedAtom) → p.work ≡ Normal a → ⊥
+  not_normal a e =
+      let h = work_is (Normal a) e in
       let none = none_columns f due.columns in
-      let one = ap length (columns_of-Nf index h.number) in
+      let one = ap length (columns_of-Nf h.index h.number) in
       omega (arith, none, ap (λ (g : Core). length (columns_of g)) h.whole, one)
 
   pub not_term : p.work ≡ Term → ⊥
@@ -235,8 +234,8 @@ module _ (system : PatternSystem) (parts : List Core) (past : Past) (k : ℕ) (m
       by : (w : Work) → p.work ≡ w → IsWorkOf system parts (steps_of past) k f w → ⊥
       by Truth e h = let z : core.Infinite due.number due.body ≡ core.True = sym due.whole ∙ h in cc
       by (Negation s) e h = let z : core.Infinite due.number due.body ≡ core.Not h.body = sym due.whole ∙ h.whole in cc
-      by (Relation r) e h = let z : core.Infinite due.number due.body ≡ core.Atom (as_rel r.rel) r.index r.x r.y = sym due.whole ∙ h.whole in cc
-      by (Normal index left) e h = let z : core.Infinite due.number due.body ≡ core.Nf index h.number = sym due.whole ∙ h.whole in cc
+      by (Relation r) e h = let z : core.Infinite due.number due.body ≡ core.Atom h.rel h.index h.first h.second = sym due.whole ∙ h.whole in cc
+      by (Normal a) e h = let z : core.Infinite due.number due.body ≡ core.Nf h.index h.number = sym due.whole ∙ h.whole in cc
       by Term e h = let z : core.Infinite due.number due.body ≡ core.Is h.number h.term = sym due.whole ∙ h.whole in cc
       by (Product op a b) e h = joined_apart (connective_of op) h.one h.other due.number due.body (sym due.whole ∙ h.whole)
       by (Projection s c) e h = let z : core.Infinite due.number due.body ≡ core.Exists h.number h.body = sym due.whole ∙ h.whole in cc

@@ -2,27 +2,23 @@
 use Rattle.std.specs.Prelude.{◌≡◌, ℕ, suc, ◌+◌, ◌*◌, ◌^◌, ◌<◌, ◌≤◌, List, [], map, length}
 use Rattle.fort_theory.specs.Trees.{Tree}
 use Rattle.fort_theory.specs.Signatures.{most_columns}
-use Rattle.fort_theory.specs.Sides.{at_index}
-use Rattle.fort_theory.specs.Patterns as theory_patterns
 use Rattle.fort_theory.specs.Patterns.{PatternSystem}
-use Rattle.fort_theory.specs.PatternOrder.{AreSubpatternsInOrder}
 use Rattle.fort_logic.specs.Cores as core
 use Rattle.fort_logic.specs.Cores.{Core}
 use Rattle.fort_logic.specs.Parts.{BindsFree}
 use Rattle.fort_logic.specs.PartLists.{AreParts}
 use Rattle.fort_tables.specs.BitRows.{words_for}
-use Rattle.fort_alike.specs.Atoms.{pairs_for}
 use Rattle.fort_counts.specs.Counts as counts
 use Rattle.fort_atom_labels.specs.Subterms.{subterms}
-use Rattle.fort_context_closure.specs.LocalAtoms.{mark_count}
+use Rattle.fort_atom_labels.specs.ListedAtoms.{ListedAtom}
+use Rattle.fort_atom_labels.specs.AtomRules.{marks_of}
+use Rattle.fort_context_closure.specs.ClosedAtoms.{ClosedAtom}
+use Rattle.fort_context_closure.specs.PlainAtoms.{IsByPairs, IsNormalAtomOf}
 use Rattle.fort_parts.specs.PartColumns.{columns_of, place_in, places_in}
 use Rattle.fort_parts.specs.DecidedCores.{IsOverSystem}
 use Rattle.fort_parts.specs.RightAnswers.{joined}
 use Rattle.fort_certificate_grammar.specs.Certificates.{Star, Conv, Pair as Item, Step, Closure, Part, Counts}
-use Rattle.fort_in_order.specs.ClosureSteps.{AreSidePatterns, numbers_of}
-use Rattle.fort_terms.specs.declared.pattern.Pattern.{Pattern}
-use Rattle.fort_terms.specs.PatternView.{as_pattern}
-use Rattle.fort_formulas.specs.CoreView.{as_rel}
+use Rattle.fort_in_order.specs.ClosureSteps.{numbers_of}
 use Rattle.fort_rrn_algebra.specs.declared.operand.Op.{Op}
 use Rattle.fort_rrn_algebra.specs.Operands.{connective_of}
 use Rattle.fort_infinity.specs.declared.count.Count.{Count}
@@ -32,7 +28,6 @@ use Rattle.fort_cert_checker.specs.Abouts.{IsOnlyAbout}
 use Rattle.fort_cert_checker.specs.Sources.{IsSourceOf}
 use Rattle.fort_cert_checker.specs.declared.plan.Source.{Source}
 use Rattle.fort_cert_checker.specs.declared.plan.Operand.{Operand}
-use Rattle.fort_cert_checker.specs.declared.plan.RelationLists.{RelationLists}
 use Rattle.fort_cert_checker.specs.declared.plan.Work.{Work}
 use Rattle.fort_cert_checker.specs.declared.plan.Work.TheVariants.{Truth, Relation, Normal, Term, Negation, Product, Projection, Many}
 use Rattle.fort_cert_checker.specs.declared.plan.Plan.{Plan}
@@ -59,23 +54,22 @@ IsClosureRead ss core.Plus index pairs = (items : List Item) → IsOnlyAbout ss 
 IsClosureRead ss core.Conv index pairs = (items : List Item) → IsOnlyAbout ss (Closure Conv index items) → pairs ≡ numbers_of items
 IsClosureRead ss other index pairs = pairs ≡ []
 
-pub record IsRelationPlan (system : PatternSystem) (ss : List Step) (f : Core) (r : RelationLists) : Type 0 where
-  pub whole : f ≡ core.Atom (as_rel r.rel) r.index r.x r.y
-  pub patterns : AreSidePatterns (pairs_for (as_rel r.rel) (at_index r.index system.rules)) (map as_pattern r.left.items) (map as_pattern r.right.items)
-  pub closure : IsClosureRead ss (as_rel r.rel) r.index r.closure.items
-  pub left_few : length r.left.items < 2 ^ 32
-  pub right_few : length r.right.items < 2 ^ 32
+-- the labels are those of the relation that it is, by the pairs that it reads
+pub record IsRelationPlan (system : PatternSystem) (ss : List Step) (f : Core) (c : ClosedAtom) : Type 0 where
+  pub rel : core.Rel
+  pub index : ℕ
+  pub first : ℕ
+  pub second : ℕ
+  pub pairs : List (ℕ × ℕ)
+  pub whole : f ≡ core.Atom rel index first second
+  pub closure : IsClosureRead ss rel index pairs
+  pub labels : IsByPairs system rel index first second pairs c
 
--- the patterns within the left sides of an index
-abbrev pub AreLeftPatterns : PatternSystem → ℕ → List Pattern → Type 0
-AreLeftPatterns system index left =
-    AreSubpatternsInOrder (map (λ (pair : theory_patterns.Pair). pair.0) (at_index index system.rules)) (map as_pattern left)
-
-pub record IsNormalPlan (system : PatternSystem) (f : Core) (index : ℕ) (left : List Pattern) : Type 0 where
+pub record IsNormalPlan (system : PatternSystem) (f : Core) (a : ListedAtom) : Type 0 where
+  pub index : ℕ
   pub number : ℕ
   pub whole : f ≡ core.Nf index number
-  pub patterns : AreLeftPatterns system index left
-  pub few : length left < 2 ^ 32
+  pub labels : IsNormalAtomOf system index a
 
 pub record IsTermPlan (f : Core) : Type 0 where
   pub number : ℕ
@@ -113,8 +107,8 @@ pub record IsManyPlan (parts : List Core) (ss : List Step) (k : ℕ) (f : Core) 
 -- of part k, which is this formula
 abbrev pub IsWorkOf : PatternSystem → List Core → List Step → ℕ → Core → Work → Type 0
 IsWorkOf system parts ss k f Truth = f ≡ core.True
-IsWorkOf system parts ss k f (Relation r) = IsRelationPlan system ss f r
-IsWorkOf system parts ss k f (Normal index left) = IsNormalPlan system f index left.items
+IsWorkOf system parts ss k f (Relation c) = IsRelationPlan system ss f c
+IsWorkOf system parts ss k f (Normal a) = IsNormalPlan system f a
 IsWorkOf system parts ss k f Term = IsTermPlan f
 IsWorkOf system parts ss k f (Negation s) = IsNegationPlan parts f s
 IsWorkOf system parts ss k f (Product op first second) = IsProductPlan parts f op first second
@@ -127,8 +121,8 @@ pub record IsPlanOf (system : PatternSystem) (parts : List Core) (ss : List Step
 
 -- the words of its labels
 abbrev pub IsWidthFor : List Step → Work → ℕ → Type 0
-IsWidthFor ss (Relation r) w = w ≡ suc (words_for (mark_count (as_rel r.rel) (length r.left.items) (length r.right.items)))
-IsWidthFor ss (Normal index left) w = w ≡ suc (words_for (length left.items + 1))
+IsWidthFor ss (Relation c) w = w ≡ suc (words_for (length (marks_of c.atom)))
+IsWidthFor ss (Normal a) w = w ≡ suc (words_for (length (marks_of a)))
 IsWidthFor ss Term w = w ≡ 2
 IsWidthFor ss (Product op first second) w = w ≡ 3
 IsWidthFor ss (Projection s c) w = (targets : List ℕ) → IsOnlyAbout ss (Part s.part targets) → w ≡ words_for (most_states targets) + 2

@@ -19,7 +19,7 @@ ghost use Rattle.fort_cert_checker.specs.Makings.{IsClosurePlan, IsClosureFor, I
 use crate::about::targets_of;
 use crate::plan::{Plan, Source, Work};
 use fort_check_steps::{DueStep, MarkRoom, PairRules, PartRoom, closure_rules, most_states};
-use fort_context_closure::local::{atom_width, is_width, nf_width};
+use fort_context_closure::local::is_width;
 use fort_formulas::Core;
 use fort_infinity::local::many_width;
 use fort_rrn_algebra::local::project_width;
@@ -129,8 +129,8 @@ fn width_of(steps: &[Step], plan: &Plan) -> Result<usize, Memory>
     ensures width { IfOk result (IsWidthFor (map as_step steps.now) plan.now.work) }
 {
     match &plan.work {
-        Work::Relation(lists) => Ok(atom_width(lists.rel, lists.left.len(), lists.right.len())),
-        Work::Normal(_, left) => Ok(nf_width(left.len())),
+        Work::Relation(labels) => Ok(labels.width()),
+        Work::Normal(labels) => Ok(labels.width()),
         Work::Term => Ok(is_width()),
         Work::Product(_, _, _) => Ok(3),
         Work::Projection(source, _) => Ok(project_width(states_of(steps, *source)?)),

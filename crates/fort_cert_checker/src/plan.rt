@@ -1,31 +1,29 @@
 //! What each part is checked by, taken from the formula and the certificate before the check.
 ghost use Rattle.std.specs.Prelude.{◌≡◌, ℕ, suc, ◌+◌, ◌*◌, ◌<◌, ◌≤◌, ◌^◌, false, true, List, [], map, length, slice_index, slice_index_or, Contains, IfOk};
 ghost use Rattle.fort_theory.specs.Patterns.{PatternSystem};
-ghost use Rattle.fort_theory.specs.Sides.{IsIndexOf, at_index};
+ghost use Rattle.fort_theory.specs.Sides.{IsIndexOf};
 ghost use Rattle.fort_certificate_grammar.specs.Certificates as theory_steps;
 ghost use Rattle.fort_logic.specs.Cores as theory;
 ghost use Rattle.fort_logic.specs.Parts.{is_free};
-ghost use Rattle.fort_alike.specs.Atoms.{pairs_for};
-ghost use Rattle.fort_terms.specs.PatternView.{as_pattern};
 ghost use Rattle.fort_formulas.specs.CoreView.{as_core, as_rel};
 ghost use Rattle.fort_parts.specs.PartColumns.{columns_of, place_in, places_in};
 ghost use Rattle.fort_parts.specs.RightAnswers.{joined};
 ghost use Rattle.fort_steps.specs.StepView.{as_step};
 ghost use Rattle.fort_rrn_algebra.specs.Operands.{connective_of};
-ghost use Rattle.fort_in_order.specs.ClosureSteps.{AreSidePatterns};
 ghost use Rattle.fort_in_order.specs.Dues as definitions;
 ghost use Rattle.fort_in_order.specs.Made.{IsPartAt};
 ghost use Rattle.fort_cert_checker.specs.Sources.{IsSourceOf};
-ghost use Rattle.fort_cert_checker.specs.Plans.{AreParted, IsFitPart, IsOperandPlan, IsClosureRead, IsRelationPlan, AreLeftPatterns, IsProductPlan, IsWorkOf, IsPlanOf};
+ghost use Rattle.fort_cert_checker.specs.Plans.{AreParted, IsFitPart, IsOperandPlan, IsClosureRead, IsRelationPlan, IsProductPlan, IsWorkOf, IsPlanOf};
 
 use crate::about::{closure_pairs, marks_of};
-use fort_check_steps::{both_ways, has_columns};
+use fort_check_steps::has_columns;
 use fort_context_closure::local::has_few_subterms;
+use fort_context_closure::{NormalBits, RelationBits};
 use fort_formulas::{Core, Rel, free};
 use fort_infinity::Count;
 use fort_rrn_algebra::Op;
 use fort_steps::{Step, Which};
-use fort_terms::{Memory, Pattern, System, Term};
+use fort_terms::{Memory, System, Term};
 use std::alloc::{AllocError, Global};
 
 /// Where the answer to a formula is: that of a part's step, under so many negations.
@@ -42,26 +40,13 @@ pub(crate) struct Operand {
     pub places: Vec<usize>,
 }
 
-/// A relation of two variables by the rules of an index, the patterns of its rules, and the pairs of its closure.
-#[derive(Drop)]
-pub(crate) struct RelationLists {
-    pub rel: Rel,
-    pub index: u32,
-    pub x: u32,
-    pub y: u32,
-    pub left: Vec<Pattern>,
-    pub right: Vec<Pattern>,
-    pub closure: Vec<(u32, u32)>,
-}
-
 /// How the answer of a part is found.
 #[derive(Drop)]
 pub(crate) enum Work {
     /// It is true.
     Truth,
-    Relation(RelationLists),
-    /// Normal forms for the rules of an index, with the patterns of their left sides.
-    Normal(u32, Vec<Pattern>),
+    Relation(RelationBits),
+    Normal(NormalBits),
     /// Whether the variable is the part's term.
     Term,
     Negation(Source),
@@ -235,50 +220,8 @@ fn pairs_read(
     }
 }
 
-/// The patterns within the left sides and within the right sides.
-#[derive(Drop)]
-struct SidePatterns {
-    left: Vec<Pattern>,
-    right: Vec<Pattern>,
-}
-
-fn rule_patterns(alloc: Global, system: &System, index: u32) -> Result<SidePatterns, Memory>
-    requires { IsIndexOf system.now.rules index }
-    ensures { IfOk result (λ p. AreSidePatterns (at_index index system.now.rules)
-        (map as_pattern p.left.items) (map as_pattern p.right.items)) }
-{
-    Ok(SidePatterns {
-        left: system.left_patterns(alloc, index)?,
-        right: system.right_patterns(alloc, index)?,
-    })
-}
-
-fn side_patterns(
-    alloc: Global,
-    system: &System,
-    rel: Rel,
-    index: u32,
-) -> Result<SidePatterns, Memory>
-    requires { IsIndexOf system.now.rules index }
-    ensures { IfOk result (λ p. AreSidePatterns (pairs_for (as_rel rel)
-        (at_index index system.now.rules))
-        (map as_pattern p.left.items) (map as_pattern p.right.items)) }
-{
-    match rel {
-        Rel::Eq => Ok(SidePatterns {
-            left: Vec::new(alloc),
-            right: Vec::new(alloc),
-        }),
-        Rel::Conv => {
-            let both = both_ways(alloc, system, index)?;
-            rule_patterns(alloc, &both, 1)
-        }
-        _ => rule_patterns(alloc, system, index),
-    }
-}
-
-/// Lists of 2^32 patterns or more, for which labels have no places, are want of memory.
-fn relation_lists(
+/// The labels of a relation, by the pairs that it reads.
+fn relation_labels(
     alloc: Global,
     system: &System,
     steps: &[Step],
@@ -286,36 +229,13 @@ fn relation_lists(
     index: u32,
     x: u32,
     y: u32,
-) -> Result<RelationLists, Memory>
+) -> Result<RelationBits, Memory>
     requires { IsIndexOf system.now.rules index }
-    ensures { IfOk result (λ r. IsRelationPlan system.now (map as_step steps.now)
-        (theory.Atom (as_rel rel) index x y) r) }
+    ensures { IfOk result (IsRelationPlan system.now (map as_step steps.now)
+        (theory.Atom (as_rel rel) index x y)) }
 {
-    let sides = side_patterns(alloc, system, rel, index)?;
-    if sides.left.len() > u32::MAX as usize || sides.right.len() > u32::MAX as usize {
-        return Err(AllocError);
-    }
-    Ok(RelationLists {
-        rel,
-        index,
-        x,
-        y,
-        left: sides.left,
-        right: sides.right,
-        closure: pairs_read(alloc, steps, rel, index)?,
-    })
-}
-
-fn left_patterns(alloc: Global, system: &System, index: u32) -> Result<Vec<Pattern>, Memory>
-    requires { IsIndexOf system.now.rules index }
-    ensures patterns { IfOk result (λ ps. AreLeftPatterns system.now index ps.items) }
-    ensures few { IfOk result (λ ps. length ps.items < 2 ^ 32) }
-{
-    let patterns = system.left_patterns(alloc, index)?;
-    if patterns.len() > u32::MAX as usize {
-        return Err(AllocError);
-    }
-    Ok(patterns)
+    let pairs = pairs_read(alloc, steps, rel, index)?;
+    RelationBits::by_pairs(alloc, system, index, rel, x, y, &pairs)
 }
 
 fn term_work(term: &Term) -> Result<Work, Memory>
@@ -351,10 +271,10 @@ fn work_of(
     match core {
         Core::True => Ok(Work::Truth),
         Core::Atom(rel, index, x, y) => {
-            let lists = relation_lists(alloc, system, steps, *rel, *index, *x, *y)?;
-            Ok(Work::Relation(lists))
+            let labels = relation_labels(alloc, system, steps, *rel, *index, *x, *y)?;
+            Ok(Work::Relation(labels))
         }
-        Core::Nf(index, _) => Ok(Work::Normal(*index, left_patterns(alloc, system, *index)?)),
+        Core::Nf(index, _) => Ok(Work::Normal(NormalBits::new(alloc, system, *index)?)),
         Core::Is(_, term) => term_work(term),
         Core::Not(f) => Ok(Work::Negation(source_of(alloc, parts, f.as_core())?)),
         Core::And(f, g) => product_work(alloc, parts, columns, Op::And, f.as_core(), g.as_core()),

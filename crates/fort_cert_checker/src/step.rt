@@ -1,6 +1,5 @@
 //! The checks of a part's steps.
 ghost use Rattle.std.specs.Prelude.{◌≡◌, ℕ, suc, ◌+◌, ◌*◌, ◌<◌, ◌≤◌, ◌^◌, List, map, length, Bool, slice_index_or, OnOk};
-ghost use Rattle.fort_theory.specs.Sides.{IsIndexOf};
 ghost use Rattle.fort_logic.specs.Cores as theory;
 ghost use Rattle.fort_tables.specs.BitRows.{words_for};
 ghost use Rattle.fort_tables.specs.Tables as tables;
@@ -9,9 +8,8 @@ ghost use Rattle.fort_operations.specs.Projections.{ArePure};
 ghost use Rattle.fort_parts.specs.PartAnswers as answers;
 ghost use Rattle.fort_rrn_algebra.specs.Operands.{connective_of};
 ghost use Rattle.fort_infinity.specs.CountView.{as_count as as_mark, is_many};
-ghost use Rattle.fort_terms.specs.PatternView.{as_pattern};
-ghost use Rattle.fort_formulas.specs.CoreView.{as_core, as_rel};
-ghost use Rattle.fort_context_closure.specs.LocalAtoms.{mark_count};
+ghost use Rattle.fort_formulas.specs.CoreView.{as_core};
+ghost use Rattle.fort_atom_labels.specs.AtomRules.{marks_of};
 ghost use Rattle.fort_atom_labels.specs.Subterms.{subterms};
 ghost use Rattle.fort_in_order.specs.PartRules.{Local, term_local, project_local, many_local};
 ghost use Rattle.fort_check_steps.specs.Room.{HasRoom};
@@ -24,70 +22,50 @@ ghost use Rattle.fort_cert_checker.specs.Joins.{AreJoined, joined_local};
 ghost use Rattle.fort_cert_checker.specs.Pasts.{IsAnswerAt, IsTableAt, IsPartStep, IsTableDue, IsTableStep};
 
 use crate::past::{Past, factor};
-use crate::plan::{Operand, Plan, RelationLists, Source, Work};
+use crate::plan::{Operand, Plan, Source, Work};
 use fort_check_steps::{
     Failure, MarkRoom, Normal, PartRoom, Projected, Related, ThisTerm, check_part, put_pure,
 };
+use fort_context_closure::{NormalBits, RelationBits};
 use fort_formulas::Core;
 use fort_infinity::{Count, Many};
 use fort_rrn_algebra::{Both, Op};
-use fort_terms::{Pattern, System, Term};
+use fort_terms::{System, Term};
 
 /// Holds the targets of a relation.
 fn check_relation(
     system: &System,
-    lists: &RelationLists,
+    labels: &RelationBits,
     targets: &[u32],
     room: &mut PartRoom,
 ) -> Result<(), Failure>
-    requires index { IsIndexOf system.now.rules lists.now.index }
-    requires left_few { length lists.now.left.items < 2 ^ 32 }
-    requires right_few { length lists.now.right.items < 2 ^ 32 }
     requires few { length targets.now < 2 ^ 32 }
-    requires room { HasRoom (suc (words_for (mark_count (as_rel lists.now.rel)
-        (length lists.now.left.items) (length lists.now.right.items)))) targets.now room.old }
-    ensures step { IsPartStep (related_local system.now lists.now) targets.now room.new result }
-    ensures room { HasRoom (suc (words_for (mark_count (as_rel lists.now.rel)
-        (length lists.now.left.items) (length lists.now.right.items)))) targets.now room.new }
+    requires room { HasRoom (suc (words_for (length (marks_of labels.now.atom)))) targets.now
+        room.old }
+    ensures step { IsPartStep (related_local system.now labels.now) targets.now room.new result }
+    ensures room { HasRoom (suc (words_for (length (marks_of labels.now.atom)))) targets.now
+        room.new }
 {
     let signature = system.signature();
-    let rule = Related {
-        signature,
-        rules: system.rules(lists.index),
-        rel: lists.rel,
-        x: lists.x,
-        y: lists.y,
-        left: &lists.left,
-        right: &lists.right,
-        closure: &lists.closure,
-    };
-    check_part(&rule, signature, targets, room)
+    check_part(&Related { signature, labels }, signature, targets, room)
 }
 
 /// Holds the targets of normal forms.
 fn check_normal(
     system: &System,
-    index: u32,
-    left: &[Pattern],
+    labels: &NormalBits,
     targets: &[u32],
     room: &mut PartRoom,
 ) -> Result<(), Failure>
-    requires index { IsIndexOf system.now.rules index }
-    requires left_few { length left.now < 2 ^ 32 }
     requires few { length targets.now < 2 ^ 32 }
-    requires room { HasRoom (suc (words_for (length left.now + 1))) targets.now room.old }
-    ensures step { IsPartStep (normal_local system.now index (map as_pattern left.now)) targets.now
-        room.new result }
-    ensures room { HasRoom (suc (words_for (length left.now + 1))) targets.now room.new }
+    requires room { HasRoom (suc (words_for (length (marks_of labels.now)))) targets.now
+        room.old }
+    ensures step { IsPartStep (normal_local system.now labels.now) targets.now room.new result }
+    ensures room { HasRoom (suc (words_for (length (marks_of labels.now)))) targets.now
+        room.new }
 {
     let signature = system.signature();
-    let rules = system.rules(index);
-    let rule = Normal {
-        signature,
-        rules,
-        left,
-    };
-    check_part(&rule, signature, targets, room)
+    check_part(&Normal { signature, labels }, signature, targets, room)
 }
 
 /// Holds the targets of a term.
@@ -242,8 +220,8 @@ pub(crate) fn check_table(
         → HasMarkRoom states count marks.new }
 {
     match &plan.work {
-        Work::Relation(lists) => check_relation(system, lists, targets, room),
-        Work::Normal(index, left) => check_normal(system, *index, left, targets, room),
+        Work::Relation(labels) => check_relation(system, labels, targets, room),
+        Work::Normal(labels) => check_normal(system, labels, targets, room),
         Work::Term => check_own_term(system, core, targets, room),
         Work::Product(op, first, second) => {
             let columns = plan.columns.len();

@@ -87,7 +87,7 @@ fn own_value(plan: &Plan, past: &Past<'_>, marks: &mut MarkRoom) -> bool
             accepts_many(past, *source, *column, counts, marks)
         }
         Work::Relation(_) => unreachable!(),
-        Work::Normal(_, _) => unreachable!(),
+        Work::Normal(_) => unreachable!(),
         Work::Term => unreachable!(),
     }
 }

@@ -11,10 +11,9 @@ pub mod NormalLaws
 pub mod MakerLaws
 pub mod NormalMakerLaws
 pub mod AtomLabelsLaws
-pub mod LocalLaws
+pub mod MarkCounts
 pub mod LocalTermLaws
 pub mod ReachLaws
 pub mod ClosureLaws
 pub mod ReachRowLaws
 pub mod RuleListLaws
-pub mod HandedLaws

@@ -1,6 +1,6 @@
 -- What is made of the rules of a system's index is the atom of that index.
 use Rattle.std.specs.Prelude.{◌≡◌, ℕ, List, [], map, length, Contains, true, refl}
-use Rattle.std.proofs.Common.{sym, subst, ◌∙◌, arith}
+use Rattle.std.proofs.Common.{sym, subst, ap, ◌∙◌, arith}
 use Rattle.fort_theory.specs.Patterns.{Pattern, Pair, PatternSystem, IsSystem}
 use Rattle.fort_theory.specs.PatternOrder.{AreSubpatternsInOrder}
 use Rattle.fort_theory.specs.Sides.{at_index}
@@ -20,7 +20,7 @@ use Rattle.fort_atom_labels.specs.ClosureTests.{IsClosure, ListsClosure, closure
 use Rattle.fort_atom_labels.proofs.ClosureTestLaws.{IsClosure-listed}
 use Rattle.fort_atom_labels.proofs.SystemAtoms.{IsListedAtom-relation}
 use Rattle.fort_gtt_closure.specs.declared.entry.Entry.{Entry}
-use Rattle.fort_context_closure.specs.PlainAtoms.{IsAtomOf, IsOfRules, IsRelationAtomOf}
+use Rattle.fort_context_closure.specs.PlainAtoms.{IsAtomOf, IsOfRules, IsRelationAtomOf, IsByPairs}
 use Rattle.fort_context_closure.specs.ClosedAtoms.{ClosedAtom, numbers_of}
 use Rattle.fort_context_closure.specs.declared.rule_list.RuleList.{RuleList}
 use Rattle.fort_context_closure.specs.RuleLists.{ListsRules}
@@ -96,3 +96,19 @@ not_eq rels.Par other h = cc
 not_eq rels.Plus other h = cc
 not_eq rels.Star other h = cc
 not_eq rels.Conv other h = cc
+
+-- with pairs that are handed in
+pub relation-by_pairs : (system : PatternSystem) (rel : Rel) (index x y : ℕ) (list : RuleList) (es : List Entry) (numbers : List (ℕ × ℕ)) (c : ClosedAtom)
+    → ListsRules (pairs_for rel (at_index index system.rules)) list
+    → IsOfRules rel x y (map as_pair list.rules.items) (map as_pattern list.lefts.items) (map as_pattern list.rights.items) c.atom → c.entries ≡ es
+    → numbers_of es ≡ numbers → IsByPairs system rel index x y numbers c
+relation-by_pairs system rel index x y list es numbers c lists made same are =
+    let pairs : List Pair = pairs_for rel (at_index index system.rules) in
+    let own : IsOfRules rel x y pairs (map as_pattern list.lefts.items) (map as_pattern list.rights.items) c.atom =
+    subst (λ (ps : List Pair). IsOfRules rel x y ps (map as_pattern list.lefts.items) (map as_pattern list.rights.items) c.atom) lists.rules made in
+    record {
+      rules = record { same = own.same; lefts_are = refl; rights_are = refl };
+      left_order = subst (AreSubpatternsInOrder (map (λ (pair : Pair). pair.0) pairs)) (sym made.lefts_are) lists.left_order;
+      right_order = subst (AreSubpatternsInOrder (map (λ (pair : Pair). pair.1) pairs)) (sym made.rights_are) lists.right_order;
+      numbers_are = ap numbers_of same ∙ are;
+    }

@@ -5,11 +5,11 @@ use Rattle.std.proofs.Common.{sym, ap, ◌∙◌, arith, append-nil}
 use Rattle.std.proofs.lemmas.List.{get_or-map}
 use Rattle.fort_theory.specs.Signatures.{Signature}
 use Rattle.fort_theory.specs.Patterns.{Pattern, Any, Pair}
-use Rattle.fort_tables.specs.Tuples.{Tuple, presence, fold_tuple}
+use Rattle.fort_tables.specs.Tuples.{Tuple, TupleSymbol, presence, fold_tuple}
 use Rattle.fort_alike.specs.Atoms.{NfKind}
 use Rattle.fort_alike.specs.Alike.{IsNormal}
 use Rattle.fort_atom_labels.specs.ListedAtoms.{OfFirst, OfBoth, ListedAtom, listed}
-use Rattle.fort_atom_labels.specs.AtomRules.{marks_of, inside, fact_step, bit_in, any_pair, all_kids, is_there}
+use Rattle.fort_atom_labels.specs.AtomRules.{marks_of, atom_rule, inside, fact_step, bit_in, any_pair, all_kids, is_there}
 use Rattle.fort_atom_labels.proofs.PatternNumberLaws.{fact_bit}
 use Rattle.fort_tables.specs.BitRows.{bit_row}
 use Rattle.fort_context_closure.specs.RowBits.{bit_of, HasBits}
@@ -81,8 +81,10 @@ module _ (sig tag : Signature) (pairs others : List Pair) (lefts : List Pattern)
       ∙ (ap (λ b. map (inside (bit_in (normal sig pairs lefts)) OfFirst x ws) lefts ++ b ∷ []) (fact-same x y ws) ∙ marks-normal tag others lefts x y ws)
 
   -- so do the labels
+  pub normal-step : (f : TupleSymbol) (ws : List (List ℕ)) → (atom_rule (normal sig pairs lefts) no_closure).step f ws ≡ (atom_rule (normal tag others lefts) no_closure).step f ws
+  normal-step f ws = λ i.
+      presence f ∷ bit_row (length (marks_of (normal sig pairs lefts)))
+      (λ k. get_or (marks-same (get_or f 0 None) (get_or f 0 None) ws i) k false)
+
   pub normal-label : (t : Tuple) → atom_label (normal sig pairs lefts) t ≡ atom_label (normal tag others lefts) t
-  normal-label t = λ i.
-      fold_tuple
-      (λ f ws. presence f ∷ bit_row (length (marks_of (normal sig pairs lefts)))
-      (λ k. get_or (marks-same (get_or f 0 None) (get_or f 0 None) ws i) k false)) t
+  normal-label t = λ i. fold_tuple (λ f ws. normal-step f ws i) t

@@ -1,25 +1,13 @@
--- The equality test of patterns; the places of arguments, one after another; the bits at a node, child after child.
-use Rattle.std.specs.Prelude.{◌≡◌, ℕ, zero, suc, ◌+◌, ◌<◌, List, [], ◌∷◌, ◌++◌, map, length, drop, get_or, Contains, Bool, true, false, Decides, ◌&&◌, refl}
-use Rattle.std.specs.Ordering.{on}
-use Rattle.std.specs.Cmp.{Equal-is}
-use Rattle.std.proofs.Common.{sym, ap, ◌∙◌, arith}
+-- The places of arguments, one after another; the bits at a node, child after child.
+use Rattle.std.specs.Prelude.{◌≡◌, ℕ, zero, suc, ◌+◌, ◌<◌, List, [], ◌∷◌, ◌++◌, map, length, drop, get_or, Contains, Bool, true, false, ◌&&◌, refl}
+use Rattle.std.proofs.Common.{sym, ap, arith}
 use Rattle.std.proofs.lemmas.List.{drop_more, length-map, get_or-map}
 use Rattle.fort_theory.specs.Patterns as theory
 use Rattle.fort_terms.specs.declared.pattern.Pattern.{Pattern}
 use Rattle.fort_terms.specs.PatternView.{as_pattern, as_patterns}
-use Rattle.fort_terms.specs.PatternKeys.{pattern_eq, pattern_order}
-use Rattle.fort_terms.specs.PatternKeyLaws.{Pattern_eq-ties, pattern_order-Equal}
 use Rattle.fort_tables.specs.BitRows.{has_bit}
 use Rattle.fort_atom_labels.specs.PatternNumbers.{AreAt, all_at}
 use Rattle.fort_theory.specs.PatternOrder.{AllAmong}
-
-pub Decides-pattern_eq : (p q : Pattern) → Decides (on as_pattern pattern_eq p q) (as_pattern p ≡ as_pattern q)
-Decides-pattern_eq p q =
-    let equal = Equal-is (pattern_order (as_pattern p) (as_pattern q)) in
-    let same = pattern_order-Equal (as_pattern p) (as_pattern q) in
-    ((λ e. same.0 (equal.0 (sym (Pattern_eq-ties p q) ∙ e))), (λ e. Pattern_eq-ties p q ∙ equal.1 (same.1 e)))
-
--- places
 
 pub AreAt-push : (listed : List theory.Pattern) (ks : List ℕ) (ps : List Pattern) (k : ℕ) (p : Pattern) → AreAt listed ks (as_patterns ps)
     → k < length listed → get_or listed k theory.Any ≡ as_pattern p → AreAt listed (ks ++ k ∷ []) (as_patterns (ps ++ p ∷ []))

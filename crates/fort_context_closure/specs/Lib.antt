@@ -10,10 +10,8 @@ pub mod RelationView
 pub mod SidePlaces
 pub mod NormalView
 pub mod AtomLabelsView
-pub mod LocalAtoms
 pub mod LocalTerms
 pub mod ClosedAtoms
 pub mod ReachRows
 pub mod RuleLists
 pub mod Closures
-pub mod HandedView

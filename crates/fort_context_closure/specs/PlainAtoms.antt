@@ -1,17 +1,18 @@
--- To believe: an atom without its signature, whose labels are the same; a rule of labels that asks no closure.
+-- To believe: an atom without its signature, whose labels are the same; a rule of labels that asks no closure; an atom with pairs that are handed in.
 use Rattle.std.specs.Prelude.{◌≡◌, ℕ, List, [], map, length, ◌==◌, Bool, false}
 use Rattle.std.specs.List.{position_or_len}
 use Rattle.fort_theory.specs.Patterns.{Pattern, Pair, PatternSystem}
+use Rattle.fort_theory.specs.PatternOrder.{AreSubpatternsInOrder}
 use Rattle.fort_theory.specs.Sides.{at_index}
 use Rattle.fort_logic.specs.Cores.{Rel, Atom as CoreAtom}
 use Rattle.fort_logic.specs.Parts.{AreColumns}
 use Rattle.fort_tables.specs.Labels.{Labelling}
 use Rattle.fort_tables.specs.LabelRules.{label_of}
-use Rattle.fort_alike.specs.Atoms.{Atom, NfKind, kind_for, relation_atom, normal_atom}
+use Rattle.fort_alike.specs.Atoms.{Atom, NfKind, kind_for, pairs_for, relation_atom, normal_atom}
 use Rattle.fort_atom_labels.specs.ListedAtoms.{ListedAtom, listed, IsListedAtom}
 use Rattle.fort_atom_labels.specs.AtomRules.{atom_rule}
 use Rattle.fort_atom_labels.specs.ClosureTests.{IsClosure}
-use Rattle.fort_context_closure.specs.ClosedAtoms.{ClosedAtom, test_of}
+use Rattle.fort_context_closure.specs.ClosedAtoms.{ClosedAtom, numbers_of, test_of}
 
 -- of the kinds of single steps, whose rule asks none
 abbrev pub no_closure : Pattern → Pattern → Bool
@@ -41,6 +42,7 @@ pub record IsNormalAtomOf (system : PatternSystem) (index : ℕ) (a : ListedAtom
   }) a.lefts []
   pub left_sides : map (λ (pair : Pair). pair.0) a.atom.pairs ≡ map (λ (pair : Pair). pair.0) (at_index index system.rules)
   pub is_listed : IsListedAtom (listed (normal_atom system index) a.lefts [])
+  pub left_order : AreSubpatternsInOrder (map (λ (pair : Pair). pair.0) (at_index index system.rules)) a.lefts
 
 -- the atom x REL y for the rules of an index, whichever list is that of its columns, and a test of its closure
 abbrev pub IsRelationAtomOf : PatternSystem → Rel → (index x y : ℕ) → ClosedAtom → Type 0
@@ -62,3 +64,11 @@ pub record IsOfRules (rel : Rel) (x y : ℕ) (pairs : List Pair) (lefts rights :
       }
   pub lefts_are : a.lefts ≡ lefts
   pub rights_are : a.rights ≡ rights
+
+-- the atom x REL y for the rules of an index, whichever list is that of its columns, over the patterns of its rules' sides in order, and a
+-- closure test by these numbers
+pub record IsByPairs (system : PatternSystem) (rel : Rel) (index x y : ℕ) (numbers : List (ℕ × ℕ)) (c : ClosedAtom) : Type 0 where
+  pub rules : IsOfRules rel x y (pairs_for rel (at_index index system.rules)) c.atom.lefts c.atom.rights c.atom
+  pub left_order : AreSubpatternsInOrder (map (λ (pair : Pair). pair.0) (pairs_for rel (at_index index system.rules))) c.atom.lefts
+  pub right_order : AreSubpatternsInOrder (map (λ (pair : Pair). pair.1) (pairs_for rel (at_index index system.rules))) c.atom.rights
+  pub numbers_are : numbers_of c.entries ≡ numbers

@@ -6,9 +6,7 @@ mod atom_labels;
 mod bits;
 mod closure;
 mod facts;
-mod handed;
 pub mod local;
-mod local_terms;
 mod nodes;
 mod normal;
 mod numbered;
@@ -21,6 +19,8 @@ mod side_places;
 mod term_labels;
 
 pub use atom_labels::AtomLabels;
+pub use normal::NormalBits;
+pub use relation::RelationBits;
 pub use term_labels::TermLabels;
 
 #[cfg(test)]

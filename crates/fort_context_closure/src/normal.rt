@@ -41,7 +41,7 @@ impl Model for NormalBits {
 }
 
 impl NormalBits {
-    pub(crate) fn new(alloc: Global, system: &System, index: u32) -> Result<NormalBits, Memory>
+    pub fn new(alloc: Global, system: &System, index: u32) -> Result<NormalBits, Memory>
         requires { IsIndexOf system.now.rules index }
         ensures { IfOk result (IsNormalAtomOf system.now index) }
     {
@@ -55,7 +55,7 @@ impl NormalBits {
         })
     }
 
-    pub(crate) fn columns(&self) -> usize
+    pub fn columns(&self) -> usize
         ensures count { result ≡ self.now.atom.columns }
         ensures one { result ≡ 1 }
     {
@@ -64,14 +64,14 @@ impl NormalBits {
     }
 
     /// The number of words.
-    pub(crate) fn width(&self) -> usize
+    pub fn width(&self) -> usize
         ensures { result ≡ suc (words_for (length (marks_of self.now))) }
     {
         1 + (self.lefts.len() + 1 + 63) / 64
     }
 
     /// The label of an entry over states with these labels.
-    pub(crate) fn step(&self, row: &Row, rows: &Rows, out: &mut [u64])
+    pub fn step(&self, row: &Row, rows: &Rows, out: &mut [u64])
         requires columns { length row.now.symbol ≡ self.now.atom.columns }
         requires within { (j : ℕ) → j < length row.now.kids
             → slice_index_or row.now.kids j 0 < length rows.now.labels }
@@ -89,7 +89,7 @@ impl NormalBits {
     }
 
     /// Whether the term whose label this is is a normal form.
-    pub(crate) fn accepts(&self, label: &[u64]) -> bool
+    pub fn accepts(&self, label: &[u64]) -> bool
         ensures { result ≡ atom_accepts self.now label.now }
     {
         has_mark(label, self.lefts.len())

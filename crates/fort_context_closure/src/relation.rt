@@ -9,7 +9,7 @@ ghost use Rattle.fort_alike.specs.Atoms.{kind_for};
 ghost use Rattle.fort_alike.specs.Alike.{is_reaching};
 ghost use Rattle.fort_atom_labels.specs.AtomRules.{marks_of, atom_rule, atom_accepts};
 ghost use Rattle.fort_context_closure.specs.RowBits.{HasBits, labels_at};
-ghost use Rattle.fort_context_closure.specs.PlainAtoms.{IsRelationAtomOf, IsOfRules};
+ghost use Rattle.fort_context_closure.specs.PlainAtoms.{IsRelationAtomOf, IsOfRules, IsByPairs};
 ghost use Rattle.fort_context_closure.specs.ClosedAtoms.{ListsClosureFor, ListsPasses, numbers_of, pattern_bits, test_of};
 ghost use Rattle.fort_context_closure.specs.Closures.{IsClosureOf};
 ghost use Rattle.fort_context_closure.specs.ReachRows.{IsReach};
@@ -27,7 +27,7 @@ use crate::rule_list::{RuleList, rules_of};
 use crate::rule_places::{RulePlaces, places_of_rules, some_rule};
 use fort_explore::Rows;
 use fort_formulas::Rel;
-use fort_gtt_closure::{Closed, Entry};
+use fort_gtt_closure::{Closed, Entry, Why};
 use fort_lockstep::Row;
 use fort_terms::{Memory, Pattern, Sym, System};
 use std::alloc::Global;
@@ -107,6 +107,24 @@ impl RelationBits {
         RelationBits::of_rules(alloc, rel, x, y, list, closed)
     }
 
+    /// By pairs that are handed in, whatever they are: each is read as the places of a right pattern and of a left one.
+    pub fn by_pairs(
+        alloc: Global,
+        system: &System,
+        index: u32,
+        rel: Rel,
+        x: u32,
+        y: u32,
+        pairs: &[(u32, u32)],
+    ) -> Result<RelationBits, Memory>
+        requires { IsIndexOf system.now.rules index }
+        ensures { IfOk result (IsByPairs system.now (as_rel rel) index x y pairs.now) }
+    {
+        let list = rules_of(alloc, system, index, rel)?;
+        let entries = entries_of(alloc, pairs)?;
+        RelationBits::of_rules(alloc, rel, x, y, list, Closed { entries })
+    }
+
     /// By rules, the patterns of their sides, and a closure.
     fn of_rules(
         alloc: Global,
@@ -153,7 +171,7 @@ impl RelationBits {
         self.lefts.len() + self.rights.len() + fact_count(self.rel)
     }
 
-    pub(crate) fn columns(&self) -> usize
+    pub fn columns(&self) -> usize
         ensures count { result ≡ self.now.atom.atom.columns }
         ensures some { 0 < result }
         ensures narrow { result ≤ 2 }
@@ -162,14 +180,14 @@ impl RelationBits {
     }
 
     /// The number of words.
-    pub(crate) fn width(&self) -> usize
+    pub fn width(&self) -> usize
         ensures { result ≡ suc (words_for (length (marks_of self.now.atom))) }
     {
         1 + (self.mark_count() + 63) / 64
     }
 
     /// The label of an entry over states with these labels.
-    pub(crate) fn step(&self, row: &Row, rows: &Rows, out: &mut [u64])
+    pub fn step(&self, row: &Row, rows: &Rows, out: &mut [u64])
         requires columns { length row.now.symbol ≡ self.now.atom.atom.columns }
         requires within { (j : ℕ) → j < length row.now.kids
             → slice_index_or row.now.kids j 0 < length rows.now.labels }
@@ -231,7 +249,7 @@ impl RelationBits {
     }
 
     /// Whether the relation holds of the terms whose label this is.
-    pub(crate) fn accepts(&self, label: &[u64]) -> bool
+    pub fn accepts(&self, label: &[u64]) -> bool
         ensures { result ≡ atom_accepts self.now.atom label.now }
     {
         let right_base = self.lefts.len();
@@ -250,6 +268,27 @@ fn is_reduction(rel: Rel) -> bool
     ensures { result ≡ is_reaching (kind_for (as_rel rel)) }
 {
     matches!(rel, Rel::Plus | Rel::Star | Rel::Conv)
+}
+
+/// A pair as an entry of a closure. No label reads the reason.
+fn entry_of(pair: (u32, u32)) -> Entry
+    ensures { (result.p, result.q) ≡ pair }
+{
+    Entry {
+        p: pair.0,
+        q: pair.1,
+        why: Why::Any,
+    }
+}
+
+fn entries_of(alloc: Global, pairs: &[(u32, u32)]) -> Result<Vec<Entry>, Memory>
+    ensures { IfOk result (λ entries. numbers_of entries.items ≡ pairs.now) }
+{
+    let mut entries = Vec::with_capacity(alloc, pairs.len())?;
+    for pair in pairs {
+        entries.push(entry_of(*pair))?;
+    }
+    Ok(entries)
 }
 
 /// The closure of the rules where the relation is about reductions.

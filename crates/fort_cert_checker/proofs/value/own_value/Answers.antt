@@ -28,7 +28,7 @@ pub unreachable-requires : goal.unreachable-requires
 unreachable-requires c = let d = c.requires.due in arms.not_atom d.0 d.1 c.args.past.now d.2 d.3 d.4 c.args.plan.now c.args.marks.now d.5 c.in-Relation.field-0 c.in-Relation.is
 
 pub unreachable-requires-in-Normal : goal.unreachable-requires-in-Normal
-unreachable-requires-in-Normal c = let d = c.requires.due in arms.not_normal d.0 d.1 c.args.past.now d.2 d.3 d.4 c.args.plan.now c.args.marks.now d.5 c.in-Normal.field-0 c.in-Normal.field-1 c.in-Normal.is
+unreachable-requires-in-Normal c = let d = c.requires.due in arms.not_normal d.0 d.1 c.args.past.now d.2 d.3 d.4 c.args.plan.now c.args.marks.now d.5 c.in-Normal.field-0 c.in-Normal.is
 
 pub unreachable-requires-in-Term : goal.unreachable-requires-in-Term
 unreachable-requires-in-Term c = let d = c.requires.due in arms.not_term d.0 d.1 c.args.past.now d.2 d.3 d.4 c.args.plan.now c.args.marks.now d.5 c.in-Term.is

@@ -43,4 +43,5 @@ returns c =
       same = refl;
       left_sides = sides-made (map as_pattern c.in_ok-patterns.patterns.items) c.in_ok-sides.sides.items ∙ sides.sides_are;
       is_listed = IsListedAtom-normal c.args.system.now c.rules.ensures.lawful c.args.index (map as_pattern c.in_ok-patterns.patterns.items) c.in_ok-patterns.ensures;
+      left_order = c.in_ok-patterns.ensures;
     }

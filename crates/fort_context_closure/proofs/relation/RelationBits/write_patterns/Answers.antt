@@ -10,7 +10,7 @@ use Rattle.fort_atom_labels.specs.PatternNumbers.{PatternNumber, number_inside}
 use Rattle.fort_context_closure.specs.RowBits.{HasBits, labels_at}
 use Rattle.fort_context_closure.specs.ReachRows.{HasRows}
 use Rattle.fort_context_closure.specs.RelationView.{atom_seen, listed_seen, left_patterns, right_patterns}
-use Rattle.fort_context_closure.proofs.LocalLaws.{length-marks_of}
+use Rattle.fort_context_closure.proofs.MarkCounts.{length-marks_of}
 use Rattle.fort_context_closure.proofs.ReachLaws.{reached-bits, plain-bits}
 use Rattle.fort_context_closure.proofs.relation.RelationBits.write_patterns.Goals as goal
 
