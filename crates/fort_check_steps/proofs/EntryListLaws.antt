@@ -8,13 +8,13 @@ use Rattle.std.proofs.lemmas.Option.{get_or_from_slice_get}
 use Rattle.std.proofs.lemmas.List.FromFn.{length-map-range_with_len, get_or-map-range_with_len, map-range_with_len_more, fill_by_all}
 use Rattle.fort_terms.specs.declared.sym.Sym.{Sym}
 use Rattle.fort_tables.specs.Tuples.{TupleSymbol}
-use Rattle.fort_tables.specs.Entries.{Entry, entry}
+use Rattle.fort_tables.specs.Entries.{Entry, entry, stage}
 use Rattle.fort_lockstep.specs.Columns.{as_column, as_symbol}
 use Rattle.fort_lockstep.proofs.PieceLaws.{piece_within}
 use Rattle.fort_check_steps.specs.declared.entry_list.Run.{Run}
 use Rattle.fort_check_steps.specs.declared.entry_list.EntryList.TheInside.{Inside}
 use Rattle.fort_check_steps.specs.EntryListView.{Listing, AreStarts, start_of}
-use Rattle.fort_check_steps.specs.EntryListInside.{listing_in, no_run, firsts, symbol_at, kids_at, entry_of, entry_at, all_entries, AreRuns, IsContinued, IsSameRun, IsRunMade}
+use Rattle.fort_check_steps.specs.EntryListInside.{listing_in, no_run, firsts, symbol_at, kids_at, entry_of, entry_at, all_entries, AreRuns, IsContinued, IsRunMade}
 use Rattle.fort_check_steps.proofs.RunLaws.{IsRunOf, AreRising, start_below, run_is, run_there, start_again, start_behind, start_pushed}
 
 -- ---- the columns of a run
@@ -78,7 +78,7 @@ module _ (columns : ℕ) (rs : List Run) (symbols : TupleSymbol) (words : List �
         map-range_with_len_more new 0 n n (omega arith) ∙ (λ i. same i ++ last i ∷ [])
 
     -- the last run goes on
-    module _ (f : TupleSymbol) (c : IsContinued rs columns symbols f (length ks)) where
+    module _ (r : Run) (f : TupleSymbol) (c : IsContinued rs columns symbols f r) (size : r.kids ≡ length ks) (staged : r.stage ≡ stage ks) where
       same_rising : AreRising (firsts rs) (n + 1)
       same_rising i l =
           ⊎_elim
@@ -106,17 +106,21 @@ module _ (columns : ℕ) (rs : List Run) (symbols : TupleSymbol) (words : List �
       place_low : c.place < length (firsts rs)
       place_low = omega (arith, c.is_last, length-map rs (λ (r : Run). r.first))
 
+      last_of : IsRunOf (firsts rs) (n + 1) n c.place
+      last_of = record {
+        there = place_low;
+        low = omega (arith, h.rising c.place place_low, start_below (firsts rs) n (suc c.place) h.rising, start_again (firsts rs) n (n + 1) c.place place_low);
+        high = omega (arith, start_behind (firsts rs) (n + 1) (suc c.place) (omega (arith, c.is_last, length-map rs (λ (s : Run). s.first))));
+      }
+
+      kids_last : kids_at (get_or rs c.place no_run) (words ++ ks) n ≡ ks
+      kids_last =
+          let own = get_or rs c.place no_run in
+          let from : own.start + (n - own.first) * own.kids ≡ length words = h.last c.place c.is_last in
+          ap (λ j. take own.kids (drop j (words ++ ks))) from ∙ (ap (take own.kids) (drop-append_seam words ks) ∙ take_all own.kids ks (omega (arith, c.kids_are, size)))
+
       same_last : entry_at columns rs symbols (words ++ ks) (n + 1) n ≡ entry f ks
-      same_last =
-          let r = get_or rs c.place no_run in
-          let o : IsRunOf (firsts rs) (n + 1) n c.place = record {
-            there = place_low;
-            low = omega (arith, h.rising c.place place_low, start_below (firsts rs) n (suc c.place) h.rising, start_again (firsts rs) n (n + 1) c.place place_low);
-            high = omega (arith, start_behind (firsts rs) (n + 1) (suc c.place) (omega (arith, c.is_last, length-map rs (λ (s : Run). s.first))));
-          } in
-          let from : r.start + (n - r.first) * r.kids ≡ length words = h.last c.place c.is_last in
-          ap (entry_of columns rs symbols (words ++ ks) n) (run_is (firsts rs) (n + 1) n c.place same_rising o)
-          ∙ (λ i. entry (c.symbol i) ((ap (λ j. take r.kids (drop j (words ++ ks))) from ∙ (ap (take r.kids) (drop-append_seam words ks) ∙ take_all r.kids ks (omega (arith, c.kids_are)))) i))
+      same_last = ap (entry_of columns rs symbols (words ++ ks) n) (run_is (firsts rs) (n + 1) n c.place same_rising last_of) ∙ (λ i. entry (c.symbol i) (kids_last i))
 
       pub same_entries : all_entries columns rs symbols (words ++ ks) (n + 1) ≡ all_entries columns rs symbols words n ++ entry f ks ∷ []
       same_entries = more rs symbols (entry f ks) same_before same_last
@@ -137,19 +141,47 @@ module _ (columns : ℕ) (rs : List Run) (symbols : TupleSymbol) (words : List �
             let behind : get_or (firsts rs) (suc i) (n + 1) ≡ n + 1 = start_behind (firsts rs) (n + 1) (suc i) e in
             omega (arith, at_last i is_last, ap (λ j. (j - (get_or rs i no_run).first) * (get_or rs i no_run).kids) behind))
             (cases_lt (suc i) (length (firsts rs)));
+        staged = λ i k l low high. ⊎_elim
+            (λ old. let o : IsRunOf (firsts rs) n k i = old_of i k l low high old in ap stage (kids_stay k i o) ∙ h.staged i k l o.low o.high)
+            (λ new. let at : i ≡ c.place = last_is i k l low high new in
+            let here : k ≡ n = last_at i k l low high new in
+            ap stage ((λ j. kids_at (get_or rs (at j) no_run) (words ++ ks) (here j)) ∙ kids_last) ∙ (sym staged ∙ (sym c.stage_is ∙ ap (λ j. (get_or rs j no_run).stage) (sym at))))
+            (cases_lt k n);
         last = at_last;
       }
         where
+          size_is : length (firsts rs) ≡ length rs
+          size_is = length-map rs (λ (s : Run). s.first)
+
+          old_of : (i k : ℕ) → i < length rs → get_or (firsts rs) i (n + 1) ≤ k → k < get_or (firsts rs) (suc i) (n + 1) → k < n → IsRunOf (firsts rs) n k i
+          old_of i k l low high old = record {
+            there = omega (arith, size_is);
+            low = omega (arith, low, start_again (firsts rs) n (n + 1) i (omega (arith, size_is)));
+            high = ⊎_elim
+                (λ e. omega (arith, high, start_again (firsts rs) n (n + 1) (suc i) e))
+                (λ e. omega (arith, start_behind (firsts rs) n (suc i) e))
+                (cases_lt (suc i) (length (firsts rs)));
+          }
+
+          last_at : (i k : ℕ) → i < length rs → get_or (firsts rs) i (n + 1) ≤ k → k < get_or (firsts rs) (suc i) (n + 1) → n ≤ k → k ≡ n
+          last_at i k l low high new = omega (arith, high, start_below (firsts rs) (n + 1) (suc i) same_rising)
+
+          last_is : (i k : ℕ) → i < length rs → get_or (firsts rs) i (n + 1) ≤ k → k < get_or (firsts rs) (suc i) (n + 1) → n ≤ k → i ≡ c.place
+          last_is i k l low high new = ⊎_elim
+              (λ e. absurd (omega (arith, high, start_again (firsts rs) n (n + 1) (suc i) e, start_below (firsts rs) n (suc i) h.rising)))
+              (λ e. omega (arith, c.is_last, size_is))
+              (cases_lt (suc i) (length (firsts rs)))
+
           at_last : (i : ℕ) → suc i ≡ length rs → (get_or rs i no_run).start + (n + 1 - (get_or rs i no_run).first) * (get_or rs i no_run).kids ≡ length (words ++ ks)
           at_last i e =
               let r = get_or rs i no_run in
               let at : i ≡ c.place = omega (arith, c.is_last) in
-              let size : r.kids ≡ length ks = ap (λ j. (get_or rs j no_run).kids) at ∙ c.kids_are in
+              let own : r.kids ≡ length ks = ap (λ j. (get_or rs j no_run).kids) at ∙ (c.kids_are ∙ size) in
               let low : i < length (firsts rs) = omega (arith, length-map rs (λ (s : Run). s.first)) in
               omega (arith, h.last i e, grown r.first r.kids (omega (arith, first_is i n (omega arith), h.rising i low, start_below (firsts rs) n (suc i) h.rising)), length-append words ks)
 
     -- a new run
-    module _ (r : Run) (f : TupleSymbol) (first : r.first ≡ n) (start : r.start ≡ length words) (size : r.kids ≡ length ks) (small : length ks ≤ 8) (width : length f ≡ columns) where
+    module _ (r : Run) (f : TupleSymbol) (first : r.first ≡ n) (start : r.start ≡ length words) (size : r.kids ≡ length ks) (staged : r.stage ≡ stage ks) (small : length ks ≤ 8) (width : length f ≡ columns) where
       pushed : firsts (rs ++ r ∷ []) ≡ firsts rs ++ n ∷ []
       pushed = map_push (λ (s : Run). s.first) rs r ∙ ap (λ j. firsts rs ++ j ∷ []) first
 
@@ -205,19 +237,23 @@ module _ (columns : ℕ) (rs : List Run) (symbols : TupleSymbol) (words : List �
       from_is : r.start + (n - r.first) * r.kids ≡ length words
       from_is = let z : n - r.first ≡ 0 = omega arith in omega (arith, ap (λ j. j * r.kids) z)
 
+      new_last_of : IsRunOf (firsts (rs ++ r ∷ [])) (n + 1) n (length rs)
+      new_last_of = record {
+        there = omega (arith, new_size, size_is);
+        low = omega (arith, last_start (length rs) (n + 1) (sym size_is));
+        high = omega (arith, new_end (length rs) (sym size_is));
+      }
+
+      new_kids : kids_at r (words ++ ks) n ≡ ks
+      new_kids = ap (λ p. take r.kids (drop p (words ++ ks))) from_is ∙ (ap (take r.kids) (drop-append_seam words ks) ∙ take_all r.kids ks (omega (arith, size)))
+
       new_last : entry_at columns (rs ++ r ∷ []) (symbols ++ f) (words ++ ks) (n + 1) n ≡ entry f ks
       new_last =
           let i : ℕ = length rs in
-          let o : IsRunOf (firsts (rs ++ r ∷ [])) (n + 1) n i = record {
-            there = omega (arith, new_size, size_is);
-            low = omega (arith, last_start i (n + 1) (sym size_is));
-            high = omega (arith, new_end i (sym size_is));
-          } in
           let symbol : symbol_at columns (symbols ++ f) i ≡ f =
           ap (λ j. take columns (drop j (symbols ++ f))) (sym h.symbols_fit) ∙ (ap (take columns) (drop-append_seam symbols f) ∙ take_all columns f (omega arith)) in
-          ap (entry_of columns (rs ++ r ∷ []) (symbols ++ f) (words ++ ks) n) (run_is (firsts (rs ++ r ∷ [])) (n + 1) n i new_rising o)
-          ∙ ((λ j. entry (symbol j) (kids_at (new_run i refl j) (words ++ ks) n))
-          ∙ (λ j. entry f ((ap (λ p. take r.kids (drop p (words ++ ks))) from_is ∙ (ap (take r.kids) (drop-append_seam words ks) ∙ take_all r.kids ks (omega arith))) j)))
+          ap (entry_of columns (rs ++ r ∷ []) (symbols ++ f) (words ++ ks) n) (run_is (firsts (rs ++ r ∷ [])) (n + 1) n i new_rising new_last_of)
+          ∙ ((λ j. entry (symbol j) (kids_at (new_run i refl j) (words ++ ks) n)) ∙ ap (entry f) new_kids)
 
       pub new_entries : all_entries columns (rs ++ r ∷ []) (symbols ++ f) (words ++ ks) (n + 1) ≡ all_entries columns rs symbols words n ++ entry f ks ∷ []
       new_entries = more (rs ++ r ∷ []) (symbols ++ f) (entry f ks) new_before new_last
@@ -245,9 +281,30 @@ module _ (columns : ℕ) (rs : List Run) (symbols : TupleSymbol) (words : List �
             subst (λ (s : Run). s.start + (get_or (firsts (rs ++ r ∷ [])) (suc i) (n + 1) - s.first) * s.kids ≤ length (words ++ ks)) (sym (new_run i at))
             (subst (λ (j : ℕ). r.start + (j - r.first) * r.kids ≤ length (words ++ ks)) (sym (new_end i (at ∙ sym size_is))) (omega (arith, filled))))
             (cases_lt i (length rs));
+        staged = λ i k l low high. ⊎_elim
+            (λ old. let low_i : i < length rs = old_low i k l low old in
+            let o : IsRunOf (firsts rs) n k i = record {
+              there = omega (arith, size_is);
+              low = omega (arith, low, new_start i (n + 1) (omega (arith, size_is)));
+              high = omega (arith, high, new_start (suc i) (n + 1) (omega (arith, size_is)));
+            } in
+            subst (λ (s : Run). stage (kids_at s (words ++ ks) k) ≡ s.stage) (sym (old_run i low_i)) (ap stage (kids_stay k i o) ∙ h.staged i k low_i o.low o.high))
+            (λ new. let at : i ≡ length rs = new_high i k l high new in
+            let here : k ≡ n = omega (arith, high, start_below (firsts (rs ++ r ∷ [])) (n + 1) (suc i) new_rising) in
+            subst (λ (s : Run). stage (kids_at s (words ++ ks) k) ≡ s.stage) (sym (new_run i at)) (ap stage (ap (kids_at r (words ++ ks)) here ∙ new_kids) ∙ sym staged))
+            (cases_lt k n);
         last = λ i e. let at : i ≡ length rs = omega (arith, more_runs) in
             subst (λ (s : Run). s.start + (n + 1 - s.first) * s.kids ≡ length (words ++ ks)) (sym (new_run i at)) filled;
       }
+        where
+          old_low : (i k : ℕ) → i < length (rs ++ r ∷ []) → get_or (firsts (rs ++ r ∷ [])) i (n + 1) ≤ k → k < n → i < length rs
+          old_low i k l low old = ⊎_elim (λ e. e) (λ e. let at : i ≡ length rs = omega (arith, more_runs) in absurd (omega (arith, low, last_start i (n + 1) (at ∙ sym size_is)))) (cases_lt i (length rs))
+
+          new_high : (i k : ℕ) → i < length (rs ++ r ∷ []) → k < get_or (firsts (rs ++ r ∷ [])) (suc i) (n + 1) → n ≤ k → i ≡ length rs
+          new_high i k l high new = ⊎_elim
+              (λ e. absurd (omega (arith, high, new_start (suc i) (n + 1) (omega (arith, size_is)), start_below (firsts rs) n (suc i) h.rising)))
+              (λ e. omega (arith, more_runs))
+              (cases_lt i (length rs))
 
 pub columns_at : (c i m : ℕ) (cs : List (Option Sym)) → m ≡ c → as_symbol (take m (drop (i * c) cs)) ≡ symbol_at c (as_symbol cs) i
 columns_at c i m cs e =
@@ -278,15 +335,19 @@ module _ (a : Inside) (h : AreRuns a.columns a.runs.items (as_symbol a.symbols.i
   entry_in_run k i d o =
       sym (ap (λ (x : Listing). get_or x.entries k d) is) ∙ entry_is a.columns a.runs.items (as_symbol a.symbols.items) a.kids.items a.count h k i d o
 
+  pub stage_in_run : (k i : ℕ) (d : Entry) → IsRunOf (firsts a.runs.items) a.count k i → stage (get_or l.entries k d).kids ≡ (get_or a.runs.items i no_run).stage
+  stage_in_run k i d o =
+      ap (λ (e : Entry). stage e.kids) (entry_in_run k i d o) ∙ h.staged i k (as_run a.columns a.runs.items (as_symbol a.symbols.items) a.kids.items a.count h i o.there) o.low o.high
+
   pub lawful_starts : AreStarts l
   lawful_starts = record {
     zero_first = start_is 0 ∙ h.zero_first;
     rising = λ i low. omega (arith, start_is i, start_is (suc i), h.rising i (omega (arith, low, starts_are, length-map a.runs.items (λ (r : Run). r.first))));
-    alike = λ i j k d there jl jh kl kh. symbol_in j i d (run_of j i there jl jh) ∙ sym (symbol_in k i d (run_of k i there kl kh));
+    alike = λ i j k d there jl jh kl kh.
+        let o = run_of j i there jl jh in
+        let p = run_of k i there kl kh in
+        (ap (λ (e : Entry). e.symbol) (entry_in_run j i d o) ∙ sym (ap (λ (e : Entry). e.symbol) (entry_in_run k i d p)), stage_in_run j i d o ∙ sym (stage_in_run k i d p));
   }
-    where
-      symbol_in : (k i : ℕ) (d : Entry) → IsRunOf (firsts a.runs.items) a.count k i → (get_or l.entries k d).symbol ≡ symbol_at a.columns (as_symbol a.symbols.items) i
-      symbol_in k i d o = ap (λ (e : Entry). e.symbol) (entry_in_run k i d o)
 
 -- ---- one more entry
 
@@ -297,23 +358,20 @@ module _ (columns : ℕ) (r : Run) (f : TupleSymbol) (rs rs' : List Run) (symbol
   pub made_symbols : length symbols' ≤ length symbols + length f
   made_symbols = ⊎_elim (λ s. omega (arith, ap length s.symbols_are)) (λ s. omega (arith, ap length s.symbols_are, length-append symbols f)) made
 
-  module _ (words ks words' : List ℕ) (n : ℕ) (h : AreRuns columns rs symbols words n) (first : r.first ≡ n) (start : r.start ≡ length words) (size : r.kids ≡ length ks) (small : length ks ≤ 8)
+  module _ (words ks words' : List ℕ) (n : ℕ) (h : AreRuns columns rs symbols words n) (first : r.first ≡ n) (start : r.start ≡ length words) (size : r.kids ≡ length ks) (staged : r.stage ≡ stage ks) (small : length ks ≤ 8)
       (width : length f ≡ columns) (grown : words' ≡ words ++ ks) where
-    continued : IsSameRun columns r f rs rs' symbols symbols' → IsContinued rs columns symbols f (length ks)
-    continued s = subst (IsContinued rs columns symbols f) size s.continued
-
     pub made_runs : AreRuns columns rs' symbols' words' (n + 1)
     made_runs = ⊎_elim
         (λ s. subst (λ (v : List Run). AreRuns columns v symbols' words' (n + 1)) (sym s.runs_are)
         (subst (λ (v : TupleSymbol). AreRuns columns rs v words' (n + 1)) (sym s.symbols_are)
-        (subst (λ (v : List ℕ). AreRuns columns rs symbols v (n + 1)) (sym grown) (same_runs columns rs symbols words n h ks f (continued s)))))
+        (subst (λ (v : List ℕ). AreRuns columns rs symbols v (n + 1)) (sym grown) (same_runs columns rs symbols words n h ks r f s.continued size staged))))
         (λ s. subst (λ (v : List Run). AreRuns columns v symbols' words' (n + 1)) (sym s.runs_are)
         (subst (λ (v : TupleSymbol). AreRuns columns (rs ++ r ∷ []) v words' (n + 1)) (sym s.symbols_are)
-        (subst (λ (v : List ℕ). AreRuns columns (rs ++ r ∷ []) (symbols ++ f) v (n + 1)) (sym grown) (new_runs columns rs symbols words n h ks r f first start size small width))))
+        (subst (λ (v : List ℕ). AreRuns columns (rs ++ r ∷ []) (symbols ++ f) v (n + 1)) (sym grown) (new_runs columns rs symbols words n h ks r f first start size staged small width))))
         made
 
     pub made_entries : all_entries columns rs' symbols' words' (n + 1) ≡ all_entries columns rs symbols words n ++ entry f ks ∷ []
     made_entries = ⊎_elim
-        (λ s. (λ i. all_entries columns (s.runs_are i) (s.symbols_are i) (grown i) (n + 1)) ∙ same_entries columns rs symbols words n h ks f (continued s))
-        (λ s. (λ i. all_entries columns (s.runs_are i) (s.symbols_are i) (grown i) (n + 1)) ∙ new_entries columns rs symbols words n h ks r f first start size small width)
+        (λ s. (λ i. all_entries columns (s.runs_are i) (s.symbols_are i) (grown i) (n + 1)) ∙ same_entries columns rs symbols words n h ks r f s.continued size staged)
+        (λ s. (λ i. all_entries columns (s.runs_are i) (s.symbols_are i) (grown i) (n + 1)) ∙ new_entries columns rs symbols words n h ks r f first start size staged small width)
         made

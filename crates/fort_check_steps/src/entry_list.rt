@@ -1,7 +1,7 @@
 //! Lists of entries in little room.
-ghost use Rattle.std.specs.Prelude.{◌≡◌, ℕ, ◌+◌, ◌-◌, ◌*◌, ◌<◌, ◌≤◌, ◌++◌, ◌∷◌, [], map, length, slice_index_or, vec_len, vec_capacity, IfOk, IsTrue};
+ghost use Rattle.std.specs.Prelude.{◌≡◌, ℕ, ◌+◌, ◌-◌, ◌*◌, ◌^◌, ◌<◌, ◌≤◌, ◌++◌, ◌∷◌, [], map, length, slice_index_or, vec_len, vec_capacity, IfOk, IsTrue};
 ghost use Rattle.fort_tables.specs.Tuples.{presence};
-ghost use Rattle.fort_tables.specs.Entries.{Entry};
+ghost use Rattle.fort_tables.specs.Entries.{Entry, stage as stage_lem};
 ghost use Rattle.fort_lockstep.specs.Columns.{as_column, as_symbol};
 ghost use Rattle.fort_check_steps.specs.EntryListView.{AreStarts, start_of};
 ghost use Rattle.fort_check_steps.specs.EntryListInside.{IsContinued, IsRunMade};
@@ -11,12 +11,24 @@ use fort_terms::{Memory, Sym};
 use std::alloc::{AllocError, Global};
 use std::marker::Model;
 
-/// Entries one behind another with one tuple symbol: the place of the first, where its child states begin, how many each has.
+/// Entries one behind another of one stage and one tuple symbol: the place of the first, where its child states begin, and how
+/// many each has.
 #[derive(Clone, Copy)]
 pub struct Run {
-    first: usize,
-    start: usize,
-    kids: usize,
+    first: u32,
+    start: u32,
+    kids: u32,
+    stage: u32,
+}
+
+/// 0 without child states, else one more than the greatest.
+pub(crate) fn stage_of(kids: &[u32]) -> u64
+    ensures { result ≡ stage_lem kids.now }
+{
+    match kids.split_first() {
+        None => 0,
+        Some((kid, kids)) => (u64::from(*kid) + 1).max(stage_of(kids)),
+    }
 }
 
 /// A list of entries in runs: a run has its tuple symbol once, and of its entries their child states alone.
@@ -80,24 +92,27 @@ fn is_symbol(columns: &[Option<Sym>], sym: &TupleSym) -> bool
     true
 }
 
-/// Whether the last run has this tuple symbol, and so many child states for each entry.
+/// Whether the last run is of this tuple symbol, and of the stage and the number of child states of another.
 fn is_continued(
     runs: &[Run],
     symbols: &[Option<Sym>],
     columns: usize,
     sym: &TupleSym,
-    kids: usize,
+    run: Run,
 ) -> bool
     requires symbols { length symbols.now ≡ length runs.now * columns }
     requires columns { length sym.now ≡ columns }
-    ensures { IsTrue result → IsContinued runs.now columns (as_symbol symbols.now) sym.now kids }
+    ensures { IsTrue result → IsContinued runs.now columns (as_symbol symbols.now) sym.now run }
 {
     let count = runs.len();
     if count == 0 {
         return false;
     }
     let last = count - 1;
-    if runs[last].kids != kids {
+    if runs[last].kids != run.kids {
+        return false;
+    }
+    if runs[last].stage != run.stage {
         return false;
     }
     is_symbol(&symbols[last * columns..], sym)
@@ -141,7 +156,7 @@ fn make_run(
     ensures runs_capacity { vec_capacity runs.new ≡ vec_capacity runs.old }
     ensures symbols_capacity { vec_capacity symbols.new ≡ vec_capacity symbols.old }
 {
-    if is_continued(runs.as_slice(), symbols.as_slice(), columns, sym, run.kids) {
+    if is_continued(runs.as_slice(), symbols.as_slice(), columns, sym, run) {
         return;
     }
     put_symbol(symbols, sym);
@@ -155,6 +170,9 @@ impl EntryList {
     {
         let symbols = room_for(room, 16)?;
         let kids = room_for(room, 8)?;
+        if kids > u32::MAX as usize {
+            return Err(AllocError);
+        }
         Ok(EntryList {
             columns: 0,
             room,
@@ -183,15 +201,17 @@ impl EntryList {
     pub fn push(&mut self, row: &Row)
         requires columns { length row.now.symbol ≡ self.old.columns }
         requires room { length self.old.entries < self.old.room }
+        requires stage { stage_lem row.now.kids < 2 ^ 32 }
         ensures entries { self.new.entries ≡ self.old.entries ++ row.now ∷ [] }
         ensures columns { self.new.columns ≡ self.old.columns }
         ensures room { self.new.room ≡ self.old.room }
     {
         let kids = row.kids();
         let run = Run {
-            first: self.count,
-            start: self.kids.len(),
-            kids: kids.len(),
+            first: self.count as u32,
+            start: self.kids.len() as u32,
+            kids: kids.len() as u32,
+            stage: stage_of(kids) as u32,
         };
         make_run(
             &mut self.runs,
@@ -224,9 +244,19 @@ impl EntryList {
         ensures within { result ≤ length self.now.entries }
     {
         match self.runs.get(run) {
-            Some(run) => run.first,
+            Some(run) => run.first as usize,
             None => self.count,
         }
+    }
+
+    /// The stage of the entries of a run.
+    pub fn stage(&self, run: usize) -> u32
+        requires { run < length self.now.starts }
+        ensures { (k : ℕ) → (d : Entry) → start_of self.now run ≤ k
+            → k < start_of self.now (run + 1)
+            → result ≡ stage_lem (slice_index_or self.now.entries k d).kids }
+    {
+        self.runs[run].stage
     }
 
     /// The tuple symbol of a run.
@@ -264,7 +294,8 @@ impl EntryList {
     {
         let own = &self.runs[run];
         let kids = self.kids.as_slice();
-        let from = own.start + (place - own.first) * own.kids;
-        &kids[from..from + own.kids]
+        let count = own.kids as usize;
+        let from = own.start as usize + (place - own.first as usize) * count;
+        &kids[from..from + count]
     }
 }

@@ -7,20 +7,10 @@ ghost use Rattle.fort_lockstep.specs.Columns.{as_column, as_symbol};
 ghost use Rattle.fort_check_steps.specs.EntryListView.{start_of};
 ghost use Rattle.fort_check_steps.specs.Orders.{Orders, IsWithin};
 
-use crate::entry_list::EntryList;
+use crate::entry_list::{EntryList, stage_of};
 use fort_lockstep::TupleSym;
 use fort_terms::Sym;
 use std::cmp::Ordering;
-
-/// 0 without child states, else one more than the greatest.
-fn stage_of(kids: &[u32]) -> u64
-    ensures { result ≡ stage_lem kids.now }
-{
-    match kids.split_first() {
-        None => 0,
-        Some((kid, kids)) => (u64::from(*kid) + 1).max(stage_of(kids)),
-    }
-}
 
 /// Two lists of states by the first place where they differ.
 fn kid_order(first: &[u32], second: &[u32]) -> Ordering
@@ -84,46 +74,27 @@ fn tuple_order(first: &[Option<Sym>], second: &TupleSym) -> Ordering
     Ordering::Equal
 }
 
-/// Entries of one tuple symbol by their child states; the stage is that of the second.
-fn kids_order(own: &[u32], kids: &[u32], stage: u64) -> Ordering
+/// The first entry of a run against that of a tuple symbol and child states, whose stage is given.
+fn run_order(list: &EntryList, run: usize, sym: &TupleSym, kids: &[u32], stage: u64) -> Ordering
     requires stage { stage ≡ stage_lem kids.now }
-    requires count { length own.now ≡ length kids.now }
-    ensures { (f : TupleSymbol) → Orders ComesBefore (entry f own.now) (entry f kids.now) result }
+    requires there { Contains list.now.entries (entry sym.now kids.now) }
+    requires order { (sig : theory.Signature) × (columns : ℕ) × (presences : List ℕ)
+        × AreInOrder sig columns presences list.now.entries }
+    requires run { run < length list.now.starts }
+    ensures { (d : Entry) → Orders ComesBefore
+        (slice_index_or list.now.entries (start_of list.now run) d) (entry sym.now kids.now) result }
 {
-    let greatest = stage_of(own);
-    if greatest < stage {
+    let _runs = list.runs();
+    let own = u64::from(list.stage(run));
+    if own < stage {
         return Ordering::Less;
     }
-    if stage < greatest {
+    if stage < own {
         return Ordering::Greater;
     }
-    kid_order(own, kids)
-}
-
-/// The entry of these columns and states against that of a tuple symbol and child states, whose stage is given.
-fn entry_order(
-    columns: &[Option<Sym>],
-    own: &[u32],
-    sym: &TupleSym,
-    kids: &[u32],
-    stage: u64,
-) -> Ordering
-    requires stage { stage ≡ stage_lem kids.now }
-    requires columns { length columns.now ≡ length sym.now }
-    requires kids { as_symbol columns.now ≡ sym.now → length own.now ≡ length kids.now }
-    ensures { Orders ComesBefore (entry (as_symbol columns.now) own.now)
-        (entry sym.now kids.now) result }
-{
-    let greatest = stage_of(own);
-    if greatest < stage {
-        return Ordering::Less;
-    }
-    if stage < greatest {
-        return Ordering::Greater;
-    }
-    match tuple_order(columns, sym) {
+    match tuple_order(list.symbol(run), sym) {
         Ordering::Less => Ordering::Less,
-        Ordering::Equal => kid_order(own, kids),
+        Ordering::Equal => kid_order(list.kids(run, list.start(run)), kids),
         Ordering::Greater => Ordering::Greater,
     }
 }
@@ -142,9 +113,7 @@ fn run_among(list: &EntryList, sym: &TupleSym, kids: &[u32], stage: u64) -> usiz
     let mut high = list.runs();
     'halves: while low + 1 < high {
         let middle = low + (high - low) / 2;
-        let columns = list.symbol(middle);
-        let own = list.kids(middle, list.start(middle));
-        match entry_order(columns, own, sym, kids, stage) {
+        match run_order(list, middle, sym, kids, stage) {
             Ordering::Less => low = middle,
             Ordering::Equal => low = middle,
             Ordering::Greater => high = middle,
@@ -154,8 +123,7 @@ fn run_among(list: &EntryList, sym: &TupleSym, kids: &[u32], stage: u64) -> usiz
 }
 
 /// The place of an entry of a run, by bisection.
-fn place_in_run(list: &EntryList, run: usize, sym: &TupleSym, kids: &[u32], stage: u64) -> usize
-    requires stage { stage ≡ stage_lem kids.now }
+fn place_in_run(list: &EntryList, run: usize, sym: &TupleSym, kids: &[u32]) -> usize
     requires there { Contains list.now.entries (entry sym.now kids.now) }
     requires order { (sig : theory.Signature) × (columns : ℕ) × (presences : List ℕ)
         × AreInOrder sig columns presences list.now.entries }
@@ -170,7 +138,7 @@ fn place_in_run(list: &EntryList, run: usize, sym: &TupleSym, kids: &[u32], stag
     let mut high = list.start(run + 1);
     'halves: while low < high {
         let middle = low + (high - low) / 2;
-        match kids_order(list.kids(run, middle), kids, stage) {
+        match kid_order(list.kids(run, middle), kids) {
             Ordering::Less => low = middle + 1,
             Ordering::Equal => return middle,
             Ordering::Greater => high = middle,
@@ -189,5 +157,5 @@ pub fn place_among(list: &EntryList, sym: &TupleSym, kids: &[u32]) -> usize
 {
     let stage = stage_of(kids);
     let run = run_among(list, sym, kids, stage);
-    place_in_run(list, run, sym, kids, stage)
+    place_in_run(list, run, sym, kids)
 }
