@@ -37,7 +37,7 @@ turned_presences (suc n) t = turned_presences n t
 -- a held table is one over its columns, with as many states as the targets make
 pub held_over : (sig : Signature) (columns : List ℕ) (targets : List ℕ) (room : PartRoom) (table : Table) → 0 < length columns → IsHeld sig (length columns) targets room table → IsTableOver sig columns table
 held_over sig columns targets room table some h =
-    let by = part_by_labels h.rule h.accepting targets room.entries.items room.rows.labels h.holds.lawful h.holds.right in
+    let by = part_by_labels h.rule h.accepting targets room.entries.entries room.rows.labels h.holds.lawful h.holds.right in
     subst (IsTableOver sig columns) h.is (record {
       some = some;
       signature = by.signature ∙ h.signature;
@@ -50,7 +50,7 @@ pub held_states : (sig : Signature) (columns : ℕ) (targets : List ℕ) (room :
 held_states sig columns targets room table h =
     let r = h.holds.right in
     let own : length (map first_word room.rows.labels) ≡ length table.presences = ap (λ (t : Table). length t.presences) h.is in
-    omega (arith, own, length-map room.rows.labels first_word, right_few h.rule targets (length targets) room.entries.items room.rows.labels r.right, r.right.states, ap stage (take-length targets))
+    omega (arith, own, length-map room.rows.labels first_word, right_few h.rule targets (length targets) room.entries.entries room.rows.labels r.right, r.right.states, ap stage (take-length targets))
 
 module _ (system : PatternSystem) (parts : List Core) (past : Past) (k : ℕ) (made : Made) (known : KnowsPast system parts past k made) where
   -- what is known of an operand

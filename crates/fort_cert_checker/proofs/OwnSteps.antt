@@ -87,7 +87,7 @@ module _ (system : PatternSystem) (parts : List Core) (ss : List Step) (plans : 
         let table = listed_table (held_table t.local.rule t.local.accepting targets new) in
         record {
           next = with_answer made k (OfTable table);
-          fine = FinePart t.local new.entries.items new.rows.labels own t.step.held.right;
+          fine = FinePart t.local new.entries.entries new.rows.labels own t.step.held.right;
           after = (
             table,
             record {

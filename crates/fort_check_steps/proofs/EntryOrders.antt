@@ -2,14 +2,16 @@
 use Rattle.std.specs.Prelude.{◌≡◌, ℕ, zero, suc, ◌+◌, ◌<◌, ◌≤◌, List, [], ◌∷◌, ◌++◌, length, take, get_or, Contains, Option, None, Some, slice_get}
 use Rattle.std.specs.declared.cmp.Ordering.{Ordering}
 use Rattle.std.specs.declared.cmp.Ordering.TheVariants.{Less, Equal, Greater}
-use Rattle.std.proofs.Common.{sym, ap, ◌∙◌, subst, arith, inl, inr, ⊎_elim}
+use Rattle.std.proofs.Common.{refl, sym, ap, ◌∙◌, subst, arith, inl, inr, ⊎_elim}
 use Rattle.std.proofs.lemmas.Bool.{cases_lt}
 use Rattle.std.proofs.lemmas.List.{get_or_default, take_more, take_all}
 use Rattle.std.proofs.lemmas.Option.{get_or_from_slice_get}
 use Rattle.fort_theory.specs.Signatures.{Signature}
 use Rattle.fort_tables.specs.Tuples.{TupleSymbol, symbol_kids}
 use Rattle.fort_tables.specs.Entries.{Entry, entry, stage, IsEntry, LexBefore, ColumnBefore, ComesBefore, AreInOrder}
-use Rattle.fort_check_steps.specs.Orders.{Orders}
+use Rattle.fort_check_steps.specs.EntryListView.{Listing, AreStarts, start_of}
+use Rattle.fort_check_steps.specs.Orders.{Orders, IsWithin}
+use Rattle.fort_check_steps.proofs.RunLaws.{start_below, start_behind}
 use Rattle.fort_tables.proofs.OrderLaws.{before_irrefl, before_trans}
 
 heads : {A : Type 0} {x y : A} {xs ys : List A} → x ∷ xs ≡ y ∷ ys → x ≡ y
@@ -84,10 +86,7 @@ kids_none us (y ∷ ys) e is = absurd (let n = ap length is in omega arith)
 
 -- ---- two tuple symbols, column by column
 
-module _ (f g : TupleSymbol) (width : length f ≡ length g) (k : ℕ) (within : k < length f) (same : take k f ≡ take k g) (a b : Option ℕ) (a_at : slice_get f k ≡ Some a) (b_at : slice_get g k ≡ Some b) where
-  a_is : a ≡ get_or f k None
-  a_is = sym (get_or_from_slice_get f k a None a_at)
-
+module _ (f g : TupleSymbol) (width : length f ≡ length g) (k : ℕ) (within : k < length f) (same : take k f ≡ take k g) (a b : Option ℕ) (a_is : a ≡ get_or f k None) (b_at : slice_get g k ≡ Some b) where
   b_is : b ≡ get_or g k None
   b_is = sym (get_or_from_slice_get g k b None b_at)
 
@@ -134,24 +133,71 @@ module _ (a b : Entry) (own other : ℕ) (own_is : own ≡ stage a.kids) (other_
 
 -- ---- bisection
 
-module _ (sig : Signature) (n : ℕ) (ps : List ℕ) (es : List Entry) (order : AreInOrder sig n ps es) (e : Entry) (low high m : ℕ)
-    (here : (p : ℕ) (d : Entry) → p < length es → get_or es p d ≡ e → (low ≤ p) × (p < high)) (inside : m < length es) (x : Entry) (x_is : x ≡ get_or es m x) where
-  at_middle : (d : Entry) → get_or es m d ≡ x
-  at_middle d = get_or_default es m d x inside ∙ sym x_is
+pub row_is : (l : Listing) (m : ℕ) (f : TupleSymbol) (ks : List ℕ) → ((d : Entry) → (get_or l.entries m d).symbol ≡ f) → ((d : Entry) → (get_or l.entries m d).kids ≡ ks) → (d : Entry)
+    → get_or l.entries m d ≡ entry f ks
+row_is l m f ks p q d = λ i. entry (p d i) (q d i)
 
-  pub middle_less : ComesBefore x e → (p : ℕ) (d : Entry) → p < length es → get_or es p d ≡ e → (m + 1 ≤ p) × (p < high)
-  middle_less b p d l is =
-      let h = here p d l is in
-      let after = after_middle sig n ps es e d m p order inside l is (subst (λ (y : Entry). ComesBefore y e) (sym (at_middle d)) b) in
-      (omega (arith, after), h.1)
+module _ (sig : Signature) (n : ℕ) (ps : List ℕ) (l : Listing) (order : AreInOrder sig n ps l.entries) (e : Entry) (there : Contains l.entries e) where
+  pub alike_at : (m : ℕ) (x : Entry) → m < length l.entries → ((d : Entry) → get_or l.entries m d ≡ x) → AreAlike x e
+  alike_at m x low is = subst (λ (y : Entry). AreAlike y e) (is e) (AreAlike-entries sig n ps l.entries e e m order there low)
 
-  pub middle_greater : ComesBefore e x → (p : ℕ) (d : Entry) → p < length es → get_or es p d ≡ e → (low ≤ p) × (p < m)
-  middle_greater b p d l is =
-      let h = here p d l is in
-      (h.0, before_middle sig n ps es e d m p order inside l is (subst (λ (y : Entry). ComesBefore e y) (sym (at_middle d)) b))
+  module _ (low high m : ℕ) (here : IsWithin l e low high) (x : Entry) (inside : m < length l.entries) (x_at : (d : Entry) → get_or l.entries m d ≡ x) where
+    pub middle_less : ComesBefore x e → IsWithin l e (m + 1) high
+    middle_less b p d within is =
+        let h = here p d within is in
+        let after = after_middle sig n ps l.entries e d m p order inside within is (subst (λ (y : Entry). ComesBefore y e) (sym (x_at d)) b) in
+        (omega (arith, after), h.1)
 
-  pub middle_is : x ≡ e → (d : Entry) → get_or es m d ≡ e
-  middle_is s d = at_middle d ∙ s
+    pub middle_greater : ComesBefore e x → IsWithin l e low m
+    middle_greater b p d within is =
+        let h = here p d within is in
+        (h.0, before_middle sig n ps l.entries e d m p order inside within is (subst (λ (y : Entry). ComesBefore e y) (sym (x_at d)) b))
 
-pub none_left : (es : List Entry) (e : Entry) (low high : ℕ) → ((p : ℕ) (d : Entry) → p < length es → get_or es p d ≡ e → (low ≤ p) × (p < high)) → Contains es e → high ≤ low → ⊥
-none_left es e low high here c l = let h = here c.0 e c.1 c.2 in omega (arith, h.0, h.1)
+    pub middle_same : x ≡ e → IsWithin l e m high
+    middle_same same p d within is =
+        let h = here p d within is in (
+          ⊎_elim
+              (λ before. absurd (before_irrefl e (subst (λ (y : Entry). ComesBefore y e) is (subst (ComesBefore (get_or l.entries p d)) (x_at d ∙ same) (order.order p m d before inside)))))
+              (λ i. i)
+              (cases_lt p m),
+          h.1,
+        )
+
+-- the whole list, in runs
+pub whole_within : (l : Listing) (e : Entry) (runs : ℕ) → AreStarts l → runs ≡ length l.starts → IsWithin l e (start_of l 0) (start_of l runs)
+whole_within l e runs h r p d within is = (omega (arith, h.zero_first), omega (arith, within, start_behind l.starts (length l.entries) runs (omega arith)))
+
+pub some_run : (l : Listing) (e : Entry) → AreStarts l → Contains l.entries e → 0 < length l.starts
+some_run l e h c =
+    ⊎_elim
+    (λ i. i)
+    (λ none. absurd (omega (arith, h.zero_first, start_behind l.starts (length l.entries) 0 none, c.1)))
+    (cases_lt 0 (length l.starts))
+
+-- a run ends within the list, and begins before it ends
+pub run_inside : (l : Listing) (i : ℕ) → AreStarts l → i < length l.starts → (start_of l i < start_of l (i + 1)) × (start_of l (i + 1) ≤ length l.entries)
+run_inside l i h low =
+    let on : i + 1 ≡ suc i = omega arith in
+    (omega (arith, h.rising i low, ap (start_of l) on), start_below l.starts (length l.entries) (i + 1) h.rising)
+
+-- a place of the run that an entry is in
+pub in_run : (l : Listing) (e : Entry) (i m : ℕ) (ks : List ℕ) → AreStarts l → Contains l.entries e → i < length l.starts → IsWithin l e (start_of l i) (start_of l (i + 1)) → start_of l i ≤ m
+    → m < start_of l (i + 1) → ((d : Entry) → (get_or l.entries m d).kids ≡ ks) → (d : Entry) → get_or l.entries m d ≡ entry e.symbol ks
+in_run l e i m ks h c there here low high kids d =
+    let w = here c.0 e c.1 c.2 in
+    row_is l m e.symbol ks
+    (λ x. (h.alike i m c.0 x there low high w.0 w.1).0 ∙ (ap (λ (y : Entry). y.symbol) (get_or_default l.entries c.0 x e c.1) ∙ ap (λ (y : Entry). y.symbol) c.2))
+    kids d
+
+pub stage_in_run : (l : Listing) (e : Entry) (i m : ℕ) (ks : List ℕ) → AreStarts l → Contains l.entries e → i < length l.starts → IsWithin l e (start_of l i) (start_of l (i + 1)) → start_of l i ≤ m
+    → m < start_of l (i + 1) → ((d : Entry) → (get_or l.entries m d).kids ≡ ks) → stage ks ≡ stage e.kids
+stage_in_run l e i m ks h c there here low high kids =
+    let w = here c.0 e c.1 c.2 in
+    ap stage (sym (kids e)) ∙ ((h.alike i m c.0 e there low high w.0 w.1).1 ∙ ap (λ (y : Entry). stage y.kids) c.2)
+
+-- where stage and tuple symbol are the same, the child states decide
+pub kids_alone : (f : TupleSymbol) (xs ys : List ℕ) (r : Ordering) → stage xs ≡ stage ys → Orders (LexBefore ◌<◌) xs ys r → Orders ComesBefore (entry f xs) (entry f ys) r
+kids_alone f xs ys r same h = kids_decide (entry f xs) (entry f ys) (stage xs) (stage ys) refl refl r (omega arith) (omega arith) refl h
+
+pub none_left : (l : Listing) (e : Entry) (low high : ℕ) → IsWithin l e low high → Contains l.entries e → high ≤ low → ⊥
+none_left l e low high here c h = let w = here c.0 e c.1 c.2 in omega (arith, w.0, w.1)

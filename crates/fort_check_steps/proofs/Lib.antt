@@ -1,3 +1,5 @@
+pub mod RunLaws
+pub mod EntryListLaws
 pub mod EntryOrders
 pub mod TableLaws
 pub mod TargetLaws

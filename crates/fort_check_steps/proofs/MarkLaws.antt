@@ -1,5 +1,5 @@
 -- What an entry tells of each mark, and what the first wrong mark tells.
-use Rattle.std.specs.Prelude.{◌≡◌, ℕ, ◌+◌, ◌^◌, ◌<◌, ◌≤◌, List, [], ◌∷◌, map, length, get_or, Contains, nat_lt, Bool, true, false, Decides, ◌&&◌, ◌==◌, if◌then◌else◌, refl}
+use Rattle.std.specs.Prelude.{◌≡◌, ℕ, zero, suc, ◌+◌, ◌-◌, ◌^◌, ◌<◌, ◌≤◌, List, [], ◌∷◌, map, length, get_or, Contains, nat_lt, Bool, true, false, Decides, ◌&&◌, ◌==◌, if◌then◌else◌, refl}
 use Rattle.std.specs.List.{list_any}
 use Rattle.std.proofs.Common.{sym, ap, subst, ◌∙◌, arith, ⊎_elim, true≢false}
 use Rattle.std.proofs.lemmas.Bool.{cases_lt}
@@ -10,6 +10,7 @@ use Rattle.fort_tables.specs.Tuples.{presence}
 use Rattle.fort_tables.specs.Entries.{Entry, no_entry}
 use Rattle.fort_tables.specs.Tables.{Table, Listed, IsListed, target_in}
 use Rattle.fort_tables.proofs.NumberLaws.{listed_target}
+use Rattle.fort_tables.proofs.EqualTests.{test_from_apart}
 use Rattle.fort_atom_labels.proofs.Bits.{Decides-true, Decides-false, Decides-and_then}
 use Rattle.fort_counts.specs.Counts.{Count, Finite, Infinite, is_infinite, IsFiniteBelow, KeepsRule, count_at}
 use Rattle.fort_counts.specs.PureStates.{IsPureChild}
@@ -221,3 +222,18 @@ IsSeenTo-entry t c states marks n old new l h count each = record {
   each = λ i m. subst (IsSeen t (count_at states marks) c (n + 1) (get_or states i 0) (mark_in marks i)) (sym (each i m))
       (IsSeen-entry t (count_at states marks) c (get_or states i 0) n (mark_in marks i) (get_or old i false) l (h.each i m));
 }
+
+-- entries in which the column isn't alone change nothing
+pub IsSeenTo-others : (t : Listed) (c : ℕ) (states : List ℕ) (marks : List Count) (n m : ℕ) (holds : List Bool) → n ≤ m → m ≤ length t.entries
+    → ((k : ℕ) → n ≤ k → k < m → presence (get_or t.entries k (no_entry 0)).symbol ≡ 2 ^ c → ⊥) → IsSeenTo t c states marks n holds → IsSeenTo t c states marks m holds
+IsSeenTo-others t c states marks n m holds low high others h = let e : n + (m - n) ≡ m = omega arith in subst (λ (k : ℕ). IsSeenTo t c states marks k holds) e (steps (m - n) n (omega arith) (omega arith) h)
+  where
+    steps : (j i : ℕ) → n ≤ i → i + j ≤ m → IsSeenTo t c states marks i holds → IsSeenTo t c states marks (i + j) holds
+    steps zero i l r g = let e : i ≡ i + 0 = omega arith in subst (λ (k : ℕ). IsSeenTo t c states marks k holds) e g
+    steps (suc j) i l r g =
+        let e : i + 1 + j ≡ i + suc j = omega arith in
+        let test : (presence (get_or t.entries i (no_entry 0)).symbol == 2 ^ c) ≡ false = test_from_apart (presence (get_or t.entries i (no_entry 0)).symbol) (2 ^ c) (others i l (omega arith)) in
+        subst (λ (k : ℕ). IsSeenTo t c states marks k holds) e (steps j (i + 1) (omega arith) (omega arith)
+        (IsSeenTo-entry t c states marks i holds holds (omega arith) g refl
+        (λ q inside. sym (ap (λ (b : Bool).
+        if b && (get_or t.targets i 0 == get_or states q 0) then held_next (count_at states marks) (mark_in marks q) (kids_at t i) (get_or holds q false) else get_or holds q false) test))))

@@ -16,24 +16,24 @@ use Rattle.fort_check_steps.specs.Held.{HoldsPart, held_table}
 use Rattle.fort_check_steps.specs.Turned.{TurnedTable, turned_by, turned_table}
 
 abbrev pub room_table : Signature → ℕ → List ℕ → PartRoom → Listed
-room_table sig n targets room = record { signature = sig; columns = n; presences = room.presences.items; entries = room.entries.items; targets = targets; finals = room.finals.items }
+room_table sig n targets room = record { signature = sig; columns = n; presences = room.presences.items; entries = room.entries.entries; targets = targets; finals = room.finals.items }
 
 pub held_is : (r : LabelRule) (accepting : List ℕ → Bool) (sig : Signature) (n : ℕ) (targets : List ℕ) (room : PartRoom) → r.signature ≡ sig → r.columns ≡ n
     → HoldsPart r accepting targets room → room_table sig n targets room ≡ held_table r accepting targets room
 held_is r accepting sig n targets room a b h =
     let p = h.presences in
     let f = h.finals in
-    λ i. record { signature = sym a i; columns = sym b i; presences = p i; entries = room.entries.items; targets = targets; finals = f i }
+    λ i. record { signature = sym a i; columns = sym b i; presences = p i; entries = room.entries.entries; targets = targets; finals = f i }
 
 pub held_listed : (r : LabelRule) (accepting : List ℕ → Bool) (sig : Signature) (n : ℕ) (targets : List ℕ) (room : PartRoom) → r.signature ≡ sig → r.columns ≡ n
     → HoldsPart r accepting targets room → IsListed (room_table sig n targets room)
 held_listed r accepting sig n targets room a b h =
-    subst IsListed (sym (held_is r accepting sig n targets room a b h)) (part_is_listed r accepting targets room.entries.items room.rows.labels h.lawful h.right)
+    subst IsListed (sym (held_is r accepting sig n targets room a b h)) (part_is_listed r accepting targets room.entries.entries room.rows.labels h.lawful h.right)
 
 pub held_few : (r : LabelRule) (accepting : List ℕ → Bool) (targets : List ℕ) (room : PartRoom) → HoldsPart r accepting targets room → length targets < 2 ^ 32
     → length room.presences.items < 2 ^ 32
 held_few r accepting targets room h l =
-    omega (arith, ap length h.presences, length-map room.rows.labels first_word, right_few r targets (length targets) room.entries.items room.rows.labels h.right.right)
+    omega (arith, ap length h.presences, length-map room.rows.labels first_word, right_few r targets (length targets) room.entries.entries room.rows.labels h.right.right)
 
 pub held_finals : (r : LabelRule) (accepting : List ℕ → Bool) (targets : List ℕ) (room : PartRoom) → HoldsPart r accepting targets room
     → length room.finals.items ≡ length room.presences.items

@@ -5,6 +5,7 @@ use Rattle.std.proofs.Math.Seq.{take-length}
 use Rattle.fort_theory.specs.Signatures.{Signature}
 use Rattle.fort_tables.specs.Tuples.{TupleSymbol, presence}
 use Rattle.fort_tables.specs.Entries.{Entry, no_entry, stage, IsNextEntry, IsLastEntry}
+use Rattle.fort_tables.proofs.OrderLaws.{stage_within}
 use Rattle.fort_tables.specs.Labels.{first_word, AreLabels, IsOverLabels}
 use Rattle.fort_tables.specs.LabelRules.{LabelRule, IsLabelRule, label_of, entry_label}
 use Rattle.fort_in_order.specs.Outcomes as steps
@@ -113,6 +114,12 @@ over_labels r qs k entries ws ps last e a n = record { entry = n.is_entry; are =
 -- the states so far are fewer than 2 ^ 32 where the targets are
 pub few_presences : (r : LabelRule) (qs : List ℕ) (k : ℕ) (entries : List Entry) (ws : List (List ℕ)) (ps : List ℕ) (last : Entry) → IsAfter r qs k entries ws ps last → length qs < 2 ^ 32 → length ps < 2 ^ 32
 few_presences r qs k entries ws ps last a l = omega (arith, few_states r qs k entries ws ps last a, walked_few r qs k entries ws last a.walked, a.walked.right.within)
+
+-- and so are the stages of entries
+pub few_stages : (r : LabelRule) (qs : List ℕ) (k : ℕ) (entries : List Entry) (ws : List (List ℕ)) (ps : List ℕ) (last e : Entry) → IsAfter r qs k entries ws ps last → IsNextOf r ws last e → length qs < 2 ^ 32
+    → stage e.kids < 2 ^ 32
+few_stages r qs k entries ws ps last e a n l =
+    omega (arith, stage_within (length (map first_word ws)) e.kids n.is_entry.within, ap length a.presences, few_presences r qs k entries ws ps last a l)
 
 -- a part that is right has no more states than there is room for
 pub right_states : (r : LabelRule) (qs : List ℕ) (entries : List Entry) (ws : List (List ℕ)) → IsRightPart r qs entries ws → length ws ≤ most_states qs

@@ -2,6 +2,8 @@ pub mod StepAnswers
 pub mod Room
 pub mod Held
 pub mod OnePlace
+pub mod EntryListView
+pub mod EntryListInside
 pub mod Orders
 pub mod Turned
 pub mod TableInside

@@ -10,7 +10,7 @@ most_states targets = min (length targets) (stage targets)
 pub record HasRoom (width : ℕ) (targets : List ℕ) (r : PartRoom) : Type 0 where
   pub width_is : r.rows.width ≡ width
   pub states : most_states targets ≤ r.rows.room
-  pub entries : length targets ≤ vec_capacity r.entries
+  pub entries : length targets ≤ r.entries.room
   pub finals : most_states targets ≤ vec_capacity r.finals
   pub presences : most_states targets ≤ vec_capacity r.presences
   pub words : length r.out.items ≡ width

@@ -9,7 +9,7 @@ listed_in a = record {
   signature = a.signature.now;
   columns = a.columns;
   presences = a.room.now.presences.items;
-  entries = a.room.now.entries.items;
+  entries = a.room.now.entries.entries;
   targets = a.targets.now;
   finals = a.room.now.finals.items;
 }

@@ -4,6 +4,7 @@
 mod atoms;
 mod closure;
 mod dues;
+mod entry_list;
 mod failure;
 mod finals;
 mod marks;

@@ -1,19 +1,22 @@
 //! The check of the marks of pure states.
-ghost use Rattle.std.specs.Prelude.{◌≡◌, ℕ, ◌<◌, ◌≤◌, [], Bool, map, length, slice_index_or, vec_capacity, true, false, IsTrue, IfSome, IfNone, ◌↔◌, ◌&&◌, ◌||◌};
+ghost use Rattle.std.specs.Prelude.{◌≡◌, ℕ, ◌+◌, ◌^◌, ◌<◌, ◌≤◌, [], Bool, map, length, slice_index_or, vec_capacity, true, false, IsTrue, IfSome, IfNone, ◌↔◌, ◌&&◌, ◌||◌};
 ghost use Rattle.std.specs.List.{list_any};
-ghost use Rattle.fort_tables.specs.Entries.{no_entry};
-ghost use Rattle.fort_tables.specs.Tables.{IsListed};
+ghost use Rattle.fort_tables.specs.Tuples.{presence};
+ghost use Rattle.fort_tables.specs.Entries.{Entry, no_entry};
+ghost use Rattle.fort_tables.specs.Tables.{Listed, IsListed};
 ghost use Rattle.fort_operations.specs.Projections.{ArePure};
 ghost use Rattle.fort_counts.specs.Counts.{IsFiniteBelow, count_at, is_infinite as is_infinite_lem};
 ghost use Rattle.fort_in_order.specs.CountSteps.{IsCountOutcome};
 ghost use Rattle.fort_steps.specs.StepView.{as_count};
 ghost use Rattle.fort_check_steps.specs.Marks.{HasMarkRoom, mark_in, is_below as is_below_lem, are_below as are_below_lem, held_next, entry_next, starts, mark_test, IsSeenTo, IsFirstWrong, AreAllHeld, wrong_reason};
+ghost use Rattle.fort_check_steps.specs.EntryListView.{start_of};
 ghost use Rattle.fort_check_steps.specs.StepAnswers.{as_reason, outcome_of};
 ghost use Rattle.fort_check_steps.specs.Turned.{turned_table};
 
+use crate::entry_list::EntryList;
 use crate::failure::{Failure, Reason, failed};
 use crate::table::PartTable;
-use fort_lockstep::{Row, Table};
+use fort_lockstep::Table;
 use fort_steps::Count;
 
 /// What the marks of a part are checked in: the pure states, and for each whether its mark holds by what was seen.
@@ -103,33 +106,55 @@ fn holds_after(states: &[u32], marks: &[Count], mark: Count, held: bool, kids: &
     }
 }
 
-/// Looks at an entry and its target.
-fn see_entry(
-    row: &Row,
-    target: u32,
+/// Looks at an entry with these child states, in which the column alone is present, and its target.
+fn see_entry(kids: &[u32], target: u32, states: &[u32], marks: &[Count], holds: &mut [bool])
+    requires ascending { (i j : ℕ) → i < j → j < length states.now
+        → slice_index_or states.now i 0 < slice_index_or states.now j 0 }
+    requires sizes { length marks.now ≡ length states.now }
+    requires holds { length holds.old ≡ length states.now }
+    ensures { (e : Entry) → (column : ℕ) → presence e.symbol ≡ 2 ^ column → e.kids ≡ kids.now
+        → (i : ℕ) → i < length states.now → slice_index_or holds.new i false
+        ≡ entry_next (count_at states.now (map as_count marks.now)) column
+        (slice_index_or states.now i 0) (mark_in (map as_count marks.now) i) e target
+        (slice_index_or holds.old i false) }
+{
+    match states.binary_search(&target) {
+        Ok(place) => {
+            holds[place] = holds_after(states, marks, marks[place], holds[place], kids);
+        }
+        Err(_) => {}
+    }
+}
+
+/// Looks at the entries of a run.
+fn see_run(
+    entries: &EntryList,
+    targets: &[u32],
+    run: usize,
     column: usize,
     states: &[u32],
     marks: &[Count],
     holds: &mut [bool],
 )
+    requires count { length targets.now ≡ length entries.now.entries }
+    requires run { run < length entries.now.starts }
     requires column { column < 16 }
     requires ascending { (i j : ℕ) → i < j → j < length states.now
         → slice_index_or states.now i 0 < slice_index_or states.now j 0 }
     requires sizes { length marks.now ≡ length states.now }
     requires holds { length holds.old ≡ length states.now }
-    ensures { (i : ℕ) → i < length states.now → slice_index_or holds.new i false
-        ≡ entry_next (count_at states.now (map as_count marks.now)) column
-        (slice_index_or states.now i 0) (mark_in (map as_count marks.now) i) row.now target
-        (slice_index_or holds.old i false) }
+    ensures { (t : Listed) → t.entries ≡ entries.now.entries → t.targets ≡ targets.now
+        → IsSeenTo t column states.now (map as_count marks.now) (start_of entries.now run) holds.old
+        → IsSeenTo t column states.now (map as_count marks.now) (start_of entries.now (run + 1))
+        holds.new }
 {
-    if row.presence() != 1 << column {
+    let _runs = entries.runs();
+    if entries.presence(run) != 1 << column {
         return;
     }
-    match states.binary_search(&target) {
-        Ok(place) => {
-            holds[place] = holds_after(states, marks, marks[place], holds[place], row.kids());
-        }
-        Err(_) => {}
+    for place in entries.start(run)..entries.start(run + 1) {
+        let kids = entries.kids(run, place);
+        see_entry(kids, targets[place], states, marks, holds);
     }
 }
 
@@ -152,15 +177,8 @@ fn see_entries(
     let _columns = table.columns();
     let entries = table.entries();
     let targets = table.targets();
-    for place in 0..entries.len() {
-        see_entry(
-            &entries[place],
-            targets[place],
-            column,
-            states,
-            marks,
-            holds,
-        );
+    for run in 0..entries.runs() {
+        see_run(entries, targets, run, column, states, marks, holds);
     }
 }
 

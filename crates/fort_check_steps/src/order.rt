@@ -1,23 +1,16 @@
 //! The place of an entry among entries in order.
-ghost use Rattle.std.specs.Prelude.{◌≡◌, ℕ, ◌<◌, ◌≤◌, List, length, slice_index_or, Contains};
+ghost use Rattle.std.specs.Prelude.{◌≡◌, ℕ, ◌+◌, ◌<◌, ◌≤◌, List, length, slice_index_or, Contains};
 ghost use Rattle.fort_theory.specs.Signatures as theory;
 ghost use Rattle.fort_tables.specs.Entries.{Entry, entry, stage as stage_lem, LexBefore, ColumnBefore, ComesBefore, AreInOrder, IsEntry};
-ghost use Rattle.fort_lockstep.specs.Columns.{as_column};
-ghost use Rattle.fort_check_steps.specs.Orders.{Orders};
+ghost use Rattle.fort_tables.specs.Tuples.{TupleSymbol};
+ghost use Rattle.fort_lockstep.specs.Columns.{as_column, as_symbol};
+ghost use Rattle.fort_check_steps.specs.EntryListView.{start_of};
+ghost use Rattle.fort_check_steps.specs.Orders.{Orders, IsWithin};
 
-use fort_lockstep::{Row, TupleSym};
+use crate::entry_list::{EntryList, stage_of};
+use fort_lockstep::TupleSym;
 use fort_terms::Sym;
 use std::cmp::Ordering;
-
-/// 0 without child states, else one more than the greatest.
-fn stage_of(kids: &[u32]) -> u64
-    ensures { result ≡ stage_lem kids.now }
-{
-    match kids.split_first() {
-        None => 0,
-        Some((kid, kids)) => (u64::from(*kid) + 1).max(stage_of(kids)),
-    }
-}
 
 /// Two lists of states by the first place where they differ.
 fn kid_order(first: &[u32], second: &[u32]) -> Ordering
@@ -66,13 +59,13 @@ fn symbol_order(first: Sym, second: Sym) -> Ordering
     }
 }
 
-/// Two tuple symbols by the first column where they differ.
-fn tuple_order(first: &TupleSym, second: &TupleSym) -> Ordering
+/// Columns and a tuple symbol by the first column where they differ.
+fn tuple_order(first: &[Option<Sym>], second: &TupleSym) -> Ordering
     requires { length first.now ≡ length second.now }
-    ensures { Orders (LexBefore ColumnBefore) first.now second.now result }
+    ensures { Orders (LexBefore ColumnBefore) (as_symbol first.now) second.now result }
 {
     for k in 0..first.len() {
-        match column_order(first.symbol(k), second.symbol(k)) {
+        match column_order(first[k], second.symbol(k)) {
             Ordering::Less => return Ordering::Less,
             Ordering::Equal => {}
             Ordering::Greater => return Ordering::Greater,
@@ -81,45 +74,88 @@ fn tuple_order(first: &TupleSym, second: &TupleSym) -> Ordering
     Ordering::Equal
 }
 
-/// An entry against that of a tuple symbol and child states, whose stage is given.
-fn entry_order(row: &Row, sym: &TupleSym, kids: &[u32], stage: u64) -> Ordering
+/// The first entry of a run against that of a tuple symbol and child states, whose stage is given.
+fn run_order(list: &EntryList, run: usize, sym: &TupleSym, kids: &[u32], stage: u64) -> Ordering
     requires stage { stage ≡ stage_lem kids.now }
-    requires columns { length row.now.symbol ≡ length sym.now }
-    requires kids { row.now.symbol ≡ sym.now → length row.now.kids ≡ length kids.now }
-    ensures { Orders ComesBefore row.now (entry sym.now kids.now) result }
+    requires there { Contains list.now.entries (entry sym.now kids.now) }
+    requires order { (sig : theory.Signature) × (columns : ℕ) × (presences : List ℕ)
+        × AreInOrder sig columns presences list.now.entries }
+    requires run { run < length list.now.starts }
+    ensures { (d : Entry) → Orders ComesBefore
+        (slice_index_or list.now.entries (start_of list.now run) d) (entry sym.now kids.now) result }
 {
-    let own = stage_of(row.kids());
+    let _runs = list.runs();
+    let own = u64::from(list.stage(run));
     if own < stage {
         return Ordering::Less;
     }
     if stage < own {
         return Ordering::Greater;
     }
-    match tuple_order(&row.sym(), sym) {
+    match tuple_order(list.symbol(run), sym) {
         Ordering::Less => Ordering::Less,
-        Ordering::Equal => kid_order(row.kids(), kids),
+        Ordering::Equal => kid_order(list.kids(run, list.start(run)), kids),
         Ordering::Greater => Ordering::Greater,
     }
 }
 
-/// The place of an entry that is among entries in order, by bisection.
-pub fn place_among(rows: &[Row], sym: &TupleSym, kids: &[u32]) -> usize
-    requires there { Contains rows.now (entry sym.now kids.now) }
+/// The run of an entry that is among entries in order, by bisection.
+fn run_among(list: &EntryList, sym: &TupleSym, kids: &[u32], stage: u64) -> usize
+    requires stage { stage ≡ stage_lem kids.now }
+    requires there { Contains list.now.entries (entry sym.now kids.now) }
     requires order { (sig : theory.Signature) × (columns : ℕ) × (presences : List ℕ)
-        × AreInOrder sig columns presences rows.now }
-    ensures within { result < length rows.now }
-    ensures is { (d : Entry) → slice_index_or rows.now result d ≡ entry sym.now kids.now }
+        × AreInOrder sig columns presences list.now.entries }
+    ensures within { result < length list.now.starts }
+    ensures here { IsWithin list.now (entry sym.now kids.now) (start_of list.now result)
+        (start_of list.now (result + 1)) }
 {
-    let stage = stage_of(kids);
     let mut low = 0;
-    let mut high = rows.len();
+    let mut high = list.runs();
+    'halves: while low + 1 < high {
+        let middle = low + (high - low) / 2;
+        match run_order(list, middle, sym, kids, stage) {
+            Ordering::Less => low = middle,
+            Ordering::Equal => low = middle,
+            Ordering::Greater => high = middle,
+        }
+    }
+    low
+}
+
+/// The place of an entry of a run, by bisection.
+fn place_in_run(list: &EntryList, run: usize, sym: &TupleSym, kids: &[u32]) -> usize
+    requires there { Contains list.now.entries (entry sym.now kids.now) }
+    requires order { (sig : theory.Signature) × (columns : ℕ) × (presences : List ℕ)
+        × AreInOrder sig columns presences list.now.entries }
+    requires run { run < length list.now.starts }
+    requires here { IsWithin list.now (entry sym.now kids.now) (start_of list.now run)
+        (start_of list.now (run + 1)) }
+    ensures within { result < length list.now.entries }
+    ensures is { (d : Entry) → slice_index_or list.now.entries result d ≡ entry sym.now kids.now }
+{
+    let _runs = list.runs();
+    let mut low = list.start(run);
+    let mut high = list.start(run + 1);
     'halves: while low < high {
         let middle = low + (high - low) / 2;
-        match entry_order(&rows[middle], sym, kids, stage) {
+        match kid_order(list.kids(run, middle), kids) {
             Ordering::Less => low = middle + 1,
             Ordering::Equal => return middle,
             Ordering::Greater => high = middle,
         }
     }
     unreachable!()
+}
+
+/// The place of an entry that is among entries in order.
+pub fn place_among(list: &EntryList, sym: &TupleSym, kids: &[u32]) -> usize
+    requires there { Contains list.now.entries (entry sym.now kids.now) }
+    requires order { (sig : theory.Signature) × (columns : ℕ) × (presences : List ℕ)
+        × AreInOrder sig columns presences list.now.entries }
+    ensures within { result < length list.now.entries }
+    ensures is { (d : Entry) → slice_index_or list.now.entries result d ≡ entry sym.now kids.now }
+{
+    let stage = stage_of(kids);
+    let run = run_among(list, sym, kids, stage);
+    place_in_run(list, run, sym, kids)
 }

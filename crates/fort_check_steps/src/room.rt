@@ -3,15 +3,15 @@ ghost use Rattle.std.specs.Prelude.{◌≡◌, ◌<◌, ◌≤◌, length, vec_c
 ghost use Rattle.fort_tables.specs.Entries.{stage};
 ghost use Rattle.fort_check_steps.specs.Room.{HasRoom, most_states as most_states_lem};
 
+use crate::entry_list::EntryList;
 use fort_explore::Rows;
-use fort_lockstep::Row;
 use fort_terms::Memory;
 use std::alloc::Global;
 
 /// What a part is checked in: its entries; the presences, the labels and the acceptance of its states; and one label more.
 #[derive(Drop)]
 pub struct PartRoom {
-    pub entries: Vec<Row>,
+    pub entries: EntryList,
     pub presences: Vec<u16>,
     pub rows: Rows,
     pub finals: Vec<bool>,
@@ -44,7 +44,7 @@ impl PartRoom {
     {
         let states = most_states(targets);
         Ok(PartRoom {
-            entries: Vec::with_capacity(alloc, targets.len())?,
+            entries: EntryList::new(alloc, targets.len())?,
             presences: Vec::with_capacity(alloc, states)?,
             rows: Rows::new(alloc, width, states)?,
             finals: Vec::with_capacity(alloc, states)?,

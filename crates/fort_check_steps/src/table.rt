@@ -5,9 +5,10 @@ ghost use Rattle.fort_tables.specs.Tables.{full_presence, IsListed};
 ghost use Rattle.fort_check_steps.specs.Turned.{turned_by};
 ghost use Rattle.fort_check_steps.specs.Held.{HoldsPart, held_table};
 
+use crate::entry_list::EntryList;
 use crate::order::place_among;
 use crate::room::PartRoom;
-use fort_lockstep::{Row, Table, TupleSym};
+use fort_lockstep::{Table, TupleSym};
 use fort_terms::Signature;
 use std::marker::Model;
 
@@ -62,11 +63,11 @@ impl<'a> PartTable<'a> {
     }
 
     /// The entries of the table, in their order.
-    pub fn entries(&self) -> &[Row]
-        ensures entries { result.now ≡ self.now.table.entries }
+    pub fn entries(&self) -> &EntryList
+        ensures entries { result.now.entries ≡ self.now.table.entries }
         ensures lawful { IsListed self.now.table }
     {
-        self.room.entries.as_slice()
+        &self.room.entries
     }
 
     /// The states of the entries.
@@ -127,6 +128,6 @@ impl<'a> Table for PartTable<'a> {
     }
 
     fn target(&self, sym: &TupleSym, kids: &[u32]) -> u32 {
-        self.targets[place_among(self.room.entries.as_slice(), sym, kids)]
+        self.targets[place_among(&self.room.entries, sym, kids)]
     }
 }

@@ -7,6 +7,7 @@ ghost use Rattle.fort_check_steps.specs.OnePlace.{IsTaken, IsRefused};
 ghost use Rattle.fort_check_steps.specs.Room.{most_states};
 ghost use Rattle.fort_check_steps.specs.StepAnswers.{outcome_of};
 
+use crate::entry_list::EntryList;
 use crate::failure::{Failure, Reason, failed};
 use fort_explore::{LocalRule, Rows};
 use fort_lockstep::{Entries, Row};
@@ -56,23 +57,24 @@ pub fn check_targets<R: LocalRule>(
     rule: &R,
     sig: &Signature,
     targets: &[u32],
-    given: &mut Vec<Row>,
+    given: &mut EntryList,
     presences: &mut Vec<u16>,
     rows: &mut Rows,
     out: &mut [u64],
 ) -> Result<(), Failure>
     requires signature { (R.rule rule.now).signature ≡ sig.now }
     requires few { length targets.now < 2 ^ 32 }
-    requires no_entries { given.old.items ≡ [] }
+    requires no_entries { given.old.entries ≡ [] }
+    requires columns { given.old.columns ≡ (R.rule rule.now).columns }
     requires no_presences { presences.old.items ≡ [] }
     requires no_rows { rows.old.labels ≡ [] }
     requires width { rows.old.width ≡ R.word_count rule.now }
     requires words { length out.old ≡ R.word_count rule.now }
     requires room { most_states targets.now ≤ rows.old.room }
-    requires places { length targets.now ≤ vec_capacity given.old }
+    requires places { length targets.now ≤ given.old.room }
     requires spare { most_states targets.now ≤ vec_capacity presences.old }
     ensures outcome { IsPartOutcome (R.rule rule.now) targets.now (outcome_of result) }
-    ensures right { OnOk result (IsRightPart (R.rule rule.now) targets.now given.new.items
+    ensures right { OnOk result (IsRightPart (R.rule rule.now) targets.now given.new.entries
         rows.new.labels) }
     ensures lawful { IsLabelRule (R.rule rule.now) }
     ensures states { OnOk result (length rows.new.labels ≤ most_states targets.now) }
@@ -81,14 +83,14 @@ pub fn check_targets<R: LocalRule>(
     ensures presences { OnOk result (presences.new.items ≡ map first_word rows.new.labels) }
     ensures width { rows.new.width ≡ rows.old.width }
     ensures room { rows.new.room ≡ rows.old.room }
-    ensures entries_capacity { vec_capacity given.new ≡ vec_capacity given.old }
+    ensures entries_room { given.new.room ≡ given.old.room }
     ensures capacity { vec_capacity presences.new ≡ vec_capacity presences.old }
 {
     let mut entries = Entries::new(sig, rule.columns());
     'targets: for place in 0..targets.len() {
         match entries.next(presences.as_slice()) {
             Some(row) => match take_target(rule, &row, targets[place], presences, rows, out) {
-                Ok(()) => given.push_reserved(row),
+                Ok(()) => given.push(&row),
                 Err(reason) => return failed(place, reason),
             },
             None => return failed(place, Reason::Long),

@@ -9,9 +9,9 @@ ghost use Rattle.fort_explore.specs.TestLabels.{pair_step, is_constant as is_con
 
 use super::*;
 use fort_explore::{LocalRule, Rows};
-use fort_lockstep::{Row, Table};
+use fort_lockstep::{Entries, Row, Table};
 use fort_steps::{ClosureEntry, Count, Reason as Why, Which};
-use fort_terms::{AddFault, Side, Sides, Signature, Sym, System};
+use fort_terms::{AddFault, Memory, Side, Sides, Signature, Sym, System};
 use std::alloc::Global;
 use std::test::Fail;
 
@@ -225,42 +225,101 @@ fn marks_answer(
     Ok(check_marks(table, 0, marks, &mut room))
 }
 
+/// Whether these states are the accepting ones, and each list of marks gets its answer.
+fn has_answers(alloc: Global, table: &PartTable<'_>, accepting: &[u32]) -> Result<bool, Fail>
+    requires { 0 < (turned_table table.now).columns }
+{
+    for q in 0..table.states() {
+        if table.is_final(q) != accepting.contains(&q) {
+            return Ok(false);
+        }
+    }
+    let rejected = |place, reason| Err(Failure { place, reason });
+    for (marks, answer) in [
+        ([Count::Finite(0), Count::Infinite(5)].as_slice(), Ok(())),
+        ([Count::Finite(3), Count::Infinite(5)].as_slice(), Ok(())),
+        (
+            [Count::Finite(0), Count::Infinite(1)].as_slice(),
+            rejected(1, Reason::Cycle),
+        ),
+        (
+            [Count::Infinite(1), Count::Infinite(5)].as_slice(),
+            rejected(0, Reason::Cycle),
+        ),
+        (
+            [Count::Finite(0), Count::Finite(9)].as_slice(),
+            rejected(1, Reason::Rank),
+        ),
+        ([Count::Finite(0)].as_slice(), rejected(0, Reason::Count)),
+    ] {
+        if marks_answer(alloc, table, marks)? != answer {
+            return Ok(false);
+        }
+    }
+    Ok(true)
+}
+
+/// The same of the table under so many negations.
+fn has_turned_answers(alloc: Global, turns: usize, accepting: &[u32]) -> Result<bool, Fail> {
+    let signature = constant_and_unary(alloc)?;
+    let targets = [0u32, 1, 2, 3, 4, 5, 6, 7, 3, 4, 7, 5, 6, 8, 7, 8];
+    let rule = AtMost(&signature);
+    let mut room = PartRoom::new(alloc, 4, &targets)?;
+    match check_part(&rule, &signature, &targets, &mut room) {
+        Ok(()) => {
+            let table = PartTable::new(&signature, 2, &targets, &room, turns);
+            has_answers(alloc, &table, accepting)
+        }
+        Err(_) => Ok(false),
+    }
+}
+
 #[test]
 fn marks_of_a_table(rt: HostRuntime) -> Result<(), Fail> {
-    let signature = constant_and_unary(rt.alloc())?;
-    let targets = [0u32, 1, 2, 3, 4, 5, 6, 7, 3, 4, 7, 5, 6, 8, 7, 8];
+    assert!(rt; has_turned_answers(rt.alloc(), 0, [2u32, 4, 7].as_slice())?);
+    assert!(rt; has_turned_answers(rt.alloc(), 1, [6u32, 8].as_slice())?);
+    assert!(rt; has_turned_answers(rt.alloc(), 2, [2u32, 4, 7].as_slice())?);
+    Ok(())
+}
+
+fn presences_of<T: Table>(alloc: Global, table: &T) -> Result<Vec<u16>, Memory>
+    ensures all { IfOk result (λ v. v.items ≡ (T.table table.now).presences) }
+    ensures few { length (T.table table.now).presences < 2 ^ 32 }
+{
+    let mut presences = Vec::new(alloc);
+    for q in 0..table.states() {
+        presences.push(table.presence(q))?;
+    }
+    Ok(presences)
+}
+
+/// The states of all entries, looked up one by one.
+fn states_of_entries<T: Table>(alloc: Global, table: &T) -> Result<Vec<u32>, Memory> {
+    let presences = presences_of(alloc, table)?;
+    let mut entries = Entries::new(table.signature(), table.columns());
+    let mut states = Vec::new(alloc);
+    for _ in 0..u64::MAX {
+        match entries.next(presences.as_slice()) {
+            Some(row) => states.push(table.target(&row.sym(), row.kids()))?,
+            None => break,
+        }
+    }
+    Ok(states)
+}
+
+#[test]
+fn look_ups_in_runs(rt: HostRuntime) -> Result<(), Fail> {
+    let mut signature = Signature::empty(rt.alloc());
+    signature.add(b"a", 0)?;
+    signature.add(b"g", 2)?;
+    let targets = [
+        0u32, 1, 2, 3, 4, 5, 6, 7, 3, 3, 3, 4, 4, 4, 7, 7, 7, 5, 5, 5, 6, 6, 6, 7, 7, 8, 8, 8, 7,
+        7, 8, 7, 7, 7, 7, 7, 7, 8, 7, 8, 8, 8, 8, 8,
+    ];
     let rule = AtMost(&signature);
     let mut room = PartRoom::new(rt.alloc(), 4, &targets)?;
     assert!(rt; check_part(&rule, &signature, &targets, &mut room) == Ok(()));
-    let rejected = |place, reason| Err(Failure { place, reason });
-    for (turns, accepting) in [
-        (0usize, [2u32, 4, 7].as_slice()),
-        (1, [6, 8].as_slice()),
-        (2, [2, 4, 7].as_slice()),
-    ] {
-        let table = PartTable::new(&signature, 2, &targets, &room, turns);
-        for q in 0..table.states() {
-            assert!(rt; table.is_final(q) == accepting.contains(&q));
-        }
-        for (marks, answer) in [
-            ([Count::Finite(0), Count::Infinite(5)].as_slice(), Ok(())),
-            ([Count::Finite(3), Count::Infinite(5)].as_slice(), Ok(())),
-            (
-                [Count::Finite(0), Count::Infinite(1)].as_slice(),
-                rejected(1, Reason::Cycle),
-            ),
-            (
-                [Count::Infinite(1), Count::Infinite(5)].as_slice(),
-                rejected(0, Reason::Cycle),
-            ),
-            (
-                [Count::Finite(0), Count::Finite(9)].as_slice(),
-                rejected(1, Reason::Rank),
-            ),
-            ([Count::Finite(0)].as_slice(), rejected(0, Reason::Count)),
-        ] {
-            assert!(rt; marks_answer(rt.alloc(), &table, marks)? == answer);
-        }
-    }
+    let table = PartTable::new(&signature, 2, &targets, &room, 0);
+    assert!(rt; states_of_entries(rt.alloc(), &table)?.as_slice() == targets.as_slice());
     Ok(())
 }

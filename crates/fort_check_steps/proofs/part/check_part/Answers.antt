@@ -17,4 +17,4 @@ pub returns-in-Err-clause-only : goal.returns-in-Err-clause-only
 returns-in-Err-clause-only g c o h = outcome_one (g.R.LocalRule.rule c.args.rule.now) c.args.targets.now o _ h c.in-Err.ensures.outcome
 
 pub returns-in-Ok-clause-table : goal.returns-in-Ok-clause-table
-returns-in-Ok-clause-table g c = part_by_labels (g.R.LocalRule.rule c.args.rule.now) (g.R.LocalRule.accepting c.args.rule.now) c.args.targets.now c.check_targets.new.given.items c.check_targets.new.rows.labels c.in-Ok.ensures.lawful c.in-Ok.ensures.right
+returns-in-Ok-clause-table g c = part_by_labels (g.R.LocalRule.rule c.args.rule.now) (g.R.LocalRule.accepting c.args.rule.now) c.args.targets.now c.check_targets.new.given.entries c.check_targets.new.rows.labels c.in-Ok.ensures.lawful c.in-Ok.ensures.right

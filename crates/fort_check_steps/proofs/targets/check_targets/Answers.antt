@@ -3,19 +3,20 @@ use Rattle.fort_tables.specs.LabelRules.{IsLabelRule}
 use Rattle.fort_in_order.specs.Outcomes.{StepOutcome}
 use Rattle.fort_in_order.specs.PartSteps.{IsPartOutcome, IsRight}
 use Rattle.fort_check_steps.specs.StepAnswers.{outcome_of}
-use Rattle.fort_check_steps.proofs.TargetLaws.{IsAfter, after_none, next_of, last_of, new_state_room, refused, too_many, too_few, right_part, taken, few_states, few_presences, right_states, label_rule}
+use Rattle.fort_check_steps.proofs.TargetLaws.{IsAfter, after_none, next_of, last_of, new_state_room, refused, too_many, too_few, right_part, taken, few_states, few_presences, few_stages, right_states, label_rule}
 use Rattle.fort_check_steps.proofs.targets.check_targets.Goals as goal
 
 pub targets-init : goal.targets-init
 targets-init g c = record {
-  after = after_none (g.R.LocalRule.rule c.args.rule.now) c.args.targets.now c.args.given.now.items c.args.rows.now.labels c.args.presences.now.items c.new-entries.result.last c.columns.result c.requires.no_entries c.requires.no_rows c.requires.no_presences c.columns.ensures.count c.new-entries.ensures.start;
+  after = after_none (g.R.LocalRule.rule c.args.rule.now) c.args.targets.now c.args.given.now.entries c.args.rows.now.labels c.args.presences.now.items c.new-entries.result.last c.columns.result c.requires.no_entries c.requires.no_rows c.requires.no_presences c.columns.ensures.count c.new-entries.ensures.start;
   signature = c.new-entries.ensures.signature;
   columns = c.new-entries.ensures.columns ∙ c.columns.ensures.count;
   width = c.requires.width;
   words = c.requires.words;
   room = refl;
   spare = omega arith;
-  places = omega arith;
+  given_columns = c.requires.columns;
+  places = refl;
 }
 
 pub next-requires : goal.next-requires
@@ -24,7 +25,7 @@ next-requires g c =
     let r = g.R.LocalRule.rule c.args.rule.now in
     let qs = c.args.targets.now in
     let k = c.targets.place in
-    let es = c.targets.given.items in
+    let es = c.targets.given.entries in
     let ws = c.targets.rows.labels in
     let ps = c.targets.presences.items in
     let last = c.targets.entries.last in
@@ -37,7 +38,7 @@ take_target-requires-clause-room g c =
     let r = g.R.LocalRule.rule c.args.rule.now in
     let qs = c.args.targets.now in
     let k = c.targets.place in
-    let es = c.targets.given.items in
+    let es = c.targets.given.entries in
     let ws = c.targets.rows.labels in
     let ps = c.targets.presences.items in
     let last = c.targets.entries.last in
@@ -50,7 +51,7 @@ take_target-requires-clause-spare g c =
     let r = g.R.LocalRule.rule c.args.rule.now in
     let qs = c.args.targets.now in
     let k = c.targets.place in
-    let es = c.targets.given.items in
+    let es = c.targets.given.entries in
     let ws = c.targets.rows.labels in
     let ps = c.targets.presences.items in
     let last = c.targets.entries.last in
@@ -63,7 +64,7 @@ returns-in-Err-clause-outcome g c =
     let r = g.R.LocalRule.rule c.args.rule.now in
     let qs = c.args.targets.now in
     let k = c.targets.place in
-    let es = c.targets.given.items in
+    let es = c.targets.given.entries in
     let ws = c.targets.rows.labels in
     let ps = c.targets.presences.items in
     let last = c.targets.entries.last in
@@ -77,7 +78,7 @@ returns-in-None-clause-outcome g c =
     let r = g.R.LocalRule.rule c.args.rule.now in
     let qs = c.args.targets.now in
     let k = c.targets.place in
-    let es = c.targets.given.items in
+    let es = c.targets.given.entries in
     let ws = c.targets.rows.labels in
     let ps = c.targets.presences.items in
     let last = c.targets.entries.last in
@@ -91,21 +92,22 @@ targets-preserved g c =
     let r = g.R.LocalRule.rule c.args.rule.now in
     let qs = c.args.targets.now in
     let k = c.targets.place in
-    let es = c.targets.given.items in
+    let es = c.targets.given.entries in
     let ws = c.targets.rows.labels in
     let ps = c.targets.presences.items in
     let last = c.targets.entries.last in
     let inv = c.targets.invariant in
     let next = next_of r ws last c.in-Some.row c.targets.entries.signature c.targets.entries.columns c.as_slice.result.now (inv.signature ∙ sym c.requires.signature) inv.columns (c.as_slice.ensures.value ∙ inv.after.presences) c.in-Some.ensures.next in
     record {
-      after = taken r qs k es c.push_reserved.new.self.items ws c.take_target.new.rows.labels ps c.take_target.new.presences.items last c.in-Some.row c.next.new.self.last law inv.after next c.targets-test.true c.in-Ok.ensures.taken c.push_reserved.ensures.items c.in-Some.ensures.given;
+      after = taken r qs k es c.push.new.self.entries ws c.take_target.new.rows.labels ps c.take_target.new.presences.items last c.in-Some.row c.next.new.self.last law inv.after next c.targets-test.true c.in-Ok.ensures.taken c.push.ensures.entries c.in-Some.ensures.given;
       signature = c.in-Some.ensures.signature ∙ inv.signature;
       columns = c.in-Some.ensures.columns ∙ inv.columns;
       width = c.in-Ok.ensures.width ∙ inv.width;
       words = c.take_target.auto.out ∙ inv.words;
       room = c.in-Ok.ensures.room ∙ inv.room;
       spare = omega (arith, c.in-Ok.ensures.capacity, inv.spare);
-      places = omega (arith, c.push_reserved.ensures.capacity, inv.places);
+      given_columns = c.push.ensures.columns ∙ inv.given_columns;
+      places = c.push.ensures.room ∙ inv.places;
     }
 
 pub next-requires-2 : goal.next-requires-2
@@ -114,7 +116,7 @@ next-requires-2 g c =
     let r = g.R.LocalRule.rule c.args.rule.now in
     let qs = c.args.targets.now in
     let k = c.targets.place in
-    let es = c.targets.given.items in
+    let es = c.targets.given.entries in
     let ws = c.targets.rows.labels in
     let ps = c.targets.presences.items in
     let last = c.targets.entries.last in
@@ -127,7 +129,7 @@ returns-in-Some-next-clause-outcome g c =
     let r = g.R.LocalRule.rule c.args.rule.now in
     let qs = c.args.targets.now in
     let k = c.targets.place in
-    let es = c.targets.given.items in
+    let es = c.targets.given.entries in
     let ws = c.targets.rows.labels in
     let ps = c.targets.presences.items in
     let last = c.targets.entries.last in
@@ -143,7 +145,7 @@ returns-in-None-next-clause-outcome g c =
     let r = g.R.LocalRule.rule c.args.rule.now in
     let qs = c.args.targets.now in
     let k = c.targets.place in
-    let es = c.targets.given.items in
+    let es = c.targets.given.entries in
     let ws = c.targets.rows.labels in
     let ps = c.targets.presences.items in
     let last = c.targets.entries.last in
@@ -159,7 +161,7 @@ returns-in-None-next-clause-right g c =
     let r = g.R.LocalRule.rule c.args.rule.now in
     let qs = c.args.targets.now in
     let k = c.targets.place in
-    let es = c.targets.given.items in
+    let es = c.targets.given.entries in
     let ws = c.targets.rows.labels in
     let ps = c.targets.presences.items in
     let last = c.targets.entries.last in
@@ -175,7 +177,7 @@ returns-in-None-next-clause-states g c =
     let r = g.R.LocalRule.rule c.args.rule.now in
     let qs = c.args.targets.now in
     let k = c.targets.place in
-    let es = c.targets.given.items in
+    let es = c.targets.given.entries in
     let ws = c.targets.rows.labels in
     let ps = c.targets.presences.items in
     let last = c.targets.entries.last in
@@ -197,15 +199,29 @@ returns-in-None-clause-lawful g c = label_rule (g.R.LocalRule.rule c.args.rule.n
 pub returns-in-Err-clause-lawful : goal.returns-in-Err-clause-lawful
 returns-in-Err-clause-lawful g c = label_rule (g.R.LocalRule.rule c.args.rule.now) c.columns.result c.columns.ensures.count c.columns.ensures.some c.columns.ensures.narrow (g.met.R.LocalRule.tells c.args.rule.now)
 
-pub push_reserved-requires : goal.push_reserved-requires
-push_reserved-requires g c =
+pub push-requires-clause-room : goal.push-requires-clause-room
+push-requires-clause-room g c =
     let law : IsLabelRule (g.R.LocalRule.rule c.args.rule.now) = label_rule (g.R.LocalRule.rule c.args.rule.now) c.columns.result c.columns.ensures.count c.columns.ensures.some c.columns.ensures.narrow (g.met.R.LocalRule.tells c.args.rule.now) in
     let r = g.R.LocalRule.rule c.args.rule.now in
     let qs = c.args.targets.now in
     let k = c.targets.place in
-    let es = c.targets.given.items in
+    let es = c.targets.given.entries in
     let ws = c.targets.rows.labels in
     let ps = c.targets.presences.items in
     let last = c.targets.entries.last in
     let inv = c.targets.invariant in
     omega (arith, inv.after.walked.right.count, inv.places, c.requires.places)
+
+pub push-requires-clause-stage : goal.push-requires-clause-stage
+push-requires-clause-stage g c =
+    let law : IsLabelRule (g.R.LocalRule.rule c.args.rule.now) = label_rule (g.R.LocalRule.rule c.args.rule.now) c.columns.result c.columns.ensures.count c.columns.ensures.some c.columns.ensures.narrow (g.met.R.LocalRule.tells c.args.rule.now) in
+    let r = g.R.LocalRule.rule c.args.rule.now in
+    let qs = c.args.targets.now in
+    let k = c.targets.place in
+    let es = c.targets.given.entries in
+    let ws = c.targets.rows.labels in
+    let ps = c.targets.presences.items in
+    let last = c.targets.entries.last in
+    let inv = c.targets.invariant in
+    let next = next_of r ws last c.in-Some.row c.targets.entries.signature c.targets.entries.columns c.as_slice.result.now (inv.signature ∙ sym c.requires.signature) inv.columns (c.as_slice.ensures.value ∙ inv.after.presences) c.in-Some.ensures.next in
+    few_stages r qs k es ws ps last c.in-Some.row inv.after next c.requires.few

@@ -1,0 +1,15 @@
+use Rattle.std.proofs.Common.{◌<◌, ◌≤◌, ◌-◌, length}
+use Rattle.fort_tables.specs.Entries.{entry}
+use Rattle.fort_check_steps.specs.EntryListView.{start_of}
+use Rattle.fort_check_steps.specs.Orders.{IsWithin}
+use Rattle.fort_check_steps.proofs.order.run_among.Given as goal
+
+abbrev pub invariant-halves : goal.invariant-halves
+invariant-halves l = record {
+  within : l.high ≤ length l.list.starts;
+  some : l.low < l.high;
+  here : IsWithin l.list (entry l.sym l.kids) (start_of l.list l.low) (start_of l.list l.high);
+}
+
+abbrev pub decreases-halves : goal.decreases-halves
+decreases-halves l = l.high - l.low
