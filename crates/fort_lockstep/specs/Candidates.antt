@@ -5,6 +5,7 @@ use Rattle.fort_theory.specs.Signatures.{Signature}
 use Rattle.fort_tables.specs.Tuples.{arity}
 use Rattle.fort_lockstep.specs.Walks.{AreUpTo, symbol_entries}
 use Rattle.fort_lockstep.specs.declared.candidates.KidRange.{KidRange}
+use Rattle.fort_lockstep.specs.declared.candidates.Arities.{Arities}
 
 -- how many arguments the symbol of a digit has; an absent column has none
 abbrev pub column_arity : Signature → ℕ → ℕ
@@ -37,6 +38,14 @@ candidates_after sig r (d ∷ ds) = map (λ es. d ∷ es) (candidates_after sig 
 -- no symbol has more arguments
 abbrev pub AreAtMost : Signature → ℕ → Type 0
 AreAtMost sig most = (g : ℕ) → g < length sig → arity sig g ≤ most
+
+-- the digits before this one have no arguments
+abbrev pub IsFlat : Signature → ℕ → Type 0
+IsFlat sig flat = (d : ℕ) → d < flat → column_arity sig d ≡ 0
+
+pub record AreArities (sig : Signature) (a : Arities) : Type 0 where
+  pub at_most : AreAtMost sig a.most
+  pub is_flat : IsFlat sig a.flat
 
 -- what leaves no child has no entry at the stage
 abbrev pub LeavesOut : Signature → List ℕ → ℕ → KidRange → Type 0

@@ -1,7 +1,7 @@
 -- Inside: what the fields of a maker stand for.
 use Rattle.std.specs.Prelude.{◌≡◌, ◌+◌, ◌<◌, ◌≤◌, ◌^◌, length}
 use Rattle.fort_tables.specs.Tables.{Made}
-use Rattle.fort_lockstep.specs.Candidates.{AreAtMost}
+use Rattle.fort_lockstep.specs.Candidates.{AreArities}
 use Rattle.fort_lockstep.specs.WalkFacts.{place, entry_at, IsPlace}
 use Rattle.fort_lockstep.specs.Making.{made_of, IsMaking, Stands}
 use Rattle.fort_lockstep.specs.declared.maker.Maker.TheInside.{Inside}
@@ -18,6 +18,6 @@ pub record IsMaker (a : Inside) : Type 0 where
   pub width : length a.walk.digits ≡ a.columns
   pub placed : IsPlace a.signature (place a.walk)
   pub row : a.row ≡ entry_at (place a.walk)
-  pub most : AreAtMost a.signature a.walk.most
+  pub arities : AreArities a.signature a.walk.arities
   pub making : IsMaking a.signature a.columns a.given.presences a.given.firsts a.given.entries a.given.targets
   pub stands : Stands (made_in a) (entry_at (place a.walk)) a.is_due

@@ -3,7 +3,7 @@ ghost use Rattle.std.specs.Prelude.{◌≡◌, ℕ, ◌+◌, ◌-◌, ◌<◌, �
 ghost use Rattle.std.specs.List.{range_with_len};
 ghost use Rattle.fort_theory.specs.Signatures as theory;
 ghost use Rattle.fort_lockstep.specs.Walks.{AreUpTo, GivesFirst, some_if, with_others};
-ghost use Rattle.fort_lockstep.specs.Candidates.{column_arity, narrowed, candidates, candidates_from, candidates_after, AreAtMost, LeavesOut};
+ghost use Rattle.fort_lockstep.specs.Candidates.{column_arity, narrowed, candidates, candidates_from, candidates_after, AreAtMost, AreArities, IsFlat, LeavesOut};
 
 use crate::digits::{DigitRow, digit_arity};
 use fort_terms::Signature;
@@ -61,8 +61,40 @@ pub fn has_next_constant(sig: &Signature, digit: u32) -> bool
         && column_arity(sig, digit + 1) == 0
 }
 
+/// What the search asks of the arities of a signature.
+#[derive(Clone, Copy)]
+pub struct Arities {
+    /// The greatest one.
+    pub most: usize,
+    /// The symbols of the digits before this one have no arguments.
+    pub flat: u32,
+}
+
+impl Arities {
+    pub fn of(sig: &Signature) -> Arities
+        ensures { AreArities sig.now result }
+    {
+        Arities {
+            most: greatest_arity(sig),
+            flat: flat_digits(sig),
+        }
+    }
+}
+
+/// So many digits in front have no arguments.
+fn flat_digits(sig: &Signature) -> u32
+    ensures { IsFlat sig.now result }
+{
+    for digit in 1..sig.len() as u32 + 1 {
+        if digit_arity(sig, digit) > 0 {
+            return digit;
+        }
+    }
+    0
+}
+
 /// The greatest arity of a symbol.
-pub fn greatest_arity(sig: &Signature) -> usize
+fn greatest_arity(sig: &Signature) -> usize
     ensures { AreAtMost sig.now result }
 {
     let mut greatest = 0;
@@ -93,9 +125,24 @@ pub fn stage_range(most: usize, presences: &[u16], stage: u32) -> KidRange
     }
 }
 
+/// The first digit from this one on that may leave a child: a column with the presence needs arguments.
+fn skip_flat(flat: u32, range: KidRange, from: u32) -> u32
+    ensures after { from ≤ result }
+    ensures skips { (sig : theory.Signature) (c : ℕ) → IsFlat sig flat
+        → candidates_from sig range c (range_with_len from (length sig + 1 - from))
+        ≡ candidates_from sig range c (range_with_len result (length sig + 1 - result)) }
+{
+    if range.presence % 2 == 1 {
+        from.max(flat)
+    } else {
+        from
+    }
+}
+
 /// Writes the first candidate over these digits; where there is none, they are any.
 #[cycle(candidates)]
-fn write_first(sig: &Signature, range: KidRange, digits: &mut [u32]) -> bool
+fn write_first(sig: &Signature, flat: u32, range: KidRange, digits: &mut [u32]) -> bool
+    requires flat { IsFlat sig.now flat }
     ensures width { length digits.new ≡ length digits.old }
     ensures digits { IfSome (some_if result digits.new) (AreUpTo (length sig.now)) }
     ensures next { GivesFirst (candidates sig.now range (length digits.old))
@@ -106,7 +153,7 @@ fn write_first(sig: &Signature, range: KidRange, digits: &mut [u32]) -> bool
     }
     match digits.split_first_mut() {
         None => true,
-        Some((first, others)) => match write_first_from(sig, range, others, 0) {
+        Some((first, others)) => match write_first_from(sig, flat, range, others, 0) {
             Some(digit) => {
                 *first = digit;
                 true
@@ -118,7 +165,14 @@ fn write_first(sig: &Signature, range: KidRange, digits: &mut [u32]) -> bool
 
 /// The first digit of the first candidate that begins with `from` or a later one; its others are written over these.
 #[cycle(candidates)]
-fn write_first_from(sig: &Signature, range: KidRange, others: &mut [u32], from: u32) -> Option<u32>
+fn write_first_from(
+    sig: &Signature,
+    flat: u32,
+    range: KidRange,
+    others: &mut [u32],
+    from: u32,
+) -> Option<u32>
+    requires flat { IsFlat sig.now flat }
     requires from { from ≤ length sig.now + 1 }
     ensures width { length others.new ≡ length others.old }
     ensures digits { IfSome result (λ d. AreUpTo (length sig.now) (d ∷ others.new)) }
@@ -126,8 +180,13 @@ fn write_first_from(sig: &Signature, range: KidRange, others: &mut [u32], from: 
         (range_with_len from (length sig.now + 1 - from))) (candidates_after sig.now range)
         (with_others others.new result) }
 {
-    for digit in from..sig.len() as u32 + 1 {
-        if write_first(sig, range.with_column(column_arity(sig, digit)), others) {
+    for digit in skip_flat(flat, range, from)..sig.len() as u32 + 1 {
+        if write_first(
+            sig,
+            flat,
+            range.with_column(column_arity(sig, digit)),
+            others,
+        ) {
             return Some(digit);
         }
     }
@@ -135,7 +194,8 @@ fn write_first_from(sig: &Signature, range: KidRange, others: &mut [u32], from: 
 }
 
 /// Writes the candidate after these digits over them; where there is none, they are any.
-fn write_next(sig: &Signature, range: KidRange, digits: &mut [u32]) -> bool
+fn write_next(sig: &Signature, flat: u32, range: KidRange, digits: &mut [u32]) -> bool
+    requires flat { IsFlat sig.now flat }
     requires symbols { AreUpTo (length sig.now) digits.old }
     ensures width { length digits.new ≡ length digits.old }
     ensures digits { IfSome (some_if result digits.new) (AreUpTo (length sig.now)) }
@@ -150,10 +210,15 @@ fn write_next(sig: &Signature, range: KidRange, digits: &mut [u32]) -> bool
     match digits.split_first_mut() {
         None => false,
         Some((first, others)) => {
-            if write_next(sig, range.with_column(column_arity(sig, *first)), others) {
+            if write_next(
+                sig,
+                flat,
+                range.with_column(column_arity(sig, *first)),
+                others,
+            ) {
                 return true;
             }
-            match write_first_from(sig, range, others, *first + 1) {
+            match write_first_from(sig, flat, range, others, *first + 1) {
                 Some(digit) => {
                     *first = digit;
                     true
@@ -165,7 +230,8 @@ fn write_next(sig: &Signature, range: KidRange, digits: &mut [u32]) -> bool
 }
 
 /// Goes to the candidate after these digits; where there is none, they are any.
-pub fn to_next_candidate(sig: &Signature, range: KidRange, row: &mut DigitRow) -> bool
+pub fn to_next_candidate(sig: &Signature, flat: u32, range: KidRange, row: &mut DigitRow) -> bool
+    requires flat { IsFlat sig.now flat }
     requires symbols { AreUpTo (length sig.now) row.old }
     ensures width { length row.new ≡ length row.old }
     ensures digits { IfSome (some_if result row.new) (AreUpTo (length sig.now)) }
@@ -174,5 +240,5 @@ pub fn to_next_candidate(sig: &Signature, range: KidRange, row: &mut DigitRow) -
 {
     let start = row.start;
     let digits = &mut row.digits;
-    write_next(sig, range, &mut digits[start..])
+    write_next(sig, flat, range, &mut digits[start..])
 }

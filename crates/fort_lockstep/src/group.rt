@@ -39,6 +39,9 @@ fn put_all(values: &mut Vec<u32>, more: &[u32])
     requires { vec_len values.old + length more.now ≤ vec_capacity values.old }
     ensures { values.new.items ≡ values.old.items ++ more.now }
 {
+    if more.is_empty() {
+        return;
+    }
     match values.extend_from_slice(more) {
         Ok(()) => {}
         Err(_) => unreachable!(),

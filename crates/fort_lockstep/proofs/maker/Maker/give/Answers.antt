@@ -34,7 +34,7 @@ invariant_of-self-2 c =
       width = c.advance-self-inside.ensures.width ∙ i.width;
       placed = c.advance-self-inside.ensures.place;
       row = c.write_row.ensures;
-      most = rw c.advance-self-inside.ensures.most i.most;
+      arities = rw c.advance-self-inside.ensures.arities i.arities;
       making = r.making;
       stands = stands_after (made_of a.signature a.columns g') old new c.advance-self-inside.result r.up_to i.width next;
     }

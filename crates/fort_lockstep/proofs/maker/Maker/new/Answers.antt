@@ -21,7 +21,7 @@ invariant_of-result c =
       width = c.advance-is_due.ensures.width ∙ c.new-walk.ensures.width;
       placed = c.advance-is_due.ensures.place;
       row = c.row-row.ensures;
-      most = rw c.advance-is_due.ensures.most c.new-walk.ensures.most;
+      arities = rw c.advance-is_due.ensures.arities c.new-walk.ensures.arities;
       making = new_making sig n g c.in_ok-given.ensures.presences c.in_ok-given.ensures.firsts c.in_ok-given.ensures.entries c.in_ok-given.ensures.targets;
       stands = new_stands sig n g (place c.new-walk.result) (place c.advance-is_due.new.self) c.advance-is_due.result c.in_ok-given.ensures.presences c.in_ok-given.ensures.entries c.new-walk.ensures.start c.new-walk.ensures.width c.advance-is_due.ensures.next;
     }

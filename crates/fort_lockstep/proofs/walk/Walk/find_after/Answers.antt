@@ -12,7 +12,7 @@ stages-preserved c =
     record {
       stage = l;
       width = ap length c.zeros-self.ensures ∙ length-replicate (length c.digits-columns.result.now) 0;
-      most = c.if-find_in_stage.ensures.most ∙ i.most;
+      arities = c.if-find_in_stage.ensures.arities ∙ i.arities;
       columns = i.columns;
       digits = rw c.zeros-self.ensures (AreUpTo-zeros (length c.args.sig.now) (length c.digits-columns.result.now));
       others = record { stage = none.stage ∙ i.others.stage; kids = none.kids ∙ i.others.kids; wanted = none.wanted ∙ i.others.wanted };

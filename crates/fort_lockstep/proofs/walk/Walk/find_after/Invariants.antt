@@ -7,7 +7,7 @@ abbrev pub invariant-stages : goal.invariant-stages
 invariant-stages l = record {
   stage : l.stage ≤ length l.presences;
   width : length l.self.digits ≡ l.columns;
-  most : l.self.most ≡ l.initial.self.most;
+  arities : l.self.arities ≡ l.initial.self.arities;
   columns : l.columns ≡ length l.initial.self.digits;
   digits : AreUpTo (length l.sig) l.self.digits;
   others : IsSameButDigits l.initial.self l.self;

@@ -12,7 +12,7 @@ returns-in-Some-clause-next c =
       placed = record { stage = c.in-Some.ensures.stage_is; digits = step.digits; kids = c.in-Some.ensures.states; wanted = wanted };
       at_stage = refl;
       width = step.width ∙ i.width;
-      next = sym i.same ∙ first_there c.args.sig.now c.args.presences.now c.args.stage c.stage_range-range.result c.symbols.self.digits c.to_next_candidate.new.row c.in-Some.kids (c.stage_range-range.ensures c.args.sig.now c.requires.most) i.digits step.digits step.next first;
+      next = sym i.same ∙ first_there c.args.sig.now c.args.presences.now c.args.stage c.stage_range-range.result c.symbols.self.digits c.to_next_candidate.new.row c.in-Some.kids (c.stage_range-range.ensures c.args.sig.now c.requires.arities.at_most) i.digits step.digits step.next first;
     }
 
 pub symbols-preserved : goal.symbols-preserved
@@ -23,13 +23,13 @@ symbols-preserved c =
     let none = rw (c.states.ensures.states, wanted) at c.in-None.ensures.next in
     record {
       width = step.width ∙ i.width;
-      most = i.most;
+      arities = i.arities;
       digits = step.digits;
       others = record { stage = i.others.stage; kids = i.others.kids; wanted = i.others.wanted };
-      same = none_there c.args.sig.now c.args.presences.now c.args.stage c.stage_range-range.result c.symbols.self.digits c.to_next_candidate.new.row (c.stage_range-range.ensures c.args.sig.now c.requires.most) i.digits step.digits step.next none ∙ i.same;
+      same = none_there c.args.sig.now c.args.presences.now c.args.stage c.stage_range-range.result c.symbols.self.digits c.to_next_candidate.new.row (c.stage_range-range.ensures c.args.sig.now c.requires.arities.at_most) i.digits step.digits step.next none ∙ i.same;
     }
 
 pub returns-clause-next : goal.returns-clause-next
 returns-clause-next c =
     let i = c.symbols.invariant in
-    sym i.same ∙ no_candidate c.args.sig.now c.args.presences.now c.args.stage c.stage_range-range.result c.symbols.self.digits (c.stage_range-range.ensures c.args.sig.now c.requires.most) i.digits c.symbols-test.ensures.next
+    sym i.same ∙ no_candidate c.args.sig.now c.args.presences.now c.args.stage c.stage_range-range.result c.symbols.self.digits (c.stage_range-range.ensures c.args.sig.now c.requires.arities.at_most) i.digits c.symbols-test.ensures.next

@@ -7,7 +7,7 @@ use Rattle.fort_lockstep.proofs.walk.Walk.find_in_stage.Given as goal
 abbrev pub invariant-symbols : goal.invariant-symbols
 invariant-symbols l = record {
   width : length l.self.digits ≡ length l.initial.self.digits;
-  most : l.self.most ≡ l.initial.self.most;
+  arities : l.self.arities ≡ l.initial.self.arities;
   digits : AreUpTo (length l.sig) l.self.digits;
   others : IsSameButDigits l.initial.self l.self;
   same : stage_entries l.sig l.presences l.stage (digits_after (length l.sig) l.self.digits) ≡ stage_entries l.sig l.presences l.stage (digits_after (length l.sig) l.initial.self.digits);
