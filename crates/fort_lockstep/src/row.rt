@@ -1,11 +1,12 @@
 //! Entries.
-ghost use Rattle.std.specs.Prelude.{◌≡◌, ℕ, ◌≤◌, ◌^◌, ◌<◌, ◌↔◌, map, length, slice_index_or, IsTrue};
+ghost use Rattle.std.specs.Prelude.{◌≡◌, ℕ, ◌≤◌, ◌^◌, ◌<◌, ◌↔◌, map, length, slice_index_or, slice_get, Some, IsTrue};
 ghost use Rattle.fort_tables.specs.Tuples.{presence};
 ghost use Rattle.fort_tables.specs.Entries.{entry};
-ghost use Rattle.fort_lockstep.specs.Columns.{symbol_of, digit_of};
+ghost use Rattle.fort_lockstep.specs.Columns.{as_column, symbol_of, digit_of};
 
 use crate::digits::presence_of;
 use crate::symbol::TupleSym;
+use fort_terms::Sym;
 use std::marker::Model;
 
 /// An entry: a tuple symbol with up to 8 child states.
@@ -80,6 +81,20 @@ impl Row {
         TupleSym {
             len: self.len,
             digits: self.digits,
+        }
+    }
+
+    /// The symbol of a column of its tuple symbol.
+    pub fn symbol(&self, column: usize) -> Option<Sym>
+        requires { column < length self.now.symbol }
+        ensures { slice_get self.now.symbol column ≡ Some (as_column result) }
+    {
+        let digits = &self.digits;
+        let digit = digits[column];
+        if digit == 0 {
+            None
+        } else {
+            Some(Sym((digit - 1) as u16))
         }
     }
 
