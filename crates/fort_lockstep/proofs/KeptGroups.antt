@@ -2,7 +2,7 @@
 use Rattle.std.proofs.Common.{◌≡◌, ℕ, suc, ◌+◌, ◌<◌, ◌⊎◌, List, [], ◌∷◌, ◌++◌, map, length, get_or, Bool, true, false, if◌then◌else◌, refl, ap, sym, ◌∙◌, arith, subst, inr, ⊎_elim}
 use Rattle.std.specs.Prelude.{Contains, slice_set}
 use Rattle.std.proofs.lemmas.Bool.{cases_lt}
-use Rattle.std.proofs.lemmas.List.{length-map, length-set, map-set, map-append, get_or-map, length_push, get_or_push, get_or_append_left}
+use Rattle.std.proofs.lemmas.List.{length-map, length-set, map-set, map-append, get_or-map, length_push, get_or_push, get_or_append_left, get_or_default}
 use Rattle.std.proofs.lemmas.Grind.{get_or-set_at}
 use Rattle.std.proofs.lemmas.List.{get_or-set_other}
 use Rattle.fort_tables.specs.Tuples.{TupleSymbol}
@@ -11,7 +11,7 @@ use Rattle.fort_lockstep.specs.Columns.{digit_of}
 use Rattle.fort_lockstep.specs.Transitions.{Group, no_group, KidsBefore, in_order, entries_of, IsLast}
 use Rattle.fort_lockstep.specs.KidOrder.{IsGrownGroup}
 use Rattle.fort_lockstep.specs.Ranks.{AreOf, wants_at}
-use Rattle.fort_lockstep.specs.Kept.{Kept, no_kept, kids_in, group_in, IsKept, IsNewKept, IsGrownKept}
+use Rattle.fort_lockstep.specs.Kept.{Kept, no_kept, kids_in, group_in, IsKept, IsNewKept, IsGrownKept, IsFirstKept}
 use Rattle.fort_lockstep.specs.GroupFacts.{transitions_in, groups_in, AreApart, AreKept, IsDue}
 use Rattle.fort_lockstep.proofs.FirstListLaws.{are_wants}
 use Rattle.fort_lockstep.proofs.KeptLaws.{IsNext, kept_grows, new_kids, new_kept, kept_stays}
@@ -43,6 +43,23 @@ due_wants width ps ss gs e j g a l d is due =
     let first : 0 < length (kids_in ps g) = omega (arith, k.count, some) in
     sym (are_wants ps g.wants (get_or (kids_in ps g) 0 []) (k.are 0 first))
     ∙ same_wants ss (groups_in ps gs) ps e j (group_in ps g) 0 (group_of_kept width ps ss gs e.symbol j g a l d is) first due.alike
+
+some_kids : (ps ks ls : List ℕ) → AreOf ps (wants_at ps ks) ls → (ls ≡ ks → ⊥) → 0 < length ks
+some_kids ps [] [] a other = absurd (other refl)
+some_kids ps [] (l ∷ ls) a other = absurd a
+some_kids ps (k ∷ ks) ls a other = omega arith
+
+-- an entry that is due and whose tuple symbol has an entry is not that one, and so has children
+pub due_some : (width : ℕ) (ps : List ℕ) (ss : List (List ℕ)) (gs : List Kept) (e : Entry) (j : ℕ) (g : Kept) → AreKept width ps ss gs → j < length ss → get_or ss j [] ≡ map digit_of e.symbol → get_or gs j no_kept ≡ g → IsDue (entries_of (in_order (transitions_in ss (groups_in ps gs)))) ps e → 0 < length e.kids
+due_some width ps ss gs e j g a l d is due =
+    let m : j < length gs = omega (arith, a.apart.count, l, length-map gs (group_in ps)) in
+    let k : IsKept width ps g = subst (IsKept width ps) is (a.kept j m) in
+    let some : 0 < length g.targets = subst (λ (x : Kept). 0 < length x.targets) is (a.some j m) in
+    let first : 0 < length (kids_in ps g) = omega (arith, k.count, some) in
+    let ls = get_or (kids_in ps g) 0 [] in
+    let own = due_in ss (groups_in ps gs) ps e j (group_in ps g) (group_of_kept width ps ss gs e.symbol j g a l d is) due in
+    let are = subst (λ ws. AreOf ps ws ls) (due_wants width ps ss gs e j g a l d is due) (k.are 0 first) in
+    some_kids ps e.kids ls are (λ same. own.missing (0, first, get_or_default (kids_in ps g) 0 e.kids [] first ∙ same))
 
 next_in : (ps : List ℕ) (g : Kept) (ks : List ℕ) → g.wants ≡ wants_at ps ks → IsDueIn ps (kids_in ps g) ks → IsNext ps g ks
 next_in ps g ks w d = record {
@@ -97,8 +114,11 @@ due_in_none : (ss : List (List ℕ)) (hs : List Group) (ps : List ℕ) (e : Entr
 due_in_none ss hs ps e a absent due kss ls b = ⊎_elim (λ c. absurd (symbol_there ss hs e.symbol ls a c absent)) (λ r. inr r) (due.first ls b)
 
 -- the first entry of a tuple symbol
-pub first_kept : (width : ℕ) (ps : List ℕ) (ss : List (List ℕ)) (gs : List Kept) (w : List ℕ) (e : Entry) (q : ℕ) (none new : Kept) → AreKept width ps ss gs → w ≡ map digit_of e.symbol → ((q : ℕ) → q < length ss → get_or ss q [] ≡ map digit_of e.symbol → ⊥) → IsDue (entries_of (in_order (transitions_in ss (groups_in ps gs)))) ps e → IsNewKept width ps e.kids none → IsGrownKept none e.kids q new → GrownKept width ps ss (ss ++ w ∷ []) gs (gs ++ new ∷ []) e q
-first_kept width ps ss gs w e q none new a d absent due fresh grown =
+pub first_kept : (width : ℕ) (ps : List ℕ) (ss : List (List ℕ)) (gs : List Kept) (w : List ℕ) (e : Entry) (q : ℕ) (new : Kept) → AreKept width ps ss gs → w ≡ map digit_of e.symbol → ((q : ℕ) → q < length ss → get_or ss q [] ≡ map digit_of e.symbol → ⊥) → IsDue (entries_of (in_order (transitions_in ss (groups_in ps gs)))) ps e → IsFirstKept width ps e.kids q new → GrownKept width ps ss (ss ++ w ∷ []) gs (gs ++ new ∷ []) e q
+first_kept width ps ss gs w e q new a d absent due first =
+    let none : Kept = record { wants = new.wants; is_counted = new.is_counted; stored = []; targets = [] } in
+    let fresh : IsNewKept width ps e.kids none = record { wants = first.wants; counted = first.counted; stored = refl; targets = refl } in
+    let grown : IsGrownKept none e.kids q new = record { wants = refl; is_counted = refl; stored = first.stored; targets = first.targets } in
     let empty = new_kids width ps e.kids none fresh in
     let next : IsNext ps none e.kids = record {
       own = subst (λ ws. AreOf ps ws e.kids) (sym fresh.wants) due.own;

@@ -1,16 +1,10 @@
--- Inside: what the fields of a group stand for.
-use Rattle.std.specs.Prelude.{◌≡◌, ◌*◌, length, false}
+-- Inside: what a group stands for.
+use Rattle.std.specs.Prelude.{[], ◌∷◌, false}
 use Rattle.fort_lockstep.specs.Kept.{Kept}
-use Rattle.fort_lockstep.specs.Pieces.{pieces}
-use Rattle.fort_lockstep.specs.declared.group.Group.TheInside.{Inside}
+use Rattle.fort_lockstep.specs.declared.group.Form.{Form}
+use Rattle.fort_lockstep.specs.declared.group.Form.TheVariants.{Constant, WithKids}
 
-abbrev pub kept_in : Inside → Kept
-kept_in a = record {
-  wants = a.wants.items;
-  is_counted = a.is_counted;
-  stored = pieces (length a.wants.items) (length a.targets.items) a.words.items;
-  targets = a.targets.items;
-}
-
-pub record IsGroup (a : Inside) : Type 0 where
-  pub size : a.is_counted ≡ false → length a.words.items ≡ length a.targets.items * length a.wants.items
+-- a tuple symbol without children has one entry, without child states
+abbrev pub kept_as : Form → Kept
+kept_as (Constant q) = record { wants = []; is_counted = false; stored = [] ∷ []; targets = q ∷ [] }
+kept_as (WithKids b) = b.value

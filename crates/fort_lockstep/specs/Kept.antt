@@ -68,3 +68,10 @@ pub record IsGrownKept (old : Kept) (ks : List ℕ) (q : ℕ) (new : Kept) : Typ
   pub is_counted : new.is_counted ≡ old.is_counted
   pub stored : old.is_counted ≡ false → new.stored ≡ old.stored ++ ks ∷ []
   pub targets : new.targets ≡ old.targets ++ q ∷ []
+
+-- a first entry, whose child states have the presences of these
+pub record IsFirstKept (width : ℕ) (ps ks : List ℕ) (q : ℕ) (g : Kept) : Type 0 where
+  pub wants : g.wants ≡ wants_at ps ks
+  pub counted : g.is_counted ≡ true → AreBelow width g.wants
+  pub stored : g.is_counted ≡ false → g.stored ≡ ks ∷ []
+  pub targets : g.targets ≡ q ∷ []

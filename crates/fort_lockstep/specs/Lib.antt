@@ -18,6 +18,7 @@ pub mod Ranks
 pub mod InOrder
 pub mod Tallies
 pub mod Kept
+pub mod KidGroupInside
 pub mod GroupInside
 pub mod GroupFacts
 pub mod StateFacts

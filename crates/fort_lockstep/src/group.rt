@@ -3,7 +3,7 @@ ghost use Rattle.std.specs.Prelude.{◌≡◌, ℕ, ◌+◌, ◌-◌, ◌*◌, �
 ghost use Rattle.fort_lockstep.specs.Pieces.{IsBeside};
 ghost use Rattle.fort_lockstep.specs.Ranks.{space, AreOf, wants_at};
 ghost use Rattle.fort_lockstep.specs.Tallies.{IsBefore};
-ghost use Rattle.fort_lockstep.specs.Kept.{kids_in, IsKept, IsNewKept, IsGrownKept};
+ghost use Rattle.fort_lockstep.specs.Kept.{kids_in, IsKept, IsNewKept, IsGrownKept, IsFirstKept};
 
 use crate::bisect::{Comparisons, target_among};
 use crate::place::{are_counted, place_by_counts, presences_at};
@@ -13,13 +13,39 @@ use smallvec::SmallVec;
 use std::alloc::Global;
 use std::marker::Model;
 
-/// The entries of one tuple symbol, in order: their targets, and their child states where these are not counted.
+/// The entries of one tuple symbol with children, in order: their targets, and their child states
+/// where these are not counted.
 #[derive(Drop)]
-pub struct Group {
+pub struct KidGroup {
     targets: SmallVec<u32, 2>,
     is_counted: bool,
     wants: Vec<u16>,
     words: Vec<u32>,
+}
+
+impl Model for KidGroup {
+    ghost use Rattle.fort_lockstep.specs.Kept.{Kept};
+
+    ghost Value = { Kept };
+
+    ghost use Rattle.fort_lockstep.specs.KidGroupInside.{kept_in, IsKidGroup};
+
+    ghost view = { kept_in };
+
+    ghost invariant = { IsKidGroup };
+}
+
+/// A tuple symbol without children has one entry, whose target alone is kept.
+#[derive(Drop)]
+pub enum Form {
+    Constant(u32),
+    WithKids(Box<KidGroup>),
+}
+
+/// The entries of one tuple symbol.
+#[derive(Drop)]
+pub struct Group {
+    form: Form,
 }
 
 impl Model for Group {
@@ -27,11 +53,9 @@ impl Model for Group {
 
     ghost Value = { Kept };
 
-    ghost use Rattle.fort_lockstep.specs.GroupInside.{kept_in, IsGroup};
+    ghost use Rattle.fort_lockstep.specs.GroupInside.{kept_as};
 
-    ghost view = { kept_in };
-
-    ghost invariant = { IsGroup };
+    ghost view = { λ a. kept_as a.form };
 }
 
 /// Puts values where there is room for them.
@@ -48,9 +72,9 @@ fn put_all(values: &mut Vec<u32>, more: &[u32])
     }
 }
 
-impl Group {
+impl KidGroup {
     /// No entries yet; all are to have child states of the presences of these.
-    pub fn new(alloc: Global, states: &States, kids: &[u32]) -> Result<Group, Memory>
+    fn new(alloc: Global, states: &States, kids: &[u32]) -> Result<KidGroup, Memory>
         requires { AreOf states.now.presences.items (wants_at states.now.presences.items kids.now)
             kids.now }
         ensures { IfOk result (λ g. IsNewKept states.now.counts.width states.now.presences.items
@@ -58,7 +82,7 @@ impl Group {
     {
         let presences = states.presences.as_slice();
         let wants = presences_at(alloc, presences, kids)?;
-        Ok(Group {
+        Ok(KidGroup {
             targets: SmallVec::new(alloc),
             is_counted: are_counted(presences, states.counts.width, kids),
             wants,
@@ -67,7 +91,7 @@ impl Group {
     }
 
     /// One more entry.
-    pub fn push(&mut self, kids: &[u32], target: u32) -> Result<(), Memory>
+    fn push(&mut self, kids: &[u32], target: u32) -> Result<(), Memory>
         requires { length kids.now ≡ length self.old.wants }
         ensures ok { OnOk result (IsGrownKept self.old kids.now target self.new) }
         ensures err { OnErr result (self.new ≡ self.old) }
@@ -81,7 +105,7 @@ impl Group {
     }
 
     /// The target beside child states that are there.
-    pub fn target<C: Comparisons>(&self, states: &States, kids: &[u32], comparisons: &mut C) -> u32
+    fn target<C: Comparisons>(&self, states: &States, kids: &[u32], comparisons: &mut C) -> u32
         requires kept { IsKept states.now.counts.width states.now.presences.items self.now }
         requires there { Contains (kids_in states.now.presences.items self.now) kids.now }
         requires full { self.now.is_counted ≡ true → space states.now.presences.items
@@ -107,5 +131,60 @@ impl Group {
             kids,
             comparisons,
         )
+    }
+}
+
+impl Group {
+    /// The first entry.
+    pub fn first(alloc: Global, states: &States, kids: &[u32], target: u32) -> Result<Group, Memory>
+        requires { AreOf states.now.presences.items (wants_at states.now.presences.items kids.now)
+            kids.now }
+        ensures { IfOk result (λ g. IsFirstKept states.now.counts.width states.now.presences.items
+            kids.now target g) }
+    {
+        if kids.is_empty() {
+            return Ok(Group {
+                form: Form::Constant(target),
+            });
+        }
+        let mut group = KidGroup::new(alloc, states, kids)?;
+        group.push(kids, target)?;
+        Ok(Group {
+            form: Form::WithKids(Box::new(alloc, group)?),
+        })
+    }
+
+    /// One more entry, which has children.
+    pub fn push(&mut self, kids: &[u32], target: u32) -> Result<(), Memory>
+        requires some { 0 < length kids.now }
+        requires wants { length kids.now ≡ length self.old.wants }
+        ensures ok { OnOk result (IsGrownKept self.old kids.now target self.new) }
+        ensures err { OnErr result (self.new ≡ self.old) }
+    {
+        match &mut self.form {
+            Form::Constant(_) => unreachable!(),
+            Form::WithKids(group) => group.push(kids, target),
+        }
+    }
+
+    /// The target beside child states that are there.
+    pub fn target<C: Comparisons>(&self, states: &States, kids: &[u32], comparisons: &mut C) -> u32
+        requires kept { IsKept states.now.counts.width states.now.presences.items self.now }
+        requires there { Contains (kids_in states.now.presences.items self.now) kids.now }
+        requires full { self.now.is_counted ≡ true → space states.now.presences.items
+            self.now.wants ≤ length self.now.targets }
+        requires counts { IsBefore states.now.presences.items states.now.counts.width
+            states.now.counts.before.items }
+        requires few { length states.now.presences.items < 2 ^ 32 }
+        ensures beside { IsBeside (kids_in states.now.presences.items self.now) self.now.targets
+            kids.now result }
+        ensures grows { C.made comparisons.old ≤ C.made comparisons.new }
+        ensures cost { 2 ^ (C.made comparisons.new - C.made comparisons.old)
+            ≤ 2 * length self.now.targets + 1 }
+    {
+        match &self.form {
+            Form::Constant(target) => *target,
+            Form::WithKids(group) => group.target(states, kids, comparisons),
+        }
     }
 }

@@ -50,8 +50,7 @@ impl Groups {
             ≡ transitions_of states.now.presences.items self.old) }
     {
         self.list.reserve(1)?;
-        let mut group = Group::new(alloc, states, row.kids())?;
-        group.push(row.kids(), target)?;
+        let group = Group::first(alloc, states, row.kids(), target)?;
         self.symbols.push(alloc, row.digits())?;
         self.list.push_reserved(group);
         Ok(())

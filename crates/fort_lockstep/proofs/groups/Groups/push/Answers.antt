@@ -8,7 +8,7 @@ use Rattle.fort_lockstep.specs.Transitions.{in_order, entries_of}
 use Rattle.fort_lockstep.specs.Kept.{Kept, no_kept, group_in, IsGrownKept}
 use Rattle.fort_lockstep.specs.GroupFacts.{transitions_in, groups_in, AreKept, IsDue}
 use Rattle.fort_lockstep.proofs.FirstListLaws.{length-wants}
-use Rattle.fort_lockstep.proofs.KeptGroups.{GrownKept, due_wants, push_kept}
+use Rattle.fort_lockstep.proofs.KeptGroups.{GrownKept, due_wants, due_some, push_kept}
 use Rattle.fort_lockstep.proofs.groups.Groups.push.Goals as goal
 
 -- what is known where the group is found
@@ -40,8 +40,17 @@ either : {A E : Type 0} (r : Result A E) (P Q R : Type 0) → OnOk r P → OnErr
 either (Ok x) P Q R p q f g = f p
 either (Err x) P Q R p q f g = g q
 
-pub push-requires : goal.push-requires
-push-requires c =
+pub push-requires-clause-some : goal.push-requires-clause-some
+push-requires-clause-some c =
+    let s = c.args.states.now in
+    let ps = s.presences.items in
+    let e = c.args.row.now in
+    let h = here s.counts.width ps c.args.self.now.symbols.digits c.args.self.now.list.items e c.in-Some.number c.index_mut-group.result.now c.requires.lawful c.requires.due c.in-Some.ensures.0 (c.in-Some.ensures.1 ∙ c.digits.ensures) c.index_mut-group.ensures.value in
+    let some = due_some s.counts.width ps c.args.self.now.symbols.digits c.args.self.now.list.items e c.in-Some.number c.index_mut-group.result.now h.lawful h.within h.digits h.is h.due in
+    omega (arith, some, ap length c.kids.ensures.states)
+
+pub push-requires-clause-wants : goal.push-requires-clause-wants
+push-requires-clause-wants c =
     let s = c.args.states.now in
     let ps = s.presences.items in
     let e = c.args.row.now in

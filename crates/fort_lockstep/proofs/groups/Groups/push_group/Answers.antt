@@ -1,14 +1,10 @@
 use Rattle.std.proofs.Common.{◌≡◌, ℕ, List, [], ◌∷◌, ◌++◌, map, length, sym, ◌∙◌, ap, subst}
 use Rattle.fort_lockstep.specs.Columns.{digit_of}
 use Rattle.fort_lockstep.specs.Transitions.{IsLast}
-use Rattle.fort_lockstep.specs.Kept.{Kept, IsNewKept, IsGrownKept}
+use Rattle.fort_lockstep.specs.Kept.{Kept, IsFirstKept}
 use Rattle.fort_lockstep.specs.GroupFacts.{transitions_in, groups_in, AreKept}
-use Rattle.fort_lockstep.proofs.FirstListLaws.{length-wants}
 use Rattle.fort_lockstep.proofs.KeptGroups.{first_kept}
 use Rattle.fort_lockstep.proofs.groups.Groups.push_group.Goals as goal
-
-pub push-requires : goal.push-requires
-push-requires c = sym (ap length c.in_ok-group.ensures.wants ∙ (length-wants c.args.states.now.presences.items c.kids.result.now ∙ ap length (c.kids.ensures.states ∙ sym c.kids-2.ensures.states)))
 
 pub returns-clause-lawful : goal.returns-clause-lawful
 returns-clause-lawful c =
@@ -19,11 +15,11 @@ returns-clause-lawful c =
     let e = c.args.row.now in
     let q = c.args.target in
     let w : c.digits.result.now ≡ map digit_of e.symbol = c.digits.ensures in
-    let fresh = subst (λ ks. IsNewKept width ps ks c.in_ok-group.group) c.kids.ensures.states c.in_ok-group.ensures in
-    let grown = subst (λ ks. IsGrownKept c.in_ok-group.group ks q c.push.new.self) c.kids-2.ensures.states c.in_ok-push.ensures.ok in
-    let r = first_kept width ps ss gs c.digits.result.now e q c.in_ok-group.group c.push.new.self c.requires.lawful w c.requires.absent c.requires.due fresh grown in
-    let list : c.push_reserved.new.self.items ≡ gs ++ c.push.new.self ∷ [] = c.push_reserved.ensures.items ∙ ap (λ (xs : List Kept). xs ++ c.push.new.self ∷ []) c.in_ok-reserve.ensures.items in
-    subst (λ (xs : List (List ℕ)). AreKept width ps xs c.push_reserved.new.self.items) (sym c.in_ok-push-2.ensures.ok)
+    let g = c.in_ok-group.group in
+    let first = subst (λ ks. IsFirstKept width ps ks q g) c.kids.ensures.states c.in_ok-group.ensures in
+    let r = first_kept width ps ss gs c.digits.result.now e q g c.requires.lawful w c.requires.absent c.requires.due first in
+    let list : c.push_reserved.new.self.items ≡ gs ++ g ∷ [] = c.push_reserved.ensures.items ∙ ap (λ (xs : List Kept). xs ++ g ∷ []) c.in_ok-reserve.ensures.items in
+    subst (λ (xs : List (List ℕ)). AreKept width ps xs c.push_reserved.new.self.items) (sym c.in_ok-push.ensures.ok)
     (subst (λ (xs : List Kept). AreKept width ps (ss ++ c.digits.result.now ∷ []) xs) (sym list) r.lawful)
 
 pub returns-clause-ok : goal.returns-clause-ok
@@ -35,11 +31,11 @@ returns-clause-ok c =
     let e = c.args.row.now in
     let q = c.args.target in
     let w : c.digits.result.now ≡ map digit_of e.symbol = c.digits.ensures in
-    let fresh = subst (λ ks. IsNewKept width ps ks c.in_ok-group.group) c.kids.ensures.states c.in_ok-group.ensures in
-    let grown = subst (λ ks. IsGrownKept c.in_ok-group.group ks q c.push.new.self) c.kids-2.ensures.states c.in_ok-push.ensures.ok in
-    let r = first_kept width ps ss gs c.digits.result.now e q c.in_ok-group.group c.push.new.self c.requires.lawful w c.requires.absent c.requires.due fresh grown in
-    let list : c.push_reserved.new.self.items ≡ gs ++ c.push.new.self ∷ [] = c.push_reserved.ensures.items ∙ ap (λ (xs : List Kept). xs ++ c.push.new.self ∷ []) c.in_ok-reserve.ensures.items in
-    subst (λ (xs : List (List ℕ)). IsLast (transitions_in ss (groups_in ps gs)) (transitions_in xs (groups_in ps c.push_reserved.new.self.items)) e q) (sym c.in_ok-push-2.ensures.ok)
+    let g = c.in_ok-group.group in
+    let first = subst (λ ks. IsFirstKept width ps ks q g) c.kids.ensures.states c.in_ok-group.ensures in
+    let r = first_kept width ps ss gs c.digits.result.now e q g c.requires.lawful w c.requires.absent c.requires.due first in
+    let list : c.push_reserved.new.self.items ≡ gs ++ g ∷ [] = c.push_reserved.ensures.items ∙ ap (λ (xs : List Kept). xs ++ g ∷ []) c.in_ok-reserve.ensures.items in
+    subst (λ (xs : List (List ℕ)). IsLast (transitions_in ss (groups_in ps gs)) (transitions_in xs (groups_in ps c.push_reserved.new.self.items)) e q) (sym c.in_ok-push.ensures.ok)
     (subst (λ (xs : List Kept). IsLast (transitions_in ss (groups_in ps gs)) (transitions_in (ss ++ c.digits.result.now ∷ []) (groups_in ps xs)) e q) (sym list) r.pushed)
 
 pub returns-clause-count : goal.returns-clause-count
@@ -51,9 +47,9 @@ returns-clause-count c =
     let e = c.args.row.now in
     let q = c.args.target in
     let w : c.digits.result.now ≡ map digit_of e.symbol = c.digits.ensures in
-    let fresh = subst (λ ks. IsNewKept width ps ks c.in_ok-group.group) c.kids.ensures.states c.in_ok-group.ensures in
-    let grown = subst (λ ks. IsGrownKept c.in_ok-group.group ks q c.push.new.self) c.kids-2.ensures.states c.in_ok-push.ensures.ok in
-    let r = first_kept width ps ss gs c.digits.result.now e q c.in_ok-group.group c.push.new.self c.requires.lawful w c.requires.absent c.requires.due fresh grown in
-    let list : c.push_reserved.new.self.items ≡ gs ++ c.push.new.self ∷ [] = c.push_reserved.ensures.items ∙ ap (λ (xs : List Kept). xs ++ c.push.new.self ∷ []) c.in_ok-reserve.ensures.items in
-    ap (λ (xs : List (List ℕ)). length (transitions_in xs (groups_in ps c.push_reserved.new.self.items))) c.in_ok-push-2.ensures.ok
+    let g = c.in_ok-group.group in
+    let first = subst (λ ks. IsFirstKept width ps ks q g) c.kids.ensures.states c.in_ok-group.ensures in
+    let r = first_kept width ps ss gs c.digits.result.now e q g c.requires.lawful w c.requires.absent c.requires.due first in
+    let list : c.push_reserved.new.self.items ≡ gs ++ g ∷ [] = c.push_reserved.ensures.items ∙ ap (λ (xs : List Kept). xs ++ g ∷ []) c.in_ok-reserve.ensures.items in
+    ap (λ (xs : List (List ℕ)). length (transitions_in xs (groups_in ps c.push_reserved.new.self.items))) c.in_ok-push.ensures.ok
     ∙ (ap (λ (xs : List Kept). length (transitions_in (ss ++ c.digits.result.now ∷ []) (groups_in ps xs))) list ∙ r.count)

@@ -4,7 +4,7 @@ use Rattle.fort_lockstep.specs.InOrder.{place_in_order}
 use Rattle.fort_lockstep.specs.Tallies.{AreBelow}
 use Rattle.fort_lockstep.specs.Kept.{Kept}
 use Rattle.fort_lockstep.proofs.KeptLaws.{placed}
-use Rattle.fort_lockstep.proofs.group.Group.target.Goals as goal
+use Rattle.fort_lockstep.proofs.group.KidGroup.target.Goals as goal
 
 pub place_by_counts-requires-clause-wants : goal.place_by_counts-requires-clause-wants
 place_by_counts-requires-clause-wants g c =

@@ -1,8 +1,8 @@
 use Rattle.std.proofs.Common.{◌≡◌, [], ◌∷◌, ◌++◌, length, true, false, sym, ◌∙◌, ap}
 use Rattle.fort_lockstep.specs.Kept.{Kept}
 use Rattle.fort_lockstep.proofs.KeptLaws.{stored_push}
-use Rattle.fort_lockstep.proofs.group.Group.push.Goals as goal
-use Rattle.fort_lockstep.proofs.group.Group.push.Goals.{then-self, else-self}
+use Rattle.fort_lockstep.proofs.group.KidGroup.push.Goals as goal
+use Rattle.fort_lockstep.proofs.group.KidGroup.push.Goals.{then-self, else-self}
 
 pub invariant_of-self-2 : goal.invariant_of-self-2
 invariant_of-self-2 c =
