@@ -1,5 +1,5 @@
 -- Inside: states with their first entries, and one more.
-use Rattle.std.specs.Prelude.{◌≡◌, ℕ, ◌<◌, get_or, List, [], ◌∷◌, ◌++◌, length, ◌==◌, if◌then◌else◌}
+use Rattle.std.specs.Prelude.{◌≡◌, ℕ, ◌+◌, ◌<◌, ◌≤◌, vec_len, vec_capacity, get_or, List, [], ◌∷◌, ◌++◌, length, ◌==◌, if◌then◌else◌}
 use Rattle.fort_tables.specs.Tuples.{presence}
 use Rattle.fort_tables.specs.Entries.{Entry}
 use Rattle.fort_lockstep.specs.Tallies.{IsBefore}
@@ -11,6 +11,13 @@ pub record IsSameStates (old new : States) : Type 0 where
   pub first_entries : new.first_entries.items ≡ old.first_entries.items
   pub width : new.counts.width ≡ old.counts.width
   pub before : new.counts.before.items ≡ old.counts.before.items
+
+-- room for one more state
+pub record HasRoom (s : States) : Type 0 where
+  pub presences : vec_len s.presences < vec_capacity s.presences
+  pub firsts : vec_len s.firsts < vec_capacity s.firsts
+  pub first_entries : vec_len s.first_entries < vec_capacity s.first_entries
+  pub counts : vec_len s.counts.before + s.counts.width ≤ vec_capacity s.counts.before
 
 pub record IsNoted (old : States) (e : Entry) (target place : ℕ) (new : States) : Type 0 where
   pub presences : new.presences.items ≡ (if target == length old.presences.items then old.presences.items ++ presence e.symbol ∷ [] else old.presences.items)

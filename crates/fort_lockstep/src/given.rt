@@ -120,7 +120,7 @@ impl Given {
             Some(count) => count,
             None => return Err(AllocError),
         };
-        self.states.make_room()?;
+        self.states.make_room(target)?;
         self.groups.push(self.alloc, &self.states, row, target)?;
         self.states.note(row, target, self.count);
         self.count = count;

@@ -1,6 +1,6 @@
 //! States, each with the entry that made it.
-ghost use Rattle.std.specs.Prelude.{◌≡◌, ◌+◌, ◌<◌, ◌≤◌, ◌^◌, vec_len, vec_capacity, OnOk};
-ghost use Rattle.fort_lockstep.specs.StateFacts.{IsSameStates, IsNoted};
+ghost use Rattle.std.specs.Prelude.{◌≡◌, ◌+◌, ◌<◌, ◌^◌, length, OnOk};
+ghost use Rattle.fort_lockstep.specs.StateFacts.{IsSameStates, HasRoom, IsNoted};
 ghost use Rattle.fort_lockstep.specs.Tallies.{IsBefore};
 
 use crate::counts::Counts;
@@ -17,17 +17,15 @@ pub struct States {
 }
 
 impl States {
-    /// Room for one more state.
-    pub fn make_room(&mut self) -> Result<(), Memory>
+    /// Room for the target of an entry, where it is the next new state.
+    pub fn make_room(&mut self, target: u32) -> Result<(), Memory>
         ensures same { IsSameStates self.old self.new }
-        ensures presences { OnOk result (vec_len self.new.presences < vec_capacity
-            self.new.presences) }
-        ensures firsts { OnOk result (vec_len self.new.firsts < vec_capacity self.new.firsts) }
-        ensures first_entries { OnOk result (vec_len self.new.first_entries < vec_capacity
-            self.new.first_entries) }
-        ensures counts { OnOk result (vec_len self.new.counts.before + self.new.counts.width
-            ≤ vec_capacity self.new.counts.before) }
+        ensures room { OnOk result (target ≡ length self.new.presences.items
+            → HasRoom self.new) }
     {
+        if target as usize != self.presences.len() {
+            return Ok(());
+        }
         self.presences.reserve(1)?;
         self.firsts.reserve(1)?;
         self.first_entries.reserve(1)?;
@@ -36,12 +34,7 @@ impl States {
 
     /// Notes the target of the entry at this place, which may be a new state.
     pub fn note(&mut self, row: &Row, target: u32, place: usize)
-        requires presences { vec_len self.old.presences < vec_capacity self.old.presences }
-        requires firsts { vec_len self.old.firsts < vec_capacity self.old.firsts }
-        requires first_entries { vec_len self.old.first_entries < vec_capacity
-            self.old.first_entries }
-        requires counts { vec_len self.old.counts.before + self.old.counts.width
-            ≤ vec_capacity self.old.counts.before }
+        requires room { target ≡ length self.old.presences.items → HasRoom self.old }
         requires before { IsBefore self.old.presences.items self.old.counts.width
             self.old.counts.before.items }
         requires small { target + 1 < 2 ^ 32 }
