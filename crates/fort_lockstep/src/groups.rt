@@ -79,10 +79,15 @@ impl Groups {
         ensures err { OnErr result (transitions_of states.now.presences.items self.new
             ≡ transitions_of states.now.presences.items self.old) }
     {
+        let kids = row.kids();
+        // An entry without children is the only one of its tuple symbol.
+        if kids.is_empty() {
+            return self.push_group(alloc, states, row, target);
+        }
         match self.symbols.find(row.digits()) {
             Some(number) => {
                 let group = &mut self.list[number];
-                group.push(row.kids(), target)
+                group.push(kids, target)
             }
             None => self.push_group(alloc, states, row, target),
         }

@@ -1,5 +1,6 @@
-use Rattle.std.proofs.Common.{◌≡◌, ℕ, ◌<◌, List, [], map, length, get_or, Result, Ok, Err, OnOk, OnErr, sym, ◌∙◌, ap, arith, subst}
+use Rattle.std.proofs.Common.{◌≡◌, ℕ, ◌<◌, List, [], map, length, get_or, Result, Ok, Err, OnOk, OnErr, refl, sym, ◌∙◌, ap, arith, subst, ⊎_elim, true≢false}
 use Rattle.std.specs.Prelude.{slice_set}
+use Rattle.std.proofs.lemmas.Bool.Decides.{eqb_tells}
 use Rattle.std.proofs.lemmas.Result.{on_ok_weaker}
 use Rattle.std.proofs.lemmas.List.{length-map, set-get_or, get_or_default}
 use Rattle.fort_tables.specs.Entries.{Entry}
@@ -40,14 +41,15 @@ either : {A E : Type 0} (r : Result A E) (P Q R : Type 0) → OnOk r P → OnErr
 either (Ok x) P Q R p q f g = f p
 either (Err x) P Q R p q f g = g q
 
-pub push-requires-clause-some : goal.push-requires-clause-some
-push-requires-clause-some c =
+pub push_group-requires-clause-absent : goal.push_group-requires-clause-absent
+push_group-requires-clause-absent c = λ q l d.
     let s = c.args.states.now in
-    let ps = s.presences.items in
-    let e = c.args.row.now in
-    let h = here s.counts.width ps c.args.self.now.symbols.digits c.args.self.now.list.items e c.in-Some.number c.index_mut-group.result.now c.requires.lawful c.requires.due c.in-Some.ensures.0 (c.in-Some.ensures.1 ∙ c.digits.ensures) c.index_mut-group.ensures.value in
-    let some = due_some s.counts.width ps c.args.self.now.symbols.digits c.args.self.now.list.items e c.in-Some.number c.index_mut-group.result.now h.lawful h.within h.digits h.is h.due in
-    omega (arith, some, ap length c.kids.ensures.states)
+    let gs = c.args.self.now.list.items in
+    let some = due_some s.counts.width s.presences.items c.args.self.now.symbols.digits gs c.args.row.now q (get_or gs q no_kept) c.requires.lawful l d refl c.requires.due in
+    ⊎_elim
+    (λ t. omega (arith, some, t.1, ap length c.kids-kids.ensures.states))
+    (λ f. absurd (true≢false (sym c.if-is_empty.true ∙ (c.is_empty.ensures ∙ f.0))))
+    (eqb_tells (length c.kids-kids.result.now) 0)
 
 pub push-requires-clause-wants : goal.push-requires-clause-wants
 push-requires-clause-wants c =
@@ -56,7 +58,7 @@ push-requires-clause-wants c =
     let e = c.args.row.now in
     let h = here s.counts.width ps c.args.self.now.symbols.digits c.args.self.now.list.items e c.in-Some.number c.index_mut-group.result.now c.requires.lawful c.requires.due c.in-Some.ensures.0 (c.in-Some.ensures.1 ∙ c.digits.ensures) c.index_mut-group.ensures.value in
     let w = due_wants s.counts.width ps c.args.self.now.symbols.digits c.args.self.now.list.items e c.in-Some.number c.index_mut-group.result.now h.lawful h.within h.digits h.is h.due in
-    ap length c.kids.ensures.states ∙ sym (ap length w ∙ length-wants ps e.kids)
+    ap length c.kids-kids.ensures.states ∙ sym (ap length w ∙ length-wants ps e.kids)
 
 pub returns-in-Some-clause-lawful : goal.returns-in-Some-clause-lawful
 returns-in-Some-clause-lawful c =
@@ -68,8 +70,8 @@ returns-in-Some-clause-lawful c =
     let j = c.in-Some.number in
     let g = c.index_mut-group.result.now in
     let h = here s.counts.width ps ss gs e j g c.requires.lawful c.requires.due c.in-Some.ensures.0 (c.in-Some.ensures.1 ∙ c.digits.ensures) c.index_mut-group.ensures.value in
-    either c.push.result (IsGrownKept g c.kids.result.now c.args.target c.push.new.self) (c.push.new.self ≡ g) (AreKept s.counts.width ps ss (slice_set gs j c.push.new.self)) c.push.ensures.ok c.push.ensures.err
-    (λ n. (pushed s.counts.width ps ss gs e j c.args.target g c.push.new.self c.kids.result.now h c.kids.ensures.states n).lawful)
+    either c.push.result (IsGrownKept g c.kids-kids.result.now c.args.target c.push.new.self) (c.push.new.self ≡ g) (AreKept s.counts.width ps ss (slice_set gs j c.push.new.self)) c.push.ensures.ok c.push.ensures.err
+    (λ n. (pushed s.counts.width ps ss gs e j c.args.target g c.push.new.self c.kids-kids.result.now h c.kids-kids.ensures.states n).lawful)
     (λ n. same s.counts.width ps ss gs e j g c.push.new.self h n)
 
 pub returns-in-Some-clause-ok : goal.returns-in-Some-clause-ok
@@ -82,7 +84,7 @@ returns-in-Some-clause-ok c =
     let j = c.in-Some.number in
     let g = c.index_mut-group.result.now in
     let h = here s.counts.width ps ss gs e j g c.requires.lawful c.requires.due c.in-Some.ensures.0 (c.in-Some.ensures.1 ∙ c.digits.ensures) c.index_mut-group.ensures.value in
-    on_ok_weaker c.push.result (λ n. (pushed s.counts.width ps ss gs e j c.args.target g c.push.new.self c.kids.result.now h c.kids.ensures.states n).pushed) c.push.ensures.ok
+    on_ok_weaker c.push.result (λ n. (pushed s.counts.width ps ss gs e j c.args.target g c.push.new.self c.kids-kids.result.now h c.kids-kids.ensures.states n).pushed) c.push.ensures.ok
 
 pub returns-in-Some-clause-count : goal.returns-in-Some-clause-count
 returns-in-Some-clause-count c =
@@ -94,4 +96,4 @@ returns-in-Some-clause-count c =
     let j = c.in-Some.number in
     let g = c.index_mut-group.result.now in
     let h = here s.counts.width ps ss gs e j g c.requires.lawful c.requires.due c.in-Some.ensures.0 (c.in-Some.ensures.1 ∙ c.digits.ensures) c.index_mut-group.ensures.value in
-    on_ok_weaker c.push.result (λ n. (pushed s.counts.width ps ss gs e j c.args.target g c.push.new.self c.kids.result.now h c.kids.ensures.states n).count) c.push.ensures.ok
+    on_ok_weaker c.push.result (λ n. (pushed s.counts.width ps ss gs e j c.args.target g c.push.new.self c.kids-kids.result.now h c.kids-kids.ensures.states n).count) c.push.ensures.ok
