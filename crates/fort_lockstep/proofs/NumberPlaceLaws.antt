@@ -1,5 +1,5 @@
 -- The places of numbers in a list: one more number, and how many there can be.
-use Rattle.std.proofs.Common.{◌≡◌, ℕ, suc, ◌+◌, ◌-◌, ◌<◌, ◌≤◌, ◌^◌, List, [], ◌∷◌, ◌++◌, length, get_or, true, refl, ap, sym, ◌∙◌, arith, ⊎_elim}
+use Rattle.std.proofs.Common.{◌≡◌, ℕ, suc, ◌+◌, ◌-◌, ◌<◌, ◌≤◌, List, [], ◌∷◌, ◌++◌, length, get_or, true, refl, ap, sym, ◌∙◌, arith, ⊎_elim}
 use Rattle.std.specs.Prelude.{slice_set}
 use Rattle.std.specs.List.{list_any}
 use Rattle.std.proofs.Math.Dec.{eqb}
@@ -9,7 +9,7 @@ use Rattle.std.proofs.lemmas.Grind.{get_or-set_at, get_or_default_zero}
 use Rattle.std.proofs.lemmas.List.{length_push, get_or_push, get_or_append_left, length-set, get_or-set_other}
 use Rattle.std.proofs.lemmas.Map.Keys.{IsDistinct-from_apart}
 use Rattle.std.proofs.lemmas.Map.Steps.{length-le_from_distinct_below}
-use Rattle.fort_lockstep.specs.NumberPlaces.{ArePlaces}
+use Rattle.fort_lockstep.specs.NumberPlaces.{ArePlaces, IsWider}
 
 any_below : (xs : List ℕ) (n : ℕ) → ((k : ℕ) → k < length xs → get_or xs k 0 < n) → (q : ℕ) → list_any (eqb q) xs ≡ true → q < n
 any_below [] n h q e = absurd cc
@@ -41,28 +41,21 @@ places_none = record {
   number = λ n l m. absurd (omega arith);
 }
 
--- the same with room for more numbers
-pub record Grown (old new : List ℕ) (size : ℕ) : Type 0 where
-  pub size_is : length new ≡ size
-  pub wider : length old ≤ size
-  pub same : (k : ℕ) → k < length old → get_or new k 0 ≡ get_or old k 0
-  pub zeros : (k : ℕ) → length old ≤ k → k < size → get_or new k 0 ≡ 0
-
 -- one more number
-pub places_pushed : (ns ps grown : List ℕ) (size n : ℕ) → ArePlaces ns ps → Grown ps grown size → size ≤ 2 ^ 26 → n < size → ((q : ℕ) → q < length ns → get_or ns q 0 ≡ n → ⊥) → ArePlaces (ns ++ n ∷ []) (slice_set grown n (length ns + 1))
-places_pushed ns ps grown size n a g few l absent =
+pub places_pushed : (ns ps grown : List ℕ) (n : ℕ) → ArePlaces ns ps → IsWider n ps grown → ((q : ℕ) → q < length ns → get_or ns q 0 ≡ n → ⊥) → ArePlaces (ns ++ n ∷ []) (slice_set grown n (length ns + 1))
+places_pushed ns ps grown n a g absent =
     let new = slice_set grown n (length ns + 1) in
-    let wide : length new ≡ size = length-set grown n (length ns + 1) ∙ g.size_is in
+    let wide : length new ≡ length grown = length-set grown n (length ns + 1) in
     let many : length (ns ++ n ∷ []) ≡ length ns + 1 = length_push ns n in
-    let at : (k : ℕ) → k ≡ n → get_or new k 0 ≡ length ns + 1 = λ k e. get_or-set_at grown n k (length ns + 1) 0 e (omega (arith, g.size_is)) in
+    let at : (k : ℕ) → k ≡ n → get_or new k 0 ≡ length ns + 1 = λ k e. get_or-set_at grown n k (length ns + 1) 0 e g.reaches in
     let off : (k : ℕ) → (k ≡ n → ⊥) → get_or new k 0 ≡ get_or grown k 0 = λ k e. get_or-set_other grown n k (length ns + 1) 0 e in
     let left : (q : ℕ) → q < length ns → get_or (ns ++ n ∷ []) q 0 ≡ get_or ns q 0 = λ q m. get_or_append_left ns (n ∷ []) 0 q m in
     let last : (q : ℕ) → length ns ≡ q → get_or (ns ++ n ∷ []) q 0 ≡ n = λ q e. get_or_push ns n 0 q e in
     record {
-      small = omega (arith, wide);
+      small = omega (arith, wide, g.few, a.small);
       within = λ q m. ⊎_elim
           (λ b. omega (arith, left q b, a.within q b, wide, g.wider))
-          (λ b. omega (arith, last q (omega (arith, many)), wide))
+          (λ b. omega (arith, last q (omega (arith, many)), wide, g.reaches))
           (cases_lt q (length ns));
       place = λ q m. ⊎_elim
           (λ b. ap (λ k. get_or new k 0) (left q b) ∙ (off (get_or ns q 0) (absent q b) ∙ (g.same (get_or ns q 0) (a.within q b) ∙ a.place q b)))

@@ -1,10 +1,18 @@
 -- Inside: the places of numbers in a list.
-use Rattle.std.specs.Prelude.{◌≡◌, ℕ, ◌+◌, ◌-◌, ◌<◌, ◌≤◌, ◌^◌, List, length, get_or}
+use Rattle.std.specs.Prelude.{◌≡◌, ℕ, ◌+◌, ◌-◌, ◌<◌, ◌≤◌, ◌^◌, ◌⊎◌, List, length, get_or}
 
--- for each number up to the greatest of the list one more than its place there, or 0
+-- for each number up to the greatest of the list, and some more, one more than its place there, or 0
 pub record ArePlaces (numbers places : List ℕ) : Type 0 where
-  pub small : length places ≤ 2 ^ 26
+  pub small : length places ≤ 2 ^ 27
   pub within : (q : ℕ) → q < length numbers → get_or numbers q 0 < length places
   pub place : (q : ℕ) → q < length numbers → get_or places (get_or numbers q 0) 0 ≡ q + 1
   pub inside : (n : ℕ) → n < length places → get_or places n 0 ≤ length numbers
   pub number : (n : ℕ) → n < length places → 0 < get_or places n 0 → get_or numbers (get_or places n 0 - 1) 0 ≡ n
+
+-- the same places, and zeros for numbers up to this one and for some more
+pub record IsWider (number : ℕ) (old new : List ℕ) : Type 0 where
+  pub reaches : number < length new
+  pub wider : length old ≤ length new
+  pub few : (length new ≡ length old) ⊎ (length new ≤ 2 ^ 27)
+  pub same : (k : ℕ) → k < length old → get_or new k 0 ≡ get_or old k 0
+  pub zeros : (k : ℕ) → length old ≤ k → k < length new → get_or new k 0 ≡ 0

@@ -1,5 +1,6 @@
 //! Sets of numbers, each found by one read.
 ghost use Rattle.std.specs.Prelude.{◌≡◌, ℕ, ◌<◌, ◌^◌, [], ◌∷◌, ◌++◌, length, slice_index, OnOk, OnErr, MatchOption};
+ghost use Rattle.fort_lockstep.specs.NumberPlaces.{IsWider};
 
 use fort_terms::Memory;
 use std::alloc::Global;
@@ -9,7 +10,7 @@ use std::marker::Model;
 #[derive(Drop)]
 pub struct NumberSet {
     numbers: Vec<u32>,
-    /// For each number up to the greatest one more than its place, or 0.
+    /// For each number up to the greatest, and some more, one more than its place, or 0.
     places: Vec<u32>,
 }
 
@@ -25,6 +26,18 @@ impl Model for NumberSet {
     ghost invariant = { λ r. ArePlaces r.numbers.items r.places.items };
 }
 
+/// Places for all numbers up to this one, and for some more, so that few calls write any.
+fn reach(places: &mut Vec<u32>, number: usize) -> Result<(), Memory>
+    requires { number < 2 ^ 26 }
+    ensures ok { OnOk result (IsWider number places.old.items places.new.items) }
+    ensures err { OnErr result (places.new.items ≡ places.old.items) }
+{
+    if number < places.len() {
+        return Ok(());
+    }
+    places.resize(number + 256, 0)
+}
+
 impl NumberSet {
     pub fn new(alloc: Global) -> NumberSet
         ensures { result ≡ [] }
@@ -35,7 +48,7 @@ impl NumberSet {
         }
     }
 
-    /// Appends a number that isn't there yet; takes room for all numbers up to it.
+    /// Appends a number that isn't there yet; takes room for all numbers up to it, and for some more.
     pub fn push(&mut self, number: u32) -> Result<(), Memory>
         requires small { number < 2 ^ 26 }
         requires absent { (q : ℕ) → q < length self.old → slice_index self.old q ≡ number → ⊥ }
@@ -43,9 +56,8 @@ impl NumberSet {
         ensures err { OnErr result (self.new ≡ self.old) }
     {
         let at = number as usize;
-        let size = self.places.len().max(at + 1);
         self.numbers.reserve(1)?;
-        self.places.resize(size, 0)?;
+        reach(&mut self.places, at)?;
         self.places[at] = self.numbers.len() as u32 + 1;
         self.numbers.push_reserved(number);
         Ok(())

@@ -41,8 +41,9 @@ impl States {
         ensures { IsNoted self.old row.now target place self.new }
     {
         if target as usize == self.presences.len() {
-            self.counts.push(row.presence());
-            self.presences.push_reserved(row.presence());
+            let presence = row.presence();
+            self.counts.push(presence);
+            self.presences.push_reserved(presence);
             self.firsts.push_reserved(place);
             self.first_entries.push_reserved(*row);
         }

@@ -1,18 +1,18 @@
-use Rattle.std.proofs.Common.{◌≡◌, ℕ, ◌+◌, ◌<◌, ◌≤◌, List, [], ◌∷◌, ◌++◌, length, get_or, refl, sym, ◌∙◌, ap, arith, subst}
-use Rattle.std.specs.Prelude.{slice_set, vec_len}
+use Rattle.std.proofs.Common.{◌≡◌, ℕ, ◌+◌, ◌<◌, List, [], ◌∷◌, ◌++◌, length, get_or, sym, ◌∙◌, ap, arith, subst}
+use Rattle.std.specs.Prelude.{slice_set}
 use Rattle.fort_lockstep.specs.NumberPlaces.{ArePlaces}
-use Rattle.fort_lockstep.proofs.NumberPlaceLaws.{numbers_few, Grown, places_pushed}
+use Rattle.fort_lockstep.proofs.NumberPlaceLaws.{numbers_few, places_pushed}
 use Rattle.fort_lockstep.proofs.number_set.NumberSet.push.Goals as goal
 
 pub overflow_cast-len : goal.overflow_cast-len
 overflow_cast-len c =
     let a = c.self.inside in
-    omega (arith, numbers_few a.numbers.items a.places.items c.self.invariant, c.self.invariant.small, c.len-2.ensures, ap length c.in_ok-reserve.ensures.items)
+    omega (arith, numbers_few a.numbers.items a.places.items c.self.invariant, c.self.invariant.small, c.len.ensures, ap length c.in_ok-reserve.ensures.items)
 
 pub overflow_add-len : goal.overflow_add-len
 overflow_add-len c =
     let a = c.self.inside in
-    omega (arith, numbers_few a.numbers.items a.places.items c.self.invariant, c.self.invariant.small, c.len-2.ensures, ap length c.in_ok-reserve.ensures.items)
+    omega (arith, numbers_few a.numbers.items a.places.items c.self.invariant, c.self.invariant.small, c.len.ensures, ap length c.in_ok-reserve.ensures.items)
 
 pub invariant_of-self-2 : goal.invariant_of-self-2
 invariant_of-self-2 c =
@@ -20,21 +20,10 @@ invariant_of-self-2 c =
     let ns = a.numbers.items in
     let ps = a.places.items in
     let n = c.args.number in
-    let size = c.max-size.result in
-    let grown = c.resize.new.self.items in
-    let room : Grown ps grown size = record {
-      size_is = omega (arith, c.in_ok-resize.ensures.len, c.resize.new.self.ok.0);
-      wider = omega (arith, c.max-size.ensures, c.len.ensures, a.places.ok.0);
-      same = λ k l.
-          let m : k < vec_len a.places = omega (arith, l, a.places.ok.0) in
-          c.in_ok-resize.ensures.by_index.0 k 0 (omega (arith, m, c.max-size.ensures, c.len.ensures)) m;
-      zeros = λ k l m.
-          let o : vec_len a.places ≤ k = omega (arith, l, a.places.ok.0) in
-          c.in_ok-resize.ensures.by_index.1 k 0 refl o m;
-    } in
+    let grown = c.reach.new.places.items in
     let absent : (q : ℕ) → q < length ns → get_or ns q 0 ≡ n → ⊥ = subst (λ (xs : List ℕ). (q : ℕ) → q < length xs → get_or xs q 0 ≡ n → ⊥) (sym c.self.view_is) c.requires.absent in
-    let pushed = places_pushed ns ps grown size n c.self.invariant room (omega (arith, c.max-size.ensures, c.len.ensures, c.requires.small, c.self.invariant.small)) (omega (arith, c.max-size.ensures)) absent in
+    let pushed = places_pushed ns ps grown n c.self.invariant c.in_ok-reach.ensures.ok absent in
     let items : c.push_reserved.new.self.items ≡ ns ++ n ∷ [] = c.push_reserved.ensures.items ∙ ap (λ (xs : List ℕ). xs ++ n ∷ []) c.in_ok-reserve.ensures.items in
-    let count : c.len-2.result ≡ length ns = omega (arith, c.len-2.ensures, ap length c.in_ok-reserve.ensures.items) in
-    subst (λ (xs : List ℕ). ArePlaces xs (slice_set grown n (c.len-2.result + 1))) (sym items)
+    let count : c.len.result ≡ length ns = omega (arith, c.len.ensures, ap length c.in_ok-reserve.ensures.items) in
+    subst (λ (xs : List ℕ). ArePlaces xs (slice_set grown n (c.len.result + 1))) (sym items)
     (subst (λ (k : ℕ). ArePlaces (ns ++ n ∷ []) (slice_set grown n (k + 1))) (sym count) pushed)

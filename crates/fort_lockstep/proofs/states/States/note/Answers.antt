@@ -16,9 +16,9 @@ returns-then-target-len c =
     let ps = old.presences.items in
     let new = c.push.new.self in
     let is : c.args.target ≡ length ps = omega (arith, c.if-target-len.true, c.len.ensures) in
-    let one = c.presence.ensures in
-    let two = c.push_reserved.ensures.items ∙ ap (λ x. ps ++ x ∷ []) c.presence-then-target-len.ensures in
-    let start : IsBefore (ps ++ c.presence.result ∷ []) old.counts.width new.before.items = before_push ps old.counts.width c.presence.result old.counts.before.items new.before.items c.requires.before c.push.ensures.row in
+    let one = c.presence-presence.ensures in
+    let two = c.push_reserved.ensures.items ∙ ap (λ x. ps ++ x ∷ []) one in
+    let start : IsBefore (ps ++ c.presence-presence.result ∷ []) old.counts.width new.before.items = before_push ps old.counts.width c.presence-presence.result old.counts.before.items new.before.items c.requires.before c.push.ensures.row in
     let grown : IsBefore (ps ++ presence c.args.row.now.symbol ∷ []) new.width new.before.items = subst (λ w. IsBefore (ps ++ presence c.args.row.now.symbol ∷ []) w new.before.items) (sym c.push.ensures.width) (subst (λ x. IsBefore (ps ++ x ∷ []) old.counts.width new.before.items) one start) in
     record {
       presences = two ∙ sym (if_equal c.args.target (length ps) _ _ is);
