@@ -9,7 +9,6 @@ use crate::bisect::{Comparisons, target_among};
 use crate::place::{are_counted, place_by_counts, presences_at};
 use crate::states::States;
 use fort_terms::Memory;
-use smallvec::SmallVec;
 use std::alloc::Global;
 use std::marker::Model;
 
@@ -17,7 +16,7 @@ use std::marker::Model;
 /// where these are not counted.
 #[derive(Drop)]
 pub struct KidGroup {
-    targets: SmallVec<u32, 2>,
+    targets: Vec<u32>,
     is_counted: bool,
     wants: Vec<u16>,
     words: Vec<u32>,
@@ -83,7 +82,7 @@ impl KidGroup {
         let presences = states.presences.as_slice();
         let wants = presences_at(alloc, presences, kids)?;
         Ok(KidGroup {
-            targets: SmallVec::new(alloc),
+            targets: Vec::new(alloc),
             is_counted: are_counted(presences, states.counts.width, kids),
             wants,
             words: Vec::new(alloc),

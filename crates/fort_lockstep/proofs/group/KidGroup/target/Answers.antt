@@ -27,7 +27,7 @@ place_by_counts-requires-clause-room g c =
     let e : c.args.self.now.is_counted ≡ true = ap (λ (x : Kept). x.is_counted) (sym c.self.view_is) ∙ c.if-self.true in
     let r = placed s.counts.width s.presences.items c.args.self.now ks c.requires.kept c.requires.there e (c.requires.full e) in
     let same = ap (λ (ps : List ℕ). space ps (wants_at ps ks)) c.as_slice-presences.ensures.value in
-    let count = ap length (c.as_slice-targets.ensures ∙ ap (λ (x : Kept). x.targets) c.self.view_is) in
+    let count = ap length (c.as_slice-targets.ensures.value ∙ ap (λ (x : Kept). x.targets) c.self.view_is) in
     omega (arith, r.room, same, count)
 
 pub returns-then-self-clause-beside : goal.returns-then-self-clause-beside
@@ -39,6 +39,6 @@ returns-then-self-clause-beside g c =
     let e : x.is_counted ≡ true = ap (λ (x : Kept). x.is_counted) (sym c.self.view_is) ∙ c.if-self.true in
     let r = placed s.counts.width ps x ks c.requires.kept c.requires.there e (c.requires.full e) in
     let at : c.place_by_counts.result ≡ place_in_order ps (wants_at ps ks) ks = c.place_by_counts.ensures.place ∙ ap (λ (v : List ℕ). place_in_order v (wants_at v ks) ks) c.as_slice-presences.ensures.value in
-    let is : x.targets ≡ c.as_slice-targets.result.now = sym (c.as_slice-targets.ensures ∙ ap (λ (x : Kept). x.targets) c.self.view_is) in
+    let is : x.targets ≡ c.as_slice-targets.result.now = sym (c.as_slice-targets.ensures.value ∙ ap (λ (x : Kept). x.targets) c.self.view_is) in
     let b = r.beside c.place_by_counts.result at in
     record { place = b.place; within = b.within; kids = b.kids; target = ap (λ (qs : List ℕ). get_or qs c.place_by_counts.result 0) (sym is) ∙ b.target }
