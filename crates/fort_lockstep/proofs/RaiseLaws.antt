@@ -5,11 +5,13 @@ use Rattle.std.proofs.lemmas.List.{length-append}
 use Rattle.std.proofs.lemmas.Bool.{le-ltb}
 use Rattle.fort_theory.specs.Signatures.{Signature}
 use Rattle.fort_tables.specs.Tuples.{TupleSymbol, arity, symbol_kids, kid_presence}
-use Rattle.fort_tables.specs.Entries.{entry, stage}
+use Rattle.fort_tables.specs.Entries.{entry, stage, IsNextEntry}
 use Rattle.fort_lockstep.specs.Columns.{symbol_of}
-use Rattle.fort_lockstep.specs.Candidates.{column_arity}
+use Rattle.fort_lockstep.specs.Candidates.{column_arity, AreArities}
 use Rattle.fort_lockstep.specs.Walks.{AreUpTo, Place, wants, wants_from, digit_lists, digits_after, stage_kids, stage_kids_after, stage_entries}
-use Rattle.fort_lockstep.specs.WalkFacts.{IsPlace, IsFound}
+use Rattle.fort_lockstep.specs.WalkFacts.{place, entry_at, IsPlace, IsFound, IsRaised}
+use Rattle.fort_lockstep.specs.declared.walk.Walk.{Walk}
+use Rattle.fort_lockstep.proofs.StepLaws.{next_found}
 use Rattle.fort_lockstep.proofs.WalkLaws.{found_there}
 
 -- a column without children counts for nothing
@@ -72,3 +74,24 @@ raised_found sig ps pl ds d next ks p within old new l z z' u s first =
       width = width;
       next = ap (stage_entries sig ps pl.stage) lists ∙ ap (λ ls. map (entry (symbol_of next)) ls ++ stage_entries sig ps pl.stage (digits_after (length sig) next)) there;
     })
+
+no_kids : (ks : List ℕ) → stage ks ≡ 0 → ks ≡ []
+no_kids [] h = refl
+no_kids (k ∷ ks) h = absurd (omega (arith, h))
+
+-- a walk that only raised its last digit stands at the first entry behind
+pub raised_there : (sig : Signature) (ps : List ℕ) (old new : Walk) → IsPlace sig (place old) → AreArities sig old.arities → IsRaised old new → IsFound sig ps old.stage old.digits (place new)
+raised_there sig ps old new p a r =
+    let none : old.kids ≡ [] = no_kids old.kids (p.stage ∙ r.at_stage) in
+    let first : stage_kids ps old.stage old.wanted ≡ old.kids ∷ stage_kids_after ps old.stage old.wanted old.kids = rw (r.at_stage, r.unwanted, none) refl in
+    rw (r.same.stage, r.same.kids, r.same.wanted)
+    (raised_found sig ps (place old) r.others r.last new.digits old.kids p (omega (arith, r.at_stage)) r.before r.after
+    (omega (arith, r.flat, a.within)) (a.is_flat r.last (omega (arith, r.flat))) (a.is_flat (r.last + 1) r.flat)
+    p.kids p.stage first)
+
+-- which is the next one
+pub raised_next : (sig : Signature) (ps : List ℕ) (old new : Walk) → IsPlace sig (place old) → AreArities sig old.arities → IsRaised old new → IsNextEntry sig (length old.digits) ps (entry_at (place old)) (entry_at (place new))
+raised_next sig ps old new p a r =
+    let within : old.stage ≤ length ps = omega (arith, r.at_stage) in
+    let none : stage_kids_after ps old.stage (wants sig (symbol_of old.digits)) old.kids ≡ [] = rw r.at_stage refl in
+    next_found sig ps (place old) (place new) p within none (raised_there sig ps old new p a r)

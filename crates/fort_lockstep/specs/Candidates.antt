@@ -46,6 +46,7 @@ IsFlat sig flat = (d : ℕ) → d < flat → column_arity sig d ≡ 0
 pub record AreArities (sig : Signature) (a : Arities) : Type 0 where
   pub at_most : AreAtMost sig a.most
   pub is_flat : IsFlat sig a.flat
+  pub within : a.flat ≤ length sig + 1
 
 -- what leaves no child has no entry at the stage
 abbrev pub LeavesOut : Signature → List ℕ → ℕ → KidRange → Type 0

@@ -83,14 +83,15 @@ impl Arities {
 
 /// So many digits in front have no arguments.
 fn flat_digits(sig: &Signature) -> u32
-    ensures { IsFlat sig.now result }
+    ensures flat { IsFlat sig.now result }
+    ensures within { result ≤ length sig.now + 1 }
 {
     for digit in 1..sig.len() as u32 + 1 {
         if digit_arity(sig, digit) > 0 {
             return digit;
         }
     }
-    0
+    sig.len() as u32 + 1
 }
 
 /// The greatest arity of a symbol.

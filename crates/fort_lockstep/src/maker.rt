@@ -56,8 +56,8 @@ impl Maker {
         let base = signature.len() as u32 + 1;
         let given = Given::new(alloc, counted(columns), base, columns)?;
         let mut walk = Walk::new(&signature, columns);
-        let is_due = walk.advance(&signature, &[]);
-        let row = walk.row();
+        let mut row = walk.row();
+        let is_due = walk.advance_row(&signature, &[], &mut row);
         Ok(Maker {
             signature,
             columns,
@@ -100,8 +100,9 @@ impl Maker {
     {
         let _symbols = self.signature.len();
         self.given.push(&self.row, target)?;
-        self.is_due = self.walk.advance(&self.signature, self.given.presences());
-        self.walk.write_row(&mut self.row);
+        self.is_due = self
+            .walk
+            .advance_row(&self.signature, self.given.presences(), &mut self.row);
         Ok(())
     }
 

@@ -1,5 +1,5 @@
 //! Entries.
-ghost use Rattle.std.specs.Prelude.{◌≡◌, ℕ, ◌≤◌, ◌^◌, ◌<◌, ◌↔◌, map, length, slice_index_or, slice_get, Some, IsTrue};
+ghost use Rattle.std.specs.Prelude.{◌≡◌, ℕ, ◌+◌, ◌≤◌, ◌^◌, ◌<◌, ◌↔◌, List, [], ◌∷◌, ◌++◌, map, length, slice_index_or, slice_get, Some, IsTrue};
 ghost use Rattle.fort_tables.specs.Tuples.{presence};
 ghost use Rattle.fort_tables.specs.Entries.{entry};
 ghost use Rattle.fort_lockstep.specs.Columns.{as_column, symbol_of, digit_of};
@@ -65,6 +65,18 @@ impl Row {
         self.count = kids.len();
         self.kids = [0; 8];
         self.kids[..kids.len()].copy_from_slice(kids);
+    }
+
+    /// The last column's digit is one more.
+    pub(crate) fn raise_last(&mut self)
+        requires { (ds : List ℕ) × (d : ℕ) × (self.old.symbol ≡ symbol_of (ds ++ d ∷ []))
+            × (d < 65536) }
+        ensures symbol { (ds : List ℕ) (d : ℕ) → self.old.symbol ≡ symbol_of (ds ++ d ∷ [])
+            → self.new.symbol ≡ symbol_of (ds ++ (d + 1) ∷ []) }
+        ensures kids { self.new.kids ≡ self.old.kids }
+    {
+        let last = self.len - 1;
+        self.digits[last] += 1;
     }
 
     /// 0 stands for absent, and one more than its number for a symbol.

@@ -1,42 +1,39 @@
-use Rattle.std.proofs.Common.{ℕ, ◌+◌, map, length, sym, ◌∙◌, subst, arith}
+use Rattle.std.proofs.Common.{ℕ, ◌+◌, map, length, sym, ◌∙◌, subst}
 use Rattle.fort_tables.specs.Entries.{Entry}
 use Rattle.fort_tables.specs.Tables.{Made, IsMadeDue, IsAllowed, IsGiven}
 use Rattle.fort_lockstep.specs.WalkFacts.{place, entry_at}
 use Rattle.fort_lockstep.specs.MakerInside.{made_in}
 use Rattle.fort_lockstep.specs.Columns.{digit_of}
 use Rattle.fort_lockstep.specs.DigitNumbers.{AreDigits}
-use Rattle.fort_lockstep.proofs.Bounds.{bound-up_to, symbol_digits}
+use Rattle.fort_lockstep.proofs.Bounds.{symbol_digits}
 use Rattle.fort_lockstep.specs.Making.{made_of}
 use Rattle.fort_lockstep.proofs.GiveLaws.{pushed_few, at_due, given_grown, given_is, stands_after}
 use Rattle.fort_lockstep.specs.GroupFacts.{IsDue}
 use Rattle.fort_lockstep.proofs.FullLaws.{standing_due_in}
 use Rattle.fort_lockstep.proofs.maker.Maker.give.Goals as goal
 
-pub write_row-requires-clause-small : goal.write_row-requires-clause-small
-write_row-requires-clause-small c = bound-up_to 65536 (length c.self.inside.signature) c.advance-self-inside.new.self.digits (omega (arith, c.len-symbols.ensures.lawful.few)) c.advance-self-inside.ensures.place.digits
-
 pub invariant_of-self-2 : goal.invariant_of-self-2
 invariant_of-self-2 c =
     let a = c.self.inside in
     let i = c.self.invariant in
     let old = place a.walk in
-    let new = place c.advance-self-inside.new.self in
+    let new = place c.advance_row-self-inside.new.self in
     let g' = c.push.new.self in
     let allowed : IsAllowed (made_in a) c.requires.allowed.0 c.args.target = subst (λ (m : Made). IsAllowed m c.requires.allowed.0 c.args.target) (sym c.self.view_is) c.requires.allowed.1 in
     let r = given_grown a.signature a.columns a.given g' a.row (entry_at old) c.requires.allowed.0 a.is_due c.args.target i.making i.stands allowed c.self.invariant.row c.in_ok-push.ensures.pushed in
-    let next = rw c.presences.ensures at c.advance-self-inside.ensures.next in
+    let next = rw c.presences.ensures at c.advance_row-self-inside.ensures.next in
     record {
       some = i.some;
       narrow = i.narrow;
       base = c.in_ok-push.ensures.pushed.base ∙ i.base;
       columns = c.in_ok-push.ensures.pushed.columns ∙ i.columns;
       few = pushed_few a.given g' a.row c.args.target i.few c.requires.few c.in_ok-push.ensures.pushed;
-      width = c.advance-self-inside.ensures.width ∙ i.width;
-      placed = c.advance-self-inside.ensures.place;
-      row = c.write_row.ensures;
-      arities = rw c.advance-self-inside.ensures.arities i.arities;
+      width = c.advance_row-self-inside.ensures.width ∙ i.width;
+      placed = c.advance_row-self-inside.ensures.place;
+      row = c.advance_row-self-inside.ensures.row;
+      arities = rw c.advance_row-self-inside.ensures.arities i.arities;
       making = r.making;
-      stands = stands_after (made_of a.signature a.columns g') old new c.advance-self-inside.result r.up_to i.width next;
+      stands = stands_after (made_of a.signature a.columns g') old new c.advance_row-self-inside.result r.up_to i.width next;
     }
 
 pub returns-clause-given : goal.returns-clause-given
