@@ -1,8 +1,9 @@
 -- One step through the states of a presence.
-use Rattle.std.proofs.Common.{◌≡◌, ℕ, zero, suc, ◌+◌, ◌-◌, ◌<◌, ◌≤◌, max, if◌then◌else◌, List, [], ◌∷◌, ◌++◌, map, get_or, Bool, true, false, ◌||◌, ◌==◌, refl, ap, sym, ◌∙◌, arith, ⊎_elim}
-use Rattle.std.proofs.lemmas.Bool.{cases_lt, cases_eq}
+use Rattle.std.proofs.Common.{◌≡◌, ℕ, zero, suc, ◌+◌, ◌-◌, ◌<◌, ◌≤◌, max, if◌then◌else◌, List, [], ◌∷◌, ◌++◌, map, length, get_or, Bool, true, false, ◌||◌, ◌==◌, refl, ap, sym, ◌∙◌, arith, ⊎_elim}
+use Rattle.std.proofs.lemmas.Bool.{cases_lt, cases_eq, eq-eqb}
+use Rattle.fort_tables.specs.Entries.{stage}
 use Rattle.fort_tables.proofs.EqualTests.{if_equal, if_apart, test_from_apart, equal_from_test, apart_from_test}
-use Rattle.fort_lockstep.specs.Walks.{states_with, kid_lists, kid_lists_from, is_wanted, first_tried}
+use Rattle.fort_lockstep.specs.Walks.{states_with, kid_lists, kid_lists_from, kids_after, stage_kids_after, is_wanted, first_tried}
 
 left_is : (q m : ℕ) → q ≤ m → m + 1 - q ≡ suc (m + 1 - (q + 1))
 left_is q m h = omega arith
@@ -73,3 +74,43 @@ first_tried-same ps want from m ws false h =
           (cases_lt m from))
     ] in
     both (is_wanted (get_or ps m 0) ws) refl
+
+if_same : {X : Type 0} (b : Bool) (x : X) → (if b then x else x) ≡ x
+if_same true x = refl
+if_same false x = refl
+
+none_past : (ps : List ℕ) (want m : ℕ) → states_with ps want (m + 1) (m + 1 - (m + 1)) ≡ []
+none_past ps want m = let e : m + 1 - (m + 1) ≡ 0 = omega arith in ap (states_with ps want (m + 1)) e
+
+-- behind the greatest state alone there is no list
+none_behind : (ps : List ℕ) (m : ℕ) (ws : List ℕ) → kids_after ps m ws false (m ∷ []) ≡ []
+none_behind ps m [] = refl
+none_behind ps m (p ∷ []) =
+    ap (λ ks. ks ++ kid_lists_from ps m [] false (states_with ps p (m + 1) (m + 1 - (m + 1)))) (if_same (get_or ps m 0 == p) [])
+    ∙ ap (kid_lists_from ps m [] false) (none_past ps p m)
+none_behind ps m (p ∷ w ∷ ws) =
+    ap (λ ks. ks ++ kid_lists_from ps m (w ∷ ws) false (states_with ps p (m + 1) (m + 1 - (m + 1)))) (if_same (get_or ps m 0 == p) [])
+    ∙ ap (kid_lists_from ps m (w ∷ ws) false) (none_past ps p m)
+
+-- an entry with at most one child is the only one of its symbol at its stage
+pub none_for_one : (ps : List ℕ) (s : ℕ) (ws ks : List ℕ) → stage ks ≡ s → length ks < 2 → stage_kids_after ps s ws ks ≡ []
+none_for_one ps s ws [] e l = ap (λ k. stage_kids_after ps k ws []) (sym e)
+none_for_one ps s ws (k ∷ []) e l =
+    let at : suc k ≡ s = omega (arith, e) in
+    ap (λ i. stage_kids_after ps i ws (k ∷ [])) (sym at) ∙ none_behind ps k ws
+none_for_one ps s ws (k ∷ q ∷ ks) e l = absurd (omega arith)
+
+-- the one list of a single child
+pub one_list : (ps : List ℕ) (want m : ℕ) → get_or ps m 0 ≡ want → kid_lists ps m (want ∷ []) false ≡ (m ∷ []) ∷ kids_after ps m (want ∷ []) false (m ∷ [])
+one_list ps want m e =
+    let all : ℕ → List (List ℕ) = λ n. kid_lists_from ps m [] false (states_with ps want 0 n) in
+    let start : m + 1 ≡ m + 1 - 0 = omega arith in
+    let here = ap (kid_lists_from ps m [] false) (states_here ps want m m (omega arith) e) in
+    let last = ap (λ b. map (λ ks. m ∷ ks) (kid_lists ps m [] b) ++ kid_lists_from ps m [] false (states_with ps want (m + 1) (m + 1 - (m + 1)))) (eq-eqb m m refl) in
+    let none = ap (λ qs. (m ∷ []) ∷ kid_lists_from ps m [] false qs) (none_past ps want m) in
+    ap all start ∙ (sym (skipped ps want m [] refl m 0 (omega arith)) ∙ (here ∙ (last ∙ (none ∙ ap (λ ls. (m ∷ []) ∷ ls) (sym (none_behind ps m (want ∷ [])))))))
+
+pub no_list : (ps : List ℕ) (want m : ℕ) → (get_or ps m 0 ≡ want → ⊥) → kid_lists ps m (want ∷ []) false ≡ []
+no_list ps want m ne =
+    let apart : (want == get_or ps m 0) ≡ false = test_from_apart want (get_or ps m 0) (λ e. ne (sym e)) in
+    nothing_left ps m (want ∷ []) (ap (λ b. b || false) apart)

@@ -5,7 +5,7 @@ ghost use Rattle.fort_theory.specs.Signatures as theory;
 ghost use Rattle.fort_lockstep.specs.Walks.{AreUpTo, GivesFirst, some_if, with_others};
 ghost use Rattle.fort_lockstep.specs.Candidates.{column_arity, narrowed, candidates, candidates_from, candidates_after, AreAtMost, AreArities, IsFlat, LeavesOut};
 
-use crate::digits::{DigitRow, digit_arity};
+use crate::digits::{DigitRow, column_arity, digit_arity};
 use fort_terms::Signature;
 
 /// The children `from..to`, which have the right presence in the columns so far.
@@ -36,18 +36,6 @@ impl KidRange {
                 to: self.to,
             }
         }
-    }
-}
-
-/// How many arguments the symbol of a digit has; an absent column has none.
-fn column_arity(sig: &Signature, digit: u32) -> usize
-    requires { digit ≤ length sig.now }
-    ensures { result ≡ column_arity sig.now digit }
-{
-    if digit == 0 {
-        0
-    } else {
-        digit_arity(sig, digit)
     }
 }
 

@@ -1,8 +1,22 @@
 //! Lists of child states in order, up to the state that has to be among them.
-ghost use Rattle.std.specs.Prelude.{◌≡◌, ℕ, ◌^◌, ◌+◌, ◌-◌, ◌<◌, ◌≤◌, List, [], ◌∷◌, ◌++◌, length, slice_index_or, IfSome, ◌||◌, ◌==◌};
+ghost use Rattle.std.specs.Prelude.{◌≡◌, ℕ, ◌^◌, ◌+◌, ◌-◌, ◌<◌, ◌≤◌, List, [], ◌∷◌, ◌++◌, length, slice_index_or, IfSome, ◌||◌, ◌==◌, false};
 ghost use Rattle.fort_lockstep.specs.Walks.{kid_lists, kid_lists_from, kids_after, states_with, AreUpTo, GivesFirst, is_wanted, first_tried};
 
 use crate::kid_row::KidRow;
+
+/// The one list of a single kid.
+pub fn only_kid(want: u32, presences: &[u16], greatest: u32) -> Option<KidRow>
+    requires { greatest < length presences.now }
+    ensures states { IfSome result (λ ks. AreUpTo greatest ks) }
+    ensures next { GivesFirst (kid_lists presences.now greatest (want ∷ []) false)
+        (kids_after presences.now greatest (want ∷ []) false) result }
+{
+    if u32::from(presences[greatest as usize]) == want {
+        Some(KidRow::empty().with_first(greatest))
+    } else {
+        None
+    }
+}
 
 /// The first list of kids.
 #[cycle(kids)]
