@@ -100,6 +100,17 @@ pub entry_numbered : (sig : Signature) (n : ℕ) (table : Table) (list : FlatTar
 entry_numbered sig n table list places i labels e number is over m h =
     operand_entry n table places i labels e is (own_signature sig n table places i labels e over) (number_present list.base (selected places e.symbol) (λ z. h (m ∙ z)))
 
+-- where the whole entry has no children, it has none
+module _ (table : Table) (places : List ℕ) (i : ℕ) (labels : List (List ℕ)) (e : Entry) (x : IsOperandEntry table places i e (labels_at labels e.kids)) (none : e.kids ≡ []) where
+  no_kids : symbol_kids table.signature (selected places e.symbol) ≡ 0
+  no_kids = omega (arith, x.count, length-map e.kids (λ q. get_or labels q []), ap length none)
+
+  pub constant_entry : IsTableEntry table (entry (selected places e.symbol) [])
+  constant_entry = subst (λ (ks : List ℕ). IsTableEntry table (entry (selected places e.symbol) ks)) (ap (λ m. map (state_at i) (take m (labels_at labels e.kids))) no_kids) x.entry
+
+  pub constant_step : (j : ℕ) → is_present (selected places e.symbol) ≡ true → operand_step j (OfTable table places) e.symbol [] ≡ suc (table.target (entry (selected places e.symbol) []))
+  constant_step j there = step_present table places j e.symbol [] there ∙ ap (λ m. suc (table.target (entry (selected places e.symbol) (map (state_at j) (take m []))))) no_kids
+
 -- where its target stands
 module _ (table : Table) (list : FlatTargets) (places : List ℕ) (i : ℕ) (ws : List (List ℕ)) (e : Entry) (is : IsFlatOf table list) (x : IsOperandEntry table places i e ws)
     (number start count : ℕ) (states : List ℕ) (m : number ≡ number_of list.base (selected places e.symbol)) (s : start ≡ get_or list.listing.starts.items number 0)

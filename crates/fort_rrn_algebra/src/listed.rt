@@ -1,5 +1,5 @@
 //! The labels of products by the operands' targets in lists.
-ghost use Rattle.std.specs.Prelude.{◌≡◌, ◌<◌, ◌≤◌, ◌+◌, ◌*◌, ◌^◌, length, slice_index, IfOk, IfSome};
+ghost use Rattle.std.specs.Prelude.{◌≡◌, ℕ, ◌<◌, ◌≤◌, ◌+◌, ◌*◌, ◌^◌, List, [], length, slice_index, IfOk, IfSome};
 ghost use Rattle.fort_theory.specs.Signatures as theory;
 ghost use Rattle.fort_tables.specs.Tuples.{AreSymbols, symbol_kids};
 ghost use Rattle.fort_tables.specs.Labels.{IsOverLabels};
@@ -17,7 +17,7 @@ use crate::flat::FlatTargets;
 use crate::operand::Operand;
 use crate::words::{operand_word, states_at};
 use fort_explore::Rows;
-use fort_lockstep::{Row, Table, TupleSym};
+use fort_lockstep::{Row, Table};
 use fort_terms::{Memory, Signature, Sym};
 use std::alloc::Global;
 
@@ -46,31 +46,31 @@ fn number_before(column: Option<Sym>, base: usize, number: usize) -> usize
 }
 
 /// The number of the columns at these places.
-fn selected_number(base: usize, sym: &TupleSym, places: &[usize]) -> usize
+fn selected_number(base: usize, row: &Row, places: &[usize]) -> usize
     requires some { 0 < base }
-    requires within { ArePlaces (length sym.now) places.now }
-    requires small { number_of base (selected places.now sym.now) < 4194304 }
-    ensures { result ≡ number_of base (selected places.now sym.now) }
+    requires within { ArePlaces (length row.now.symbol) places.now }
+    requires small { number_of base (selected places.now row.now.symbol) < 4194304 }
+    ensures { result ≡ number_of base (selected places.now row.now.symbol) }
 {
     let mut number = 0;
     for k in 0..places.len() {
-        let column = sym.symbol(places[places.len() - 1 - k]);
+        let column = row.symbol(places[places.len() - 1 - k]);
         number = number_before(column, base, number);
     }
     number
 }
 
 /// How many children the columns at these places have.
-fn selected_kids(sig: &Signature, sym: &TupleSym, places: &[usize]) -> usize
-    requires within { ArePlaces (length sym.now) places.now }
-    requires symbols { AreSymbols sig.now (selected places.now sym.now) }
-    ensures count { result ≡ symbol_kids sig.now (selected places.now sym.now) }
+fn selected_kids(sig: &Signature, row: &Row, places: &[usize]) -> usize
+    requires within { ArePlaces (length row.now.symbol) places.now }
+    requires symbols { AreSymbols sig.now (selected places.now row.now.symbol) }
+    ensures count { result ≡ symbol_kids sig.now (selected places.now row.now.symbol) }
     ensures few { result ≤ 8 }
 {
     let _symbols = sig.len();
     let mut count = 0;
     for k in 0..places.len() {
-        if let Some(symbol) = sym.symbol(places[k]) {
+        if let Some(symbol) = row.symbol(places[k]) {
             let arity = sig.arity(symbol) as usize;
             if count < arity {
                 count = arity;
@@ -105,14 +105,30 @@ fn listed_word<T: Table>(
 {
     let _columns = table.columns();
     let _states = table.states();
-    let symbol = row.sym();
-    let number = selected_number(list.base, &symbol, places);
+    let number = selected_number(list.base, row, places);
     if number == 0 {
         return 0;
     }
-    let count = selected_kids(table.signature(), &symbol, places);
+    let count = selected_kids(table.signature(), row, places);
     let states = states_at(row, rows, at, count);
     list.target(start_at(list, number), &states[..count]) as u64 + 1
+}
+
+/// A table's word as an operand where the entry has no children: then its tuple symbol has one target.
+fn constant_word<T: Table>(table: &T, list: &FlatTargets, places: &[usize], row: &Row) -> u64
+    requires list { IsFlatOf (T.table table.now) list.now }
+    requires none { row.now.kids ≡ [] }
+    requires over { (sig : theory.Signature) × (i : ℕ) × (labels : List (List ℕ)) × IsOverWords sig
+        (length row.now.symbol) (products.OfTable (T.table table.now) places.now) i labels row.now }
+    ensures { (i : ℕ) → result ≡ products.operand_step i (products.OfTable (T.table table.now)
+        places.now) row.now.symbol [] }
+{
+    let _columns = table.columns();
+    let number = selected_number(list.base, row, places);
+    if number == 0 {
+        return 0;
+    }
+    list.target(start_at(list, number), &[]) as u64 + 1
 }
 
 /// An operand's word, by its targets in one list where there is one.
@@ -133,6 +149,30 @@ pub(crate) fn word_by<T: Table>(
         None => operand_word(operand, at, row, rows),
         Some(list) => match operand {
             Operand::Auto(table, places) => listed_word(*table, list, places, at, row, rows),
+            Operand::Truth(_) => 0,
+        },
+    }
+}
+
+/// The same where the entry has no children.
+fn constant_by<T: Table>(
+    operand: &Operand<'_, T>,
+    list: Option<&FlatTargets>,
+    at: usize,
+    row: &Row,
+    rows: &Rows,
+) -> u64
+    requires none { row.now.kids ≡ [] }
+    requires list { IfSome list (λ l. IsListOf (operand_of T.table operand.now) l.now) }
+    requires over { (sig : theory.Signature) × IsOverWords sig (length row.now.symbol)
+        (operand_of T.table operand.now) at rows.now.labels row.now }
+    ensures { result ≡ products.operand_step at (operand_of T.table operand.now) row.now.symbol
+        (labels_at rows.now.labels row.now.kids) }
+{
+    match list {
+        None => operand_word(operand, at, row, rows),
+        Some(list) => match operand {
+            Operand::Auto(table, places) => constant_word(*table, list, places, row),
             Operand::Truth(_) => 0,
         },
     }
@@ -164,6 +204,12 @@ pub(crate) fn write_both<T: Table>(
         (operand_of T.table first.now) (operand_of T.table second.now)) rows.now.labels row.now }
 {
     out[0] = row.presence() as u64;
+    // Most entries have no children.
+    if row.kids().is_empty() {
+        out[1] = constant_by(first, first_list, 1, row, rows);
+        out[2] = constant_by(second, second_list, 2, row, rows);
+        return;
+    }
     out[1] = word_by(first, first_list, 1, row, rows);
     out[2] = word_by(second, second_list, 2, row, rows);
 }

@@ -5,6 +5,6 @@ use Rattle.fort_rrn_algebra.proofs.listed.selected_kids.Given as goal
 
 abbrev pub invariant-loop-k : goal.invariant-loop-k
 invariant-loop-k l = record {
-  count : l.count ≡ symbol_kids l.sig (take l.k (selected l.places l.sym));
+  count : l.count ≡ symbol_kids l.sig (take l.k (selected l.places l.row.symbol));
   few : l.count ≤ 8;
 }

@@ -9,7 +9,7 @@ use Rattle.fort_rrn_algebra.proofs.listed.selected_number.Goals as goal
 pub number_before-number-requires : goal.number_before-number-requires
 number_before-number-requires c =
     let base = c.args.base in
-    let f = c.args.sym.now in
+    let f = c.args.row.now.symbol in
     let places = c.args.places.now in
     let k = c.loop-k.k in
     let low : k < length places = omega (arith, c.loop-k-test.true) in
@@ -18,14 +18,14 @@ number_before-number-requires c =
 
 pub loop-k-init : goal.loop-k-init
 loop-k-init c =
-    let f = selected c.args.places.now c.args.sym.now in
-    let long : length f ≤ length c.args.places.now - 0 = omega (arith, length-map c.args.places.now (λ p. get_or c.args.sym.now p None)) in
+    let f = selected c.args.places.now c.args.row.now.symbol in
+    let long : length f ≤ length c.args.places.now - 0 = omega (arith, length-map c.args.places.now (λ p. get_or c.args.row.now.symbol p None)) in
     sym (ap (number_of c.args.base) (drop_all (length c.args.places.now - 0) f long))
 
 pub loop-k-preserved : goal.loop-k-preserved
 loop-k-preserved c =
     let base = c.args.base in
-    let f = c.args.sym.now in
+    let f = c.args.row.now.symbol in
     let places = c.args.places.now in
     let k = c.loop-k.k in
     let low : k < length places = omega (arith, c.loop-k-test.true) in
@@ -35,4 +35,4 @@ pub returns : goal.returns
 returns c =
     let places = c.args.places.now in
     let none : length places - c.loop-k.k ≡ 0 = omega (arith, c.loop-k-test.false) in
-    c.loop-k.invariant ∙ ap (λ n. number_of c.args.base (drop n (selected places c.args.sym.now))) none
+    c.loop-k.invariant ∙ ap (λ n. number_of c.args.base (drop n (selected places c.args.row.now.symbol))) none

@@ -17,3 +17,18 @@ returns g c =
     let b = c.word_by.ensures in
     let d = c.word_by-2.ensures in
     three_words c.args.out.now _ _ _ c.requires.room ∙ (λ i. a i ∷ b i ∷ d i ∷ [])
+
+pub constant_by-requires-clause-over : goal.constant_by-requires-clause-over
+constant_by-requires-clause-over g c =
+    (_, over_first _ (length c.args.row.now.symbol) (operand_of g.T.Table.table c.args.first.now) (operand_of g.T.Table.table c.args.second.now) c.args.rows.now.labels c.args.row.now c.requires.operands c.requires.over)
+
+pub constant_by-requires-then-is_empty-clause-over : goal.constant_by-requires-then-is_empty-clause-over
+constant_by-requires-then-is_empty-clause-over g c =
+    (_, over_second _ (length c.args.row.now.symbol) (operand_of g.T.Table.table c.args.first.now) (operand_of g.T.Table.table c.args.second.now) c.args.rows.now.labels c.args.row.now c.requires.operands c.requires.over)
+
+pub returns-then-is_empty : goal.returns-then-is_empty
+returns-then-is_empty g c =
+    let a = c.presence.ensures in
+    let b = c.constant_by.ensures in
+    let d = c.constant_by-then-is_empty.ensures in
+    three_words c.args.out.now _ _ _ c.requires.room ∙ (λ i. a i ∷ b i ∷ d i ∷ [])
