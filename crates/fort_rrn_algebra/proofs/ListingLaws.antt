@@ -196,6 +196,10 @@ states_entry body f chosen j s count l h =
       presence = λ i a. let m : i < j = omega (arith, w) in ap (λ k. get_or body.presences k 0) (get_or-take j chosen i 0 m) ∙ (h i m).1;
     }
 
+-- the entry of a tuple symbol without children
+pub entry_alone : (body : Table) (f : TupleSymbol) → IsTupleSymbol body.signature body.columns f → symbol_kids body.signature f ≡ 0 → IsTableEntry body (entry f [])
+entry_alone body f s e = states_entry body f [] 0 s (sym e) (omega arith) (λ i l. absurd (omega (arith, l)))
+
 -- one more child has its state
 pub state_more : (body : Table) (f : TupleSymbol) (chosen : List ℕ) (j k : ℕ) → j < length chosen → ((i : ℕ) → i < j → IsStateFor body f i (get_or chosen i 0)) → IsStateFor body f j k → (i : ℕ) → i < j + 1 → IsStateFor body f i (get_or (set chosen j k) i 0)
 state_more body f chosen j k l h s i b = ⊎_elim

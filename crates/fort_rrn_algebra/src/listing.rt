@@ -172,6 +172,10 @@ impl Listing {
             return Ok(());
         }
         let count = kid_count(body.signature(), &symbol);
+        if count == 0 {
+            self.targets.push(body.target(&symbol, &[]))?;
+            return Ok(());
+        }
         lay(body, chains, &symbol, [0; 8], 0, count, &mut self.targets)
     }
 
