@@ -1,15 +1,17 @@
 -- The places of numbers in a list: one more number, and how many there can be.
-use Rattle.std.proofs.Common.{◌≡◌, ℕ, suc, ◌+◌, ◌-◌, ◌<◌, ◌≤◌, List, [], ◌∷◌, ◌++◌, length, get_or, true, refl, ap, sym, ◌∙◌, arith, ⊎_elim}
+use Rattle.std.proofs.Common.{◌≡◌, ℕ, suc, ◌+◌, ◌-◌, ◌<◌, ◌≤◌, List, [], ◌∷◌, ◌++◌, length, get_or, ◌==◌, true, refl, ap, sym, ◌∙◌, arith, subst, ⊎_elim}
 use Rattle.std.specs.Prelude.{slice_set}
-use Rattle.std.specs.List.{list_any}
+use Rattle.std.specs.List.{list_any, position_or_len}
 use Rattle.std.proofs.Math.Dec.{eqb}
-use Rattle.std.proofs.lemmas.Bool.{cases_lt}
+use Rattle.std.proofs.lemmas.Bool.{cases_lt, eq-eqb}
 use Rattle.std.proofs.lemmas.Bool.Decides.{eqb_tells}
 use Rattle.std.proofs.lemmas.Grind.{get_or-set_at, get_or_default_zero}
-use Rattle.std.proofs.lemmas.List.{length_push, get_or_push, get_or_append_left, length-set, get_or-set_other}
+use Rattle.std.proofs.lemmas.List.{ext_get_or, length_push, get_or_push, get_or_append_left, length-set, get_or-set_other}
+use Rattle.std.proofs.lemmas.List.Sums.{position_or_len_is}
 use Rattle.std.proofs.lemmas.Map.Keys.{IsDistinct-from_apart}
 use Rattle.std.proofs.lemmas.Map.Steps.{length-le_from_distinct_below}
-use Rattle.fort_lockstep.specs.NumberPlaces.{ArePlaces, IsWider}
+use Rattle.fort_tables.proofs.TupleLaws.{length-tabulate, get_or-tabulate}
+use Rattle.fort_lockstep.specs.NumberPlaces.{numbers_in, ArePlaces, IsWider}
 
 any_below : (xs : List ℕ) (n : ℕ) → ((k : ℕ) → k < length xs → get_or xs k 0 < n) → (q : ℕ) → list_any (eqb q) xs ≡ true → q < n
 any_below [] n h q e = absurd cc
@@ -18,6 +20,9 @@ any_below (x ∷ xs) n h q e =
     (λ t. omega (arith, t.1, h 0 (omega arith)))
     (λ f. any_below xs n (λ k l. h (suc k) (omega arith)) q (rw f.0 at e))
     (eqb_tells q x)
+
+pub numbers_length : (count : ℕ) (ps : List ℕ) → length (numbers_in count ps) ≡ count
+numbers_length count ps = length-tabulate count (λ q. position_or_len (λ p. p == q + 1) ps)
 
 -- since each has a place of its own, there are no more than places
 pub numbers_few : (ns ps : List ℕ) → ArePlaces ns ps → length ns ≤ length ps
@@ -40,6 +45,10 @@ places_none = record {
   inside = λ n l. absurd (omega arith);
   number = λ n l m. absurd (omega arith);
 }
+
+pub record IsAppended (count : ℕ) (ps : List ℕ) (n : ℕ) (new : List ℕ) : Type 0 where
+  pub numbers : numbers_in (count + 1) new ≡ numbers_in count ps ++ n ∷ []
+  pub places : ArePlaces (numbers_in (count + 1) new) new
 
 -- one more number
 pub places_pushed : (ns ps grown : List ℕ) (n : ℕ) → ArePlaces ns ps → IsWider n ps grown → ((q : ℕ) → q < length ns → get_or ns q 0 ≡ n → ⊥) → ArePlaces (ns ++ n ∷ []) (slice_set grown n (length ns + 1))
@@ -82,3 +91,32 @@ places_pushed ns ps grown n a g absent =
           (cases_lt k (length ps)))
           (eqb_tells k n);
     }
+
+-- the numbers are those that stand at the places
+pub numbers_are : (ns ps : List ℕ) → ArePlaces ns ps → numbers_in (length ns) ps ≡ ns
+numbers_are ns ps a =
+    let at : ℕ → ℕ = λ q. position_or_len (λ p. p == q + 1) ps in
+    let len = numbers_length (length ns) ps in
+    ext_get_or 0 (numbers_in (length ns) ps) ns len
+    (λ q l.
+    let m : q < length ns = omega (arith, l, len) in
+    get_or-tabulate (length ns) at q 0 m
+    ∙ position_or_len_is (λ p. p == q + 1) ps (get_or ns q 0) 0 (omega (arith, a.within q m))
+    (λ k b. ⊎_elim
+    (λ t.
+    let i : get_or ps k 0 - 1 ≡ q = omega (arith, t.1) in
+    absurd (omega (arith, b, ap (λ x. get_or ns x 0) i, a.number k (omega (arith, b, a.within q m)) (omega (arith, t.1)))))
+    (λ f. f.0)
+    (eqb_tells (get_or ps k 0) (q + 1)))
+    (λ b. eq-eqb (get_or ps (get_or ns q 0) 0) (q + 1) (a.place q m)))
+
+-- one more number, at the places alone
+pub numbers_pushed_in : (count : ℕ) (ps grown : List ℕ) (n : ℕ) → ArePlaces (numbers_in count ps) ps → IsWider n ps grown → ((q : ℕ) → q < length (numbers_in count ps) → get_or (numbers_in count ps) q 0 ≡ n → ⊥) → IsAppended count ps n (slice_set grown n (count + 1))
+numbers_pushed_in count ps grown n a g absent =
+    let ns = numbers_in count ps in
+    let size : length ns ≡ count = numbers_length count ps in
+    let new = slice_set grown n (count + 1) in
+    let more : ArePlaces (ns ++ n ∷ []) new = subst (λ k. ArePlaces (ns ++ n ∷ []) (slice_set grown n (k + 1))) size (places_pushed ns ps grown n a g absent) in
+    let many : length (ns ++ n ∷ []) ≡ count + 1 = omega (arith, length_push ns n, size) in
+    let is : numbers_in (count + 1) new ≡ ns ++ n ∷ [] = ap (λ k. numbers_in k new) (sym many) ∙ numbers_are (ns ++ n ∷ []) new more in
+    record { numbers = is; places = subst (λ xs. ArePlaces xs new) (sym is) more }

@@ -1,5 +1,11 @@
 -- Inside: the places of numbers in a list.
-use Rattle.std.specs.Prelude.{◌≡◌, ℕ, ◌+◌, ◌-◌, ◌<◌, ◌≤◌, ◌^◌, ◌⊎◌, List, length, get_or}
+use Rattle.std.specs.Prelude.{◌≡◌, ℕ, ◌+◌, ◌-◌, ◌<◌, ◌≤◌, ◌^◌, ◌⊎◌, List, length, get_or, ◌==◌}
+use Rattle.std.specs.List.{position_or_len}
+use Rattle.fort_tables.specs.Tuples.{tabulate}
+
+-- the numbers of a list of this length, by their places: for each number one more than its place, or 0
+abbrev pub numbers_in : ℕ → List ℕ → List ℕ
+numbers_in count places = tabulate count (λ q. position_or_len (λ p. p == q + 1) places)
 
 -- for each number up to the greatest of the list, and some more, one more than its place there, or 0
 pub record ArePlaces (numbers places : List ℕ) : Type 0 where

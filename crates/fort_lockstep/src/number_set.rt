@@ -9,7 +9,7 @@ use std::marker::Model;
 /// Numbers in the order in which they came.
 #[derive(Drop)]
 pub struct NumberSet {
-    numbers: Vec<u32>,
+    count: u32,
     /// For each number up to the greatest, and some more, one more than its place, or 0.
     places: Vec<u32>,
 }
@@ -19,11 +19,11 @@ impl Model for NumberSet {
 
     ghost Value = { List ℕ };
 
-    ghost use Rattle.fort_lockstep.specs.NumberPlaces.{ArePlaces};
+    ghost use Rattle.fort_lockstep.specs.NumberPlaces.{numbers_in, ArePlaces};
 
-    ghost view = { λ r. r.numbers.items };
+    ghost view = { λ r. numbers_in r.count r.places.items };
 
-    ghost invariant = { λ r. ArePlaces r.numbers.items r.places.items };
+    ghost invariant = { λ r. ArePlaces (numbers_in r.count r.places.items) r.places.items };
 }
 
 /// Places for all numbers up to this one, and for some more, so that few calls write any.
@@ -43,12 +43,12 @@ impl NumberSet {
         ensures { result ≡ [] }
     {
         NumberSet {
-            numbers: Vec::new(alloc),
+            count: 0,
             places: Vec::new(alloc),
         }
     }
 
-    /// Appends a number that isn't there yet; takes room for all numbers up to it, and for some more.
+    /// Appends a number that isn't there yet; takes room for numbers up to it, and for some more.
     pub fn push(&mut self, number: u32) -> Result<(), Memory>
         requires small { number < 2 ^ 26 }
         requires absent { (q : ℕ) → q < length self.old → slice_index self.old q ≡ number → ⊥ }
@@ -56,10 +56,9 @@ impl NumberSet {
         ensures err { OnErr result (self.new ≡ self.old) }
     {
         let at = number as usize;
-        self.numbers.reserve(1)?;
         reach(&mut self.places, at)?;
-        self.places[at] = self.numbers.len() as u32 + 1;
-        self.numbers.push_reserved(number);
+        self.count += 1;
+        self.places[at] = self.count;
         Ok(())
     }
 
