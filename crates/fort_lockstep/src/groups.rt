@@ -81,10 +81,12 @@ impl Groups {
     {
         let kids = row.kids();
         // An entry without children is the only one of its tuple symbol.
-        if kids.is_empty() {
-            return self.push_group(alloc, states, row, target);
-        }
-        match self.symbols.find(row.digits()) {
+        let found = if kids.is_empty() {
+            None
+        } else {
+            self.symbols.find(row.digits())
+        };
+        match found {
             Some(number) => {
                 let group = &mut self.list[number];
                 group.push(kids, target)
