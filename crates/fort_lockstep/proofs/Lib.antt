@@ -2,6 +2,7 @@ pub mod InLaws
 pub mod DigitLaws
 pub mod DigitNumberLaws
 pub mod NumberPlaceLaws
+pub mod SymbolLaws
 pub mod SymbolSetLaws
 pub mod WalkLaws
 pub mod KidLaws

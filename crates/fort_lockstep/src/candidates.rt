@@ -153,6 +153,7 @@ fn write_first(sig: &Signature, flat: u32, range: KidRange, digits: &mut [u32]) 
 }
 
 /// The first digit of the first candidate that begins with `from` or a later one; its others are written over these.
+#[inline(always)]
 #[cycle(candidates)]
 fn write_first_from(
     sig: &Signature,

@@ -3,7 +3,7 @@ ghost use Rattle.std.specs.Prelude.{◌≡◌, ℕ, ◌<◌, ◌≤◌, ◌↔�
 ghost use Rattle.std.specs.List.{insert};
 ghost use Rattle.fort_lockstep.specs.Columns.{as_column, as_symbol, symbol_of, column_of, digit_of};
 
-use crate::digits::digits_of;
+use crate::digits::digit;
 use fort_terms::Sym;
 use std::marker::Model;
 
@@ -35,7 +35,14 @@ impl TupleSym {
         requires { length columns.now ≤ 16 }
         ensures { result ≡ as_symbol columns.now }
     {
-        TupleSym::from_digits(digits_of(columns).digits())
+        let mut digits = [0u32; 16];
+        for i in 0..columns.len() {
+            digits[i] = digit(columns[i]);
+        }
+        TupleSym {
+            len: columns.len(),
+            digits,
+        }
     }
 
     /// 0 stands for absent, and one more than its number for a symbol.
