@@ -153,7 +153,6 @@ fn write_first(sig: &Signature, flat: u32, range: KidRange, digits: &mut [u32]) 
 }
 
 /// The first digit of the first candidate that begins with `from` or a later one; its others are written over these.
-#[inline(always)]
 #[cycle(candidates)]
 fn write_first_from(
     sig: &Signature,
@@ -207,6 +206,10 @@ fn write_next(sig: &Signature, flat: u32, range: KidRange, digits: &mut [u32]) -
                 others,
             ) {
                 return true;
+            }
+            // the last symbol comes often, and none is behind it
+            if *first as usize >= sig.len() {
+                return false;
             }
             match write_first_from(sig, flat, range, others, *first + 1) {
                 Some(digit) => {
