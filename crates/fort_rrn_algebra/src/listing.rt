@@ -100,7 +100,7 @@ impl Spots {
     }
 }
 
-/// Appends the targets of a tuple symbol: `j` children have their states, and `rest` have not.
+/// Appends the targets of a tuple symbol: `j` children have their states, and `rest` have not, at least one.
 fn lay<T: Table>(
     body: &T,
     chains: &Chains,
@@ -114,6 +114,7 @@ fn lay<T: Table>(
         chains.now.firsts.items chains.now.nexts.items }
     requires symbol { IsTupleSymbol (T.table body.now).signature (T.table body.now).columns
         symbol.now }
+    requires some { 0 < rest }
     requires count { j + rest ≡ symbol_kids (T.table body.now).signature symbol.now }
     requires few { j + rest ≤ 8 }
     requires before { (i : ℕ) → i < j → IsStateFor (T.table body.now) symbol.now i
@@ -122,15 +123,15 @@ fn lay<T: Table>(
         ++ laid (T.table body.now) symbol.now (take j chosen) j rest) }
 {
     let _states = body.states();
-    if rest == 0 {
-        targets.push(body.target(symbol, &chosen[..j]))?;
-        return Ok(());
-    }
     let mut q = chains.first(kid_presence(body.signature(), symbol, j));
     'states: while q < body.states() {
         let mut next = chosen;
         next[j] = q;
-        lay(body, chains, symbol, next, j + 1, rest - 1, targets)?;
+        if rest == 1 {
+            targets.push(body.target(symbol, &next[..j + 1]))?;
+        } else {
+            lay(body, chains, symbol, next, j + 1, rest - 1, targets)?;
+        }
         q = chains.next(q);
     }
     Ok(())

@@ -1,9 +1,10 @@
-use Rattle.std.proofs.Common.{◌≡◌, ◌+◌, ◌-◌, ◌^◌, ◌<◌, ◌++◌, take, length, ap, sym, ◌∙◌, arith}
+use Rattle.std.proofs.Common.{◌≡◌, ◌+◌, ◌-◌, ◌^◌, ◌<◌, ◌++◌, [], ◌∷◌, take, set, length, ap, sym, ◌∙◌, arith}
 use Rattle.std.proofs.lemmas.List.{append-nil}
 use Rattle.fort_tables.specs.Tuples.{kid_presence}
-use Rattle.fort_rrn_algebra.specs.Flats.{joined_below}
-use Rattle.fort_rrn_algebra.proofs.ListingLaws.{lists_behind, laid_turn, lay_there, lay_to}
+use Rattle.fort_rrn_algebra.specs.Flats.{joined_below, laid}
+use Rattle.fort_rrn_algebra.proofs.ListingLaws.{lists_behind, laid_turn, laid_end, lay_there, lay_to}
 use Rattle.fort_rrn_algebra.proofs.listing.+lay.Goals as goal
+use Rattle.fort_rrn_algebra.proofs.listing.+lay.Goals.{then-rest-eq1+in_ok-push, else-rest-eq1+in_ok-lay}
 
 pub first-q-requires : goal.first-q-requires
 first-q-requires g t c = omega (arith, c.kid_presence.ensures.bound, c.requires.chains.size, ap (λ n. 2 ^ n) c.requires.symbol.width)
@@ -27,15 +28,23 @@ states-preserved g t c =
     let body = g.T.Table.table c.args.body.now in
     let f = c.args.symbol.now in
     let old = c.args.targets.now.items in
+    let j = c.args.j in
     let q = c.states.q in
     let v = c.states.invariant in
     let there : q < length body.presences = omega (arith, c.states-test.true) in
     let has = v.has there in
-    let long : c.args.j < length c.args.chosen = omega (arith, c.requires.few, c.if-rest-eq0.false) in
+    let long : j < length c.args.chosen = omega (arith, c.requires.few, c.requires.some) in
     let next = rw (← c.next-q.ensures) at (c.requires.chains.next q (omega arith) there) in
-    let here = lay_there body f c.args.chosen c.args.j q (c.args.rest - 1) old c.states.targets.items c.lay.new.targets.items long has v.laid c.in_ok-lay.ensures in
+    let states = take (j + 1) (set c.args.chosen j q) in
+    let made : c.if-rest-eq1.targets.items ≡ c.states.targets.items ++ laid body f states (j + 1) (c.args.rest - 1) =
+    elim c.if-rest-eq1.branch [
+      | then-rest-eq1+in_ok-push w ↦ (let last : c.args.rest - 1 ≡ 0 = omega (arith, w.if-rest-eq1.true) in
+          rw w.targets-is (w.in_ok-push.ensures.items ∙ ap (λ xs. c.states.targets.items ++ xs) (ap (λ x. x ∷ []) w.target.ensures ∙ sym (laid_end body f states (j + 1) (c.args.rest - 1) last))))
+      | else-rest-eq1+in_ok-lay w ↦ rw w.targets-is w.in_ok-lay.ensures
+    ] in
+    let here = lay_there body f c.args.chosen j q (c.args.rest - 1) old c.states.targets.items c.if-rest-eq1.targets.items long has v.laid made in
     record {
-      laid = lay_to body f (take c.args.j c.args.chosen) c.args.j (c.args.rest - 1) (q + 1) c.next-q.result old c.lay.new.targets.items (omega (arith, next.low))
+      laid = lay_to body f (take j c.args.chosen) j (c.args.rest - 1) (q + 1) c.next-q.result old c.if-rest-eq1.targets.items (omega (arith, next.low))
           (λ k a b e. next.none k (omega (arith, a)) b (e ∙ sym has)) here;
       high = next.high;
       has = λ l. next.has l ∙ has;
@@ -49,4 +58,4 @@ returns g t c =
     let before = take c.args.j c.args.chosen in
     c.states.invariant.laid
     ∙ ap (λ xs. c.args.targets.now.items ++ xs)
-    (ap (λ n. joined_below n (lists_behind body f before c.args.j (c.args.rest - 1))) e ∙ sym (laid_turn body f before c.args.j c.args.rest c.if-rest-eq0.false))
+    (ap (λ n. joined_below n (lists_behind body f before c.args.j (c.args.rest - 1))) e ∙ sym (laid_turn body f before c.args.j c.args.rest (λ e. omega (arith, e, c.requires.some))))
