@@ -17,5 +17,6 @@ mod ChainLaws
 mod SymbolNumbers
 mod ListingLaws
 mod LookUpLaws
+mod FinalSearch
 mod FlatSearch
 mod TestOrders

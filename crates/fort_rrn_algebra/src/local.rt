@@ -7,12 +7,13 @@ ghost use Rattle.fort_operations.specs.Projections.{ArePure, project_rule, proje
 ghost use Rattle.fort_tables.specs.BitRows.{words_for};
 ghost use Rattle.fort_rrn_algebra.specs.Operands.{operand_of, connective_of};
 
+use crate::choices::next_in_set;
 use crate::listed::write_both;
 use crate::look_up::Finder;
 use crate::operand::{Op, Operand};
 use crate::projection::write_label;
 use crate::words::operand_accepts;
-use fort_explore::{Rows, has_bit};
+use fort_explore::Rows;
 use fort_lockstep::{Row, Table};
 
 /// Writes the label of an entry of a product: the presence and the two operands' words.
@@ -94,10 +95,18 @@ pub fn project_label<T: Table>(
 pub fn project_accepts<T: Table>(body: &T, label: &[u64]) -> bool
     ensures { result ≡ project_accepts_lem (T.table body.now) label.now }
 {
-    for q in 0..body.states() {
-        if has_bit(label, 128 + q as usize) && body.is_final(q) {
+    let states = body.states() as usize;
+    // Words behind those of the states say nothing.
+    let set = &label[..label.len().min(states / 64 + 3)];
+    let mut from = 0;
+    'states: while let Some(q) = next_in_set(set, from) {
+        if q >= states {
+            return false;
+        }
+        if body.is_final(q as u32) {
             return true;
         }
+        from = q as u32 + 1;
     }
     false
 }

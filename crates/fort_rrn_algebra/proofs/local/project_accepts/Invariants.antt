@@ -1,6 +1,12 @@
-use Rattle.std.proofs.Common.{◌≡◌, ◌&&◌, false}
-use Rattle.fort_operations.specs.Projections.{some_below, has_state}
+use Rattle.std.proofs.Common.{◌≡◌, ℕ, ◌<◌, ◌≤◌, ◌-◌, ◌&&◌, false, length}
+use Rattle.fort_operations.specs.Projections.{has_state}
 use Rattle.fort_rrn_algebra.proofs.local.project_accepts.Given as goal
 
-abbrev pub invariant-loop-q : goal.invariant-loop-q
-invariant-loop-q g l = some_below l.q (λ q. has_state l.label q && (g.T.Table.table l.body).accepting q) ≡ false
+abbrev pub decreases-states : goal.decreases-states
+decreases-states g l = length (g.T.Table.table l.body).presences - l.from
+
+abbrev pub invariant-states : goal.invariant-states
+invariant-states g l = record {
+  low : l.from ≤ length (g.T.Table.table l.body).presences;
+  none : (q : ℕ) → q < l.from → (has_state l.label q && (g.T.Table.table l.body).accepting q) ≡ false;
+}
