@@ -134,12 +134,12 @@ fn constant_word<T: Table>(table: &T, list: &FlatTargets, places: &[usize], row:
 /// An operand's word, by its targets in one list where there is one.
 pub(crate) fn word_by<T: Table>(
     operand: &Operand<'_, T>,
-    list: Option<&FlatTargets>,
+    list: &Option<FlatTargets>,
     at: usize,
     row: &Row,
     rows: &Rows,
 ) -> u64
-    requires list { IfSome list (λ l. IsListOf (operand_of T.table operand.now) l.now) }
+    requires list { IfSome list.now (IsListOf (operand_of T.table operand.now)) }
     requires over { (sig : theory.Signature) × IsOverWords sig (length row.now.symbol)
         (operand_of T.table operand.now) at rows.now.labels row.now }
     ensures { result ≡ products.operand_step at (operand_of T.table operand.now) row.now.symbol
@@ -157,13 +157,13 @@ pub(crate) fn word_by<T: Table>(
 /// The same where the entry has no children.
 fn constant_by<T: Table>(
     operand: &Operand<'_, T>,
-    list: Option<&FlatTargets>,
+    list: &Option<FlatTargets>,
     at: usize,
     row: &Row,
     rows: &Rows,
 ) -> u64
     requires none { row.now.kids ≡ [] }
-    requires list { IfSome list (λ l. IsListOf (operand_of T.table operand.now) l.now) }
+    requires list { IfSome list.now (IsListOf (operand_of T.table operand.now)) }
     requires over { (sig : theory.Signature) × IsOverWords sig (length row.now.symbol)
         (operand_of T.table operand.now) at rows.now.labels row.now }
     ensures { result ≡ products.operand_step at (operand_of T.table operand.now) row.now.symbol
@@ -181,17 +181,15 @@ fn constant_by<T: Table>(
 /// Writes the label of an entry of a product, by the operands' targets in one list where there is one.
 pub(crate) fn write_both<T: Table>(
     first: &Operand<'_, T>,
-    first_list: Option<&FlatTargets>,
+    first_list: &Option<FlatTargets>,
     second: &Operand<'_, T>,
-    second_list: Option<&FlatTargets>,
+    second_list: &Option<FlatTargets>,
     row: &Row,
     rows: &Rows,
     out: &mut [u64],
 )
-    requires first_list { IfSome first_list
-        (λ l. IsListOf (operand_of T.table first.now) l.now) }
-    requires second_list { IfSome second_list
-        (λ l. IsListOf (operand_of T.table second.now) l.now) }
+    requires first_list { IfSome first_list.now (IsListOf (operand_of T.table first.now)) }
+    requires second_list { IfSome second_list.now (IsListOf (operand_of T.table second.now)) }
     requires operands { products.AreOperands (products.signature_of (operand_of T.table first.now)
         (operand_of T.table second.now)) (length row.now.symbol) (operand_of T.table first.now)
         (operand_of T.table second.now) }

@@ -133,9 +133,9 @@ impl<'a, T: Table> LocalRule for Both<'a, T> {
     fn step(&self, row: &Row, rows: &Rows, out: &mut [u64]) {
         write_both(
             &self.first,
-            self.first_list.as_ref(),
+            &self.first_list,
             &self.second,
-            self.second_list.as_ref(),
+            &self.second_list,
             row,
             rows,
             out,
