@@ -3,14 +3,15 @@ use Rattle.std.proofs.Common.{◌≡◌, ℕ, zero, suc, ◌+◌, ◌/◌, ◌%�
 use Rattle.std.proofs.lemmas.Bool.{cases_lt}
 use Rattle.std.proofs.lemmas.List.{take_all, get_or-take}
 use Rattle.std.specs.Int.{bit_at}
+use Rattle.fort_tables.specs.BitRows.{words_for}
 use Rattle.fort_operations.specs.Projections.{some_below, has_state}
 
 -- as many words as the states need have the bits of the whole row
-pub front_state : (w : List ℕ) (m n q : ℕ) → m ≡ min (length w) (n / 64 + 3) → q < n → has_state (take m w) q ≡ has_state w q
+pub front_state : (w : List ℕ) (m n q : ℕ) → m ≡ min (length w) (words_for n + 2) → q < n → has_state (take m w) q ≡ has_state w q
 front_state w m n q e l = ⊎_elim
-    (λ (s : length w < n / 64 + 3). ap (λ xs. has_state xs q) (take_all m w (omega arith)))
-    (λ (s : n / 64 + 3 ≤ length w). let less : (128 + q) / 64 < m = omega arith in ap (λ x. bit_at x ((128 + q) % 64) == 1) (get_or-take m w ((128 + q) / 64) 0 less))
-    (cases_lt (length w) (n / 64 + 3))
+    (λ (s : length w < words_for n + 2). ap (λ xs. has_state xs q) (take_all m w (omega arith)))
+    (λ (s : words_for n + 2 ≤ length w). let less : (128 + q) / 64 < m = omega arith in ap (λ x. bit_at x ((128 + q) % 64) == 1) (get_or-take m w ((128 + q) / 64) 0 less))
+    (cases_lt (length w) (words_for n + 2))
 
 pub none_below : (n : ℕ) (p : ℕ → Bool) → ((k : ℕ) → k < n → p k ≡ false) → some_below n p ≡ false
 none_below zero p h = refl

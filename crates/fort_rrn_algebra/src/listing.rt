@@ -100,7 +100,7 @@ impl Spots {
     }
 }
 
-/// Appends the targets of a tuple symbol: `j` children have their states, and `rest` have not, at least one.
+/// Appends the targets of a tuple symbol: `j` children have their states, and `rest` have not.
 fn lay<T: Table>(
     body: &T,
     chains: &Chains,

@@ -97,7 +97,7 @@ pub fn project_accepts<T: Table>(body: &T, label: &[u64]) -> bool
 {
     let states = body.states() as usize;
     // Words behind those of the states say nothing.
-    let set = &label[..label.len().min(states / 64 + 3)];
+    let set = &label[..label.len().min(project_width(states))];
     let mut from = 0;
     'states: while let Some(q) = next_in_set(set, from) {
         if q >= states {
