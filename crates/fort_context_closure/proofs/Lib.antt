@@ -14,6 +14,8 @@ pub mod AtomLabelsLaws
 pub mod MarkCounts
 pub mod LocalTermLaws
 pub mod ReachLaws
+pub mod RootPlaceLaws
+pub mod RuleRootLaws
 pub mod ClosureLaws
 pub mod ReachRowLaws
 pub mod RuleListLaws

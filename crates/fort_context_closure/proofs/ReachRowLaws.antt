@@ -25,7 +25,7 @@ use Rattle.fort_context_closure.specs.ReachRows.{row_in, SetsBit, AreClear, firs
 
 -- one more bit of one row
 
-behind-same : (bit q : ℕ) → (64 + bit == 64 * 1 + q) ≡ (bit == q)
+pub behind-same : (bit q : ℕ) → (64 + bit == 64 * 1 + q) ≡ (bit == q)
 behind-same bit q =
     same_from_iff (64 + bit == 64 * 1 + q) (bit == q) (Decides-eqb (64 + bit) (64 * 1 + q)) (Decides-eqb bit q) ((λ e. omega (arith, e)), (λ e. omega (arith, e)))
 

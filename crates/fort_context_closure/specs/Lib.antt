@@ -4,6 +4,7 @@ pub mod NumberedView
 pub mod RowBits
 pub mod FactTests
 pub mod RulePlaces
+pub mod RootPlaces
 pub mod PlainAtoms
 pub mod AtomCode
 pub mod RelationView
@@ -13,5 +14,6 @@ pub mod AtomLabelsView
 pub mod LocalTerms
 pub mod ClosedAtoms
 pub mod ReachRows
+pub mod RuleRootPlaces
 pub mod RuleLists
 pub mod Closures

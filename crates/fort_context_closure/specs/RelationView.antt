@@ -12,6 +12,8 @@ use Rattle.fort_context_closure.specs.NumberedView.{AreNumbersOf}
 use Rattle.fort_context_closure.specs.RulePlaces.{pair_at, AreWithin}
 use Rattle.fort_context_closure.specs.ClosedAtoms.{ClosedAtom, numbers_of}
 use Rattle.fort_context_closure.specs.ReachRows.{IsReach, NoPatternTwice}
+use Rattle.fort_context_closure.specs.RootPlaces.{IsRooted, root_of}
+use Rattle.fort_context_closure.specs.RuleRootPlaces.{AreRuleRoots}
 use Rattle.fort_context_closure.specs.declared.relation.RelationBits.TheInside.{Inside}
 
 abbrev pub left_patterns : Inside → List Pattern
@@ -46,3 +48,6 @@ pub record IsRelation (b : Inside) : Type 0 where
   pub reaching : is_reaching (kind_for (as_rel b.rel)) ≡ true
       → IsReach (length (left_patterns b)) (length (right_patterns b)) (numbers_of b.closed.entries.items) b.reach
   pub arguments : AreArguments b.arguments.columns b.arguments.first b.arguments.second
+  pub left_roots : IsRooted (map root_of b.lefts.items) b.left_roots
+  pub right_roots : IsRooted (map root_of b.rights.items) b.right_roots
+  pub rule_roots : AreRuleRoots b.lefts.items b.rights.items b.rules.items b.rule_roots

@@ -1,5 +1,5 @@
 //! The bits of a label behind its first word, in the row that is written and in the labels of the children.
-ghost use Rattle.std.specs.Prelude.{◌≡◌, ℕ, ◌+◌, ◌*◌, ◌<◌, ◌≤◌, ◌^◌, List, [], ◌∷◌, ◌++◌, Bool, length, drop, ◌-◌, ◌&&◌, slice_index_or};
+ghost use Rattle.std.specs.Prelude.{◌≡◌, ℕ, ◌+◌, ◌*◌, ◌<◌, ◌≤◌, ◌^◌, List, [], ◌∷◌, ◌++◌, Bool, length, drop, ◌-◌, ◌&&◌, ◌||◌, ◌==◌, slice_index_or};
 ghost use Rattle.fort_atom_labels.specs.AtomRules.{all_kids, one_kid, some_kid, same_roots as same_roots_lem, is_there as is_there_lem};
 ghost use Rattle.fort_lockstep.specs.Columns.{as_column};
 ghost use Rattle.fort_context_closure.specs.RowBits.{HasBits, IsRow, bit_of, labels_at};
@@ -31,6 +31,17 @@ pub(crate) fn put_mark(out: &mut [u64], bit: usize, on: bool)
     requires room { bit < 64 * (length out.old - 1) }
     ensures { (bits : List Bool) → length bits ≡ bit → HasBits bits out.old
         → HasBits (bits ++ on ∷ []) out.new }
+{
+    if on {
+        set_bit(out, 64 + bit);
+    }
+}
+
+/// Turns a bit on, where it is to be.
+pub(crate) fn add_mark(out: &mut [u64], bit: usize, on: bool)
+    requires small { bit < 2 ^ 63 }
+    requires room { bit < 64 * (length out.old - 1) }
+    ensures { (q : ℕ) → bit_of q out.new ≡ (bit_of q out.old || (on && (bit == q))) }
 {
     if on {
         set_bit(out, 64 + bit);

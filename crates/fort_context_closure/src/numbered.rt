@@ -1,5 +1,5 @@
 //! Patterns by the places of their arguments, and their test at a node by the bits of the children.
-ghost use Rattle.std.specs.Prelude.{◌≡◌, ℕ, ◌+◌, ◌*◌, ◌-◌, ◌<◌, ◌≤◌, ◌^◌, List, [], ◌++◌, Bool, map, length, get_or, slice_index_or, drop, Contains, IfOk, OnOk};
+ghost use Rattle.std.specs.Prelude.{◌≡◌, None, ℕ, ◌+◌, ◌*◌, ◌-◌, ◌<◌, ◌≤◌, ◌^◌, List, [], ◌++◌, Bool, ◌||◌, map, length, get_or, slice_index_or, drop, Contains, IfOk, OnOk};
 ghost use Rattle.fort_theory.specs.Patterns.{Any};
 ghost use Rattle.fort_theory.specs.PatternOrder.{AllAmong};
 ghost use Rattle.fort_terms.specs.PatternView.{as_pattern, as_patterns};
@@ -7,9 +7,12 @@ ghost use Rattle.fort_tree_automata.specs.PatternMoves.{IsClosedInOrder};
 ghost use Rattle.fort_lockstep.specs.Columns.{as_column};
 ghost use Rattle.fort_atom_labels.specs.PatternNumbers.{AreAt, IsNumberOf, all_at, number_inside};
 ghost use Rattle.fort_context_closure.specs.NumberedView.{AreNumbersOf};
-ghost use Rattle.fort_context_closure.specs.RowBits.{HasBits, labels_at};
+ghost use Rattle.fort_context_closure.specs.RowBits.{HasBits, bit_of, labels_at};
+ghost use Rattle.fort_context_closure.specs.RootPlaces.{IsRooted, root_of, writes_at};
+ghost use Rattle.std.specs.List.{list_any};
 
-use crate::bits::{has_mark, put_mark};
+use crate::bits::{add_mark, has_mark, put_mark};
+use crate::rooted::Rooted;
 use fort_explore::Rows;
 use fort_lockstep::Row;
 use fort_terms::{Memory, Pattern, Sym};
@@ -32,6 +35,15 @@ impl Model for Numbered {
     ghost Value = { PatternNumber };
 
     ghost view = { λ n. number_seen n.sym n.args.items };
+}
+
+impl Numbered {
+    /// The symbol at the root; Any has none.
+    pub(crate) fn root(&self) -> Option<Sym>
+        ensures { as_column result ≡ root_of self.now }
+    {
+        self.sym
+    }
 }
 
 /// Each pattern by numbers, in the list's order. A list of 2^32 patterns or more, for which there are no numbers, is want of memory.
@@ -160,4 +172,78 @@ pub(crate) fn write_inside(
     for (k, pattern) in patterns.iter().enumerate() {
         put_mark(out, base + k, is_inside(base, pattern, root, row, rows));
     }
+}
+
+/// The pattern at a place.
+pub(crate) fn pattern_at(patterns: &[Numbered], place: usize) -> &Numbered
+    requires { place < length patterns.now }
+    ensures { result.now ≡ get_or patterns.now place None }
+{
+    &patterns[place]
+}
+
+/// Writes for the patterns at these places whether they are at a node with this root.
+fn write_places(
+    places: &[usize],
+    patterns: &[Numbered],
+    base: usize,
+    root: Option<Sym>,
+    row: &Row,
+    rows: &Rows,
+    out: &mut [u64],
+)
+    requires small { base < 2 ^ 62 }
+    requires few { length patterns.now < 2 ^ 32 }
+    requires room { base + length patterns.now ≤ 64 * (length out.old - 1) }
+    requires places { (k : ℕ) → Contains places.now k → k < length patterns.now }
+    requires within { (j : ℕ) → j < length row.now.kids
+        → slice_index_or row.now.kids j 0 < length rows.now.labels }
+    ensures { (q : ℕ) → bit_of q out.new ≡ (bit_of q out.old || list_any (writes_at base
+        patterns.now (as_column root) (labels_at rows.now.labels row.now.kids) q) places.now) }
+{
+    for place in places {
+        let on = is_inside(base, pattern_at(patterns, *place), root, row, rows);
+        add_mark(out, base + *place, on);
+    }
+}
+
+/// The same as `write_inside`, where each pattern is listed under its root.
+pub(crate) fn write_rooted(
+    patterns: &[Numbered],
+    rooted: &Rooted,
+    base: usize,
+    root: Option<Sym>,
+    row: &Row,
+    rows: &Rows,
+    out: &mut [u64],
+)
+    requires rooted { IsRooted (map root_of patterns.now) rooted.now }
+    requires small { base < 2 ^ 62 }
+    requires few { length patterns.now < 2 ^ 32 }
+    requires room { base + length patterns.now ≤ 64 * (length out.old - 1) }
+    requires within { (j : ℕ) → j < length row.now.kids
+        → slice_index_or row.now.kids j 0 < length rows.now.labels }
+    ensures { (bits : List Bool) → length bits ≡ base → HasBits bits out.old
+        → HasBits (bits ++ map (λ p. number_inside base p (as_column root)
+        (labels_at rows.now.labels row.now.kids)) patterns.now) out.new }
+{
+    match root {
+        None => {}
+        Some(f) => {
+            write_places(rooted.at(f), patterns, base, root, row, rows, out);
+            let any = rooted.any.as_slice();
+            write_places(any, patterns, base, root, row, rows, out);
+        }
+    }
+}
+
+/// The patterns under their roots.
+pub(crate) fn root_patterns(alloc: Global, patterns: &[Numbered]) -> Result<Rooted, Memory>
+    ensures { IfOk result (IsRooted (map root_of patterns.now)) }
+{
+    let mut rooted = Rooted::new(alloc);
+    for (k, pattern) in patterns.iter().enumerate() {
+        rooted.push(alloc, pattern.root(), k)?;
+    }
+    Ok(rooted)
 }

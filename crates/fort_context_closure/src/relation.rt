@@ -20,9 +20,10 @@ use crate::arguments::{Arguments, arguments_of};
 use crate::bits::{clear, has_mark, put_first, same_roots};
 use crate::closure::closure_of;
 use crate::facts::{fact_count, write_facts};
-use crate::numbered::{Numbered, number_patterns, write_inside};
+use crate::numbered::{Numbered, number_patterns, root_patterns, write_rooted};
 use crate::reach::{Reach, reach_of};
-use crate::reached::{Node, add_reached};
+use crate::reached::{Node, RuleRoots, add_reached, root_rules};
+use crate::rooted::Rooted;
 use crate::rule_list::{RuleList, rules_of};
 use crate::rule_places::{RulePlaces, places_of_rules, some_rule};
 use fort_explore::Rows;
@@ -44,7 +45,11 @@ pub struct RelationBits {
     /// The left patterns by numbers, and the right ones.
     lefts: Vec<Numbered>,
     rights: Vec<Numbered>,
+    /// Both by the roots of the patterns.
+    left_roots: Rooted,
+    right_roots: Rooted,
     rules: Vec<RulePlaces>,
+    rule_roots: RuleRoots,
     reach: Reach,
     closed: Closed,
 }
@@ -142,6 +147,9 @@ impl RelationBits {
         let lefts = number_patterns(alloc, &list.lefts)?;
         let rights = number_patterns(alloc, &list.rights)?;
         let rules = places_of_rules(alloc, &list.rules, &list.lefts, &list.rights)?;
+        let left_roots = root_patterns(alloc, &lefts)?;
+        let right_roots = root_patterns(alloc, &rights)?;
+        let rule_roots = root_rules(alloc, &rules, &lefts, &rights)?;
         let reach = reach_for(alloc, rel, lefts.len(), rights.len(), &closed)?;
         Ok(RelationBits {
             rel,
@@ -150,7 +158,10 @@ impl RelationBits {
             right_patterns: list.rights,
             lefts,
             rights,
+            left_roots,
+            right_roots,
             rules,
+            rule_roots,
             reach,
             closed,
         })
@@ -230,8 +241,9 @@ impl RelationBits {
     {
         clear(out);
         let right_base = self.lefts.len();
-        write_inside(&self.lefts, 0, first, row, rows, out);
-        write_inside(&self.rights, right_base, second, row, rows, out);
+        write_rooted(&self.lefts, &self.left_roots, 0, first, row, rows, out);
+        let roots = &self.right_roots;
+        write_rooted(&self.rights, roots, right_base, second, row, rows, out);
         if !is_reduction(self.rel) {
             return;
         }
@@ -241,6 +253,7 @@ impl RelationBits {
             &self.rights,
             &self.reach,
             &self.rules,
+            &self.rule_roots,
             node,
             row,
             rows,

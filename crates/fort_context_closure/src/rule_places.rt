@@ -62,7 +62,7 @@ pub(crate) fn some_rule(rules: &[RulePlaces], base: usize, label: &[u64]) -> boo
     ensures { result ≡ some_rule_lem base rules.now label.now }
 {
     for rule in rules {
-        if has_mark(label, rule.left as usize) & has_mark(label, base + rule.right as usize) {
+        if has_mark(label, rule.left as usize) && has_mark(label, base + rule.right as usize) {
             return true;
         }
     }

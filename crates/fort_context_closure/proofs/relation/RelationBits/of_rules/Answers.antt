@@ -34,6 +34,19 @@ places_of_rules-requires-clause-among c = rw (c.deref-3.ensures.value, c.deref-4
   Contains-right_side (map as_pair c.args.list.rules.items) (map as_pattern c.args.list.rights.items) c.requires.right_order pair k,
 ))
 
+pub root_rules-requires : goal.root_rules-requires
+root_rules-requires c =
+    let ls : List Pattern = map as_pattern c.args.list.lefts.items in
+    let rs : List Pattern = map as_pattern c.args.list.rights.items in
+    let places : ArePlacesOf ls rs (map as_pair c.args.list.rules.items) c.in_ok-rules.rules.items =
+    rw (c.deref-3.ensures.value, c.deref-4.ensures.value, c.deref-5.ensures.value) at c.in_ok-rules.ensures in
+    let left_numbers : AreNumbersOf ls c.in_ok-lefts.lefts.items = rw c.deref.ensures.value at c.in_ok-lefts.ensures.numbers in
+    let right_numbers : AreNumbersOf rs c.in_ok-rights.rights.items = rw c.deref-2.ensures.value at c.in_ok-rights.ensures.numbers in
+    rw (c.deref-8.ensures.value, c.deref-9.ensures.value, c.deref-10.ensures.value) (λ r k. (
+      let l = (places.within r k).0 in omega (arith, l, left_numbers.count),
+      let m = (places.within r k).1 in omega (arith, m, right_numbers.count),
+    ))
+
 pub reach_for-requires-clause-left : goal.reach_for-requires-clause-left
 reach_for-requires-clause-left c =
     let numbers : AreNumbersOf (map as_pattern c.args.list.lefts.items) c.in_ok-lefts.lefts.items = rw c.deref.ensures.value at c.in_ok-lefts.ensures.numbers in
@@ -59,7 +72,10 @@ invariant_of-result c =
       right_patterns = c.args.list.rights;
       lefts = c.in_ok-lefts.lefts;
       rights = c.in_ok-rights.rights;
+      left_roots = c.in_ok-left_roots.left_roots;
+      right_roots = c.in_ok-right_roots.right_roots;
       rules = c.in_ok-rules.rules;
+      rule_roots = c.in_ok-rule_roots.rule_roots;
       reach = c.in_ok-reach.reach;
       closed = c.args.closed;
     } in
@@ -79,6 +95,9 @@ invariant_of-result c =
           (subst (λ n. IsReach c.len.result n (numbers_of c.args.closed.entries.items) c.in_ok-reach.reach) right_size
           (c.in_ok-reach.ensures e));
       arguments = c.arguments_of.ensures.arguments;
+      left_roots = rw c.deref-6.ensures.value at c.in_ok-left_roots.ensures;
+      right_roots = rw c.deref-7.ensures.value at c.in_ok-right_roots.ensures;
+      rule_roots = rw (c.deref-8.ensures.value, c.deref-9.ensures.value, c.deref-10.ensures.value) at c.in_ok-rule_roots.ensures;
     }
 
 pub returns : goal.returns

@@ -28,8 +28,8 @@ add_reached-requires-clause-room c =
     let b = c.self.inside in
     let is = c.self.invariant in
     let room : length c.args.out.now ≡ suc (words_for (length (marks_of (listed_seen b)))) = rw (← c.self.view_is) at c.requires.room in
-    let wide : suc (words_for (length b.lefts.items + length b.rights.items)) ≤ length c.write_inside-2.new.out =
-    omega (arith, room, is.left_numbers.count, is.right_numbers.count, length-marks_of (listed_seen b), c.clear.auto.out, c.write_inside.auto.out, c.write_inside-2.auto.out) in
+    let wide : suc (words_for (length b.lefts.items + length b.rights.items)) ≤ length c.write_rooted-2.new.out =
+    omega (arith, room, is.left_numbers.count, is.right_numbers.count, length-marks_of (listed_seen b), c.clear.auto.out, c.write_rooted.auto.out, c.write_rooted-2.auto.out) in
     rw (c.deref-3.ensures.value, c.deref-4.ensures.value) wide
 
 pub add_reached-requires-clause-rules : goal.add_reached-requires-clause-rules
@@ -51,12 +51,12 @@ returns-then-not-is_reduction c =
     let f : PatternNumber → Bool = λ p. number_inside 0 p x ws in
     let s : PatternNumber → Bool = λ p. number_inside (length (left_patterns b)) p y ws in
     let base : c.len-right_base.result ≡ length (left_patterns b) = omega (arith, c.len-right_base.ensures, is.left_numbers.count) in
-    let one : HasBits (map f b.lefts.items) c.write_inside.new.out = rw c.deref.ensures.value at (c.write_inside.ensures [] refl c.clear.ensures) in
+    let one : HasBits (map f b.lefts.items) c.write_rooted.new.out = rw c.deref.ensures.value at (c.write_rooted.ensures [] refl c.clear.ensures) in
     let size : length (map f b.lefts.items) ≡ c.len-right_base.result = omega (arith, length-map b.lefts.items f, c.len-right_base.ensures) in
-    let two : HasBits (map f b.lefts.items ++ map s b.rights.items) c.write_inside-2.new.out =
-    rw (c.deref-2.ensures.value, base) at (c.write_inside-2.ensures (map f b.lefts.items) size one) in
+    let two : HasBits (map f b.lefts.items ++ map s b.rights.items) c.write_rooted-2.new.out =
+    rw (c.deref-2.ensures.value, base) at (c.write_rooted-2.ensures (map f b.lefts.items) size one) in
     rw (← c.self.view_is)
-    (plain-bits (atom_seen b) (sym c.if-not-is_reduction.ensures) is.once b.lefts.items b.rights.items is.left_numbers is.right_numbers x y ws c.write_inside-2.new.out two)
+    (plain-bits (atom_seen b) (sym c.if-not-is_reduction.ensures) is.once b.lefts.items b.rights.items is.left_numbers is.right_numbers x y ws c.write_rooted-2.new.out two)
 
 pub returns : goal.returns
 returns c =
@@ -69,11 +69,11 @@ returns c =
     let s : PatternNumber → Bool = λ p. number_inside (length (left_patterns b)) p y ws in
     let reaching : is_reaching (kind_for (as_rel b.rel)) ≡ true = sym c.if-not-is_reduction.ensures in
     let base : c.len-right_base.result ≡ length (left_patterns b) = omega (arith, c.len-right_base.ensures, is.left_numbers.count) in
-    let one : HasBits (map f b.lefts.items) c.write_inside.new.out = rw c.deref.ensures.value at (c.write_inside.ensures [] refl c.clear.ensures) in
+    let one : HasBits (map f b.lefts.items) c.write_rooted.new.out = rw c.deref.ensures.value at (c.write_rooted.ensures [] refl c.clear.ensures) in
     let size : length (map f b.lefts.items) ≡ c.len-right_base.result = omega (arith, length-map b.lefts.items f, c.len-right_base.ensures) in
-    let two : HasBits (map f b.lefts.items ++ map s b.rights.items) c.write_inside-2.new.out =
-    rw (c.deref-2.ensures.value, base) at (c.write_inside-2.ensures (map f b.lefts.items) size one) in
+    let two : HasBits (map f b.lefts.items ++ map s b.rights.items) c.write_rooted-2.new.out =
+    rw (c.deref-2.ensures.value, base) at (c.write_rooted-2.ensures (map f b.lefts.items) size one) in
     rw (← c.self.view_is)
     (reached-bits (atom_seen b) reaching is.once is.left_once is.right_once b.lefts.items b.rights.items is.left_numbers is.right_numbers b.rules.items is.within refl b.reach
-    (is.reaching reaching) x y ws c.write_inside-2.new.out c.add_reached.new.out two
+    (is.reaching reaching) x y ws c.write_rooted-2.new.out c.add_reached.new.out two
     (rw (c.deref-3.ensures.value, c.deref-4.ensures.value, c.deref-5.ensures.value) at c.add_reached.ensures))

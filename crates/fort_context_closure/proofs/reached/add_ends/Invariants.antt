@@ -1,0 +1,11 @@
+use Rattle.std.proofs.Common.{◌≡◌, ℕ, ◌||◌, take}
+use Rattle.std.specs.List.{list_any}
+use Rattle.fort_lockstep.specs.Columns.{as_column}
+use Rattle.fort_context_closure.specs.RowBits.{bit_of, labels_at}
+use Rattle.fort_context_closure.specs.RuleRootPlaces.{ends_at}
+use Rattle.fort_context_closure.proofs.reached.add_ends.Given as goal
+
+abbrev pub invariant-loop-k : goal.invariant-loop-k
+invariant-loop-k l =
+    (q : ℕ) → bit_of q l.out
+    ≡ (bit_of q l.initial.out || list_any (ends_at l.lefts l.rights l.reach (as_column l.node.second) (labels_at l.rows.labels l.row.kids) q l.rules) (take l.k-index l.listed))
