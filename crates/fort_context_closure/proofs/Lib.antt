@@ -19,3 +19,5 @@ pub mod RuleRootLaws
 pub mod ClosureLaws
 pub mod ReachRowLaws
 pub mod RuleListLaws
+pub mod RuleLeftLaws
+pub mod SkippedBits

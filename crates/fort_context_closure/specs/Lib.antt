@@ -15,5 +15,6 @@ pub mod LocalTerms
 pub mod ClosedAtoms
 pub mod ReachRows
 pub mod RuleRootPlaces
+pub mod RuleLefts
 pub mod RuleLists
 pub mod Closures

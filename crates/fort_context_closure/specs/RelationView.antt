@@ -1,5 +1,5 @@
 -- Inside: what the fields of the bits of a relation stand for.
-use Rattle.std.specs.Prelude.{◌≡◌, ◌<◌, ◌^◌, List, [], map, length, true}
+use Rattle.std.specs.Prelude.{◌≡◌, ◌<◌, ◌^◌, List, [], map, length, true, vec_items}
 use Rattle.fort_theory.specs.Patterns.{Pattern}
 use Rattle.fort_terms.specs.PatternView.{as_pattern}
 use Rattle.fort_formulas.specs.CoreView.{as_rel}
@@ -14,6 +14,7 @@ use Rattle.fort_context_closure.specs.ClosedAtoms.{ClosedAtom, numbers_of}
 use Rattle.fort_context_closure.specs.ReachRows.{IsReach, NoPatternTwice}
 use Rattle.fort_context_closure.specs.RootPlaces.{IsRooted, root_of}
 use Rattle.fort_context_closure.specs.RuleRootPlaces.{AreRuleRoots}
+use Rattle.fort_context_closure.specs.RuleLefts.{AreUnderLefts}
 use Rattle.fort_context_closure.specs.declared.relation.RelationBits.TheInside.{Inside}
 
 abbrev pub left_patterns : Inside → List Pattern
@@ -51,3 +52,4 @@ pub record IsRelation (b : Inside) : Type 0 where
   pub left_roots : IsRooted (map root_of b.lefts.items) b.left_roots
   pub right_roots : IsRooted (map root_of b.rights.items) b.right_roots
   pub rule_roots : AreRuleRoots b.lefts.items b.rights.items b.rules.items b.rule_roots
+  pub under : AreUnderLefts b.rules.items (map vec_items b.under.items)

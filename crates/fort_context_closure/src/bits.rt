@@ -1,5 +1,6 @@
 //! The bits of a label behind its first word, in the row that is written and in the labels of the children.
-ghost use Rattle.std.specs.Prelude.{◌≡◌, ℕ, ◌+◌, ◌*◌, ◌<◌, ◌≤◌, ◌^◌, List, [], ◌∷◌, ◌++◌, Bool, length, drop, ◌-◌, ◌&&◌, ◌||◌, ◌==◌, slice_index_or};
+ghost use Rattle.std.specs.Prelude.{◌≡◌, ℕ, ◌+◌, ◌*◌, ◌<◌, ◌≤◌, ◌^◌, List, [], ◌∷◌, ◌++◌, Bool, length, drop, ◌-◌, ◌&&◌, ◌||◌, ◌==◌, slice_index, slice_index_or};
+ghost use Rattle.std.specs.Slice.Scan.{HoldsNowhere};
 ghost use Rattle.fort_atom_labels.specs.AtomRules.{all_kids, one_kid, some_kid, same_roots as same_roots_lem, is_there as is_there_lem};
 ghost use Rattle.fort_lockstep.specs.Columns.{as_column};
 ghost use Rattle.fort_context_closure.specs.RowBits.{HasBits, IsRow, bit_of, labels_at};
@@ -14,6 +15,26 @@ pub(crate) fn has_mark(label: &[u64], bit: usize) -> bool
     ensures { result ≡ bit_of bit label.now }
 {
     has_bit(label, 64 + bit)
+}
+
+/// A word, and 0 behind the last one.
+fn word_at(label: &[u64], k: usize) -> u64
+    ensures { result ≡ slice_index label.now k }
+{
+    label.get(k).copied().unwrap_or(0)
+}
+
+/// Goes on to a bit before which all are off, from this one on.
+pub(crate) fn skip_off(label: &[u64], bit: usize) -> usize
+    requires { bit < 2 ^ 62 }
+    ensures low { bit ≤ result }
+    ensures near { result ≤ bit + 64 }
+    ensures off { HoldsNowhere (λ k. bit_of k label.now) bit result }
+{
+    let place = bit % 64;
+    let rest = word_at(label, 1 + bit / 64) >> place;
+    let zeros = rest.trailing_zeros() as usize;
+    bit + zeros.min(64 - place)
 }
 
 /// Turns all bits off.

@@ -13,6 +13,7 @@ mod numbered;
 mod reach;
 mod reached;
 mod relation;
+mod root_steps;
 mod rooted;
 mod rule_list;
 mod rule_places;

@@ -154,7 +154,8 @@ fn add_seconds(
     }
 }
 
-fn rule_at(rules: &[RulePlaces], place: usize) -> RulePlaces
+/// The rule at a place.
+pub(crate) fn rule_at(rules: &[RulePlaces], place: usize) -> RulePlaces
     requires { place < length rules.now }
     ensures { result ≡ get_or rules.now place no_rule }
 {

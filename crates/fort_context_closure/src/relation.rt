@@ -23,6 +23,7 @@ use crate::facts::{fact_count, write_facts};
 use crate::numbered::{Numbered, number_patterns, root_patterns, write_rooted};
 use crate::reach::{Reach, reach_of};
 use crate::reached::{Node, RuleRoots, add_reached, root_rules};
+use crate::root_steps::{rules_under, some_marked};
 use crate::rooted::Rooted;
 use crate::rule_list::{RuleList, rules_of};
 use crate::rule_places::{RulePlaces, places_of_rules, some_rule};
@@ -50,6 +51,8 @@ pub struct RelationBits {
     right_roots: Rooted,
     rules: Vec<RulePlaces>,
     rule_roots: RuleRoots,
+    /// For each left pattern, the places of the rules whose left side it is.
+    under: Vec<Vec<usize>>,
     reach: Reach,
     closed: Closed,
 }
@@ -151,6 +154,7 @@ impl RelationBits {
         let right_roots = root_patterns(alloc, &rights)?;
         let rule_roots = root_rules(alloc, &rules, &lefts, &rights)?;
         let reach = reach_for(alloc, rel, lefts.len(), rights.len(), &closed)?;
+        let under = rules_under(alloc, &rules, lefts.len())?;
         Ok(RelationBits {
             rel,
             arguments: arguments_of(x, y),
@@ -162,6 +166,7 @@ impl RelationBits {
             right_roots,
             rules,
             rule_roots,
+            under,
             reach,
             closed,
         })
@@ -206,11 +211,11 @@ impl RelationBits {
         ensures { out.new ≡ entry_label (atom_rule self.now.atom (test_of self.now))
             rows.now.labels row.now }
     {
-        let first = row.sym().symbol(self.arguments.first);
-        let second = row.sym().symbol(self.arguments.second);
+        let first = row.symbol(self.arguments.first);
+        let second = row.symbol(self.arguments.second);
         self.write_patterns(first, second, row, rows, out);
         let right_base = self.lefts.len();
-        let root = some_rule(&self.rules, right_base, out);
+        let root = some_marked(&self.under, &self.rules, right_base, out);
         let base = right_base + self.rights.len();
         write_facts(
             self.rel,

@@ -14,7 +14,7 @@ pub(crate) struct Rooted {
 }
 
 /// Makes lists until there are so many.
-fn grow(alloc: Global, lists: &mut Vec<Vec<usize>>, count: usize) -> Result<(), Memory>
+pub(crate) fn grow(alloc: Global, lists: &mut Vec<Vec<usize>>, count: usize) -> Result<(), Memory>
     ensures same { (g : ℕ) → list_at (map vec_items lists.new.items) g
         ≡ list_at (map vec_items lists.old.items) g }
     ensures room { OnOk result (count ≤ length lists.new.items) }
@@ -26,7 +26,7 @@ fn grow(alloc: Global, lists: &mut Vec<Vec<usize>>, count: usize) -> Result<(), 
 }
 
 /// One more place in one of the lists.
-fn push_in(lists: &mut Vec<Vec<usize>>, at: usize, place: usize) -> Result<(), Memory>
+pub(crate) fn push_in(lists: &mut Vec<Vec<usize>>, at: usize, place: usize) -> Result<(), Memory>
     requires { at < length lists.old.items }
     ensures { OnOk result (map vec_items lists.new.items ≡ set (map vec_items lists.old.items) at
         (list_at (map vec_items lists.old.items) at ++ place ∷ [])) }

@@ -57,6 +57,15 @@ reach_for-requires-clause-right c =
     let numbers : AreNumbersOf (map as_pattern c.args.list.rights.items) c.in_ok-rights.rights.items = rw c.deref-2.ensures.value at c.in_ok-rights.ensures.numbers in
     omega (arith, rw c.deref-2.ensures.value at c.in_ok-rights.ensures.few, numbers.count, c.len-2.ensures, length-map c.args.list.rights.items as_pattern)
 
+pub rules_under-requires : goal.rules_under-requires
+rules_under-requires c =
+    let ls : List Pattern = map as_pattern c.args.list.lefts.items in
+    let rs : List Pattern = map as_pattern c.args.list.rights.items in
+    let places : ArePlacesOf ls rs (map as_pair c.args.list.rules.items) c.in_ok-rules.rules.items =
+    rw (c.deref-3.ensures.value, c.deref-4.ensures.value, c.deref-5.ensures.value) at c.in_ok-rules.ensures in
+    let left_numbers : AreNumbersOf ls c.in_ok-lefts.lefts.items = rw c.deref.ensures.value at c.in_ok-lefts.ensures.numbers in
+    rw c.deref-11.ensures.value (λ r k. let l = (places.within r k).0 in omega (arith, l, left_numbers.count, c.len-3.ensures))
+
 pub invariant_of-result : goal.invariant_of-result
 invariant_of-result c =
     let ls : List Pattern = map as_pattern c.args.list.lefts.items in
@@ -76,6 +85,7 @@ invariant_of-result c =
       right_roots = c.in_ok-right_roots.right_roots;
       rules = c.in_ok-rules.rules;
       rule_roots = c.in_ok-rule_roots.rule_roots;
+      under = c.in_ok-under.under;
       reach = c.in_ok-reach.reach;
       closed = c.args.closed;
     } in
@@ -98,6 +108,7 @@ invariant_of-result c =
       left_roots = rw c.deref-6.ensures.value at c.in_ok-left_roots.ensures;
       right_roots = rw c.deref-7.ensures.value at c.in_ok-right_roots.ensures;
       rule_roots = rw (c.deref-8.ensures.value, c.deref-9.ensures.value, c.deref-10.ensures.value) at c.in_ok-rule_roots.ensures;
+      under = rw c.deref-11.ensures.value at c.in_ok-under.ensures;
     }
 
 pub returns : goal.returns

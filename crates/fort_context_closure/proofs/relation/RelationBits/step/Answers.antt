@@ -1,8 +1,8 @@
-use Rattle.std.proofs.Common.{◌≡◌, ℕ, suc, ◌+◌, List, [], ◌++◌, Bool, None, map, length, get_or, slice_get, refl, sym, ap, ◌∙◌, arith}
+use Rattle.std.proofs.Common.{◌≡◌, ℕ, suc, ◌+◌, List, [], ◌++◌, Bool, None, map, length, get_or, refl, sym, ◌∙◌, arith}
 use Rattle.std.proofs.lemmas.List.{length-map, length-append}
 use Rattle.std.proofs.lemmas.Option.{get_or_from_slice_get}
 use Rattle.fort_theory.specs.Patterns.{Pattern}
-use Rattle.fort_tables.specs.Tuples.{TupleSymbol, presence}
+use Rattle.fort_tables.specs.Tuples.{presence}
 use Rattle.fort_lockstep.specs.Columns.{as_column}
 use Rattle.fort_formulas.specs.CoreView.{as_rel}
 use Rattle.fort_context_closure.specs.RowBits.{HasBits, IsRow, labels_at}
@@ -17,6 +17,14 @@ use Rattle.fort_context_closure.specs.RelationView.{atom_seen, listed_seen, left
 use Rattle.fort_context_closure.proofs.NodeRowLaws.{node_marks, label-is, root-own}
 use Rattle.fort_context_closure.proofs.RelationLaws.{bits-are}
 use Rattle.fort_context_closure.proofs.relation.RelationBits.step.Goals as goal
+
+pub some_marked-root-requires-clause-inside : goal.some_marked-root-requires-clause-inside
+some_marked-root-requires-clause-inside c =
+    let is = c.self.invariant in
+    rw c.deref-2.ensures.value (λ r k. let l = (is.within r k).0 in omega (arith, l, is.left_numbers.count, c.len-right_base.ensures))
+
+pub some_marked-root-requires-clause-under : goal.some_marked-root-requires-clause-under
+some_marked-root-requires-clause-under c = rw (c.deref.ensures.value, c.deref-2.ensures.value) c.self.invariant.under
 
 pub returns : goal.returns
 returns c =
@@ -47,17 +55,15 @@ returns c =
     let two : HasBits (firsts ++ seconds) c.write_patterns.new.out = rw (← c.self.view_is) at c.write_patterns.ensures in
     let sizes : length (firsts ++ seconds) ≡ c.len-right_base.result + c.len.result =
     omega (arith, bases, length-append firsts seconds, length-map ls f, length-map rs s) in
-    let root : c.some_rule-root.result ≡ root_test (is_reaching a.atom.kind) (bit_in a) pairs closure x y ws =
-    c.some_rule-root.ensures ∙ (rw (c.deref.ensures.value, base) (root-own a closure x y ws firsts seconds b.rules.items c.write_patterns.new.out refl refl is.within refl two)) in
+    let root : c.some_marked-root.result ≡ root_test (is_reaching a.atom.kind) (bit_in a) pairs closure x y ws =
+    c.some_marked-root.ensures ∙ (rw (c.deref-2.ensures.value, base) (root-own a closure x y ws firsts seconds b.rules.items c.write_patterns.new.out refl refl is.within refl two)) in
     let bits : List Bool = (firsts ++ seconds)
-    ++ map (fact_test (fact_bit (kind_for rel) (length ls + length rs)) c.same_roots.result c.some_rule-root.result ws) (facts_of (kind_for rel)) in
+    ++ map (fact_test (fact_bit (kind_for rel) (length ls + length rs)) c.same_roots.result c.some_marked-root.result ws) (facts_of (kind_for rel)) in
     let all : HasBits bits c.write_facts.new.out = rw bases at (c.write_facts.ensures (firsts ++ seconds) sizes two) in
     let row : IsRow (presence e.symbol) bits c.put_first.new.out = rw c.presence.ensures at (c.put_first.ensures bits all) in
-    let same = bits-are [] rel n i j pairs ls rs closure x y ws c.same_roots.result c.some_rule-root.result c.same_roots.ensures root firsts seconds refl refl in
-    let at_first : get_or e.symbol i None ≡ x =
-    get_or_from_slice_get e.symbol i x None (ap (λ (g : TupleSymbol). slice_get g i) (sym c.sym.ensures) ∙ c.symbol-first.ensures) in
-    let at_second : get_or e.symbol j None ≡ y =
-    get_or_from_slice_get e.symbol j y None (ap (λ (g : TupleSymbol). slice_get g j) (sym c.sym-2.ensures) ∙ c.symbol-second.ensures) in
+    let same = bits-are [] rel n i j pairs ls rs closure x y ws c.same_roots.result c.some_marked-root.result c.same_roots.ensures root firsts seconds refl refl in
+    let at_first : get_or e.symbol i None ≡ x = get_or_from_slice_get e.symbol i x None c.symbol-first.ensures in
+    let at_second : get_or e.symbol j None ≡ y = get_or_from_slice_get e.symbol j y None c.symbol-second.ensures in
     let wide : length c.put_first.new.out ≡ suc (words_for (length (marks_of c.args.self.now.atom))) =
     omega (arith, c.requires.room, c.write_patterns.auto.out, c.write_facts.auto.out, c.put_first.auto.out) in
     let size_out : length c.put_first.new.out ≡ suc (words_for (length (marks_of a))) = rw (← c.self.view_is) at wide in

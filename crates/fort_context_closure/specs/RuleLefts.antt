@@ -1,0 +1,19 @@
+-- Inside: rules by the places of their left sides, and the search for one that has both its bits in a label.
+use Rattle.std.specs.Prelude.{◌≡◌, ℕ, ◌<◌, List, length, get_or, Contains, Bool, false}
+use Rattle.fort_context_closure.specs.RootPlaces.{list_at}
+use Rattle.fort_context_closure.specs.RulePlaces.{has_both}
+use Rattle.fort_context_closure.specs.RuleRootPlaces.{no_rule}
+use Rattle.fort_context_closure.specs.declared.rule_places.RulePlaces.{RulePlaces}
+
+-- each rule is listed under its left side, by its place among the rules
+pub record AreUnderLefts (rules : List RulePlaces) (under : List (List ℕ)) : Type 0 where
+  pub there : (k : ℕ) → k < length rules → Contains (list_at under (get_or rules k no_rule).left) k
+  pub within : (left k : ℕ) → Contains (list_at under left) k → k < length rules
+
+-- whether the rule at this place has both its bits
+abbrev pub both_at : ℕ → List ℕ → List RulePlaces → ℕ → Bool
+both_at base w rules k = has_both base w (get_or rules k no_rule)
+
+-- no rule has whose left side comes before this place
+abbrev pub NoneBefore : ℕ → List ℕ → List RulePlaces → ℕ → Type 0
+NoneBefore base w rules from = (k : ℕ) → k < length rules → (get_or rules k no_rule).left < from → both_at base w rules k ≡ false
