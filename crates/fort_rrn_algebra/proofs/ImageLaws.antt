@@ -1,7 +1,7 @@
 -- Images of a child's states: they stay where the other children's labels do.
-use Rattle.std.proofs.Common.{◌≡◌, ◌≢◌, ℕ, zero, suc, ◌+◌, ◌/◌, ◌%◌, bit_or, ◌-◌, ◌<◌, ◌≤◌, ◌==◌, ◌||◌, if◌then◌else◌, max, List, [], ◌∷◌, ◌++◌, length, get_or, set, Some, Bool, true, false, nat_lt, refl, ap, sym, ◌∙◌, arith, subst, ⊎_elim, get_or-set_same, get_or-set_other, ◌&&◌}
-use Rattle.std.proofs.lemmas.Bool.{cases_lt, cases_eq, eqb-false}
-use Rattle.std.proofs.lemmas.List.{get_or_past, get_or_append_left, get_or_push, length_push, length-set}
+use Rattle.std.proofs.Common.{◌≡◌, ◌≢◌, ℕ, zero, suc, ◌+◌, ◌/◌, ◌%◌, bit_or, ◌-◌, ◌<◌, ◌≤◌, ◌==◌, ◌||◌, if◌then◌else◌, max, List, [], length, get_or, set, Some, Bool, true, false, nat_lt, refl, ap, sym, ◌∙◌, arith, ⊎_elim, ◌&&◌}
+use Rattle.std.proofs.lemmas.Bool.{cases_lt, eqb-false}
+use Rattle.std.proofs.lemmas.List.{get_or_past}
 use Rattle.std.proofs.lemmas.Nat.Bits.{bit_at_or, bit_at-lt}
 use Rattle.std.specs.Int.{bit_at}
 use Rattle.std.specs.List.{insert}
@@ -11,7 +11,7 @@ use Rattle.fort_tables.specs.Tables.{Table}
 use Rattle.fort_tables.proofs.BitRowLaws.{has_bit-past}
 use Rattle.fort_operations.specs.Projections.{some_below, some_choice, has_state, absent_state, is_pure, may_stand}
 use Rattle.fort_rrn_algebra.specs.Scopes.{takes, may_in, some_gives}
-use Rattle.fort_rrn_algebra.specs.ImageFacts.{with_state, IsImage, IsSlot, AreImages, IsKeyOf}
+use Rattle.fort_rrn_algebra.specs.ImageFacts.{with_state, IsImage, IsKeyOf}
 use Rattle.fort_rrn_algebra.specs.declared.images.Images.{Images}
 
 -- the labels agree apart from one

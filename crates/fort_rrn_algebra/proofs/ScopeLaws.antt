@@ -1,5 +1,5 @@
 -- The states that a scope leaves, and the symbols above one child of an entry: what they give, state by state.
-use Rattle.std.proofs.Common.{◌≡◌, ℕ, ◌+◌, ◌<◌, ◌≤◌, ◌==◌, ◌&&◌, ◌||◌, not, if◌then◌else◌, max, List, [], length, get_or, Some, Bool, true, false, nat_lt, refl, ap, sym, ◌∙◌, arith, subst, ⊎_elim}
+use Rattle.std.proofs.Common.{◌≡◌, ℕ, ◌<◌, ◌≤◌, ◌==◌, ◌&&◌, ◌||◌, not, if◌then◌else◌, max, List, [], length, get_or, Some, Bool, true, false, nat_lt, refl, ap, sym, ◌∙◌, arith, subst, ⊎_elim}
 use Rattle.std.proofs.lemmas.Bool.{cases_lt, eqb-true, eq-eqb, lt-ltb, le-ltb, ltb-true, or_cases}
 use Rattle.std.specs.List.{insert}
 use Rattle.fort_tables.specs.Tuples.{TupleSymbol, arity}

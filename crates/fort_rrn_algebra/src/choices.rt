@@ -132,7 +132,8 @@ impl<'a, T: Table> Choices<'a, T> {
             self.now.alone.now self.now.rows.now.labels self.now.row.now self.now.sym.0
             (symbol_under self.now.row.now self.now.column self.now.sym.0) self.now.arity }
         requires flat { FindsUnder (T.table self.now.body.now)
-            (symbol_under self.now.row.now self.now.column self.now.sym.0) (LookUp.Flat flat start) }
+            (symbol_under self.now.row.now self.now.column self.now.sym.0)
+            (LookUp.Flat flat start) }
         requires count { length before.now + 1 ≡ symbol_kids (T.table self.now.body.now).signature
             (symbol_under self.now.row.now self.now.column self.now.sym.0) }
         requires in_set { length before.now < self.now.arity }

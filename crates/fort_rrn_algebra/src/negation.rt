@@ -25,7 +25,8 @@ fn turned_finals(alloc: Global, table: &Dta) -> Result<Vec<bool>, Memory>
 pub fn negate(alloc: Global, table: &Dta) -> Result<Dta, Memory>
     ensures complement { IfOk result (λ t. listed_table t ≡ complemented (listed_table table.now)) }
     ensures accepted { IfOk result (λ t. TestsRelation table.now.signature table.now.columns
-        (accepts (listed_table t)) (Complement (λ s. IsTrue (accepts (listed_table table.now) s)))) }
+        (accepts (listed_table t))
+        (Complement (λ s. IsTrue (accepts (listed_table table.now) s)))) }
     ensures listed { IfOk result IsListed }
 {
     let _columns = table.columns();

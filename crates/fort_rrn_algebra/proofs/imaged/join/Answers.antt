@@ -1,4 +1,4 @@
-use Rattle.std.proofs.Common.{◌∙◌, sym, arith}
+use Rattle.std.proofs.Common.{◌∙◌, arith}
 use Rattle.fort_rrn_algebra.proofs.ImageLaws.{states_joined}
 use Rattle.fort_rrn_algebra.proofs.imaged.join.Goals as goal
 

@@ -1,4 +1,4 @@
-use Rattle.std.proofs.Common.{◌∙◌, length, arith}
+use Rattle.std.proofs.Common.{◌∙◌, arith}
 use Rattle.fort_rrn_algebra.proofs.LabelWritten.{first_set, second_set, none_marked}
 use Rattle.fort_rrn_algebra.proofs.projection.write_front.Goals as goal
 

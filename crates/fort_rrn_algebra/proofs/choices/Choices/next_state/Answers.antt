@@ -1,4 +1,4 @@
-use Rattle.std.proofs.Common.{◌==◌, length, sym, ◌∙◌, arith}
+use Rattle.std.proofs.Common.{◌∙◌}
 use Rattle.std.proofs.lemmas.Option.{IfSome_then}
 use Rattle.fort_rrn_algebra.specs.Choices.{may_choose, symbol_under}
 use Rattle.fort_rrn_algebra.specs.OperandRows.{labels_at}
