@@ -11,7 +11,7 @@ use Rattle.fort_parts.specs.PartColumns.{columns_of}
 use Rattle.fort_parts.specs.PartAnswers.{OfTable, OfValue}
 use Rattle.fort_certificate_grammar.specs.Certificates.{Which, Pair as Item, Step, Closure, Part, Counts, Value}
 use Rattle.fort_in_order.specs.Outcomes as outcomes
-use Rattle.fort_in_order.specs.Outcomes.{StepOutcome, Fine, Fails}
+use Rattle.fort_in_order.specs.Outcomes.{StepOutcome, Fails}
 use Rattle.fort_in_order.specs.PartSteps.{IsPartOutcome, IsRight, IsFailed, IsPartFailure}
 use Rattle.fort_in_order.specs.Made.{Made, with_answer, with_counts}
 use Rattle.fort_in_order.specs.PartRules.{IsLocalOf, IsValueOf}

@@ -12,7 +12,6 @@ use Rattle.fort_tables.specs.Tables.{Table}
 use Rattle.fort_operations.specs.Products.{Connective, And, Or, Iff, connected}
 use Rattle.fort_operations.specs.Projections.{ArePure, some_below}
 use Rattle.fort_counts.specs.Counts as counts
-use Rattle.fort_counts.specs.Counts.{count_at}
 use Rattle.fort_counts.specs.ManyLabels.{many_value}
 use Rattle.fort_parts.specs.PartColumns.{columns_of, place_in}
 use Rattle.fort_parts.specs.DecidedCores.{IsOperandOf}

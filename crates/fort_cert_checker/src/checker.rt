@@ -90,7 +90,8 @@ fn rejected_at(certificate: &Certificate, place: usize, failure: Failure) -> Rej
 
 /// What comes of a certificate whose steps are all fine.
 fn verdict_of(certificate: &Certificate) -> Result<bool, Rejected>
-    requires { (value : Bool) × (last_value (map as_step certificate.now.steps.items) ≡ Some value) }
+    requires { (value : Bool)
+        × (last_value (map as_step certificate.now.steps.items) ≡ Some value) }
     ensures verdict { OnOk result (last_value (map as_step certificate.now.steps.items)
         ≡ Some certificate.now.verdict) }
     ensures same { IfOk result (λ verdict. verdict ≡ certificate.now.verdict) }

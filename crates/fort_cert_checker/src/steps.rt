@@ -59,17 +59,17 @@ fn check_own(
     room: &mut PartRoom,
     marks: &mut MarkRoom,
 ) -> Result<(), Failure>
-    requires due { (made : Made) × IsDueBehind given.now.system.now (map as_core given.now.parts.now)
-        (map as_step given.now.steps.now) given.now.plans.now front.now made (as_core core.now) plan.now
-        (as_step step.now) room.old marks.old }
+    requires due { (made : Made) × IsDueBehind given.now.system.now
+        (map as_core given.now.parts.now) (map as_step given.now.steps.now) given.now.plans.now
+        front.now made (as_core core.now) plan.now (as_step step.now) room.old marks.old }
     ensures fine { OnOk result ((made : Made) → IsDueBehind given.now.system.now
-        (map as_core given.now.parts.now) (map as_step given.now.steps.now) given.now.plans.now front.now made
-        (as_core core.now) plan.now (as_step step.now) room.old marks.old
+        (map as_core given.now.parts.now) (map as_step given.now.steps.now) given.now.plans.now
+        front.now made (as_core core.now) plan.now (as_step step.now) room.old marks.old
         → IsFineStep given.now.system.now (map as_core given.now.parts.now) made (as_step step.now)
         room.new) }
     ensures failing { IfErr result (λ e. (made : Made) → IsDueBehind given.now.system.now
-        (map as_core given.now.parts.now) (map as_step given.now.steps.now) given.now.plans.now front.now made
-        (as_core core.now) plan.now (as_step step.now) room.old marks.old
+        (map as_core given.now.parts.now) (map as_step given.now.steps.now) given.now.plans.now
+        front.now made (as_core core.now) plan.now (as_step step.now) room.old marks.old
         → IsFailing given.now.system.now (map as_core given.now.parts.now) made (as_step step.now)
         e.place (as_reason e.reason)) }
     ensures room { (ss : List certificates.Step) (p : plans.Plan)
@@ -77,8 +77,8 @@ fn check_own(
         → IsRoomFor ss (part_in (as_step step.now)) p room.old
         → IsRoomFor ss (part_in (as_step step.now)) p room.new }
     ensures marks { (made : Made) → IsDueBehind given.now.system.now
-        (map as_core given.now.parts.now) (map as_step given.now.steps.now) given.now.plans.now front.now made
-        (as_core core.now) plan.now (as_step step.now) room.old marks.old
+        (map as_core given.now.parts.now) (map as_step given.now.steps.now) given.now.plans.now
+        front.now made (as_core core.now) plan.now (as_step step.now) room.old marks.old
         → IsMarkRoomFor (map as_step given.now.steps.now) plan.now.work marks.new }
 {
     let past = Past {
@@ -135,8 +135,8 @@ pub(crate) fn check_step(
         → IsLoopAt given.now.system.now root (map as_core given.now.parts.now) c given.now.plans.now
         closures.old rooms.old marks.old place made
         → IsStepDue given.now.system.now (map as_core given.now.parts.now) c place
-        → IsReady given.now.system.now root (map as_core given.now.parts.now) c.steps given.now.plans.now
-        closures.new rooms.new marks.new }
+        → IsReady given.now.system.now root (map as_core given.now.parts.now) c.steps
+        given.now.plans.now closures.new rooms.new marks.new }
 {
     let step = &given.steps[place];
     match step {

@@ -1,17 +1,10 @@
 -- Formulas of few numbers that the tests decide meet what deciding asks.
-use Rattle.std.specs.Prelude.{◌≡◌, ◌≤◌, length, not, refl}
-use Rattle.std.specs.List.{range_with_len}
-use Rattle.std.proofs.Common.{ap, sym, subst, arith, ⊎_elim}
-use Rattle.std.proofs.lemmas.List.FromFn.{length-range_with_len}
-use Rattle.std.proofs.lemmas.List.Filters.{length-filter_both}
-use Rattle.fort_theory.specs.Signatures.{most_columns}
+use Rattle.std.specs.Prelude.{◌≡◌, length, refl}
+use Rattle.std.proofs.Common.{sym, subst, arith}
 use Rattle.fort_theory.specs.Patterns.{PatternSystem}
 use Rattle.fort_theory.specs.Sides.{IsIndexOf}
-use Rattle.fort_logic.specs.Cores.{Core, True, Atom, Step, Nf, Is, Not, And, Or, Iff, Exists, Infinite}
-use Rattle.fort_logic.specs.Parts.{is_free, BindsFree, IsWellFormed}
-use Rattle.fort_parts.specs.PartColumns.{numbers_below}
-use Rattle.fort_parts.specs.DecidedCores.{IsDecided, IsOperandOf}
-use Rattle.fort_parts.proofs.PartColumnLaws.{columns_of-unique}
+use Rattle.fort_logic.specs.Cores.{Core, Atom, Step, Nf}
+use Rattle.fort_parts.specs.DecidedCores.{IsDecided}
 use Rattle.fort_parts.proofs.PartFacts.{IsWellFormed-few}
 use Rattle.fort_engine.specs.TestFormulas.{some_step, both_kinds, always_differs}
 

@@ -21,7 +21,7 @@ use Rattle.fort_answers.specs.Lines.{positive, negative, usage, refused, limited
 use Rattle.fort_answers.specs.SystemAnswer.{Are, PassesCap, KeepsCap, IsAnswerable, IsUnanswerable, InputRefused, FormulaUnfit, Limited}
 use Rattle.fort_answers.specs.DecideAnswer.{TruthVerdict, Yes, No, DecideVerdict, DecideAnswer}
 use Rattle.fort_answers.specs.DecideAnswer as decide
-use Rattle.fort_answers.specs.WitnessAnswer.{AreWitnesses, AreLeastWitnesses, bindings, WitnessVerdict, Found, NotFound, WitnessEarly, WitnessAnswer}
+use Rattle.fort_answers.specs.WitnessAnswer.{AreWitnesses, AreLeastWitnesses, bindings, WitnessVerdict, Found, NotFound, WitnessAnswer}
 use Rattle.fort_answers.specs.WitnessAnswer as witness
 use Rattle.fort_answers.specs.CertificateAnswer.{CertificateVerdict}
 use Rattle.fort_answers.specs.CheckAnswer as check

@@ -33,7 +33,8 @@ fn is_too_wide(alloc: Global, formula: &Formula) -> Result<bool, AllocError>
 /// The line that refuses a formula that is taken, but not closed.
 fn open_refusal(alloc: Global, formula: &Formula) -> Result<Option<Vec<u8>>, AllocError>
     ensures { IfOk result (λ refusal. (text : List ℕ) → IsAccepted text (as_formula formula.now)
-        → MatchOption refusal (IsAcceptedClosed text (as_formula formula.now)) (λ line. IsRefusedClosed text line.items)) }
+        → MatchOption refusal (IsAcceptedClosed text (as_formula formula.now))
+        (λ line. IsRefusedClosed text line.items)) }
 {
     let names = free_names(alloc, formula)?;
     match names.first() {

@@ -70,7 +70,8 @@ fn reply_to_formula<S: Source>(
     ensures ok { IfOk result (λ r. (text : Text) → IsAskedAs question text parsed.now
         → OwesToQuestion question states text (S.rest input.old) (status_of r) (text_of r)) }
     ensures limit { IfOk result (λ r. (text : Text) → IsAskedAs question text parsed.now
-        → IfSome (limit_of r) (QuestionLimitTold question states text (S.rest input.old) (text_of r))) }
+        → IfSome (limit_of r)
+        (QuestionLimitTold question states text (S.rest input.old) (text_of r))) }
     ensures whole { OnOk result (ReadsWhole (S.rest input.old) (S.rest input.new)) }
     ensures fault { IsErrOf result Stop.Fault →
         FaultCounted (S.faults input.old) (S.faults input.new) }

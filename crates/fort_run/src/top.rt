@@ -32,8 +32,9 @@ fn reply_to_request<S: Source>(
     requires { HasSampleSize (as_request request.now) }
     ensures ok { IfOk result (λ r.
         OwesTold (Some (as_request request.now)) (S.rest input.old) (status_of r) (text_of r)) }
-    ensures certified { IfOk result (λ r. (formula : Text) → as_request request.now ≡ CheckOf formula
-        → status_of r ≡ positive → IsCertifiedTold formula (S.rest input.old) (text_of r)) }
+    ensures certified { IfOk result (λ r. (formula : Text)
+        → as_request request.now ≡ CheckOf formula → status_of r ≡ positive
+        → IsCertifiedTold formula (S.rest input.old) (text_of r)) }
     ensures limit { IfOk result (λ r. IfSome (limit_of r)
         (HasLimitTold (Some (as_request request.now)) (S.rest input.old) (text_of r))) }
     ensures whole { OnOk result (NeedsInput (as_request request.now) →
@@ -102,7 +103,8 @@ pub fn run<S: Source, K: Sink>(
     ensures answered { result.status ≤ last_answer → Answers (map string_bytes words.now)
         (S.rest input.old) (K.taken output.old) (K.taken output.new) result.status }
     ensures only { result.status ≤ last_answer → IfSome (S.rest input.old)
-        (OwesOnly (map string_bytes words.now) (K.taken output.old) (K.taken output.new) result.status) }
+        (OwesOnly (map string_bytes words.now) (K.taken output.old) (K.taken output.new)
+        result.status) }
     ensures early { result.status ≤ last_answer → OwesOnlyEarly (map string_bytes words.now)
         (K.taken output.old) (K.taken output.new) result.status }
     ensures whole { result.status ≤ last_answer → AsksSomething (map string_bytes words.now) →

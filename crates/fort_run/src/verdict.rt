@@ -168,7 +168,8 @@ pub fn verdict(
     requires closed { IsClosedFor question (as_formula formula.now) }
     ensures ok { IfOk result (λ r. (p : theory.System) → IsLawful p
         → system.now ≡ pattern_system p
-        → IsVerdict question p terms.now (as_formula formula.now) states (status_of r) (text_of r)) }
+        → IsVerdict question p terms.now (as_formula formula.now) states (status_of r)
+        (text_of r)) }
     ensures limit { IfOk result (λ r. IfSome (limit_of r)
         (ShowsLimit system.now (core_of terms.now (as_formula formula.now)) states (text_of r))) }
 {

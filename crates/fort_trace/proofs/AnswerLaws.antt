@@ -1,6 +1,5 @@
 -- The answer of a negation: its body's, turned.
-use Rattle.std.proofs.Common.{◌≡◌, ℕ, Bool, true, false, not, nat_lt, List, length, Ok, Some, true≢false, refl, ap, sym, ◌∙◌, subst}
-use Rattle.std.proofs.lemmas.Bool.{lt-ltb}
+use Rattle.std.proofs.Common.{◌≡◌, ℕ, Bool, true, false, not, nat_lt, List, length, Ok, true≢false, refl, ap, sym, ◌∙◌, subst}
 use Rattle.fort_theory.specs.Patterns.{PatternSystem}
 use Rattle.fort_logic.specs.Cores as core
 use Rattle.fort_tables.specs.Tables.{Listed, listed_table}
@@ -8,8 +7,7 @@ use Rattle.fort_operations.specs.OperationTruth.{complemented}
 use Rattle.fort_formulas.specs.declared.core_formula.Core.{Core}
 use Rattle.fort_formulas.specs.declared.core_formula.Core.TheVariants.{True, Atom, Nf, Is, Not, And, Or, Iff, Exists, Infinite}
 use Rattle.fort_formulas.specs.CoreView.{as_core}
-use Rattle.fort_parts.specs.PartColumns.{columns_of}
-use Rattle.fort_parts.specs.PartAnswers.{Answer, OfValue, OfTable}
+use Rattle.fort_parts.specs.PartAnswers.{OfValue, OfTable}
 use Rattle.fort_parts.specs.RightAnswers.{IsRightFor}
 use Rattle.fort_parts.proofs.StepAnswers.{IsRightFor-Not-value, IsPartOver-closed}
 use Rattle.fort_in_order.specs.Dues.{has_columns, is_turned}

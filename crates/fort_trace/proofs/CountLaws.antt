@@ -1,5 +1,5 @@
 -- The counts of "infinitely many": those of the body's table, whose answer is kept.
-use Rattle.std.proofs.Common.{◌≡◌, ℕ, List, map, length, refl, ap, sym, ◌∙◌, subst}
+use Rattle.std.proofs.Common.{◌≡◌, ℕ, List, refl, ap, sym, ◌∙◌, subst}
 use Rattle.fort_logic.specs.Cores as core
 use Rattle.fort_logic.specs.Parts.{AreColumns}
 use Rattle.fort_tables.specs.Tables.{Table}

@@ -8,13 +8,13 @@ use Rattle.fort_theory.specs.Signatures.{most_columns}
 use Rattle.fort_theory.specs.Patterns.{PatternSystem, IsSystem}
 use Rattle.fort_logic.specs.Cores as core
 use Rattle.fort_logic.specs.Cores.{Core}
-use Rattle.fort_logic.specs.Parts.{postorder, BindsFree, IsClosed}
+use Rattle.fort_logic.specs.Parts.{BindsFree, IsClosed}
 use Rattle.fort_logic.specs.PartLists.{AreParts}
 use Rattle.fort_logic.specs.Kinds.{kind_of}
 use Rattle.fort_logic.specs.PatternStructures.{pattern_structure}
 use Rattle.fort_tables.specs.Tables.{Listed, listed_table}
 use Rattle.fort_parts.specs.PartColumns.{columns_of}
-use Rattle.fort_parts.specs.PartAnswers.{Answer, OfValue, OfTable, IsAnswerTo}
+use Rattle.fort_parts.specs.PartAnswers.{Answer, OfTable, IsAnswerTo}
 use Rattle.fort_parts.specs.DecidedCores.{IsDecided, IsOperandOf}
 use Rattle.fort_parts.specs.RightAnswers.{IsRightFor, HasTooMany}
 use Rattle.fort_parts.specs.AlikeParts.{IsPartOver}

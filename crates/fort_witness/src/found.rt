@@ -140,7 +140,8 @@ impl Search {
     /// The candidates are nodes now.
     pub fn settle(&mut self)
         requires { (k : ℕ) → k < length self.old.candidates.items
-            → slice_index_or (states_of self.old.candidates.items) k 0 < length self.old.marks.items }
+            → slice_index_or (states_of self.old.candidates.items) k 0
+            < length self.old.marks.items }
         ensures marks { AreKnownNow (states_of self.old.candidates.items) self.old.marks.items
             self.new.marks.items }
         ensures empty { self.new.candidates.items ≡ [] }

@@ -1,9 +1,8 @@
-use Rattle.std.proofs.Common.{◌≡◌, ◌<◌, ℕ, Bool, List, map, subst, sym, ap, ◌∙◌, arith}
+use Rattle.std.proofs.Common.{◌≡◌, ◌<◌, map, subst, sym, ap, ◌∙◌, arith}
 use Rattle.fort_logic.specs.Cores as core
 use Rattle.fort_logic.specs.Parts.{AreColumns}
 use Rattle.fort_tables.specs.Tables.{listed_table}
 use Rattle.fort_counts.specs.Counts.{KeepRules, count_at}
-use Rattle.fort_counts.specs.ManyLabels.{TellsMany}
 use Rattle.fort_counts.proofs.TellsLaws.{TellsMany-marks}
 use Rattle.fort_formulas.specs.CoreView.{as_core}
 use Rattle.fort_infinity.specs.CountView.{as_count, is_many}
