@@ -40,6 +40,8 @@ pub struct EntryList {
     runs: Vec<Run>,
     symbols: Vec<Option<Sym>>,
     kids: Vec<u32>,
+    /// For each stage its first run, or the first of a later one. Nothing rests on it but the time of a look-up.
+    stage_runs: Vec<usize>,
 }
 
 impl Model for EntryList {
@@ -163,6 +165,13 @@ fn make_run(
     runs.push_reserved(run);
 }
 
+/// Notes this run for each stage up to its own that has none.
+fn note_stage(stage_runs: &mut Vec<usize>, stage: u32, run: usize) {
+    'stages: while stage_runs.len() <= stage as usize && stage_runs.len() < stage_runs.capacity() {
+        stage_runs.push_reserved(run);
+    }
+}
+
 impl EntryList {
     /// No entries, and room for so many.
     pub fn new(alloc: Global, room: usize) -> Result<EntryList, Memory>
@@ -180,6 +189,7 @@ impl EntryList {
             runs: Vec::with_capacity(alloc, room)?,
             symbols: Vec::with_capacity(alloc, symbols)?,
             kids: Vec::with_capacity(alloc, kids)?,
+            stage_runs: Vec::with_capacity(alloc, room)?,
         })
     }
 
@@ -195,6 +205,7 @@ impl EntryList {
         self.runs.clear();
         self.symbols.clear();
         self.kids.clear();
+        self.stage_runs.clear();
     }
 
     /// Appends an entry, for which there is room.
@@ -213,6 +224,7 @@ impl EntryList {
             kids: kids.len() as u32,
             stage: stage_of(kids) as u32,
         };
+        let newest = self.runs.len();
         make_run(
             &mut self.runs,
             &mut self.symbols,
@@ -221,6 +233,7 @@ impl EntryList {
             &row.sym(),
         );
         put_kids(&mut self.kids, kids);
+        note_stage(&mut self.stage_runs, run.stage, newest);
         self.count += 1;
     }
 
@@ -236,6 +249,14 @@ impl EntryList {
         ensures lawful { AreStarts self.now }
     {
         self.runs.len()
+    }
+
+    /// About where the runs of a stage begin: a guess, which has to be looked at.
+    pub(crate) fn run_of_stage(&self, stage: u64) -> usize {
+        match self.stage_runs.get(stage as usize) {
+            Some(run) => *run,
+            None => self.runs.len(),
+        }
     }
 
     /// The place of a run's first entry; behind the last run, how many entries there are.

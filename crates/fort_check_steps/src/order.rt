@@ -1,5 +1,5 @@
 //! The place of an entry among entries in order.
-ghost use Rattle.std.specs.Prelude.{◌≡◌, ℕ, ◌+◌, ◌<◌, ◌≤◌, List, length, slice_index_or, Contains};
+ghost use Rattle.std.specs.Prelude.{◌≡◌, ℕ, ◌+◌, ◌-◌, ◌<◌, ◌≤◌, List, length, slice_index_or, Contains};
 ghost use Rattle.fort_theory.specs.Signatures as theory;
 ghost use Rattle.fort_tables.specs.Entries.{Entry, entry, stage as stage_lem, LexBefore, ColumnBefore, ComesBefore, AreInOrder, IsEntry};
 ghost use Rattle.fort_tables.specs.Tuples.{TupleSymbol};
@@ -82,7 +82,8 @@ fn run_order(list: &EntryList, run: usize, sym: &TupleSym, kids: &[u32], stage: 
         × AreInOrder sig columns presences list.now.entries }
     requires run { run < length list.now.starts }
     ensures { (d : Entry) → Orders ComesBefore
-        (slice_index_or list.now.entries (start_of list.now run) d) (entry sym.now kids.now) result }
+        (slice_index_or list.now.entries (start_of list.now run) d) (entry sym.now kids.now)
+        result }
 {
     let _runs = list.runs();
     let own = u64::from(list.stage(run));
@@ -99,8 +100,120 @@ fn run_order(list: &EntryList, run: usize, sym: &TupleSym, kids: &[u32], stage: 
     }
 }
 
+/// Runs from `low` on, before `high`.
+#[derive(Clone, Copy)]
+struct RunRange {
+    low: usize,
+    high: usize,
+}
+
+/// The runs that can have the entry, after a look at one of them; all, where that one isn't inside.
+fn narrowed(
+    list: &EntryList,
+    range: RunRange,
+    at: usize,
+    sym: &TupleSym,
+    kids: &[u32],
+    stage: u64,
+) -> RunRange
+    requires stage { stage ≡ stage_lem kids.now }
+    requires there { Contains list.now.entries (entry sym.now kids.now) }
+    requires order { (sig : theory.Signature) × (columns : ℕ) × (presences : List ℕ)
+        × AreInOrder sig columns presences list.now.entries }
+    requires within { range.high ≤ length list.now.starts }
+    requires some { range.low < range.high }
+    requires here { IsWithin list.now (entry sym.now kids.now) (start_of list.now range.low)
+        (start_of list.now range.high) }
+    ensures within { result.high ≤ length list.now.starts }
+    ensures some { result.low < result.high }
+    ensures here { IsWithin list.now (entry sym.now kids.now) (start_of list.now result.low)
+        (start_of list.now result.high) }
+    ensures fewer { range.low < at → at < range.high
+        → result.high - result.low < range.high - range.low }
+{
+    let _runs = list.runs();
+    if at <= range.low || range.high <= at {
+        return range;
+    }
+    match run_order(list, at, sym, kids, stage) {
+        Ordering::Less => RunRange { low: at, ..range },
+        Ordering::Equal => RunRange { low: at, ..range },
+        Ordering::Greater => RunRange { high: at, ..range },
+    }
+}
+
+/// How many digits a column can have: absent or a constant, and another symbol.
+#[derive(Clone, Copy)]
+pub struct Bases {
+    pub constants: usize,
+    pub others: usize,
+}
+
+/// A tuple symbol's number among those with children in these columns, where the signature has its constants first.
+fn number_of(bases: Bases, presence: u16, sym: &TupleSym) -> usize {
+    let mut rest = presence;
+    let mut number = 0usize;
+    for k in 0..sym.len() {
+        let digit = match sym.symbol(k) {
+            None => 0,
+            Some(symbol) => usize::from(symbol.0) + 1,
+        };
+        number = if rest % 2 == 1 {
+            number
+                .wrapping_mul(bases.others)
+                .wrapping_add(digit.wrapping_sub(bases.constants))
+        } else {
+            number.wrapping_mul(bases.constants).wrapping_add(digit)
+        };
+        rest /= 2;
+    }
+    number
+}
+
+/// Guesses at the run of an entry and the one behind, and about where the runs of its stage begin and end. The first two are right
+/// for tuple symbols of at most one child, where the signature has its constants first.
+fn guesses(
+    list: &EntryList,
+    bases: Bases,
+    presence: u16,
+    sym: &TupleSym,
+    stage: u64,
+) -> [usize; 4] {
+    let first = list.run_of_stage(stage);
+    let number = number_of(bases, presence, sym);
+    // the tuple symbol whose columns are all absent has no run
+    let run = if stage == 0 {
+        number.wrapping_sub(1)
+    } else {
+        first.wrapping_add(number)
+    };
+    let behind = list.run_of_stage(stage.wrapping_add(1));
+    [run, run.wrapping_add(1), first, behind]
+}
+
+/// The runs that can have the entry, after a look at those that are guessed.
+fn near(list: &EntryList, guesses: &[usize], sym: &TupleSym, kids: &[u32], stage: u64) -> RunRange
+    requires stage { stage ≡ stage_lem kids.now }
+    requires there { Contains list.now.entries (entry sym.now kids.now) }
+    requires order { (sig : theory.Signature) × (columns : ℕ) × (presences : List ℕ)
+        × AreInOrder sig columns presences list.now.entries }
+    ensures within { result.high ≤ length list.now.starts }
+    ensures some { result.low < result.high }
+    ensures here { IsWithin list.now (entry sym.now kids.now) (start_of list.now result.low)
+        (start_of list.now result.high) }
+{
+    let mut range = RunRange {
+        low: 0,
+        high: list.runs(),
+    };
+    for guess in guesses {
+        range = narrowed(list, range, *guess, sym, kids, stage);
+    }
+    range
+}
+
 /// The run of an entry that is among entries in order, by bisection.
-fn run_among(list: &EntryList, sym: &TupleSym, kids: &[u32], stage: u64) -> usize
+fn run_among(list: &EntryList, guesses: &[usize], sym: &TupleSym, kids: &[u32], stage: u64) -> usize
     requires stage { stage ≡ stage_lem kids.now }
     requires there { Contains list.now.entries (entry sym.now kids.now) }
     requires order { (sig : theory.Signature) × (columns : ℕ) × (presences : List ℕ)
@@ -109,17 +222,12 @@ fn run_among(list: &EntryList, sym: &TupleSym, kids: &[u32], stage: u64) -> usiz
     ensures here { IsWithin list.now (entry sym.now kids.now) (start_of list.now result)
         (start_of list.now (result + 1)) }
 {
-    let mut low = 0;
-    let mut high = list.runs();
-    'halves: while low + 1 < high {
-        let middle = low + (high - low) / 2;
-        match run_order(list, middle, sym, kids, stage) {
-            Ordering::Less => low = middle,
-            Ordering::Equal => low = middle,
-            Ordering::Greater => high = middle,
-        }
+    let mut range = near(list, guesses, sym, kids, stage);
+    'halves: while range.low + 1 < range.high {
+        let middle = range.low + (range.high - range.low) / 2;
+        range = narrowed(list, range, middle, sym, kids, stage);
     }
-    low
+    range.low
 }
 
 /// The place of an entry of a run, by bisection.
@@ -147,8 +255,14 @@ fn place_in_run(list: &EntryList, run: usize, sym: &TupleSym, kids: &[u32]) -> u
     unreachable!()
 }
 
-/// The place of an entry that is among entries in order.
-pub fn place_among(list: &EntryList, sym: &TupleSym, kids: &[u32]) -> usize
+/// The place of an entry that is among entries in order. The bases and the first child's presence change the time alone.
+pub fn place_among(
+    list: &EntryList,
+    bases: Bases,
+    presence: u16,
+    sym: &TupleSym,
+    kids: &[u32],
+) -> usize
     requires there { Contains list.now.entries (entry sym.now kids.now) }
     requires order { (sig : theory.Signature) × (columns : ℕ) × (presences : List ℕ)
         × AreInOrder sig columns presences list.now.entries }
@@ -156,6 +270,7 @@ pub fn place_among(list: &EntryList, sym: &TupleSym, kids: &[u32]) -> usize
     ensures is { (d : Entry) → slice_index_or list.now.entries result d ≡ entry sym.now kids.now }
 {
     let stage = stage_of(kids);
-    let run = run_among(list, sym, kids, stage);
+    let looks = guesses(list, bases, presence, sym, stage);
+    let run = run_among(list, &looks, sym, kids, stage);
     place_in_run(list, run, sym, kids)
 }

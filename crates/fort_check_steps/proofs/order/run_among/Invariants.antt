@@ -6,10 +6,10 @@ use Rattle.fort_check_steps.proofs.order.run_among.Given as goal
 
 abbrev pub invariant-halves : goal.invariant-halves
 invariant-halves l = record {
-  within : l.high ≤ length l.list.starts;
-  some : l.low < l.high;
-  here : IsWithin l.list (entry l.sym l.kids) (start_of l.list l.low) (start_of l.list l.high);
+  within : l.range.high ≤ length l.list.starts;
+  some : l.range.low < l.range.high;
+  here : IsWithin l.list (entry l.sym l.kids) (start_of l.list l.range.low) (start_of l.list l.range.high);
 }
 
 abbrev pub decreases-halves : goal.decreases-halves
-decreases-halves l = l.high - l.low
+decreases-halves l = l.range.high - l.range.low
