@@ -13,6 +13,13 @@ length-entries ws = length-map (in_order ws) (λ (a : Transition). a.entry) ∙ 
 pub length-targets : (ws : List Transition) → length (targets_of (in_order ws)) ≡ length ws
 length-targets ws = length-map (in_order ws) (λ (a : Transition). a.target) ∙ length-in_order ws
 
+pub firsts_none : (ws : List Transition) (fs : List ℕ) (frs : List Entry) → fs ≡ [] → frs ≡ [] → AreFirsts (entries_of (in_order ws)) fs frs
+firsts_none ws fs frs f e = record {
+  count = omega (arith, ap length f, ap length e);
+  within = λ q l. absurd (omega (arith, l, ap length f));
+  entries_are = λ q d l. absurd (omega (arith, l, ap length f));
+}
+
 firsts_grow : (entries : List Entry) (fs : List ℕ) (frs : List Entry) (e : Entry) → AreFirsts entries fs frs → AreFirsts (entries ++ e ∷ []) fs frs
 firsts_grow entries fs frs e a = record {
   count = a.count;

@@ -5,7 +5,7 @@ use Rattle.std.proofs.lemmas.List.{length-map, map-append, append-nil}
 use Rattle.fort_tables.specs.Tuples.{TupleSymbol}
 use Rattle.fort_tables.specs.Entries.{Entry, entry, ColumnBefore, LexBefore, ComesBefore}
 use Rattle.fort_tables.proofs.OrderLaws.{before_irrefl, before_trans}
-use Rattle.fort_lockstep.specs.Transitions.{Transition, KidsBefore, Group, no_group, transition, group_transitions, transitions, in_order, entries_of, targets_of, IsAfterEntries, IsLast}
+use Rattle.fort_lockstep.specs.Transitions.{Transition, KidsBefore, Group, no_group, transition, group_transitions, transitions, in_order, entries_of, targets_of, IsAfterEntries, IsPut, IsLast}
 use Rattle.fort_lockstep.proofs.InLaws.{In, In-left, In-right, In-either}
 use Rattle.fort_lockstep.proofs.OrderedLaws.{AllBefore, at_of, In-in_order, in_order_push}
 
@@ -32,14 +32,8 @@ group_transitions_push f [] (p ∷ qs) ks q h = absurd (omega arith)
 group_transitions_push f (k ∷ kss) [] ks q h = absurd (omega arith)
 group_transitions_push f (k ∷ kss) (p ∷ qs) ks q h = ap (λ (ws : List Transition). transition f k p ∷ ws) (group_transitions_push f kss qs ks q (omega arith))
 
--- where one more entry of a group stands
-pub record Put (old new : List Transition) (a : Transition) : Type 0 where
-  pub before : List Transition
-  pub after : List Transition
-  pub was : old ≡ before ++ after
-  pub is : new ≡ before ++ a ∷ after
-
-pub push_in_group : (fs : List TupleSymbol) (gs : List Group) (i : ℕ) (g : Group) (ks : List ℕ) (q : ℕ) → length fs ≡ length gs → i < length gs → get_or gs i no_group ≡ g → length g.kids ≡ length g.targets → Put (transitions fs gs) (transitions fs (slice_set gs i (record { kids = g.kids ++ ks ∷ []; targets = g.targets ++ q ∷ [] }))) (transition (get_or fs i []) ks q)
+-- one more entry of a group
+pub push_in_group : (fs : List TupleSymbol) (gs : List Group) (i : ℕ) (g : Group) (ks : List ℕ) (q : ℕ) → length fs ≡ length gs → i < length gs → get_or gs i no_group ≡ g → length g.kids ≡ length g.targets → IsPut (transitions fs gs) (transitions fs (slice_set gs i (record { kids = g.kids ++ ks ∷ []; targets = g.targets ++ q ∷ [] }))) (transition (get_or fs i []) ks q)
 push_in_group [] gs i g ks q h l e c = absurd (omega arith)
 push_in_group (f ∷ fs) [] i g ks q h l e c = absurd (omega arith)
 push_in_group (f ∷ fs) (x ∷ gs) zero g ks q h l e c = record {
@@ -114,7 +108,7 @@ after_entries ws e h a i =
     let r = at_of (in_order ws) a (In-in_order a ws i) in
     subst (λ (x : Entry). ComesBefore x e.entry) (r.entry a.entry) (h r.place a.entry (omega (arith, r.within, length-map (in_order ws) (λ (a : Transition). a.entry))))
 
-pub put_last_is : (old new : List Transition) (e : Entry) (q : ℕ) → Put old new (record { entry = e; target = q }) → IsAfterEntries (entries_of (in_order old)) e → IsLast old new e q
+pub put_last_is : (old new : List Transition) (e : Entry) (q : ℕ) → IsPut old new (record { entry = e; target = q }) → IsAfterEntries (entries_of (in_order old)) e → IsLast old new e q
 put_last_is old new e q p h =
     let a : Transition = record { entry = e; target = q } in
     let all = after_entries old a h in

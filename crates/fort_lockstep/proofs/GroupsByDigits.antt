@@ -1,14 +1,14 @@
 -- Groups of entries by their tuple symbols' digits.
-use Rattle.std.proofs.Common.{◌≡◌, ℕ, ◌+◌, ◌<◌, ◌≤◌, ◌⊎◌, List, [], ◌∷◌, ◌++◌, map, length, get_or, refl, ap, sym, ◌∙◌, arith, subst, inl, inr, ⊎_elim, length-append}
+use Rattle.std.proofs.Common.{◌≡◌, ℕ, ◌<◌, ◌≤◌, ◌⊎◌, List, [], ◌∷◌, ◌++◌, map, length, get_or, refl, ap, sym, ◌∙◌, arith, subst, inl, inr, ⊎_elim}
 use Rattle.std.specs.Prelude.{Contains, slice_set}
 use Rattle.std.proofs.lemmas.Bool.{cases_lt}
 use Rattle.std.proofs.lemmas.List.{length-map, map-append, get_or-map, get_or_default, append-nil, length_push, get_or_push, get_or_append_left}
 use Rattle.fort_tables.specs.Tuples.{TupleSymbol}
 use Rattle.fort_tables.specs.Entries.{Entry, entry}
-use Rattle.fort_lockstep.specs.Transitions.{Transition, Group, KidsBefore, no_group, transition, group_transitions, transitions, in_order, entries_of, IsAfterEntries, IsLast}
+use Rattle.fort_lockstep.specs.Transitions.{Transition, Group, KidsBefore, no_group, transition, group_transitions, transitions, in_order, entries_of, IsAfterEntries, IsPut}
 use Rattle.fort_lockstep.proofs.InLaws.{In}
 use Rattle.fort_lockstep.proofs.OrderedLaws.{transition_in, from_in_order, In-in_order, at_of}
-use Rattle.fort_lockstep.proofs.GroupLaws.{Put, kids_irrefl, push_in_group, push_group, InGroup, In-group, from_groups, put_last_is, kids_before}
+use Rattle.fort_lockstep.proofs.GroupLaws.{kids_irrefl, push_in_group, push_group, InGroup, In-group, from_groups, kids_before}
 use Rattle.fort_lockstep.specs.Columns.{symbol_of, digit_of, digits_again}
 use Rattle.fort_lockstep.specs.KidOrder.{IsGrownGroup}
 use Rattle.fort_lockstep.specs.Ranks.{AreOf, wants_at}
@@ -120,32 +120,22 @@ due_in ss gs ps e j g a d =
       first = λ ls b. ⊎_elim (λ c. inl (kids_there ss gs e.symbol j g ls a c)) (λ r. inr r) (d.first ls b);
     }
 
-pub record GrownGroups (ss ss' : List (List ℕ)) (gs gs' : List Group) (e : Entry) (q : ℕ) : Type 0 where
-  pub pushed : IsLast (transitions_in ss gs) (transitions_in ss' gs') e q
-  pub count : length (transitions_in ss' gs') ≡ length (transitions_in ss gs) + 1
-
-grown_by : (ss ss' : List (List ℕ)) (gs gs' : List Group) (e : Entry) (q : ℕ) → Put (transitions_in ss gs) (transitions_in ss' gs') (transition e.symbol e.kids q) → IsAfterEntries (entries_of (in_order (transitions_in ss gs))) e → GrownGroups ss ss' gs gs' e q
-grown_by ss ss' gs gs' e q r after = record {
-  pushed = put_last_is (transitions_in ss gs) (transitions_in ss' gs') e q r after;
-  count = omega (arith, ap length r.is, ap length r.was, length-append r.before r.after, length-append r.before (transition e.symbol e.kids q ∷ r.after));
-}
-
 -- one more entry in a group
-pub grown_groups : (ss : List (List ℕ)) (gs : List Group) (e : Entry) (j q : ℕ) (g new : Group) → IsGroupOf ss gs e.symbol j g → IsGrownGroup g e.kids q new → IsAfterEntries (entries_of (in_order (transitions_in ss gs))) e → GrownGroups ss ss gs (slice_set gs j new) e q
-grown_groups ss gs e j q g new a n after =
+pub grown_groups : (ss : List (List ℕ)) (gs : List Group) (e : Entry) (j q : ℕ) (g new : Group) → IsGroupOf ss gs e.symbol j g → IsGrownGroup g e.kids q new → IsPut (transitions_in ss gs) (transitions_in ss (slice_set gs j new)) (transition e.symbol e.kids q)
+grown_groups ss gs e j q g new a n =
     let fs = map symbol_of ss in
     let to : Group = record { kids = g.kids ++ e.kids ∷ []; targets = g.targets ++ q ∷ [] } in
     let p = push_in_group fs gs j g e.kids q (length-map ss symbol_of ∙ a.apart.count) (omega (arith, a.apart.count, a.within)) a.is a.count in
     let kids = n.kids in
     let targets = n.targets in
     let same : to ≡ new = λ j. record { kids = sym kids j; targets = sym targets j } in
-    let P : Group → Type 0 = λ (x : Group). Put (transitions_in ss gs) (transitions fs (slice_set gs j x)) (transition (get_or fs j []) e.kids q) in
-    let S : TupleSymbol → Type 0 = λ (f : TupleSymbol). Put (transitions_in ss gs) (transitions fs (slice_set gs j new)) (transition f e.kids q) in
-    grown_by ss ss gs (slice_set gs j new) e q (subst S (symbol_at ss j e.symbol a.within a.digits) (subst P same p)) after
+    let P : Group → Type 0 = λ (x : Group). IsPut (transitions_in ss gs) (transitions fs (slice_set gs j x)) (transition (get_or fs j []) e.kids q) in
+    let S : TupleSymbol → Type 0 = λ (f : TupleSymbol). IsPut (transitions_in ss gs) (transitions fs (slice_set gs j new)) (transition f e.kids q) in
+    subst S (symbol_at ss j e.symbol a.within a.digits) (subst P same p)
 
 -- one more group, of one entry
-pub first_of_group : (ss : List (List ℕ)) (gs : List Group) (w : List ℕ) (e : Entry) (q : ℕ) (new : Group) → length ss ≡ length gs → w ≡ map digit_of e.symbol → IsGrownGroup no_group e.kids q new → IsAfterEntries (entries_of (in_order (transitions_in ss gs))) e → GrownGroups ss (ss ++ w ∷ []) gs (gs ++ new ∷ []) e q
-first_of_group ss gs w e q new h d n after =
+pub first_of_group : (ss : List (List ℕ)) (gs : List Group) (w : List ℕ) (e : Entry) (q : ℕ) (new : Group) → length ss ≡ length gs → w ≡ map digit_of e.symbol → IsGrownGroup no_group e.kids q new → IsPut (transitions_in ss gs) (transitions_in (ss ++ w ∷ []) (gs ++ new ∷ [])) (transition e.symbol e.kids q)
+first_of_group ss gs w e q new h d n =
     let fs = map symbol_of ss in
     let kids = n.kids in
     let targets = n.targets in
@@ -154,7 +144,7 @@ first_of_group ss gs w e q new h d n after =
     let is : transitions_in (ss ++ w ∷ []) (gs ++ new ∷ []) ≡ transitions_in ss gs ++ transition e.symbol e.kids q ∷ [] =
     ap (λ gs'. transitions gs' (gs ++ new ∷ [])) (map-append symbol_of ss (w ∷ []))
     ∙ (push_group fs gs (symbol_of w) new (length-map ss symbol_of ∙ h) ∙ ap (λ (ws : List Transition). transitions_in ss gs ++ ws) one) in
-    grown_by ss (ss ++ w ∷ []) gs (gs ++ new ∷ []) e q (record { before = transitions_in ss gs; after = []; was = sym (append-nil (transitions_in ss gs)); is = is }) after
+    record { before = transitions_in ss gs; after = []; was = sym (append-nil (transitions_in ss gs)); is = is }
 
 pub apart_push : (ss : List (List ℕ)) (gs : List Group) (w : List ℕ) (new : Group) → AreApart ss gs → ((q : ℕ) → q < length ss → get_or ss q [] ≡ w → ⊥) → AreApart (ss ++ w ∷ []) (gs ++ new ∷ [])
 apart_push ss gs w new a none = record {

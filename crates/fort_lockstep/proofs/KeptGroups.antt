@@ -1,5 +1,5 @@
 -- Groups of kept entries: one more entry, and one more state.
-use Rattle.std.proofs.Common.{◌≡◌, ℕ, suc, ◌+◌, ◌<◌, ◌⊎◌, List, [], ◌∷◌, ◌++◌, map, length, get_or, Bool, true, false, if◌then◌else◌, refl, ap, sym, ◌∙◌, arith, subst, inr, ⊎_elim}
+use Rattle.std.proofs.Common.{◌≡◌, ℕ, suc, ◌<◌, ◌⊎◌, List, [], ◌∷◌, ◌++◌, map, length, get_or, Bool, true, false, if◌then◌else◌, refl, ap, sym, ◌∙◌, arith, subst, inr, ⊎_elim}
 use Rattle.std.specs.Prelude.{Contains, slice_set}
 use Rattle.std.proofs.lemmas.Bool.{cases_lt}
 use Rattle.std.proofs.lemmas.List.{length-map, length-set, map-set, map-append, get_or-map, length_push, get_or_push, get_or_append_left, get_or_default}
@@ -8,7 +8,7 @@ use Rattle.std.proofs.lemmas.List.{get_or-set_other}
 use Rattle.fort_tables.specs.Tuples.{TupleSymbol}
 use Rattle.fort_tables.specs.Entries.{Entry}
 use Rattle.fort_lockstep.specs.Columns.{digit_of}
-use Rattle.fort_lockstep.specs.Transitions.{Group, no_group, KidsBefore, in_order, entries_of, IsLast}
+use Rattle.fort_lockstep.specs.Transitions.{Group, no_group, KidsBefore, transition, in_order, entries_of, IsPut}
 use Rattle.fort_lockstep.specs.KidOrder.{IsGrownGroup}
 use Rattle.fort_lockstep.specs.Ranks.{AreOf, wants_at}
 use Rattle.fort_lockstep.specs.Kept.{Kept, no_kept, kids_in, group_in, IsKept, IsNewKept, IsGrownKept, IsFirstKept}
@@ -31,8 +31,7 @@ group_of_kept width ps ss gs f j g a l d e =
 
 pub record GrownKept (width : ℕ) (ps : List ℕ) (ss ss' : List (List ℕ)) (gs gs' : List Kept) (e : Entry) (q : ℕ) : Type 0 where
   pub lawful : AreKept width ps ss' gs'
-  pub pushed : IsLast (transitions_in ss (groups_in ps gs)) (transitions_in ss' (groups_in ps gs')) e q
-  pub count : length (transitions_in ss' (groups_in ps gs')) ≡ length (transitions_in ss (groups_in ps gs)) + 1
+  pub pushed : IsPut (transitions_in ss (groups_in ps gs)) (transitions_in ss' (groups_in ps gs')) (transition e.symbol e.kids q)
 
 -- a group has the presences that a due entry of its tuple symbol has
 pub due_wants : (width : ℕ) (ps : List ℕ) (ss : List (List ℕ)) (gs : List Kept) (e : Entry) (j : ℕ) (g : Kept) → AreKept width ps ss gs → j < length ss → get_or ss j [] ≡ map digit_of e.symbol → get_or gs j no_kept ≡ g → IsDue (entries_of (in_order (transitions_in ss (groups_in ps gs)))) ps e → g.wants ≡ wants_at ps e.kids
@@ -96,7 +95,7 @@ push_kept width ps ss gs e j q g new a l d is due grown =
     let of = group_of_kept width ps ss gs e.symbol j g a l d is in
     let w = due_wants width ps ss gs e j g a l d is due in
     let r = kept_grows width ps g new e.kids q k (next_in ps g e.kids w (due_in ss (groups_in ps gs) ps e j (group_in ps g) of due)) grown in
-    let all = grown_groups ss (groups_in ps gs) e j q (group_in ps g) (group_in ps new) of r.group due.after in
+    let all = grown_groups ss (groups_in ps gs) e j q (group_in ps g) (group_in ps new) of r.group in
     let same : groups_in ps (slice_set gs j new) ≡ slice_set (groups_in ps gs) j (group_in ps new) = map-set (group_in ps) gs j new in
     let some : 0 < length new.targets = omega (arith, ap length grown.targets, length_push g.targets q) in
     record {
@@ -105,8 +104,7 @@ push_kept width ps ss gs e j q g new a l d is due grown =
         some = each_set (λ (x : Kept). 0 < length x.targets) gs j new m a.some some;
         kept = each_set (IsKept width ps) gs j new m a.kept r.kept;
       };
-      pushed = subst (λ (hs : List Group). IsLast (transitions_in ss (groups_in ps gs)) (transitions_in ss hs) e q) (sym same) all.pushed;
-      count = ap (λ (hs : List Group). length (transitions_in ss hs)) same ∙ all.count;
+      pushed = subst (λ (hs : List Group). IsPut (transitions_in ss (groups_in ps gs)) (transitions_in ss hs) (transition e.symbol e.kids q)) (sym same) all;
     }
 
 -- where no group has its tuple symbol, a due entry comes before all others of it
@@ -131,7 +129,7 @@ first_kept width ps ss gs w e q new a d absent due first =
       kids = r.group.kids ∙ ap (λ (kss : List (List ℕ)). kss ++ e.kids ∷ []) empty;
       targets = r.group.targets ∙ ap (λ (qs : List ℕ). qs ++ q ∷ []) fresh.targets;
     } in
-    let all = first_of_group ss (groups_in ps gs) w e q (group_in ps new) a.apart.count d g due.after in
+    let all = first_of_group ss (groups_in ps gs) w e q (group_in ps new) a.apart.count d g in
     let same : groups_in ps (gs ++ new ∷ []) ≡ groups_in ps gs ++ group_in ps new ∷ [] = map-append (group_in ps) gs (new ∷ []) in
     let some : 0 < length new.targets = omega (arith, ap length grown.targets, length_push none.targets q) in
     let ss' = ss ++ w ∷ [] in
@@ -141,8 +139,7 @@ first_kept width ps ss gs w e q new a d absent due first =
         some = each_push (λ (x : Kept). 0 < length x.targets) gs new a.some some;
         kept = each_push (IsKept width ps) gs new a.kept r.kept;
       };
-      pushed = subst (λ (hs : List Group). IsLast (transitions_in ss (groups_in ps gs)) (transitions_in ss' hs) e q) (sym same) all.pushed;
-      count = ap (λ (hs : List Group). length (transitions_in ss' hs)) same ∙ all.count;
+      pushed = subst (λ (hs : List Group). IsPut (transitions_in ss (groups_in ps gs)) (transitions_in ss' hs) (transition e.symbol e.kids q)) (sym same) all;
     }
 
 -- more states leave the groups as they are

@@ -24,6 +24,7 @@ pub mod BisectionLaws
 pub mod SetLaws
 pub mod GroupsByDigits
 pub mod FirstEntryLaws
+pub mod SpanLaws
 pub mod RankLaws
 pub mod InOrderLaws
 pub mod CountLaws
@@ -37,3 +38,5 @@ pub mod KeptLaws
 pub mod KeptGroups
 pub mod SymbolCountLaws
 pub mod OtherFinalsLaws
+pub mod ConstantLaws
+pub mod TargetLaws

@@ -31,7 +31,7 @@ pub count_in_order : (f : TupleSymbol) (xs : List Transition) → count_with f (
 count_in_order f [] = refl
 count_in_order f (x ∷ xs) = count_put f x (in_order xs) ∙ ap (λ n. one_if (same_symbol f x.entry.symbol) + n) (count_in_order f xs)
 
-count_both : (f : TupleSymbol) (xs ys : List Transition) → count_with f (entries_of (xs ++ ys)) ≡ count_with f (entries_of xs) + count_with f (entries_of ys)
+pub count_both : (f : TupleSymbol) (xs ys : List Transition) → count_with f (entries_of (xs ++ ys)) ≡ count_with f (entries_of xs) + count_with f (entries_of ys)
 count_both f [] ys = omega arith
 count_both f (x ∷ xs) ys = omega (arith, count_both f xs ys)
 

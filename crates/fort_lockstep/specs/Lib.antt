@@ -11,6 +11,8 @@ pub mod SymbolSetInside
 pub mod EntriesView
 pub mod EntriesInside
 pub mod Transitions
+pub mod ConstantsView
+pub mod ConstantsInside
 pub mod SymbolCounts
 pub mod Pieces
 pub mod KidOrder
@@ -21,6 +23,8 @@ pub mod Kept
 pub mod KidGroupInside
 pub mod GroupInside
 pub mod GroupFacts
+pub mod TargetFacts
+pub mod EntryListFacts
 pub mod StateFacts
 pub mod GivenView
 pub mod GivenInside

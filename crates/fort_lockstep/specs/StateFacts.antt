@@ -3,12 +3,17 @@ use Rattle.std.specs.Prelude.{◌≡◌, ℕ, ◌+◌, ◌<◌, ◌≤◌, vec_l
 use Rattle.fort_tables.specs.Tuples.{presence}
 use Rattle.fort_tables.specs.Entries.{Entry}
 use Rattle.fort_lockstep.specs.Tallies.{IsBefore}
+use Rattle.fort_lockstep.specs.EntryListFacts.{entries_in, AreSpans, HasPlace}
 use Rattle.fort_lockstep.specs.declared.states.States.{States}
+
+abbrev pub first_entries_in : States → List Entry
+first_entries_in s = entries_in s.first_entries.numbers.items s.first_entries.spans.items
 
 pub record IsSameStates (old new : States) : Type 0 where
   pub presences : new.presences.items ≡ old.presences.items
   pub firsts : new.firsts.items ≡ old.firsts.items
-  pub first_entries : new.first_entries.items ≡ old.first_entries.items
+  pub spans : new.first_entries.spans.items ≡ old.first_entries.spans.items
+  pub numbers : new.first_entries.numbers.items ≡ old.first_entries.numbers.items
   pub width : new.counts.width ≡ old.counts.width
   pub before : new.counts.before.items ≡ old.counts.before.items
 
@@ -16,13 +21,14 @@ pub record IsSameStates (old new : States) : Type 0 where
 pub record HasRoom (s : States) : Type 0 where
   pub presences : vec_len s.presences < vec_capacity s.presences
   pub firsts : vec_len s.firsts < vec_capacity s.firsts
-  pub first_entries : vec_len s.first_entries < vec_capacity s.first_entries
+  pub first_entries : HasPlace s.first_entries
   pub counts : vec_len s.counts.before + s.counts.width ≤ vec_capacity s.counts.before
 
 pub record IsNoted (old : States) (e : Entry) (target place : ℕ) (new : States) : Type 0 where
   pub presences : new.presences.items ≡ (if target == length old.presences.items then old.presences.items ++ presence e.symbol ∷ [] else old.presences.items)
   pub firsts : new.firsts.items ≡ (if target == length old.presences.items then old.firsts.items ++ place ∷ [] else old.firsts.items)
-  pub first_entries : new.first_entries.items ≡ (if target == length old.presences.items then old.first_entries.items ++ e ∷ [] else old.first_entries.items)
+  pub spans : AreSpans new.first_entries.numbers.items new.first_entries.spans.items
+  pub first_entries : first_entries_in new ≡ (if target == length old.presences.items then first_entries_in old ++ e ∷ [] else first_entries_in old)
   pub width : new.counts.width ≡ old.counts.width
   pub counts : IsBefore new.presences.items new.counts.width new.counts.before.items
 

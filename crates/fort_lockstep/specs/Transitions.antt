@@ -76,6 +76,13 @@ transition f ks q = record { entry = entry f ks; target = q }
 abbrev pub IsAfterEntries : List Entry → Entry → Type 0
 IsAfterEntries entries e = (k : ℕ) (d : Entry) → k < length entries → ComesBefore (get_or entries k d) e
 
+-- one more entry somewhere
+pub record IsPut (old new : List Transition) (a : Transition) : Type 0 where
+  pub before : List Transition
+  pub after : List Transition
+  pub was : old ≡ before ++ after
+  pub is : new ≡ before ++ a ∷ after
+
 -- one more entry after all, which goes last
 pub record IsLast (old new : List Transition) (e : Entry) (q : ℕ) : Type 0 where
   pub entries : entries_of (in_order new) ≡ entries_of (in_order old) ++ e ∷ []

@@ -10,12 +10,10 @@ ghost use Rattle.fort_lockstep.specs.Making.{IsPushed};
 ghost use Rattle.fort_lockstep.specs.GroupFacts.{IsDue, IsFull};
 
 use crate::bisect::Comparisons;
-use crate::counts::Counts;
-use crate::groups::Groups;
 use crate::row::Row;
 use crate::states::States;
 use crate::symbol::TupleSym;
-use crate::symbol_set::SymbolSet;
+use crate::targets::Targets;
 use fort_terms::Memory;
 use std::alloc::{AllocError, Global};
 use std::marker::Model;
@@ -25,7 +23,7 @@ use std::marker::Model;
 pub struct Given {
     alloc: Global,
     states: States,
-    groups: Groups,
+    targets: Targets,
     count: usize,
 }
 
@@ -54,20 +52,12 @@ impl Given {
         ensures entries { IfOk result (λ g. g.entries ≡ []) }
         ensures targets { IfOk result (λ g. g.targets ≡ []) }
     {
-        let states = States {
-            presences: Vec::new(alloc),
-            firsts: Vec::new(alloc),
-            first_entries: Vec::new(alloc),
-            counts: Counts::new(alloc, width)?,
-        };
-        let groups = Groups {
-            symbols: SymbolSet::new(alloc, base, columns),
-            list: Vec::new(alloc),
-        };
+        let states = States::new(alloc, width)?;
+        let targets = Targets::new(alloc, base, columns);
         Ok(Given {
             alloc,
             states,
-            groups,
+            targets,
             count: 0,
         })
     }
@@ -91,7 +81,7 @@ impl Given {
         ensures { (d : Entry) → slice_index_or self.now.entries
             (slice_index_or self.now.firsts q 0) d ≡ result }
     {
-        self.states.first_entries[q as usize]
+        self.states.first_entries.get(q as usize)
     }
 
     /// The target of an entry, where each entry stands once and its tuple symbol has all.
@@ -105,7 +95,7 @@ impl Given {
         ensures cost { 2 ^ (C.made comparisons.new - C.made comparisons.old)
             ≤ 2 * count_with sym.now self.now.entries + 1 }
     {
-        self.groups.target(&self.states, sym, kids, comparisons)
+        self.targets.target(&self.states, sym, kids, comparisons)
     }
 
     /// Gives an entry its target, which may be a new state.
@@ -121,7 +111,7 @@ impl Given {
             None => return Err(AllocError),
         };
         self.states.make_room(target)?;
-        self.groups.push(self.alloc, &self.states, row, target)?;
+        self.targets.push(self.alloc, &self.states, row, target)?;
         self.states.note(row, target, self.count);
         self.count = count;
         Ok(())

@@ -12,6 +12,9 @@ use fort_terms::Memory;
 use std::alloc::Global;
 use std::marker::Model;
 
+/// Room for so many targets at first: most groups come to that, and few grow often.
+const FIRST_ROOM: usize = 32;
+
 /// The entries of one tuple symbol with children, in order: their targets, and their child states
 /// where these are not counted.
 #[derive(Drop)]
@@ -82,7 +85,7 @@ impl KidGroup {
         let presences = states.presences.as_slice();
         let wants = presences_at(alloc, presences, kids)?;
         Ok(KidGroup {
-            targets: Vec::new(alloc),
+            targets: Vec::with_capacity(alloc, FIRST_ROOM)?,
             is_counted: are_counted(presences, states.counts.width, kids),
             wants,
             words: Vec::new(alloc),

@@ -1,6 +1,6 @@
 //! Entries by their tuple symbols.
-ghost use Rattle.std.specs.Prelude.{◌≡◌, ℕ, ◌+◌, ◌-◌, ◌*◌, ◌<◌, ◌≤◌, ◌^◌, [], map, length, slice_index_or, Contains, OnOk, OnErr};
-ghost use Rattle.fort_lockstep.specs.Transitions.{entries_of, in_order, transition, IsLast};
+ghost use Rattle.std.specs.Prelude.{◌≡◌, ℕ, ◌+◌, ◌-◌, ◌*◌, ◌<◌, ◌≤◌, ◌^◌, List, [], map, length, slice_index_or, Contains, OnOk, OnErr};
+ghost use Rattle.fort_lockstep.specs.Transitions.{entries_of, in_order, transition, IsPut};
 ghost use Rattle.fort_lockstep.specs.Columns.{digit_of};
 ghost use Rattle.fort_lockstep.specs.DigitNumbers.{AreDigits};
 ghost use Rattle.fort_lockstep.specs.SymbolCounts.{count_with};
@@ -24,6 +24,21 @@ pub struct Groups {
 }
 
 impl Groups {
+    /// No entries yet.
+    pub fn new(alloc: Global, base: u32, columns: usize) -> Groups
+        requires some { 0 < base }
+        requires narrow { columns ≤ 16 }
+        ensures base { result.symbols.base ≡ base }
+        ensures columns { result.symbols.columns ≡ columns }
+        ensures lawful { (width : ℕ) (ps : List ℕ) → AreGroups width ps result }
+        ensures none { (ps : List ℕ) → transitions_of ps result ≡ [] }
+    {
+        Groups {
+            symbols: SymbolSet::new(alloc, base, columns),
+            list: Vec::new(alloc),
+        }
+    }
+
     /// The first entry of a tuple symbol.
     fn push_group(
         &mut self,
@@ -42,10 +57,9 @@ impl Groups {
         ensures lawful { AreGroups states.now.counts.width states.now.presences.items self.new }
         ensures base { self.new.symbols.base ≡ self.old.symbols.base }
         ensures columns { self.new.symbols.columns ≡ self.old.symbols.columns }
-        ensures ok { OnOk result (IsLast (transitions_of states.now.presences.items self.old)
-            (transitions_of states.now.presences.items self.new) row.now target) }
-        ensures count { OnOk result (length (transitions_of states.now.presences.items self.new)
-            ≡ length (transitions_of states.now.presences.items self.old) + 1) }
+        ensures ok { OnOk result (IsPut (transitions_of states.now.presences.items self.old)
+            (transitions_of states.now.presences.items self.new)
+            (transition row.now.symbol row.now.kids target)) }
         ensures err { OnErr result (transitions_of states.now.presences.items self.new
             ≡ transitions_of states.now.presences.items self.old) }
     {
@@ -72,10 +86,9 @@ impl Groups {
         ensures lawful { AreGroups states.now.counts.width states.now.presences.items self.new }
         ensures base { self.new.symbols.base ≡ self.old.symbols.base }
         ensures columns { self.new.symbols.columns ≡ self.old.symbols.columns }
-        ensures ok { OnOk result (IsLast (transitions_of states.now.presences.items self.old)
-            (transitions_of states.now.presences.items self.new) row.now target) }
-        ensures count { OnOk result (length (transitions_of states.now.presences.items self.new)
-            ≡ length (transitions_of states.now.presences.items self.old) + 1) }
+        ensures ok { OnOk result (IsPut (transitions_of states.now.presences.items self.old)
+            (transitions_of states.now.presences.items self.new)
+            (transition row.now.symbol row.now.kids target)) }
         ensures err { OnErr result (transitions_of states.now.presences.items self.new
             ≡ transitions_of states.now.presences.items self.old) }
     {

@@ -3,12 +3,14 @@
 
 mod bisect;
 mod candidates;
+mod constant_targets;
 mod counts;
 mod dag;
 mod digit_set;
 mod digits;
 mod dta;
 mod entries;
+mod entry_list;
 mod given;
 mod group;
 mod groups;
@@ -23,6 +25,7 @@ mod steps;
 mod symbol;
 mod symbol_set;
 mod table;
+mod targets;
 mod walk;
 
 pub use dag::Dag;

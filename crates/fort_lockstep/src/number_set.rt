@@ -26,8 +26,8 @@ impl Model for NumberSet {
     ghost invariant = { λ r. ArePlaces (numbers_in r.count r.places.items) r.places.items };
 }
 
-/// Places for all numbers up to this one, and for some more, so that few calls write any.
-fn reach(places: &mut Vec<u32>, number: usize) -> Result<(), Memory>
+/// Zeros for all numbers up to this one, and for some more, so that few calls write any.
+pub fn reach(places: &mut Vec<u32>, number: usize) -> Result<(), Memory>
     requires { number < 2 ^ 26 }
     ensures ok { OnOk result (IsWider number places.old.items places.new.items) }
     ensures err { OnErr result (places.new.items ≡ places.old.items) }

@@ -81,7 +81,9 @@ impl Row {
 
     /// 0 stands for absent, and one more than its number for a symbol.
     pub(crate) fn digits(&self) -> &[u32]
-        ensures { result.now ≡ map digit_of self.now.symbol }
+        ensures digits { result.now ≡ map digit_of self.now.symbol }
+        ensures few { length result.now ≤ 16 }
+        ensures small { (k : ℕ) → slice_index_or result.now k 0 ≤ 65536 }
     {
         let digits = &self.digits;
         &digits[..self.len]

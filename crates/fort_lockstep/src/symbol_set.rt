@@ -37,7 +37,7 @@ impl Model for SymbolSet {
 }
 
 /// Whether there are few numbers of that many digits.
-fn are_few(base: u32, columns: usize) -> bool
+pub fn are_few(base: u32, columns: usize) -> bool
     requires { columns ≤ 16 }
     ensures { IsTrue result → base ^ columns ≤ 2 ^ 26 }
 {
@@ -48,7 +48,7 @@ fn are_few(base: u32, columns: usize) -> bool
 }
 
 /// The number of digits in a base, the first one counting most.
-fn number_of(base: u32, digits: &[u32]) -> Option<u32>
+pub fn number_of(base: u32, digits: &[u32]) -> Option<u32>
     requires { base ^ length digits.now ≤ 2 ^ 26 }
     ensures { MatchOption result (AllBelowBase base digits.now → ⊥)
         (λ n. AllBelowBase base digits.now × (n ≡ number_from_digits base digits.now)) }

@@ -61,7 +61,7 @@ push_group-requires-clause-absent c =
     let e = c.args.row.now in
     let found : IsFoundIn ss (map digit_of e.symbol) c.if-is_empty.found = elim c.if-is_empty.branch [
       | then-is_empty w ↦ subst (IsFoundIn ss (map digit_of e.symbol)) (sym w.found-is) (none_yet s.counts.width ps ss gs e c.kids-kids.result.now c.requires.lawful c.requires.due c.kids-kids.ensures.states (sym c.is_empty.ensures ∙ w.if-is_empty.true))
-      | else-is_empty w ↦ subst (IsFoundIn ss (map digit_of e.symbol)) (sym w.found-is) (subst (λ ds. IsFoundIn ss ds w.find-found.result) w.digits.ensures w.find-found.ensures)
+      | else-is_empty w ↦ subst (IsFoundIn ss (map digit_of e.symbol)) (sym w.found-is) (subst (λ ds. IsFoundIn ss ds w.find-found.result) w.digits.ensures.digits w.find-found.ensures)
     ] in
     subst (IsFoundIn ss (map digit_of e.symbol)) c.in-None.is found
 
@@ -74,7 +74,7 @@ push-requires-clause-wants c =
     let e = c.args.row.now in
     let found : IsFoundIn ss (map digit_of e.symbol) c.if-is_empty.found = elim c.if-is_empty.branch [
       | then-is_empty w ↦ subst (IsFoundIn ss (map digit_of e.symbol)) (sym w.found-is) (none_yet s.counts.width ps ss gs e c.kids-kids.result.now c.requires.lawful c.requires.due c.kids-kids.ensures.states (sym c.is_empty.ensures ∙ w.if-is_empty.true))
-      | else-is_empty w ↦ subst (IsFoundIn ss (map digit_of e.symbol)) (sym w.found-is) (subst (λ ds. IsFoundIn ss ds w.find-found.result) w.digits.ensures w.find-found.ensures)
+      | else-is_empty w ↦ subst (IsFoundIn ss (map digit_of e.symbol)) (sym w.found-is) (subst (λ ds. IsFoundIn ss ds w.find-found.result) w.digits.ensures.digits w.find-found.ensures)
     ] in
     let there = subst (IsFoundIn ss (map digit_of e.symbol)) c.in-Some.is found in
     let h = here s.counts.width ps ss gs e c.in-Some.number c.index_mut-group.result.now c.requires.lawful c.requires.due there.0 there.1 c.index_mut-group.ensures.value in
@@ -90,7 +90,7 @@ returns-in-Some-clause-lawful c =
     let e = c.args.row.now in
     let found : IsFoundIn ss (map digit_of e.symbol) c.if-is_empty.found = elim c.if-is_empty.branch [
       | then-is_empty w ↦ subst (IsFoundIn ss (map digit_of e.symbol)) (sym w.found-is) (none_yet s.counts.width ps ss gs e c.kids-kids.result.now c.requires.lawful c.requires.due c.kids-kids.ensures.states (sym c.is_empty.ensures ∙ w.if-is_empty.true))
-      | else-is_empty w ↦ subst (IsFoundIn ss (map digit_of e.symbol)) (sym w.found-is) (subst (λ ds. IsFoundIn ss ds w.find-found.result) w.digits.ensures w.find-found.ensures)
+      | else-is_empty w ↦ subst (IsFoundIn ss (map digit_of e.symbol)) (sym w.found-is) (subst (λ ds. IsFoundIn ss ds w.find-found.result) w.digits.ensures.digits w.find-found.ensures)
     ] in
     let there = subst (IsFoundIn ss (map digit_of e.symbol)) c.in-Some.is found in
     let j = c.in-Some.number in
@@ -109,27 +109,10 @@ returns-in-Some-clause-ok c =
     let e = c.args.row.now in
     let found : IsFoundIn ss (map digit_of e.symbol) c.if-is_empty.found = elim c.if-is_empty.branch [
       | then-is_empty w ↦ subst (IsFoundIn ss (map digit_of e.symbol)) (sym w.found-is) (none_yet s.counts.width ps ss gs e c.kids-kids.result.now c.requires.lawful c.requires.due c.kids-kids.ensures.states (sym c.is_empty.ensures ∙ w.if-is_empty.true))
-      | else-is_empty w ↦ subst (IsFoundIn ss (map digit_of e.symbol)) (sym w.found-is) (subst (λ ds. IsFoundIn ss ds w.find-found.result) w.digits.ensures w.find-found.ensures)
+      | else-is_empty w ↦ subst (IsFoundIn ss (map digit_of e.symbol)) (sym w.found-is) (subst (λ ds. IsFoundIn ss ds w.find-found.result) w.digits.ensures.digits w.find-found.ensures)
     ] in
     let there = subst (IsFoundIn ss (map digit_of e.symbol)) c.in-Some.is found in
     let j = c.in-Some.number in
     let g = c.index_mut-group.result.now in
     let h = here s.counts.width ps ss gs e j g c.requires.lawful c.requires.due there.0 there.1 c.index_mut-group.ensures.value in
     on_ok_weaker c.push.result (λ n. (pushed s.counts.width ps ss gs e j c.args.target g c.push.new.self c.kids-kids.result.now h c.kids-kids.ensures.states n).pushed) c.push.ensures.ok
-
-pub returns-in-Some-clause-count : goal.returns-in-Some-clause-count
-returns-in-Some-clause-count c =
-    let s = c.args.states.now in
-    let ps = s.presences.items in
-    let ss = c.args.self.now.symbols.digits in
-    let gs = c.args.self.now.list.items in
-    let e = c.args.row.now in
-    let found : IsFoundIn ss (map digit_of e.symbol) c.if-is_empty.found = elim c.if-is_empty.branch [
-      | then-is_empty w ↦ subst (IsFoundIn ss (map digit_of e.symbol)) (sym w.found-is) (none_yet s.counts.width ps ss gs e c.kids-kids.result.now c.requires.lawful c.requires.due c.kids-kids.ensures.states (sym c.is_empty.ensures ∙ w.if-is_empty.true))
-      | else-is_empty w ↦ subst (IsFoundIn ss (map digit_of e.symbol)) (sym w.found-is) (subst (λ ds. IsFoundIn ss ds w.find-found.result) w.digits.ensures w.find-found.ensures)
-    ] in
-    let there = subst (IsFoundIn ss (map digit_of e.symbol)) c.in-Some.is found in
-    let j = c.in-Some.number in
-    let g = c.index_mut-group.result.now in
-    let h = here s.counts.width ps ss gs e j g c.requires.lawful c.requires.due there.0 there.1 c.index_mut-group.ensures.value in
-    on_ok_weaker c.push.result (λ n. (pushed s.counts.width ps ss gs e j c.args.target g c.push.new.self c.kids-kids.result.now h c.kids-kids.ensures.states n).count) c.push.ensures.ok

@@ -1,7 +1,16 @@
-use Rattle.std.proofs.Common.{sym, take, map, ap, ◌∙◌}
+use Rattle.std.proofs.Common.{sym, take, map, ap, ◌∙◌, arith}
+use Rattle.std.proofs.lemmas.List.{length-take-le}
 use Rattle.fort_tables.specs.Entries.{Entry}
 use Rattle.fort_lockstep.specs.Columns.{digit_of, digits_again}
+use Rattle.fort_lockstep.proofs.Bounds.{bound-take}
 use Rattle.fort_lockstep.proofs.row.Row.digits.Goals as goal
 
 pub returns : goal.returns
-returns c = sym (digits_again (take c.self.inside.len c.self.inside.digits)) ∙ ap (λ (e : Entry). map digit_of e.symbol) c.self.view_is
+returns c =
+    let a = c.self.inside in
+    let h = c.self.invariant in
+    record {
+      digits = sym (digits_again (take a.len a.digits)) ∙ ap (λ (e : Entry). map digit_of e.symbol) c.self.view_is;
+      few = omega (arith, h.short, h.size, length-take-le a.len a.digits (omega (arith, h.short, h.size)));
+      small = bound-take 65536 a.len a.digits h.small;
+    }

@@ -23,7 +23,8 @@ returns-then-target-len c =
     record {
       presences = two ∙ sym (if_equal c.args.target (length ps) _ _ is);
       firsts = c.push_reserved-then-target-len.ensures.items ∙ sym (if_equal c.args.target (length ps) _ _ is);
-      first_entries = c.push_reserved-then-target-len-2.ensures.items ∙ sym (if_equal c.args.target (length ps) _ _ is);
+      spans = c.push-then-target-len.ensures.lawful;
+      first_entries = c.push-then-target-len.ensures.entries ∙ sym (if_equal c.args.target (length ps) _ _ is);
       width = c.push.ensures.width;
       counts = subst (λ (xs : List ℕ). IsBefore xs new.width new.before.items) (sym two) grown;
     }
