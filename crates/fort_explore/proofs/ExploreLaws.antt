@@ -14,6 +14,21 @@ use Rattle.fort_explore.proofs.KnownLaws.{length_known, known_answer, known_few}
 use Rattle.fort_explore.proofs.StateLaws.{HasStatesByLabel}
 use Rattle.fort_explore.proofs.FullLaws.{HasFinalsByLabel, known_finals}
 
+-- before the first entry
+pub exploring_none : (sig : Signature) (n : ℕ) (label : Labelling) (m : Made) (fs : List Entry) (labels : List (List ℕ)) → m.signature ≡ sig → m.columns ≡ n → m.presences ≡ [] → m.entries ≡ [] → m.targets ≡ [] → fs ≡ [] → labels ≡ [] → IsExploring sig n label m fs labels
+exploring_none sig n label m fs labels s c ps es ts f ls =
+    let none : IsExploring sig n label m [] labels = record {
+      signature = s;
+      columns_are = c;
+      known = record { are = ls; tuples = λ k l. absurd (omega (arith, l)); apart = λ i j l _ _. absurd (omega (arith, l)) };
+      nodes = λ k d l. absurd (omega (arith, l));
+      presences = ps ∙ sym (ap (map first_word) ls);
+      count = ap length ts ∙ sym (ap length es);
+      entries = λ k d l. absurd (omega (arith, l, ap length es));
+      targets = λ k d l. absurd (omega (arith, l, ap length es));
+    } in
+    subst (λ (xs : List Entry). IsExploring sig n label m xs labels) (sym f) none
+
 due_entry : (sig : Signature) (n : ℕ) (label : Labelling) (m : Made) (fs : List Entry) (labels : List (List ℕ)) (e : Entry) → IsExploring sig n label m fs labels → IsMadeDue m e → IsEntry sig n (map first_word labels) e
 due_entry sig n label m fs labels e x d =
     subst (λ (s : Signature). IsEntry s n (map first_word labels) e) x.signature

@@ -5,3 +5,6 @@ pub mod KnownLaws
 pub mod PlaceLaws
 pub mod ExploreLaws
 pub mod TestShapes
+pub mod RowLaws
+pub mod ShortLabelLaws
+pub mod LabelSetLaws

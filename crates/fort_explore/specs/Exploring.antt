@@ -1,10 +1,10 @@
 -- Inside: what the exploration knows between two entries.
-use Rattle.std.specs.Prelude.{◌≡◌, ℕ, ◌<◌, ◌⊎◌, List, [], ◌∷◌, ◌++◌, map, length, get_or, Bool, false, Contains}
+use Rattle.std.specs.Prelude.{◌≡◌, ℕ, ◌+◌, ◌<◌, ◌≤◌, ◌⊎◌, List, [], ◌∷◌, ◌++◌, map, length, get_or, Bool, false, Contains}
 use Rattle.fort_theory.specs.Signatures.{Signature}
 use Rattle.fort_tables.specs.Tuples.{Tuple, root, kids, presence, IsTuple, fold_tuple}
 use Rattle.fort_tables.specs.Entries.{Entry, entry, IsEntry, AreTuples, AreNodes, picked, tuples_of}
-use Rattle.fort_tables.specs.Tables.{Made, target_in}
-use Rattle.fort_tables.specs.Labels.{Labelling, first_word, final_by, AreApart, GivesLabel}
+use Rattle.fort_tables.specs.Tables.{Made, IsComplete, target_in}
+use Rattle.fort_tables.specs.Labels.{Labelling, first_word, final_by, AreApart, GivesLabel, HaveLabels}
 
 -- these are the labels of the tuples that the first entries make, no two alike
 pub record IsKnown (sig : Signature) (columns : ℕ) (label : Labelling) (firsts : List Entry) (labels : List (List ℕ)) : Type 0 where
@@ -32,6 +32,17 @@ pub record IsExploring (sig : Signature) (columns : ℕ) (label : Labelling) (ma
   pub count : length made.targets ≡ length made.entries
   pub entries : (k : ℕ) (d : Entry) → k < length made.entries → IsEntry sig columns (map first_word labels) (get_or made.entries k d)
   pub targets : (k : ℕ) (d : Entry) → k < length made.entries → IsLabelTarget sig columns label labels (get_or made.entries k d) (get_or made.targets k 0)
+
+-- each entry has its target, and there are no more labels than the cap
+pub record IsWhole (sig : Signature) (columns : ℕ) (label : Labelling) (made : Made) (firsts : List Entry) (labels : List (List ℕ)) (cap : ℕ) : Type 0 where
+  pub exploring : IsExploring sig columns label made firsts labels
+  pub complete : IsComplete made
+  pub few : length labels ≤ cap
+
+-- the first entries make one tuple more than the cap, their labels all different
+pub record IsOver (sig : Signature) (columns : ℕ) (label : Labelling) (firsts : List Entry) (cap : ℕ) : Type 0 where
+  pub tuples : HaveLabels sig columns label (cap + 1) (tuples_of firsts)
+  pub nodes : AreNodes sig columns firsts
 
 -- an entry over states with these labels
 pub record IsReady (sig : Signature) (columns : ℕ) (label : Labelling) (firsts : List Entry) (labels : List (List ℕ)) (e : Entry) : Type 0 where

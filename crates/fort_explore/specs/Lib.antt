@@ -4,3 +4,5 @@ pub mod Exploring
 pub mod Answer
 pub mod TestLabels
 pub mod TestLaws
+pub mod ShortLabels
+pub mod LabelsInside

@@ -12,6 +12,10 @@ use fort_terms::Memory;
 use std::alloc::Global;
 use std::sync::ledger::Ledger;
 
+/// Room for so many words of labels at first, 8 MiB of addresses: what isn't written takes no memory,
+/// and the labels of most tables are never copied as they grow.
+const FIRST_ROOM: usize = 1 << 20;
+
 /// The labels so far, and for each the entry that gave it first.
 #[derive(Drop)]
 pub struct Found {
@@ -22,9 +26,25 @@ pub struct Found {
 }
 
 impl Found {
+    /// No labels, of so many words.
+    pub fn new(alloc: Global, width: usize) -> Result<Found, Memory>
+        requires { 0 < width }
+        ensures labels { IfOk result (λ f. f.labels.labels ≡ []) }
+        ensures width { IfOk result (λ f. f.labels.width ≡ width) }
+        ensures numbers { IfOk result (λ f. f.numbers ≡ []) }
+        ensures firsts { IfOk result (λ f. f.firsts ≡ []) }
+    {
+        Ok(Found {
+            labels: Rows::new(alloc, width, FIRST_ROOM / width)?,
+            numbers: LabelSet::new(alloc),
+            firsts: Dag::new(alloc),
+        })
+    }
+
     /// Notes a new label, with the entry that gives it.
     fn note(&mut self, alloc: Global, row: &Row, label: &[u64]) -> Result<(), Memory>
         requires width { length label.now ≡ self.old.labels.width }
+        requires same { self.old.numbers ≡ self.old.labels.labels }
         requires absent { (q : ℕ) → q < length self.old.numbers → slice_index_or self.old.numbers q
             [] ≡ label.now → ⊥ }
         requires nodes { (sig : theory.Signature) × (columns : ℕ) × AreNodes sig columns
@@ -35,12 +55,17 @@ impl Found {
         ensures width { OnOk result (self.new.labels.width ≡ self.old.labels.width) }
         ensures firsts { OnOk result (self.new.firsts ≡ self.old.firsts ++ row.now ∷ []) }
     {
-        let own = Vec::from_slice(alloc, label)?;
         self.labels.make_room()?;
-        self.numbers.push(own)?;
+        self.numbers.push(alloc, label)?;
         self.firsts.push(*row)?;
         self.labels.push(label);
         Ok(())
+    }
+
+    pub fn into_firsts(self) -> Dag
+        ensures { result ≡ self.firsts }
+    {
+        self.firsts
     }
 }
 

@@ -1,23 +1,68 @@
-//! Sets of labels.
-ghost use Rattle.std.specs.Prelude.{◌≡◌, ℕ, ◌+◌, ◌<◌, List, [], ◌∷◌, ◌++◌, map, length, slice_index_or, OnOk, OnErr, MatchOption};
+//! Sets of labels of one width.
+ghost use Rattle.std.specs.Prelude.{◌≡◌, ℕ, ◌<◌, [], ◌∷◌, ◌++◌, length, slice_index_or, OnOk, OnErr, MatchOption};
+ghost use Rattle.fort_explore.specs.LabelsInside.{labels_in, AreLabelsIn};
 
+use crate::long_labels::LongLabels;
+use crate::short_labels::{ShortLabels, Words};
 use fort_terms::Memory;
-use indexmap::IndexSet;
 use std::alloc::Global;
 use std::marker::Model;
 
-/// Labels, numbered as they came.
+/// Up to four words are compared and hashed without a look elsewhere.
+#[derive(Drop)]
+pub enum Form {
+    Short(ShortLabels),
+    Long(LongLabels),
+}
+
+/// Labels of one width, numbered as they came.
 #[derive(Drop)]
 pub struct LabelSet {
-    set: IndexSet<Vec<u64>>,
+    width: usize,
+    form: Form,
 }
 
 impl Model for LabelSet {
-    ghost use Rattle.std.specs.Prelude.{ℕ, List, map, vec_items};
+    ghost use Rattle.std.specs.Prelude.{ℕ, List};
 
     ghost Value = { List (List ℕ) };
 
-    ghost view = { λ r. map vec_items r.set.keys };
+    ghost use Rattle.fort_explore.specs.LabelsInside.{labels_in, AreLabelsIn};
+
+    ghost view = { λ r. labels_in r.width r.form };
+
+    ghost invariant = { λ r. AreLabelsIn r.width r.form };
+}
+
+impl Form {
+    /// No labels, of a width still to come.
+    fn new(alloc: Global, width: usize) -> Form
+        ensures fit { AreLabelsIn width result }
+        ensures none { labels_in width result ≡ [] }
+    {
+        if width <= 4 {
+            Form::Short(ShortLabels::new(alloc))
+        } else {
+            Form::Long(LongLabels::new(alloc))
+        }
+    }
+
+    /// Appends a label that isn't there yet.
+    fn push(&mut self, alloc: Global, label: &[u64]) -> Result<(), Memory>
+        requires fit { AreLabelsIn (length label.now) self.old }
+        requires absent { (q : ℕ) → q < length (labels_in (length label.now) self.old)
+            → slice_index_or (labels_in (length label.now) self.old) q [] ≡ label.now → ⊥ }
+        ensures fit { AreLabelsIn (length label.now) self.new }
+        ensures ok { OnOk result (labels_in (length label.now) self.new
+            ≡ labels_in (length label.now) self.old ++ label.now ∷ []) }
+        ensures err { OnErr result (labels_in (length label.now) self.new
+            ≡ labels_in (length label.now) self.old) }
+    {
+        match self {
+            Form::Short(set) => set.push(Words::new(label)),
+            Form::Long(set) => set.push(Vec::from_slice(alloc, label)?),
+        }
+    }
 }
 
 impl LabelSet {
@@ -25,19 +70,26 @@ impl LabelSet {
         ensures { result ≡ [] }
     {
         LabelSet {
-            set: IndexSet::new(alloc),
+            width: 0,
+            form: Form::new(alloc, 0),
         }
     }
 
-    /// Appends a label that isn't there yet.
-    pub fn push(&mut self, label: Vec<u64>) -> Result<(), Memory>
-        requires { (q : ℕ) → q < length self.old → slice_index_or self.old q []
-            ≡ label.items → ⊥ }
-        ensures ok { OnOk result (self.new ≡ self.old ++ label.items ∷ []) }
+    /// Appends a label that isn't there yet, and is as wide as those that are.
+    pub fn push(&mut self, alloc: Global, label: &[u64]) -> Result<(), Memory>
+        requires width { (q : ℕ) → q < length self.old
+            → length (slice_index_or self.old q []) ≡ length label.now }
+        requires absent { (q : ℕ) → q < length self.old → slice_index_or self.old q []
+            ≡ label.now → ⊥ }
+        ensures ok { OnOk result (self.new ≡ self.old ++ label.now ∷ []) }
         ensures err { OnErr result (self.new ≡ self.old) }
     {
-        let _added = self.set.insert(label)?;
-        Ok(())
+        // The first label tells the width.
+        if label.len() != self.width {
+            self.width = label.len();
+            self.form = Form::new(alloc, label.len());
+        }
+        self.form.push(alloc, label)
     }
 
     /// The number of a label.
@@ -46,6 +98,12 @@ impl LabelSet {
             ((q : ℕ) → q < length self.now → slice_index_or self.now q [] ≡ label.now → ⊥)
             (λ q. (q < length self.now) × (slice_index_or self.now q [] ≡ label.now)) }
     {
-        self.set.get_index_of(label)
+        if label.len() != self.width {
+            return None;
+        }
+        match &self.form {
+            Form::Short(set) => set.find(&Words::new(label)),
+            Form::Long(set) => set.find(label),
+        }
     }
 }

@@ -6,8 +6,10 @@ mod by_rule;
 mod found;
 mod labeller;
 mod labels;
+mod long_labels;
 mod rows;
 mod rule;
+mod short_labels;
 mod table;
 
 pub use bits::{has_bit, set_bit};

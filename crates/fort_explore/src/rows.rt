@@ -89,6 +89,8 @@ impl Rows {
         ensures labels { self.new.labels ≡ self.old.labels }
         ensures width { self.new.width ≡ self.old.width }
         ensures room { OnOk result (length self.new.labels < self.new.room) }
+        ensures widths { (q : ℕ) → q < length self.new.labels
+            → length (slice_index_or self.new.labels q []) ≡ self.new.width }
     {
         if self.count == self.room {
             self.words.reserve(self.width)?;

@@ -1,16 +1,15 @@
 //! The exploration of all labels.
-ghost use Rattle.std.specs.Prelude.{◌≡◌, ℕ, ◌+◌, ◌<◌, ◌≤◌, ◌^◌, List, Bool, length, IfOk, IfErr, OnOk};
+ghost use Rattle.std.specs.Prelude.{◌≡◌, ℕ, ◌+◌, ◌<◌, ◌≤◌, ◌^◌, List, Bool, true, false, length, IfOk, IfErr, OnOk};
 ghost use Rattle.fort_theory.specs.Signatures as theory;
 ghost use Rattle.fort_tables.specs.Entries.{AreNodes, tuples_of};
 ghost use Rattle.fort_tables.specs.Tables.{IsListed, listed_table};
 ghost use Rattle.fort_tables.specs.Labels.{IsLabel, AreLabels, HaveLabels, HasMoreLabels, IsTableOf, final_by};
 ghost use Rattle.fort_tables.specs.LabelRules.{IsTableBy};
-ghost use Rattle.fort_explore.specs.Exploring.{AreLabelFinals};
+ghost use Rattle.fort_explore.specs.Exploring.{AreLabelFinals, IsExploring, IsWhole, IsOver};
 ghost use Rattle.fort_explore.specs.Answer.{IfOver};
 
 use crate::found::{Found, place_of};
 use crate::labeller::Labeller;
-use crate::labels::LabelSet;
 use crate::rows::Rows;
 use fort_lockstep::{Dag, Dta, Maker, Steps};
 use fort_terms::{Memory, Signature};
@@ -117,6 +116,48 @@ fn explore_by<G: Ledger, L: Labeller>(
     explore_counted(alloc, sig, labeller, cap, &mut steps)
 }
 
+/// Gives each entry that comes due the number of its label. It ends with true where none is due, and with false as soon as the
+/// labels are more than the cap.
+fn give_targets<G: Ledger, L: Labeller>(
+    alloc: Global,
+    labeller: &L,
+    cap: u32,
+    maker: &mut Maker,
+    found: &mut Found,
+    memo: &mut L::Memo,
+    out: &mut [u64],
+    steps: &mut Steps<G>,
+) -> Result<bool, Memory>
+    requires exploring { (sig : theory.Signature) × L.serves labeller.now sig
+        × IsExploring sig (L.column_count labeller.now) (L.label labeller.now) maker.old
+        found.old.firsts found.old.labels.labels }
+    requires same { found.old.numbers ≡ found.old.labels.labels }
+    requires width { found.old.labels.width ≡ L.word_count labeller.now }
+    requires few { length found.old.labels.labels ≤ cap }
+    requires kept { L.fits labeller.now memo.old }
+    requires room { length out.old ≡ L.word_count labeller.now }
+    ensures whole { IfOk result (λ b. (sig : theory.Signature) → L.serves labeller.now sig
+        → IsExploring sig (L.column_count labeller.now) (L.label labeller.now) maker.old
+        found.old.firsts found.old.labels.labels → b ≡ true
+        → IsWhole sig (L.column_count labeller.now) (L.label labeller.now) maker.new
+        found.new.firsts found.new.labels.labels cap) }
+    ensures over { IfOk result (λ b. (sig : theory.Signature) → L.serves labeller.now sig
+        → IsExploring sig (L.column_count labeller.now) (L.label labeller.now) maker.old
+        found.old.firsts found.old.labels.labels → b ≡ false
+        → IsOver sig (L.column_count labeller.now) (L.label labeller.now) found.new.firsts cap) }
+    ensures steps { IfOk result (λ b. b ≡ true → steps.new + length maker.old.targets
+        ≡ steps.old + length maker.new.targets) }
+{
+    'entries: while let Some(row) = maker.due_row() {
+        let q = place_of(alloc, labeller, found, row, memo, out, steps)?;
+        if found.labels.len() > cap as usize {
+            return Ok(false);
+        }
+        maker.give(q as u32)?;
+    }
+    Ok(true)
+}
+
 /// `explore`, counting the calls of the labeller's step: one for each entry of the table.
 pub fn explore_counted<G: Ledger, L: Labeller>(
     alloc: Global,
@@ -141,19 +182,14 @@ pub fn explore_counted<G: Ledger, L: Labeller>(
 {
     let mut maker = Maker::new(alloc, sig, labeller.columns())?;
     let mut words = vec![in alloc; 0u64; labeller.width()]?;
-    let out = words.as_mut_slice();
     let mut memo = labeller.memo(alloc)?;
-    let mut found = Found {
-        labels: Rows::new(alloc, labeller.width(), 0)?,
-        numbers: LabelSet::new(alloc),
-        firsts: Dag::new(alloc),
-    };
-    'entries: while let Some(row) = maker.due_row() {
-        let q = place_of(alloc, labeller, &mut found, row, &mut memo, out, steps)?;
-        if found.labels.len() > cap as usize {
-            return Err(ExploreFault::Over(found.firsts));
-        }
-        maker.give(q as u32)?;
+    let mut found = Found::new(alloc, labeller.width())?;
+    let out = words.as_mut_slice();
+    let is_whole = give_targets(
+        alloc, labeller, cap, &mut maker, &mut found, &mut memo, out, steps,
+    )?;
+    if !is_whole {
+        return Err(ExploreFault::Over(found.into_firsts()));
     }
     let finals = finals_of(alloc, labeller, &found.labels)?;
     Ok(maker.finish(finals)?)

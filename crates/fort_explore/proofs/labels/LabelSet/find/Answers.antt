@@ -1,12 +1,15 @@
-use Rattle.std.proofs.Common.{sym, refl}
-use Rattle.std.specs.Prelude.{vec_items}
-use Rattle.std.proofs.lemmas.Slice.Eq.{slice_eq-Decides}
-use Rattle.std.proofs.lemmas.Bool.Decides.{Decides-eqb}
-use Rattle.fort_lockstep.proofs.SetLaws.{IsFound-position}
+use Rattle.std.proofs.Common.{◌≡◌, ℕ, List, map, take, ap, sym, ◌∙◌, subst}
+use Rattle.fort_explore.specs.LabelsInside.{labels_in, IsForm, ArePadded}
+use Rattle.fort_explore.proofs.LabelSetLaws.{IsFoundIn, found_padded}
 use Rattle.fort_explore.proofs.labels.LabelSet.find.Goals as goal
 
-pub returns : goal.returns
-returns c =
-    rw (← c.self.view_is, c.get_index_of.ensures.index) (IsFound-position _ vec_items c.args.label.now
-    (λ k. let d = slice_eq-Decides Decides-eqb c.args.label.now k.items _ refl in (λ h. sym (d.0 h), λ h. d.1 (sym h)))
-    c.self.inside.set.keys)
+pub returns-in-Short : goal.returns-in-Short
+returns-in-Short c =
+    let w = c.self.inside.width in
+    let wss = c.in-Short.set in
+    let label = c.args.label.now in
+    let all : map (take w) wss ≡ c.args.self.now = ap (labels_in w) (sym c.in-Short.is) ∙ c.self.view_is in
+    let padded : ArePadded w wss = subst (IsForm w) c.in-Short.is c.self.invariant.form in
+    subst (λ (labels : List (List ℕ)). IsFoundIn labels label c.find.result) all
+    (found_padded w wss label c.find.result c.if-label-self.false padded
+    (subst (λ (ws : List ℕ). IsFoundIn wss ws c.find.result) c.new.ensures c.find.ensures))

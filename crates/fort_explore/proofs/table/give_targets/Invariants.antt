@@ -1,16 +1,17 @@
 use Rattle.std.proofs.Common.{◌≡◌, ◌+◌, ◌-◌, ◌^◌, ◌≤◌, length}
+use Rattle.fort_theory.specs.Signatures as theory
 use Rattle.fort_explore.specs.Exploring.{IsExploring}
-use Rattle.fort_explore.proofs.table.explore_counted.Given as goal
+use Rattle.fort_explore.proofs.table.give_targets.Given as goal
 
 abbrev pub invariant-entries : goal.invariant-entries
 invariant-entries g l = record {
-  exploring : IsExploring l.sig (g.L.Labeller.column_count l.labeller) (g.L.Labeller.label l.labeller) l.maker l.found.firsts l.found.labels.labels;
+  exploring : (sig : theory.Signature) → g.L.Labeller.serves l.labeller sig → IsExploring sig (g.L.Labeller.column_count l.labeller) (g.L.Labeller.label l.labeller) l.fn.maker l.fn.found.firsts l.fn.found.labels.labels → IsExploring sig (g.L.Labeller.column_count l.labeller) (g.L.Labeller.label l.labeller) l.maker l.found.firsts l.found.labels.labels;
   same : l.found.numbers ≡ l.found.labels.labels;
   width : l.found.labels.width ≡ g.L.Labeller.word_count l.labeller;
   kept : g.L.Labeller.fits l.labeller l.memo;
   room : length l.out ≡ g.L.Labeller.word_count l.labeller;
   few : length l.found.labels.labels ≤ l.cap;
-  steps : l.steps ≡ l.initial.steps + length l.maker.targets;
+  steps : l.steps + length l.fn.maker.targets ≡ l.fn.steps + length l.maker.targets;
 }
 
 abbrev pub decreases-entries : goal.decreases-entries
