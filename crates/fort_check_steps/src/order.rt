@@ -1,5 +1,5 @@
 //! The place of an entry among entries in order.
-ghost use Rattle.std.specs.Prelude.{◌≡◌, ℕ, ◌+◌, ◌-◌, ◌<◌, ◌≤◌, List, length, slice_index_or, Contains};
+ghost use Rattle.std.specs.Prelude.{◌≡◌, ℕ, ◌+◌, ◌-◌, ◌<◌, ◌≤◌, List, length, slice_index_or, Contains, IfSome};
 ghost use Rattle.fort_theory.specs.Signatures as theory;
 ghost use Rattle.fort_tables.specs.Entries.{Entry, entry, stage as stage_lem, LexBefore, ColumnBefore, ComesBefore, AreInOrder, IsEntry};
 ghost use Rattle.fort_tables.specs.Tuples.{TupleSymbol};
@@ -255,6 +255,31 @@ fn place_in_run(list: &EntryList, run: usize, sym: &TupleSym, kids: &[u32]) -> u
     unreachable!()
 }
 
+/// The place of an entry, where it is the first of this run.
+fn first_place(
+    list: &EntryList,
+    run: usize,
+    sym: &TupleSym,
+    kids: &[u32],
+    stage: u64,
+) -> Option<usize>
+    requires stage { stage ≡ stage_lem kids.now }
+    requires there { Contains list.now.entries (entry sym.now kids.now) }
+    requires order { (sig : theory.Signature) × (columns : ℕ) × (presences : List ℕ)
+        × AreInOrder sig columns presences list.now.entries }
+    ensures within { IfSome result (λ place. place < length list.now.entries) }
+    ensures is { IfSome result (λ place. (d : Entry)
+        → slice_index_or list.now.entries place d ≡ entry sym.now kids.now) }
+{
+    if run >= list.runs() {
+        return None;
+    }
+    match run_order(list, run, sym, kids, stage) {
+        Ordering::Equal => Some(list.start(run)),
+        Ordering::Less | Ordering::Greater => None,
+    }
+}
+
 /// The place of an entry that is among entries in order. The bases and the first child's presence change the time alone.
 pub fn place_among(
     list: &EntryList,
@@ -271,6 +296,11 @@ pub fn place_among(
 {
     let stage = stage_of(kids);
     let looks = guesses(list, bases, presence, sym, stage);
-    let run = run_among(list, &looks, sym, kids, stage);
-    place_in_run(list, run, sym, kids)
+    match first_place(list, looks[0], sym, kids, stage) {
+        Some(place) => place,
+        None => {
+            let run = run_among(list, &looks, sym, kids, stage);
+            place_in_run(list, run, sym, kids)
+        }
+    }
 }
