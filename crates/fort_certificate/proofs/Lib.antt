@@ -6,4 +6,5 @@ pub mod StepsLaws
 pub mod FaultLaws
 pub mod BuildLaws
 pub mod ReadLaws
+mod NumberWords
 mod SmallLaws

@@ -1,27 +1,66 @@
 //! Which words are numbers, and which are one that is given.
-ghost use Rattle.std.specs.Prelude.{◌≡◌, ◌↔◌, IsTrue, IfSome, IfNone};
+ghost use Rattle.std.specs.Prelude.{◌≡◌, ◌↔◌, ◌+◌, ◌*◌, ◌-◌, ◌<◌, ◌≤◌, ◌^◌, IsTrue, IfSome, IfNone};
+ghost use Rattle.std.specs.Int.{IsInRange};
+ghost use Rattle.std.specs.Str.Parse.{AllDigits, digits_value_after};
 ghost use Rattle.fort_certificate_grammar.specs.CertificateForms.{IsNumberWord};
 ghost use Rattle.fort_certificate_grammar.specs.CertificateFaults.{IsNoNumber};
 
-use itoa::Buffer;
+/// The value of a decimal digit.
+fn digit_of(byte: u8) -> Option<u32>
+    ensures some { IfSome result (λ d. IsInRange 48 57 byte × (d ≡ byte - 48)) }
+    ensures none { IfNone result (IsInRange 48 57 byte → ⊥) }
+{
+    if byte.is_ascii_digit() {
+        Some(u32::from(byte - b'0'))
+    } else {
+        None
+    }
+}
 
-/// The number that a word is.
+/// A number with one more digit behind it.
+fn with_digit(value: u32, digit: u32) -> Option<u32>
+    requires { digit < 10 }
+    ensures some { IfSome result (λ n. n ≡ value * 10 + digit) }
+    ensures none { IfNone result (2 ^ 32 ≤ value * 10 + digit) }
+{
+    match value.checked_mul(10) {
+        Some(tens) => tens.checked_add(digit),
+        None => None,
+    }
+}
+
+/// The number that digits write behind those of another.
+fn value_after(value: u32, digits: &[u8]) -> Option<u32>
+    ensures some { IfSome result (λ n. AllDigits 10 digits.now
+        × (digits_value_after 10 value digits.now ≡ n)) }
+    ensures small { IfSome result (λ n. n < 2 ^ 32) }
+    ensures none { IfNone result (AllDigits 10 digits.now
+        → digits_value_after 10 value digits.now < 2 ^ 32 → ⊥) }
+{
+    match digits.split_first() {
+        None => Some(value),
+        Some((byte, others)) => match digit_of(*byte) {
+            None => None,
+            Some(digit) => match with_digit(value, digit) {
+                None => None,
+                Some(more) => value_after(more, others),
+            },
+        },
+    }
+}
+
+/// The number that a word is: digits, with no zero in front of others.
 pub(crate) fn number_of(word: &[u8]) -> Option<u32>
     ensures some { IfSome result (λ n. IsNumberWord word.now n) }
     ensures none { IfNone result (IsNoNumber word.now) }
 {
-    let text = match str::from_utf8(word) {
-        Ok(text) => text,
-        Err(_) => return None,
-    };
-    let n = match text.parse::<u32>() {
-        Ok(n) => n,
-        Err(_) => return None,
-    };
-    // `parse` takes a sign too, and zeros in front
-    let mut buffer = Buffer::new();
-    let written = buffer.format(n).as_bytes();
-    if written == word { Some(n) } else { None }
+    if word.is_empty() {
+        return None;
+    }
+    if word.len() > 1 && word[0] == b'0' {
+        return None;
+    }
+    value_after(0, word)
 }
 
 pub(crate) fn is_same(word: &[u8], text: &[u8]) -> bool

@@ -1,30 +1,24 @@
-use Rattle.std.proofs.Common.{◌≡◌, ℕ, ap, sym, ◌∙◌, arith, subst, decimal, Result, Ok}
-use Rattle.std.proofs.lemmas.Fmt.{IsAscii-decimal, parse-decimal}
-use Rattle.std.proofs.lemmas.Str.{IsUtf8-from_ascii}
-use Rattle.std.specs.Str.{IsAscii}
-use Rattle.std.proofs.lemmas.Slice.Eq.{slice_eq-Decides}
-use Rattle.std.proofs.lemmas.Bool.Decides.{Decides-eqb}
-use Rattle.std.proofs.lemmas.Bool.{false≢true}
-use Rattle.std.specs.Prelude.{false}
+use Rattle.std.proofs.Common.{◌≡◌, length, get_or, sym, ◌∙◌, arith}
+use Rattle.fort_certificate.proofs.NumberWords.{is_some, is_none, word_begins, read_some, read_none}
 use Rattle.fort_certificate.proofs.word.number_of.Goals as goal
+use Rattle.fort_certificate.proofs.word.number_of.Goals.{else-word-gt1-via-then-word-gt1+else-word-eq48, else-word-gt1-via-else-word-gt1}
 
-ok_same : {E : Type 0} (n m : ℕ) (r : Result ℕ E) → r ≡ Ok n → r ≡ Ok m → n ≡ m
-ok_same n m r h k = cc
+pub returns-then-is_empty-clause-none : goal.returns-then-is_empty-clause-none
+returns-then-is_empty-clause-none c n h = omega (arith, (word_begins c.args.word.now n h).0, is_none c.args.word.now (sym c.is_empty.ensures ∙ c.if-is_empty.true))
 
-pub returns-in-Err-clause-none : goal.returns-in-Err-clause-none
-returns-in-Err-clause-none c n h =
-    let ascii = subst IsAscii (sym h.is) (IsAscii-decimal n (omega (arith, h.small))) in
-    c.in-Err.ensures.cases.0 (IsUtf8-from_ascii c.args.word.now ascii)
+pub returns-then-word-eq48-clause-none : goal.returns-then-word-eq48-clause-none
+returns-then-word-eq48-clause-none c n h =
+    omega (arith, (word_begins c.args.word.now n h).1 c.if-word-eq48.true, c.if-word-gt1.true)
 
-pub returns-in-Err-parse-clause-none : goal.returns-in-Err-parse-clause-none
-returns-in-Err-parse-clause-none c n h =
-    let e = parse-decimal 32 n c.in-Ok.text.now c.parse.result (omega (arith, h.small)) (omega (arith, h.small)) (c.in-Ok.ensures.cases.0 ∙ h.is) c.parse.ensures.value.0 in
-    let bad = sym e ∙ c.in-Err-parse.is in absurd cc
+pub returns-clause-some : goal.returns-clause-some
+returns-clause-some c =
+    let word = c.args.word.now in
+    let some = is_some word (sym c.is_empty.ensures ∙ c.if-is_empty.false) in
+    let lead : get_or word 0 0 ≡ 48 → length word ≡ 1 = elim c.else-word-gt1.branch [
+      | else-word-gt1-via-then-word-gt1+else-word-eq48 w ↦ (λ e. absurd (w.if-word-eq48.false e))
+      | else-word-gt1-via-else-word-gt1 w ↦ (λ e. omega (arith, w.if-word-gt1.false, some))
+    ] in
+    read_some word c.value_after.result some lead c.value_after.ensures.some c.value_after.ensures.small
 
-pub returns-else-eq-clause-none : goal.returns-else-eq-clause-none
-returns-else-eq-clause-none c n h =
-    let e = parse-decimal 32 n c.in-Ok.text.now c.parse.result (omega (arith, h.small)) (omega (arith, h.small)) (c.in-Ok.ensures.cases.0 ∙ h.is) c.parse.ensures.value.0 in
-    let same : c.in-Ok-parse.n ≡ n = ok_same c.in-Ok-parse.n n c.parse.result c.in-Ok-parse.is e in
-    let written : c.as_bytes-written.result.now ≡ c.args.word.now = c.as_bytes-written.ensures.value ∙ (c.format.ensures.text ∙ (ap decimal same ∙ sym h.is)) in
-    let d = slice_eq-Decides Decides-eqb c.as_bytes-written.result.now c.args.word.now false c.if-eq.ensures in
-    false≢true (d.1 written)
+pub returns-clause-none : goal.returns-clause-none
+returns-clause-none c = read_none c.args.word.now c.value_after.result c.value_after.ensures.none
