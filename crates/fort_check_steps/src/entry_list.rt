@@ -6,8 +6,9 @@ ghost use Rattle.fort_lockstep.specs.Columns.{as_column, as_symbol};
 ghost use Rattle.fort_check_steps.specs.EntryListView.{AreStarts, start_of};
 ghost use Rattle.fort_check_steps.specs.EntryListInside.{IsContinued, IsRunMade};
 
+use crate::guesses::{Bases, Guesses};
 use fort_lockstep::{Row, TupleSym};
-use fort_terms::{Memory, Sym};
+use fort_terms::{Memory, Signature, Sym};
 use std::alloc::{AllocError, Global};
 use std::marker::Model;
 
@@ -40,8 +41,8 @@ pub struct EntryList {
     runs: Vec<Run>,
     symbols: Vec<Option<Sym>>,
     kids: Vec<u32>,
-    /// For each stage its first run, or the first of a later one. Nothing rests on it but the time of a look-up.
-    stage_runs: Vec<usize>,
+    /// Nothing rests on it but the time of a look-up.
+    guesses: Guesses,
 }
 
 impl Model for EntryList {
@@ -82,7 +83,7 @@ fn is_column(first: Option<Sym>, second: Option<Sym>) -> bool
 }
 
 /// Whether these columns are the tuple symbol's.
-fn is_symbol(columns: &[Option<Sym>], sym: &TupleSym) -> bool
+pub(crate) fn is_symbol(columns: &[Option<Sym>], sym: &TupleSym) -> bool
     requires { length columns.now ≡ length sym.now }
     ensures { IsTrue result → as_symbol columns.now ≡ sym.now }
 {
@@ -165,13 +166,6 @@ fn make_run(
     runs.push_reserved(run);
 }
 
-/// Notes this run for each stage up to its own that has none.
-fn note_stage(stage_runs: &mut Vec<usize>, stage: u32, run: usize) {
-    'stages: while stage_runs.len() <= stage as usize && stage_runs.len() < stage_runs.capacity() {
-        stage_runs.push_reserved(run);
-    }
-}
-
 impl EntryList {
     /// No entries, and room for so many.
     pub fn new(alloc: Global, room: usize) -> Result<EntryList, Memory>
@@ -189,12 +183,12 @@ impl EntryList {
             runs: Vec::with_capacity(alloc, room)?,
             symbols: Vec::with_capacity(alloc, symbols)?,
             kids: Vec::with_capacity(alloc, kids)?,
-            stage_runs: Vec::with_capacity(alloc, room)?,
+            guesses: Guesses::new(alloc, room)?,
         })
     }
 
-    /// Takes all entries out; those to come have so many columns. The room stays.
-    pub fn clear(&mut self, columns: usize)
+    /// Takes all entries out; those to come have so many columns, over this signature. The room stays.
+    pub fn clear(&mut self, signature: &Signature, columns: usize)
         requires { columns ≤ 16 }
         ensures entries { self.new.entries ≡ [] }
         ensures columns { self.new.columns ≡ columns }
@@ -205,11 +199,11 @@ impl EntryList {
         self.runs.clear();
         self.symbols.clear();
         self.kids.clear();
-        self.stage_runs.clear();
+        self.guesses.clear(Bases::of(signature));
     }
 
-    /// Appends an entry, for which there is room.
-    pub fn push(&mut self, row: &Row)
+    /// Appends an entry, for which there is room. The states' presences change the time of look-ups alone.
+    pub fn push(&mut self, row: &Row, presences: &[u16])
         requires columns { length row.now.symbol ≡ self.old.columns }
         requires room { length self.old.entries < self.old.room }
         requires stage { stage_lem row.now.kids < 2 ^ 32 }
@@ -217,23 +211,20 @@ impl EntryList {
         ensures columns { self.new.columns ≡ self.old.columns }
         ensures room { self.new.room ≡ self.old.room }
     {
-        let kids = row.kids();
+        let (sym, kids) = (row.sym(), row.kids());
+        let stage = stage_of(kids);
         let run = Run {
             first: self.count as u32,
             start: self.kids.len() as u32,
             kids: kids.len() as u32,
-            stage: stage_of(kids) as u32,
+            stage: stage as u32,
         };
         let newest = self.runs.len();
-        make_run(
-            &mut self.runs,
-            &mut self.symbols,
-            self.columns,
-            run,
-            &row.sym(),
-        );
+        make_run(&mut self.runs, &mut self.symbols, self.columns, run, &sym);
         put_kids(&mut self.kids, kids);
-        note_stage(&mut self.stage_runs, run.stage, newest);
+        let is_new = newest < self.runs.len();
+        self.guesses
+            .note(presences, &sym, kids, stage, newest, is_new);
         self.count += 1;
     }
 
@@ -251,12 +242,8 @@ impl EntryList {
         self.runs.len()
     }
 
-    /// About where the runs of a stage begin: a guess, which has to be looked at.
-    pub(crate) fn run_of_stage(&self, stage: u64) -> usize {
-        match self.stage_runs.get(stage as usize) {
-            Some(run) => *run,
-            None => self.runs.len(),
-        }
+    pub(crate) fn guesses(&self) -> &Guesses {
+        &self.guesses
     }
 
     /// The place of a run's first entry; behind the last run, how many entries there are.

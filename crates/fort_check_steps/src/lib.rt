@@ -7,6 +7,7 @@ mod dues;
 mod entry_list;
 mod failure;
 mod finals;
+mod guesses;
 mod marks;
 mod numbered;
 mod numbering;

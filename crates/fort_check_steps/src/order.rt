@@ -1,5 +1,5 @@
 //! The place of an entry among entries in order.
-ghost use Rattle.std.specs.Prelude.{◌≡◌, ℕ, ◌+◌, ◌-◌, ◌<◌, ◌≤◌, List, length, slice_index_or, Contains, IfSome};
+ghost use Rattle.std.specs.Prelude.{◌≡◌, ℕ, ◌+◌, ◌-◌, ◌<◌, ◌≤◌, List, length, slice_index_or, Contains, IfSome, IsTrue};
 ghost use Rattle.fort_theory.specs.Signatures as theory;
 ghost use Rattle.fort_tables.specs.Entries.{Entry, entry, stage as stage_lem, LexBefore, ColumnBefore, ComesBefore, AreInOrder, IsEntry};
 ghost use Rattle.fort_tables.specs.Tuples.{TupleSymbol};
@@ -7,7 +7,8 @@ ghost use Rattle.fort_lockstep.specs.Columns.{as_column, as_symbol};
 ghost use Rattle.fort_check_steps.specs.EntryListView.{start_of};
 ghost use Rattle.fort_check_steps.specs.Orders.{Orders, IsWithin};
 
-use crate::entry_list::{EntryList, stage_of};
+use crate::entry_list::{EntryList, is_symbol, stage_of};
+use crate::guesses::Guess;
 use fort_lockstep::TupleSym;
 use fort_terms::Sym;
 use std::cmp::Ordering;
@@ -142,57 +143,8 @@ fn narrowed(
     }
 }
 
-/// How many digits a column can have: absent or a constant, and another symbol.
-#[derive(Clone, Copy)]
-pub struct Bases {
-    pub constants: usize,
-    pub others: usize,
-}
-
-/// A tuple symbol's number among those with children in these columns, where the signature has its constants first.
-fn number_of(bases: Bases, presence: u16, sym: &TupleSym) -> usize {
-    let mut rest = presence;
-    let mut number = 0usize;
-    for k in 0..sym.len() {
-        let digit = match sym.symbol(k) {
-            None => 0,
-            Some(symbol) => usize::from(symbol.0) + 1,
-        };
-        number = if rest % 2 == 1 {
-            number
-                .wrapping_mul(bases.others)
-                .wrapping_add(digit.wrapping_sub(bases.constants))
-        } else {
-            number.wrapping_mul(bases.constants).wrapping_add(digit)
-        };
-        rest /= 2;
-    }
-    number
-}
-
-/// Guesses at the run of an entry and the one behind, and about where the runs of its stage begin and end. The first two are right
-/// for tuple symbols of at most one child, where the signature has its constants first.
-fn guesses(
-    list: &EntryList,
-    bases: Bases,
-    presence: u16,
-    sym: &TupleSym,
-    stage: u64,
-) -> [usize; 4] {
-    let first = list.run_of_stage(stage);
-    let number = number_of(bases, presence, sym);
-    // the tuple symbol whose columns are all absent has no run
-    let run = if stage == 0 {
-        number.wrapping_sub(1)
-    } else {
-        first.wrapping_add(number)
-    };
-    let behind = list.run_of_stage(stage.wrapping_add(1));
-    [run, run.wrapping_add(1), first, behind]
-}
-
 /// The runs that can have the entry, after a look at those that are guessed.
-fn near(list: &EntryList, guesses: &[usize], sym: &TupleSym, kids: &[u32], stage: u64) -> RunRange
+fn near(list: &EntryList, looks: &[usize], sym: &TupleSym, kids: &[u32], stage: u64) -> RunRange
     requires stage { stage ≡ stage_lem kids.now }
     requires there { Contains list.now.entries (entry sym.now kids.now) }
     requires order { (sig : theory.Signature) × (columns : ℕ) × (presences : List ℕ)
@@ -206,14 +158,14 @@ fn near(list: &EntryList, guesses: &[usize], sym: &TupleSym, kids: &[u32], stage
         low: 0,
         high: list.runs(),
     };
-    for guess in guesses {
-        range = narrowed(list, range, *guess, sym, kids, stage);
+    for look in looks {
+        range = narrowed(list, range, *look, sym, kids, stage);
     }
     range
 }
 
 /// The run of an entry that is among entries in order, by bisection.
-fn run_among(list: &EntryList, guesses: &[usize], sym: &TupleSym, kids: &[u32], stage: u64) -> usize
+fn run_among(list: &EntryList, looks: &[usize], sym: &TupleSym, kids: &[u32], stage: u64) -> usize
     requires stage { stage ≡ stage_lem kids.now }
     requires there { Contains list.now.entries (entry sym.now kids.now) }
     requires order { (sig : theory.Signature) × (columns : ℕ) × (presences : List ℕ)
@@ -222,7 +174,7 @@ fn run_among(list: &EntryList, guesses: &[usize], sym: &TupleSym, kids: &[u32], 
     ensures here { IsWithin list.now (entry sym.now kids.now) (start_of list.now result)
         (start_of list.now (result + 1)) }
 {
-    let mut range = near(list, guesses, sym, kids, stage);
+    let mut range = near(list, looks, sym, kids, stage);
     'halves: while range.low + 1 < range.high {
         let middle = range.low + (range.high - range.low) / 2;
         range = narrowed(list, range, middle, sym, kids, stage);
@@ -255,15 +207,18 @@ fn place_in_run(list: &EntryList, run: usize, sym: &TupleSym, kids: &[u32]) -> u
     unreachable!()
 }
 
-/// The place of an entry, where it is the first of this run.
-fn first_place(
-    list: &EntryList,
-    run: usize,
-    sym: &TupleSym,
-    kids: &[u32],
-    stage: u64,
-) -> Option<usize>
-    requires stage { stage ≡ stage_lem kids.now }
+fn are_same(first: &[u32], second: &[u32]) -> bool
+    ensures { IsTrue result → first.now ≡ second.now }
+{
+    match (first.split_first(), second.split_first()) {
+        (Some((x, first)), Some((y, second))) => *x == *y && are_same(first, second),
+        (None, None) => true,
+        _ => false,
+    }
+}
+
+/// The place of an entry, where it is the one that is guessed.
+fn guessed_place(list: &EntryList, guess: Guess, sym: &TupleSym, kids: &[u32]) -> Option<usize>
     requires there { Contains list.now.entries (entry sym.now kids.now) }
     requires order { (sig : theory.Signature) × (columns : ℕ) × (presences : List ℕ)
         × AreInOrder sig columns presences list.now.entries }
@@ -271,23 +226,24 @@ fn first_place(
     ensures is { IfSome result (λ place. (d : Entry)
         → slice_index_or list.now.entries place d ≡ entry sym.now kids.now) }
 {
+    let run = guess.run;
     if run >= list.runs() {
         return None;
     }
-    match run_order(list, run, sym, kids, stage) {
-        Ordering::Equal => Some(list.start(run)),
-        Ordering::Less | Ordering::Greater => None,
+    let start = list.start(run);
+    if guess.before >= list.start(run + 1) - start {
+        return None;
+    }
+    let place = start + guess.before;
+    if are_same(list.kids(run, place), kids) && is_symbol(list.symbol(run), sym) {
+        Some(place)
+    } else {
+        None
     }
 }
 
-/// The place of an entry that is among entries in order. The bases and the first child's presence change the time alone.
-pub fn place_among(
-    list: &EntryList,
-    bases: Bases,
-    presence: u16,
-    sym: &TupleSym,
-    kids: &[u32],
-) -> usize
+/// The place of an entry that is among entries in order. The states' presences change the time alone.
+pub fn place_among(list: &EntryList, presences: &[u16], sym: &TupleSym, kids: &[u32]) -> usize
     requires there { Contains list.now.entries (entry sym.now kids.now) }
     requires order { (sig : theory.Signature) × (columns : ℕ) × (presences : List ℕ)
         × AreInOrder sig columns presences list.now.entries }
@@ -295,10 +251,11 @@ pub fn place_among(
     ensures is { (d : Entry) → slice_index_or list.now.entries result d ≡ entry sym.now kids.now }
 {
     let stage = stage_of(kids);
-    let looks = guesses(list, bases, presence, sym, stage);
-    match first_place(list, looks[0], sym, kids, stage) {
+    let guess = list.guesses().guess(presences, sym, kids, stage);
+    match guessed_place(list, guess, sym, kids) {
         Some(place) => place,
         None => {
+            let looks = list.guesses().looks(guess, stage);
             let run = run_among(list, &looks, sym, kids, stage);
             place_in_run(list, run, sym, kids)
         }

@@ -35,7 +35,7 @@ pub fn check_part<R: LocalRule>(
         (R.rule rule.now) (R.accepting rule.now) targets.now room.new))) }
     ensures room { HasRoom (R.word_count rule.now) targets.now room.new }
 {
-    room.entries.clear(rule.columns());
+    room.entries.clear(sig, rule.columns());
     room.presences.clear();
     room.rows.clear();
     room.finals.clear();

@@ -1,15 +1,15 @@
 //! The tables of parts that were checked.
-ghost use Rattle.std.specs.Prelude.{◌≡◌, ◌+◌, ◌<◌, ◌≤◌, ◌^◌, ◌==◌, ℕ, List, Bool, length};
+ghost use Rattle.std.specs.Prelude.{◌≡◌, ◌<◌, ◌≤◌, ◌^◌, ◌==◌, ℕ, List, Bool, length};
 ghost use Rattle.fort_tables.specs.LabelRules.{LabelRule};
 ghost use Rattle.fort_tables.specs.Tables.{full_presence, IsListed};
 ghost use Rattle.fort_check_steps.specs.Turned.{turned_by};
 ghost use Rattle.fort_check_steps.specs.Held.{HoldsPart, held_table};
 
 use crate::entry_list::EntryList;
-use crate::order::{Bases, place_among};
+use crate::order::place_among;
 use crate::room::PartRoom;
 use fort_lockstep::{Table, TupleSym};
-use fort_terms::{Signature, Sym};
+use fort_terms::Signature;
 use std::marker::Model;
 
 /// The table of a part that was checked, with so many negations around the part.
@@ -20,7 +20,6 @@ pub struct PartTable<'a> {
     targets: &'a [u32],
     room: &'a PartRoom,
     turns: usize,
-    bases: Bases,
 }
 
 impl<'a> Model for PartTable<'a> {
@@ -60,7 +59,6 @@ impl<'a> PartTable<'a> {
             targets,
             room,
             turns,
-            bases: bases_of(signature),
         }
     }
 
@@ -81,41 +79,12 @@ impl<'a> PartTable<'a> {
     }
 }
 
-/// One more than a signature has constants.
-fn constant_base(signature: &Signature) -> usize
-    ensures { result ≤ length signature.now + 1 }
-{
-    let mut base = 1;
-    for symbol in 0..signature.len() {
-        if signature.arity(Sym(symbol as u16)) == 0 {
-            base += 1;
-        }
-    }
-    base
-}
-
-fn bases_of(signature: &Signature) -> Bases {
-    let constants = constant_base(signature);
-    Bases {
-        constants,
-        others: signature.len() + 1 - constants,
-    }
-}
-
 /// Whether a presence is that of tuples with all columns.
 fn is_full(presence: u16, columns: usize) -> bool
     requires { columns ≤ 16 }
     ensures { result ≡ (presence == full_presence columns) }
 {
     u32::from(presence) == (1u32 << columns) - 1
-}
-
-/// The presence of the first child, or 0.
-fn first_presence(presences: &[u16], kids: &[u32]) -> u16 {
-    match kids.first() {
-        Some(kid) => presences.get(*kid as usize).copied().unwrap_or(0),
-        None => 0,
-    }
 }
 
 /// Whether a state is accepting under so many negations.
@@ -160,7 +129,6 @@ impl<'a> Table for PartTable<'a> {
 
     fn target(&self, sym: &TupleSym, kids: &[u32]) -> u32 {
         let room = &self.room;
-        let presence = first_presence(&room.presences, kids);
-        self.targets[place_among(&room.entries, self.bases, presence, sym, kids)]
+        self.targets[place_among(&room.entries, &room.presences, sym, kids)]
     }
 }

@@ -90,7 +90,7 @@ pub fn check_targets<R: LocalRule>(
     'targets: for place in 0..targets.len() {
         match entries.next(presences.as_slice()) {
             Some(row) => match take_target(rule, &row, targets[place], presences, rows, out) {
-                Ok(()) => given.push(&row),
+                Ok(()) => given.push(&row, presences.as_slice()),
                 Err(reason) => return failed(place, reason),
             },
             None => return failed(place, Reason::Long),

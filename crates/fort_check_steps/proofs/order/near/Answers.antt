@@ -3,8 +3,8 @@ use Rattle.fort_tables.specs.Entries.{entry}
 use Rattle.fort_check_steps.proofs.EntryOrders.{whole_within, some_run}
 use Rattle.fort_check_steps.proofs.order.near.Goals as goal
 
-pub loop-guess-init : goal.loop-guess-init
-loop-guess-init c =
+pub loop-look-init : goal.loop-look-init
+loop-look-init c =
     let l = c.args.list.now in
     let e = entry c.args.sym.now c.args.kids.now in
     record {

@@ -41,12 +41,12 @@ invariant_of-self c =
     let runs = c.self.invariant.runs_are in
     let e = c.args.row.now in
     let ks = c.kids-kids.result.now in
-    let new : Run = record { first = a.count; start = c.len.result; kids = length ks; stage = c.stage_of.result } in
+    let new : Run = record { first = a.count; start = c.len.result; kids = length ks; stage = c.stage_of-stage.result } in
     let start : c.len.result ≡ length a.kids.items = omega (arith, c.len.ensures, a.kids.ok.0) in
-    let staged : c.stage_of.result ≡ stage ks = omega (arith, c.stage_of.ensures, c.requires.stage, ap stage c.kids-kids.ensures.states) in
+    let staged : c.stage_of-stage.result ≡ stage ks = omega (arith, c.stage_of-stage.ensures, c.requires.stage, ap stage c.kids-kids.ensures.states) in
     let columns = ap (λ (l : Listing). l.columns) c.self.view_is in
     let made : IsRunMade a.columns new e.symbol a.runs.items c.make_run.new.runs.items (as_symbol a.symbols.items) (as_symbol c.make_run.new.symbols.items) =
-    subst (λ (f : TupleSymbol). IsRunMade a.columns new f a.runs.items c.make_run.new.runs.items (as_symbol a.symbols.items) (as_symbol c.make_run.new.symbols.items)) c.sym.ensures c.make_run.ensures.made in
+    subst (λ (f : TupleSymbol). IsRunMade a.columns new f a.runs.items c.make_run.new.runs.items (as_symbol a.symbols.items) (as_symbol c.make_run.new.symbols.items)) c.sym-sym.ensures c.make_run.ensures.made in
     record {
       runs_are = made_runs a.columns new e.symbol a.runs.items c.make_run.new.runs.items (as_symbol a.symbols.items) (as_symbol c.make_run.new.symbols.items) made a.kids.items ks c.put_kids.new.kids.items
           a.count runs refl start refl staged c.kids-kids.ensures.few (c.requires.columns ∙ sym columns) c.put_kids.ensures.kids;
@@ -78,12 +78,12 @@ returns-clause-entries c =
     let runs = c.self.invariant.runs_are in
     let e = c.args.row.now in
     let ks = c.kids-kids.result.now in
-    let new : Run = record { first = a.count; start = c.len.result; kids = length ks; stage = c.stage_of.result } in
+    let new : Run = record { first = a.count; start = c.len.result; kids = length ks; stage = c.stage_of-stage.result } in
     let start : c.len.result ≡ length a.kids.items = omega (arith, c.len.ensures, a.kids.ok.0) in
-    let staged : c.stage_of.result ≡ stage ks = omega (arith, c.stage_of.ensures, c.requires.stage, ap stage c.kids-kids.ensures.states) in
+    let staged : c.stage_of-stage.result ≡ stage ks = omega (arith, c.stage_of-stage.ensures, c.requires.stage, ap stage c.kids-kids.ensures.states) in
     let columns = ap (λ (l : Listing). l.columns) c.self.view_is in
     let made : IsRunMade a.columns new e.symbol a.runs.items c.make_run.new.runs.items (as_symbol a.symbols.items) (as_symbol c.make_run.new.symbols.items) =
-    subst (λ (f : TupleSymbol). IsRunMade a.columns new f a.runs.items c.make_run.new.runs.items (as_symbol a.symbols.items) (as_symbol c.make_run.new.symbols.items)) c.sym.ensures c.make_run.ensures.made in
+    subst (λ (f : TupleSymbol). IsRunMade a.columns new f a.runs.items c.make_run.new.runs.items (as_symbol a.symbols.items) (as_symbol c.make_run.new.symbols.items)) c.sym-sym.ensures c.make_run.ensures.made in
     made_entries a.columns new e.symbol a.runs.items c.make_run.new.runs.items (as_symbol a.symbols.items) (as_symbol c.make_run.new.symbols.items) made a.kids.items ks c.put_kids.new.kids.items
     a.count runs refl start refl staged c.kids-kids.ensures.few (c.requires.columns ∙ sym columns) c.put_kids.ensures.kids
     ∙ (λ i. (c.self.view_is i).entries ++ entry e.symbol (c.kids-kids.ensures.states i) ∷ [])
