@@ -1,4 +1,4 @@
--- Inside: what the exploration knows between two entries.
+-- Inside: what the exploration knows between two entries, and at its end.
 use Rattle.std.specs.Prelude.{◌≡◌, ℕ, ◌+◌, ◌<◌, ◌≤◌, ◌⊎◌, List, [], ◌∷◌, ◌++◌, map, length, get_or, Bool, false, Contains}
 use Rattle.fort_theory.specs.Signatures.{Signature}
 use Rattle.fort_tables.specs.Tuples.{Tuple, root, kids, presence, IsTuple, fold_tuple}

@@ -8,7 +8,7 @@ use fort_terms::Memory;
 use std::alloc::Global;
 use std::marker::Model;
 
-/// Up to four words are compared and hashed without a look elsewhere.
+/// Labels of one width, the short ones, of up to four words, where they are compared and hashed without a look elsewhere.
 #[derive(Drop)]
 pub enum Form {
     Short(ShortLabels),
@@ -35,7 +35,7 @@ impl Model for LabelSet {
 }
 
 impl Form {
-    /// No labels, of a width still to come.
+    /// No labels, of this width.
     fn new(alloc: Global, width: usize) -> Form
         ensures fit { AreLabelsIn width result }
         ensures none { labels_in width result ≡ [] }

@@ -1,4 +1,4 @@
--- Inside: entries with their targets, in the order of entries, from groups of one tuple symbol each.
+-- Inside: entries with their targets, in the order of entries, whichever way they are kept.
 use Rattle.std.specs.Prelude.{◌≡◌, ℕ, ◌<◌, ◌⊎◌, List, [], ◌∷◌, ◌++◌, map, length, get_or, Option, None, Some, Bool, true, false, nat_lt, if◌then◌else◌}
 use Rattle.fort_tables.specs.Tuples.{TupleSymbol}
 use Rattle.fort_tables.specs.Entries.{Entry, entry, stage, LexBefore, ComesBefore}

@@ -16,7 +16,7 @@ use crate::symbol_set::SymbolSet;
 use fort_terms::Memory;
 use std::alloc::Global;
 
-/// The entries that have a target, by their tuple symbols.
+/// Entries that have a target, by their tuple symbols; those without children stand elsewhere where tuple symbols have few numbers.
 #[derive(Drop)]
 pub struct Groups {
     pub symbols: SymbolSet,

@@ -26,7 +26,7 @@ impl Model for NumberSet {
     ghost invariant = { λ r. ArePlaces (numbers_in r.count r.places.items) r.places.items };
 }
 
-/// Zeros for all numbers up to this one, and for some more, so that few calls write any.
+/// Makes the list long enough for this number, and for some more so that few calls write any: zeros behind what is there.
 pub fn reach(places: &mut Vec<u32>, number: usize) -> Result<(), Memory>
     requires { number < 2 ^ 26 }
     ensures ok { OnOk result (IsWider number places.old.items places.new.items) }
