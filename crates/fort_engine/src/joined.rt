@@ -19,7 +19,7 @@ use crate::operands::{Answered, places_of};
 use fort_explore::{ByRule, ExploreFault};
 use fort_formulas::{Core, free};
 use fort_lockstep::Dta;
-use fort_rrn_algebra::{Both, Op, Operand};
+use fort_rrn_algebra::{Both, Op, Operand, ProductLists};
 use fort_terms::System;
 use std::alloc::Global;
 
@@ -62,8 +62,10 @@ fn product_table<'a>(
         (as_answer first.now) places.now (as_answer second.now) others.now columns
         → IsDecision system.now h cap result }
 {
-    let plain = Both::new(op, operand(first, places), operand(second, others), columns);
-    let product = plain.listed(alloc)?;
+    let (one, other) = (operand(first, places), operand(second, others));
+    let mut lists = ProductLists::new(alloc);
+    lists.make(&one, &other)?;
+    let product = Both::new(op, one, other, columns).listed(&lists);
     explored(alloc, system, &ByRule(&product), cap)
 }
 

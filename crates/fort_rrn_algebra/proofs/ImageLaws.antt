@@ -1,5 +1,5 @@
 -- Images of a child's states: they stay where the other children's labels do.
-use Rattle.std.proofs.Common.{◌≡◌, ◌≢◌, ℕ, zero, suc, ◌+◌, ◌/◌, ◌%◌, bit_or, ◌-◌, ◌<◌, ◌≤◌, ◌==◌, ◌||◌, if◌then◌else◌, max, List, [], length, get_or, set, Some, Bool, true, false, nat_lt, refl, ap, sym, ◌∙◌, arith, ⊎_elim, ◌&&◌}
+use Rattle.std.proofs.Common.{◌≡◌, ◌≢◌, ℕ, zero, suc, ◌+◌, ◌/◌, ◌%◌, bit_or, ◌<◌, ◌≤◌, ◌==◌, ◌||◌, if◌then◌else◌, max, List, [], length, get_or, set, Some, Bool, true, false, nat_lt, refl, ap, sym, ◌∙◌, arith, ⊎_elim, ◌&&◌}
 use Rattle.std.proofs.lemmas.Bool.{cases_lt, eqb-false}
 use Rattle.std.proofs.lemmas.List.{get_or_past}
 use Rattle.std.proofs.lemmas.Nat.Bits.{bit_at_or, bit_at-lt}

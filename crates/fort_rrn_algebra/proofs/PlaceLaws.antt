@@ -57,6 +57,10 @@ one_at_most : (b : Bool) → (if b then 1 else 0) ≤ 1
 one_at_most true = omega arith
 one_at_most false = omega arith
 
+pub none_before : (w : ℕ) (ps : List ℕ) → 0 ≡ rank_in w ps 0
+none_before w [] = refl
+none_before w (p ∷ ps) = refl
+
 pub rank_small : (w : ℕ) (ps : List ℕ) (q : ℕ) → rank_in w ps q ≤ q
 rank_small w [] q = omega arith
 rank_small w (p ∷ ps) zero = omega arith

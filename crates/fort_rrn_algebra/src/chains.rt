@@ -1,18 +1,17 @@
 //! The states of a table by their presences.
-ghost use Rattle.std.specs.Prelude.{◌≡◌, ℕ, ◌<◌, ◌^◌, length, slice_index, IfOk};
+ghost use Rattle.std.specs.Prelude.{◌≡◌, ℕ, ◌<◌, ◌^◌, length, slice_index, OnOk};
 ghost use Rattle.fort_rrn_algebra.specs.Chains.{AreChains};
 
 use fort_lockstep::Table;
 use fort_terms::Memory;
-use std::alloc::Global;
 
 /// The states of each presence in order, each with the one that comes next; the number of states stands for none.
 #[derive(Drop)]
 pub(crate) struct Chains {
     /// The first state of each presence.
-    firsts: Vec<u32>,
+    pub(crate) firsts: Vec<u32>,
     /// The next state of a state's presence.
-    nexts: Vec<u32>,
+    pub(crate) nexts: Vec<u32>,
 }
 
 /// How many presences there may be.
@@ -25,13 +24,13 @@ pub(crate) fn presence_count<T: Table>(body: &T) -> usize
     2usize.pow(body.columns() as u32)
 }
 
-/// So many equal numbers.
-pub(crate) fn equal_numbers(alloc: Global, number: u32, count: usize) -> Result<Vec<u32>, Memory>
-    ensures size { IfOk result (λ v. length v.items ≡ count) }
-    ensures equal { IfOk result (λ v. (w : ℕ) → w < count → slice_index v.items w ≡ number) }
+/// So many equal numbers. It takes memory only where there is less room.
+pub(crate) fn fill(numbers: &mut Vec<u32>, number: u32, count: usize) -> Result<(), Memory>
+    ensures size { OnOk result (length numbers.new.items ≡ count) }
+    ensures equal { OnOk result ((w : ℕ) → w < count → slice_index numbers.new.items w ≡ number) }
 {
-    let numbers = vec![in alloc; number; count]?;
-    Ok(numbers)
+    numbers.clear();
+    numbers.resize(count, number)
 }
 
 /// Puts each state before the states behind it.
@@ -55,16 +54,16 @@ fn chain<T: Table>(body: &T, firsts: &mut [u32], nexts: &mut [u32])
 }
 
 impl Chains {
-    /// The chains of a table's states.
-    pub(crate) fn of<T: Table>(alloc: Global, body: &T) -> Result<Chains, Memory>
-        ensures { IfOk result (λ c. AreChains (T.table body.now).columns
-            (T.table body.now).presences c.firsts.items c.nexts.items) }
+    /// Makes these the chains of a table's states. It takes memory only where there is less room.
+    pub(crate) fn make<T: Table>(&mut self, body: &T) -> Result<(), Memory>
+        ensures { OnOk result (AreChains (T.table body.now).columns
+            (T.table body.now).presences self.new.firsts.items self.new.nexts.items) }
     {
         let count = body.states();
-        let mut firsts = equal_numbers(alloc, count, presence_count(body))?;
-        let mut nexts = equal_numbers(alloc, count, count as usize)?;
-        chain(body, firsts.as_mut_slice(), nexts.as_mut_slice());
-        Ok(Chains { firsts, nexts })
+        fill(&mut self.firsts, count, presence_count(body))?;
+        fill(&mut self.nexts, count, count as usize)?;
+        chain(body, self.firsts.as_mut_slice(), self.nexts.as_mut_slice());
+        Ok(())
     }
 
     /// The first state of a presence.

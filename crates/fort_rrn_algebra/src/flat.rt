@@ -5,9 +5,18 @@ ghost use Rattle.fort_lockstep.specs.Columns.{as_column, digit_of};
 ghost use Rattle.fort_operations.specs.Projections.{has_state, some_below};
 ghost use Rattle.fort_rrn_algebra.specs.Places.{number_of, place_from, IsReadable, read_at, AreStatesIn};
 
+use crate::chains::Chains;
 use fort_explore::set_bit;
 use fort_lockstep::TupleSym;
 use fort_terms::Sym;
+
+/// The most columns, states and entries of a table.
+#[derive(Clone, Copy)]
+pub struct TableSize {
+    pub columns: usize,
+    pub states: usize,
+    pub entries: usize,
+}
 
 /// Where each state stands among the states of its presence.
 #[derive(Drop)]
@@ -33,6 +42,9 @@ pub(crate) struct FlatTargets {
     pub(crate) base: usize,
     pub(crate) spots: Spots,
     pub(crate) listing: Listing,
+    /// What the list is made by: how many states each presence has, and the states of each.
+    pub(crate) counts: Vec<u32>,
+    pub(crate) chains: Chains,
 }
 
 impl Spots {

@@ -10,6 +10,7 @@ mod imaged;
 mod images;
 mod listed;
 mod listing;
+mod lists;
 pub mod local;
 mod look_up;
 mod negation;
@@ -24,6 +25,8 @@ mod tables;
 mod words;
 
 pub use choices::{next_absent, next_in_set};
+pub use flat::TableSize;
+pub use lists::ProductLists;
 pub use negation::negate;
 pub use operand::{Op, Operand};
 pub use product::Both;

@@ -1,5 +1,5 @@
 //! The labels of products by the operands' targets in lists.
-ghost use Rattle.std.specs.Prelude.{◌≡◌, ℕ, ◌<◌, ◌≤◌, ◌+◌, ◌*◌, ◌^◌, List, [], length, slice_index, IfOk, IfSome};
+ghost use Rattle.std.specs.Prelude.{◌≡◌, ℕ, ◌<◌, ◌≤◌, ◌+◌, ◌*◌, ◌^◌, List, [], length, slice_index, IfSome};
 ghost use Rattle.fort_theory.specs.Signatures as theory;
 ghost use Rattle.fort_tables.specs.Tuples.{AreSymbols, symbol_kids};
 ghost use Rattle.fort_tables.specs.Labels.{IsOverLabels};
@@ -18,21 +18,7 @@ use crate::operand::Operand;
 use crate::words::{operand_word, states_at};
 use fort_explore::Rows;
 use fort_lockstep::{Row, Table};
-use fort_terms::{Memory, Signature, Sym};
-use std::alloc::Global;
-
-/// An operand's targets in one list, where its tuple symbols have few numbers.
-pub(crate) fn list_of<T: Table>(
-    alloc: Global,
-    operand: &Operand<'_, T>,
-) -> Result<Option<FlatTargets>, Memory>
-    ensures { IfOk result (λ list. IfSome list (IsListOf (operand_of T.table operand.now))) }
-{
-    match operand {
-        Operand::Auto(table, _) => FlatTargets::of(alloc, *table),
-        Operand::Truth(_) => Ok(None),
-    }
-}
+use fort_terms::{Signature, Sym};
 
 /// The number of a tuple symbol with one more column in front.
 fn number_before(column: Option<Sym>, base: usize, number: usize) -> usize
@@ -134,12 +120,12 @@ fn constant_word<T: Table>(table: &T, list: &FlatTargets, places: &[usize], row:
 /// An operand's word, by its targets in one list where there is one.
 pub(crate) fn word_by<T: Table>(
     operand: &Operand<'_, T>,
-    list: &Option<FlatTargets>,
+    list: Option<&FlatTargets>,
     at: usize,
     row: &Row,
     rows: &Rows,
 ) -> u64
-    requires list { IfSome list.now (IsListOf (operand_of T.table operand.now)) }
+    requires list { IfSome list (λ l. IsListOf (operand_of T.table operand.now) l.now) }
     requires over { (sig : theory.Signature) × IsOverWords sig (length row.now.symbol)
         (operand_of T.table operand.now) at rows.now.labels row.now }
     ensures { result ≡ products.operand_step at (operand_of T.table operand.now) row.now.symbol
@@ -157,13 +143,13 @@ pub(crate) fn word_by<T: Table>(
 /// The same where the entry has no children.
 fn constant_by<T: Table>(
     operand: &Operand<'_, T>,
-    list: &Option<FlatTargets>,
+    list: Option<&FlatTargets>,
     at: usize,
     row: &Row,
     rows: &Rows,
 ) -> u64
     requires none { row.now.kids ≡ [] }
-    requires list { IfSome list.now (IsListOf (operand_of T.table operand.now)) }
+    requires list { IfSome list (λ l. IsListOf (operand_of T.table operand.now) l.now) }
     requires over { (sig : theory.Signature) × IsOverWords sig (length row.now.symbol)
         (operand_of T.table operand.now) at rows.now.labels row.now }
     ensures { result ≡ products.operand_step at (operand_of T.table operand.now) row.now.symbol
@@ -181,15 +167,16 @@ fn constant_by<T: Table>(
 /// Writes the label of an entry of a product, by the operands' targets in one list where there is one.
 pub(crate) fn write_both<T: Table>(
     first: &Operand<'_, T>,
-    first_list: &Option<FlatTargets>,
+    first_list: Option<&FlatTargets>,
     second: &Operand<'_, T>,
-    second_list: &Option<FlatTargets>,
+    second_list: Option<&FlatTargets>,
     row: &Row,
     rows: &Rows,
     out: &mut [u64],
 )
-    requires first_list { IfSome first_list.now (IsListOf (operand_of T.table first.now)) }
-    requires second_list { IfSome second_list.now (IsListOf (operand_of T.table second.now)) }
+    requires first_list { IfSome first_list (λ l. IsListOf (operand_of T.table first.now) l.now) }
+    requires second_list { IfSome second_list (λ l. IsListOf (operand_of T.table second.now)
+        l.now) }
     requires operands { products.AreOperands (products.signature_of (operand_of T.table first.now)
         (operand_of T.table second.now)) (length row.now.symbol) (operand_of T.table first.now)
         (operand_of T.table second.now) }

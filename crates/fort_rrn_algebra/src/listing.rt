@@ -1,14 +1,14 @@
 //! A table's targets, put into one list.
-ghost use Rattle.std.specs.Prelude.{◌≡◌, ◌≢◌, ℕ, ◌+◌, ◌<◌, ◌≤◌, ◌^◌, ◌++◌, [], take, length, slice_index, slice_index_or, IfOk, IfSome, OnOk, suc};
+ghost use Rattle.std.specs.Prelude.{◌≡◌, ◌≢◌, ℕ, ◌+◌, ◌<◌, ◌≤◌, ◌^◌, ◌++◌, [], take, length, slice_index, slice_index_or, IfOk, IfSome, OnOk, IsTrue, suc};
 ghost use Rattle.fort_tables.specs.Tuples.{AreSymbols, IsTupleSymbol, symbol_kids, kid_presence as kid_presence_lem};
 ghost use Rattle.fort_lockstep.specs.Columns.{as_column, column_of as column_of_lem};
 ghost use Rattle.fort_rrn_algebra.specs.Places.{columns_at, AreSpots, AreRanks, AreAlike, AreCounts};
 ghost use Rattle.fort_rrn_algebra.specs.Chains.{AreChains};
 ghost use Rattle.fort_rrn_algebra.specs.Flats.{laid, IsStateFor, AreLaid, IsFlatOf};
 
-use crate::chains::{Chains, equal_numbers, presence_count};
+use crate::chains::{Chains, fill, presence_count};
 use crate::columns::{is_present, kid_count, kid_presence};
-use crate::flat::{FlatTargets, Listing, Spots};
+use crate::flat::{FlatTargets, Listing, Spots, TableSize};
 use fort_lockstep::{Table, TupleSym};
 use fort_terms::{Memory, Sym};
 use std::alloc::Global;
@@ -57,46 +57,47 @@ fn column_of(digit: usize) -> Option<Sym>
 }
 
 /// Each state's rank among the states of its presence; the counts are how many states have each presence.
-fn ranks_of<T: Table>(alloc: Global, body: &T, counts: &mut [u32]) -> Result<Vec<u32>, Memory>
+fn put_ranks<T: Table>(body: &T, counts: &mut [u32], ranks: &mut Vec<u32>) -> Result<(), Memory>
+    requires empty { ranks.old.items ≡ [] }
     requires none { (w : ℕ) → w < length counts.old → slice_index counts.old w ≡ 0 }
     requires within { (q : ℕ) → q < length (T.table body.now).presences
         → slice_index (T.table body.now).presences q < length counts.old }
-    ensures ranks { IfOk result (λ ranks. AreRanks (T.table body.now).presences ranks.items) }
+    ensures ranks { OnOk result (AreRanks (T.table body.now).presences ranks.new.items) }
     ensures counts { OnOk result (AreCounts (T.table body.now).presences counts.new) }
 {
-    let mut ranks = Vec::with_capacity(alloc, body.states() as usize)?;
     for q in 0..body.states() {
         let presence = body.presence(q) as usize;
         ranks.push(counts[presence])?;
         counts[presence] += 1;
     }
-    Ok(ranks)
+    Ok(())
 }
 
 /// For each state how many have its presence.
-fn alike_of<T: Table>(alloc: Global, body: &T, counts: &[u32]) -> Result<Vec<u32>, Memory>
+fn put_alike<T: Table>(body: &T, counts: &[u32], alike: &mut Vec<u32>) -> Result<(), Memory>
+    requires empty { alike.old.items ≡ [] }
     requires within { (q : ℕ) → q < length (T.table body.now).presences
         → slice_index (T.table body.now).presences q < length counts.now }
     requires counts { AreCounts (T.table body.now).presences counts.now }
-    ensures { IfOk result (λ alike. AreAlike (T.table body.now).presences alike.items) }
+    ensures { OnOk result (AreAlike (T.table body.now).presences alike.new.items) }
 {
-    let mut alike = Vec::with_capacity(alloc, body.states() as usize)?;
     for q in 0..body.states() {
         alike.push(counts[body.presence(q) as usize])?;
     }
-    Ok(alike)
+    Ok(())
 }
 
 impl Spots {
-    /// The ranks of a table's states.
-    fn of<T: Table>(alloc: Global, body: &T) -> Result<Spots, Memory>
-        ensures { IfOk result (λ s. AreSpots (T.table body.now).presences s.ranks.items
-            s.alike.items) }
+    /// Makes these the ranks of a table's states.
+    fn make<T: Table>(&mut self, body: &T, counts: &mut Vec<u32>) -> Result<(), Memory>
+        ensures { OnOk result (AreSpots (T.table body.now).presences self.new.ranks.items
+            self.new.alike.items) }
     {
-        let mut counts = equal_numbers(alloc, 0, presence_count(body))?;
-        let ranks = ranks_of(alloc, body, counts.as_mut_slice())?;
-        let alike = alike_of(alloc, body, &counts)?;
-        Ok(Spots { ranks, alike })
+        fill(counts, 0, presence_count(body))?;
+        self.ranks.clear();
+        self.alike.clear();
+        put_ranks(body, counts.as_mut_slice(), &mut self.ranks)?;
+        put_alike(body, counts.as_slice(), &mut self.alike)
     }
 }
 
@@ -138,17 +139,6 @@ fn lay<T: Table>(
 }
 
 impl Listing {
-    /// No targets yet.
-    fn new(alloc: Global, count: usize) -> Result<Listing, Memory>
-        ensures starts { IfOk result (λ l. l.starts.items ≡ []) }
-        ensures targets { IfOk result (λ l. l.targets.items ≡ []) }
-    {
-        Ok(Listing {
-            starts: Vec::with_capacity(alloc, count)?,
-            targets: Vec::new(alloc),
-        })
-    }
-
     /// Appends the targets of the tuple symbol with the next number.
     fn add<T: Table>(
         &mut self,
@@ -180,46 +170,104 @@ impl Listing {
         lay(body, chains, &symbol, [0; 8], 0, count, &mut self.targets)
     }
 
-    /// The targets of the tuple symbols with the first numbers.
-    fn of<T: Table>(
-        alloc: Global,
+    /// Makes these the targets of the tuple symbols with the first numbers.
+    fn make<T: Table>(
+        &mut self,
         body: &T,
         chains: &Chains,
         base: usize,
         count: usize,
-    ) -> Result<Listing, Memory>
+    ) -> Result<(), Memory>
         requires chains { AreChains (T.table body.now).columns (T.table body.now).presences
             chains.now.firsts.items chains.now.nexts.items }
         requires base { base ≡ suc (length (T.table body.now).signature) }
-        ensures { IfOk result (λ l. AreLaid (T.table body.now) base count l.starts.items
-            l.targets.items) }
+        ensures { OnOk result (AreLaid (T.table body.now) base count self.new.starts.items
+            self.new.targets.items) }
     {
-        let mut listing = Listing::new(alloc, count)?;
+        self.starts.clear();
+        self.targets.clear();
         for number in 0..count {
-            listing.add(body, chains, base, number)?;
+            self.add(body, chains, base, number)?;
         }
-        Ok(listing)
+        Ok(())
     }
 }
 
 impl FlatTargets {
+    /// No list, and no room for one.
+    pub(crate) fn new(alloc: Global) -> FlatTargets {
+        FlatTargets {
+            base: 0,
+            spots: Spots {
+                ranks: Vec::new(alloc),
+                alike: Vec::new(alloc),
+            },
+            listing: Listing {
+                starts: Vec::new(alloc),
+                targets: Vec::new(alloc),
+            },
+            counts: Vec::new(alloc),
+            chains: Chains {
+                firsts: Vec::new(alloc),
+                nexts: Vec::new(alloc),
+            },
+        }
+    }
+
+    /// No list, and the room for that of a table of this size over so many symbols, where its tuple symbols have few numbers.
+    pub(crate) fn with_room(
+        alloc: Global,
+        symbols: usize,
+        size: TableSize,
+    ) -> Result<FlatTargets, Memory> {
+        let columns = size.columns.min(16);
+        let Some(numbers) = number_count(symbols.saturating_add(1), columns) else {
+            return Ok(FlatTargets::new(alloc));
+        };
+        Ok(FlatTargets {
+            base: 0,
+            spots: Spots {
+                ranks: Vec::with_capacity(alloc, size.states)?,
+                alike: Vec::with_capacity(alloc, size.states)?,
+            },
+            listing: Listing {
+                starts: Vec::with_capacity(alloc, numbers)?,
+                targets: Vec::with_capacity(alloc, size.entries)?,
+            },
+            counts: Vec::with_capacity(alloc, 1 << columns)?,
+            chains: Chains {
+                firsts: Vec::with_capacity(alloc, 1 << columns)?,
+                nexts: Vec::with_capacity(alloc, size.states)?,
+            },
+        })
+    }
+
+    /// Makes this the list of a table's targets, where its tuple symbols have few numbers; whether they have. It takes memory only where
+    /// there is less room.
+    pub(crate) fn make<T: Table>(&mut self, body: &T) -> Result<bool, Memory>
+        ensures { IfOk result (λ few. IsTrue few → IsFlatOf (T.table body.now) self.new) }
+    {
+        self.base = body.signature().len() + 1;
+        match number_count(self.base, body.columns()) {
+            Some(count) => {
+                self.spots.make(body, &mut self.counts)?;
+                self.chains.make(body)?;
+                self.listing.make(body, &self.chains, self.base, count)?;
+                Ok(true)
+            }
+            None => Ok(false),
+        }
+    }
+
     /// The targets of a table whose tuple symbols have few numbers.
     pub(crate) fn of<T: Table>(alloc: Global, body: &T) -> Result<Option<FlatTargets>, Memory>
         ensures { IfOk result (λ flat. IfSome flat (IsFlatOf (T.table body.now))) }
     {
-        let base = body.signature().len() + 1;
-        match number_count(base, body.columns()) {
-            Some(count) => {
-                let spots = Spots::of(alloc, body)?;
-                let chains = Chains::of(alloc, body)?;
-                let listing = Listing::of(alloc, body, &chains, base, count)?;
-                Ok(Some(FlatTargets {
-                    base,
-                    spots,
-                    listing,
-                }))
-            }
-            None => Ok(None),
+        let mut flat = FlatTargets::new(alloc);
+        if flat.make(body)? {
+            Ok(Some(flat))
+        } else {
+            Ok(None)
         }
     }
 }

@@ -35,7 +35,7 @@ pub fn both_label<T: Table>(
     ensures { out.new ≡ entry_label (product_rule (length row.now.symbol)
         (operand_of T.table first.now) (operand_of T.table second.now)) rows.now.labels row.now }
 {
-    write_both(first, &None, second, &None, row, rows, out);
+    write_both(first, None, second, None, row, rows, out);
 }
 
 /// Whether the product with this connective accepts the tuples of terms with this label.

@@ -1,5 +1,5 @@
 //! Products of two operands.
-ghost use Rattle.std.specs.Prelude.{◌≡◌, ◌<◌, ◌≤◌, ◌↔◌, IsTrue, IfOk, IfSome};
+ghost use Rattle.std.specs.Prelude.{◌≡◌, ◌<◌, ◌≤◌, ◌↔◌, IsTrue, IfSome};
 ghost use Rattle.fort_tables.specs.Tuples.{Tuple, IsTuple};
 ghost use Rattle.fort_tables.specs.LabelRules.{label_of};
 ghost use Rattle.fort_operations.specs.Products as products;
@@ -7,16 +7,14 @@ ghost use Rattle.fort_operations.specs.Agreement.{AgreeAtBoth, OperandAgreement}
 ghost use Rattle.fort_operations.specs.OperationTruth.{TestsRelation, Connected, said_by};
 ghost use Rattle.fort_operations.proofs.OperandFacts.{AreOperands-prop};
 ghost use Rattle.fort_rrn_algebra.specs.Operands.{operand_of, connective_of};
-ghost use Rattle.fort_rrn_algebra.specs.ListedOperands.{IsListOf, IfList-prop};
+ghost use Rattle.fort_rrn_algebra.specs.ListedOperands.{AreListsOf, IfLists-prop};
 
-use crate::flat::FlatTargets;
-use crate::listed::{list_of, write_both};
+use crate::listed::write_both;
+use crate::lists::ProductLists;
 use crate::local::both_accepts;
 use crate::operand::{Op, Operand};
 use fort_explore::{LocalRule, Rows};
 use fort_lockstep::{Row, Table};
-use fort_terms::Memory;
-use std::alloc::Global;
 
 /// The labels of a product: of a tuple over its columns, the presence and the states of the two operands on their own columns.
 #[derive(Drop)]
@@ -25,9 +23,8 @@ pub struct Both<'a, T: Table> {
     columns: usize,
     first: Operand<'a, T>,
     second: Operand<'a, T>,
-    /// The operands' targets in one list, where they are.
-    first_list: Option<FlatTargets>,
-    second_list: Option<FlatTargets>,
+    /// The operands' targets in lists, where they are.
+    lists: Option<&'a ProductLists>,
     ghost some: { 0 < columns },
     ghost narrow: { columns ≤ 16 },
     ghost operands: { products.AreOperands (products.signature_of (operand_of T.table first)
@@ -35,8 +32,8 @@ pub struct Both<'a, T: Table> {
         (operand_of T.table second) } by { AreOperands-prop (products.signature_of
             (operand_of T.table first) (operand_of T.table second)) columns
             (operand_of T.table first) (operand_of T.table second) },
-    ghost first_is: { IfSome first_list (IsListOf (operand_of T.table first)) } by { IfList-prop (operand_of T.table first) first_list },
-    ghost second_is: { IfSome second_list (IsListOf (operand_of T.table second)) } by { IfList-prop (operand_of T.table second) second_list },
+    ghost listed: { IfSome lists (λ l. AreListsOf (operand_of T.table first) (operand_of T.table second)
+        l.now) } by { IfLists-prop (operand_of T.table first) (operand_of T.table second) lists (λ l. l.now) },
 }
 
 impl<'a, T: Table> Both<'a, T> {
@@ -79,29 +76,26 @@ impl<'a, T: Table> Both<'a, T> {
             columns,
             first,
             second,
-            first_list: None,
-            second_list: None,
+            lists: None,
         }
     }
 
-    /// The same product by lists of the operands' targets, where their tuple symbols have few numbers. Look-ups are quicker then, and
-    /// a list takes four bytes for each entry.
-    pub fn listed(self, alloc: Global) -> Result<Both<'a, T>, Memory>
-        ensures op { IfOk result (λ b. b.op ≡ self.entry.op) }
-        ensures columns { IfOk result (λ b. b.columns ≡ self.entry.columns) }
-        ensures first { IfOk result (λ b. b.first ≡ self.entry.first) }
-        ensures second { IfOk result (λ b. b.second ≡ self.entry.second) }
+    /// The same product by lists of the operands' targets. Look-ups are quicker then.
+    pub fn listed(self, lists: &'a ProductLists) -> Both<'a, T>
+        requires { AreListsOf (operand_of T.table self.first) (operand_of T.table self.second)
+            lists.now }
+        ensures op { result.op ≡ self.entry.op }
+        ensures columns { result.columns ≡ self.entry.columns }
+        ensures first { result.first ≡ self.entry.first }
+        ensures second { result.second ≡ self.entry.second }
     {
-        let first_list = list_of(alloc, &self.first)?;
-        let second_list = list_of(alloc, &self.second)?;
-        Ok(Both {
+        Both {
             op: self.op,
             columns: self.columns,
             first: self.first,
             second: self.second,
-            first_list,
-            second_list,
-        })
+            lists: Some(lists),
+        }
     }
 }
 
@@ -131,11 +125,15 @@ impl<'a, T: Table> LocalRule for Both<'a, T> {
     }
 
     fn step(&self, row: &Row, rows: &Rows, out: &mut [u64]) {
+        let (first_list, second_list) = match self.lists {
+            Some(lists) => (lists.first(), lists.second()),
+            None => (None, None),
+        };
         write_both(
             &self.first,
-            &self.first_list,
+            first_list,
             &self.second,
-            &self.second_list,
+            second_list,
             row,
             rows,
             out,

@@ -93,13 +93,10 @@ fn joined(alloc: Global, signature: &Signature, op: Op) -> Result<Dta, ExploreFa
     ensures columns { IfOk result (λ t. t.columns ≡ 2) }
 {
     let first = first_table(alloc, signature)?;
-    let both = Both::new(
-        op,
-        Operand::Auto(&first, &[0]),
-        Operand::Auto(&first, &[1]),
-        2,
-    );
-    let listed = both.listed(alloc)?;
+    let (one, other) = (Operand::Auto(&first, &[0]), Operand::Auto(&first, &[1]));
+    let mut lists = ProductLists::new(alloc);
+    lists.make(&one, &other)?;
+    let listed = Both::new(op, one, other, 2).listed(&lists);
     explore(alloc, first.signature(), &ByRule(&listed), 100)
 }
 

@@ -6,29 +6,29 @@ use Rattle.fort_engine.specs.AnswerView.{as_answer}
 use Rattle.fort_engine.proofs.JoinLaws.{AreOperands-product, signature-product, AreLabelsFor-product}
 use Rattle.fort_engine.proofs.joined.product_table.Goals as goal
 
-pub new-plain-requires-clause-operands : goal.new-plain-requires-clause-operands
-new-plain-requires-clause-operands c =
+pub new-requires-clause-operands : goal.new-requires-clause-operands
+new-requires-clause-operands c =
     let a = c.args in
     AreOperands-product a.system.now (connective_of a.op) c.requires.0 c.requires.1 c.requires.2 (as_answer a.first.now) a.places.now (as_answer a.second.now)
-    a.others.now a.columns c.requires.3 (algebra.operand_of listed_table c.operand.result) (algebra.operand_of listed_table c.operand-2.result) c.operand.ensures
-    c.operand-2.ensures
+    a.others.now a.columns c.requires.3 (algebra.operand_of listed_table c.operand-one.result) (algebra.operand_of listed_table c.operand-other.result) c.operand-one.ensures
+    c.operand-other.ensures
 
 pub explored-requires : goal.explored-requires
 explored-requires c =
     let a = c.args in
-    let made = c.new-plain.ensures in
-    let listed = c.in_ok-product.ensures in
+    let made = c.new.ensures in
+    let listed = c.listed-product.ensures in
     sym (signature-product a.system.now (connective_of a.op) c.requires.0 c.requires.1 c.requires.2 (as_answer a.first.now) a.places.now (as_answer a.second.now)
-    a.others.now a.columns c.requires.3 (algebra.operand_of listed_table c.in_ok-product.product.first) (algebra.operand_of listed_table c.in_ok-product.product.second)
-    (ap (algebra.operand_of listed_table) (listed.first ∙ made.first) ∙ c.operand.ensures) (ap (algebra.operand_of listed_table) (listed.second ∙ made.second) ∙ c.operand-2.ensures))
+    a.others.now a.columns c.requires.3 (algebra.operand_of listed_table c.listed-product.result.first) (algebra.operand_of listed_table c.listed-product.result.second)
+    (ap (algebra.operand_of listed_table) (listed.first ∙ made.first) ∙ c.operand-one.ensures) (ap (algebra.operand_of listed_table) (listed.second ∙ made.second) ∙ c.operand-other.ensures))
 
 pub returns : goal.returns
 returns c h f g join =
     let a = c.args in
-    let made = c.new-plain.ensures in
-    let listed = c.in_ok-product.ensures in
+    let made = c.new.ensures in
+    let listed = c.listed-product.ensures in
     c.explored.ensures h
     (AreLabelsFor-product a.system.now (connective_of a.op) h f g (as_answer a.first.now) a.places.now (as_answer a.second.now) a.others.now a.columns join
-    (algebra.operand_of listed_table c.in_ok-product.product.first) (algebra.operand_of listed_table c.in_ok-product.product.second)
-    (ap (algebra.operand_of listed_table) (listed.first ∙ made.first) ∙ c.operand.ensures) (ap (algebra.operand_of listed_table) (listed.second ∙ made.second) ∙ c.operand-2.ensures)
-    c.in_ok-product.product.columns (connective_of c.in_ok-product.product.op) (listed.columns ∙ made.columns) (ap connective_of (listed.op ∙ made.op)))
+    (algebra.operand_of listed_table c.listed-product.result.first) (algebra.operand_of listed_table c.listed-product.result.second)
+    (ap (algebra.operand_of listed_table) (listed.first ∙ made.first) ∙ c.operand-one.ensures) (ap (algebra.operand_of listed_table) (listed.second ∙ made.second) ∙ c.operand-other.ensures)
+    c.listed-product.result.columns (connective_of c.listed-product.result.op) (listed.columns ∙ made.columns) (ap connective_of (listed.op ∙ made.op)))

@@ -1,6 +1,6 @@
 use Rattle.std.proofs.Common.{◌≡◌, ℕ, ◌<◌, get_or, length}
 use Rattle.fort_lockstep.specs.Ranks.{count_of}
-use Rattle.fort_rrn_algebra.proofs.listing.alike_of.Given as goal
+use Rattle.fort_rrn_algebra.proofs.listing.put_alike.Given as goal
 
 abbrev pub invariant-loop-q : goal.invariant-loop-q
 invariant-loop-q g l =

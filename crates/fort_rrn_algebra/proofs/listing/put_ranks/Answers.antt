@@ -1,8 +1,8 @@
-use Rattle.std.proofs.Common.{◌≡◌, ◌+◌, ◌<◌, [], ◌∷◌, length, get_or, length-append, ap, ◌∙◌, arith}
+use Rattle.std.proofs.Common.{refl, ◌≡◌, ◌+◌, ◌<◌, [], ◌∷◌, length, get_or, length-append, ap, ◌∙◌, arith}
 use Rattle.std.proofs.lemmas.List.{length-set}
 use Rattle.fort_lockstep.specs.Ranks.{rank_in}
-use Rattle.fort_rrn_algebra.proofs.PlaceLaws.{rank_small, rank_whole, counts_more, pushed_more}
-use Rattle.fort_rrn_algebra.proofs.listing.ranks_of.Goals as goal
+use Rattle.fort_rrn_algebra.proofs.PlaceLaws.{none_before, rank_small, rank_whole, counts_more, pushed_more}
+use Rattle.fort_rrn_algebra.proofs.listing.put_ranks.Goals as goal
 
 pub overflow_add-counts : goal.overflow_add-counts
 overflow_add-counts g c =
@@ -10,6 +10,14 @@ overflow_add-counts g c =
     let p = c.presence-presence.result in
     let low : p < length c.args.counts.now = omega (arith, c.requires.within c.loop-q.q (omega (arith, c.loop-q-test.true)), c.presence-presence.ensures) in
     omega (arith, c.loop-q.invariant.counts p low, rank_small p ps c.loop-q.q, c.loop-q-test.true)
+
+pub loop-q-init : goal.loop-q-init
+loop-q-init g c = record {
+  size = ap length c.requires.empty;
+  long = refl;
+  done = λ k l. absurd (omega arith);
+  counts = λ w l. c.requires.none w l ∙ none_before w (g.T.Table.table c.args.body.now).presences;
+}
 
 pub loop-q-preserved : goal.loop-q-preserved
 loop-q-preserved g c =

@@ -1,6 +1,6 @@
 use Rattle.std.proofs.Common.{◌≡◌, ℕ, ◌<◌, get_or, length}
 use Rattle.fort_lockstep.specs.Ranks.{rank_in}
-use Rattle.fort_rrn_algebra.proofs.listing.ranks_of.Given as goal
+use Rattle.fort_rrn_algebra.proofs.listing.put_ranks.Given as goal
 
 abbrev pub invariant-loop-q : goal.invariant-loop-q
 invariant-loop-q g l =

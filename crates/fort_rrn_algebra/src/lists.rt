@@ -1,0 +1,94 @@
+//! Lists of the targets of a product's operands.
+ghost use Rattle.std.specs.Prelude.{IfOk, IfSome, OnOk, IsTrue};
+ghost use Rattle.fort_operations.specs.Products as products;
+ghost use Rattle.fort_rrn_algebra.specs.Operands.{operand_of};
+ghost use Rattle.fort_rrn_algebra.specs.ListedOperands.{IsListOf, AreListsOf};
+
+use crate::flat::{FlatTargets, TableSize};
+use crate::operand::Operand;
+use fort_lockstep::Table;
+use fort_terms::Memory;
+use std::alloc::Global;
+
+/// The targets of each operand in one list, where its tuple symbols have few numbers, and the room for them.
+#[derive(Drop)]
+pub struct ProductLists {
+    pub(crate) has_first: bool,
+    pub(crate) first: FlatTargets,
+    pub(crate) has_second: bool,
+    pub(crate) second: FlatTargets,
+}
+
+/// Makes this the list of an operand's targets, where its tuple symbols have few numbers; whether they have.
+fn make<T: Table>(list: &mut FlatTargets, operand: &Operand<'_, T>) -> Result<bool, Memory>
+    ensures { IfOk result (λ few. IsTrue few → IsListOf (operand_of T.table operand.now)
+        list.new) }
+{
+    match operand {
+        Operand::Auto(table, _) => list.make(*table),
+        Operand::Truth(_) => Ok(false),
+    }
+}
+
+impl ProductLists {
+    /// No lists, and no room for any.
+    pub fn new(alloc: Global) -> ProductLists {
+        ProductLists {
+            has_first: false,
+            first: FlatTargets::new(alloc),
+            has_second: false,
+            second: FlatTargets::new(alloc),
+        }
+    }
+
+    /// No lists, and the room for those of two tables of these sizes over so many symbols.
+    pub fn with_room(
+        alloc: Global,
+        symbols: usize,
+        first: TableSize,
+        second: TableSize,
+    ) -> Result<ProductLists, Memory> {
+        Ok(ProductLists {
+            has_first: false,
+            first: FlatTargets::with_room(alloc, symbols, first)?,
+            has_second: false,
+            second: FlatTargets::with_room(alloc, symbols, second)?,
+        })
+    }
+
+    /// Makes these the lists of two operands. A list takes four bytes for each entry, and memory is taken only where there is less room.
+    pub fn make<T: Table>(
+        &mut self,
+        first: &Operand<'_, T>,
+        second: &Operand<'_, T>,
+    ) -> Result<(), Memory>
+        ensures { OnOk result (AreListsOf (operand_of T.table first.now)
+            (operand_of T.table second.now) self.new) }
+    {
+        self.has_first = make(&mut self.first, first)?;
+        self.has_second = make(&mut self.second, second)?;
+        Ok(())
+    }
+
+    pub(crate) fn first(&self) -> Option<&FlatTargets>
+        ensures { (first second : products.Operand) → AreListsOf first second self.now
+            → IfSome result (λ l. IsListOf first l.now) }
+    {
+        if self.has_first {
+            Some(&self.first)
+        } else {
+            None
+        }
+    }
+
+    pub(crate) fn second(&self) -> Option<&FlatTargets>
+        ensures { (first second : products.Operand) → AreListsOf first second self.now
+            → IfSome result (λ l. IsListOf second l.now) }
+    {
+        if self.has_second {
+            Some(&self.second)
+        } else {
+            None
+        }
+    }
+}
