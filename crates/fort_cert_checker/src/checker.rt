@@ -136,7 +136,7 @@ impl<'a> Checker<'a> {
         let closures = closure_plans(alloc, system, &dues)?;
         let plans = plans_of(alloc, system, steps, &parts)?;
         let rooms = rooms_of(alloc, steps, &plans)?;
-        let marks = mark_rooms(alloc, steps, &plans)?;
+        let marks = mark_rooms(alloc, system.signature().len(), steps, &plans)?;
         Ok(Checker {
             system,
             core,

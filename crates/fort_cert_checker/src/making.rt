@@ -17,12 +17,13 @@ ghost use Rattle.fort_cert_checker.specs.Pasts.{IsMarkRoomFor};
 ghost use Rattle.fort_cert_checker.specs.Makings.{IsClosurePlan, IsClosureFor, IsRoomFor, AreClosuresMade, ArePlansMade, AreRoomsMade, AreMarksMade};
 
 use crate::about::targets_of;
-use crate::plan::{Plan, Source, Work};
+use crate::plan::{Operand, Plan, Source, Work};
 use fort_check_steps::{DueStep, MarkRoom, PairRules, PartRoom, closure_rules, most_states};
 use fort_context_closure::local::is_width;
 use fort_formulas::Core;
 use fort_infinity::local::many_width;
 use fort_rrn_algebra::local::project_width;
+use fort_rrn_algebra::{ProductLists, TableSize};
 use fort_steps::{Step, Which};
 use fort_terms::{Memory, System};
 use std::alloc::{AllocError, Global};
@@ -167,30 +168,68 @@ pub(crate) fn rooms_of(
     Ok(rooms)
 }
 
-fn mark_room(alloc: Global, states: usize, marks: usize) -> Result<MarkRoom, Memory>
+/// The most that the table of an operand has.
+fn size_of(steps: &[Step], operand: &Operand) -> TableSize {
+    let targets = targets_of(steps, operand.source.part);
+    TableSize {
+        columns: operand.places.len(),
+        states: most_states(targets),
+        entries: targets.len(),
+    }
+}
+
+/// Room for the lists of a product's operands, over so many symbols.
+fn lists_for(
+    alloc: Global,
+    symbols: usize,
+    steps: &[Step],
+    plan: &Plan,
+) -> Result<ProductLists, Memory> {
+    match &plan.work {
+        Work::Product(_, first, second) => {
+            let (first, second) = (size_of(steps, first), size_of(steps, second));
+            ProductLists::with_room(alloc, symbols, first, second)
+        }
+        _ => Ok(ProductLists::new(alloc)),
+    }
+}
+
+fn mark_room(
+    alloc: Global,
+    states: usize,
+    marks: usize,
+    lists: ProductLists,
+) -> Result<MarkRoom, Memory>
     ensures { IfOk result (HasMarkRoom states marks) }
 {
     Ok(MarkRoom {
         states: Vec::with_capacity(alloc, states)?,
         holds: Vec::with_capacity(alloc, marks)?,
+        lists,
     })
 }
 
-fn marks_for(alloc: Global, steps: &[Step], plan: &Plan) -> Result<MarkRoom, Memory>
+fn marks_for(
+    alloc: Global,
+    steps: &[Step],
+    plan: &Plan,
+    lists: ProductLists,
+) -> Result<MarkRoom, Memory>
     ensures { IfOk result (IsMarkRoomFor (map as_step steps.now) plan.now.work) }
 {
     match &plan.work {
-        Work::Projection(source, _) => mark_room(alloc, states_of(steps, *source)?, 0),
+        Work::Projection(source, _) => mark_room(alloc, states_of(steps, *source)?, 0, lists),
         Work::Many(source, _, marks) => {
-            mark_room(alloc, states_of(steps, *source)?, marks.len())
+            mark_room(alloc, states_of(steps, *source)?, marks.len(), lists)
         }
-        _ => mark_room(alloc, 0, 0),
+        _ => mark_room(alloc, 0, 0, lists),
     }
 }
 
-/// Room for the marks of each part.
+/// For each part, over so many symbols, room for its marks or its operands' lists.
 pub(crate) fn mark_rooms(
     alloc: Global,
+    symbols: usize,
     steps: &[Step],
     plans: &[Plan],
 ) -> Result<Vec<MarkRoom>, Memory>
@@ -199,7 +238,8 @@ pub(crate) fn mark_rooms(
 {
     let mut rooms = Vec::with_capacity(alloc, plans.len())?;
     for plan in plans {
-        rooms.push(marks_for(alloc, steps, plan)?)?;
+        let lists = lists_for(alloc, symbols, steps, plan)?;
+        rooms.push(marks_for(alloc, steps, plan, lists)?)?;
     }
     Ok(rooms)
 }

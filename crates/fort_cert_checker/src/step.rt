@@ -29,8 +29,9 @@ use fort_check_steps::{
 use fort_context_closure::{NormalBits, RelationBits};
 use fort_formulas::Core;
 use fort_infinity::{Count, Many};
-use fort_rrn_algebra::{Both, Op};
+use fort_rrn_algebra::{Both, Op, ProductLists};
 use fort_terms::{System, Term};
+use std::alloc::AllocError;
 
 /// Holds the targets of a relation.
 fn check_relation(
@@ -115,6 +116,7 @@ fn check_product(
     past: &Past<'_>,
     targets: &[u32],
     room: &mut PartRoom,
+    lists: &mut ProductLists,
 ) -> Result<(), Failure>
     requires answers { (a b : answers.Answer) × IsAnswerAt past.now first.now.source a
         × IsAnswerAt past.now second.now.source b × AreJoined past.now.signature.now columns a
@@ -126,15 +128,15 @@ fn check_product(
         columns a first.now.places.items b second.now.places.items) targets.now room.new result }
     ensures room { HasRoom 3 targets.now room.new }
 {
-    let one = past.answer(first.source);
-    let other = past.answer(second.source);
-    let rule = Both::new(
-        op,
-        factor(&one, &first.places),
-        factor(&other, &second.places),
-        columns,
-    );
-    check_part(&rule, past.signature, targets, room)
+    let answers = (past.answer(first.source), past.answer(second.source));
+    let one = factor(&answers.0, &first.places);
+    let other = factor(&answers.1, &second.places);
+    let made = lists.make(&one, &other);
+    let plain = Both::new(op, one, other, columns);
+    match made {
+        Ok(()) => check_part(&plain.listed(lists), past.signature, targets, room),
+        Err(AllocError) => check_part(&plain, past.signature, targets, room),
+    }
 }
 
 /// Holds the targets of a projection.
@@ -225,7 +227,8 @@ pub(crate) fn check_table(
         Work::Term => check_own_term(system, core, targets, room),
         Work::Product(op, first, second) => {
             let columns = plan.columns.len();
-            check_product(*op, columns, first, second, past, targets, room)
+            let lists = &mut marks.lists;
+            check_product(*op, columns, first, second, past, targets, room, lists)
         }
         Work::Projection(source, column) => {
             check_projection(past, *source, *column, targets, room, marks)

@@ -17,13 +17,16 @@ use crate::entry_list::EntryList;
 use crate::failure::{Failure, Reason, failed};
 use crate::table::PartTable;
 use fort_lockstep::Table;
+use fort_rrn_algebra::ProductLists;
 use fort_steps::Count;
 
-/// What the marks of a part are checked in: the pure states, and for each whether its mark holds by what was seen.
+/// What a part is checked in beside its own table: the pure states of an operand, for each whether its mark holds by what was seen, and
+/// the lists of a product's operands.
 #[derive(Drop)]
 pub struct MarkRoom {
     pub states: Vec<u32>,
     pub holds: Vec<bool>,
+    pub lists: ProductLists,
 }
 
 /// Puts the states in which this column alone is present, ascending.

@@ -10,6 +10,7 @@ ghost use Rattle.fort_explore.specs.TestLabels.{pair_step, is_constant as is_con
 use super::*;
 use fort_explore::{LocalRule, Rows};
 use fort_lockstep::{Entries, Row, Table};
+use fort_rrn_algebra::ProductLists;
 use fort_steps::{ClosureEntry, Count, Reason as Why, Which};
 use fort_terms::{AddFault, Memory, Side, Sides, Signature, Sym, System};
 use std::alloc::Global;
@@ -221,7 +222,11 @@ fn marks_answer(
 {
     let states = Vec::with_capacity(alloc, table.states() as usize)?;
     let holds = Vec::with_capacity(alloc, marks.len())?;
-    let mut room = MarkRoom { states, holds };
+    let mut room = MarkRoom {
+        states,
+        holds,
+        lists: ProductLists::new(alloc),
+    };
     Ok(check_marks(table, 0, marks, &mut room))
 }
 
