@@ -1,17 +1,17 @@
 //! A table's targets, put into one list.
-ghost use Rattle.std.specs.Prelude.{◌≡◌, ◌≢◌, ℕ, ◌+◌, ◌<◌, ◌≤◌, ◌^◌, ◌++◌, [], take, length, slice_index, slice_index_or, IfOk, IfSome, OnOk, IsTrue, suc};
+ghost use Rattle.std.specs.Prelude.{◌≡◌, ◌≢◌, ℕ, ◌+◌, ◌<◌, ◌≤◌, ◌^◌, ◌++◌, [], ◌∷◌, take, length, slice_index, slice_index_or, IfOk, IfSome, OnOk, IsTrue, suc};
 ghost use Rattle.fort_tables.specs.Tuples.{AreSymbols, IsTupleSymbol, symbol_kids, kid_presence as kid_presence_lem};
 ghost use Rattle.fort_lockstep.specs.Columns.{as_column, column_of as column_of_lem};
 ghost use Rattle.fort_rrn_algebra.specs.Places.{columns_at, AreSpots, AreRanks, AreAlike, AreCounts};
 ghost use Rattle.fort_rrn_algebra.specs.Chains.{AreChains};
 ghost use Rattle.fort_rrn_algebra.specs.Flats.{laid, IsStateFor, AreLaid, IsFlatOf};
 
-use crate::chains::{Chains, fill, presence_count};
+use crate::chains::{Chains, Room, fill, make_room, presence_count};
 use crate::columns::{is_present, kid_count, kid_presence};
 use crate::flat::{FlatTargets, Listing, Spots, TableSize};
 use fort_lockstep::{Table, TupleSym};
 use fort_terms::{Memory, Sym};
-use std::alloc::Global;
+use std::alloc::{AllocError, Global};
 
 /// So many tuple symbols are numbered at most.
 const MOST_NUMBERS: usize = 4194304;
@@ -89,15 +89,28 @@ fn put_alike<T: Table>(body: &T, counts: &[u32], alike: &mut Vec<u32>) -> Result
 
 impl Spots {
     /// Makes these the ranks of a table's states.
-    fn make<T: Table>(&mut self, body: &T, counts: &mut Vec<u32>) -> Result<(), Memory>
+    fn make<T: Table>(&mut self, body: &T, counts: &mut Vec<u32>, room: Room) -> Result<(), Memory>
         ensures { OnOk result (AreSpots (T.table body.now).presences self.new.ranks.items
             self.new.alike.items) }
     {
-        fill(counts, 0, presence_count(body))?;
-        self.ranks.clear();
-        self.alike.clear();
+        fill(counts, 0, presence_count(body), room)?;
+        make_room(&mut self.ranks, body.states() as usize, room)?;
+        make_room(&mut self.alike, body.states() as usize, room)?;
         put_ranks(body, counts.as_mut_slice(), &mut self.ranks)?;
         put_alike(body, counts.as_slice(), &mut self.alike)
+    }
+}
+
+fn put(targets: &mut Vec<u32>, target: u32, room: Room) -> Result<(), Memory>
+    ensures { OnOk result (targets.new.items ≡ targets.old.items ++ target ∷ []) }
+{
+    if targets.len() < targets.capacity() {
+        targets.push_reserved(target);
+        return Ok(());
+    }
+    match room {
+        Room::Given => Err(AllocError),
+        Room::Growing => Ok(targets.push(target)?),
     }
 }
 
@@ -129,7 +142,7 @@ fn lay<T: Table>(
         let mut next = chosen;
         next[j] = q;
         if rest == 1 {
-            targets.push(body.target(symbol, &next[..j + 1]))?;
+            put(targets, body.target(symbol, &next[..j + 1]), chains.room)?;
         } else {
             lay(body, chains, symbol, next, j + 1, rest - 1, targets)?;
         }
@@ -164,7 +177,7 @@ impl Listing {
         }
         let count = kid_count(body.signature(), &symbol);
         if count == 0 {
-            self.targets.push(body.target(&symbol, &[]))?;
+            put(&mut self.targets, body.target(&symbol, &[]), chains.room)?;
             return Ok(());
         }
         lay(body, chains, &symbol, [0; 8], 0, count, &mut self.targets)
@@ -184,7 +197,7 @@ impl Listing {
         ensures { OnOk result (AreLaid (T.table body.now) base count self.new.starts.items
             self.new.targets.items) }
     {
-        self.starts.clear();
+        make_room(&mut self.starts, count, chains.room)?;
         self.targets.clear();
         for number in 0..count {
             self.add(body, chains, base, number)?;
@@ -194,7 +207,7 @@ impl Listing {
 }
 
 impl FlatTargets {
-    /// No list, and no room for one.
+    /// No list, which takes its room as it is made.
     pub(crate) fn new(alloc: Global) -> FlatTargets {
         FlatTargets {
             base: 0,
@@ -208,13 +221,15 @@ impl FlatTargets {
             },
             counts: Vec::new(alloc),
             chains: Chains {
+                room: Room::Growing,
                 firsts: Vec::new(alloc),
                 nexts: Vec::new(alloc),
             },
         }
     }
 
-    /// No list, and the room for that of a table of this size over so many symbols, where its tuple symbols have few numbers.
+    /// No list, and the room for that of a table of this size over so many symbols, where its tuple symbols have few numbers. It takes no
+    /// more as it is made.
     pub(crate) fn with_room(
         alloc: Global,
         symbols: usize,
@@ -222,7 +237,9 @@ impl FlatTargets {
     ) -> Result<FlatTargets, Memory> {
         let columns = size.columns.min(16);
         let Some(numbers) = number_count(symbols.saturating_add(1), columns) else {
-            return Ok(FlatTargets::new(alloc));
+            let mut list = FlatTargets::new(alloc);
+            list.chains.room = Room::Given;
+            return Ok(list);
         };
         Ok(FlatTargets {
             base: 0,
@@ -236,21 +253,22 @@ impl FlatTargets {
             },
             counts: Vec::with_capacity(alloc, 1 << columns)?,
             chains: Chains {
+                room: Room::Given,
                 firsts: Vec::with_capacity(alloc, 1 << columns)?,
                 nexts: Vec::with_capacity(alloc, size.states)?,
             },
         })
     }
 
-    /// Makes this the list of a table's targets, where its tuple symbols have few numbers; whether they have. It takes memory only where
-    /// there is less room.
+    /// Makes this the list of a table's targets, where its tuple symbols have few numbers; whether they have. Too little room that was
+    /// given is want of memory.
     pub(crate) fn make<T: Table>(&mut self, body: &T) -> Result<bool, Memory>
         ensures { IfOk result (λ few. IsTrue few → IsFlatOf (T.table body.now) self.new) }
     {
         self.base = body.signature().len() + 1;
         match number_count(self.base, body.columns()) {
             Some(count) => {
-                self.spots.make(body, &mut self.counts)?;
+                self.spots.make(body, &mut self.counts, self.chains.room)?;
                 self.chains.make(body)?;
                 self.listing.make(body, &self.chains, self.base, count)?;
                 Ok(true)

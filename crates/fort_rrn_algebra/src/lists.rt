@@ -31,7 +31,7 @@ fn make<T: Table>(list: &mut FlatTargets, operand: &Operand<'_, T>) -> Result<bo
 }
 
 impl ProductLists {
-    /// No lists, and no room for any.
+    /// No lists, which take their room as they are made.
     pub fn new(alloc: Global) -> ProductLists {
         ProductLists {
             has_first: false,
@@ -41,7 +41,7 @@ impl ProductLists {
         }
     }
 
-    /// No lists, and the room for those of two tables of these sizes over so many symbols.
+    /// No lists, and the room for those of two tables of these sizes over so many symbols. They take no more as they are made.
     pub fn with_room(
         alloc: Global,
         symbols: usize,
@@ -56,7 +56,7 @@ impl ProductLists {
         })
     }
 
-    /// Makes these the lists of two operands. A list takes four bytes for each entry, and memory is taken only where there is less room.
+    /// Makes these the lists of two operands, four bytes for each entry. Too little room that was given is want of memory.
     pub fn make<T: Table>(
         &mut self,
         first: &Operand<'_, T>,
