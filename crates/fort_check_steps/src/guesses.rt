@@ -5,8 +5,11 @@ use fort_lockstep::TupleSym;
 use fort_terms::{Memory, Signature, Sym};
 use std::alloc::Global;
 
-/// For how many tuple symbols, times two, a run can be noted.
+/// How many runs can be noted.
 const MOST_NOTES: usize = 65_536;
+
+/// One more than the greatest presence.
+const MOST_PRESENCES: usize = 65_536;
 
 /// How many digits a column can have: absent or a constant, and another symbol.
 #[derive(Clone, Copy)]
@@ -88,7 +91,8 @@ pub(crate) struct Guesses {
     bases: Bases,
     /// For each stage its first run, or the first of a later one.
     stage_runs: Vec<usize>,
-    /// For tuple symbols with two children or more, how many runs of its stage come before the latest run of each.
+    /// For tuple symbols with two children or more, how many runs of its stage come before the latest run of each: one note for runs whose
+    /// first child has the newest state's presence, one for others.
     notes: Vec<u32>,
     /// For each state, how many before it have its presence.
     ranks: Vec<u32>,
@@ -96,7 +100,7 @@ pub(crate) struct Guesses {
     counts: Vec<u32>,
 }
 
-/// As many elements as there is room for, up to a length.
+/// Appends zeros up to this length, as far as there is room.
 fn fill(values: &mut Vec<u32>, len: usize) {
     'values: while values.len() < len && values.len() < values.capacity() {
         values.push_reserved(0);
@@ -146,7 +150,7 @@ impl Guesses {
             stage_runs: Vec::with_capacity(alloc, room)?,
             notes: Vec::with_capacity(alloc, room.min(MOST_NOTES))?,
             ranks: Vec::with_capacity(alloc, room)?,
-            counts: Vec::with_capacity(alloc, room.min(MOST_NOTES))?,
+            counts: Vec::with_capacity(alloc, room.min(MOST_PRESENCES))?,
         })
     }
 
@@ -204,8 +208,11 @@ impl Guesses {
             .unwrap_or(usize::MAX)
     }
 
-    /// How many entries of a run come before that of two child states.
-    fn before(&self, presences: &[u16], first: u32, second: u32, stage: u64) -> usize {
+    /// How many entries of a run come before that of these child states, where they are two.
+    fn before(&self, presences: &[u16], kids: &[u32], stage: u64) -> usize {
+        let &[first, second] = kids else {
+            return 0;
+        };
         if u64::from(first).wrapping_add(1) < stage {
             return value_at(&self.ranks, first as usize) as usize;
         }
@@ -217,7 +224,8 @@ impl Guesses {
         }
     }
 
-    /// Right for up to one child, where the signature has its constants first, and mostly right for two.
+    /// Where the signature has its constants first and no symbol more than one argument, this is right; else it mostly is, for up to two
+    /// children. With more of them the first entry of a run is guessed.
     pub(crate) fn guess(
         &self,
         presences: &[u16],
@@ -231,15 +239,15 @@ impl Guesses {
             return Guess { run, before: 0 };
         };
         let first = self.stage_run(stage);
-        let Some(other) = kids.get(1) else {
+        if kids.len() == 1 {
             let presence = presence_of(presences, u64::from(*kid));
             let run = first.wrapping_add(self.bases.number_among(presence, sym));
             return Guess { run, before: 0 };
-        };
+        }
         let index = self.index(presences, sym, *kid, stage);
         Guess {
             run: first.wrapping_add(value_at(&self.notes, index) as usize),
-            before: self.before(presences, *kid, *other, stage),
+            before: self.before(presences, kids, stage),
         }
     }
 

@@ -207,6 +207,7 @@ fn place_in_run(list: &EntryList, run: usize, sym: &TupleSym, kids: &[u32]) -> u
     unreachable!()
 }
 
+/// As `==` does, which takes a call for these few states.
 fn are_same(first: &[u32], second: &[u32]) -> bool
     ensures { IsTrue result → first.now ≡ second.now }
 {

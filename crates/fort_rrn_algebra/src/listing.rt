@@ -241,6 +241,8 @@ impl FlatTargets {
             list.chains.room = Room::Given;
             return Ok(list);
         };
+        // Where there is a term, a table has an entry for each tuple symbol but the one whose columns are all absent.
+        let starts = numbers.min(size.entries.saturating_add(1));
         Ok(FlatTargets {
             base: 0,
             spots: Spots {
@@ -248,7 +250,7 @@ impl FlatTargets {
                 alike: Vec::with_capacity(alloc, size.states)?,
             },
             listing: Listing {
-                starts: Vec::with_capacity(alloc, numbers)?,
+                starts: Vec::with_capacity(alloc, starts)?,
                 targets: Vec::with_capacity(alloc, size.entries)?,
             },
             counts: Vec::with_capacity(alloc, 1 << columns)?,

@@ -56,7 +56,7 @@ impl ProductLists {
         })
     }
 
-    /// Makes these the lists of two operands, four bytes for each entry. Too little room that was given is want of memory.
+    /// Makes these the lists of two operands: four bytes for each entry, and eight for each tuple symbol. Too little room that was given is want of memory.
     pub fn make<T: Table>(
         &mut self,
         first: &Operand<'_, T>,
