@@ -312,9 +312,9 @@ fn states_of_entries<T: Table>(alloc: Global, table: &T) -> Result<Vec<u32>, Mem
     Ok(states)
 }
 
-#[test]
-fn look_ups_in_runs(rt: HostRuntime) -> Result<(), Fail> {
-    let mut signature = Signature::empty(rt.alloc());
+/// Whether each entry of a table over a symbol of two arguments has its target.
+fn finds_targets(alloc: Global) -> Result<bool, Fail> {
+    let mut signature = Signature::empty(alloc);
     signature.add(b"a", 0)?;
     signature.add(b"g", 2)?;
     let targets = [
@@ -322,9 +322,18 @@ fn look_ups_in_runs(rt: HostRuntime) -> Result<(), Fail> {
         7, 8, 7, 7, 7, 7, 7, 7, 8, 7, 8, 8, 8, 8, 8,
     ];
     let rule = AtMost(&signature);
-    let mut room = PartRoom::new(rt.alloc(), 4, &targets)?;
-    assert!(rt; check_part(&rule, &signature, &targets, &mut room) == Ok(()));
-    let table = PartTable::new(&signature, 2, &targets, &room, 0);
-    assert!(rt; states_of_entries(rt.alloc(), &table)?.as_slice() == targets.as_slice());
+    let mut room = PartRoom::new(alloc, 4, &targets)?;
+    match check_part(&rule, &signature, &targets, &mut room) {
+        Ok(()) => {
+            let table = PartTable::new(&signature, 2, &targets, &room, 0);
+            Ok(states_of_entries(alloc, &table)?.as_slice() == targets.as_slice())
+        }
+        Err(_) => Ok(false),
+    }
+}
+
+#[test]
+fn look_ups_in_runs(rt: HostRuntime) -> Result<(), Fail> {
+    assert!(rt; finds_targets(rt.alloc())?);
     Ok(())
 }
