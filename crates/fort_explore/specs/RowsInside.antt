@@ -5,7 +5,7 @@ use Rattle.fort_explore.specs.RowsView.{Labels}
 use Rattle.fort_explore.specs.declared.rows.Rows.TheInside.{Inside}
 
 abbrev pub labels_in : Inside → Labels
-labels_in a = record { width = a.width; room = a.room; labels = pieces a.width a.count a.words.items }
+labels_in a = record { width = a.width; room = a.room; space = vec_capacity a.words; labels = pieces a.width a.count a.words.items }
 
 pub record AreRows (a : Inside) : Type 0 where
   pub some : 0 < a.width

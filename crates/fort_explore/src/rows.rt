@@ -32,6 +32,7 @@ impl Rows {
         requires { 0 < width }
         ensures width { IfOk result (λ r. r.width ≡ width) }
         ensures room { IfOk result (λ r. r.room ≡ room) }
+        ensures space { IfOk result (λ r. room * width ≤ r.space) }
         ensures labels { IfOk result (λ r. r.labels ≡ []) }
     {
         match room.checked_mul(width) {
@@ -52,6 +53,7 @@ impl Rows {
         ensures labels { self.new.labels ≡ self.old.labels ++ label.now ∷ [] }
         ensures width { self.new.width ≡ self.old.width }
         ensures room { self.new.room ≡ self.old.room }
+        ensures space { self.old.space ≤ self.new.space }
     {
         match self.words.extend_from_slice(label) {
             Ok(()) => self.count += 1,
@@ -82,6 +84,20 @@ impl Rows {
     {
         self.words.clear();
         self.count = 0;
+    }
+
+    /// Takes all labels out; those to come have this width, and there is room for as many as the words suffice for.
+    pub fn reset(&mut self, width: usize)
+        requires { 0 < width }
+        ensures labels { self.new.labels ≡ [] }
+        ensures width { self.new.width ≡ width }
+        ensures room { (n : ℕ) → n * width ≤ self.old.space → n ≤ self.new.room }
+        ensures space { self.new.space ≡ self.old.space }
+    {
+        self.words.clear();
+        self.count = 0;
+        self.width = width;
+        self.room = self.words.capacity() / width;
     }
 
     /// Makes room for one more.

@@ -4,7 +4,7 @@ use Rattle.fort_explore.specs.RowsView.{Labels}
 use Rattle.fort_lockstep.proofs.PieceLaws.{length-pieces, piece_within, get_or-pieces}
 use Rattle.fort_explore.proofs.rows.Rows.label.Goals as goal
 
-there : (q w n : ℕ) (xs : List ℕ) (r : Labels) {room : ℕ} → record { width = w; room = room; labels = pieces w n xs } ≡ r → q < length r.labels → q < n
+there : (q w n : ℕ) (xs : List ℕ) (r : Labels) {room space : ℕ} → record { width = w; room = room; space = space; labels = pieces w n xs } ≡ r → q < length r.labels → q < n
 there q w n xs r e h = let l = ap (λ (x : Labels). length x.labels) e in omega (arith, length-pieces w n xs)
 
 pub overflow_mul-from : goal.overflow_mul-from
