@@ -1,7 +1,7 @@
 //! Which words are numbers, and which are one that is given.
 ghost use Rattle.std.specs.Prelude.{◌≡◌, ◌↔◌, ◌+◌, ◌*◌, ◌-◌, ◌<◌, ◌≤◌, ◌^◌, IsTrue, IfSome, IfNone};
 ghost use Rattle.std.specs.Int.{IsInRange};
-ghost use Rattle.std.specs.Str.Parse.{AllDigits, digits_value_after};
+ghost use Rattle.std.specs.Str.Parse.{AllDigits, digits_value};
 ghost use Rattle.fort_certificate_grammar.specs.CertificateForms.{IsNumberWord};
 ghost use Rattle.fort_certificate_grammar.specs.CertificateFaults.{IsNoNumber};
 
@@ -21,6 +21,7 @@ fn digit_of(byte: u8) -> Option<u32>
 fn with_digit(value: u32, digit: u32) -> Option<u32>
     requires { digit < 10 }
     ensures some { IfSome result (λ n. n ≡ value * 10 + digit) }
+    ensures small { IfSome result (λ n. n < 2 ^ 32) }
     ensures none { IfNone result (2 ^ 32 ≤ value * 10 + digit) }
 {
     match value.checked_mul(10) {
@@ -29,24 +30,20 @@ fn with_digit(value: u32, digit: u32) -> Option<u32>
     }
 }
 
-/// The number that digits write behind those of another.
-fn value_after(value: u32, digits: &[u8]) -> Option<u32>
+/// The number that digits write; that of no digits is 0.
+fn value_of(digits: &[u8]) -> Option<u32>
     ensures some { IfSome result (λ n. AllDigits 10 digits.now
-        × (digits_value_after 10 value digits.now ≡ n)) }
+        × (digits_value 10 digits.now ≡ n)) }
     ensures small { IfSome result (λ n. n < 2 ^ 32) }
     ensures none { IfNone result (AllDigits 10 digits.now
-        → digits_value_after 10 value digits.now < 2 ^ 32 → ⊥) }
+        → digits_value 10 digits.now < 2 ^ 32 → ⊥) }
 {
-    match digits.split_first() {
-        None => Some(value),
-        Some((byte, others)) => match digit_of(*byte) {
-            None => None,
-            Some(digit) => match with_digit(value, digit) {
-                None => None,
-                Some(more) => value_after(more, others),
-            },
-        },
+    let mut value = 0u32;
+    for byte in digits {
+        let digit = digit_of(*byte)?;
+        value = with_digit(value, digit)?;
     }
+    Some(value)
 }
 
 /// The number that a word is: digits, with no zero in front of others.
@@ -60,7 +57,7 @@ pub(crate) fn number_of(word: &[u8]) -> Option<u32>
     if word.len() > 1 && word[0] == b'0' {
         return None;
     }
-    value_after(0, word)
+    value_of(word)
 }
 
 pub(crate) fn is_same(word: &[u8], text: &[u8]) -> bool

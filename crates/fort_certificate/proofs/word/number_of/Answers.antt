@@ -18,7 +18,7 @@ returns-clause-some c =
       | else-word-gt1-via-then-word-gt1+else-word-eq48 w ↦ (λ e. absurd (w.if-word-eq48.false e))
       | else-word-gt1-via-else-word-gt1 w ↦ (λ e. omega (arith, w.if-word-gt1.false, some))
     ] in
-    read_some word c.value_after.result some lead c.value_after.ensures.some c.value_after.ensures.small
+    read_some word c.value_of.result some lead c.value_of.ensures.some c.value_of.ensures.small
 
 pub returns-clause-none : goal.returns-clause-none
-returns-clause-none c = read_none c.args.word.now c.value_after.result c.value_after.ensures.none
+returns-clause-none c = read_none c.args.word.now c.value_of.result c.value_of.ensures.none
