@@ -31,6 +31,7 @@ use Rattle.fort_in_order_laws.proofs.CertifiedTruth.{certified_truth}
 use Rattle.fort_formulas.specs.CoreView.{as_core}
 use Rattle.fort_formulas.specs.declared.core_formula.Core as forms
 use Rattle.fort_check_steps.specs.declared.room.PartRoom.{PartRoom}
+use Rattle.fort_check_steps.specs.declared.room.LabelRoom.{LabelRoom}
 use Rattle.fort_check_steps.specs.declared.marks.MarkRoom.{MarkRoom}
 use Rattle.fort_cert_checker.specs.declared.plan.Plan.{Plan}
 use Rattle.fort_cert_checker.specs.declared.making.ClosurePlan.{ClosurePlan}
@@ -141,8 +142,8 @@ module _ (system : PatternSystem) (f : Core) (c : Certificate) (a : Checker) (h 
   }
 
   -- with other rooms
-  abbrev pub with_rooms : List (Option ClosurePlan) → List PartRoom → List MarkRoom → Checker
-  with_rooms closures rooms marks = record {
+  abbrev pub with_rooms : List (Option ClosurePlan) → List PartRoom → LabelRoom → List MarkRoom → Checker
+  with_rooms closures rooms scratch marks = record {
     system = a.system;
     core = a.core;
     certificate = a.certificate;
@@ -151,6 +152,7 @@ module _ (system : PatternSystem) (f : Core) (c : Certificate) (a : Checker) (h 
     closures = with_items a.closures closures;
     plans = a.plans;
     rooms = with_items a.rooms rooms;
+    scratch = scratch;
     marks = with_items a.marks marks;
   }
 
@@ -167,12 +169,12 @@ module _ (system : PatternSystem) (f : Core) (c : Certificate) (a : Checker) (h 
 
     -- Result
     pub loop_given : (closures : List (Option ClosurePlan)) (rooms : List PartRoom) (marks : List MarkRoom) (n : ℕ) (made : Made) → closures ≡ a.closures.items → rooms ≡ a.rooms.items → marks ≡ a.marks.items
-        → IsCheckAt system f c a n made → IsLoopAt a.system.now f (map as_core cores) c plans closures rooms marks n made
+        → IsCheckAt system f c a n made → IsLoopAt a.system.now f (map as_core cores) c plans closures rooms a.scratch marks n made
     loop_given closures rooms marks n made closures_are rooms_are marks_are at =
-        to_given (λ s ps ws. IsLoopAt s f ps c ws closures rooms marks n made)
-        (subst (λ ms. IsLoopAt system f (parts_in a) c a.plans.items closures rooms ms n made) (sym marks_are)
-        (subst (λ rs. IsLoopAt system f (parts_in a) c a.plans.items closures rs a.marks.items n made) (sym rooms_are)
-        (subst (λ cs. IsLoopAt system f (parts_in a) c a.plans.items cs a.rooms.items a.marks.items n made) (sym closures_are) at.loop)))
+        to_given (λ s ps ws. IsLoopAt s f ps c ws closures rooms a.scratch marks n made)
+        (subst (λ ms. IsLoopAt system f (parts_in a) c a.plans.items closures rooms a.scratch ms n made) (sym marks_are)
+        (subst (λ rs. IsLoopAt system f (parts_in a) c a.plans.items closures rs a.scratch a.marks.items n made) (sym rooms_are)
+        (subst (λ cs. IsLoopAt system f (parts_in a) c a.plans.items cs a.rooms.items a.scratch a.marks.items n made) (sym closures_are) at.loop)))
 
     -- Result
     pub due_given : (n : ℕ) → IsStepDue system (parts_in a) c n → IsStepDue a.system.now (map as_core cores) c n
@@ -182,7 +184,7 @@ module _ (system : PatternSystem) (f : Core) (c : Certificate) (a : Checker) (h 
     pub failing_given : (made : Made) (s : certificates.Step) (place : ℕ) (reason : Reason) → IsFailing a.system.now (map as_core cores) made s place reason → IsFailing system (parts_in a) made s place reason
     failing_given made s place reason k = from_given (λ t ps ws. IsFailing t ps made s place reason) k
 
-    module _ (closures : List (Option ClosurePlan)) (rooms : List PartRoom) (marks : List MarkRoom) (closures_in : (with_items a.closures closures).items ≡ closures)
+    module _ (closures : List (Option ClosurePlan)) (rooms : List PartRoom) (scratch : LabelRoom) (marks : List MarkRoom) (closures_in : (with_items a.closures closures).items ≡ closures)
         (rooms_in : (with_items a.rooms rooms).items ≡ rooms) (marks_in : (with_items a.marks marks).items ≡ marks) where
       put_in : (P : List (Option ClosurePlan) → List PartRoom → List MarkRoom → Type 0) → P closures rooms marks
           → P (with_items a.closures closures).items (with_items a.rooms rooms).items (with_items a.marks marks).items
@@ -191,7 +193,7 @@ module _ (system : PatternSystem) (f : Core) (c : Certificate) (a : Checker) (h 
           (subst (λ rs. P (with_items a.closures closures).items rs marks) (sym rooms_in) (subst (λ cs. P cs rooms marks) (sym closures_in) x))
 
       -- Result
-      pub ready_after : IsReady a.system.now f (map as_core cores) c.steps plans closures rooms marks → IsCheckerOf system f c (with_rooms closures rooms marks)
+      pub ready_after : IsReady a.system.now f (map as_core cores) c.steps plans closures rooms scratch marks → IsCheckerOf system f c (with_rooms closures rooms scratch marks)
       ready_after r = record {
         system_is = h.system_is;
         certificate_is = h.certificate_is;
@@ -199,16 +201,16 @@ module _ (system : PatternSystem) (f : Core) (c : Certificate) (a : Checker) (h 
         closed = h.closed;
         forms = h.forms;
         dues = h.dues;
-        ready = put_in (λ cs rs ms. IsReady system f (parts_in a) c.steps a.plans.items cs rs ms)
-            (from_given (λ s ps ws. IsReady s f ps c.steps ws closures rooms marks) r);
+        ready = put_in (λ cs rs ms. IsReady system f (parts_in a) c.steps a.plans.items cs rs scratch ms)
+            (from_given (λ s ps ws. IsReady s f ps c.steps ws closures rooms scratch marks) r);
       }
 
       -- Result
-      pub loop_after : (n : ℕ) (made : Made) → IsLoopAt a.system.now f (map as_core cores) c plans closures rooms marks n made → IsCheckAt system f c (with_rooms closures rooms marks) n made
+      pub loop_after : (n : ℕ) (made : Made) → IsLoopAt a.system.now f (map as_core cores) c plans closures rooms scratch marks n made → IsCheckAt system f c (with_rooms closures rooms scratch marks) n made
       loop_after n made l = record {
         checker = ready_after l.ready;
-        loop = put_in (λ cs rs ms. IsLoopAt system f (parts_in a) c a.plans.items cs rs ms n made)
-            (from_given (λ s ps ws. IsLoopAt s f ps c ws closures rooms marks n made) l);
+        loop = put_in (λ cs rs ms. IsLoopAt system f (parts_in a) c a.plans.items cs rs scratch ms n made)
+            (from_given (λ s ps ws. IsLoopAt s f ps c ws closures rooms scratch marks n made) l);
       }
 
   module _ (n : ℕ) (made : Made) (at : IsCheckAt system f c a n made) where

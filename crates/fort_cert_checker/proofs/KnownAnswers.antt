@@ -8,7 +8,7 @@ use Rattle.fort_theory.specs.Patterns.{PatternSystem}
 use Rattle.fort_logic.specs.Cores as core
 use Rattle.fort_logic.specs.Cores.{Core}
 use Rattle.fort_tables.specs.Entries.{stage}
-use Rattle.fort_tables.specs.Tables.{Table}
+use Rattle.fort_tables.specs.Tables.{Table, listed_table}
 use Rattle.fort_tables.specs.Labels.{first_word}
 use Rattle.fort_parts.specs.PartColumns.{columns_of}
 use Rattle.fort_parts.specs.PartAnswers.{Answer, OfValue, OfTable, IsTableOver, FitsColumns}
@@ -20,6 +20,7 @@ use Rattle.fort_in_order_laws.proofs.EntryWalks.{right_few}
 use Rattle.fort_in_order_laws.proofs.RightParts.{some_columns, none_columns}
 use Rattle.fort_check_steps.specs.declared.room.PartRoom.{PartRoom}
 use Rattle.fort_check_steps.specs.Room.{most_states}
+use Rattle.fort_check_steps.proofs.TableLaws.{held_part}
 use Rattle.fort_cert_checker.specs.declared.plan.Source.{Source}
 use Rattle.fort_cert_checker.specs.declared.past.Past.{Past}
 use Rattle.fort_cert_checker.specs.Sources.{IsSourceOf, turned}
@@ -37,8 +38,8 @@ turned_presences (suc n) t = turned_presences n t
 -- a held table is one over its columns, with as many states as the targets make
 pub held_over : (sig : Signature) (columns : List ℕ) (targets : List ℕ) (room : PartRoom) (table : Table) → 0 < length columns → IsHeld sig (length columns) targets room table → IsTableOver sig columns table
 held_over sig columns targets room table some h =
-    let by = part_by_labels h.rule h.accepting targets room.entries.entries room.rows.labels h.holds.lawful h.holds.right in
-    subst (IsTableOver sig columns) h.is (record {
+    let by = part_by_labels h.rule h.accepting targets room.entries.entries h.holds.labels h.holds.lawful h.holds.right in
+    subst (IsTableOver sig columns) (ap listed_table (held_part h.rule h.accepting targets room h.holds) ∙ h.is) (record {
       some = some;
       signature = by.signature ∙ h.signature;
       columns_are = by.columns_are ∙ h.columns_are;
@@ -49,8 +50,8 @@ held_over sig columns targets room table some h =
 pub held_states : (sig : Signature) (columns : ℕ) (targets : List ℕ) (room : PartRoom) (table : Table) → IsHeld sig columns targets room table → length table.presences ≡ most_states targets
 held_states sig columns targets room table h =
     let r = h.holds.right in
-    let own : length (map first_word room.rows.labels) ≡ length table.presences = ap (λ (t : Table). length t.presences) h.is in
-    omega (arith, own, length-map room.rows.labels first_word, right_few h.rule targets (length targets) room.entries.entries room.rows.labels r.right, r.right.states, ap stage (take-length targets))
+    let own : length (map first_word h.holds.labels) ≡ length table.presences = ap length (sym h.holds.presences) ∙ ap (λ (t : Table). length t.presences) h.is in
+    omega (arith, own, length-map h.holds.labels first_word, right_few h.rule targets (length targets) room.entries.entries h.holds.labels r.right, r.right.states, ap stage (take-length targets))
 
 module _ (system : PatternSystem) (parts : List Core) (past : Past) (k : ℕ) (made : Made) (known : KnowsPast system parts past k made) where
   -- what is known of an operand

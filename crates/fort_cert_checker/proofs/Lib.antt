@@ -11,7 +11,6 @@ pub mod LoopLaws
 pub mod LocalRules
 pub mod PartLocals
 pub mod PastLaws
-pub mod RoomLaws
 pub mod KnownAnswers
 pub mod TableArms
 pub mod MakingLaws

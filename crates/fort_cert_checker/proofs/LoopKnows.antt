@@ -17,13 +17,14 @@ use Rattle.fort_in_order.specs.Dues.{DueStep, OfClosure, OfPart, OfCounts, OfVal
 use Rattle.fort_in_order.specs.Made.{Made}
 use Rattle.fort_in_order.specs.Checked.{IsUpTo}
 use Rattle.fort_check_steps.specs.declared.room.PartRoom.{PartRoom}
+use Rattle.fort_check_steps.specs.declared.room.LabelRoom.{LabelRoom}
 use Rattle.fort_check_steps.specs.declared.marks.MarkRoom.{MarkRoom}
 use Rattle.fort_cert_checker.specs.declared.plan.Plan.{Plan}
 use Rattle.fort_cert_checker.specs.declared.past.Past.{Past}
 use Rattle.fort_cert_checker.specs.Abouts.{IsOnlyAbout}
 use Rattle.fort_cert_checker.specs.Plans.{IsFitPart, IsPlanOf, IsWidthFor}
 use Rattle.fort_cert_checker.specs.Pasts.{steps_of, IsElement, IsClosureKnown, IsTableKnown, IsValueKnown, KnowsPast, KnowsCounts, IsPartDue, IsMarkRoomFor}
-use Rattle.fort_cert_checker.specs.Makings.{IsRoomFor, ArePlansMade}
+use Rattle.fort_cert_checker.specs.Makings.{IsRoomFor, IsScratchFor, ArePlansMade}
 use Rattle.fort_cert_checker.specs.Fronts.{Tells, AreHeld, HasFewTargets, IsOwnDue, part_in}
 use Rattle.fort_cert_checker.proofs.DueKeys.{key, IsDueFor, parts_for}
 use Rattle.fort_cert_checker.proofs.FrontKnows.{table_step, value_step, counts_step, closure_step, only_front}
@@ -166,15 +167,16 @@ module _ (system : PatternSystem) (root : Core) (parts : List Core) (c : Certifi
   own_within (Counts k marks) e plain_due = let h = due_for (length system.rules) parts (OfCounts k) tt (subst (Contains (dues (length system.rules) parts)) (sym e) at_due) in omega (arith, h.1, h.2)
   own_within (Value k value) e plain_due = let h = due_for (length system.rules) parts (OfValue k) tt (subst (Contains (dues (length system.rules) parts)) (sym e) at_due) in omega (arith, h.1, h.2)
 
-  module _ (past : Past) (signature : past.signature.now ≡ system.signature) (steps : steps_of past ≡ c.steps) (plans_are : past.plans.now ≡ plans) (p : Plan) (room : PartRoom) (mark : MarkRoom)
+  module _ (past : Past) (signature : past.signature.now ≡ system.signature) (steps : steps_of past ≡ c.steps) (plans_are : past.plans.now ≡ plans) (p : Plan) (room : PartRoom) (scratch : LabelRoom) (mark : MarkRoom)
       (sized : IsMarkRoomFor c.steps p.work mark) where
     here_sized : IsMarkRoomFor (steps_of past) p.work mark
     here_sized = subst (λ (ss : List Step). IsMarkRoomFor ss p.work mark) (sym steps) sized
 
     pub own_due : (t : Step) → due_of t ≡ d → IsNoClosure (due_of t) → Contains c.steps t → IsOnlyAbout c.steps t → ((j : ℕ) (r : PartRoom) → j < part_in t → IsElement rooms j r → IsElement past.rooms.now j r)
-        → IsElement plans (part_in t) p → IsRoomFor c.steps (part_in t) p room → IsOwnDue system parts past made (get_or parts (part_in t) core.True) p t room mark
-    own_due (Closure w i xs) e plain_due there alone low_rooms at rf = absurd plain_due
-    own_due (Part k targets) e plain_due there alone low_rooms at rf =
+        → IsElement plans (part_in t) p → IsRoomFor c.steps (part_in t) room → IsScratchFor c.steps (part_in t) p scratch
+        → IsOwnDue system parts past made (get_or parts (part_in t) core.True) p t room scratch mark
+    own_due (Closure w i xs) e plain_due there alone low_rooms at rf sf = absurd plain_due
+    own_due (Part k targets) e plain_due there alone low_rooms at rf sf =
         let h = due_for (length system.rules) parts (OfPart k) tt (subst (Contains (dues (length system.rules) parts)) (sym e) at_due) in
         let same : h.0 ≡ k = omega (arith, h.1) in
         let within : k < length parts = omega (arith, h.1, h.2) in
@@ -186,11 +188,13 @@ module _ (system : PatternSystem) (root : Core) (parts : List Core) (c : Certifi
           plain = subst (λ (i : ℕ). is_turned (get_or parts i core.True) ≡ false) same h.4;
           counts = knows_counts k past within own signature steps plans_are low_rooms (omega (arith, key_is));
           few = few k targets there;
-          width = subst (λ (ss : List Step). IsWidthFor ss p.work room.rows.width) (sym steps) rf.width;
-          sized = rf.sized targets alone;
+          width = sf.width;
+          is_width = subst (λ (ss : List Step). IsWidthFor ss p.work sf.width) (sym steps) sf.is_width;
+          sized = rf targets alone;
+          scratch_sized = sf.sized targets alone;
           marks_sized = here_sized;
         }
-    own_due (Counts k marks) e plain_due there alone low_rooms at rf =
+    own_due (Counts k marks) e plain_due there alone low_rooms at rf sf =
         let h = due_for (length system.rules) parts (OfCounts k) tt (subst (Contains (dues (length system.rules) parts)) (sym e) at_due) in
         let same : h.0 ≡ k = omega (arith, h.1) in
         let within : k < length parts = omega (arith, h.1, h.2) in
@@ -204,7 +208,7 @@ module _ (system : PatternSystem) (root : Core) (parts : List Core) (c : Certifi
           only = subst (λ (ss : List Step). IsOnlyAbout ss (Counts k marks)) (sym steps) alone;
           marks_sized = here_sized;
         }
-    own_due (Value k value) e plain_due there alone low_rooms at rf =
+    own_due (Value k value) e plain_due there alone low_rooms at rf sf =
         let h = due_for (length system.rules) parts (OfValue k) tt (subst (Contains (dues (length system.rules) parts)) (sym e) at_due) in
         let same : h.0 ≡ k = omega (arith, h.1) in
         let within : k < length parts = omega (arith, h.1, h.2) in

@@ -21,12 +21,14 @@ use Rattle.fort_steps.specs.declared.step.Step as steps
 use Rattle.fort_steps.specs.declared.step.Step.TheVariants as variants
 use Rattle.fort_steps.specs.StepView.{as_step}
 use Rattle.fort_check_steps.specs.declared.room.PartRoom.{PartRoom}
+use Rattle.fort_check_steps.specs.declared.room.LabelRoom.{LabelRoom}
 use Rattle.fort_check_steps.specs.declared.marks.MarkRoom.{MarkRoom}
 use Rattle.fort_cert_checker.specs.declared.plan.Plan.{Plan}
 use Rattle.fort_cert_checker.specs.declared.making.ClosurePlan.{ClosurePlan}
 use Rattle.fort_cert_checker.specs.Abouts.{IsOnlyAbout}
 use Rattle.fort_cert_checker.specs.Pasts.{IsElement, IsMarkRoomFor}
-use Rattle.fort_cert_checker.specs.Makings.{AreMade, IsClosureFor, IsRoomFor}
+use Rattle.fort_check_steps.specs.Room.{IsAsRoomy}
+use Rattle.fort_cert_checker.specs.Makings.{AreMade, IsClosureFor, IsRoomFor, IsScratchFor}
 use Rattle.fort_cert_checker.specs.Fronts.{IsAtPlace, IsRoomHeld, AreHeld, IsReady, IsLoopAt, IsStepDue, IsOwnDue, IsDueBehind, IsHeldAfter, IsFineStep, part_in}
 use Rattle.fort_cert_checker.proofs.DueKeys.{key}
 use Rattle.fort_cert_checker.proofs.FrontTells.{answer_kept}
@@ -104,6 +106,13 @@ made_again P n xs k x h one = record {
 element_kept : {A : Type 0} (xs : List A) (k j : ℕ) (x y : A) → (j ≡ k → ⊥) → IsElement xs j y → IsElement (set xs k x) j y
 element_kept xs k j x y apart h = (omega (arith, length-set xs k x, h.0), λ d. set_other xs k j x d apart ∙ h.1 d)
 
+scratch_kept : (ss : List Step) (k : ℕ) (p : Plan) (old new : LabelRoom) → IsAsRoomy old new → IsScratchFor ss k p old → IsScratchFor ss k p new
+scratch_kept ss k p old new keep h = record {
+  width = h.width;
+  is_width = h.is_width;
+  sized = λ targets only. let s = h.sized targets only in record { rows = omega (arith, s.rows, keep.rows); out = omega (arith, s.out, keep.out) };
+}
+
 -- the part that a step names
 pub named : (s : steps.Step) (k : ℕ) → ((xs : Vec ℕ Global) × (s ≡ variants.Part k xs)) ⊎ (((xs : Vec Count Global) × (s ≡ variants.Counts k xs)) ⊎ ((b : Bool) × (s ≡ variants.Value k b)))
     → (part_in (as_step s) ≡ k) × IsNoClosure (due_of (as_step s))
@@ -122,8 +131,8 @@ own_key n (Part k targets) plain = omega arith
 own_key n (Counts k marks) plain = omega arith
 own_key n (Value k value) plain = omega arith
 
-module _ (system : PatternSystem) (root : Core) (parts : List Core) (c : Certificate) (plans : List Plan) (closures : List (Option ClosurePlan)) (rooms : List PartRoom) (marks : List MarkRoom) (n : ℕ) (made : Made)
-    (h : IsLoopAt system root parts c plans closures rooms marks n made) (due : IsStepDue system parts c n) (s : Step) (is : get_or c.steps n s ≡ s) where
+module _ (system : PatternSystem) (root : Core) (parts : List Core) (c : Certificate) (plans : List Plan) (closures : List (Option ClosurePlan)) (rooms : List PartRoom) (scratch : LabelRoom) (marks : List MarkRoom) (n : ℕ) (made : Made)
+    (h : IsLoopAt system root parts c plans closures rooms scratch marks n made) (due : IsStepDue system parts c n) (s : Step) (is : get_or c.steps n s ≡ s) where
   due_is : get_or (dues (length system.rules) parts) n (due_of s) ≡ due_of s
   due_is = sym (due.about s (due_of s)) ∙ ap due_of is
 
@@ -181,42 +190,46 @@ module _ (system : PatternSystem) (root : Core) (parts : List Core) (c : Certifi
     mark_low = omega (arith, within, h.ready.marks_made.count)
 
     module _ (p : Plan) (room : PartRoom) (mark : MarkRoom) (plan_at : IsElement plans k p) (room_at : IsElement rooms k room) (mark_at : IsElement marks k mark) where
-      own_room : IsRoomFor c.steps k p room
-      own_room = subst (IsRoomFor c.steps k p) (room_at.1 room) (subst (λ (q : Plan). IsRoomFor c.steps k q (get_or rooms k room)) (plan_at.1 p) (h.ready.rooms_made.each k room within p))
+      own_room : IsRoomFor c.steps k room
+      own_room = subst (IsRoomFor c.steps k) (room_at.1 room) (h.ready.rooms_made.each k room within)
+
+      own_scratch : IsScratchFor c.steps k p scratch
+      own_scratch = subst (λ (q : Plan). IsScratchFor c.steps k q scratch) (plan_at.1 p) (h.ready.scratch_made k p within)
 
       own_mark : IsMarkRoomFor c.steps p.work mark
       own_mark = subst (IsMarkRoomFor c.steps p.work) (mark_at.1 mark) (subst (λ (q : Plan). IsMarkRoomFor c.steps q.work (get_or marks k mark)) (plan_at.1 p) (h.ready.marks_made.each k mark within p))
 
-      pub behind : (front : List PartRoom) (f : Core) → front ≡ take k rooms → f ≡ get_or parts k core.True → IsDueBehind system parts c.steps plans front made f p s room mark
+      pub behind : (front : List PartRoom) (f : Core) → front ≡ take k rooms → f ≡ get_or parts k core.True → IsDueBehind system parts c.steps plans front made f p s room scratch mark
       behind front f front_is f_is = λ past past_is.
           let low : (j : ℕ) (r : PartRoom) → j < part_in s → IsElement rooms j r → IsElement past.rooms.now j r =
           λ j r l e. subst (λ (rs : List PartRoom). IsElement rs j r) (sym (past_is.rooms_are ∙ front_is))
           (omega (arith, l, named_is, length-take-le k rooms (omega (arith, room_low))), λ d. take_at rooms k j d (omega (arith, l, named_is)) ∙ e.1 d) in
-          subst (λ (g : Core). IsOwnDue system parts past made g p s room mark) (ap (λ (i : ℕ). get_or parts i core.True) named_is ∙ sym f_is)
+          subst (λ (g : Core). IsOwnDue system parts past made g p s room scratch mark) (ap (λ (i : ℕ). get_or parts i core.True) named_is ∙ sym f_is)
           (own_due system root parts c plans rooms (take n c.steps) (drop (n + 1) c.steps) s (due_of s) (drop (n + 1) (dues (length system.rules) parts)) made up h.ready.are h.ready.decided h.place.tells h.held
-          h.ready.plans_made h.ready.few past past_is.signature past_is.steps past_is.plans_are p room mark own_mark s refl plain there alone low
-          (subst (λ (i : ℕ). IsElement plans i p) (sym named_is) plan_at) (subst (λ (i : ℕ). IsRoomFor c.steps i p room) (sym named_is) own_room))
+          h.ready.plans_made h.ready.few past past_is.signature past_is.steps past_is.plans_are p room scratch mark own_mark s refl plain there alone low
+          (subst (λ (i : ℕ). IsElement plans i p) (sym named_is) plan_at) (subst (λ (i : ℕ). IsRoomFor c.steps i room) (sym named_is) own_room)
+          (subst (λ (i : ℕ). IsScratchFor c.steps i p scratch) (sym named_is) own_scratch))
 
       -- behind the step
-      module _ (new_room : PartRoom) (new_mark : MarkRoom) (keeps_room : (ss : List Step) (q : Plan) → IsOnlyAbout ss s → IsRoomFor ss (part_in s) q room → IsRoomFor ss (part_in s) q new_room)
-          (keeps_mark : IsMarkRoomFor c.steps p.work new_mark) where
-        pub part_ready : IsReady system root parts c.steps plans closures (set rooms k new_room) (set marks k new_mark)
+      module _ (new_room : PartRoom) (new_scratch : LabelRoom) (new_mark : MarkRoom) (keeps_room : (ss : List Step) → IsOnlyAbout ss s → IsRoomFor ss (part_in s) room → IsRoomFor ss (part_in s) new_room)
+          (keeps_scratch : IsAsRoomy scratch new_scratch) (keeps_mark : IsMarkRoomFor c.steps p.work new_mark) where
+        pub part_ready : IsReady system root parts c.steps plans closures (set rooms k new_room) new_scratch (set marks k new_mark)
         part_ready =
-            let kept : IsRoomFor c.steps k p new_room =
-            subst (λ (i : ℕ). IsRoomFor c.steps i p new_room) named_is (keeps_room c.steps p alone (subst (λ (i : ℕ). IsRoomFor c.steps i p room) (sym named_is) own_room)) in
+            let kept : IsRoomFor c.steps k new_room =
+            subst (λ (i : ℕ). IsRoomFor c.steps i new_room) named_is (keeps_room c.steps alone (subst (λ (i : ℕ). IsRoomFor c.steps i room) (sym named_is) own_room)) in
             record {
               are = h.ready.are;
               decided = h.ready.decided;
               few = h.ready.few;
               plans_made = h.ready.plans_made;
-              rooms_made = made_again (λ j r. (d : Plan) → IsRoomFor c.steps j (get_or plans j d) r) (length parts) rooms k new_room h.ready.rooms_made
-                  (λ d. subst (λ (q : Plan). IsRoomFor c.steps k q new_room) (sym (plan_at.1 d)) kept);
+              rooms_made = made_again (IsRoomFor c.steps) (length parts) rooms k new_room h.ready.rooms_made kept;
+              scratch_made = λ j d l. scratch_kept c.steps j (get_or plans j d) scratch new_scratch keeps_scratch (h.ready.scratch_made j d l);
               marks_made = made_again (λ j r. (d : Plan) → IsMarkRoomFor c.steps (get_or plans j d).work r) (length parts) marks k new_mark h.ready.marks_made
                   (λ d. subst (λ (q : Plan). IsMarkRoomFor c.steps q.work new_mark) (sym (plan_at.1 d)) keeps_mark);
               closures_made = h.ready.closures_made;
             }
 
-        pub part_next : IsFineStep system parts made s new_room → (next : Made) × IsLoopAt system root parts c plans closures (set rooms k new_room) (set marks k new_mark) (n + 1) next
+        pub part_next : IsFineStep system parts made s new_room → (next : Made) × IsLoopAt system root parts c plans closures (set rooms k new_room) new_scratch (set marks k new_mark) (n + 1) next
         part_next fine = (
           fine.next,
           record {
@@ -251,26 +264,27 @@ module _ (system : PatternSystem) (root : Core) (parts : List Core) (c : Certifi
         (subst (IsClosureFor system (get_or (dues (length system.rules) parts) n (OfPart 0))) old_at (h.ready.closures_made.each n old due.due_low))
 
     module _ (new : Option ClosurePlan) (keeps : (d : DueStep) → IsClosureFor system d old → IsClosureFor system d new) where
-      pub closure_ready : IsReady system root parts c.steps plans (set closures n new) rooms marks
+      pub closure_ready : IsReady system root parts c.steps plans (set closures n new) rooms scratch marks
       closure_ready = record {
         are = h.ready.are;
         decided = h.ready.decided;
         few = h.ready.few;
         plans_made = h.ready.plans_made;
         rooms_made = h.ready.rooms_made;
+        scratch_made = h.ready.scratch_made;
         marks_made = h.ready.marks_made;
         closures_made = made_again (λ j q. IsClosureFor system (get_or (dues (length system.rules) parts) j (OfPart 0)) q) (length (dues (length system.rules) parts)) closures n new h.ready.closures_made
             (subst (λ (d : DueStep). IsClosureFor system d new) (sym at_own) (keeps (OfClosure which index) closure_for));
       }
 
-      pub closure_next : (next : Made) → IsFine system parts made s next → IsLoopAt system root parts c plans (set closures n new) rooms marks (n + 1) next
+      pub closure_next : (next : Made) → IsFine system parts made s next → IsLoopAt system root parts c plans (set closures n new) rooms scratch marks (n + 1) next
       closure_next next fine = record {
         ready = closure_ready;
         place = place_next next fine;
         held = held_next rooms next fine (λ j r l x. x) (λ j targets f. let z : Part j targets ≡ Closure which index items = sym f ∙ e in absurd cc);
       }
 
-      pub closure_done : (o : StepOutcome) → IsClosureJudged system which index items o → o ≡ Fine → (next : Made) × IsLoopAt system root parts c plans (set closures n new) rooms marks (n + 1) next
+      pub closure_done : (o : StepOutcome) → IsClosureJudged system which index items o → o ≡ Fine → (next : Made) × IsLoopAt system root parts c plans (set closures n new) rooms scratch marks (n + 1) next
       closure_done o judged fine =
           let next = with_closure made which index items in
           (next, closure_next next (subst (λ (x : Step). IsFine system parts made x next) (sym e) (FineClosure (subst (IsClosureJudged system which index items) fine judged))))

@@ -5,7 +5,7 @@ use Rattle.fort_theory.specs.Patterns.{PatternSystem}
 use Rattle.fort_logic.specs.Cores as core
 use Rattle.fort_logic.specs.Cores.{Core}
 use Rattle.fort_tables.specs.LabelRules.{LabelRule}
-use Rattle.fort_tables.specs.Tables.{listed_table}
+use Rattle.fort_tables.specs.Tables.{Table, listed_table}
 use Rattle.fort_counts.specs.Counts as counts
 use Rattle.fort_parts.specs.PartColumns.{columns_of}
 use Rattle.fort_parts.specs.PartAnswers.{OfTable, OfValue}
@@ -15,13 +15,15 @@ use Rattle.fort_in_order.specs.Outcomes.{StepOutcome, Fails}
 use Rattle.fort_in_order.specs.PartSteps.{IsPartOutcome, IsRight, IsFailed, IsPartFailure}
 use Rattle.fort_in_order.specs.Made.{Made, with_answer, with_counts}
 use Rattle.fort_in_order.specs.PartRules.{IsLocalOf, IsValueOf}
-use Rattle.fort_in_order.specs.Checked.{IsCountJudged, FinePart, FineCounts, FineValue, IsFailing, FailingPart, FailingCounts, FailingValue}
+use Rattle.fort_in_order.specs.Checked.{IsCountJudged, IsFine, FinePart, FineCounts, FineValue, IsFailing, FailingPart, FailingCounts, FailingValue}
 use Rattle.fort_in_order_laws.proofs.FineSteps.{chosen, itself}
 use Rattle.fort_check_steps.specs.declared.room.PartRoom.{PartRoom}
+use Rattle.fort_check_steps.specs.declared.room.LabelRoom.{LabelRoom}
 use Rattle.fort_check_steps.specs.declared.marks.MarkRoom.{MarkRoom}
 use Rattle.fort_check_steps.specs.declared.failure.Failure.{Failure}
 use Rattle.fort_check_steps.specs.StepAnswers.{as_reason, outcome_of}
 use Rattle.fort_check_steps.specs.Held.{held_table}
+use Rattle.fort_check_steps.proofs.TableLaws.{held_part}
 use Rattle.fort_check_steps.specs.Room.{HasRoom, most_states}
 use Rattle.fort_check_steps.specs.Marks.{HasMarkRoom}
 use Rattle.fort_cert_checker.specs.declared.plan.Plan.{Plan}
@@ -29,7 +31,6 @@ use Rattle.fort_cert_checker.specs.declared.plan.Work.{Work}
 use Rattle.fort_cert_checker.specs.declared.plan.Work.TheVariants.{Truth, Relation, Normal, Term, Negation, Product, Projection, Many}
 use Rattle.fort_cert_checker.specs.declared.past.Past.{Past}
 use Rattle.fort_cert_checker.specs.Abouts.{IsOnlyAbout}
-use Rattle.fort_cert_checker.specs.Plans.{IsWidthFor}
 use Rattle.fort_cert_checker.specs.Pasts.{steps_of, IsMarkRoomFor, IsTableDue, IsTableStep}
 use Rattle.fort_cert_checker.specs.Values.{IsValueDue, IsOtherValue, AreCountsDue}
 use Rattle.fort_cert_checker.specs.Makings.{IsRoomFor}
@@ -54,15 +55,8 @@ marks_kept ss (Product op a b) old new h keep = h
 marks_kept ss (Projection s c) old new h keep = λ targets only. keep (most_states targets) 0 (h targets only)
 marks_kept ss (Many s c ns) old new h keep = λ targets only. keep (most_states targets) (length ns.items) (h targets only)
 
-room_kept : (ss : List Step) (k : ℕ) (p : Plan) (targets : List ℕ) (old new : PartRoom) → IsOnlyAbout ss (Part k targets) → ((width : ℕ) → HasRoom width targets old → HasRoom width targets new) → IsRoomFor ss k p old
-    → IsRoomFor ss k p new
-room_kept ss k p targets old new only keep h =
-    let sized : HasRoom old.rows.width targets new = keep old.rows.width (h.sized targets only) in
-    record {
-      width = subst (IsWidthFor ss p.work) (sym sized.width_is) h.width;
-      sized = λ others other. subst (λ (qs : List ℕ). HasRoom new.rows.width qs new) (only_targets ss k targets others only other)
-          (subst (λ (w : ℕ). HasRoom w targets new) (sym sized.width_is) sized);
-    }
+room_kept : (ss : List Step) (k : ℕ) (targets : List ℕ) (new : PartRoom) → IsOnlyAbout ss (Part k targets) → HasRoom targets new → IsRoomFor ss k new
+room_kept ss k targets new only h = λ others other. subst (λ (qs : List ℕ). HasRoom qs new) (only_targets ss k targets others only other) h
 
 failure_of : (r : LabelRule) (targets : List ℕ) (o : StepOutcome) (place : ℕ) (reason : outcomes.Reason) → IsPartOutcome r targets o → o ≡ Fails place reason → IsPartFailure r targets place reason
 failure_of r targets o place reason (IsRight entries labels h) e = absurd cc
@@ -71,23 +65,25 @@ failure_of r targets o place reason (IsFailed at why h) e =
     let b : why ≡ reason = cc in
     subst (λ (x : ℕ). IsPartFailure r targets x reason) a (subst (λ (x : outcomes.Reason). IsPartFailure r targets at x) b h)
 
-module _ (system : PatternSystem) (parts : List Core) (ss : List Step) (plans : List Plan) (rooms : List PartRoom) (f : Core) (p : Plan) (past : Past) (is : IsPastOf system ss plans rooms past) (room : PartRoom) (marks : MarkRoom)
-    (s : Step) where
-  pub not_closure : (which : Which) (index : ℕ) (items : List Item) → s ≡ Closure which index items → (made : Made) → IsDueBehind system parts ss plans rooms made f p s room marks → ⊥
-  not_closure which index items e made h = subst (λ (x : Step). IsOwnDue system parts past made f p x room marks) e (h past is)
+module _ (system : PatternSystem) (parts : List Core) (ss : List Step) (plans : List Plan) (rooms : List PartRoom) (f : Core) (p : Plan) (past : Past) (is : IsPastOf system ss plans rooms past) (room : PartRoom) (scratch : LabelRoom)
+    (marks : MarkRoom) (s : Step) where
+  pub not_closure : (which : Which) (index : ℕ) (items : List Item) → s ≡ Closure which index items → (made : Made) → IsDueBehind system parts ss plans rooms made f p s room scratch marks → ⊥
+  not_closure which index items e made h = subst (λ (x : Step). IsOwnDue system parts past made f p x room scratch marks) e (h past is)
 
   module _ (k : ℕ) (targets : List ℕ) (e : s ≡ Part k targets) where
-    pub part_due : (made : Made) → IsDueBehind system parts ss plans rooms made f p s room marks → IsTableDue system parts past k made f p targets room marks
-    part_due made h = subst (λ (x : Step). IsOwnDue system parts past made f p x room marks) e (h past is)
+    pub part_due : (made : Made) → IsDueBehind system parts ss plans rooms made f p s room scratch marks → IsTableDue system parts past k made f p targets room scratch marks
+    part_due made h = subst (λ (x : Step). IsOwnDue system parts past made f p x room scratch marks) e (h past is)
 
-    table_fine : {U : Type 0} (u : U) (made : Made) (new : PartRoom) → IsTableDue system parts past k made f p targets room marks → IsTableStep {U = U} system parts k made f targets new (Ok u)
+    table_fine : {U : Type 0} (u : U) (made : Made) (new : PartRoom) → IsTableDue system parts past k made f p targets room scratch marks → IsTableStep {U = U} system parts k made f targets new (Ok u)
         → IsFineStep system parts made (Part k targets) new
     table_fine u made new d t =
         let own : IsLocalOf system parts made k (get_or parts k core.True) t.local = subst (λ (g : Core). IsLocalOf system parts made k g t.local) (sym d.due.part) t.local_is in
-        let table = listed_table (held_table t.local.rule t.local.accepting targets new) in
+        let held = t.step.held in
+        let table = listed_table (held_table t.local.rule targets new) in
+        let same = ap listed_table (held_part t.local.rule t.local.accepting targets new held) in
         record {
           next = with_answer made k (OfTable table);
-          fine = FinePart t.local new.entries.entries new.rows.labels own t.step.held.right;
+          fine = subst (λ (a : Table). IsFine system parts made (Part k targets) (with_answer made k (OfTable a))) same (FinePart t.local new.entries.entries held.labels own held.right);
           after = (
             table,
             record {
@@ -102,15 +98,15 @@ module _ (system : PatternSystem) (parts : List Core) (ss : List Step) (plans : 
           );
         }
 
-    pub part_fine : {U : Type 0} (result : Result U Failure) (new : PartRoom) → ((made : Made) → IsTableDue system parts past k made f p targets room marks → IsTableStep system parts k made f targets new result)
-        → OnOk result ((made : Made) → IsDueBehind system parts ss plans rooms made f p s room marks → IsFineStep system parts made s new)
+    pub part_fine : {U : Type 0} (result : Result U Failure) (new : PartRoom) → ((made : Made) → IsTableDue system parts past k made f p targets room scratch marks → IsTableStep system parts k made f targets new result)
+        → OnOk result ((made : Made) → IsDueBehind system parts ss plans rooms made f p s room scratch marks → IsFineStep system parts made s new)
     part_fine (Ok u) new step = λ made h.
         let d = part_due made h in
         subst (λ (x : Step). IsFineStep system parts made x new) (sym e) (table_fine u made new d (step made d))
     part_fine (Err x) new step = tt
 
-    pub part_failing : {U : Type 0} (result : Result U Failure) (new : PartRoom) → ((made : Made) → IsTableDue system parts past k made f p targets room marks → IsTableStep system parts k made f targets new result)
-        → IfErr result (λ x. (made : Made) → IsDueBehind system parts ss plans rooms made f p s room marks → IsFailing system parts made s x.place (as_reason x.reason))
+    pub part_failing : {U : Type 0} (result : Result U Failure) (new : PartRoom) → ((made : Made) → IsTableDue system parts past k made f p targets room scratch marks → IsTableStep system parts k made f targets new result)
+        → IfErr result (λ x. (made : Made) → IsDueBehind system parts ss plans rooms made f p s room scratch marks → IsFailing system parts made s x.place (as_reason x.reason))
     part_failing (Ok u) new step = tt
     part_failing (Err x) new step = λ made h.
         let d = part_due made h in
@@ -119,41 +115,39 @@ module _ (system : PatternSystem) (parts : List Core) (ss : List Step) (plans : 
         subst (λ (y : Step). IsFailing system parts made y x.place (as_reason x.reason)) (sym e)
         (FailingPart t.local own (failure_of t.local.rule targets (Fails x.place (as_reason x.reason)) x.place (as_reason x.reason) t.step.outcome refl))
 
-    pub part_room : (new : PartRoom) → ((width : ℕ) → HasRoom width targets room → HasRoom width targets new) → (all : List Step) (q : Plan) → IsOnlyAbout all s → IsRoomFor all (part_in s) q room → IsRoomFor all (part_in s) q new
-    part_room new keep all q only h =
-        subst (λ (x : Step). IsRoomFor all (part_in x) q new) (sym e)
-        (room_kept all k q targets room new (subst (IsOnlyAbout all) e only) keep (subst (λ (x : Step). IsRoomFor all (part_in x) q room) e h))
+    pub part_room : (new : PartRoom) → HasRoom targets new → (all : List Step) → IsOnlyAbout all s → IsRoomFor all (part_in s) room → IsRoomFor all (part_in s) new
+    part_room new sized all only h = subst (λ (x : Step). IsRoomFor all (part_in x) new) (sym e) (room_kept all k targets new (subst (IsOnlyAbout all) e only) sized)
 
-    pub part_marks : (new : MarkRoom) → ((states count : ℕ) → HasMarkRoom states count marks → HasMarkRoom states count new) → (made : Made) → IsDueBehind system parts ss plans rooms made f p s room marks
+    pub part_marks : (new : MarkRoom) → ((states count : ℕ) → HasMarkRoom states count marks → HasMarkRoom states count new) → (made : Made) → IsDueBehind system parts ss plans rooms made f p s room scratch marks
         → IsMarkRoomFor ss p.work new
     part_marks new keep made h = marks_kept ss p.work marks new (subst (λ (xs : List Step). IsMarkRoomFor xs p.work marks) is.steps (part_due made h).marks_sized) keep
 
   module _ (k : ℕ) (own : List counts.Count) (e : s ≡ Counts k own) where
-    pub counts_due : (made : Made) → IsDueBehind system parts ss plans rooms made f p s room marks → AreCountsDue system parts past k made f p own marks
-    counts_due made h = subst (λ (x : Step). IsOwnDue system parts past made f p x room marks) e (h past is)
+    pub counts_due : (made : Made) → IsDueBehind system parts ss plans rooms made f p s room scratch marks → AreCountsDue system parts past k made f p own marks
+    counts_due made h = subst (λ (x : Step). IsOwnDue system parts past made f p x room scratch marks) e (h past is)
 
     pub counts_fine : {U : Type 0} (result : Result U Failure) (new : PartRoom) → ((made : Made) → AreCountsDue system parts past k made f p own marks → IsCountJudged parts made k own (outcome_of result))
-        → OnOk result ((made : Made) → IsDueBehind system parts ss plans rooms made f p s room marks → IsFineStep system parts made s new)
+        → OnOk result ((made : Made) → IsDueBehind system parts ss plans rooms made f p s room scratch marks → IsFineStep system parts made s new)
     counts_fine (Ok u) new judged = λ made h.
         subst (λ (x : Step). IsFineStep system parts made x new) (sym e) (record { next = with_counts made k own; fine = FineCounts (judged made (counts_due made h)); after = tt })
     counts_fine (Err x) new judged = tt
 
     pub counts_failing : {U : Type 0} (result : Result U Failure) → ((made : Made) → AreCountsDue system parts past k made f p own marks → IsCountJudged parts made k own (outcome_of result))
-        → IfErr result (λ x. (made : Made) → IsDueBehind system parts ss plans rooms made f p s room marks → IsFailing system parts made s x.place (as_reason x.reason))
+        → IfErr result (λ x. (made : Made) → IsDueBehind system parts ss plans rooms made f p s room scratch marks → IsFailing system parts made s x.place (as_reason x.reason))
     counts_failing (Ok u) judged = tt
     counts_failing (Err x) judged = λ made h.
         subst (λ (y : Step). IsFailing system parts made y x.place (as_reason x.reason)) (sym e) (FailingCounts (judged made (counts_due made h)))
 
     pub counts_marks : (new : MarkRoom) → ((made : Made) → AreCountsDue system parts past k made f p own marks → IsMarkRoomFor (steps_of past) p.work new) → (made : Made)
-        → IsDueBehind system parts ss plans rooms made f p s room marks → IsMarkRoomFor ss p.work new
+        → IsDueBehind system parts ss plans rooms made f p s room scratch marks → IsMarkRoomFor ss p.work new
     counts_marks new keep made h = subst (λ (xs : List Step). IsMarkRoomFor xs p.work new) is.steps (keep made (counts_due made h))
 
   module _ (k : ℕ) (value : Bool) (e : s ≡ Value k value) where
-    pub value_due : (made : Made) → IsDueBehind system parts ss plans rooms made f p s room marks → IsValueDue system parts past k made f p marks
-    value_due made h = subst (λ (x : Step). IsOwnDue system parts past made f p x room marks) e (h past is)
+    pub value_due : (made : Made) → IsDueBehind system parts ss plans rooms made f p s room scratch marks → IsValueDue system parts past k made f p marks
+    value_due made h = subst (λ (x : Step). IsOwnDue system parts past made f p x room scratch marks) e (h past is)
 
     pub value_fine : {U : Type 0} (result : Result U Failure) (new : PartRoom) → OnOk result ((made : Made) → IsValueDue system parts past k made f p marks → IsValueOf parts made k f value)
-        → OnOk result ((made : Made) → IsDueBehind system parts ss plans rooms made f p s room marks → IsFineStep system parts made s new)
+        → OnOk result ((made : Made) → IsDueBehind system parts ss plans rooms made f p s room scratch marks → IsFineStep system parts made s new)
     value_fine (Ok u) new right = λ made h.
         let d = value_due made h in
         subst (λ (x : Step). IsFineStep system parts made x new) (sym e)
@@ -161,7 +155,7 @@ module _ (system : PatternSystem) (parts : List Core) (ss : List Step) (plans : 
     value_fine (Err x) new right = tt
 
     pub value_failing : {U : Type 0} (result : Result U Failure) → IfErr result (λ x. (made : Made) → IsValueDue system parts past k made f p marks → IsOtherValue parts made k f value x)
-        → IfErr result (λ x. (made : Made) → IsDueBehind system parts ss plans rooms made f p s room marks → IsFailing system parts made s x.place (as_reason x.reason))
+        → IfErr result (λ x. (made : Made) → IsDueBehind system parts ss plans rooms made f p s room scratch marks → IsFailing system parts made s x.place (as_reason x.reason))
     value_failing (Ok u) other = tt
     value_failing (Err x) other = λ made h.
         let d = value_due made h in
@@ -171,6 +165,6 @@ module _ (system : PatternSystem) (parts : List Core) (ss : List Step) (plans : 
         (subst (λ (n : ℕ). IsFailing system parts made (Value k value) n outcomes.Value) (sym w.place)
         (FailingValue w.own (subst (λ (g : Core). IsValueOf parts made k g w.own) (sym d.due.part) w.is) w.other)))
 
-    pub value_marks : (new : MarkRoom) → ((states count : ℕ) → HasMarkRoom states count marks → HasMarkRoom states count new) → (made : Made) → IsDueBehind system parts ss plans rooms made f p s room marks
+    pub value_marks : (new : MarkRoom) → ((states count : ℕ) → HasMarkRoom states count marks → HasMarkRoom states count new) → (made : Made) → IsDueBehind system parts ss plans rooms made f p s room scratch marks
         → IsMarkRoomFor ss p.work new
     value_marks new keep made h = marks_kept ss p.work marks new (subst (λ (xs : List Step). IsMarkRoomFor xs p.work marks) is.steps (value_due made h).marks_sized) keep

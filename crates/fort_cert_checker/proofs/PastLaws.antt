@@ -48,10 +48,10 @@ module _ (past : Past) (s : Source) (table : Table) (h : IsTableAt past s table)
   table_holds = (h.held.rule, h.held.accepting, h.held.signature, own_columns, own_holds)
 
   pub table_made : (t : TurnedTable)
-      → ((r : LabelRule) (accepting : (List ℕ → Bool)) → r.signature ≡ past.signature.now → r.columns ≡ columns → HoldsPart r accepting targets room → t.table ≡ held_table r accepting targets room)
+      → ((r : LabelRule) (accepting : (List ℕ → Bool)) → r.signature ≡ past.signature.now → r.columns ≡ columns → HoldsPart r accepting targets room → t.table ≡ held_table r targets room)
       → t.turns ≡ s.turns → turned_table t ≡ table
   table_made t made turns =
       let own = made h.held.rule h.held.accepting h.held.signature own_columns own_holds in
-      let there : listed_table (held_table h.held.rule h.held.accepting targets room) ≡ h.own =
-      (λ i. listed_table (held_table h.held.rule h.held.accepting (targets_are i) (room_same i))) ∙ h.held.is in
-      turned_is t (held_table h.held.rule h.held.accepting targets room) s.turns h.own table own turns there h.is
+      let there : listed_table (held_table h.held.rule targets room) ≡ h.own =
+      (λ i. listed_table (held_table h.held.rule (targets_are i) (room_same i))) ∙ h.held.is in
+      turned_is t (held_table h.held.rule targets room) s.turns h.own table own turns there h.is

@@ -34,8 +34,9 @@ use Rattle.fort_infinity.specs.declared.count.Count.{Count}
 use Rattle.fort_infinity.specs.CountView.{as_count as as_mark}
 use Rattle.fort_check_steps.specs.declared.failure.Failure.{Failure}
 use Rattle.fort_check_steps.specs.declared.room.PartRoom.{PartRoom}
+use Rattle.fort_check_steps.specs.declared.room.LabelRoom.{LabelRoom}
 use Rattle.fort_check_steps.specs.declared.marks.MarkRoom.{MarkRoom}
-use Rattle.fort_check_steps.specs.Room.{HasRoom, most_states}
+use Rattle.fort_check_steps.specs.Room.{HasLabelRoom, most_states}
 use Rattle.fort_check_steps.proofs.PureStates.{pure_push, pure_left}
 use Rattle.fort_check_steps.specs.Marks.{HasMarkRoom}
 use Rattle.fort_cert_checker.specs.declared.plan.Source.{Source}
@@ -80,19 +81,19 @@ closure_is ss made core.Plus index pairs r k = r k.0 k.1 ∙ ap numbers_of (sym 
 closure_is ss made core.Star index pairs r k = r k.0 k.1 ∙ ap numbers_of (sym k.2)
 closure_is ss made core.Conv index pairs r k = r k.0 k.1 ∙ ap numbers_of (sym k.2)
 
-module _ (system : PatternSystem) (parts : List Core) (past : Past) (k : ℕ) (made : Made) (f : Core) (p : Plan) (targets : List ℕ) (room : PartRoom) (marks : MarkRoom)
-    (due : IsTableDue system parts past k made f p targets room marks) where
+module _ (system : PatternSystem) (parts : List Core) (past : Past) (k : ℕ) (made : Made) (f : Core) (p : Plan) (targets : List ℕ) (room : PartRoom) (scratch : LabelRoom)
+    (marks : MarkRoom) (due : IsTableDue system parts past k made f p targets room scratch marks) where
   abbrev ss : List Step
   ss = steps_of past
 
-  sized_for : (w : ℕ) → room.rows.width ≡ w → HasRoom w targets room
-  sized_for w e = subst (λ (n : ℕ). HasRoom n targets room) e due.sized
+  sized_for : (w : ℕ) → due.width ≡ w → HasLabelRoom w targets scratch
+  sized_for w e = subst (λ (n : ℕ). HasLabelRoom n targets scratch) e due.scratch_sized
 
   at_work : (w : Work) → p.work ≡ w → IsWorkOf system parts (steps_of past) k f w
   at_work w e = subst (IsWorkOf system parts (steps_of past) k f) e due.due.plan.work
 
-  width_for : (w : Work) → p.work ≡ w → IsWidthFor (steps_of past) w room.rows.width
-  width_for w e = subst (λ (v : Work). IsWidthFor (steps_of past) v room.rows.width) e due.width
+  width_for : (w : Work) → p.work ≡ w → IsWidthFor (steps_of past) w due.width
+  width_for w e = subst (λ (v : Work). IsWidthFor (steps_of past) v due.width) e due.is_width
 
   marks_for : (w : Work) → p.work ≡ w → IsMarkRoomFor (steps_of past) w marks
   marks_for w e = subst (λ (v : Work). IsMarkRoomFor (steps_of past) v marks) e due.marks_sized
@@ -104,7 +105,7 @@ module _ (system : PatternSystem) (parts : List Core) (past : Past) (k : ℕ) (m
     relation_plan : IsRelationPlan system (steps_of past) f c
     relation_plan = at_work (Relation c) is
 
-    pub relation_room : HasRoom (suc (words_for (length (marks_of c.atom)))) targets room
+    pub relation_room : HasLabelRoom (suc (words_for (length (marks_of c.atom)))) targets scratch
     relation_room = sized_for _ (width_for (Relation c) is)
 
     pub relation_step : {U : Type 0} (new : PartRoom) (result : Result U Failure) → IsPartStep (own.related_local system c) targets new result → IsTableStep system parts k made f targets new result
@@ -130,7 +131,7 @@ module _ (system : PatternSystem) (parts : List Core) (past : Past) (k : ℕ) (m
     normal_plan : IsNormalPlan system f a
     normal_plan = at_work (Normal a) is
 
-    pub normal_room : HasRoom (suc (words_for (length (marks_of a)))) targets room
+    pub normal_room : HasLabelRoom (suc (words_for (length (marks_of a)))) targets scratch
     normal_room = sized_for _ (width_for (Normal a) is)
 
     pub normal_step : {U : Type 0} (new : PartRoom) (result : Result U Failure) → IsPartStep (own.normal_local system a) targets new result → IsTableStep system parts k made f targets new result
@@ -149,19 +150,19 @@ module _ (system : PatternSystem) (parts : List Core) (past : Past) (k : ℕ) (m
   pub term_plan : p.work ≡ Term → IsTermPlan f
   term_plan e = at_work Term e
 
-  pub term_room : p.work ≡ Term → HasRoom 2 targets room
+  pub term_room : p.work ≡ Term → HasLabelRoom 2 targets scratch
   term_room e = sized_for 2 (width_for Term e)
 
   pub product_plan : (op : Op) (first second : Operand) → p.work ≡ Product op first second → IsProductPlan parts f op first second
   product_plan op first second e = at_work (Product op first second) e
 
-  pub product_room : (op : Op) (first second : Operand) → p.work ≡ Product op first second → HasRoom 3 targets room
+  pub product_room : (op : Op) (first second : Operand) → p.work ≡ Product op first second → HasLabelRoom 3 targets scratch
   product_room op first second e = sized_for 3 (width_for (Product op first second) e)
 
   pub many_plan : (s : Source) (c : ℕ) (ns : Vec Count Global) → p.work ≡ Many s c ns → (xs : List Count) → xs ≡ ns.items → IsManyPlan parts (steps_of past) k f s c xs
   many_plan s c ns e xs same = subst (IsManyPlan parts (steps_of past) k f s c) (sym same) (at_work (Many s c ns) e)
 
-  pub many_width : (s : Source) (c : ℕ) (ns : Vec Count Global) → p.work ≡ Many s c ns → (qs : List ℕ) → IsOnlyAbout (steps_of past) (Part s.part qs) → room.rows.width ≡ words_for (2 * most_states qs) + 2
+  pub many_width : (s : Source) (c : ℕ) (ns : Vec Count Global) → p.work ≡ Many s c ns → (qs : List ℕ) → IsOnlyAbout (steps_of past) (Part s.part qs) → due.width ≡ words_for (2 * most_states qs) + 2
   many_width s c ns e = width_for (Many s c ns) e
 
   pub many_sized : (s : Source) (c : ℕ) (ns : Vec Count Global) → p.work ≡ Many s c ns → (xs : List Count) → xs ≡ ns.items → (qs : List ℕ) → IsOnlyAbout (steps_of past) (Part s.part qs)
@@ -260,7 +261,7 @@ module _ (system : PatternSystem) (parts : List Core) (past : Past) (k : ℕ) (m
     projected : IsKnownTable system parts past k made due.due.known projection_plan.body s
     projected = body projection_plan.number projection_plan.body projection_operand s projection_plan.source projection_free c projection_plan.column projection_bound
 
-    pub projection_needs : (table : Table) × IsTableAt past s table × (table.signature ≡ past.signature.now) × (c < table.columns) × (1 < table.columns) × HasRoom (words_for (length table.presences) + 2) targets room
+    pub projection_needs : (table : Table) × IsTableAt past s table × (table.signature ≡ past.signature.now) × (c < table.columns) × (1 < table.columns) × HasLabelRoom (words_for (length table.presences) + 2) targets scratch
         × HasMarkRoom (length table.presences) 0 marks
     unfolding projected body
     projection_needs =
@@ -290,7 +291,7 @@ module _ (system : PatternSystem) (parts : List Core) (past : Past) (k : ℕ) (m
         }
 
   module _ (s : Source) (c : ℕ) (ns : List Count) (is : (own_marks : List counts.Count) → IsOnlyAbout (steps_of past) (Counts k own_marks) → map as_mark ns ≡ own_marks) (plan : IsManyPlan parts (steps_of past) k f s c ns)
-      (sized : (qs : List ℕ) → IsOnlyAbout (steps_of past) (Part s.part qs) → room.rows.width ≡ words_for (2 * most_states qs) + 2)
+      (sized : (qs : List ℕ) → IsOnlyAbout (steps_of past) (Part s.part qs) → due.width ≡ words_for (2 * most_states qs) + 2)
       (marks_sized : (qs : List ℕ) → IsOnlyAbout (steps_of past) (Part s.part qs) → HasMarkRoom (most_states qs) (length ns) marks) where
     many_free : is_free plan.number plan.body ≡ true
     many_free = (subst BindsFree plan.whole due.due.fit.binders).0
@@ -320,7 +321,7 @@ module _ (system : PatternSystem) (parts : List Core) (past : Past) (k : ℕ) (m
               (subst (λ (ms : List counts.Count). KeepRules many_known.table (place_in (columns_of plan.body) plan.number) (count_at states ms)) many_made keep.0),
         )
 
-    pub many_needs : (table : Table) × IsTableAt past s table × (table.signature ≡ past.signature.now) × (c < table.columns) × (1 < table.columns) × HasRoom (words_for (2 * length table.presences) + 2) targets room
+    pub many_needs : (table : Table) × IsTableAt past s table × (table.signature ≡ past.signature.now) × (c < table.columns) × (1 < table.columns) × HasLabelRoom (words_for (2 * length table.presences) + 2) targets scratch
         × HasMarkRoom (length table.presences) 0 marks × ((states : List ℕ) → ArePure table c states → (length ns ≡ length states) × KeepRules table c (count_at states (map as_mark ns)))
     unfolding many_known body
     many_needs =

@@ -27,9 +27,9 @@ pub record IsCheckerOf (system : PatternSystem) (f : Core) (c : Certificate) (a 
   pub closed : IsClosed f
   pub forms : a.certificate.now.first + length a.certificate.now.steps.items + 1 < 2 ^ 32
   pub dues : map as_due a.dues.items ≡ dues (length system.rules) (parts_in a)
-  pub ready : IsReady system f (parts_in a) c.steps a.plans.items a.closures.items a.rooms.items a.marks.items
+  pub ready : IsReady system f (parts_in a) c.steps a.plans.items a.closures.items a.rooms.items a.scratch a.marks.items
 
 -- its first n steps are fine, and the rooms hold their tables
 pub record IsCheckAt (system : PatternSystem) (f : Core) (c : Certificate) (a : Checker) (n : ℕ) (made : Made) : Type 0 where
   pub checker : IsCheckerOf system f c a
-  pub loop : IsLoopAt system f (parts_in a) c a.plans.items a.closures.items a.rooms.items a.marks.items n made
+  pub loop : IsLoopAt system f (parts_in a) c a.plans.items a.closures.items a.rooms.items a.scratch a.marks.items n made

@@ -14,6 +14,7 @@ use Rattle.fort_in_order.specs.Dues.{DueStep, due_of, dues}
 use Rattle.fort_in_order.specs.Made.{Made}
 use Rattle.fort_in_order.specs.Checked.{IsFine, IsUpTo}
 use Rattle.fort_check_steps.specs.declared.room.PartRoom.{PartRoom}
+use Rattle.fort_check_steps.specs.declared.room.LabelRoom.{LabelRoom}
 use Rattle.fort_check_steps.specs.declared.marks.MarkRoom.{MarkRoom}
 use Rattle.fort_cert_checker.specs.declared.plan.Plan.{Plan}
 use Rattle.fort_cert_checker.specs.declared.past.Past.{Past}
@@ -21,7 +22,7 @@ use Rattle.fort_cert_checker.specs.declared.making.ClosurePlan.{ClosurePlan}
 use Rattle.fort_cert_checker.specs.KnownMarks.{HasMarksFor}
 use Rattle.fort_cert_checker.specs.Pasts.{steps_of, IsElement, IsHeld, IsTableDue}
 use Rattle.fort_cert_checker.specs.Values.{IsValueDue, AreCountsDue}
-use Rattle.fort_cert_checker.specs.Makings.{ArePlansMade, AreRoomsMade, AreMarksMade, AreClosuresMade}
+use Rattle.fort_cert_checker.specs.Makings.{ArePlansMade, AreRoomsMade, IsScratchMade, AreMarksMade, AreClosuresMade}
 
 -- what the steps in front have made
 pub record Tells (parts : List Core) (front : List Step) (made : Made) : Type 0 where
@@ -52,19 +53,20 @@ abbrev pub HasFewTargets : List Step → Type 0
 HasFewTargets ss = (k : ℕ) (targets : List ℕ) → Contains ss (Part k targets) → length targets < 2 ^ 32
 
 -- all that a check needs
-pub record IsReady (system : PatternSystem) (root : Core) (parts : List Core) (ss : List Step) (plans : List Plan) (closures : List (Option ClosurePlan)) (rooms : List PartRoom) (marks : List MarkRoom) : Type 0 where
+pub record IsReady (system : PatternSystem) (root : Core) (parts : List Core) (ss : List Step) (plans : List Plan) (closures : List (Option ClosurePlan)) (rooms : List PartRoom) (scratch : LabelRoom) (marks : List MarkRoom) : Type 0 where
   pub are : AreParts root parts
   pub decided : IsDecided system root
   pub few : HasFewTargets ss
   pub plans_made : ArePlansMade system parts ss (length parts) plans
-  pub rooms_made : AreRoomsMade ss plans (length parts) rooms
+  pub rooms_made : AreRoomsMade ss (length parts) rooms
+  pub scratch_made : IsScratchMade ss plans (length parts) scratch
   pub marks_made : AreMarksMade ss plans (length parts) marks
   pub closures_made : AreClosuresMade system (dues (length system.rules) parts) (length (dues (length system.rules) parts)) closures
 
 -- the first n steps are fine, and the rooms hold their tables
-pub record IsLoopAt (system : PatternSystem) (root : Core) (parts : List Core) (c : Certificate) (plans : List Plan) (closures : List (Option ClosurePlan)) (rooms : List PartRoom) (marks : List MarkRoom) (n : ℕ)
+pub record IsLoopAt (system : PatternSystem) (root : Core) (parts : List Core) (c : Certificate) (plans : List Plan) (closures : List (Option ClosurePlan)) (rooms : List PartRoom) (scratch : LabelRoom) (marks : List MarkRoom) (n : ℕ)
     (made : Made) : Type 0 where
-  pub ready : IsReady system root parts c.steps plans closures rooms marks
+  pub ready : IsReady system root parts c.steps plans closures rooms scratch marks
   pub place : IsAtPlace system parts c n made
   pub held : AreHeld system parts rooms (take n c.steps) made
 
@@ -91,11 +93,11 @@ part_in (Counts k marks) = k
 part_in (Value k value) = k
 
 -- a step that names a part is due
-abbrev pub IsOwnDue : PatternSystem → List Core → Past → Made → Core → Plan → Step → PartRoom → MarkRoom → Type 0
-IsOwnDue system parts past made f p (Closure which index items) room marks = ⊥
-IsOwnDue system parts past made f p (Part k targets) room marks = IsTableDue system parts past k made f p targets room marks
-IsOwnDue system parts past made f p (Counts k counts) room marks = AreCountsDue system parts past k made f p counts marks
-IsOwnDue system parts past made f p (Value k value) room marks = IsValueDue system parts past k made f p marks
+abbrev pub IsOwnDue : PatternSystem → List Core → Past → Made → Core → Plan → Step → PartRoom → LabelRoom → MarkRoom → Type 0
+IsOwnDue system parts past made f p (Closure which index items) room scratch marks = ⊥
+IsOwnDue system parts past made f p (Part k targets) room scratch marks = IsTableDue system parts past k made f p targets room scratch marks
+IsOwnDue system parts past made f p (Counts k counts) room scratch marks = AreCountsDue system parts past k made f p counts marks
+IsOwnDue system parts past made f p (Value k value) room scratch marks = IsValueDue system parts past k made f p marks
 
 -- after it, a part's room holds its table
 abbrev pub IsHeldAfter : PatternSystem → List Core → Made → Step → PartRoom → Type 0
@@ -109,5 +111,5 @@ pub record IsFineStep (system : PatternSystem) (parts : List Core) (made : Made)
   pub after : IsHeldAfter system parts next s room
 
 -- with every past that is read of these
-abbrev pub IsDueBehind : PatternSystem → List Core → List Step → List Plan → List PartRoom → Made → Core → Plan → Step → PartRoom → MarkRoom → Type 0
-IsDueBehind system parts ss plans rooms made f p s room marks = (past : Past) → IsPastOf system ss plans rooms past → IsOwnDue system parts past made f p s room marks
+abbrev pub IsDueBehind : PatternSystem → List Core → List Step → List Plan → List PartRoom → Made → Core → Plan → Step → PartRoom → LabelRoom → MarkRoom → Type 0
+IsDueBehind system parts ss plans rooms made f p s room scratch marks = (past : Past) → IsPastOf system ss plans rooms past → IsOwnDue system parts past made f p s room scratch marks

@@ -7,8 +7,9 @@ use Rattle.fort_certificate_grammar.specs.Certificates.{Which, Step, Part}
 use Rattle.fort_in_order.specs.Dues.{DueStep, OfClosure, OfPart, OfCounts, OfValue}
 use Rattle.fort_check_steps.specs.PairSteps.{HasClosureRules}
 use Rattle.fort_check_steps.specs.declared.room.PartRoom.{PartRoom}
+use Rattle.fort_check_steps.specs.declared.room.LabelRoom.{LabelRoom}
 use Rattle.fort_check_steps.specs.declared.marks.MarkRoom.{MarkRoom}
-use Rattle.fort_check_steps.specs.Room.{HasRoom}
+use Rattle.fort_check_steps.specs.Room.{HasRoom, HasLabelRoom}
 use Rattle.fort_cert_checker.specs.Abouts.{IsOnlyAbout}
 use Rattle.fort_cert_checker.specs.Plans.{IsPlanOf, IsWidthFor}
 use Rattle.fort_cert_checker.specs.Pasts.{IsMarkRoomFor}
@@ -38,12 +39,21 @@ abbrev pub ArePlansMade : PatternSystem → List Core → List Step → ℕ → 
 ArePlansMade system parts ss n ps = AreMade (λ k p. IsPlanOf system parts ss k (get_or parts k core.True) p) n ps
 
 -- room for the targets of part k
-pub record IsRoomFor (ss : List Step) (k : ℕ) (p : Plan) (r : PartRoom) : Type 0 where
-  pub width : IsWidthFor ss p.work r.rows.width
-  pub sized : (targets : List ℕ) → IsOnlyAbout ss (Part k targets) → HasRoom r.rows.width targets r
+abbrev pub IsRoomFor : List Step → ℕ → PartRoom → Type 0
+IsRoomFor ss k r = (targets : List ℕ) → IsOnlyAbout ss (Part k targets) → HasRoom targets r
 
-abbrev pub AreRoomsMade : List Step → List Plan → ℕ → List PartRoom → Type 0
-AreRoomsMade ss ps n rs = AreMade (λ k r. (d : Plan) → IsRoomFor ss k (get_or ps k d) r) n rs
+abbrev pub AreRoomsMade : List Step → ℕ → List PartRoom → Type 0
+AreRoomsMade ss n rs = AreMade (IsRoomFor ss) n rs
+
+-- room for the labels of part k
+pub record IsScratchFor (ss : List Step) (k : ℕ) (p : Plan) (r : LabelRoom) : Type 0 where
+  pub width : ℕ
+  pub is_width : IsWidthFor ss p.work width
+  pub sized : (targets : List ℕ) → IsOnlyAbout ss (Part k targets) → HasLabelRoom width targets r
+
+-- for each of the first n parts
+abbrev pub IsScratchMade : List Step → List Plan → ℕ → LabelRoom → Type 0
+IsScratchMade ss ps n r = (k : ℕ) (d : Plan) → k < n → IsScratchFor ss k (get_or ps k d) r
 
 abbrev pub AreMarksMade : List Step → List Plan → ℕ → List MarkRoom → Type 0
 AreMarksMade ss ps n rs = AreMade (λ k r. (d : Plan) → IsMarkRoomFor ss (get_or ps k d).work r) n rs

@@ -16,11 +16,12 @@ use Rattle.fort_in_order.specs.Made.{Made}
 use Rattle.fort_in_order.specs.PartRules.{Local, IsLocalOf}
 use Rattle.fort_steps.specs.StepView.{as_step}
 use Rattle.fort_check_steps.specs.declared.room.PartRoom.{PartRoom}
+use Rattle.fort_check_steps.specs.declared.room.LabelRoom.{LabelRoom}
 use Rattle.fort_check_steps.specs.declared.failure.Failure.{Failure}
 use Rattle.fort_check_steps.specs.StepAnswers.{outcome_of}
 use Rattle.fort_check_steps.specs.Held.{HoldsPart, held_table}
 use Rattle.fort_check_steps.specs.Turned.{turned_table}
-use Rattle.fort_check_steps.specs.Room.{HasRoom, most_states}
+use Rattle.fort_check_steps.specs.Room.{HasRoom, HasLabelRoom, most_states}
 use Rattle.fort_check_steps.specs.Marks.{HasMarkRoom}
 use Rattle.fort_check_steps.specs.declared.marks.MarkRoom.{MarkRoom}
 use Rattle.fort_cert_checker.specs.Abouts.{IsOnlyAbout}
@@ -42,7 +43,7 @@ pub record IsHeld (sig : Signature) (columns : ℕ) (targets : List ℕ) (room :
   pub signature : rule.signature ≡ sig
   pub columns_are : rule.columns ≡ columns
   pub holds : HoldsPart rule accepting targets room
-  pub is : listed_table (held_table rule accepting targets room) ≡ table
+  pub is : listed_table (held_table rule targets room) ≡ table
 
 -- the steps, as the definitions have them
 abbrev pub steps_of : Past → List Step
@@ -141,14 +142,16 @@ IsMarkRoomFor ss (Many s c marks) room = (targets : List ℕ) → IsOnlyAbout ss
 IsMarkRoomFor ss other room = Unit {0}
 
 -- the targets are due, and there is room for them
-pub record IsTableDue (system : PatternSystem) (parts : List Core) (past : Past) (k : ℕ) (made : Made) (f : Core) (p : Plan) (targets : List ℕ) (room : PartRoom) (marks : MarkRoom) : Type 0 where
+pub record IsTableDue (system : PatternSystem) (parts : List Core) (past : Past) (k : ℕ) (made : Made) (f : Core) (p : Plan) (targets : List ℕ) (room : PartRoom) (scratch : LabelRoom) (marks : MarkRoom) : Type 0 where
   pub due : IsPartDue system parts past k made f p
   pub columns : has_columns f ≡ true
   pub plain : is_turned f ≡ false
   pub counts : KnowsCounts parts past k made
   pub few : length targets < 2 ^ 32
-  pub width : IsWidthFor (steps_of past) p.work room.rows.width
-  pub sized : HasRoom room.rows.width targets room
+  pub width : ℕ
+  pub is_width : IsWidthFor (steps_of past) p.work width
+  pub sized : HasRoom targets room
+  pub scratch_sized : HasLabelRoom width targets scratch
   pub marks_sized : IsMarkRoomFor (steps_of past) p.work marks
 
 -- the step of part k by the rule that it is to have

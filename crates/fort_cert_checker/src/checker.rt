@@ -20,11 +20,13 @@ ghost use Rattle.fort_cert_checker.specs.OutcomeView.{as_reason, as_outcome};
 ghost use Rattle.fort_cert_checker.specs.Checkers.{IsCheckerOf, IsCheckAt};
 
 use crate::about::value_in;
-use crate::making::{ClosurePlan, closure_plans, mark_rooms, plans_of, rooms_of};
+use crate::making::{ClosurePlan, closure_plans, mark_rooms, plans_of, rooms_of, scratch_for};
 use crate::plan::Plan;
 use crate::steps::{Given, check_step};
 use fort_certificate::Certificate;
-use fort_check_steps::{DueStep, Failure, MarkRoom, PartRoom, Reason, failed, is_about, steps_due};
+use fort_check_steps::{
+    DueStep, Failure, LabelRoom, MarkRoom, PartRoom, Reason, failed, is_about, steps_due,
+};
 use fort_formulas::{Core, parts};
 use fort_steps::Step;
 use fort_terms::{Memory, System};
@@ -50,6 +52,7 @@ pub struct Checker<'a> {
     closures: Vec<Option<ClosurePlan>>,
     plans: Vec<Plan>,
     rooms: Vec<PartRoom>,
+    scratch: LabelRoom,
     marks: Vec<MarkRoom>,
 }
 
@@ -135,7 +138,8 @@ impl<'a> Checker<'a> {
         let dues = steps_due(alloc, system.number(), &parts)?;
         let closures = closure_plans(alloc, system, &dues)?;
         let plans = plans_of(alloc, system, steps, &parts)?;
-        let rooms = rooms_of(alloc, steps, &plans)?;
+        let rooms = rooms_of(alloc, steps, plans.len())?;
+        let scratch = scratch_for(alloc, steps, &plans)?;
         let marks = mark_rooms(alloc, system.signature().len(), steps, &plans)?;
         Ok(Checker {
             system,
@@ -146,6 +150,7 @@ impl<'a> Checker<'a> {
             closures,
             plans,
             rooms,
+            scratch,
             marks,
         })
     }
@@ -186,6 +191,7 @@ impl<'a> Checker<'a> {
             place,
             &mut self.closures,
             &mut self.rooms,
+            &mut self.scratch,
             &mut self.marks,
         )
     }

@@ -14,11 +14,13 @@ ghost use Rattle.fort_check_steps.specs.Marks.{HasMarkRoom};
 ghost use Rattle.fort_cert_checker.specs.Abouts.{IsOnlyAbout};
 ghost use Rattle.fort_cert_checker.specs.Plans.{AreParted, IsFitPart, IsPlanOf, IsWidthFor};
 ghost use Rattle.fort_cert_checker.specs.Pasts.{IsMarkRoomFor};
-ghost use Rattle.fort_cert_checker.specs.Makings.{IsClosurePlan, IsClosureFor, IsRoomFor, AreClosuresMade, ArePlansMade, AreRoomsMade, AreMarksMade};
+ghost use Rattle.fort_cert_checker.specs.Makings.{IsClosurePlan, IsClosureFor, IsScratchFor, AreClosuresMade, ArePlansMade, AreRoomsMade, IsScratchMade, AreMarksMade};
 
 use crate::about::targets_of;
 use crate::plan::{Operand, Plan, Source, Work};
-use fort_check_steps::{DueStep, MarkRoom, PairRules, PartRoom, closure_rules, most_states};
+use fort_check_steps::{
+    DueStep, LabelRoom, MarkRoom, PairRules, PartRoom, closure_rules, most_states,
+};
 use fort_context_closure::local::is_width;
 use fort_formulas::Core;
 use fort_infinity::local::many_width;
@@ -140,32 +142,52 @@ fn width_of(steps: &[Step], plan: &Plan) -> Result<usize, Memory>
     }
 }
 
-fn room_of(alloc: Global, steps: &[Step], k: u32, plan: &Plan) -> Result<PartRoom, Memory>
-    requires { (system : PatternSystem) × (parts : List theory.Core) × (j : ℕ)
-        × (f : theory.Core) × IsPlanOf system parts (map as_step steps.now) j f plan.now }
-    ensures { IfOk result (IsRoomFor (map as_step steps.now) k plan.now) }
+/// The room of each part.
+pub(crate) fn rooms_of(alloc: Global, steps: &[Step], parts: usize) -> Result<Vec<PartRoom>, Memory>
+    requires { parts < 2 ^ 32 }
+    ensures { IfOk result (λ rooms. AreRoomsMade (map as_step steps.now) parts rooms.items) }
 {
-    let width = width_of(steps, plan)?;
-    PartRoom::new(alloc, width, targets_of(steps, k))
+    let mut rooms = Vec::with_capacity(alloc, parts)?;
+    for k in 0..parts {
+        rooms.push(PartRoom::new(alloc, targets_of(steps, k as u32))?)?;
+    }
+    Ok(rooms)
 }
 
-/// The room of each part.
-pub(crate) fn rooms_of(
+/// The words of a label of part `k`, and of the labels of all its states.
+fn label_words(steps: &[Step], k: u32, plan: &Plan) -> Result<(usize, usize), Memory>
+    requires { (system : PatternSystem) × (parts : List theory.Core) × (j : ℕ)
+        × (f : theory.Core) × IsPlanOf system parts (map as_step steps.now) j f plan.now }
+    ensures { IfOk result (λ words. (scratch : LabelRoom) → words.0 ≤ length scratch.out.items
+        → words.1 ≤ scratch.rows.space
+        → IsScratchFor (map as_step steps.now) k plan.now scratch) }
+{
+    let width = width_of(steps, plan)?;
+    match most_states(targets_of(steps, k)).checked_mul(width) {
+        Some(words) => Ok((width, words)),
+        None => Err(AllocError),
+    }
+}
+
+/// Room for the labels of each part in its turn.
+pub(crate) fn scratch_for(
     alloc: Global,
     steps: &[Step],
     plans: &[Plan],
-) -> Result<Vec<PartRoom>, Memory>
+) -> Result<LabelRoom, Memory>
     requires few { length plans.now < 2 ^ 32 }
     requires plans { (system : PatternSystem) × (parts : List theory.Core)
         × ArePlansMade system parts (map as_step steps.now) (length plans.now) plans.now }
-    ensures { IfOk result (λ rooms. AreRoomsMade (map as_step steps.now) plans.now
-        (length plans.now) rooms.items) }
+    ensures { IfOk result (IsScratchMade (map as_step steps.now) plans.now (length plans.now)) }
 {
-    let mut rooms = Vec::with_capacity(alloc, plans.len())?;
+    let mut width = 0;
+    let mut words = 0;
     for k in 0..plans.len() {
-        rooms.push(room_of(alloc, steps, k as u32, &plans[k])?)?;
+        let own = label_words(steps, k as u32, &plans[k])?;
+        width = width.max(own.0);
+        words = words.max(own.1);
     }
-    Ok(rooms)
+    LabelRoom::new(alloc, width, words)
 }
 
 /// The most that the table of an operand has.

@@ -12,7 +12,7 @@ ghost use Rattle.fort_formulas.specs.CoreView.{as_core};
 ghost use Rattle.fort_atom_labels.specs.AtomRules.{marks_of};
 ghost use Rattle.fort_atom_labels.specs.Subterms.{subterms};
 ghost use Rattle.fort_in_order.specs.PartRules.{Local, term_local, project_local, many_local};
-ghost use Rattle.fort_check_steps.specs.Room.{HasRoom};
+ghost use Rattle.fort_check_steps.specs.Room.{HasRoom, HasLabelRoom, IsAsRoomy};
 ghost use Rattle.fort_check_steps.specs.Marks.{HasMarkRoom};
 ghost use Rattle.fort_in_order.specs.Made.{Made};
 ghost use Rattle.fort_theory.specs.Trees.{Tree};
@@ -24,7 +24,8 @@ ghost use Rattle.fort_cert_checker.specs.Pasts.{IsAnswerAt, IsTableAt, IsPartSte
 use crate::past::{Past, factor};
 use crate::plan::{Operand, Plan, Source, Work};
 use fort_check_steps::{
-    Failure, MarkRoom, Normal, PartRoom, Projected, Related, ThisTerm, check_part, put_pure,
+    Failure, LabelRoom, MarkRoom, Normal, PartRoom, Projected, Related, ThisTerm, check_part,
+    put_pure,
 };
 use fort_context_closure::{NormalBits, RelationBits};
 use fort_formulas::Core;
@@ -39,16 +40,24 @@ fn check_relation(
     labels: &RelationBits,
     targets: &[u32],
     room: &mut PartRoom,
+    scratch: &mut LabelRoom,
 ) -> Result<(), Failure>
     requires few { length targets.now < 2 ^ 32 }
-    requires room { HasRoom (suc (words_for (length (marks_of labels.now.atom)))) targets.now
-        room.old }
+    requires room { HasRoom targets.now room.old }
+    requires scratch { HasLabelRoom (suc (words_for (length (marks_of labels.now.atom)))) targets.now
+        scratch.old }
     ensures step { IsPartStep (related_local system.now labels.now) targets.now room.new result }
-    ensures room { HasRoom (suc (words_for (length (marks_of labels.now.atom)))) targets.now
-        room.new }
+    ensures room { HasRoom targets.now room.new }
+    ensures scratch { IsAsRoomy scratch.old scratch.new }
 {
     let signature = system.signature();
-    check_part(&Related { signature, labels }, signature, targets, room)
+    check_part(
+        &Related { signature, labels },
+        signature,
+        targets,
+        room,
+        scratch,
+    )
 }
 
 /// Holds the targets of normal forms.
@@ -57,16 +66,24 @@ fn check_normal(
     labels: &NormalBits,
     targets: &[u32],
     room: &mut PartRoom,
+    scratch: &mut LabelRoom,
 ) -> Result<(), Failure>
     requires few { length targets.now < 2 ^ 32 }
-    requires room { HasRoom (suc (words_for (length (marks_of labels.now)))) targets.now
-        room.old }
+    requires room { HasRoom targets.now room.old }
+    requires scratch { HasLabelRoom (suc (words_for (length (marks_of labels.now)))) targets.now
+        scratch.old }
     ensures step { IsPartStep (normal_local system.now labels.now) targets.now room.new result }
-    ensures room { HasRoom (suc (words_for (length (marks_of labels.now)))) targets.now
-        room.new }
+    ensures room { HasRoom targets.now room.new }
+    ensures scratch { IsAsRoomy scratch.old scratch.new }
 {
     let signature = system.signature();
-    check_part(&Normal { signature, labels }, signature, targets, room)
+    check_part(
+        &Normal { signature, labels },
+        signature,
+        targets,
+        room,
+        scratch,
+    )
 }
 
 /// Holds the targets of a term.
@@ -75,16 +92,25 @@ fn check_term(
     term: &Term,
     targets: &[u32],
     room: &mut PartRoom,
+    scratch: &mut LabelRoom,
 ) -> Result<(), Failure>
     requires subterms { length (subterms term.now) < 2 ^ 32 }
     requires few { length targets.now < 2 ^ 32 }
-    requires room { HasRoom 2 targets.now room.old }
+    requires room { HasRoom targets.now room.old }
+    requires scratch { HasLabelRoom 2 targets.now scratch.old }
     ensures step { IsPartStep (term_local system.now.signature term.now) targets.now room.new
         result }
-    ensures room { HasRoom 2 targets.now room.new }
+    ensures room { HasRoom targets.now room.new }
+    ensures scratch { IsAsRoomy scratch.old scratch.new }
 {
     let signature = system.signature();
-    check_part(&ThisTerm { signature, term }, signature, targets, room)
+    check_part(
+        &ThisTerm { signature, term },
+        signature,
+        targets,
+        room,
+        scratch,
+    )
 }
 
 /// Holds the targets of the term that the formula names.
@@ -93,16 +119,19 @@ fn check_own_term(
     core: &Core,
     targets: &[u32],
     room: &mut PartRoom,
+    scratch: &mut LabelRoom,
 ) -> Result<(), Failure>
     requires term { IsTermPlan (as_core core.now) }
     requires few { length targets.now < 2 ^ 32 }
-    requires room { HasRoom 2 targets.now room.old }
+    requires room { HasRoom targets.now room.old }
+    requires scratch { HasLabelRoom 2 targets.now scratch.old }
     ensures step { (number : ℕ) (term : Tree) → as_core core.now ≡ theory.Is number term
         → IsPartStep (term_local system.now.signature term) targets.now room.new result }
-    ensures room { HasRoom 2 targets.now room.new }
+    ensures room { HasRoom targets.now room.new }
+    ensures scratch { IsAsRoomy scratch.old scratch.new }
 {
     match core {
-        Core::Is(_, term) => check_term(system, term, targets, room),
+        Core::Is(_, term) => check_term(system, term, targets, room, scratch),
         _ => unreachable!(),
     }
 }
@@ -116,17 +145,20 @@ fn check_product(
     past: &Past<'_>,
     targets: &[u32],
     room: &mut PartRoom,
+    scratch: &mut LabelRoom,
     lists: &mut ProductLists,
 ) -> Result<(), Failure>
     requires answers { (a b : answers.Answer) × IsAnswerAt past.now first.now.source a
         × IsAnswerAt past.now second.now.source b × AreJoined past.now.signature.now columns a
         first.now.places.items b second.now.places.items }
     requires few { length targets.now < 2 ^ 32 }
-    requires room { HasRoom 3 targets.now room.old }
+    requires room { HasRoom targets.now room.old }
+    requires scratch { HasLabelRoom 3 targets.now scratch.old }
     ensures step { (a b : answers.Answer) → IsAnswerAt past.now first.now.source a
         → IsAnswerAt past.now second.now.source b → IsPartStep (joined_local (connective_of op)
         columns a first.now.places.items b second.now.places.items) targets.now room.new result }
-    ensures room { HasRoom 3 targets.now room.new }
+    ensures room { HasRoom targets.now room.new }
+    ensures scratch { IsAsRoomy scratch.old scratch.new }
 {
     let answers = (past.answer(first.source), past.answer(second.source));
     let one = factor(&answers.0, &first.places);
@@ -134,8 +166,8 @@ fn check_product(
     let made = lists.make(&one, &other);
     let plain = Both::new(op, one, other, columns);
     match made {
-        Ok(()) => check_part(&plain.listed(lists), past.signature, targets, room),
-        Err(AllocError) => check_part(&plain, past.signature, targets, room),
+        Ok(()) => check_part(&plain.listed(lists), past.signature, targets, room, scratch),
+        Err(AllocError) => check_part(&plain, past.signature, targets, room, scratch),
     }
 }
 
@@ -146,17 +178,19 @@ fn check_projection(
     column: usize,
     targets: &[u32],
     room: &mut PartRoom,
+    scratch: &mut LabelRoom,
     marks: &mut MarkRoom,
 ) -> Result<(), Failure>
     requires body { (table : tables.Table) × IsTableAt past.now source table
         × (table.signature ≡ past.now.signature.now) × (column < table.columns)
-        × (1 < table.columns) × HasRoom (words_for (length table.presences) + 2) targets.now
-        room.old × HasMarkRoom (length table.presences) 0 marks.old }
+        × (1 < table.columns) × HasLabelRoom (words_for (length table.presences) + 2)
+        targets.now scratch.old × HasMarkRoom (length table.presences) 0 marks.old }
     requires few { length targets.now < 2 ^ 32 }
+    requires room { HasRoom targets.now room.old }
     ensures step { (table : tables.Table) → IsTableAt past.now source table
         → IsPartStep (project_local table column) targets.now room.new result }
-    ensures room { (width : ℕ) → HasRoom width targets.now room.old
-        → HasRoom width targets.now room.new }
+    ensures room { HasRoom targets.now room.new }
+    ensures scratch { IsAsRoomy scratch.old scratch.new }
     ensures marks { (states count : ℕ) → HasMarkRoom states count marks.old
         → HasMarkRoom states count marks.new }
 {
@@ -164,7 +198,7 @@ fn check_projection(
     marks.states.clear();
     put_pure(&body, column, &mut marks.states);
     let rule = Projected::new(&body, column, &marks.states);
-    check_part(&rule, past.signature, targets, room)
+    check_part(&rule, past.signature, targets, room, scratch)
 }
 
 /// Holds the targets of "infinitely many".
@@ -175,22 +209,24 @@ fn check_many(
     counts: &[Count],
     targets: &[u32],
     room: &mut PartRoom,
+    scratch: &mut LabelRoom,
     marks: &mut MarkRoom,
 ) -> Result<(), Failure>
     requires body { (table : tables.Table) × IsTableAt past.now source table
         × (table.signature ≡ past.now.signature.now) × (column < table.columns)
-        × (1 < table.columns) × HasRoom (words_for (2 * length table.presences) + 2) targets.now
-        room.old × HasMarkRoom (length table.presences) 0 marks.old
+        × (1 < table.columns) × HasLabelRoom (words_for (2 * length table.presences) + 2)
+        targets.now scratch.old × HasMarkRoom (length table.presences) 0 marks.old
         × ((states : List ℕ) → ArePure table column states
         → (length counts.now ≡ length states)
         × KeepRules table column (count_at states (map as_mark counts.now))) }
     requires few { length targets.now < 2 ^ 32 }
+    requires room { HasRoom targets.now room.old }
     ensures step { (table : tables.Table) (states : List ℕ) → IsTableAt past.now source table
         → ArePure table column states → IsPartStep (many_local table column
         (λ q. is_infinite (count_at states (map as_mark counts.now) q))) targets.now room.new
         result }
-    ensures room { (width : ℕ) → HasRoom width targets.now room.old
-        → HasRoom width targets.now room.new }
+    ensures room { HasRoom targets.now room.new }
+    ensures scratch { IsAsRoomy scratch.old scratch.new }
     ensures marks { (states count : ℕ) → HasMarkRoom states count marks.old
         → HasMarkRoom states count marks.new }
 {
@@ -198,7 +234,7 @@ fn check_many(
     marks.states.clear();
     put_pure(&body, column, &mut marks.states);
     let rule = Many::new(&body, column, &marks.states, counts);
-    check_part(&rule, past.signature, targets, room)
+    check_part(&rule, past.signature, targets, room, scratch)
 }
 
 /// Holds the targets of a part against the labels that it is to have.
@@ -209,32 +245,39 @@ pub(crate) fn check_table(
     past: &Past<'_>,
     targets: &[u32],
     room: &mut PartRoom,
+    scratch: &mut LabelRoom,
     marks: &mut MarkRoom,
 ) -> Result<(), Failure>
     requires due { (parts : List theory.Core) × (k : ℕ) × (made : Made) × IsTableDue system.now
-        parts past.now k made (as_core core.now) plan.now targets.now room.old marks.old }
+        parts past.now k made (as_core core.now) plan.now targets.now room.old scratch.old
+        marks.old }
     ensures step { (parts : List theory.Core) (k : ℕ) (made : Made) → IsTableDue system.now
-        parts past.now k made (as_core core.now) plan.now targets.now room.old marks.old
+        parts past.now k made (as_core core.now) plan.now targets.now room.old scratch.old
+        marks.old
         → IsTableStep system.now parts k made (as_core core.now) targets.now room.new result }
-    ensures room { (width : ℕ) → HasRoom width targets.now room.old
-        → HasRoom width targets.now room.new }
+    ensures room { HasRoom targets.now room.new }
+    ensures scratch { IsAsRoomy scratch.old scratch.new }
     ensures marks { (states count : ℕ) → HasMarkRoom states count marks.old
         → HasMarkRoom states count marks.new }
 {
     match &plan.work {
-        Work::Relation(labels) => check_relation(system, labels, targets, room),
-        Work::Normal(labels) => check_normal(system, labels, targets, room),
-        Work::Term => check_own_term(system, core, targets, room),
+        Work::Relation(labels) => check_relation(system, labels, targets, room, scratch),
+        Work::Normal(labels) => check_normal(system, labels, targets, room, scratch),
+        Work::Term => check_own_term(system, core, targets, room, scratch),
         Work::Product(op, first, second) => {
             let columns = plan.columns.len();
             let lists = &mut marks.lists;
-            check_product(*op, columns, first, second, past, targets, room, lists)
+            check_product(
+                *op, columns, first, second, past, targets, room, scratch, lists,
+            )
         }
         Work::Projection(source, column) => {
-            check_projection(past, *source, *column, targets, room, marks)
+            check_projection(past, *source, *column, targets, room, scratch, marks)
         }
         Work::Many(source, column, counts) => {
-            check_many(past, *source, *column, counts, targets, room, marks)
+            check_many(
+                past, *source, *column, counts, targets, room, scratch, marks,
+            )
         }
         Work::Truth | Work::Negation(_) => unreachable!(),
     }

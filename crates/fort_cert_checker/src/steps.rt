@@ -9,10 +9,10 @@ ghost use Rattle.fort_in_order.specs.Dues as definitions;
 ghost use Rattle.fort_in_order.specs.Made.{Made};
 ghost use Rattle.fort_in_order.specs.Checked.{IsClosureJudged, IsFailing};
 ghost use Rattle.fort_check_steps.specs.StepAnswers.{outcome_of, as_reason};
+ghost use Rattle.fort_check_steps.specs.Room.{IsAsRoomy};
 ghost use Rattle.fort_cert_checker.specs.Abouts.{IsOnlyAbout};
 ghost use Rattle.fort_cert_checker.specs.Pasts.{IsMarkRoomFor};
 ghost use Rattle.fort_cert_checker.specs.Makings.{IsClosureFor, IsRoomFor};
-ghost use Rattle.fort_cert_checker.specs.declared.plan.Plan as plans;
 ghost use Rattle.fort_cert_checker.specs.Fronts.{IsReady, IsLoopAt, IsStepDue, IsDueBehind, IsFineStep, part_in};
 
 use crate::making::ClosurePlan;
@@ -20,7 +20,7 @@ use crate::past::Past;
 use crate::plan::Plan;
 use crate::step::check_table;
 use crate::value::{check_counts, check_value};
-use fort_check_steps::{Failure, MarkRoom, PartRoom, check_closure};
+use fort_check_steps::{Failure, LabelRoom, MarkRoom, PartRoom, check_closure};
 use fort_formulas::Core;
 use fort_steps::{ClosureEntry, Step};
 use fort_terms::System;
@@ -57,28 +57,33 @@ fn check_own(
     step: &Step,
     front: &[PartRoom],
     room: &mut PartRoom,
+    scratch: &mut LabelRoom,
     marks: &mut MarkRoom,
 ) -> Result<(), Failure>
     requires due { (made : Made) × IsDueBehind given.now.system.now
         (map as_core given.now.parts.now) (map as_step given.now.steps.now) given.now.plans.now
-        front.now made (as_core core.now) plan.now (as_step step.now) room.old marks.old }
+        front.now made (as_core core.now) plan.now (as_step step.now) room.old
+        scratch.old marks.old }
     ensures fine { OnOk result ((made : Made) → IsDueBehind given.now.system.now
         (map as_core given.now.parts.now) (map as_step given.now.steps.now) given.now.plans.now
-        front.now made (as_core core.now) plan.now (as_step step.now) room.old marks.old
+        front.now made (as_core core.now) plan.now (as_step step.now) room.old
+        scratch.old marks.old
         → IsFineStep given.now.system.now (map as_core given.now.parts.now) made (as_step step.now)
         room.new) }
     ensures failing { IfErr result (λ e. (made : Made) → IsDueBehind given.now.system.now
         (map as_core given.now.parts.now) (map as_step given.now.steps.now) given.now.plans.now
-        front.now made (as_core core.now) plan.now (as_step step.now) room.old marks.old
+        front.now made (as_core core.now) plan.now (as_step step.now) room.old
+        scratch.old marks.old
         → IsFailing given.now.system.now (map as_core given.now.parts.now) made (as_step step.now)
         e.place (as_reason e.reason)) }
-    ensures room { (ss : List certificates.Step) (p : plans.Plan)
-        → IsOnlyAbout ss (as_step step.now)
-        → IsRoomFor ss (part_in (as_step step.now)) p room.old
-        → IsRoomFor ss (part_in (as_step step.now)) p room.new }
+    ensures room { (ss : List certificates.Step) → IsOnlyAbout ss (as_step step.now)
+        → IsRoomFor ss (part_in (as_step step.now)) room.old
+        → IsRoomFor ss (part_in (as_step step.now)) room.new }
+    ensures scratch { IsAsRoomy scratch.old scratch.new }
     ensures marks { (made : Made) → IsDueBehind given.now.system.now
         (map as_core given.now.parts.now) (map as_step given.now.steps.now) given.now.plans.now
-        front.now made (as_core core.now) plan.now (as_step step.now) room.old marks.old
+        front.now made (as_core core.now) plan.now (as_step step.now) room.old
+        scratch.old marks.old
         → IsMarkRoomFor (map as_step given.now.steps.now) plan.now.work marks.new }
 {
     let past = Past {
@@ -95,6 +100,7 @@ fn check_own(
             &past,
             targets,
             room,
+            scratch,
             marks,
         ),
         Step::Counts(_, counts) => check_counts(plan, &past, counts, marks),
@@ -109,34 +115,35 @@ pub(crate) fn check_step(
     place: usize,
     closures: &mut [Option<ClosurePlan>],
     rooms: &mut [PartRoom],
+    scratch: &mut LabelRoom,
     marks: &mut [MarkRoom],
 ) -> Result<(), Failure>
     requires due { (root : theory.Core) × (c : certificates.Certificate) × (made : Made)
         × (c.steps ≡ map as_step given.now.steps.now)
         × IsLoopAt given.now.system.now root (map as_core given.now.parts.now) c given.now.plans.now
-        closures.old rooms.old marks.old place made
+        closures.old rooms.old scratch.old marks.old place made
         × IsStepDue given.now.system.now (map as_core given.now.parts.now) c place }
     ensures fine { OnOk result ((root : theory.Core) (c : certificates.Certificate) (made : Made)
         → c.steps ≡ map as_step given.now.steps.now
         → IsLoopAt given.now.system.now root (map as_core given.now.parts.now) c given.now.plans.now
-        closures.old rooms.old marks.old place made
+        closures.old rooms.old scratch.old marks.old place made
         → IsStepDue given.now.system.now (map as_core given.now.parts.now) c place
         → (next : Made) × IsLoopAt given.now.system.now root (map as_core given.now.parts.now) c
-        given.now.plans.now closures.new rooms.new marks.new (place + 1) next) }
+        given.now.plans.now closures.new rooms.new scratch.new marks.new (place + 1) next) }
     ensures failing { IfErr result (λ e. (root : theory.Core) (c : certificates.Certificate)
         (made : Made) (s : certificates.Step) → c.steps ≡ map as_step given.now.steps.now
         → IsLoopAt given.now.system.now root (map as_core given.now.parts.now) c given.now.plans.now
-        closures.old rooms.old marks.old place made
+        closures.old rooms.old scratch.old marks.old place made
         → IsStepDue given.now.system.now (map as_core given.now.parts.now) c place
         → IsFailing given.now.system.now (map as_core given.now.parts.now) made
         (slice_index_or c.steps place s) e.place (as_reason e.reason)) }
     ensures ready { (root : theory.Core) (c : certificates.Certificate) (made : Made)
         → c.steps ≡ map as_step given.now.steps.now
         → IsLoopAt given.now.system.now root (map as_core given.now.parts.now) c given.now.plans.now
-        closures.old rooms.old marks.old place made
+        closures.old rooms.old scratch.old marks.old place made
         → IsStepDue given.now.system.now (map as_core given.now.parts.now) c place
         → IsReady given.now.system.now root (map as_core given.now.parts.now) c.steps
-        given.now.plans.now closures.new rooms.new marks.new }
+        given.now.plans.now closures.new rooms.new scratch.new marks.new }
 {
     let step = &given.steps[place];
     match step {
@@ -153,6 +160,7 @@ pub(crate) fn check_step(
                 step,
                 front,
                 &mut back[0],
+                scratch,
                 &mut marks[part],
             )
         }

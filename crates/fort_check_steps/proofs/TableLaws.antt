@@ -9,6 +9,7 @@ use Rattle.fort_tables.specs.Entries.{Entry, no_entry}
 use Rattle.fort_tables.proofs.NumberLaws.{listed_target}
 use Rattle.fort_tables.specs.Labels.{first_word, final_by}
 use Rattle.fort_tables.specs.LabelRules.{LabelRule}
+use Rattle.fort_in_order.specs.PartSteps.{part_table}
 use Rattle.fort_in_order.proofs.PartByLabels.{part_is_listed}
 use Rattle.fort_in_order_laws.proofs.EntryWalks.{right_few}
 use Rattle.fort_check_steps.specs.declared.room.PartRoom.{PartRoom}
@@ -19,26 +20,32 @@ abbrev pub room_table : Signature → ℕ → List ℕ → PartRoom → Listed
 room_table sig n targets room = record { signature = sig; columns = n; presences = room.presences.items; entries = room.entries.entries; targets = targets; finals = room.finals.items }
 
 pub held_is : (r : LabelRule) (accepting : List ℕ → Bool) (sig : Signature) (n : ℕ) (targets : List ℕ) (room : PartRoom) → r.signature ≡ sig → r.columns ≡ n
-    → HoldsPart r accepting targets room → room_table sig n targets room ≡ held_table r accepting targets room
+    → HoldsPart r accepting targets room → room_table sig n targets room ≡ held_table r targets room
 held_is r accepting sig n targets room a b h =
-    let p = h.presences in
-    let f = h.finals in
-    λ i. record { signature = sym a i; columns = sym b i; presences = p i; entries = room.entries.entries; targets = targets; finals = f i }
+    λ i. record { signature = sym a i; columns = sym b i; presences = room.presences.items; entries = room.entries.entries; targets = targets; finals = room.finals.items }
+
+-- it is the one that the labels give
+pub held_part : (r : LabelRule) (accepting : List ℕ → Bool) (targets : List ℕ) (room : PartRoom) (h : HoldsPart r accepting targets room)
+    → part_table r accepting room.entries.entries targets h.labels ≡ held_table r targets room
+held_part r accepting targets room h =
+    let p = sym h.presences in
+    let f = sym h.finals in
+    λ i. record { signature = r.signature; columns = r.columns; presences = p i; entries = room.entries.entries; targets = targets; finals = f i }
 
 pub held_listed : (r : LabelRule) (accepting : List ℕ → Bool) (sig : Signature) (n : ℕ) (targets : List ℕ) (room : PartRoom) → r.signature ≡ sig → r.columns ≡ n
     → HoldsPart r accepting targets room → IsListed (room_table sig n targets room)
 held_listed r accepting sig n targets room a b h =
-    subst IsListed (sym (held_is r accepting sig n targets room a b h)) (part_is_listed r accepting targets room.entries.entries room.rows.labels h.lawful h.right)
+    subst IsListed (held_part r accepting targets room h ∙ sym (held_is r accepting sig n targets room a b h)) (part_is_listed r accepting targets room.entries.entries h.labels h.lawful h.right)
 
 pub held_few : (r : LabelRule) (accepting : List ℕ → Bool) (targets : List ℕ) (room : PartRoom) → HoldsPart r accepting targets room → length targets < 2 ^ 32
     → length room.presences.items < 2 ^ 32
 held_few r accepting targets room h l =
-    omega (arith, ap length h.presences, length-map room.rows.labels first_word, right_few r targets (length targets) room.entries.entries room.rows.labels h.right.right)
+    omega (arith, ap length h.presences, length-map h.labels first_word, right_few r targets (length targets) room.entries.entries h.labels h.right.right)
 
 pub held_finals : (r : LabelRule) (accepting : List ℕ → Bool) (targets : List ℕ) (room : PartRoom) → HoldsPart r accepting targets room
     → length room.finals.items ≡ length room.presences.items
 held_finals r accepting targets room h =
-    ap length h.finals ∙ (length-map room.rows.labels (final_by r.columns accepting) ∙ sym (ap length h.presences ∙ length-map room.rows.labels first_word))
+    ap length h.finals ∙ (length-map h.labels (final_by r.columns accepting) ∙ sym (ap length h.presences ∙ length-map h.labels first_word))
 
 -- under negations
 turned_full : (n : ℕ) (is_full b : Bool) → (b ≡ true → is_full ≡ true) → turned_by n is_full b ≡ true → is_full ≡ true

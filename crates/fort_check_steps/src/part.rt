@@ -1,19 +1,31 @@
 //! The check of a part.
-ghost use Rattle.std.specs.Prelude.{◌≡◌, ◌<◌, ◌^◌, length, OnOk};
+ghost use Rattle.std.specs.Prelude.{◌≡◌, ◌<◌, ◌≤◌, ◌^◌, length, vec_capacity, OnOk};
 ghost use Rattle.fort_tables.specs.LabelRules.{IsTableBy, label_of};
 ghost use Rattle.fort_tables.specs.Tables.{listed_table};
 ghost use Rattle.fort_in_order.specs.Outcomes.{StepOutcome};
 ghost use Rattle.fort_in_order.specs.PartSteps.{IsPartOutcome};
 ghost use Rattle.fort_check_steps.specs.Held.{HoldsPart, held_table};
-ghost use Rattle.fort_check_steps.specs.Room.{HasRoom};
+ghost use Rattle.fort_check_steps.specs.Room.{HasRoom, HasLabelRoom, IsAsRoomy};
 ghost use Rattle.fort_check_steps.specs.StepAnswers.{outcome_of};
 
 use crate::failure::Failure;
 use crate::finals::put_finals;
-use crate::room::PartRoom;
+use crate::room::{LabelRoom, PartRoom};
 use crate::targets::check_targets;
 use fort_explore::LocalRule;
 use fort_terms::Signature;
+
+/// Makes this a label of so many zeros.
+fn put_zeros(label: &mut Vec<u64>, width: usize)
+    requires { width ≤ vec_capacity label.old }
+    ensures len { length label.new.items ≡ width }
+    ensures capacity { vec_capacity label.new ≡ vec_capacity label.old }
+{
+    label.clear();
+    for _ in 0..width {
+        label.push_reserved(0);
+    }
+}
 
 /// Whether the targets are a table by the local rule, or their first failure. It takes no memory.
 pub fn check_part<R: LocalRule>(
@@ -21,10 +33,12 @@ pub fn check_part<R: LocalRule>(
     sig: &Signature,
     targets: &[u32],
     room: &mut PartRoom,
+    scratch: &mut LabelRoom,
 ) -> Result<(), Failure>
     requires signature { (R.rule rule.now).signature ≡ sig.now }
     requires few { length targets.now < 2 ^ 32 }
-    requires room { HasRoom (R.word_count rule.now) targets.now room.old }
+    requires room { HasRoom targets.now room.old }
+    requires scratch { HasLabelRoom (R.word_count rule.now) targets.now scratch.old }
     ensures outcome { IsPartOutcome (R.rule rule.now) targets.now (outcome_of result) }
     ensures only { (o : StepOutcome) → IsPartOutcome (R.rule rule.now) targets.now o
         → o ≡ outcome_of result }
@@ -32,24 +46,27 @@ pub fn check_part<R: LocalRule>(
         room.new) }
     ensures table { OnOk result (IsTableBy (R.rule rule.now).signature (R.rule rule.now).columns
         (label_of (R.rule rule.now)) (R.accepting rule.now) (listed_table (held_table
-        (R.rule rule.now) (R.accepting rule.now) targets.now room.new))) }
-    ensures room { HasRoom (R.word_count rule.now) targets.now room.new }
+        (R.rule rule.now) targets.now room.new))) }
+    ensures room { HasRoom targets.now room.new }
+    ensures scratch { IsAsRoomy scratch.old scratch.new }
 {
+    let width = rule.width();
+    put_zeros(&mut scratch.out, width);
     room.entries.clear(sig, rule.columns());
     room.presences.clear();
-    room.rows.clear();
     room.finals.clear();
+    scratch.rows.reset(width);
     match check_targets(
         rule,
         sig,
         targets,
         &mut room.entries,
         &mut room.presences,
-        &mut room.rows,
-        room.out.as_mut_slice(),
+        &mut scratch.rows,
+        scratch.out.as_mut_slice(),
     ) {
         Ok(()) => {
-            put_finals(rule, &room.rows, &mut room.finals);
+            put_finals(rule, &scratch.rows, &mut room.finals);
             Ok(())
         }
         Err(failure) => Err(failure),

@@ -1,5 +1,5 @@
 //! Room for the check of a part.
-ghost use Rattle.std.specs.Prelude.{◌≡◌, ◌<◌, ◌≤◌, length, vec_capacity, IfOk};
+ghost use Rattle.std.specs.Prelude.{◌≡◌, ◌≤◌, vec_capacity, IfOk};
 ghost use Rattle.fort_tables.specs.Entries.{stage};
 ghost use Rattle.fort_check_steps.specs.Room.{HasRoom, most_states as most_states_lem};
 
@@ -8,13 +8,18 @@ use fort_explore::Rows;
 use fort_terms::Memory;
 use std::alloc::Global;
 
-/// What a part is checked in: its entries; the presences, the labels and the acceptance of its states; and one label more.
+/// What is kept of a part that was checked: its entries; the presences and the acceptance of its states.
 #[derive(Drop)]
 pub struct PartRoom {
     pub entries: EntryList,
     pub presences: Vec<u16>,
-    pub rows: Rows,
     pub finals: Vec<bool>,
+}
+
+/// What parts are checked in one after the other: the labels of a part's states, and one label more.
+#[derive(Drop)]
+pub struct LabelRoom {
+    pub rows: Rows,
     pub out: Vec<u64>,
 }
 
@@ -37,18 +42,28 @@ pub fn most_states(targets: &[u32]) -> usize
 }
 
 impl PartRoom {
-    /// All that the check of these targets can need, for labels of this width.
-    pub fn new(alloc: Global, width: usize, targets: &[u32]) -> Result<PartRoom, Memory>
-        requires { 0 < width }
-        ensures { IfOk result (HasRoom width targets.now) }
+    /// Room for all that is kept of these targets.
+    pub fn new(alloc: Global, targets: &[u32]) -> Result<PartRoom, Memory>
+        ensures { IfOk result (HasRoom targets.now) }
     {
         let states = most_states(targets);
         Ok(PartRoom {
             entries: EntryList::new(alloc, targets.len())?,
             presences: Vec::with_capacity(alloc, states)?,
-            rows: Rows::new(alloc, width, states)?,
             finals: Vec::with_capacity(alloc, states)?,
-            out: vec![in alloc; 0u64; width]?,
+        })
+    }
+}
+
+impl LabelRoom {
+    /// Room for labels of up to so many words each, and of up to so many together.
+    pub fn new(alloc: Global, width: usize, words: usize) -> Result<LabelRoom, Memory>
+        ensures rows { IfOk result (λ r. words ≤ r.rows.space) }
+        ensures out { IfOk result (λ r. width ≤ vec_capacity r.out) }
+    {
+        Ok(LabelRoom {
+            rows: Rows::new(alloc, 1, words)?,
+            out: Vec::with_capacity(alloc, width)?,
         })
     }
 }

@@ -50,7 +50,7 @@ impl<'a> PartTable<'a> {
         ensures table { (r : LabelRule) → (accepting : (List ℕ → Bool))
             → r.signature ≡ signature.now → r.columns ≡ columns
             → HoldsPart r accepting targets.now room.now
-            → result.table ≡ held_table r accepting targets.now room.now }
+            → result.table ≡ held_table r targets.now room.now }
         ensures turns { result.turns ≡ turns }
     {
         PartTable {

@@ -34,6 +34,7 @@ fn take_target<R: LocalRule>(
     ensures refused { IfErr result (IsRefused (R.rule rule.now) row.now target rows.old.labels) }
     ensures width { rows.new.width ≡ rows.old.width }
     ensures room { rows.new.room ≡ rows.old.room }
+    ensures space { rows.old.space ≤ rows.new.space }
     ensures capacity { vec_capacity presences.new ≡ vec_capacity presences.old }
 {
     if target as usize > rows.len() {
@@ -81,8 +82,7 @@ pub fn check_targets<R: LocalRule>(
     ensures labels { OnOk result (AreLabels (R.rule rule.now).signature (R.rule rule.now).columns
         (label_of (R.rule rule.now)) rows.new.labels) }
     ensures presences { OnOk result (presences.new.items ≡ map first_word rows.new.labels) }
-    ensures width { rows.new.width ≡ rows.old.width }
-    ensures room { rows.new.room ≡ rows.old.room }
+    ensures space { rows.old.space ≤ rows.new.space }
     ensures entries_room { given.new.room ≡ given.old.room }
     ensures capacity { vec_capacity presences.new ≡ vec_capacity presences.old }
 {

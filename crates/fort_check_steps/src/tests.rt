@@ -205,9 +205,10 @@ fn lists_of_targets(rt: HostRuntime) -> Result<(), Fail> {
         ([].as_slice(), rejected(0, Reason::Short)),
     ] {
         let rule = AtMost(&signature);
-        let mut room = PartRoom::new(rt.alloc(), 4, targets)?;
-        assert!(rt; check_part(&rule, &signature, targets, &mut room) == answer);
-        assert!(rt; check_part(&rule, &signature, targets, &mut room) == answer);
+        let mut room = PartRoom::new(rt.alloc(), targets)?;
+        let mut scratch = LabelRoom::new(rt.alloc(), 4, 4 * targets.len())?;
+        assert!(rt; check_part(&rule, &signature, targets, &mut room, &mut scratch) == answer);
+        assert!(rt; check_part(&rule, &signature, targets, &mut room, &mut scratch) == answer);
     }
     Ok(())
 }
@@ -269,8 +270,9 @@ fn has_turned_answers(alloc: Global, turns: usize, accepting: &[u32]) -> Result<
     let signature = constant_and_unary(alloc)?;
     let targets = [0u32, 1, 2, 3, 4, 5, 6, 7, 3, 4, 7, 5, 6, 8, 7, 8];
     let rule = AtMost(&signature);
-    let mut room = PartRoom::new(alloc, 4, &targets)?;
-    match check_part(&rule, &signature, &targets, &mut room) {
+    let mut room = PartRoom::new(alloc, &targets)?;
+    let mut scratch = LabelRoom::new(alloc, 4, 4 * targets.len())?;
+    match check_part(&rule, &signature, &targets, &mut room, &mut scratch) {
         Ok(()) => {
             let table = PartTable::new(&signature, 2, &targets, &room, turns);
             has_answers(alloc, &table, accepting)
@@ -322,8 +324,9 @@ fn finds_targets(alloc: Global) -> Result<bool, Fail> {
         7, 8, 7, 7, 7, 7, 7, 7, 8, 7, 8, 8, 8, 8, 8,
     ];
     let rule = AtMost(&signature);
-    let mut room = PartRoom::new(alloc, 4, &targets)?;
-    match check_part(&rule, &signature, &targets, &mut room) {
+    let mut room = PartRoom::new(alloc, &targets)?;
+    let mut scratch = LabelRoom::new(alloc, 4, 4 * targets.len())?;
+    match check_part(&rule, &signature, &targets, &mut room, &mut scratch) {
         Ok(()) => {
             let table = PartTable::new(&signature, 2, &targets, &room, 0);
             Ok(states_of_entries(alloc, &table)?.as_slice() == targets.as_slice())

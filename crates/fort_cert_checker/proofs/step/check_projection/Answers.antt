@@ -3,9 +3,8 @@ use Rattle.fort_tables.specs.BitRows.{words_for}
 use Rattle.fort_tables.specs.Tables.{Table}
 use Rattle.fort_in_order.specs.PartRules.{project_local}
 use Rattle.fort_check_steps.specs.Turned.{turned_table}
-use Rattle.fort_check_steps.specs.Room.{HasRoom}
+use Rattle.fort_check_steps.specs.Room.{HasLabelRoom}
 use Rattle.fort_cert_checker.specs.Pasts.{IsPartStep}
-use Rattle.fort_cert_checker.proofs.RoomLaws.{room_again}
 use Rattle.fort_cert_checker.proofs.step.check_projection.Goals as goal
 
 pub put_pure-requires-clause-column : goal.put_pure-requires-clause-column
@@ -33,16 +32,10 @@ check_part-requires-clause-signature c =
     let b = c.requires.body in
     ap (λ (t : Table). t.signature) (ap turned_table c.new-rule.ensures.body ∙ c.table-body.ensures b.0 b.1) ∙ b.2
 
-pub check_part-requires-clause-room : goal.check_part-requires-clause-room
-check_part-requires-clause-room c =
+pub check_part-requires-clause-scratch : goal.check_part-requires-clause-scratch
+check_part-requires-clause-scratch c =
     let b = c.requires.body in
-    subst (λ (t : Table). HasRoom (words_for (length t.presences) + 2) c.args.targets.now c.args.room.now) (sym (ap turned_table c.new-rule.ensures.body ∙ c.table-body.ensures b.0 b.1)) b.5
-
-pub returns-clause-room : goal.returns-clause-room
-returns-clause-room c =
-    let b = c.requires.body in
-    room_again (words_for (length b.0.presences) + 2) c.args.targets.now c.args.room.now c.check_part.new.room b.5
-    (subst (λ (t : Table). HasRoom (words_for (length t.presences) + 2) c.args.targets.now c.check_part.new.room) (ap turned_table c.new-rule.ensures.body ∙ c.table-body.ensures b.0 b.1) c.check_part.ensures.room)
+    subst (λ (t : Table). HasLabelRoom (words_for (length t.presences) + 2) c.args.targets.now c.args.scratch.now) (sym (ap turned_table c.new-rule.ensures.body ∙ c.table-body.ensures b.0 b.1)) b.5
 
 pub returns-clause-step : goal.returns-clause-step
 returns-clause-step c table at =

@@ -1,4 +1,4 @@
-use Rattle.std.proofs.Common.{◌≡◌, length, vec_capacity}
+use Rattle.std.proofs.Common.{◌≡◌, ◌≤◌, length, vec_capacity}
 use Rattle.fort_check_steps.proofs.TargetLaws.{IsAfter}
 use Rattle.fort_check_steps.proofs.targets.check_targets.Given as goal
 
@@ -10,6 +10,7 @@ invariant-targets g l = record {
   width : l.rows.width ≡ g.R.LocalRule.word_count l.rule;
   words : length l.out ≡ g.R.LocalRule.word_count l.rule;
   room : l.rows.room ≡ l.initial.rows.room;
+  space : l.initial.rows.space ≤ l.rows.space;
   given_columns : l.given.columns ≡ (g.R.LocalRule.rule l.rule).columns;
   places : l.given.room ≡ l.initial.given.room;
   spare : vec_capacity l.presences ≡ vec_capacity l.initial.presences;

@@ -58,7 +58,7 @@ returns-clause-fine c =
     (loop_given system f certificate a at.checker c.deref.result.now c.deref-2.result.now c.deref.ensures.value c.deref-2.ensures.value c.deref_mut.result.now c.deref_mut-2.result.now c.deref_mut-3.result.now
     c.args.place made c.deref_mut.ensures.value c.deref_mut-2.ensures.value c.deref_mut-3.ensures.value at)
     (due_given system f certificate a at.checker c.deref.result.now c.deref-2.result.now c.deref.ensures.value c.deref-2.ensures.value c.args.place (is_due system f certificate a at.checker c.args.place made at c.requires.due.5 c.index.result.now c.in-Some.step.now read own)) in
-    (next.0, loop_after system f certificate a at.checker c.deref.result.now c.deref-2.result.now c.deref.ensures.value c.deref-2.ensures.value c.check_step.new.closures c.check_step.new.rooms c.check_step.new.marks closures_in rooms_in marks_in (c.args.place + 1) next.0 next.1))
+    (next.0, loop_after system f certificate a at.checker c.deref.result.now c.deref-2.result.now c.deref.ensures.value c.deref-2.ensures.value c.check_step.new.closures c.check_step.new.rooms c.check_step.new.scratch c.check_step.new.marks closures_in rooms_in marks_in (c.args.place + 1) next.0 next.1))
     c.check_step.ensures.fine
 
 pub returns-clause-failing : goal.returns-clause-failing
@@ -84,7 +84,7 @@ returns-clause-same c = λ system f certificate made at.
     let closures_in = with_items_is c.args.self.now.closures c.check_step.new.closures (search (rules, places)) in
     let rooms_in = with_items_is c.args.self.now.rooms c.check_step.new.rooms (search (rules, places)) in
     let marks_in = with_items_is c.args.self.now.marks c.check_step.new.marks (search (rules, places)) in
-    ready_after system f certificate a at.checker c.deref.result.now c.deref-2.result.now c.deref.ensures.value c.deref-2.ensures.value c.check_step.new.closures c.check_step.new.rooms c.check_step.new.marks closures_in rooms_in marks_in
+    ready_after system f certificate a at.checker c.deref.result.now c.deref-2.result.now c.deref.ensures.value c.deref-2.ensures.value c.check_step.new.closures c.check_step.new.rooms c.check_step.new.scratch c.check_step.new.marks closures_in rooms_in marks_in
     (c.check_step.ensures.ready f certificate made (steps_are system f certificate a at.checker ∙ ap (map as_step) (sym c.as_slice-steps.ensures.value))
     (loop_given system f certificate a at.checker c.deref.result.now c.deref-2.result.now c.deref.ensures.value c.deref-2.ensures.value c.deref_mut.result.now c.deref_mut-2.result.now c.deref_mut-3.result.now
     c.args.place made c.deref_mut.ensures.value c.deref_mut-2.ensures.value c.deref_mut-3.ensures.value at)

@@ -7,7 +7,7 @@ use Rattle.fort_formulas.specs.CoreView.{as_core}
 use Rattle.fort_steps.specs.StepView.{as_step}
 use Rattle.fort_check_steps.specs.DueView.{as_due}
 use Rattle.fort_cert_checker.specs.Fronts.{IsReady}
-use Rattle.fort_cert_checker.specs.Makings.{AreClosuresMade, ArePlansMade, AreRoomsMade, AreMarksMade}
+use Rattle.fort_cert_checker.specs.Makings.{AreClosuresMade, ArePlansMade, AreRoomsMade, IsScratchMade, AreMarksMade}
 use Rattle.fort_cert_checker.proofs.NewLaws.{index_due}
 use Rattle.fort_cert_checker.proofs.LoopKnows.{fit_part}
 use Rattle.fort_cert_checker.proofs.checker.Checker.new.Goals as goal
@@ -49,14 +49,15 @@ returns c =
       closed = c.requires.closed;
       forms = omega (arith, c.if-forms.false, c.saturating_add-forms.ensures, c.as_slice-steps.ensures.len, ap length steps_are);
       dues = due_are;
-      ready = subst (λ ss. IsReady system (as_core c.args.core.now) parts (map as_step ss) plans c.in_ok-closures.closures.items c.in_ok-rooms.rooms.items c.in_ok-marks.marks.items) steps_are
+      ready = subst (λ ss. IsReady system (as_core c.args.core.now) parts (map as_step ss) plans c.in_ok-closures.closures.items c.in_ok-rooms.rooms.items c.in_ok-scratch.scratch c.in_ok-marks.marks.items) steps_are
           record {
             are = c.in_ok-parts.ensures;
             decided = c.requires.decided;
             few = c.if-not-have_few.ensures refl;
             plans_made = plans_made;
-            rooms_made = subst (λ n. AreRoomsMade (map as_step steps) plans n c.in_ok-rooms.rooms.items) plans_made.count
-                (subst (λ ps. AreRoomsMade (map as_step steps) ps (length ps) c.in_ok-rooms.rooms.items) c.deref-4.ensures.value c.in_ok-rooms.ensures);
+            rooms_made = subst (λ n. AreRoomsMade (map as_step steps) n c.in_ok-rooms.rooms.items) (c.len-2.ensures ∙ plans_made.count) c.in_ok-rooms.ensures;
+            scratch_made = subst (λ n. IsScratchMade (map as_step steps) plans n c.in_ok-scratch.scratch) plans_made.count
+                (subst (λ ps. IsScratchMade (map as_step steps) ps (length ps) c.in_ok-scratch.scratch) c.deref-4.ensures.value c.in_ok-scratch.ensures);
             marks_made = subst (λ n. AreMarksMade (map as_step steps) plans n c.in_ok-marks.marks.items) plans_made.count
                 (subst (λ ps. AreMarksMade (map as_step steps) ps (length ps) c.in_ok-marks.marks.items) c.deref-5.ensures.value c.in_ok-marks.ensures);
             closures_made =

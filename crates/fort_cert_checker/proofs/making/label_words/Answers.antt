@@ -1,0 +1,13 @@
+use Rattle.std.proofs.Common.{◌≡◌, ◌≤◌, ◌*◌, List, ℕ, map, length, sym, subst, arith, ap}
+use Rattle.fort_steps.specs.StepView.{as_step}
+use Rattle.fort_check_steps.specs.Room.{HasLabelRoom, most_states}
+use Rattle.fort_cert_checker.proofs.making.label_words.Goals as goal
+
+pub returns-in-Some : goal.returns-in-Some
+returns-in-Some c scratch out rows = record {
+  width = c.in_ok-width.width;
+  is_width = c.in_ok-width.ensures.width;
+  sized = λ targets only.
+      subst (λ (ts : List ℕ). HasLabelRoom c.in_ok-width.width ts scratch) (c.targets_of.ensures targets only)
+      (record { rows = ?; out = out });
+}
