@@ -1,5 +1,5 @@
 //! What a check needs, taken before it: the rules of closures, the plans of parts, and room.
-ghost use Rattle.std.specs.Prelude.{◌≡◌, ℕ, ◌+◌, ◌*◌, ◌<◌, ◌≤◌, ◌^◌, List, map, length, slice_index_or, Contains, Option, IfOk};
+ghost use Rattle.std.specs.Prelude.{◌≡◌, ℕ, ◌+◌, ◌*◌, ◌<◌, ◌≤◌, ◌^◌, List, map, length, slice_index_or, vec_capacity, Contains, Option, IfOk};
 ghost use Rattle.fort_theory.specs.Patterns.{PatternSystem};
 ghost use Rattle.fort_theory.specs.Sides.{IsIndexOf};
 ghost use Rattle.fort_logic.specs.Cores as theory;
@@ -158,7 +158,7 @@ pub(crate) fn rooms_of(alloc: Global, steps: &[Step], parts: usize) -> Result<Ve
 fn label_words(steps: &[Step], k: u32, plan: &Plan) -> Result<(usize, usize), Memory>
     requires { (system : PatternSystem) × (parts : List theory.Core) × (j : ℕ)
         × (f : theory.Core) × IsPlanOf system parts (map as_step steps.now) j f plan.now }
-    ensures { IfOk result (λ words. (scratch : LabelRoom) → words.0 ≤ length scratch.out.items
+    ensures { IfOk result (λ words. (scratch : LabelRoom) → words.0 ≤ vec_capacity scratch.out
         → words.1 ≤ scratch.rows.space
         → IsScratchFor (map as_step steps.now) k plan.now scratch) }
 {
@@ -180,8 +180,8 @@ pub(crate) fn scratch_for(
         × ArePlansMade system parts (map as_step steps.now) (length plans.now) plans.now }
     ensures { IfOk result (IsScratchMade (map as_step steps.now) plans.now (length plans.now)) }
 {
-    let mut width = 0;
-    let mut words = 0;
+    let mut width = 0usize;
+    let mut words = 0usize;
     for k in 0..plans.len() {
         let own = label_words(steps, k as u32, &plans[k])?;
         width = width.max(own.0);

@@ -1,6 +1,6 @@
-use Rattle.std.proofs.Common.{◌≡◌, ◌≤◌, ◌*◌, List, ℕ, map, length, sym, subst, arith, ap}
+use Rattle.std.proofs.Common.{◌≤◌, ◌*◌, List, ℕ, map, subst, arith}
 use Rattle.fort_steps.specs.StepView.{as_step}
-use Rattle.fort_check_steps.specs.Room.{HasLabelRoom, most_states}
+use Rattle.fort_check_steps.specs.Room.{HasLabelRoom}
 use Rattle.fort_cert_checker.proofs.making.label_words.Goals as goal
 
 pub returns-in-Some : goal.returns-in-Some
@@ -9,5 +9,8 @@ returns-in-Some c scratch out rows = record {
   is_width = c.in_ok-width.ensures.width;
   sized = λ targets only.
       subst (λ (ts : List ℕ). HasLabelRoom c.in_ok-width.width ts scratch) (c.targets_of.ensures targets only)
-      (record { rows = ?; out = out });
+      (record {
+        rows = subst (λ (n : ℕ). n * c.in_ok-width.width ≤ scratch.rows.space) c.most_states.ensures (omega (arith, rows, c.in-Some.ensures.1));
+        out = out;
+      });
 }

@@ -34,7 +34,7 @@ pub bounds-marks-part : goal.bounds-marks-part
 bounds-marks-part c = let d = c.requires.due in loop.mark_low c.args.given.now.system.now d.0 (map as_core c.args.given.now.parts.now) d.1 c.args.given.now.plans.now c.args.closures.now c.args.rooms.now c.args.scratch.now c.args.marks.now c.args.place d.2 d.4 d.5 (as_step (get_or c.args.given.now.steps.now c.args.place c.index-given-place.result)) (loop.step_at c.args.given.now.steps.now d.1.steps c.args.place c.index-given-place.result (as_step (get_or c.args.given.now.steps.now c.args.place c.index-given-place.result)) d.3 d.5.low) c.in-Part.k (loop.named (get_or c.args.given.now.steps.now c.args.place c.index-given-place.result) c.in-Part.k c.in-Part.is).0 (loop.named (get_or c.args.given.now.steps.now c.args.place c.index-given-place.result) c.in-Part.k c.in-Part.is).1
 
 pub check_own-requires : goal.check_own-requires
-check_own-requires c = let d = c.requires.due in record { due = (d.2, (subst (λ (ss : List Step). IsDueBehind c.args.given.now.system.now (map as_core c.args.given.now.parts.now) ss c.args.given.now.plans.now c.split_at_mut-front.result.0.now d.2 (as_core (get_or c.args.given.now.parts.now c.in-Part.k c.index-given-part.result)) (get_or c.args.given.now.plans.now c.in-Part.k c.index-given-part-in-Part.result) (as_step (get_or c.args.given.now.steps.now c.args.place c.index-given-place.result)) (get_or c.split_at_mut-front.result.1.now 0 c.index-back-0.result) c.args.scratch.now (get_or c.args.marks.now c.in-Part.k c.index-marks-part.result)) d.3 (loop.behind c.args.given.now.system.now d.0 (map as_core c.args.given.now.parts.now) d.1 c.args.given.now.plans.now c.args.closures.now c.args.rooms.now c.args.scratch.now c.args.marks.now c.args.place d.2 d.4 d.5 (as_step (get_or c.args.given.now.steps.now c.args.place c.index-given-place.result)) (loop.step_at c.args.given.now.steps.now d.1.steps c.args.place c.index-given-place.result (as_step (get_or c.args.given.now.steps.now c.args.place c.index-given-place.result)) d.3 d.5.low) c.in-Part.k (loop.named (get_or c.args.given.now.steps.now c.args.place c.index-given-place.result) c.in-Part.k c.in-Part.is).0 (loop.named (get_or c.args.given.now.steps.now c.args.place c.index-given-place.result) c.in-Part.k c.in-Part.is).1 (get_or c.args.given.now.plans.now c.in-Part.k c.index-given-part-in-Part.result) (get_or c.split_at_mut-front.result.1.now 0 c.index-back-0.result) c.args.scratch.now (get_or c.args.marks.now c.in-Part.k c.index-marks-part.result) (loop.element_at c.args.given.now.plans.now c.in-Part.k c.index-given-part-in-Part.result (loop.plan_low c.args.given.now.system.now d.0 (map as_core c.args.given.now.parts.now) d.1 c.args.given.now.plans.now c.args.closures.now c.args.rooms.now c.args.scratch.now c.args.marks.now c.args.place d.2 d.4 d.5 (as_step (get_or c.args.given.now.steps.now c.args.place c.index-given-place.result)) (loop.step_at c.args.given.now.steps.now d.1.steps c.args.place c.index-given-place.result (as_step (get_or c.args.given.now.steps.now c.args.place c.index-given-place.result)) d.3 d.5.low) c.in-Part.k (loop.named (get_or c.args.given.now.steps.now c.args.place c.index-given-place.result) c.in-Part.k c.in-Part.is).0 (loop.named (get_or c.args.given.now.steps.now c.args.place c.index-given-place.result) c.in-Part.k c.in-Part.is).1)) (loop.first_behind c.args.rooms.now c.split_at_mut-front.result.0.now c.split_at_mut-front.result.1.now c.in-Part.k c.index-back-0.result c.split_at_mut-front.ensures.value c.split_at_mut-front.ensures.front_len (let l = loop.room_low c.args.given.now.system.now d.0 (map as_core c.args.given.now.parts.now) d.1 c.args.given.now.plans.now c.args.closures.now c.args.rooms.now c.args.scratch.now c.args.marks.now c.args.place d.2 d.4 d.5 (as_step (get_or c.args.given.now.steps.now c.args.place c.index-given-place.result)) (loop.step_at c.args.given.now.steps.now d.1.steps c.args.place c.index-given-place.result (as_step (get_or c.args.given.now.steps.now c.args.place c.index-given-place.result)) d.3 d.5.low) c.in-Part.k (loop.named (get_or c.args.given.now.steps.now c.args.place c.index-given-place.result) c.in-Part.k c.in-Part.is).0 (loop.named (get_or c.args.given.now.steps.now c.args.place c.index-given-place.result) c.in-Part.k c.in-Part.is).1 in let m = c.split_at_mut-front.ensures.back_len in omega (arith, l, m)) (loop.room_low c.args.given.now.system.now d.0 (map as_core c.args.given.now.parts.now) d.1 c.args.given.now.plans.now c.args.closures.now c.args.rooms.now c.args.scratch.now c.args.marks.now c.args.place d.2 d.4 d.5 (as_step (get_or c.args.given.now.steps.now c.args.place c.index-given-place.result)) (loop.step_at c.args.given.now.steps.now d.1.steps c.args.place c.index-given-place.result (as_step (get_or c.args.given.now.steps.now c.args.place c.index-given-place.result)) d.3 d.5.low) c.in-Part.k (loop.named (get_or c.args.given.now.steps.now c.args.place c.index-given-place.result) c.in-Part.k c.in-Part.is).0 (loop.named (get_or c.args.given.now.steps.now c.args.place c.index-given-place.result) c.in-Part.k c.in-Part.is).1)) (loop.element_at c.args.marks.now c.in-Part.k c.index-marks-part.result (loop.mark_low c.args.given.now.system.now d.0 (map as_core c.args.given.now.parts.now) d.1 c.args.given.now.plans.now c.args.closures.now c.args.rooms.now c.args.scratch.now c.args.marks.now c.args.place d.2 d.4 d.5 (as_step (get_or c.args.given.now.steps.now c.args.place c.index-given-place.result)) (loop.step_at c.args.given.now.steps.now d.1.steps c.args.place c.index-given-place.result (as_step (get_or c.args.given.now.steps.now c.args.place c.index-given-place.result)) d.3 d.5.low) c.in-Part.k (loop.named (get_or c.args.given.now.steps.now c.args.place c.index-given-place.result) c.in-Part.k c.in-Part.is).0 (loop.named (get_or c.args.given.now.steps.now c.args.place c.index-given-place.result) c.in-Part.k c.in-Part.is).1)) c.split_at_mut-front.result.0.now (as_core (get_or c.args.given.now.parts.now c.in-Part.k c.index-given-part.result)) c.split_at_mut-front.ensures.front (loop.core_at c.args.given.now.parts.now c.in-Part.k c.index-given-part.result (loop.within c.args.given.now.system.now d.0 (map as_core c.args.given.now.parts.now) d.1 c.args.given.now.plans.now c.args.closures.now c.args.rooms.now c.args.scratch.now c.args.marks.now c.args.place d.2 d.4 d.5 (as_step (get_or c.args.given.now.steps.now c.args.place c.index-given-place.result)) (loop.step_at c.args.given.now.steps.now d.1.steps c.args.place c.index-given-place.result (as_step (get_or c.args.given.now.steps.now c.args.place c.index-given-place.result)) d.3 d.5.low) c.in-Part.k (loop.named (get_or c.args.given.now.steps.now c.args.place c.index-given-place.result) c.in-Part.k c.in-Part.is).0 (loop.named (get_or c.args.given.now.steps.now c.args.place c.index-given-place.result) c.in-Part.k c.in-Part.is).1))))) }
+check_own-requires c = let d = c.requires.due in record { due = (d.2, (subst (λ (ss : List Step). IsDueBehind c.args.given.now.system.now (map as_core c.args.given.now.parts.now) ss c.args.given.now.plans.now c.split_at_mut-front.result.0.now d.2 (as_core (get_or c.args.given.now.parts.now c.in-Part.k c.index-given-part.result)) (get_or c.args.given.now.plans.now c.in-Part.k c.index-given-part-in-Part.result) (as_step (get_or c.args.given.now.steps.now c.args.place c.index-given-place.result)) (get_or c.split_at_mut-front.result.1.now 0 c.index-back-0.result) c.args.scratch.now (get_or c.args.marks.now c.in-Part.k c.index-marks-part.result)) d.3 (loop.behind c.args.given.now.system.now d.0 (map as_core c.args.given.now.parts.now) d.1 c.args.given.now.plans.now c.args.closures.now c.args.rooms.now c.args.scratch.now c.args.marks.now c.args.place d.2 d.4 d.5 (as_step (get_or c.args.given.now.steps.now c.args.place c.index-given-place.result)) (loop.step_at c.args.given.now.steps.now d.1.steps c.args.place c.index-given-place.result (as_step (get_or c.args.given.now.steps.now c.args.place c.index-given-place.result)) d.3 d.5.low) c.in-Part.k (loop.named (get_or c.args.given.now.steps.now c.args.place c.index-given-place.result) c.in-Part.k c.in-Part.is).0 (loop.named (get_or c.args.given.now.steps.now c.args.place c.index-given-place.result) c.in-Part.k c.in-Part.is).1 (get_or c.args.given.now.plans.now c.in-Part.k c.index-given-part-in-Part.result) (get_or c.split_at_mut-front.result.1.now 0 c.index-back-0.result) (get_or c.args.marks.now c.in-Part.k c.index-marks-part.result) (loop.element_at c.args.given.now.plans.now c.in-Part.k c.index-given-part-in-Part.result (loop.plan_low c.args.given.now.system.now d.0 (map as_core c.args.given.now.parts.now) d.1 c.args.given.now.plans.now c.args.closures.now c.args.rooms.now c.args.scratch.now c.args.marks.now c.args.place d.2 d.4 d.5 (as_step (get_or c.args.given.now.steps.now c.args.place c.index-given-place.result)) (loop.step_at c.args.given.now.steps.now d.1.steps c.args.place c.index-given-place.result (as_step (get_or c.args.given.now.steps.now c.args.place c.index-given-place.result)) d.3 d.5.low) c.in-Part.k (loop.named (get_or c.args.given.now.steps.now c.args.place c.index-given-place.result) c.in-Part.k c.in-Part.is).0 (loop.named (get_or c.args.given.now.steps.now c.args.place c.index-given-place.result) c.in-Part.k c.in-Part.is).1)) (loop.first_behind c.args.rooms.now c.split_at_mut-front.result.0.now c.split_at_mut-front.result.1.now c.in-Part.k c.index-back-0.result c.split_at_mut-front.ensures.value c.split_at_mut-front.ensures.front_len (let l = loop.room_low c.args.given.now.system.now d.0 (map as_core c.args.given.now.parts.now) d.1 c.args.given.now.plans.now c.args.closures.now c.args.rooms.now c.args.scratch.now c.args.marks.now c.args.place d.2 d.4 d.5 (as_step (get_or c.args.given.now.steps.now c.args.place c.index-given-place.result)) (loop.step_at c.args.given.now.steps.now d.1.steps c.args.place c.index-given-place.result (as_step (get_or c.args.given.now.steps.now c.args.place c.index-given-place.result)) d.3 d.5.low) c.in-Part.k (loop.named (get_or c.args.given.now.steps.now c.args.place c.index-given-place.result) c.in-Part.k c.in-Part.is).0 (loop.named (get_or c.args.given.now.steps.now c.args.place c.index-given-place.result) c.in-Part.k c.in-Part.is).1 in let m = c.split_at_mut-front.ensures.back_len in omega (arith, l, m)) (loop.room_low c.args.given.now.system.now d.0 (map as_core c.args.given.now.parts.now) d.1 c.args.given.now.plans.now c.args.closures.now c.args.rooms.now c.args.scratch.now c.args.marks.now c.args.place d.2 d.4 d.5 (as_step (get_or c.args.given.now.steps.now c.args.place c.index-given-place.result)) (loop.step_at c.args.given.now.steps.now d.1.steps c.args.place c.index-given-place.result (as_step (get_or c.args.given.now.steps.now c.args.place c.index-given-place.result)) d.3 d.5.low) c.in-Part.k (loop.named (get_or c.args.given.now.steps.now c.args.place c.index-given-place.result) c.in-Part.k c.in-Part.is).0 (loop.named (get_or c.args.given.now.steps.now c.args.place c.index-given-place.result) c.in-Part.k c.in-Part.is).1)) (loop.element_at c.args.marks.now c.in-Part.k c.index-marks-part.result (loop.mark_low c.args.given.now.system.now d.0 (map as_core c.args.given.now.parts.now) d.1 c.args.given.now.plans.now c.args.closures.now c.args.rooms.now c.args.scratch.now c.args.marks.now c.args.place d.2 d.4 d.5 (as_step (get_or c.args.given.now.steps.now c.args.place c.index-given-place.result)) (loop.step_at c.args.given.now.steps.now d.1.steps c.args.place c.index-given-place.result (as_step (get_or c.args.given.now.steps.now c.args.place c.index-given-place.result)) d.3 d.5.low) c.in-Part.k (loop.named (get_or c.args.given.now.steps.now c.args.place c.index-given-place.result) c.in-Part.k c.in-Part.is).0 (loop.named (get_or c.args.given.now.steps.now c.args.place c.index-given-place.result) c.in-Part.k c.in-Part.is).1)) c.split_at_mut-front.result.0.now (as_core (get_or c.args.given.now.parts.now c.in-Part.k c.index-given-part.result)) c.split_at_mut-front.ensures.front (loop.core_at c.args.given.now.parts.now c.in-Part.k c.index-given-part.result (loop.within c.args.given.now.system.now d.0 (map as_core c.args.given.now.parts.now) d.1 c.args.given.now.plans.now c.args.closures.now c.args.rooms.now c.args.scratch.now c.args.marks.now c.args.place d.2 d.4 d.5 (as_step (get_or c.args.given.now.steps.now c.args.place c.index-given-place.result)) (loop.step_at c.args.given.now.steps.now d.1.steps c.args.place c.index-given-place.result (as_step (get_or c.args.given.now.steps.now c.args.place c.index-given-place.result)) d.3 d.5.low) c.in-Part.k (loop.named (get_or c.args.given.now.steps.now c.args.place c.index-given-place.result) c.in-Part.k c.in-Part.is).0 (loop.named (get_or c.args.given.now.steps.now c.args.place c.index-given-place.result) c.in-Part.k c.in-Part.is).1))))) }
 
 pub returns-in-Closure-clause-fine : goal.returns-in-Closure-clause-fine
 returns-in-Closure-clause-fine c = loop.when_fine c.check_pairs.result
@@ -53,17 +53,17 @@ pub returns-in-Part-clause-fine : goal.returns-in-Part-clause-fine
 returns-in-Part-clause-fine c = on_ok c.check_own.result
     (λ fine root c' made same at due.
     subst (λ (rs : List PartRoom). (next : Made) × IsLoopAt c.args.given.now.system.now root (map as_core c.args.given.now.parts.now) c' c.args.given.now.plans.now c.args.closures.now rs c.check_own.new.scratch (set c.args.marks.now c.in-Part.k c.check_own.new.marks) (c.args.place + 1) next) (sym (loop.set_first_behind c.args.rooms.now c.split_at_mut-front.result.0.now c.split_at_mut-front.result.1.now c.in-Part.k c.check_own.new.room c.split_at_mut-front.ensures.value c.split_at_mut-front.ensures.front_len))
-    (loop.part_next c.args.given.now.system.now root (map as_core c.args.given.now.parts.now) c' c.args.given.now.plans.now c.args.closures.now c.args.rooms.now c.args.scratch.now c.args.marks.now c.args.place made at due (as_step (get_or c.args.given.now.steps.now c.args.place c.index-given-place.result)) (loop.step_at c.args.given.now.steps.now c'.steps c.args.place c.index-given-place.result (as_step (get_or c.args.given.now.steps.now c.args.place c.index-given-place.result)) same due.low) c.in-Part.k (loop.named (get_or c.args.given.now.steps.now c.args.place c.index-given-place.result) c.in-Part.k c.in-Part.is).0 (loop.named (get_or c.args.given.now.steps.now c.args.place c.index-given-place.result) c.in-Part.k c.in-Part.is).1 (get_or c.args.given.now.plans.now c.in-Part.k c.index-given-part-in-Part.result) (get_or c.split_at_mut-front.result.1.now 0 c.index-back-0.result) c.args.scratch.now (get_or c.args.marks.now c.in-Part.k c.index-marks-part.result) (loop.element_at c.args.given.now.plans.now c.in-Part.k c.index-given-part-in-Part.result (loop.plan_low c.args.given.now.system.now root (map as_core c.args.given.now.parts.now) c' c.args.given.now.plans.now c.args.closures.now c.args.rooms.now c.args.scratch.now c.args.marks.now c.args.place made at due (as_step (get_or c.args.given.now.steps.now c.args.place c.index-given-place.result)) (loop.step_at c.args.given.now.steps.now c'.steps c.args.place c.index-given-place.result (as_step (get_or c.args.given.now.steps.now c.args.place c.index-given-place.result)) same due.low) c.in-Part.k (loop.named (get_or c.args.given.now.steps.now c.args.place c.index-given-place.result) c.in-Part.k c.in-Part.is).0 (loop.named (get_or c.args.given.now.steps.now c.args.place c.index-given-place.result) c.in-Part.k c.in-Part.is).1)) (loop.first_behind c.args.rooms.now c.split_at_mut-front.result.0.now c.split_at_mut-front.result.1.now c.in-Part.k c.index-back-0.result c.split_at_mut-front.ensures.value c.split_at_mut-front.ensures.front_len (let l = loop.room_low c.args.given.now.system.now root (map as_core c.args.given.now.parts.now) c' c.args.given.now.plans.now c.args.closures.now c.args.rooms.now c.args.scratch.now c.args.marks.now c.args.place made at due (as_step (get_or c.args.given.now.steps.now c.args.place c.index-given-place.result)) (loop.step_at c.args.given.now.steps.now c'.steps c.args.place c.index-given-place.result (as_step (get_or c.args.given.now.steps.now c.args.place c.index-given-place.result)) same due.low) c.in-Part.k (loop.named (get_or c.args.given.now.steps.now c.args.place c.index-given-place.result) c.in-Part.k c.in-Part.is).0 (loop.named (get_or c.args.given.now.steps.now c.args.place c.index-given-place.result) c.in-Part.k c.in-Part.is).1 in let m = c.split_at_mut-front.ensures.back_len in omega (arith, l, m)) (loop.room_low c.args.given.now.system.now root (map as_core c.args.given.now.parts.now) c' c.args.given.now.plans.now c.args.closures.now c.args.rooms.now c.args.scratch.now c.args.marks.now c.args.place made at due (as_step (get_or c.args.given.now.steps.now c.args.place c.index-given-place.result)) (loop.step_at c.args.given.now.steps.now c'.steps c.args.place c.index-given-place.result (as_step (get_or c.args.given.now.steps.now c.args.place c.index-given-place.result)) same due.low) c.in-Part.k (loop.named (get_or c.args.given.now.steps.now c.args.place c.index-given-place.result) c.in-Part.k c.in-Part.is).0 (loop.named (get_or c.args.given.now.steps.now c.args.place c.index-given-place.result) c.in-Part.k c.in-Part.is).1)) (loop.element_at c.args.marks.now c.in-Part.k c.index-marks-part.result (loop.mark_low c.args.given.now.system.now root (map as_core c.args.given.now.parts.now) c' c.args.given.now.plans.now c.args.closures.now c.args.rooms.now c.args.scratch.now c.args.marks.now c.args.place made at due (as_step (get_or c.args.given.now.steps.now c.args.place c.index-given-place.result)) (loop.step_at c.args.given.now.steps.now c'.steps c.args.place c.index-given-place.result (as_step (get_or c.args.given.now.steps.now c.args.place c.index-given-place.result)) same due.low) c.in-Part.k (loop.named (get_or c.args.given.now.steps.now c.args.place c.index-given-place.result) c.in-Part.k c.in-Part.is).0 (loop.named (get_or c.args.given.now.steps.now c.args.place c.index-given-place.result) c.in-Part.k c.in-Part.is).1)) c.check_own.new.room c.check_own.new.scratch c.check_own.new.marks c.check_own.ensures.room c.check_own.ensures.scratch (subst (λ (ss : List Step). IsMarkRoomFor ss (get_or c.args.given.now.plans.now c.in-Part.k c.index-given-part-in-Part.result).work c.check_own.new.marks) (sym same) (c.check_own.ensures.marks made (subst (λ (ss : List Step). IsDueBehind c.args.given.now.system.now (map as_core c.args.given.now.parts.now) ss c.args.given.now.plans.now c.split_at_mut-front.result.0.now made (as_core (get_or c.args.given.now.parts.now c.in-Part.k c.index-given-part.result)) (get_or c.args.given.now.plans.now c.in-Part.k c.index-given-part-in-Part.result) (as_step (get_or c.args.given.now.steps.now c.args.place c.index-given-place.result)) (get_or c.split_at_mut-front.result.1.now 0 c.index-back-0.result) c.args.scratch.now (get_or c.args.marks.now c.in-Part.k c.index-marks-part.result)) same (loop.behind c.args.given.now.system.now root (map as_core c.args.given.now.parts.now) c' c.args.given.now.plans.now c.args.closures.now c.args.rooms.now c.args.scratch.now c.args.marks.now c.args.place made at due (as_step (get_or c.args.given.now.steps.now c.args.place c.index-given-place.result)) (loop.step_at c.args.given.now.steps.now c'.steps c.args.place c.index-given-place.result (as_step (get_or c.args.given.now.steps.now c.args.place c.index-given-place.result)) same due.low) c.in-Part.k (loop.named (get_or c.args.given.now.steps.now c.args.place c.index-given-place.result) c.in-Part.k c.in-Part.is).0 (loop.named (get_or c.args.given.now.steps.now c.args.place c.index-given-place.result) c.in-Part.k c.in-Part.is).1 (get_or c.args.given.now.plans.now c.in-Part.k c.index-given-part-in-Part.result) (get_or c.split_at_mut-front.result.1.now 0 c.index-back-0.result) c.args.scratch.now (get_or c.args.marks.now c.in-Part.k c.index-marks-part.result) (loop.element_at c.args.given.now.plans.now c.in-Part.k c.index-given-part-in-Part.result (loop.plan_low c.args.given.now.system.now root (map as_core c.args.given.now.parts.now) c' c.args.given.now.plans.now c.args.closures.now c.args.rooms.now c.args.scratch.now c.args.marks.now c.args.place made at due (as_step (get_or c.args.given.now.steps.now c.args.place c.index-given-place.result)) (loop.step_at c.args.given.now.steps.now c'.steps c.args.place c.index-given-place.result (as_step (get_or c.args.given.now.steps.now c.args.place c.index-given-place.result)) same due.low) c.in-Part.k (loop.named (get_or c.args.given.now.steps.now c.args.place c.index-given-place.result) c.in-Part.k c.in-Part.is).0 (loop.named (get_or c.args.given.now.steps.now c.args.place c.index-given-place.result) c.in-Part.k c.in-Part.is).1)) (loop.first_behind c.args.rooms.now c.split_at_mut-front.result.0.now c.split_at_mut-front.result.1.now c.in-Part.k c.index-back-0.result c.split_at_mut-front.ensures.value c.split_at_mut-front.ensures.front_len (let l = loop.room_low c.args.given.now.system.now root (map as_core c.args.given.now.parts.now) c' c.args.given.now.plans.now c.args.closures.now c.args.rooms.now c.args.scratch.now c.args.marks.now c.args.place made at due (as_step (get_or c.args.given.now.steps.now c.args.place c.index-given-place.result)) (loop.step_at c.args.given.now.steps.now c'.steps c.args.place c.index-given-place.result (as_step (get_or c.args.given.now.steps.now c.args.place c.index-given-place.result)) same due.low) c.in-Part.k (loop.named (get_or c.args.given.now.steps.now c.args.place c.index-given-place.result) c.in-Part.k c.in-Part.is).0 (loop.named (get_or c.args.given.now.steps.now c.args.place c.index-given-place.result) c.in-Part.k c.in-Part.is).1 in let m = c.split_at_mut-front.ensures.back_len in omega (arith, l, m)) (loop.room_low c.args.given.now.system.now root (map as_core c.args.given.now.parts.now) c' c.args.given.now.plans.now c.args.closures.now c.args.rooms.now c.args.scratch.now c.args.marks.now c.args.place made at due (as_step (get_or c.args.given.now.steps.now c.args.place c.index-given-place.result)) (loop.step_at c.args.given.now.steps.now c'.steps c.args.place c.index-given-place.result (as_step (get_or c.args.given.now.steps.now c.args.place c.index-given-place.result)) same due.low) c.in-Part.k (loop.named (get_or c.args.given.now.steps.now c.args.place c.index-given-place.result) c.in-Part.k c.in-Part.is).0 (loop.named (get_or c.args.given.now.steps.now c.args.place c.index-given-place.result) c.in-Part.k c.in-Part.is).1)) (loop.element_at c.args.marks.now c.in-Part.k c.index-marks-part.result (loop.mark_low c.args.given.now.system.now root (map as_core c.args.given.now.parts.now) c' c.args.given.now.plans.now c.args.closures.now c.args.rooms.now c.args.scratch.now c.args.marks.now c.args.place made at due (as_step (get_or c.args.given.now.steps.now c.args.place c.index-given-place.result)) (loop.step_at c.args.given.now.steps.now c'.steps c.args.place c.index-given-place.result (as_step (get_or c.args.given.now.steps.now c.args.place c.index-given-place.result)) same due.low) c.in-Part.k (loop.named (get_or c.args.given.now.steps.now c.args.place c.index-given-place.result) c.in-Part.k c.in-Part.is).0 (loop.named (get_or c.args.given.now.steps.now c.args.place c.index-given-place.result) c.in-Part.k c.in-Part.is).1)) c.split_at_mut-front.result.0.now (as_core (get_or c.args.given.now.parts.now c.in-Part.k c.index-given-part.result)) c.split_at_mut-front.ensures.front (loop.core_at c.args.given.now.parts.now c.in-Part.k c.index-given-part.result (loop.within c.args.given.now.system.now root (map as_core c.args.given.now.parts.now) c' c.args.given.now.plans.now c.args.closures.now c.args.rooms.now c.args.scratch.now c.args.marks.now c.args.place made at due (as_step (get_or c.args.given.now.steps.now c.args.place c.index-given-place.result)) (loop.step_at c.args.given.now.steps.now c'.steps c.args.place c.index-given-place.result (as_step (get_or c.args.given.now.steps.now c.args.place c.index-given-place.result)) same due.low) c.in-Part.k (loop.named (get_or c.args.given.now.steps.now c.args.place c.index-given-place.result) c.in-Part.k c.in-Part.is).0 (loop.named (get_or c.args.given.now.steps.now c.args.place c.index-given-place.result) c.in-Part.k c.in-Part.is).1)))))) (fine made (subst (λ (ss : List Step). IsDueBehind c.args.given.now.system.now (map as_core c.args.given.now.parts.now) ss c.args.given.now.plans.now c.split_at_mut-front.result.0.now made (as_core (get_or c.args.given.now.parts.now c.in-Part.k c.index-given-part.result)) (get_or c.args.given.now.plans.now c.in-Part.k c.index-given-part-in-Part.result) (as_step (get_or c.args.given.now.steps.now c.args.place c.index-given-place.result)) (get_or c.split_at_mut-front.result.1.now 0 c.index-back-0.result) c.args.scratch.now (get_or c.args.marks.now c.in-Part.k c.index-marks-part.result)) same (loop.behind c.args.given.now.system.now root (map as_core c.args.given.now.parts.now) c' c.args.given.now.plans.now c.args.closures.now c.args.rooms.now c.args.scratch.now c.args.marks.now c.args.place made at due (as_step (get_or c.args.given.now.steps.now c.args.place c.index-given-place.result)) (loop.step_at c.args.given.now.steps.now c'.steps c.args.place c.index-given-place.result (as_step (get_or c.args.given.now.steps.now c.args.place c.index-given-place.result)) same due.low) c.in-Part.k (loop.named (get_or c.args.given.now.steps.now c.args.place c.index-given-place.result) c.in-Part.k c.in-Part.is).0 (loop.named (get_or c.args.given.now.steps.now c.args.place c.index-given-place.result) c.in-Part.k c.in-Part.is).1 (get_or c.args.given.now.plans.now c.in-Part.k c.index-given-part-in-Part.result) (get_or c.split_at_mut-front.result.1.now 0 c.index-back-0.result) c.args.scratch.now (get_or c.args.marks.now c.in-Part.k c.index-marks-part.result) (loop.element_at c.args.given.now.plans.now c.in-Part.k c.index-given-part-in-Part.result (loop.plan_low c.args.given.now.system.now root (map as_core c.args.given.now.parts.now) c' c.args.given.now.plans.now c.args.closures.now c.args.rooms.now c.args.scratch.now c.args.marks.now c.args.place made at due (as_step (get_or c.args.given.now.steps.now c.args.place c.index-given-place.result)) (loop.step_at c.args.given.now.steps.now c'.steps c.args.place c.index-given-place.result (as_step (get_or c.args.given.now.steps.now c.args.place c.index-given-place.result)) same due.low) c.in-Part.k (loop.named (get_or c.args.given.now.steps.now c.args.place c.index-given-place.result) c.in-Part.k c.in-Part.is).0 (loop.named (get_or c.args.given.now.steps.now c.args.place c.index-given-place.result) c.in-Part.k c.in-Part.is).1)) (loop.first_behind c.args.rooms.now c.split_at_mut-front.result.0.now c.split_at_mut-front.result.1.now c.in-Part.k c.index-back-0.result c.split_at_mut-front.ensures.value c.split_at_mut-front.ensures.front_len (let l = loop.room_low c.args.given.now.system.now root (map as_core c.args.given.now.parts.now) c' c.args.given.now.plans.now c.args.closures.now c.args.rooms.now c.args.scratch.now c.args.marks.now c.args.place made at due (as_step (get_or c.args.given.now.steps.now c.args.place c.index-given-place.result)) (loop.step_at c.args.given.now.steps.now c'.steps c.args.place c.index-given-place.result (as_step (get_or c.args.given.now.steps.now c.args.place c.index-given-place.result)) same due.low) c.in-Part.k (loop.named (get_or c.args.given.now.steps.now c.args.place c.index-given-place.result) c.in-Part.k c.in-Part.is).0 (loop.named (get_or c.args.given.now.steps.now c.args.place c.index-given-place.result) c.in-Part.k c.in-Part.is).1 in let m = c.split_at_mut-front.ensures.back_len in omega (arith, l, m)) (loop.room_low c.args.given.now.system.now root (map as_core c.args.given.now.parts.now) c' c.args.given.now.plans.now c.args.closures.now c.args.rooms.now c.args.scratch.now c.args.marks.now c.args.place made at due (as_step (get_or c.args.given.now.steps.now c.args.place c.index-given-place.result)) (loop.step_at c.args.given.now.steps.now c'.steps c.args.place c.index-given-place.result (as_step (get_or c.args.given.now.steps.now c.args.place c.index-given-place.result)) same due.low) c.in-Part.k (loop.named (get_or c.args.given.now.steps.now c.args.place c.index-given-place.result) c.in-Part.k c.in-Part.is).0 (loop.named (get_or c.args.given.now.steps.now c.args.place c.index-given-place.result) c.in-Part.k c.in-Part.is).1)) (loop.element_at c.args.marks.now c.in-Part.k c.index-marks-part.result (loop.mark_low c.args.given.now.system.now root (map as_core c.args.given.now.parts.now) c' c.args.given.now.plans.now c.args.closures.now c.args.rooms.now c.args.scratch.now c.args.marks.now c.args.place made at due (as_step (get_or c.args.given.now.steps.now c.args.place c.index-given-place.result)) (loop.step_at c.args.given.now.steps.now c'.steps c.args.place c.index-given-place.result (as_step (get_or c.args.given.now.steps.now c.args.place c.index-given-place.result)) same due.low) c.in-Part.k (loop.named (get_or c.args.given.now.steps.now c.args.place c.index-given-place.result) c.in-Part.k c.in-Part.is).0 (loop.named (get_or c.args.given.now.steps.now c.args.place c.index-given-place.result) c.in-Part.k c.in-Part.is).1)) c.split_at_mut-front.result.0.now (as_core (get_or c.args.given.now.parts.now c.in-Part.k c.index-given-part.result)) c.split_at_mut-front.ensures.front (loop.core_at c.args.given.now.parts.now c.in-Part.k c.index-given-part.result (loop.within c.args.given.now.system.now root (map as_core c.args.given.now.parts.now) c' c.args.given.now.plans.now c.args.closures.now c.args.rooms.now c.args.scratch.now c.args.marks.now c.args.place made at due (as_step (get_or c.args.given.now.steps.now c.args.place c.index-given-place.result)) (loop.step_at c.args.given.now.steps.now c'.steps c.args.place c.index-given-place.result (as_step (get_or c.args.given.now.steps.now c.args.place c.index-given-place.result)) same due.low) c.in-Part.k (loop.named (get_or c.args.given.now.steps.now c.args.place c.index-given-place.result) c.in-Part.k c.in-Part.is).0 (loop.named (get_or c.args.given.now.steps.now c.args.place c.index-given-place.result) c.in-Part.k c.in-Part.is).1)))))))
+    (loop.part_next c.args.given.now.system.now root (map as_core c.args.given.now.parts.now) c' c.args.given.now.plans.now c.args.closures.now c.args.rooms.now c.args.scratch.now c.args.marks.now c.args.place made at due (as_step (get_or c.args.given.now.steps.now c.args.place c.index-given-place.result)) (loop.step_at c.args.given.now.steps.now c'.steps c.args.place c.index-given-place.result (as_step (get_or c.args.given.now.steps.now c.args.place c.index-given-place.result)) same due.low) c.in-Part.k (loop.named (get_or c.args.given.now.steps.now c.args.place c.index-given-place.result) c.in-Part.k c.in-Part.is).0 (loop.named (get_or c.args.given.now.steps.now c.args.place c.index-given-place.result) c.in-Part.k c.in-Part.is).1 (get_or c.args.given.now.plans.now c.in-Part.k c.index-given-part-in-Part.result) (get_or c.split_at_mut-front.result.1.now 0 c.index-back-0.result) (get_or c.args.marks.now c.in-Part.k c.index-marks-part.result) (loop.element_at c.args.given.now.plans.now c.in-Part.k c.index-given-part-in-Part.result (loop.plan_low c.args.given.now.system.now root (map as_core c.args.given.now.parts.now) c' c.args.given.now.plans.now c.args.closures.now c.args.rooms.now c.args.scratch.now c.args.marks.now c.args.place made at due (as_step (get_or c.args.given.now.steps.now c.args.place c.index-given-place.result)) (loop.step_at c.args.given.now.steps.now c'.steps c.args.place c.index-given-place.result (as_step (get_or c.args.given.now.steps.now c.args.place c.index-given-place.result)) same due.low) c.in-Part.k (loop.named (get_or c.args.given.now.steps.now c.args.place c.index-given-place.result) c.in-Part.k c.in-Part.is).0 (loop.named (get_or c.args.given.now.steps.now c.args.place c.index-given-place.result) c.in-Part.k c.in-Part.is).1)) (loop.first_behind c.args.rooms.now c.split_at_mut-front.result.0.now c.split_at_mut-front.result.1.now c.in-Part.k c.index-back-0.result c.split_at_mut-front.ensures.value c.split_at_mut-front.ensures.front_len (let l = loop.room_low c.args.given.now.system.now root (map as_core c.args.given.now.parts.now) c' c.args.given.now.plans.now c.args.closures.now c.args.rooms.now c.args.scratch.now c.args.marks.now c.args.place made at due (as_step (get_or c.args.given.now.steps.now c.args.place c.index-given-place.result)) (loop.step_at c.args.given.now.steps.now c'.steps c.args.place c.index-given-place.result (as_step (get_or c.args.given.now.steps.now c.args.place c.index-given-place.result)) same due.low) c.in-Part.k (loop.named (get_or c.args.given.now.steps.now c.args.place c.index-given-place.result) c.in-Part.k c.in-Part.is).0 (loop.named (get_or c.args.given.now.steps.now c.args.place c.index-given-place.result) c.in-Part.k c.in-Part.is).1 in let m = c.split_at_mut-front.ensures.back_len in omega (arith, l, m)) (loop.room_low c.args.given.now.system.now root (map as_core c.args.given.now.parts.now) c' c.args.given.now.plans.now c.args.closures.now c.args.rooms.now c.args.scratch.now c.args.marks.now c.args.place made at due (as_step (get_or c.args.given.now.steps.now c.args.place c.index-given-place.result)) (loop.step_at c.args.given.now.steps.now c'.steps c.args.place c.index-given-place.result (as_step (get_or c.args.given.now.steps.now c.args.place c.index-given-place.result)) same due.low) c.in-Part.k (loop.named (get_or c.args.given.now.steps.now c.args.place c.index-given-place.result) c.in-Part.k c.in-Part.is).0 (loop.named (get_or c.args.given.now.steps.now c.args.place c.index-given-place.result) c.in-Part.k c.in-Part.is).1)) (loop.element_at c.args.marks.now c.in-Part.k c.index-marks-part.result (loop.mark_low c.args.given.now.system.now root (map as_core c.args.given.now.parts.now) c' c.args.given.now.plans.now c.args.closures.now c.args.rooms.now c.args.scratch.now c.args.marks.now c.args.place made at due (as_step (get_or c.args.given.now.steps.now c.args.place c.index-given-place.result)) (loop.step_at c.args.given.now.steps.now c'.steps c.args.place c.index-given-place.result (as_step (get_or c.args.given.now.steps.now c.args.place c.index-given-place.result)) same due.low) c.in-Part.k (loop.named (get_or c.args.given.now.steps.now c.args.place c.index-given-place.result) c.in-Part.k c.in-Part.is).0 (loop.named (get_or c.args.given.now.steps.now c.args.place c.index-given-place.result) c.in-Part.k c.in-Part.is).1)) c.check_own.new.room c.check_own.new.scratch c.check_own.new.marks c.check_own.ensures.room c.check_own.ensures.scratch (subst (λ (ss : List Step). IsMarkRoomFor ss (get_or c.args.given.now.plans.now c.in-Part.k c.index-given-part-in-Part.result).work c.check_own.new.marks) (sym same) (c.check_own.ensures.marks made (subst (λ (ss : List Step). IsDueBehind c.args.given.now.system.now (map as_core c.args.given.now.parts.now) ss c.args.given.now.plans.now c.split_at_mut-front.result.0.now made (as_core (get_or c.args.given.now.parts.now c.in-Part.k c.index-given-part.result)) (get_or c.args.given.now.plans.now c.in-Part.k c.index-given-part-in-Part.result) (as_step (get_or c.args.given.now.steps.now c.args.place c.index-given-place.result)) (get_or c.split_at_mut-front.result.1.now 0 c.index-back-0.result) c.args.scratch.now (get_or c.args.marks.now c.in-Part.k c.index-marks-part.result)) same (loop.behind c.args.given.now.system.now root (map as_core c.args.given.now.parts.now) c' c.args.given.now.plans.now c.args.closures.now c.args.rooms.now c.args.scratch.now c.args.marks.now c.args.place made at due (as_step (get_or c.args.given.now.steps.now c.args.place c.index-given-place.result)) (loop.step_at c.args.given.now.steps.now c'.steps c.args.place c.index-given-place.result (as_step (get_or c.args.given.now.steps.now c.args.place c.index-given-place.result)) same due.low) c.in-Part.k (loop.named (get_or c.args.given.now.steps.now c.args.place c.index-given-place.result) c.in-Part.k c.in-Part.is).0 (loop.named (get_or c.args.given.now.steps.now c.args.place c.index-given-place.result) c.in-Part.k c.in-Part.is).1 (get_or c.args.given.now.plans.now c.in-Part.k c.index-given-part-in-Part.result) (get_or c.split_at_mut-front.result.1.now 0 c.index-back-0.result) (get_or c.args.marks.now c.in-Part.k c.index-marks-part.result) (loop.element_at c.args.given.now.plans.now c.in-Part.k c.index-given-part-in-Part.result (loop.plan_low c.args.given.now.system.now root (map as_core c.args.given.now.parts.now) c' c.args.given.now.plans.now c.args.closures.now c.args.rooms.now c.args.scratch.now c.args.marks.now c.args.place made at due (as_step (get_or c.args.given.now.steps.now c.args.place c.index-given-place.result)) (loop.step_at c.args.given.now.steps.now c'.steps c.args.place c.index-given-place.result (as_step (get_or c.args.given.now.steps.now c.args.place c.index-given-place.result)) same due.low) c.in-Part.k (loop.named (get_or c.args.given.now.steps.now c.args.place c.index-given-place.result) c.in-Part.k c.in-Part.is).0 (loop.named (get_or c.args.given.now.steps.now c.args.place c.index-given-place.result) c.in-Part.k c.in-Part.is).1)) (loop.first_behind c.args.rooms.now c.split_at_mut-front.result.0.now c.split_at_mut-front.result.1.now c.in-Part.k c.index-back-0.result c.split_at_mut-front.ensures.value c.split_at_mut-front.ensures.front_len (let l = loop.room_low c.args.given.now.system.now root (map as_core c.args.given.now.parts.now) c' c.args.given.now.plans.now c.args.closures.now c.args.rooms.now c.args.scratch.now c.args.marks.now c.args.place made at due (as_step (get_or c.args.given.now.steps.now c.args.place c.index-given-place.result)) (loop.step_at c.args.given.now.steps.now c'.steps c.args.place c.index-given-place.result (as_step (get_or c.args.given.now.steps.now c.args.place c.index-given-place.result)) same due.low) c.in-Part.k (loop.named (get_or c.args.given.now.steps.now c.args.place c.index-given-place.result) c.in-Part.k c.in-Part.is).0 (loop.named (get_or c.args.given.now.steps.now c.args.place c.index-given-place.result) c.in-Part.k c.in-Part.is).1 in let m = c.split_at_mut-front.ensures.back_len in omega (arith, l, m)) (loop.room_low c.args.given.now.system.now root (map as_core c.args.given.now.parts.now) c' c.args.given.now.plans.now c.args.closures.now c.args.rooms.now c.args.scratch.now c.args.marks.now c.args.place made at due (as_step (get_or c.args.given.now.steps.now c.args.place c.index-given-place.result)) (loop.step_at c.args.given.now.steps.now c'.steps c.args.place c.index-given-place.result (as_step (get_or c.args.given.now.steps.now c.args.place c.index-given-place.result)) same due.low) c.in-Part.k (loop.named (get_or c.args.given.now.steps.now c.args.place c.index-given-place.result) c.in-Part.k c.in-Part.is).0 (loop.named (get_or c.args.given.now.steps.now c.args.place c.index-given-place.result) c.in-Part.k c.in-Part.is).1)) (loop.element_at c.args.marks.now c.in-Part.k c.index-marks-part.result (loop.mark_low c.args.given.now.system.now root (map as_core c.args.given.now.parts.now) c' c.args.given.now.plans.now c.args.closures.now c.args.rooms.now c.args.scratch.now c.args.marks.now c.args.place made at due (as_step (get_or c.args.given.now.steps.now c.args.place c.index-given-place.result)) (loop.step_at c.args.given.now.steps.now c'.steps c.args.place c.index-given-place.result (as_step (get_or c.args.given.now.steps.now c.args.place c.index-given-place.result)) same due.low) c.in-Part.k (loop.named (get_or c.args.given.now.steps.now c.args.place c.index-given-place.result) c.in-Part.k c.in-Part.is).0 (loop.named (get_or c.args.given.now.steps.now c.args.place c.index-given-place.result) c.in-Part.k c.in-Part.is).1)) c.split_at_mut-front.result.0.now (as_core (get_or c.args.given.now.parts.now c.in-Part.k c.index-given-part.result)) c.split_at_mut-front.ensures.front (loop.core_at c.args.given.now.parts.now c.in-Part.k c.index-given-part.result (loop.within c.args.given.now.system.now root (map as_core c.args.given.now.parts.now) c' c.args.given.now.plans.now c.args.closures.now c.args.rooms.now c.args.scratch.now c.args.marks.now c.args.place made at due (as_step (get_or c.args.given.now.steps.now c.args.place c.index-given-place.result)) (loop.step_at c.args.given.now.steps.now c'.steps c.args.place c.index-given-place.result (as_step (get_or c.args.given.now.steps.now c.args.place c.index-given-place.result)) same due.low) c.in-Part.k (loop.named (get_or c.args.given.now.steps.now c.args.place c.index-given-place.result) c.in-Part.k c.in-Part.is).0 (loop.named (get_or c.args.given.now.steps.now c.args.place c.index-given-place.result) c.in-Part.k c.in-Part.is).1)))))) (fine made (subst (λ (ss : List Step). IsDueBehind c.args.given.now.system.now (map as_core c.args.given.now.parts.now) ss c.args.given.now.plans.now c.split_at_mut-front.result.0.now made (as_core (get_or c.args.given.now.parts.now c.in-Part.k c.index-given-part.result)) (get_or c.args.given.now.plans.now c.in-Part.k c.index-given-part-in-Part.result) (as_step (get_or c.args.given.now.steps.now c.args.place c.index-given-place.result)) (get_or c.split_at_mut-front.result.1.now 0 c.index-back-0.result) c.args.scratch.now (get_or c.args.marks.now c.in-Part.k c.index-marks-part.result)) same (loop.behind c.args.given.now.system.now root (map as_core c.args.given.now.parts.now) c' c.args.given.now.plans.now c.args.closures.now c.args.rooms.now c.args.scratch.now c.args.marks.now c.args.place made at due (as_step (get_or c.args.given.now.steps.now c.args.place c.index-given-place.result)) (loop.step_at c.args.given.now.steps.now c'.steps c.args.place c.index-given-place.result (as_step (get_or c.args.given.now.steps.now c.args.place c.index-given-place.result)) same due.low) c.in-Part.k (loop.named (get_or c.args.given.now.steps.now c.args.place c.index-given-place.result) c.in-Part.k c.in-Part.is).0 (loop.named (get_or c.args.given.now.steps.now c.args.place c.index-given-place.result) c.in-Part.k c.in-Part.is).1 (get_or c.args.given.now.plans.now c.in-Part.k c.index-given-part-in-Part.result) (get_or c.split_at_mut-front.result.1.now 0 c.index-back-0.result) (get_or c.args.marks.now c.in-Part.k c.index-marks-part.result) (loop.element_at c.args.given.now.plans.now c.in-Part.k c.index-given-part-in-Part.result (loop.plan_low c.args.given.now.system.now root (map as_core c.args.given.now.parts.now) c' c.args.given.now.plans.now c.args.closures.now c.args.rooms.now c.args.scratch.now c.args.marks.now c.args.place made at due (as_step (get_or c.args.given.now.steps.now c.args.place c.index-given-place.result)) (loop.step_at c.args.given.now.steps.now c'.steps c.args.place c.index-given-place.result (as_step (get_or c.args.given.now.steps.now c.args.place c.index-given-place.result)) same due.low) c.in-Part.k (loop.named (get_or c.args.given.now.steps.now c.args.place c.index-given-place.result) c.in-Part.k c.in-Part.is).0 (loop.named (get_or c.args.given.now.steps.now c.args.place c.index-given-place.result) c.in-Part.k c.in-Part.is).1)) (loop.first_behind c.args.rooms.now c.split_at_mut-front.result.0.now c.split_at_mut-front.result.1.now c.in-Part.k c.index-back-0.result c.split_at_mut-front.ensures.value c.split_at_mut-front.ensures.front_len (let l = loop.room_low c.args.given.now.system.now root (map as_core c.args.given.now.parts.now) c' c.args.given.now.plans.now c.args.closures.now c.args.rooms.now c.args.scratch.now c.args.marks.now c.args.place made at due (as_step (get_or c.args.given.now.steps.now c.args.place c.index-given-place.result)) (loop.step_at c.args.given.now.steps.now c'.steps c.args.place c.index-given-place.result (as_step (get_or c.args.given.now.steps.now c.args.place c.index-given-place.result)) same due.low) c.in-Part.k (loop.named (get_or c.args.given.now.steps.now c.args.place c.index-given-place.result) c.in-Part.k c.in-Part.is).0 (loop.named (get_or c.args.given.now.steps.now c.args.place c.index-given-place.result) c.in-Part.k c.in-Part.is).1 in let m = c.split_at_mut-front.ensures.back_len in omega (arith, l, m)) (loop.room_low c.args.given.now.system.now root (map as_core c.args.given.now.parts.now) c' c.args.given.now.plans.now c.args.closures.now c.args.rooms.now c.args.scratch.now c.args.marks.now c.args.place made at due (as_step (get_or c.args.given.now.steps.now c.args.place c.index-given-place.result)) (loop.step_at c.args.given.now.steps.now c'.steps c.args.place c.index-given-place.result (as_step (get_or c.args.given.now.steps.now c.args.place c.index-given-place.result)) same due.low) c.in-Part.k (loop.named (get_or c.args.given.now.steps.now c.args.place c.index-given-place.result) c.in-Part.k c.in-Part.is).0 (loop.named (get_or c.args.given.now.steps.now c.args.place c.index-given-place.result) c.in-Part.k c.in-Part.is).1)) (loop.element_at c.args.marks.now c.in-Part.k c.index-marks-part.result (loop.mark_low c.args.given.now.system.now root (map as_core c.args.given.now.parts.now) c' c.args.given.now.plans.now c.args.closures.now c.args.rooms.now c.args.scratch.now c.args.marks.now c.args.place made at due (as_step (get_or c.args.given.now.steps.now c.args.place c.index-given-place.result)) (loop.step_at c.args.given.now.steps.now c'.steps c.args.place c.index-given-place.result (as_step (get_or c.args.given.now.steps.now c.args.place c.index-given-place.result)) same due.low) c.in-Part.k (loop.named (get_or c.args.given.now.steps.now c.args.place c.index-given-place.result) c.in-Part.k c.in-Part.is).0 (loop.named (get_or c.args.given.now.steps.now c.args.place c.index-given-place.result) c.in-Part.k c.in-Part.is).1)) c.split_at_mut-front.result.0.now (as_core (get_or c.args.given.now.parts.now c.in-Part.k c.index-given-part.result)) c.split_at_mut-front.ensures.front (loop.core_at c.args.given.now.parts.now c.in-Part.k c.index-given-part.result (loop.within c.args.given.now.system.now root (map as_core c.args.given.now.parts.now) c' c.args.given.now.plans.now c.args.closures.now c.args.rooms.now c.args.scratch.now c.args.marks.now c.args.place made at due (as_step (get_or c.args.given.now.steps.now c.args.place c.index-given-place.result)) (loop.step_at c.args.given.now.steps.now c'.steps c.args.place c.index-given-place.result (as_step (get_or c.args.given.now.steps.now c.args.place c.index-given-place.result)) same due.low) c.in-Part.k (loop.named (get_or c.args.given.now.steps.now c.args.place c.index-given-place.result) c.in-Part.k c.in-Part.is).0 (loop.named (get_or c.args.given.now.steps.now c.args.place c.index-given-place.result) c.in-Part.k c.in-Part.is).1)))))))
     c.check_own.ensures.fine
 
 pub returns-in-Part-clause-failing : goal.returns-in-Part-clause-failing
 returns-in-Part-clause-failing c = if_err c.check_own.result
     (λ e fails root c' made s same at due.
     subst (λ (x : Step). IsFailing c.args.given.now.system.now (map as_core c.args.given.now.parts.now) made x e.place (as_reason e.reason)) (sym (loop.step_at c.args.given.now.steps.now c'.steps c.args.place c.index-given-place.result s same due.low))
-    (fails made (subst (λ (ss : List Step). IsDueBehind c.args.given.now.system.now (map as_core c.args.given.now.parts.now) ss c.args.given.now.plans.now c.split_at_mut-front.result.0.now made (as_core (get_or c.args.given.now.parts.now c.in-Part.k c.index-given-part.result)) (get_or c.args.given.now.plans.now c.in-Part.k c.index-given-part-in-Part.result) (as_step (get_or c.args.given.now.steps.now c.args.place c.index-given-place.result)) (get_or c.split_at_mut-front.result.1.now 0 c.index-back-0.result) c.args.scratch.now (get_or c.args.marks.now c.in-Part.k c.index-marks-part.result)) same (loop.behind c.args.given.now.system.now root (map as_core c.args.given.now.parts.now) c' c.args.given.now.plans.now c.args.closures.now c.args.rooms.now c.args.scratch.now c.args.marks.now c.args.place made at due (as_step (get_or c.args.given.now.steps.now c.args.place c.index-given-place.result)) (loop.step_at c.args.given.now.steps.now c'.steps c.args.place c.index-given-place.result (as_step (get_or c.args.given.now.steps.now c.args.place c.index-given-place.result)) same due.low) c.in-Part.k (loop.named (get_or c.args.given.now.steps.now c.args.place c.index-given-place.result) c.in-Part.k c.in-Part.is).0 (loop.named (get_or c.args.given.now.steps.now c.args.place c.index-given-place.result) c.in-Part.k c.in-Part.is).1 (get_or c.args.given.now.plans.now c.in-Part.k c.index-given-part-in-Part.result) (get_or c.split_at_mut-front.result.1.now 0 c.index-back-0.result) c.args.scratch.now (get_or c.args.marks.now c.in-Part.k c.index-marks-part.result) (loop.element_at c.args.given.now.plans.now c.in-Part.k c.index-given-part-in-Part.result (loop.plan_low c.args.given.now.system.now root (map as_core c.args.given.now.parts.now) c' c.args.given.now.plans.now c.args.closures.now c.args.rooms.now c.args.scratch.now c.args.marks.now c.args.place made at due (as_step (get_or c.args.given.now.steps.now c.args.place c.index-given-place.result)) (loop.step_at c.args.given.now.steps.now c'.steps c.args.place c.index-given-place.result (as_step (get_or c.args.given.now.steps.now c.args.place c.index-given-place.result)) same due.low) c.in-Part.k (loop.named (get_or c.args.given.now.steps.now c.args.place c.index-given-place.result) c.in-Part.k c.in-Part.is).0 (loop.named (get_or c.args.given.now.steps.now c.args.place c.index-given-place.result) c.in-Part.k c.in-Part.is).1)) (loop.first_behind c.args.rooms.now c.split_at_mut-front.result.0.now c.split_at_mut-front.result.1.now c.in-Part.k c.index-back-0.result c.split_at_mut-front.ensures.value c.split_at_mut-front.ensures.front_len (let l = loop.room_low c.args.given.now.system.now root (map as_core c.args.given.now.parts.now) c' c.args.given.now.plans.now c.args.closures.now c.args.rooms.now c.args.scratch.now c.args.marks.now c.args.place made at due (as_step (get_or c.args.given.now.steps.now c.args.place c.index-given-place.result)) (loop.step_at c.args.given.now.steps.now c'.steps c.args.place c.index-given-place.result (as_step (get_or c.args.given.now.steps.now c.args.place c.index-given-place.result)) same due.low) c.in-Part.k (loop.named (get_or c.args.given.now.steps.now c.args.place c.index-given-place.result) c.in-Part.k c.in-Part.is).0 (loop.named (get_or c.args.given.now.steps.now c.args.place c.index-given-place.result) c.in-Part.k c.in-Part.is).1 in let m = c.split_at_mut-front.ensures.back_len in omega (arith, l, m)) (loop.room_low c.args.given.now.system.now root (map as_core c.args.given.now.parts.now) c' c.args.given.now.plans.now c.args.closures.now c.args.rooms.now c.args.scratch.now c.args.marks.now c.args.place made at due (as_step (get_or c.args.given.now.steps.now c.args.place c.index-given-place.result)) (loop.step_at c.args.given.now.steps.now c'.steps c.args.place c.index-given-place.result (as_step (get_or c.args.given.now.steps.now c.args.place c.index-given-place.result)) same due.low) c.in-Part.k (loop.named (get_or c.args.given.now.steps.now c.args.place c.index-given-place.result) c.in-Part.k c.in-Part.is).0 (loop.named (get_or c.args.given.now.steps.now c.args.place c.index-given-place.result) c.in-Part.k c.in-Part.is).1)) (loop.element_at c.args.marks.now c.in-Part.k c.index-marks-part.result (loop.mark_low c.args.given.now.system.now root (map as_core c.args.given.now.parts.now) c' c.args.given.now.plans.now c.args.closures.now c.args.rooms.now c.args.scratch.now c.args.marks.now c.args.place made at due (as_step (get_or c.args.given.now.steps.now c.args.place c.index-given-place.result)) (loop.step_at c.args.given.now.steps.now c'.steps c.args.place c.index-given-place.result (as_step (get_or c.args.given.now.steps.now c.args.place c.index-given-place.result)) same due.low) c.in-Part.k (loop.named (get_or c.args.given.now.steps.now c.args.place c.index-given-place.result) c.in-Part.k c.in-Part.is).0 (loop.named (get_or c.args.given.now.steps.now c.args.place c.index-given-place.result) c.in-Part.k c.in-Part.is).1)) c.split_at_mut-front.result.0.now (as_core (get_or c.args.given.now.parts.now c.in-Part.k c.index-given-part.result)) c.split_at_mut-front.ensures.front (loop.core_at c.args.given.now.parts.now c.in-Part.k c.index-given-part.result (loop.within c.args.given.now.system.now root (map as_core c.args.given.now.parts.now) c' c.args.given.now.plans.now c.args.closures.now c.args.rooms.now c.args.scratch.now c.args.marks.now c.args.place made at due (as_step (get_or c.args.given.now.steps.now c.args.place c.index-given-place.result)) (loop.step_at c.args.given.now.steps.now c'.steps c.args.place c.index-given-place.result (as_step (get_or c.args.given.now.steps.now c.args.place c.index-given-place.result)) same due.low) c.in-Part.k (loop.named (get_or c.args.given.now.steps.now c.args.place c.index-given-place.result) c.in-Part.k c.in-Part.is).0 (loop.named (get_or c.args.given.now.steps.now c.args.place c.index-given-place.result) c.in-Part.k c.in-Part.is).1))))))
+    (fails made (subst (λ (ss : List Step). IsDueBehind c.args.given.now.system.now (map as_core c.args.given.now.parts.now) ss c.args.given.now.plans.now c.split_at_mut-front.result.0.now made (as_core (get_or c.args.given.now.parts.now c.in-Part.k c.index-given-part.result)) (get_or c.args.given.now.plans.now c.in-Part.k c.index-given-part-in-Part.result) (as_step (get_or c.args.given.now.steps.now c.args.place c.index-given-place.result)) (get_or c.split_at_mut-front.result.1.now 0 c.index-back-0.result) c.args.scratch.now (get_or c.args.marks.now c.in-Part.k c.index-marks-part.result)) same (loop.behind c.args.given.now.system.now root (map as_core c.args.given.now.parts.now) c' c.args.given.now.plans.now c.args.closures.now c.args.rooms.now c.args.scratch.now c.args.marks.now c.args.place made at due (as_step (get_or c.args.given.now.steps.now c.args.place c.index-given-place.result)) (loop.step_at c.args.given.now.steps.now c'.steps c.args.place c.index-given-place.result (as_step (get_or c.args.given.now.steps.now c.args.place c.index-given-place.result)) same due.low) c.in-Part.k (loop.named (get_or c.args.given.now.steps.now c.args.place c.index-given-place.result) c.in-Part.k c.in-Part.is).0 (loop.named (get_or c.args.given.now.steps.now c.args.place c.index-given-place.result) c.in-Part.k c.in-Part.is).1 (get_or c.args.given.now.plans.now c.in-Part.k c.index-given-part-in-Part.result) (get_or c.split_at_mut-front.result.1.now 0 c.index-back-0.result) (get_or c.args.marks.now c.in-Part.k c.index-marks-part.result) (loop.element_at c.args.given.now.plans.now c.in-Part.k c.index-given-part-in-Part.result (loop.plan_low c.args.given.now.system.now root (map as_core c.args.given.now.parts.now) c' c.args.given.now.plans.now c.args.closures.now c.args.rooms.now c.args.scratch.now c.args.marks.now c.args.place made at due (as_step (get_or c.args.given.now.steps.now c.args.place c.index-given-place.result)) (loop.step_at c.args.given.now.steps.now c'.steps c.args.place c.index-given-place.result (as_step (get_or c.args.given.now.steps.now c.args.place c.index-given-place.result)) same due.low) c.in-Part.k (loop.named (get_or c.args.given.now.steps.now c.args.place c.index-given-place.result) c.in-Part.k c.in-Part.is).0 (loop.named (get_or c.args.given.now.steps.now c.args.place c.index-given-place.result) c.in-Part.k c.in-Part.is).1)) (loop.first_behind c.args.rooms.now c.split_at_mut-front.result.0.now c.split_at_mut-front.result.1.now c.in-Part.k c.index-back-0.result c.split_at_mut-front.ensures.value c.split_at_mut-front.ensures.front_len (let l = loop.room_low c.args.given.now.system.now root (map as_core c.args.given.now.parts.now) c' c.args.given.now.plans.now c.args.closures.now c.args.rooms.now c.args.scratch.now c.args.marks.now c.args.place made at due (as_step (get_or c.args.given.now.steps.now c.args.place c.index-given-place.result)) (loop.step_at c.args.given.now.steps.now c'.steps c.args.place c.index-given-place.result (as_step (get_or c.args.given.now.steps.now c.args.place c.index-given-place.result)) same due.low) c.in-Part.k (loop.named (get_or c.args.given.now.steps.now c.args.place c.index-given-place.result) c.in-Part.k c.in-Part.is).0 (loop.named (get_or c.args.given.now.steps.now c.args.place c.index-given-place.result) c.in-Part.k c.in-Part.is).1 in let m = c.split_at_mut-front.ensures.back_len in omega (arith, l, m)) (loop.room_low c.args.given.now.system.now root (map as_core c.args.given.now.parts.now) c' c.args.given.now.plans.now c.args.closures.now c.args.rooms.now c.args.scratch.now c.args.marks.now c.args.place made at due (as_step (get_or c.args.given.now.steps.now c.args.place c.index-given-place.result)) (loop.step_at c.args.given.now.steps.now c'.steps c.args.place c.index-given-place.result (as_step (get_or c.args.given.now.steps.now c.args.place c.index-given-place.result)) same due.low) c.in-Part.k (loop.named (get_or c.args.given.now.steps.now c.args.place c.index-given-place.result) c.in-Part.k c.in-Part.is).0 (loop.named (get_or c.args.given.now.steps.now c.args.place c.index-given-place.result) c.in-Part.k c.in-Part.is).1)) (loop.element_at c.args.marks.now c.in-Part.k c.index-marks-part.result (loop.mark_low c.args.given.now.system.now root (map as_core c.args.given.now.parts.now) c' c.args.given.now.plans.now c.args.closures.now c.args.rooms.now c.args.scratch.now c.args.marks.now c.args.place made at due (as_step (get_or c.args.given.now.steps.now c.args.place c.index-given-place.result)) (loop.step_at c.args.given.now.steps.now c'.steps c.args.place c.index-given-place.result (as_step (get_or c.args.given.now.steps.now c.args.place c.index-given-place.result)) same due.low) c.in-Part.k (loop.named (get_or c.args.given.now.steps.now c.args.place c.index-given-place.result) c.in-Part.k c.in-Part.is).0 (loop.named (get_or c.args.given.now.steps.now c.args.place c.index-given-place.result) c.in-Part.k c.in-Part.is).1)) c.split_at_mut-front.result.0.now (as_core (get_or c.args.given.now.parts.now c.in-Part.k c.index-given-part.result)) c.split_at_mut-front.ensures.front (loop.core_at c.args.given.now.parts.now c.in-Part.k c.index-given-part.result (loop.within c.args.given.now.system.now root (map as_core c.args.given.now.parts.now) c' c.args.given.now.plans.now c.args.closures.now c.args.rooms.now c.args.scratch.now c.args.marks.now c.args.place made at due (as_step (get_or c.args.given.now.steps.now c.args.place c.index-given-place.result)) (loop.step_at c.args.given.now.steps.now c'.steps c.args.place c.index-given-place.result (as_step (get_or c.args.given.now.steps.now c.args.place c.index-given-place.result)) same due.low) c.in-Part.k (loop.named (get_or c.args.given.now.steps.now c.args.place c.index-given-place.result) c.in-Part.k c.in-Part.is).0 (loop.named (get_or c.args.given.now.steps.now c.args.place c.index-given-place.result) c.in-Part.k c.in-Part.is).1))))))
     c.check_own.ensures.failing
 
 pub returns-in-Part-clause-ready : goal.returns-in-Part-clause-ready
 returns-in-Part-clause-ready c root c' made same at due =
     subst (λ (rs : List PartRoom). IsReady c.args.given.now.system.now root (map as_core c.args.given.now.parts.now) c'.steps c.args.given.now.plans.now c.args.closures.now rs c.check_own.new.scratch (set c.args.marks.now c.in-Part.k c.check_own.new.marks)) (sym (loop.set_first_behind c.args.rooms.now c.split_at_mut-front.result.0.now c.split_at_mut-front.result.1.now c.in-Part.k c.check_own.new.room c.split_at_mut-front.ensures.value c.split_at_mut-front.ensures.front_len))
-    (loop.part_ready c.args.given.now.system.now root (map as_core c.args.given.now.parts.now) c' c.args.given.now.plans.now c.args.closures.now c.args.rooms.now c.args.scratch.now c.args.marks.now c.args.place made at due (as_step (get_or c.args.given.now.steps.now c.args.place c.index-given-place.result)) (loop.step_at c.args.given.now.steps.now c'.steps c.args.place c.index-given-place.result (as_step (get_or c.args.given.now.steps.now c.args.place c.index-given-place.result)) same due.low) c.in-Part.k (loop.named (get_or c.args.given.now.steps.now c.args.place c.index-given-place.result) c.in-Part.k c.in-Part.is).0 (loop.named (get_or c.args.given.now.steps.now c.args.place c.index-given-place.result) c.in-Part.k c.in-Part.is).1 (get_or c.args.given.now.plans.now c.in-Part.k c.index-given-part-in-Part.result) (get_or c.split_at_mut-front.result.1.now 0 c.index-back-0.result) c.args.scratch.now (get_or c.args.marks.now c.in-Part.k c.index-marks-part.result) (loop.element_at c.args.given.now.plans.now c.in-Part.k c.index-given-part-in-Part.result (loop.plan_low c.args.given.now.system.now root (map as_core c.args.given.now.parts.now) c' c.args.given.now.plans.now c.args.closures.now c.args.rooms.now c.args.scratch.now c.args.marks.now c.args.place made at due (as_step (get_or c.args.given.now.steps.now c.args.place c.index-given-place.result)) (loop.step_at c.args.given.now.steps.now c'.steps c.args.place c.index-given-place.result (as_step (get_or c.args.given.now.steps.now c.args.place c.index-given-place.result)) same due.low) c.in-Part.k (loop.named (get_or c.args.given.now.steps.now c.args.place c.index-given-place.result) c.in-Part.k c.in-Part.is).0 (loop.named (get_or c.args.given.now.steps.now c.args.place c.index-given-place.result) c.in-Part.k c.in-Part.is).1)) (loop.first_behind c.args.rooms.now c.split_at_mut-front.result.0.now c.split_at_mut-front.result.1.now c.in-Part.k c.index-back-0.result c.split_at_mut-front.ensures.value c.split_at_mut-front.ensures.front_len (let l = loop.room_low c.args.given.now.system.now root (map as_core c.args.given.now.parts.now) c' c.args.given.now.plans.now c.args.closures.now c.args.rooms.now c.args.scratch.now c.args.marks.now c.args.place made at due (as_step (get_or c.args.given.now.steps.now c.args.place c.index-given-place.result)) (loop.step_at c.args.given.now.steps.now c'.steps c.args.place c.index-given-place.result (as_step (get_or c.args.given.now.steps.now c.args.place c.index-given-place.result)) same due.low) c.in-Part.k (loop.named (get_or c.args.given.now.steps.now c.args.place c.index-given-place.result) c.in-Part.k c.in-Part.is).0 (loop.named (get_or c.args.given.now.steps.now c.args.place c.index-given-place.result) c.in-Part.k c.in-Part.is).1 in let m = c.split_at_mut-front.ensures.back_len in omega (arith, l, m)) (loop.room_low c.args.given.now.system.now root (map as_core c.args.given.now.parts.now) c' c.args.given.now.plans.now c.args.closures.now c.args.rooms.now c.args.scratch.now c.args.marks.now c.args.place made at due (as_step (get_or c.args.given.now.steps.now c.args.place c.index-given-place.result)) (loop.step_at c.args.given.now.steps.now c'.steps c.args.place c.index-given-place.result (as_step (get_or c.args.given.now.steps.now c.args.place c.index-given-place.result)) same due.low) c.in-Part.k (loop.named (get_or c.args.given.now.steps.now c.args.place c.index-given-place.result) c.in-Part.k c.in-Part.is).0 (loop.named (get_or c.args.given.now.steps.now c.args.place c.index-given-place.result) c.in-Part.k c.in-Part.is).1)) (loop.element_at c.args.marks.now c.in-Part.k c.index-marks-part.result (loop.mark_low c.args.given.now.system.now root (map as_core c.args.given.now.parts.now) c' c.args.given.now.plans.now c.args.closures.now c.args.rooms.now c.args.scratch.now c.args.marks.now c.args.place made at due (as_step (get_or c.args.given.now.steps.now c.args.place c.index-given-place.result)) (loop.step_at c.args.given.now.steps.now c'.steps c.args.place c.index-given-place.result (as_step (get_or c.args.given.now.steps.now c.args.place c.index-given-place.result)) same due.low) c.in-Part.k (loop.named (get_or c.args.given.now.steps.now c.args.place c.index-given-place.result) c.in-Part.k c.in-Part.is).0 (loop.named (get_or c.args.given.now.steps.now c.args.place c.index-given-place.result) c.in-Part.k c.in-Part.is).1)) c.check_own.new.room c.check_own.new.scratch c.check_own.new.marks c.check_own.ensures.room c.check_own.ensures.scratch (subst (λ (ss : List Step). IsMarkRoomFor ss (get_or c.args.given.now.plans.now c.in-Part.k c.index-given-part-in-Part.result).work c.check_own.new.marks) (sym same) (c.check_own.ensures.marks made (subst (λ (ss : List Step). IsDueBehind c.args.given.now.system.now (map as_core c.args.given.now.parts.now) ss c.args.given.now.plans.now c.split_at_mut-front.result.0.now made (as_core (get_or c.args.given.now.parts.now c.in-Part.k c.index-given-part.result)) (get_or c.args.given.now.plans.now c.in-Part.k c.index-given-part-in-Part.result) (as_step (get_or c.args.given.now.steps.now c.args.place c.index-given-place.result)) (get_or c.split_at_mut-front.result.1.now 0 c.index-back-0.result) c.args.scratch.now (get_or c.args.marks.now c.in-Part.k c.index-marks-part.result)) same (loop.behind c.args.given.now.system.now root (map as_core c.args.given.now.parts.now) c' c.args.given.now.plans.now c.args.closures.now c.args.rooms.now c.args.scratch.now c.args.marks.now c.args.place made at due (as_step (get_or c.args.given.now.steps.now c.args.place c.index-given-place.result)) (loop.step_at c.args.given.now.steps.now c'.steps c.args.place c.index-given-place.result (as_step (get_or c.args.given.now.steps.now c.args.place c.index-given-place.result)) same due.low) c.in-Part.k (loop.named (get_or c.args.given.now.steps.now c.args.place c.index-given-place.result) c.in-Part.k c.in-Part.is).0 (loop.named (get_or c.args.given.now.steps.now c.args.place c.index-given-place.result) c.in-Part.k c.in-Part.is).1 (get_or c.args.given.now.plans.now c.in-Part.k c.index-given-part-in-Part.result) (get_or c.split_at_mut-front.result.1.now 0 c.index-back-0.result) c.args.scratch.now (get_or c.args.marks.now c.in-Part.k c.index-marks-part.result) (loop.element_at c.args.given.now.plans.now c.in-Part.k c.index-given-part-in-Part.result (loop.plan_low c.args.given.now.system.now root (map as_core c.args.given.now.parts.now) c' c.args.given.now.plans.now c.args.closures.now c.args.rooms.now c.args.scratch.now c.args.marks.now c.args.place made at due (as_step (get_or c.args.given.now.steps.now c.args.place c.index-given-place.result)) (loop.step_at c.args.given.now.steps.now c'.steps c.args.place c.index-given-place.result (as_step (get_or c.args.given.now.steps.now c.args.place c.index-given-place.result)) same due.low) c.in-Part.k (loop.named (get_or c.args.given.now.steps.now c.args.place c.index-given-place.result) c.in-Part.k c.in-Part.is).0 (loop.named (get_or c.args.given.now.steps.now c.args.place c.index-given-place.result) c.in-Part.k c.in-Part.is).1)) (loop.first_behind c.args.rooms.now c.split_at_mut-front.result.0.now c.split_at_mut-front.result.1.now c.in-Part.k c.index-back-0.result c.split_at_mut-front.ensures.value c.split_at_mut-front.ensures.front_len (let l = loop.room_low c.args.given.now.system.now root (map as_core c.args.given.now.parts.now) c' c.args.given.now.plans.now c.args.closures.now c.args.rooms.now c.args.scratch.now c.args.marks.now c.args.place made at due (as_step (get_or c.args.given.now.steps.now c.args.place c.index-given-place.result)) (loop.step_at c.args.given.now.steps.now c'.steps c.args.place c.index-given-place.result (as_step (get_or c.args.given.now.steps.now c.args.place c.index-given-place.result)) same due.low) c.in-Part.k (loop.named (get_or c.args.given.now.steps.now c.args.place c.index-given-place.result) c.in-Part.k c.in-Part.is).0 (loop.named (get_or c.args.given.now.steps.now c.args.place c.index-given-place.result) c.in-Part.k c.in-Part.is).1 in let m = c.split_at_mut-front.ensures.back_len in omega (arith, l, m)) (loop.room_low c.args.given.now.system.now root (map as_core c.args.given.now.parts.now) c' c.args.given.now.plans.now c.args.closures.now c.args.rooms.now c.args.scratch.now c.args.marks.now c.args.place made at due (as_step (get_or c.args.given.now.steps.now c.args.place c.index-given-place.result)) (loop.step_at c.args.given.now.steps.now c'.steps c.args.place c.index-given-place.result (as_step (get_or c.args.given.now.steps.now c.args.place c.index-given-place.result)) same due.low) c.in-Part.k (loop.named (get_or c.args.given.now.steps.now c.args.place c.index-given-place.result) c.in-Part.k c.in-Part.is).0 (loop.named (get_or c.args.given.now.steps.now c.args.place c.index-given-place.result) c.in-Part.k c.in-Part.is).1)) (loop.element_at c.args.marks.now c.in-Part.k c.index-marks-part.result (loop.mark_low c.args.given.now.system.now root (map as_core c.args.given.now.parts.now) c' c.args.given.now.plans.now c.args.closures.now c.args.rooms.now c.args.scratch.now c.args.marks.now c.args.place made at due (as_step (get_or c.args.given.now.steps.now c.args.place c.index-given-place.result)) (loop.step_at c.args.given.now.steps.now c'.steps c.args.place c.index-given-place.result (as_step (get_or c.args.given.now.steps.now c.args.place c.index-given-place.result)) same due.low) c.in-Part.k (loop.named (get_or c.args.given.now.steps.now c.args.place c.index-given-place.result) c.in-Part.k c.in-Part.is).0 (loop.named (get_or c.args.given.now.steps.now c.args.place c.index-given-place.result) c.in-Part.k c.in-Part.is).1)) c.split_at_mut-front.result.0.now (as_core (get_or c.args.given.now.parts.now c.in-Part.k c.index-given-part.result)) c.split_at_mut-front.ensures.front (loop.core_at c.args.given.now.parts.now c.in-Part.k c.index-given-part.result (loop.within c.args.given.now.system.now root (map as_core c.args.given.now.parts.now) c' c.args.given.now.plans.now c.args.closures.now c.args.rooms.now c.args.scratch.now c.args.marks.now c.args.place made at due (as_step (get_or c.args.given.now.steps.now c.args.place c.index-given-place.result)) (loop.step_at c.args.given.now.steps.now c'.steps c.args.place c.index-given-place.result (as_step (get_or c.args.given.now.steps.now c.args.place c.index-given-place.result)) same due.low) c.in-Part.k (loop.named (get_or c.args.given.now.steps.now c.args.place c.index-given-place.result) c.in-Part.k c.in-Part.is).0 (loop.named (get_or c.args.given.now.steps.now c.args.place c.index-given-place.result) c.in-Part.k c.in-Part.is).1)))))))
+    (loop.part_ready c.args.given.now.system.now root (map as_core c.args.given.now.parts.now) c' c.args.given.now.plans.now c.args.closures.now c.args.rooms.now c.args.scratch.now c.args.marks.now c.args.place made at due (as_step (get_or c.args.given.now.steps.now c.args.place c.index-given-place.result)) (loop.step_at c.args.given.now.steps.now c'.steps c.args.place c.index-given-place.result (as_step (get_or c.args.given.now.steps.now c.args.place c.index-given-place.result)) same due.low) c.in-Part.k (loop.named (get_or c.args.given.now.steps.now c.args.place c.index-given-place.result) c.in-Part.k c.in-Part.is).0 (loop.named (get_or c.args.given.now.steps.now c.args.place c.index-given-place.result) c.in-Part.k c.in-Part.is).1 (get_or c.args.given.now.plans.now c.in-Part.k c.index-given-part-in-Part.result) (get_or c.split_at_mut-front.result.1.now 0 c.index-back-0.result) (get_or c.args.marks.now c.in-Part.k c.index-marks-part.result) (loop.element_at c.args.given.now.plans.now c.in-Part.k c.index-given-part-in-Part.result (loop.plan_low c.args.given.now.system.now root (map as_core c.args.given.now.parts.now) c' c.args.given.now.plans.now c.args.closures.now c.args.rooms.now c.args.scratch.now c.args.marks.now c.args.place made at due (as_step (get_or c.args.given.now.steps.now c.args.place c.index-given-place.result)) (loop.step_at c.args.given.now.steps.now c'.steps c.args.place c.index-given-place.result (as_step (get_or c.args.given.now.steps.now c.args.place c.index-given-place.result)) same due.low) c.in-Part.k (loop.named (get_or c.args.given.now.steps.now c.args.place c.index-given-place.result) c.in-Part.k c.in-Part.is).0 (loop.named (get_or c.args.given.now.steps.now c.args.place c.index-given-place.result) c.in-Part.k c.in-Part.is).1)) (loop.first_behind c.args.rooms.now c.split_at_mut-front.result.0.now c.split_at_mut-front.result.1.now c.in-Part.k c.index-back-0.result c.split_at_mut-front.ensures.value c.split_at_mut-front.ensures.front_len (let l = loop.room_low c.args.given.now.system.now root (map as_core c.args.given.now.parts.now) c' c.args.given.now.plans.now c.args.closures.now c.args.rooms.now c.args.scratch.now c.args.marks.now c.args.place made at due (as_step (get_or c.args.given.now.steps.now c.args.place c.index-given-place.result)) (loop.step_at c.args.given.now.steps.now c'.steps c.args.place c.index-given-place.result (as_step (get_or c.args.given.now.steps.now c.args.place c.index-given-place.result)) same due.low) c.in-Part.k (loop.named (get_or c.args.given.now.steps.now c.args.place c.index-given-place.result) c.in-Part.k c.in-Part.is).0 (loop.named (get_or c.args.given.now.steps.now c.args.place c.index-given-place.result) c.in-Part.k c.in-Part.is).1 in let m = c.split_at_mut-front.ensures.back_len in omega (arith, l, m)) (loop.room_low c.args.given.now.system.now root (map as_core c.args.given.now.parts.now) c' c.args.given.now.plans.now c.args.closures.now c.args.rooms.now c.args.scratch.now c.args.marks.now c.args.place made at due (as_step (get_or c.args.given.now.steps.now c.args.place c.index-given-place.result)) (loop.step_at c.args.given.now.steps.now c'.steps c.args.place c.index-given-place.result (as_step (get_or c.args.given.now.steps.now c.args.place c.index-given-place.result)) same due.low) c.in-Part.k (loop.named (get_or c.args.given.now.steps.now c.args.place c.index-given-place.result) c.in-Part.k c.in-Part.is).0 (loop.named (get_or c.args.given.now.steps.now c.args.place c.index-given-place.result) c.in-Part.k c.in-Part.is).1)) (loop.element_at c.args.marks.now c.in-Part.k c.index-marks-part.result (loop.mark_low c.args.given.now.system.now root (map as_core c.args.given.now.parts.now) c' c.args.given.now.plans.now c.args.closures.now c.args.rooms.now c.args.scratch.now c.args.marks.now c.args.place made at due (as_step (get_or c.args.given.now.steps.now c.args.place c.index-given-place.result)) (loop.step_at c.args.given.now.steps.now c'.steps c.args.place c.index-given-place.result (as_step (get_or c.args.given.now.steps.now c.args.place c.index-given-place.result)) same due.low) c.in-Part.k (loop.named (get_or c.args.given.now.steps.now c.args.place c.index-given-place.result) c.in-Part.k c.in-Part.is).0 (loop.named (get_or c.args.given.now.steps.now c.args.place c.index-given-place.result) c.in-Part.k c.in-Part.is).1)) c.check_own.new.room c.check_own.new.scratch c.check_own.new.marks c.check_own.ensures.room c.check_own.ensures.scratch (subst (λ (ss : List Step). IsMarkRoomFor ss (get_or c.args.given.now.plans.now c.in-Part.k c.index-given-part-in-Part.result).work c.check_own.new.marks) (sym same) (c.check_own.ensures.marks made (subst (λ (ss : List Step). IsDueBehind c.args.given.now.system.now (map as_core c.args.given.now.parts.now) ss c.args.given.now.plans.now c.split_at_mut-front.result.0.now made (as_core (get_or c.args.given.now.parts.now c.in-Part.k c.index-given-part.result)) (get_or c.args.given.now.plans.now c.in-Part.k c.index-given-part-in-Part.result) (as_step (get_or c.args.given.now.steps.now c.args.place c.index-given-place.result)) (get_or c.split_at_mut-front.result.1.now 0 c.index-back-0.result) c.args.scratch.now (get_or c.args.marks.now c.in-Part.k c.index-marks-part.result)) same (loop.behind c.args.given.now.system.now root (map as_core c.args.given.now.parts.now) c' c.args.given.now.plans.now c.args.closures.now c.args.rooms.now c.args.scratch.now c.args.marks.now c.args.place made at due (as_step (get_or c.args.given.now.steps.now c.args.place c.index-given-place.result)) (loop.step_at c.args.given.now.steps.now c'.steps c.args.place c.index-given-place.result (as_step (get_or c.args.given.now.steps.now c.args.place c.index-given-place.result)) same due.low) c.in-Part.k (loop.named (get_or c.args.given.now.steps.now c.args.place c.index-given-place.result) c.in-Part.k c.in-Part.is).0 (loop.named (get_or c.args.given.now.steps.now c.args.place c.index-given-place.result) c.in-Part.k c.in-Part.is).1 (get_or c.args.given.now.plans.now c.in-Part.k c.index-given-part-in-Part.result) (get_or c.split_at_mut-front.result.1.now 0 c.index-back-0.result) (get_or c.args.marks.now c.in-Part.k c.index-marks-part.result) (loop.element_at c.args.given.now.plans.now c.in-Part.k c.index-given-part-in-Part.result (loop.plan_low c.args.given.now.system.now root (map as_core c.args.given.now.parts.now) c' c.args.given.now.plans.now c.args.closures.now c.args.rooms.now c.args.scratch.now c.args.marks.now c.args.place made at due (as_step (get_or c.args.given.now.steps.now c.args.place c.index-given-place.result)) (loop.step_at c.args.given.now.steps.now c'.steps c.args.place c.index-given-place.result (as_step (get_or c.args.given.now.steps.now c.args.place c.index-given-place.result)) same due.low) c.in-Part.k (loop.named (get_or c.args.given.now.steps.now c.args.place c.index-given-place.result) c.in-Part.k c.in-Part.is).0 (loop.named (get_or c.args.given.now.steps.now c.args.place c.index-given-place.result) c.in-Part.k c.in-Part.is).1)) (loop.first_behind c.args.rooms.now c.split_at_mut-front.result.0.now c.split_at_mut-front.result.1.now c.in-Part.k c.index-back-0.result c.split_at_mut-front.ensures.value c.split_at_mut-front.ensures.front_len (let l = loop.room_low c.args.given.now.system.now root (map as_core c.args.given.now.parts.now) c' c.args.given.now.plans.now c.args.closures.now c.args.rooms.now c.args.scratch.now c.args.marks.now c.args.place made at due (as_step (get_or c.args.given.now.steps.now c.args.place c.index-given-place.result)) (loop.step_at c.args.given.now.steps.now c'.steps c.args.place c.index-given-place.result (as_step (get_or c.args.given.now.steps.now c.args.place c.index-given-place.result)) same due.low) c.in-Part.k (loop.named (get_or c.args.given.now.steps.now c.args.place c.index-given-place.result) c.in-Part.k c.in-Part.is).0 (loop.named (get_or c.args.given.now.steps.now c.args.place c.index-given-place.result) c.in-Part.k c.in-Part.is).1 in let m = c.split_at_mut-front.ensures.back_len in omega (arith, l, m)) (loop.room_low c.args.given.now.system.now root (map as_core c.args.given.now.parts.now) c' c.args.given.now.plans.now c.args.closures.now c.args.rooms.now c.args.scratch.now c.args.marks.now c.args.place made at due (as_step (get_or c.args.given.now.steps.now c.args.place c.index-given-place.result)) (loop.step_at c.args.given.now.steps.now c'.steps c.args.place c.index-given-place.result (as_step (get_or c.args.given.now.steps.now c.args.place c.index-given-place.result)) same due.low) c.in-Part.k (loop.named (get_or c.args.given.now.steps.now c.args.place c.index-given-place.result) c.in-Part.k c.in-Part.is).0 (loop.named (get_or c.args.given.now.steps.now c.args.place c.index-given-place.result) c.in-Part.k c.in-Part.is).1)) (loop.element_at c.args.marks.now c.in-Part.k c.index-marks-part.result (loop.mark_low c.args.given.now.system.now root (map as_core c.args.given.now.parts.now) c' c.args.given.now.plans.now c.args.closures.now c.args.rooms.now c.args.scratch.now c.args.marks.now c.args.place made at due (as_step (get_or c.args.given.now.steps.now c.args.place c.index-given-place.result)) (loop.step_at c.args.given.now.steps.now c'.steps c.args.place c.index-given-place.result (as_step (get_or c.args.given.now.steps.now c.args.place c.index-given-place.result)) same due.low) c.in-Part.k (loop.named (get_or c.args.given.now.steps.now c.args.place c.index-given-place.result) c.in-Part.k c.in-Part.is).0 (loop.named (get_or c.args.given.now.steps.now c.args.place c.index-given-place.result) c.in-Part.k c.in-Part.is).1)) c.split_at_mut-front.result.0.now (as_core (get_or c.args.given.now.parts.now c.in-Part.k c.index-given-part.result)) c.split_at_mut-front.ensures.front (loop.core_at c.args.given.now.parts.now c.in-Part.k c.index-given-part.result (loop.within c.args.given.now.system.now root (map as_core c.args.given.now.parts.now) c' c.args.given.now.plans.now c.args.closures.now c.args.rooms.now c.args.scratch.now c.args.marks.now c.args.place made at due (as_step (get_or c.args.given.now.steps.now c.args.place c.index-given-place.result)) (loop.step_at c.args.given.now.steps.now c'.steps c.args.place c.index-given-place.result (as_step (get_or c.args.given.now.steps.now c.args.place c.index-given-place.result)) same due.low) c.in-Part.k (loop.named (get_or c.args.given.now.steps.now c.args.place c.index-given-place.result) c.in-Part.k c.in-Part.is).0 (loop.named (get_or c.args.given.now.steps.now c.args.place c.index-given-place.result) c.in-Part.k c.in-Part.is).1)))))))
