@@ -1,34 +1,46 @@
 -- Entries in runs, and one more.
-use Rattle.std.proofs.Common.{◌≡◌, ℕ, suc, ◌+◌, ◌-◌, ◌*◌, ◌<◌, ◌≤◌, List, [], ◌∷◌, ◌++◌, Option, Some, None, map, take, drop, length, get_or, slice_get, refl, ap, sym, ◌∙◌, arith, subst, ⊎_elim, length-append}
+use Rattle.std.proofs.Common.{◌≡◌, ℕ, suc, ◌+◌, ◌-◌, ◌*◌, ◌<◌, ◌≤◌, List, [], ◌∷◌, ◌++◌, Bool, IsTrue, Option, Some, None, map, take, drop, length, get_or, slice_get, refl, ap, sym, ◌∙◌, arith, subst, ⊎_elim, length-append}
 use Rattle.std.specs.List.{range_with_len}
 use Rattle.std.proofs.lemmas.Bool.{cases_lt}
 use Rattle.std.proofs.lemmas.List.{length-map, get_or-map, map_push, take_more, take_all, length_push, length-drop, take-map, drop-map, take-append-le, drop-append-le, get_or_append_left}
 use Rattle.std.proofs.Math.Seq.{get_or-append_seam, drop-append_seam}
 use Rattle.std.proofs.lemmas.Option.{get_or_from_slice_get}
 use Rattle.std.proofs.lemmas.List.FromFn.{length-map-range_with_len, get_or-map-range_with_len, map-range_with_len_more, fill_by_all}
-use Rattle.fort_terms.specs.declared.sym.Sym.{Sym}
 use Rattle.fort_tables.specs.Tuples.{TupleSymbol}
 use Rattle.fort_tables.specs.Entries.{Entry, entry, stage}
-use Rattle.fort_lockstep.specs.Columns.{as_column, as_symbol}
+use Rattle.fort_lockstep.specs.Columns.{column_of, symbol_of, digit_of}
 use Rattle.fort_lockstep.proofs.PieceLaws.{piece_within}
 use Rattle.fort_check_steps.specs.declared.entry_list.Run.{Run}
 use Rattle.fort_check_steps.specs.declared.entry_list.EntryList.TheInside.{Inside}
 use Rattle.fort_check_steps.specs.EntryListView.{Listing, AreStarts, start_of}
-use Rattle.fort_check_steps.specs.EntryListInside.{listing_in, no_run, firsts, symbol_at, kids_at, entry_of, entry_at, all_entries, AreRuns, IsContinued, IsRunMade}
+use Rattle.fort_check_steps.specs.EntryListInside.{listing_in, no_run, firsts, symbol_at, kids_at, stage_at, entry_of, entry_at, all_entries, AreRuns, IsContinued, IsRunMade}
 use Rattle.fort_check_steps.proofs.RunLaws.{IsRunOf, AreRising, start_below, run_is, run_there, start_again, start_behind, start_pushed}
 
 -- ---- the columns of a run
 
-pub column_more : (cs : List (Option Sym)) (f : TupleSymbol) (k : ℕ) (x : Option Sym) (b : Option ℕ) → length cs ≡ length f → k < length cs → x ≡ get_or cs k None → slice_get f k ≡ Some b
-    → as_column x ≡ b → take k (as_symbol cs) ≡ take k f → take (k + 1) (as_symbol cs) ≡ take (k + 1) f
-column_more cs f k x b e l x_is b_is same before =
-    let own : get_or (as_symbol cs) k None ≡ as_column x = get_or-map as_column cs k None None l ∙ ap as_column (sym x_is) in
+pub column_again : (d : ℕ) (c : Option ℕ) → d ≡ digit_of c → column_of d ≡ c
+column_again d None e = ap column_of e
+column_again d (Some g) e = ap column_of e
+
+pub digit_again : (c : Option ℕ) → column_of (digit_of c) ≡ c
+digit_again None = refl
+digit_again (Some g) = refl
+
+-- a symbol below 255 has a digit of one byte
+pub digit_small : (f : TupleSymbol) (k : ℕ) (c : Option ℕ) → ((i g : ℕ) → slice_get f i ≡ Some (Some g) → g < 255) → slice_get f k ≡ Some c → digit_of c < 256
+digit_small f k None h e = omega arith
+digit_small f k (Some g) h e = omega (arith, h k g e)
+
+pub column_more : (ds : List ℕ) (f : TupleSymbol) (k : ℕ) (x : ℕ) (b : Option ℕ) → length ds ≡ length f → k < length ds → x ≡ get_or ds k 0 → slice_get f k ≡ Some b
+    → column_of x ≡ b → take k (symbol_of ds) ≡ take k f → take (k + 1) (symbol_of ds) ≡ take (k + 1) f
+column_more ds f k x b e l x_is b_is same before =
+    let own : get_or (symbol_of ds) k None ≡ column_of x = get_or-map column_of ds k 0 None l ∙ ap column_of (sym x_is) in
     let other : b ≡ get_or f k None = sym (get_or_from_slice_get f k b None b_is) in
-    take_more (as_symbol cs) k None (omega (arith, length-map cs as_column))
+    take_more (symbol_of ds) k None (omega (arith, length-map ds column_of))
     ∙ ((λ i. before i ++ (own ∙ (same ∙ other)) i ∷ []) ∙ sym (take_more f k None (omega arith)))
 
-pub columns_all : (cs : List (Option Sym)) (f : TupleSymbol) (k : ℕ) → length cs ≡ length f → length cs ≤ k → take k (as_symbol cs) ≡ take k f → as_symbol cs ≡ f
-columns_all cs f k e l same = sym (take_all k (as_symbol cs) (omega (arith, length-map cs as_column))) ∙ (same ∙ take_all k f (omega arith))
+pub columns_all : (ds : List ℕ) (f : TupleSymbol) (k : ℕ) → length ds ≡ length f → length ds ≤ k → take k (symbol_of ds) ≡ take k f → symbol_of ds ≡ f
+columns_all ds f k e l same = sym (take_all k (symbol_of ds) (omega (arith, length-map ds column_of))) ∙ (same ∙ take_all k f (omega arith))
 
 -- ---- entries by their runs
 
@@ -56,6 +68,12 @@ module _ (columns : ℕ) (rs : List Run) (symbols : TupleSymbol) (words : List �
       let inside : k - r.first < m = omega (arith, o.high, o.low, first_is i n l) in
       omega (arith, h.within i l, piece_within (k - r.first) m r.kids inside)
 
+  -- its first entry is one of the run
+  first_of : (i : ℕ) → i < length rs → IsRunOf (firsts rs) n (get_or rs i no_run).first i
+  first_of i l =
+      let there : i < length (firsts rs) = omega (arith, length-map rs (λ (r : Run). r.first)) in
+      record { there = there; low = omega (arith, first_is i n l); high = omega (arith, first_is i n l, h.rising i there) }
+
   known : (k : ℕ) → k < n → (i : ℕ) × IsRunOf (firsts rs) n k i
   known k l = run_there (firsts rs) n k (omega (arith, h.zero_first)) l
 
@@ -66,6 +84,9 @@ module _ (columns : ℕ) (rs : List Run) (symbols : TupleSymbol) (words : List �
         let from : ℕ = r.start + (k - r.first) * r.kids in
         let fits : from + r.kids ≤ length words = kids_within k i o in
         ap (take r.kids) (drop-append-le from words ks (omega arith)) ∙ take-append-le r.kids (drop from words) ks (omega (arith, length-drop from words))
+
+    stage_stays : (i : ℕ) → i < length rs → stage_at (get_or rs i no_run) (words ++ ks) ≡ stage_at (get_or rs i no_run) words
+    stage_stays i l = ap stage (kids_stay (get_or rs i no_run).first i (first_of i l))
 
     -- the entries, where each but the last is as before
     more : (rs' : List Run) (symbols' : TupleSymbol) (e : Entry) → ((k : ℕ) → k < n → entry_at columns rs' symbols' (words ++ ks) (n + 1) k ≡ entry_at columns rs symbols words n k)
@@ -78,7 +99,7 @@ module _ (columns : ℕ) (rs : List Run) (symbols : TupleSymbol) (words : List �
         map-range_with_len_more new 0 n n (omega arith) ∙ (λ i. same i ++ last i ∷ [])
 
     -- the last run goes on
-    module _ (r : Run) (f : TupleSymbol) (c : IsContinued rs columns symbols f r) (size : r.kids ≡ length ks) (staged : r.stage ≡ stage ks) where
+    module _ (same : Bool) (r : Run) (f : TupleSymbol) (c : IsContinued same rs columns symbols f r) (size : r.kids ≡ length ks) (staged : stage_at (get_or rs c.place no_run) words ≡ stage ks) where
       same_rising : AreRising (firsts rs) (n + 1)
       same_rising i l =
           ⊎_elim
@@ -125,6 +146,9 @@ module _ (columns : ℕ) (rs : List Run) (symbols : TupleSymbol) (words : List �
       pub same_entries : all_entries columns rs symbols (words ++ ks) (n + 1) ≡ all_entries columns rs symbols words n ++ entry f ks ∷ []
       same_entries = more rs symbols (entry f ks) same_before same_last
 
+      pub same_stage : stage_at (get_or rs c.place no_run) (words ++ ks) ≡ stage ks
+      same_stage = stage_stays c.place (omega (arith, c.is_last)) ∙ staged
+
       -- what the last run grows by
       grown : (first size : ℕ) → first ≤ n → (n + 1 - first) * size ≡ (n - first) * size + size
       grown first size l = let e : n + 1 - first ≡ suc (n - first) = omega arith in ap (λ j. j * size) e ∙ omega arith
@@ -142,10 +166,10 @@ module _ (columns : ℕ) (rs : List Run) (symbols : TupleSymbol) (words : List �
             omega (arith, at_last i is_last, ap (λ j. (j - (get_or rs i no_run).first) * (get_or rs i no_run).kids) behind))
             (cases_lt (suc i) (length (firsts rs)));
         staged = λ i k l low high. ⊎_elim
-            (λ old. let o : IsRunOf (firsts rs) n k i = old_of i k l low high old in ap stage (kids_stay k i o) ∙ h.staged i k l o.low o.high)
+            (λ old. let o : IsRunOf (firsts rs) n k i = old_of i k l low high old in ap stage (kids_stay k i o) ∙ (h.staged i k l o.low o.high ∙ sym (stage_stays i l)))
             (λ new. let at : i ≡ c.place = last_is i k l low high new in
             let here : k ≡ n = last_at i k l low high new in
-            ap stage ((λ j. kids_at (get_or rs (at j) no_run) (words ++ ks) (here j)) ∙ kids_last) ∙ (sym staged ∙ (sym c.stage_is ∙ ap (λ j. (get_or rs j no_run).stage) (sym at))))
+            ap stage ((λ j. kids_at (get_or rs (at j) no_run) (words ++ ks) (here j)) ∙ kids_last) ∙ (sym same_stage ∙ ap (λ j. stage_at (get_or rs j no_run) (words ++ ks)) (sym at)))
             (cases_lt k n);
         last = at_last;
       }
@@ -181,7 +205,7 @@ module _ (columns : ℕ) (rs : List Run) (symbols : TupleSymbol) (words : List �
               omega (arith, h.last i e, grown r.first r.kids (omega (arith, first_is i n (omega arith), h.rising i low, start_below (firsts rs) n (suc i) h.rising)), length-append words ks)
 
     -- a new run
-    module _ (r : Run) (f : TupleSymbol) (first : r.first ≡ n) (start : r.start ≡ length words) (size : r.kids ≡ length ks) (staged : r.stage ≡ stage ks) (small : length ks ≤ 8) (width : length f ≡ columns) where
+    module _ (r : Run) (f : TupleSymbol) (first : r.first ≡ n) (start : r.start ≡ length words) (size : r.kids ≡ length ks) (small : length ks ≤ 8) (width : length f ≡ columns) where
       pushed : firsts (rs ++ r ∷ []) ≡ firsts rs ++ n ∷ []
       pushed = map_push (λ (s : Run). s.first) rs r ∙ ap (λ j. firsts rs ++ j ∷ []) first
 
@@ -255,6 +279,9 @@ module _ (columns : ℕ) (rs : List Run) (symbols : TupleSymbol) (words : List �
           ap (entry_of columns (rs ++ r ∷ []) (symbols ++ f) (words ++ ks) n) (run_is (firsts (rs ++ r ∷ [])) (n + 1) n i new_rising new_last_of)
           ∙ ((λ j. entry (symbol j) (kids_at (new_run i refl j) (words ++ ks) n)) ∙ ap (entry f) new_kids)
 
+      pub new_stage : (i : ℕ) → i ≡ length rs → stage_at (get_or (rs ++ r ∷ []) i no_run) (words ++ ks) ≡ stage ks
+      new_stage i e = ap (λ (s : Run). stage_at s (words ++ ks)) (new_run i e) ∙ ap stage (ap (kids_at r (words ++ ks)) first ∙ new_kids)
+
       pub new_entries : all_entries columns (rs ++ r ∷ []) (symbols ++ f) (words ++ ks) (n + 1) ≡ all_entries columns rs symbols words n ++ entry f ks ∷ []
       new_entries = more (rs ++ r ∷ []) (symbols ++ f) (entry f ks) new_before new_last
 
@@ -288,10 +315,10 @@ module _ (columns : ℕ) (rs : List Run) (symbols : TupleSymbol) (words : List �
               low = omega (arith, low, new_start i (n + 1) (omega (arith, size_is)));
               high = omega (arith, high, new_start (suc i) (n + 1) (omega (arith, size_is)));
             } in
-            subst (λ (s : Run). stage (kids_at s (words ++ ks) k) ≡ s.stage) (sym (old_run i low_i)) (ap stage (kids_stay k i o) ∙ h.staged i k low_i o.low o.high))
+            subst (λ (s : Run). stage (kids_at s (words ++ ks) k) ≡ stage_at s (words ++ ks)) (sym (old_run i low_i)) (ap stage (kids_stay k i o) ∙ (h.staged i k low_i o.low o.high ∙ sym (stage_stays i low_i))))
             (λ new. let at : i ≡ length rs = new_high i k l high new in
             let here : k ≡ n = omega (arith, high, start_below (firsts (rs ++ r ∷ [])) (n + 1) (suc i) new_rising) in
-            subst (λ (s : Run). stage (kids_at s (words ++ ks) k) ≡ s.stage) (sym (new_run i at)) (ap stage (ap (kids_at r (words ++ ks)) here ∙ new_kids) ∙ sym staged))
+            subst (λ (s : Run). stage (kids_at s (words ++ ks) k) ≡ stage_at s (words ++ ks)) (sym (new_run i at)) (ap (λ j. stage (kids_at r (words ++ ks) j)) (here ∙ sym first)))
             (cases_lt k n);
         last = λ i e. let at : i ≡ length rs = omega (arith, more_runs) in
             subst (λ (s : Run). s.start + (n + 1 - s.first) * s.kids ≡ length (words ++ ks)) (sym (new_run i at)) filled;
@@ -306,17 +333,17 @@ module _ (columns : ℕ) (rs : List Run) (symbols : TupleSymbol) (words : List �
               (λ e. omega (arith, more_runs))
               (cases_lt i (length rs))
 
-pub columns_at : (c i m : ℕ) (cs : List (Option Sym)) → m ≡ c → as_symbol (take m (drop (i * c) cs)) ≡ symbol_at c (as_symbol cs) i
-columns_at c i m cs e =
-    ap (λ k. as_symbol (take k (drop (i * c) cs))) e ∙ (sym (take-map as_column c (drop (i * c) cs)) ∙ ap (take c) (sym (drop-map as_column (i * c) cs)))
+pub columns_at : (c i m : ℕ) (ds : List ℕ) → m ≡ c → symbol_of (take m (drop (i * c) ds)) ≡ symbol_at c (symbol_of ds) i
+columns_at c i m ds e =
+    ap (λ k. symbol_of (take k (drop (i * c) ds))) e ∙ (sym (take-map column_of c (drop (i * c) ds)) ∙ ap (take c) (sym (drop-map column_of (i * c) ds)))
 
 -- ---- what a list of entries tells of them
 
-module _ (a : Inside) (h : AreRuns a.columns a.runs.items (as_symbol a.symbols.items) a.kids.items a.count) (l : Listing) (is : listing_in a ≡ l) where
+module _ (a : Inside) (h : AreRuns a.columns a.runs.items (symbol_of a.symbols.items) a.kids.items a.count) (l : Listing) (is : listing_in a ≡ l) where
   pub start_is : (i : ℕ) → start_of l i ≡ get_or (firsts a.runs.items) i a.count
   start_is i =
       sym (ap (λ (x : Listing). start_of x i) is)
-      ∙ ap (λ (n : ℕ). get_or (firsts a.runs.items) i n) (length_all a.columns a.runs.items (as_symbol a.symbols.items) a.kids.items a.count)
+      ∙ ap (λ (n : ℕ). get_or (firsts a.runs.items) i n) (length_all a.columns a.runs.items (symbol_of a.symbols.items) a.kids.items a.count)
 
   pub starts_are : length l.starts ≡ length a.runs.items
   starts_are = sym (ap (λ (x : Listing). length x.starts) is) ∙ length-map a.runs.items (λ (r : Run). r.first)
@@ -331,13 +358,13 @@ module _ (a : Inside) (h : AreRuns a.columns a.runs.items (as_symbol a.symbols.i
     high = omega (arith, high, start_later i);
   }
 
-  pub entry_in_run : (k i : ℕ) (d : Entry) → IsRunOf (firsts a.runs.items) a.count k i → get_or l.entries k d ≡ entry_of a.columns a.runs.items (as_symbol a.symbols.items) a.kids.items k i
+  pub entry_in_run : (k i : ℕ) (d : Entry) → IsRunOf (firsts a.runs.items) a.count k i → get_or l.entries k d ≡ entry_of a.columns a.runs.items (symbol_of a.symbols.items) a.kids.items k i
   entry_in_run k i d o =
-      sym (ap (λ (x : Listing). get_or x.entries k d) is) ∙ entry_is a.columns a.runs.items (as_symbol a.symbols.items) a.kids.items a.count h k i d o
+      sym (ap (λ (x : Listing). get_or x.entries k d) is) ∙ entry_is a.columns a.runs.items (symbol_of a.symbols.items) a.kids.items a.count h k i d o
 
-  pub stage_in_run : (k i : ℕ) (d : Entry) → IsRunOf (firsts a.runs.items) a.count k i → stage (get_or l.entries k d).kids ≡ (get_or a.runs.items i no_run).stage
+  pub stage_in_run : (k i : ℕ) (d : Entry) → IsRunOf (firsts a.runs.items) a.count k i → stage (get_or l.entries k d).kids ≡ stage_at (get_or a.runs.items i no_run) a.kids.items
   stage_in_run k i d o =
-      ap (λ (e : Entry). stage e.kids) (entry_in_run k i d o) ∙ h.staged i k (as_run a.columns a.runs.items (as_symbol a.symbols.items) a.kids.items a.count h i o.there) o.low o.high
+      ap (λ (e : Entry). stage e.kids) (entry_in_run k i d o) ∙ h.staged i k (as_run a.columns a.runs.items (symbol_of a.symbols.items) a.kids.items a.count h i o.there) o.low o.high
 
   pub lawful_starts : AreStarts l
   lawful_starts = record {
@@ -351,27 +378,37 @@ module _ (a : Inside) (h : AreRuns a.columns a.runs.items (as_symbol a.symbols.i
 
 -- ---- one more entry
 
-module _ (columns : ℕ) (r : Run) (f : TupleSymbol) (rs rs' : List Run) (symbols symbols' : TupleSymbol) (made : IsRunMade columns r f rs rs' symbols symbols') where
+module _ (same : Bool) (columns : ℕ) (r : Run) (f : TupleSymbol) (rs rs' : List Run) (symbols symbols' : TupleSymbol) (made : IsRunMade same columns r f rs rs' symbols symbols') where
   pub made_few : length rs' ≤ length rs + 1
   made_few = ⊎_elim (λ s. omega (arith, ap length s.runs_are)) (λ s. omega (arith, ap length s.runs_are, length_push rs r)) made
 
   pub made_symbols : length symbols' ≤ length symbols + length f
   made_symbols = ⊎_elim (λ s. omega (arith, ap length s.symbols_are)) (λ s. omega (arith, ap length s.symbols_are, length-append symbols f)) made
 
-  module _ (words ks words' : List ℕ) (n : ℕ) (h : AreRuns columns rs symbols words n) (first : r.first ≡ n) (start : r.start ≡ length words) (size : r.kids ≡ length ks) (staged : r.stage ≡ stage ks) (small : length ks ≤ 8)
-      (width : length f ≡ columns) (grown : words' ≡ words ++ ks) where
+  module _ (words ks words' : List ℕ) (n : ℕ) (h : AreRuns columns rs symbols words n) (first : r.first ≡ n) (start : r.start ≡ length words) (size : r.kids ≡ length ks) (small : length ks ≤ 8)
+      (staged : IsTrue same → (i : ℕ) → suc i ≡ length rs → stage_at (get_or rs i no_run) words ≡ stage ks) (width : length f ≡ columns) (grown : words' ≡ words ++ ks) where
+    last_staged : (c : IsContinued same rs columns symbols f r) → stage_at (get_or rs c.place no_run) words ≡ stage ks
+    last_staged c = staged c.stage_is c.place c.is_last
+
     pub made_runs : AreRuns columns rs' symbols' words' (n + 1)
     made_runs = ⊎_elim
         (λ s. subst (λ (v : List Run). AreRuns columns v symbols' words' (n + 1)) (sym s.runs_are)
         (subst (λ (v : TupleSymbol). AreRuns columns rs v words' (n + 1)) (sym s.symbols_are)
-        (subst (λ (v : List ℕ). AreRuns columns rs symbols v (n + 1)) (sym grown) (same_runs columns rs symbols words n h ks r f s.continued size staged))))
+        (subst (λ (v : List ℕ). AreRuns columns rs symbols v (n + 1)) (sym grown) (same_runs columns rs symbols words n h ks same r f s.continued size (last_staged s.continued)))))
         (λ s. subst (λ (v : List Run). AreRuns columns v symbols' words' (n + 1)) (sym s.runs_are)
         (subst (λ (v : TupleSymbol). AreRuns columns (rs ++ r ∷ []) v words' (n + 1)) (sym s.symbols_are)
-        (subst (λ (v : List ℕ). AreRuns columns (rs ++ r ∷ []) (symbols ++ f) v (n + 1)) (sym grown) (new_runs columns rs symbols words n h ks r f first start size staged small width))))
+        (subst (λ (v : List ℕ). AreRuns columns (rs ++ r ∷ []) (symbols ++ f) v (n + 1)) (sym grown) (new_runs columns rs symbols words n h ks r f first start size small width))))
         made
 
     pub made_entries : all_entries columns rs' symbols' words' (n + 1) ≡ all_entries columns rs symbols words n ++ entry f ks ∷ []
     made_entries = ⊎_elim
-        (λ s. (λ i. all_entries columns (s.runs_are i) (s.symbols_are i) (grown i) (n + 1)) ∙ same_entries columns rs symbols words n h ks r f s.continued size staged)
-        (λ s. (λ i. all_entries columns (s.runs_are i) (s.symbols_are i) (grown i) (n + 1)) ∙ new_entries columns rs symbols words n h ks r f first start size staged small width)
+        (λ s. (λ i. all_entries columns (s.runs_are i) (s.symbols_are i) (grown i) (n + 1)) ∙ same_entries columns rs symbols words n h ks same r f s.continued size (last_staged s.continued))
+        (λ s. (λ i. all_entries columns (s.runs_are i) (s.symbols_are i) (grown i) (n + 1)) ∙ new_entries columns rs symbols words n h ks r f first start size small width)
+        made
+
+    pub made_stage : (i : ℕ) → suc i ≡ length rs' → stage_at (get_or rs' i no_run) words' ≡ stage ks
+    made_stage i e = ⊎_elim
+        (λ s. let at : i ≡ s.continued.place = omega (arith, s.continued.is_last, ap length s.runs_are) in
+        (λ j. stage_at (get_or (s.runs_are j) (at j) no_run) (grown j)) ∙ same_stage columns rs symbols words n h ks same r f s.continued size (last_staged s.continued))
+        (λ s. (λ j. stage_at (get_or (s.runs_are j) i no_run) (grown j)) ∙ new_stage columns rs symbols words n h ks r f first start size small width i (omega (arith, ap length s.runs_are, length_push rs r)))
         made

@@ -1,11 +1,10 @@
 -- One turn of the check of a part.
-use Rattle.std.proofs.Common.{◌≡◌, ℕ, suc, ◌+◌, ◌^◌, ◌<◌, ◌≤◌, List, [], ◌∷◌, ◌++◌, map, length, get_or, refl, ap, sym, ◌∙◌, arith, add-one, subst, ⊎_elim}
+use Rattle.std.proofs.Common.{◌≡◌, ℕ, zero, suc, ◌+◌, ◌^◌, ◌<◌, ◌≤◌, List, [], ◌∷◌, ◌++◌, map, length, get_or, slice_get, Some, None, refl, ap, sym, ◌∙◌, arith, add-one, subst, ⊎_elim}
 use Rattle.std.proofs.lemmas.List.{map-append, length-map}
 use Rattle.std.proofs.Math.Seq.{take-length}
-use Rattle.fort_theory.specs.Signatures.{Signature}
-use Rattle.fort_tables.specs.Tuples.{TupleSymbol, presence}
+use Rattle.fort_theory.specs.Signatures.{Signature, IsSignature}
+use Rattle.fort_tables.specs.Tuples.{TupleSymbol, AreSymbols, presence}
 use Rattle.fort_tables.specs.Entries.{Entry, no_entry, stage, IsNextEntry, IsLastEntry}
-use Rattle.fort_tables.proofs.OrderLaws.{stage_within}
 use Rattle.fort_tables.specs.Labels.{first_word, AreLabels, IsOverLabels}
 use Rattle.fort_tables.specs.LabelRules.{LabelRule, IsLabelRule, label_of, entry_label}
 use Rattle.fort_in_order.specs.Outcomes as steps
@@ -115,11 +114,18 @@ over_labels r qs k entries ws ps last e a n = record { entry = n.is_entry; are =
 pub few_presences : (r : LabelRule) (qs : List ℕ) (k : ℕ) (entries : List Entry) (ws : List (List ℕ)) (ps : List ℕ) (last : Entry) → IsAfter r qs k entries ws ps last → length qs < 2 ^ 32 → length ps < 2 ^ 32
 few_presences r qs k entries ws ps last a l = omega (arith, few_states r qs k entries ws ps last a, walked_few r qs k entries ws last a.walked, a.walked.right.within)
 
--- and so are the stages of entries
-pub few_stages : (r : LabelRule) (qs : List ℕ) (k : ℕ) (entries : List Entry) (ws : List (List ℕ)) (ps : List ℕ) (last e : Entry) → IsAfter r qs k entries ws ps last → IsNextOf r ws last e → length qs < 2 ^ 32
-    → stage e.kids < 2 ^ 32
-few_stages r qs k entries ws ps last e a n l =
-    omega (arith, stage_within (length (map first_word ws)) e.kids n.is_entry.within, ap length a.presences, few_presences r qs k entries ws ps last a l)
+-- a symbol that is there
+symbol_within : (sig : Signature) (f : TupleSymbol) (k g : ℕ) → AreSymbols sig f → slice_get f k ≡ Some (Some g) → g < length sig
+symbol_within sig [] k g h e = absurd cc
+symbol_within sig (None ∷ f) zero g h e = absurd cc
+symbol_within sig (Some x ∷ f) zero g h e = let r : x ≡ g = cc in omega (arith, h.0, r)
+symbol_within sig (None ∷ f) (suc k) g h e = symbol_within sig f k g h e
+symbol_within sig (Some x ∷ f) (suc k) g h e = symbol_within sig f k g h.1 e
+
+-- the symbols of an entry have numbers below 255
+pub small_symbols : (r : LabelRule) (ws : List (List ℕ)) (last e : Entry) (sig : Signature) → r.signature ≡ sig → IsSignature sig → IsNextOf r ws last e → (i g : ℕ) → slice_get e.symbol i ≡ Some (Some g) → g < 255
+small_symbols r ws last e sig is law n i g at =
+    omega (arith, symbol_within r.signature e.symbol i g n.is_entry.symbol.symbols at, ap (λ (s : Signature). length s) is, law.few)
 
 -- a part that is right has no more states than there is room for
 pub right_states : (r : LabelRule) (qs : List ℕ) (entries : List Entry) (ws : List (List ℕ)) → IsRightPart r qs entries ws → length ws ≤ most_states qs

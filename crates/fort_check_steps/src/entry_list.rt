@@ -1,8 +1,8 @@
 //! Lists of entries in little room.
-ghost use Rattle.std.specs.Prelude.{◌≡◌, ℕ, ◌+◌, ◌-◌, ◌*◌, ◌^◌, ◌<◌, ◌≤◌, ◌++◌, ◌∷◌, [], map, length, slice_index_or, vec_len, vec_capacity, IfOk, IsTrue};
+ghost use Rattle.std.specs.Prelude.{◌≡◌, ℕ, ◌+◌, ◌-◌, ◌*◌, ◌<◌, ◌≤◌, ◌++◌, ◌∷◌, [], map, length, slice_index_or, slice_get, Some, vec_len, vec_capacity, IfOk, IsTrue};
 ghost use Rattle.fort_tables.specs.Tuples.{presence};
 ghost use Rattle.fort_tables.specs.Entries.{Entry, stage as stage_lem};
-ghost use Rattle.fort_lockstep.specs.Columns.{as_column, as_symbol};
+ghost use Rattle.fort_lockstep.specs.Columns.{as_column, column_of, symbol_of, digit_of};
 ghost use Rattle.fort_check_steps.specs.EntryListView.{AreStarts, start_of};
 ghost use Rattle.fort_check_steps.specs.EntryListInside.{IsContinued, IsRunMade};
 
@@ -18,8 +18,7 @@ use std::marker::Model;
 pub struct Run {
     first: u32,
     start: u32,
-    kids: u32,
-    stage: u32,
+    kids: u8,
 }
 
 /// 0 without child states, else one more than the greatest.
@@ -38,8 +37,11 @@ pub struct EntryList {
     columns: usize,
     room: usize,
     count: usize,
+    /// The stage of the latest run.
+    stage: u64,
     runs: Vec<Run>,
-    symbols: Vec<Option<Sym>>,
+    /// The digits of each run's tuple symbol.
+    symbols: Vec<u8>,
     kids: Vec<u32>,
     /// Nothing rests on it but the time of a look-up.
     guesses: Guesses,
@@ -67,45 +69,49 @@ fn room_for(entries: usize, each: usize) -> Result<usize, Memory>
     }
 }
 
-fn is_column(first: Option<Sym>, second: Option<Sym>) -> bool
-    ensures { IsTrue result → as_column first ≡ as_column second }
+/// 0 for absent, one more than the symbol's number else.
+pub(crate) fn digit(column: Option<Sym>) -> u32
+    ensures { result ≡ digit_of (as_column column) }
 {
-    match first {
-        None => match second {
-            None => true,
-            Some(_) => false,
-        },
-        Some(f) => match second {
-            None => false,
-            Some(g) => f.0 == g.0,
-        },
+    match column {
+        None => 0,
+        Some(symbol) => u32::from(symbol.0) + 1,
     }
 }
 
-/// Whether these columns are the tuple symbol's.
-pub(crate) fn is_symbol(columns: &[Option<Sym>], sym: &TupleSym) -> bool
-    requires { length columns.now ≡ length sym.now }
-    ensures { IsTrue result → as_symbol columns.now ≡ sym.now }
+/// Whether the digit is this column's.
+fn is_column(found: u8, column: Option<Sym>) -> bool
+    ensures { IsTrue result → column_of found ≡ as_column column }
 {
-    for k in 0..columns.len() {
-        if !is_column(columns[k], sym.symbol(k)) {
+    u32::from(found) == digit(column)
+}
+
+/// Whether these digits are the tuple symbol's.
+pub(crate) fn is_symbol(digits: &[u8], sym: &TupleSym) -> bool
+    requires { length digits.now ≡ length sym.now }
+    ensures { IsTrue result → symbol_of digits.now ≡ sym.now }
+{
+    for k in 0..digits.len() {
+        if !is_column(digits[k], sym.symbol(k)) {
             return false;
         }
     }
     true
 }
 
-/// Whether the last run is of this tuple symbol, and of the stage and the number of child states of another.
+/// Whether the last run is of this tuple symbol, and of the number of child states of another, where the stage is the same.
 fn is_continued(
+    same_stage: bool,
     runs: &[Run],
-    symbols: &[Option<Sym>],
+    symbols: &[u8],
     columns: usize,
     sym: &TupleSym,
     run: Run,
 ) -> bool
     requires symbols { length symbols.now ≡ length runs.now * columns }
     requires columns { length sym.now ≡ columns }
-    ensures { IsTrue result → IsContinued runs.now columns (as_symbol symbols.now) sym.now run }
+    ensures { IsTrue result → IsContinued same_stage runs.now columns (symbol_of symbols.now)
+        sym.now run }
 {
     let count = runs.len();
     if count == 0 {
@@ -115,19 +121,20 @@ fn is_continued(
     if runs[last].kids != run.kids {
         return false;
     }
-    if runs[last].stage != run.stage {
+    if !same_stage {
         return false;
     }
     is_symbol(&symbols[last * columns..], sym)
 }
 
-fn put_symbol(symbols: &mut Vec<Option<Sym>>, sym: &TupleSym)
+fn put_symbol(symbols: &mut Vec<u8>, sym: &TupleSym)
     requires room { vec_len symbols.old + length sym.now ≤ vec_capacity symbols.old }
-    ensures symbols { as_symbol symbols.new.items ≡ as_symbol symbols.old.items ++ sym.now }
+    requires small { (k g : ℕ) → slice_get sym.now k ≡ Some (Some g) → g < 255 }
+    ensures symbols { symbol_of symbols.new.items ≡ symbol_of symbols.old.items ++ sym.now }
     ensures capacity { vec_capacity symbols.new ≡ vec_capacity symbols.old }
 {
     for k in 0..sym.len() {
-        symbols.push_reserved(sym.symbol(k));
+        symbols.push_reserved(digit(sym.symbol(k)) as u8);
     }
 }
 
@@ -144,26 +151,46 @@ fn put_kids(kids: &mut Vec<u32>, more: &[u32])
 
 /// Makes a run for the next entry, which has this tuple symbol, where the last one isn't its own.
 fn make_run(
+    same_stage: bool,
     runs: &mut Vec<Run>,
-    symbols: &mut Vec<Option<Sym>>,
+    symbols: &mut Vec<u8>,
     columns: usize,
-    run: Run,
     sym: &TupleSym,
+    run: Run,
 )
     requires symbols { length symbols.old.items ≡ length runs.old.items * columns }
     requires columns { length sym.now ≡ columns }
+    requires small { (k g : ℕ) → slice_get sym.now k ≡ Some (Some g) → g < 255 }
     requires runs_room { vec_len runs.old < vec_capacity runs.old }
     requires symbols_room { vec_len symbols.old + columns ≤ vec_capacity symbols.old }
-    ensures made { IsRunMade columns run sym.now runs.old.items runs.new.items
-        (as_symbol symbols.old.items) (as_symbol symbols.new.items) }
+    ensures made { IsRunMade same_stage columns run sym.now runs.old.items runs.new.items
+        (symbol_of symbols.old.items) (symbol_of symbols.new.items) }
     ensures runs_capacity { vec_capacity runs.new ≡ vec_capacity runs.old }
     ensures symbols_capacity { vec_capacity symbols.new ≡ vec_capacity symbols.old }
 {
-    if is_continued(runs.as_slice(), symbols.as_slice(), columns, sym, run) {
+    if is_continued(
+        same_stage,
+        runs.as_slice(),
+        symbols.as_slice(),
+        columns,
+        sym,
+        run,
+    ) {
         return;
     }
     put_symbol(symbols, sym);
     runs.push_reserved(run);
+}
+
+/// The presence of a tuple symbol of these digits.
+fn presence_of(digits: &[u8]) -> u16
+    requires { length digits.now ≤ 16 }
+    ensures { result ≡ presence (symbol_of digits.now) }
+{
+    match digits.split_first() {
+        None => 0,
+        Some((digit, digits)) => u16::from(*digit != 0) + 2 * presence_of(digits),
+    }
 }
 
 impl EntryList {
@@ -180,6 +207,7 @@ impl EntryList {
             columns: 0,
             room,
             count: 0,
+            stage: 0,
             runs: Vec::with_capacity(alloc, room)?,
             symbols: Vec::with_capacity(alloc, symbols)?,
             kids: Vec::with_capacity(alloc, kids)?,
@@ -206,7 +234,7 @@ impl EntryList {
     pub fn push(&mut self, row: &Row, presences: &[u16])
         requires columns { length row.now.symbol ≡ self.old.columns }
         requires room { length self.old.entries < self.old.room }
-        requires stage { stage_lem row.now.kids < 2 ^ 32 }
+        requires small { (k g : ℕ) → slice_get row.now.symbol k ≡ Some (Some g) → g < 255 }
         ensures entries { self.new.entries ≡ self.old.entries ++ row.now ∷ [] }
         ensures columns { self.new.columns ≡ self.old.columns }
         ensures room { self.new.room ≡ self.old.room }
@@ -216,15 +244,23 @@ impl EntryList {
         let run = Run {
             first: self.count as u32,
             start: self.kids.len() as u32,
-            kids: kids.len() as u32,
-            stage: stage as u32,
+            kids: kids.len() as u8,
         };
         let newest = self.runs.len();
-        make_run(&mut self.runs, &mut self.symbols, self.columns, run, &sym);
+        let same_stage = stage == self.stage;
+        make_run(
+            same_stage,
+            &mut self.runs,
+            &mut self.symbols,
+            self.columns,
+            &sym,
+            run,
+        );
         put_kids(&mut self.kids, kids);
         let is_new = newest < self.runs.len();
         self.guesses
             .note(presences, &sym, kids, stage, newest, is_new);
+        self.stage = stage;
         self.count += 1;
     }
 
@@ -258,21 +294,24 @@ impl EntryList {
     }
 
     /// The stage of the entries of a run.
-    pub fn stage(&self, run: usize) -> u32
+    pub fn stage(&self, run: usize) -> u64
         requires { run < length self.now.starts }
         ensures { (k : ℕ) → (d : Entry) → start_of self.now run ≤ k
             → k < start_of self.now (run + 1)
             → result ≡ stage_lem (slice_index_or self.now.entries k d).kids }
     {
-        self.runs[run].stage
+        // its clause says that each run has an entry, and that its entries have one stage
+        let _runs = self.runs();
+        let start = self.start(run);
+        stage_of(self.kids(run, start))
     }
 
-    /// The tuple symbol of a run.
-    pub fn symbol(&self, run: usize) -> &[Option<Sym>]
+    /// The digits of a run's tuple symbol: 0 for absent, one more than the symbol's number else.
+    pub fn symbol(&self, run: usize) -> &[u8]
         requires { run < length self.now.starts }
         ensures symbol { (k : ℕ) → (d : Entry) → start_of self.now run ≤ k
             → k < start_of self.now (run + 1)
-            → (slice_index_or self.now.entries k d).symbol ≡ as_symbol result.now }
+            → (slice_index_or self.now.entries k d).symbol ≡ symbol_of result.now }
         ensures few { length result.now ≤ 16 }
     {
         let symbols = self.symbols.as_slice();
@@ -287,8 +326,7 @@ impl EntryList {
             → k < start_of self.now (run + 1)
             → result ≡ presence (slice_index_or self.now.entries k d).symbol }
     {
-        let sym = TupleSym::new(self.symbol(run));
-        Row::new(sym, &[]).presence()
+        presence_of(self.symbol(run))
     }
 
     /// The child states of an entry, by its run and its place.

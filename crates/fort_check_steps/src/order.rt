@@ -3,11 +3,11 @@ ghost use Rattle.std.specs.Prelude.{◌≡◌, ℕ, ◌+◌, ◌-◌, ◌<◌, �
 ghost use Rattle.fort_theory.specs.Signatures as theory;
 ghost use Rattle.fort_tables.specs.Entries.{Entry, entry, stage as stage_lem, LexBefore, ColumnBefore, ComesBefore, AreInOrder, IsEntry};
 ghost use Rattle.fort_tables.specs.Tuples.{TupleSymbol};
-ghost use Rattle.fort_lockstep.specs.Columns.{as_column, as_symbol};
+ghost use Rattle.fort_lockstep.specs.Columns.{as_column, column_of, symbol_of};
 ghost use Rattle.fort_check_steps.specs.EntryListView.{start_of};
 ghost use Rattle.fort_check_steps.specs.Orders.{Orders, IsWithin};
 
-use crate::entry_list::{EntryList, is_symbol, stage_of};
+use crate::entry_list::{EntryList, digit, is_symbol, stage_of};
 use crate::guesses::Guess;
 use fort_lockstep::TupleSym;
 use fort_terms::Sym;
@@ -32,38 +32,25 @@ fn kid_order(first: &[u32], second: &[u32]) -> Ordering
     }
 }
 
-/// Two columns: absent comes first, then the symbols by number.
-fn column_order(first: Option<Sym>, second: Option<Sym>) -> Ordering
-    ensures { Orders ColumnBefore (as_column first) (as_column second) result }
+/// A digit and a column: absent comes first, then the symbols by number.
+fn column_order(first: u8, second: Option<Sym>) -> Ordering
+    ensures { Orders ColumnBefore (column_of first) (as_column second) result }
 {
-    match first {
-        None => match second {
-            None => Ordering::Equal,
-            Some(_) => Ordering::Less,
-        },
-        Some(f) => match second {
-            None => Ordering::Greater,
-            Some(g) => symbol_order(f, g),
-        },
-    }
-}
-
-fn symbol_order(first: Sym, second: Sym) -> Ordering
-    ensures { Orders ColumnBefore (Some first.0) (Some second.0) result }
-{
-    if first.0 < second.0 {
+    let first = u32::from(first);
+    let second = digit(second);
+    if first < second {
         Ordering::Less
-    } else if second.0 < first.0 {
+    } else if second < first {
         Ordering::Greater
     } else {
         Ordering::Equal
     }
 }
 
-/// Columns and a tuple symbol by the first column where they differ.
-fn tuple_order(first: &[Option<Sym>], second: &TupleSym) -> Ordering
+/// The digits of a tuple symbol and another one by the first column where they differ.
+fn tuple_order(first: &[u8], second: &TupleSym) -> Ordering
     requires { length first.now ≡ length second.now }
-    ensures { Orders (LexBefore ColumnBefore) (as_symbol first.now) second.now result }
+    ensures { Orders (LexBefore ColumnBefore) (symbol_of first.now) second.now result }
 {
     for k in 0..first.len() {
         match column_order(first[k], second.symbol(k)) {
@@ -87,7 +74,7 @@ fn run_order(list: &EntryList, run: usize, sym: &TupleSym, kids: &[u32], stage: 
         result }
 {
     let _runs = list.runs();
-    let own = u64::from(list.stage(run));
+    let own = list.stage(run);
     if own < stage {
         return Ordering::Less;
     }

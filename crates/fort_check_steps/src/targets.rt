@@ -87,6 +87,8 @@ pub fn check_targets<R: LocalRule>(
     ensures capacity { vec_capacity presences.new ≡ vec_capacity presences.old }
 {
     let mut entries = Entries::new(sig, rule.columns());
+    // its clause says that the signature is lawful
+    let _symbols = sig.len();
     'targets: for place in 0..targets.len() {
         match entries.next(presences.as_slice()) {
             Some(row) => match take_target(rule, &row, targets[place], presences, rows, out) {

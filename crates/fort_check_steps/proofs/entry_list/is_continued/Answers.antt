@@ -12,6 +12,6 @@ returns c h =
       place = n - 1;
       is_last = some;
       kids_are = c.if-runs-last.false;
-      stage_is = c.if-runs-last-2.false;
+      stage_is = c.if-not-same_stage.false;
       symbol = sym (columns_at w (n - 1) (length c.args.symbols.now - (n - 1) * w) c.args.symbols.now (omega (arith, size, c.requires.symbols))) ∙ c.is_symbol.ensures h;
     }

@@ -2,7 +2,7 @@ use Rattle.std.proofs.Common.{◌<◌, ◌≤◌, ℕ, ◌+◌, length, get_or, 
 use Rattle.std.proofs.lemmas.List.{length-map, get_or_default}
 use Rattle.fort_tables.specs.Tuples.{TupleSymbol}
 use Rattle.fort_tables.specs.Entries.{entry}
-use Rattle.fort_lockstep.specs.Columns.{as_column}
+use Rattle.fort_lockstep.specs.Columns.{column_of}
 use Rattle.fort_check_steps.specs.EntryListView.{start_of}
 use Rattle.fort_check_steps.proofs.EntryOrders.{run_inside, alike_at}
 use Rattle.fort_check_steps.proofs.order.guessed_place.Goals as goal
@@ -18,4 +18,4 @@ is_symbol-requires c =
     let high : m < start_of l (c.args.guess.run + 1) = omega (arith, c.if-guess-start.false, c.start-start.ensures.start, c.start.ensures.start, run.0) in
     let inside : m < length l.entries = omega (arith, high, run.1) in
     let alike = alike_at o.0 o.1 o.2 l o.3 e c.requires.there m (get_or l.entries m e) inside (λ d. get_or_default l.entries m d e inside) in
-    sym (length-map c.symbol.result.now as_column) ∙ (ap (λ (f : TupleSymbol). length f) (sym (c.symbol.ensures.symbol m e low high)) ∙ alike.columns)
+    sym (length-map c.symbol.result.now column_of) ∙ (ap (λ (f : TupleSymbol). length f) (sym (c.symbol.ensures.symbol m e low high)) ∙ alike.columns)

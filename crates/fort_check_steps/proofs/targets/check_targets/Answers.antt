@@ -3,7 +3,7 @@ use Rattle.fort_tables.specs.LabelRules.{IsLabelRule}
 use Rattle.fort_in_order.specs.Outcomes.{StepOutcome}
 use Rattle.fort_in_order.specs.PartSteps.{IsPartOutcome, IsRight}
 use Rattle.fort_check_steps.specs.StepAnswers.{outcome_of}
-use Rattle.fort_check_steps.proofs.TargetLaws.{IsAfter, after_none, next_of, last_of, new_state_room, refused, too_many, too_few, right_part, taken, few_states, few_presences, few_stages, right_states, label_rule}
+use Rattle.fort_check_steps.proofs.TargetLaws.{IsAfter, after_none, next_of, last_of, new_state_room, refused, too_many, too_few, right_part, taken, few_states, few_presences, small_symbols, right_states, label_rule}
 use Rattle.fort_check_steps.proofs.targets.check_targets.Goals as goal
 
 pub targets-init : goal.targets-init
@@ -214,8 +214,8 @@ push-requires-clause-room g c =
     let inv = c.targets.invariant in
     omega (arith, inv.after.walked.right.count, inv.places, c.requires.places)
 
-pub push-requires-clause-stage : goal.push-requires-clause-stage
-push-requires-clause-stage g c =
+pub push-requires-clause-small : goal.push-requires-clause-small
+push-requires-clause-small g c =
     let law : IsLabelRule (g.R.LocalRule.rule c.args.rule.now) = label_rule (g.R.LocalRule.rule c.args.rule.now) c.columns.result c.columns.ensures.count c.columns.ensures.some c.columns.ensures.narrow (g.met.R.LocalRule.tells c.args.rule.now) in
     let r = g.R.LocalRule.rule c.args.rule.now in
     let qs = c.args.targets.now in
@@ -226,4 +226,4 @@ push-requires-clause-stage g c =
     let last = c.targets.entries.last in
     let inv = c.targets.invariant in
     let next = next_of r ws last c.in-Some.row c.targets.entries.signature c.targets.entries.columns c.as_slice.result.now (inv.signature ∙ sym c.requires.signature) inv.columns (c.as_slice.ensures.value ∙ inv.after.presences) c.in-Some.ensures.next in
-    few_stages r qs k es ws ps last c.in-Some.row inv.after next c.requires.few
+    small_symbols r ws last c.in-Some.row c.args.sig.now c.requires.signature c.len-symbols.ensures.lawful next

@@ -4,7 +4,7 @@ use Rattle.fort_check_steps.specs.declared.entry_list.Run.{Run}
 use Rattle.fort_check_steps.specs.EntryListInside.{no_run, kids_at}
 use Rattle.fort_check_steps.proofs.EntryListLaws.{run_of, entry_in_run, kids_within, starts_are}
 use Rattle.fort_tables.specs.Entries.{Entry}
-use Rattle.fort_lockstep.specs.Columns.{as_symbol}
+use Rattle.fort_lockstep.specs.Columns.{symbol_of}
 use Rattle.fort_check_steps.proofs.entry_list.EntryList.kids.Goals as goal
 
 own_is : (rs : List Run) (i : ℕ) (r : Run) → i < length rs → r ≡ get_or rs i r → r ≡ get_or rs i no_run
@@ -27,7 +27,7 @@ overflow_mul-from c =
     let runs = c.self.invariant.runs_are in
     let there : i < length a.runs.items = omega (arith, c.requires.run, starts_are a runs c.args.self.now c.self.view_is) in
     let o = run_of a runs c.args.self.now c.self.view_is k i c.requires.run c.requires.low c.requires.high in
-    let fits : r.start + (k - r.first) * r.kids + r.kids ≤ length a.kids.items = within r a.runs.items i k (length a.kids.items) there c.index-own.ensures (kids_within a.columns a.runs.items (as_symbol a.symbols.items) a.kids.items a.count runs k i o) in
+    let fits : r.start + (k - r.first) * r.kids + r.kids ≤ length a.kids.items = within r a.runs.items i k (length a.kids.items) there c.index-own.ensures (kids_within a.columns a.runs.items (symbol_of a.symbols.items) a.kids.items a.count runs k i o) in
     omega (arith, fits, ap length c.as_slice-kids.ensures.value, c.as_slice-kids.ensures.len, c.as_slice-kids.type_inv)
 
 pub overflow_add-from : goal.overflow_add-from
@@ -39,7 +39,7 @@ overflow_add-from c =
     let runs = c.self.invariant.runs_are in
     let there : i < length a.runs.items = omega (arith, c.requires.run, starts_are a runs c.args.self.now c.self.view_is) in
     let o = run_of a runs c.args.self.now c.self.view_is k i c.requires.run c.requires.low c.requires.high in
-    let fits : r.start + (k - r.first) * r.kids + r.kids ≤ length a.kids.items = within r a.runs.items i k (length a.kids.items) there c.index-own.ensures (kids_within a.columns a.runs.items (as_symbol a.symbols.items) a.kids.items a.count runs k i o) in
+    let fits : r.start + (k - r.first) * r.kids + r.kids ≤ length a.kids.items = within r a.runs.items i k (length a.kids.items) there c.index-own.ensures (kids_within a.columns a.runs.items (symbol_of a.symbols.items) a.kids.items a.count runs k i o) in
     omega (arith, fits, ap length c.as_slice-kids.ensures.value, c.as_slice-kids.ensures.len, c.as_slice-kids.type_inv)
 
 pub overflow_add-result : goal.overflow_add-result
@@ -51,7 +51,7 @@ overflow_add-result c =
     let runs = c.self.invariant.runs_are in
     let there : i < length a.runs.items = omega (arith, c.requires.run, starts_are a runs c.args.self.now c.self.view_is) in
     let o = run_of a runs c.args.self.now c.self.view_is k i c.requires.run c.requires.low c.requires.high in
-    let fits : r.start + (k - r.first) * r.kids + r.kids ≤ length a.kids.items = within r a.runs.items i k (length a.kids.items) there c.index-own.ensures (kids_within a.columns a.runs.items (as_symbol a.symbols.items) a.kids.items a.count runs k i o) in
+    let fits : r.start + (k - r.first) * r.kids + r.kids ≤ length a.kids.items = within r a.runs.items i k (length a.kids.items) there c.index-own.ensures (kids_within a.columns a.runs.items (symbol_of a.symbols.items) a.kids.items a.count runs k i o) in
     omega (arith, fits, ap length c.as_slice-kids.ensures.value, c.as_slice-kids.ensures.len, c.as_slice-kids.type_inv)
 
 pub offset_bounds-kids-from : goal.offset_bounds-kids-from
@@ -63,7 +63,7 @@ offset_bounds-kids-from c =
     let runs = c.self.invariant.runs_are in
     let there : i < length a.runs.items = omega (arith, c.requires.run, starts_are a runs c.args.self.now c.self.view_is) in
     let o = run_of a runs c.args.self.now c.self.view_is k i c.requires.run c.requires.low c.requires.high in
-    let fits : r.start + (k - r.first) * r.kids + r.kids ≤ length a.kids.items = within r a.runs.items i k (length a.kids.items) there c.index-own.ensures (kids_within a.columns a.runs.items (as_symbol a.symbols.items) a.kids.items a.count runs k i o) in
+    let fits : r.start + (k - r.first) * r.kids + r.kids ≤ length a.kids.items = within r a.runs.items i k (length a.kids.items) there c.index-own.ensures (kids_within a.columns a.runs.items (symbol_of a.symbols.items) a.kids.items a.count runs k i o) in
     omega (arith, fits, ap length c.as_slice-kids.ensures.value, c.as_slice-kids.ensures.len, c.as_slice-kids.type_inv)
 
 pub slice_bounds-result-end : goal.slice_bounds-result-end
@@ -75,7 +75,7 @@ slice_bounds-result-end c =
     let runs = c.self.invariant.runs_are in
     let there : i < length a.runs.items = omega (arith, c.requires.run, starts_are a runs c.args.self.now c.self.view_is) in
     let o = run_of a runs c.args.self.now c.self.view_is k i c.requires.run c.requires.low c.requires.high in
-    let fits : r.start + (k - r.first) * r.kids + r.kids ≤ length a.kids.items = within r a.runs.items i k (length a.kids.items) there c.index-own.ensures (kids_within a.columns a.runs.items (as_symbol a.symbols.items) a.kids.items a.count runs k i o) in
+    let fits : r.start + (k - r.first) * r.kids + r.kids ≤ length a.kids.items = within r a.runs.items i k (length a.kids.items) there c.index-own.ensures (kids_within a.columns a.runs.items (symbol_of a.symbols.items) a.kids.items a.count runs k i o) in
     omega (arith, fits, ap length c.as_slice-kids.ensures.value, c.as_slice-kids.ensures.len, c.as_slice-kids.type_inv)
 
 pub returns-clause-kids : goal.returns-clause-kids
@@ -87,7 +87,7 @@ returns-clause-kids c d =
     let runs = c.self.invariant.runs_are in
     let there : i < length a.runs.items = omega (arith, c.requires.run, starts_are a runs c.args.self.now c.self.view_is) in
     let o = run_of a runs c.args.self.now c.self.view_is k i c.requires.run c.requires.low c.requires.high in
-    let fits : r.start + (k - r.first) * r.kids + r.kids ≤ length a.kids.items = within r a.runs.items i k (length a.kids.items) there c.index-own.ensures (kids_within a.columns a.runs.items (as_symbol a.symbols.items) a.kids.items a.count runs k i o) in
+    let fits : r.start + (k - r.first) * r.kids + r.kids ≤ length a.kids.items = within r a.runs.items i k (length a.kids.items) there c.index-own.ensures (kids_within a.columns a.runs.items (symbol_of a.symbols.items) a.kids.items a.count runs k i o) in
     let from : ℕ = r.start + (k - r.first) * r.kids in
     let size : from + r.kids - from ≡ r.kids = omega arith in
     ap (λ (e : Entry). e.kids) (entry_in_run a runs c.args.self.now c.self.view_is k i d o)
@@ -103,6 +103,6 @@ returns-clause-few c =
     let runs = c.self.invariant.runs_are in
     let there : i < length a.runs.items = omega (arith, c.requires.run, starts_are a runs c.args.self.now c.self.view_is) in
     let o = run_of a runs c.args.self.now c.self.view_is k i c.requires.run c.requires.low c.requires.high in
-    let fits : r.start + (k - r.first) * r.kids + r.kids ≤ length a.kids.items = within r a.runs.items i k (length a.kids.items) there c.index-own.ensures (kids_within a.columns a.runs.items (as_symbol a.symbols.items) a.kids.items a.count runs k i o) in
+    let fits : r.start + (k - r.first) * r.kids + r.kids ≤ length a.kids.items = within r a.runs.items i k (length a.kids.items) there c.index-own.ensures (kids_within a.columns a.runs.items (symbol_of a.symbols.items) a.kids.items a.count runs k i o) in
     let from : ℕ = r.start + (k - r.first) * r.kids in
     few r a.runs.items i (from + r.kids - from) from c.as_slice-kids.result.now there c.index-own.ensures (runs.few i there) (omega arith) (omega (arith, fits, ap length c.as_slice-kids.ensures.value))

@@ -1,16 +1,19 @@
-use Rattle.std.proofs.Common.{◌<◌, length, ap, sym, ◌∙◌, arith}
-use Rattle.std.proofs.lemmas.List.{get_or_default}
-use Rattle.fort_check_steps.specs.declared.entry_list.Run.{Run}
-use Rattle.fort_check_steps.specs.EntryListInside.{no_run}
-use Rattle.fort_check_steps.proofs.EntryListLaws.{run_of, starts_are, stage_in_run}
+use Rattle.std.proofs.Common.{ℕ, get_or, ap, sym, ◌∙◌, arith}
+use Rattle.fort_tables.specs.Entries.{stage}
+use Rattle.fort_check_steps.specs.EntryListView.{start_of}
+use Rattle.fort_check_steps.proofs.EntryOrders.{run_inside}
 use Rattle.fort_check_steps.proofs.entry_list.EntryList.stage.Goals as goal
+
+pub kids-requires-clause-high : goal.kids-requires-clause-high
+kids-requires-clause-high c =
+    let run = run_inside c.args.self.now c.args.run c.runs-runs.ensures.lawful c.requires in
+    omega (arith, c.start-start.ensures.start, run.0)
 
 pub returns : goal.returns
 returns c k d low high =
-    let a = c.self.inside in
-    let i = c.args.run in
-    let r = c.index.result.now in
-    let runs = c.self.invariant.runs_are in
-    let there : i < length a.runs.items = omega (arith, c.requires, starts_are a runs c.args.self.now c.self.view_is) in
-    ap (λ (s : Run). s.stage) (c.index.ensures ∙ get_or_default a.runs.items i r no_run there)
-    ∙ sym (stage_in_run a runs c.args.self.now c.self.view_is k i d (run_of a runs c.args.self.now c.self.view_is k i c.requires low high))
+    let l = c.args.self.now in
+    let m : ℕ = start_of l c.args.run in
+    let run = run_inside l c.args.run c.runs-runs.ensures.lawful c.requires in
+    let own = c.runs-runs.ensures.lawful.alike c.args.run m k d c.requires (omega arith) run.0 low high in
+    c.stage_of.ensures
+    ∙ (ap stage (sym (c.kids.ensures.kids d)) ∙ (ap (λ (i : ℕ). stage (get_or l.entries i d).kids) c.start-start.ensures.start ∙ own.1))

@@ -1,7 +1,7 @@
 use Rattle.std.proofs.Common.{◌≡◌, ◌<◌, ◌≤◌, List, length, get_or, ap, sym, ◌∙◌, arith}
 use Rattle.std.proofs.lemmas.List.{length-map}
 use Rattle.fort_check_steps.specs.declared.entry_list.Run.{Run}
-use Rattle.fort_lockstep.specs.Columns.{as_symbol}
+use Rattle.fort_lockstep.specs.Columns.{symbol_of}
 use Rattle.fort_check_steps.specs.EntryListView.{Listing}
 use Rattle.fort_check_steps.specs.EntryListInside.{firsts, no_run}
 use Rattle.fort_check_steps.proofs.RunLaws.{start_behind, start_below}
@@ -18,7 +18,7 @@ returns-in-None-clause-start c =
 pub returns-in-None-clause-within : goal.returns-in-None-clause-within
 returns-in-None-clause-within c =
     let a = c.self.inside in
-    omega (arith, sym (length_all a.columns a.runs.items (as_symbol a.symbols.items) a.kids.items a.count) ∙ ap (λ (l : Listing). length l.entries) c.self.view_is)
+    omega (arith, sym (length_all a.columns a.runs.items (symbol_of a.symbols.items) a.kids.items a.count) ∙ ap (λ (l : Listing). length l.entries) c.self.view_is)
 
 pub returns-in-Some-clause-within : goal.returns-in-Some-clause-within
 returns-in-Some-clause-within c =
@@ -31,7 +31,7 @@ returns-in-Some-clause-within c =
     omega (
       arith,
       ap (λ (s : Run). s.first) own,
-      first_is a.columns a.runs.items (as_symbol a.symbols.items) a.kids.items a.count runs i a.count inside,
+      first_is a.columns a.runs.items (symbol_of a.symbols.items) a.kids.items a.count runs i a.count inside,
       start_below (firsts a.runs.items) a.count i runs.rising,
-      sym (length_all a.columns a.runs.items (as_symbol a.symbols.items) a.kids.items a.count) ∙ ap (λ (l : Listing). length l.entries) c.self.view_is,
+      sym (length_all a.columns a.runs.items (symbol_of a.symbols.items) a.kids.items a.count) ∙ ap (λ (l : Listing). length l.entries) c.self.view_is,
     )
