@@ -10,7 +10,7 @@ use Rattle.fort_tables.specs.Tuples.{TupleSymbol}
 use Rattle.fort_tables.specs.Entries.{Entry, entry, stage}
 use Rattle.fort_lockstep.specs.Columns.{column_of, symbol_of, digit_of}
 use Rattle.fort_lockstep.proofs.PieceLaws.{piece_within}
-use Rattle.fort_check_steps.specs.declared.entry_list.Run.{Run}
+use Rattle.fort_check_steps.specs.declared.runs.Run.{Run}
 use Rattle.fort_check_steps.specs.declared.entry_list.EntryList.TheInside.{Inside}
 use Rattle.fort_check_steps.specs.EntryListView.{Listing, AreStarts, start_of}
 use Rattle.fort_check_steps.specs.EntryListInside.{listing_in, no_run, firsts, symbol_at, kids_at, stage_at, entry_of, entry_at, all_entries, AreRuns, IsContinued, IsRunMade}

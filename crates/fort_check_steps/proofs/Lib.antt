@@ -1,4 +1,5 @@
 pub mod RunLaws
+pub mod RunListLaws
 pub mod EntryListLaws
 pub mod EntryOrders
 pub mod TableLaws

@@ -4,7 +4,7 @@ use Rattle.std.specs.List.{range_with_len}
 use Rattle.fort_tables.specs.Tuples.{TupleSymbol}
 use Rattle.fort_tables.specs.Entries.{Entry, entry, stage}
 use Rattle.fort_lockstep.specs.Columns.{symbol_of}
-use Rattle.fort_check_steps.specs.declared.entry_list.Run.{Run}
+use Rattle.fort_check_steps.specs.declared.runs.Run.{Run}
 use Rattle.fort_check_steps.specs.declared.entry_list.EntryList.TheInside.{Inside}
 use Rattle.fort_check_steps.specs.EntryListView.{Listing}
 
@@ -68,7 +68,7 @@ pub record IsEntryList (a : Inside) : Type 0 where
   pub runs_few : length a.runs.items ≤ a.count
   pub symbols_few : length a.symbols.items ≤ a.count * 16
   pub kids_few : length a.kids.items ≤ a.count * 8
-  pub runs_room : a.room ≤ vec_capacity a.runs
+  pub runs_room : a.room ≤ a.runs.room
   pub symbols_room : a.room * 16 ≤ vec_capacity a.symbols
   pub kids_room : a.room * 8 ≤ vec_capacity a.kids
 

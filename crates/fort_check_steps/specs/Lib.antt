@@ -2,6 +2,8 @@ pub mod StepAnswers
 pub mod Room
 pub mod Held
 pub mod OnePlace
+pub mod RunsView
+pub mod RunsInside
 pub mod EntryListView
 pub mod EntryListInside
 pub mod Orders

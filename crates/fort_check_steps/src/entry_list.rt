@@ -7,19 +7,11 @@ ghost use Rattle.fort_check_steps.specs.EntryListView.{AreStarts, start_of};
 ghost use Rattle.fort_check_steps.specs.EntryListInside.{IsContinued, IsRunMade};
 
 use crate::guesses::{Bases, Guesses};
+use crate::runs::{Run, Runs};
 use fort_lockstep::{Row, TupleSym};
 use fort_terms::{Memory, Signature, Sym};
 use std::alloc::{AllocError, Global};
 use std::marker::Model;
-
-/// Entries one behind another of one stage and one tuple symbol: the place of the first, where its child states begin, and how
-/// many each has.
-#[derive(Clone, Copy)]
-pub struct Run {
-    first: u32,
-    start: u32,
-    kids: u8,
-}
 
 /// 0 without child states, else one more than the greatest.
 pub(crate) fn stage_of(kids: &[u32]) -> u64
@@ -39,7 +31,7 @@ pub struct EntryList {
     count: usize,
     /// The stage of the latest run.
     stage: u64,
-    runs: Vec<Run>,
+    runs: Runs,
     /// The digits of each run's tuple symbol.
     symbols: Vec<u8>,
     kids: Vec<u32>,
@@ -99,29 +91,30 @@ pub(crate) fn is_symbol(digits: &[u8], sym: &TupleSym) -> bool
     true
 }
 
-/// Whether the last run is of this tuple symbol, and of the number of child states of another, where the stage is the same.
+/// Whether the last run goes on with an entry of this tuple symbol and of another run's number of child states, whose stage is
+/// the last run's or isn't.
 fn is_continued(
     same_stage: bool,
-    runs: &[Run],
+    runs: &Runs,
     symbols: &[u8],
     columns: usize,
     sym: &TupleSym,
     run: Run,
 ) -> bool
-    requires symbols { length symbols.now ≡ length runs.now * columns }
+    requires symbols { length symbols.now ≡ length runs.now.items * columns }
     requires columns { length sym.now ≡ columns }
-    ensures { IsTrue result → IsContinued same_stage runs.now columns (symbol_of symbols.now)
+    ensures { IsTrue result → IsContinued same_stage runs.now.items columns (symbol_of symbols.now)
         sym.now run }
 {
+    if !same_stage {
+        return false;
+    }
     let count = runs.len();
     if count == 0 {
         return false;
     }
     let last = count - 1;
-    if runs[last].kids != run.kids {
-        return false;
-    }
-    if !same_stage {
+    if runs.run(last).kids != run.kids {
         return false;
     }
     is_symbol(&symbols[last * columns..], sym)
@@ -149,10 +142,10 @@ fn put_kids(kids: &mut Vec<u32>, more: &[u32])
     }
 }
 
-/// Makes a run for the next entry, which has this tuple symbol, where the last one isn't its own.
+/// Makes a run for the next entry, which has this tuple symbol, where the last one doesn't go on with it.
 fn make_run(
     same_stage: bool,
-    runs: &mut Vec<Run>,
+    runs: &mut Runs,
     symbols: &mut Vec<u8>,
     columns: usize,
     sym: &TupleSym,
@@ -161,25 +154,18 @@ fn make_run(
     requires symbols { length symbols.old.items ≡ length runs.old.items * columns }
     requires columns { length sym.now ≡ columns }
     requires small { (k g : ℕ) → slice_get sym.now k ≡ Some (Some g) → g < 255 }
-    requires runs_room { vec_len runs.old < vec_capacity runs.old }
+    requires runs_room { length runs.old.items < runs.old.room }
     requires symbols_room { vec_len symbols.old + columns ≤ vec_capacity symbols.old }
     ensures made { IsRunMade same_stage columns run sym.now runs.old.items runs.new.items
         (symbol_of symbols.old.items) (symbol_of symbols.new.items) }
-    ensures runs_capacity { vec_capacity runs.new ≡ vec_capacity runs.old }
+    ensures runs_room { runs.new.room ≡ runs.old.room }
     ensures symbols_capacity { vec_capacity symbols.new ≡ vec_capacity symbols.old }
 {
-    if is_continued(
-        same_stage,
-        runs.as_slice(),
-        symbols.as_slice(),
-        columns,
-        sym,
-        run,
-    ) {
+    if is_continued(same_stage, runs, symbols.as_slice(), columns, sym, run) {
         return;
     }
     put_symbol(symbols, sym);
-    runs.push_reserved(run);
+    runs.push(run);
 }
 
 /// The presence of a tuple symbol of these digits.
@@ -208,7 +194,7 @@ impl EntryList {
             room,
             count: 0,
             stage: 0,
-            runs: Vec::with_capacity(alloc, room)?,
+            runs: Runs::new(alloc, room)?,
             symbols: Vec::with_capacity(alloc, symbols)?,
             kids: Vec::with_capacity(alloc, kids)?,
             guesses: Guesses::new(alloc, room)?,
@@ -287,9 +273,10 @@ impl EntryList {
         ensures start { result ≡ start_of self.now run }
         ensures within { result ≤ length self.now.entries }
     {
-        match self.runs.get(run) {
-            Some(run) => run.first as usize,
-            None => self.count,
+        if run < self.runs.len() {
+            self.runs.run(run).first as usize
+        } else {
+            self.count
         }
     }
 
@@ -338,7 +325,7 @@ impl EntryList {
             → (slice_index_or self.now.entries place d).kids ≡ result.now }
         ensures few { length result.now ≤ 8 }
     {
-        let own = &self.runs[run];
+        let own = self.runs.run(run);
         let kids = self.kids.as_slice();
         let count = own.kids as usize;
         let from = own.start as usize + (place - own.first as usize) * count;

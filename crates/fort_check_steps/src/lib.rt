@@ -17,6 +17,7 @@ mod part;
 mod projected;
 mod room;
 mod rules;
+mod runs;
 mod table;
 mod targets;
 

@@ -1,8 +1,8 @@
 use Rattle.std.proofs.Common.{◌≡◌, ◌<◌, ◌≤◌, ℕ, List, ◌+◌, ◌-◌, ◌*◌, length, get_or, take, drop, ap, sym, subst, ◌∙◌, arith}
 use Rattle.std.proofs.lemmas.List.{get_or_default, length-take-le, length-drop}
-use Rattle.fort_check_steps.specs.declared.entry_list.Run.{Run}
+use Rattle.fort_check_steps.specs.declared.runs.Run.{Run}
 use Rattle.fort_check_steps.specs.EntryListInside.{no_run, kids_at}
-use Rattle.fort_check_steps.proofs.EntryListLaws.{run_of, entry_in_run, kids_within, starts_are}
+use Rattle.fort_check_steps.proofs.EntryListLaws.{run_of, entry_in_run, first_is, kids_within, starts_are}
 use Rattle.fort_tables.specs.Entries.{Entry}
 use Rattle.fort_lockstep.specs.Columns.{symbol_of}
 use Rattle.fort_check_steps.proofs.entry_list.EntryList.kids.Goals as goal
@@ -18,16 +18,27 @@ few : (r : Run) (rs : List Run) (i m from : ℕ) (ks : List ℕ) → i < length 
 few r rs i m from ks l is h e fits =
     omega (arith, length-take-le m (drop from ks) (omega (arith, length-drop from ks)), ap (λ (s : Run). s.kids) (own_is rs i r l is))
 
+pub overflow_sub-from : goal.overflow_sub-from
+overflow_sub-from c =
+    let a = c.self.inside in
+    let k = c.args.place in
+    let i = c.args.run in
+    let r = c.run-own.result in
+    let runs = c.self.invariant.runs_are in
+    let there : i < length a.runs.items = omega (arith, c.requires.run, starts_are a runs c.args.self.now c.self.view_is) in
+    let o = run_of a runs c.args.self.now c.self.view_is k i c.requires.run c.requires.low c.requires.high in
+    omega (arith, ap (λ (s : Run). s.first) (c.run-own.ensures no_run), first_is a.columns a.runs.items (symbol_of a.symbols.items) a.kids.items a.count runs i a.count there, o.low)
+
 pub overflow_mul-from : goal.overflow_mul-from
 overflow_mul-from c =
     let a = c.self.inside in
     let k = c.args.place in
     let i = c.args.run in
-    let r = c.index-own.result.now in
+    let r = c.run-own.result in
     let runs = c.self.invariant.runs_are in
     let there : i < length a.runs.items = omega (arith, c.requires.run, starts_are a runs c.args.self.now c.self.view_is) in
     let o = run_of a runs c.args.self.now c.self.view_is k i c.requires.run c.requires.low c.requires.high in
-    let fits : r.start + (k - r.first) * r.kids + r.kids ≤ length a.kids.items = within r a.runs.items i k (length a.kids.items) there c.index-own.ensures (kids_within a.columns a.runs.items (symbol_of a.symbols.items) a.kids.items a.count runs k i o) in
+    let fits : r.start + (k - r.first) * r.kids + r.kids ≤ length a.kids.items = within r a.runs.items i k (length a.kids.items) there (c.run-own.ensures r) (kids_within a.columns a.runs.items (symbol_of a.symbols.items) a.kids.items a.count runs k i o) in
     omega (arith, fits, ap length c.as_slice-kids.ensures.value, c.as_slice-kids.ensures.len, c.as_slice-kids.type_inv)
 
 pub overflow_add-from : goal.overflow_add-from
@@ -35,11 +46,11 @@ overflow_add-from c =
     let a = c.self.inside in
     let k = c.args.place in
     let i = c.args.run in
-    let r = c.index-own.result.now in
+    let r = c.run-own.result in
     let runs = c.self.invariant.runs_are in
     let there : i < length a.runs.items = omega (arith, c.requires.run, starts_are a runs c.args.self.now c.self.view_is) in
     let o = run_of a runs c.args.self.now c.self.view_is k i c.requires.run c.requires.low c.requires.high in
-    let fits : r.start + (k - r.first) * r.kids + r.kids ≤ length a.kids.items = within r a.runs.items i k (length a.kids.items) there c.index-own.ensures (kids_within a.columns a.runs.items (symbol_of a.symbols.items) a.kids.items a.count runs k i o) in
+    let fits : r.start + (k - r.first) * r.kids + r.kids ≤ length a.kids.items = within r a.runs.items i k (length a.kids.items) there (c.run-own.ensures r) (kids_within a.columns a.runs.items (symbol_of a.symbols.items) a.kids.items a.count runs k i o) in
     omega (arith, fits, ap length c.as_slice-kids.ensures.value, c.as_slice-kids.ensures.len, c.as_slice-kids.type_inv)
 
 pub overflow_add-result : goal.overflow_add-result
@@ -47,11 +58,11 @@ overflow_add-result c =
     let a = c.self.inside in
     let k = c.args.place in
     let i = c.args.run in
-    let r = c.index-own.result.now in
+    let r = c.run-own.result in
     let runs = c.self.invariant.runs_are in
     let there : i < length a.runs.items = omega (arith, c.requires.run, starts_are a runs c.args.self.now c.self.view_is) in
     let o = run_of a runs c.args.self.now c.self.view_is k i c.requires.run c.requires.low c.requires.high in
-    let fits : r.start + (k - r.first) * r.kids + r.kids ≤ length a.kids.items = within r a.runs.items i k (length a.kids.items) there c.index-own.ensures (kids_within a.columns a.runs.items (symbol_of a.symbols.items) a.kids.items a.count runs k i o) in
+    let fits : r.start + (k - r.first) * r.kids + r.kids ≤ length a.kids.items = within r a.runs.items i k (length a.kids.items) there (c.run-own.ensures r) (kids_within a.columns a.runs.items (symbol_of a.symbols.items) a.kids.items a.count runs k i o) in
     omega (arith, fits, ap length c.as_slice-kids.ensures.value, c.as_slice-kids.ensures.len, c.as_slice-kids.type_inv)
 
 pub offset_bounds-kids-from : goal.offset_bounds-kids-from
@@ -59,11 +70,11 @@ offset_bounds-kids-from c =
     let a = c.self.inside in
     let k = c.args.place in
     let i = c.args.run in
-    let r = c.index-own.result.now in
+    let r = c.run-own.result in
     let runs = c.self.invariant.runs_are in
     let there : i < length a.runs.items = omega (arith, c.requires.run, starts_are a runs c.args.self.now c.self.view_is) in
     let o = run_of a runs c.args.self.now c.self.view_is k i c.requires.run c.requires.low c.requires.high in
-    let fits : r.start + (k - r.first) * r.kids + r.kids ≤ length a.kids.items = within r a.runs.items i k (length a.kids.items) there c.index-own.ensures (kids_within a.columns a.runs.items (symbol_of a.symbols.items) a.kids.items a.count runs k i o) in
+    let fits : r.start + (k - r.first) * r.kids + r.kids ≤ length a.kids.items = within r a.runs.items i k (length a.kids.items) there (c.run-own.ensures r) (kids_within a.columns a.runs.items (symbol_of a.symbols.items) a.kids.items a.count runs k i o) in
     omega (arith, fits, ap length c.as_slice-kids.ensures.value, c.as_slice-kids.ensures.len, c.as_slice-kids.type_inv)
 
 pub slice_bounds-result-end : goal.slice_bounds-result-end
@@ -71,11 +82,11 @@ slice_bounds-result-end c =
     let a = c.self.inside in
     let k = c.args.place in
     let i = c.args.run in
-    let r = c.index-own.result.now in
+    let r = c.run-own.result in
     let runs = c.self.invariant.runs_are in
     let there : i < length a.runs.items = omega (arith, c.requires.run, starts_are a runs c.args.self.now c.self.view_is) in
     let o = run_of a runs c.args.self.now c.self.view_is k i c.requires.run c.requires.low c.requires.high in
-    let fits : r.start + (k - r.first) * r.kids + r.kids ≤ length a.kids.items = within r a.runs.items i k (length a.kids.items) there c.index-own.ensures (kids_within a.columns a.runs.items (symbol_of a.symbols.items) a.kids.items a.count runs k i o) in
+    let fits : r.start + (k - r.first) * r.kids + r.kids ≤ length a.kids.items = within r a.runs.items i k (length a.kids.items) there (c.run-own.ensures r) (kids_within a.columns a.runs.items (symbol_of a.symbols.items) a.kids.items a.count runs k i o) in
     omega (arith, fits, ap length c.as_slice-kids.ensures.value, c.as_slice-kids.ensures.len, c.as_slice-kids.type_inv)
 
 pub returns-clause-kids : goal.returns-clause-kids
@@ -83,15 +94,15 @@ returns-clause-kids c d =
     let a = c.self.inside in
     let k = c.args.place in
     let i = c.args.run in
-    let r = c.index-own.result.now in
+    let r = c.run-own.result in
     let runs = c.self.invariant.runs_are in
     let there : i < length a.runs.items = omega (arith, c.requires.run, starts_are a runs c.args.self.now c.self.view_is) in
     let o = run_of a runs c.args.self.now c.self.view_is k i c.requires.run c.requires.low c.requires.high in
-    let fits : r.start + (k - r.first) * r.kids + r.kids ≤ length a.kids.items = within r a.runs.items i k (length a.kids.items) there c.index-own.ensures (kids_within a.columns a.runs.items (symbol_of a.symbols.items) a.kids.items a.count runs k i o) in
+    let fits : r.start + (k - r.first) * r.kids + r.kids ≤ length a.kids.items = within r a.runs.items i k (length a.kids.items) there (c.run-own.ensures r) (kids_within a.columns a.runs.items (symbol_of a.symbols.items) a.kids.items a.count runs k i o) in
     let from : ℕ = r.start + (k - r.first) * r.kids in
     let size : from + r.kids - from ≡ r.kids = omega arith in
     ap (λ (e : Entry). e.kids) (entry_in_run a runs c.args.self.now c.self.view_is k i d o)
-    ∙ (ap (λ (s : Run). kids_at s a.kids.items k) (sym (own_is a.runs.items i r there c.index-own.ensures))
+    ∙ (ap (λ (s : Run). kids_at s a.kids.items k) (sym (own_is a.runs.items i r there (c.run-own.ensures r)))
     ∙ sym (ap (λ (m : ℕ). take m (drop from c.as_slice-kids.result.now)) size ∙ ap (λ (ks : List ℕ). take r.kids (drop from ks)) c.as_slice-kids.ensures.value))
 
 pub returns-clause-few : goal.returns-clause-few
@@ -99,10 +110,10 @@ returns-clause-few c =
     let a = c.self.inside in
     let k = c.args.place in
     let i = c.args.run in
-    let r = c.index-own.result.now in
+    let r = c.run-own.result in
     let runs = c.self.invariant.runs_are in
     let there : i < length a.runs.items = omega (arith, c.requires.run, starts_are a runs c.args.self.now c.self.view_is) in
     let o = run_of a runs c.args.self.now c.self.view_is k i c.requires.run c.requires.low c.requires.high in
-    let fits : r.start + (k - r.first) * r.kids + r.kids ≤ length a.kids.items = within r a.runs.items i k (length a.kids.items) there c.index-own.ensures (kids_within a.columns a.runs.items (symbol_of a.symbols.items) a.kids.items a.count runs k i o) in
+    let fits : r.start + (k - r.first) * r.kids + r.kids ≤ length a.kids.items = within r a.runs.items i k (length a.kids.items) there (c.run-own.ensures r) (kids_within a.columns a.runs.items (symbol_of a.symbols.items) a.kids.items a.count runs k i o) in
     let from : ℕ = r.start + (k - r.first) * r.kids in
-    few r a.runs.items i (from + r.kids - from) from c.as_slice-kids.result.now there c.index-own.ensures (runs.few i there) (omega arith) (omega (arith, fits, ap length c.as_slice-kids.ensures.value))
+    few r a.runs.items i (from + r.kids - from) from c.as_slice-kids.result.now there (c.run-own.ensures r) (runs.few i there) (omega arith) (omega (arith, fits, ap length c.as_slice-kids.ensures.value))

@@ -4,7 +4,7 @@ use Rattle.std.proofs.lemmas.List.{length-map, length-append}
 use Rattle.fort_tables.specs.Entries.{entry, stage}
 use Rattle.fort_lockstep.specs.Columns.{column_of, symbol_of}
 use Rattle.fort_tables.specs.Tuples.{TupleSymbol}
-use Rattle.fort_check_steps.specs.declared.entry_list.Run.{Run}
+use Rattle.fort_check_steps.specs.declared.runs.Run.{Run}
 use Rattle.fort_check_steps.specs.EntryListView.{Listing}
 use Rattle.fort_check_steps.specs.EntryListInside.{IsRunMade, no_run, stage_at}
 use Rattle.fort_check_steps.proofs.EntryListLaws.{length_all, made_few, made_symbols, made_runs, made_entries, made_stage}
@@ -15,8 +15,7 @@ make_run-requires-clause-runs_room c =
     let a = c.self.inside in
     let room = ap (λ (l : Listing). l.room) c.self.view_is in
     let count = sym (length_all a.columns a.runs.items (symbol_of a.symbols.items) a.kids.items a.count) ∙ ap (λ (l : Listing). length l.entries) c.self.view_is in
-    let own : vec_len a.runs ≡ length a.runs.items = omega (arith, a.runs.ok.0) in
-    omega (arith, own, room, count, c.requires.room, c.self.invariant.runs_few, c.self.invariant.runs_room)
+    omega (arith, room, count, c.requires.room, c.self.invariant.runs_few, c.self.invariant.runs_room)
 
 pub make_run-requires-clause-symbols_room : goal.make_run-requires-clause-symbols_room
 make_run-requires-clause-symbols_room c =
@@ -71,7 +70,7 @@ invariant_of-self c =
         length-map c.make_run.new.symbols.items column_of,
       );
       kids_few = omega (arith, ap length c.put_kids.ensures.kids, length-append a.kids.items ks, c.self.invariant.kids_few, c.kids-kids.ensures.few);
-      runs_room = omega (arith, c.make_run.ensures.runs_capacity, c.self.invariant.runs_room);
+      runs_room = omega (arith, c.make_run.ensures.runs_room, c.self.invariant.runs_room);
       symbols_room = omega (arith, c.make_run.ensures.symbols_capacity, c.self.invariant.symbols_room);
       kids_room = omega (arith, c.put_kids.ensures.capacity, c.self.invariant.kids_room);
     }
