@@ -4,6 +4,7 @@ use Rattle.fort_theory.specs.Signatures.{is_word_byte}
 use Rattle.fort_grammar.specs.Text.{is_blank, deepest}
 use Rattle.fort_grammar.specs.Forms.{Form, Forms}
 use Rattle.fort_sexpr.specs.declared.arena.Node.{Node}
+use Rattle.fort_sexpr.specs.declared.arena.ListNode.{ListNode}
 use Rattle.fort_sexpr.specs.declared.reader.OpenList.{OpenList}
 use Rattle.fort_sexpr.specs.declared.reader.Reader.{Reader}
 use Rattle.fort_sexpr.specs.declared.reader.Token.{Token}
@@ -30,15 +31,17 @@ AreStarts [] n = Unit {0}
 AreStarts (o ∷ os) n = (o.start ≤ n) × AreStarts os o.start
 
 -- the part of the text before the offset is read: these lists are open, the innermost first, and these nodes are made
-pub record IsReading (bytes : List ℕ) (os : List OpenList) (pending nodes : List Node) (i : ℕ) : Type 0 where
+pub record IsReading (bytes : List ℕ) (os : List OpenList) (pending nodes : List Node) (closed : List ListNode) (i : ℕ) : Type 0 where
   pub starts : AreStarts os (length pending)
-  pub grown : AreGrown (length bytes) nodes
-  pub within : LieWithin (length bytes) (length nodes) pending
+  pub grown : AreGrown bytes closed nodes
+  pub within : LieWithin bytes closed (length nodes) pending
   pub few : length nodes + length pending ≤ i
-  pub read : IsReadUpTo bytes (levels_of os (forms_in bytes nodes pending)) (innermost os (forms_in bytes nodes pending)) i
+  pub few_closed : length closed ≤ i
+  pub read : IsReadUpTo bytes (levels_of os (forms_in bytes closed nodes pending)) (innermost os (forms_in bytes closed nodes pending)) i
 
 abbrev pub HasRead : List ℕ → Reader → ℕ → Type 0
-HasRead bytes reader i = IsReading bytes (reverse reader.lists.items) reader.pending.items reader.nodes.items i
+HasRead bytes reader i =
+    IsReading bytes (reverse reader.lists.items) reader.pending.items reader.nodes.items reader.closed.items i
 
 -- this begins at the offset, and isn't at fault there, where so many lists are open
 abbrev pub IsTokenAt : List ℕ → ℕ → ℕ → Token → Type 0

@@ -1,10 +1,11 @@
 //! A form of a text, and the forms of a list.
-ghost use Rattle.std.specs.Prelude.{◌≡◌, ◌<◌, ◌↔◌, [], ◌∷◌, length, List, Some, None, IsTrue, IfSome, IfNone, slice_get, slice_range};
+ghost use Rattle.std.specs.Prelude.{◌≡◌, ◌<◌, ◌≤◌, ◌↔◌, [], ◌∷◌, length, List, Some, None, IsTrue, IfSome, IfNone, slice_get, slice_range};
 ghost use Rattle.fort_grammar.specs.Forms as grammar;
 ghost use Rattle.fort_grammar.specs.Declarations.{word_of, elements_of, IsHeaded};
 ghost use Rattle.fort_sexpr.specs.FormView.{is_list, span_of};
 
 use crate::arena::{Arena, Node};
+use crate::scan::end_of_word;
 use std::marker::Model;
 
 /// Where a form stands in its text: from an offset to one behind its last byte.
@@ -33,11 +34,12 @@ impl<'a> Model for Form<'a> {
 
     ghost view = { λ a. record {
       bytes = a.arena.now.bytes.items;
-      form = form_in a.arena.now.bytes.items a.arena.now.nodes.items a.node;
+      form = form_in a.arena.now.bytes.items a.arena.now.lists.items
+          a.arena.now.nodes.items a.node;
     } };
 
-    ghost invariant = { λ a.
-        Lies (length a.arena.now.bytes.items) (length a.arena.now.nodes.items) a.node };
+    ghost invariant = { λ a. Lies a.arena.now.bytes.items a.arena.now.lists.items
+        (length a.arena.now.nodes.items) a.node };
 }
 
 /// The forms of a list.
@@ -59,11 +61,12 @@ impl<'a> Model for FormList<'a> {
 
     ghost view = { λ a. record {
       bytes = a.arena.now.bytes.items;
-      forms = forms_in a.arena.now.bytes.items a.arena.now.nodes.items a.nodes.now;
+      forms = forms_in a.arena.now.bytes.items a.arena.now.lists.items
+          a.arena.now.nodes.items a.nodes.now;
     } };
 
-    ghost invariant = { λ a.
-        LieWithin (length a.arena.now.bytes.items) (length a.arena.now.nodes.items) a.nodes.now };
+    ghost invariant = { λ a. LieWithin a.arena.now.bytes.items a.arena.now.lists.items
+        (length a.arena.now.nodes.items) a.nodes.now };
 }
 
 impl<'a> FormList<'a> {
@@ -97,8 +100,20 @@ impl<'a> Form<'a> {
     {
         Span {
             from: self.node.from as usize,
-            to: self.node.to as usize,
+            to: self.end(),
         }
+    }
+
+    /// The offset behind its last byte.
+    fn end(&self) -> usize
+        ensures end { result ≡ (span_of self.now.form).to }
+        ensures after { (span_of self.now.form).from ≤ result }
+        ensures within { result ≤ length self.now.bytes }
+    {
+        if self.is_list() {
+            return self.arena.lists[self.node.list as usize].to as usize;
+        }
+        end_of_word(self.arena.bytes.as_slice(), self.node.from as usize)
     }
 
     /// Its bytes.
@@ -106,8 +121,7 @@ impl<'a> Form<'a> {
         ensures { result.now ≡
             slice_range self.now.bytes (span_of self.now.form).from (span_of self.now.form).to }
     {
-        let node = self.node;
-        &self.arena.bytes[node.from as usize..node.to as usize]
+        &self.arena.bytes[self.node.from as usize..self.end()]
     }
 
     pub fn is_list(&self) -> bool
@@ -137,8 +151,9 @@ impl<'a> Form<'a> {
             return None;
         }
         let arena = self.arena;
-        let first = self.node.first as usize;
-        let nodes = &arena.nodes[first..first + self.node.count as usize];
+        let list = arena.lists[self.node.list as usize];
+        let first = list.first as usize;
+        let nodes = &arena.nodes[first..first + list.count as usize];
         Some(FormList { arena, nodes })
     }
 

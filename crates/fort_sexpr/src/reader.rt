@@ -7,7 +7,7 @@ ghost use Rattle.fort_sexpr.specs.declared.fault.SFault.TheVariants.{Memory};
 ghost use Rattle.fort_sexpr.specs.Faults.{IsFirstFaultOf, IsFirstFaultUnlessMemory, IsFaultlessSoFar};
 ghost use Rattle.fort_sexpr.specs.Reading.{HasRead, IsTokenAt};
 
-use crate::arena::{Arena, Node};
+use crate::arena::{Arena, ListNode, Node};
 use crate::fault::SFault;
 use crate::scan::{end_of_line, end_of_word, is_blank, is_word_byte};
 use crate::text::Forms;
@@ -34,6 +34,8 @@ struct Reader {
     pending: Vec<Node>,
     /// The forms of the lists that are closed.
     nodes: Vec<Node>,
+    /// The lists that are closed, each behind those in it.
+    closed: Vec<ListNode>,
 }
 
 /// What begins at an offset.
@@ -58,6 +60,7 @@ pub fn read(alloc: Global, bytes: Vec<u8>) -> Result<Forms, SFault>
         lists: Vec::new(alloc),
         pending: Vec::new(alloc),
         nodes: Vec::new(alloc),
+        closed: Vec::new(alloc),
     };
     let mut at = 0;
     while at < bytes.len() {
@@ -136,9 +139,7 @@ impl Reader {
         let to = end_of_word(bytes, at);
         self.pending.push(Node {
             from: at as u32,
-            to: to as u32,
-            first: 0,
-            count: 0,
+            list: 0,
         })?;
         Ok(to)
     }
@@ -173,11 +174,15 @@ impl Reader {
         let count = self.pending.len() - list.start;
         self.nodes.extend_from_slice(&self.pending[list.start..])?;
         self.pending.truncate(list.start);
-        self.pending.push(Node {
-            from: list.from,
+        let number = self.closed.len();
+        self.closed.push(ListNode {
             to: (at + 1) as u32,
             first: first as u32,
             count: count as u32,
+        })?;
+        self.pending.push(Node {
+            from: list.from,
+            list: number as u32,
         })?;
         Ok(())
     }
@@ -195,6 +200,7 @@ impl Reader {
         }
         let arena = Arena {
             bytes,
+            lists: self.closed,
             nodes: self.nodes,
         };
         Ok(Forms {

@@ -11,6 +11,6 @@ returns c =
     let list : OpenList = record { from = c.args.at; start = c.len.result } in
     let start : c.len.result ≡ length pending.items = c.len.ensures ∙ pending.ok.0 in
     rw (c.in_ok-push.ensures.items, reverse-append)
-    (reading_open c.args.bytes.now (reverse lists.items) _ _ c.args.at list c.requires.read c.requires.within c.requires.opens
+    (reading_open c.args.bytes.now (reverse lists.items) _ _ _ c.args.at list c.requires.read c.requires.within c.requires.opens
     (omega (arith, length-reverse lists.items, c.requires.shallow))
     (let made : ℕ → OpenList = λ n. record { from = c.args.at; start = n } in ap made start))

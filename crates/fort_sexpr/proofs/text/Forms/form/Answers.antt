@@ -11,8 +11,8 @@ index-requires c =
     omega (
       arith,
       rw (← c.self.view_is) at c.requires,
-      form_count-as_forms (forms_in arena.bytes.items arena.nodes.items top.items),
-      length-map top.items (form_in arena.bytes.items arena.nodes.items),
+      form_count-as_forms (forms_in arena.bytes.items arena.lists.items arena.nodes.items top.items),
+      length-map top.items (form_in arena.bytes.items arena.lists.items arena.nodes.items),
       top.ok.0,
     )
 
@@ -23,21 +23,21 @@ invariant_of-result c =
     let within : c.args.i < length top.items = omega (
       arith,
       rw (← c.self.view_is) at c.requires,
-      form_count-as_forms (forms_in arena.bytes.items arena.nodes.items top.items),
-      length-map top.items (form_in arena.bytes.items arena.nodes.items),
+      form_count-as_forms (forms_in arena.bytes.items arena.lists.items arena.nodes.items top.items),
+      length-map top.items (form_in arena.bytes.items arena.lists.items arena.nodes.items),
     ) in
-    subst (Lies (length arena.bytes.items) (length arena.nodes.items)) (sym c.index.ensures) (c.self.invariant.within c.args.i c.index.result.now within)
+    subst (Lies arena.bytes.items arena.lists.items (length arena.nodes.items)) (sym c.index.ensures) (c.self.invariant.within c.args.i c.index.result.now within)
 
 pub returns-clause-form : goal.returns-clause-form
 returns-clause-form c =
     let arena = c.self.inside.arena in
     let top = c.self.inside.top in
-    let f = form_in arena.bytes.items arena.nodes.items in
+    let f = form_in arena.bytes.items arena.lists.items arena.nodes.items in
     let n = c.index.result.now in
     let within : c.args.i < length top.items = omega (
       arith,
       rw (← c.self.view_is) at c.requires,
-      form_count-as_forms (forms_in arena.bytes.items arena.nodes.items top.items),
+      form_count-as_forms (forms_in arena.bytes.items arena.lists.items arena.nodes.items top.items),
       length-map top.items f,
     ) in
     rw (← c.self.view_is)

@@ -8,6 +8,6 @@ pub returns-clause-count : goal.returns-clause-count
 returns-clause-count c =
     let arena = c.self.inside.arena in
     let top = c.self.inside.top in
-    let f = form_in arena.bytes.items arena.nodes.items in
+    let f = form_in arena.bytes.items arena.lists.items arena.nodes.items in
     rw (← c.self.view_is)
-    (c.len.ensures ∙ (top.ok.0 ∙ (sym (length-map top.items f) ∙ sym (form_count-as_forms (forms_in arena.bytes.items arena.nodes.items top.items)))))
+    (c.len.ensures ∙ (top.ok.0 ∙ (sym (length-map top.items f) ∙ sym (form_count-as_forms (forms_in arena.bytes.items arena.lists.items arena.nodes.items top.items)))))
