@@ -1,5 +1,5 @@
 //! The checks of a part's steps.
-ghost use Rattle.std.specs.Prelude.{◌≡◌, ℕ, suc, ◌+◌, ◌*◌, ◌<◌, ◌≤◌, ◌^◌, List, map, length, Bool, slice_index_or, OnOk};
+ghost use Rattle.std.specs.Prelude.{◌≡◌, ℕ, suc, ◌+◌, ◌*◌, ◌<◌, ◌^◌, List, map, length};
 ghost use Rattle.fort_logic.specs.Cores as theory;
 ghost use Rattle.fort_tables.specs.BitRows.{words_for};
 ghost use Rattle.fort_tables.specs.Tables as tables;
@@ -7,11 +7,11 @@ ghost use Rattle.fort_counts.specs.Counts.{KeepRules, count_at, is_infinite};
 ghost use Rattle.fort_operations.specs.Projections.{ArePure};
 ghost use Rattle.fort_parts.specs.PartAnswers as answers;
 ghost use Rattle.fort_rrn_algebra.specs.Operands.{connective_of};
-ghost use Rattle.fort_infinity.specs.CountView.{as_count as as_mark, is_many};
+ghost use Rattle.fort_infinity.specs.CountView.{as_count as as_mark};
 ghost use Rattle.fort_formulas.specs.CoreView.{as_core};
 ghost use Rattle.fort_atom_labels.specs.AtomRules.{marks_of};
 ghost use Rattle.fort_atom_labels.specs.Subterms.{subterms};
-ghost use Rattle.fort_in_order.specs.PartRules.{Local, term_local, project_local, many_local};
+ghost use Rattle.fort_in_order.specs.PartRules.{term_local, project_local, many_local};
 ghost use Rattle.fort_check_steps.specs.Room.{HasRoom, HasLabelRoom, IsAsRoomy};
 ghost use Rattle.fort_check_steps.specs.Marks.{HasMarkRoom};
 ghost use Rattle.fort_in_order.specs.Made.{Made};

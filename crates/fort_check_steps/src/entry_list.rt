@@ -1,5 +1,5 @@
 //! Lists of entries in little room.
-ghost use Rattle.std.specs.Prelude.{◌≡◌, ℕ, ◌+◌, ◌-◌, ◌*◌, ◌<◌, ◌≤◌, ◌++◌, ◌∷◌, [], map, length, slice_index_or, slice_get, Some, vec_len, vec_capacity, IfOk, IsTrue};
+ghost use Rattle.std.specs.Prelude.{◌≡◌, ℕ, ◌+◌, ◌-◌, ◌*◌, ◌<◌, ◌≤◌, ◌++◌, ◌∷◌, [], length, slice_index_or, slice_get, Some, vec_len, vec_capacity, IfOk, IsTrue};
 ghost use Rattle.fort_tables.specs.Tuples.{presence};
 ghost use Rattle.fort_tables.specs.Entries.{Entry, stage as stage_lem};
 ghost use Rattle.fort_lockstep.specs.Columns.{as_column, column_of, symbol_of, digit_of};

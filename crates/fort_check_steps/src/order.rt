@@ -1,8 +1,7 @@
 //! The place of an entry among entries in order.
 ghost use Rattle.std.specs.Prelude.{◌≡◌, ℕ, ◌+◌, ◌-◌, ◌<◌, ◌≤◌, List, length, slice_index_or, Contains, IfSome, IsTrue};
 ghost use Rattle.fort_theory.specs.Signatures as theory;
-ghost use Rattle.fort_tables.specs.Entries.{Entry, entry, stage as stage_lem, LexBefore, ColumnBefore, ComesBefore, AreInOrder, IsEntry};
-ghost use Rattle.fort_tables.specs.Tuples.{TupleSymbol};
+ghost use Rattle.fort_tables.specs.Entries.{Entry, entry, stage as stage_lem, LexBefore, ColumnBefore, ComesBefore, AreInOrder};
 ghost use Rattle.fort_lockstep.specs.Columns.{as_column, column_of, symbol_of};
 ghost use Rattle.fort_check_steps.specs.EntryListView.{start_of};
 ghost use Rattle.fort_check_steps.specs.Orders.{Orders, IsWithin};

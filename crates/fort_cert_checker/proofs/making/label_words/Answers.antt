@@ -1,5 +1,4 @@
-use Rattle.std.proofs.Common.{◌≤◌, ◌*◌, List, ℕ, map, subst, arith}
-use Rattle.fort_steps.specs.StepView.{as_step}
+use Rattle.std.proofs.Common.{◌≤◌, ◌*◌, List, ℕ, subst, arith}
 use Rattle.fort_check_steps.specs.Room.{HasLabelRoom}
 use Rattle.fort_cert_checker.proofs.making.label_words.Goals as goal
 

@@ -1,4 +1,4 @@
-use Rattle.std.proofs.Common.{◌≡◌, List, ℕ, map, sym, subst, arith}
+use Rattle.std.proofs.Common.{◌≡◌, List, ℕ, map, subst, arith}
 use Rattle.fort_steps.specs.StepView.{as_step}
 use Rattle.fort_check_steps.specs.Room.{HasRoom}
 use Rattle.fort_cert_checker.specs.Makings.{IsRoomFor, AreRoomsMade}
