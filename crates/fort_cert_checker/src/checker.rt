@@ -52,6 +52,7 @@ pub struct Checker<'a> {
     closures: Vec<Option<ClosurePlan>>,
     plans: Vec<Plan>,
     rooms: Vec<PartRoom>,
+    /// For the labels of each part in its turn.
     scratch: LabelRoom,
     marks: Vec<MarkRoom>,
 }

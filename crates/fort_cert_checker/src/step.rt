@@ -44,8 +44,8 @@ fn check_relation(
 ) -> Result<(), Failure>
     requires few { length targets.now < 2 ^ 32 }
     requires room { HasRoom targets.now room.old }
-    requires scratch { HasLabelRoom (suc (words_for (length (marks_of labels.now.atom)))) targets.now
-        scratch.old }
+    requires scratch { HasLabelRoom (suc (words_for (length (marks_of labels.now.atom))))
+        targets.now scratch.old }
     ensures step { IsPartStep (related_local system.now labels.now) targets.now room.new result }
     ensures room { HasRoom targets.now room.new }
     ensures scratch { IsAsRoomy scratch.old scratch.new }

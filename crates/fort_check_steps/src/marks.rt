@@ -20,8 +20,8 @@ use fort_lockstep::Table;
 use fort_rrn_algebra::ProductLists;
 use fort_steps::Count;
 
-/// What a part is checked in beside its own table: the pure states of an operand, for each whether its mark holds by what was seen, and
-/// the lists of a product's operands.
+/// What is read of a part's operands: the pure states of one, for each whether its mark holds by what was seen, and the lists of a
+/// product's operands.
 #[derive(Drop)]
 pub struct MarkRoom {
     pub states: Vec<u32>,

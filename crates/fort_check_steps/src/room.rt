@@ -1,4 +1,4 @@
-//! Room for the check of a part.
+//! Room for the tables of parts, and for their check.
 ghost use Rattle.std.specs.Prelude.{◌≡◌, ◌≤◌, vec_capacity, IfOk};
 ghost use Rattle.fort_tables.specs.Entries.{stage};
 ghost use Rattle.fort_check_steps.specs.Room.{HasRoom, most_states as most_states_lem};
@@ -56,7 +56,7 @@ impl PartRoom {
 }
 
 impl LabelRoom {
-    /// Room for labels of up to so many words each, and of up to so many together.
+    /// Room for labels of up to so many words of eight bytes each, and of up to so many together.
     pub fn new(alloc: Global, width: usize, words: usize) -> Result<LabelRoom, Memory>
         ensures rows { IfOk result (λ r. words ≤ r.rows.space) }
         ensures out { IfOk result (λ r. width ≤ vec_capacity r.out) }

@@ -81,6 +81,7 @@ impl Rows {
         ensures labels { self.new.labels ≡ [] }
         ensures width { self.new.width ≡ self.old.width }
         ensures room { self.new.room ≡ self.old.room }
+        ensures space { self.new.space ≡ self.old.space }
     {
         self.words.clear();
         self.count = 0;

@@ -284,10 +284,8 @@ fn rows_in_order(rt: HostRuntime) -> Result<(), Fail> {
     assert_eq!(rt; rows.label(0), [5, 6].as_slice());
     rows.reset(1);
     assert_eq!(rt; rows.len(), 0);
-    for word in 0..4 {
-        rows.push(&[word]);
-    }
-    assert_eq!(rt; rows.label(3), [3].as_slice());
+    rows.push(&[7]);
+    assert_eq!(rt; rows.label(0), [7].as_slice());
     Ok(())
 }
 

@@ -55,7 +55,9 @@ returns c =
             decided = c.requires.decided;
             few = c.if-not-have_few.ensures refl;
             plans_made = plans_made;
-            rooms_made = subst (λ n. AreRoomsMade (map as_step steps) n c.in_ok-rooms.rooms.items) (c.len-2.ensures ∙ plans_made.count) c.in_ok-rooms.ensures;
+            rooms_made =
+                let n : c.len-2.result ≡ length parts = omega (arith, c.len-2.ensures, c.in_ok-plans.plans.ok.0, plans_made.count) in
+                subst (λ n. AreRoomsMade (map as_step steps) n c.in_ok-rooms.rooms.items) n c.in_ok-rooms.ensures;
             scratch_made = subst (λ n. IsScratchMade (map as_step steps) plans n c.in_ok-scratch.scratch) plans_made.count
                 (subst (λ ps. IsScratchMade (map as_step steps) ps (length ps) c.in_ok-scratch.scratch) c.deref-4.ensures.value c.in_ok-scratch.ensures);
             marks_made = subst (λ n. AreMarksMade (map as_step steps) plans n c.in_ok-marks.marks.items) plans_made.count
