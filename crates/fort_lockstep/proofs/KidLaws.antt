@@ -83,7 +83,7 @@ none_past : (ps : List ℕ) (want m : ℕ) → states_with ps want (m + 1) (m + 
 none_past ps want m = let e : m + 1 - (m + 1) ≡ 0 = omega arith in ap (states_with ps want (m + 1)) e
 
 -- behind the greatest state alone there is no list
-none_behind : (ps : List ℕ) (m : ℕ) (ws : List ℕ) → kids_after ps m ws false (m ∷ []) ≡ []
+pub none_behind : (ps : List ℕ) (m : ℕ) (ws : List ℕ) → kids_after ps m ws false (m ∷ []) ≡ []
 none_behind ps m [] = refl
 none_behind ps m (p ∷ []) =
     ap (λ ks. ks ++ kid_lists_from ps m [] false (states_with ps p (m + 1) (m + 1 - (m + 1)))) (if_same (get_or ps m 0 == p) [])

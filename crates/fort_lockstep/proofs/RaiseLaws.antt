@@ -1,5 +1,5 @@
 -- The first entry behind a digit that is one more, where neither symbol has arguments.
-use Rattle.std.proofs.Common.{◌≡◌, ℕ, zero, suc, ◌+◌, ◌-◌, ◌*◌, ◌<◌, ◌≤◌, max, List, [], ◌∷◌, ◌++◌, map, length, nat_lt, if◌then◌else◌, refl, ap, sym, ◌∙◌, arith, subst}
+use Rattle.std.proofs.Common.{◌≡◌, ℕ, zero, suc, ◌+◌, ◌-◌, ◌*◌, ◌<◌, ◌≤◌, max, List, [], ◌∷◌, ◌++◌, map, length, get_or, nat_lt, if◌then◌else◌, refl, ap, sym, ◌∙◌, arith, subst}
 use Rattle.std.specs.List.{flat_map, range_with_len}
 use Rattle.std.proofs.lemmas.List.{length-append}
 use Rattle.std.proofs.lemmas.Bool.{le-ltb}
@@ -9,8 +9,9 @@ use Rattle.fort_tables.specs.Entries.{entry, stage, IsNextEntry}
 use Rattle.fort_lockstep.specs.Columns.{symbol_of}
 use Rattle.fort_lockstep.specs.Candidates.{column_arity, AreArities}
 use Rattle.fort_lockstep.specs.Walks.{AreUpTo, Place, wants, wants_from, digit_lists, digits_after, stage_kids, stage_kids_after, stage_entries}
-use Rattle.fort_lockstep.specs.WalkFacts.{place, entry_at, IsPlace, IsFound, IsRaised}
+use Rattle.fort_lockstep.specs.WalkFacts.{place, entry_at, IsPlace, IsFound, IsAlone, IsRaised}
 use Rattle.fort_lockstep.specs.declared.walk.Walk.{Walk}
+use Rattle.fort_lockstep.proofs.KidLaws.{none_behind, none_for_one, one_list}
 use Rattle.fort_lockstep.proofs.StepLaws.{next_found}
 use Rattle.fort_lockstep.proofs.WalkLaws.{found_there}
 
@@ -79,19 +80,48 @@ no_kids : (ks : List ℕ) → stage ks ≡ 0 → ks ≡ []
 no_kids [] h = refl
 no_kids (k ∷ ks) h = absurd (omega (arith, h))
 
+one_kid : (m : ℕ) (ks : List ℕ) → stage ks ≡ suc m → length ks < 2 → ks ≡ m ∷ []
+one_kid m [] h l = absurd (omega (arith, h))
+one_kid m (k ∷ []) h l = let e : k ≡ m = omega (arith, h) in ap (λ i. i ∷ []) e
+one_kid m (k ∷ q ∷ ks) h l = absurd (omega arith)
+
+pub no_items : (ks : List ℕ) → length ks < 1 → ks ≡ []
+no_items [] h = refl
+no_items (k ∷ ks) h = absurd (omega arith)
+
+-- an entry that wants no children
+pub alone_without : (ps : List ℕ) (pl : Place) → stage pl.kids ≡ pl.stage → pl.wanted ≡ [] → pl.stage ≡ 0 → IsAlone ps pl
+alone_without ps pl s w e =
+    let none : pl.kids ≡ [] = no_kids pl.kids (s ∙ e) in
+    record { within = omega (arith, e); only = rw (e, w, none) refl; last = rw e refl }
+
+only_list : (ps : List ℕ) (s : ℕ) (ws ks : List ℕ) → stage ks ≡ s → length ks < 2 → length ws ≡ 1 → 0 < s → get_or ps (s - 1) 0 ≡ get_or ws 0 0 → stage_kids ps s ws ≡ ks ∷ []
+only_list ps zero ws ks h l w p e = absurd (omega arith)
+only_list ps (suc m) [] ks h l w p e = absurd (omega (arith, w))
+only_list ps (suc m) (want ∷ []) ks h l w p e =
+    let here : suc m - 1 ≡ m = omega arith in
+    one_list ps want m (ap (λ i. get_or ps i 0) (sym here) ∙ e) ∙ λ i. sym (one_kid m ks h l) i ∷ none_behind ps m (want ∷ []) i
+only_list ps (suc m) (want ∷ v ∷ ws) ks h l w p e = absurd (omega (arith, w))
+
+-- one with the newest state as its only child, which has the presence that is wanted
+pub alone_with : (ps : List ℕ) (pl : Place) → stage pl.kids ≡ pl.stage → length pl.kids < 2 → pl.stage ≤ length ps → length pl.wanted ≡ 1 → 0 < pl.stage → get_or ps (pl.stage - 1) 0 ≡ get_or pl.wanted 0 0 → IsAlone ps pl
+alone_with ps pl s few within w l e = record {
+  within = within;
+  only = only_list ps pl.stage pl.wanted pl.kids s few w l e;
+  last = none_for_one ps pl.stage pl.wanted pl.kids s few;
+}
+
 -- a walk that only raised its last digit stands at the first entry behind
-pub raised_there : (sig : Signature) (ps : List ℕ) (old new : Walk) → IsPlace sig (place old) → AreArities sig old.arities → IsRaised old new → IsFound sig ps old.stage old.digits (place new)
+pub raised_there : (sig : Signature) (ps : List ℕ) (old new : Walk) → IsPlace sig (place old) → AreArities sig old.arities → IsRaised ps old new → IsFound sig ps old.stage old.digits (place new)
 raised_there sig ps old new p a r =
-    let none : old.kids ≡ [] = no_kids old.kids (p.stage ∙ r.at_stage) in
-    let first : stage_kids ps old.stage old.wanted ≡ old.kids ∷ stage_kids_after ps old.stage old.wanted old.kids = rw (r.at_stage, r.unwanted, none) refl in
+    let first : stage_kids ps old.stage old.wanted ≡ old.kids ∷ stage_kids_after ps old.stage old.wanted old.kids = r.alone.only ∙ ap (λ ls. old.kids ∷ ls) (sym r.alone.last) in
     rw (r.same.stage, r.same.kids, r.same.wanted)
-    (raised_found sig ps (place old) r.others r.last new.digits old.kids p (omega (arith, r.at_stage)) r.before r.after
+    (raised_found sig ps (place old) r.others r.last new.digits old.kids p r.alone.within r.before r.after
     (omega (arith, r.flat, a.within)) (a.is_flat r.last (omega (arith, r.flat))) (a.is_flat (r.last + 1) r.flat)
     p.kids p.stage first)
 
 -- which is the next one
-pub raised_next : (sig : Signature) (ps : List ℕ) (old new : Walk) → IsPlace sig (place old) → AreArities sig old.arities → IsRaised old new → IsNextEntry sig (length old.digits) ps (entry_at (place old)) (entry_at (place new))
+pub raised_next : (sig : Signature) (ps : List ℕ) (old new : Walk) → IsPlace sig (place old) → AreArities sig old.arities → IsRaised ps old new → IsNextEntry sig (length old.digits) ps (entry_at (place old)) (entry_at (place new))
 raised_next sig ps old new p a r =
-    let within : old.stage ≤ length ps = omega (arith, r.at_stage) in
-    let none : stage_kids_after ps old.stage (wants sig (symbol_of old.digits)) old.kids ≡ [] = rw r.at_stage refl in
-    next_found sig ps (place old) (place new) p within none (raised_there sig ps old new p a r)
+    let none : stage_kids_after ps old.stage (wants sig (symbol_of old.digits)) old.kids ≡ [] = subst (λ (ws : List ℕ). stage_kids_after ps old.stage ws old.kids ≡ []) p.wanted r.alone.last in
+    next_found sig ps (place old) (place new) p r.alone.within none (raised_there sig ps old new p a r)

@@ -30,6 +30,24 @@ impl Model for TupleSym {
     ghost inverse_ok = { inside_again };
 }
 
+/// Digit `k` of these with one more at a place.
+fn digit_with(digits: &[u32], place: usize, digit: u32, k: usize) -> u32
+    requires within { place ≤ length digits.now }
+    requires column { k ≤ length digits.now }
+    requires small { (i : ℕ) → slice_index_or digits.now i 0 ≤ 65536 }
+    requires digit { digit ≤ 65536 }
+    ensures is { result ≡ slice_index_or (insert digits.now place digit) k 0 }
+    ensures small { result ≤ 65536 }
+{
+    if k < place {
+        digits[k]
+    } else if k == place {
+        digit
+    } else {
+        digits[k - 1]
+    }
+}
+
 impl TupleSym {
     pub fn new(columns: &[Option<Sym>]) -> TupleSym
         requires { length columns.now ≤ 16 }
@@ -61,7 +79,8 @@ impl TupleSym {
 
     /// 0 stands for absent, and one more than its number for a symbol.
     pub(crate) fn digits(&self) -> &[u32]
-        ensures { result.now ≡ map digit_of self.now }
+        ensures digits { result.now ≡ map digit_of self.now }
+        ensures small { (k : ℕ) → slice_index_or result.now k 0 ≤ 65536 }
     {
         let digits = &self.digits;
         &digits[..self.len]
@@ -80,27 +99,12 @@ impl TupleSym {
         requires room { length self.now < 16 }
         ensures { result ≡ insert self.now place (as_column sym) }
     {
-        let count = self.len();
-        let mut columns = [None; 16];
-        for k in 0..count + 1 {
-            columns[k] = self.column_with(place, sym, k);
+        let own = self.digits();
+        let mut digits = [0u32; 16];
+        for k in 0..own.len() + 1 {
+            digits[k] = digit_with(own, place, digit(sym), k);
         }
-        TupleSym::new(&columns[..count + 1])
-    }
-
-    /// Column `k` of the tuple symbol with one more column.
-    fn column_with(&self, place: usize, sym: Option<Sym>, k: usize) -> Option<Sym>
-        requires within { place ≤ length self.now }
-        requires column { k ≤ length self.now }
-        ensures { as_column result ≡ slice_index_or (insert self.now place (as_column sym)) k None }
-    {
-        if k < place {
-            self.symbol(k)
-        } else if k == place {
-            sym
-        } else {
-            self.symbol(k - 1)
-        }
+        TupleSym::from_digits(&digits[..own.len() + 1])
     }
 
     pub fn symbol(&self, column: usize) -> Option<Sym>

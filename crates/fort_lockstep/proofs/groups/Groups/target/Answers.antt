@@ -20,7 +20,7 @@ target-requires-clause-there g c =
     let j = c.in-Some.number in
     let x = c.index.result.now in
     let is : get_or gs j no_kept ≡ x = get_or_default gs j no_kept x (omega (arith, c.requires.lawful.apart.count, c.in-Some.ensures.0, length-map gs (group_in ps))) ∙ sym c.index.ensures in
-    let of = group_of_kept s.counts.width ps ss gs c.args.sym.now j x c.requires.lawful c.in-Some.ensures.0 (c.in-Some.ensures.1 ∙ c.digits.ensures) is in
+    let of = group_of_kept s.counts.width ps ss gs c.args.sym.now j x c.requires.lawful c.in-Some.ensures.0 (c.in-Some.ensures.1 ∙ c.digits.ensures.digits) is in
     kids_there ss (groups_in ps gs) c.args.sym.now j (group_in ps x) c.args.kids.now of (c.requires.full.all c.args.kids.now c.requires.full.own)
 
 pub target-requires-clause-full : goal.target-requires-clause-full
@@ -35,7 +35,7 @@ target-requires-clause-full g c = λ e.
     let l : j < length gs = omega (arith, c.requires.lawful.apart.count, c.in-Some.ensures.0, length-map gs (group_in ps)) in
     let is : get_or gs j no_kept ≡ x = get_or_default gs j no_kept x l ∙ sym c.index.ensures in
     let k : IsKept s.counts.width ps x = subst (IsKept s.counts.width ps) is (c.requires.lawful.kept j l) in
-    let of = group_of_kept s.counts.width ps ss gs c.args.sym.now j x c.requires.lawful c.in-Some.ensures.0 (c.in-Some.ensures.1 ∙ c.digits.ensures) is in
+    let of = group_of_kept s.counts.width ps ss gs c.args.sym.now j x c.requires.lawful c.in-Some.ensures.0 (c.in-Some.ensures.1 ∙ c.digits.ensures.digits) is in
     let t = kids_there ss (groups_in ps gs) c.args.sym.now j (group_in ps x) ks of (c.requires.full.all ks c.requires.full.own) in
     let own : AreOf ps x.wants ks = subst (AreOf ps x.wants) (get_or_default (kids_in ps x) t.0 [] ks t.1 ∙ t.2) (k.are t.0 t.1) in
     let room = full_space ss (groups_in ps gs) ps c.args.sym.now ks j (group_in ps x) of c.requires.full in
@@ -45,7 +45,7 @@ target-requires-clause-full g c = λ e.
 pub unreachable-requires : goal.unreachable-requires
 unreachable-requires g c =
     let ps = c.args.states.now.presences.items in
-    symbol_there c.args.self.now.symbols.digits (groups_in ps c.args.self.now.list.items) c.args.sym.now c.args.kids.now c.requires.lawful.apart (c.requires.full.all c.args.kids.now c.requires.full.own) (λ q l e. c.in-None.ensures q l (e ∙ sym c.digits.ensures))
+    symbol_there c.args.self.now.symbols.digits (groups_in ps c.args.self.now.list.items) c.args.sym.now c.args.kids.now c.requires.lawful.apart (c.requires.full.all c.args.kids.now c.requires.full.own) (λ q l e. c.in-None.ensures q l (e ∙ sym c.digits.ensures.digits))
 
 pub returns-clause-there : goal.returns-clause-there
 returns-clause-there g c =
@@ -56,7 +56,7 @@ returns-clause-there g c =
     let j = c.in-Some.number in
     let x = c.index.result.now in
     let is : get_or gs j no_kept ≡ x = get_or_default gs j no_kept x (omega (arith, c.requires.lawful.apart.count, c.in-Some.ensures.0, length-map gs (group_in ps))) ∙ sym c.index.ensures in
-    let of = group_of_kept s.counts.width ps ss gs c.args.sym.now j x c.requires.lawful c.in-Some.ensures.0 (c.in-Some.ensures.1 ∙ c.digits.ensures) is in
+    let of = group_of_kept s.counts.width ps ss gs c.args.sym.now j x c.requires.lawful c.in-Some.ensures.0 (c.in-Some.ensures.1 ∙ c.digits.ensures.digits) is in
     let b = c.target.ensures.beside in
     Contains-from_In (transition c.args.sym.now c.args.kids.now c.target.result) (transitions_of ps c.args.self.now)
     (beside_in ss (groups_in ps gs) c.args.sym.now j (group_in ps x) c.args.kids.now b.place c.target.result of b.within b.kids b.target)
@@ -70,5 +70,5 @@ returns-clause-cost g c =
     let j = c.in-Some.number in
     let x = c.index.result.now in
     let is : get_or gs j no_kept ≡ x = get_or_default gs j no_kept x (omega (arith, c.requires.lawful.apart.count, c.in-Some.ensures.0, length-map gs (group_in ps))) ∙ sym c.index.ensures in
-    let of = group_of_kept s.counts.width ps ss gs c.args.sym.now j x c.requires.lawful c.in-Some.ensures.0 (c.in-Some.ensures.1 ∙ c.digits.ensures) is in
+    let of = group_of_kept s.counts.width ps ss gs c.args.sym.now j x c.requires.lawful c.in-Some.ensures.0 (c.in-Some.ensures.1 ∙ c.digits.ensures.digits) is in
     omega (arith, c.target.ensures.cost, targets_within ss (groups_in ps gs) c.args.sym.now j (group_in ps x) of)

@@ -4,7 +4,7 @@ use Rattle.fort_lockstep.proofs.TargetLaws.{numbered_found, not_numbered, with_k
 use Rattle.fort_lockstep.proofs.targets.Targets.constant.Goals as goal
 
 pub returns-in-Some : goal.returns-in-Some
-returns-in-Some c = numbered_found c.args.self.now.constants c.in-Some.constants c.digits.result.now c.args.sym.now c.args.kids.now c.find.result c.in-Some.is c.digits.ensures (sym c.is_empty.ensures ∙ c.if-is_empty.true) c.find.ensures
+returns-in-Some c = numbered_found c.args.self.now.constants c.in-Some.constants c.digits.result.now c.args.sym.now c.args.kids.now c.find.result c.in-Some.is c.digits.ensures.digits (sym c.is_empty.ensures ∙ c.if-is_empty.true) c.find.ensures
 
 pub returns-in-None : goal.returns-in-None
 returns-in-None c = not_numbered c.args.self.now.constants c.args.sym.now c.args.kids.now c.in-None.is

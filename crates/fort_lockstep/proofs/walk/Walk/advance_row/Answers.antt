@@ -3,8 +3,8 @@ use Rattle.fort_lockstep.proofs.Bounds.{bound-up_to}
 use Rattle.fort_lockstep.proofs.RaiseLaws.{raised_there, raised_next}
 use Rattle.fort_lockstep.proofs.walk.Walk.advance_row.Goals as goal
 
-pub raise_constant-requires : goal.raise_constant-requires
-raise_constant-requires c = bound-up_to 65536 (length c.args.sig.now) c.args.self.now.digits (omega (arith, c.len-symbols.ensures.lawful.few)) c.requires.place.digits
+pub raise_constant-requires-clause-small : goal.raise_constant-requires-clause-small
+raise_constant-requires-clause-small c = bound-up_to 65536 (length c.args.sig.now) c.args.self.now.digits (omega (arith, c.len-symbols.ensures.lawful.few)) c.requires.place.digits
 
 pub returns-then-raise_constant-clause-place : goal.returns-then-raise_constant-clause-place
 returns-then-raise_constant-clause-place c =
