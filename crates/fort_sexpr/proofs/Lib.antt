@@ -1,5 +1,6 @@
 pub mod FormLists
 pub mod NodesLaws
+pub mod WordTexts
 pub mod Comments
 pub mod Depths
 pub mod OneFault

@@ -3,12 +3,13 @@ use Rattle.std.proofs.Common.{◌≡◌, ℕ, suc, ◌+◌, ◌-◌, ◌<◌, �
 use Rattle.std.proofs.lemmas.Bool.{cases_lt, eqb-true}
 use Rattle.std.proofs.lemmas.List.Sums.{prefix_len_is}
 use Rattle.std.proofs.lemmas.List.{length-append, length-drop, length-take, length_push, drop-map, take-map, get_or_append_left, get_or-append_right, get_or_push, get_or_default, get_or-drop, get_or-take, drop-append-le, take-append-le}
+use Rattle.std.specs.List.{prefix_len}
 use Rattle.fort_grammar.specs.Forms.{Form, ListForm}
 use Rattle.fort_sexpr.specs.declared.arena.Node.{Node}
 use Rattle.fort_sexpr.specs.declared.arena.ListNode.{ListNode}
 use Rattle.fort_sexpr.proofs.FormLists.{as_list-as_forms}
-use Rattle.fort_grammar.specs.Declarations.{elements_of}
-use Rattle.fort_sexpr.specs.FormView.{is_list, span_of}
+use Rattle.fort_grammar.specs.Declarations.{elements_of, word_of}
+use Rattle.fort_sexpr.specs.FormView.{is_list, span_of, word_ahead}
 use Rattle.fort_theory.specs.Signatures.{is_word_byte}
 use Rattle.fort_sexpr.specs.Progress.{IsWordEnd}
 use Rattle.fort_sexpr.specs.Nodes.{as_forms, word_end, list_at, form_made, form_of, form_in, forms_in, grown, IsListed, Lies, LieWithin, AreGrown}
@@ -179,6 +180,20 @@ module _ (bytes : List ℕ) (lists : List ListNode) where
 
   pub is_list-form_in : (ns : List Node) (n : Node) → is_list (form_in bytes lists ns n) ≡ (get_or bytes n.from 0 == 40)
   is_list-form_in ns n = list_opens (get_or bytes n.from 0 == 40) (grown bytes lists [] ns) n.from (list_at lists n.list)
+
+  word_made : (fs : List Form) (from : ℕ) (list : ListNode) → word_of bytes (form_made false bytes fs from list) ≡ Some (word_ahead (drop from bytes))
+  unfolding word_end
+  word_made fs from list =
+      let size = prefix_len is_word_byte (drop from bytes) in
+      let long : from + size - from ≡ size = omega arith in
+      ap (λ n. Some (take n (drop from bytes))) long
+
+  -- the word that a node is stands in front of the bytes from there on
+  pub word-form_in : (ns : List Node) (n : Node) → is_list (form_in bytes lists ns n) ≡ false
+      → word_of bytes (form_in bytes lists ns n) ≡ Some (word_ahead (drop n.from bytes))
+  word-form_in ns n w =
+      ap (λ b. word_of bytes (form_made b bytes (grown bytes lists [] ns) n.from (list_at lists n.list))) (sym (is_list-form_in ns n) ∙ w)
+      ∙ word_made (grown bytes lists [] ns) n.from (list_at lists n.list)
 
   -- a node that is a word ends where its bytes do
   pub end-form_in : (ns : List Node) (n : Node) (to : ℕ) → is_list (form_in bytes lists ns n) ≡ false → IsWordEnd bytes n.from to

@@ -1,5 +1,7 @@
--- To believe: where a form stands, and whether it is a list; how many forms a list has, and which is its i-th.
-use Rattle.std.specs.Prelude.{ℕ, zero, suc, Bool, true, false, Option, Some, None}
+-- To believe: where a form stands, and whether it is a list; how many forms a list has, and which is its i-th; and the word that bytes begin with.
+use Rattle.std.specs.Prelude.{ℕ, zero, suc, Bool, true, false, List, take, Option, Some, None}
+use Rattle.std.specs.List.{prefix_len}
+use Rattle.fort_theory.specs.Signatures.{is_word_byte}
 use Rattle.fort_grammar.specs.Forms.{Form, Forms, Word, ListForm, NoForm, MoreForms}
 use Rattle.fort_sexpr.specs.declared.form.Span.{Span}
 
@@ -19,3 +21,7 @@ abbrev pub form_at : Forms → ℕ → Option Form
 form_at NoForm i = None
 form_at (MoreForms f fs) zero = Some f
 form_at (MoreForms f fs) (suc i) = form_at fs i
+
+-- the longest run of bytes of words that these bytes begin with
+abbrev pub word_ahead : List ℕ → List ℕ
+word_ahead bytes = take (prefix_len is_word_byte bytes) bytes

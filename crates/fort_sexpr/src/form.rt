@@ -2,10 +2,10 @@
 ghost use Rattle.std.specs.Prelude.{◌≡◌, ◌<◌, ◌≤◌, ◌↔◌, [], ◌∷◌, length, List, Some, None, IsTrue, IfSome, IfNone, slice_get, slice_range};
 ghost use Rattle.fort_grammar.specs.Forms as grammar;
 ghost use Rattle.fort_grammar.specs.Declarations.{word_of, elements_of, IsHeaded};
-ghost use Rattle.fort_sexpr.specs.FormView.{is_list, span_of};
+ghost use Rattle.fort_sexpr.specs.FormView.{is_list, span_of, word_ahead};
 
 use crate::arena::{Arena, Node};
-use crate::scan::end_of_word;
+use crate::scan::{end_of_word, is_ahead};
 use std::marker::Model;
 
 /// Where a form stands in its text: from an offset to one behind its last byte.
@@ -157,12 +157,24 @@ impl<'a> Form<'a> {
         Some(FormList { arena, nodes })
     }
 
+    /// The bytes of the text from a word's first one on.
+    pub fn word_on(&self) -> Option<&'a [u8]>
+        ensures some { IfSome result (λ bytes.
+            word_of self.now.bytes self.now.form ≡ Some (word_ahead bytes.now)) }
+        ensures none { IfNone result (word_of self.now.bytes self.now.form ≡ None) }
+    {
+        if self.is_list() {
+            return None;
+        }
+        Some(&self.arena.bytes[self.node.from as usize..])
+    }
+
     /// Whether it is this word.
     pub fn is_word(&self, text: &[u8]) -> bool
         ensures { IsTrue result ↔ (word_of self.now.bytes self.now.form ≡ Some text.now) }
     {
-        match self.word() {
-            Some(word) => word == text,
+        match self.word_on() {
+            Some(bytes) => is_ahead(bytes, text),
             None => false,
         }
     }

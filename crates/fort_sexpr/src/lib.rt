@@ -11,7 +11,7 @@ mod text;
 pub use fault::SFault;
 pub use form::{Form, FormList, Span};
 pub use reader::read;
-pub use scan::{is_blank, is_word_byte};
+pub use scan::{is_ahead, is_blank, is_word_byte};
 pub use text::Forms;
 
 #[cfg(test)]

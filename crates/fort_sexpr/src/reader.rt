@@ -198,6 +198,8 @@ impl Reader {
         if let Some(list) = self.lists.pop() {
             return Err(SFault::Unclosed(list.from as usize));
         }
+        // What the forms of the longest list took goes back before anything is made of these.
+        self.pending.shrink_to_fit();
         let arena = Arena {
             bytes,
             lists: self.closed,

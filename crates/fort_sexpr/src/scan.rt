@@ -1,7 +1,8 @@
 //! Where a word or a line ends, and which byte is what.
-ghost use Rattle.std.specs.Prelude.{◌≡◌, ◌<◌, length};
+ghost use Rattle.std.specs.Prelude.{◌≡◌, ◌<◌, ◌≤◌, ◌↔◌, IsTrue, length};
 ghost use Rattle.fort_theory.specs.Signatures as theory;
 ghost use Rattle.fort_grammar.specs.Text as grammar;
+ghost use Rattle.fort_sexpr.specs.FormView.{word_ahead};
 ghost use Rattle.fort_sexpr.specs.Progress.{IsWordEnd, IsLineEnd};
 
 /// Whether a byte is a space, a tab, a CR or an LF.
@@ -20,7 +21,7 @@ pub fn is_word_byte(byte: u8) -> bool
 
 /// Where the word ends whose bytes stand from an offset on.
 pub(crate) fn end_of_word(bytes: &[u8], from: usize) -> usize
-    requires { from < length bytes.now }
+    requires { from ≤ length bytes.now }
     ensures { IsWordEnd bytes.now from result }
 {
     for i in from..bytes.len() {
@@ -29,6 +30,14 @@ pub(crate) fn end_of_word(bytes: &[u8], from: usize) -> usize
         }
     }
     bytes.len()
+}
+
+/// Whether the word that bytes begin with is this text.
+pub fn is_ahead(bytes: &[u8], text: &[u8]) -> bool
+    ensures { IsTrue result ↔ (word_ahead bytes.now ≡ text.now) }
+{
+    // the bytes first: most words differ from the text long before they end
+    bytes.starts_with(text) && end_of_word(bytes, 0) == text.len()
 }
 
 /// The offset behind the line of an offset.

@@ -1,5 +1,5 @@
 //! Texts, and the forms or the fault that each has.
-use crate::{Form, SFault, Span, is_blank, is_word_byte, read};
+use crate::{Form, SFault, Span, is_ahead, is_blank, is_word_byte, read};
 use std::alloc::{AllocError, Global};
 use std::test::Fail;
 
@@ -163,6 +163,8 @@ fn gives_the_forms_of_lists(rt: HostRuntime) -> Result<(), Fail> {
     let word = text.form(0);
     assert!(rt; word.is_word(b"c") && !word.is_word(b"d") && !word.is_headed(b"c"));
     assert!(rt; word.elements().is_none() && word.three().is_none());
+    assert_eq!(rt; word.word_on(), Some(b"c (d e) ()".as_slice()));
+    assert!(rt; !word.is_word(b"") && !word.is_word(b"cd") && !word.is_word(b"c (d e)"));
     let Some((first, second)) = text.form(1).two() else {
         return Err(Fail::from("no list of two"));
     };
@@ -178,5 +180,7 @@ fn gives_the_forms_of_lists(rt: HostRuntime) -> Result<(), Fail> {
 #[test]
 fn knows_its_bytes(rt: HostRuntime) -> Result<(), Fail> {
     assert!(rt; is_blank(b'\t') && is_word_byte(b'~') && !is_word_byte(b';'));
+    assert!(rt; is_ahead(b"ab c", b"ab") && is_ahead(b"ab", b"ab") && is_ahead(b" c", b""));
+    assert!(rt; !is_ahead(b"ab c", b"a") && !is_ahead(b"ab c", b"ab c") && !is_ahead(b"a", b"ab"));
     Ok(())
 }
