@@ -7,4 +7,5 @@ pub mod FaultLaws
 pub mod BuildLaws
 pub mod ReadLaws
 mod NumberWords
+mod DigitsAhead
 mod SmallLaws

@@ -1,8 +1,5 @@
 -- Words of digits, read from the left.
-use Rattle.std.proofs.Common.{◌≡◌, ℕ, zero, suc, ◌+◌, ◌*◌, ◌-◌, ◌<◌, ◌≤◌, ◌^◌, List, [], ◌∷◌, length, get_or, take, ap, sym, ◌∙◌, arith, subst, decimal}
-use Rattle.std.specs.Prelude.{Option, Some, None, IfSome, IfNone, true, false, ◌==◌}
-use Rattle.std.proofs.lemmas.Bool.{false≢true}
-use Rattle.std.proofs.lemmas.Bool.Decides.{nat_tests}
+use Rattle.std.proofs.Common.{◌≡◌, ℕ, zero, suc, ◌+◌, ◌*◌, ◌-◌, ◌<◌, ◌≤◌, ◌^◌, List, length, get_or, take, ap, sym, ◌∙◌, arith, subst, decimal}
 use Rattle.std.specs.Int.{IsInRange}
 use Rattle.std.specs.Str.Parse.{AllDigits, digits_value}
 use Rattle.std.proofs.lemmas.Str.{digit_value_digit}
@@ -10,7 +7,6 @@ use Rattle.std.proofs.lemmas.Int.Digits.{digits_more, digits_value_more}
 use Rattle.std.proofs.lemmas.Str.Parse.{IsNumeralModel, numerals_by_value, tells_digits, digit_at, digits_value-take-le}
 use Rattle.std.proofs.lemmas.Fmt.{decimal-digits_value, digits_decimal, digits_value-decimal, decimal_nonempty, decimal_digit, first_decimal}
 use Rattle.fort_certificate_grammar.specs.CertificateForms.{IsNumberWord}
-use Rattle.fort_certificate_grammar.specs.CertificateFaults.{IsNoNumber}
 
 own : IsNumeralModel (AllDigits 10) (digits_value 10)
 own = numerals_by_value _ tells_digits
@@ -41,14 +37,6 @@ word_of_value word n some lead digits value small = record {
   small = omega (arith, small);
 }
 
--- the test of a list for emptiness
-pub is_some : (word : List ℕ) → (length word == 0) ≡ false → 0 < length word
-is_some [] e = absurd (false≢true (sym e))
-is_some (c ∷ cs) e = omega arith
-
-pub is_none : (word : List ℕ) → (length word == 0) ≡ true → length word ≡ 0
-is_none word e = grind (arith, nat_tests)
-
 -- the word of a number is not empty, and has no zero in front of other digits
 pub word_begins : (word : List ℕ) (n : ℕ) → IsNumberWord word n → (0 < length word) × (get_or word 0 0 ≡ 48 → length word ≡ 1)
 word_begins word zero h = (omega (arith, ap (λ ws. length ws) h.is, decimal_nonempty 0 (omega arith)), λ _. ap (λ ws. length ws) (h.is ∙ decimal_digit 0 (omega arith)))
@@ -61,13 +49,3 @@ pub word_has_value : (word : List ℕ) (n : ℕ) → IsNumberWord word n → All
 word_has_value word n h =
     let small : n < 2 ^ 64 = omega (arith, h.small) in
     (subst (AllDigits 10) (sym h.is) (digits_decimal own n small), omega (arith, ap (digits_value 10) h.is, digits_value-decimal own n small, h.small))
-
--- what is read of a word that begins well is its number
-pub read_some : (word : List ℕ) (r : Option ℕ) → 0 < length word → (get_or word 0 0 ≡ 48 → length word ≡ 1) → IfSome r (λ n. AllDigits 10 word × (digits_value 10 word ≡ n)) → IfSome r (λ n. n < 2 ^ 32) → IfSome r (IsNumberWord word)
-read_some word (Some n) some lead h small = word_of_value word n some lead h.0 h.1 small
-read_some word None some lead h small = tt
-
--- where nothing is read there is no number
-pub read_none : (word : List ℕ) (r : Option ℕ) → IfNone r (AllDigits 10 word → digits_value 10 word < 2 ^ 32 → ⊥) → IfNone r (IsNoNumber word)
-read_none word (Some n) h = tt
-read_none word None h = λ n is. let v = word_has_value word n is in h v.0 v.1

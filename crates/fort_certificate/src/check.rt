@@ -12,10 +12,10 @@ ghost use Rattle.fort_certificate.specs.ReadView.{as_kind, as_slot, as_last};
 
 use crate::fault::CertificateFault;
 use crate::slot::{Slot, check_slot, first_slots, head_of, last_slot, slot_of};
-use crate::value::{Wrong, three_words, verdict_of};
-use crate::word::{is_same, number_of};
+use crate::value::{Wrong, three_words, verdict_ahead};
+use crate::word::number_ahead;
 use crate::words::version_text;
-use fort_sexpr::{Form, FormList, Forms};
+use fort_sexpr::{Form, FormList, Forms, is_ahead};
 
 /// Whether these slots stand behind the head, and any number of the last one, if there is one.
 fn check_elements(list: &FormList, first: &[Slot], last: Option<Slot>) -> Result<(), Wrong>
@@ -64,16 +64,16 @@ fn check_header(form: &Form, number: u32, i: u32) -> Result<bool, CertificateFau
     let Some(words) = three_words(form) else {
         return Err(CertificateFault::BadForm(i));
     };
-    if !is_same(words.first, b"certificate") {
+    if !is_ahead(words.first, b"certificate") {
         return Err(CertificateFault::BadForm(i));
     }
-    if !is_same(words.second, version_text(number)) {
-        return match number_of(words.second) {
+    if !is_ahead(words.second, version_text(number)) {
+        return match number_ahead(words.second) {
             Some(_version) => Err(CertificateFault::Version(i)),
             None => Err(CertificateFault::BadNumber(i)),
         };
     }
-    match verdict_of(words.third) {
+    match verdict_ahead(words.third) {
         Some(verdict) => Ok(verdict),
         None => Err(CertificateFault::BadForm(i)),
     }

@@ -4,11 +4,12 @@ ghost use Rattle.fort_grammar.specs.Declarations.{word_of, IsListOfWords};
 ghost use Rattle.fort_certificate_grammar.specs.Certificates as certificates;
 ghost use Rattle.fort_certificate_grammar.specs.CertificateForms.{which_word, verdict_word, IsNumberForm, IsWhyWord, IsPairForm, IsCountForm};
 ghost use Rattle.fort_certificate_grammar.specs.CertificateFaults.{WhichSlot, NumberSlot, VerdictSlot, PairSlot, CountSlot, Fits, IsBadAt};
+ghost use Rattle.fort_sexpr.specs.FormView.{word_ahead};
 ghost use Rattle.fort_steps.specs.StepView.{as_which, as_why, as_pair, as_count};
 ghost use Rattle.fort_certificate.specs.ReadView.{as_kind};
 
-use crate::word::{is_same, number_of};
-use fort_sexpr::Form;
+use crate::word::number_ahead;
+use fort_sexpr::{Form, is_ahead};
 use fort_steps::{ClosureEntry, Count, Reason, Which};
 
 /// What is wrong with an element.
@@ -34,15 +35,16 @@ pub(crate) fn which_in(form: &Form) -> Option<Which>
     None
 }
 
-/// The verdict that a word is.
-pub(crate) fn verdict_of(word: &[u8]) -> Option<bool>
-    ensures some { IfSome result (λ verdict. word.now ≡ verdict_word verdict) }
-    ensures none { IfNone result ((verdict : Bool) → word.now ≡ verdict_word verdict → ⊥) }
+/// The verdict that a word is, by the bytes from its first one on.
+pub(crate) fn verdict_ahead(bytes: &[u8]) -> Option<bool>
+    ensures some { IfSome result (λ verdict. word_ahead bytes.now ≡ verdict_word verdict) }
+    ensures none { IfNone result ((verdict : Bool) →
+        word_ahead bytes.now ≡ verdict_word verdict → ⊥) }
 {
-    if is_same(word, b"yes") {
+    if is_ahead(bytes, b"yes") {
         return Some(true);
     }
-    if is_same(word, b"no") {
+    if is_ahead(bytes, b"no") {
         return Some(false);
     }
     None
@@ -53,8 +55,8 @@ pub(crate) fn verdict_in(form: &Form) -> Option<bool>
         word_of form.now.bytes form.now.form ≡ Some (verdict_word verdict)) }
     ensures none { IfNone result (Fits form.now.bytes form.now.form VerdictSlot → ⊥) }
 {
-    match form.word() {
-        Some(word) => verdict_of(word),
+    match form.word_on() {
+        Some(bytes) => verdict_ahead(bytes),
         None => None,
     }
 }
@@ -64,16 +66,16 @@ pub(crate) fn number_in(form: &Form) -> Result<u32, Wrong>
     ensures err { IfErr result (λ wrong.
         IsBadAt form.now.bytes form.now.form NumberSlot (as_kind wrong)) }
 {
-    let Some(word) = form.word() else {
+    let Some(bytes) = form.word_on() else {
         return Err(Wrong::Form);
     };
-    match number_of(word) {
+    match number_ahead(bytes) {
         Some(n) => Ok(n),
         None => Err(Wrong::Number),
     }
 }
 
-/// The words of a list of two.
+/// The bytes of the text from each word of a list of two on.
 #[derive(Clone, Copy)]
 struct TwoWords<'a> {
     first: &'a [u8],
@@ -82,18 +84,18 @@ struct TwoWords<'a> {
 
 fn two_words<'a>(form: &Form<'a>) -> Option<TwoWords<'a>>
     ensures some { IfSome result (λ w. IsListOfWords form.now.bytes form.now.form
-        (w.first.now ∷ w.second.now ∷ [])) }
+        (word_ahead w.first.now ∷ word_ahead w.second.now ∷ [])) }
     ensures none { IfNone result ((u v : List ℕ) →
         IsListOfWords form.now.bytes form.now.form (u ∷ v ∷ []) → ⊥) }
 {
     let (first, second) = form.two()?;
     Some(TwoWords {
-        first: first.word()?,
-        second: second.word()?,
+        first: first.word_on()?,
+        second: second.word_on()?,
     })
 }
 
-/// The words of a list of three.
+/// The bytes of the text from each word of a list of three on.
 #[derive(Clone, Copy)]
 pub(crate) struct ThreeWords<'a> {
     pub first: &'a [u8],
@@ -103,30 +105,31 @@ pub(crate) struct ThreeWords<'a> {
 
 pub(crate) fn three_words<'a>(form: &Form<'a>) -> Option<ThreeWords<'a>>
     ensures some { IfSome result (λ w. IsListOfWords form.now.bytes form.now.form
-        (w.first.now ∷ w.second.now ∷ w.third.now ∷ [])) }
+        (word_ahead w.first.now ∷ word_ahead w.second.now ∷ word_ahead w.third.now ∷ [])) }
     ensures none { IfNone result ((u v w : List ℕ) →
         IsListOfWords form.now.bytes form.now.form (u ∷ v ∷ w ∷ []) → ⊥) }
 {
     let (first, second, third) = form.three()?;
     Some(ThreeWords {
-        first: first.word()?,
-        second: second.word()?,
-        third: third.word()?,
+        first: first.word_on()?,
+        second: second.word_on()?,
+        third: third.word_on()?,
     })
 }
 
-/// The reason that a word is.
-fn reason_of(word: &[u8]) -> Option<Reason>
-    ensures some { IfSome result (λ why. IsWhyWord word.now (as_why why)) }
-    ensures none { IfNone result ((why : certificates.Why) → IsWhyWord word.now why → ⊥) }
+/// The reason that a word is, by the bytes from its first one on.
+fn reason_ahead(bytes: &[u8]) -> Option<Reason>
+    ensures some { IfSome result (λ why. IsWhyWord (word_ahead bytes.now) (as_why why)) }
+    ensures none { IfNone result ((why : certificates.Why) →
+        IsWhyWord (word_ahead bytes.now) why → ⊥) }
 {
-    if is_same(word, b"any") {
+    if is_ahead(bytes, b"any") {
         return Some(Reason::Any);
     }
-    if is_same(word, b"kids") {
+    if is_ahead(bytes, b"kids") {
         return Some(Reason::Kids);
     }
-    match number_of(word) {
+    match number_ahead(bytes) {
         Some(rule) => Some(Reason::Rule(rule)),
         None => None,
     }
@@ -140,13 +143,13 @@ pub(crate) fn entry_in(form: &Form) -> Result<ClosureEntry, Wrong>
     let Some(words) = three_words(form) else {
         return Err(Wrong::Form);
     };
-    let Some(p) = number_of(words.first) else {
+    let Some(p) = number_ahead(words.first) else {
         return Err(Wrong::Number);
     };
-    let Some(q) = number_of(words.second) else {
+    let Some(q) = number_ahead(words.second) else {
         return Err(Wrong::Number);
     };
-    let Some(why) = reason_of(words.third) else {
+    let Some(why) = reason_ahead(words.third) else {
         return Err(Wrong::Number);
     };
     Ok(ClosureEntry { p, q, why })
@@ -160,14 +163,14 @@ pub(crate) fn count_in(form: &Form) -> Result<Count, Wrong>
     let Some(words) = two_words(form) else {
         return Err(Wrong::Form);
     };
-    if is_same(words.first, b"fin") {
-        return match number_of(words.second) {
+    if is_ahead(words.first, b"fin") {
+        return match number_ahead(words.second) {
             Some(height) => Ok(Count::Finite(height)),
             None => Err(Wrong::Number),
         };
     }
-    if is_same(words.first, b"inf") {
-        return match number_of(words.second) {
+    if is_ahead(words.first, b"inf") {
+        return match number_ahead(words.second) {
             Some(child) => Ok(Count::Infinite(child)),
             None => Err(Wrong::Number),
         };

@@ -1,9 +1,12 @@
-//! Which words are numbers, and which are one that is given.
-ghost use Rattle.std.specs.Prelude.{◌≡◌, ◌↔◌, ◌+◌, ◌*◌, ◌-◌, ◌<◌, ◌≤◌, ◌^◌, IsTrue, IfSome, IfNone};
+//! Which words are numbers. A word is told by the bytes of the text from its first one on.
+ghost use Rattle.std.specs.Prelude.{◌≡◌, ◌+◌, ◌*◌, ◌-◌, ◌<◌, ◌≤◌, ◌^◌, length, IfSome, IfNone};
 ghost use Rattle.std.specs.Int.{IsInRange};
 ghost use Rattle.std.specs.Str.Parse.{AllDigits, digits_value};
 ghost use Rattle.fort_certificate_grammar.specs.CertificateForms.{IsNumberWord};
 ghost use Rattle.fort_certificate_grammar.specs.CertificateFaults.{IsNoNumber};
+ghost use Rattle.fort_sexpr.specs.FormView.{word_ahead};
+
+use fort_sexpr::is_word_byte;
 
 /// The value of a decimal digit.
 fn digit_of(byte: u8) -> Option<u32>
@@ -30,38 +33,50 @@ fn with_digit(value: u32, digit: u32) -> Option<u32>
     }
 }
 
-/// The number that digits write; that of no digits is 0.
-fn value_of(digits: &[u8]) -> Option<u32>
-    ensures some { IfSome result (λ n. AllDigits 10 digits.now
-        × (digits_value 10 digits.now ≡ n)) }
-    ensures small { IfSome result (λ n. n < 2 ^ 32) }
-    ensures none { IfNone result (AllDigits 10 digits.now
-        → digits_value 10 digits.now < 2 ^ 32 → ⊥) }
+/// How many digits a word is, and the number that they write.
+#[derive(Clone, Copy)]
+struct Digits {
+    count: usize,
+    value: u32,
+}
+
+/// The digits that a word is; the number of none is 0. The word ends where they are looked at.
+fn digits_ahead(bytes: &[u8]) -> Option<Digits>
+    ensures some { IfSome result (λ d. AllDigits 10 (word_ahead bytes.now)
+        × (digits_value 10 (word_ahead bytes.now) ≡ d.value)) }
+    ensures count { IfSome result (λ d. length (word_ahead bytes.now) ≡ d.count) }
+    ensures small { IfSome result (λ d. d.value < 2 ^ 32) }
+    ensures none { IfNone result (AllDigits 10 (word_ahead bytes.now)
+        → digits_value 10 (word_ahead bytes.now) < 2 ^ 32 → ⊥) }
 {
     let mut value = 0u32;
-    for byte in digits {
-        let digit = digit_of(*byte)?;
+    for i in 0..bytes.len() {
+        let byte = bytes[i];
+        let Some(digit) = digit_of(byte) else {
+            if is_word_byte(byte) {
+                return None;
+            }
+            return Some(Digits { count: i, value });
+        };
         value = with_digit(value, digit)?;
     }
-    Some(value)
+    Some(Digits {
+        count: bytes.len(),
+        value,
+    })
 }
 
 /// The number that a word is: digits, with no zero in front of others.
-pub(crate) fn number_of(word: &[u8]) -> Option<u32>
-    ensures some { IfSome result (λ n. IsNumberWord word.now n) }
-    ensures none { IfNone result (IsNoNumber word.now) }
+pub(crate) fn number_ahead(bytes: &[u8]) -> Option<u32>
+    ensures some { IfSome result (λ n. IsNumberWord (word_ahead bytes.now) n) }
+    ensures none { IfNone result (IsNoNumber (word_ahead bytes.now)) }
 {
-    if word.is_empty() {
+    let digits = digits_ahead(bytes)?;
+    if digits.count == 0 {
         return None;
     }
-    if word.len() > 1 && word[0] == b'0' {
+    if digits.count > 1 && bytes[0] == b'0' {
         return None;
     }
-    value_of(word)
-}
-
-pub(crate) fn is_same(word: &[u8], text: &[u8]) -> bool
-    ensures { IsTrue result ↔ (word.now ≡ text.now) }
-{
-    word == text
+    Some(digits.value)
 }

@@ -7,20 +7,20 @@ use Rattle.fort_certificate.proofs.check.check_header.Goals as goal
 pub returns-in_default-clause-fault : goal.returns-in_default-clause-fault
 returns-in_default-clause-fault c = NoHeader (λ second third h. c.in_default.ensures.none _ second third h)
 
-pub returns-then-not-is_same-clause-fault : goal.returns-then-not-is_same-clause-fault
-returns-then-not-is_same-clause-fault c =
-    other_first _ _ _ _ _ _ _ c.in-Some.ensures.some (λ h. let wrong : false ≡ true = c.if-not-is_same.ensures.1 h in cc)
+pub returns-then-not-is_ahead-clause-fault : goal.returns-then-not-is_ahead-clause-fault
+returns-then-not-is_ahead-clause-fault c =
+    other_first _ _ _ _ _ _ _ c.in-Some.ensures.some (λ h. let wrong : false ≡ true = c.if-not-is_ahead.ensures.1 h in cc)
 
-pub returns-in-Some-number_of-clause-fault : goal.returns-in-Some-number_of-clause-fault
-returns-in-Some-number_of-clause-fault c =
-    other_number _ (version_for c.args.number) _ _ _ _ _ c.in-Some.ensures.some _ (c.if-not-is_same.ensures.0 refl) c.in-Some-number_of.ensures.some
-    (λ h. let wrong : false ≡ true = c.if-not-is_same-2.ensures.1 (h ∙ sym c.version_text.ensures) in cc)
+pub returns-in-Some-number_ahead-clause-fault : goal.returns-in-Some-number_ahead-clause-fault
+returns-in-Some-number_ahead-clause-fault c =
+    other_number _ (version_for c.args.number) _ _ _ _ _ c.in-Some.ensures.some _ (c.if-not-is_ahead.ensures.0 refl) c.in-Some-number_ahead.ensures.some
+    (λ h. let wrong : false ≡ true = c.if-not-is_ahead-2.ensures.1 (h ∙ sym c.version_text.ensures) in cc)
 
 pub returns-in-None-clause-fault : goal.returns-in-None-clause-fault
 returns-in-None-clause-fault c =
-    no_number _ (version_for c.args.number) _ _ _ _ _ c.in-Some.ensures.some (c.if-not-is_same.ensures.0 refl) c.in-None.ensures.none
+    no_number _ (version_for c.args.number) _ _ _ _ _ c.in-Some.ensures.some (c.if-not-is_ahead.ensures.0 refl) c.in-None.ensures.none
 
-pub returns-in-None-verdict_of-clause-fault : goal.returns-in-None-verdict_of-clause-fault
-returns-in-None-verdict_of-clause-fault c =
-    other_verdict _ (version_for c.args.number) _ _ _ _ _ c.in-Some.ensures.some (c.if-not-is_same.ensures.0 refl)
-    (c.if-not-is_same-2.ensures.0 refl ∙ c.version_text.ensures) c.in-None-verdict_of.ensures.none
+pub returns-in-None-verdict_ahead-clause-fault : goal.returns-in-None-verdict_ahead-clause-fault
+returns-in-None-verdict_ahead-clause-fault c =
+    other_verdict _ (version_for c.args.number) _ _ _ _ _ c.in-Some.ensures.some (c.if-not-is_ahead.ensures.0 refl)
+    (c.if-not-is_ahead-2.ensures.0 refl ∙ c.version_text.ensures) c.in-None-verdict_ahead.ensures.none

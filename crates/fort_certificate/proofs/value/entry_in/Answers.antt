@@ -5,17 +5,17 @@ use Rattle.fort_certificate.proofs.value.entry_in.Goals as goal
 pub returns-in_default-clause-err : goal.returns-in_default-clause-err
 returns-in_default-clause-err c = NotThree c.in_default.ensures.none
 
-pub returns-in_default-number_of-clause-err : goal.returns-in_default-number_of-clause-err
-returns-in_default-number_of-clause-err c =
+pub returns-in_default-number_ahead-clause-err : goal.returns-in_default-number_ahead-clause-err
+returns-in_default-number_ahead-clause-err c =
     let words = c.in-Some.ensures.some in
-    NoPair _ _ _ words (λ fits. c.in_default-number_of.ensures.none fits.0.p (words_of_pair _ _ _ _ _ fits.0 words fits.1).p)
+    NoPair _ _ _ words (λ fits. c.in_default-number_ahead.ensures.none fits.0.p (words_of_pair _ _ _ _ _ fits.0 words fits.1).p)
 
-pub returns-in_default-number_of-2-clause-err : goal.returns-in_default-number_of-2-clause-err
-returns-in_default-number_of-2-clause-err c =
+pub returns-in_default-number_ahead-2-clause-err : goal.returns-in_default-number_ahead-2-clause-err
+returns-in_default-number_ahead-2-clause-err c =
     let words = c.in-Some.ensures.some in
-    NoPair _ _ _ words (λ fits. c.in_default-number_of-2.ensures.none fits.0.q (words_of_pair _ _ _ _ _ fits.0 words fits.1).q)
+    NoPair _ _ _ words (λ fits. c.in_default-number_ahead-2.ensures.none fits.0.q (words_of_pair _ _ _ _ _ fits.0 words fits.1).q)
 
-pub returns-in_default-reason_of-clause-err : goal.returns-in_default-reason_of-clause-err
-returns-in_default-reason_of-clause-err c =
+pub returns-in_default-reason_ahead-clause-err : goal.returns-in_default-reason_ahead-clause-err
+returns-in_default-reason_ahead-clause-err c =
     let words = c.in-Some.ensures.some in
-    NoPair _ _ _ words (λ fits. c.in_default-reason_of.ensures.none fits.0.why (words_of_pair _ _ _ _ _ fits.0 words fits.1).why)
+    NoPair _ _ _ words (λ fits. c.in_default-reason_ahead.ensures.none fits.0.why (words_of_pair _ _ _ _ _ fits.0 words fits.1).why)
