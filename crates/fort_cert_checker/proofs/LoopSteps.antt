@@ -28,6 +28,7 @@ use Rattle.fort_cert_checker.specs.declared.making.ClosurePlan.{ClosurePlan}
 use Rattle.fort_cert_checker.specs.Abouts.{IsOnlyAbout}
 use Rattle.fort_cert_checker.specs.Pasts.{IsElement, IsMarkRoomFor}
 use Rattle.fort_check_steps.specs.Room.{IsAsRoomy}
+use Rattle.fort_check_steps.proofs.RoomLaws.{still_room}
 use Rattle.fort_cert_checker.specs.Makings.{AreMade, IsClosureFor, IsRoomFor, IsScratchFor}
 use Rattle.fort_cert_checker.specs.Fronts.{IsAtPlace, IsRoomHeld, AreHeld, IsReady, IsLoopAt, IsStepDue, IsOwnDue, IsDueBehind, IsHeldAfter, IsFineStep, part_in}
 use Rattle.fort_cert_checker.proofs.DueKeys.{key}
@@ -110,7 +111,7 @@ scratch_kept : (ss : List Step) (k : ℕ) (p : Plan) (old new : LabelRoom) → I
 scratch_kept ss k p old new keep h = record {
   width = h.width;
   is_width = h.is_width;
-  sized = λ targets only. let s = h.sized targets only in record { rows = omega (arith, s.rows, keep.rows); out = omega (arith, s.out, keep.out) };
+  sized = λ targets only. still_room (h.sized targets only) keep;
 }
 
 -- the part that a step names

@@ -1,5 +1,5 @@
 //! What a check needs, taken before it: the rules of closures, the plans of parts, and room.
-ghost use Rattle.std.specs.Prelude.{◌≡◌, ℕ, ◌*◌, ◌<◌, ◌≤◌, ◌^◌, List, map, length, vec_capacity, Contains, Option, IfOk};
+ghost use Rattle.std.specs.Prelude.{◌≡◌, ℕ, ◌*◌, ◌<◌, ◌≤◌, ◌^◌, List, map, length, Contains, Option, IfOk};
 ghost use Rattle.fort_theory.specs.Patterns.{PatternSystem};
 ghost use Rattle.fort_theory.specs.Sides.{IsIndexOf};
 ghost use Rattle.fort_logic.specs.Cores as theory;
@@ -9,7 +9,7 @@ ghost use Rattle.fort_in_order.specs.Dues as definitions;
 ghost use Rattle.fort_formulas.specs.CoreView.{as_core};
 ghost use Rattle.fort_steps.specs.StepView.{as_step, as_which};
 ghost use Rattle.fort_check_steps.specs.DueView.{as_due};
-ghost use Rattle.fort_check_steps.specs.Room.{most_states as most_states_lem};
+ghost use Rattle.fort_check_steps.specs.Room.{HasNeeds, most_states as most_states_lem};
 ghost use Rattle.fort_check_steps.specs.Marks.{HasMarkRoom};
 ghost use Rattle.fort_cert_checker.specs.Abouts.{IsOnlyAbout};
 ghost use Rattle.fort_cert_checker.specs.Plans.{AreParted, IsFitPart, IsPlanOf, IsWidthFor};
@@ -19,7 +19,7 @@ ghost use Rattle.fort_cert_checker.specs.Makings.{IsClosurePlan, IsClosureFor, I
 use crate::about::targets_of;
 use crate::plan::{Operand, Plan, Source, Work};
 use fort_check_steps::{
-    DueStep, LabelRoom, MarkRoom, PairRules, PartRoom, closure_rules, most_states,
+    DueStep, LabelNeeds, LabelRoom, MarkRoom, PairRules, PartRoom, closure_rules, most_states,
 };
 use fort_context_closure::local::is_width;
 use fort_formulas::Core;
@@ -154,19 +154,15 @@ pub(crate) fn rooms_of(alloc: Global, steps: &[Step], parts: usize) -> Result<Ve
     Ok(rooms)
 }
 
-/// The words of a label of part `k`, and of the labels of all its states.
-fn label_words(steps: &[Step], k: u32, plan: &Plan) -> Result<(usize, usize), Memory>
+/// What the labels of part `k` need.
+fn label_needs(steps: &[Step], k: u32, plan: &Plan) -> Result<LabelNeeds, Memory>
     requires { (system : PatternSystem) × (parts : List theory.Core) × (j : ℕ)
         × (f : theory.Core) × IsPlanOf system parts (map as_step steps.now) j f plan.now }
-    ensures { IfOk result (λ words. (scratch : LabelRoom) → words.0 ≤ vec_capacity scratch.out
-        → words.1 ≤ scratch.rows.space
+    ensures { IfOk result (λ needs. (scratch : LabelRoom) → HasNeeds needs scratch
         → IsScratchFor (map as_step steps.now) k plan.now scratch) }
 {
     let width = width_of(steps, plan)?;
-    match most_states(targets_of(steps, k)).checked_mul(width) {
-        Some(words) => Ok((width, words)),
-        None => Err(AllocError),
-    }
+    LabelNeeds::new(width, most_states(targets_of(steps, k)))
 }
 
 /// Room for the labels of each part in its turn.
@@ -180,14 +176,11 @@ pub(crate) fn scratch_for(
         × ArePlansMade system parts (map as_step steps.now) (length plans.now) plans.now }
     ensures { IfOk result (IsScratchMade (map as_step steps.now) plans.now (length plans.now)) }
 {
-    let mut width = 0usize;
-    let mut words = 0usize;
+    let mut needs = LabelNeeds::default();
     for k in 0..plans.len() {
-        let own = label_words(steps, k as u32, &plans[k])?;
-        width = width.max(own.0);
-        words = words.max(own.1);
+        needs = needs.max(label_needs(steps, k as u32, &plans[k])?);
     }
-    LabelRoom::new(alloc, width, words)
+    LabelRoom::new(alloc, needs)
 }
 
 /// The most that the table of an operand has.

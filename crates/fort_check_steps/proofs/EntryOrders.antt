@@ -2,9 +2,9 @@
 use Rattle.std.specs.Prelude.{◌≡◌, ℕ, zero, suc, ◌+◌, ◌<◌, ◌≤◌, List, [], ◌∷◌, ◌++◌, length, take, get_or, Contains, Option, None, Some, slice_get}
 use Rattle.std.specs.declared.cmp.Ordering.{Ordering}
 use Rattle.std.specs.declared.cmp.Ordering.TheVariants.{Less, Equal, Greater}
-use Rattle.std.proofs.Common.{refl, sym, ap, ◌∙◌, subst, arith, inl, inr, ⊎_elim}
+use Rattle.std.proofs.Common.{sym, ap, ◌∙◌, subst, arith, inl, inr, ⊎_elim}
 use Rattle.std.proofs.lemmas.Bool.{cases_lt}
-use Rattle.std.proofs.lemmas.List.{get_or_default, take_more, take_all}
+use Rattle.std.proofs.lemmas.List.{take_more, take_all}
 use Rattle.std.proofs.lemmas.Option.{get_or_from_slice_get}
 use Rattle.fort_theory.specs.Signatures.{Signature}
 use Rattle.fort_tables.specs.Tuples.{TupleSymbol, symbol_kids}
@@ -133,10 +133,6 @@ module _ (a b : Entry) (own other : ℕ) (own_is : own ≡ stage a.kids) (other_
 
 -- ---- bisection
 
-pub row_is : (l : Listing) (m : ℕ) (f : TupleSymbol) (ks : List ℕ) → ((d : Entry) → (get_or l.entries m d).symbol ≡ f) → ((d : Entry) → (get_or l.entries m d).kids ≡ ks) → (d : Entry)
-    → get_or l.entries m d ≡ entry f ks
-row_is l m f ks p q d = λ i. entry (p d i) (q d i)
-
 module _ (sig : Signature) (n : ℕ) (ps : List ℕ) (l : Listing) (order : AreInOrder sig n ps l.entries) (e : Entry) (there : Contains l.entries e) where
   pub alike_at : (m : ℕ) (x : Entry) → m < length l.entries → ((d : Entry) → get_or l.entries m d ≡ x) → AreAlike x e
   alike_at m x low is = subst (λ (y : Entry). AreAlike y e) (is e) (AreAlike-entries sig n ps l.entries e e m order there low)
@@ -179,25 +175,6 @@ pub run_inside : (l : Listing) (i : ℕ) → AreStarts l → i < length l.starts
 run_inside l i h low =
     let on : i + 1 ≡ suc i = omega arith in
     (omega (arith, h.rising i low, ap (start_of l) on), start_below l.starts (length l.entries) (i + 1) h.rising)
-
--- a place of the run that an entry is in
-pub in_run : (l : Listing) (e : Entry) (i m : ℕ) (ks : List ℕ) → AreStarts l → Contains l.entries e → i < length l.starts → IsWithin l e (start_of l i) (start_of l (i + 1)) → start_of l i ≤ m
-    → m < start_of l (i + 1) → ((d : Entry) → (get_or l.entries m d).kids ≡ ks) → (d : Entry) → get_or l.entries m d ≡ entry e.symbol ks
-in_run l e i m ks h c there here low high kids d =
-    let w = here c.0 e c.1 c.2 in
-    row_is l m e.symbol ks
-    (λ x. (h.alike i m c.0 x there low high w.0 w.1).0 ∙ (ap (λ (y : Entry). y.symbol) (get_or_default l.entries c.0 x e c.1) ∙ ap (λ (y : Entry). y.symbol) c.2))
-    kids d
-
-pub stage_in_run : (l : Listing) (e : Entry) (i m : ℕ) (ks : List ℕ) → AreStarts l → Contains l.entries e → i < length l.starts → IsWithin l e (start_of l i) (start_of l (i + 1)) → start_of l i ≤ m
-    → m < start_of l (i + 1) → ((d : Entry) → (get_or l.entries m d).kids ≡ ks) → stage ks ≡ stage e.kids
-stage_in_run l e i m ks h c there here low high kids =
-    let w = here c.0 e c.1 c.2 in
-    ap stage (sym (kids e)) ∙ ((h.alike i m c.0 e there low high w.0 w.1).1 ∙ ap (λ (y : Entry). stage y.kids) c.2)
-
--- where stage and tuple symbol are the same, the child states decide
-pub kids_alone : (f : TupleSymbol) (xs ys : List ℕ) (r : Ordering) → stage xs ≡ stage ys → Orders (LexBefore ◌<◌) xs ys r → Orders ComesBefore (entry f xs) (entry f ys) r
-kids_alone f xs ys r same h = kids_decide (entry f xs) (entry f ys) (stage xs) (stage ys) refl refl r (omega arith) (omega arith) refl h
 
 pub none_left : (l : Listing) (e : Entry) (low high : ℕ) → IsWithin l e low high → Contains l.entries e → high ≤ low → ⊥
 none_left l e low high here c h = let w = here c.0 e c.1 c.2 in omega (arith, w.0, w.1)

@@ -1,6 +1,9 @@
+pub mod SymbolLaws
+pub mod RunPlaceLaws
 pub mod RunLaws
 pub mod RunListLaws
 pub mod EntryListLaws
+pub mod PutLaws
 pub mod EntryOrders
 pub mod TableLaws
 pub mod TargetLaws
@@ -13,3 +16,6 @@ pub mod MarkSearch
 pub mod DueLists
 pub mod DueTests
 pub mod PureStates
+mod SparseLaws
+mod KidLaws
+pub mod RoomLaws

@@ -1,6 +1,6 @@
 -- To believe: a list of entries over so many columns, with room for so many, and the places where its runs begin.
-use Rattle.std.specs.Prelude.{◌≡◌, ℕ, suc, ◌+◌, ◌<◌, ◌≤◌, List, length, get_or}
-use Rattle.fort_tables.specs.Entries.{Entry, stage}
+use Rattle.std.specs.Prelude.{◌≡◌, ℕ, suc, ◌<◌, List, length, get_or}
+use Rattle.fort_tables.specs.Entries.{Entry}
 
 pub record Listing : Type 0 where
   pub columns : ℕ
@@ -12,9 +12,7 @@ pub record Listing : Type 0 where
 abbrev pub start_of : Listing → ℕ → ℕ
 start_of l i = get_or l.starts i (length l.entries)
 
--- each run has an entry, and its entries have one tuple symbol and one stage; the first one begins at 0
+-- each run has an entry; the first one begins at 0
 pub record AreStarts (l : Listing) : Type 0 where
   pub zero_first : start_of l 0 ≡ 0
   pub rising : (i : ℕ) → i < length l.starts → start_of l i < start_of l (suc i)
-  pub alike : (i j k : ℕ) (d : Entry) → i < length l.starts → start_of l i ≤ j → j < start_of l (i + 1) → start_of l i ≤ k → k < start_of l (i + 1)
-      → ((get_or l.entries j d).symbol ≡ (get_or l.entries k d).symbol) × (stage (get_or l.entries j d).kids ≡ stage (get_or l.entries k d).kids)

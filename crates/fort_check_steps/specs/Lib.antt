@@ -2,8 +2,11 @@ pub mod StepAnswers
 pub mod Room
 pub mod Held
 pub mod OnePlace
+pub mod RunPlaces
 pub mod RunsView
 pub mod RunsInside
+pub mod SymbolsView
+pub mod SymbolsInside
 pub mod EntryListView
 pub mod EntryListInside
 pub mod Orders
@@ -17,3 +20,8 @@ pub mod DueView
 pub mod AtomLocals
 pub mod TestRule
 pub mod AtomLaws
+pub mod SparseWords
+pub mod SparseRowsView
+pub mod SparseRowsInside
+pub mod StateLabelsView
+pub mod StateLabelsInside

@@ -1,8 +1,10 @@
--- To believe: which room the check of a part needs: for its entries as many as targets, for states no more than that, and no more than the greatest target names; and words for the labels of so many states.
-use Rattle.std.specs.Prelude.{ℕ, ◌*◌, ◌≤◌, min, List, length, vec_capacity}
+-- To believe: which room the check of a part needs: for its entries as many as targets, for states no more than that, and no more than the greatest target names; and words for the labels of so many states, which narrow labels take all and wide ones without their zeros.
+use Rattle.std.specs.Prelude.{ℕ, ◌≤◌, min, List, length, vec_capacity}
 use Rattle.fort_tables.specs.Entries.{stage}
 use Rattle.fort_check_steps.specs.declared.room.PartRoom.{PartRoom}
+use Rattle.fort_check_steps.specs.StateLabelsView.{Spaces, HasSpace, IsAsSpacious}
 use Rattle.fort_check_steps.specs.declared.room.LabelRoom.{LabelRoom}
+use Rattle.fort_check_steps.specs.declared.room.LabelNeeds.{LabelNeeds}
 
 -- the most states that the targets can make
 abbrev pub most_states : List ℕ → ℕ
@@ -15,10 +17,29 @@ pub record HasRoom (targets : List ℕ) (r : PartRoom) : Type 0 where
 
 -- for labels of this width
 pub record HasLabelRoom (width : ℕ) (targets : List ℕ) (r : LabelRoom) : Type 0 where
-  pub rows : most_states targets * width ≤ r.rows.space
+  pub rows : HasSpace width (most_states targets) r.rows.spaces
   pub out : width ≤ vec_capacity r.out
 
 -- what there was room for, there still is
 pub record IsAsRoomy (old new : LabelRoom) : Type 0 where
-  pub rows : old.rows.space ≤ new.rows.space
+  pub rows : IsAsSpacious old.rows.spaces new.rows.spaces
   pub out : vec_capacity old.out ≤ vec_capacity new.out
+
+-- what the labels need, as spaces
+abbrev pub spaces_of : LabelNeeds → Spaces
+spaces_of n = record { narrow = n.narrow; wide = n.wide; most = n.most; widest = n.widest }
+
+-- what so many labels of this width need
+pub record IsSpaceFor (width count : ℕ) (n : LabelNeeds) : Type 0 where
+  pub rows : HasSpace width count (spaces_of n)
+  pub out : width ≤ n.width
+
+-- what suffices for the one does for the other
+pub record IsAsNeedy (less more : LabelNeeds) : Type 0 where
+  pub rows : IsAsSpacious (spaces_of less) (spaces_of more)
+  pub out : less.width ≤ more.width
+
+-- room for what labels need
+pub record HasNeeds (n : LabelNeeds) (r : LabelRoom) : Type 0 where
+  pub rows : IsAsSpacious (spaces_of n) r.rows.spaces
+  pub out : n.width ≤ vec_capacity r.out

@@ -1,15 +1,17 @@
 //! Lists of entries in little room.
-ghost use Rattle.std.specs.Prelude.{◌≡◌, ℕ, ◌+◌, ◌-◌, ◌*◌, ◌<◌, ◌≤◌, ◌++◌, ◌∷◌, [], length, slice_index_or, slice_get, Some, vec_len, vec_capacity, IfOk, IsTrue};
+ghost use Rattle.std.specs.Prelude.{◌≡◌, ℕ, ◌+◌, ◌^◌, ◌<◌, ◌≤◌, ◌++◌, ◌∷◌, [], length, slice_index_or, slice_get, Some, false, vec_len, vec_capacity, IfOk, IsTrue};
 ghost use Rattle.fort_tables.specs.Tuples.{presence};
 ghost use Rattle.fort_tables.specs.Entries.{Entry, stage as stage_lem};
-ghost use Rattle.fort_lockstep.specs.Columns.{as_column, column_of, symbol_of, digit_of};
+ghost use Rattle.fort_lockstep.specs.Columns.{symbol_of};
+ghost use Rattle.fort_check_steps.specs.SymbolsView.{IsSmall};
 ghost use Rattle.fort_check_steps.specs.EntryListView.{AreStarts, start_of};
-ghost use Rattle.fort_check_steps.specs.EntryListInside.{IsContinued, IsRunMade};
+ghost use Rattle.fort_check_steps.specs.EntryListInside.{AreRuns, HasKids, IsGrown, IsLonger, IsBegun, IsMade};
 
-use crate::guesses::{Bases, Guesses};
+use crate::guesses::{Bases, Guess, Guesses};
 use crate::runs::{Run, Runs};
-use fort_lockstep::{Row, TupleSym};
-use fort_terms::{Memory, Signature, Sym};
+use crate::symbols::Symbols;
+use fort_lockstep::Row;
+use fort_terms::{Memory, Signature};
 use std::alloc::{AllocError, Global};
 use std::marker::Model;
 
@@ -23,19 +25,28 @@ pub(crate) fn stage_of(kids: &[u32]) -> u64
     }
 }
 
-/// A list of entries in runs: a run has its tuple symbol once, and of its entries their child states alone.
+/// As `==` does, which takes a call for these few states.
+pub(crate) fn are_same(first: &[u32], second: &[u32]) -> bool
+    ensures { IsTrue result → first.now ≡ second.now }
+{
+    match (first.split_first(), second.split_first()) {
+        (Some((x, first)), Some((y, second))) => *x == *y && are_same(first, second),
+        (None, None) => true,
+        _ => false,
+    }
+}
+
+/// A list of entries in runs: what the entries of a run have in common is there once.
 #[derive(Drop)]
 pub struct EntryList {
-    columns: usize,
     room: usize,
     count: usize,
-    /// The stage of the latest run.
+    /// The stage of the latest entry.
     stage: u64,
     runs: Runs,
-    /// The digits of each run's tuple symbol.
-    symbols: Vec<u8>,
+    symbols: Symbols,
     kids: Vec<u32>,
-    /// Nothing rests on it but the time of a look-up.
+    /// Nothing rests on it but the time of a look-up, and what room is used.
     guesses: Guesses,
 }
 
@@ -51,84 +62,20 @@ impl Model for EntryList {
     ghost invariant = { IsEntryList };
 }
 
-/// What so many entries need of which each needs this much.
-fn room_for(entries: usize, each: usize) -> Result<usize, Memory>
-    ensures { IfOk result (λ n. n ≡ entries * each) }
+/// Whether the last run can go on with these child states, whose stage is its own or isn't.
+fn has_kids(run: Run, same_stage: bool, words: &[u32], kids: &[u32]) -> bool
+    requires { run.start + run.kids ≤ length words.now }
+    ensures { IsTrue result → HasKids run words.now kids.now }
 {
-    match entries.checked_mul(each) {
-        Some(size) => Ok(size),
-        None => Err(AllocError),
-    }
-}
-
-/// 0 for absent, one more than the symbol's number else.
-pub(crate) fn digit(column: Option<Sym>) -> u32
-    ensures { result ≡ digit_of (as_column column) }
-{
-    match column {
-        None => 0,
-        Some(symbol) => u32::from(symbol.0) + 1,
-    }
-}
-
-/// Whether the digit is this column's.
-fn is_column(found: u8, column: Option<Sym>) -> bool
-    ensures { IsTrue result → column_of found ≡ as_column column }
-{
-    u32::from(found) == digit(column)
-}
-
-/// Whether these digits are the tuple symbol's.
-pub(crate) fn is_symbol(digits: &[u8], sym: &TupleSym) -> bool
-    requires { length digits.now ≡ length sym.now }
-    ensures { IsTrue result → symbol_of digits.now ≡ sym.now }
-{
-    for k in 0..digits.len() {
-        if !is_column(digits[k], sym.symbol(k)) {
-            return false;
-        }
-    }
-    true
-}
-
-/// Whether the last run goes on with an entry of this tuple symbol and of another run's number of child states, whose stage is
-/// the last run's or isn't.
-fn is_continued(
-    same_stage: bool,
-    runs: &Runs,
-    symbols: &[u8],
-    columns: usize,
-    sym: &TupleSym,
-    run: Run,
-) -> bool
-    requires symbols { length symbols.now ≡ length runs.now.items * columns }
-    requires columns { length sym.now ≡ columns }
-    ensures { IsTrue result → IsContinued same_stage runs.now.items columns (symbol_of symbols.now)
-        sym.now run }
-{
-    if !same_stage {
+    if usize::from(run.kids) != kids.len() {
         return false;
     }
-    let count = runs.len();
-    if count == 0 {
-        return false;
+    if run.kids >= 2 {
+        // guesses go by the runs of a stage
+        return same_stage;
     }
-    let last = count - 1;
-    if runs.run(last).kids != run.kids {
-        return false;
-    }
-    is_symbol(&symbols[last * columns..], sym)
-}
-
-fn put_symbol(symbols: &mut Vec<u8>, sym: &TupleSym)
-    requires room { vec_len symbols.old + length sym.now ≤ vec_capacity symbols.old }
-    requires small { (k g : ℕ) → slice_get sym.now k ≡ Some (Some g) → g < 255 }
-    ensures symbols { symbol_of symbols.new.items ≡ symbol_of symbols.old.items ++ sym.now }
-    ensures capacity { vec_capacity symbols.new ≡ vec_capacity symbols.old }
-{
-    for k in 0..sym.len() {
-        symbols.push_reserved(digit(sym.symbol(k)) as u8);
-    }
+    let from = run.start as usize;
+    are_same(&words[from..from + kids.len()], kids)
 }
 
 fn put_kids(kids: &mut Vec<u32>, more: &[u32])
@@ -136,36 +83,143 @@ fn put_kids(kids: &mut Vec<u32>, more: &[u32])
     ensures kids { kids.new.items ≡ kids.old.items ++ more.now }
     ensures capacity { vec_capacity kids.old ≤ vec_capacity kids.new }
 {
-    match kids.extend_from_slice(more) {
-        Ok(()) => {}
-        Err(_) => unreachable!(),
+    for kid in more {
+        kids.push_reserved(*kid);
     }
 }
 
-/// Makes a run for the next entry, which has this tuple symbol, where the last one doesn't go on with it.
-fn make_run(
+/// Whether the last run goes on with an entry, which is put there.
+fn goes_on(
+    same_stage: bool,
+    runs: &Runs,
+    symbols: &mut Symbols,
+    kids: &mut Vec<u32>,
+    count: usize,
+    row: &Row,
+) -> bool
+    requires runs { AreRuns runs.now.items symbols.old.items kids.old.items count }
+    requires columns { length row.now.symbol ≡ symbols.old.columns }
+    requires small { IsSmall row.now.symbol }
+    requires count { count < 2 ^ 32 }
+    requires symbols_room { length symbols.old.items < symbols.old.room }
+    requires kids_room { vec_len kids.old + 8 ≤ vec_capacity kids.old }
+    ensures goes { IsTrue result → IsLonger runs.now.items symbols.new.items kids.new.items count
+        row.now }
+    ensures grown { IsGrown symbols.old.items symbols.new.items kids.old.items kids.new.items }
+    ensures symbols { result ≡ false → symbols.new.items ≡ symbols.old.items }
+    ensures kids { result ≡ false → kids.new.items ≡ kids.old.items }
+    ensures columns { symbols.new.columns ≡ symbols.old.columns }
+    ensures symbols_room { symbols.new.room ≡ symbols.old.room }
+    ensures kids_capacity { vec_capacity kids.old ≤ vec_capacity kids.new }
+{
+    let number = runs.len();
+    if number == 0 {
+        return false;
+    }
+    let last = runs.run(number - 1);
+    if !has_kids(last, same_stage, kids.as_slice(), row.kids()) {
+        return false;
+    }
+    if !symbols.takes(last.symbol_number(count), &row.sym()) {
+        return false;
+    }
+    if last.kids < 2 {
+        return true;
+    }
+    put_kids(kids, row.kids());
+    true
+}
+
+/// Makes a run, and puts an entry there. Its tuple symbol may have the guessed number.
+fn begin_run(
+    runs: &mut Runs,
+    symbols: &mut Symbols,
+    kids: &mut Vec<u32>,
+    count: usize,
+    guess: usize,
+    row: &Row,
+)
+    requires columns { length row.now.symbol ≡ symbols.old.columns }
+    requires small { IsSmall row.now.symbol }
+    requires count { count < 2 ^ 32 }
+    requires runs_room { length runs.old.items < runs.old.room }
+    requires symbols_room { length symbols.old.items < symbols.old.room }
+    requires symbols_few { length symbols.old.items ≤ count }
+    requires kids_room { vec_len kids.old + 8 ≤ vec_capacity kids.old }
+    requires kids_few { length kids.old.items < 2 ^ 32 }
+    ensures begun { IsBegun runs.old.items runs.new.items symbols.new.items kids.new.items count
+        row.now }
+    ensures grown { IsGrown symbols.old.items symbols.new.items kids.old.items kids.new.items }
+    ensures runs_room { runs.new.room ≡ runs.old.room }
+    ensures columns { symbols.new.columns ≡ symbols.old.columns }
+    ensures symbols_room { symbols.new.room ≡ symbols.old.room }
+    ensures kids_capacity { vec_capacity kids.old ≤ vec_capacity kids.new }
+{
+    let states = row.kids();
+    let number = symbols.number(guess, &row.sym());
+    runs.push(Run {
+        first: count as u32,
+        symbols: number as u32,
+        start: kids.len() as u32,
+        kids: states.len() as u8,
+    });
+    put_kids(kids, states);
+}
+
+/// Puts an entry into the last run, or into a new one.
+fn put_entry(
     same_stage: bool,
     runs: &mut Runs,
-    symbols: &mut Vec<u8>,
-    columns: usize,
-    sym: &TupleSym,
-    run: Run,
+    symbols: &mut Symbols,
+    kids: &mut Vec<u32>,
+    count: usize,
+    guesses: &Guesses,
+    presences: &[u16],
+    row: &Row,
 )
-    requires symbols { length symbols.old.items ≡ length runs.old.items * columns }
-    requires columns { length sym.now ≡ columns }
-    requires small { (k g : ℕ) → slice_get sym.now k ≡ Some (Some g) → g < 255 }
+    requires runs { AreRuns runs.old.items symbols.old.items kids.old.items count }
+    requires columns { length row.now.symbol ≡ symbols.old.columns }
+    requires small { IsSmall row.now.symbol }
+    requires count { count < 2 ^ 32 }
     requires runs_room { length runs.old.items < runs.old.room }
-    requires symbols_room { vec_len symbols.old + columns ≤ vec_capacity symbols.old }
-    ensures made { IsRunMade same_stage columns run sym.now runs.old.items runs.new.items
-        (symbol_of symbols.old.items) (symbol_of symbols.new.items) }
+    requires symbols_room { length symbols.old.items < symbols.old.room }
+    requires symbols_few { length symbols.old.items ≤ count }
+    requires kids_room { vec_len kids.old + 8 ≤ vec_capacity kids.old }
+    requires kids_few { length kids.old.items < 2 ^ 32 }
+    ensures made { IsMade runs.old.items runs.new.items symbols.new.items kids.new.items count
+        row.now }
+    ensures grown { IsGrown symbols.old.items symbols.new.items kids.old.items kids.new.items }
     ensures runs_room { runs.new.room ≡ runs.old.room }
-    ensures symbols_capacity { vec_capacity symbols.new ≡ vec_capacity symbols.old }
+    ensures columns { symbols.new.columns ≡ symbols.old.columns }
+    ensures symbols_room { symbols.new.room ≡ symbols.old.room }
+    ensures kids_capacity { vec_capacity kids.old ≤ vec_capacity kids.new }
 {
-    if is_continued(same_stage, runs, symbols.as_slice(), columns, sym, run) {
+    if goes_on(same_stage, runs, symbols, kids, count, row) {
         return;
     }
-    put_symbol(symbols, sym);
-    runs.push(run);
+    let guess = guesses.pattern(presences, row.kids());
+    begin_run(runs, symbols, kids, count, guess, row);
+}
+
+/// Notes the latest entry, where it made a run or a tuple symbol new.
+fn note_entry(
+    guesses: &mut Guesses,
+    runs: &Runs,
+    presences: &[u16],
+    row: &Row,
+    stage: u64,
+    count: usize,
+    is_new: bool,
+) {
+    match runs.len().checked_sub(1) {
+        Some(run) if is_new => {
+            let last = runs.run(run);
+            let before = count.wrapping_sub(last.first as usize);
+            let at = Guess { run, before };
+            guesses.note(presences, &row.sym(), row.kids(), stage, at, last.symbols);
+        }
+        _ => {}
+    }
 }
 
 /// The presence of a tuple symbol of these digits.
@@ -184,18 +238,16 @@ impl EntryList {
     pub fn new(alloc: Global, room: usize) -> Result<EntryList, Memory>
         ensures room { IfOk result (λ r. r.room ≡ room) }
     {
-        let symbols = room_for(room, 16)?;
-        let kids = room_for(room, 8)?;
-        if kids > u32::MAX as usize {
-            return Err(AllocError);
-        }
+        let kids = match room.checked_mul(8) {
+            Some(kids) if kids <= u32::MAX as usize => kids,
+            _ => return Err(AllocError),
+        };
         Ok(EntryList {
-            columns: 0,
             room,
             count: 0,
             stage: 0,
             runs: Runs::new(alloc, room)?,
-            symbols: Vec::with_capacity(alloc, symbols)?,
+            symbols: Symbols::new(alloc, room)?,
             kids: Vec::with_capacity(alloc, kids)?,
             guesses: Guesses::new(alloc, room)?,
         })
@@ -208,15 +260,14 @@ impl EntryList {
         ensures columns { self.new.columns ≡ columns }
         ensures room { self.new.room ≡ self.old.room }
     {
-        self.columns = columns;
         self.count = 0;
         self.runs.clear();
-        self.symbols.clear();
+        self.symbols.clear(columns);
         self.kids.clear();
         self.guesses.clear(Bases::of(signature));
     }
 
-    /// Appends an entry, for which there is room. The states' presences change the time of look-ups alone.
+    /// Appends an entry, for which there is room. The states' presences change the time of look-ups alone, and what room is used.
     pub fn push(&mut self, row: &Row, presences: &[u16])
         requires columns { length row.now.symbol ≡ self.old.columns }
         requires room { length self.old.entries < self.old.room }
@@ -225,27 +276,23 @@ impl EntryList {
         ensures columns { self.new.columns ≡ self.old.columns }
         ensures room { self.new.room ≡ self.old.room }
     {
-        let (sym, kids) = (row.sym(), row.kids());
-        let stage = stage_of(kids);
-        let run = Run {
-            first: self.count as u32,
-            start: self.kids.len() as u32,
-            kids: kids.len() as u8,
-        };
-        let newest = self.runs.len();
+        let stage = stage_of(row.kids());
         let same_stage = stage == self.stage;
-        make_run(
+        let (runs, symbols) = (self.runs.len(), self.symbols.len());
+        put_entry(
             same_stage,
             &mut self.runs,
             &mut self.symbols,
-            self.columns,
-            &sym,
-            run,
+            &mut self.kids,
+            self.count,
+            &self.guesses,
+            presences,
+            row,
         );
-        put_kids(&mut self.kids, kids);
-        let is_new = newest < self.runs.len();
-        self.guesses
-            .note(presences, &sym, kids, stage, newest, is_new);
+        let is_new = self.runs.len() > runs || self.symbols.len() > symbols;
+        let count = self.count;
+        let guesses = &mut self.guesses;
+        note_entry(guesses, &self.runs, presences, row, stage, count, is_new);
         self.stage = stage;
         self.count += 1;
     }
@@ -280,40 +327,26 @@ impl EntryList {
         }
     }
 
-    /// The stage of the entries of a run.
-    pub fn stage(&self, run: usize) -> u64
-        requires { run < length self.now.starts }
-        ensures { (k : ℕ) → (d : Entry) → start_of self.now run ≤ k
-            → k < start_of self.now (run + 1)
-            → result ≡ stage_lem (slice_index_or self.now.entries k d).kids }
-    {
-        // its clause says that each run has an entry, and that its entries have one stage
-        let _runs = self.runs();
-        let start = self.start(run);
-        stage_of(self.kids(run, start))
-    }
-
-    /// The digits of a run's tuple symbol: 0 for absent, one more than the symbol's number else.
-    pub fn symbol(&self, run: usize) -> &[u8]
-        requires { run < length self.now.starts }
-        ensures symbol { (k : ℕ) → (d : Entry) → start_of self.now run ≤ k
-            → k < start_of self.now (run + 1)
-            → (slice_index_or self.now.entries k d).symbol ≡ symbol_of result.now }
+    /// The digits of an entry's tuple symbol, by its run and its place: 0 for absent, one more than the symbol's number else.
+    pub fn symbol(&self, run: usize, place: usize) -> &[u8]
+        requires run { run < length self.now.starts }
+        requires low { start_of self.now run ≤ place }
+        requires high { place < start_of self.now (run + 1) }
+        ensures symbol { (d : Entry)
+            → (slice_index_or self.now.entries place d).symbol ≡ symbol_of result.now }
         ensures few { length result.now ≤ 16 }
     {
-        let symbols = self.symbols.as_slice();
-        let from = run * self.columns;
-        &symbols[from..from + self.columns]
+        self.symbols.symbol(self.runs.run(run).symbol_number(place))
     }
 
-    /// The presence of the entries of a run.
-    pub fn presence(&self, run: usize) -> u16
-        requires { run < length self.now.starts }
-        ensures { (k : ℕ) → (d : Entry) → start_of self.now run ≤ k
-            → k < start_of self.now (run + 1)
-            → result ≡ presence (slice_index_or self.now.entries k d).symbol }
+    /// The presence of an entry, by its run and its place.
+    pub fn presence(&self, run: usize, place: usize) -> u16
+        requires run { run < length self.now.starts }
+        requires low { start_of self.now run ≤ place }
+        requires high { place < start_of self.now (run + 1) }
+        ensures { (d : Entry) → result ≡ presence (slice_index_or self.now.entries place d).symbol }
     {
-        presence_of(self.symbol(run))
+        presence_of(self.symbol(run, place))
     }
 
     /// The child states of an entry, by its run and its place.
@@ -327,8 +360,7 @@ impl EntryList {
     {
         let own = self.runs.run(run);
         let kids = self.kids.as_slice();
-        let count = own.kids as usize;
-        let from = own.start as usize + (place - own.first as usize) * count;
-        &kids[from..from + count]
+        let from = own.kids_from(place);
+        &kids[from..from + usize::from(own.kids)]
     }
 }

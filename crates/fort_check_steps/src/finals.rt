@@ -3,7 +3,8 @@ ghost use Rattle.std.specs.Prelude.{◌≡◌, ◌<◌, ◌≤◌, ◌^◌, [], 
 ghost use Rattle.fort_tables.specs.Labels.{IsLabel, AreLabels, final_by};
 ghost use Rattle.fort_tables.specs.LabelRules.{label_of};
 
-use fort_explore::{LocalRule, Rows};
+use crate::state_labels::StateLabels;
+use fort_explore::LocalRule;
 
 /// Whether a label has all columns present and is accepted.
 fn is_final<R: LocalRule>(rule: &R, label: &[u64]) -> bool
@@ -18,11 +19,18 @@ fn is_final<R: LocalRule>(rule: &R, label: &[u64]) -> bool
     rule.accepts(label)
 }
 
-/// Puts the acceptance of each state.
-pub fn put_finals<R: LocalRule>(rule: &R, rows: &Rows, finals: &mut Vec<bool>)
+/// Puts the acceptance of each state, by the way of a label.
+pub fn put_finals<R: LocalRule>(
+    rule: &R,
+    rows: &StateLabels,
+    out: &mut [u64],
+    finals: &mut Vec<bool>,
+)
     requires labels { AreLabels (R.rule rule.now).signature (R.rule rule.now).columns
         (label_of (R.rule rule.now)) rows.now.labels }
     requires few { length rows.now.labels < 2 ^ 32 }
+    requires width { rows.now.width ≡ R.word_count rule.now }
+    requires words { length out.old ≡ R.word_count rule.now }
     requires empty { finals.old.items ≡ [] }
     requires spare { length rows.now.labels ≤ vec_capacity finals.old }
     ensures finals { finals.new.items ≡ map (final_by (R.rule rule.now).columns
@@ -30,6 +38,7 @@ pub fn put_finals<R: LocalRule>(rule: &R, rows: &Rows, finals: &mut Vec<bool>)
     ensures capacity { vec_capacity finals.new ≡ vec_capacity finals.old }
 {
     for q in 0..rows.len() {
-        finals.push_reserved(is_final(rule, rows.label(q as u32)));
+        rows.write(q as u32, out);
+        finals.push_reserved(is_final(rule, out));
     }
 }

@@ -1,6 +1,7 @@
-//! Guesses at the places of entries. Nothing rests on them but the time of a look-up.
+//! Guesses at the places of entries. Nothing rests on them but the time of a look-up, and what room is used.
 ghost use Rattle.std.specs.Prelude.{◌+◌, ◌≤◌, length};
 
+use crate::symbols::digit;
 use fort_lockstep::TupleSym;
 use fort_terms::{Memory, Signature, Sym};
 use std::alloc::Global;
@@ -16,6 +17,8 @@ const MOST_PRESENCES: usize = 65_536;
 pub(crate) struct Bases {
     constants: usize,
     others: usize,
+    /// Whether no symbol has more than one argument.
+    is_unary: bool,
 }
 
 /// One more than a signature has constants.
@@ -31,12 +34,23 @@ fn constant_base(signature: &Signature) -> usize
     base
 }
 
+/// Whether no symbol has more than one argument.
+fn is_unary(signature: &Signature) -> bool {
+    for symbol in 0..signature.len() {
+        if signature.arity(Sym(symbol as u16)) > 1 {
+            return false;
+        }
+    }
+    true
+}
+
 impl Bases {
     pub(crate) fn of(signature: &Signature) -> Bases {
         let constants = constant_base(signature);
         Bases {
             constants,
             others: signature.len() + 1 - constants,
+            is_unary: is_unary(signature),
         }
     }
 
@@ -47,7 +61,7 @@ impl Bases {
         for k in 0..sym.len() {
             number = number
                 .wrapping_mul(base)
-                .wrapping_add(digit_of(sym.symbol(k)));
+                .wrapping_add(digit(sym.symbol(k)) as usize);
         }
         number
     }
@@ -57,7 +71,7 @@ impl Bases {
         let mut rest = presence;
         let mut number = 0usize;
         for k in 0..sym.len() {
-            let digit = digit_of(sym.symbol(k));
+            let digit = digit(sym.symbol(k)) as usize;
             number = if rest % 2 == 1 {
                 number
                     .wrapping_mul(self.others)
@@ -68,13 +82,6 @@ impl Bases {
             rest /= 2;
         }
         number
-    }
-}
-
-fn digit_of(symbol: Option<Sym>) -> usize {
-    match symbol {
-        None => 0,
-        Some(symbol) => usize::from(symbol.0).wrapping_add(1),
     }
 }
 
@@ -91,9 +98,13 @@ pub(crate) struct Guesses {
     bases: Bases,
     /// For each stage its first run, or the first of a later one.
     stage_runs: Vec<usize>,
-    /// For tuple symbols with two children or more, how many runs of its stage come before the latest run of each: one note for runs whose
+    /// For tuple symbols with children, how many runs of its stage come before the latest noted entry of each: one note for entries whose
     /// first child has the newest state's presence, one for others.
     notes: Vec<u32>,
+    /// Beside each of these, how many entries of the run come before that entry.
+    places: Vec<u32>,
+    /// For each presence, one more than the number of the first tuple symbol of the first run whose one child has it, or 0.
+    patterns: Vec<u32>,
     /// For each state, how many before it have its presence.
     ranks: Vec<u32>,
     /// For each presence, how many states have it.
@@ -146,9 +157,12 @@ impl Guesses {
             bases: Bases {
                 constants: 1,
                 others: 0,
+                is_unary: false,
             },
             stage_runs: Vec::with_capacity(alloc, room)?,
             notes: Vec::with_capacity(alloc, room.min(MOST_NOTES))?,
+            places: Vec::with_capacity(alloc, room.min(MOST_NOTES))?,
+            patterns: Vec::with_capacity(alloc, room.min(MOST_PRESENCES))?,
             ranks: Vec::with_capacity(alloc, room)?,
             counts: Vec::with_capacity(alloc, room.min(MOST_PRESENCES))?,
         })
@@ -159,6 +173,8 @@ impl Guesses {
         self.bases = bases;
         self.stage_runs.clear();
         self.notes.clear();
+        self.places.clear();
+        self.patterns.clear();
         self.ranks.clear();
         self.counts.clear();
     }
@@ -174,30 +190,55 @@ impl Guesses {
             % MOST_NOTES
     }
 
-    /// Notes a run by its first entry, where it is new.
+    /// The number of the first tuple symbol of the first run whose one child has the presence of this one, where it is noted.
+    pub(crate) fn pattern(&self, presences: &[u16], kids: &[u32]) -> usize {
+        let &[kid] = kids else {
+            return usize::MAX;
+        };
+        let presence = presence_of(presences, u64::from(kid));
+        (value_at(&self.patterns, usize::from(presence)) as usize).wrapping_sub(1)
+    }
+
+    /// Notes the number of the first tuple symbol of a run, where it is the first one whose child has the presence.
+    fn note_pattern(&mut self, presence: u16, symbols: u32) {
+        let presence = usize::from(presence);
+        fill(&mut self.patterns, presence + 1);
+        if value_at(&self.patterns, presence) == 0 {
+            set(&mut self.patterns, presence, symbols.wrapping_add(1));
+        }
+    }
+
+    /// Notes the place of an entry, whose run's first tuple symbol has this number.
     pub(crate) fn note(
         &mut self,
         presences: &[u16],
         sym: &TupleSym,
         kids: &[u32],
         stage: u64,
-        run: usize,
-        is_new: bool,
+        at: Guess,
+        symbols: u32,
     ) {
-        if !is_new {
+        note_stage(&mut self.stage_runs, stage, at.run);
+        note_states(&mut self.ranks, &mut self.counts, presences);
+        let Some(kid) = kids.first() else {
+            return;
+        };
+        if kids.len() == 1 {
+            self.note_pattern(presence_of(presences, u64::from(*kid)), symbols);
+        }
+        if self.bases.is_unary {
             return;
         }
-        note_stage(&mut self.stage_runs, stage, run);
-        note_states(&mut self.ranks, &mut self.counts, presences);
-        match kids.first() {
-            Some(kid) if kids.len() > 1 => {
-                let index = self.index(presences, sym, *kid, stage);
-                fill(&mut self.notes, index.wrapping_add(1));
-                let before = run.wrapping_sub(self.stage_run(stage));
-                set(&mut self.notes, index, u32::try_from(before).unwrap_or(0));
-            }
-            _ => {}
-        }
+        let index = self.index(presences, sym, *kid, stage);
+        fill(&mut self.notes, index.wrapping_add(1));
+        fill(&mut self.places, index.wrapping_add(1));
+        let before = at.run.wrapping_sub(self.stage_run(stage));
+        set(&mut self.notes, index, u32::try_from(before).unwrap_or(0));
+        set(
+            &mut self.places,
+            index,
+            u32::try_from(at.before).unwrap_or(0),
+        );
     }
 
     /// The first run of a stage, or of a later one; a run that isn't there, where none is noted.
@@ -234,21 +275,24 @@ impl Guesses {
         stage: u64,
     ) -> Guess {
         let Some(kid) = kids.first() else {
-            // the tuple symbol whose columns are all absent has no run
-            let run = self.bases.number_among(0, sym).wrapping_sub(1);
-            return Guess { run, before: 0 };
+            // the tuple symbol whose columns are all absent has no entry
+            let before = self.bases.number_among(0, sym).wrapping_sub(1);
+            return Guess { run: 0, before };
         };
         let first = self.stage_run(stage);
-        if kids.len() == 1 {
+        if self.bases.is_unary {
             let presence = presence_of(presences, u64::from(*kid));
-            let run = first.wrapping_add(self.bases.number_among(presence, sym));
-            return Guess { run, before: 0 };
+            let before = self.bases.number_among(presence, sym);
+            return Guess { run: first, before };
         }
         let index = self.index(presences, sym, *kid, stage);
-        Guess {
-            run: first.wrapping_add(value_at(&self.notes, index) as usize),
-            before: self.before(presences, kids, stage),
-        }
+        let run = first.wrapping_add(value_at(&self.notes, index) as usize);
+        let before = if kids.len() == 1 {
+            value_at(&self.places, index) as usize
+        } else {
+            self.before(presences, kids, stage)
+        };
+        Guess { run, before }
     }
 
     /// A guess at the run of an entry and the one behind, and about where the runs of its stage begin and end.

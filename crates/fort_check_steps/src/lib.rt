@@ -18,6 +18,9 @@ mod projected;
 mod room;
 mod rules;
 mod runs;
+mod sparse_rows;
+mod state_labels;
+mod symbols;
 mod table;
 mod targets;
 
@@ -30,7 +33,7 @@ pub use numbered::{Numbered, RuleNumbers};
 pub use pairs::PairRules;
 pub use part::check_part;
 pub use projected::Projected;
-pub use room::{LabelRoom, PartRoom, most_states};
+pub use room::{LabelNeeds, LabelRoom, PartRoom, most_states};
 pub use rules::{both_ways, closure_rules};
 pub use table::PartTable;
 

@@ -152,12 +152,11 @@ fn see_run(
         holds.new }
 {
     let _runs = entries.runs();
-    if entries.presence(run) != 1 << column {
-        return;
-    }
     for place in entries.start(run)..entries.start(run + 1) {
-        let kids = entries.kids(run, place);
-        see_entry(kids, targets[place], states, marks, holds);
+        if entries.presence(run, place) == 1 << column {
+            let kids = entries.kids(run, place);
+            see_entry(kids, targets[place], states, marks, holds);
+        }
     }
 }
 

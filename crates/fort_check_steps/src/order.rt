@@ -1,13 +1,14 @@
 //! The place of an entry among entries in order.
-ghost use Rattle.std.specs.Prelude.{◌≡◌, ℕ, ◌+◌, ◌-◌, ◌<◌, ◌≤◌, List, length, slice_index_or, Contains, IfSome, IsTrue};
+ghost use Rattle.std.specs.Prelude.{◌≡◌, ℕ, ◌+◌, ◌-◌, ◌<◌, ◌≤◌, List, length, slice_index_or, Contains, IfSome};
 ghost use Rattle.fort_theory.specs.Signatures as theory;
 ghost use Rattle.fort_tables.specs.Entries.{Entry, entry, stage as stage_lem, LexBefore, ColumnBefore, ComesBefore, AreInOrder};
 ghost use Rattle.fort_lockstep.specs.Columns.{as_column, column_of, symbol_of};
 ghost use Rattle.fort_check_steps.specs.EntryListView.{start_of};
 ghost use Rattle.fort_check_steps.specs.Orders.{Orders, IsWithin};
 
-use crate::entry_list::{EntryList, digit, is_symbol, stage_of};
+use crate::entry_list::{EntryList, are_same, stage_of};
 use crate::guesses::Guess;
+use crate::symbols::{digit, is_symbol};
 use fort_lockstep::TupleSym;
 use fort_terms::Sym;
 use std::cmp::Ordering;
@@ -61,28 +62,37 @@ fn tuple_order(first: &[u8], second: &TupleSym) -> Ordering
     Ordering::Equal
 }
 
-/// The first entry of a run against that of a tuple symbol and child states, whose stage is given.
-fn run_order(list: &EntryList, run: usize, sym: &TupleSym, kids: &[u32], stage: u64) -> Ordering
+/// An entry of a run against that of a tuple symbol and child states, whose stage is given.
+fn entry_order(
+    list: &EntryList,
+    run: usize,
+    place: usize,
+    sym: &TupleSym,
+    kids: &[u32],
+    stage: u64,
+) -> Ordering
     requires stage { stage ≡ stage_lem kids.now }
     requires there { Contains list.now.entries (entry sym.now kids.now) }
     requires order { (sig : theory.Signature) × (columns : ℕ) × (presences : List ℕ)
         × AreInOrder sig columns presences list.now.entries }
     requires run { run < length list.now.starts }
-    ensures { (d : Entry) → Orders ComesBefore
-        (slice_index_or list.now.entries (start_of list.now run) d) (entry sym.now kids.now)
-        result }
+    requires low { start_of list.now run ≤ place }
+    requires high { place < start_of list.now (run + 1) }
+    ensures { (d : Entry) → Orders ComesBefore (slice_index_or list.now.entries place d)
+        (entry sym.now kids.now) result }
 {
     let _runs = list.runs();
-    let own = list.stage(run);
+    let states = list.kids(run, place);
+    let own = stage_of(states);
     if own < stage {
         return Ordering::Less;
     }
     if stage < own {
         return Ordering::Greater;
     }
-    match tuple_order(list.symbol(run), sym) {
+    match tuple_order(list.symbol(run, place), sym) {
         Ordering::Less => Ordering::Less,
-        Ordering::Equal => kid_order(list.kids(run, list.start(run)), kids),
+        Ordering::Equal => kid_order(states, kids),
         Ordering::Greater => Ordering::Greater,
     }
 }
@@ -122,7 +132,7 @@ fn narrowed(
     if at <= range.low || range.high <= at {
         return range;
     }
-    match run_order(list, at, sym, kids, stage) {
+    match entry_order(list, at, list.start(at), sym, kids, stage) {
         Ordering::Less => RunRange { low: at, ..range },
         Ordering::Equal => RunRange { low: at, ..range },
         Ordering::Greater => RunRange { high: at, ..range },
@@ -169,7 +179,8 @@ fn run_among(list: &EntryList, looks: &[usize], sym: &TupleSym, kids: &[u32], st
 }
 
 /// The place of an entry of a run, by bisection.
-fn place_in_run(list: &EntryList, run: usize, sym: &TupleSym, kids: &[u32]) -> usize
+fn place_in_run(list: &EntryList, run: usize, sym: &TupleSym, kids: &[u32], stage: u64) -> usize
+    requires stage { stage ≡ stage_lem kids.now }
     requires there { Contains list.now.entries (entry sym.now kids.now) }
     requires order { (sig : theory.Signature) × (columns : ℕ) × (presences : List ℕ)
         × AreInOrder sig columns presences list.now.entries }
@@ -184,24 +195,13 @@ fn place_in_run(list: &EntryList, run: usize, sym: &TupleSym, kids: &[u32]) -> u
     let mut high = list.start(run + 1);
     'halves: while low < high {
         let middle = low + (high - low) / 2;
-        match kid_order(list.kids(run, middle), kids) {
+        match entry_order(list, run, middle, sym, kids, stage) {
             Ordering::Less => low = middle + 1,
             Ordering::Equal => return middle,
             Ordering::Greater => high = middle,
         }
     }
     unreachable!()
-}
-
-/// As `==` does, which takes a call for these few states.
-fn are_same(first: &[u32], second: &[u32]) -> bool
-    ensures { IsTrue result → first.now ≡ second.now }
-{
-    match (first.split_first(), second.split_first()) {
-        (Some((x, first)), Some((y, second))) => *x == *y && are_same(first, second),
-        (None, None) => true,
-        _ => false,
-    }
 }
 
 /// The place of an entry, where it is the one that is guessed.
@@ -222,7 +222,7 @@ fn guessed_place(list: &EntryList, guess: Guess, sym: &TupleSym, kids: &[u32]) -
         return None;
     }
     let place = start + guess.before;
-    if are_same(list.kids(run, place), kids) && is_symbol(list.symbol(run), sym) {
+    if are_same(list.kids(run, place), kids) && is_symbol(list.symbol(run, place), sym) {
         Some(place)
     } else {
         None
@@ -244,7 +244,7 @@ pub fn place_among(list: &EntryList, presences: &[u16], sym: &TupleSym, kids: &[
         None => {
             let looks = list.guesses().looks(guess, stage);
             let run = run_among(list, &looks, sym, kids, stage);
-            place_in_run(list, run, sym, kids)
+            place_in_run(list, run, sym, kids, stage)
         }
     }
 }

@@ -11,21 +11,10 @@ ghost use Rattle.fort_check_steps.specs.StepAnswers.{outcome_of};
 use crate::failure::Failure;
 use crate::finals::put_finals;
 use crate::room::{LabelRoom, PartRoom};
+use crate::state_labels::put_zeros;
 use crate::targets::check_targets;
 use fort_explore::LocalRule;
 use fort_terms::Signature;
-
-/// Makes this a label of so many zeros.
-fn put_zeros(label: &mut Vec<u64>, width: usize)
-    requires { width ≤ vec_capacity label.old }
-    ensures len { length label.new.items ≡ width }
-    ensures capacity { vec_capacity label.new ≡ vec_capacity label.old }
-{
-    label.clear();
-    for _ in 0..width {
-        label.push_reserved(0);
-    }
-}
 
 /// Whether the targets are a table by the local rule, or their first failure. It takes no memory.
 pub fn check_part<R: LocalRule>(
@@ -66,7 +55,12 @@ pub fn check_part<R: LocalRule>(
         scratch.out.as_mut_slice(),
     ) {
         Ok(()) => {
-            put_finals(rule, &scratch.rows, &mut room.finals);
+            put_finals(
+                rule,
+                &scratch.rows,
+                scratch.out.as_mut_slice(),
+                &mut room.finals,
+            );
             Ok(())
         }
         Err(failure) => Err(failure),

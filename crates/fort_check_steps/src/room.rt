@@ -1,12 +1,12 @@
 //! Room for the tables of parts, and for their check.
-ghost use Rattle.std.specs.Prelude.{◌≡◌, ◌≤◌, vec_capacity, IfOk};
+ghost use Rattle.std.specs.Prelude.{◌≡◌, IfOk};
 ghost use Rattle.fort_tables.specs.Entries.{stage};
-ghost use Rattle.fort_check_steps.specs.Room.{HasRoom, most_states as most_states_lem};
+ghost use Rattle.fort_check_steps.specs.Room.{HasRoom, IsSpaceFor, IsAsNeedy, HasNeeds, most_states as most_states_lem};
 
 use crate::entry_list::EntryList;
-use fort_explore::Rows;
+use crate::state_labels::{NARROW, StateLabels};
 use fort_terms::Memory;
-use std::alloc::Global;
+use std::alloc::{AllocError, Global};
 
 /// What is kept of a part that was checked: its entries; the presences and the acceptance of its states.
 #[derive(Drop)]
@@ -19,8 +19,21 @@ pub struct PartRoom {
 /// What parts are checked in one after the other: the labels of a part's states, and one label more.
 #[derive(Drop)]
 pub struct LabelRoom {
-    pub rows: Rows,
+    pub rows: StateLabels,
     pub out: Vec<u64>,
+}
+
+/// What room labels need.
+#[derive(Clone, Copy, Default)]
+pub struct LabelNeeds {
+    /// The words of a label.
+    pub width: usize,
+    /// The words of all labels, where they are narrow.
+    pub narrow: usize,
+    /// The same of wide labels, how many these are, and of how many words each.
+    pub wide: usize,
+    pub most: usize,
+    pub widest: usize,
 }
 
 /// One more than the greatest target, or 0.
@@ -55,15 +68,56 @@ impl PartRoom {
     }
 }
 
+impl LabelNeeds {
+    /// What so many labels of this width need. More words than there are numbers for are want of memory.
+    pub fn new(width: usize, count: usize) -> Result<LabelNeeds, Memory>
+        ensures { IfOk result (IsSpaceFor width count) }
+    {
+        let words = match width.checked_mul(count) {
+            Some(words) => words,
+            None => return Err(AllocError),
+        };
+        if width > NARROW {
+            return Ok(LabelNeeds {
+                width,
+                narrow: 0,
+                wide: words,
+                most: count,
+                widest: width,
+            });
+        }
+        Ok(LabelNeeds {
+            width,
+            narrow: words,
+            wide: 0,
+            most: 0,
+            widest: 0,
+        })
+    }
+
+    /// What suffices for both.
+    pub fn max(self, other: LabelNeeds) -> LabelNeeds
+        ensures own { IsAsNeedy self result }
+        ensures other { IsAsNeedy other result }
+    {
+        LabelNeeds {
+            width: self.width.max(other.width),
+            narrow: self.narrow.max(other.narrow),
+            wide: self.wide.max(other.wide),
+            most: self.most.max(other.most),
+            widest: self.widest.max(other.widest),
+        }
+    }
+}
+
 impl LabelRoom {
-    /// Room for labels of up to so many words of eight bytes each, and of up to so many together.
-    pub fn new(alloc: Global, width: usize, words: usize) -> Result<LabelRoom, Memory>
-        ensures rows { IfOk result (λ r. words ≤ r.rows.space) }
-        ensures out { IfOk result (λ r. width ≤ vec_capacity r.out) }
+    /// Room for what labels need.
+    pub fn new(alloc: Global, needs: LabelNeeds) -> Result<LabelRoom, Memory>
+        ensures { IfOk result (HasNeeds needs) }
     {
         Ok(LabelRoom {
-            rows: Rows::new(alloc, 1, words)?,
-            out: Vec::with_capacity(alloc, width)?,
+            rows: StateLabels::new(alloc, needs.narrow, needs.wide, needs.most, needs.widest)?,
+            out: Vec::with_capacity(alloc, needs.width)?,
         })
     }
 }

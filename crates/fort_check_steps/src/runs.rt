@@ -1,17 +1,48 @@
 //! Runs of entries.
-ghost use Rattle.std.specs.Prelude.{◌≡◌, ◌<◌, ◌++◌, ◌∷◌, [], length, slice_index_or, IfOk};
+ghost use Rattle.std.specs.Prelude.{◌≡◌, ◌^◌, ◌<◌, ◌≤◌, ◌++◌, ◌∷◌, [], length, slice_index_or, IfOk};
+ghost use Rattle.fort_check_steps.specs.RunPlaces.{symbol_number as symbol_number_lem, kids_from as kids_from_lem};
 
 use fort_terms::Memory;
 use std::alloc::Global;
 use std::marker::Model;
 
-/// Entries one behind another of one stage and one tuple symbol: the place of the first, where its child states begin, and how
-/// many each has.
+/// Entries one behind another, each with so many child states: the place of the first, which tuple symbol it has, and where its
+/// child states begin. Those with two child states or more have one tuple symbol, and their child states stand one behind
+/// another; those with fewer have the same child states, and their tuple symbols stand one behind another.
 #[derive(Clone, Copy)]
 pub struct Run {
     pub first: u32,
+    pub symbols: u32,
     pub start: u32,
     pub kids: u8,
+}
+
+impl Run {
+    /// The number of the tuple symbol of its entry at this place.
+    pub fn symbol_number(self, place: usize) -> usize
+        requires first { self.first ≤ place }
+        requires small { symbol_number_lem self place < 2 ^ 64 }
+        ensures { result ≡ symbol_number_lem self place }
+    {
+        if self.kids < 2 {
+            self.symbols as usize + (place - self.first as usize)
+        } else {
+            self.symbols as usize
+        }
+    }
+
+    /// Where the child states of its entry at this place begin.
+    pub fn kids_from(self, place: usize) -> usize
+        requires first { self.first ≤ place }
+        requires small { kids_from_lem self place < 2 ^ 64 }
+        ensures { result ≡ kids_from_lem self place }
+    {
+        if self.kids < 2 {
+            self.start as usize
+        } else {
+            self.start as usize + (place - self.first as usize) * usize::from(self.kids)
+        }
+    }
 }
 
 /// Runs, with a list for each number of theirs, so that none takes more bytes than it needs.
@@ -19,6 +50,7 @@ pub struct Run {
 pub struct Runs {
     room: usize,
     firsts: Vec<u32>,
+    symbols: Vec<u32>,
     starts: Vec<u32>,
     kids: Vec<u8>,
 }
@@ -44,6 +76,7 @@ impl Runs {
         Ok(Runs {
             room,
             firsts: Vec::with_capacity(alloc, room)?,
+            symbols: Vec::with_capacity(alloc, room)?,
             starts: Vec::with_capacity(alloc, room)?,
             kids: Vec::with_capacity(alloc, room)?,
         })
@@ -55,6 +88,7 @@ impl Runs {
         ensures room { self.new.room ≡ self.old.room }
     {
         self.firsts.clear();
+        self.symbols.clear();
         self.starts.clear();
         self.kids.clear();
     }
@@ -71,6 +105,7 @@ impl Runs {
     {
         Run {
             first: self.firsts[index],
+            symbols: self.symbols[index],
             start: self.starts[index],
             kids: self.kids[index],
         }
@@ -83,6 +118,7 @@ impl Runs {
         ensures room { self.new.room ≡ self.old.room }
     {
         self.firsts.push_reserved(run.first);
+        self.symbols.push_reserved(run.symbols);
         self.starts.push_reserved(run.start);
         self.kids.push_reserved(run.kids);
     }

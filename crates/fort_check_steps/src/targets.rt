@@ -5,11 +5,13 @@ ghost use Rattle.fort_tables.specs.LabelRules.{IsLabelRule, label_of};
 ghost use Rattle.fort_in_order.specs.PartSteps.{IsPartOutcome, IsRightPart};
 ghost use Rattle.fort_check_steps.specs.OnePlace.{IsTaken, IsRefused};
 ghost use Rattle.fort_check_steps.specs.Room.{most_states};
+ghost use Rattle.fort_check_steps.specs.StateLabelsView.{IsAsSpacious};
 ghost use Rattle.fort_check_steps.specs.StepAnswers.{outcome_of};
 
 use crate::entry_list::EntryList;
 use crate::failure::{Failure, Reason, failed};
-use fort_explore::{LocalRule, Rows};
+use crate::state_labels::StateLabels;
+use fort_explore::LocalRule;
 use fort_lockstep::{Entries, Row};
 use fort_terms::Signature;
 
@@ -19,7 +21,7 @@ fn take_target<R: LocalRule>(
     row: &Row,
     target: u32,
     presences: &mut Vec<u16>,
-    rows: &mut Rows,
+    rows: &mut StateLabels,
     out: &mut [u64],
 ) -> Result<(), Reason>
     requires over { IsOverLabels (R.rule rule.now).signature (R.rule rule.now).columns
@@ -34,19 +36,19 @@ fn take_target<R: LocalRule>(
     ensures refused { IfErr result (IsRefused (R.rule rule.now) row.now target rows.old.labels) }
     ensures width { rows.new.width ≡ rows.old.width }
     ensures room { rows.new.room ≡ rows.old.room }
-    ensures space { rows.old.space ≤ rows.new.space }
+    ensures spaces { IsAsSpacious rows.old.spaces rows.new.spaces }
     ensures capacity { vec_capacity presences.new ≡ vec_capacity presences.old }
 {
     if target as usize > rows.len() {
         return Err(Reason::Target);
     }
-    rule.step(row, rows, out);
+    rows.step(rule, row, out);
     if target as usize == rows.len() {
         presences.push_reserved(row.presence());
         rows.push(out);
         return Ok(());
     }
-    if rows.label(target) == out {
+    if rows.is_label(target, out) {
         Ok(())
     } else {
         Err(Reason::Label)
@@ -60,7 +62,7 @@ pub fn check_targets<R: LocalRule>(
     targets: &[u32],
     given: &mut EntryList,
     presences: &mut Vec<u16>,
-    rows: &mut Rows,
+    rows: &mut StateLabels,
     out: &mut [u64],
 ) -> Result<(), Failure>
     requires signature { (R.rule rule.now).signature ≡ sig.now }
@@ -82,7 +84,8 @@ pub fn check_targets<R: LocalRule>(
     ensures labels { OnOk result (AreLabels (R.rule rule.now).signature (R.rule rule.now).columns
         (label_of (R.rule rule.now)) rows.new.labels) }
     ensures presences { OnOk result (presences.new.items ≡ map first_word rows.new.labels) }
-    ensures space { rows.old.space ≤ rows.new.space }
+    ensures width { rows.new.width ≡ R.word_count rule.now }
+    ensures spaces { IsAsSpacious rows.old.spaces rows.new.spaces }
     ensures entries_room { given.new.room ≡ given.old.room }
     ensures capacity { vec_capacity presences.new ≡ vec_capacity presences.old }
 {
@@ -90,16 +93,16 @@ pub fn check_targets<R: LocalRule>(
     // its clause says that the signature is lawful
     let _symbols = sig.len();
     'targets: for place in 0..targets.len() {
-        match entries.next(presences.as_slice()) {
-            Some(row) => match take_target(rule, &row, targets[place], presences, rows, out) {
-                Ok(()) => given.push(&row, presences.as_slice()),
-                Err(reason) => return failed(place, reason),
-            },
-            None => return failed(place, Reason::Long),
+        if !entries.advance(presences.as_slice()) {
+            return failed(place, Reason::Long);
+        }
+        match take_target(rule, entries.row(), targets[place], presences, rows, out) {
+            Ok(()) => given.push(entries.row(), presences.as_slice()),
+            Err(reason) => return failed(place, reason),
         }
     }
-    match entries.next(presences.as_slice()) {
-        Some(_) => failed(targets.len(), Reason::Short),
-        None => Ok(()),
+    if entries.advance(presences.as_slice()) {
+        return failed(targets.len(), Reason::Short);
     }
+    Ok(())
 }

@@ -6,6 +6,7 @@ ghost use Rattle.fort_in_order.specs.ClosureSteps.{ClosureRules};
 ghost use Rattle.fort_check_steps.specs.PairSteps.{IsPairRules, IsNumberable};
 ghost use Rattle.fort_check_steps.specs.Turned.{turned_table};
 ghost use Rattle.fort_explore.specs.TestLabels.{pair_step, is_constant as is_constant_lem, at_most as at_most_lem};
+ghost use Rattle.fort_check_steps.specs.TestRule.{wide_step};
 
 use super::*;
 use fort_explore::{LocalRule, Rows};
@@ -107,15 +108,15 @@ fn at_most(first: Option<Sym>, second: Option<Sym>, kid: u64) -> u64
     }
 }
 
-/// The fourth word of the first child's label, or 0.
-fn kid_flag(row: &Row, rows: &Rows) -> u64
+/// A word of the first child's label, or 0.
+fn kid_flag(row: &Row, rows: &Rows, place: usize) -> u64
     requires { (j : ℕ) → j < length row.now.kids → slice_index_or row.now.kids j 0 < length
         rows.now.labels }
     ensures { result ≡ slice_index_or (slice_index_or (map (λ q. slice_index_or rows.now.labels q
-        []) row.now.kids) 0 []) 3 0 }
+        []) row.now.kids) 0 []) place 0 }
 {
     match row.kids().first() {
-        Some(kid) => rows.label(*kid).get(3).copied().unwrap_or(0),
+        Some(kid) => rows.label(*kid).get(place).copied().unwrap_or(0),
         None => 0,
     }
 }
@@ -133,7 +134,7 @@ fn write_pair(row: &Row, rows: &Rows, out: &mut [u64])
     out[0] = bit(first) + 2 * bit(second);
     out[1] = is_constant(first);
     out[2] = is_constant(second);
-    out[3] = at_most(first, second, kid_flag(row, rows));
+    out[3] = at_most(first, second, kid_flag(row, rows, 3));
 }
 
 impl<'a> LocalRule for AtMost<'a> {
@@ -168,6 +169,58 @@ impl<'a> LocalRule for AtMost<'a> {
 
     fn accepts(&self, label: &[u64]) -> bool {
         label.get(3).copied().unwrap_or(0) == 1
+    }
+}
+
+/// The same by labels of ten words, most of them zeros.
+#[derive(Drop)]
+struct WideAtMost<'a>(&'a Signature);
+
+fn write_wide(row: &Row, rows: &Rows, out: &mut [u64])
+    requires columns { length row.now.symbol ≡ 2 }
+    requires within { (j : ℕ) → j < length row.now.kids → slice_index_or row.now.kids j 0 < length
+        rows.now.labels }
+    requires room { length out.old ≡ 10 }
+    ensures { out.new ≡ wide_step row.now.symbol (map (λ q. slice_index_or rows.now.labels q [])
+        row.now.kids) }
+{
+    let first = row.sym().symbol(0);
+    let second = row.sym().symbol(1);
+    out.fill(0);
+    out[0] = bit(first) + 2 * bit(second);
+    out[1] = is_constant(first);
+    out[2] = is_constant(second);
+    out[9] = at_most(first, second, kid_flag(row, rows, 9));
+}
+
+impl<'a> LocalRule for WideAtMost<'a> {
+    ghost use Rattle.std.specs.Prelude.{◌≡◌, ℕ, List};
+    ghost use Rattle.fort_check_steps.specs.TestRule.{wide_rule, wide_accepting, wide_tells, wide_words};
+
+    ghost rule = { λ s. wide_rule s.0.now };
+
+    ghost word_count = { λ _. 10 };
+
+    ghost accepting = { λ _. wide_accepting };
+
+    ghost tells = { λ s. wide_tells s.0.now };
+
+    ghost has_words = { λ s. wide_words s.0.now };
+
+    fn columns(&self) -> usize {
+        2
+    }
+
+    fn width(&self) -> usize {
+        10
+    }
+
+    fn step(&self, row: &Row, rows: &Rows, out: &mut [u64]) {
+        write_wide(row, rows, out)
+    }
+
+    fn accepts(&self, label: &[u64]) -> bool {
+        label.get(9).copied().unwrap_or(0) == 1
     }
 }
 
@@ -206,7 +259,33 @@ fn lists_of_targets(rt: HostRuntime) -> Result<(), Fail> {
     ] {
         let rule = AtMost(&signature);
         let mut room = PartRoom::new(rt.alloc(), targets)?;
-        let mut scratch = LabelRoom::new(rt.alloc(), 4, 4 * targets.len())?;
+        let needs = LabelNeeds::new(4, targets.len())?;
+        let mut scratch = LabelRoom::new(rt.alloc(), needs)?;
+        assert!(rt; check_part(&rule, &signature, targets, &mut room, &mut scratch) == answer);
+        assert!(rt; check_part(&rule, &signature, targets, &mut room, &mut scratch) == answer);
+    }
+    Ok(())
+}
+
+#[test]
+fn wide_labels(rt: HostRuntime) -> Result<(), Fail> {
+    let signature = constant_and_unary(rt.alloc())?;
+    let rejected = |place, reason| Err(Failure { place, reason });
+    for (targets, answer) in [
+        (
+            [0u32, 1, 2, 3, 4, 5, 6, 7, 3, 4, 7, 5, 6, 8, 7, 8].as_slice(),
+            Ok(()),
+        ),
+        (
+            [0, 1, 2, 3, 4, 5, 6, 7, 3, 4, 7, 5, 6, 8, 7, 6].as_slice(),
+            rejected(15, Reason::Label),
+        ),
+        ([0, 0].as_slice(), rejected(1, Reason::Label)),
+    ] {
+        let rule = WideAtMost(&signature);
+        let mut room = PartRoom::new(rt.alloc(), targets)?;
+        let needs = LabelNeeds::new(10, targets.len())?;
+        let mut scratch = LabelRoom::new(rt.alloc(), needs)?;
         assert!(rt; check_part(&rule, &signature, targets, &mut room, &mut scratch) == answer);
         assert!(rt; check_part(&rule, &signature, targets, &mut room, &mut scratch) == answer);
     }
@@ -271,7 +350,7 @@ fn has_turned_answers(alloc: Global, turns: usize, accepting: &[u32]) -> Result<
     let targets = [0u32, 1, 2, 3, 4, 5, 6, 7, 3, 4, 7, 5, 6, 8, 7, 8];
     let rule = AtMost(&signature);
     let mut room = PartRoom::new(alloc, &targets)?;
-    let mut scratch = LabelRoom::new(alloc, 4, 4 * targets.len())?;
+    let mut scratch = LabelRoom::new(alloc, LabelNeeds::new(4, targets.len())?)?;
     match check_part(&rule, &signature, &targets, &mut room, &mut scratch) {
         Ok(()) => {
             let table = PartTable::new(&signature, 2, &targets, &room, turns);
@@ -314,22 +393,23 @@ fn states_of_entries<T: Table>(alloc: Global, table: &T) -> Result<Vec<u32>, Mem
     Ok(states)
 }
 
-/// Whether each entry of a table over a symbol of two arguments has its target.
-fn finds_targets(alloc: Global) -> Result<bool, Fail> {
+/// A constant a and a symbol g of two arguments.
+fn constant_and_binary(alloc: Global) -> Result<Signature, AddFault> {
     let mut signature = Signature::empty(alloc);
     signature.add(b"a", 0)?;
     signature.add(b"g", 2)?;
-    let targets = [
-        0u32, 1, 2, 3, 4, 5, 6, 7, 3, 3, 3, 4, 4, 4, 7, 7, 7, 5, 5, 5, 6, 6, 6, 7, 7, 8, 8, 8, 7,
-        7, 8, 7, 7, 7, 7, 7, 7, 8, 7, 8, 8, 8, 8, 8,
-    ];
-    let rule = AtMost(&signature);
-    let mut room = PartRoom::new(alloc, &targets)?;
-    let mut scratch = LabelRoom::new(alloc, 4, 4 * targets.len())?;
-    match check_part(&rule, &signature, &targets, &mut room, &mut scratch) {
+    Ok(signature)
+}
+
+/// Whether each entry of a table of two columns has its target.
+fn finds_targets(alloc: Global, signature: &Signature, targets: &[u32]) -> Result<bool, Fail> {
+    let rule = AtMost(signature);
+    let mut room = PartRoom::new(alloc, targets)?;
+    let mut scratch = LabelRoom::new(alloc, LabelNeeds::new(4, targets.len())?)?;
+    match check_part(&rule, signature, targets, &mut room, &mut scratch) {
         Ok(()) => {
-            let table = PartTable::new(&signature, 2, &targets, &room, 0);
-            Ok(states_of_entries(alloc, &table)?.as_slice() == targets.as_slice())
+            let table = PartTable::new(signature, 2, targets, &room, 0);
+            Ok(states_of_entries(alloc, &table)?.as_slice() == targets)
         }
         Err(_) => Ok(false),
     }
@@ -337,6 +417,20 @@ fn finds_targets(alloc: Global) -> Result<bool, Fail> {
 
 #[test]
 fn look_ups_in_runs(rt: HostRuntime) -> Result<(), Fail> {
-    assert!(rt; finds_targets(rt.alloc())?);
+    let signature = constant_and_binary(rt.alloc())?;
+    let targets = [
+        0u32, 1, 2, 3, 4, 5, 6, 7, 3, 3, 3, 4, 4, 4, 7, 7, 7, 5, 5, 5, 6, 6, 6, 7, 7, 8, 8, 8, 7,
+        7, 8, 7, 7, 7, 7, 7, 7, 8, 7, 8, 8, 8, 8, 8,
+    ];
+    assert!(rt; finds_targets(rt.alloc(), &signature, &targets)?);
+    Ok(())
+}
+
+/// Six states have the presence of an earlier one, with whose tuple symbols theirs are shared.
+#[test]
+fn look_ups_in_shared_patterns(rt: HostRuntime) -> Result<(), Fail> {
+    let signature = constant_and_unary(rt.alloc())?;
+    let targets = [0u32, 1, 2, 3, 4, 5, 6, 7, 3, 4, 7, 5, 6, 8, 7, 8];
+    assert!(rt; finds_targets(rt.alloc(), &signature, &targets)?);
     Ok(())
 }

@@ -18,4 +18,4 @@ is_symbol-requires c =
     let high : m < start_of l (c.args.guess.run + 1) = omega (arith, c.if-guess-start.false, c.start-start.ensures.start, c.start.ensures.start, run.0) in
     let inside : m < length l.entries = omega (arith, high, run.1) in
     let alike = alike_at o.0 o.1 o.2 l o.3 e c.requires.there m (get_or l.entries m e) inside (λ d. get_or_default l.entries m d e inside) in
-    sym (length-map c.symbol.result.now column_of) ∙ (ap (λ (f : TupleSymbol). length f) (sym (c.symbol.ensures.symbol m e low high)) ∙ alike.columns)
+    sym (length-map c.symbol.result.now column_of) ∙ (ap (λ (f : TupleSymbol). length f) (sym (c.symbol.ensures.symbol e)) ∙ alike.columns)

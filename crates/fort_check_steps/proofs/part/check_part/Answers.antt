@@ -1,16 +1,17 @@
-use Rattle.std.proofs.Common.{◌*◌, ◌≤◌, ℕ, sym, subst}
+use Rattle.std.proofs.Common.{ℕ, sym, subst}
 use Rattle.fort_tables.specs.LabelRules.{IsTableBy, label_of}
 use Rattle.fort_tables.specs.Tables.{Listed, listed_table}
 use Rattle.fort_in_order.proofs.PartOutcomes.{outcome_one}
 use Rattle.fort_in_order.proofs.PartByLabels.{part_by_labels}
 use Rattle.fort_check_steps.specs.declared.room.PartRoom.{PartRoom}
 use Rattle.fort_check_steps.specs.Held.{HoldsPart}
+use Rattle.fort_check_steps.specs.StateLabelsView.{HasSpace}
 use Rattle.fort_check_steps.specs.Room.{most_states}
 use Rattle.fort_check_steps.proofs.TableLaws.{held_part}
 use Rattle.fort_check_steps.proofs.part.check_part.Goals as goal
 
 pub check_targets-requires-clause-room : goal.check_targets-requires-clause-room
-check_targets-requires-clause-room g c = c.reset.ensures.room (most_states c.args.targets.now) (subst (λ (w : ℕ). most_states c.args.targets.now * w ≤ c.args.scratch.now.rows.space) (sym c.width-width.ensures.count) c.requires.scratch.rows)
+check_targets-requires-clause-room g c = c.reset.ensures.room (most_states c.args.targets.now) (subst (λ (w : ℕ). HasSpace w (most_states c.args.targets.now) c.args.scratch.now.rows.spaces) (sym c.width-width.ensures.count) c.requires.scratch.rows)
 
 pub returns-in-Ok-clause-held : goal.returns-in-Ok-clause-held
 returns-in-Ok-clause-held g c = record {

@@ -1,7 +1,6 @@
 use Rattle.std.proofs.Common.{◌<◌, ◌≤◌, length, ap, sym, ◌∙◌, arith}
 use Rattle.std.proofs.lemmas.List.{length-map}
 use Rattle.fort_check_steps.specs.declared.runs.Run.{Run}
-use Rattle.fort_lockstep.specs.Columns.{symbol_of}
 use Rattle.fort_check_steps.specs.EntryListView.{Listing}
 use Rattle.fort_check_steps.specs.EntryListInside.{firsts, no_run}
 use Rattle.fort_check_steps.proofs.RunLaws.{start_behind, start_below}
@@ -15,7 +14,7 @@ returns-then-run-len-clause-start c =
     let runs = c.self.invariant.runs_are in
     let inside : i < length a.runs.items = omega (arith, c.if-run-len.true, c.len.ensures) in
     ap (λ (r : Run). r.first) (c.run.ensures no_run)
-    ∙ (sym (first_is a.columns a.runs.items (symbol_of a.symbols.items) a.kids.items a.count runs i a.count inside) ∙ sym (start_is a runs c.args.self.now c.self.view_is i))
+    ∙ (sym (first_is a.runs.items i a.count inside) ∙ sym (start_is a runs c.args.self.now c.self.view_is i))
 
 pub returns-then-run-len-clause-within : goal.returns-then-run-len-clause-within
 returns-then-run-len-clause-within c =
@@ -26,9 +25,9 @@ returns-then-run-len-clause-within c =
     omega (
       arith,
       ap (λ (r : Run). r.first) (c.run.ensures no_run),
-      first_is a.columns a.runs.items (symbol_of a.symbols.items) a.kids.items a.count runs i a.count inside,
+      first_is a.runs.items i a.count inside,
       start_below (firsts a.runs.items) a.count i runs.rising,
-      sym (length_all a.columns a.runs.items (symbol_of a.symbols.items) a.kids.items a.count) ∙ ap (λ (l : Listing). length l.entries) c.self.view_is,
+      sym (length_all a.runs.items a.symbols.items a.kids.items a.count) ∙ ap (λ (l : Listing). length l.entries) c.self.view_is,
     )
 
 pub returns-else-run-len-clause-start : goal.returns-else-run-len-clause-start
@@ -41,4 +40,4 @@ returns-else-run-len-clause-start c =
 pub returns-else-run-len-clause-within : goal.returns-else-run-len-clause-within
 returns-else-run-len-clause-within c =
     let a = c.self.inside in
-    omega (arith, sym (length_all a.columns a.runs.items (symbol_of a.symbols.items) a.kids.items a.count) ∙ ap (λ (l : Listing). length l.entries) c.self.view_is)
+    omega (arith, sym (length_all a.runs.items a.symbols.items a.kids.items a.count) ∙ ap (λ (l : Listing). length l.entries) c.self.view_is)

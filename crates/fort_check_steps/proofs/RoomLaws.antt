@@ -1,0 +1,35 @@
+-- Room for labels.
+use Rattle.std.proofs.Common.{ℕ, ◌≤◌, List, arith}
+use Rattle.std.proofs.Math.Nat.{mul-le-mul_right}
+use Rattle.fort_check_steps.specs.StateLabelsView.{Spaces, HasSpace, IsAsSpacious}
+use Rattle.fort_check_steps.specs.declared.room.LabelRoom.{LabelRoom}
+use Rattle.fort_check_steps.specs.declared.room.LabelNeeds.{LabelNeeds}
+use Rattle.fort_check_steps.specs.Room.{HasLabelRoom, IsAsRoomy, IsSpaceFor, IsAsNeedy, HasNeeds, most_states}
+
+pub as_spacious : {a b c : Spaces} → IsAsSpacious b c → IsAsSpacious a b → IsAsSpacious a c
+as_spacious h g = record {
+  narrow = omega (arith, g.narrow, h.narrow);
+  wide = omega (arith, g.wide, h.wide);
+  most = omega (arith, g.most, h.most);
+  widest = omega (arith, g.widest, h.widest);
+}
+
+-- fewer labels, in no less space
+pub has_space : {w n m : ℕ} {a b : Spaces} → HasSpace w n a → m ≤ n → IsAsSpacious a b → HasSpace w m b
+has_space {w} {n} {m} h l g = record {
+  narrow = λ e. omega (arith, h.narrow e, mul-le-mul_right w l, g.narrow);
+  wide = λ e. omega (arith, h.wide e, mul-le-mul_right w l, g.wide);
+  most = λ e. omega (arith, h.most e, l, g.most);
+  widest = λ e. omega (arith, h.widest e, g.widest);
+}
+
+-- room for what labels need is room for them
+pub has_label_room : (w n : ℕ) (targets : List ℕ) (needs : LabelNeeds) (r : LabelRoom) → IsSpaceFor w n needs → HasNeeds needs r → most_states targets ≤ n → HasLabelRoom w targets r
+has_label_room w n targets needs r h g l = record { rows = has_space h.rows l g.rows; out = omega (arith, h.out, g.out) }
+
+pub more_room : {less more : LabelNeeds} {r : LabelRoom} → IsAsNeedy less more → HasNeeds more r → HasNeeds less r
+more_room h g = record { rows = as_spacious g.rows h.rows; out = omega (arith, h.out, g.out) }
+
+-- what there was room for, there still is
+pub still_room : {w : ℕ} {targets : List ℕ} {old new : LabelRoom} → HasLabelRoom w targets old → IsAsRoomy old new → HasLabelRoom w targets new
+still_room h g = record { rows = has_space h.rows (omega arith) g.rows; out = omega (arith, h.out, g.out) }
