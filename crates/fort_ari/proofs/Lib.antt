@@ -20,6 +20,7 @@ pub mod OneFault
 pub mod OneProblem
 pub mod Grounds
 pub mod OneGround
+pub mod Rests
 pub mod SideElements
 pub mod SideHeads
 pub mod RuleSides

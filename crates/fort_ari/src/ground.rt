@@ -42,14 +42,18 @@ fn term_of(alloc: Global, signature: &Signature, form: &Form) -> Result<Option<T
     if list.len() < 2 {
         return Ok(None);
     }
-    let Some(sym) = symbol_of(signature, &list.get(0), list.len() - 1) else {
+    let Some((head, mut rest)) = list.split_first() else {
+        unreachable!();
+    };
+    let Some(sym) = symbol_of(signature, &head, rest.len()) else {
         return Ok(None);
     };
-    'kids: for i in 1..list.len() {
-        let Some(kid) = term_of(alloc, signature, &list.get(i))? else {
+    'kids: while let Some((argument, behind)) = rest.split_first() {
+        let Some(kid) = term_of(alloc, signature, &argument)? else {
             return Ok(None);
         };
         kids.push(kid)?;
+        rest = behind;
     }
     Ok(Some(Term { sym, kids }))
 }

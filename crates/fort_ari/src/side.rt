@@ -90,8 +90,12 @@ pub(crate) fn check_side(
         return check_word(signature, form, number);
     };
     check_head(signature, form, &list, number)?;
-    'arguments: for i in 1..list.len() {
-        check_side(signature, &list.get(i), number)?;
+    let Some((_head, mut rest)) = list.split_first() else {
+        unreachable!();
+    };
+    'arguments: while let Some((argument, behind)) = rest.split_first() {
+        check_side(signature, &argument, number)?;
+        rest = behind;
     }
     Ok(())
 }
@@ -142,12 +146,16 @@ pub(crate) fn side_of<'a>(
     let Some(list) = form.elements() else {
         return word_side(alloc, signature, form, names);
     };
-    let Some(sym) = symbol_of(signature, &list.get(0), list.len() - 1) else {
+    let Some((head, mut rest)) = list.split_first() else {
+        unreachable!();
+    };
+    let Some(sym) = symbol_of(signature, &head, rest.len()) else {
         unreachable!();
     };
     let mut args = Vec::new(alloc);
-    'arguments: for i in 1..list.len() {
-        args.push(side_of(alloc, signature, &list.get(i), names)?)?;
+    'arguments: while let Some((argument, behind)) = rest.split_first() {
+        args.push(side_of(alloc, signature, &argument, names)?)?;
+        rest = behind;
     }
     Ok(Side::App(sym, Sides::new(args)))
 }

@@ -1,5 +1,5 @@
 -- Elements that fit, read one after another.
-use Rattle.std.proofs.Common.{◌≡◌, ℕ, zero, suc, ◌+◌, ◌-◌, ◌<◌, ◌≤◌, ◌==◌, Bool, true, false, if◌then◌else◌, List, [], ◌∷◌, ◌++◌, map, length, get_or, slice_get, take, drop, Option, None, Some, refl, ap, sym, ◌∙◌, subst, arith}
+use Rattle.std.proofs.Common.{◌≡◌, ℕ, zero, suc, ◌+◌, ◌-◌, ◌<◌, ◌≤◌, ◌==◌, Bool, true, false, if◌then◌else◌, List, [], ◌∷◌, ◌++◌, map, length, get_or, slice_get, take, drop, Option, None, Some, refl, ap, sym, ◌∙◌, subst, arith, append_assoc, append-nil}
 use Rattle.std.specs.List.{AllZip}
 use Rattle.std.proofs.lemmas.Bool.Decides.{nat_tests}
 use Rattle.std.proofs.lemmas.List.{take_all, take_more, length-drop, get_or-drop}
@@ -75,54 +75,56 @@ version_several n other = go (n == 1) refl
     go true e = let same : n ≡ 1 = grind (arith, nat_tests) in absurd (other same)
     go false e = refl
 
--- what fits the last slot does so at each place
-pub fits_at : (bytes : List ℕ) (s : Slot) (fs : List Form) (from i : ℕ) (f : Form) → FitAll bytes [] (Some s) (drop from fs) → from ≤ i → slice_get fs i ≡ Some f
-    → Fits bytes f s
-fits_at bytes s fs from i f fit low here = go fs from i fit low here
-  where
-    first : (gs : List Form) (k : ℕ) → FitAll bytes [] (Some s) gs → slice_get gs k ≡ Some f → Fits bytes f s
-    first [] k h e = absurd cc
-    first (g ∷ gs) zero h e = let same : g ≡ f = cc in subst (λ x. Fits bytes x s) same h.0
-    first (g ∷ gs) (suc k) h e = first gs k h.1 e
+-- what is read so far of forms of which these are left
+pub record IsReadTo {A : Type 0} (R : Form → A → Type 0) (fs left : List Form) (xs : List A) : Type 0 where
+  pub all : (ys : List A) → AllZip R left ys → AllZip R fs (xs ++ ys)
 
-    go : (gs : List Form) (from i : ℕ) → FitAll bytes [] (Some s) (drop from gs) → from ≤ i → slice_get gs i ≡ Some f → Fits bytes f s
-    go gs zero i h l e = first gs i h e
-    go [] (suc from) i h l e = absurd cc
-    go (g ∷ gs) (suc from) zero h l e = absurd (omega (arith, l))
-    go (g ∷ gs) (suc from) (suc i) h l e = go gs from i h (omega (arith, l)) e
+pub read_none : {A : Type 0} (R : Form → A → Type 0) (fs : List Form) (xs : List A) → xs ≡ [] → IsReadTo R fs fs xs
+read_none R fs xs e = record { all = λ ys h. subst (λ zs. AllZip R fs (zs ++ ys)) (sym e) h }
 
--- a slot that stands once
-pub record FitsNext (bytes : List ℕ) (s : Slot) (ss : List Slot) (last : Option Slot) (fs : List Form) (k : ℕ) : Type 0 where
-  pub inside : k < length fs
-  pub fits : (f : Form) → slice_get fs k ≡ Some f → Fits bytes f s
-  pub rest : FitAll bytes ss last (drop (k + 1) fs)
+pub read_more : {A : Type 0} (R : Form → A → Type 0) (fs left rest : List Form) (f : Form) (xs : List A) (x : A) → IsReadTo R fs left xs → left ≡ f ∷ rest
+    → R f x → IsReadTo R fs rest (xs ++ x ∷ [])
+read_more R fs left rest f xs x r e one =
+    record {
+      all = λ ys h. subst (AllZip R fs) (sym (append_assoc xs (x ∷ []) ys))
+          (r.all (x ∷ ys) (subst (λ gs. AllZip R gs (x ∷ ys)) (sym e) (one, h)));
+    }
 
-pub fits_next : (bytes : List ℕ) (s : Slot) (ss : List Slot) (last : Option Slot) (fs : List Form) (k : ℕ) → FitAll bytes (s ∷ ss) last (drop k fs)
-    → FitsNext bytes s ss last fs k
-fits_next bytes s ss last [] zero h = absurd h
-fits_next bytes s ss last [] (suc k) h = absurd h
-fits_next bytes s ss last (f ∷ fs) zero h = record {
-  inside = omega arith;
-  fits = λ g e. let same : f ≡ g = cc in subst (λ x. Fits bytes x s) same h.0;
-  rest = h.1;
-}
-fits_next bytes s ss last (f ∷ fs) (suc k) h =
-    let later = fits_next bytes s ss last fs k h in
-    let one : suc k + 1 ≡ suc (k + 1) = omega arith in
-    record { inside = omega (arith, later.inside); fits = later.fits; rest = rw one later.rest }
+pub read_all : {A : Type 0} (R : Form → A → Type 0) (fs left : List Form) (xs : List A) → IsReadTo R fs left xs → left ≡ [] → AllZip R fs xs
+read_all R fs left xs r e = subst (AllZip R fs) (append-nil xs) (r.all [] (subst (λ gs. AllZip R gs []) (sym e) tt))
+
+-- the first of forms that fit
+pub record FitsFirst (bytes : List ℕ) (s : Slot) (ss : List Slot) (last : Option Slot) (f : Form) (fs : List Form) : Type 0 where
+  pub fits : Fits bytes f s
+  pub rest : FitAll bytes ss last fs
+
+pub fits_first : (bytes : List ℕ) (s : Slot) (ss : List Slot) (last : Option Slot) (f : Form) (fs gs : List Form) → FitAll bytes (s ∷ ss) last gs
+    → gs ≡ f ∷ fs → FitsFirst bytes s ss last f fs
+fits_first bytes s ss last f fs gs h e = let fit = subst (FitAll bytes (s ∷ ss) last) e h in record { fits = fit.0; rest = fit.1 }
+
+pub fits_last : (bytes : List ℕ) (s : Slot) (f : Form) (fs gs : List Form) → FitAll bytes [] (Some s) gs → gs ≡ f ∷ fs
+    → FitsFirst bytes s [] (Some s) f fs
+fits_last bytes s f fs gs h e = let fit = subst (FitAll bytes [] (Some s)) e h in record { fits = fit.0; rest = fit.1 }
+
+pub fits_none : (bytes : List ℕ) (s : Slot) (ss : List Slot) (last : Option Slot) (gs : List Form) → FitAll bytes (s ∷ ss) last gs → gs ≡ [] → ⊥
+fits_none bytes s ss last gs h e = subst (FitAll bytes (s ∷ ss) last) e h
 
 -- a step fills the slots of its head
-pub step_fills : (bytes : List ℕ) (version : Version) (f : Form) (s : Step) (which : StepHead) (fs : List Form) → IsStepForm bytes version f s
-    → IsHeaded bytes (head_word which) f → elements_of f ≡ Some fs → FitAll bytes (slots_of which version) (rest_of which) (drop 1 fs)
-step_fills bytes version f s which fs h headed is =
+pub step_fills : (bytes : List ℕ) (version : Version) (f : Form) (s : Step) (which : StepHead) (a : Form) (fs : List Form) → IsStepForm bytes version f s
+    → IsHeaded bytes (head_word which) f → elements_of f ≡ Some (a ∷ fs) → FitAll bytes (slots_of which version) (rest_of which) fs
+step_fills bytes version f s which a fs h headed is =
     let x = filled bytes version f s h in
     let w : x.which ≡ which = heads_same bytes f x.head headed.first x.others headed.others x.which which x.is headed.is x.headed headed.head in
-    let same : fs ≡ x.head ∷ x.others = (let i = x.is in cc) in
-    subst (λ gs. FitAll bytes (slots_of which version) (rest_of which) (drop 1 gs)) (sym same)
+    let same : x.others ≡ fs = (let i = x.is in cc) in
+    subst (FitAll bytes (slots_of which version) (rest_of which)) same
     (subst (λ (y : StepHead). FitAll bytes (slots_of y version) (rest_of y) x.others) w x.fit)
 
 pub step_elements : (bytes : List ℕ) (version : Version) (f : Form) (s : Step) → IsStepForm bytes version f s → elements_of f ≡ None → ⊥
 step_elements bytes version f s h e = let is = (filled bytes version f s h).is in absurd cc
+
+pub step_some : (bytes : List ℕ) (version : Version) (f : Form) (s : Step) (fs : List Form) → IsStepForm bytes version f s → elements_of f ≡ Some fs
+    → fs ≡ [] → ⊥
+step_some bytes version f s fs h e none = let is = (filled bytes version f s h).is in absurd cc
 
 pub step_headed : (bytes : List ℕ) (version : Version) (f : Form) (s : Step) → IsStepForm bytes version f s
     → (which : StepHead) × IsHeaded bytes (head_word which) f
@@ -132,72 +134,58 @@ step_headed bytes version f s h =
     (x.which, headed)
 
 -- before and behind the reading of a list by its head
-module _ (bytes other : List ℕ) (version : Version) (f : Form) (head which : Head) (fs : List Form) (same : other ≡ bytes) (is : head ≡ which)
-    (headed : IsHeaded bytes (head_word (as_head head)) f) (elements : elements_of f ≡ Some fs) where
+module _ (bytes other : List ℕ) (version : Version) (f : Form) (head which : Head) (a : Form) (fs : List Form) (same : other ≡ bytes)
+    (is : head ≡ which) (headed : IsHeaded bytes (head_word (as_head head)) f) (elements : elements_of f ≡ Some (a ∷ fs)) where
   now_headed : IsHeaded bytes (head_word (as_head which)) f
   now_headed = subst (λ (h : Head). IsHeaded bytes (head_word (as_head h)) f) is headed
 
-  pub list_fills : IsSomeStep bytes version f → FitAll other (slots_of (as_head which) version) (rest_of (as_head which)) (drop 1 fs)
+  pub list_fills : IsSomeStep bytes version f → FitAll other (slots_of (as_head which) version) (rest_of (as_head which)) fs
   list_fills some =
-      subst (λ (b : List ℕ). FitAll b (slots_of (as_head which) version) (rest_of (as_head which)) (drop 1 fs)) (sym same)
-      (step_fills bytes version f some.0 (as_head which) fs some.1 now_headed elements)
+      subst (λ (b : List ℕ). FitAll b (slots_of (as_head which) version) (rest_of (as_head which)) fs) (sym same)
+      (step_fills bytes version f some.0 (as_head which) a fs some.1 now_headed elements)
 
   pub list_read : (s : Step) → AreElementsOf other version (as_head which) fs s → IsStepForm bytes version f s
   list_read s made =
       subst (λ (b : List ℕ). IsStepForm b version f s) same
-      (made f elements (subst (λ (b : List ℕ). IsHeaded b (head_word (as_head which)) f) (sym same) now_headed))
+      (made f a elements (subst (λ (b : List ℕ). IsHeaded b (head_word (as_head which)) f) (sym same) now_headed))
 
 -- the elements of a step, put together
 module _ (bytes : List ℕ) (f : Form) where
   headed_first : (word : List ℕ) (a : Form) (fs : List Form) → IsHeaded bytes word f → elements_of f ≡ Some (a ∷ fs) → word_of bytes a ≡ Some word
   headed_first word a fs h is = ap (word_of bytes) (same_parts f a h.first fs h.others is h.is).head ∙ h.head
 
-  pub part_made : (version : Version) (fs : List Form) (b : Form) (k : ℕ) (ns : List ℕ) → slice_get fs 1 ≡ Some b → IsNumberForm bytes b k
-      → AllZip (IsNumberForm bytes) (drop 2 fs) ns → elements_of f ≡ Some fs → IsHeaded bytes (head_word PartHead) f → IsStepForm bytes version f (Part k ns)
-  part_made version [] b k ns here n each is headed = absurd cc
-  part_made version (a ∷ []) b k ns here n each is headed = absurd cc
-  part_made version (a ∷ c ∷ fs) b k ns here n each is headed =
-      let same : b ≡ c = cc in
-      PartForm a c fs is (headed_first (head_word PartHead) a (c ∷ fs) headed is) (subst (λ x. IsNumberForm bytes x k) same n) each
+  module _ (a b : Form) (fs rest : List Form) (split : fs ≡ b ∷ rest) (elements : elements_of f ≡ Some (a ∷ fs)) where
+    is : elements_of f ≡ Some (a ∷ b ∷ rest)
+    is = elements ∙ ap (λ gs. Some (a ∷ gs)) split
 
-  pub counts_made : (version : Version) (fs : List Form) (b : Form) (k : ℕ) (ns : List Count) → slice_get fs 1 ≡ Some b → IsNumberForm bytes b k
-      → AllZip (IsCountForm bytes) (drop 2 fs) ns → elements_of f ≡ Some fs → IsHeaded bytes (head_word CountsHead) f → IsStepForm bytes version f (Counts k ns)
-  counts_made version [] b k ns here n each is headed = absurd cc
-  counts_made version (a ∷ []) b k ns here n each is headed = absurd cc
-  counts_made version (a ∷ c ∷ fs) b k ns here n each is headed =
-      let same : b ≡ c = cc in
-      CountsForm a c fs is (headed_first (head_word CountsHead) a (c ∷ fs) headed is) (subst (λ x. IsNumberForm bytes x k) same n) each
+    pub part_made : (version : Version) (k : ℕ) (ns : List ℕ) → IsNumberForm bytes b k → AllZip (IsNumberForm bytes) rest ns
+        → IsHeaded bytes (head_word PartHead) f → IsStepForm bytes version f (Part k ns)
+    part_made version k ns n each headed = PartForm a b rest is (headed_first (head_word PartHead) a fs headed elements) n each
 
-  pub value_made : (version : Version) (fs : List Form) (b d : Form) (k : ℕ) (v : Bool) → FitAll bytes [] None (drop 3 fs) → slice_get fs 1 ≡ Some b
-      → slice_get fs 2 ≡ Some d → IsNumberForm bytes b k → word_of bytes d ≡ Some (verdict_word v) → elements_of f ≡ Some fs
-      → IsHeaded bytes (head_word ValueHead) f → IsStepForm bytes version f (Value k v)
-  value_made version [] b d k v end here there n word is headed = absurd cc
-  value_made version (a ∷ []) b d k v end here there n word is headed = absurd cc
-  value_made version (a ∷ c ∷ []) b d k v end here there n word is headed = absurd cc
-  value_made version (a ∷ c ∷ e ∷ []) b d k v end here there n word is headed =
-      let same : b ≡ c = cc in
-      let alike : d ≡ e = cc in
-      ValueForm a c e is (headed_first (head_word ValueHead) a (c ∷ e ∷ []) headed is) (subst (λ x. IsNumberForm bytes x k) same n)
-      (subst (λ x. word_of bytes x ≡ Some (verdict_word v)) alike word)
-  value_made version (a ∷ c ∷ e ∷ g ∷ fs) b d k v end here there n word is headed = absurd end
+    pub counts_made : (version : Version) (k : ℕ) (ns : List Count) → IsNumberForm bytes b k → AllZip (IsCountForm bytes) rest ns
+        → IsHeaded bytes (head_word CountsHead) f → IsStepForm bytes version f (Counts k ns)
+    counts_made version k ns n each headed = CountsForm a b rest is (headed_first (head_word CountsHead) a fs headed elements) n each
 
-  pub closure_made : (version : Version) (fs : List Form) (b : Form) (w : Which) (ps : List Pair) → version ≡ OfOne → slice_get fs 1 ≡ Some b
-      → word_of bytes b ≡ Some (which_word w) → AllZip (IsPairForm bytes) (drop 2 fs) ps → elements_of f ≡ Some fs
-      → IsHeaded bytes (head_word ClosureHead) f → IsStepForm bytes version f (Closure w 1 ps)
-  closure_made version [] b w ps one here word each is headed = absurd cc
-  closure_made version (a ∷ []) b w ps one here word each is headed = absurd cc
-  closure_made version (a ∷ c ∷ fs) b w ps one here word each is headed =
-      let same : b ≡ c = cc in
-      ClosureForm a c fs one is (headed_first (head_word ClosureHead) a (c ∷ fs) headed is) (subst (λ x. word_of bytes x ≡ Some (which_word w)) same word) each
+    pub closure_made : (version : Version) (w : Which) (ps : List Pair) → version ≡ OfOne → word_of bytes b ≡ Some (which_word w)
+        → AllZip (IsPairForm bytes) rest ps → IsHeaded bytes (head_word ClosureHead) f → IsStepForm bytes version f (Closure w 1 ps)
+    closure_made version w ps one word each headed = ClosureForm a b rest one is (headed_first (head_word ClosureHead) a fs headed elements) word each
 
-  pub indexed_made : (version : Version) (fs : List Form) (b d : Form) (w : Which) (k : ℕ) (ps : List Pair) → version ≡ OfSeveral → slice_get fs 1 ≡ Some b
-      → slice_get fs 2 ≡ Some d → word_of bytes b ≡ Some (which_word w) → IsNumberForm bytes d k → AllZip (IsPairForm bytes) (drop 3 fs) ps
-      → elements_of f ≡ Some fs → IsHeaded bytes (head_word ClosureHead) f → IsStepForm bytes version f (Closure w k ps)
-  indexed_made version [] b d w k ps several here there word n each is headed = absurd cc
-  indexed_made version (a ∷ []) b d w k ps several here there word n each is headed = absurd cc
-  indexed_made version (a ∷ c ∷ []) b d w k ps several here there word n each is headed = absurd cc
-  indexed_made version (a ∷ c ∷ e ∷ fs) b d w k ps several here there word n each is headed =
-      let same : b ≡ c = cc in
-      let alike : d ≡ e = cc in
-      IndexedForm a c e fs several is (headed_first (head_word ClosureHead) a (c ∷ e ∷ fs) headed is)
-      (subst (λ x. word_of bytes x ≡ Some (which_word w)) same word) (subst (λ x. IsNumberForm bytes x k) alike n) each
+    module _ (d : Form) (last : List Form) (again : rest ≡ d ∷ last) where
+      both : elements_of f ≡ Some (a ∷ b ∷ d ∷ last)
+      both = is ∙ ap (λ gs. Some (a ∷ b ∷ gs)) again
+
+      pub value_made : (version : Version) (k : ℕ) (v : Bool) → FitAll bytes [] None last → IsNumberForm bytes b k
+          → word_of bytes d ≡ Some (verdict_word v) → IsHeaded bytes (head_word ValueHead) f → IsStepForm bytes version f (Value k v)
+      value_made version k v end n word headed =
+          let none = no_more last end in
+          ValueForm a b d (both ∙ ap (λ gs. Some (a ∷ b ∷ d ∷ gs)) none) (headed_first (head_word ValueHead) a fs headed elements) n word
+        where
+          no_more : (gs : List Form) → FitAll bytes [] None gs → gs ≡ []
+          no_more [] h = refl
+          no_more (g ∷ gs) h = absurd h
+
+      pub indexed_made : (version : Version) (w : Which) (k : ℕ) (ps : List Pair) → version ≡ OfSeveral → word_of bytes b ≡ Some (which_word w)
+          → IsNumberForm bytes d k → AllZip (IsPairForm bytes) last ps → IsHeaded bytes (head_word ClosureHead) f
+          → IsStepForm bytes version f (Closure w k ps)
+      indexed_made version w k ps several word n each headed =
+          IndexedForm a b d last several both (headed_first (head_word ClosureHead) a fs headed elements) word n each

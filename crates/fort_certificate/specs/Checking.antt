@@ -13,10 +13,10 @@ IsSomeStep bytes version f = (s : Step) × IsStepForm bytes version f s
 abbrev pub AreSomeSteps : List ℕ → Version → List Form → Type 0
 AreSomeSteps bytes version fs = (ss : List Step) × AllZip (IsStepForm bytes version) fs ss
 
--- a form with these elements, headed so, is the step
+-- a form headed so, with these elements behind its head, is the step
 abbrev pub AreElementsOf : List ℕ → Version → StepHead → List Form → Step → Type 0
 AreElementsOf bytes version which fs s =
-    (f : Form) → elements_of f ≡ Some fs → IsHeaded bytes (head_word which) f → IsStepForm bytes version f s
+    (f head : Form) → elements_of f ≡ Some (head ∷ fs) → IsHeaded bytes (head_word which) f → IsStepForm bytes version f s
 
 -- the fault of the first that is no step; i is the number of the first of the forms
 pub record HasBadStep (bytes : List ℕ) (version : Version) (i : ℕ) (fs : List Form) (fault : CertificateFault) : Type 0 where

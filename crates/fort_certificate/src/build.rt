@@ -65,90 +65,106 @@ fn count(form: &Form) -> Count
     }
 }
 
-/// The numbers from a place on.
-fn numbers(alloc: Global, list: &FormList, from: usize) -> Result<Vec<u32>, AllocError>
-    requires within { from ≤ length list.now.forms }
-    requires fit { FitAll list.now.bytes [] (Some NumberSlot) (drop from list.now.forms) }
+/// The numbers that forms are.
+fn numbers(alloc: Global, elements: FormList) -> Result<Vec<u32>, AllocError>
+    requires { FitAll elements.bytes [] (Some NumberSlot) elements.forms }
     ensures { IfOk result (λ v.
-        AllZip (IsNumberForm list.now.bytes) (drop from list.now.forms) v.items) }
+        AllZip (IsNumberForm elements.entry.bytes) elements.entry.forms v.items) }
 {
     let mut numbers = Vec::new(alloc);
-    'places: for place in from..list.len() {
-        numbers.push(number(&list.get(place)))?;
+    let mut rest = elements;
+    'elements: while let Some((form, behind)) = rest.split_first() {
+        numbers.push(number(&form))?;
+        rest = behind;
     }
     Ok(numbers)
 }
 
-/// The pairs of a closure from a place on.
-fn entries(alloc: Global, list: &FormList, from: usize) -> Result<Vec<ClosureEntry>, AllocError>
-    requires within { from ≤ length list.now.forms }
-    requires fit { FitAll list.now.bytes [] (Some PairSlot) (drop from list.now.forms) }
+/// The pairs of a closure that forms are.
+fn entries(alloc: Global, elements: FormList) -> Result<Vec<ClosureEntry>, AllocError>
+    requires { FitAll elements.bytes [] (Some PairSlot) elements.forms }
     ensures { IfOk result (λ v.
-        AllZip (IsPairForm list.now.bytes) (drop from list.now.forms) (map as_pair v.items)) }
+        AllZip (IsPairForm elements.entry.bytes) elements.entry.forms (map as_pair v.items)) }
 {
     let mut entries = Vec::new(alloc);
-    'places: for place in from..list.len() {
-        entries.push(entry(&list.get(place)))?;
+    let mut rest = elements;
+    'elements: while let Some((form, behind)) = rest.split_first() {
+        entries.push(entry(&form))?;
+        rest = behind;
     }
     Ok(entries)
 }
 
-/// The counts from a place on.
-fn counts(alloc: Global, list: &FormList, from: usize) -> Result<Vec<Count>, AllocError>
-    requires within { from ≤ length list.now.forms }
-    requires fit { FitAll list.now.bytes [] (Some CountSlot) (drop from list.now.forms) }
+/// The counts that forms are.
+fn counts(alloc: Global, elements: FormList) -> Result<Vec<Count>, AllocError>
+    requires { FitAll elements.bytes [] (Some CountSlot) elements.forms }
     ensures { IfOk result (λ v.
-        AllZip (IsCountForm list.now.bytes) (drop from list.now.forms) (map as_count v.items)) }
+        AllZip (IsCountForm elements.entry.bytes) elements.entry.forms (map as_count v.items)) }
 {
     let mut counts = Vec::new(alloc);
-    'places: for place in from..list.len() {
-        counts.push(count(&list.get(place)))?;
+    let mut rest = elements;
+    'elements: while let Some((form, behind)) = rest.split_first() {
+        counts.push(count(&form))?;
+        rest = behind;
     }
     Ok(counts)
 }
 
-/// The closure whose elements these are, in a problem of so many systems.
-fn closure(alloc: Global, list: &FormList, systems: u32) -> Result<Step, AllocError>
-    requires { FitAll list.now.bytes (slots_of ClosureHead (version_for systems)) (Some PairSlot)
-        (drop 1 list.now.forms) }
-    ensures { IfOk result (λ step. AreElementsOf list.now.bytes (version_for systems) ClosureHead
-        list.now.forms (as_step step)) }
+/// The closure with these forms behind its head, in a problem of so many systems.
+fn closure(alloc: Global, elements: &FormList, systems: u32) -> Result<Step, AllocError>
+    requires { FitAll elements.now.bytes (slots_of ClosureHead (version_for systems))
+        (Some PairSlot) elements.now.forms }
+    ensures { IfOk result (λ step. AreElementsOf elements.now.bytes (version_for systems)
+        ClosureHead elements.now.forms (as_step step)) }
 {
-    let which = which(&list.get(1));
+    let Some((kind, rest)) = elements.split_first() else {
+        unreachable!()
+    };
+    let which = which(&kind);
     if systems == 1 {
-        return Ok(Step::Closure(which, 1, entries(alloc, list, 2)?));
+        return Ok(Step::Closure(which, 1, entries(alloc, rest)?));
     }
-    let index = number(&list.get(2));
-    Ok(Step::Closure(which, index, entries(alloc, list, 3)?))
+    let Some((system, rest)) = rest.split_first() else {
+        unreachable!()
+    };
+    Ok(Step::Closure(which, number(&system), entries(alloc, rest)?))
 }
 
-fn part(alloc: Global, list: &FormList) -> Result<Step, AllocError>
-    requires { FitAll list.now.bytes (NumberSlot ∷ []) (Some NumberSlot)
-        (drop 1 list.now.forms) }
+fn part(alloc: Global, elements: &FormList) -> Result<Step, AllocError>
+    requires { FitAll elements.now.bytes (NumberSlot ∷ []) (Some NumberSlot) elements.now.forms }
     ensures { IfOk result (λ step. (version : Version) →
-        AreElementsOf list.now.bytes version PartHead list.now.forms (as_step step)) }
+        AreElementsOf elements.now.bytes version PartHead elements.now.forms (as_step step)) }
 {
-    let part = number(&list.get(1));
-    Ok(Step::Part(part, numbers(alloc, list, 2)?))
+    let Some((part, rest)) = elements.split_first() else {
+        unreachable!()
+    };
+    Ok(Step::Part(number(&part), numbers(alloc, rest)?))
 }
 
-fn counts_step(alloc: Global, list: &FormList) -> Result<Step, AllocError>
-    requires { FitAll list.now.bytes (NumberSlot ∷ []) (Some CountSlot)
-        (drop 1 list.now.forms) }
+fn counts_step(alloc: Global, elements: &FormList) -> Result<Step, AllocError>
+    requires { FitAll elements.now.bytes (NumberSlot ∷ []) (Some CountSlot) elements.now.forms }
     ensures { IfOk result (λ step. (version : Version) →
-        AreElementsOf list.now.bytes version CountsHead list.now.forms (as_step step)) }
+        AreElementsOf elements.now.bytes version CountsHead elements.now.forms (as_step step)) }
 {
-    let part = number(&list.get(1));
-    Ok(Step::Counts(part, counts(alloc, list, 2)?))
+    let Some((part, rest)) = elements.split_first() else {
+        unreachable!()
+    };
+    Ok(Step::Counts(number(&part), counts(alloc, rest)?))
 }
 
-fn value(list: &FormList) -> Step
-    requires { FitAll list.now.bytes (NumberSlot ∷ VerdictSlot ∷ []) None
-        (drop 1 list.now.forms) }
-    ensures { (version : Version) →
-        AreElementsOf list.now.bytes version ValueHead list.now.forms (as_step result) }
+fn value(elements: &FormList) -> Step
+    requires { FitAll elements.now.bytes (NumberSlot ∷ VerdictSlot ∷ []) None
+        elements.now.forms }
+    ensures { (version : Version) → AreElementsOf elements.now.bytes version ValueHead
+        elements.now.forms (as_step result) }
 {
-    Step::Value(number(&list.get(1)), verdict(&list.get(2)))
+    let Some((part, rest)) = elements.split_first() else {
+        unreachable!()
+    };
+    let Some((last, _none)) = rest.split_first() else {
+        unreachable!()
+    };
+    Step::Value(number(&part), verdict(&last))
 }
 
 /// The step that a form is.
@@ -160,11 +176,14 @@ fn step(alloc: Global, form: &Form, systems: u32) -> Result<Step, AllocError>
     let Some(list) = form.elements() else {
         unreachable!()
     };
+    let Some((_head, elements)) = list.split_first() else {
+        unreachable!()
+    };
     match head_of(form) {
-        Some(Head::Closure) => closure(alloc, &list, systems),
-        Some(Head::Part) => part(alloc, &list),
-        Some(Head::Counts) => counts_step(alloc, &list),
-        Some(Head::Value) => Ok(value(&list)),
+        Some(Head::Closure) => closure(alloc, &elements, systems),
+        Some(Head::Part) => part(alloc, &elements),
+        Some(Head::Counts) => counts_step(alloc, &elements),
+        Some(Head::Value) => Ok(value(&elements)),
         None => unreachable!(),
     }
 }

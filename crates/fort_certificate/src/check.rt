@@ -25,11 +25,18 @@ fn check_elements(list: &FormList, first: &[Slot], last: Option<Slot>) -> Result
     ensures err { IfErr result (λ wrong. AreBad list.now.bytes
         (map as_slot first.now) (as_last last) (drop 1 list.now.forms) (as_kind wrong)) }
 {
-    'places: for place in 1..list.len() {
-        let Some(slot) = slot_of(first, last, place - 1) else {
+    let Some((_head, mut rest)) = list.split_first() else {
+        unreachable!()
+    };
+    'places: for place in 0..rest.len() {
+        let Some((form, behind)) = rest.split_first() else {
+            unreachable!()
+        };
+        let Some(slot) = slot_of(first, last, place) else {
             return Err(Wrong::Form);
         };
-        check_slot(&list.get(place), slot)?;
+        check_slot(&form, slot)?;
+        rest = behind;
     }
     if list.len() <= first.len() {
         return Err(Wrong::Form);

@@ -40,7 +40,7 @@ struct Digits {
     value: u32,
 }
 
-/// The digits that a word is; the number of none is 0. The word ends where they are looked at.
+/// The digits that a word is; the number of none is 0. Where the word ends is found on the way.
 fn digits_ahead(bytes: &[u8]) -> Option<Digits>
     ensures some { IfSome result (λ d. AllDigits 10 (word_ahead bytes.now)
         × (digits_value 10 (word_ahead bytes.now) ≡ d.value)) }

@@ -1,23 +1,14 @@
 -- Lists of forms: their length, their elements, and one list after another.
-use Rattle.std.proofs.Common.{◌≡◌, ℕ, zero, suc, ◌+◌, ◌<◌, ◌≤◌, ◌↔◌, List, [], ◌∷◌, ◌++◌, length, get_or, slice_get, Some, refl, sym, ap, ◌∙◌, arith}
+use Rattle.std.proofs.Common.{◌≡◌, ℕ, zero, suc, ◌+◌, ◌<◌, ◌≤◌, ◌↔◌, List, [], ◌∷◌, length, drop, slice_get, Some, refl, sym, ap, ◌∙◌, arith}
+use Rattle.std.proofs.lemmas.List.{length-drop}
 use Rattle.fort_grammar.specs.Forms.{Form, Forms, Word, ListForm, NoForm, MoreForms, AreForms, End, Skip, AWord, AList, AreFormsOf}
 use Rattle.fort_grammar.specs.Declarations.{as_list, elements_of, word_of, IsHeaded}
 use Rattle.fort_sexpr.specs.FormCode.{node_count, node_counts}
 use Rattle.fort_sexpr.specs.FormView.{form_count, form_at}
-use Rattle.fort_sexpr.specs.Nodes.{as_forms}
 
-pub as_list-as_forms : (fs : List Form) → as_list (as_forms fs) ≡ fs
-as_list-as_forms [] = refl
-as_list-as_forms (f ∷ fs) = ap (λ gs. f ∷ gs) (as_list-as_forms fs)
-
-pub form_count-as_forms : (fs : List Form) → form_count (as_forms fs) ≡ length fs
-form_count-as_forms [] = refl
-form_count-as_forms (f ∷ fs) = ap suc (form_count-as_forms fs)
-
-pub form_at-as_forms : (fs : List Form) (i : ℕ) (d : Form) → i < length fs → form_at (as_forms fs) i ≡ Some (get_or fs i d)
-form_at-as_forms [] i d h = absurd (omega arith)
-form_at-as_forms (f ∷ fs) zero d h = refl
-form_at-as_forms (f ∷ fs) (suc i) d h = form_at-as_forms fs i d (omega arith)
+pub length-as_list : (fs : Forms) → length (as_list fs) ≡ form_count fs
+length-as_list NoForm = refl
+length-as_list (MoreForms f fs) = ap suc (length-as_list fs)
 
 -- a form of a list has fewer words and lists in it than the list
 node_count-form : (fs : Forms) (i : ℕ) (f : Form) → slice_get (as_list fs) i ≡ Some f → node_count f ≤ node_counts fs
@@ -56,9 +47,9 @@ pub joined-none : (fs : Forms) → joined fs NoForm ≡ fs
 joined-none NoForm = refl
 joined-none (MoreForms f fs) = ap (MoreForms f) (joined-none fs)
 
-pub as_forms-push : (fs : List Form) (f : Form) → as_forms (fs ++ f ∷ []) ≡ joined (as_forms fs) (MoreForms f NoForm)
-as_forms-push [] f = refl
-as_forms-push (g ∷ gs) f = ap (MoreForms g) (as_forms-push gs f)
+pub form_count-joined : (fs : Forms) (f : Form) → form_count (joined fs (MoreForms f NoForm)) ≡ form_count fs + 1
+form_count-joined NoForm f = refl
+form_count-joined (MoreForms g fs) f = omega (arith, form_count-joined fs f)
 
 -- forms up to an offset, and forms from there on
 pub AreForms-joined : {bytes : List ℕ} {i j k : ℕ} {fs gs : Forms} → AreForms bytes i j fs → AreForms bytes j k gs → AreForms bytes i k (joined fs gs)
@@ -67,20 +58,21 @@ AreForms-joined (Skip s d) r = Skip s (AreForms-joined d r)
 AreForms-joined (AWord w d) r = AWord w (AreForms-joined d r)
 AreForms-joined (AList l o d m c e) r = AList l o d m c (AreForms-joined e r)
 
--- the forms of a list by their numbers
-pub two_forms : {A : Type 0} (fs : List A) (x y : A) → length fs ≡ 2 → slice_get fs 0 ≡ Some x → slice_get fs 1 ≡ Some y → fs ≡ x ∷ y ∷ []
-two_forms [] x y l p q = absurd (omega arith)
-two_forms (a ∷ []) x y l p q = absurd (omega arith)
-two_forms (a ∷ b ∷ []) x y l p q = cc
-two_forms (a ∷ b ∷ c ∷ fs) x y l p q = absurd (omega arith)
+-- the forms from a number on
+pub first_dropped : {A : Type 0} (xs ys : List A) (k : ℕ) (x : A) → drop k xs ≡ x ∷ ys → slice_get xs k ≡ Some x
+first_dropped [] ys zero x h = absurd cc
+first_dropped [] ys (suc k) x h = absurd cc
+first_dropped (a ∷ xs) ys zero x h = let same : a ≡ x = cc in ap Some same
+first_dropped (a ∷ xs) ys (suc k) x h = first_dropped xs ys k x h
 
-pub three_forms : {A : Type 0} (fs : List A) (x y z : A) → length fs ≡ 3 → slice_get fs 0 ≡ Some x → slice_get fs 1 ≡ Some y
-    → slice_get fs 2 ≡ Some z → fs ≡ x ∷ y ∷ z ∷ []
-three_forms [] x y z l p q r = absurd (omega arith)
-three_forms (a ∷ []) x y z l p q r = absurd (omega arith)
-three_forms (a ∷ b ∷ []) x y z l p q r = absurd (omega arith)
-three_forms (a ∷ b ∷ c ∷ []) x y z l p q r = cc
-three_forms (a ∷ b ∷ c ∷ d ∷ fs) x y z l p q r = absurd (omega arith)
+pub rest_dropped : {A : Type 0} (xs ys : List A) (k : ℕ) (x : A) → drop k xs ≡ x ∷ ys → drop (k + 1) xs ≡ ys
+rest_dropped [] ys zero x h = absurd cc
+rest_dropped [] ys (suc k) x h = absurd cc
+rest_dropped (a ∷ xs) ys zero x h = let same : xs ≡ ys = cc in same
+rest_dropped (a ∷ xs) ys (suc k) x h = let e : suc k + 1 ≡ suc (k + 1) = omega arith in ap (λ n. drop n (a ∷ xs)) e ∙ rest_dropped xs ys k x h
+
+pub last_dropped : {A : Type 0} (xs : List A) (k : ℕ) (x : A) → drop k xs ≡ x ∷ [] → k + 1 < length xs → ⊥
+last_dropped xs k x h l = let n : length (drop k xs) ≡ 1 = ap (λ ys. length ys) h in omega (arith, length-drop k xs)
 
 -- a list is headed as its first form says
 pub headed_by_first : (bytes word : List ℕ) (f x : Form) (fs : List Form) → elements_of f ≡ Some fs → slice_get fs 0 ≡ Some x

@@ -1,4 +1,5 @@
 pub mod FormLists
+pub mod FoundLaws
 pub mod NodesLaws
 pub mod WordTexts
 pub mod Comments

@@ -1,215 +1,438 @@
--- A reader's lists and nodes, from one offset to the next.
-use Rattle.std.proofs.Common.{◌≡◌, ℕ, suc, ◌+◌, ◌-◌, ◌^◌, ◌<◌, ◌≤◌, true, ◌==◌, List, [], ◌∷◌, ◌++◌, length, map, reverse, take, drop, get_or, refl, sym, ap, ◌∙◌, subst, arith}
-use Rattle.std.proofs.lemmas.Bool.{eq-eqb, ne_eqb}
-use Rattle.std.proofs.lemmas.List.{get_or_push, length-append, length-drop, length-map, length_push, drop-append-le, take-append-le, take_all, drop_all, drop_at, map_push, take-map, drop-map, length-take-le}
+-- A reader's open lists and its table of lists, from one offset to the next.
+use Rattle.std.proofs.Common.{◌≡◌, ℕ, suc, ◌+◌, ◌^◌, ◌<◌, ◌≤◌, ◌⊎◌, true, false, List, [], ◌∷◌, ◌++◌, length, set, reverse, get_or, refl, sym, ap, ◌∙◌, subst, inl, inr, arith}
+use Rattle.std.proofs.lemmas.Bool.{true≢false, cases_lt, cases_eq, cases_order}
+use Rattle.std.proofs.lemmas.List.{get_or_default, get_or_push, get_or_append_left, get_or-set_same, get_or-set_other, length_push, length-set}
 use Rattle.fort_theory.specs.Signatures.{is_word_byte}
-use Rattle.fort_grammar.specs.Text.{deepest, IsFaultlessBelow}
-use Rattle.fort_grammar.specs.Forms.{Form, NoForm, MoreForms, Word, ListForm}
+use Rattle.fort_grammar.specs.Text.{is_blank, stands_at, deepest, Unclosed, ExtraClose, IsFirstFault, IsFaultlessBelow}
+use Rattle.fort_grammar.specs.Forms.{Form, Forms, NoForm, MoreForms, Word, ListForm, AreForms, AreFormsOf}
+use Rattle.fort_grammar.proofs.Bytes.{IsPlain-from_word_byte, stands_at-from, stands_at-other}
+use Rattle.fort_sexpr.specs.FormCode.{node_count, node_counts}
+use Rattle.fort_sexpr.specs.FormView.{form_count}
+use Rattle.fort_sexpr.specs.Found.{run_from}
 use Rattle.fort_sexpr.specs.declared.arena.Node.{Node}
 use Rattle.fort_sexpr.specs.declared.arena.ListNode.{ListNode}
-use Rattle.fort_sexpr.specs.declared.reader.OpenList.{OpenList}
-use Rattle.fort_sexpr.specs.Nodes.{as_forms, list_at, form_made, form_of, form_in, forms_in, grown, Lies, LieWithin, AreTextForms}
-use Rattle.fort_sexpr.specs.Progress.{IsReadUpTo, IsWordEnd}
-use Rattle.fort_sexpr.specs.Reading.{start_of, innermost, levels_of, AreStarts, IsReading, IsTokenAt}
 use Rattle.fort_sexpr.specs.declared.reader.Token.{Token}
 use Rattle.fort_sexpr.specs.declared.reader.Token.TheVariants as tokens
-use Rattle.fort_sexpr.proofs.FormLists.{joined, as_forms-push}
-use Rattle.fort_sexpr.proofs.NodesLaws.{word_end_is, LieWithin-more, LieWithin-push, LieWithin-take, LieWithin-drop, AreGrown-append, map-form_of-append, grown-append, length-grown, grown_all, forms_in_listed, LieWithin-listed, AreGrown-listed}
-use Rattle.fort_grammar.proofs.Bytes.{IsPlain-from_word_byte, stands_at-byte}
-use Rattle.fort_sexpr.proofs.Steps.{AreForms_ordered, word_some, faultless_word, faultless_mark, read_blank, read_word, read_open, read_close}
-use Rattle.fort_sexpr.proofs.Ends.{read_nothing, AreFormsOf-read}
+use Rattle.fort_sexpr.specs.Nodes.{opens_before, list_at, IsEntry, IsListed, AreListed, node_of, nodes_of, text_forms, AreTextForms}
+use Rattle.fort_sexpr.specs.Progress.{Level, StandUpTo, IsReadUpTo, IsWordEnd, IsLineEnd}
+use Rattle.fort_sexpr.specs.Reading.{IsOpenAt, AreOpen, IsReading, CountsMore, one_more, lists_with, top_with, IsTokenAt}
+use Rattle.fort_sexpr.proofs.Depths.{count_before-yes, count_before-no}
+use Rattle.fort_sexpr.proofs.FormLists.{joined, form_count-joined, node_counts-AreForms}
+use Rattle.fort_sexpr.proofs.FoundLaws.{found}
+use Rattle.fort_sexpr.proofs.NodesLaws.{skipped_opens, opens_between, opens_apart, opens_within}
+use Rattle.fort_sexpr.proofs.Steps.{not_in_comment, faultless_word, faultless_mark, comment_skipped, read_blank, read_comment, read_word, read_open, read_close}
+use Rattle.fort_sexpr.proofs.Ends.{read_nothing, AreFormsOf-read, Unclosed-read, ExtraClose-read}
 
-pub length-levels_of : (os : List OpenList) (fs : List Form) → length (levels_of os fs) ≡ length os
-length-levels_of [] fs = refl
-length-levels_of (o ∷ os) fs = ap suc (length-levels_of os (take o.start fs))
+abbrev nowhere : ListNode
+nowhere = record { to = 0; count = 0; behind = 0 }
 
-pub start_within : (os : List OpenList) (n : ℕ) → AreStarts os n → start_of os ≤ n
-start_within [] n h = omega arith
-start_within (o ∷ os) n h = h.0
-
-pub AreStarts-more : (os : List OpenList) (n m : ℕ) → n ≤ m → AreStarts os n → AreStarts os m
-AreStarts-more [] n m l h = tt
-AreStarts-more (o ∷ os) n m l h = (omega (arith, h.0), h.1)
-
--- one more form belongs to the innermost list
-levels_of-push : (os : List OpenList) (fs : List Form) (f : Form) → start_of os ≤ length fs → levels_of os (fs ++ f ∷ []) ≡ levels_of os fs
-levels_of-push [] fs f l = refl
-levels_of-push (o ∷ os) fs f l =
-    ap (λ gs. record { from = o.from; before = innermost os gs } ∷ levels_of os gs) (take-append-le o.start fs (f ∷ []) l)
-
-innermost-push : (os : List OpenList) (fs : List Form) (f : Form) → start_of os ≤ length fs
-    → innermost os (fs ++ f ∷ []) ≡ joined (innermost os fs) (MoreForms f NoForm)
-innermost-push os fs f l = ap as_forms (drop-append-le (start_of os) fs (f ∷ []) l) ∙ as_forms-push (drop (start_of os) fs) f
+form_count-least : (fs : Forms) → form_count fs ≤ node_counts fs
+form_count-least NoForm = omega arith
+form_count-least (MoreForms f fs) = omega (arith, some f, form_count-least fs)
+  where
+    some : (f : Form) → 1 ≤ node_count f
+    some (Word from to) = omega arith
+    some (ListForm from to gs) = omega arith
 
 module _ (bytes : List ℕ) where
-  read_push : (os : List OpenList) (fs : List Form) (f : Form) (i : ℕ) → start_of os ≤ length fs
-      → IsReadUpTo bytes (levels_of os fs) (joined (innermost os fs) (MoreForms f NoForm)) i
-      → IsReadUpTo bytes (levels_of os (fs ++ f ∷ [])) (innermost os (fs ++ f ∷ [])) i
-  read_push os fs f i l r =
-      subst (λ ls. IsReadUpTo bytes ls (innermost os (fs ++ f ∷ [])) i) (sym (levels_of-push os fs f l))
-      (subst (λ gs. IsReadUpTo bytes (levels_of os fs) gs i) (sym (innermost-push os fs f l)) r)
+  nodes_of-joined : (fs : Forms) (f : Form) → nodes_of bytes (joined fs (MoreForms f NoForm)) ≡ nodes_of bytes fs ++ node_of bytes f ∷ []
+  nodes_of-joined NoForm f = refl
+  nodes_of-joined (MoreForms g fs) f = ap (λ ns. node_of bytes g ∷ ns) (nodes_of-joined fs f)
 
-  reading_nothing : IsReading bytes [] [] [] [] 0
+  -- as many lists are open as there are levels
+  pub length-levels : (lists : List ListNode) (top : List Node) (limit : ℕ) (os : List Node) (ls : List Level) (fs : Forms)
+      → AreOpen bytes lists top limit os ls fs → length ls ≡ length os
+  length-levels lists top limit [] [] fs h = refl
+  length-levels lists top limit [] (l ∷ ls) fs h = absurd h
+  length-levels lists top limit (o ∷ os) [] fs h = absurd h
+  length-levels lists top limit (o ∷ os) (l ∷ ls) fs h = ap suc (length-levels lists top o.list os ls l.before h.4)
+
+  open_limit : (lists : List ListNode) (top : List Node) (limit more : ℕ) (os : List Node) (ls : List Level) (fs : Forms) → limit ≤ more
+      → AreOpen bytes lists top limit os ls fs → AreOpen bytes lists top more os ls fs
+  open_limit lists top limit more [] [] fs l h = h
+  open_limit lists top limit more [] (x ∷ ls) fs l h = h
+  open_limit lists top limit more (o ∷ os) [] fs l h = h
+  open_limit lists top limit more (o ∷ os) (x ∷ ls) fs l h = (h.0, h.1, omega (arith, h.2), h.3, h.4)
+
+  -- what becomes of other entries of the table is nothing to them
+  open_kept : (lists ds : List ListNode) (top : List Node) (limit : ℕ) (os : List Node) (ls : List Level) (fs : Forms)
+      → ((k : ℕ) → k < limit → list_at ds k ≡ list_at lists k)
+      → AreOpen bytes lists top limit os ls fs → AreOpen bytes ds top limit os ls fs
+  open_kept lists ds top limit [] [] fs e h = h
+  open_kept lists ds top limit [] (x ∷ ls) fs e h = h
+  open_kept lists ds top limit (o ∷ os) [] fs e h = h
+  open_kept lists ds top limit (o ∷ os) (x ∷ ls) fs e h = (
+    h.0,
+    h.1,
+    h.2,
+    ap (λ (n : ListNode). n.count) (e o.list h.2) ∙ h.3,
+    open_kept lists ds top o.list os ls x.before (λ k l. e k (omega (arith, h.2))) h.4,
+  )
+
+  set_below : (lists : List ListNode) (i : ℕ) (n : ListNode) (limit : ℕ) → limit ≤ i → (k : ℕ) → k < limit → list_at (set lists i n) k ≡ list_at lists k
+  set_below lists i n limit l k m = get_or-set_other lists i k n nowhere (λ e. absurd (omega arith))
+
+  -- one more form of the innermost list
+  open_added : (lists : List ListNode) (top : List Node) (limit : ℕ) (os : List Node) (ls : List Level) (fs : Forms) (f : Form)
+      → limit ≤ length lists → AreOpen bytes lists top limit os ls fs
+      → AreOpen bytes (lists_with os lists) (top_with os (node_of bytes f) top) limit os ls (joined fs (MoreForms f NoForm))
+  open_added lists top limit [] [] fs f l h = ap (λ ns. ns ++ node_of bytes f ∷ []) h ∙ sym (nodes_of-joined fs f)
+  open_added lists top limit [] (x ∷ ls) fs f l h = h
+  open_added lists top limit (o ∷ os) [] fs f l h = h
+  open_added lists top limit (o ∷ os) (x ∷ ls) fs f l h =
+      let n = one_more (list_at lists o.list) in
+      let here : list_at (set lists o.list n) o.list ≡ n = get_or-set_same lists o.list n nowhere (omega (arith, h.2)) in (
+        h.0,
+        h.1,
+        h.2,
+        ap (λ (m : ListNode). m.count) here ∙ (ap (λ c. c + 1) h.3 ∙ sym (form_count-joined fs f)),
+        open_kept lists (set lists o.list n) top o.list os ls x.before (set_below lists o.list n o.list (omega arith)) h.4,
+      )
+
+  listed_kept : (lists ds : List ListNode) (from : ℕ) → list_at ds (opens_before bytes from) ≡ list_at lists (opens_before bytes from)
+      → IsListed bytes lists from → IsListed bytes ds from
+  listed_kept lists ds from e h = λ close fs at. subst (λ n. IsEntry bytes n (suc close) fs) (sym e) (h close fs at)
+
+  -- lists that open at different offsets have entries of their own
+  numbers_apart : (i j : ℕ) → stands_at 40 bytes i ≡ true → stands_at 40 bytes j ≡ true → (i ≡ j → ⊥) → opens_before bytes i ≡ opens_before bytes j → ⊥
+  numbers_apart i j a b apart e =
+      elim (cases_order i j) [
+        | inl same ↦ apart same
+        | inr (inl l) ↦ (let x = opens_apart bytes i j l a in absurd (omega arith))
+        | inr (inr l) ↦ (let x = opens_apart bytes j i l b in absurd (omega arith))
+      ]
+
+  -- the entry of an open list may change
+  set_apart : (lists : List ListNode) (n : ListNode) (o : Node) (from : ℕ) → o.list ≡ opens_before bytes o.from → stands_at 40 bytes o.from ≡ true
+      → stands_at 40 bytes from ≡ true → (o.from ≡ from → ⊥) → IsListed bytes lists from → IsListed bytes (set lists o.list n) from
+  set_apart lists n o from number opens h apart listed =
+      listed_kept lists (set lists o.list n) from
+      (get_or-set_other lists o.list (opens_before bytes from) n nowhere
+      (λ e. numbers_apart o.from from opens h apart (sym number ∙ sym e)))
+      listed
+
+  opens_at : (o : Node) (from : ℕ) → o.from ≡ from → stands_at 40 bytes from ≡ true → stands_at 40 bytes o.from ≡ true
+  opens_at o from e h = ap (stands_at 40 bytes) e ∙ h
+
+  each_added : (lists : List ListNode) (top : List Node) (limit i : ℕ) (os : List Node) (ls : List Level) (fs : Forms) (from : ℕ)
+      → AreOpen bytes lists top limit os ls fs → StandUpTo bytes ls fs i → stands_at 40 bytes from ≡ true
+      → IsOpenAt os from ⊎ IsListed bytes lists from → IsOpenAt os from ⊎ IsListed bytes (lists_with os lists) from
+  each_added lists top limit i [] ls fs from h s a (inl b) = inl b
+  each_added lists top limit i [] ls fs from h s a (inr b) = inr b
+  each_added lists top limit i (o ∷ os) ls fs from h s a (inl b) = inl b
+  each_added lists top limit i (o ∷ os) [] fs from h s a (inr b) = absurd h
+  each_added lists top limit i (o ∷ os) (l ∷ ls) fs from h s a (inr b) =
+      elim (cases_eq o.from from) [
+        | inl e ↦ inl (inl e)
+        | inr n ↦ inr (set_apart lists (one_more (list_at lists o.list)) o from (h.1 ∙ ap (opens_before bytes) (sym h.0))
+            (opens_at o l.from h.0 s.1.opens) a n b)
+      ]
+
+  length-lists_with : (os : List Node) (lists : List ListNode) → length (lists_with os lists) ≡ length lists
+  length-lists_with [] lists = refl
+  length-lists_with (o ∷ os) lists = length-set lists o.list (one_more (list_at lists o.list))
+
+  -- the count of an open list is far below what its type holds
+  pub counts_more : (lists : List ListNode) (top : List Node) (limit i : ℕ) (os : List Node) (ls : List Level) (fs : Forms)
+      → AreOpen bytes lists top limit os ls fs → StandUpTo bytes ls fs i → i < 2 ^ 32 → limit ≤ length lists → CountsMore os lists
+  counts_more lists top limit i [] ls fs h s few l = tt
+  counts_more lists top limit i (o ∷ os) [] fs h s few l = absurd h
+  counts_more lists top limit i (o ∷ os) (x ∷ ls) fs h s few l =
+      (omega (arith, h.2), omega (arith, h.3, node_counts-AreForms s.2, form_count-least fs))
+
+  reading_nothing : IsReading bytes [] [] [] 0
   reading_nothing = record {
-    starts = tt;
-    grown = λ k d l. absurd (omega arith);
-    within = λ k d l. absurd (omega arith);
-    few = omega arith;
-    few_closed = omega arith;
+    levels = [];
+    forms = NoForm;
     read = read_nothing bytes;
+    open_lists = refl;
+    number = refl;
+    each = λ from l h. absurd (omega arith);
   }
 
-  pub reading_begun : (lists : List OpenList) (ps ns : List Node) (cs : List ListNode) → lists ≡ [] → ps ≡ [] → ns ≡ [] → cs ≡ []
-      → IsReading bytes (reverse lists) ps ns cs 0
-  reading_begun lists ps ns cs l p n c =
-      subst (λ xs. IsReading bytes (reverse xs) ps ns cs 0) (sym l)
-      (subst (λ xs. IsReading bytes [] xs ns cs 0) (sym p)
-      (subst (λ xs. IsReading bytes [] [] xs cs 0) (sym n)
-      (subst (λ xs. IsReading bytes [] [] [] xs 0) (sym c) reading_nothing)))
+  pub reading_begun : (os : List Node) (lists : List ListNode) (top : List Node) → os ≡ [] → lists ≡ [] → top ≡ []
+      → IsReading bytes (reverse os) lists top 0
+  reading_begun os lists top o l t =
+      subst (λ xs. IsReading bytes (reverse xs) lists top 0) (sym o)
+      (subst (λ xs. IsReading bytes [] xs top 0) (sym l)
+      (subst (λ xs. IsReading bytes [] [] xs 0) (sym t) reading_nothing))
 
-  module _ (os : List OpenList) (ps ns : List Node) (cs : List ListNode) where
+  -- up to an offset behind which no list opens before the next one
+  each_on : (os : List Node) (lists : List ListNode) (i j : ℕ) → ((k : ℕ) → i ≤ k → k < j → stands_at 40 bytes k ≡ false)
+      → ((from : ℕ) → from < i → stands_at 40 bytes from ≡ true → IsOpenAt os from ⊎ IsListed bytes lists from)
+      → (from : ℕ) → from < j → stands_at 40 bytes from ≡ true → IsOpenAt os from ⊎ IsListed bytes lists from
+  each_on os lists i j none each from l h =
+      elim (cases_lt from i) [
+        | inl lt ↦ each from lt h
+        | inr ge ↦ absurd (true≢false (sym h ∙ none from ge l))
+      ]
+
+  module _ (os : List Node) (lists : List ListNode) (top : List Node) where
     -- over what is no form
-    pub reading_on : (i j : ℕ) → IsReading bytes os ps ns cs i → i ≤ j
-        → IsReadUpTo bytes (levels_of os (forms_in bytes cs ns ps)) (innermost os (forms_in bytes cs ns ps)) j → IsReading bytes os ps ns cs j
-    reading_on i j r l read = record {
-      starts = r.starts;
-      grown = r.grown;
-      within = r.within;
-      few = omega (arith, r.few);
-      few_closed = omega (arith, r.few_closed);
+    reading_on : (i j : ℕ) (r : IsReading bytes os lists top i) → i ≤ j → ((k : ℕ) → i ≤ k → k < j → stands_at 40 bytes k ≡ false)
+        → IsReadUpTo bytes r.levels r.forms j → IsReading bytes os lists top j
+    reading_on i j r l none read = record {
+      levels = r.levels;
+      forms = r.forms;
       read = read;
+      open_lists = r.open_lists;
+      number = r.number ∙ sym (opens_between bytes i j l none);
+      each = each_on os lists i j none r.each;
     }
 
-    starts_below : (i : ℕ) → IsReading bytes os ps ns cs i → start_of os ≤ length (forms_in bytes cs ns ps)
-    starts_below i r = omega (arith, start_within os (length ps) r.starts, length-map ps (form_in bytes cs ns))
+    pub reading_blank : (i : ℕ) → IsReading bytes os lists top i → i < length bytes → is_blank (get_or bytes i 0) ≡ true
+        → IsReading bytes os lists top (i + 1)
+    reading_blank i r l b =
+        let here = skipped_opens bytes i (record { within = l; idle = inr b }) in
+        reading_on i (i + 1) r (omega arith)
+        (λ k a c. let e : i ≡ k = omega arith in subst (λ m. stands_at 40 bytes m ≡ false) e here)
+        (read_blank bytes r.levels r.forms i r.read l b)
 
-    pub reading_word : (i j : ℕ) (n : Node) → IsReading bytes os ps ns cs i → i < length bytes → is_word_byte (get_or bytes i 0) ≡ true
-        → IsWordEnd bytes i j → n ≡ record { from = i; list = 0 } → IsReading bytes os (ps ++ n ∷ []) ns cs j
+    pub reading_comment : (i j : ℕ) → IsReading bytes os lists top i → get_or bytes i 0 ≡ 59 → IsLineEnd bytes i j
+        → IsReading bytes os lists top j
+    reading_comment i j r h e =
+        reading_on i j r (omega (arith, e.after)) (λ k a b. skipped_opens bytes k (comment_skipped bytes i k j e h a b))
+        (read_comment bytes r.levels r.forms i j r.read h e)
+
+    -- one more form
+    reading_added : (i j : ℕ) (ls : List Level) (fs : Forms) (f : Form) → AreOpen bytes lists top (length lists) os ls fs
+        → StandUpTo bytes ls fs i → IsReadUpTo bytes ls (joined fs (MoreForms f NoForm)) j → length lists ≡ opens_before bytes j
+        → ((from : ℕ) → from < j → stands_at 40 bytes from ≡ true → IsOpenAt os from ⊎ IsListed bytes lists from)
+        → IsReading bytes os (lists_with os lists) (top_with os (node_of bytes f) top) j
+    reading_added i j ls fs f open_lists stand read number each = record {
+      levels = ls;
+      forms = joined fs (MoreForms f NoForm);
+      read = read;
+      open_lists = open_limit (lists_with os lists) (top_with os (node_of bytes f) top) (length lists) (length (lists_with os lists)) os ls _
+          (omega (arith, length-lists_with os lists))
+          (open_added lists top (length lists) os ls fs f (omega arith) open_lists);
+      number = length-lists_with os lists ∙ number;
+      each = λ from l h. each_added lists top (length lists) i os ls fs from open_lists stand h (each from l h);
+    }
+
+    pub reading_word : (i j : ℕ) (n : Node) → IsReading bytes os lists top i → i < length bytes → is_word_byte (get_or bytes i 0) ≡ true
+        → IsWordEnd bytes i j → n ≡ record { from = i; list = length lists }
+        → IsReading bytes os (lists_with os lists) (top_with os n top) j
     reading_word i j n r l w e is =
-        let m = word_some bytes i j l w e in
-        let p = IsPlain-from_word_byte (get_or bytes i 0) w in
-        let word : form_in bytes cs ns n ≡ Word i j =
-        ap (form_in bytes cs ns) is
-        ∙ (ap (λ b. form_made b bytes (grown bytes cs [] ns) i (list_at cs 0)) (ne_eqb (get_or bytes i 0) 40 p.not_open)
-        ∙ ap (Word i) (sym (word_end_is bytes i j e))) in
+        let none = λ (k : ℕ) (a : i ≤ k) (b : k < j). stands_at-other 40 bytes k (IsPlain-from_word_byte (get_or bytes k 0) (e.word k a b)).not_open in
+        let number = r.number ∙ sym (opens_between bytes i j e.after none) in
+        let made : ℕ → Node = λ m. record { from = i; list = m } in
+        let node : node_of bytes (Word i j) ≡ n = ap made (sym r.number) ∙ sym is in
+        subst (λ m. IsReading bytes os (lists_with os lists) (top_with os m top) j) node
+        (reading_added i j r.levels r.forms (Word i j) r.open_lists r.read.stand
+        (read_word bytes r.levels r.forms i j r.read l w e) number (each_on os lists i j none r.each))
+
+    pub reading_open : (i : ℕ) (o : Node) (n : ListNode) → IsReading bytes os lists top i → i < length bytes → get_or bytes i 0 ≡ 40
+        → length os < deepest → o ≡ record { from = i; list = length lists } → n ≡ record { to = 0; count = 0; behind = 0 }
+        → IsReading bytes (o ∷ os) (lists ++ n ∷ []) top (i + 1)
+    reading_open i o n r l h few is zeros =
+        let ds = lists ++ n ∷ [] in
+        let outside = not_in_comment bytes i l (r.read.outside l) (omega arith) in
+        let opens = stands_at-from 40 bytes i h outside in
+        let more = count_before-yes 40 bytes i opens in
+        let longer = length_push lists n in
+        let from : o.from ≡ i = ap (λ (x : Node). x.from) is in
+        let number : o.list ≡ length lists = ap (λ (x : Node). x.list) is in
+        let none : (list_at ds o.list).count ≡ 0 = ap (λ (x : ListNode). x.count) (get_or_push lists n nowhere o.list (sym number) ∙ zeros) in
+        let kept = λ (k : ℕ) (m : k < length lists). get_or_append_left lists (n ∷ []) nowhere k m in
         record {
-          starts = AreStarts-more os (length ps) (length (ps ++ n ∷ [])) (omega (arith, length_push ps n)) r.starts;
-          grown = r.grown;
-          within = LieWithin-push bytes cs (length ns) ps n r.within
-              (subst (Lies bytes cs (length ns)) (sym is) (record { inside = l; listed = λ o. absurd (p.not_open o) }));
-          few = omega (arith, length_push ps n, r.few);
-          few_closed = omega (arith, r.few_closed);
-          read = subst (λ fs. IsReadUpTo bytes (levels_of os fs) (innermost os fs) j) (sym (map_push (form_in bytes cs ns) ps n))
-              (read_push os (forms_in bytes cs ns ps) (form_in bytes cs ns n) j (starts_below i r)
-              (subst
-              (λ f. IsReadUpTo bytes (levels_of os (forms_in bytes cs ns ps)) (joined (innermost os (forms_in bytes cs ns ps)) (MoreForms f NoForm)) j)
-              (sym word) (read_word bytes (levels_of os (forms_in bytes cs ns ps)) (innermost os (forms_in bytes cs ns ps)) i j r.read l w e)));
+          levels = record { from = i; before = r.forms } ∷ r.levels;
+          forms = NoForm;
+          read = read_open bytes r.levels r.forms i r.read l h
+              (omega (arith, length-levels lists top (length lists) os r.levels r.forms r.open_lists));
+          open_lists = (
+            from,
+            number ∙ r.number,
+            omega arith,
+            none,
+            open_limit ds top (length lists) o.list os r.levels r.forms (omega arith)
+                (open_kept lists ds top (length lists) os r.levels r.forms kept r.open_lists),
+          );
+          number = omega (arith, r.number);
+          each = λ k m s. elim (cases_lt k i) [
+            | inl lt ↦ elim (r.each k lt s) [
+              | inl b ↦ inl (inr b)
+              | inr b ↦ inr (listed_kept lists ds k (kept (opens_before bytes k) (omega (arith, opens_apart bytes k i lt s, r.number))) b)
+            ]
+            | inr ge ↦ (let same : o.from ≡ k = omega (arith, from) in inl (inl same))
+          ];
         }
 
-    pub reading_open : (i : ℕ) (o : OpenList) → IsReading bytes os ps ns cs i → i < length bytes → get_or bytes i 0 ≡ 40
-        → length os < deepest → o ≡ record { from = i; start = length ps } → IsReading bytes (o ∷ os) ps ns cs (i + 1)
-    reading_open i o r l h few is =
-        let fs = forms_in bytes cs ns ps in
-        let start : o.start ≡ length ps = ap (λ (x : OpenList). x.start) is in
-        let from : o.from ≡ i = ap (λ (x : OpenList). x.from) is in
-        let whole : take o.start fs ≡ fs = take_all o.start fs (omega (arith, length-map ps (form_in bytes cs ns))) in
-        let none : drop o.start fs ≡ [] = drop_all o.start fs (omega (arith, length-map ps (form_in bytes cs ns))) in
-        let read = read_open bytes (levels_of os fs) (innermost os fs) i r.read l h (omega (arith, length-levels_of os fs)) in
+    -- the list that opens at the offset of the innermost level is closed
+    closed_here : (i : ℕ) (o : Node) (n : ListNode) (l : Level) (fs : Forms) → AreForms bytes (suc l.from) i fs → stands_at 41 bytes i ≡ true
+        → o.list ≡ opens_before bytes l.from → o.list < length lists
+        → n ≡ record { to = i + 1; count = (list_at lists o.list).count; behind = length lists }
+        → (list_at lists o.list).count ≡ form_count fs → length lists ≡ opens_before bytes (i + 1) → IsListed bytes (set lists o.list n) l.from
+    closed_here i o n l fs d closes number within is count behind = λ close gs at.
+        let run : run_from bytes (suc l.from) ≡ (fs, i) = found bytes d (record { closes = λ _. closes }) in
+        let other : run_from bytes (suc l.from) ≡ (gs, close) = found bytes at.forms (record { closes = λ _. at.closes }) in
+        let same : fs ≡ gs = sym (ap (λ r. r.0) run) ∙ ap (λ r. r.0) other in
+        let end : i ≡ close = sym (ap (λ r. r.1) run) ∙ ap (λ r. r.1) other in
+        let ended : i + 1 ≡ suc close = omega arith in
+        let entry : list_at (set lists o.list n) (opens_before bytes l.from) ≡ n =
+        ap (list_at (set lists o.list n)) (sym number) ∙ get_or-set_same lists o.list n nowhere within in
+        let e = entry ∙ is in
         record {
-          starts = (omega arith, subst (AreStarts os) (sym start) r.starts);
-          grown = r.grown;
-          within = r.within;
-          few = omega (arith, r.few);
-          few_closed = omega (arith, r.few_closed);
-          read = subst (λ gs. IsReadUpTo bytes (levels_of (o ∷ os) fs) (as_forms gs) (i + 1)) (sym none)
-              (subst (λ gs. IsReadUpTo bytes (record { from = o.from; before = innermost os gs } ∷ levels_of os gs) NoForm (i + 1)) (sym whole)
-              (subst (λ k. IsReadUpTo bytes (record { from = k; before = innermost os fs } ∷ levels_of os fs) NoForm (i + 1)) (sym from) read));
+          to = ap (λ (x : ListNode). x.to) e ∙ ended;
+          count = ap (λ (x : ListNode). x.count) e ∙ (count ∙ ap form_count same);
+          behind = ap (λ (x : ListNode). x.behind) e ∙ (behind ∙ ap (opens_before bytes) ended);
         }
 
-    -- a list that is closed: its forms go behind the nodes, and it takes their place
-    pub reading_close : (i : ℕ) (o : OpenList) (c : ListNode) (n : Node) → IsReading bytes (o ∷ os) ps ns cs i → i < length bytes
-        → get_or bytes i 0 ≡ 41 → c ≡ record { to = i + 1; first = length ns; count = length ps - o.start }
-        → n ≡ record { from = o.from; list = length cs }
-        → IsReading bytes os (take o.start ps ++ n ∷ []) (ns ++ drop o.start ps) (cs ++ c ∷ []) (i + 1)
-    reading_close i o c n r l h ended is =
-        let ds = cs ++ c ∷ [] in
-        let last : ListNode = record { to = i + 1; first = length ns; count = length ps - o.start } in
-        let longer = length_push cs c in
-        let moved = drop o.start ps in
-        let kept = take o.start ps in
-        let fs = forms_in bytes ds ns ps in
-        let grown_so = AreGrown-listed bytes cs (c ∷ []) ns r.grown in
-        let within_so = LieWithin-listed bytes cs (c ∷ []) (length ns) ps r.within in
-        let same : forms_in bytes ds ns ps ≡ forms_in bytes cs ns ps = forms_in_listed bytes cs (c ∷ []) (length ns) ns ps r.grown r.within in
-        let read_so = subst (λ gs. IsReadUpTo bytes (levels_of (o ∷ os) gs) (innermost (o ∷ os) gs) i) (sym same) r.read in
-        let before = grown bytes ds [] ns in
-        let of = form_in bytes ds ns in
-        let start : o.start ≤ length ps = r.starts.0 in
-        let long = length-grown bytes ds [] ns in
-        let sized : LieWithin bytes ds (length before) ps = LieWithin-more bytes ds (length ns) (length before) ps (omega arith) within_so in
-        let after : grown bytes ds [] (ns ++ moved) ≡ before ++ map of moved =
-        grown-append bytes ds [] ns moved ∙ grown_all bytes ds before moved (LieWithin-drop bytes ds (length before) o.start ps sized) in
-        let kept_same : forms_in bytes ds (ns ++ moved) kept ≡ take o.start fs =
-        ap (λ gs. map (form_of bytes ds gs) kept) after
-        ∙ (map-form_of-append bytes ds before (map of moved) kept (LieWithin-take bytes ds (length before) o.start ps sized)
-        ∙ sym (take-map of o.start ps)) in
-        let lengths = length-drop o.start ps in
-        let kept_long = length-take-le o.start ps start in
-        let count : length (map of moved) ≡ length ps - o.start = length-map moved of ∙ lengths in
-        let listed : take (length ps - o.start) (drop (length ns) (before ++ map of moved)) ≡ drop o.start fs =
-        ap (take (length ps - o.start)) (drop_at before (map of moved) (length ns) (omega arith))
-        ∙ (take_all (length ps - o.start) (map of moved) (omega arith) ∙ sym (drop-map of o.start ps)) in
-        let opens = read_so.stand.1 in
-        let number : n.list ≡ length cs = ap (λ (x : Node). x.list) is in
-        let begins : n.from ≡ o.from = ap (λ (x : Node). x.from) is in
-        let entry : list_at ds n.list ≡ last = get_or_push cs c (record { to = 0; first = 0; count = 0 }) n.list (sym number) ∙ ended in
-        let made : form_in bytes ds (ns ++ moved) n ≡ ListForm o.from (i + 1) (as_forms (drop o.start fs)) =
-        ap (λ gs. form_of bytes ds gs n) after
-        ∙ (ap (λ x. form_made (get_or bytes n.from 0 == 40) bytes (before ++ map of moved) n.from x) entry
-        ∙ (ap (λ k. form_made (get_or bytes k 0 == 40) bytes (before ++ map of moved) k last) begins
-        ∙ (ap (λ b. form_made b bytes (before ++ map of moved) o.from last)
-        (eq-eqb (get_or bytes o.from 0) 40 (stands_at-byte 40 bytes o.from opens.opens))
-        ∙ ap (λ gs. ListForm o.from (i + 1) (as_forms gs)) listed))) in
-        let inner = start_within os o.start r.starts.1 in
-        let shorter : length (take o.start fs) ≡ o.start = length-take-le o.start fs (omega (arith, length-map ps of)) in
-        let read = read_close bytes o.from (innermost os (take o.start fs)) (levels_of os (take o.start fs)) (as_forms (drop o.start fs)) i read_so l h in
-        let pushed = read_push os (take o.start fs) (ListForm o.from (i + 1) (as_forms (drop o.start fs))) (i + 1) (omega arith) read in
-        let begun : o.from < i + 1 = omega (arith, AreForms_ordered read_so.stand.2) in
-        let nodes = length-append ns moved in
-        let to : (list_at ds n.list).to ≡ i + 1 = ap (λ (x : ListNode). x.to) entry in
-        let first : (list_at ds n.list).first ≡ length ns = ap (λ (x : ListNode). x.first) entry in
-        let forms : (list_at ds n.list).count ≡ length ps - o.start = ap (λ (x : ListNode). x.count) entry in
-        let lies : Lies bytes ds (length (ns ++ moved)) n =
-        record {
-          inside = omega arith;
-          listed = λ _. record { number = omega arith; some = omega arith; within = omega arith; below = omega arith };
-        } in
-        record {
-          starts = AreStarts-more os o.start (length (kept ++ n ∷ [])) (omega (arith, length_push kept n)) r.starts.1;
-          grown = AreGrown-append bytes ds ns moved grown_so (LieWithin-drop bytes ds (length ns) o.start ps within_so);
-          within = LieWithin-push bytes ds (length (ns ++ moved)) kept n
-              (LieWithin-more bytes ds (length ns) (length (ns ++ moved)) kept (omega arith) (LieWithin-take bytes ds (length ns) o.start ps within_so))
-              lies;
-          few = omega (arith, length-append ns moved, length_push kept n, r.few);
-          few_closed = omega (arith, r.few_closed);
-          read = subst (λ gs. IsReadUpTo bytes (levels_of os gs) (innermost os gs) (i + 1))
-              (sym (map_push (form_in bytes ds (ns ++ moved)) kept n
-              ∙ (ap (λ gs. gs ++ form_in bytes ds (ns ++ moved) n ∷ []) kept_same ∙ ap (λ f. take o.start fs ++ f ∷ []) made)))
-              pushed;
-        }
+    -- what a reader has whose innermost list ends here
+    pub record IsClosing (i : ℕ) (o : Node) (ds : List ListNode) : Type 0 where
+      pub levels : List Level
+      pub before : Forms
+      pub form : Form
+      pub begins : Level
+      pub below : begins.from < i
+      pub node : node_of bytes form ≡ o
+      pub stand : StandUpTo bytes levels before begins.from
+      pub read : IsReadUpTo bytes levels (joined before (MoreForms form NoForm)) (i + 1)
+      pub open_lists : AreOpen bytes ds top (length ds) os levels before
+      pub number : length ds ≡ opens_before bytes (i + 1)
+      pub each : (from : ℕ) → from < i + 1 → stands_at 40 bytes from ≡ true → IsOpenAt os from ⊎ IsListed bytes ds from
+
+    pub reading_closes : (i : ℕ) (o : Node) (n : ListNode) → IsReading bytes (o ∷ os) lists top i → i < length bytes → get_or bytes i 0 ≡ 41
+        → n ≡ record { to = i + 1; count = (list_at lists o.list).count; behind = length lists } → IsClosing i o (set lists o.list n)
+    reading_closes i o n r l h is = by r.levels r.read r.open_lists
+      where
+        by : (ls : List Level) → IsReadUpTo bytes ls r.forms i → AreOpen bytes lists top (length lists) (o ∷ os) ls r.forms
+            → IsClosing i o (set lists o.list n)
+        by [] read a = absurd a
+        by (x ∷ ls) read a =
+            let ds = set lists o.list n in
+            let outside = not_in_comment bytes i l (read.outside l) (omega arith) in
+            let closes = stands_at-from 41 bytes i h outside in
+            let no_open = stands_at-other 40 bytes i (omega arith) in
+            let same = count_before-no 40 bytes i no_open in
+            let long = length-set lists o.list n in
+            let behind : length lists ≡ opens_before bytes (i + 1) = omega (arith, r.number) in
+            let opens : stands_at 40 bytes o.from ≡ true = ap (stands_at 40 bytes) a.0 ∙ read.stand.1.opens in
+            let closed = closed_here i o n x r.forms read.stand.2 closes a.1 a.2 is a.3 behind in
+            let others = λ (from : ℕ) (s : stands_at 40 bytes from ≡ true) (apart : o.from ≡ from → ⊥).
+            set_apart lists n o from (a.1 ∙ ap (opens_before bytes) (sym a.0)) opens s apart in
+            let here = λ (from : ℕ) (e : o.from ≡ from). subst (IsListed bytes ds) (sym a.0 ∙ e) closed in
+            record {
+              levels = ls;
+              before = x.before;
+              form = ListForm x.from (i + 1) r.forms;
+              begins = x;
+              below = omega (arith, node_counts-AreForms read.stand.2);
+              node = ap (λ k. node_of bytes (Word k k)) (sym a.0) ∙ node_is o (sym (a.1 ∙ ap (opens_before bytes) (sym a.0)));
+              stand = read.stand.0;
+              read = read_close bytes x.from x.before ls r.forms i read l h;
+              open_lists = open_limit ds top o.list (length ds) os ls x.before (omega (arith, a.2))
+                  (open_kept lists ds top o.list os ls x.before (set_below lists o.list n o.list (omega arith)) a.4);
+              number = long ∙ behind;
+              each = each_on os ds i (i + 1) (λ k b c. let e : i ≡ k = omega arith in subst (λ m. stands_at 40 bytes m ≡ false) e no_open)
+                  (λ from m s. elim (r.each from m s) [
+                    | inl (inl e) ↦ inr (here from e)
+                    | inl (inr b) ↦ inl b
+                    | inr b ↦ elim (cases_eq o.from from) [
+                      | inl e ↦ inr (here from e)
+                      | inr apart ↦ inr (others from s apart b)
+                    ]
+                  ]);
+            }
+          where
+            node_is : (m : Node) → opens_before bytes m.from ≡ m.list → node_of bytes (Word m.from m.from) ≡ m
+            node_is m e = let made : ℕ → Node = λ k. record { from = m.from; list = k } in ap made e
+
+  module _ (os : List Node) (lists ds : List ListNode) (top : List Node) (i : ℕ) (o : Node) where
+    pub reading_close : IsClosing os lists top i o ds → IsReading bytes os (lists_with os ds) (top_with os o top) (i + 1)
+    reading_close h =
+        subst (λ m. IsReading bytes os (lists_with os ds) (top_with os m top) (i + 1)) h.node
+        (reading_added os ds top h.begins.from (i + 1) h.levels h.before h.form h.open_lists h.stand h.read h.number h.each)
+
+    pub closing_counts : IsClosing os lists top i o ds → i < length bytes → length bytes < 2 ^ 32 → CountsMore os ds
+    closing_counts h l few =
+        counts_more ds top (length ds) h.begins.from os h.levels h.before h.open_lists h.stand (omega (arith, h.below)) (omega arith)
 
   -- the text is read to its end
-  pub reading_ended : (ps ns : List Node) (cs : List ListNode) → length bytes < 2 ^ 32 → IsReading bytes [] ps ns cs (length bytes)
-      → AreTextForms bytes cs ns ps
-  reading_ended ps ns cs few r = record { within = r.within; forms = AreFormsOf-read bytes (as_forms (forms_in bytes cs ns ps)) r.read; few = few }
+  pub record IsEnded (lists : List ListNode) (top : List Node) : Type 0 where
+    pub listed : AreListed bytes lists
+    pub forms : AreTextForms bytes top
+
+  pub reading_ended : (lists : List ListNode) (top : List Node) → length bytes < 2 ^ 32 → IsReading bytes [] lists top (length bytes)
+      → IsEnded lists top
+  reading_ended lists top few r = by r.levels r.read r.open_lists
+    where
+      by : (ls : List Level) → IsReadUpTo bytes ls r.forms (length bytes) → AreOpen bytes lists top (length lists) [] ls r.forms → IsEnded lists top
+      by (x ∷ ls) read a = absurd a
+      by [] read a =
+          let run : run_from bytes 0 ≡ (r.forms, length bytes) = found bytes read.stand (record { closes = λ l. absurd (omega arith) }) in
+          let same : r.forms ≡ text_forms bytes = sym (ap (λ x. x.0) run) in
+          record {
+            listed = record {
+              few = few;
+              number = r.number;
+              each = λ from s close fs at. elim (r.each from at.within s) [
+                | inl b ↦ absurd b
+                | inr b ↦ b close fs at
+              ];
+            };
+            forms = record {
+              forms = subst (AreFormsOf bytes) same (AreFormsOf-read bytes r.forms read);
+              nodes = a ∙ ap (nodes_of bytes) same;
+            };
+          }
+
+  -- or in the innermost list that is open there
+  pub reading_unclosed : (o : Node) (os : List Node) (lists : List ListNode) (top : List Node)
+      → IsReading bytes (o ∷ os) lists top (length bytes) → IsFirstFault bytes (Unclosed o.from)
+  reading_unclosed o os lists top r = by r.levels r.read r.open_lists
+    where
+      by : (ls : List Level) → IsReadUpTo bytes ls r.forms (length bytes) → AreOpen bytes lists top (length lists) (o ∷ os) ls r.forms
+          → IsFirstFault bytes (Unclosed o.from)
+      by [] read a = absurd a
+      by (x ∷ ls) read a = subst (λ k. IsFirstFault bytes (Unclosed k)) (sym a.0) (Unclosed-read bytes x ls r.forms read)
+
+  pub reading_levels : (os : List Node) (lists : List ListNode) (top : List Node) (i : ℕ) (r : IsReading bytes os lists top i)
+      → length r.levels ≡ length os
+  reading_levels os lists top i r = length-levels lists top (length lists) os r.levels r.forms r.open_lists
+
+  pub reading_few : (os : List Node) (lists : List ListNode) (top : List Node) (i : ℕ) → IsReading bytes os lists top i → length lists ≤ i
+  reading_few os lists top i r = omega (arith, r.number, opens_within bytes i)
+
+  pub reading_counts : (os : List Node) (lists : List ListNode) (top : List Node) (i : ℕ) → IsReading bytes os lists top i → i < 2 ^ 32
+      → CountsMore os lists
+  reading_counts os lists top i r few =
+      counts_more lists top (length lists) i os r.levels r.forms r.open_lists r.read.stand few (omega arith)
+
+  -- the innermost list as the table has it
+  reading_within : (o : Node) (os : List Node) (lists : List ListNode) (top : List Node) (i : ℕ) → IsReading bytes (o ∷ os) lists top i
+      → o.list < length lists
+  reading_within o os lists top i r = by r.levels r.open_lists
+    where
+      by : (ls : List Level) → AreOpen bytes lists top (length lists) (o ∷ os) ls r.forms → o.list < length lists
+      by [] a = absurd a
+      by (x ∷ ls) a = a.2
+
+  pub reading_ends : (o : Node) (os : List Node) (lists : List ListNode) (top : List Node) (i behind : ℕ) (n : ListNode)
+      → IsReading bytes (o ∷ os) lists top i → i < length bytes → get_or bytes i 0 ≡ 41 → n ≡ get_or lists o.list n → behind ≡ length lists
+      → IsClosing os lists top i o (set lists o.list (record { to = i + 1; count = n.count; behind = behind }))
+  reading_ends o os lists top i behind n r l h is last =
+      let same : n ≡ list_at lists o.list = is ∙ get_or_default lists o.list n nowhere (reading_within o os lists top i r) in
+      let made : ℕ → ℕ → ListNode = λ m b. record { to = i + 1; count = m; behind = b } in
+      reading_closes os lists top i o _ r l h (ap (λ (x : ListNode). made x.count behind) same ∙ ap (made (list_at lists o.list).count) last)
+
+  -- a parenthesis closes nothing where no list is open
+  pub reading_extra : (lists : List ListNode) (top : List Node) (i : ℕ) → IsReading bytes [] lists top i → i < length bytes
+      → get_or bytes i 0 ≡ 41 → IsFirstFault bytes (ExtraClose i)
+  reading_extra lists top i r l h = by r.levels r.read r.open_lists
+    where
+      by : (ls : List Level) → IsReadUpTo bytes ls r.forms i → AreOpen bytes lists top (length lists) [] ls r.forms
+          → IsFirstFault bytes (ExtraClose i)
+      by [] read a = ExtraClose-read bytes r.forms i read l h
+      by (x ∷ ls) read a = absurd a
 
   -- where one of these begins nothing is at fault
-  pub faultless_token : (os : List OpenList) (ps ns : List Node) (cs : List ListNode) (i : ℕ) → IsReading bytes os ps ns cs i → i < length bytes
+  pub faultless_token : (os : List Node) (lists : List ListNode) (top : List Node) (i : ℕ) → IsReading bytes os lists top i → i < length bytes
       → (token : Token) → IsTokenAt bytes i (length os) token → IsFaultlessBelow bytes (i + 1)
-  faultless_token os ps ns cs i r l tokens.Blank h = (read_blank bytes _ _ i r.read l h).faultless
-  faultless_token os ps ns cs i r l tokens.Comment h = faultless_mark bytes _ _ i r.read l h
-  faultless_token os ps ns cs i r l tokens.Word h = faultless_word bytes _ _ i r.read h
-  faultless_token os ps ns cs i r l tokens.Open h =
-      (read_open bytes _ _ i r.read l h.0 (omega (arith, h.1, length-levels_of os (forms_in bytes cs ns ps)))).faultless
-  faultless_token [] ps ns cs i r l tokens.Close h = absurd (omega (arith, h.1))
-  faultless_token (o ∷ os) ps ns cs i r l tokens.Close h = (read_close bytes _ _ _ _ i r.read l h.0).faultless
+  faultless_token os lists top i r l tokens.Blank h = (read_blank bytes _ _ i r.read l h).faultless
+  faultless_token os lists top i r l tokens.Comment h = faultless_mark bytes _ _ i r.read l h
+  faultless_token os lists top i r l tokens.Word h = faultless_word bytes _ _ i r.read h
+  faultless_token os lists top i r l tokens.Open h =
+      (read_open bytes _ _ i r.read l h.0 (omega (arith, h.1, reading_levels os lists top i r))).faultless
+  faultless_token [] lists top i r l tokens.Close h = absurd (omega (arith, h.1))
+  faultless_token (o ∷ os) lists top i r l tokens.Close h = (reading_closes os lists top i o _ r l h.0 refl).read.faultless

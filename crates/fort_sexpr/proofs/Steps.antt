@@ -148,7 +148,7 @@ module _ (bytes : List ℕ) where
       (comment_before-goes_on bytes (i + n + 1) (omega arith) (line (i + n + 1) (omega arith) (omega arith))
       (comment_goes_on i n (λ k a b. line k a (omega arith)) (omega arith) h))
 
-  comment_skipped : (i k j : ℕ) → IsLineEnd bytes i j → get_or bytes i 0 ≡ 59 → i ≤ k → k < j → IsSkipped bytes k
+  pub comment_skipped : (i k j : ℕ) → IsLineEnd bytes i j → get_or bytes i 0 ≡ 59 → i ≤ k → k < j → IsSkipped bytes k
   comment_skipped i k j e h a b =
       let within : k < length bytes = omega (arith, e.within) in
       elim (cases_eq (get_or bytes k 0) 10) [
@@ -165,14 +165,24 @@ module _ (bytes : List ℕ) where
             }
       ]
 
+  -- behind a line no comment goes on
+  pub line_outside : (i j : ℕ) → IsLineEnd bytes i j → j < length bytes → comment_before bytes j ≡ false
+  line_outside i j e m =
+      let x : (j - 1) + 1 ≡ j = omega (arith, e.after) in
+      subst (λ k. comment_before bytes k ≡ false) x (comment_before-line_end bytes (j - 1) (omega (arith, e.after)) (e.ended m (j - 1) x))
+
+  -- blanks and comments up to a comment, and this one
+  pub skipped_comment : (from i j : ℕ) → IsLineEnd bytes i j → get_or bytes i 0 ≡ 59 → ((k : ℕ) → from ≤ k → k < i → IsSkipped bytes k)
+      → (k : ℕ) → from ≤ k → k < j → IsSkipped bytes k
+  skipped_comment from i j e h before = λ k a b.
+      elim (cases_lt k i) [ inl lt ↦ before k a lt | inr ge ↦ comment_skipped i k j e h ge b ]
+
   pub read_comment : (levels : List Level) (fs : Forms) (i j : ℕ) → IsReadUpTo bytes levels fs i → get_or bytes i 0 ≡ 59
       → IsLineEnd bytes i j → IsReadUpTo bytes levels fs j
   read_comment levels fs i j r h e =
       read_skipped levels fs i j r (omega (arith, e.after)) e.within
       (λ k a b. comment_skipped i k j e h a b)
-      (λ m. let x : (j - 1) + 1 ≡ j = omega (arith, e.after) in
-      subst (λ k. comment_before bytes k ≡ false) x
-      (comment_before-line_end bytes (j - 1) (omega (arith, e.after)) (e.ended m (j - 1) x)))
+      (line_outside i j e)
 
   -- in a word no comment begins
   word_outside : (i n j : ℕ) → IsWordEnd bytes i j → comment_before bytes i ≡ false → i + n ≤ j → comment_before bytes (i + n) ≡ false

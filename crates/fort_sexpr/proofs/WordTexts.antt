@@ -8,9 +8,9 @@ use Rattle.std.proofs.lemmas.Slice.Eq.{starts_is}
 use Rattle.std.specs.List.{starts_with, prefix_len}
 use Rattle.fort_theory.specs.Signatures.{is_word_byte}
 use Rattle.fort_sexpr.specs.FormView.{word_ahead}
-use Rattle.fort_sexpr.specs.Nodes.{word_end}
+use Rattle.fort_sexpr.specs.Found.{word_end}
 use Rattle.fort_sexpr.specs.Progress.{IsWordEnd}
-use Rattle.fort_sexpr.proofs.NodesLaws.{word_end_is}
+use Rattle.fort_sexpr.proofs.FoundLaws.{word_end_is}
 
 module _ (bytes text : List ℕ) where
   -- bytes that don't begin with a text have no word in front that is the text

@@ -1,68 +1,66 @@
--- Inside: which forms the nodes of an arena are: each list is one of nodes before it.
-use Rattle.std.specs.Prelude.{◌≡◌, ℕ, ◌+◌, ◌^◌, ◌<◌, ◌≤◌, Bool, true, false, ◌==◌, List, [], ◌∷◌, ◌++◌, length, map, take, drop, get_or, slice_index}
-use Rattle.std.specs.List.{prefix_len}
-use Rattle.fort_theory.specs.Signatures.{is_word_byte}
-use Rattle.fort_grammar.specs.Forms.{Form, Forms, Word, ListForm, NoForm, MoreForms, AreFormsOf}
+-- Inside: what the table of a text's lists has of each, and what the nodes of an arena are.
+use Rattle.std.specs.Prelude.{◌≡◌, ℕ, suc, ◌^◌, ◌<◌, true, false, List, [], ◌∷◌, length, get_or}
+use Rattle.fort_grammar.specs.Text.{stands_at, count_before}
+use Rattle.fort_grammar.specs.Forms.{Form, Forms, NoForm, MoreForms, AreFormsOf}
+use Rattle.fort_grammar.specs.Declarations.{as_list}
+use Rattle.fort_sexpr.specs.FormView.{span_of, form_count}
+use Rattle.fort_sexpr.specs.Progress.{comment_before}
+use Rattle.fort_sexpr.specs.Found.{run_from, form_from, IsListAt, StandsIn, IsRest}
 use Rattle.fort_sexpr.specs.declared.arena.Node.{Node}
 use Rattle.fort_sexpr.specs.declared.arena.ListNode.{ListNode}
 
-abbrev pub as_forms : List Form → Forms
-as_forms [] = NoForm
-as_forms (f ∷ fs) = MoreForms f (as_forms fs)
+-- how many lists open before the offset
+abbrev pub opens_before : List ℕ → ℕ → ℕ
+opens_before bytes i = count_before 40 bytes i
 
--- behind the longest run of bytes of words from this offset on
-unfoldable pub word_end : List ℕ → ℕ → ℕ
-word_end bytes from = from + prefix_len is_word_byte (drop from bytes)
-
--- what the list of this number has
+-- what the table has of the list of this number
 abbrev pub list_at : List ListNode → ℕ → ListNode
-list_at lists i = get_or lists i (record { to = 0; first = 0; count = 0 })
+list_at lists i = get_or lists i (record { to = 0; count = 0; behind = 0 })
 
--- a list, which has `count` of these forms, from number `first` on, or a word
-abbrev pub form_made : Bool → List ℕ → List Form → ℕ → ListNode → Form
-form_made true bytes fs from list = ListForm from list.to (as_forms (take list.count (drop list.first fs)))
-form_made false bytes fs from list = Word from (word_end bytes from)
+-- the entry of a list with these forms, which ends before this offset
+pub record IsEntry (bytes : List ℕ) (list : ListNode) (ended : ℕ) (fs : Forms) : Type 0 where
+  pub to : list.to ≡ ended
+  pub count : list.count ≡ form_count fs
+  pub behind : list.behind ≡ opens_before bytes ended
 
--- where a parenthesis stands a list begins
-abbrev pub form_of : List ℕ → List ListNode → List Form → Node → Form
-form_of bytes lists fs n = form_made (slice_index bytes n.from == 40) bytes fs n.from (list_at lists n.list)
+-- the list that opens at this offset has its entry
+abbrev pub IsListed : List ℕ → List ListNode → ℕ → Type 0
+IsListed bytes lists from =
+    (close : ℕ) (fs : Forms) → IsListAt bytes from close fs → IsEntry bytes (list_at lists (opens_before bytes from)) (suc close) fs
 
--- forms, and behind them those of the nodes, each over the forms before it
-abbrev pub grown : List ℕ → List ListNode → List Form → List Node → List Form
-grown bytes lists fs [] = fs
-grown bytes lists fs (n ∷ ns) = grown bytes lists (fs ++ form_of bytes lists fs n ∷ []) ns
-
--- the form of a node over those of an arena
-abbrev pub form_in : List ℕ → List ListNode → List Node → Node → Form
-form_in bytes lists nodes n = form_of bytes lists (grown bytes lists [] nodes) n
-
-abbrev pub forms_in : List ℕ → List ListNode → List Node → List Node → List Form
-forms_in bytes lists nodes ns = map (form_in bytes lists nodes) ns
-
-abbrev pub text_forms : List ℕ → List ListNode → List Node → List Node → Forms
-text_forms bytes lists nodes top = as_forms (forms_in bytes lists nodes top)
-
--- the node's list is one of these and ends in a text of this size, and its forms have numbers below this one
-pub record IsListed (size : ℕ) (lists : List ListNode) (limit : ℕ) (n : Node) : Type 0 where
-  pub number : n.list < length lists
-  pub some : n.from < (list_at lists n.list).to
-  pub within : (list_at lists n.list).to ≤ size
-  pub below : (list_at lists n.list).first + (list_at lists n.list).count ≤ limit
-
--- the node stands in the text, and where it is a list, its forms have numbers below this one
-pub record Lies (bytes : List ℕ) (lists : List ListNode) (limit : ℕ) (n : Node) : Type 0 where
-  pub inside : n.from < length bytes
-  pub listed : slice_index bytes n.from ≡ 40 → IsListed (length bytes) lists limit n
-
-abbrev pub LieWithin : List ℕ → List ListNode → ℕ → List Node → Type 0
-LieWithin bytes lists limit ns = (k : ℕ) (d : Node) → k < length ns → Lies bytes lists limit (get_or ns k d)
-
--- the forms of each are before it
-abbrev pub AreGrown : List ℕ → List ListNode → List Node → Type 0
-AreGrown bytes lists ns = (k : ℕ) (d : Node) → k < length ns → Lies bytes lists k (get_or ns k d)
-
--- over the nodes of an arena these are the forms of its text, whose offsets are numbers of 32 bits
-pub record AreTextForms (bytes : List ℕ) (lists : List ListNode) (nodes top : List Node) : Type 0 where
-  pub within : LieWithin bytes lists (length nodes) top
-  pub forms : AreFormsOf bytes (text_forms bytes lists nodes top)
+-- all lists of the text have entries, and its offsets are numbers of 32 bits
+pub record AreListed (bytes : List ℕ) (lists : List ListNode) : Type 0 where
   pub few : length bytes < 2 ^ 32
+  pub number : length lists ≡ opens_before bytes (length bytes)
+  pub each : (from : ℕ) → stands_at 40 bytes from ≡ true → IsListed bytes lists from
+
+-- the node of a form in this text
+abbrev pub node_of : List ℕ → Form → Node
+node_of bytes f = record { from = (span_of f).from; list = opens_before bytes (span_of f).from }
+
+abbrev pub nodes_of : List ℕ → Forms → List Node
+nodes_of bytes NoForm = []
+nodes_of bytes (MoreForms f fs) = node_of bytes f ∷ nodes_of bytes fs
+
+-- a form of the text begins at the node, and so many lists open before it
+pub record Stands (bytes : List ℕ) (n : Node) : Type 0 where
+  pub form : StandsIn bytes (form_from bytes n.from)
+  pub number : n.list ≡ opens_before bytes n.from
+
+abbrev pub forms_on : List ℕ → ℕ → List Form
+forms_on bytes at = as_list (run_from bytes at).0
+
+-- from the offset on stand so many forms of a list, and so many lists open before it
+pub record StandOn (bytes : List ℕ) (at list count : ℕ) : Type 0 where
+  pub rest : IsRest bytes at
+  pub outside : comment_before bytes at ≡ false
+  pub number : list ≡ opens_before bytes at
+  pub many : count ≡ form_count (run_from bytes at).0
+
+abbrev pub text_forms : List ℕ → Forms
+text_forms bytes = (run_from bytes 0).0
+
+-- these nodes are the forms of the text
+pub record AreTextForms (bytes : List ℕ) (top : List Node) : Type 0 where
+  pub forms : AreFormsOf bytes (text_forms bytes)
+  pub nodes : top ≡ nodes_of bytes (text_forms bytes)

@@ -3,7 +3,7 @@ use Rattle.std.specs.Prelude.{◌≡◌, ℕ, suc, ◌+◌, ◌<◌, ◌≤◌, 
 use Rattle.std.specs.List.{after_last, list_any}
 use Rattle.fort_theory.specs.Signatures.{is_word_byte}
 use Rattle.fort_grammar.specs.Text.{stands_at, count_before, depth, deepest, IsFaultlessBelow}
-use Rattle.fort_grammar.specs.Forms.{Forms, AreForms}
+use Rattle.fort_grammar.specs.Forms.{Forms, IsSkipped, AreForms}
 
 -- a ; stands before the offset on its line
 abbrev pub comment_before : List ℕ → ℕ → Bool
@@ -49,3 +49,10 @@ pub record IsLineEnd (bytes : List ℕ) (from to : ℕ) : Type 0 where
   pub within : to ≤ length bytes
   pub line : (k : ℕ) → from ≤ k → k + 1 < to → slice_index bytes k ≡ 10 → ⊥
   pub ended : to < length bytes → (k : ℕ) → k + 1 ≡ to → slice_index bytes k ≡ 10
+
+-- blanks and comments alone stand from one offset to the other, and none at that
+pub record IsNextToken (bytes : List ℕ) (from to : ℕ) : Type 0 where
+  pub after : from ≤ to
+  pub within : to ≤ length bytes
+  pub skipped : (k : ℕ) → from ≤ k → k < to → IsSkipped bytes k
+  pub ended : IsSkipped bytes to → ⊥

@@ -1,29 +1,31 @@
-//! Forms as nodes: the forms of all lists of a text stand in one table, those of a list side by side.
-ghost use Rattle.fort_sexpr.specs.Nodes.{AreGrown};
+//! A text, and a table of where its lists end; the forms of a list are found from its bytes.
+ghost use Rattle.fort_sexpr.specs.Nodes.{AreListed};
 
-/// A form: where it begins, and for a list its number among the lists.
+/// A form: where it begins, and how many lists open before it.
 ///
-/// It is a list where a parenthesis stands at its beginning. A word has no number: it ends where
-/// its bytes do.
+/// It is a list where a parenthesis stands at its beginning, and the number is then its own. A word
+/// ends where its bytes do.
 #[derive(Clone, Copy)]
 pub(crate) struct Node {
     pub from: u32,
     pub list: u32,
 }
 
-/// What a list has beside its node: where it ends, and where its forms stand among the nodes.
+/// What can't be told of a list without reading it.
 #[derive(Clone, Copy)]
 pub(crate) struct ListNode {
+    /// The offset behind its closing parenthesis.
     pub to: u32,
-    pub first: u32,
+    /// How many forms it has.
     pub count: u32,
+    /// The number of the first list that opens behind it.
+    pub behind: u32,
 }
 
-/// A text, its lists, and the forms of these, each list behind its forms.
+/// A text and its lists, in the order in which they open.
 #[derive(Drop)]
 pub(crate) struct Arena {
     pub bytes: Vec<u8>,
     pub lists: Vec<ListNode>,
-    pub nodes: Vec<Node>,
-    ghost grown: { AreGrown bytes.items lists.items nodes.items },
+    ghost listed: { AreListed bytes.items lists.items },
 }

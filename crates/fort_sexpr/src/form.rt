@@ -3,9 +3,10 @@ ghost use Rattle.std.specs.Prelude.{◌≡◌, ◌<◌, ◌≤◌, ◌↔◌, []
 ghost use Rattle.fort_grammar.specs.Forms as grammar;
 ghost use Rattle.fort_grammar.specs.Declarations.{word_of, elements_of, IsHeaded};
 ghost use Rattle.fort_sexpr.specs.FormView.{is_list, span_of, word_ahead};
+ghost use Rattle.fort_sexpr.specs.Nodes.{opens_before};
 
 use crate::arena::{Arena, Node};
-use crate::scan::{end_of_word, is_ahead};
+use crate::scan::{end_of_word, is_ahead, next_token};
 use std::marker::Model;
 
 /// Where a form stands in its text: from an offset to one behind its last byte.
@@ -23,74 +24,111 @@ pub struct Form<'a> {
 }
 
 impl<'a> Model for Form<'a> {
-    ghost use Rattle.std.specs.Prelude.{length};
     ghost use Rattle.fort_sexpr.specs.Texts.{FormOfText, form_of_text_code};
 
     ghost Value = { FormOfText };
 
     ghost coded = { form_of_text_code };
 
-    ghost use Rattle.fort_sexpr.specs.Nodes.{form_in, Lies};
+    ghost use Rattle.fort_sexpr.specs.Found.{form_from};
+    ghost use Rattle.fort_sexpr.specs.Nodes.{Stands};
 
     ghost view = { λ a. record {
       bytes = a.arena.now.bytes.items;
-      form = form_in a.arena.now.bytes.items a.arena.now.lists.items
-          a.arena.now.nodes.items a.node;
+      form = form_from a.arena.now.bytes.items a.node.from;
     } };
 
-    ghost invariant = { λ a. Lies a.arena.now.bytes.items a.arena.now.lists.items
-        (length a.arena.now.nodes.items) a.node };
+    ghost invariant = { λ a. Stands a.arena.now.bytes.items a.node };
 }
 
-/// The forms of a list.
+/// The forms of a list, or the last ones of these.
 #[derive(Drop)]
 pub struct FormList<'a> {
     arena: &'a Arena,
-    nodes: &'a [Node],
+    /// An offset between the last form before them and the first of them.
+    at: u32,
+    /// How many lists open before this offset.
+    list: u32,
+    /// How many forms they are.
+    count: u32,
 }
 
 impl<'a> Model for FormList<'a> {
-    ghost use Rattle.std.specs.Prelude.{length};
     ghost use Rattle.fort_sexpr.specs.Texts.{FormListOfText, form_list_of_text_code};
 
     ghost Value = { FormListOfText };
 
     ghost coded = { form_list_of_text_code };
 
-    ghost use Rattle.fort_sexpr.specs.Nodes.{forms_in, LieWithin};
+    ghost use Rattle.fort_sexpr.specs.Nodes.{forms_on, StandOn};
 
     ghost view = { λ a. record {
       bytes = a.arena.now.bytes.items;
-      forms = forms_in a.arena.now.bytes.items a.arena.now.lists.items
-          a.arena.now.nodes.items a.nodes.now;
+      forms = forms_on a.arena.now.bytes.items a.at;
     } };
 
-    ghost invariant = { λ a. LieWithin a.arena.now.bytes.items a.arena.now.lists.items
-        (length a.arena.now.nodes.items) a.nodes.now };
+    ghost invariant = { λ a. StandOn a.arena.now.bytes.items a.at a.list a.count };
 }
 
 impl<'a> FormList<'a> {
     pub fn len(&self) -> usize
         ensures { result ≡ length self.now.forms }
     {
-        self.nodes.len()
+        self.count as usize
     }
 
     pub fn is_empty(&self) -> bool
         ensures { IsTrue result ↔ (self.now.forms ≡ []) }
     {
-        self.nodes.is_empty()
+        self.count == 0
     }
 
+    /// The first form, and those behind it.
+    pub fn split_first(&self) -> Option<(Form<'a>, FormList<'a>)>
+        ensures some { IfSome result (λ p. self.now.forms ≡ p.0.form ∷ p.1.forms) }
+        ensures bytes { IfSome result (λ p.
+            (p.0.bytes ≡ self.now.bytes) × (p.1.bytes ≡ self.now.bytes)) }
+        ensures none { IfNone result (self.now.forms ≡ []) }
+    {
+        if self.count == 0 {
+            return None;
+        }
+        let arena = self.arena;
+        let from = next_token(arena.bytes.as_slice(), self.at as usize);
+        let form = Form {
+            arena,
+            node: Node {
+                from: from as u32,
+                list: self.list,
+            },
+        };
+        let (at, list) = form.behind();
+        let rest = FormList {
+            arena,
+            at,
+            list,
+            count: self.count - 1,
+        };
+        Some((form, rest))
+    }
+
+    /// The form of this number, found by reading all before it.
     pub fn get(&self, i: usize) -> Form<'a>
         requires { i < length self.now.forms }
         ensures form { slice_get self.now.forms i ≡ Some result.form }
         ensures bytes { result.bytes ≡ self.now.bytes }
     {
-        Form {
-            arena: self.arena,
-            node: self.nodes[i],
+        let Some((mut form, mut rest)) = self.split_first() else {
+            unreachable!()
+        };
+        for _ in 0..i {
+            let Some((next, behind)) = rest.split_first() else {
+                unreachable!()
+            };
+            form = next;
+            rest = behind;
         }
+        form
     }
 }
 
@@ -114,6 +152,18 @@ impl<'a> Form<'a> {
             return self.arena.lists[self.node.list as usize].to as usize;
         }
         end_of_word(self.arena.bytes.as_slice(), self.node.from as usize)
+    }
+
+    /// The offset behind it, and how many lists open before that.
+    fn behind(&self) -> (u32, u32)
+        ensures end { result.0 ≡ (span_of self.now.form).to }
+        ensures number { result.1 ≡ opens_before self.now.bytes (span_of self.now.form).to }
+    {
+        if self.is_list() {
+            let list = self.arena.lists[self.node.list as usize];
+            return (list.to, list.behind);
+        }
+        (self.end() as u32, self.node.list)
     }
 
     /// Its bytes.
@@ -150,11 +200,13 @@ impl<'a> Form<'a> {
         if !self.is_list() {
             return None;
         }
-        let arena = self.arena;
-        let list = arena.lists[self.node.list as usize];
-        let first = list.first as usize;
-        let nodes = &arena.nodes[first..first + list.count as usize];
-        Some(FormList { arena, nodes })
+        let list = self.arena.lists[self.node.list as usize];
+        Some(FormList {
+            arena: self.arena,
+            at: self.node.from + 1,
+            list: self.node.list + 1,
+            count: list.count,
+        })
     }
 
     /// The bytes of the text from a word's first one on.
@@ -202,7 +254,9 @@ impl<'a> Form<'a> {
         if list.len() != 2 {
             return None;
         }
-        Some((list.get(0), list.get(1)))
+        let (first, rest) = list.split_first()?;
+        let (second, _none) = rest.split_first()?;
+        Some((first, second))
     }
 
     /// The forms of a list of three.
@@ -218,6 +272,9 @@ impl<'a> Form<'a> {
         if list.len() != 3 {
             return None;
         }
-        Some((list.get(0), list.get(1), list.get(2)))
+        let (first, rest) = list.split_first()?;
+        let (second, rest) = rest.split_first()?;
+        let (third, _none) = rest.split_first()?;
+        Some((first, second, third))
     }
 }

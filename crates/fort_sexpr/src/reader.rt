@@ -1,11 +1,11 @@
 //! Reads a text from left to right.
-ghost use Rattle.std.specs.Prelude.{◌≡◌, ◌+◌, ◌<◌, ◌^◌, true, length, slice_index, IfOk, IfErr, IsErrOf, OnOk};
+ghost use Rattle.std.specs.Prelude.{◌≡◌, ◌+◌, ◌<◌, ◌^◌, true, length, reverse, slice_index, IfOk, IfErr, IsErrOf, OnOk};
 ghost use Rattle.fort_grammar.specs.Forms.{AreFormsOf};
 ghost use Rattle.fort_grammar.specs.Text.{IsFaultlessBelow};
 ghost use Rattle.fort_theory.specs.Signatures as theory;
 ghost use Rattle.fort_sexpr.specs.declared.fault.SFault.TheVariants.{Memory};
 ghost use Rattle.fort_sexpr.specs.Faults.{IsFirstFaultOf, IsFirstFaultUnlessMemory, IsFaultlessSoFar};
-ghost use Rattle.fort_sexpr.specs.Reading.{HasRead, IsTokenAt};
+ghost use Rattle.fort_sexpr.specs.Reading.{HasRead, CountsMore, IsAdded, IsTokenAt};
 
 use crate::arena::{Arena, ListNode, Node};
 use crate::fault::SFault;
@@ -16,26 +16,15 @@ use std::alloc::{AllocError, Global};
 /// The most lists that may be open at once.
 const DEEPEST: usize = 200;
 
-/// A list that isn't closed yet.
-#[derive(Clone, Copy)]
-struct OpenList {
-    /// The offset of its parenthesis.
-    from: u32,
-    /// Where its forms begin among the pending ones.
-    start: usize,
-}
-
 /// What has been read of a text so far.
 #[derive(Drop)]
 struct Reader {
     /// The lists that are open, the outermost first.
-    lists: Vec<OpenList>,
-    /// The forms that are in no list that is closed.
-    pending: Vec<Node>,
-    /// The forms of the lists that are closed.
-    nodes: Vec<Node>,
-    /// The lists that are closed, each behind those in it.
-    closed: Vec<ListNode>,
+    open: Vec<Node>,
+    /// All lists, in the order in which they open; where an open one ends isn't known yet.
+    lists: Vec<ListNode>,
+    /// The forms that are in no list, but for one that is open.
+    top: Vec<Node>,
 }
 
 /// What begins at an offset.
@@ -57,10 +46,9 @@ pub fn read(alloc: Global, bytes: Vec<u8>) -> Result<Forms, SFault>
     ensures memory { IsErrOf result Memory → IsFaultlessSoFar bytes.items }
 {
     let mut reader = Reader {
+        open: Vec::new(alloc),
         lists: Vec::new(alloc),
-        pending: Vec::new(alloc),
-        nodes: Vec::new(alloc),
-        closed: Vec::new(alloc),
+        top: Vec::new(alloc),
     };
     let mut at = 0;
     while at < bytes.len() {
@@ -100,7 +88,7 @@ impl Reader {
         requires within { at < length bytes.now }
         requires read { HasRead bytes.now self.now at }
         ensures token { IfOk result (λ token.
-            IsTokenAt bytes.now at (length self.now.lists.items) token) }
+            IsTokenAt bytes.now at (length self.now.open.items) token) }
         ensures fault { IfErr result (λ fault. IsFirstFaultOf bytes.now fault) }
     {
         let byte = bytes[at];
@@ -113,13 +101,13 @@ impl Reader {
         match byte {
             b';' => Ok(Token::Comment),
             b'(' => {
-                if self.lists.len() >= DEEPEST {
+                if self.open.len() >= DEEPEST {
                     return Err(SFault::TooDeep(at));
                 }
                 Ok(Token::Open)
             }
             b')' => {
-                if self.lists.is_empty() {
+                if self.open.is_empty() {
                     return Err(SFault::ExtraClose(at));
                 }
                 Ok(Token::Close)
@@ -137,11 +125,24 @@ impl Reader {
         ensures read { IfOk result (λ next. HasRead bytes.now self.new next) }
     {
         let to = end_of_word(bytes, at);
-        self.pending.push(Node {
+        let list = self.lists.len() as u32;
+        self.add_form(Node {
             from: at as u32,
-            list: 0,
+            list,
         })?;
         Ok(to)
+    }
+
+    /// One more form of the innermost open list, or of the text where none is open.
+    fn add_form(&mut self, node: Node) -> Result<(), AllocError>
+        requires few { CountsMore (reverse self.old.open.items) self.old.lists.items }
+        ensures { OnOk result (IsAdded node self.old self.new) }
+    {
+        match self.open.last() {
+            Some(list) => self.lists[list.list as usize].count += 1,
+            None => self.top.push(node)?,
+        }
+        Ok(())
     }
 
     fn open_list(&mut self, bytes: &[u8], at: usize) -> Result<(), AllocError>
@@ -149,12 +150,17 @@ impl Reader {
         requires within { at < length bytes.now }
         requires read { HasRead bytes.now self.old at }
         requires opens { slice_index bytes.now at ≡ 40 }
-        requires shallow { length self.old.lists.items < DEEPEST }
+        requires shallow { length self.old.open.items < DEEPEST }
         ensures { OnOk result (HasRead bytes.now self.new (at + 1)) }
     {
-        self.lists.push(OpenList {
+        self.open.push(Node {
             from: at as u32,
-            start: self.pending.len(),
+            list: self.lists.len() as u32,
+        })?;
+        self.lists.push(ListNode {
+            to: 0,
+            count: 0,
+            behind: 0,
         })?;
         Ok(())
     }
@@ -164,27 +170,17 @@ impl Reader {
         requires within { at < length bytes.now }
         requires read { HasRead bytes.now self.old at }
         requires closes { slice_index bytes.now at ≡ 41 }
-        requires inside { 0 < length self.old.lists.items }
+        requires inside { 0 < length self.old.open.items }
         ensures { OnOk result (HasRead bytes.now self.new (at + 1)) }
     {
-        let Some(list) = self.lists.pop() else {
+        let Some(node) = self.open.pop() else {
             unreachable!()
         };
-        let first = self.nodes.len();
-        let count = self.pending.len() - list.start;
-        self.nodes.extend_from_slice(&self.pending[list.start..])?;
-        self.pending.truncate(list.start);
-        let number = self.closed.len();
-        self.closed.push(ListNode {
-            to: (at + 1) as u32,
-            first: first as u32,
-            count: count as u32,
-        })?;
-        self.pending.push(Node {
-            from: list.from,
-            list: number as u32,
-        })?;
-        Ok(())
+        let behind = self.lists.len() as u32;
+        let list = &mut self.lists[node.list as usize];
+        list.to = (at + 1) as u32;
+        list.behind = behind;
+        self.add_form(node)
     }
 
     /// The forms of a text that is read to its end.
@@ -195,19 +191,19 @@ impl Reader {
         ensures forms { IfOk result (λ text. AreFormsOf bytes.items text.forms) }
         ensures fault { IfErr result (λ fault. IsFirstFaultOf bytes.items fault) }
     {
-        if let Some(list) = self.lists.pop() {
+        if let Some(list) = self.open.pop() {
             return Err(SFault::Unclosed(list.from as usize));
         }
-        // What the forms of the longest list took goes back before anything is made of these.
-        self.pending.shrink_to_fit();
+        // The room that the tables grew into goes back before anything is made of the forms.
+        self.lists.shrink_to_fit();
+        self.top.shrink_to_fit();
         let arena = Arena {
             bytes,
-            lists: self.closed,
-            nodes: self.nodes,
+            lists: self.lists,
         };
         Ok(Forms {
             arena,
-            top: self.pending,
+            top: self.top,
         })
     }
 }

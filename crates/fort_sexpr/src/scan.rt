@@ -1,9 +1,9 @@
 //! Where a word or a line ends, and which byte is what.
-ghost use Rattle.std.specs.Prelude.{◌≡◌, ◌<◌, ◌≤◌, ◌↔◌, IsTrue, length};
+ghost use Rattle.std.specs.Prelude.{◌≡◌, ◌<◌, ◌≤◌, ◌↔◌, false, IsTrue, length};
 ghost use Rattle.fort_theory.specs.Signatures as theory;
 ghost use Rattle.fort_grammar.specs.Text as grammar;
 ghost use Rattle.fort_sexpr.specs.FormView.{word_ahead};
-ghost use Rattle.fort_sexpr.specs.Progress.{IsWordEnd, IsLineEnd};
+ghost use Rattle.fort_sexpr.specs.Progress.{comment_before, IsWordEnd, IsLineEnd, IsNextToken};
 
 /// Whether a byte is a space, a tab, a CR or an LF.
 pub fn is_blank(byte: u8) -> bool
@@ -51,4 +51,23 @@ pub(crate) fn end_of_line(bytes: &[u8], from: usize) -> usize
         }
     }
     bytes.len()
+}
+
+/// Where the blanks and comments end that stand from an offset on.
+pub(crate) fn next_token(bytes: &[u8], from: usize) -> usize
+    requires within { from ≤ length bytes.now }
+    requires outside { comment_before bytes.now from ≡ false }
+    ensures { IsNextToken bytes.now from result }
+{
+    let mut at = from;
+    while at < bytes.len() {
+        if is_blank(bytes[at]) {
+            at += 1;
+        } else if bytes[at] == b';' {
+            at = end_of_line(bytes, at);
+        } else {
+            return at;
+        }
+    }
+    at
 }

@@ -173,7 +173,27 @@ fn gives_the_forms_of_lists(rt: HostRuntime) -> Result<(), Fail> {
     let Some(list) = text.form(2).elements() else {
         return Err(Fail::from("no list"));
     };
-    assert!(rt; list.is_empty() && list.len() == 0);
+    assert!(rt; list.is_empty() && list.len() == 0 && list.split_first().is_none());
+    Ok(())
+}
+
+#[test]
+fn gives_the_rest_of_lists(rt: HostRuntime) -> Result<(), Fail> {
+    let source = b"( ;(\n (a) b;)\n)";
+    let text = read(rt.alloc(), Vec::from_slice(rt.alloc(), source)?)?;
+    assert!(rt; text.len() == 1);
+    let Some(list) = text.form(0).elements() else {
+        return Err(Fail::from("no list"));
+    };
+    let Some((first, rest)) = list.split_first() else {
+        return Err(Fail::from("no first form"));
+    };
+    assert_eq!(rt; first.text(), b"(a)".as_slice());
+    assert!(rt; list.len() == 2 && rest.len() == 1 && list.get(1).is_word(b"b"));
+    let Some((second, rest)) = rest.split_first() else {
+        return Err(Fail::from("no second form"));
+    };
+    assert!(rt; second.is_word(b"b") && rest.is_empty() && rest.split_first().is_none());
     Ok(())
 }
 

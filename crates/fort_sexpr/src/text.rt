@@ -25,11 +25,10 @@ impl Model for Forms {
 
     ghost view = { λ a. record {
       bytes = a.arena.bytes.items;
-      forms = text_forms a.arena.bytes.items a.arena.lists.items a.arena.nodes.items a.top.items;
+      forms = text_forms a.arena.bytes.items;
     } };
 
-    ghost invariant = { λ a.
-        AreTextForms a.arena.bytes.items a.arena.lists.items a.arena.nodes.items a.top.items };
+    ghost invariant = { λ a. AreTextForms a.arena.bytes.items a.top.items };
 }
 
 impl Forms {

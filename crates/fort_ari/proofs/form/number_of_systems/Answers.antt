@@ -25,3 +25,8 @@ returns-in_default-clause-none c = λ n h.
       | inl two ↦ let y = c.len.ensures ∙ two in search rules
       | inr four ↦ let y = c.len.ensures ∙ four in search rules
     ]
+
+pub returns-then-not-begins_as_format-clause-none : goal.returns-then-not-begins_as_format-clause-none
+returns-then-not-begins_as_format-clause-none c = λ n h.
+    let of = format_of _ _ _ n c.in_ok-list.ensures.some h in
+    let begins = c.begins_as_format.ensures.1 (rw (sym c.in_ok-list.ensures.bytes) at of.begins) in search rules

@@ -1,4 +1,6 @@
-use Rattle.std.proofs.Common.{sym, ◌∙◌, arith}
+use Rattle.std.proofs.Common.{rules, ℕ, codes, sym, ◌∙◌, arith}
+use Rattle.fort_grammar.specs.Forms as grammar
+use Rattle.fort_grammar.specs.RuleForms.{HasSides}
 use Rattle.fort_ari.specs.Numbers.{IsNumberNamed}
 use Rattle.fort_ari.proofs.RuleElements.{HasSides-three, HasSides-five, rule_of, number_unique}
 use Rattle.fort_ari.proofs.rule.sides_of.Goals as goal
@@ -27,3 +29,13 @@ returns-then-index-systems-clause-none c = λ left right index h.
           let same = number_unique _ _ _ _ _ _ given found in
           omega (arith, same, of.within, w.index-is, c.if-index-systems.true)
     ]
+
+pub returns-in_err-index-in-5-clause-none : goal.returns-in_err-index-in-5-clause-none
+returns-in_err-index-in-5-clause-none c =
+    let none : (n : ℕ) → IsNumberNamed c.args.form.now.bytes c.get.result.form c.get-in-5.result.form (codes ":index") n → ⊥ =
+    rw (c.get.ensures.bytes ∙ c.in_ok-list.ensures.bytes) at c.in_err-index-in-5.ensures.none in
+    let others : (left right : grammar.Form) (index : ℕ) → HasSides c.args.form.now.bytes c.args.systems c.args.form.now.form left right index → ⊥ =
+    (λ left right index h.
+    let of = rule_of _ _ _ left right _ index c.requires.some c.requires.few c.in_ok-list.ensures.some h in
+    none index (of.indexed _ _ c.get.ensures.form c.get-in-5.ensures.form)) in
+    search rules

@@ -1,33 +1,33 @@
-use Rattle.std.proofs.Common.{◌≤◌, ◌+◌, length, drop, sym, subst, arith}
-use Rattle.std.specs.List.{AllZip}
+use Rattle.std.proofs.Common.{refl, ◌∙◌}
 use Rattle.fort_grammar.specs.Forms.{Form}
 use Rattle.fort_certificate_grammar.specs.CertificateForms.{IsCountForm}
-use Rattle.fort_certificate_grammar.specs.CertificateFaults.{CountSlot, Fits}
+use Rattle.fort_certificate_grammar.specs.CertificateFaults.{CountSlot}
 use Rattle.fort_steps.specs.declared.count.Count.{Count}
 use Rattle.fort_steps.specs.StepView.{as_count}
-use Rattle.fort_certificate.proofs.BuildLaws.{between, between_none, each_more, each_end, each_map, fits_at}
+use Rattle.fort_certificate.proofs.BuildLaws.{read_none, read_more, read_all, fits_last, each_map}
 use Rattle.fort_certificate.proofs.build.counts.Goals as goal
 
-pub places-init : goal.places-init
-places-init c = rw (between_none c.args.from c.args.list.now.forms, c.new-counts.ensures.items) tt
+pub elements-init : goal.elements-init
+elements-init c = (read_none _ c.args.elements.forms c.new-counts.result.items c.new-counts.ensures.items, refl, c.requires)
 
-pub count-requires : goal.count-requires
-count-requires c =
-    subst (λ bytes. Fits bytes c.get.result.form CountSlot) (sym c.get.ensures.bytes)
-    (fits_at c.args.list.now.bytes CountSlot c.args.list.now.forms c.args.from c.places.place c.get.result.form c.requires.fit c.places.auto.place c.get.ensures.form)
-
-pub places-preserved : goal.places-preserved
-places-preserved c =
-    let bytes = c.args.list.now.bytes in
+pub elements-preserved : goal.elements-preserved
+elements-preserved c =
+    let elements = c.args.elements in
+    let bytes = elements.bytes in
     let R : Form → Count → Type 0 = λ f x. IsCountForm bytes f (as_count x) in
-    subst (λ xs. AllZip R (between c.args.from (c.places.place + 1) c.args.list.now.forms) xs) (sym c.in_ok-push.ensures.items)
-    (each_more R c.args.list.now.forms c.args.from c.places.place c.get.result.form c.places.counts.items c.count.result c.places.auto.place c.get.ensures.form
-    c.places.invariant (rw c.get.ensures.bytes at c.count.ensures))
+    let same = c.in-Some.ensures.bytes.0 ∙ c.elements.invariant.1 in
+    let fit = fits_last bytes CountSlot c.in-Some.form.form c.in-Some.behind.forms c.elements.rest.forms c.elements.invariant.2 c.in-Some.ensures.some in (
+      rw c.in_ok-push.ensures.items
+          (read_more R elements.forms c.elements.rest.forms c.in-Some.behind.forms c.in-Some.form.form c.elements.counts.items c.count.result
+          c.elements.invariant.0 c.in-Some.ensures.some (rw same at c.count.ensures)),
+      c.in-Some.ensures.bytes.1 ∙ c.elements.invariant.1,
+      fit.rest,
+    )
 
 pub returns : goal.returns
 returns c =
-    let bytes = c.args.list.now.bytes in
+    let elements = c.args.elements in
+    let bytes = elements.bytes in
     let R : Form → Count → Type 0 = λ f x. IsCountForm bytes f (as_count x) in
-    let end : length c.args.list.now.forms ≤ c.places.place = omega (arith, c.places-test.false, c.len-place-end.ensures) in
-    each_map (IsCountForm bytes) as_count (drop c.args.from c.args.list.now.forms) c.places.counts.items
-    (each_end R c.args.list.now.forms c.args.from c.places.place c.places.counts.items end c.places.invariant)
+    each_map (IsCountForm bytes) as_count elements.forms c.elements.counts.items
+    (read_all R elements.forms c.elements.rest.forms c.elements.counts.items c.elements.invariant.0 c.in_default.ensures.none)

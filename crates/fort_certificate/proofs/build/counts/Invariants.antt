@@ -1,8 +1,15 @@
-use Rattle.std.specs.List.{AllZip}
+use Rattle.std.proofs.Common.{◌≡◌, [], Some, length}
 use Rattle.fort_certificate_grammar.specs.CertificateForms.{IsCountForm}
+use Rattle.fort_certificate_grammar.specs.CertificateFaults.{CountSlot}
+use Rattle.fort_certificate_grammar.specs.FilledSlots.{FitAll}
 use Rattle.fort_steps.specs.StepView.{as_count}
-use Rattle.fort_certificate.proofs.BuildLaws.{between}
+use Rattle.fort_certificate.proofs.BuildLaws.{IsReadTo}
 use Rattle.fort_certificate.proofs.build.counts.Given as goal
 
-abbrev pub invariant-places : goal.invariant-places
-invariant-places l = AllZip (λ f x. IsCountForm l.list.bytes f (as_count x)) (between l.from l.place l.list.forms) l.counts.items
+abbrev pub invariant-elements : goal.invariant-elements
+invariant-elements l =
+    IsReadTo (λ f x. IsCountForm l.fn.elements.bytes f (as_count x)) l.fn.elements.forms l.rest.forms l.counts.items × (l.rest.bytes ≡ l.fn.elements.bytes)
+    × FitAll l.fn.elements.bytes [] (Some CountSlot) l.rest.forms
+
+abbrev pub decreases-elements : goal.decreases-elements
+decreases-elements l = length l.rest.forms

@@ -1,22 +1,7 @@
-use Rattle.std.proofs.Common.{[], Some, sym, subst, arith}
-use Rattle.fort_certificate_grammar.specs.CertificateFaults.{NumberSlot, Fits}
-use Rattle.fort_certificate.proofs.BuildLaws.{fits_next, part_made}
+use Rattle.fort_certificate.proofs.BuildLaws.{part_made}
 use Rattle.fort_certificate.proofs.build.part.Goals as goal
 
-pub get-requires : goal.get-requires
-get-requires c = (fits_next c.args.list.now.bytes NumberSlot [] (Some NumberSlot) c.args.list.now.forms 1 c.requires).inside
-
-pub number-part-requires : goal.number-part-requires
-number-part-requires c =
-    let next = fits_next c.args.list.now.bytes NumberSlot [] (Some NumberSlot) c.args.list.now.forms 1 c.requires in
-    subst (λ bytes. Fits bytes c.get.result.form NumberSlot) (sym c.get.ensures.bytes) (next.fits c.get.result.form c.get.ensures.form)
-
-pub numbers-requires : goal.numbers-requires
-numbers-requires c =
-    let next = fits_next c.args.list.now.bytes NumberSlot [] (Some NumberSlot) c.args.list.now.forms 1 c.requires in
-    record { within = omega (arith, next.inside); fit = next.rest }
-
 pub returns : goal.returns
-returns c = λ version f is headed.
-    part_made c.args.list.now.bytes f version c.args.list.now.forms c.get.result.form c.number-part.result _ c.get.ensures.form (rw c.get.ensures.bytes at c.number-part.ensures)
-    c.in_ok-numbers.ensures is headed
+returns c = λ version f head is headed.
+    part_made c.args.elements.now.bytes f head c.in-Some.part.form c.args.elements.now.forms c.in-Some.rest.forms c.in-Some.ensures.some is version c.number.result _
+    (rw c.in-Some.ensures.bytes.0 at c.number.ensures) (rw c.in-Some.ensures.bytes.1 at c.in_ok-numbers.ensures) headed

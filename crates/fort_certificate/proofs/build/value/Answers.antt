@@ -1,30 +1,18 @@
-use Rattle.std.proofs.Common.{[], ◌∷◌, None, sym, subst}
-use Rattle.fort_certificate_grammar.specs.CertificateFaults.{NumberSlot, VerdictSlot, Fits}
-use Rattle.fort_certificate.proofs.BuildLaws.{fits_next, value_made}
+use Rattle.std.proofs.Common.{[], ◌∷◌, None, ◌∙◌}
+use Rattle.fort_certificate_grammar.specs.CertificateFaults.{NumberSlot, VerdictSlot}
+use Rattle.fort_certificate.proofs.BuildLaws.{fits_first, value_made}
 use Rattle.fort_certificate.proofs.build.value.Goals as goal
 
-pub get-requires : goal.get-requires
-get-requires c = (fits_next c.args.list.now.bytes NumberSlot (VerdictSlot ∷ []) None c.args.list.now.forms 1 c.requires).inside
-
-pub number-requires : goal.number-requires
-number-requires c =
-    let next = fits_next c.args.list.now.bytes NumberSlot (VerdictSlot ∷ []) None c.args.list.now.forms 1 c.requires in
-    subst (λ bytes. Fits bytes c.get.result.form NumberSlot) (sym c.get.ensures.bytes) (next.fits c.get.result.form c.get.ensures.form)
-
-pub get-requires-2 : goal.get-requires-2
-get-requires-2 c =
-    let next = fits_next c.args.list.now.bytes NumberSlot (VerdictSlot ∷ []) None c.args.list.now.forms 1 c.requires in
-    (fits_next c.args.list.now.bytes VerdictSlot [] None c.args.list.now.forms 2 next.rest).inside
-
-pub verdict-requires : goal.verdict-requires
-verdict-requires c =
-    let next = fits_next c.args.list.now.bytes NumberSlot (VerdictSlot ∷ []) None c.args.list.now.forms 1 c.requires in
-    let last = fits_next c.args.list.now.bytes VerdictSlot [] None c.args.list.now.forms 2 next.rest in
-    subst (λ bytes. Fits bytes c.get-2.result.form VerdictSlot) (sym c.get-2.ensures.bytes) (last.fits c.get-2.result.form c.get-2.ensures.form)
-
 pub returns : goal.returns
-returns c = λ version f is headed.
-    let next = fits_next c.args.list.now.bytes NumberSlot (VerdictSlot ∷ []) None c.args.list.now.forms 1 c.requires in
-    let last = fits_next c.args.list.now.bytes VerdictSlot [] None c.args.list.now.forms 2 next.rest in
-    value_made c.args.list.now.bytes f version c.args.list.now.forms c.get.result.form c.get-2.result.form c.number.result c.verdict.result last.rest
-    c.get.ensures.form c.get-2.ensures.form (rw c.get.ensures.bytes at c.number.ensures) (rw c.get-2.ensures.bytes at c.verdict.ensures) is headed
+returns c = λ version f head is headed.
+    let bytes = c.args.elements.now.bytes in
+    let forms = c.args.elements.now.forms in
+    let part = c.in-Some.part.form in
+    let rest = c.in-Some.rest.forms in
+    let last = c.in-Some-split_first.last.form in
+    let behind = c.in-Some-split_first._none.forms in
+    let one = fits_first bytes NumberSlot (VerdictSlot ∷ []) None part rest forms c.requires c.in-Some.ensures.some in
+    let two = fits_first bytes VerdictSlot [] None last behind rest one.rest c.in-Some-split_first.ensures.some in
+    value_made bytes f head part forms rest c.in-Some.ensures.some is last behind c.in-Some-split_first.ensures.some version c.number.result c.verdict.result
+    two.rest (rw c.in-Some.ensures.bytes.0 at c.number.ensures)
+    (rw (c.in-Some-split_first.ensures.bytes.0 ∙ c.in-Some.ensures.bytes.1) at c.verdict.ensures) headed

@@ -1,12 +1,13 @@
-use Rattle.std.proofs.Common.{◌∙◌, sym, subst}
-use Rattle.fort_sexpr.specs.Progress.{IsWordEnd}
-use Rattle.fort_sexpr.proofs.NodesLaws.{end-form_in}
+use Rattle.std.proofs.Common.{◌∙◌, sym, arith}
+use Rattle.fort_sexpr.proofs.FoundLaws.{form_spans}
+use Rattle.fort_sexpr.proofs.NodesLaws.{has_entry}
 use Rattle.fort_sexpr.proofs.form.Form.end.Goals as goal
 
-pub returns-clause-end : goal.returns-clause-end
-returns-clause-end c =
+pub returns-then-is_list-clause-after : goal.returns-then-is_list-clause-after
+returns-then-is_list-clause-after c =
     let arena = c.self.inside.arena.now in
+    let node = c.self.inside.node in
     let is = rw (← c.self.view_is) at c.is_list.ensures in
+    let entry = has_entry arena.bytes.items arena.lists.items node _ arena.listed c.self.invariant (sym is ∙ c.if-is_list.true) c.index.ensures in
     rw (← c.self.view_is)
-    (end-form_in arena.bytes.items arena.lists.items arena.nodes.items c.self.inside.node _ (sym is ∙ c.if-is_list.false)
-    (subst (λ bytes. IsWordEnd bytes c.self.inside.node.from c.end_of_word.result) c.as_slice.ensures.value c.end_of_word.ensures))
+    (omega (arith, entry.end, (form_spans arena.bytes.items _ c.self.invariant.form).some))

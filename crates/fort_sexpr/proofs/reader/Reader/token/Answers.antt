@@ -2,23 +2,30 @@ use Rattle.std.proofs.Common.{◌≡◌, sym, arith, get_or, [], reverse, vec_le
 use Rattle.std.proofs.lemmas.List.{length-reverse, nil_from_length}
 use Rattle.std.proofs.lemmas.Bool.{eqb-true}
 use Rattle.fort_grammar.proofs.Bytes.{is_text_byte-none}
-use Rattle.fort_sexpr.proofs.Ends.{BadByte-read, ExtraClose-read, TooDeep-read}
-use Rattle.fort_sexpr.proofs.ReadingLaws.{length-levels_of}
+use Rattle.fort_sexpr.proofs.Ends.{BadByte-read, TooDeep-read}
+use Rattle.fort_sexpr.proofs.ReadingLaws.{reading_levels, reading_extra}
 use Rattle.fort_sexpr.proofs.reader.Reader.token.Goals as goal
 
 pub returns-then-len-ge-DEEPEST-clause-fault : goal.returns-then-len-ge-DEEPEST-clause-fault
 returns-then-len-ge-DEEPEST-clause-fault c =
-    let lists = c.args.self.now.lists in
+    let open_lists = c.args.self.now.open in
     TooDeep-read c.args.bytes.now _ _ c.args.at c.requires.read.read c.requires.within c.in-40.is
-    (omega (arith, length-levels_of (reverse lists.items), length-reverse lists.items, lists.ok.0, c.len.ensures, c.if-len-ge-DEEPEST.true))
+    (omega (
+      arith,
+      reading_levels c.args.bytes.now (reverse open_lists.items) _ _ c.args.at c.requires.read,
+      length-reverse open_lists.items,
+      open_lists.ok.0,
+      c.len.ensures,
+      c.if-len-ge-DEEPEST.true,
+    ))
 
 pub returns-then-is_empty-clause-fault : goal.returns-then-is_empty-clause-fault
 returns-then-is_empty-clause-fault c =
-    let lists = c.args.self.now.lists in
-    let none : vec_len lists ≡ 0 = eqb-true (vec_len lists) 0 (sym c.is_empty.ensures ∙ c.if-is_empty.true) in
-    let e : reverse lists.items ≡ [] = nil_from_length (reverse lists.items) (omega (arith, length-reverse lists.items, lists.ok.0)) in
+    let open_lists = c.args.self.now.open in
+    let none : vec_len open_lists ≡ 0 = eqb-true (vec_len open_lists) 0 (sym c.is_empty.ensures ∙ c.if-is_empty.true) in
+    let e : reverse open_lists.items ≡ [] = nil_from_length (reverse open_lists.items) (omega (arith, length-reverse open_lists.items, open_lists.ok.0)) in
     let read = rw e at c.requires.read in
-    ExtraClose-read c.args.bytes.now _ c.args.at read.read c.requires.within c.in-41.is
+    reading_extra c.args.bytes.now _ _ c.args.at read c.requires.within c.in-41.is
 
 pub returns-in_default-clause-fault : goal.returns-in_default-clause-fault
 returns-in_default-clause-fault c =
