@@ -25,7 +25,7 @@ use fort_context_closure::local::is_width;
 use fort_formulas::Core;
 use fort_infinity::local::many_width;
 use fort_rrn_algebra::local::project_width;
-use fort_rrn_algebra::{ProductLists, TableSize};
+use fort_rrn_algebra::{BodyList, ProductLists, TableSize};
 use fort_steps::{Step, Which};
 use fort_terms::{Memory, System};
 use std::alloc::{AllocError, Global};
@@ -209,11 +209,33 @@ fn lists_for(
     }
 }
 
+/// Room for the list of a projection's body, over so many symbols.
+fn body_for(
+    alloc: Global,
+    symbols: usize,
+    steps: &[Step],
+    plan: &Plan,
+) -> Result<BodyList, Memory> {
+    match &plan.work {
+        Work::Projection(source, _) => {
+            let targets = targets_of(steps, source.part);
+            let size = TableSize {
+                columns: plan.columns.len().saturating_add(1),
+                states: most_states(targets),
+                entries: targets.len(),
+            };
+            BodyList::with_room(alloc, symbols, size)
+        }
+        _ => Ok(BodyList::new(alloc)),
+    }
+}
+
 fn mark_room(
     alloc: Global,
     states: usize,
     marks: usize,
     lists: ProductLists,
+    body: BodyList,
 ) -> Result<MarkRoom, Memory>
     ensures { IfOk result (HasMarkRoom states marks) }
 {
@@ -221,6 +243,7 @@ fn mark_room(
         states: Vec::with_capacity(alloc, states)?,
         holds: Vec::with_capacity(alloc, marks)?,
         lists,
+        body,
     })
 }
 
@@ -229,15 +252,18 @@ fn marks_for(
     steps: &[Step],
     plan: &Plan,
     lists: ProductLists,
+    body: BodyList,
 ) -> Result<MarkRoom, Memory>
     ensures { IfOk result (IsMarkRoomFor (map as_step steps.now) plan.now.work) }
 {
     match &plan.work {
-        Work::Projection(source, _) => mark_room(alloc, states_of(steps, *source)?, 0, lists),
-        Work::Many(source, _, marks) => {
-            mark_room(alloc, states_of(steps, *source)?, marks.len(), lists)
+        Work::Projection(source, _) => {
+            mark_room(alloc, states_of(steps, *source)?, 0, lists, body)
         }
-        _ => mark_room(alloc, 0, 0, lists),
+        Work::Many(source, _, marks) => {
+            mark_room(alloc, states_of(steps, *source)?, marks.len(), lists, body)
+        }
+        _ => mark_room(alloc, 0, 0, lists, body),
     }
 }
 
@@ -254,7 +280,8 @@ pub(crate) fn mark_rooms(
     let mut rooms = Vec::with_capacity(alloc, plans.len())?;
     for plan in plans {
         let lists = lists_for(alloc, symbols, steps, plan)?;
-        rooms.push(marks_for(alloc, steps, plan, lists)?)?;
+        let body = body_for(alloc, symbols, steps, plan)?;
+        rooms.push(marks_for(alloc, steps, plan, lists, body)?)?;
     }
     Ok(rooms)
 }

@@ -197,8 +197,18 @@ fn check_projection(
     let body = past.table(source);
     marks.states.clear();
     put_pure(&body, column, &mut marks.states);
-    let rule = Projected::new(&body, column, &marks.states);
-    check_part(&rule, past.signature, targets, room, scratch)
+    let made = marks.body.make(&body);
+    let plain = Projected::new(&body, column, &marks.states);
+    match made {
+        Ok(()) => check_part(
+            &plain.listed(&marks.body),
+            past.signature,
+            targets,
+            room,
+            scratch,
+        ),
+        Err(AllocError) => check_part(&plain, past.signature, targets, room, scratch),
+    }
 }
 
 /// Holds the targets of "infinitely many".

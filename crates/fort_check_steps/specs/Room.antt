@@ -1,4 +1,4 @@
--- To believe: which room the check of a part needs: for its entries as many as targets, for states no more than that, and no more than the greatest target names; and words for the labels of so many states, which narrow labels take all and wide ones without their zeros.
+-- To believe: which room the check of a part needs: for its entries as many as targets, for states no more than that, and no more than the greatest target names; and words for the labels of so many states, of which the wide ones stand by themselves.
 use Rattle.std.specs.Prelude.{ℕ, ◌≤◌, min, List, length, vec_capacity}
 use Rattle.fort_tables.specs.Entries.{stage}
 use Rattle.fort_check_steps.specs.declared.room.PartRoom.{PartRoom}

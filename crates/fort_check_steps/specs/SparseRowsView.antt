@@ -1,4 +1,4 @@
--- To believe: sparse rows are a list of labels of one width, with room for some; at most for so many, of so many words together.
+-- Inside: sparse rows are a list of labels of one width, with room for some; at most for so many, of so many words together.
 use Rattle.std.specs.Prelude.{ℕ, List}
 
 pub record SparseLabels : Type 0 where

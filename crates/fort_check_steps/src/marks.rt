@@ -17,16 +17,17 @@ use crate::entry_list::EntryList;
 use crate::failure::{Failure, Reason, failed};
 use crate::table::PartTable;
 use fort_lockstep::Table;
-use fort_rrn_algebra::ProductLists;
+use fort_rrn_algebra::{BodyList, ProductLists};
 use fort_steps::Count;
 
-/// What is read of a part's operands: the pure states of one, for each whether its mark holds by what was seen, and the lists of a
-/// product's operands.
+/// What is read of a part's operands: the pure states of one, for each whether its mark holds by what was seen, the lists of a product's
+/// operands, and that of a projection's body.
 #[derive(Drop)]
 pub struct MarkRoom {
     pub states: Vec<u32>,
     pub holds: Vec<bool>,
     pub lists: ProductLists,
+    pub body: BodyList,
 }
 
 /// Puts the states in which this column alone is present, ascending.

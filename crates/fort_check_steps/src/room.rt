@@ -16,7 +16,7 @@ pub struct PartRoom {
     pub finals: Vec<bool>,
 }
 
-/// What parts are checked in one after the other: the labels of a part's states, and one label more.
+/// What each part in its turn is checked in: the labels of its states, and one label more.
 #[derive(Drop)]
 pub struct LabelRoom {
     pub rows: StateLabels,
@@ -28,11 +28,13 @@ pub struct LabelRoom {
 pub struct LabelNeeds {
     /// The words of a label.
     pub width: usize,
-    /// The words of all labels, where they are narrow.
+    /// The words of all labels, where a label is narrow.
     pub narrow: usize,
-    /// The same of wide labels, how many these are, and of how many words each.
+    /// The words of all labels, where a label is wide.
     pub wide: usize,
+    /// How many wide labels there are.
     pub most: usize,
+    /// The words of a wide label.
     pub widest: usize,
 }
 

@@ -11,7 +11,7 @@ ghost use Rattle.fort_check_steps.specs.TestRule.{wide_step};
 use super::*;
 use fort_explore::{LocalRule, Rows};
 use fort_lockstep::{Entries, Row, Table};
-use fort_rrn_algebra::ProductLists;
+use fort_rrn_algebra::{BodyList, ProductLists};
 use fort_steps::{ClosureEntry, Count, Reason as Why, Which};
 use fort_terms::{AddFault, Memory, Side, Sides, Signature, Sym, System};
 use std::alloc::Global;
@@ -306,6 +306,7 @@ fn marks_answer(
         states,
         holds,
         lists: ProductLists::new(alloc),
+        body: BodyList::new(alloc),
     };
     Ok(check_marks(table, 0, marks, &mut room))
 }

@@ -9,5 +9,6 @@ pub mod Chains
 pub mod Flats
 pub mod FlatFacts
 pub mod ListedOperands
+pub mod BodyLists
 pub mod LookUps
 pub mod TestRules

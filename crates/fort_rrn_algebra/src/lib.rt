@@ -2,6 +2,7 @@
 #![tactic(auto)]
 
 mod bits;
+mod body_list;
 mod chains;
 mod choices;
 mod columns;
@@ -24,6 +25,7 @@ mod scope;
 mod tables;
 mod words;
 
+pub use body_list::BodyList;
 pub use choices::{next_absent, next_in_set};
 pub use flat::TableSize;
 pub use lists::ProductLists;

@@ -1,12 +1,14 @@
 //! The labels of products and projections, entry by entry. It takes no memory.
-ghost use Rattle.std.specs.Prelude.{◌≡◌, ◌<◌, ◌+◌, ◌-◌, ◌^◌, ℕ, length};
+ghost use Rattle.std.specs.Prelude.{◌≡◌, ◌<◌, ◌+◌, ◌-◌, ◌^◌, ℕ, length, IfSome};
 ghost use Rattle.fort_tables.specs.Labels.{IsOverLabels, IsFullLabel};
 ghost use Rattle.fort_tables.specs.LabelRules.{label_of, entry_label};
 ghost use Rattle.fort_operations.specs.Products.{AreOperands, signature_of, product_rule, product_accepts};
 ghost use Rattle.fort_operations.specs.Projections.{ArePure, project_rule, project_accepts as project_accepts_lem};
 ghost use Rattle.fort_tables.specs.BitRows.{words_for};
 ghost use Rattle.fort_rrn_algebra.specs.Operands.{operand_of, connective_of};
+ghost use Rattle.fort_rrn_algebra.specs.BodyLists.{IsListOfBody};
 
+use crate::body_list::BodyList;
 use crate::choices::next_in_set;
 use crate::listed::write_both;
 use crate::look_up::Finder;
@@ -71,24 +73,32 @@ pub fn project_width(states: usize) -> usize
 }
 
 /// Writes the label of an entry of the projection: the presence, the body's state with the column absent, and a bit for each state
-/// that some term in the column gives. `alone` are the body's pure states in that column.
+/// that some term in the column gives. `alone` are the body's pure states in that column; with a list of the body's targets it is
+/// quicker.
 pub fn project_label<T: Table>(
     body: &T,
     column: usize,
     alone: &[u32],
+    list: Option<&BodyList>,
     row: &Row,
     rows: &Rows,
     out: &mut [u64],
 )
     requires column { column < (T.table body.now).columns }
     requires alone { ArePure (T.table body.now) column alone.now }
+    requires list { IfSome list (λ l. IsListOfBody (T.table body.now) l.now) }
     requires over { IsOverLabels (T.table body.now).signature ((T.table body.now).columns - 1)
         (label_of (project_rule (T.table body.now) column)) rows.now.labels row.now }
     requires room { length out.old ≡ words_for (length (T.table body.now).presences) + 2 }
     ensures { out.new ≡ entry_label (project_rule (T.table body.now) column) rows.now.labels
         row.now }
 {
-    write_label(body, &Finder::InTable, column, alone, row, rows, out);
+    let flat = match list {
+        Some(list) => list.list(),
+        None => None,
+    };
+    let finder = Finder::of(body, flat, row, column);
+    write_label(body, &finder, column, alone, row, rows, out);
 }
 
 /// Whether the projection accepts the tuples of terms with this label: whether the body accepts a state of the label's set.
