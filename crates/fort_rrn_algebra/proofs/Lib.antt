@@ -14,6 +14,12 @@ mod NegationLaws
 mod PlaceLaws
 mod ListedLaws
 mod ChainLaws
+pub mod WalkLaws
+pub mod WalkTurns
+pub mod SymbolPlaces
+pub mod WalkSymbols
+pub mod LayLaws
+pub mod ListLaws
 mod SymbolNumbers
 mod ListingLaws
 mod LookUpLaws

@@ -1,13 +1,13 @@
--- The columns at some places as a number: one more in front; how many children they have; the step of an operand.
-use Rattle.std.proofs.Common.{◌≡◌, ℕ, zero, suc, ◌+◌, ◌-◌, ◌*◌, ◌^◌, ◌<◌, ◌≤◌, List, [], ◌∷◌, take, drop, length, get_or, slice_get, Option, None, Some, Bool, true, false, map, refl, ap, sym, subst, ◌∙◌, arith}
-use Rattle.std.proofs.Math.Nat.{mul-le-mul_right}
-use Rattle.std.proofs.lemmas.List.{length-map, get_or-map, drop_more}
+-- The columns at some places as a number: one more behind; how many children they have; the step of an operand.
+use Rattle.std.proofs.Common.{◌≡◌, ℕ, suc, ◌+◌, ◌*◌, ◌^◌, ◌<◌, List, [], ◌∷◌, take, length, get_or, slice_get, Option, None, Some, Bool, true, false, map, refl, ap, sym, subst, ◌∙◌, arith}
+use Rattle.std.proofs.lemmas.List.{length-map, get_or-map}
 use Rattle.std.proofs.lemmas.Option.{get_or_from_slice_get, slice_get-get_or}
 use Rattle.fort_theory.specs.Signatures.{Signature}
 use Rattle.fort_tables.specs.Tuples.{TupleSymbol, AreSymbols, symbol_kids}
 use Rattle.fort_tables.specs.Entries.{Entry, entry}
 use Rattle.fort_tables.specs.Tables.{Table, IsTable, IsTableEntry}
 use Rattle.fort_lockstep.specs.Columns.{digit_of}
+use Rattle.fort_lockstep.proofs.DigitNumberLaws.{pow_some}
 use Rattle.fort_operations.specs.Selections.{selected, is_present}
 use Rattle.fort_operations.specs.Products.{OfTable, operand_step, state_at}
 use Rattle.fort_operations.proofs.SelectionLaws.{AreSymbols-selected}
@@ -15,31 +15,18 @@ use Rattle.fort_rrn_algebra.specs.Places.{number_of, place_from, AreStatesIn}
 use Rattle.fort_rrn_algebra.specs.Flats.{IsFlatOf, flat_place}
 use Rattle.fort_rrn_algebra.specs.OperandRows.{labels_at, IsOverWords, IsOperandEntry}
 use Rattle.fort_rrn_algebra.specs.declared.flat.FlatTargets.{FlatTargets}
-use Rattle.fort_rrn_algebra.proofs.SymbolNumbers.{number_below}
+use Rattle.fort_rrn_algebra.proofs.SymbolNumbers.{number_below, number_of-take}
 use Rattle.fort_rrn_algebra.proofs.OperandEntries.{own_signature, operand_entry}
-
--- numbers from the last column on
-pub number_behind : (base : ℕ) (f : TupleSymbol) (i : ℕ) → i < length f → number_of base (drop i f) ≡ digit_of (get_or f i None) + base * number_of base (drop (i + 1) f)
-number_behind base f i l = ap (number_of base) (drop_more f i None l)
-
-larger : (base n : ℕ) → 0 < base → n ≤ base * n
-larger base n h = let m = mul-le-mul_right {m = 1} {n = base} n h in omega (arith, m)
-
-pub number_of-drop : (base : ℕ) (f : TupleSymbol) (i : ℕ) → 0 < base → number_of base (drop i f) ≤ number_of base f
-number_of-drop base [] zero h = omega arith
-number_of-drop base [] (suc i) h = omega arith
-number_of-drop base (x ∷ f) zero h = omega arith
-number_of-drop base (x ∷ f) (suc i) h = omega (arith, number_of-drop base f i h, larger base (number_of base f) h)
 
 -- 0 is the number of what has no column
 pub number_absent : (base : ℕ) (f : TupleSymbol) → 0 < base → number_of base f ≡ 0 → is_present f ≡ false
 number_absent base [] h e = refl
-number_absent base (None ∷ f) h e = number_absent base f h (omega (arith, e, larger base (number_of base f) h))
-number_absent base (Some g ∷ f) h e = absurd (omega (arith, e))
+number_absent base (None ∷ f) h e = number_absent base f h (omega (arith, e))
+number_absent base (Some g ∷ f) h e = absurd (omega (arith, e, pow_some base (length f) h))
 
 absent_number : (base : ℕ) (f : TupleSymbol) → is_present f ≡ false → number_of base f ≡ 0
 absent_number base [] e = refl
-absent_number base (None ∷ f) e = omega (arith, ap (λ n. base * n) (absent_number base f e))
+absent_number base (None ∷ f) e = omega (arith, absent_number base f e)
 absent_number base (Some g ∷ f) e = absurd cc
 
 pub number_present : (base : ℕ) (f : TupleSymbol) → (number_of base f ≡ 0 → ⊥) → is_present f ≡ true
@@ -57,19 +44,13 @@ selected_at f places k x l e =
 pub selected_is : (f : TupleSymbol) (places : List ℕ) (k : ℕ) (x : Option ℕ) → k < length places → slice_get f (get_or places k 0) ≡ Some x → get_or (selected places f) k None ≡ x
 selected_is f places k x l e = get_or-map (λ p. get_or f p None) places k 0 None l ∙ get_or_from_slice_get f (get_or places k 0) x None e
 
--- one more column in front
-pub number_turn : (base : ℕ) (f : TupleSymbol) (places : List ℕ) (k p number : ℕ) (x : Option ℕ) → k < length places → p ≡ length places - 1 - k → slice_get f (get_or places p 0) ≡ Some x → number ≡ number_of base (drop (length places - k) (selected places f))
-    → digit_of x + base * number ≡ number_of base (drop (length places - (k + 1)) (selected places f))
-number_turn base f places k p number x l e s h =
+-- one more column behind
+pub number_turn : (base : ℕ) (f : TupleSymbol) (places : List ℕ) (k number : ℕ) (x : Option ℕ) → k < length places → slice_get f (get_or places k 0) ≡ Some x → number ≡ number_of base (take k (selected places f))
+    → number * base + digit_of x ≡ number_of base (take (k + 1) (selected places f))
+number_turn base f places k number x l s h =
     let g = selected places f in
-    let i = length places - (k + 1) in
-    let same : p ≡ i = omega (arith, e) in
-    let low : i < length places = omega (arith, l) in
-    let long : i < length g = omega (arith, low, length-map places (λ p. get_or f p None)) in
-    let at : get_or g i None ≡ x = selected_is f places i x low (ap (λ q. slice_get f (get_or places q 0)) (sym same) ∙ s) in
-    let next : i + 1 ≡ length places - k = omega (arith, l) in
-    let rest : number_of base (drop (i + 1) g) ≡ number = ap (λ n. number_of base (drop n g)) next ∙ sym h in
-    sym (number_behind base g i long ∙ (λ j. digit_of (at j) + base * rest j))
+    let long : k < length g = omega (arith, l, length-map places (λ p. get_or f p None)) in
+    omega (arith, number_of-take base g k long, ap (λ n. n * base) h, ap digit_of (selected_is f places k x l s))
 
 -- the step of an operand
 pub step_absent : (table : Table) (places : List ℕ) (i : ℕ) (f : TupleSymbol) (ws : List (List ℕ)) → is_present (selected places f) ≡ false → operand_step i (OfTable table places) f ws ≡ 0

@@ -12,7 +12,8 @@ use Rattle.fort_lockstep.proofs.InOrderLaws.{rank_less}
 use Rattle.fort_operations.specs.Selections.{is_present}
 use Rattle.fort_operations.proofs.SelectionLaws.{present_from_test, test_from_present}
 use Rattle.fort_rrn_algebra.specs.Places.{number_of, columns_at, place_from, AreSpots}
-use Rattle.fort_rrn_algebra.specs.Flats.{joined_below, laid, IsStateFor, HasFrom, AreLaid, IsTargetAt}
+use Rattle.fort_laid_entries.specs.Laid.{joined_below}
+use Rattle.fort_rrn_algebra.specs.Flats.{laid, IsStateFor, HasFrom, AreLaid, IsTargetAt}
 use Rattle.fort_rrn_algebra.proofs.PlaceLaws.{rank_none, rank_more, rank_whole, room, AreKidsFrom, kids_from_index, place_first, place_below}
 use Rattle.fort_rrn_algebra.proofs.SymbolNumbers.{number_below, columns_again, symbols_at, length-columns_at}
 
@@ -24,11 +25,11 @@ block_length : (b : Bool) (xs : List ℕ) (n : ℕ) → length xs ≡ n → leng
 block_length true xs n e = omega (arith, e)
 block_length false xs n e = omega arith
 
-block_there : (b : Bool) (xs : List ℕ) → b ≡ true → (if b then xs else []) ≡ xs
+pub block_there : {A : Type 0} (b : Bool) (xs : List A) → b ≡ true → (if b then xs else []) ≡ xs
 block_there true xs e = refl
 block_there false xs e = absurd cc
 
-block_not : (b : Bool) (xs : List ℕ) → b ≡ false → (if b then xs else []) ≡ []
+pub block_not : {A : Type 0} (b : Bool) (xs : List A) → b ≡ false → (if b then xs else []) ≡ []
 block_not true xs e = absurd cc
 block_not false xs e = refl
 
@@ -151,7 +152,7 @@ laid_turn body f before j (suc n) h = let e : n ≡ suc n - 1 = omega arith in a
 pub laid_end : (body : Table) (f : TupleSymbol) (before : List ℕ) (j n : ℕ) → n ≡ 0 → laid body f before j n ≡ body.target (entry f before) ∷ []
 laid_end body f before j n e = ap (laid body f before j) e
 
-joined_more : (q : ℕ) (g : ℕ → List ℕ) → joined_below (q + 1) g ≡ joined_below q g ++ g q
+pub joined_more : {A : Type 0} (q : ℕ) (g : ℕ → List A) → joined_below (q + 1) g ≡ joined_below q g ++ g q
 joined_more q g = let e : q + 1 ≡ suc q = omega arith in ap (λ n. joined_below n g) e
 
 pub lay_there : (body : Table) (f : TupleSymbol) (chosen : List ℕ) (j q n : ℕ) (old mid new : List ℕ) → j < length chosen → get_or body.presences q 0 ≡ kid_presence body.signature f j → mid ≡ old ++ joined_below q (lists_behind body f (take j chosen) j n)
@@ -167,7 +168,7 @@ lay_there body f chosen j q n old mid new l e h m =
     ∙ ap (λ xs. old ++ xs) (ap (λ xs. joined_below q g ++ xs) (sym here) ∙ sym (joined_more q g))))
 
 -- lists between two numbers that are all empty
-joined_over : (g : ℕ → List ℕ) (m d : ℕ) → ((k : ℕ) → m ≤ k → k < m + d → g k ≡ []) → joined_below (m + d) g ≡ joined_below m g
+pub joined_over : {A : Type 0} (g : ℕ → List A) (m d : ℕ) → ((k : ℕ) → m ≤ k → k < m + d → g k ≡ []) → joined_below (m + d) g ≡ joined_below m g
 joined_over g m zero h = let z : m + 0 ≡ m = omega arith in ap (λ n. joined_below n g) z
 joined_over g m (suc d) h =
     let s : m + suc d ≡ suc (m + d) = omega arith in

@@ -1,5 +1,5 @@
 -- The numbers of tuple symbols with one more column are within the flat form.
-use Rattle.std.proofs.Common.{◌≡◌, ℕ, suc, ◌+◌, ◌-◌, ◌*◌, ◌^◌, ◌<◌, List, length, None, Some, ap, arith, subst}
+use Rattle.std.proofs.Common.{◌≡◌, ℕ, suc, ◌+◌, ◌-◌, ◌*◌, ◌^◌, ◌<◌, List, length, None, Some, ap, ◌∙◌, arith, subst}
 use Rattle.std.specs.List.{insert}
 use Rattle.fort_tables.specs.Tuples.{TupleSymbol, IsTupleSymbol}
 use Rattle.fort_tables.specs.Entries.{Entry}
@@ -13,7 +13,8 @@ use Rattle.fort_rrn_algebra.specs.declared.look_up.Finder.{Finder}
 use Rattle.fort_rrn_algebra.specs.declared.flat.FlatTargets.{FlatTargets}
 use Rattle.fort_rrn_algebra.proofs.SymbolNumbers.{number_below, number_of-insert}
 
-symbol_below : (body : Table) (flat : FlatTargets) (f : TupleSymbol) → IsFlatOf body flat → IsTupleSymbol body.signature body.columns f → number_of flat.base f < flat.base ^ body.columns
+-- the number of a tuple symbol
+pub symbol_below : (body : Table) (flat : FlatTargets) (f : TupleSymbol) → IsFlatOf body flat → IsTupleSymbol body.signature body.columns f → number_of flat.base f < flat.base ^ body.columns
 symbol_below body flat f h s = omega (arith, number_below body.signature flat.base f h.base_is s.symbols, ap (λ n. flat.base ^ n) s.width)
 
 pub absent_below : (body : Table) (flat : FlatTargets) (f : TupleSymbol) (c : ℕ) → IsFlatOf body flat → c < body.columns → IsTupleSymbol body.signature (body.columns - 1) f → number_of flat.base (insert f c None) < flat.base ^ body.columns
@@ -26,8 +27,10 @@ under_below body flat f c g h l b s =
     let w : suc (body.columns - 1) ≡ body.columns = omega (arith, l) in
     symbol_below body flat (insert f c (Some g)) h (subst (λ (n : ℕ). IsTupleSymbol body.signature n (insert f c (Some g))) w (IsTupleSymbol-insert_some body.signature (body.columns - 1) f c g (omega (arith, l)) b s))
 
-pub under_is : (body : Table) (flat : FlatTargets) (f : TupleSymbol) (c g : ℕ) → c < body.columns → IsTupleSymbol body.signature (body.columns - 1) f → number_of flat.base (insert f c (Some g)) ≡ number_of flat.base (insert f c None) + suc g * flat.base ^ c
-under_is body flat f c g l s = number_of-insert flat.base f c g (omega (arith, l, s.width))
+pub under_is : (body : Table) (flat : FlatTargets) (f : TupleSymbol) (c g : ℕ) → c < body.columns → IsTupleSymbol body.signature (body.columns - 1) f
+    → number_of flat.base (insert f c (Some g)) ≡ number_of flat.base (insert f c None) + suc g * flat.base ^ (body.columns - 1 - c)
+under_is body flat f c g l s =
+    number_of-insert flat.base f c g (omega (arith, l, s.width)) ∙ ap (λ n. number_of flat.base (insert f c None) + suc g * flat.base ^ (n - c)) s.width
 
 pub finder_is : (body : Table) (c : ℕ) (labels : List (List ℕ)) (e : Entry) (finder : Finder) → IsTable body → IsSearched body c labels e → FindsAbove body e.symbol c finder → IsFinderOf body e.symbol c finder
 finder_is body c labels e finder is s h = record {

@@ -3,13 +3,9 @@ use Rattle.std.specs.Prelude.{◌≡◌, ℕ, zero, suc, ◌+◌, ◌^◌, ◌<�
 use Rattle.fort_tables.specs.Tuples.{TupleSymbol, IsTupleSymbol, symbol_kids, kid_presence}
 use Rattle.fort_tables.specs.Entries.{Entry, entry}
 use Rattle.fort_tables.specs.Tables.{Table, IsTableEntry}
+use Rattle.fort_laid_entries.specs.Laid.{joined_below}
 use Rattle.fort_rrn_algebra.specs.Places.{number_of, place_from, AreSpots}
 use Rattle.fort_rrn_algebra.specs.declared.flat.FlatTargets.{FlatTargets}
-
--- a list for each number below n, one behind the other
-abbrev pub joined_below : ℕ → (ℕ → List ℕ) → List ℕ
-joined_below zero g = []
-joined_below (suc n) g = joined_below n g ++ g n
 
 -- the targets of a tuple symbol over these first child states and any n others, child j being the next
 abbrev pub laid : Table → TupleSymbol → List ℕ → ℕ → ℕ → List ℕ
@@ -42,6 +38,6 @@ flat_place flat e = get_or flat.listing.starts.items (number_of flat.base e.symb
 pub record IsFlatOf (body : Table) (flat : FlatTargets) : Type 0 where
   pub base_is : flat.base ≡ suc (length body.signature)
   pub starts_all : length flat.listing.starts.items ≡ flat.base ^ body.columns
-  pub few : flat.base ^ body.columns ≤ 4194304
+  pub few : flat.base ^ body.columns < 2 ^ 64
   pub spots : AreSpots body.presences flat.spots.ranks.items flat.spots.alike.items
   pub entries : (e : Entry) → IsTableEntry body e → IsTargetAt flat.listing.targets.items (flat_place flat e) (body.target e)

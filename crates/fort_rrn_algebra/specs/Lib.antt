@@ -8,7 +8,9 @@ pub mod Places
 pub mod Chains
 pub mod Flats
 pub mod FlatFacts
+pub mod TargetLists
 pub mod ListedOperands
-pub mod BodyLists
 pub mod LookUps
+pub mod LayRooms
+pub mod Walks
 pub mod TestRules

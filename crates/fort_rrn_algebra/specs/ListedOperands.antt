@@ -20,12 +20,6 @@ pub record AreListsOf (first second : Operand) (lists : ProductLists) : Type 0 w
   pub first_is : IsTrue lists.has_first → IsListOf first lists.first
   pub second_is : IsTrue lists.has_second → IsListOf second lists.second
 
-AreListsOf-prop : (first second : Operand) (lists : ProductLists) → IsProp (AreListsOf first second lists)
-AreListsOf-prop first second lists a b i = record {
-  first_is = λ h. IsListOf-prop first lists.first (a.first_is h) (b.first_is h) i;
-  second_is = λ h. IsListOf-prop second lists.second (a.second_is h) (b.second_is h) i;
-}
-
-pub IfLists-prop : {A : Type 0} (first second : Operand) (lists : Option A) (now : A → ProductLists) → IsProp (IfSome lists (λ l. AreListsOf first second (now l)))
-IfLists-prop first second None now = hlevel props
-IfLists-prop first second (Some l) now = AreListsOf-prop first second (now l)
+pub IfListOf-prop : {A : Type 0} (o : Operand) (list : Option A) (now : A → FlatTargets) → IsProp (IfSome list (λ l. IsListOf o (now l)))
+IfListOf-prop o None now = hlevel props
+IfListOf-prop o (Some l) now = IsListOf-prop o (now l)

@@ -18,7 +18,7 @@ FindsUnder body f (Flat flat start) = IsFlatOf body flat.now × (start ≡ get_o
 -- it finds those under a tuple symbol with one more column c
 abbrev pub FindsAbove : Table → TupleSymbol → ℕ → Finder → Type 0
 FindsAbove body f c InTable = Unit {0}
-FindsAbove body f c (InList flat number step) = IsFlatOf body flat.now × (number ≡ number_of flat.now.base (insert f c None)) × (step ≡ flat.now.base ^ c)
+FindsAbove body f c (InList flat number step) = IsFlatOf body flat.now × (number ≡ number_of flat.now.base (insert f c None)) × (step ≡ flat.now.base ^ (body.columns - 1 - c))
 
 -- the same, where a tuple symbol of the other columns is known
 pub record IsFinderOf (body : Table) (f : TupleSymbol) (c : ℕ) (finder : Finder) : Type 0 where

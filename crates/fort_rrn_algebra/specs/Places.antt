@@ -1,20 +1,20 @@
 -- Inside: the number of a tuple symbol, and the place of child states by their ranks.
-use Rattle.std.specs.Prelude.{◌≡◌, ℕ, zero, suc, ◌+◌, ◌*◌, ◌/◌, ◌%◌, ◌<◌, List, [], ◌∷◌, length, get_or}
+use Rattle.std.specs.Prelude.{◌≡◌, ℕ, zero, suc, ◌+◌, ◌*◌, ◌/◌, ◌%◌, ◌^◌, ◌<◌, List, [], ◌∷◌, length, get_or}
 use Rattle.fort_tables.specs.Tuples.{TupleSymbol}
 use Rattle.fort_lockstep.specs.Columns.{column_of, digit_of}
 use Rattle.fort_lockstep.specs.Ranks.{count_of, rank_in}
 use Rattle.fort_rrn_algebra.specs.declared.flat.Spots.{Spots}
 use Rattle.fort_rrn_algebra.specs.declared.flat.FlatTargets.{FlatTargets}
 
--- a tuple symbol as a number, its first column the least digit
+-- a tuple symbol as a number, its first column the greatest digit: numbers ascend as tuple symbols do
 abbrev pub number_of : ℕ → TupleSymbol → ℕ
 number_of base [] = 0
-number_of base (x ∷ f) = digit_of x + base * number_of base f
+number_of base (x ∷ f) = digit_of x * base ^ length f + number_of base f
 
--- the n columns that a number has
+-- the last n columns that a number has
 abbrev pub columns_at : ℕ → ℕ → ℕ → TupleSymbol
 columns_at base zero number = []
-columns_at base (suc n) number = column_of (number % base) ∷ columns_at base n (number / base)
+columns_at base (suc n) number = column_of (number / base ^ n % base) ∷ columns_at base n number
 
 -- the place of child states behind a place, by each state's rank and by how many states are alike
 abbrev pub place_from : List ℕ → List ℕ → ℕ → List ℕ → ℕ

@@ -4,20 +4,10 @@ ghost use Rattle.fort_rrn_algebra.specs.Chains.{AreChains};
 
 use fort_lockstep::Table;
 use fort_terms::Memory;
-use std::alloc::AllocError;
-
-/// Whether what is made keeps to the room that was taken before, or takes more where it has to.
-#[derive(Clone, Copy)]
-pub(crate) enum Room {
-    Given,
-    Growing,
-}
 
 /// The states of each presence in order, each with the one that comes next; the number of states stands for none.
 #[derive(Drop)]
 pub(crate) struct Chains {
-    /// The room of the chains, and of what is made by them.
-    pub(crate) room: Room,
     /// The first state of each presence.
     pub(crate) firsts: Vec<u32>,
     /// The next state of a state's presence.
@@ -34,35 +24,20 @@ pub(crate) fn presence_count<T: Table>(body: &T) -> usize
     2usize.pow(body.columns() as u32)
 }
 
-/// Takes all elements out, and has room for so many. Too little room that was given is want of memory.
-pub(crate) fn make_room<T: Copy>(
-    elements: &mut Vec<T>,
-    count: usize,
-    room: Room,
-) -> Result<(), Memory>
+/// Takes all elements out, and has room for so many.
+pub(crate) fn make_room<T: Copy>(elements: &mut Vec<T>, count: usize) -> Result<(), Memory>
     ensures { elements.new.items ≡ [] }
 {
     elements.clear();
-    if count <= elements.capacity() {
-        return Ok(());
-    }
-    match room {
-        Room::Given => Err(AllocError),
-        Room::Growing => elements.reserve(count),
-    }
+    elements.reserve(count)
 }
 
 /// So many equal numbers.
-pub(crate) fn fill(
-    numbers: &mut Vec<u32>,
-    number: u32,
-    count: usize,
-    room: Room,
-) -> Result<(), Memory>
+pub(crate) fn fill(numbers: &mut Vec<u32>, number: u32, count: usize) -> Result<(), Memory>
     ensures size { OnOk result (length numbers.new.items ≡ count) }
     ensures equal { OnOk result ((w : ℕ) → w < count → slice_index numbers.new.items w ≡ number) }
 {
-    make_room(numbers, count, room)?;
+    numbers.clear();
     numbers.resize(count, number)
 }
 
@@ -93,8 +68,8 @@ impl Chains {
             (T.table body.now).presences self.new.firsts.items self.new.nexts.items) }
     {
         let count = body.states();
-        fill(&mut self.firsts, count, presence_count(body), self.room)?;
-        fill(&mut self.nexts, count, count as usize, self.room)?;
+        fill(&mut self.firsts, count, presence_count(body))?;
+        fill(&mut self.nexts, count, count as usize)?;
         chain(body, self.firsts.as_mut_slice(), self.nexts.as_mut_slice());
         Ok(())
     }

@@ -10,14 +10,6 @@ use fort_explore::set_bit;
 use fort_lockstep::TupleSym;
 use fort_terms::Sym;
 
-/// The most columns, states and entries of a table.
-#[derive(Clone, Copy)]
-pub struct TableSize {
-    pub columns: usize,
-    pub states: usize,
-    pub entries: usize,
-}
-
 /// Where each state stands among the states of its presence.
 #[derive(Drop)]
 pub(crate) struct Spots {
@@ -42,7 +34,7 @@ pub(crate) struct FlatTargets {
     pub(crate) base: usize,
     pub(crate) spots: Spots,
     pub(crate) listing: Listing,
-    /// What the list is made by: how many states each presence has, and the states of each.
+    /// What the list is made by: how many states each presence has, and the states of each; empty in a list that is laid.
     pub(crate) counts: Vec<u32>,
     pub(crate) chains: Chains,
 }
@@ -144,19 +136,29 @@ impl FlatTargets {
         }
     }
 
+    /// The number of a tuple symbol.
+    pub(crate) fn number(&self, symbol: &TupleSym) -> usize
+        requires some { 0 < self.now.base }
+        requires small { number_of self.now.base symbol.now < 2 ^ 64 }
+        ensures { result ≡ number_of self.now.base symbol.now }
+    {
+        let mut number = 0;
+        for k in 0..symbol.len() {
+            number = number * self.base + digit(symbol.symbol(k));
+        }
+        number
+    }
+
     /// The number of a tuple symbol with one more column, which is absent.
     pub(crate) fn number_with_absent(&self, symbol: &TupleSym, column: usize) -> usize
         requires column { column ≤ length symbol.now }
         requires some { 0 < self.now.base }
-        requires few { self.now.base ^ (length symbol.now + 1) ≤ 4194304 }
-        requires small { number_of self.now.base (insert symbol.now column None) ≤ 4194304 }
+        requires small { number_of self.now.base (insert symbol.now column None) < 2 ^ 64 }
         ensures { result ≡ number_of self.now.base (insert symbol.now column None) }
     {
         let mut number = 0;
-        let mut power = 1;
         for k in 0..symbol.len() + 1 {
-            number += power * digit_with_absent(symbol, column, k);
-            power *= self.base;
+            number = number * self.base + digit_with_absent(symbol, column, k);
         }
         number
     }

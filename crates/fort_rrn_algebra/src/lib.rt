@@ -2,13 +2,13 @@
 #![tactic(auto)]
 
 mod bits;
-mod body_list;
 mod chains;
 mod choices;
 mod columns;
 mod flat;
 mod imaged;
 mod images;
+mod laying;
 mod listed;
 mod listing;
 mod lists;
@@ -22,12 +22,13 @@ mod projecting;
 mod projection;
 mod pure;
 mod scope;
+mod states;
 mod tables;
+mod target_list;
+mod walk;
 mod words;
 
-pub use body_list::BodyList;
 pub use choices::{next_absent, next_in_set};
-pub use flat::TableSize;
 pub use lists::ProductLists;
 pub use negation::negate;
 pub use operand::{Op, Operand};
@@ -35,7 +36,9 @@ pub use product::Both;
 pub use project::Project;
 pub use projecting::Projecting;
 pub use pure::{next_pure, pure_states};
+pub use states::LayRoom;
 pub use tables::{permute, widen};
+pub use target_list::TargetList;
 
 #[cfg(test)]
 mod tests;

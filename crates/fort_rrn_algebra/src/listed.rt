@@ -20,14 +20,14 @@ use fort_explore::Rows;
 use fort_lockstep::{Row, Table};
 use fort_terms::{Signature, Sym};
 
-/// The number of a tuple symbol with one more column in front.
-fn number_before(column: Option<Sym>, base: usize, number: usize) -> usize
-    requires { digit_of (as_column column) + base * number < 2 ^ 64 }
-    ensures { result ≡ digit_of (as_column column) + base * number }
+/// The number of a tuple symbol with one more column behind it.
+fn number_behind(column: Option<Sym>, base: usize, number: usize) -> usize
+    requires { number * base + digit_of (as_column column) < 2 ^ 64 }
+    ensures { result ≡ number * base + digit_of (as_column column) }
 {
     match column {
-        None => base * number,
-        Some(symbol) => symbol.0 as usize + 1 + base * number,
+        None => number * base,
+        Some(symbol) => number * base + symbol.0 as usize + 1,
     }
 }
 
@@ -35,13 +35,12 @@ fn number_before(column: Option<Sym>, base: usize, number: usize) -> usize
 fn selected_number(base: usize, row: &Row, places: &[usize]) -> usize
     requires some { 0 < base }
     requires within { ArePlaces (length row.now.symbol) places.now }
-    requires small { number_of base (selected places.now row.now.symbol) < 4194304 }
+    requires small { number_of base (selected places.now row.now.symbol) < 2 ^ 64 }
     ensures { result ≡ number_of base (selected places.now row.now.symbol) }
 {
     let mut number = 0;
     for k in 0..places.len() {
-        let column = row.symbol(places[places.len() - 1 - k]);
-        number = number_before(column, base, number);
+        number = number_behind(row.symbol(places[k]), base, number);
     }
     number
 }

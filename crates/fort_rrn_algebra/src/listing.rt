@@ -6,14 +6,14 @@ ghost use Rattle.fort_rrn_algebra.specs.Places.{columns_at, AreSpots, AreRanks, 
 ghost use Rattle.fort_rrn_algebra.specs.Chains.{AreChains};
 ghost use Rattle.fort_rrn_algebra.specs.Flats.{laid, IsStateFor, AreLaid, IsFlatOf};
 
-use crate::chains::{Chains, Room, fill, make_room, presence_count};
+use crate::chains::{Chains, fill, make_room, presence_count};
 use crate::columns::{is_present, kid_count, kid_presence};
-use crate::flat::{FlatTargets, Listing, Spots, TableSize};
+use crate::flat::{FlatTargets, Listing, Spots};
 use fort_lockstep::{Table, TupleSym};
 use fort_terms::{Memory, Sym};
-use std::alloc::{AllocError, Global};
+use std::alloc::Global;
 
-/// So many tuple symbols are numbered at most.
+/// So many tuple symbols are numbered at most where a list is made by look-ups.
 const MOST_NUMBERS: usize = 4194304;
 
 /// How many numbers tuple symbols have, where they are few.
@@ -29,7 +29,7 @@ fn number_count(base: usize, columns: usize) -> Option<usize>
 }
 
 /// The tuple symbol with this number.
-fn symbol_at(number: usize, base: usize, columns: usize) -> TupleSym
+pub(crate) fn symbol_at(number: usize, base: usize, columns: usize) -> TupleSym
     requires narrow { columns ≤ 16 }
     requires some { 0 < base }
     requires symbols { base ≤ 65536 }
@@ -38,7 +38,7 @@ fn symbol_at(number: usize, base: usize, columns: usize) -> TupleSym
     let mut symbols = [None; 16];
     let mut rest = number;
     for k in 0..columns {
-        symbols[k] = column_of(rest % base);
+        symbols[columns - 1 - k] = column_of(rest % base);
         rest /= base;
     }
     TupleSym::new(&symbols[..columns])
@@ -89,28 +89,15 @@ fn put_alike<T: Table>(body: &T, counts: &[u32], alike: &mut Vec<u32>) -> Result
 
 impl Spots {
     /// Makes these the ranks of a table's states.
-    fn make<T: Table>(&mut self, body: &T, counts: &mut Vec<u32>, room: Room) -> Result<(), Memory>
+    fn make<T: Table>(&mut self, body: &T, counts: &mut Vec<u32>) -> Result<(), Memory>
         ensures { OnOk result (AreSpots (T.table body.now).presences self.new.ranks.items
             self.new.alike.items) }
     {
-        fill(counts, 0, presence_count(body), room)?;
-        make_room(&mut self.ranks, body.states() as usize, room)?;
-        make_room(&mut self.alike, body.states() as usize, room)?;
+        fill(counts, 0, presence_count(body))?;
+        make_room(&mut self.ranks, body.states() as usize)?;
+        make_room(&mut self.alike, body.states() as usize)?;
         put_ranks(body, counts.as_mut_slice(), &mut self.ranks)?;
         put_alike(body, counts.as_slice(), &mut self.alike)
-    }
-}
-
-fn put(targets: &mut Vec<u32>, target: u32, room: Room) -> Result<(), Memory>
-    ensures { OnOk result (targets.new.items ≡ targets.old.items ++ target ∷ []) }
-{
-    if targets.len() < targets.capacity() {
-        targets.push_reserved(target);
-        return Ok(());
-    }
-    match room {
-        Room::Given => Err(AllocError),
-        Room::Growing => Ok(targets.push(target)?),
     }
 }
 
@@ -142,7 +129,7 @@ fn lay<T: Table>(
         let mut next = chosen;
         next[j] = q;
         if rest == 1 {
-            put(targets, body.target(symbol, &next[..j + 1]), chains.room)?;
+            targets.push(body.target(symbol, &next[..j + 1]))?;
         } else {
             lay(body, chains, symbol, next, j + 1, rest - 1, targets)?;
         }
@@ -177,7 +164,7 @@ impl Listing {
         }
         let count = kid_count(body.signature(), &symbol);
         if count == 0 {
-            put(&mut self.targets, body.target(&symbol, &[]), chains.room)?;
+            self.targets.push(body.target(&symbol, &[]))?;
             return Ok(());
         }
         lay(body, chains, &symbol, [0; 8], 0, count, &mut self.targets)
@@ -197,7 +184,7 @@ impl Listing {
         ensures { OnOk result (AreLaid (T.table body.now) base count self.new.starts.items
             self.new.targets.items) }
     {
-        make_room(&mut self.starts, count, chains.room)?;
+        make_room(&mut self.starts, count)?;
         self.targets.clear();
         for number in 0..count {
             self.add(body, chains, base, number)?;
@@ -207,7 +194,7 @@ impl Listing {
 }
 
 impl FlatTargets {
-    /// No list, which takes its room as it is made.
+    /// No list.
     pub(crate) fn new(alloc: Global) -> FlatTargets {
         FlatTargets {
             base: 0,
@@ -221,56 +208,20 @@ impl FlatTargets {
             },
             counts: Vec::new(alloc),
             chains: Chains {
-                room: Room::Growing,
                 firsts: Vec::new(alloc),
                 nexts: Vec::new(alloc),
             },
         }
     }
 
-    /// No list, and the room for that of a table of this size over so many symbols, where its tuple symbols have few numbers. It takes no
-    /// more as it is made.
-    pub(crate) fn with_room(
-        alloc: Global,
-        symbols: usize,
-        size: TableSize,
-    ) -> Result<FlatTargets, Memory> {
-        let columns = size.columns.min(16);
-        let Some(numbers) = number_count(symbols.saturating_add(1), columns) else {
-            let mut list = FlatTargets::new(alloc);
-            list.chains.room = Room::Given;
-            return Ok(list);
-        };
-        // Where there is a term, a table has an entry for each tuple symbol but the one whose columns are all absent.
-        let starts = numbers.min(size.entries.saturating_add(1));
-        Ok(FlatTargets {
-            base: 0,
-            spots: Spots {
-                ranks: Vec::with_capacity(alloc, size.states)?,
-                alike: Vec::with_capacity(alloc, size.states)?,
-            },
-            listing: Listing {
-                starts: Vec::with_capacity(alloc, starts)?,
-                targets: Vec::with_capacity(alloc, size.entries)?,
-            },
-            counts: Vec::with_capacity(alloc, 1 << columns)?,
-            chains: Chains {
-                room: Room::Given,
-                firsts: Vec::with_capacity(alloc, 1 << columns)?,
-                nexts: Vec::with_capacity(alloc, size.states)?,
-            },
-        })
-    }
-
-    /// Makes this the list of a table's targets, where its tuple symbols have few numbers; whether they have. Too little room that was
-    /// given is want of memory.
+    /// Makes this the list of a table's targets, where its tuple symbols have few numbers; whether they have.
     pub(crate) fn make<T: Table>(&mut self, body: &T) -> Result<bool, Memory>
         ensures { IfOk result (λ few. IsTrue few → IsFlatOf (T.table body.now) self.new) }
     {
         self.base = body.signature().len() + 1;
         match number_count(self.base, body.columns()) {
             Some(count) => {
-                self.spots.make(body, &mut self.counts, self.chains.room)?;
+                self.spots.make(body, &mut self.counts)?;
                 self.chains.make(body)?;
                 self.listing.make(body, &self.chains, self.base, count)?;
                 Ok(true)

@@ -4,13 +4,13 @@ ghost use Rattle.fort_operations.specs.Products as products;
 ghost use Rattle.fort_rrn_algebra.specs.Operands.{operand_of};
 ghost use Rattle.fort_rrn_algebra.specs.ListedOperands.{IsListOf, AreListsOf};
 
-use crate::flat::{FlatTargets, TableSize};
+use crate::flat::FlatTargets;
 use crate::operand::Operand;
 use fort_lockstep::Table;
 use fort_terms::Memory;
 use std::alloc::Global;
 
-/// The targets of each operand in one list, where its tuple symbols have few numbers, and the room for them.
+/// The targets of each operand in one list, where its tuple symbols have few numbers.
 #[derive(Drop)]
 pub struct ProductLists {
     pub(crate) has_first: bool,
@@ -31,7 +31,7 @@ fn make<T: Table>(list: &mut FlatTargets, operand: &Operand<'_, T>) -> Result<bo
 }
 
 impl ProductLists {
-    /// No lists, which take their room as they are made.
+    /// No lists.
     pub fn new(alloc: Global) -> ProductLists {
         ProductLists {
             has_first: false,
@@ -41,22 +41,7 @@ impl ProductLists {
         }
     }
 
-    /// No lists, and the room for those of two tables of these sizes over so many symbols. They take no more as they are made.
-    pub fn with_room(
-        alloc: Global,
-        symbols: usize,
-        first: TableSize,
-        second: TableSize,
-    ) -> Result<ProductLists, Memory> {
-        Ok(ProductLists {
-            has_first: false,
-            first: FlatTargets::with_room(alloc, symbols, first)?,
-            has_second: false,
-            second: FlatTargets::with_room(alloc, symbols, second)?,
-        })
-    }
-
-    /// Makes these the lists of two operands: four bytes for each entry, and eight for each tuple symbol. Too little room that was given is want of memory.
+    /// Makes these the lists of two operands: four bytes for each entry, and eight for each tuple symbol.
     pub fn make<T: Table>(
         &mut self,
         first: &Operand<'_, T>,

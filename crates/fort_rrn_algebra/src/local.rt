@@ -6,14 +6,14 @@ ghost use Rattle.fort_operations.specs.Products.{AreOperands, signature_of, prod
 ghost use Rattle.fort_operations.specs.Projections.{ArePure, project_rule, project_accepts as project_accepts_lem};
 ghost use Rattle.fort_tables.specs.BitRows.{words_for};
 ghost use Rattle.fort_rrn_algebra.specs.Operands.{operand_of, connective_of};
-ghost use Rattle.fort_rrn_algebra.specs.BodyLists.{IsListOfBody};
+ghost use Rattle.fort_rrn_algebra.specs.TargetLists.{IsTargetListOf};
 
-use crate::body_list::BodyList;
 use crate::choices::next_in_set;
 use crate::listed::write_both;
 use crate::look_up::Finder;
 use crate::operand::{Op, Operand};
 use crate::projection::write_label;
+use crate::target_list::{TargetList, flat_of};
 use crate::words::operand_accepts;
 use fort_explore::Rows;
 use fort_lockstep::{Row, Table};
@@ -79,25 +79,21 @@ pub fn project_label<T: Table>(
     body: &T,
     column: usize,
     alone: &[u32],
-    list: Option<&BodyList>,
+    list: Option<&TargetList>,
     row: &Row,
     rows: &Rows,
     out: &mut [u64],
 )
     requires column { column < (T.table body.now).columns }
     requires alone { ArePure (T.table body.now) column alone.now }
-    requires list { IfSome list (λ l. IsListOfBody (T.table body.now) l.now) }
+    requires list { IfSome list (λ l. IsTargetListOf (T.table body.now) l.now) }
     requires over { IsOverLabels (T.table body.now).signature ((T.table body.now).columns - 1)
         (label_of (project_rule (T.table body.now) column)) rows.now.labels row.now }
     requires room { length out.old ≡ words_for (length (T.table body.now).presences) + 2 }
     ensures { out.new ≡ entry_label (project_rule (T.table body.now) column) rows.now.labels
         row.now }
 {
-    let flat = match list {
-        Some(list) => list.list(),
-        None => None,
-    };
-    let finder = Finder::of(body, flat, row, column);
+    let finder = Finder::of(body, flat_of(list), row, column);
     write_label(body, &finder, column, alone, row, rows, out);
 }
 

@@ -58,13 +58,13 @@ impl<'a> Finder<'a> {
             ((T.table body.now).columns - 1) row.now.symbol }
         ensures { FindsAbove (T.table body.now) row.now.symbol column result }
     {
-        let _columns = body.columns();
+        let later = body.columns() - 1 - column;
         match flat {
             None => Finder::InTable,
             Some(flat) => Finder::InList(
                 flat,
                 flat.number_with_absent(&row.sym(), column),
-                flat.base.pow(column as u32),
+                flat.base.pow(later as u32),
             ),
         }
     }

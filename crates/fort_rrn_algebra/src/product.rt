@@ -7,12 +7,15 @@ ghost use Rattle.fort_operations.specs.Agreement.{AgreeAtBoth, OperandAgreement}
 ghost use Rattle.fort_operations.specs.OperationTruth.{TestsRelation, Connected, said_by};
 ghost use Rattle.fort_operations.proofs.OperandFacts.{AreOperands-prop};
 ghost use Rattle.fort_rrn_algebra.specs.Operands.{operand_of, connective_of};
-ghost use Rattle.fort_rrn_algebra.specs.ListedOperands.{AreListsOf, IfLists-prop};
+ghost use Rattle.fort_rrn_algebra.specs.ListedOperands.{IsListOf, AreListsOf, IfListOf-prop};
+ghost use Rattle.fort_rrn_algebra.specs.TargetLists.{IsLaidListOf};
 
+use crate::flat::FlatTargets;
 use crate::listed::write_both;
 use crate::lists::ProductLists;
 use crate::local::both_accepts;
 use crate::operand::{Op, Operand};
+use crate::target_list::{TargetList, flat_of};
 use fort_explore::{LocalRule, Rows};
 use fort_lockstep::{Row, Table};
 
@@ -23,8 +26,9 @@ pub struct Both<'a, T: Table> {
     columns: usize,
     first: Operand<'a, T>,
     second: Operand<'a, T>,
-    /// The operands' targets in lists, where they are.
-    lists: Option<&'a ProductLists>,
+    /// Each operand's targets in a list, where they are.
+    first_list: Option<&'a FlatTargets>,
+    second_list: Option<&'a FlatTargets>,
     ghost some: { 0 < columns },
     ghost narrow: { columns ≤ 16 },
     ghost operands: { products.AreOperands (products.signature_of (operand_of T.table first)
@@ -32,8 +36,8 @@ pub struct Both<'a, T: Table> {
         (operand_of T.table second) } by { AreOperands-prop (products.signature_of
             (operand_of T.table first) (operand_of T.table second)) columns
             (operand_of T.table first) (operand_of T.table second) },
-    ghost listed: { IfSome lists (λ l. AreListsOf (operand_of T.table first) (operand_of T.table second)
-        l.now) } by { IfLists-prop (operand_of T.table first) (operand_of T.table second) lists (λ l. l.now) },
+    ghost first_listed: { IfSome first_list (λ l. IsListOf (operand_of T.table first) l.now) } by { IfListOf-prop (operand_of T.table first) first_list (λ l. l.now) },
+    ghost second_listed: { IfSome second_list (λ l. IsListOf (operand_of T.table second) l.now) } by { IfListOf-prop (operand_of T.table second) second_list (λ l. l.now) },
 }
 
 impl<'a, T: Table> Both<'a, T> {
@@ -76,7 +80,8 @@ impl<'a, T: Table> Both<'a, T> {
             columns,
             first,
             second,
-            lists: None,
+            first_list: None,
+            second_list: None,
         }
     }
 
@@ -94,7 +99,27 @@ impl<'a, T: Table> Both<'a, T> {
             columns: self.columns,
             first: self.first,
             second: self.second,
-            lists: Some(lists),
+            first_list: lists.first(),
+            second_list: lists.second(),
+        }
+    }
+
+    /// The same product by lists of the operands' targets that were laid, where they are.
+    pub fn laid(self, first: Option<&'a TargetList>, second: Option<&'a TargetList>) -> Both<'a, T>
+        requires first { IfSome first (λ l. IsLaidListOf (operand_of T.table self.first) l.now) }
+        requires second { IfSome second (λ l. IsLaidListOf (operand_of T.table self.second) l.now) }
+        ensures op { result.op ≡ self.entry.op }
+        ensures columns { result.columns ≡ self.entry.columns }
+        ensures first { result.first ≡ self.entry.first }
+        ensures second { result.second ≡ self.entry.second }
+    {
+        Both {
+            op: self.op,
+            columns: self.columns,
+            first: self.first,
+            second: self.second,
+            first_list: flat_of(first),
+            second_list: flat_of(second),
         }
     }
 }
@@ -125,15 +150,11 @@ impl<'a, T: Table> LocalRule for Both<'a, T> {
     }
 
     fn step(&self, row: &Row, rows: &Rows, out: &mut [u64]) {
-        let (first_list, second_list) = match self.lists {
-            Some(lists) => (lists.first(), lists.second()),
-            None => (None, None),
-        };
         write_both(
             &self.first,
-            first_list,
+            self.first_list,
             &self.second,
-            second_list,
+            self.second_list,
             row,
             rows,
             out,

@@ -141,35 +141,6 @@ fn products_and_projections(rt: HostRuntime) -> Result<(), Fail> {
     Ok(())
 }
 
-/// Whether room for so many states and entries is enough for the lists of a table.
-fn is_enough(alloc: Global, table: &Dta, states: usize, entries: usize) -> Result<bool, AddFault> {
-    let size = TableSize {
-        columns: 1,
-        states,
-        entries,
-    };
-    let operand = Operand::Auto(table, &[0]);
-    let mut lists = ProductLists::with_room(alloc, table.signature().len(), size, size)?;
-    Ok(lists.make(&operand, &operand).is_ok())
-}
-
-/// The same for the table of two states and three entries.
-fn is_enough_for_first(alloc: Global, states: usize, entries: usize) -> Result<bool, AddFault> {
-    let signature = constant_and_unary(alloc)?;
-    match first_table(alloc, &signature) {
-        Ok(table) => is_enough(alloc, &table, states, entries),
-        Err(_) => Err(AddFault::Memory),
-    }
-}
-
-#[test]
-fn lists_keep_to_their_room(rt: HostRuntime) -> Result<(), Fail> {
-    assert!(rt; is_enough_for_first(rt.alloc(), 2, 3)?);
-    assert!(rt; !is_enough_for_first(rt.alloc(), 2, 2)?);
-    assert!(rt; !is_enough_for_first(rt.alloc(), 1, 3)?);
-    Ok(())
-}
-
 /// The counts of a table of three columns, and of its projections.
 fn counts_of_three(alloc: Global, body: &Dta) -> Result<[(u32, u32); 4], AddFault> {
     let mut all = [counts(body); 4];

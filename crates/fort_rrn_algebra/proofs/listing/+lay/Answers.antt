@@ -1,10 +1,11 @@
 use Rattle.std.proofs.Common.{◌≡◌, ◌+◌, ◌-◌, ◌^◌, ◌<◌, ◌++◌, [], ◌∷◌, take, set, length, ap, sym, ◌∙◌, arith}
 use Rattle.std.proofs.lemmas.List.{append-nil}
 use Rattle.fort_tables.specs.Tuples.{kid_presence}
-use Rattle.fort_rrn_algebra.specs.Flats.{joined_below, laid}
+use Rattle.fort_laid_entries.specs.Laid.{joined_below}
+use Rattle.fort_rrn_algebra.specs.Flats.{laid}
 use Rattle.fort_rrn_algebra.proofs.ListingLaws.{lists_behind, laid_turn, laid_end, lay_there, lay_to}
 use Rattle.fort_rrn_algebra.proofs.listing.+lay.Goals as goal
-use Rattle.fort_rrn_algebra.proofs.listing.+lay.Goals.{then-rest-eq1+in_ok-put, else-rest-eq1+in_ok-lay}
+use Rattle.fort_rrn_algebra.proofs.listing.+lay.Goals.{then-rest-eq1+in_ok-push, else-rest-eq1+in_ok-lay}
 
 pub first-q-requires : goal.first-q-requires
 first-q-requires g t c = omega (arith, c.kid_presence.ensures.bound, c.requires.chains.size, ap (λ n. 2 ^ n) c.requires.symbol.width)
@@ -38,8 +39,8 @@ states-preserved g t c =
     let states = take (j + 1) (set c.args.chosen j q) in
     let made : c.if-rest-eq1.targets.items ≡ c.states.targets.items ++ laid body f states (j + 1) (c.args.rest - 1) =
     elim c.if-rest-eq1.branch [
-      | then-rest-eq1+in_ok-put w ↦ (let last : c.args.rest - 1 ≡ 0 = omega (arith, w.if-rest-eq1.true) in
-          rw w.targets-is (w.in_ok-put.ensures ∙ ap (λ xs. c.states.targets.items ++ xs) (ap (λ x. x ∷ []) w.target.ensures ∙ sym (laid_end body f states (j + 1) (c.args.rest - 1) last))))
+      | then-rest-eq1+in_ok-push w ↦ (let last : c.args.rest - 1 ≡ 0 = omega (arith, w.if-rest-eq1.true) in
+          rw w.targets-is (w.in_ok-push.ensures.items ∙ ap (λ xs. c.states.targets.items ++ xs) (ap (λ x. x ∷ []) w.target.ensures ∙ sym (laid_end body f states (j + 1) (c.args.rest - 1) last))))
       | else-rest-eq1+in_ok-lay w ↦ rw w.targets-is w.in_ok-lay.ensures
     ] in
     let here = lay_there body f c.args.chosen j q (c.args.rest - 1) old c.states.targets.items c.if-rest-eq1.targets.items long has v.laid made in

@@ -1,6 +1,7 @@
 use Rattle.std.proofs.Common.{◌≡◌, ◌-◌, ◌<◌, ◌≤◌, ◌==◌, suc, [], ◌∷◌, ◌++◌, take, length, get_or, if◌then◌else◌}
 use Rattle.fort_tables.specs.Tuples.{kid_presence}
-use Rattle.fort_rrn_algebra.specs.Flats.{joined_below, laid}
+use Rattle.fort_laid_entries.specs.Laid.{joined_below}
+use Rattle.fort_rrn_algebra.specs.Flats.{laid}
 use Rattle.fort_rrn_algebra.proofs.listing.+lay.Given as goal
 
 abbrev pub decreases-lay : goal.decreases-lay

@@ -45,9 +45,9 @@ returns-then-count-eq0 g c =
     let symbol = c.symbol_at-symbol.ensures ∙ ap (λ n. columns_at c.args.base n c.args.number) c.columns-columns.ensures.count in
     let f = columns_at c.args.base body.columns c.args.number in
     let count : c.kid_count-count.result ≡ symbol_kids body.signature f = c.kid_count-count.ensures.count ∙ (ap (λ (sig : Signature). symbol_kids sig c.symbol_at-symbol.result) c.signature-2.ensures ∙ ap (symbol_kids body.signature) symbol) in
-    laid_one body c.args.base c.args.number own.starts.items own.targets.items c.push.new.self.items c.put.new.targets.items c.requires.base c.requires.laid
+    laid_one body c.args.base c.args.number own.starts.items own.targets.items c.push.new.self.items c.push-then-count-eq0.new.self.items c.requires.base c.requires.laid
     (c.in_ok-push.ensures.items ∙ ap (λ n. own.starts.items ++ n ∷ []) count_is)
-    (c.in_ok-put.ensures ∙ ap (λ xs. own.targets.items ++ xs)
+    (c.in_ok-push-2.ensures.items ∙ ap (λ xs. own.targets.items ++ xs)
     (ap (λ q. q ∷ []) (c.target.ensures ∙ ap (λ (x : TupleSymbol). body.target (entry x [])) symbol) ∙ sym (laid_end body f [] 0 (symbol_kids body.signature f) (sym count ∙ c.if-count-eq0.true))))
 
 pub lay-requires-clause-symbol : goal.lay-requires-clause-symbol

@@ -1,4 +1,4 @@
-use Rattle.std.proofs.Common.{◌<◌, ◌≤◌, None, IfSome, ap, arith, subst}
+use Rattle.std.proofs.Common.{◌-◌, ◌<◌, ◌≤◌, None, IfSome, ap, arith, subst}
 use Rattle.std.specs.List.{insert}
 use Rattle.fort_rrn_algebra.specs.Places.{number_of}
 use Rattle.fort_rrn_algebra.specs.Flats.{IsFlatOf}
@@ -20,5 +20,6 @@ pow-requires g c =
     let flat = c.in-Some.flat.now in
     let h = subst (λ o. IfSome o (λ f. IsFlatOf body f.now)) c.in-Some.is c.requires.flat in
     let some : 0 < flat.base = omega (arith, h.base_is) in
-    let less : c.args.column ≤ body.columns = omega (arith, c.requires.column) in
-    omega (arith, pow-le-pow_right {n = flat.base} some {i = c.args.column} {j = body.columns} less, h.few)
+    let later = c.columns.result - 1 - c.args.column in
+    let less : later ≤ body.columns = omega (arith, c.columns.ensures.count) in
+    omega (arith, pow-le-pow_right {n = flat.base} some {i = later} {j = body.columns} less, h.few)

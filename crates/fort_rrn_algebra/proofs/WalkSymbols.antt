@@ -1,0 +1,124 @@
+-- A walk over all entries, tuple symbol by tuple symbol: the stop at which one begins, and one more passed.
+use Rattle.std.proofs.Common.{◌≡◌, ℕ, zero, suc, ◌+◌, ◌^◌, ◌<◌, List, [], ◌∷◌, ◌++◌, map, length, get_or, Bool, true, false, IsTrue, ◌==◌, if◌then◌else◌, refl, ap, sym, ◌∙◌, arith, subst, ⊎_elim, true≢false}
+use Rattle.std.proofs.lemmas.Bool.{cases_eq}
+use Rattle.std.proofs.lemmas.List.{append-nil, map-append}
+use Rattle.fort_tables.specs.Tuples.{TupleSymbol, IsTupleSymbol, presence, symbol_kids, kid_presence}
+use Rattle.fort_tables.specs.Entries.{Entry}
+use Rattle.fort_tables.specs.Tables.{Table, Listed, listed_table}
+use Rattle.fort_operations.specs.Selections.{is_present}
+use Rattle.fort_operations.proofs.SelectionLaws.{test_from_present}
+use Rattle.fort_laid_entries.specs.Laid.{joined_below, entries_from, entries_under}
+use Rattle.fort_laid_entries.proofs.KidLists.{present_from_presence, under_absent, under_present}
+use Rattle.fort_rrn_algebra.specs.Places.{columns_at}
+use Rattle.fort_rrn_algebra.specs.Flats.{laid}
+use Rattle.fort_rrn_algebra.specs.Walks.{entries_before, HasPassed, Stop, IsStopOf, IsBetween}
+use Rattle.fort_rrn_algebra.specs.declared.walk.Walk.{Walk}
+use Rattle.fort_rrn_algebra.proofs.ListingLaws.{tuple_symbol_at, laid_none, laid_one}
+use Rattle.fort_rrn_algebra.proofs.SymbolPlaces.{entries_more, entries_behind, entries_split}
+
+-- the targets laid over first child states are those of the entries
+joined_same : {A : Type 0} (n : ℕ) (g h : ℕ → List A) → ((k : ℕ) → g k ≡ h k) → joined_below n g ≡ joined_below n h
+joined_same zero g h e = refl
+joined_same (suc n) g h e = λ i. joined_same n g h e i ++ e n i
+
+map_joined : {A B : Type 0} (f : A → B) (n : ℕ) (g : ℕ → List A) → map f (joined_below n g) ≡ joined_below n (λ k. map f (g k))
+map_joined f zero g = refl
+map_joined f (suc n) g = map-append f (joined_below n g) (g n) ∙ ap (λ xs. xs ++ map f (g n)) (map_joined f n g)
+
+map_chosen : {A B : Type 0} (f : A → B) (b : Bool) (xs : List A) → map f (if b then xs else []) ≡ (if b then map f xs else [])
+map_chosen f true xs = refl
+map_chosen f false xs = refl
+
+pub laid_targets : (body : Table) (f : TupleSymbol) (ks : List ℕ) (j n : ℕ) → laid body f ks j n ≡ map body.target (entries_from body.signature body.presences f ks j n)
+laid_targets body f ks j zero = refl
+laid_targets body f ks j (suc n) =
+    let ps = body.presences in
+    let b : ℕ → Bool = λ k. get_or ps k 0 == kid_presence body.signature f j in
+    let own : ℕ → List Entry = λ k. entries_from body.signature ps f (ks ++ k ∷ []) (suc j) n in
+    joined_same (length ps) (λ k. if b k then laid body f (ks ++ k ∷ []) (suc j) n else []) (λ k. map body.target (if b k then own k else []))
+    (λ k. ap (λ qs. if b k then qs else []) (laid_targets body f (ks ++ k ∷ []) (suc j) n) ∙ sym (map_chosen body.target (b k) (own k)))
+    ∙ sym (map_joined body.target (length ps) (λ k. if b k then own k else []))
+
+-- the tuple symbol with a number
+abbrev pub symbol_with : Listed → Walk → ℕ → TupleSymbol
+symbol_with t walk n = columns_at walk.base t.columns n
+
+symbol_base : (t : Listed) (begins : List ℕ) (walk : Walk) (n : ℕ) (cursors starts targets : List ℕ) → IsBetween t begins walk n cursors starts targets
+    → symbol_with t walk n ≡ columns_at (suc (length t.signature)) t.columns n
+symbol_base t begins walk n cursors starts targets h = ap (λ b. columns_at b t.columns n) h.goes.base
+
+low_base : (t : Listed) (begins : List ℕ) (walk : Walk) (n : ℕ) (cursors starts targets : List ℕ) → IsBetween t begins walk n cursors starts targets
+    → n < walk.base ^ walk.columns → n < suc (length t.signature) ^ t.columns
+low_base t begins walk n cursors starts targets h l = omega (arith, l, ap (λ b. b ^ walk.columns) h.goes.base, ap (λ c. suc (length t.signature) ^ c) h.goes.columns_are)
+
+-- the stop before its entries
+abbrev pub first_stop : Listed → List ℕ → ℕ → Stop
+first_stop t begins n = record { table = t; begins = begins; passed = entries_before t n; kids = []; left = entries_behind t n }
+
+pub stop_first : (t : Listed) (begins : List ℕ) (walk : Walk) (n : ℕ) (cursors starts targets : List ℕ) → IsBetween t begins walk n cursors starts targets → n < walk.base ^ walk.columns
+    → is_present (symbol_with t walk n) ≡ true → (f : TupleSymbol) → f ≡ symbol_with t walk n → (count : ℕ) → count ≡ symbol_kids t.signature f → IsStopOf (first_stop t begins n) walk f 0 0 count
+stop_first t begins walk n cursors starts targets h l present f is count e =
+    let own = columns_at (suc (length t.signature)) t.columns n in
+    let same : f ≡ own = is ∙ symbol_base t begins walk n cursors starts targets h in
+    let symbol = tuple_symbol_at (listed_table t) walk.base n h.goes.base present in
+    let there : IsTupleSymbol t.signature t.columns f = subst (IsTupleSymbol t.signature t.columns) (sym is) symbol in
+    let split = entries_split t n (low_base t begins walk n cursors starts targets h l) in
+    let under : entries_under t.signature t.presences own ≡ entries_from t.signature t.presences f [] 0 count =
+    ap (entries_under t.signature t.presences) (sym same) ∙ (under_present t.signature t.presences f there.present ∙ ap (entries_from t.signature t.presences f [] 0) (sym e)) in
+    record {
+      goes = h.goes;
+      begin = h.begin;
+      symbol = there;
+      stage_is = refl;
+      whole = split ∙ ap (λ es. entries_before t n ++ (es ++ entries_behind t n)) under;
+    }
+
+-- without a present column it has no entries
+absent_presence : (f : TupleSymbol) → is_present f ≡ false → presence f ≡ 0
+absent_presence f e = ⊎_elim (λ z. z) (λ z. absurd (true≢false (sym (test_from_present f (present_from_presence f z)) ∙ e))) (cases_eq (presence f) 0)
+
+pub between_absent : (t : Listed) (begins : List ℕ) (walk : Walk) (n : ℕ) (cursors starts targets new : List ℕ) → IsBetween t begins walk n cursors starts targets → n < walk.base ^ walk.columns
+    → is_present (symbol_with t walk n) ≡ false → (IsTrue walk.lays → new ≡ starts ++ length targets ∷ []) → IsBetween t begins walk (n + 1) cursors new targets
+between_absent t begins walk n cursors starts targets new h l absent grown =
+    let own = columns_at (suc (length t.signature)) t.columns n in
+    let same = symbol_base t begins walk n cursors starts targets h in
+    let no_entry = absent_presence own (ap is_present (sym same) ∙ absent) in
+    let all : entries_before t (n + 1) ≡ entries_before t n =
+    entries_more t n (low_base t begins walk n cursors starts targets h l)
+    ∙ (ap (λ es. entries_before t n ++ es) (under_absent t.signature t.presences own no_entry) ∙ append-nil (entries_before t n)) in
+    record {
+      goes = h.goes;
+      begin = h.begin;
+      passed = subst (λ es. HasPassed t walk.lays begins es cursors targets) (sym all) h.passed;
+      laid_are = λ b. laid_none (listed_table t) walk.base n starts targets new h.goes.base (h.laid_are b) absent (grown b);
+    }
+
+pub between_present : (t : Listed) (begins : List ℕ) (walk : Walk) (n : ℕ) (cursors starts targets new_cursors new new_targets : List ℕ) → IsBetween t begins walk n cursors starts targets
+    → n < walk.base ^ walk.columns → is_present (symbol_with t walk n) ≡ true → (f : TupleSymbol) → f ≡ symbol_with t walk n → (count : ℕ) → count ≡ symbol_kids t.signature f
+    → (IsTrue walk.lays → new ≡ starts ++ length targets ∷ [])
+    → HasPassed t walk.lays begins (entries_before t n ++ entries_from t.signature t.presences f [] 0 count) new_cursors new_targets
+    → IsBetween t begins walk (n + 1) new_cursors new new_targets
+between_present t begins walk n cursors starts targets new_cursors new new_targets h l present f is count e grown made =
+    let body = listed_table t in
+    let own = columns_at (suc (length t.signature)) t.columns n in
+    let same : f ≡ own = is ∙ symbol_base t begins walk n cursors starts targets h in
+    let symbol = tuple_symbol_at body walk.base n h.goes.base present in
+    let there : IsTupleSymbol t.signature t.columns f = subst (IsTupleSymbol t.signature t.columns) (sym is) symbol in
+    let entries = entries_from t.signature t.presences f [] 0 count in
+    let under : entries ≡ entries_under t.signature t.presences own =
+    ap (entries_from t.signature t.presences f [] 0) e ∙ (sym (under_present t.signature t.presences f there.present) ∙ ap (entries_under t.signature t.presences) same) in
+    let all : entries_before t n ++ entries ≡ entries_before t (n + 1) =
+    ap (λ es. entries_before t n ++ es) under ∙ sym (entries_more t n (low_base t begins walk n cursors starts targets h l)) in
+    let at : laid body f [] 0 count ≡ laid body (symbol_with t walk n) [] 0 (symbol_kids t.signature (symbol_with t walk n)) =
+    ap (laid body f [] 0) e ∙ ap (λ g. laid body g [] 0 (symbol_kids t.signature g)) is in
+    record {
+      goes = h.goes;
+      begin = h.begin;
+      passed = subst (λ es. HasPassed t walk.lays begins es new_cursors new_targets) all made;
+      laid_are = λ b.
+          laid_one body walk.base n starts targets new new_targets h.goes.base (h.laid_are b) (grown b)
+          (made.laid_are b
+          ∙ (map-append body.target (entries_before t n) entries
+          ∙ (ap (λ qs. qs ++ map body.target entries) (sym (h.passed.laid_are b))
+          ∙ ap (λ qs. targets ++ qs) (sym (laid_targets body f [] 0 count) ∙ at))));
+    }

@@ -1,0 +1,12 @@
+use Rattle.std.proofs.Common.{◌≡◌, ℕ, List, vec_capacity}
+use Rattle.fort_tables.specs.Tables.{Listed}
+use Rattle.fort_rrn_algebra.specs.Walks.{IsBetween}
+use Rattle.fort_rrn_algebra.proofs.walk.Walk.pass_all.Given as goal
+
+abbrev pub invariant-loop-number : goal.invariant-loop-number
+invariant-loop-number l = record {
+  between : (t : Listed) (begins : List ℕ) → IsBetween t begins l.self 0 l.initial.cursors l.initial.listing.starts.items l.initial.listing.targets.items
+      → IsBetween t begins l.self l.number l.cursors l.listing.starts.items l.listing.targets.items;
+  starts : vec_capacity l.listing.starts ≡ vec_capacity l.initial.listing.starts;
+  room : vec_capacity l.listing.targets ≡ vec_capacity l.initial.listing.targets;
+}
