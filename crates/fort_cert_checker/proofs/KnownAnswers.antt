@@ -19,6 +19,7 @@ use Rattle.fort_in_order.proofs.PartByLabels.{part_by_labels}
 use Rattle.fort_in_order_laws.proofs.EntryWalks.{right_few}
 use Rattle.fort_in_order_laws.proofs.RightParts.{some_columns, none_columns}
 use Rattle.fort_check_steps.specs.declared.room.PartRoom.{PartRoom}
+use Rattle.fort_check_steps.specs.Held.{held_entries}
 use Rattle.fort_check_steps.specs.Room.{most_states}
 use Rattle.fort_check_steps.proofs.TableLaws.{held_part}
 use Rattle.fort_cert_checker.specs.declared.plan.Source.{Source}
@@ -38,7 +39,7 @@ turned_presences (suc n) t = turned_presences n t
 -- a held table is one over its columns, with as many states as the targets make
 pub held_over : (sig : Signature) (columns : List ℕ) (targets : List ℕ) (room : PartRoom) (table : Table) → 0 < length columns → IsHeld sig (length columns) targets room table → IsTableOver sig columns table
 held_over sig columns targets room table some h =
-    let by = part_by_labels h.rule h.accepting targets room.entries.entries h.holds.labels h.holds.lawful h.holds.right in
+    let by = part_by_labels h.rule h.accepting targets (held_entries h.rule room) h.holds.labels h.holds.lawful h.holds.right in
     subst (IsTableOver sig columns) (ap listed_table (held_part h.rule h.accepting targets room h.holds) ∙ h.is) (record {
       some = some;
       signature = by.signature ∙ h.signature;
@@ -51,7 +52,7 @@ pub held_states : (sig : Signature) (columns : ℕ) (targets : List ℕ) (room :
 held_states sig columns targets room table h =
     let r = h.holds.right in
     let own : length (map first_word h.holds.labels) ≡ length table.presences = ap length (sym h.holds.presences) ∙ ap (λ (t : Table). length t.presences) h.is in
-    omega (arith, own, length-map h.holds.labels first_word, right_few h.rule targets (length targets) room.entries.entries h.holds.labels r.right, r.right.states, ap stage (take-length targets))
+    omega (arith, own, length-map h.holds.labels first_word, right_few h.rule targets (length targets) (held_entries h.rule room) h.holds.labels r.right, r.right.states, ap stage (take-length targets))
 
 module _ (system : PatternSystem) (parts : List Core) (past : Past) (k : ℕ) (made : Made) (known : KnowsPast system parts past k made) where
   -- what is known of an operand

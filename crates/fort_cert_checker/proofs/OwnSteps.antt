@@ -22,7 +22,7 @@ use Rattle.fort_check_steps.specs.declared.room.LabelRoom.{LabelRoom}
 use Rattle.fort_check_steps.specs.declared.marks.MarkRoom.{MarkRoom}
 use Rattle.fort_check_steps.specs.declared.failure.Failure.{Failure}
 use Rattle.fort_check_steps.specs.StepAnswers.{as_reason, outcome_of}
-use Rattle.fort_check_steps.specs.Held.{held_table}
+use Rattle.fort_check_steps.specs.Held.{held_entries, held_table}
 use Rattle.fort_check_steps.proofs.TableLaws.{held_part}
 use Rattle.fort_check_steps.specs.Room.{HasRoom, most_states}
 use Rattle.fort_check_steps.specs.Marks.{HasMarkRoom}
@@ -83,7 +83,7 @@ module _ (system : PatternSystem) (parts : List Core) (ss : List Step) (plans : 
         let same = ap listed_table (held_part t.local.rule t.local.accepting targets new held) in
         record {
           next = with_answer made k (OfTable table);
-          fine = subst (λ (a : Table). IsFine system parts made (Part k targets) (with_answer made k (OfTable a))) same (FinePart t.local new.entries.entries held.labels own held.right);
+          fine = subst (λ (a : Table). IsFine system parts made (Part k targets) (with_answer made k (OfTable a))) same (FinePart t.local (held_entries t.local.rule new) held.labels own held.right);
           after = (
             table,
             record {

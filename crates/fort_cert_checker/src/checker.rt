@@ -52,7 +52,7 @@ pub struct Checker<'a> {
     closures: Vec<Option<ClosurePlan>>,
     plans: Vec<Plan>,
     rooms: Vec<PartRoom>,
-    /// For the labels of each part in its turn.
+    /// For the labels of each part in its turn, and what its list is laid by.
     scratch: LabelRoom,
     marks: Vec<MarkRoom>,
 }
@@ -141,7 +141,7 @@ impl<'a> Checker<'a> {
         let plans = plans_of(alloc, system, steps, &parts)?;
         let rooms = rooms_of(alloc, steps, plans.len())?;
         let scratch = scratch_for(alloc, steps, &plans)?;
-        let marks = mark_rooms(alloc, system.signature().len(), steps, &plans)?;
+        let marks = mark_rooms(alloc, steps, &plans)?;
         Ok(Checker {
             system,
             core,

@@ -17,7 +17,7 @@ ghost use Rattle.fort_cert_checker.specs.Pasts.{IsMarkRoomFor};
 ghost use Rattle.fort_cert_checker.specs.Makings.{IsClosurePlan, IsClosureFor, IsScratchFor, AreClosuresMade, ArePlansMade, AreRoomsMade, IsScratchMade, AreMarksMade};
 
 use crate::about::targets_of;
-use crate::plan::{Operand, Plan, Source, Work};
+use crate::plan::{Plan, Source, Work};
 use fort_check_steps::{
     DueStep, LabelNeeds, LabelRoom, MarkRoom, PairRules, PartRoom, closure_rules, most_states,
 };
@@ -25,7 +25,6 @@ use fort_context_closure::local::is_width;
 use fort_formulas::Core;
 use fort_infinity::local::many_width;
 use fort_rrn_algebra::local::project_width;
-use fort_rrn_algebra::{BodyList, ProductLists, TableSize};
 use fort_steps::{Step, Which};
 use fort_terms::{Memory, System};
 use std::alloc::{AllocError, Global};
@@ -154,7 +153,7 @@ pub(crate) fn rooms_of(alloc: Global, steps: &[Step], parts: usize) -> Result<Ve
     Ok(rooms)
 }
 
-/// What the labels of part `k` need.
+/// What the labels of part `k` need, and what its list is laid by.
 fn label_needs(steps: &[Step], k: u32, plan: &Plan) -> Result<LabelNeeds, Memory>
     requires { (system : PatternSystem) × (parts : List theory.Core) × (j : ℕ)
         × (f : theory.Core) × IsPlanOf system parts (map as_step steps.now) j f plan.now }
@@ -165,7 +164,7 @@ fn label_needs(steps: &[Step], k: u32, plan: &Plan) -> Result<LabelNeeds, Memory
     LabelNeeds::new(width, most_states(targets_of(steps, k)))
 }
 
-/// Room for the labels of each part in its turn.
+/// Room for the labels of each part in its turn, and for what its list is laid by.
 pub(crate) fn scratch_for(
     alloc: Global,
     steps: &[Step],
@@ -183,94 +182,30 @@ pub(crate) fn scratch_for(
     LabelRoom::new(alloc, needs)
 }
 
-/// The most that the table of an operand has.
-fn size_of(steps: &[Step], operand: &Operand) -> TableSize {
-    let targets = targets_of(steps, operand.source.part);
-    TableSize {
-        columns: operand.places.len(),
-        states: most_states(targets),
-        entries: targets.len(),
-    }
-}
-
-/// Room for the lists of a product's operands, over so many symbols.
-fn lists_for(
-    alloc: Global,
-    symbols: usize,
-    steps: &[Step],
-    plan: &Plan,
-) -> Result<ProductLists, Memory> {
-    match &plan.work {
-        Work::Product(_, first, second) => {
-            let (first, second) = (size_of(steps, first), size_of(steps, second));
-            ProductLists::with_room(alloc, symbols, first, second)
-        }
-        _ => Ok(ProductLists::new(alloc)),
-    }
-}
-
-/// Room for the list of a projection's body, over so many symbols.
-fn body_for(
-    alloc: Global,
-    symbols: usize,
-    steps: &[Step],
-    plan: &Plan,
-) -> Result<BodyList, Memory> {
-    match &plan.work {
-        Work::Projection(source, _) => {
-            let targets = targets_of(steps, source.part);
-            let size = TableSize {
-                columns: plan.columns.len().saturating_add(1),
-                states: most_states(targets),
-                entries: targets.len(),
-            };
-            BodyList::with_room(alloc, symbols, size)
-        }
-        _ => Ok(BodyList::new(alloc)),
-    }
-}
-
-fn mark_room(
-    alloc: Global,
-    states: usize,
-    marks: usize,
-    lists: ProductLists,
-    body: BodyList,
-) -> Result<MarkRoom, Memory>
+fn mark_room(alloc: Global, states: usize, marks: usize) -> Result<MarkRoom, Memory>
     ensures { IfOk result (HasMarkRoom states marks) }
 {
     Ok(MarkRoom {
         states: Vec::with_capacity(alloc, states)?,
         holds: Vec::with_capacity(alloc, marks)?,
-        lists,
-        body,
     })
 }
 
-fn marks_for(
-    alloc: Global,
-    steps: &[Step],
-    plan: &Plan,
-    lists: ProductLists,
-    body: BodyList,
-) -> Result<MarkRoom, Memory>
+fn marks_for(alloc: Global, steps: &[Step], plan: &Plan) -> Result<MarkRoom, Memory>
     ensures { IfOk result (IsMarkRoomFor (map as_step steps.now) plan.now.work) }
 {
     match &plan.work {
-        Work::Projection(source, _) => {
-            mark_room(alloc, states_of(steps, *source)?, 0, lists, body)
-        }
+        Work::Projection(source, _) => { mark_room(alloc, states_of(steps, *source)?, 0) }
         Work::Many(source, _, marks) => {
-            mark_room(alloc, states_of(steps, *source)?, marks.len(), lists, body)
+            mark_room(alloc, states_of(steps, *source)?, marks.len())
         }
-        _ => mark_room(alloc, 0, 0, lists, body),
+        _ => mark_room(alloc, 0, 0),
     }
 }
 
-/// For each part, over so many symbols, room for its marks or its operands' lists.
+/// For each part room for its marks.
 pub(crate) fn mark_rooms(
     alloc: Global,
-    symbols: usize,
     steps: &[Step],
     plans: &[Plan],
 ) -> Result<Vec<MarkRoom>, Memory>
@@ -279,9 +214,7 @@ pub(crate) fn mark_rooms(
 {
     let mut rooms = Vec::with_capacity(alloc, plans.len())?;
     for plan in plans {
-        let lists = lists_for(alloc, symbols, steps, plan)?;
-        let body = body_for(alloc, symbols, steps, plan)?;
-        rooms.push(marks_for(alloc, steps, plan, lists, body)?)?;
+        rooms.push(marks_for(alloc, steps, plan)?)?;
     }
     Ok(rooms)
 }

@@ -1,9 +1,10 @@
 //! The answers of earlier parts.
-ghost use Rattle.std.specs.Prelude.{◌≡◌, Bool, length};
+ghost use Rattle.std.specs.Prelude.{◌≡◌, ℕ, Bool, List, length, IfSome};
 ghost use Rattle.fort_tables.specs.Tables as tables;
 ghost use Rattle.fort_operations.specs.Projections.{some_below};
 ghost use Rattle.fort_parts.specs.PartAnswers as parts;
 ghost use Rattle.fort_parts.specs.PartSteps.{operand_of};
+ghost use Rattle.fort_rrn_algebra.specs.TargetLists.{IsLaidListOf};
 ghost use Rattle.fort_rrn_algebra.specs.Operands as algebra;
 ghost use Rattle.fort_check_steps.specs.Turned.{turned_table};
 ghost use Rattle.fort_cert_checker.specs.Pasts.{IsTableAt, IsTruthAt, IsAnswerAt, as_answer};
@@ -12,7 +13,7 @@ use crate::about::{targets_of, value_of};
 use crate::plan::{Plan, Source};
 use fort_check_steps::{PartRoom, PartTable};
 use fort_lockstep::Table;
-use fort_rrn_algebra::Operand;
+use fort_rrn_algebra::{Operand, TargetList};
 use fort_steps::Step;
 use fort_terms::Signature;
 
@@ -80,6 +81,17 @@ pub(crate) fn factor<'b, 'a>(
     match answer {
         Answer::Truth(truth) => Operand::Truth(*truth),
         Answer::Auto(table) => Operand::Auto(table, places),
+    }
+}
+
+/// An answer's targets, tuple symbol by tuple symbol, where it is a table.
+pub(crate) fn laid_list<'a>(answer: &Answer<'a>) -> Option<&'a TargetList>
+    ensures { (places : List ℕ) → IfSome result (λ l.
+        IsLaidListOf (operand_of (as_answer answer.now) places) l.now) }
+{
+    match answer {
+        Answer::Truth(_) => None,
+        Answer::Auto(table) => Some(table.list()),
     }
 }
 

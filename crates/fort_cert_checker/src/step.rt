@@ -21,7 +21,7 @@ ghost use Rattle.fort_cert_checker.specs.AtomPlans.{related_local, normal_local}
 ghost use Rattle.fort_cert_checker.specs.Joins.{AreJoined, joined_local};
 ghost use Rattle.fort_cert_checker.specs.Pasts.{IsAnswerAt, IsTableAt, IsPartStep, IsTableDue, IsTableStep};
 
-use crate::past::{Past, factor};
+use crate::past::{Past, factor, laid_list};
 use crate::plan::{Operand, Plan, Source, Work};
 use fort_check_steps::{
     Failure, LabelRoom, MarkRoom, Normal, PartRoom, Projected, Related, ThisTerm, check_part,
@@ -30,9 +30,8 @@ use fort_check_steps::{
 use fort_context_closure::{NormalBits, RelationBits};
 use fort_formulas::Core;
 use fort_infinity::{Count, Many};
-use fort_rrn_algebra::{Both, Op, ProductLists};
+use fort_rrn_algebra::{Both, Op};
 use fort_terms::{System, Term};
-use std::alloc::AllocError;
 
 /// Holds the targets of a relation.
 fn check_relation(
@@ -146,7 +145,6 @@ fn check_product(
     targets: &[u32],
     room: &mut PartRoom,
     scratch: &mut LabelRoom,
-    lists: &mut ProductLists,
 ) -> Result<(), Failure>
     requires answers { (a b : answers.Answer) × IsAnswerAt past.now first.now.source a
         × IsAnswerAt past.now second.now.source b × AreJoined past.now.signature.now columns a
@@ -163,12 +161,9 @@ fn check_product(
     let answers = (past.answer(first.source), past.answer(second.source));
     let one = factor(&answers.0, &first.places);
     let other = factor(&answers.1, &second.places);
-    let made = lists.make(&one, &other);
-    let plain = Both::new(op, one, other, columns);
-    match made {
-        Ok(()) => check_part(&plain.listed(lists), past.signature, targets, room, scratch),
-        Err(AllocError) => check_part(&plain, past.signature, targets, room, scratch),
-    }
+    let lists = (laid_list(&answers.0), laid_list(&answers.1));
+    let rule = Both::new(op, one, other, columns).laid(lists.0, lists.1);
+    check_part(&rule, past.signature, targets, room, scratch)
 }
 
 /// Holds the targets of a projection.
@@ -197,18 +192,8 @@ fn check_projection(
     let body = past.table(source);
     marks.states.clear();
     put_pure(&body, column, &mut marks.states);
-    let made = marks.body.make(&body);
-    let plain = Projected::new(&body, column, &marks.states);
-    match made {
-        Ok(()) => check_part(
-            &plain.listed(&marks.body),
-            past.signature,
-            targets,
-            room,
-            scratch,
-        ),
-        Err(AllocError) => check_part(&plain, past.signature, targets, room, scratch),
-    }
+    let rule = Projected::new(&body, column, &marks.states).listed(body.list());
+    check_part(&rule, past.signature, targets, room, scratch)
 }
 
 /// Holds the targets of "infinitely many".
@@ -276,10 +261,7 @@ pub(crate) fn check_table(
         Work::Term => check_own_term(system, core, targets, room, scratch),
         Work::Product(op, first, second) => {
             let columns = plan.columns.len();
-            let lists = &mut marks.lists;
-            check_product(
-                *op, columns, first, second, past, targets, room, scratch, lists,
-            )
+            check_product(*op, columns, first, second, past, targets, room, scratch)
         }
         Work::Projection(source, column) => {
             check_projection(past, *source, *column, targets, room, scratch, marks)

@@ -1,10 +1,3 @@
-pub mod SymbolLaws
-pub mod RunPlaceLaws
-pub mod RunLaws
-pub mod RunListLaws
-pub mod EntryListLaws
-pub mod PutLaws
-pub mod EntryOrders
 pub mod TableLaws
 pub mod TargetLaws
 pub mod NumberedLaws
@@ -12,6 +5,7 @@ pub mod PairPlaces
 pub mod PairLaws
 pub mod PairStepLaws
 pub mod MarkLaws
+pub mod ListedWalks
 pub mod MarkSearch
 pub mod DueLists
 pub mod DueTests

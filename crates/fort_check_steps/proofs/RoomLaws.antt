@@ -1,6 +1,10 @@
 -- Room for labels.
 use Rattle.std.proofs.Common.{ℕ, ◌≤◌, List, arith}
 use Rattle.std.proofs.Math.Nat.{mul-le-mul_right}
+use Rattle.fort_rrn_algebra.specs.declared.states.LayRoom.{LayRoom}
+use Rattle.fort_rrn_algebra.specs.declared.target_list.TargetList.{TargetList}
+use Rattle.fort_rrn_algebra.specs.LayRooms.{HasLayRoom}
+use Rattle.fort_rrn_algebra.specs.TargetLists.{HasListRoom}
 use Rattle.fort_check_steps.specs.StateLabelsView.{Spaces, HasSpace, IsAsSpacious}
 use Rattle.fort_check_steps.specs.declared.room.LabelRoom.{LabelRoom}
 use Rattle.fort_check_steps.specs.declared.room.LabelNeeds.{LabelNeeds}
@@ -23,13 +27,21 @@ has_space {w} {n} {m} h l g = record {
   widest = λ e. omega (arith, h.widest e, g.widest);
 }
 
+-- room to lay more states is room for fewer
+pub lay_fewer : {n m : ℕ} {r : LayRoom} → HasLayRoom n r → m ≤ n → HasLayRoom m r
+lay_fewer h l = record { counts = h.counts; firsts = h.firsts; nexts = omega (arith, h.nexts); cursors = omega (arith, h.cursors) }
+
+-- and so is that of a list
+pub list_fewer : {n m k : ℕ} {l : TargetList} → HasListRoom n k l → m ≤ n → HasListRoom m k l
+list_fewer h e = record { ranks = omega (arith, h.ranks); alike = omega (arith, h.alike); targets = h.targets; starts = h.starts }
+
 -- room for what labels need is room for them
 pub has_label_room : (w n : ℕ) (targets : List ℕ) (needs : LabelNeeds) (r : LabelRoom) → IsSpaceFor w n needs → HasNeeds needs r → most_states targets ≤ n → HasLabelRoom w targets r
-has_label_room w n targets needs r h g l = record { rows = has_space h.rows l g.rows; out = omega (arith, h.out, g.out) }
+has_label_room w n targets needs r h g l = record { rows = has_space h.rows l g.rows; out = omega (arith, h.out, g.out); lay = lay_fewer g.lay (omega (arith, h.states)) }
 
 pub more_room : {less more : LabelNeeds} {r : LabelRoom} → IsAsNeedy less more → HasNeeds more r → HasNeeds less r
-more_room h g = record { rows = as_spacious g.rows h.rows; out = omega (arith, h.out, g.out) }
+more_room h g = record { rows = as_spacious g.rows h.rows; out = omega (arith, h.out, g.out); lay = lay_fewer g.lay (omega (arith, h.states)) }
 
 -- what there was room for, there still is
 pub still_room : {w : ℕ} {targets : List ℕ} {old new : LabelRoom} → HasLabelRoom w targets old → IsAsRoomy old new → HasLabelRoom w targets new
-still_room h g = record { rows = has_space h.rows (omega arith) g.rows; out = omega (arith, h.out, g.out) }
+still_room h g = record { rows = has_space h.rows (omega arith) g.rows; out = omega (arith, h.out, g.out); lay = g.lay _ h.lay }

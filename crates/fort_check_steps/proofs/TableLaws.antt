@@ -1,46 +1,88 @@
 -- The table that a room holds, and tables under negations.
-use Rattle.std.proofs.Common.{◌≡◌, ℕ, zero, suc, ◌+◌, ◌^◌, ◌-◌, ◌%◌, ◌*◌, ◌<◌, ◌≤◌, List, Bool, true, false, not, ◌&&◌, ◌==◌, if◌then◌else◌, length, get_or, refl, ap, sym, ◌∙◌, arith, subst, true≢false}
+use Rattle.std.proofs.Common.{◌≡◌, ℕ, zero, suc, ◌+◌, ◌^◌, ◌-◌, ◌%◌, ◌*◌, ◌<◌, ◌≤◌, List, map, Bool, true, false, not, ◌&&◌, ◌==◌, if◌then◌else◌, length, get_or, refl, ap, sym, ◌∙◌, arith, subst, true≢false}
 use Rattle.std.proofs.Math.Pow.{pow_mono}
 use Rattle.std.proofs.lemmas.Bool.Decides.{Decides-eqb}
 use Rattle.std.proofs.lemmas.List.{length-map}
 use Rattle.fort_theory.specs.Signatures.{Signature}
-use Rattle.fort_tables.specs.Tables.{Listed, IsTable, IsReached, IsListed, full_presence, listed_table, target_in}
-use Rattle.fort_tables.specs.Entries.{Entry, no_entry}
-use Rattle.fort_tables.proofs.NumberLaws.{listed_target}
+use Rattle.fort_tables.specs.Tables.{Listed, IsTable, IsReached, IsListed, full_presence, listed_table}
 use Rattle.fort_tables.specs.Labels.{first_word, final_by}
-use Rattle.fort_tables.specs.LabelRules.{LabelRule}
-use Rattle.fort_in_order.specs.PartSteps.{part_table}
-use Rattle.fort_in_order.proofs.PartByLabels.{part_is_listed}
+use Rattle.fort_tables.specs.LabelRules.{LabelRule, IsLabelRule, IsTableBy, label_of}
+use Rattle.fort_laid_entries.specs.Laid.{all_entries}
+use Rattle.fort_in_order.specs.PartSteps.{IsRightPart, part_table}
+use Rattle.fort_in_order.proofs.PartByLabels.{part_is_listed, part_by_labels}
 use Rattle.fort_in_order_laws.proofs.EntryWalks.{right_few}
+use Rattle.fort_rrn_algebra.specs.declared.target_list.TargetList.{TargetList}
+use Rattle.fort_rrn_algebra.specs.TargetLists.{IsTargetListOf}
 use Rattle.fort_check_steps.specs.declared.room.PartRoom.{PartRoom}
-use Rattle.fort_check_steps.specs.Held.{HoldsPart, held_table}
+use Rattle.fort_check_steps.specs.Held.{HoldsPart, held_entries, held_table}
+use Rattle.fort_check_steps.specs.Room.{most_states}
 use Rattle.fort_check_steps.specs.Turned.{TurnedTable, turned_by, turned_table}
 
 abbrev pub room_table : Signature → ℕ → List ℕ → PartRoom → Listed
-room_table sig n targets room = record { signature = sig; columns = n; presences = room.presences.items; entries = room.entries.entries; targets = targets; finals = room.finals.items }
+room_table sig n targets room = record {
+  signature = sig;
+  columns = n;
+  presences = room.presences.items;
+  entries = all_entries sig n room.presences.items;
+  targets = targets;
+  finals = room.finals.items;
+}
 
 pub held_is : (r : LabelRule) (accepting : List ℕ → Bool) (sig : Signature) (n : ℕ) (targets : List ℕ) (room : PartRoom) → r.signature ≡ sig → r.columns ≡ n
     → HoldsPart r accepting targets room → room_table sig n targets room ≡ held_table r targets room
-held_is r accepting sig n targets room a b h =
-    λ i. record { signature = sym a i; columns = sym b i; presences = room.presences.items; entries = room.entries.entries; targets = targets; finals = room.finals.items }
+held_is r accepting sig n targets room a b h = λ i. room_table (sym a i) (sym b i) targets room
+
+-- the table that the labels give is the one with these presences and finals
+same_table : (r : LabelRule) (accepting : List ℕ → Bool) (targets : List ℕ) (room : PartRoom) (labels : List (List ℕ)) → room.presences.items ≡ map first_word labels
+    → room.finals.items ≡ map (final_by r.columns accepting) labels → part_table r accepting (held_entries r room) targets labels ≡ held_table r targets room
+same_table r accepting targets room labels a b =
+    let p = sym a in
+    let f = sym b in
+    λ i. record { signature = r.signature; columns = r.columns; presences = p i; entries = held_entries r room; targets = targets; finals = f i }
 
 -- it is the one that the labels give
 pub held_part : (r : LabelRule) (accepting : List ℕ → Bool) (targets : List ℕ) (room : PartRoom) (h : HoldsPart r accepting targets room)
-    → part_table r accepting room.entries.entries targets h.labels ≡ held_table r targets room
-held_part r accepting targets room h =
-    let p = sym h.presences in
-    let f = sym h.finals in
-    λ i. record { signature = r.signature; columns = r.columns; presences = p i; entries = room.entries.entries; targets = targets; finals = f i }
+    → part_table r accepting (held_entries r room) targets h.labels ≡ held_table r targets room
+held_part r accepting targets room h = same_table r accepting targets room h.labels h.presences h.finals
+
+-- the entries over the labels' presences are those over the room's
+pub right_held : (r : LabelRule) (targets : List ℕ) (room : PartRoom) (labels : List (List ℕ)) → IsRightPart r targets (all_entries r.signature r.columns (map first_word labels)) labels
+    → room.presences.items ≡ map first_word labels → IsRightPart r targets (held_entries r room) labels
+right_held r targets room labels h e = subst (λ (ps : List ℕ). IsRightPart r targets (all_entries r.signature r.columns ps) labels) (sym e) h
+
+-- it is listed
+pub right_listed : (r : LabelRule) (accepting : List ℕ → Bool) (targets : List ℕ) (room : PartRoom) (labels : List (List ℕ)) → IsLabelRule r → IsRightPart r targets (held_entries r room) labels
+    → room.presences.items ≡ map first_word labels → room.finals.items ≡ map (final_by r.columns accepting) labels → IsListed (held_table r targets room)
+right_listed r accepting targets room labels law h a b =
+    subst IsListed (same_table r accepting targets room labels a b) (part_is_listed r accepting targets (held_entries r room) labels law h)
+
+-- and a table by the rule
+pub right_table : (r : LabelRule) (accepting : List ℕ → Bool) (targets : List ℕ) (room : PartRoom) (labels : List (List ℕ)) → IsLabelRule r → IsRightPart r targets (held_entries r room) labels
+    → room.presences.items ≡ map first_word labels → room.finals.items ≡ map (final_by r.columns accepting) labels
+    → IsTableBy r.signature r.columns (label_of r) accepting (listed_table (held_table r targets room))
+right_table r accepting targets room labels law h a b =
+    subst (λ (t : Listed). IsTableBy r.signature r.columns (label_of r) accepting (listed_table t)) (same_table r accepting targets room labels a b)
+    (part_by_labels r accepting targets (held_entries r room) labels law h)
 
 pub held_listed : (r : LabelRule) (accepting : List ℕ → Bool) (sig : Signature) (n : ℕ) (targets : List ℕ) (room : PartRoom) → r.signature ≡ sig → r.columns ≡ n
     → HoldsPart r accepting targets room → IsListed (room_table sig n targets room)
 held_listed r accepting sig n targets room a b h =
-    subst IsListed (held_part r accepting targets room h ∙ sym (held_is r accepting sig n targets room a b h)) (part_is_listed r accepting targets room.entries.entries h.labels h.lawful h.right)
+    subst IsListed (sym (held_is r accepting sig n targets room a b h)) (right_listed r accepting targets room h.labels h.lawful h.right h.presences h.finals)
+
+-- its list is the table's
+pub held_list : (r : LabelRule) (accepting : List ℕ → Bool) (sig : Signature) (n : ℕ) (targets : List ℕ) (room : PartRoom) → r.signature ≡ sig → r.columns ≡ n
+    → HoldsPart r accepting targets room → IsTargetListOf (listed_table (room_table sig n targets room)) room.list
+held_list r accepting sig n targets room a b h =
+    subst (λ (t : Listed). IsTargetListOf (listed_table t) room.list) (sym (held_is r accepting sig n targets room a b h)) h.list
 
 pub held_few : (r : LabelRule) (accepting : List ℕ → Bool) (targets : List ℕ) (room : PartRoom) → HoldsPart r accepting targets room → length targets < 2 ^ 32
     → length room.presences.items < 2 ^ 32
 held_few r accepting targets room h l =
-    omega (arith, ap length h.presences, length-map h.labels first_word, right_few r targets (length targets) room.entries.entries h.labels h.right.right)
+    omega (arith, ap length h.presences, length-map h.labels first_word, right_few r targets (length targets) (held_entries r room) h.labels h.right.right)
+
+-- a part has no more states than there is room for
+pub held_count : (ps targets : List ℕ) (labels : List (List ℕ)) → ps ≡ map first_word labels → length labels ≤ most_states targets → length ps ≤ most_states targets
+held_count ps targets labels e l = omega (arith, ap length e, length-map labels first_word)
 
 pub held_finals : (r : LabelRule) (accepting : List ℕ → Bool) (targets : List ℕ) (room : PartRoom) → HoldsPart r accepting targets room
     → length room.finals.items ≡ length room.presences.items
@@ -82,8 +124,11 @@ turned_more n is_full b truth e = subst (λ (k : ℕ). (is_full && not truth) �
 pub full_is : (n : ℕ) → n ≤ 16 → (1 * 2 ^ n) % 4294967296 - 1 ≡ full_presence n
 full_is n h = let e : 2 ^ n ≤ 2 ^ 16 = pow_mono h in omega arith
 
--- the target beside an entry
-pub target_of : (t : Listed) → IsListed t → (e : Entry) (k : ℕ) → k < length t.entries → ((d : Entry) → get_or t.entries k d ≡ e) → get_or t.targets k 0 ≡ target_in t.entries t.targets e
-target_of t lawful e k l is =
-    let at : get_or t.entries k (no_entry t.columns) ≡ e = is (no_entry t.columns) in
-    sym (ap (target_in t.entries t.targets) (sym at) ∙ listed_target t k lawful (omega (arith, l, lawful.count)))
+-- the list of a table is that of the table under negations
+pub list-turned : (t : TurnedTable) (l : TargetList) → IsTargetListOf (listed_table t.table) l → IsTargetListOf (turned_table t) l
+list-turned t l h = record {
+  list_is = λ m.
+      let f = h.list_is m in
+      record { base_is = f.base_is; starts_all = f.starts_all; few = f.few; spots = f.spots; entries = f.entries };
+  made = h.made;
+}

@@ -1,15 +1,18 @@
 -- One turn of the check of a part.
-use Rattle.std.proofs.Common.{◌≡◌, ℕ, zero, suc, ◌+◌, ◌^◌, ◌<◌, ◌≤◌, List, [], ◌∷◌, ◌++◌, map, length, get_or, slice_get, Some, None, refl, ap, sym, ◌∙◌, arith, add-one, subst, ⊎_elim}
+use Rattle.std.proofs.Common.{◌≡◌, ℕ, suc, ◌+◌, ◌^◌, ◌<◌, ◌≤◌, List, [], ◌∷◌, ◌++◌, map, length, get_or, false, refl, ap, sym, ◌∙◌, arith, add-one, subst, ⊎_elim}
 use Rattle.std.proofs.lemmas.List.{map-append, length-map}
 use Rattle.std.proofs.Math.Seq.{take-length}
-use Rattle.fort_theory.specs.Signatures.{Signature, IsSignature}
-use Rattle.fort_tables.specs.Tuples.{TupleSymbol, AreSymbols, presence}
+use Rattle.fort_theory.specs.Signatures.{Signature}
+use Rattle.fort_tables.specs.Tuples.{TupleSymbol, presence}
 use Rattle.fort_tables.specs.Entries.{Entry, no_entry, stage, IsNextEntry, IsLastEntry}
 use Rattle.fort_tables.specs.Labels.{first_word, AreLabels, IsOverLabels}
 use Rattle.fort_tables.specs.LabelRules.{LabelRule, IsLabelRule, label_of, entry_label}
+use Rattle.fort_laid_entries.specs.Laid.{all_entries}
+use Rattle.fort_laid_entries.proofs.AllEntries.{entries_unique}
 use Rattle.fort_in_order.specs.Outcomes as steps
 use Rattle.fort_in_order.specs.Outcomes.{Fails}
 use Rattle.fort_in_order.specs.PartSteps.{IsRightPart, IsPartOutcome, IsFailed, NoState, OtherLabel, TooFew, TooMany}
+use Rattle.fort_in_order.proofs.PartByLabels.{part_is_listed}
 use Rattle.fort_in_order.proofs.StageLaws.{target_states}
 use Rattle.fort_in_order_laws.proofs.EntryWalks.{Walked, IsNextOf, walked_none, walked_due, walked_all, walked_old, walked_new, walked_few, right_few, labels_push}
 use Rattle.fort_check_steps.specs.Room.{most_states}
@@ -57,8 +60,16 @@ too_many r qs k entries ws last w n l = IsFailed k steps.Long (TooMany k entries
 pub too_few : (r : LabelRule) (qs : List ℕ) (entries : List Entry) (ws : List (List ℕ)) (last e : Entry) → Walked r qs (length qs) entries ws last → IsNextOf r ws last e → IsPartOutcome r qs (Fails (length qs) steps.Short)
 too_few r qs entries ws last e w n = IsFailed (length qs) steps.Short (TooFew (length qs) entries ws e w.right refl (walked_due r qs (length qs) entries ws last e w n))
 
-pub right_part : (r : LabelRule) (qs : List ℕ) (entries : List Entry) (ws : List (List ℕ)) (last : Entry) → (w : Walked r qs (length qs) entries ws last) → IsLastEntry r.signature r.columns (map first_word ws) last → IsRightPart r qs entries ws
+right_part : (r : LabelRule) (qs : List ℕ) (entries : List Entry) (ws : List (List ℕ)) (last : Entry) → (w : Walked r qs (length qs) entries ws last) → IsLastEntry r.signature r.columns (map first_word ws) last → IsRightPart r qs entries ws
 right_part r qs entries ws last w n = record { right = w.right; all = walked_all r qs (length qs) entries ws last w n }
+
+-- the entries of a part that is right are all those over its labels' presences
+pub right_all : (r : LabelRule) (qs : List ℕ) (entries : List Entry) (ws : List (List ℕ)) (last : Entry) → IsLabelRule r → Walked r qs (length qs) entries ws last
+    → IsLastEntry r.signature r.columns (map first_word ws) last → IsRightPart r qs (all_entries r.signature r.columns (map first_word ws)) ws
+right_all r qs entries ws last law w n =
+    let right = right_part r qs entries ws last w n in
+    let listed = part_is_listed r (λ (v : List ℕ). false) qs entries ws law right in
+    subst (λ (es : List Entry). IsRightPart r qs es ws) (entries_unique r.signature r.columns (map first_word ws) entries listed.order listed.all) right
 
 -- what is known after a target was taken
 pub record IsAfter (r : LabelRule) (qs : List ℕ) (k : ℕ) (entries : List Entry) (ws : List (List ℕ)) (ps : List ℕ) (last : Entry) : Type 0 where
@@ -66,11 +77,10 @@ pub record IsAfter (r : LabelRule) (qs : List ℕ) (k : ℕ) (entries : List Ent
   pub labels : AreLabels r.signature r.columns (label_of r) ws
   pub presences : ps ≡ map first_word ws
 
-pub taken : (r : LabelRule) (qs : List ℕ) (k : ℕ) (entries entries' : List Entry) (ws ws' : List (List ℕ)) (ps ps' : List ℕ) (last e last' : Entry) → IsLabelRule r → IsAfter r qs k entries ws ps last → IsNextOf r ws last e → k < length qs → IsTaken r e (get_or qs k 0) ps ps' ws ws' → entries' ≡ entries ++ e ∷ [] → last' ≡ e → IsAfter r qs (k + 1) entries' ws' ps' last'
-taken r qs k entries entries' ws ws' ps ps' last e last' law a n l h grown is =
-    subst (λ (x : List Entry). IsAfter r qs (k + 1) x ws' ps' last') (sym grown)
-    (subst (λ (x : Entry). IsAfter r qs (k + 1) (entries ++ e ∷ []) ws' ps' x) (sym is)
-    (subst (λ (i : ℕ). IsAfter r qs i (entries ++ e ∷ []) ws' ps' e) (sym (add-one k)) (⊎_elim new old h)))
+pub taken : (r : LabelRule) (qs : List ℕ) (k : ℕ) (entries : List Entry) (ws ws' : List (List ℕ)) (ps ps' : List ℕ) (last e last' : Entry) → IsLabelRule r → IsAfter r qs k entries ws ps last → IsNextOf r ws last e → k < length qs → IsTaken r e (get_or qs k 0) ps ps' ws ws' → last' ≡ e → IsAfter r qs (k + 1) (entries ++ e ∷ []) ws' ps' last'
+taken r qs k entries ws ws' ps ps' last e last' law a n l h is =
+    subst (λ (x : Entry). IsAfter r qs (k + 1) (entries ++ e ∷ []) ws' ps' x) (sym is)
+    (subst (λ (i : ℕ). IsAfter r qs i (entries ++ e ∷ []) ws' ps' e) (sym (add-one k)) (⊎_elim new old h))
   where
     new : IsNewState r e (get_or qs k 0) ps ps' ws ws' → IsAfter r qs (suc k) (entries ++ e ∷ []) ws' ps' e
     new t =
@@ -95,13 +105,12 @@ taken r qs k entries entries' ws ws' ps ps' last e last' law a n l h grown is =
         } in
         subst (λ (us : List (List ℕ)). IsAfter r qs (suc k) (entries ++ e ∷ []) us ps' e) (sym t.labels) all
 
-pub after_none : (r : LabelRule) (qs : List ℕ) (entries : List Entry) (ws : List (List ℕ)) (ps : List ℕ) (last : Entry) (n : ℕ) → entries ≡ [] → ws ≡ [] → ps ≡ [] → n ≡ r.columns → last ≡ no_entry n → IsAfter r qs 0 entries ws ps last
-after_none r qs entries ws ps last n z a b c d =
+pub after_none : (r : LabelRule) (qs : List ℕ) (ws : List (List ℕ)) (ps : List ℕ) (last : Entry) (n : ℕ) → ws ≡ [] → ps ≡ [] → n ≡ r.columns → last ≡ no_entry n → IsAfter r qs 0 [] ws ps last
+after_none r qs ws ps last n a b c d =
     let none : IsAfter r qs 0 [] [] [] (no_entry r.columns) = record { walked = walked_none r qs; labels = λ q l. absurd (omega arith); presences = refl } in
-    subst (λ (x : List Entry). IsAfter r qs 0 x ws ps last) (sym z)
-    (subst (λ (x : List (List ℕ)). IsAfter r qs 0 [] x ps last) (sym a)
+    subst (λ (x : List (List ℕ)). IsAfter r qs 0 [] x ps last) (sym a)
     (subst (λ (x : List ℕ). IsAfter r qs 0 [] [] x last) (sym b)
-    (subst (λ (x : Entry). IsAfter r qs 0 [] [] [] x) (sym (d ∙ ap no_entry c)) none)))
+    (subst (λ (x : Entry). IsAfter r qs 0 [] [] [] x) (sym (d ∙ ap no_entry c)) none))
 
 -- presences and labels are as many
 pub few_states : (r : LabelRule) (qs : List ℕ) (k : ℕ) (entries : List Entry) (ws : List (List ℕ)) (ps : List ℕ) (last : Entry) → IsAfter r qs k entries ws ps last → length ps ≡ length ws
@@ -113,19 +122,6 @@ over_labels r qs k entries ws ps last e a n = record { entry = n.is_entry; are =
 -- the states so far are fewer than 2 ^ 32 where the targets are
 pub few_presences : (r : LabelRule) (qs : List ℕ) (k : ℕ) (entries : List Entry) (ws : List (List ℕ)) (ps : List ℕ) (last : Entry) → IsAfter r qs k entries ws ps last → length qs < 2 ^ 32 → length ps < 2 ^ 32
 few_presences r qs k entries ws ps last a l = omega (arith, few_states r qs k entries ws ps last a, walked_few r qs k entries ws last a.walked, a.walked.right.within)
-
--- a symbol that is there
-symbol_within : (sig : Signature) (f : TupleSymbol) (k g : ℕ) → AreSymbols sig f → slice_get f k ≡ Some (Some g) → g < length sig
-symbol_within sig [] k g h e = absurd cc
-symbol_within sig (None ∷ f) zero g h e = absurd cc
-symbol_within sig (Some x ∷ f) zero g h e = let r : x ≡ g = cc in omega (arith, h.0, r)
-symbol_within sig (None ∷ f) (suc k) g h e = symbol_within sig f k g h e
-symbol_within sig (Some x ∷ f) (suc k) g h e = symbol_within sig f k g h.1 e
-
--- the symbols of an entry have numbers below 255
-pub small_symbols : (r : LabelRule) (ws : List (List ℕ)) (last e : Entry) (sig : Signature) → r.signature ≡ sig → IsSignature sig → IsNextOf r ws last e → (i g : ℕ) → slice_get e.symbol i ≡ Some (Some g) → g < 255
-small_symbols r ws last e sig is law n i g at =
-    omega (arith, symbol_within r.signature e.symbol i g n.is_entry.symbol.symbols at, ap (λ (s : Signature). length s) is, law.few)
 
 -- a part that is right has no more states than there is room for
 pub right_states : (r : LabelRule) (qs : List ℕ) (entries : List Entry) (ws : List (List ℕ)) → IsRightPart r qs entries ws → length ws ≤ most_states qs

@@ -2,14 +2,6 @@ pub mod StepAnswers
 pub mod Room
 pub mod Held
 pub mod OnePlace
-pub mod RunPlaces
-pub mod RunsView
-pub mod RunsInside
-pub mod SymbolsView
-pub mod SymbolsInside
-pub mod EntryListView
-pub mod EntryListInside
-pub mod Orders
 pub mod Turned
 pub mod TableInside
 pub mod NumberedView

@@ -1,6 +1,8 @@
 -- Inside: what the fields of the table of a part stand for.
 use Rattle.std.specs.Prelude.{◌≡◌, ◌<◌, ◌^◌, length}
-use Rattle.fort_tables.specs.Tables.{Listed, IsListed}
+use Rattle.fort_tables.specs.Tables.{Listed, listed_table, IsListed}
+use Rattle.fort_laid_entries.specs.Laid.{all_entries}
+use Rattle.fort_rrn_algebra.specs.TargetLists.{IsTargetListOf}
 use Rattle.fort_check_steps.specs.Turned.{TurnedTable}
 use Rattle.fort_check_steps.specs.declared.table.PartTable.TheInside.{Inside}
 
@@ -9,7 +11,7 @@ listed_in a = record {
   signature = a.signature.now;
   columns = a.columns;
   presences = a.room.now.presences.items;
-  entries = a.room.now.entries.entries;
+  entries = all_entries a.signature.now a.columns a.room.now.presences.items;
   targets = a.targets.now;
   finals = a.room.now.finals.items;
 }
@@ -21,3 +23,4 @@ pub record IsPartTable (a : Inside) : Type 0 where
   pub listed : IsListed (listed_in a)
   pub few : length a.room.now.presences.items < 2 ^ 32
   pub final_count : length a.room.now.finals.items ≡ length a.room.now.presences.items
+  pub list : IsTargetListOf (listed_table (listed_in a)) a.room.now.list

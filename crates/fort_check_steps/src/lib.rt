@@ -4,23 +4,18 @@
 mod atoms;
 mod closure;
 mod dues;
-mod entry_list;
 mod failure;
 mod finals;
-mod guesses;
 mod marks;
 mod numbered;
 mod numbering;
-mod order;
 mod pairs;
 mod part;
 mod projected;
 mod room;
 mod rules;
-mod runs;
 mod sparse_rows;
 mod state_labels;
-mod symbols;
 mod table;
 mod targets;
 

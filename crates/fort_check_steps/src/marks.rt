@@ -9,25 +9,19 @@ ghost use Rattle.fort_counts.specs.Counts.{IsFiniteBelow, count_at, is_infinite 
 ghost use Rattle.fort_in_order.specs.CountSteps.{IsCountOutcome};
 ghost use Rattle.fort_steps.specs.StepView.{as_count};
 ghost use Rattle.fort_check_steps.specs.Marks.{HasMarkRoom, mark_in, is_below as is_below_lem, are_below as are_below_lem, held_next, entry_next, starts, mark_test, IsSeenTo, IsFirstWrong, AreAllHeld, wrong_reason};
-ghost use Rattle.fort_check_steps.specs.EntryListView.{start_of};
 ghost use Rattle.fort_check_steps.specs.StepAnswers.{as_reason, outcome_of};
 ghost use Rattle.fort_check_steps.specs.Turned.{turned_table};
 
-use crate::entry_list::EntryList;
 use crate::failure::{Failure, Reason, failed};
 use crate::table::PartTable;
-use fort_lockstep::Table;
-use fort_rrn_algebra::{BodyList, ProductLists};
+use fort_lockstep::{Entries, Table};
 use fort_steps::Count;
 
-/// What is read of a part's operands: the pure states of one, for each whether its mark holds by what was seen, the lists of a product's
-/// operands, and that of a projection's body.
+/// What is read of a part's operand: its pure states, and for each whether its mark holds by what was seen.
 #[derive(Drop)]
 pub struct MarkRoom {
     pub states: Vec<u32>,
     pub holds: Vec<bool>,
-    pub lists: ProductLists,
-    pub body: BodyList,
 }
 
 /// Puts the states in which this column alone is present, ascending.
@@ -130,37 +124,6 @@ fn see_entry(kids: &[u32], target: u32, states: &[u32], marks: &[Count], holds: 
     }
 }
 
-/// Looks at the entries of a run.
-fn see_run(
-    entries: &EntryList,
-    targets: &[u32],
-    run: usize,
-    column: usize,
-    states: &[u32],
-    marks: &[Count],
-    holds: &mut [bool],
-)
-    requires count { length targets.now ≡ length entries.now.entries }
-    requires run { run < length entries.now.starts }
-    requires column { column < 16 }
-    requires ascending { (i j : ℕ) → i < j → j < length states.now
-        → slice_index_or states.now i 0 < slice_index_or states.now j 0 }
-    requires sizes { length marks.now ≡ length states.now }
-    requires holds { length holds.old ≡ length states.now }
-    ensures { (t : Listed) → t.entries ≡ entries.now.entries → t.targets ≡ targets.now
-        → IsSeenTo t column states.now (map as_count marks.now) (start_of entries.now run) holds.old
-        → IsSeenTo t column states.now (map as_count marks.now) (start_of entries.now (run + 1))
-        holds.new }
-{
-    let _runs = entries.runs();
-    for place in entries.start(run)..entries.start(run + 1) {
-        if entries.presence(run, place) == 1 << column {
-            let kids = entries.kids(run, place);
-            see_entry(kids, targets[place], states, marks, holds);
-        }
-    }
-}
-
 /// Looks at all entries of a table.
 fn see_entries(
     table: &PartTable<'_>,
@@ -177,11 +140,15 @@ fn see_entries(
         (length table.now.table.entries) holds.new }
     ensures lawful { IsListed table.now.table }
 {
-    let _columns = table.columns();
-    let entries = table.entries();
+    let presences = table.presences();
     let targets = table.targets();
-    for run in 0..entries.runs() {
-        see_run(entries, targets, run, column, states, marks, holds);
+    let mut entries = Entries::new(table.signature(), table.columns());
+    'targets: for place in 0..targets.len() {
+        let _is_there = entries.advance(presences);
+        let row = entries.row();
+        if row.presence() == 1 << column {
+            see_entry(row.kids(), targets[place], states, marks, holds);
+        }
     }
 }
 

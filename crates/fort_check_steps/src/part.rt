@@ -1,5 +1,5 @@
 //! The check of a part.
-ghost use Rattle.std.specs.Prelude.{◌≡◌, ◌<◌, ◌≤◌, ◌^◌, length, vec_capacity, OnOk};
+ghost use Rattle.std.specs.Prelude.{◌≡◌, ◌<◌, ◌^◌, length, OnOk};
 ghost use Rattle.fort_tables.specs.LabelRules.{IsTableBy, label_of};
 ghost use Rattle.fort_tables.specs.Tables.{listed_table};
 ghost use Rattle.fort_in_order.specs.Outcomes.{StepOutcome};
@@ -41,7 +41,6 @@ pub fn check_part<R: LocalRule>(
 {
     let width = rule.width();
     put_zeros(&mut scratch.out, width);
-    room.entries.clear(sig, rule.columns());
     room.presences.clear();
     room.finals.clear();
     scratch.rows.reset(width);
@@ -49,7 +48,6 @@ pub fn check_part<R: LocalRule>(
         rule,
         sig,
         targets,
-        &mut room.entries,
         &mut room.presences,
         &mut scratch.rows,
         scratch.out.as_mut_slice(),
@@ -60,6 +58,13 @@ pub fn check_part<R: LocalRule>(
                 &scratch.rows,
                 scratch.out.as_mut_slice(),
                 &mut room.finals,
+            );
+            room.list.lay(
+                &mut scratch.lay,
+                sig,
+                rule.columns(),
+                room.presences.as_slice(),
+                targets,
             );
             Ok(())
         }

@@ -2,11 +2,11 @@
 ghost use Rattle.std.specs.Prelude.{◌≡◌, ◌<◌, IfSome};
 ghost use Rattle.fort_operations.specs.Projections as projections;
 ghost use Rattle.fort_operations.proofs.OperandFacts.{ArePure-prop};
-ghost use Rattle.fort_rrn_algebra.specs.BodyLists.{IsListOfBody, IfBodyList-prop};
+ghost use Rattle.fort_rrn_algebra.specs.TargetLists.{IsTargetListOf, IfTargetList-prop};
 
 use fort_explore::{LocalRule, Rows};
 use fort_lockstep::{Row, Table};
-use fort_rrn_algebra::BodyList;
+use fort_rrn_algebra::TargetList;
 use fort_rrn_algebra::local::{project_accepts, project_label, project_width};
 
 /// The labels of a projection: of a tuple of the other columns, the presence, the body's state with the column absent, and the set of
@@ -18,11 +18,11 @@ pub struct Projected<'a, T: Table> {
     /// The body's states with this column alone present.
     alone: &'a [u32],
     /// The body's targets in a list, where they are.
-    list: Option<&'a BodyList>,
+    list: Option<&'a TargetList>,
     ghost within: { column < (T.table body.now).columns },
     ghost another: { 1 < (T.table body.now).columns },
     ghost pure: { projections.ArePure (T.table body.now) column alone.now } by { ArePure-prop (T.table body.now) column alone.now },
-    ghost listed: { IfSome list (λ l. IsListOfBody (T.table body.now) l.now) } by { IfBodyList-prop (T.table body.now) list (λ l. l.now) },
+    ghost listed: { IfSome list (λ l. IsTargetListOf (T.table body.now) l.now) } by { IfTargetList-prop (T.table body.now) list (λ l. l.now) },
 }
 
 impl<'a, T: Table> Projected<'a, T> {
@@ -43,8 +43,8 @@ impl<'a, T: Table> Projected<'a, T> {
     }
 
     /// The same projection by a list of the body's targets. Look-ups are quicker then.
-    pub fn listed(self, list: &'a BodyList) -> Projected<'a, T>
-        requires { IsListOfBody (T.table self.body.now) list.now }
+    pub fn listed(self, list: &'a TargetList) -> Projected<'a, T>
+        requires { IsTargetListOf (T.table self.body.now) list.now }
         ensures body { result.body.now ≡ self.entry.body.now }
         ensures column { result.column ≡ self.entry.column }
     {

@@ -3,27 +3,28 @@ ghost use Rattle.std.specs.Prelude.{◌≡◌, IfOk};
 ghost use Rattle.fort_tables.specs.Entries.{stage};
 ghost use Rattle.fort_check_steps.specs.Room.{HasRoom, IsSpaceFor, IsAsNeedy, HasNeeds, most_states as most_states_lem};
 
-use crate::entry_list::EntryList;
 use crate::state_labels::{NARROW, StateLabels};
+use fort_rrn_algebra::{LayRoom, TargetList};
 use fort_terms::Memory;
 use std::alloc::{AllocError, Global};
 
-/// What is kept of a part that was checked: its entries; the presences and the acceptance of its states.
+/// What is kept of a part that was checked: its targets, tuple symbol by tuple symbol; the presences and the acceptance of its states.
 #[derive(Drop)]
 pub struct PartRoom {
-    pub entries: EntryList,
+    pub list: TargetList,
     pub presences: Vec<u16>,
     pub finals: Vec<bool>,
 }
 
-/// What each part in its turn is checked in: the labels of its states, and one label more.
+/// What each part in its turn is checked in: the labels of its states, and one label more; what its targets are laid by.
 #[derive(Drop)]
 pub struct LabelRoom {
     pub rows: StateLabels,
     pub out: Vec<u64>,
+    pub lay: LayRoom,
 }
 
-/// What room labels need.
+/// What room labels need, and what a part's list is laid by.
 #[derive(Clone, Copy, Default)]
 pub struct LabelNeeds {
     /// The words of a label.
@@ -36,6 +37,8 @@ pub struct LabelNeeds {
     pub most: usize,
     /// The words of a wide label.
     pub widest: usize,
+    /// How many states there are.
+    pub states: usize,
 }
 
 /// One more than the greatest target, or 0.
@@ -63,7 +66,7 @@ impl PartRoom {
     {
         let states = most_states(targets);
         Ok(PartRoom {
-            entries: EntryList::new(alloc, targets.len())?,
+            list: TargetList::with_room(alloc, states, targets.len())?,
             presences: Vec::with_capacity(alloc, states)?,
             finals: Vec::with_capacity(alloc, states)?,
         })
@@ -86,6 +89,7 @@ impl LabelNeeds {
                 wide: words,
                 most: count,
                 widest: width,
+                states: count,
             });
         }
         Ok(LabelNeeds {
@@ -94,6 +98,7 @@ impl LabelNeeds {
             wide: 0,
             most: 0,
             widest: 0,
+            states: count,
         })
     }
 
@@ -108,6 +113,7 @@ impl LabelNeeds {
             wide: self.wide.max(other.wide),
             most: self.most.max(other.most),
             widest: self.widest.max(other.widest),
+            states: self.states.max(other.states),
         }
     }
 }
@@ -120,6 +126,7 @@ impl LabelRoom {
         Ok(LabelRoom {
             rows: StateLabels::new(alloc, needs.narrow, needs.wide, needs.most, needs.widest)?,
             out: Vec::with_capacity(alloc, needs.width)?,
+            lay: LayRoom::new(alloc, needs.states)?,
         })
     }
 }

@@ -2,13 +2,13 @@
 ghost use Rattle.std.specs.Prelude.{◌≡◌, ◌<◌, ◌≤◌, ◌^◌, ◌==◌, ℕ, List, Bool, length};
 ghost use Rattle.fort_tables.specs.LabelRules.{LabelRule};
 ghost use Rattle.fort_tables.specs.Tables.{full_presence, IsListed};
-ghost use Rattle.fort_check_steps.specs.Turned.{turned_by};
+ghost use Rattle.fort_rrn_algebra.specs.TargetLists.{IsTargetListOf};
+ghost use Rattle.fort_check_steps.specs.Turned.{turned_by, turned_table};
 ghost use Rattle.fort_check_steps.specs.Held.{HoldsPart, held_table};
 
-use crate::entry_list::EntryList;
-use crate::order::place_among;
 use crate::room::PartRoom;
 use fort_lockstep::{Table, TupleSym};
+use fort_rrn_algebra::TargetList;
 use fort_terms::Signature;
 use std::marker::Model;
 
@@ -62,12 +62,20 @@ impl<'a> PartTable<'a> {
         }
     }
 
-    /// The entries of the table, in their order.
-    pub fn entries(&self) -> &EntryList
-        ensures entries { result.now.entries ≡ self.now.table.entries }
+    /// The table's targets, tuple symbol by tuple symbol.
+    pub fn list(&self) -> &'a TargetList
+        ensures { IsTargetListOf (turned_table self.now) result.now }
+    {
+        &self.room.list
+    }
+
+    /// The presences of the states.
+    pub fn presences(&self) -> &[u16]
+        ensures presences { result.now ≡ self.now.table.presences }
+        ensures few { length result.now < 2 ^ 32 }
         ensures lawful { IsListed self.now.table }
     {
-        &self.room.entries
+        self.room.presences.as_slice()
     }
 
     /// The states of the entries.
@@ -128,7 +136,6 @@ impl<'a> Table for PartTable<'a> {
     }
 
     fn target(&self, sym: &TupleSym, kids: &[u32]) -> u32 {
-        let room = &self.room;
-        self.targets[place_among(&room.entries, &room.presences, sym, kids)]
+        self.room.list.target(sym, kids)
     }
 }

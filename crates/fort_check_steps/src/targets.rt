@@ -2,13 +2,13 @@
 ghost use Rattle.std.specs.Prelude.{◌≡◌, ◌<◌, ◌≤◌, ◌^◌, [], map, length, vec_len, vec_capacity, OnOk, IfErr};
 ghost use Rattle.fort_tables.specs.Labels.{first_word, IsOverLabels, AreLabels};
 ghost use Rattle.fort_tables.specs.LabelRules.{IsLabelRule, label_of};
+ghost use Rattle.fort_laid_entries.specs.Laid.{all_entries};
 ghost use Rattle.fort_in_order.specs.PartSteps.{IsPartOutcome, IsRightPart};
 ghost use Rattle.fort_check_steps.specs.OnePlace.{IsTaken, IsRefused};
 ghost use Rattle.fort_check_steps.specs.Room.{most_states};
 ghost use Rattle.fort_check_steps.specs.StateLabelsView.{IsAsSpacious};
 ghost use Rattle.fort_check_steps.specs.StepAnswers.{outcome_of};
 
-use crate::entry_list::EntryList;
 use crate::failure::{Failure, Reason, failed};
 use crate::state_labels::StateLabels;
 use fort_explore::LocalRule;
@@ -60,24 +60,21 @@ pub fn check_targets<R: LocalRule>(
     rule: &R,
     sig: &Signature,
     targets: &[u32],
-    given: &mut EntryList,
     presences: &mut Vec<u16>,
     rows: &mut StateLabels,
     out: &mut [u64],
 ) -> Result<(), Failure>
     requires signature { (R.rule rule.now).signature ≡ sig.now }
     requires few { length targets.now < 2 ^ 32 }
-    requires no_entries { given.old.entries ≡ [] }
-    requires columns { given.old.columns ≡ (R.rule rule.now).columns }
     requires no_presences { presences.old.items ≡ [] }
     requires no_rows { rows.old.labels ≡ [] }
     requires width { rows.old.width ≡ R.word_count rule.now }
     requires words { length out.old ≡ R.word_count rule.now }
     requires room { most_states targets.now ≤ rows.old.room }
-    requires places { length targets.now ≤ given.old.room }
     requires spare { most_states targets.now ≤ vec_capacity presences.old }
     ensures outcome { IsPartOutcome (R.rule rule.now) targets.now (outcome_of result) }
-    ensures right { OnOk result (IsRightPart (R.rule rule.now) targets.now given.new.entries
+    ensures right { OnOk result (IsRightPart (R.rule rule.now) targets.now (all_entries
+        (R.rule rule.now).signature (R.rule rule.now).columns (map first_word rows.new.labels))
         rows.new.labels) }
     ensures lawful { IsLabelRule (R.rule rule.now) }
     ensures states { OnOk result (length rows.new.labels ≤ most_states targets.now) }
@@ -86,7 +83,6 @@ pub fn check_targets<R: LocalRule>(
     ensures presences { OnOk result (presences.new.items ≡ map first_word rows.new.labels) }
     ensures width { rows.new.width ≡ R.word_count rule.now }
     ensures spaces { IsAsSpacious rows.old.spaces rows.new.spaces }
-    ensures entries_room { given.new.room ≡ given.old.room }
     ensures capacity { vec_capacity presences.new ≡ vec_capacity presences.old }
 {
     let mut entries = Entries::new(sig, rule.columns());
@@ -97,7 +93,7 @@ pub fn check_targets<R: LocalRule>(
             return failed(place, Reason::Long);
         }
         match take_target(rule, entries.row(), targets[place], presences, rows, out) {
-            Ok(()) => given.push(entries.row(), presences.as_slice()),
+            Ok(()) => {}
             Err(reason) => return failed(place, reason),
         }
     }

@@ -11,7 +11,6 @@ ghost use Rattle.fort_check_steps.specs.TestRule.{wide_step};
 use super::*;
 use fort_explore::{LocalRule, Rows};
 use fort_lockstep::{Entries, Row, Table};
-use fort_rrn_algebra::{BodyList, ProductLists};
 use fort_steps::{ClosureEntry, Count, Reason as Why, Which};
 use fort_terms::{AddFault, Memory, Side, Sides, Signature, Sym, System};
 use std::alloc::Global;
@@ -257,6 +256,7 @@ fn lists_of_targets(rt: HostRuntime) -> Result<(), Fail> {
         ([0, 0].as_slice(), rejected(1, Reason::Label)),
         ([].as_slice(), rejected(0, Reason::Short)),
     ] {
+        assert!(rt; targets.len() < 100);
         let rule = AtMost(&signature);
         let mut room = PartRoom::new(rt.alloc(), targets)?;
         let needs = LabelNeeds::new(4, targets.len())?;
@@ -282,6 +282,7 @@ fn wide_labels(rt: HostRuntime) -> Result<(), Fail> {
         ),
         ([0, 0].as_slice(), rejected(1, Reason::Label)),
     ] {
+        assert!(rt; targets.len() < 100);
         let rule = WideAtMost(&signature);
         let mut room = PartRoom::new(rt.alloc(), targets)?;
         let needs = LabelNeeds::new(10, targets.len())?;
@@ -302,12 +303,7 @@ fn marks_answer(
 {
     let states = Vec::with_capacity(alloc, table.states() as usize)?;
     let holds = Vec::with_capacity(alloc, marks.len())?;
-    let mut room = MarkRoom {
-        states,
-        holds,
-        lists: ProductLists::new(alloc),
-        body: BodyList::new(alloc),
-    };
+    let mut room = MarkRoom { states, holds };
     Ok(check_marks(table, 0, marks, &mut room))
 }
 
@@ -403,7 +399,9 @@ fn constant_and_binary(alloc: Global) -> Result<Signature, AddFault> {
 }
 
 /// Whether each entry of a table of two columns has its target.
-fn finds_targets(alloc: Global, signature: &Signature, targets: &[u32]) -> Result<bool, Fail> {
+fn finds_targets(alloc: Global, signature: &Signature, targets: &[u32]) -> Result<bool, Fail>
+    requires { length targets.now < 2 ^ 32 }
+{
     let rule = AtMost(signature);
     let mut room = PartRoom::new(alloc, targets)?;
     let mut scratch = LabelRoom::new(alloc, LabelNeeds::new(4, targets.len())?)?;
@@ -417,7 +415,7 @@ fn finds_targets(alloc: Global, signature: &Signature, targets: &[u32]) -> Resul
 }
 
 #[test]
-fn look_ups_in_runs(rt: HostRuntime) -> Result<(), Fail> {
+fn look_ups_in_lists(rt: HostRuntime) -> Result<(), Fail> {
     let signature = constant_and_binary(rt.alloc())?;
     let targets = [
         0u32, 1, 2, 3, 4, 5, 6, 7, 3, 3, 3, 4, 4, 4, 7, 7, 7, 5, 5, 5, 6, 6, 6, 7, 7, 8, 8, 8, 7,
@@ -427,9 +425,9 @@ fn look_ups_in_runs(rt: HostRuntime) -> Result<(), Fail> {
     Ok(())
 }
 
-/// Six states have the presence of an earlier one, with whose tuple symbols theirs are shared.
+/// Six states have the presence of an earlier one, behind which they are counted.
 #[test]
-fn look_ups_in_shared_patterns(rt: HostRuntime) -> Result<(), Fail> {
+fn look_ups_of_states_alike(rt: HostRuntime) -> Result<(), Fail> {
     let signature = constant_and_unary(rt.alloc())?;
     let targets = [0u32, 1, 2, 3, 4, 5, 6, 7, 3, 4, 7, 5, 6, 8, 7, 8];
     assert!(rt; finds_targets(rt.alloc(), &signature, &targets)?);

@@ -17,53 +17,31 @@ put_pure-requires-clause-spare c =
     let b = c.requires.body in
     subst (λ (t : Table). length t.presences ≤ vec_capacity c.clear.new.self) (sym (c.table-body.ensures b.0 b.1)) (omega (arith, b.6.pure, c.clear.ensures.capacity))
 
-pub new-plain-requires-clause-column : goal.new-plain-requires-clause-column
-new-plain-requires-clause-column c =
+pub new-requires-clause-column : goal.new-requires-clause-column
+new-requires-clause-column c =
     let b = c.requires.body in
     subst (λ (t : Table). c.args.column < t.columns) (sym (c.table-body.ensures b.0 b.1)) b.3
 
-pub new-plain-requires-clause-another : goal.new-plain-requires-clause-another
-new-plain-requires-clause-another c =
+pub new-requires-clause-another : goal.new-requires-clause-another
+new-requires-clause-another c =
     let b = c.requires.body in
     subst (λ (t : Table). 1 < t.columns) (sym (c.table-body.ensures b.0 b.1)) b.4
-
--- with the list
 
 pub check_part-requires-clause-signature : goal.check_part-requires-clause-signature
 check_part-requires-clause-signature c =
     let b = c.requires.body in
-    ap (λ (t : Table). t.signature) (ap turned_table (c.listed.ensures.body ∙ c.new-plain.ensures.body) ∙ c.table-body.ensures b.0 b.1) ∙ b.2
+    ap (λ (t : Table). t.signature) (ap turned_table (c.listed-rule.ensures.body ∙ c.new.ensures.body) ∙ c.table-body.ensures b.0 b.1) ∙ b.2
 
 pub check_part-requires-clause-scratch : goal.check_part-requires-clause-scratch
 check_part-requires-clause-scratch c =
     let b = c.requires.body in
     subst (λ (t : Table). HasLabelRoom (words_for (length t.presences) + 2) c.args.targets.now c.args.scratch.now)
-    (sym (ap turned_table (c.listed.ensures.body ∙ c.new-plain.ensures.body) ∙ c.table-body.ensures b.0 b.1)) b.5
+    (sym (ap turned_table (c.listed-rule.ensures.body ∙ c.new.ensures.body) ∙ c.table-body.ensures b.0 b.1)) b.5
 
-pub returns-in-Ok-clause-step : goal.returns-in-Ok-clause-step
-returns-in-Ok-clause-step c table at =
-    let own : turned_table c.listed.result.body.now ≡ table = ap turned_table (c.listed.ensures.body ∙ c.new-plain.ensures.body) ∙ c.table-body.ensures table at in
+pub returns-clause-step : goal.returns-clause-step
+returns-clause-step c table at =
+    let own : turned_table c.listed-rule.result.body.now ≡ table = ap turned_table (c.listed-rule.ensures.body ∙ c.new.ensures.body) ∙ c.table-body.ensures table at in
     subst (λ (n : ℕ). IsPartStep (project_local table n) c.args.targets.now c.check_part.new.room c.check_part.result)
-    (c.listed.ensures.column ∙ c.new-plain.ensures.column)
-    (subst (λ (t : Table). IsPartStep (project_local t c.listed.result.column) c.args.targets.now c.check_part.new.room c.check_part.result) own
+    (c.listed-rule.ensures.column ∙ c.new.ensures.column)
+    (subst (λ (t : Table). IsPartStep (project_local t c.listed-rule.result.column) c.args.targets.now c.check_part.new.room c.check_part.result) own
     (record { outcome = c.check_part.ensures.outcome; held = c.check_part.ensures.held }))
-
--- without it
-
-pub check_part-requires-in-Err-clause-signature : goal.check_part-requires-in-Err-clause-signature
-check_part-requires-in-Err-clause-signature c =
-    let b = c.requires.body in
-    ap (λ (t : Table). t.signature) (ap turned_table c.new-plain.ensures.body ∙ c.table-body.ensures b.0 b.1) ∙ b.2
-
-pub check_part-requires-in-Err-clause-scratch : goal.check_part-requires-in-Err-clause-scratch
-check_part-requires-in-Err-clause-scratch c =
-    let b = c.requires.body in
-    subst (λ (t : Table). HasLabelRoom (words_for (length t.presences) + 2) c.args.targets.now c.args.scratch.now)
-    (sym (ap turned_table c.new-plain.ensures.body ∙ c.table-body.ensures b.0 b.1)) b.5
-
-pub returns-in-Err-clause-step : goal.returns-in-Err-clause-step
-returns-in-Err-clause-step c table at =
-    let own : turned_table c.new-plain.result.body.now ≡ table = ap turned_table c.new-plain.ensures.body ∙ c.table-body.ensures table at in
-    subst (λ (n : ℕ). IsPartStep (project_local table n) c.args.targets.now c.check_part-in-Err.new.room c.check_part-in-Err.result) c.new-plain.ensures.column
-    (subst (λ (t : Table). IsPartStep (project_local t c.new-plain.result.column) c.args.targets.now c.check_part-in-Err.new.room c.check_part-in-Err.result) own
-    (record { outcome = c.check_part-in-Err.ensures.outcome; held = c.check_part-in-Err.ensures.held }))

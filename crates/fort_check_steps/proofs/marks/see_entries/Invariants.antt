@@ -1,8 +1,13 @@
-use Rattle.std.proofs.Common.{map}
+use Rattle.std.proofs.Common.{◌≡◌, map}
 use Rattle.fort_steps.specs.StepView.{as_count}
-use Rattle.fort_check_steps.specs.EntryListView.{start_of}
 use Rattle.fort_check_steps.specs.Marks.{IsSeenTo}
+use Rattle.fort_check_steps.proofs.ListedWalks.{entry_before}
 use Rattle.fort_check_steps.proofs.marks.see_entries.Given as goal
 
-abbrev pub invariant-loop-run : goal.invariant-loop-run
-invariant-loop-run l = IsSeenTo l.table.table l.column l.states (map as_count l.marks) (start_of l.entries l.run) l.holds
+abbrev pub invariant-targets : goal.invariant-targets
+invariant-targets l = record {
+  signature : l.entries.signature ≡ l.table.table.signature;
+  columns : l.entries.columns ≡ l.table.table.columns;
+  last : l.entries.last ≡ entry_before l.table.table l.place;
+  seen : IsSeenTo l.table.table l.column l.states (map as_count l.marks) l.place l.holds;
+}

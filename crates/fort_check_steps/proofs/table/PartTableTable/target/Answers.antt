@@ -1,25 +1,22 @@
-use Rattle.std.proofs.Common.{◌≡◌, sym, subst, get_or}
+use Rattle.std.proofs.Common.{◌≡◌, sym, subst}
 use Rattle.fort_tables.specs.Entries.{entry}
-use Rattle.fort_tables.specs.Tables.{IsTableEntry, target_in}
+use Rattle.fort_tables.specs.Tables.{IsTableEntry}
 use Rattle.fort_check_steps.specs.Turned.{TurnedTable, turned_table}
-use Rattle.fort_check_steps.specs.TableInside.{table_in, listed_in}
-use Rattle.fort_check_steps.proofs.TableLaws.{target_of}
+use Rattle.fort_check_steps.specs.TableInside.{table_in}
+use Rattle.fort_check_steps.proofs.TableLaws.{list-turned}
 use Rattle.fort_check_steps.proofs.table.PartTableTable.target.Goals as goal
 
-pub place_among-requires-clause-there : goal.place_among-requires-clause-there
-place_among-requires-clause-there c =
+pub target-requires : goal.target-requires
+target-requires c =
+    let t = table_in c.self.inside in
     let e = entry c.args.sym.now c.args.kids.now in
-    let h : IsTableEntry (turned_table (table_in c.self.inside)) e = subst (λ (t : TurnedTable). IsTableEntry (turned_table t) e) (sym c.self.view_is) c.requires in
-    c.self.invariant.listed.all e h
-
-pub place_among-requires-clause-order : goal.place_among-requires-clause-order
-place_among-requires-clause-order c =
-    let t = listed_in c.self.inside in
-    (t.signature, t.columns, t.presences, c.self.invariant.listed.order)
+    let h : IsTableEntry (turned_table t) e = subst (λ (x : TurnedTable). IsTableEntry (turned_table x) e) (sym c.self.view_is) c.requires in
+    (turned_table t, list-turned t c.self.inside.room.now.list c.self.invariant.list, h)
 
 pub returns : goal.returns
 returns c =
-    let t = listed_in c.self.inside in
+    let t = table_in c.self.inside in
     let e = entry c.args.sym.now c.args.kids.now in
-    let at = target_of t c.self.invariant.listed e c.place_among.result c.place_among.ensures.within c.place_among.ensures.is in
-    subst (λ (x : TurnedTable). get_or t.targets c.place_among.result 0 ≡ target_in x.table.entries x.table.targets e) c.self.view_is at
+    let h : IsTableEntry (turned_table t) e = subst (λ (x : TurnedTable). IsTableEntry (turned_table x) e) (sym c.self.view_is) c.requires in
+    let at = c.target.ensures (turned_table t) (list-turned t c.self.inside.room.now.list c.self.invariant.list) h in
+    subst (λ (x : TurnedTable). c.target.result ≡ (turned_table x).target e) c.self.view_is at
