@@ -1,5 +1,5 @@
--- Elements that fit, read one after another.
-use Rattle.std.proofs.Common.{◌≡◌, ℕ, zero, suc, ◌+◌, ◌-◌, ◌<◌, ◌≤◌, ◌==◌, Bool, true, false, if◌then◌else◌, List, [], ◌∷◌, ◌++◌, map, length, get_or, slice_get, take, drop, Option, None, Some, refl, ap, sym, ◌∙◌, subst, arith, append_assoc, append-nil}
+-- Elements, read one after another.
+use Rattle.std.proofs.Common.{◌≡◌, ℕ, ◌+◌, ◌-◌, ◌<◌, ◌≤◌, ◌==◌, Bool, true, false, if◌then◌else◌, List, [], ◌∷◌, ◌++◌, map, length, get_or, slice_get, take, drop, Some, refl, ap, sym, ◌∙◌, subst, arith, append_assoc, append-nil}
 use Rattle.std.specs.List.{AllZip}
 use Rattle.std.proofs.lemmas.Bool.Decides.{nat_tests}
 use Rattle.std.proofs.lemmas.List.{take_all, take_more, length-drop, get_or-drop}
@@ -8,14 +8,10 @@ use Rattle.std.proofs.lemmas.Slice.Zip.{all_zipped_more}
 use Rattle.fort_grammar.specs.Forms.{Form}
 use Rattle.fort_grammar.specs.Declarations.{word_of, elements_of, IsHeaded}
 use Rattle.fort_counts.specs.Counts.{Count}
-use Rattle.fort_certificate_grammar.specs.Certificates.{Which, Pair, Step, Closure, Part, Counts, Value}
+use Rattle.fort_certificate_grammar.specs.Certificates.{Which, Pair, Closure, Part, Counts, Value}
 use Rattle.fort_certificate_grammar.specs.CertificateForms.{Version, OfOne, OfSeveral, version_for, which_word, verdict_word, IsNumberForm, IsPairForm, IsCountForm, IsStepForm, ClosureForm, IndexedForm, PartForm, CountsForm, ValueForm}
-use Rattle.fort_certificate_grammar.specs.CertificateFaults.{Slot, Fits, StepHead, ClosureHead, PartHead, CountsHead, ValueHead, head_word, slots_of, rest_of}
-use Rattle.fort_certificate_grammar.specs.FilledSlots.{FitAll}
-use Rattle.fort_certificate_grammar.proofs.StepSlots.{filled, same_parts, heads_same}
-use Rattle.fort_certificate.specs.declared.slot.Head.{Head}
-use Rattle.fort_certificate.specs.ReadView.{as_head}
-use Rattle.fort_certificate.specs.Checking.{IsSomeStep, AreElementsOf}
+use Rattle.fort_certificate_grammar.specs.CertificateFaults.{ClosureHead, PartHead, CountsHead, ValueHead, head_word}
+use Rattle.fort_certificate_grammar.proofs.StepSlots.{same_parts}
 
 -- a list from one place up to another
 abbrev pub between : {A : Type 0} → ℕ → ℕ → List A → List A
@@ -53,17 +49,6 @@ each_map R view [] (y ∷ ys) h = absurd h
 each_map R view (g ∷ gs) [] h = absurd h
 each_map R view (g ∷ gs) (y ∷ ys) h = (h.0, each_map R view gs ys h.1)
 
-pub some_at : {A : Type 0} (R : Form → A → Type 0) (fs : List Form) (from i : ℕ) (f : Form) (xs : List A) → AllZip R (drop from fs) xs → from ≤ i
-    → slice_get fs i ≡ Some f → (x : A) × R f x
-some_at R [] zero zero f xs h l e = absurd cc
-some_at R [] zero (suc i) f xs h l e = absurd cc
-some_at R [] (suc from) i f xs h l e = absurd cc
-some_at R (g ∷ gs) zero i f [] h l e = absurd h
-some_at R (g ∷ gs) zero zero f (x ∷ xs) h l e = let same : g ≡ f = cc in (x, subst (λ y. R y x) same h.0)
-some_at R (g ∷ gs) zero (suc i) f (x ∷ xs) h l e = some_at R gs zero i f xs h.1 (omega arith) e
-some_at R (g ∷ gs) (suc from) zero f xs h l e = absurd (omega (arith, l))
-some_at R (g ∷ gs) (suc from) (suc i) f xs h l e = some_at R gs from i f xs h (omega (arith, l)) e
-
 -- versions by the number of systems
 pub version_one : (n : ℕ) → n ≡ 1 → version_for n ≡ OfOne
 version_one n e = ap version_for e
@@ -93,62 +78,6 @@ read_more R fs left rest f xs x r e one =
 pub read_all : {A : Type 0} (R : Form → A → Type 0) (fs left : List Form) (xs : List A) → IsReadTo R fs left xs → left ≡ [] → AllZip R fs xs
 read_all R fs left xs r e = subst (AllZip R fs) (append-nil xs) (r.all [] (subst (λ gs. AllZip R gs []) (sym e) tt))
 
--- the first of forms that fit
-pub record FitsFirst (bytes : List ℕ) (s : Slot) (ss : List Slot) (last : Option Slot) (f : Form) (fs : List Form) : Type 0 where
-  pub fits : Fits bytes f s
-  pub rest : FitAll bytes ss last fs
-
-pub fits_first : (bytes : List ℕ) (s : Slot) (ss : List Slot) (last : Option Slot) (f : Form) (fs gs : List Form) → FitAll bytes (s ∷ ss) last gs
-    → gs ≡ f ∷ fs → FitsFirst bytes s ss last f fs
-fits_first bytes s ss last f fs gs h e = let fit = subst (FitAll bytes (s ∷ ss) last) e h in record { fits = fit.0; rest = fit.1 }
-
-pub fits_last : (bytes : List ℕ) (s : Slot) (f : Form) (fs gs : List Form) → FitAll bytes [] (Some s) gs → gs ≡ f ∷ fs
-    → FitsFirst bytes s [] (Some s) f fs
-fits_last bytes s f fs gs h e = let fit = subst (FitAll bytes [] (Some s)) e h in record { fits = fit.0; rest = fit.1 }
-
-pub fits_none : (bytes : List ℕ) (s : Slot) (ss : List Slot) (last : Option Slot) (gs : List Form) → FitAll bytes (s ∷ ss) last gs → gs ≡ [] → ⊥
-fits_none bytes s ss last gs h e = subst (FitAll bytes (s ∷ ss) last) e h
-
--- a step fills the slots of its head
-pub step_fills : (bytes : List ℕ) (version : Version) (f : Form) (s : Step) (which : StepHead) (a : Form) (fs : List Form) → IsStepForm bytes version f s
-    → IsHeaded bytes (head_word which) f → elements_of f ≡ Some (a ∷ fs) → FitAll bytes (slots_of which version) (rest_of which) fs
-step_fills bytes version f s which a fs h headed is =
-    let x = filled bytes version f s h in
-    let w : x.which ≡ which = heads_same bytes f x.head headed.first x.others headed.others x.which which x.is headed.is x.headed headed.head in
-    let same : x.others ≡ fs = (let i = x.is in cc) in
-    subst (FitAll bytes (slots_of which version) (rest_of which)) same
-    (subst (λ (y : StepHead). FitAll bytes (slots_of y version) (rest_of y) x.others) w x.fit)
-
-pub step_elements : (bytes : List ℕ) (version : Version) (f : Form) (s : Step) → IsStepForm bytes version f s → elements_of f ≡ None → ⊥
-step_elements bytes version f s h e = let is = (filled bytes version f s h).is in absurd cc
-
-pub step_some : (bytes : List ℕ) (version : Version) (f : Form) (s : Step) (fs : List Form) → IsStepForm bytes version f s → elements_of f ≡ Some fs
-    → fs ≡ [] → ⊥
-step_some bytes version f s fs h e none = let is = (filled bytes version f s h).is in absurd cc
-
-pub step_headed : (bytes : List ℕ) (version : Version) (f : Form) (s : Step) → IsStepForm bytes version f s
-    → (which : StepHead) × IsHeaded bytes (head_word which) f
-step_headed bytes version f s h =
-    let x = filled bytes version f s h in
-    let headed : IsHeaded bytes (head_word x.which) f = record { first = x.head; others = x.others; is = x.is; head = x.headed } in
-    (x.which, headed)
-
--- before and behind the reading of a list by its head
-module _ (bytes other : List ℕ) (version : Version) (f : Form) (head which : Head) (a : Form) (fs : List Form) (same : other ≡ bytes)
-    (is : head ≡ which) (headed : IsHeaded bytes (head_word (as_head head)) f) (elements : elements_of f ≡ Some (a ∷ fs)) where
-  now_headed : IsHeaded bytes (head_word (as_head which)) f
-  now_headed = subst (λ (h : Head). IsHeaded bytes (head_word (as_head h)) f) is headed
-
-  pub list_fills : IsSomeStep bytes version f → FitAll other (slots_of (as_head which) version) (rest_of (as_head which)) fs
-  list_fills some =
-      subst (λ (b : List ℕ). FitAll b (slots_of (as_head which) version) (rest_of (as_head which)) fs) (sym same)
-      (step_fills bytes version f some.0 (as_head which) a fs some.1 now_headed elements)
-
-  pub list_read : (s : Step) → AreElementsOf other version (as_head which) fs s → IsStepForm bytes version f s
-  list_read s made =
-      subst (λ (b : List ℕ). IsStepForm b version f s) same
-      (made f a elements (subst (λ (b : List ℕ). IsHeaded b (head_word (as_head which)) f) (sym same) now_headed))
-
 -- the elements of a step, put together
 module _ (bytes : List ℕ) (f : Form) where
   headed_first : (word : List ℕ) (a : Form) (fs : List Form) → IsHeaded bytes word f → elements_of f ≡ Some (a ∷ fs) → word_of bytes a ≡ Some word
@@ -174,15 +103,10 @@ module _ (bytes : List ℕ) (f : Form) where
       both : elements_of f ≡ Some (a ∷ b ∷ d ∷ last)
       both = is ∙ ap (λ gs. Some (a ∷ b ∷ gs)) again
 
-      pub value_made : (version : Version) (k : ℕ) (v : Bool) → FitAll bytes [] None last → IsNumberForm bytes b k
+      pub value_made : (version : Version) (k : ℕ) (v : Bool) → last ≡ [] → IsNumberForm bytes b k
           → word_of bytes d ≡ Some (verdict_word v) → IsHeaded bytes (head_word ValueHead) f → IsStepForm bytes version f (Value k v)
-      value_made version k v end n word headed =
-          let none = no_more last end in
+      value_made version k v none n word headed =
           ValueForm a b d (both ∙ ap (λ gs. Some (a ∷ b ∷ d ∷ gs)) none) (headed_first (head_word ValueHead) a fs headed elements) n word
-        where
-          no_more : (gs : List Form) → FitAll bytes [] None gs → gs ≡ []
-          no_more [] h = refl
-          no_more (g ∷ gs) h = absurd h
 
       pub indexed_made : (version : Version) (w : Which) (k : ℕ) (ps : List Pair) → version ≡ OfSeveral → word_of bytes b ≡ Some (which_word w)
           → IsNumberForm bytes d k → AllZip (IsPairForm bytes) last ps → IsHeaded bytes (head_word ClosureHead) f

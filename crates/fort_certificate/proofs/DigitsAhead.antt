@@ -17,10 +17,6 @@ use Rattle.fort_certificate.proofs.NumberWords.{no_digit, stays_great}
 word_digit : (b : ℕ) → IsInRange 48 57 b → is_word_byte b ≡ true
 word_digit b range = grind (arith, nat_tests)
 
--- a word that bytes begin with is no longer than they are
-pub ahead_within : (bs : List ℕ) → length (word_ahead bs) ≤ length bs
-ahead_within bs = omega (arith, length-prefix_len is_word_byte bs, prefix_len-le-length is_word_byte bs)
-
 -- its bytes are theirs
 pub ahead_at : (bs : List ℕ) (i : ℕ) → i < length (word_ahead bs) → get_or (word_ahead bs) i 0 ≡ get_or bs i 0
 ahead_at bs i low = get_or-take (prefix_len is_word_byte bs) bs i 0 (omega (arith, length-prefix_len is_word_byte bs))

@@ -1,5 +1,5 @@
 -- Faults of the program, and those of the definitions that they are.
-use Rattle.std.proofs.Common.{◌≡◌, None, Some, sym, subst}
+use Rattle.std.proofs.Common.{◌≡◌, None, Some, IfSome, sym, subst}
 use Rattle.fort_certificate_grammar.specs.CertificateFaults as grammar
 use Rattle.fort_certificate.specs.declared.fault.CertificateFault.{CertificateFault}
 use Rattle.fort_certificate.specs.declared.fault.CertificateFault.TheVariants.{Memory, BadForm, BadNumber, Version}
@@ -22,3 +22,10 @@ fault_then P Q Memory f h = h
 fault_then P Q (BadForm i) f h = f (grammar.BadForm i) h
 fault_then P Q (BadNumber i) f h = f (grammar.BadNumber i) h
 fault_then P Q (Version i) f h = f (grammar.OtherVersion i) h
+
+-- what is said of a fault, as the contract of the reading says it
+pub fault_some : (P : grammar.CertificateFault → Type 0) (fault : CertificateFault) → IsFault P fault → IfSome (as_fault fault) P
+fault_some P Memory h = absurd h
+fault_some P (BadForm i) h = h
+fault_some P (BadNumber i) h = h
+fault_some P (Version i) h = h

@@ -2,7 +2,7 @@
 use Rattle.std.proofs.Common.{◌≡◌, ℕ, Bool, List, [], ◌∷◌, codes, subst}
 use Rattle.fort_grammar.specs.Forms.{Form}
 use Rattle.fort_grammar.specs.Declarations.{IsListOfWords}
-use Rattle.fort_certificate_grammar.specs.CertificateForms.{Version, version_word, verdict_word, IsNumberWord, IsHeaderForm}
+use Rattle.fort_certificate_grammar.specs.CertificateForms.{Version, version_word, verdict_word, IsNumberWord}
 use Rattle.fort_certificate_grammar.specs.CertificateFaults.{BadForm, BadNumber, OtherVersion, IsNoNumber, IsBadHeader, NoHeader, NoVersion, WrongVersion, WrongVerdict}
 use Rattle.fort_certificate_grammar.proofs.OneCertificate.{list_words_one}
 
@@ -29,6 +29,3 @@ module _ (bytes : List ℕ) (version : Version) (i : ℕ) (f : Form) (u v w : Li
 
   pub other_verdict : u ≡ codes "certificate" → v ≡ version_word version → ((x : Bool) → w ≡ verdict_word x → ⊥) → IsBadHeader bytes version i f (BadForm i)
   other_verdict e g other = WrongVerdict w (versioned e g) other
-
-  pub is_header : (x : Bool) → u ≡ codes "certificate" → v ≡ version_word version → w ≡ verdict_word x → IsHeaderForm bytes version f x
-  is_header x e g is = subst (λ y. IsListOfWords bytes f (codes "certificate" ∷ version_word version ∷ y ∷ [])) is (versioned e g)

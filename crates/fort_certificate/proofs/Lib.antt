@@ -5,7 +5,7 @@ pub mod HeaderLaws
 pub mod StepsLaws
 pub mod FaultLaws
 pub mod BuildLaws
-pub mod ReadLaws
+pub mod WrongLaws
 mod NumberWords
 mod DigitsAhead
 mod SmallLaws

@@ -108,9 +108,6 @@ module _ (bytes : List ℕ) (slots : List grammar.Slot) (last : Option grammar.S
             long = long;
           }
 
-pub passed_none : (bytes : List ℕ) (slots : List grammar.Slot) (last : Option grammar.Slot) (forms : List Form) → IsPassed bytes slots last forms forms 0
-passed_none bytes slots last forms = record { bad = λ kind bad. bad; fit = λ all. all; long = omega arith }
-
 fit_none : (bytes : List ℕ) (last : Option grammar.Slot) → FitAll bytes [] last []
 fit_none bytes None = tt
 fit_none bytes (Some s) = tt

@@ -1,5 +1,6 @@
 -- Forms that are steps, one after another, and the first that is none.
 use Rattle.std.proofs.Common.{◌≡◌, ℕ, zero, suc, ◌+◌, ◌-◌, ◌<◌, ◌≤◌, Bool, List, [], ◌∷◌, ◌++◌, length, get_or, slice_get, take, drop, Option, Some, refl, ap, sym, ◌∙◌, subst, arith}
+use Rattle.std.specs.List.{AllZip}
 use Rattle.std.proofs.lemmas.List.{drop_more, drop_all, take_all, take_more, length-drop, length-take-le, get_or-drop}
 use Rattle.std.proofs.lemmas.List.{take-append-drop}
 use Rattle.std.proofs.lemmas.Option.{slice_get_within, get_or_from_slice_get}
@@ -9,12 +10,13 @@ use Rattle.fort_grammar.specs.Declarations.{as_list, elements_of, IsHeaded}
 use Rattle.fort_sexpr.specs.FormCode.{node_count, node_counts}
 use Rattle.fort_sexpr.specs.FormView.{form_count, form_at}
 use Rattle.fort_sexpr.proofs.FormLists.{node_counts-AreForms}
-use Rattle.fort_certificate_grammar.specs.CertificateForms.{Version, version_for, IsStepForm, IsHeaderForm}
+use Rattle.fort_certificate_grammar.specs.Certificates.{Step}
+use Rattle.fort_certificate_grammar.specs.CertificateForms.{Version, version_for, IsStepForm, IsHeaderForm, IsCertificate}
 use Rattle.fort_certificate_grammar.specs.CertificateFaults as grammar
 use Rattle.fort_certificate_grammar.specs.CertificateFaults.{CertificateFault, FaultKind, fault_of, StepHead, head_word, slots_of, rest_of, AreBad, IsBadStep, BadElement, IsBadHeader, IsFirstCertificateFault, WithoutHeader, InHeader, InStep}
 use Rattle.fort_certificate_grammar.specs.FilledSlots.{FitAll}
 use Rattle.fort_certificate_grammar.proofs.StepSlots.{step_from_filled}
-use Rattle.fort_certificate.specs.Checking.{IsSomeStep, AreSomeSteps, HasBadStep, IsSomeCertificate}
+use Rattle.fort_certificate.specs.Checking.{IsSomeStep, AreSomeSteps, HasBadStep}
 
 -- the forms of a text as a list
 pub form_at-list : (fs : Forms) (i : ℕ) (f : Form) → form_at fs i ≡ Some f → slice_get (as_list fs) i ≡ Some f
@@ -60,11 +62,6 @@ step_bad bytes version f which fs slots last kind headed is e g bad i =
 -- the steps from one number up to another
 abbrev pub AreStepsUpTo : List ℕ → Version → List Form → ℕ → ℕ → Type 0
 AreStepsUpTo bytes version all from i = AreSomeSteps bytes version (take (i - from) (drop from all))
-
-pub steps_none : (bytes : List ℕ) (version : Version) (all : List Form) (from : ℕ) → AreStepsUpTo bytes version all from from
-steps_none bytes version all from =
-    let none : from - from ≡ 0 = omega arith in
-    rw none ([], tt)
 
 module _ (bytes : List ℕ) (version : Version) (all : List Form) (from i : ℕ) (f : Form) (steps : AreStepsUpTo bytes version all from i) (low : from ≤ i)
     (here : slice_get all i ≡ Some f) where
@@ -120,12 +117,11 @@ module _ (bytes : List ℕ) (number : ℕ) (all : List Form) (from : ℕ) (heade
   step_is_bad verdict fault headed h =
       InStep header verdict h.before h.after h.steps h.f fault (split ∙ ap (λ gs. header ∷ gs) h.is) headed h.fine h.bad
 
-  pub some_certificate : (verdict : Bool) → IsHeaderForm bytes (version_for number) header verdict
-      → AreSomeSteps bytes (version_for number) (drop (from + 1) all) → IsSomeCertificate bytes number all from verdict
-  some_certificate verdict headed steps = (
-    steps.0,
-    record { header = header; others = drop (from + 1) all; first = refl; split = split; headed = headed; are_steps = steps.1 },
-  )
+  pub certificate_of : (verdict : Bool) (steps : List Step) → IsHeaderForm bytes (version_for number) header verdict
+      → AllZip (IsStepForm bytes (version_for number)) (drop (from + 1) all) steps
+      → IsCertificate bytes number all from (record { first = from; verdict = verdict; steps = steps })
+  certificate_of verdict steps headed each =
+      record { header = header; others = drop (from + 1) all; first = refl; split = split; headed = headed; are_steps = each }
 
 pub no_header : (bytes : List ℕ) (number : ℕ) (all : List Form) (from : ℕ) → length all ≤ from
     → IsFirstCertificateFault bytes number all from (grammar.BadForm from)

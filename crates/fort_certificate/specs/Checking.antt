@@ -1,11 +1,11 @@
 -- Inside: that forms are steps, and which is the first that is none.
-use Rattle.std.specs.Prelude.{◌≡◌, ℕ, ◌+◌, Bool, List, ◌∷◌, ◌++◌, length, Some}
+use Rattle.std.specs.Prelude.{◌≡◌, ℕ, ◌+◌, List, ◌∷◌, ◌++◌, length, Some}
 use Rattle.std.specs.List.{AllZip}
 use Rattle.fort_grammar.specs.Forms.{Form}
 use Rattle.fort_grammar.specs.Declarations.{elements_of, IsHeaded}
 use Rattle.fort_certificate_grammar.specs.Certificates.{Step}
-use Rattle.fort_certificate_grammar.specs.CertificateForms.{Version, IsStepForm, IsCertificate}
-use Rattle.fort_certificate_grammar.specs.CertificateFaults.{CertificateFault, StepHead, head_word, IsBadStep}
+use Rattle.fort_certificate_grammar.specs.CertificateForms.{Version, IsStepForm}
+use Rattle.fort_certificate_grammar.specs.CertificateFaults.{CertificateFault, FaultKind, StepHead, head_word, slots_of, rest_of, AreBad, IsBadStep}
 
 abbrev pub IsSomeStep : List ℕ → Version → Form → Type 0
 IsSomeStep bytes version f = (s : Step) × IsStepForm bytes version f s
@@ -18,6 +18,10 @@ abbrev pub AreElementsOf : List ℕ → Version → StepHead → List Form → S
 AreElementsOf bytes version which fs s =
     (f head : Form) → elements_of f ≡ Some (head ∷ fs) → IsHeaded bytes (head_word which) f → IsStepForm bytes version f s
 
+-- what is first wrong with elements that should stand behind the head
+abbrev pub AreBadElementsOf : List ℕ → Version → StepHead → List Form → FaultKind → Type 0
+AreBadElementsOf bytes version which fs kind = AreBad bytes (slots_of which version) (rest_of which) fs kind
+
 -- the fault of the first that is no step; i is the number of the first of the forms
 pub record HasBadStep (bytes : List ℕ) (version : Version) (i : ℕ) (fs : List Form) (fault : CertificateFault) : Type 0 where
   pub before : List Form
@@ -27,8 +31,3 @@ pub record HasBadStep (bytes : List ℕ) (version : Version) (i : ℕ) (fs : Lis
   pub is : fs ≡ before ++ f ∷ after
   pub fine : AllZip (IsStepForm bytes version) before steps
   pub bad : IsBadStep bytes version (i + length before) f fault
-
--- a certificate of this verdict
-abbrev pub IsSomeCertificate : List ℕ → ℕ → List Form → ℕ → Bool → Type 0
-IsSomeCertificate bytes number forms from verdict =
-    (steps : List Step) × IsCertificate bytes number forms from (record { first = from; verdict = verdict; steps = steps })

@@ -4,6 +4,8 @@ use Rattle.fort_certificate_grammar.specs.CertificateFaults as grammar
 use Rattle.fort_certificate.specs.declared.value.Wrong.{Wrong}
 use Rattle.fort_certificate.specs.declared.value.Wrong.TheVariants.{Form}
 use Rattle.fort_certificate.specs.declared.value.Wrong.TheVariants as wrongs
+use Rattle.fort_certificate.specs.declared.build.Unread.{Unread}
+use Rattle.fort_certificate.specs.declared.build.Unread.TheVariants as unread
 use Rattle.fort_certificate.specs.declared.slot.Slot.{Slot}
 use Rattle.fort_certificate.specs.declared.slot.Slot.TheVariants.{Which, Number, Verdict, Entry, Count}
 use Rattle.fort_certificate.specs.declared.slot.Head.{Head}
@@ -12,6 +14,11 @@ use Rattle.fort_certificate.specs.declared.slot.Head.TheVariants.{Closure, Part,
 abbrev pub as_kind : Wrong → grammar.FaultKind
 as_kind Form = grammar.AsForm
 as_kind wrongs.Number = grammar.AsNumber
+
+-- want of memory is nothing wrong with a form
+abbrev pub as_wrong : Unread → Option grammar.FaultKind
+as_wrong (unread.Wrong wrong) = Some (as_kind wrong)
+as_wrong unread.Memory = None
 
 abbrev pub as_slot : Slot → grammar.Slot
 as_slot Which = grammar.WhichSlot

@@ -1,209 +1,209 @@
-//! Reads forms of which it is known that they are steps.
-ghost use Rattle.std.specs.Prelude.{◌≡◌, ◌≤◌, [], ◌∷◌, Some, None, map, drop, length, IfOk};
+//! Reads forms as steps, each number once, and says what is wrong with the first that is none.
+ghost use Rattle.std.specs.Prelude.{◌≡◌, ℕ, ◌≤◌, [], Some, map, drop, IfSome, IfOk, IfErr};
 ghost use Rattle.std.specs.List.{AllZip};
-ghost use Rattle.fort_grammar.specs.Declarations.{as_list, word_of};
-ghost use Rattle.fort_certificate_grammar.specs.CertificateForms.{Version, version_for, which_word, verdict_word, IsNumberForm, IsPairForm, IsCountForm, IsStepForm};
-ghost use Rattle.fort_certificate_grammar.specs.CertificateFaults.{WhichSlot, NumberSlot, VerdictSlot, PairSlot, CountSlot, Fits, ClosureHead, PartHead, CountsHead, ValueHead, slots_of};
-ghost use Rattle.fort_certificate_grammar.specs.FilledSlots.{FitAll};
+ghost use Rattle.fort_grammar.specs.Declarations.{as_list};
+ghost use Rattle.fort_certificate_grammar.specs.CertificateForms.{Version, version_for, IsNumberForm, IsPairForm, IsCountForm, IsStepForm};
+ghost use Rattle.fort_certificate_grammar.specs.CertificateFaults.{NumberSlot, PairSlot, CountSlot, ClosureHead, PartHead, CountsHead, ValueHead, fault_of, AreBad, IsBadStep};
 ghost use Rattle.fort_sexpr.specs.FormView.{form_count};
-ghost use Rattle.fort_steps.specs.StepView.{as_which, as_pair, as_count, as_step};
-ghost use Rattle.fort_certificate.specs.Checking.{IsSomeStep, AreSomeSteps, AreElementsOf};
+ghost use Rattle.fort_steps.specs.StepView.{as_pair, as_count, as_step};
+ghost use Rattle.fort_certificate.specs.declared.build.Unread.TheVariants as unread;
+ghost use Rattle.fort_certificate.specs.Checking.{AreElementsOf, AreBadElementsOf, HasBadStep};
+ghost use Rattle.fort_certificate.specs.Faults.{as_fault};
+ghost use Rattle.fort_certificate.specs.ReadView.{as_kind, as_wrong};
 
+use crate::check::fault_at;
+use crate::fault::CertificateFault;
 use crate::slot::{Head, head_of};
-use crate::value::{count_in, entry_in, number_in, verdict_in, which_in};
+use crate::value::{Wrong, count_in, entry_in, number_in, verdict_in, which_in};
 use fort_sexpr::{Form, FormList, Forms};
-use fort_steps::{ClosureEntry, Count, Step, Which};
+use fort_steps::{ClosureEntry, Count, Step};
 use std::alloc::{AllocError, Global};
 
-fn which(form: &Form) -> Which
-    requires { Fits form.now.bytes form.now.form WhichSlot }
-    ensures { word_of form.now.bytes form.now.form ≡ Some (which_word (as_which result)) }
-{
-    match which_in(form) {
-        Some(which) => which,
-        None => unreachable!(),
+/// Why a step was not read.
+#[derive(Clone, Copy)]
+pub(crate) enum Unread {
+    /// An element is wrong, or the whole form.
+    Wrong(Wrong),
+    /// There is not enough memory.
+    Memory,
+}
+
+impl From<Wrong> for Unread {
+    ghost from_gives = { λ wrong e. e ≡ unread.Wrong wrong };
+
+    fn from(wrong: Wrong) -> Unread {
+        Unread::Wrong(wrong)
     }
 }
 
-fn verdict(form: &Form) -> bool
-    requires { Fits form.now.bytes form.now.form VerdictSlot }
-    ensures { word_of form.now.bytes form.now.form ≡ Some (verdict_word result) }
-{
-    match verdict_in(form) {
-        Some(verdict) => verdict,
-        None => unreachable!(),
-    }
-}
+impl From<AllocError> for Unread {
+    ghost from_gives = { λ _ e. e ≡ unread.Memory };
 
-fn number(form: &Form) -> u32
-    requires { Fits form.now.bytes form.now.form NumberSlot }
-    ensures { IsNumberForm form.now.bytes form.now.form result }
-{
-    match number_in(form) {
-        Ok(n) => n,
-        Err(_) => unreachable!(),
-    }
-}
-
-fn entry(form: &Form) -> ClosureEntry
-    requires { Fits form.now.bytes form.now.form PairSlot }
-    ensures { IsPairForm form.now.bytes form.now.form (as_pair result) }
-{
-    match entry_in(form) {
-        Ok(entry) => entry,
-        Err(_) => unreachable!(),
-    }
-}
-
-fn count(form: &Form) -> Count
-    requires { Fits form.now.bytes form.now.form CountSlot }
-    ensures { IsCountForm form.now.bytes form.now.form (as_count result) }
-{
-    match count_in(form) {
-        Ok(count) => count,
-        Err(_) => unreachable!(),
+    fn from(_e: AllocError) -> Unread {
+        Unread::Memory
     }
 }
 
 /// The numbers that forms are.
-fn numbers(alloc: Global, elements: FormList) -> Result<Vec<u32>, AllocError>
-    requires { FitAll elements.bytes [] (Some NumberSlot) elements.forms }
-    ensures { IfOk result (λ v.
+fn numbers(alloc: Global, elements: FormList) -> Result<Vec<u32>, Unread>
+    ensures ok { IfOk result (λ v.
         AllZip (IsNumberForm elements.entry.bytes) elements.entry.forms v.items) }
+    ensures wrong { IfErr result (λ e. IfSome (as_wrong e)
+        (AreBad elements.entry.bytes [] (Some NumberSlot) elements.entry.forms)) }
 {
-    let mut numbers = Vec::new(alloc);
+    let mut numbers = Vec::with_capacity(alloc, elements.len())?;
     let mut rest = elements;
     'elements: while let Some((form, behind)) = rest.split_first() {
-        numbers.push(number(&form))?;
+        numbers.push_reserved(number_in(&form)?);
         rest = behind;
     }
     Ok(numbers)
 }
 
 /// The pairs of a closure that forms are.
-fn entries(alloc: Global, elements: FormList) -> Result<Vec<ClosureEntry>, AllocError>
-    requires { FitAll elements.bytes [] (Some PairSlot) elements.forms }
-    ensures { IfOk result (λ v.
+fn entries(alloc: Global, elements: FormList) -> Result<Vec<ClosureEntry>, Unread>
+    ensures ok { IfOk result (λ v.
         AllZip (IsPairForm elements.entry.bytes) elements.entry.forms (map as_pair v.items)) }
+    ensures wrong { IfErr result (λ e. IfSome (as_wrong e)
+        (AreBad elements.entry.bytes [] (Some PairSlot) elements.entry.forms)) }
 {
-    let mut entries = Vec::new(alloc);
+    let mut entries = Vec::with_capacity(alloc, elements.len())?;
     let mut rest = elements;
     'elements: while let Some((form, behind)) = rest.split_first() {
-        entries.push(entry(&form))?;
+        entries.push_reserved(entry_in(&form)?);
         rest = behind;
     }
     Ok(entries)
 }
 
 /// The counts that forms are.
-fn counts(alloc: Global, elements: FormList) -> Result<Vec<Count>, AllocError>
-    requires { FitAll elements.bytes [] (Some CountSlot) elements.forms }
-    ensures { IfOk result (λ v.
+fn counts(alloc: Global, elements: FormList) -> Result<Vec<Count>, Unread>
+    ensures ok { IfOk result (λ v.
         AllZip (IsCountForm elements.entry.bytes) elements.entry.forms (map as_count v.items)) }
+    ensures wrong { IfErr result (λ e. IfSome (as_wrong e)
+        (AreBad elements.entry.bytes [] (Some CountSlot) elements.entry.forms)) }
 {
-    let mut counts = Vec::new(alloc);
+    let mut counts = Vec::with_capacity(alloc, elements.len())?;
     let mut rest = elements;
     'elements: while let Some((form, behind)) = rest.split_first() {
-        counts.push(count(&form))?;
+        counts.push_reserved(count_in(&form)?);
         rest = behind;
     }
     Ok(counts)
 }
 
 /// The closure with these forms behind its head, in a problem of so many systems.
-fn closure(alloc: Global, elements: &FormList, systems: u32) -> Result<Step, AllocError>
-    requires { FitAll elements.now.bytes (slots_of ClosureHead (version_for systems))
-        (Some PairSlot) elements.now.forms }
-    ensures { IfOk result (λ step. AreElementsOf elements.now.bytes (version_for systems)
+fn closure(alloc: Global, elements: &FormList, systems: u32) -> Result<Step, Unread>
+    ensures ok { IfOk result (λ step. AreElementsOf elements.now.bytes (version_for systems)
         ClosureHead elements.now.forms (as_step step)) }
+    ensures wrong { IfErr result (λ e. IfSome (as_wrong e) (AreBadElementsOf
+        elements.now.bytes (version_for systems) ClosureHead elements.now.forms)) }
 {
     let Some((kind, rest)) = elements.split_first() else {
-        unreachable!()
+        return Err(Unread::Wrong(Wrong::Form));
     };
-    let which = which(&kind);
+    let Some(which) = which_in(&kind) else {
+        return Err(Unread::Wrong(Wrong::Form));
+    };
     if systems == 1 {
         return Ok(Step::Closure(which, 1, entries(alloc, rest)?));
     }
     let Some((system, rest)) = rest.split_first() else {
-        unreachable!()
+        return Err(Unread::Wrong(Wrong::Form));
     };
-    Ok(Step::Closure(which, number(&system), entries(alloc, rest)?))
+    Ok(Step::Closure(which, number_in(&system)?, entries(alloc, rest)?))
 }
 
-fn part(alloc: Global, elements: &FormList) -> Result<Step, AllocError>
-    requires { FitAll elements.now.bytes (NumberSlot ∷ []) (Some NumberSlot) elements.now.forms }
-    ensures { IfOk result (λ step. (version : Version) →
+fn part(alloc: Global, elements: &FormList) -> Result<Step, Unread>
+    ensures ok { IfOk result (λ step. (version : Version) →
         AreElementsOf elements.now.bytes version PartHead elements.now.forms (as_step step)) }
+    ensures wrong { IfErr result (λ e. IfSome (as_wrong e) (λ kind. (version : Version) →
+        AreBadElementsOf elements.now.bytes version PartHead elements.now.forms kind)) }
 {
     let Some((part, rest)) = elements.split_first() else {
-        unreachable!()
+        return Err(Unread::Wrong(Wrong::Form));
     };
-    Ok(Step::Part(number(&part), numbers(alloc, rest)?))
+    Ok(Step::Part(number_in(&part)?, numbers(alloc, rest)?))
 }
 
-fn counts_step(alloc: Global, elements: &FormList) -> Result<Step, AllocError>
-    requires { FitAll elements.now.bytes (NumberSlot ∷ []) (Some CountSlot) elements.now.forms }
-    ensures { IfOk result (λ step. (version : Version) →
+fn counts_step(alloc: Global, elements: &FormList) -> Result<Step, Unread>
+    ensures ok { IfOk result (λ step. (version : Version) →
         AreElementsOf elements.now.bytes version CountsHead elements.now.forms (as_step step)) }
+    ensures wrong { IfErr result (λ e. IfSome (as_wrong e) (λ kind. (version : Version) →
+        AreBadElementsOf elements.now.bytes version CountsHead elements.now.forms kind)) }
 {
     let Some((part, rest)) = elements.split_first() else {
-        unreachable!()
+        return Err(Unread::Wrong(Wrong::Form));
     };
-    Ok(Step::Counts(number(&part), counts(alloc, rest)?))
+    Ok(Step::Counts(number_in(&part)?, counts(alloc, rest)?))
 }
 
-fn value(elements: &FormList) -> Step
-    requires { FitAll elements.now.bytes (NumberSlot ∷ VerdictSlot ∷ []) None
-        elements.now.forms }
-    ensures { (version : Version) → AreElementsOf elements.now.bytes version ValueHead
-        elements.now.forms (as_step result) }
+fn value(elements: &FormList) -> Result<Step, Wrong>
+    ensures ok { IfOk result (λ step. (version : Version) →
+        AreElementsOf elements.now.bytes version ValueHead elements.now.forms (as_step step)) }
+    ensures wrong { IfErr result (λ wrong. (version : Version) → AreBadElementsOf
+        elements.now.bytes version ValueHead elements.now.forms (as_kind wrong)) }
 {
     let Some((part, rest)) = elements.split_first() else {
-        unreachable!()
+        return Err(Wrong::Form);
     };
-    let Some((last, _none)) = rest.split_first() else {
-        unreachable!()
+    let number = number_in(&part)?;
+    let Some((last, behind)) = rest.split_first() else {
+        return Err(Wrong::Form);
     };
-    Step::Value(number(&part), verdict(&last))
+    let Some(verdict) = verdict_in(&last) else {
+        return Err(Wrong::Form);
+    };
+    if !behind.is_empty() {
+        return Err(Wrong::Form);
+    }
+    Ok(Step::Value(number, verdict))
 }
 
 /// The step that a form is.
-fn step(alloc: Global, form: &Form, systems: u32) -> Result<Step, AllocError>
-    requires { IsSomeStep form.now.bytes (version_for systems) form.now.form }
-    ensures { IfOk result (λ step.
+fn step(alloc: Global, form: &Form, systems: u32) -> Result<Step, Unread>
+    ensures ok { IfOk result (λ step.
         IsStepForm form.now.bytes (version_for systems) form.now.form (as_step step)) }
+    ensures wrong { IfErr result (λ e. IfSome (as_wrong e) (λ kind. (i : ℕ) →
+        IsBadStep form.now.bytes (version_for systems) i form.now.form (fault_of i kind))) }
 {
+    let Some(head) = head_of(form) else {
+        return Err(Unread::Wrong(Wrong::Form));
+    };
     let Some(list) = form.elements() else {
         unreachable!()
     };
     let Some((_head, elements)) = list.split_first() else {
         unreachable!()
     };
-    match head_of(form) {
-        Some(Head::Closure) => closure(alloc, &elements, systems),
-        Some(Head::Part) => part(alloc, &elements),
-        Some(Head::Counts) => counts_step(alloc, &elements),
-        Some(Head::Value) => Ok(value(&elements)),
-        None => unreachable!(),
+    match head {
+        Head::Closure => closure(alloc, &elements, systems),
+        Head::Part => part(alloc, &elements),
+        Head::Counts => counts_step(alloc, &elements),
+        Head::Value => Ok(value(&elements)?),
     }
 }
 
-/// The steps that the forms from a number on are.
+/// The steps that the forms from a number on are, or the fault of the first that is none.
 pub(crate) fn steps(
     alloc: Global,
     forms: &Forms,
     from: usize,
     systems: u32,
-) -> Result<Vec<Step>, AllocError>
-    requires within { from ≤ form_count forms.now.forms }
-    requires some { AreSomeSteps forms.now.bytes (version_for systems)
-        (drop from (as_list forms.now.forms)) }
-    ensures { IfOk result (λ v. AllZip (IsStepForm forms.now.bytes (version_for systems))
+) -> Result<Vec<Step>, CertificateFault>
+    requires { from ≤ form_count forms.now.forms }
+    ensures ok { IfOk result (λ v. AllZip (IsStepForm forms.now.bytes (version_for systems))
         (drop from (as_list forms.now.forms)) (map as_step v.items)) }
+    ensures fault { IfErr result (λ fault. IfSome (as_fault fault) (HasBadStep forms.now.bytes
+        (version_for systems) from (drop from (as_list forms.now.forms)))) }
 {
-    let mut steps = Vec::new(alloc);
+    let mut steps = Vec::with_capacity(alloc, forms.len() - from)?;
     'steps: for i in from..forms.len() {
-        steps.push(step(alloc, &forms.form(i), systems)?)?;
+        match step(alloc, &forms.form(i), systems) {
+            Ok(step) => steps.push_reserved(step),
+            Err(Unread::Wrong(wrong)) => return Err(fault_at(i as u32, wrong)),
+            Err(Unread::Memory) => return Err(CertificateFault::Memory),
+        }
     }
     Ok(steps)
 }

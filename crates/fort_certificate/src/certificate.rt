@@ -9,7 +9,7 @@ ghost use Rattle.fort_certificate.specs.CertificateView.{as_certificate};
 ghost use Rattle.fort_certificate.specs.Faults.{as_fault};
 
 use crate::build::steps;
-use crate::check::check;
+use crate::check::{check_header, check_steps};
 use crate::fault::CertificateFault;
 use fort_sexpr::Forms;
 use fort_steps::Step;
@@ -38,10 +38,25 @@ pub fn read(
     ensures memory { IsErrOf result Memory → (c : certificates.Certificate) ×
         IsCertificate forms.now.bytes number (as_list forms.now.forms) from c }
 {
-    let verdict = check(forms, from, number)?;
+    if from as usize >= forms.len() {
+        return Err(CertificateFault::BadForm(from));
+    }
+    let verdict = check_header(&forms.form(from as usize), number, from)?;
+    let first = from as usize + 1;
+    let steps = match steps(alloc, forms, first, number) {
+        Ok(steps) => steps,
+        Err(fault) => match fault {
+            CertificateFault::Memory => {
+                // A form that is no step comes before want of memory, and is found without any.
+                check_steps(forms, first, number)?;
+                return Err(CertificateFault::Memory);
+            }
+            _ => return Err(fault),
+        },
+    };
     Ok(Certificate {
         first: from,
         verdict,
-        steps: steps(alloc, forms, from as usize + 1, number)?,
+        steps,
     })
 }

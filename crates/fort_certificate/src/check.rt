@@ -1,13 +1,12 @@
 //! Finds the first fault of forms that are no certificate, without memory.
-ghost use Rattle.std.specs.Prelude.{◌≡◌, ℕ, ◌+◌, ◌<◌, ◌≤◌, Some, map, drop, length, IfOk, IfErr};
+ghost use Rattle.std.specs.Prelude.{◌≡◌, ℕ, ◌<◌, ◌≤◌, Some, map, drop, length, IfOk, IfErr};
 ghost use Rattle.fort_grammar.specs.Declarations.{as_list};
-ghost use Rattle.fort_certificate_grammar.specs.Certificates as certificates;
-ghost use Rattle.fort_certificate_grammar.specs.CertificateForms.{version_for, IsStepForm, IsHeaderForm};
-ghost use Rattle.fort_certificate_grammar.specs.CertificateFaults.{fault_of, AreBad, IsBadStep, IsBadHeader, IsFirstCertificateFault};
+ghost use Rattle.fort_certificate_grammar.specs.CertificateForms.{version_for, IsHeaderForm};
+ghost use Rattle.fort_certificate_grammar.specs.CertificateFaults.{fault_of, AreBad, IsBadStep, IsBadHeader};
 ghost use Rattle.fort_certificate_grammar.specs.FilledSlots.{FitAll};
 ghost use Rattle.fort_sexpr.specs.FormView.{form_count};
 ghost use Rattle.fort_certificate.specs.Faults.{as_fault, IsFault};
-ghost use Rattle.fort_certificate.specs.Checking.{IsSomeStep, AreSomeSteps, HasBadStep, IsSomeCertificate};
+ghost use Rattle.fort_certificate.specs.Checking.{IsSomeStep, AreSomeSteps, HasBadStep};
 ghost use Rattle.fort_certificate.specs.ReadView.{as_kind, as_slot, as_last};
 
 use crate::fault::CertificateFault;
@@ -62,7 +61,7 @@ fn check_step(form: &Form, number: u32) -> Result<(), Wrong>
 }
 
 /// The verdict of the header.
-fn check_header(form: &Form, number: u32, i: u32) -> Result<bool, CertificateFault>
+pub(crate) fn check_header(form: &Form, number: u32, i: u32) -> Result<bool, CertificateFault>
     ensures ok { IfOk result (λ verdict.
         IsHeaderForm form.now.bytes (version_for number) form.now.form verdict) }
     ensures fault { IfErr result (IsFault
@@ -86,7 +85,8 @@ fn check_header(form: &Form, number: u32, i: u32) -> Result<bool, CertificateFau
     }
 }
 
-fn fault_at(i: u32, wrong: Wrong) -> CertificateFault
+/// The fault of a form.
+pub(crate) fn fault_at(i: u32, wrong: Wrong) -> CertificateFault
     ensures { as_fault result ≡ Some (fault_of i (as_kind wrong)) }
 {
     match wrong {
@@ -96,7 +96,7 @@ fn fault_at(i: u32, wrong: Wrong) -> CertificateFault
 }
 
 /// Whether the forms from a number on are steps.
-fn check_steps(forms: &Forms, from: usize, number: u32) -> Result<(), CertificateFault>
+pub(crate) fn check_steps(forms: &Forms, from: usize, number: u32) -> Result<(), CertificateFault>
     requires { from ≤ form_count forms.now.forms }
     ensures ok { IfOk result (λ _. AreSomeSteps forms.now.bytes (version_for number)
         (drop from (as_list forms.now.forms))) }
@@ -110,19 +110,4 @@ fn check_steps(forms: &Forms, from: usize, number: u32) -> Result<(), Certificat
         }
     }
     Ok(())
-}
-
-/// The verdict of the certificate that the forms from a number on are.
-pub(crate) fn check(forms: &Forms, from: u32, number: u32) -> Result<bool, CertificateFault>
-    ensures ok { IfOk result (IsSomeCertificate forms.now.bytes number
-        (as_list forms.now.forms) from) }
-    ensures fault { IfErr result (IsFault (IsFirstCertificateFault forms.now.bytes number
-        (as_list forms.now.forms) from)) }
-{
-    if from as usize >= forms.len() {
-        return Err(CertificateFault::BadForm(from));
-    }
-    let verdict = check_header(&forms.form(from as usize), number, from)?;
-    check_steps(forms, from as usize + 1, number)?;
-    Ok(verdict)
 }

@@ -2,7 +2,7 @@
 ghost use Rattle.std.specs.Prelude.{◌≡◌};
 ghost use Rattle.fort_certificate.specs.declared.fault.CertificateFault.TheVariants.{Memory};
 
-use std::alloc::{AllocError, AllocFailed};
+use std::alloc::AllocError;
 
 /// Why forms are no certificate; the number is the form's.
 #[derive(Clone, Copy, Debug, PartialEq, Eq)]
@@ -21,14 +21,6 @@ impl From<AllocError> for CertificateFault {
     ghost from_gives = { λ _ e. e ≡ Memory };
 
     fn from(_e: AllocError) -> CertificateFault {
-        CertificateFault::Memory
-    }
-}
-
-impl<T: Drop> From<AllocFailed<T>> for CertificateFault {
-    ghost from_gives = { λ _ e. e ≡ Memory };
-
-    fn from(_e: AllocFailed<T>) -> CertificateFault {
         CertificateFault::Memory
     }
 }

@@ -1,5 +1,5 @@
 //! What stands at which place of a step, and what is wrong there.
-ghost use Rattle.std.specs.Prelude.{◌≡◌, ℕ, map, IfSome, IfNone, IfOk, IfErr};
+ghost use Rattle.std.specs.Prelude.{◌≡◌, map, IfSome, IfNone, IfOk, IfErr};
 ghost use Rattle.fort_grammar.specs.Declarations.{IsHeaded};
 ghost use Rattle.fort_certificate_grammar.specs.CertificateForms.{version_for};
 ghost use Rattle.fort_certificate_grammar.specs.CertificateFaults.{StepHead, ClosureHead, head_word, slots_of, rest_of, Fits, IsBadAt};

@@ -32,7 +32,7 @@ fn described(alloc: Global, forms: &Forms, from: u32, systems: u32) -> Result<St
 #[test]
 fn reads_certificates_of_one_system(rt: HostRuntime) -> Result<(), Fail> {
     let alloc = rt.alloc();
-    let table: [(&str, &str); 60] = [
+    let table: [(&str, &str); 63] = [
         // spelled in another way, and as it is written
         ("(certificate 1 yes)", "(certificate 1 yes)\n"),
         ("(certificate 1 no)\n", "(certificate 1 no)\n"),
@@ -129,6 +129,14 @@ fn reads_certificates_of_one_system(rt: HostRuntime) -> Result<(), Fail> {
         ("(certificate 1 yes)(part 0 0 (1))", "BadForm(1)"),
         ("(certificate 1 yes)(part 0 0 01 (1))", "BadNumber(1)"),
         ("(certificate 1 yes)(part 0 4294967296)", "BadNumber(1)"),
+        (
+            "(certificate 1 yes)(part 0 1 2)(part 0 1 2 x)(part)",
+            "BadNumber(2)",
+        ),
+        (
+            "(certificate 1 yes)(part 0 1 2)(part (0) x)(part 00)",
+            "BadForm(2)",
+        ),
         // counts
         ("(certificate 1 yes)(counts)", "BadForm(1)"),
         ("(certificate 1 yes)(counts 0 fin)", "BadForm(1)"),
@@ -143,6 +151,7 @@ fn reads_certificates_of_one_system(rt: HostRuntime) -> Result<(), Fail> {
         ("(certificate 1 yes)(value 0)", "BadForm(1)"),
         ("(certificate 1 yes)(value x maybe)", "BadNumber(1)"),
         ("(certificate 1 yes)(value 0 maybe)", "BadForm(1)"),
+        ("(certificate 1 yes)(value 00 yes no)", "BadNumber(1)"),
         (
             "(certificate 1 yes)(value 0 yes)(value 1 yes no)",
             "BadForm(2)",

@@ -1,58 +1,41 @@
 use Rattle.std.proofs.Common.{Some, ap, ◌∙◌}
-use Rattle.std.proofs.lemmas.Result.{IfOk-weaker}
+use Rattle.std.proofs.lemmas.Option.{IfSome_then}
+use Rattle.std.proofs.lemmas.Result.{IfErr-weaker, err_from_is_err_and}
 use Rattle.fort_certificate_grammar.specs.CertificateForms.{version_for}
-use Rattle.fort_steps.specs.StepView.{as_step}
+use Rattle.fort_certificate_grammar.specs.CertificateFaults.{NoHead}
 use Rattle.fort_certificate.specs.declared.slot.Head.TheVariants.{Closure, Part, Counts, Value}
-use Rattle.fort_certificate.proofs.BuildLaws.{step_headed, list_fills, list_read}
+use Rattle.fort_certificate.specs.ReadView.{as_wrong}
+use Rattle.fort_certificate.proofs.WrongLaws.{list_bad}
 use Rattle.fort_certificate.proofs.build.step.Goals as goal
 
-pub closure-requires : goal.closure-requires
-closure-requires c =
-    list_fills c.args.form.now.bytes c.in-Some-split_first.elements.bytes (version_for c.args.systems) c.args.form.now.form c.in-Some-Closure.field-0 Closure c.in-Some-split_first._head.form
-    c.in-Some-split_first.elements.forms (c.in-Some-split_first.ensures.bytes.1 ∙ c.in-Some.ensures.bytes) c.in-Some-Closure.field-0-is c.in-Some-Closure.ensures.some (c.in-Some.ensures.some ∙ ap Some c.in-Some-split_first.ensures.some) c.requires
+pub returns-in_default-clause-wrong : goal.returns-in_default-clause-wrong
+returns-in_default-clause-wrong c = λ i. NoHead c.in_default.ensures.none
 
-pub returns-in-Some-Closure : goal.returns-in-Some-Closure
-returns-in-Some-Closure c =
-    IfOk-weaker c.closure.result _ _
-    (λ s made. list_read c.args.form.now.bytes c.in-Some-split_first.elements.bytes (version_for c.args.systems) c.args.form.now.form c.in-Some-Closure.field-0 Closure c.in-Some-split_first._head.form
-    c.in-Some-split_first.elements.forms (c.in-Some-split_first.ensures.bytes.1 ∙ c.in-Some.ensures.bytes) c.in-Some-Closure.field-0-is c.in-Some-Closure.ensures.some (c.in-Some.ensures.some ∙ ap Some c.in-Some-split_first.ensures.some) (as_step s) made)
-    c.closure.ensures
+pub returns-in-Closure-clause-wrong : goal.returns-in-Closure-clause-wrong
+returns-in-Closure-clause-wrong c =
+    IfErr-weaker c.closure.result _ _ (λ e h. IfSome_then (as_wrong e) h (λ kind bad. list_bad c.args.form.now.bytes c.in-Some-split_first.elements.bytes (version_for c.args.systems) c.args.form.now.form c.in-Some.head Closure
+    c.in-Some-split_first._head.form c.in-Some-split_first.elements.forms (c.in-Some-split_first.ensures.bytes.1 ∙ c.in-Some-elements.ensures.bytes) c.in-Closure.is
+    c.in-Some.ensures.some (c.in-Some-elements.ensures.some ∙ ap Some c.in-Some-split_first.ensures.some) kind bad))
+    c.closure.ensures.wrong
 
-pub part-requires : goal.part-requires
-part-requires c =
-    list_fills c.args.form.now.bytes c.in-Some-split_first.elements.bytes (version_for c.args.systems) c.args.form.now.form c.in-Some-Part.field-0 Part c.in-Some-split_first._head.form
-    c.in-Some-split_first.elements.forms (c.in-Some-split_first.ensures.bytes.1 ∙ c.in-Some.ensures.bytes) c.in-Some-Part.field-0-is c.in-Some-Part.ensures.some (c.in-Some.ensures.some ∙ ap Some c.in-Some-split_first.ensures.some) c.requires
+pub returns-in-Part-clause-wrong : goal.returns-in-Part-clause-wrong
+returns-in-Part-clause-wrong c =
+    IfErr-weaker c.part.result _ _ (λ e h. IfSome_then (as_wrong e) h (λ kind bad. list_bad c.args.form.now.bytes c.in-Some-split_first.elements.bytes (version_for c.args.systems) c.args.form.now.form c.in-Some.head Part
+    c.in-Some-split_first._head.form c.in-Some-split_first.elements.forms (c.in-Some-split_first.ensures.bytes.1 ∙ c.in-Some-elements.ensures.bytes) c.in-Part.is
+    c.in-Some.ensures.some (c.in-Some-elements.ensures.some ∙ ap Some c.in-Some-split_first.ensures.some) kind (bad (version_for c.args.systems))))
+    c.part.ensures.wrong
 
-pub returns-in-Some-Part : goal.returns-in-Some-Part
-returns-in-Some-Part c =
-    IfOk-weaker c.part.result _ _
-    (λ s made. list_read c.args.form.now.bytes c.in-Some-split_first.elements.bytes (version_for c.args.systems) c.args.form.now.form c.in-Some-Part.field-0 Part c.in-Some-split_first._head.form
-    c.in-Some-split_first.elements.forms (c.in-Some-split_first.ensures.bytes.1 ∙ c.in-Some.ensures.bytes) c.in-Some-Part.field-0-is c.in-Some-Part.ensures.some (c.in-Some.ensures.some ∙ ap Some c.in-Some-split_first.ensures.some) (as_step s) (made (version_for c.args.systems)))
-    c.part.ensures
+pub returns-in-Counts-clause-wrong : goal.returns-in-Counts-clause-wrong
+returns-in-Counts-clause-wrong c =
+    IfErr-weaker c.counts_step.result _ _ (λ e h. IfSome_then (as_wrong e) h (λ kind bad. list_bad c.args.form.now.bytes c.in-Some-split_first.elements.bytes (version_for c.args.systems) c.args.form.now.form c.in-Some.head Counts
+    c.in-Some-split_first._head.form c.in-Some-split_first.elements.forms (c.in-Some-split_first.ensures.bytes.1 ∙ c.in-Some-elements.ensures.bytes) c.in-Counts.is
+    c.in-Some.ensures.some (c.in-Some-elements.ensures.some ∙ ap Some c.in-Some-split_first.ensures.some) kind (bad (version_for c.args.systems))))
+    c.counts_step.ensures.wrong
 
-pub counts_step-requires : goal.counts_step-requires
-counts_step-requires c =
-    list_fills c.args.form.now.bytes c.in-Some-split_first.elements.bytes (version_for c.args.systems) c.args.form.now.form c.in-Some-Counts.field-0 Counts c.in-Some-split_first._head.form
-    c.in-Some-split_first.elements.forms (c.in-Some-split_first.ensures.bytes.1 ∙ c.in-Some.ensures.bytes) c.in-Some-Counts.field-0-is c.in-Some-Counts.ensures.some (c.in-Some.ensures.some ∙ ap Some c.in-Some-split_first.ensures.some) c.requires
-
-pub returns-in-Some-Counts : goal.returns-in-Some-Counts
-returns-in-Some-Counts c =
-    IfOk-weaker c.counts_step.result _ _
-    (λ s made. list_read c.args.form.now.bytes c.in-Some-split_first.elements.bytes (version_for c.args.systems) c.args.form.now.form c.in-Some-Counts.field-0 Counts c.in-Some-split_first._head.form
-    c.in-Some-split_first.elements.forms (c.in-Some-split_first.ensures.bytes.1 ∙ c.in-Some.ensures.bytes) c.in-Some-Counts.field-0-is c.in-Some-Counts.ensures.some (c.in-Some.ensures.some ∙ ap Some c.in-Some-split_first.ensures.some) (as_step s) (made (version_for c.args.systems)))
-    c.counts_step.ensures
-
-pub value-requires : goal.value-requires
-value-requires c =
-    list_fills c.args.form.now.bytes c.in-Some-split_first.elements.bytes (version_for c.args.systems) c.args.form.now.form c.in-Some-Value.field-0 Value c.in-Some-split_first._head.form
-    c.in-Some-split_first.elements.forms (c.in-Some-split_first.ensures.bytes.1 ∙ c.in-Some.ensures.bytes) c.in-Some-Value.field-0-is c.in-Some-Value.ensures.some (c.in-Some.ensures.some ∙ ap Some c.in-Some-split_first.ensures.some) c.requires
-
-pub returns-in-Some-Value : goal.returns-in-Some-Value
-returns-in-Some-Value c =
-    list_read c.args.form.now.bytes c.in-Some-split_first.elements.bytes (version_for c.args.systems) c.args.form.now.form c.in-Some-Value.field-0 Value c.in-Some-split_first._head.form
-    c.in-Some-split_first.elements.forms (c.in-Some-split_first.ensures.bytes.1 ∙ c.in-Some.ensures.bytes) c.in-Some-Value.field-0-is c.in-Some-Value.ensures.some (c.in-Some.ensures.some ∙ ap Some c.in-Some-split_first.ensures.some) (as_step c.value.result) (c.value.ensures (version_for c.args.systems))
-
-pub unreachable-requires-in-None : goal.unreachable-requires-in-None
-unreachable-requires-in-None c =
-    let headed = step_headed c.args.form.now.bytes (version_for c.args.systems) c.args.form.now.form c.requires.0 c.requires.1 in
-    c.in-None.ensures.none headed.0 headed.1
+pub returns-in_err-value-in-Value-clause-wrong : goal.returns-in_err-value-in-Value-clause-wrong
+returns-in_err-value-in-Value-clause-wrong c =
+    let p = err_from_is_err_and c.from_residual.result c.from_residual.ensures.1 in
+    rw (p.1, p.2) (list_bad c.args.form.now.bytes c.in-Some-split_first.elements.bytes (version_for c.args.systems) c.args.form.now.form c.in-Some.head Value
+    c.in-Some-split_first._head.form c.in-Some-split_first.elements.forms (c.in-Some-split_first.ensures.bytes.1 ∙ c.in-Some-elements.ensures.bytes) c.in-Value.is
+    c.in-Some.ensures.some (c.in-Some-elements.ensures.some ∙ ap Some c.in-Some-split_first.ensures.some) _
+    (c.in_err-value-in-Value.ensures.wrong (version_for c.args.systems)))

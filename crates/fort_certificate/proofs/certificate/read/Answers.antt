@@ -1,22 +1,77 @@
-use Rattle.std.proofs.Common.{arith}
+use Rattle.std.proofs.Common.{◌≡◌, ◌+◌, drop, map, arith}
+use Rattle.std.proofs.lemmas.Option.{IfSome_then}
+use Rattle.std.proofs.lemmas.Result.{err_from_is_err_and}
 use Rattle.fort_grammar.specs.Declarations.{as_list}
-use Rattle.fort_certificate.proofs.StepsLaws.{form_count-list}
-use Rattle.fort_certificate.proofs.ReadLaws.{steps_within, some_steps, certificate_of}
+use Rattle.fort_certificate_grammar.specs.CertificateForms.{version_for}
+use Rattle.fort_certificate_grammar.specs.CertificateFaults.{IsBadHeader, IsFirstCertificateFault}
+use Rattle.fort_steps.specs.StepView.{as_step}
+use Rattle.fort_certificate.specs.declared.fault.CertificateFault.TheVariants.{Memory}
+use Rattle.fort_certificate.specs.Faults.{as_fault}
+use Rattle.fort_certificate.specs.Checking.{HasBadStep}
+use Rattle.fort_certificate.proofs.FaultLaws.{fault_then, fault_some}
+use Rattle.fort_certificate.proofs.StepsLaws.{form_at-list, form_count-list, header_bad, step_is_bad, certificate_of, no_header}
 use Rattle.fort_certificate.proofs.certificate.read.Goals as goal
 
-pub steps-requires-clause-within : goal.steps-requires-clause-within
-steps-requires-clause-within c =
-    omega (
-      arith,
-      form_count-list c.args.forms.now.forms,
-      steps_within c.args.forms.now.bytes c.args.number (as_list c.args.forms.now.forms) c.args.from c.in_ok-verdict.verdict c.in_ok-verdict.ensures.ok,
+pub returns-then-from-len-clause-fault : goal.returns-then-from-len-clause-fault
+returns-then-from-len-clause-fault c =
+    no_header _ c.args.number (as_list c.args.forms.now.forms) c.args.from
+    (omega (arith, c.if-from-len.true, c.len.ensures.count, form_count-list c.args.forms.now.forms))
+
+pub returns-in_err-verdict-clause-fault : goal.returns-in_err-verdict-clause-fault
+returns-in_err-verdict-clause-fault c =
+    let p = err_from_is_err_and c.from_residual.result c.from_residual.ensures.1 in
+    let bytes = c.args.forms.now.bytes in
+    let number = c.args.number in
+    let all = as_list c.args.forms.now.forms in
+    let from = c.args.from in
+    let header = c.form.result.form in
+    let here = form_at-list c.args.forms.now.forms from header c.form.ensures.form in
+    rw (p.1, p.2) (fault_some (IsFirstCertificateFault bytes number all from) c.in_err-verdict.field-0.0
+    (fault_then (IsBadHeader bytes (version_for number) from header) (IsFirstCertificateFault bytes number all from) c.in_err-verdict.field-0.0
+    (header_bad bytes number all from header here) (rw c.form.ensures.bytes at c.in_err-verdict.ensures.fault)))
+
+pub returns-in_err-check_steps-in-Memory-clause-fault : goal.returns-in_err-check_steps-in-Memory-clause-fault
+returns-in_err-check_steps-in-Memory-clause-fault c =
+    let p = err_from_is_err_and c.from_residual-in_err-check_steps-in-Memory.result c.from_residual-in_err-check_steps-in-Memory.ensures.1 in
+    let bytes = c.args.forms.now.bytes in
+    let number = c.args.number in
+    let all = as_list c.args.forms.now.forms in
+    let from = c.args.from in
+    let header = c.form.result.form in
+    let here = form_at-list c.args.forms.now.forms from header c.form.ensures.form in
+    rw (p.1, p.2) (fault_some (IsFirstCertificateFault bytes number all from) c.in_err-check_steps-in-Memory.field-0.0
+    (fault_then (HasBadStep bytes (version_for number) (from + 1) (drop (from + 1) all)) (IsFirstCertificateFault bytes number all from)
+    c.in_err-check_steps-in-Memory.field-0.0
+    (λ g bad. step_is_bad bytes number all from header here c.in_ok-verdict.verdict g (rw c.form.ensures.bytes at c.in_ok-verdict.ensures.ok) bad)
+    c.in_err-check_steps-in-Memory.ensures.fault))
+
+pub returns-in-Memory-clause-memory : goal.returns-in-Memory-clause-memory
+returns-in-Memory-clause-memory c =
+    let all = as_list c.args.forms.now.forms in
+    let here = form_at-list c.args.forms.now.forms c.args.from c.form.result.form c.form.ensures.form in
+    let steps = c.in_ok-check_steps-in-Memory.ensures.ok in
+    λ e. (
+      record { first = c.args.from; verdict = c.in_ok-verdict.verdict; steps = steps.0 },
+      certificate_of _ c.args.number all c.args.from _ here c.in_ok-verdict.verdict steps.0 (rw c.form.ensures.bytes at c.in_ok-verdict.ensures.ok) steps.1,
     )
 
-pub steps-requires-clause-some : goal.steps-requires-clause-some
-steps-requires-clause-some c =
-    some_steps c.args.forms.now.bytes c.args.number (as_list c.args.forms.now.forms) c.args.from c.in_ok-verdict.verdict c.in_ok-verdict.ensures.ok
+pub returns-in_default : goal.returns-in_default
+returns-in_default c =
+    let bytes = c.args.forms.now.bytes in
+    let all = as_list c.args.forms.now.forms in
+    let from = c.args.from in
+    let header = c.form.result.form in
+    let here = form_at-list c.args.forms.now.forms from header c.form.ensures.form in
+    record {
+      ok = tt;
+      fault = IfSome_then (as_fault c.in-Err.fault) c.in-Err.ensures.fault
+          (λ g bad. step_is_bad bytes c.args.number all from header here c.in_ok-verdict.verdict g (rw c.form.ensures.bytes at c.in_ok-verdict.ensures.ok) bad);
+      memory = λ e. let is : c.in-Err.fault ≡ Memory = cc in absurd (c.in_default.not-Memory is);
+    }
 
 pub returns-clause-ok : goal.returns-clause-ok
 returns-clause-ok c =
-    certificate_of c.args.forms.now.bytes c.args.number (as_list c.args.forms.now.forms) c.args.from c.in_ok-verdict.verdict c.in_ok-verdict.ensures.ok _
-    c.in_ok-steps.ensures
+    let all = as_list c.args.forms.now.forms in
+    let here = form_at-list c.args.forms.now.forms c.args.from c.form.result.form c.form.ensures.form in
+    certificate_of _ c.args.number all c.args.from _ here c.in_ok-verdict.verdict (map as_step c.in-Ok.steps.items)
+    (rw c.form.ensures.bytes at c.in_ok-verdict.ensures.ok) c.in-Ok.ensures.ok
