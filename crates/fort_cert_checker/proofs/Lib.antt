@@ -14,6 +14,7 @@ pub mod PastLaws
 pub mod KnownAnswers
 pub mod TableArms
 pub mod MakingLaws
+pub mod ListLaws
 pub mod ValueArms
 pub mod OwnSteps
 pub mod LoopKnows

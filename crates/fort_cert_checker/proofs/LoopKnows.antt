@@ -23,6 +23,7 @@ use Rattle.fort_cert_checker.specs.declared.plan.Plan.{Plan}
 use Rattle.fort_cert_checker.specs.declared.past.Past.{Past}
 use Rattle.fort_cert_checker.specs.Abouts.{IsOnlyAbout}
 use Rattle.fort_cert_checker.specs.Plans.{IsFitPart, IsPlanOf, IsWidthFor}
+use Rattle.fort_cert_checker.specs.OperandLists.{AreListsFor}
 use Rattle.fort_cert_checker.specs.Pasts.{steps_of, IsElement, IsClosureKnown, IsTableKnown, IsValueKnown, KnowsPast, KnowsCounts, IsPartDue, IsMarkRoomFor}
 use Rattle.fort_cert_checker.specs.Makings.{IsRoomFor, IsScratchFor, ArePlansMade}
 use Rattle.fort_cert_checker.specs.Fronts.{Tells, AreHeld, HasFewTargets, IsOwnDue, part_in}
@@ -192,6 +193,7 @@ module _ (system : PatternSystem) (root : Core) (parts : List Core) (c : Certifi
           is_width = subst (λ (ss : List Step). IsWidthFor ss p.work sf.width) (sym steps) sf.is_width;
           sized = rf targets alone;
           scratch_sized = sf.sized targets alone;
+          lists_sized = subst (λ (ss : List Step). AreListsFor ss p.work scratch.lists) (sym steps) sf.lists;
           marks_sized = here_sized;
         }
     own_due (Counts k marks) e plain_due there alone low_rooms at rf sf =

@@ -26,6 +26,7 @@ use Rattle.fort_check_steps.specs.declared.marks.MarkRoom.{MarkRoom}
 use Rattle.fort_cert_checker.specs.declared.plan.Plan.{Plan}
 use Rattle.fort_cert_checker.specs.declared.making.ClosurePlan.{ClosurePlan}
 use Rattle.fort_cert_checker.specs.Abouts.{IsOnlyAbout}
+use Rattle.fort_cert_checker.proofs.ListLaws.{lists_kept}
 use Rattle.fort_cert_checker.specs.Pasts.{IsElement, IsMarkRoomFor}
 use Rattle.fort_check_steps.specs.Room.{IsAsRoomy}
 use Rattle.fort_check_steps.proofs.RoomLaws.{still_room}
@@ -112,6 +113,7 @@ scratch_kept ss k p old new keep h = record {
   width = h.width;
   is_width = h.is_width;
   sized = λ targets only. still_room (h.sized targets only) keep;
+  lists = lists_kept ss p.work old.lists new.lists keep.lists h.lists;
 }
 
 -- the part that a step names

@@ -1,6 +1,6 @@
 -- The table of an earlier part, as its room holds it.
-use Rattle.std.specs.Prelude.{◌≡◌, ℕ, zero, suc, ◌^◌, ◌<◌, List, length, get_or, vec_len, Bool, refl}
-use Rattle.std.proofs.Common.{sym, ap, ◌∙◌, subst, arith}
+use Rattle.std.specs.Prelude.{◌≡◌, ℕ, zero, suc, ◌^◌, ◌<◌, ◌==◌, List, length, get_or, vec_len, Bool, false, refl}
+use Rattle.std.proofs.Common.{sym, ap, ◌∙◌, subst, arith, eq-eqb, true≢false}
 use Rattle.fort_tables.specs.Tables.{Table, Listed, listed_table}
 use Rattle.fort_tables.specs.LabelRules.{LabelRule}
 use Rattle.fort_operations.specs.OperationTruth.{complemented}
@@ -11,7 +11,15 @@ use Rattle.fort_cert_checker.specs.declared.plan.Source.{Source}
 use Rattle.fort_cert_checker.specs.declared.plan.Plan.{Plan}
 use Rattle.fort_cert_checker.specs.declared.past.Past.{Past}
 use Rattle.fort_cert_checker.specs.Sources.{turned}
-use Rattle.fort_cert_checker.specs.Pasts.{IsTableAt}
+use Rattle.fort_parts.specs.PartAnswers.{Answer, OfValue, OfTable}
+use Rattle.fort_cert_checker.specs.Pasts.{steps_of, IsTableAt, IsTruthAt, IsAnswerAt}
+use Rattle.fort_cert_checker.specs.OperandLists.{FitsList, HasTableRoom}
+use Rattle.fort_cert_checker.proofs.KnownAnswers.{held_states}
+use Rattle.fort_check_steps.specs.Room.{most_states}
+use Rattle.fort_rrn_algebra.specs.LayRooms.{HasLayRoom}
+use Rattle.fort_rrn_algebra.specs.TargetLists.{HasListRoom}
+use Rattle.fort_rrn_algebra.specs.declared.states.LayRoom.{LayRoom}
+use Rattle.fort_rrn_algebra.specs.declared.target_list.TargetList.{TargetList}
 
 turned_of : (n : ℕ) (l : Listed) → turned_table (record { table = l; turns = n }) ≡ turned n (listed_table l)
 turned_of zero l = refl
@@ -55,3 +63,34 @@ module _ (past : Past) (s : Source) (table : Table) (h : IsTableAt past s table)
       let there : listed_table (held_table h.held.rule targets room) ≡ h.own =
       (λ i. listed_table (held_table h.held.rule (targets_are i) (room_same i))) ∙ h.held.is in
       turned_is t (held_table h.held.rule targets room) s.turns h.own table own turns there h.is
+
+  -- room for the targets of the source is room for those of its table
+  pub table_room : (t : TurnedTable)
+      → ((r : LabelRule) (accepting : (List ℕ → Bool)) → r.signature ≡ past.signature.now → r.columns ≡ columns → HoldsPart r accepting targets room → t.table ≡ held_table r targets room)
+      → (list : TargetList) (lay : LayRoom) → FitsList (steps_of past) s list lay → HasTableRoom t list lay
+  table_room t made list lay fits =
+      let own = made h.held.rule h.held.accepting h.held.signature own_columns own_holds in
+      let count : length t.table.targets ≡ length h.targets = ap (λ (l : Listed). length l.targets) own ∙ ap length targets_are in
+      let states : length t.table.presences ≡ most_states h.targets =
+      ap (λ (l : Listed). length l.presences) own
+      ∙ (ap (λ (r : PartRoom). length r.presences.items) room_same
+      ∙ (ap (λ (x : Table). length x.presences) h.held.is ∙ held_states past.signature.now (length h.plan.columns.items) h.targets h.room h.own h.held)) in
+      record {
+        list_room = subst (λ (n : ℕ). HasListRoom n (length t.table.targets) list) (sym states)
+            (subst (λ (k : ℕ). HasListRoom (most_states h.targets) k list) (sym count) (fits.list_fits h.targets h.only));
+        lay_room = subst (λ (n : ℕ). HasLayRoom n lay) (sym states) (fits.lay_fits h.targets h.only);
+      }
+
+-- a part with columns has no truth
+truth_without : (past : Past) (s : Source) (truth : Bool) (p : Plan) → IsTruthAt past s truth → (vec_len (get_or past.plans.now s.part p).columns == 0) ≡ false → ⊥
+truth_without past s truth p h e =
+    let q = get_or past.plans.now s.part p in
+    let own : vec_len q.columns ≡ length q.columns.items = omega (arith, q.columns.ok.0) in
+    let none : vec_len q.columns ≡ 0 = own ∙ (ap (λ (x : Plan). length x.columns.items) (h.plan_at.1 p) ∙ h.none) in
+    true≢false (sym (eq-eqb (vec_len q.columns) 0 none) ∙ e)
+
+pub answer_room : (past : Past) (s : Source) (t : TurnedTable) (p : Plan) → (vec_len (get_or past.plans.now s.part p).columns == 0) ≡ false
+    → ((table : Table) → IsTableAt past s table → (list : TargetList) (lay : LayRoom) → FitsList (steps_of past) s list lay → HasTableRoom t list lay)
+    → (answer : Answer) → IsAnswerAt past s answer → (list : TargetList) (lay : LayRoom) → FitsList (steps_of past) s list lay → HasTableRoom t list lay
+answer_room past s t p some room (OfTable table) at = room table at
+answer_room past s t p some room (OfValue truth) at = absurd (truth_without past s truth p at some)

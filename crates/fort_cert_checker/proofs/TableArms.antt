@@ -50,6 +50,7 @@ use Rattle.fort_cert_checker.specs.Sources.{IsSourceOf}
 use Rattle.fort_cert_checker.specs.AtomPlans as own
 use Rattle.fort_cert_checker.specs.Joins.{joined_local, AreJoined}
 use Rattle.fort_cert_checker.specs.Plans.{IsClosureRead, IsRelationPlan, IsNormalPlan, IsTermPlan, IsNegationPlan, IsProductPlan, IsProjectionPlan, IsManyPlan, IsWorkOf, IsWidthFor}
+use Rattle.fort_cert_checker.specs.OperandLists.{FitsList, AreListsFor}
 use Rattle.fort_cert_checker.specs.Pasts.{steps_of, IsTableAt, IsAnswerAt, IsPartStep, IsClosureKnown, IsMarkRoomFor, AreCountsKnown, IsTableDue, IsTableStep}
 use Rattle.fort_cert_checker.proofs.JoinFits.{operand_first, operand_second}
 use Rattle.fort_cert_checker.proofs.KnownAnswers.{IsKnown, IsKnownTable, known_answer, known_table}
@@ -97,6 +98,18 @@ module _ (system : PatternSystem) (parts : List Core) (past : Past) (k : ℕ) (m
 
   marks_for : (w : Work) → p.work ≡ w → IsMarkRoomFor (steps_of past) w marks
   marks_for w e = subst (λ (v : Work). IsMarkRoomFor (steps_of past) v marks) e due.marks_sized
+
+  lists_for : (w : Work) → p.work ≡ w → AreListsFor (steps_of past) w scratch.lists
+  lists_for w e = subst (λ (v : Work). AreListsFor (steps_of past) v scratch.lists) e due.lists_sized
+
+  pub product_lists : (op : Op) (first second : Operand) → p.work ≡ Product op first second → AreListsFor (steps_of past) (Product op first second) scratch.lists
+  product_lists op first second e = lists_for (Product op first second) e
+
+  pub projection_list : (s : Source) (c : ℕ) → p.work ≡ Projection s c → FitsList (steps_of past) s scratch.lists.first scratch.lists.lay
+  projection_list s c e = lists_for (Projection s c) e
+
+  pub many_list : (s : Source) (c : ℕ) (ns : Vec Count Global) → p.work ≡ Many s c ns → FitsList (steps_of past) s scratch.lists.first scratch.lists.lay
+  many_list s c ns e = lists_for (Many s c ns) e
 
   operand_is : (g h : Core) → f ≡ h → IsOperandOf g h → IsOperandOf g (get_or parts k core.True)
   operand_is g h e o = subst (IsOperandOf g) (sym (due.due.part ∙ e)) o

@@ -3,6 +3,7 @@ pub mod KnownMarks
 pub mod Sources
 pub mod Plans
 pub mod Joins
+pub mod OperandLists
 pub mod Pasts
 pub mod AtomPlans
 pub mod Makings

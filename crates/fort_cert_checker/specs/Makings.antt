@@ -11,6 +11,7 @@ use Rattle.fort_check_steps.specs.declared.room.LabelRoom.{LabelRoom}
 use Rattle.fort_check_steps.specs.declared.marks.MarkRoom.{MarkRoom}
 use Rattle.fort_check_steps.specs.Room.{HasRoom, HasLabelRoom}
 use Rattle.fort_cert_checker.specs.Abouts.{IsOnlyAbout}
+use Rattle.fort_cert_checker.specs.OperandLists.{AreListsFor}
 use Rattle.fort_cert_checker.specs.Plans.{IsPlanOf, IsWidthFor}
 use Rattle.fort_cert_checker.specs.Pasts.{IsMarkRoomFor}
 use Rattle.fort_cert_checker.specs.declared.plan.Plan.{Plan}
@@ -45,11 +46,12 @@ IsRoomFor ss k r = (targets : List ℕ) → IsOnlyAbout ss (Part k targets) → 
 abbrev pub AreRoomsMade : List Step → ℕ → List PartRoom → Type 0
 AreRoomsMade ss n rs = AreMade (IsRoomFor ss) n rs
 
--- room for the labels of part k
+-- room for the labels of part k, and for its operands' lists
 pub record IsScratchFor (ss : List Step) (k : ℕ) (p : Plan) (r : LabelRoom) : Type 0 where
   pub width : ℕ
   pub is_width : IsWidthFor ss p.work width
   pub sized : (targets : List ℕ) → IsOnlyAbout ss (Part k targets) → HasLabelRoom width targets r
+  pub lists : AreListsFor ss p.work r.lists
 
 -- for each of the first n parts
 abbrev pub IsScratchMade : List Step → List Plan → ℕ → LabelRoom → Type 0

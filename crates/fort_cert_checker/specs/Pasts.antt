@@ -27,6 +27,7 @@ use Rattle.fort_check_steps.specs.declared.marks.MarkRoom.{MarkRoom}
 use Rattle.fort_cert_checker.specs.Abouts.{IsOnlyAbout}
 use Rattle.fort_cert_checker.specs.KnownMarks.{HasMarksFor}
 use Rattle.fort_cert_checker.specs.Sources.{turned}
+use Rattle.fort_cert_checker.specs.OperandLists.{AreListsFor}
 use Rattle.fort_cert_checker.specs.Plans.{AreParted, IsFitPart, IsPlanOf, IsWidthFor}
 use Rattle.fort_cert_checker.specs.declared.plan.Work.{Work}
 use Rattle.fort_cert_checker.specs.declared.plan.Work.TheVariants.{Projection, Many}
@@ -152,6 +153,7 @@ pub record IsTableDue (system : PatternSystem) (parts : List Core) (past : Past)
   pub is_width : IsWidthFor (steps_of past) p.work width
   pub sized : HasRoom targets room
   pub scratch_sized : HasLabelRoom width targets scratch
+  pub lists_sized : AreListsFor (steps_of past) p.work scratch.lists
   pub marks_sized : IsMarkRoomFor (steps_of past) p.work marks
 
 -- the step of part k by the rule that it is to have

@@ -52,7 +52,7 @@ pub struct Checker<'a> {
     closures: Vec<Option<ClosurePlan>>,
     plans: Vec<Plan>,
     rooms: Vec<PartRoom>,
-    /// For the labels of each part in its turn, and what its list is laid by.
+    /// For the labels of each part in its turn, and its operands' lists.
     scratch: LabelRoom,
     marks: Vec<MarkRoom>,
 }

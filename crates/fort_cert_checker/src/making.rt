@@ -9,7 +9,8 @@ ghost use Rattle.fort_in_order.specs.Dues as definitions;
 ghost use Rattle.fort_formulas.specs.CoreView.{as_core};
 ghost use Rattle.fort_steps.specs.StepView.{as_step, as_which};
 ghost use Rattle.fort_check_steps.specs.DueView.{as_due};
-ghost use Rattle.fort_check_steps.specs.Room.{HasNeeds, most_states as most_states_lem};
+ghost use Rattle.fort_check_steps.specs.Room.{HasNeeds, IsListFor, most_states as most_states_lem};
+ghost use Rattle.fort_cert_checker.specs.OperandLists.{AreNeedsOf};
 ghost use Rattle.fort_check_steps.specs.Marks.{HasMarkRoom};
 ghost use Rattle.fort_cert_checker.specs.Abouts.{IsOnlyAbout};
 ghost use Rattle.fort_cert_checker.specs.Plans.{AreParted, IsFitPart, IsPlanOf, IsWidthFor};
@@ -19,7 +20,8 @@ ghost use Rattle.fort_cert_checker.specs.Makings.{IsClosurePlan, IsClosureFor, I
 use crate::about::targets_of;
 use crate::plan::{Plan, Source, Work};
 use fort_check_steps::{
-    DueStep, LabelNeeds, LabelRoom, MarkRoom, PairRules, PartRoom, closure_rules, most_states,
+    DueStep, LabelNeeds, LabelRoom, ListNeeds, MarkRoom, PairRules, PartRoom, closure_rules,
+    most_states,
 };
 use fort_context_closure::local::is_width;
 use fort_formulas::Core;
@@ -153,7 +155,33 @@ pub(crate) fn rooms_of(alloc: Global, steps: &[Step], parts: usize) -> Result<Ve
     Ok(rooms)
 }
 
-/// What the labels of part `k` need, and what its list is laid by.
+/// What the list of a source's targets needs.
+fn list_of(steps: &[Step], source: Source) -> ListNeeds
+    ensures { (targets : List ℕ) → IsOnlyAbout (map as_step steps.now) (Part source.part targets)
+        → IsListFor targets result }
+{
+    let targets = targets_of(steps, source.part);
+    ListNeeds {
+        states: most_states(targets),
+        targets: targets.len(),
+    }
+}
+
+/// What the lists of a part's operands need.
+fn list_needs(steps: &[Step], plan: &Plan) -> (ListNeeds, ListNeeds)
+    ensures { AreNeedsOf (map as_step steps.now) plan.now.work result.0 result.1 }
+{
+    match &plan.work {
+        Work::Product(_, first, second) => {
+            (list_of(steps, first.source), list_of(steps, second.source))
+        }
+        Work::Projection(source, _) => (list_of(steps, *source), ListNeeds::default()),
+        Work::Many(source, _, _) => (list_of(steps, *source), ListNeeds::default()),
+        _ => (ListNeeds::default(), ListNeeds::default()),
+    }
+}
+
+/// What the labels of part `k` need, and the lists of its operands.
 fn label_needs(steps: &[Step], k: u32, plan: &Plan) -> Result<LabelNeeds, Memory>
     requires { (system : PatternSystem) × (parts : List theory.Core) × (j : ℕ)
         × (f : theory.Core) × IsPlanOf system parts (map as_step steps.now) j f plan.now }
@@ -161,10 +189,12 @@ fn label_needs(steps: &[Step], k: u32, plan: &Plan) -> Result<LabelNeeds, Memory
         → IsScratchFor (map as_step steps.now) k plan.now scratch) }
 {
     let width = width_of(steps, plan)?;
-    LabelNeeds::new(width, most_states(targets_of(steps, k)))
+    let needs = LabelNeeds::new(width, most_states(targets_of(steps, k)))?;
+    let (first, second) = list_needs(steps, plan);
+    Ok(needs.with_lists(first, second))
 }
 
-/// Room for the labels of each part in its turn, and for what its list is laid by.
+/// Room for the labels of each part in its turn, and for its operands' lists.
 pub(crate) fn scratch_for(
     alloc: Global,
     steps: &[Step],

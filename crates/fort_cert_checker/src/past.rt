@@ -4,16 +4,20 @@ ghost use Rattle.fort_tables.specs.Tables as tables;
 ghost use Rattle.fort_operations.specs.Projections.{some_below};
 ghost use Rattle.fort_parts.specs.PartAnswers as parts;
 ghost use Rattle.fort_parts.specs.PartSteps.{operand_of};
-ghost use Rattle.fort_rrn_algebra.specs.TargetLists.{IsLaidListOf};
+ghost use Rattle.fort_rrn_algebra.specs.LayRooms.{HasLayRoom};
+ghost use Rattle.fort_rrn_algebra.specs.TargetLists.{IsLaidListOf, HasListRoom};
 ghost use Rattle.fort_rrn_algebra.specs.Operands as algebra;
 ghost use Rattle.fort_check_steps.specs.Turned.{turned_table};
-ghost use Rattle.fort_cert_checker.specs.Pasts.{IsTableAt, IsTruthAt, IsAnswerAt, as_answer};
+ghost use Rattle.fort_cert_checker.specs.Pasts.{IsTableAt, IsTruthAt, IsAnswerAt, as_answer, steps_of};
+ghost use Rattle.fort_cert_checker.specs.OperandLists.{FitsList, HasTableRoom, HasRoomFor, IsLaidFor};
+ghost use Rattle.fort_rrn_algebra.specs.declared.states.LayRoom.{LayRoom};
+ghost use Rattle.fort_rrn_algebra.specs.declared.target_list.TargetList.{TargetList};
 
 use crate::about::{targets_of, value_of};
 use crate::plan::{Plan, Source};
 use fort_check_steps::{PartRoom, PartTable};
 use fort_lockstep::Table;
-use fort_rrn_algebra::{Operand, TargetList};
+use fort_rrn_algebra::{LayRoom, Operand, TargetList};
 use fort_steps::Step;
 use fort_terms::Signature;
 
@@ -37,8 +41,11 @@ impl<'a> Past<'a> {
     /// The table of a part with columns.
     pub(crate) fn table(&self, source: Source) -> PartTable<'a>
         requires { (table : tables.Table) × IsTableAt self.now source table }
-        ensures { (table : tables.Table) → IsTableAt self.now source table
+        ensures is { (table : tables.Table) → IsTableAt self.now source table
             → turned_table result ≡ table }
+        ensures room { (table : tables.Table) → IsTableAt self.now source table
+            → (list : TargetList) (lay : LayRoom) → FitsList (steps_of self.now) source list lay
+            → HasTableRoom result list lay }
     {
         let plan = &self.plans[source.part as usize];
         PartTable::new(
@@ -59,8 +66,11 @@ impl<'a> Past<'a> {
 
     pub(crate) fn answer(&self, source: Source) -> Answer<'a>
         requires { (answer : parts.Answer) × IsAnswerAt self.now source answer }
-        ensures { (answer : parts.Answer) → IsAnswerAt self.now source answer
+        ensures is { (answer : parts.Answer) → IsAnswerAt self.now source answer
             → as_answer result ≡ answer }
+        ensures room { (answer : parts.Answer) → IsAnswerAt self.now source answer
+            → (list : TargetList) (lay : LayRoom) → FitsList (steps_of self.now) source list lay
+            → HasRoomFor result list lay }
     {
         if self.plans[source.part as usize].columns.is_empty() {
             Answer::Truth(self.truth(source))
@@ -84,14 +94,28 @@ pub(crate) fn factor<'b, 'a>(
     }
 }
 
-/// An answer's targets, tuple symbol by tuple symbol, where it is a table.
-pub(crate) fn laid_list<'a>(answer: &Answer<'a>) -> Option<&'a TargetList>
+/// Lays an answer's targets, where it is a table, in room that is there. It takes no memory.
+pub(crate) fn lay(answer: &Answer<'_>, list: &mut TargetList, room: &mut LayRoom)
+    requires { HasRoomFor answer.now list.old room.old }
+    ensures laid { IsLaidFor (as_answer answer.now) list.new }
+    ensures list_room { (n k : ℕ) → HasListRoom n k list.old → HasListRoom n k list.new }
+    ensures room { (n : ℕ) → HasLayRoom n room.old → HasLayRoom n room.new }
+{
+    match answer {
+        Answer::Truth(_) => {}
+        Answer::Auto(table) => table.lay(list, room),
+    }
+}
+
+/// The list of an answer's targets, where it is a table.
+pub(crate) fn laid_list<'b>(answer: &Answer<'_>, list: &'b TargetList) -> Option<&'b TargetList>
+    requires { IsLaidFor (as_answer answer.now) list.now }
     ensures { (places : List ℕ) → IfSome result (λ l.
         IsLaidListOf (operand_of (as_answer answer.now) places) l.now) }
 {
     match answer {
         Answer::Truth(_) => None,
-        Answer::Auto(table) => Some(table.list()),
+        Answer::Auto(_) => Some(list),
     }
 }
 

@@ -19,9 +19,10 @@ ghost use Rattle.fort_theory.specs.Trees.{Tree};
 ghost use Rattle.fort_cert_checker.specs.Plans.{IsTermPlan};
 ghost use Rattle.fort_cert_checker.specs.AtomPlans.{related_local, normal_local};
 ghost use Rattle.fort_cert_checker.specs.Joins.{AreJoined, joined_local};
-ghost use Rattle.fort_cert_checker.specs.Pasts.{IsAnswerAt, IsTableAt, IsPartStep, IsTableDue, IsTableStep};
+ghost use Rattle.fort_cert_checker.specs.OperandLists.{FitsList};
+ghost use Rattle.fort_cert_checker.specs.Pasts.{steps_of, IsAnswerAt, IsTableAt, IsPartStep, IsTableDue, IsTableStep};
 
-use crate::past::{Past, factor, laid_list};
+use crate::past::{Past, factor, laid_list, lay};
 use crate::plan::{Operand, Plan, Source, Work};
 use fort_check_steps::{
     Failure, LabelRoom, MarkRoom, Normal, PartRoom, Projected, Related, ThisTerm, check_part,
@@ -55,7 +56,8 @@ fn check_relation(
         signature,
         targets,
         room,
-        scratch,
+        &mut scratch.rows,
+        &mut scratch.out,
     )
 }
 
@@ -81,7 +83,8 @@ fn check_normal(
         signature,
         targets,
         room,
-        scratch,
+        &mut scratch.rows,
+        &mut scratch.out,
     )
 }
 
@@ -108,7 +111,8 @@ fn check_term(
         signature,
         targets,
         room,
-        scratch,
+        &mut scratch.rows,
+        &mut scratch.out,
     )
 }
 
@@ -152,18 +156,34 @@ fn check_product(
     requires few { length targets.now < 2 ^ 32 }
     requires room { HasRoom targets.now room.old }
     requires scratch { HasLabelRoom 3 targets.now scratch.old }
+    requires first { FitsList (steps_of past.now) first.now.source scratch.old.lists.first
+        scratch.old.lists.lay }
+    requires second { FitsList (steps_of past.now) second.now.source scratch.old.lists.second
+        scratch.old.lists.lay }
     ensures step { (a b : answers.Answer) → IsAnswerAt past.now first.now.source a
         → IsAnswerAt past.now second.now.source b → IsPartStep (joined_local (connective_of op)
         columns a first.now.places.items b second.now.places.items) targets.now room.new result }
     ensures room { HasRoom targets.now room.new }
     ensures scratch { IsAsRoomy scratch.old scratch.new }
 {
-    let answers = (past.answer(first.source), past.answer(second.source));
-    let one = factor(&answers.0, &first.places);
-    let other = factor(&answers.1, &second.places);
-    let lists = (laid_list(&answers.0), laid_list(&answers.1));
-    let rule = Both::new(op, one, other, columns).laid(lists.0, lists.1);
-    check_part(&rule, past.signature, targets, room, scratch)
+    let one = past.answer(first.source);
+    let other = past.answer(second.source);
+    lay(&one, &mut scratch.lists.first, &mut scratch.lists.lay);
+    lay(&other, &mut scratch.lists.second, &mut scratch.lists.lay);
+    let first_list = laid_list(&one, &scratch.lists.first);
+    let second_list = laid_list(&other, &scratch.lists.second);
+    let left = factor(&one, &first.places);
+    let right = factor(&other, &second.places);
+    let plain = Both::new(op, left, right, columns);
+    let rule = plain.laid(first_list, second_list);
+    check_part(
+        &rule,
+        past.signature,
+        targets,
+        room,
+        &mut scratch.rows,
+        &mut scratch.out,
+    )
 }
 
 /// Holds the targets of a projection.
@@ -180,6 +200,8 @@ fn check_projection(
         × (table.signature ≡ past.now.signature.now) × (column < table.columns)
         × (1 < table.columns) × HasLabelRoom (words_for (length table.presences) + 2)
         targets.now scratch.old × HasMarkRoom (length table.presences) 0 marks.old }
+    requires list { FitsList (steps_of past.now) source scratch.old.lists.first
+        scratch.old.lists.lay }
     requires few { length targets.now < 2 ^ 32 }
     requires room { HasRoom targets.now room.old }
     ensures step { (table : tables.Table) → IsTableAt past.now source table
@@ -192,8 +214,16 @@ fn check_projection(
     let body = past.table(source);
     marks.states.clear();
     put_pure(&body, column, &mut marks.states);
-    let rule = Projected::new(&body, column, &marks.states).listed(body.list());
-    check_part(&rule, past.signature, targets, room, scratch)
+    body.lay(&mut scratch.lists.first, &mut scratch.lists.lay);
+    let rule = Projected::new(&body, column, &marks.states).listed(&scratch.lists.first);
+    check_part(
+        &rule,
+        past.signature,
+        targets,
+        room,
+        &mut scratch.rows,
+        &mut scratch.out,
+    )
 }
 
 /// Holds the targets of "infinitely many".
@@ -214,6 +244,8 @@ fn check_many(
         × ((states : List ℕ) → ArePure table column states
         → (length counts.now ≡ length states)
         × KeepRules table column (count_at states (map as_mark counts.now))) }
+    requires list { FitsList (steps_of past.now) source scratch.old.lists.first
+        scratch.old.lists.lay }
     requires few { length targets.now < 2 ^ 32 }
     requires room { HasRoom targets.now room.old }
     ensures step { (table : tables.Table) (states : List ℕ) → IsTableAt past.now source table
@@ -228,8 +260,17 @@ fn check_many(
     let body = past.table(source);
     marks.states.clear();
     put_pure(&body, column, &mut marks.states);
-    let rule = Many::new(&body, column, &marks.states, counts);
-    check_part(&rule, past.signature, targets, room, scratch)
+    body.lay(&mut scratch.lists.first, &mut scratch.lists.lay);
+    let listed = body.listed(&scratch.lists.first);
+    let rule = Many::new(&listed, column, &marks.states, counts);
+    check_part(
+        &rule,
+        past.signature,
+        targets,
+        room,
+        &mut scratch.rows,
+        &mut scratch.out,
+    )
 }
 
 /// Holds the targets of a part against the labels that it is to have.

@@ -1,11 +1,12 @@
 -- A walk over the entries of a listed table: each is the first one behind the entry before it.
 use Rattle.std.specs.Prelude.{◌≡◌, ℕ, zero, suc, ◌+◌, ◌<◌, ◌≤◌, List, length, get_or, Contains, Bool, true, false, refl}
-use Rattle.std.proofs.Common.{sym, subst, ◌∙◌, arith, ⊎_elim}
+use Rattle.std.proofs.Common.{ap, sym, subst, ◌∙◌, arith, ⊎_elim}
 use Rattle.std.proofs.lemmas.Bool.{cases_lt}
 use Rattle.std.proofs.lemmas.List.{get_or_default}
 use Rattle.fort_theory.specs.Signatures.{Signature}
-use Rattle.fort_tables.specs.Entries.{Entry, no_entry, ComesBefore, IsNextEntry, IsLastEntry}
-use Rattle.fort_tables.specs.Tables.{Listed, IsListed}
+use Rattle.fort_tables.specs.Entries.{Entry, no_entry, IsEntry, ComesBefore, IsNextEntry, IsLastEntry}
+use Rattle.fort_tables.specs.Tables.{Listed, IsListed, target_in}
+use Rattle.fort_tables.proofs.NumberLaws.{listed_target}
 use Rattle.fort_tables.proofs.OrderLaws.{before_irrefl, before_trans, none_before}
 
 -- the entry before a place; before the first one there is none
@@ -77,3 +78,21 @@ advanced t n last e d false sig c ps h l s q p is next none =
 -- the entry before the next place
 pub before_more : (t : Listed) (n : ℕ) (e : Entry) → e ≡ get_or t.entries n (no_entry t.columns) → e ≡ entry_before t (n + 1)
 before_more t n e is = let more : suc n ≡ n + 1 = omega arith in subst (λ (i : ℕ). e ≡ entry_before t i) more is
+
+-- the target at the place of an entry is the entry's
+pub walked_target : (t : Listed) (n : ℕ) (e : Entry) (targets : List ℕ) → IsListed t → n < length t.targets → targets ≡ t.targets → get_or t.entries n (no_entry t.columns) ≡ e → get_or targets n 0 ≡ target_in t.entries t.targets e
+walked_target t n e targets h l same is = ap (λ (qs : List ℕ). get_or qs n 0) same ∙ (sym (listed_target t n h l) ∙ ap (target_in t.entries t.targets) is)
+
+-- an entry of the table is one of the list
+pub walked_past : (t : Listed) (n : ℕ) (e : Entry) → IsListed t → length t.entries ≤ n → IsEntry t.signature t.columns t.presences e
+    → ((j : ℕ) → j < n → get_or t.entries j (no_entry t.columns) ≡ e → ⊥) → ⊥
+walked_past t n e h l is none = let at = index_of t.entries e (no_entry t.columns) (h.all e is) in none at.0 (omega (arith, at.1)) at.2
+
+-- one more entry that is not the one sought
+pub others_more : (t : Listed) (n : ℕ) (e : Entry) → ((j : ℕ) → j < n → get_or t.entries j (no_entry t.columns) ≡ e → ⊥) → (get_or t.entries n (no_entry t.columns) ≡ e → ⊥)
+    → (j : ℕ) → j < n + 1 → get_or t.entries j (no_entry t.columns) ≡ e → ⊥
+others_more t n e before here j less is =
+    ⊎_elim
+    (λ (b : j < n). before j b is)
+    (λ (b : n ≤ j). let same : n ≡ j = omega arith in here (ap (λ (i : ℕ). get_or t.entries i (no_entry t.columns)) same ∙ is))
+    (cases_lt j n)

@@ -2,8 +2,9 @@
 use Rattle.std.proofs.Common.{◌≡◌, ℕ, zero, suc, ◌+◌, ◌^◌, ◌-◌, ◌%◌, ◌*◌, ◌<◌, ◌≤◌, List, map, Bool, true, false, not, ◌&&◌, ◌==◌, if◌then◌else◌, length, get_or, refl, ap, sym, ◌∙◌, arith, subst, true≢false}
 use Rattle.std.proofs.Math.Pow.{pow_mono}
 use Rattle.std.proofs.lemmas.Bool.Decides.{Decides-eqb}
-use Rattle.std.proofs.lemmas.List.{length-map}
+use Rattle.std.proofs.lemmas.List.{length-map, take_all}
 use Rattle.fort_theory.specs.Signatures.{Signature}
+use Rattle.fort_tables.specs.Entries.{stage}
 use Rattle.fort_tables.specs.Tables.{Listed, IsTable, IsReached, IsListed, full_presence, listed_table}
 use Rattle.fort_tables.specs.Labels.{first_word, final_by}
 use Rattle.fort_tables.specs.LabelRules.{LabelRule, IsLabelRule, IsTableBy, label_of}
@@ -11,8 +12,6 @@ use Rattle.fort_laid_entries.specs.Laid.{all_entries}
 use Rattle.fort_in_order.specs.PartSteps.{IsRightPart, part_table}
 use Rattle.fort_in_order.proofs.PartByLabels.{part_is_listed, part_by_labels}
 use Rattle.fort_in_order_laws.proofs.EntryWalks.{right_few}
-use Rattle.fort_rrn_algebra.specs.declared.target_list.TargetList.{TargetList}
-use Rattle.fort_rrn_algebra.specs.TargetLists.{IsTargetListOf}
 use Rattle.fort_check_steps.specs.declared.room.PartRoom.{PartRoom}
 use Rattle.fort_check_steps.specs.Held.{HoldsPart, held_entries, held_table}
 use Rattle.fort_check_steps.specs.Room.{most_states}
@@ -69,20 +68,15 @@ pub held_listed : (r : LabelRule) (accepting : List ℕ → Bool) (sig : Signatu
 held_listed r accepting sig n targets room a b h =
     subst IsListed (sym (held_is r accepting sig n targets room a b h)) (right_listed r accepting targets room h.labels h.lawful h.right h.presences h.finals)
 
--- its list is the table's
-pub held_list : (r : LabelRule) (accepting : List ℕ → Bool) (sig : Signature) (n : ℕ) (targets : List ℕ) (room : PartRoom) → r.signature ≡ sig → r.columns ≡ n
-    → HoldsPart r accepting targets room → IsTargetListOf (listed_table (room_table sig n targets room)) room.list
-held_list r accepting sig n targets room a b h =
-    subst (λ (t : Listed). IsTargetListOf (listed_table t) room.list) (sym (held_is r accepting sig n targets room a b h)) h.list
-
 pub held_few : (r : LabelRule) (accepting : List ℕ → Bool) (targets : List ℕ) (room : PartRoom) → HoldsPart r accepting targets room → length targets < 2 ^ 32
     → length room.presences.items < 2 ^ 32
 held_few r accepting targets room h l =
     omega (arith, ap length h.presences, length-map h.labels first_word, right_few r targets (length targets) (held_entries r room) h.labels h.right.right)
 
--- a part has no more states than there is room for
-pub held_count : (ps targets : List ℕ) (labels : List (List ℕ)) → ps ≡ map first_word labels → length labels ≤ most_states targets → length ps ≤ most_states targets
-held_count ps targets labels e l = omega (arith, ap length e, length-map labels first_word)
+-- a part has no more states than its targets make
+pub held_states : (r : LabelRule) (accepting : List ℕ → Bool) (targets : List ℕ) (room : PartRoom) → HoldsPart r accepting targets room → length room.presences.items ≤ most_states targets
+held_states r accepting targets room h =
+    omega (arith, ap length h.presences, length-map h.labels first_word, right_few r targets (length targets) (held_entries r room) h.labels h.right.right, h.right.right.states, ap stage (take_all (length targets) targets (omega arith)))
 
 pub held_finals : (r : LabelRule) (accepting : List ℕ → Bool) (targets : List ℕ) (room : PartRoom) → HoldsPart r accepting targets room
     → length room.finals.items ≡ length room.presences.items
@@ -123,12 +117,3 @@ turned_more n is_full b truth e = subst (λ (k : ℕ). (is_full && not truth) �
 
 pub full_is : (n : ℕ) → n ≤ 16 → (1 * 2 ^ n) % 4294967296 - 1 ≡ full_presence n
 full_is n h = let e : 2 ^ n ≤ 2 ^ 16 = pow_mono h in omega arith
-
--- the list of a table is that of the table under negations
-pub list-turned : (t : TurnedTable) (l : TargetList) → IsTargetListOf (listed_table t.table) l → IsTargetListOf (turned_table t) l
-list-turned t l h = record {
-  list_is = λ m.
-      let f = h.list_is m in
-      record { base_is = f.base_is; starts_all = f.starts_all; few = f.few; spots = f.spots; entries = f.entries };
-  made = h.made;
-}

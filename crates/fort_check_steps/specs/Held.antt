@@ -3,10 +3,9 @@ use Rattle.std.specs.Prelude.{◌≡◌, ℕ, List, Bool, map}
 use Rattle.fort_tables.specs.Entries.{Entry}
 use Rattle.fort_tables.specs.Labels.{first_word, final_by}
 use Rattle.fort_tables.specs.LabelRules.{LabelRule, IsLabelRule}
-use Rattle.fort_tables.specs.Tables.{Listed, listed_table}
+use Rattle.fort_tables.specs.Tables.{Listed}
 use Rattle.fort_laid_entries.specs.Laid.{all_entries}
 use Rattle.fort_in_order.specs.PartSteps.{IsRightPart}
-use Rattle.fort_rrn_algebra.specs.TargetLists.{IsTargetListOf}
 use Rattle.fort_check_steps.specs.declared.room.PartRoom.{PartRoom}
 
 -- the entries over its states
@@ -30,4 +29,3 @@ pub record HoldsPart (r : LabelRule) (accepting : List ℕ → Bool) (targets : 
   pub right : IsRightPart r targets (held_entries r room) labels
   pub presences : room.presences.items ≡ map first_word labels
   pub finals : room.finals.items ≡ map (final_by r.columns accepting) labels
-  pub list : IsTargetListOf (listed_table (held_table r targets room)) room.list

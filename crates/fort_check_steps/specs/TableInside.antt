@@ -1,5 +1,5 @@
 -- Inside: what the fields of the table of a part stand for.
-use Rattle.std.specs.Prelude.{◌≡◌, ◌<◌, ◌^◌, length}
+use Rattle.std.specs.Prelude.{◌≡◌, ◌<◌, ◌^◌, length, IfSome}
 use Rattle.fort_tables.specs.Tables.{Listed, listed_table, IsListed}
 use Rattle.fort_laid_entries.specs.Laid.{all_entries}
 use Rattle.fort_rrn_algebra.specs.TargetLists.{IsTargetListOf}
@@ -23,4 +23,4 @@ pub record IsPartTable (a : Inside) : Type 0 where
   pub listed : IsListed (listed_in a)
   pub few : length a.room.now.presences.items < 2 ^ 32
   pub final_count : length a.room.now.finals.items ≡ length a.room.now.presences.items
-  pub list : IsTargetListOf (listed_table (listed_in a)) a.room.now.list
+  pub list_is : IfSome a.list (λ l. IsTargetListOf (listed_table (listed_in a)) l.now)

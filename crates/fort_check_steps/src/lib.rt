@@ -28,7 +28,7 @@ pub use numbered::{Numbered, RuleNumbers};
 pub use pairs::PairRules;
 pub use part::check_part;
 pub use projected::Projected;
-pub use room::{LabelNeeds, LabelRoom, PartRoom, most_states};
+pub use room::{LabelNeeds, LabelRoom, ListNeeds, ListRoom, PartRoom, most_states};
 pub use rules::{both_ways, closure_rules};
 pub use table::PartTable;
 

@@ -1,17 +1,18 @@
 //! The check of a part.
-ghost use Rattle.std.specs.Prelude.{◌≡◌, ◌<◌, ◌^◌, length, OnOk};
+ghost use Rattle.std.specs.Prelude.{◌≡◌, ◌<◌, ◌≤◌, ◌^◌, length, vec_capacity, OnOk};
 ghost use Rattle.fort_tables.specs.LabelRules.{IsTableBy, label_of};
 ghost use Rattle.fort_tables.specs.Tables.{listed_table};
 ghost use Rattle.fort_in_order.specs.Outcomes.{StepOutcome};
 ghost use Rattle.fort_in_order.specs.PartSteps.{IsPartOutcome};
 ghost use Rattle.fort_check_steps.specs.Held.{HoldsPart, held_table};
-ghost use Rattle.fort_check_steps.specs.Room.{HasRoom, HasLabelRoom, IsAsRoomy};
+ghost use Rattle.fort_check_steps.specs.Room.{HasRoom, most_states};
+ghost use Rattle.fort_check_steps.specs.StateLabelsView.{HasSpace, IsAsSpacious};
 ghost use Rattle.fort_check_steps.specs.StepAnswers.{outcome_of};
 
 use crate::failure::Failure;
 use crate::finals::put_finals;
-use crate::room::{LabelRoom, PartRoom};
-use crate::state_labels::put_zeros;
+use crate::room::PartRoom;
+use crate::state_labels::{StateLabels, put_zeros};
 use crate::targets::check_targets;
 use fort_explore::LocalRule;
 use fort_terms::Signature;
@@ -22,12 +23,14 @@ pub fn check_part<R: LocalRule>(
     sig: &Signature,
     targets: &[u32],
     room: &mut PartRoom,
-    scratch: &mut LabelRoom,
+    rows: &mut StateLabels,
+    out: &mut Vec<u64>,
 ) -> Result<(), Failure>
     requires signature { (R.rule rule.now).signature ≡ sig.now }
     requires few { length targets.now < 2 ^ 32 }
     requires room { HasRoom targets.now room.old }
-    requires scratch { HasLabelRoom (R.word_count rule.now) targets.now scratch.old }
+    requires space { HasSpace (R.word_count rule.now) (most_states targets.now) rows.old.spaces }
+    requires out { R.word_count rule.now ≤ vec_capacity out.old }
     ensures outcome { IsPartOutcome (R.rule rule.now) targets.now (outcome_of result) }
     ensures only { (o : StepOutcome) → IsPartOutcome (R.rule rule.now) targets.now o
         → o ≡ outcome_of result }
@@ -37,35 +40,24 @@ pub fn check_part<R: LocalRule>(
         (label_of (R.rule rule.now)) (R.accepting rule.now) (listed_table (held_table
         (R.rule rule.now) targets.now room.new))) }
     ensures room { HasRoom targets.now room.new }
-    ensures scratch { IsAsRoomy scratch.old scratch.new }
+    ensures space { IsAsSpacious rows.old.spaces rows.new.spaces }
+    ensures out { vec_capacity out.old ≤ vec_capacity out.new }
 {
     let width = rule.width();
-    put_zeros(&mut scratch.out, width);
+    put_zeros(out, width);
     room.presences.clear();
     room.finals.clear();
-    scratch.rows.reset(width);
+    rows.reset(width);
     match check_targets(
         rule,
         sig,
         targets,
         &mut room.presences,
-        &mut scratch.rows,
-        scratch.out.as_mut_slice(),
+        rows,
+        out.as_mut_slice(),
     ) {
         Ok(()) => {
-            put_finals(
-                rule,
-                &scratch.rows,
-                scratch.out.as_mut_slice(),
-                &mut room.finals,
-            );
-            room.list.lay(
-                &mut scratch.lay,
-                sig,
-                rule.columns(),
-                room.presences.as_slice(),
-                targets,
-            );
+            put_finals(rule, rows, out.as_mut_slice(), &mut room.finals);
             Ok(())
         }
         Err(failure) => Err(failure),

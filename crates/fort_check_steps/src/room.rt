@@ -1,30 +1,48 @@
 //! Room for the tables of parts, and for their check.
-ghost use Rattle.std.specs.Prelude.{◌≡◌, IfOk};
+ghost use Rattle.std.specs.Prelude.{◌≡◌, ℕ, IfOk};
 ghost use Rattle.fort_tables.specs.Entries.{stage};
-ghost use Rattle.fort_check_steps.specs.Room.{HasRoom, IsSpaceFor, IsAsNeedy, HasNeeds, most_states as most_states_lem};
+ghost use Rattle.fort_rrn_algebra.specs.TargetLists.{HasListRoom};
+ghost use Rattle.fort_check_steps.specs.Room.{HasRoom, IsAsLong, IsSpaceFor, IsAsNeedy, HasNeeds, most_states as most_states_lem};
 
 use crate::state_labels::{NARROW, StateLabels};
 use fort_rrn_algebra::{LayRoom, TargetList};
 use fort_terms::Memory;
 use std::alloc::{AllocError, Global};
 
-/// What is kept of a part that was checked: its targets, tuple symbol by tuple symbol; the presences and the acceptance of its states.
+/// A list has no more targets than these, so that there is a number for each start.
+const MOST_TARGETS: usize = 0x7fff_ffff_ffff_ffff;
+
+/// What is kept of a part that was checked: the presences and the acceptance of its states.
 #[derive(Drop)]
 pub struct PartRoom {
-    pub list: TargetList,
     pub presences: Vec<u16>,
     pub finals: Vec<bool>,
 }
 
-/// What each part in its turn is checked in: the labels of its states, and one label more; what its targets are laid by.
+/// Where the targets of a part's operands are laid, before the part is checked.
+#[derive(Drop)]
+pub struct ListRoom {
+    pub first: TargetList,
+    pub second: TargetList,
+    pub lay: LayRoom,
+}
+
+/// What each part in its turn is checked in: the labels of its states, and one label more; the lists of its operands' targets.
 #[derive(Drop)]
 pub struct LabelRoom {
     pub rows: StateLabels,
     pub out: Vec<u64>,
-    pub lay: LayRoom,
+    pub lists: ListRoom,
 }
 
-/// What room labels need, and what a part's list is laid by.
+/// The most states and targets of a table whose list is laid.
+#[derive(Clone, Copy, Default)]
+pub struct ListNeeds {
+    pub states: usize,
+    pub targets: usize,
+}
+
+/// What room labels need, and the lists of operands.
 #[derive(Clone, Copy, Default)]
 pub struct LabelNeeds {
     /// The words of a label.
@@ -37,8 +55,8 @@ pub struct LabelNeeds {
     pub most: usize,
     /// The words of a wide label.
     pub widest: usize,
-    /// How many states there are.
-    pub states: usize,
+    pub first: ListNeeds,
+    pub second: ListNeeds,
 }
 
 /// One more than the greatest target, or 0.
@@ -66,11 +84,33 @@ impl PartRoom {
     {
         let states = most_states(targets);
         Ok(PartRoom {
-            list: TargetList::with_room(alloc, states, targets.len())?,
             presences: Vec::with_capacity(alloc, states)?,
             finals: Vec::with_capacity(alloc, states)?,
         })
     }
+}
+
+impl ListNeeds {
+    /// What suffices for both.
+    fn max(self, other: ListNeeds) -> ListNeeds
+        ensures own { IsAsLong self result }
+        ensures other { IsAsLong other result }
+    {
+        ListNeeds {
+            states: self.states.max(other.states),
+            targets: self.targets.max(other.targets),
+        }
+    }
+}
+
+/// The room for a list. More targets than there are numbers for are want of memory.
+fn list_for(alloc: Global, needs: ListNeeds) -> Result<TargetList, Memory>
+    ensures { IfOk result (HasListRoom needs.states needs.targets) }
+{
+    if needs.targets > MOST_TARGETS {
+        return Err(AllocError);
+    }
+    TargetList::with_room(alloc, needs.states, needs.targets)
 }
 
 impl LabelNeeds {
@@ -89,7 +129,8 @@ impl LabelNeeds {
                 wide: words,
                 most: count,
                 widest: width,
-                states: count,
+                first: ListNeeds::default(),
+                second: ListNeeds::default(),
             });
         }
         Ok(LabelNeeds {
@@ -98,8 +139,27 @@ impl LabelNeeds {
             wide: 0,
             most: 0,
             widest: 0,
-            states: count,
+            first: ListNeeds::default(),
+            second: ListNeeds::default(),
         })
+    }
+
+    /// The same, with room for the lists of operands.
+    pub fn with_lists(self, first: ListNeeds, second: ListNeeds) -> LabelNeeds
+        ensures labels { (width count : ℕ) → IsSpaceFor width count self
+            → IsSpaceFor width count result }
+        ensures first { result.first ≡ first }
+        ensures second { result.second ≡ second }
+    {
+        LabelNeeds {
+            width: self.width,
+            narrow: self.narrow,
+            wide: self.wide,
+            most: self.most,
+            widest: self.widest,
+            first,
+            second,
+        }
     }
 
     /// What suffices for both.
@@ -113,7 +173,8 @@ impl LabelNeeds {
             wide: self.wide.max(other.wide),
             most: self.most.max(other.most),
             widest: self.widest.max(other.widest),
-            states: self.states.max(other.states),
+            first: self.first.max(other.first),
+            second: self.second.max(other.second),
         }
     }
 }
@@ -126,7 +187,11 @@ impl LabelRoom {
         Ok(LabelRoom {
             rows: StateLabels::new(alloc, needs.narrow, needs.wide, needs.most, needs.widest)?,
             out: Vec::with_capacity(alloc, needs.width)?,
-            lay: LayRoom::new(alloc, needs.states)?,
+            lists: ListRoom {
+                first: list_for(alloc, needs.first)?,
+                second: list_for(alloc, needs.second)?,
+                lay: LayRoom::new(alloc, needs.first.states.max(needs.second.states))?,
+            },
         })
     }
 }

@@ -1,14 +1,16 @@
 //! The tables of parts that were checked.
 ghost use Rattle.std.specs.Prelude.{◌≡◌, ◌<◌, ◌≤◌, ◌^◌, ◌==◌, ℕ, List, Bool, length};
 ghost use Rattle.fort_tables.specs.LabelRules.{LabelRule};
-ghost use Rattle.fort_tables.specs.Tables.{full_presence, IsListed};
-ghost use Rattle.fort_rrn_algebra.specs.TargetLists.{IsTargetListOf};
+ghost use Rattle.fort_tables.specs.Entries.{entry};
+ghost use Rattle.fort_tables.specs.Tables.{full_presence, IsListed, IsTableEntry};
+ghost use Rattle.fort_rrn_algebra.specs.LayRooms.{HasLayRoom};
+ghost use Rattle.fort_rrn_algebra.specs.TargetLists.{IsTargetListOf, HasListRoom};
 ghost use Rattle.fort_check_steps.specs.Turned.{turned_by, turned_table};
 ghost use Rattle.fort_check_steps.specs.Held.{HoldsPart, held_table};
 
 use crate::room::PartRoom;
-use fort_lockstep::{Table, TupleSym};
-use fort_rrn_algebra::TargetList;
+use fort_lockstep::{Entries, Table, TupleSym};
+use fort_rrn_algebra::{LayRoom, TargetList};
 use fort_terms::Signature;
 use std::marker::Model;
 
@@ -20,6 +22,8 @@ pub struct PartTable<'a> {
     targets: &'a [u32],
     room: &'a PartRoom,
     turns: usize,
+    /// Its targets, tuple symbol by tuple symbol, where they are laid.
+    list: Option<&'a TargetList>,
 }
 
 impl<'a> Model for PartTable<'a> {
@@ -59,14 +63,41 @@ impl<'a> PartTable<'a> {
             targets,
             room,
             turns,
+            list: None,
         }
     }
 
-    /// The table's targets, tuple symbol by tuple symbol.
-    pub fn list(&self) -> &'a TargetList
-        ensures { IsTargetListOf (turned_table self.now) result.now }
+    /// The same table with its list, by which targets are found at once; else they are looked for from the first one on.
+    pub fn listed(self, list: &'a TargetList) -> PartTable<'a>
+        requires { IsTargetListOf (turned_table self) list.now }
+        ensures { result ≡ self.entry }
     {
-        &self.room.list
+        PartTable {
+            signature: self.signature,
+            columns: self.columns,
+            targets: self.targets,
+            room: self.room,
+            turns: self.turns,
+            list: Some(list),
+        }
+    }
+
+    /// Lays the table's targets, tuple symbol by tuple symbol, in room that is there. It takes no memory.
+    pub fn lay(&self, list: &mut TargetList, room: &mut LayRoom)
+        requires list { HasListRoom (length self.now.table.presences)
+            (length self.now.table.targets) list.old }
+        requires room { HasLayRoom (length self.now.table.presences) room.old }
+        ensures list { IsTargetListOf (turned_table self.now) list.new }
+        ensures list_room { (n k : ℕ) → HasListRoom n k list.old → HasListRoom n k list.new }
+        ensures room { (n : ℕ) → HasLayRoom n room.old → HasLayRoom n room.new }
+    {
+        list.lay(
+            room,
+            self.signature,
+            self.columns,
+            self.room.presences.as_slice(),
+            self.targets,
+        );
     }
 
     /// The presences of the states.
@@ -106,6 +137,23 @@ fn turned(turns: usize, is_full: bool, is_final: bool) -> bool
     truth
 }
 
+/// The target of an entry, by a walk through the entries before it.
+fn target_by_walk(table: &PartTable<'_>, sym: &TupleSym, kids: &[u32]) -> u32
+    requires { IsTableEntry (turned_table table.now) (entry sym.now kids.now) }
+    ensures { result ≡ (turned_table table.now).target (entry sym.now kids.now) }
+{
+    let presences = table.presences();
+    let targets = table.targets();
+    let mut entries = Entries::new(table.signature, table.columns);
+    'targets: for place in 0..targets.len() {
+        let _is_there = entries.advance(presences);
+        if entries.row().is_entry(sym, kids) {
+            return targets[place];
+        }
+    }
+    unreachable!()
+}
+
 impl<'a> Table for PartTable<'a> {
     ghost use Rattle.fort_check_steps.specs.Turned.{turned_table};
 
@@ -136,6 +184,9 @@ impl<'a> Table for PartTable<'a> {
     }
 
     fn target(&self, sym: &TupleSym, kids: &[u32]) -> u32 {
-        self.room.list.target(sym, kids)
+        match self.list {
+            Some(list) => list.target(sym, kids),
+            None => target_by_walk(self, sym, kids),
+        }
     }
 }

@@ -5,6 +5,7 @@ ghost use Rattle.fort_lockstep.specs.Columns.{as_column};
 ghost use Rattle.fort_in_order.specs.ClosureSteps.{ClosureRules};
 ghost use Rattle.fort_check_steps.specs.PairSteps.{IsPairRules, IsNumberable};
 ghost use Rattle.fort_check_steps.specs.Turned.{turned_table};
+ghost use Rattle.fort_check_steps.specs.Room.{IsSpaceFor, IsListFor};
 ghost use Rattle.fort_explore.specs.TestLabels.{pair_step, is_constant as is_constant_lem, at_most as at_most_lem};
 ghost use Rattle.fort_check_steps.specs.TestRule.{wide_step};
 
@@ -261,8 +262,9 @@ fn lists_of_targets(rt: HostRuntime) -> Result<(), Fail> {
         let mut room = PartRoom::new(rt.alloc(), targets)?;
         let needs = LabelNeeds::new(4, targets.len())?;
         let mut scratch = LabelRoom::new(rt.alloc(), needs)?;
-        assert!(rt; check_part(&rule, &signature, targets, &mut room, &mut scratch) == answer);
-        assert!(rt; check_part(&rule, &signature, targets, &mut room, &mut scratch) == answer);
+        let (rows, out) = (&mut scratch.rows, &mut scratch.out);
+        assert!(rt; check_part(&rule, &signature, targets, &mut room, rows, out) == answer);
+        assert!(rt; check_part(&rule, &signature, targets, &mut room, rows, out) == answer);
     }
     Ok(())
 }
@@ -287,8 +289,9 @@ fn wide_labels(rt: HostRuntime) -> Result<(), Fail> {
         let mut room = PartRoom::new(rt.alloc(), targets)?;
         let needs = LabelNeeds::new(10, targets.len())?;
         let mut scratch = LabelRoom::new(rt.alloc(), needs)?;
-        assert!(rt; check_part(&rule, &signature, targets, &mut room, &mut scratch) == answer);
-        assert!(rt; check_part(&rule, &signature, targets, &mut room, &mut scratch) == answer);
+        let (rows, out) = (&mut scratch.rows, &mut scratch.out);
+        assert!(rt; check_part(&rule, &signature, targets, &mut room, rows, out) == answer);
+        assert!(rt; check_part(&rule, &signature, targets, &mut room, rows, out) == answer);
     }
     Ok(())
 }
@@ -348,7 +351,14 @@ fn has_turned_answers(alloc: Global, turns: usize, accepting: &[u32]) -> Result<
     let rule = AtMost(&signature);
     let mut room = PartRoom::new(alloc, &targets)?;
     let mut scratch = LabelRoom::new(alloc, LabelNeeds::new(4, targets.len())?)?;
-    match check_part(&rule, &signature, &targets, &mut room, &mut scratch) {
+    match check_part(
+        &rule,
+        &signature,
+        &targets,
+        &mut room,
+        &mut scratch.rows,
+        &mut scratch.out,
+    ) {
         Ok(()) => {
             let table = PartTable::new(&signature, 2, &targets, &room, turns);
             has_answers(alloc, &table, accepting)
@@ -398,17 +408,42 @@ fn constant_and_binary(alloc: Global) -> Result<Signature, AddFault> {
     Ok(signature)
 }
 
+/// What four words of each label need, and the list of the table.
+fn needs_of(targets: &[u32]) -> Result<LabelNeeds, Memory>
+    ensures space { IfOk result (IsSpaceFor 4 (length targets.now)) }
+    ensures list { IfOk result (λ n. IsListFor targets.now n.first) }
+{
+    let list = ListNeeds {
+        states: most_states(targets),
+        targets: targets.len(),
+    };
+    Ok(LabelNeeds::new(4, targets.len())?.with_lists(list, ListNeeds::default()))
+}
+
 /// Whether each entry of a table of two columns has its target.
 fn finds_targets(alloc: Global, signature: &Signature, targets: &[u32]) -> Result<bool, Fail>
     requires { length targets.now < 2 ^ 32 }
 {
     let rule = AtMost(signature);
     let mut room = PartRoom::new(alloc, targets)?;
-    let mut scratch = LabelRoom::new(alloc, LabelNeeds::new(4, targets.len())?)?;
-    match check_part(&rule, signature, targets, &mut room, &mut scratch) {
+    let mut scratch = LabelRoom::new(alloc, needs_of(targets)?)?;
+    match check_part(
+        &rule,
+        signature,
+        targets,
+        &mut room,
+        &mut scratch.rows,
+        &mut scratch.out,
+    ) {
         Ok(()) => {
             let table = PartTable::new(signature, 2, targets, &room, 0);
-            Ok(states_of_entries(alloc, &table)?.as_slice() == targets)
+            if states_of_entries(alloc, &table)?.as_slice() != targets {
+                return Ok(false);
+            }
+            let lists = &mut scratch.lists;
+            table.lay(&mut lists.first, &mut lists.lay);
+            let listed = table.listed(&lists.first);
+            Ok(states_of_entries(alloc, &listed)?.as_slice() == targets)
         }
         Err(_) => Ok(false),
     }

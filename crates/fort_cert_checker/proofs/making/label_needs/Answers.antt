@@ -1,15 +1,23 @@
-use Rattle.std.proofs.Common.{List, ℕ, subst, arith}
-use Rattle.std.proofs.lemmas.Result.{IfOk-weaker}
+use Rattle.std.proofs.Common.{List, ℕ, map, sym, subst, arith}
 use Rattle.fort_check_steps.specs.Room.{HasLabelRoom}
+use Rattle.fort_check_steps.specs.declared.room.ListNeeds.{ListNeeds}
 use Rattle.fort_check_steps.proofs.RoomLaws.{has_label_room}
+use Rattle.fort_steps.specs.StepView.{as_step}
+use Rattle.fort_cert_checker.specs.OperandLists.{AreNeedsOf}
+use Rattle.fort_cert_checker.proofs.ListLaws.{lists_needed}
 use Rattle.fort_cert_checker.proofs.making.label_needs.Goals as goal
 
 pub returns : goal.returns
-returns c =
-    IfOk-weaker c.new.result _ _ (λ needs space scratch has. record {
+returns c = λ scratch has.
+    let made = c.with_lists.result in
+    let space = c.with_lists.ensures.labels c.in_ok-width.width c.most_states.result c.in_ok-needs.ensures in
+    record {
       width = c.in_ok-width.width;
       is_width = c.in_ok-width.ensures.width;
       sized = λ targets only.
           subst (λ (ts : List ℕ). HasLabelRoom c.in_ok-width.width ts scratch) (c.targets_of.ensures targets only)
-          (has_label_room c.in_ok-width.width c.most_states.result c.targets_of.result.now needs scratch space has (omega (arith, c.most_states.ensures)));
-    }) c.new.ensures
+          (has_label_room c.in_ok-width.width c.most_states.result c.targets_of.result.now made scratch space has (omega (arith, c.most_states.ensures)));
+      lists = lists_needed (map as_step c.args.steps.now) c.args.plan.now.work made scratch
+          (subst (λ (n : ListNeeds). AreNeedsOf (map as_step c.args.steps.now) c.args.plan.now.work n made.second) (sym c.with_lists.ensures.first)
+          (subst (λ (n : ListNeeds). AreNeedsOf (map as_step c.args.steps.now) c.args.plan.now.work c.list_needs.result.0 n) (sym c.with_lists.ensures.second) c.list_needs.ensures)) has;
+    }

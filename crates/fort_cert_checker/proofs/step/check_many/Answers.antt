@@ -15,50 +15,74 @@ use Rattle.fort_cert_checker.proofs.step.check_many.Goals as goal
 pub put_pure-requires-clause-column : goal.put_pure-requires-clause-column
 put_pure-requires-clause-column c =
     let b = c.requires.body in
-    subst (λ (t : Table). c.args.column < t.columns) (sym (c.table-body.ensures b.0 b.1)) b.3
+    subst (λ (t : Table). c.args.column < t.columns) (sym (c.table-body.ensures.is b.0 b.1)) b.3
 
 pub put_pure-requires-clause-spare : goal.put_pure-requires-clause-spare
 put_pure-requires-clause-spare c =
     let b = c.requires.body in
-    subst (λ (t : Table). length t.presences ≤ vec_capacity c.clear.new.self) (sym (c.table-body.ensures b.0 b.1)) (omega (arith, b.6.pure, c.clear.ensures.capacity))
+    subst (λ (t : Table). length t.presences ≤ vec_capacity c.clear.new.self) (sym (c.table-body.ensures.is b.0 b.1)) (omega (arith, b.6.pure, c.clear.ensures.capacity))
 
 pub new-rule-requires-clause-column : goal.new-rule-requires-clause-column
 new-rule-requires-clause-column c =
     let b = c.requires.body in
-    subst (λ (t : Table). c.args.column < t.columns) (sym (c.table-body.ensures b.0 b.1)) b.3
+    subst (λ (t : Table). c.args.column < t.columns) (sym (ap turned_table c.listed-listed.ensures ∙ c.table-body.ensures.is b.0 b.1)) b.3
 
 pub new-rule-requires-clause-another : goal.new-rule-requires-clause-another
 new-rule-requires-clause-another c =
     let b = c.requires.body in
-    subst (λ (t : Table). 1 < t.columns) (sym (c.table-body.ensures b.0 b.1)) b.4
+    subst (λ (t : Table). 1 < t.columns) (sym (ap turned_table c.listed-listed.ensures ∙ c.table-body.ensures.is b.0 b.1)) b.4
 
 pub check_part-requires-clause-signature : goal.check_part-requires-clause-signature
 check_part-requires-clause-signature c =
     let b = c.requires.body in
-    ap (λ (t : Table). t.signature) (ap turned_table c.new-rule.ensures.body ∙ c.table-body.ensures b.0 b.1) ∙ b.2
+    ap (λ (t : Table). t.signature) (ap turned_table c.new-rule.ensures.body ∙ (ap turned_table c.listed-listed.ensures ∙ c.table-body.ensures.is b.0 b.1)) ∙ b.2
 
-pub check_part-requires-clause-scratch : goal.check_part-requires-clause-scratch
-check_part-requires-clause-scratch c =
+pub check_part-requires-clause-space : goal.check_part-requires-clause-space
+check_part-requires-clause-space c =
     let b = c.requires.body in
-    subst (λ (t : Table). HasLabelRoom (words_for (2 * length t.presences) + 2) c.args.targets.now c.args.scratch.now) (sym (ap turned_table c.new-rule.ensures.body ∙ c.table-body.ensures b.0 b.1)) b.5
+    (subst (λ (t : Table). HasLabelRoom (words_for (2 * length t.presences) + 2) c.args.targets.now c.args.scratch.now)
+    (sym (ap turned_table c.new-rule.ensures.body ∙ (ap turned_table c.listed-listed.ensures ∙ c.table-body.ensures.is b.0 b.1))) b.5).rows
+
+pub check_part-requires-clause-out : goal.check_part-requires-clause-out
+check_part-requires-clause-out c =
+    let b = c.requires.body in
+    (subst (λ (t : Table). HasLabelRoom (words_for (2 * length t.presences) + 2) c.args.targets.now c.args.scratch.now)
+    (sym (ap turned_table c.new-rule.ensures.body ∙ (ap turned_table c.listed-listed.ensures ∙ c.table-body.ensures.is b.0 b.1))) b.5).out
+
+pub lay-requires-clause-list : goal.lay-requires-clause-list
+lay-requires-clause-list c =
+    let b = c.requires.body in
+    (c.table-body.ensures.room b.0 b.1 c.args.scratch.now.lists.first c.args.scratch.now.lists.lay c.requires.list).list_room
+
+pub lay-requires-clause-room : goal.lay-requires-clause-room
+lay-requires-clause-room c =
+    let b = c.requires.body in
+    (c.table-body.ensures.room b.0 b.1 c.args.scratch.now.lists.first c.args.scratch.now.lists.lay c.requires.list).lay_room
+
+pub returns-clause-scratch : goal.returns-clause-scratch
+returns-clause-scratch c = record {
+  rows = c.check_part.ensures.space;
+  out = c.check_part.ensures.out;
+  lists = record { first = c.lay.ensures.list_room; second = λ n k h. h; lay = c.lay.ensures.room };
+}
 
 pub new-rule-requires-clause-sizes : goal.new-rule-requires-clause-sizes
 new-rule-requires-clause-sizes c =
     let b = c.requires.body in
-    let pure = subst (λ (t : Table). ArePure t c.args.column c.put_pure.new.states.items) (c.table-body.ensures b.0 b.1) c.put_pure.ensures.pure in
+    let pure = subst (λ (t : Table). ArePure t c.args.column c.put_pure.new.states.items) (c.table-body.ensures.is b.0 b.1) c.put_pure.ensures.pure in
     (b.7 c.put_pure.new.states.items pure).0 ∙ sym (ap length c.deref.ensures.value)
 
 pub new-rule-requires-clause-rules : goal.new-rule-requires-clause-rules
 new-rule-requires-clause-rules c =
     let b = c.requires.body in
-    let pure = subst (λ (t : Table). ArePure t c.args.column c.put_pure.new.states.items) (c.table-body.ensures b.0 b.1) c.put_pure.ensures.pure in
-    subst (λ (t : Table). KeepRules t c.args.column (count_at c.deref.result.now (map as_mark c.args.counts.now))) (sym (c.table-body.ensures b.0 b.1))
+    let pure = subst (λ (t : Table). ArePure t c.args.column c.put_pure.new.states.items) (c.table-body.ensures.is b.0 b.1) c.put_pure.ensures.pure in
+    subst (λ (t : Table). KeepRules t c.args.column (count_at c.deref.result.now (map as_mark c.args.counts.now))) (sym (ap turned_table c.listed-listed.ensures ∙ c.table-body.ensures.is b.0 b.1))
     (subst (λ (xs : List ℕ). KeepRules b.0 c.args.column (count_at xs (map as_mark c.args.counts.now))) (sym c.deref.ensures.value) (b.7 c.put_pure.new.states.items pure).1)
 
 pub returns-clause-step : goal.returns-clause-step
 returns-clause-step c table states at pure =
-    let made : turned_table c.table-body.result ≡ table = c.table-body.ensures table at in
-    let own : turned_table c.new-rule.result.body.now ≡ table = ap turned_table c.new-rule.ensures.body ∙ made in
+    let made : turned_table c.table-body.result ≡ table = c.table-body.ensures.is table at in
+    let own : turned_table c.new-rule.result.body.now ≡ table = ap turned_table c.new-rule.ensures.body ∙ (ap turned_table c.listed-listed.ensures ∙ made) in
     let alone : c.put_pure.new.states.items ≡ states =
     pure_one table c.args.column c.put_pure.new.states.items states (subst (λ (t : Table). ArePure t c.args.column c.put_pure.new.states.items) made c.put_pure.ensures.pure) pure in
     let given : c.new-rule.result.alone.now ≡ states = c.new-rule.ensures.alone ∙ (c.deref.ensures.value ∙ alone) in

@@ -10,37 +10,60 @@ use Rattle.fort_cert_checker.proofs.step.check_projection.Goals as goal
 pub put_pure-requires-clause-column : goal.put_pure-requires-clause-column
 put_pure-requires-clause-column c =
     let b = c.requires.body in
-    subst (λ (t : Table). c.args.column < t.columns) (sym (c.table-body.ensures b.0 b.1)) b.3
+    subst (λ (t : Table). c.args.column < t.columns) (sym (c.table-body.ensures.is b.0 b.1)) b.3
 
 pub put_pure-requires-clause-spare : goal.put_pure-requires-clause-spare
 put_pure-requires-clause-spare c =
     let b = c.requires.body in
-    subst (λ (t : Table). length t.presences ≤ vec_capacity c.clear.new.self) (sym (c.table-body.ensures b.0 b.1)) (omega (arith, b.6.pure, c.clear.ensures.capacity))
+    subst (λ (t : Table). length t.presences ≤ vec_capacity c.clear.new.self) (sym (c.table-body.ensures.is b.0 b.1)) (omega (arith, b.6.pure, c.clear.ensures.capacity))
 
 pub new-requires-clause-column : goal.new-requires-clause-column
 new-requires-clause-column c =
     let b = c.requires.body in
-    subst (λ (t : Table). c.args.column < t.columns) (sym (c.table-body.ensures b.0 b.1)) b.3
+    subst (λ (t : Table). c.args.column < t.columns) (sym (c.table-body.ensures.is b.0 b.1)) b.3
 
 pub new-requires-clause-another : goal.new-requires-clause-another
 new-requires-clause-another c =
     let b = c.requires.body in
-    subst (λ (t : Table). 1 < t.columns) (sym (c.table-body.ensures b.0 b.1)) b.4
+    subst (λ (t : Table). 1 < t.columns) (sym (c.table-body.ensures.is b.0 b.1)) b.4
 
 pub check_part-requires-clause-signature : goal.check_part-requires-clause-signature
 check_part-requires-clause-signature c =
     let b = c.requires.body in
-    ap (λ (t : Table). t.signature) (ap turned_table (c.listed-rule.ensures.body ∙ c.new.ensures.body) ∙ c.table-body.ensures b.0 b.1) ∙ b.2
+    ap (λ (t : Table). t.signature) (ap turned_table (c.listed-rule.ensures.body ∙ c.new.ensures.body) ∙ c.table-body.ensures.is b.0 b.1) ∙ b.2
 
-pub check_part-requires-clause-scratch : goal.check_part-requires-clause-scratch
-check_part-requires-clause-scratch c =
+pub check_part-requires-clause-space : goal.check_part-requires-clause-space
+check_part-requires-clause-space c =
     let b = c.requires.body in
-    subst (λ (t : Table). HasLabelRoom (words_for (length t.presences) + 2) c.args.targets.now c.args.scratch.now)
-    (sym (ap turned_table (c.listed-rule.ensures.body ∙ c.new.ensures.body) ∙ c.table-body.ensures b.0 b.1)) b.5
+    (subst (λ (t : Table). HasLabelRoom (words_for (length t.presences) + 2) c.args.targets.now c.args.scratch.now)
+    (sym (ap turned_table (c.listed-rule.ensures.body ∙ c.new.ensures.body) ∙ c.table-body.ensures.is b.0 b.1)) b.5).rows
+
+pub check_part-requires-clause-out : goal.check_part-requires-clause-out
+check_part-requires-clause-out c =
+    let b = c.requires.body in
+    (subst (λ (t : Table). HasLabelRoom (words_for (length t.presences) + 2) c.args.targets.now c.args.scratch.now)
+    (sym (ap turned_table (c.listed-rule.ensures.body ∙ c.new.ensures.body) ∙ c.table-body.ensures.is b.0 b.1)) b.5).out
+
+pub lay-requires-clause-list : goal.lay-requires-clause-list
+lay-requires-clause-list c =
+    let b = c.requires.body in
+    (c.table-body.ensures.room b.0 b.1 c.args.scratch.now.lists.first c.args.scratch.now.lists.lay c.requires.list).list_room
+
+pub lay-requires-clause-room : goal.lay-requires-clause-room
+lay-requires-clause-room c =
+    let b = c.requires.body in
+    (c.table-body.ensures.room b.0 b.1 c.args.scratch.now.lists.first c.args.scratch.now.lists.lay c.requires.list).lay_room
+
+pub returns-clause-scratch : goal.returns-clause-scratch
+returns-clause-scratch c = record {
+  rows = c.check_part.ensures.space;
+  out = c.check_part.ensures.out;
+  lists = record { first = c.lay.ensures.list_room; second = λ n k h. h; lay = c.lay.ensures.room };
+}
 
 pub returns-clause-step : goal.returns-clause-step
 returns-clause-step c table at =
-    let own : turned_table c.listed-rule.result.body.now ≡ table = ap turned_table (c.listed-rule.ensures.body ∙ c.new.ensures.body) ∙ c.table-body.ensures table at in
+    let own : turned_table c.listed-rule.result.body.now ≡ table = ap turned_table (c.listed-rule.ensures.body ∙ c.new.ensures.body) ∙ c.table-body.ensures.is table at in
     subst (λ (n : ℕ). IsPartStep (project_local table n) c.args.targets.now c.check_part.new.room c.check_part.result)
     (c.listed-rule.ensures.column ∙ c.new.ensures.column)
     (subst (λ (t : Table). IsPartStep (project_local t c.listed-rule.result.column) c.args.targets.now c.check_part.new.room c.check_part.result) own

@@ -49,3 +49,15 @@ returns-in-Normal-clause-step c parts k made due = arms.normal_step c.args.syste
 
 pub returns-in-Term-clause-step : goal.returns-in-Term-clause-step
 returns-in-Term-clause-step c parts k made due = let plan = arms.term_plan c.args.system.now parts c.args.past.now k made (as_core c.args.core.now) c.args.plan.now c.args.targets.now c.args.room.now c.args.scratch.now c.args.marks.now due c.in-Term.is in arms.term_step c.args.system.now parts c.args.past.now k made (as_core c.args.core.now) c.args.plan.now c.args.targets.now c.args.room.now c.args.scratch.now c.args.marks.now due plan c.check_own_term.new.room c.check_own_term.result (c.check_own_term.ensures.step plan.number plan.term plan.whole)
+
+pub check_product-requires-clause-first : goal.check_product-requires-clause-first
+check_product-requires-clause-first c = let d = c.requires.due in (arms.product_lists c.args.system.now d.0 c.args.past.now d.1 d.2 (as_core c.args.core.now) c.args.plan.now c.args.targets.now c.args.room.now c.args.scratch.now c.args.marks.now d.3 c.in-Product.op c.in-Product.first c.in-Product.second c.in-Product.is).0
+
+pub check_product-requires-clause-second : goal.check_product-requires-clause-second
+check_product-requires-clause-second c = let d = c.requires.due in (arms.product_lists c.args.system.now d.0 c.args.past.now d.1 d.2 (as_core c.args.core.now) c.args.plan.now c.args.targets.now c.args.room.now c.args.scratch.now c.args.marks.now d.3 c.in-Product.op c.in-Product.first c.in-Product.second c.in-Product.is).1
+
+pub check_projection-requires-clause-list : goal.check_projection-requires-clause-list
+check_projection-requires-clause-list c = let d = c.requires.due in arms.projection_list c.args.system.now d.0 c.args.past.now d.1 d.2 (as_core c.args.core.now) c.args.plan.now c.args.targets.now c.args.room.now c.args.scratch.now c.args.marks.now d.3 c.in-Projection.source c.in-Projection.column c.in-Projection.is
+
+pub check_many-requires-clause-list : goal.check_many-requires-clause-list
+check_many-requires-clause-list c = let d = c.requires.due in arms.many_list c.args.system.now d.0 c.args.past.now d.1 d.2 (as_core c.args.core.now) c.args.plan.now c.args.targets.now c.args.room.now c.args.scratch.now c.args.marks.now d.3 c.in-Many.source c.in-Many.column c.in-Many.counts c.in-Many.is

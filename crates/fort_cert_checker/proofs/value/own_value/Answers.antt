@@ -16,7 +16,7 @@ pub table-body-requires : goal.table-body-requires
 table-body-requires c = let d = c.requires.due in arms.projection_at d.0 d.1 c.args.past.now d.2 d.3 d.4 c.args.plan.now c.args.marks.now d.5 c.in-Projection.source c.in-Projection.field-1 c.in-Projection.is
 
 pub returns-in-Projection-clause-value : goal.returns-in-Projection-clause-value
-returns-in-Projection-clause-value c system parts k made f due = arms.projection_value system parts c.args.past.now k made f c.args.plan.now c.args.marks.now due c.in-Projection.source c.in-Projection.field-1 c.accepts_some.result (turned_table c.table-body.result) c.in-Projection.is c.table-body.ensures c.accepts_some.ensures
+returns-in-Projection-clause-value c system parts k made f due = arms.projection_value system parts c.args.past.now k made f c.args.plan.now c.args.marks.now due c.in-Projection.source c.in-Projection.field-1 c.accepts_some.result (turned_table c.table-body.result) c.in-Projection.is c.table-body.ensures.is c.accepts_some.ensures
 
 pub accepts_many-requires : goal.accepts_many-requires
 accepts_many-requires c = let d = c.requires.due in record { body = arms.many_needs d.0 d.1 c.args.past.now d.2 d.3 d.4 c.args.plan.now c.args.marks.now d.5 c.in-Many.source c.in-Many.column c.in-Many.counts c.in-Many.is c.deref.result.now c.deref.ensures.value }

@@ -1,6 +1,6 @@
 use Rattle.std.proofs.Common.{get_or, ap}
 use Rattle.fort_check_steps.specs.declared.room.PartRoom.{PartRoom}
-use Rattle.fort_cert_checker.proofs.PastLaws.{targets_few, table_holds, table_made}
+use Rattle.fort_cert_checker.proofs.PastLaws.{targets_few, table_holds, table_made, table_room}
 use Rattle.fort_cert_checker.proofs.past.Past.table.Goals as goal
 
 pub new-requires-clause-few : goal.new-requires-clause-few
@@ -15,7 +15,12 @@ new-requires-clause-holds c =
     table_holds c.args.self.now c.args.source c.requires.0 h c.index-self-source.result (get_or c.args.self.now.rooms.now c.args.source.part c.index-self-source-2.result) c.targets_of.result.now c.len.result c.index-self-source.is (ap (λ (d : PartRoom). get_or c.args.self.now.rooms.now c.args.source.part d) c.index-self-source-2.is) c.len.ensures
     (c.targets_of.ensures h.targets h.only)
 
-pub returns : goal.returns
-returns c table h =
+pub returns-clause-is : goal.returns-clause-is
+returns-clause-is c table h =
     table_made c.args.self.now c.args.source table h c.index-self-source.result (get_or c.args.self.now.rooms.now c.args.source.part c.index-self-source-2.result) c.targets_of.result.now c.len.result c.index-self-source.is (ap (λ (d : PartRoom). get_or c.args.self.now.rooms.now c.args.source.part d) c.index-self-source-2.is) c.len.ensures
     (c.targets_of.ensures h.targets h.only) c.new.result c.new.ensures.table c.new.ensures.turns
+
+pub returns-clause-room : goal.returns-clause-room
+returns-clause-room c table h =
+    table_room c.args.self.now c.args.source table h c.index-self-source.result (get_or c.args.self.now.rooms.now c.args.source.part c.index-self-source-2.result) c.targets_of.result.now c.len.result c.index-self-source.is (ap (λ (d : PartRoom). get_or c.args.self.now.rooms.now c.args.source.part d) c.index-self-source-2.is) c.len.ensures
+    (c.targets_of.ensures h.targets h.only) c.new.result c.new.ensures.table
