@@ -1,5 +1,6 @@
 -- Laying a table's targets: before the first tuple symbol, where entries are counted and where targets are laid; where stages begin.
-use Rattle.std.proofs.Common.{◌≡◌, ℕ, suc, ◌+◌, ◌^◌, ◌<◌, ◌≤◌, List, [], ◌∷◌, set, length, get_or, get_or-set_same, get_or-set_other, false, vec_len, refl, ap, sym, ◌∙◌, arith, ⊎_elim, subst, length-append, true≢false}
+use Rattle.std.proofs.Common.{◌≡◌, ℕ, suc, ◌+◌, ◌^◌, ◌<◌, ◌≤◌, List, [], ◌∷◌, ◌++◌, take, set, length, get_or, get_or-set_same, get_or-set_other, false, vec_len, refl, ap, sym, ◌∙◌, arith, ⊎_elim, subst, length-append, true≢false}
+use Rattle.std.proofs.Math.Seq.{take-append_seam}
 use Rattle.std.proofs.lemmas.Bool.{cases_eq, cases_lt}
 use Rattle.fort_tables.specs.Entries.{Entry, stage}
 use Rattle.fort_tables.specs.Tables.{Listed, IsListed}
@@ -8,12 +9,16 @@ use Rattle.fort_laid_entries.proofs.AllEntries.{entries_unique}
 use Rattle.fort_laid_entries.proofs.Counts.{length-all_entries}
 use Rattle.fort_laid_entries.proofs.JoinedLists.{joined_long}
 use Rattle.fort_rrn_algebra.specs.Chains.{AreChains}
-use Rattle.fort_rrn_algebra.specs.Walks.{entries_of, IsWalkOf, IsTakenUp, IsBetween, AreStageCounts}
+use Rattle.fort_rrn_algebra.specs.Walks.{entries_of, IsCovered, IsWalkOf, IsTakenUp, IsBetween, AreStageCounts}
 use Rattle.fort_rrn_algebra.specs.declared.chains.Chains.{Chains}
 use Rattle.fort_rrn_algebra.specs.declared.states.LayRoom.{LayRoom}
 use Rattle.fort_rrn_algebra.specs.declared.walk.Walk.{Walk}
 use Rattle.fort_rrn_algebra.proofs.WalkLaws.{stage_keeps, stage_skips}
 use Rattle.fort_rrn_algebra.proofs.SymbolPlaces.{entries_all}
+
+-- a listed table
+pub covered_listed : (t : Listed) → IsListed t → length t.targets < 2 ^ 32 → IsCovered t
+covered_listed t h few = record { narrow = h.table.narrow; order = h.order; all = h.all; count = h.count; few = few }
 
 -- a walk by the chains of the room goes over the table that is taken up
 pub walk_taken : (t : Listed) (walk : Walk) (room : LayRoom) → IsTakenUp t walk.signature.now walk.columns walk.base walk.targets.now room → walk.chains.now ≡ room.chains → IsWalkOf t walk
@@ -47,7 +52,7 @@ in_stage_few s (e ∷ es) =
     (λ h. omega (arith, in_stage_few s es, ap length (stage_skips s e es h)))
     (cases_eq (stage e.kids) s)
 
-pub all_targets : (t : Listed) → IsListed t → start_of (entries_of t) (suc (length t.presences)) ≡ length t.targets
+pub all_targets : (t : Listed) → IsCovered t → start_of (entries_of t) (suc (length t.presences)) ≡ length t.targets
 all_targets t h = ap length (sym (entries_unique t.signature t.columns t.presences t.entries h.order h.all)) ∙ sym h.count
 
 -- entries are counted from 0 on
@@ -85,7 +90,7 @@ counted_all t walk zeros cursors starts laid count z all h = λ s l.
     omega (arith, h.passed.cursor s low, z.none s (omega arith), ap (λ es. length (in_stage s es)) (entries_all t count whole))
 
 -- targets are laid from where the stages begin
-laid_first : (t : Listed) (walk : Walk) (begins : List ℕ) → IsWalkOf t walk → length begins ≡ suc (length t.presences)
+pub laid_first : (t : Listed) (walk : Walk) (begins : List ℕ) → IsWalkOf t walk → length begins ≡ suc (length t.presences)
     → ((s : ℕ) → s < length begins → get_or begins s 0 ≡ start_of (entries_of t) s) → IsBetween t begins walk 0 begins [] []
 laid_first t walk begins h size own =
     let es = entries_of t in
@@ -129,3 +134,7 @@ begun_more es cursors s before l e h r o =
 
 pub counts_left : (cursors old : List ℕ) (s before : ℕ) → ((r : ℕ) → s ≤ r → get_or cursors r 0 ≡ get_or old r 0) → (r : ℕ) → s + 1 ≤ r → get_or (set cursors s before) r 0 ≡ get_or old r 0
 counts_left cursors old s before h r l = let ne : r ≡ s → ⊥ = λ z. omega arith in get_or-set_other cursors s r before 0 ne ∙ h r (omega arith)
+
+-- a slice that was written as a whole
+pub whole_slice : (n : ℕ) (xs ys : List ℕ) → n ≡ length xs → take n (xs ++ ys) ≡ xs
+whole_slice n xs ys e = ap (λ k. take k (xs ++ ys)) e ∙ take-append_seam xs ys

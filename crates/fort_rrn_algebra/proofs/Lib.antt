@@ -16,11 +16,14 @@ mod ListedLaws
 mod ChainLaws
 pub mod WalkLaws
 pub mod WalkTurns
+pub mod HoldLaws
+mod JointLaws
 pub mod SymbolPlaces
 pub mod WalkSymbols
 pub mod LayLaws
 pub mod ListLaws
 mod SymbolNumbers
+mod EntryCounts
 mod ListingLaws
 mod LookUpLaws
 mod FinalSearch

@@ -17,7 +17,7 @@ place_from-more ranks alike p (x ∷ ks) k = place_from-more ranks alike (p * ge
 cap_sum : (x y r m : ℕ) → min x m ≡ min y m → min (min x m + r) m ≡ min (y + r) m
 cap_sum x y r m e = omega arith
 
-cap_product : (x p a m : ℕ) → x ≡ min p m → min (x * a) m ≡ min (p * a) m
+pub cap_product : (x p a m : ℕ) → x ≡ min p m → min (x * a) m ≡ min (p * a) m
 cap_product x p zero m e = omega arith
 cap_product x p (suc a) m e =
     ⊎_elim

@@ -1,18 +1,19 @@
 -- A walk over all entries: one more entry is passed, its cursor and its target.
 use Rattle.std.proofs.Common.{◌≡◌, ℕ, suc, ◌+◌, ◌<◌, ◌≤◌, List, [], ◌∷◌, ◌++◌, set, length, get_or, get_or-set_same, get_or-set_other, Bool, IsTrue, ◌==◌, refl, ap, sym, ◌∙◌, arith, subst, ⊎_elim, length-append, eq-eqb}
 use Rattle.std.proofs.lemmas.Bool.{cases_eq}
-use Rattle.std.proofs.lemmas.List.{length-set, length-map, map-append}
+use Rattle.std.proofs.lemmas.List.{length-set, length-map, map-append, get_or_default}
 use Rattle.std.proofs.lemmas.List.Elements.{filter-append}
 use Rattle.fort_tables.specs.Tuples.{TupleSymbol}
 use Rattle.fort_tables.specs.Entries.{Entry, entry, stage, no_entry}
 use Rattle.fort_tables.specs.Tables.{Listed, listed_table}
 use Rattle.fort_tables.proofs.EqualTests.{test_from_apart}
-use Rattle.fort_tables.proofs.NumberLaws.{listed_target}
+use Rattle.fort_tables.proofs.EntryLaws.{target_found}
+use Rattle.fort_tables.proofs.OrderLaws.{order_one}
 use Rattle.fort_laid_entries.specs.Laid.{in_stage, start_of}
 use Rattle.fort_laid_entries.proofs.AllEntries.{entries_unique, entry_at_cursor, cursor_within, entry_stage}
 use Rattle.fort_laid_entries.proofs.Counts.{length-all_entries}
 use Rattle.fort_laid_entries.proofs.BySymbol.{by_symbol_are}
-use Rattle.fort_rrn_algebra.specs.Walks.{entries_of, HasPassed, Stop, IsStopOf, HasPassedTo}
+use Rattle.fort_rrn_algebra.specs.Walks.{entries_of, IsCovered, HasPassed, Stop, IsStopOf, HasPassedTo}
 use Rattle.fort_rrn_algebra.specs.declared.walk.Walk.{Walk}
 use Rattle.std.specs.Prelude.{Contains}
 use Rattle.std.proofs.lemmas.List.Elements.{Contains-append_right}
@@ -103,6 +104,24 @@ stop_laid p walk f latest cursors laid b h v =
       ap length h.goes.targets,
     )
 
+-- the target beside an entry is the one at its place
+covered_target : (t : Listed) (k : ℕ) → IsCovered t → k < length t.targets → (listed_table t).target (get_or t.entries k (no_entry t.columns)) ≡ get_or t.targets k 0
+covered_target t k h l =
+    let e = get_or t.entries k (no_entry t.columns) in
+    let within : k < length t.entries = omega (arith, h.count) in
+    let is : get_or t.entries k e ≡ e = get_or_default t.entries k e (no_entry t.columns) within in
+    let f = target_found t.entries t.targets e k within is (omega (arith, h.count)) in
+    let same : f.place ≡ k = order_one t.signature t.columns t.presences t.entries f.place k e h.order f.within within (f.is ∙ sym is) in
+    f.target ∙ ap (λ i. get_or t.targets i 0) same
+
+pub stop_place : (p : Stop) (walk : Walk) (f : TupleSymbol) (latest : ℕ) (cursors laid : List ℕ) → IsTrue walk.lays → IsStopOf p walk f latest 0 0 → HasPassedTo p walk.lays cursors laid
+    → get_or cursors latest 0 ≡ start_of (entries_of p.table) (stage p.kids) + length (in_stage (stage p.kids) p.passed)
+stop_place p walk f latest cursors laid b h v =
+    let low = stop_low p walk f latest h in
+    v.cursor latest low
+    ∙ (ap (λ n. n + length (in_stage latest p.passed)) (h.begin.own b latest low)
+    ∙ ap (λ r. start_of (entries_of p.table) r + length (in_stage r p.passed)) h.stage_is)
+
 pub stop_target : (p : Stop) (walk : Walk) (f : TupleSymbol) (latest : ℕ) (cursors laid : List ℕ) → IsTrue walk.lays → IsStopOf p walk f latest 0 0 → HasPassedTo p walk.lays cursors laid
     → get_or walk.targets.now (get_or cursors latest 0) 0 ≡ (listed_table p.table).target (entry_at p f)
 stop_target p walk f latest cursors laid b h v =
@@ -110,16 +129,12 @@ stop_target p walk f latest cursors laid b h v =
     let e = entry_at p f in
     let s = stage p.kids in
     let k = start_of (entries_of t) s + length (in_stage s p.passed) in
-    let low = stop_low p walk f latest h in
-    let at : get_or cursors latest 0 ≡ k =
-    v.cursor latest low
-    ∙ (ap (λ n. n + length (in_stage latest p.passed)) (h.begin.own b latest low)
-    ∙ ap (λ r. start_of (entries_of t) r + length (in_stage r p.passed)) h.stage_is) in
+    let at : get_or cursors latest 0 ≡ k = stop_place p walk f latest cursors laid b h v in
     let own = entries_unique t.signature t.columns t.presences t.entries h.goes.listed.order h.goes.listed.all in
     let there = entry_at_cursor t.signature t.columns t.presences p.passed p.left e h.whole (no_entry t.columns) in
     let low_all = cursor_within t.signature t.columns t.presences p.passed p.left e h.whole in
     let within : k < length t.targets = omega (arith, low_all, ap length own, h.goes.listed.count) in
     ap (λ n. get_or walk.targets.now n 0) at
     ∙ (ap (λ qs. get_or qs k 0) h.goes.targets
-    ∙ (sym (listed_target t k h.goes.listed within)
+    ∙ (sym (covered_target t k h.goes.listed within)
     ∙ ap (listed_table t).target (ap (λ es. get_or es k (no_entry t.columns)) own ∙ there)))

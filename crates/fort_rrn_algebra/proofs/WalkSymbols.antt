@@ -11,7 +11,7 @@ use Rattle.fort_laid_entries.specs.Laid.{joined_below, entries_from, entries_und
 use Rattle.fort_laid_entries.proofs.KidLists.{present_from_presence, under_absent, under_present}
 use Rattle.fort_rrn_algebra.specs.Places.{columns_at}
 use Rattle.fort_rrn_algebra.specs.Flats.{laid}
-use Rattle.fort_rrn_algebra.specs.Walks.{entries_before, HasPassed, Stop, IsStopOf, IsBetween}
+use Rattle.fort_rrn_algebra.specs.Walks.{entries_before, IsWalkOf, AreBegins, HasPassed, Stop, IsStopOf, IsBetween}
 use Rattle.fort_rrn_algebra.specs.declared.walk.Walk.{Walk}
 use Rattle.fort_rrn_algebra.proofs.ListingLaws.{tuple_symbol_at, laid_none, laid_one}
 use Rattle.fort_rrn_algebra.proofs.SymbolPlaces.{entries_more, entries_behind, entries_split}
@@ -43,55 +43,70 @@ laid_targets body f ks j (suc n) =
 abbrev pub symbol_with : Listed → Walk → ℕ → TupleSymbol
 symbol_with t walk n = columns_at walk.base t.columns n
 
-symbol_base : (t : Listed) (begins : List ℕ) (walk : Walk) (n : ℕ) (cursors starts targets : List ℕ) → IsBetween t begins walk n cursors starts targets
-    → symbol_with t walk n ≡ columns_at (suc (length t.signature)) t.columns n
-symbol_base t begins walk n cursors starts targets h = ap (λ b. columns_at b t.columns n) h.goes.base
+symbol_base : (t : Listed) (walk : Walk) (n : ℕ) → IsWalkOf t walk → symbol_with t walk n ≡ columns_at (suc (length t.signature)) t.columns n
+symbol_base t walk n goes = ap (λ b. columns_at b t.columns n) goes.base
 
-low_base : (t : Listed) (begins : List ℕ) (walk : Walk) (n : ℕ) (cursors starts targets : List ℕ) → IsBetween t begins walk n cursors starts targets
-    → n < walk.base ^ walk.columns → n < suc (length t.signature) ^ t.columns
-low_base t begins walk n cursors starts targets h l = omega (arith, l, ap (λ b. b ^ walk.columns) h.goes.base, ap (λ c. suc (length t.signature) ^ c) h.goes.columns_are)
+low_base : (t : Listed) (walk : Walk) (n : ℕ) → IsWalkOf t walk → n < walk.base ^ walk.columns → n < suc (length t.signature) ^ t.columns
+low_base t walk n goes l = omega (arith, l, ap (λ b. b ^ walk.columns) goes.base, ap (λ c. suc (length t.signature) ^ c) goes.columns_are)
 
 -- the stop before its entries
 abbrev pub first_stop : Listed → List ℕ → ℕ → Stop
 first_stop t begins n = record { table = t; begins = begins; passed = entries_before t n; kids = []; left = entries_behind t n }
 
-pub stop_first : (t : Listed) (begins : List ℕ) (walk : Walk) (n : ℕ) (cursors starts targets : List ℕ) → IsBetween t begins walk n cursors starts targets → n < walk.base ^ walk.columns
+pub first_stop_of : (t : Listed) (begins : List ℕ) (walk : Walk) (n : ℕ) → IsWalkOf t walk → AreBegins t walk.lays begins → n < walk.base ^ walk.columns
     → is_present (symbol_with t walk n) ≡ true → (f : TupleSymbol) → f ≡ symbol_with t walk n → (count : ℕ) → count ≡ symbol_kids t.signature f → IsStopOf (first_stop t begins n) walk f 0 0 count
-stop_first t begins walk n cursors starts targets h l present f is count e =
+first_stop_of t begins walk n goes begin l present f is count e =
     let own = columns_at (suc (length t.signature)) t.columns n in
-    let same : f ≡ own = is ∙ symbol_base t begins walk n cursors starts targets h in
-    let symbol = tuple_symbol_at (listed_table t) walk.base n h.goes.base present in
+    let same : f ≡ own = is ∙ symbol_base t walk n goes in
+    let symbol = tuple_symbol_at (listed_table t) walk.base n goes.base present in
     let there : IsTupleSymbol t.signature t.columns f = subst (IsTupleSymbol t.signature t.columns) (sym is) symbol in
-    let split = entries_split t n (low_base t begins walk n cursors starts targets h l) in
+    let split = entries_split t n (low_base t walk n goes l) in
     let under : entries_under t.signature t.presences own ≡ entries_from t.signature t.presences f [] 0 count =
     ap (entries_under t.signature t.presences) (sym same) ∙ (under_present t.signature t.presences f there.present ∙ ap (entries_from t.signature t.presences f [] 0) (sym e)) in
     record {
-      goes = h.goes;
-      begin = h.begin;
+      goes = goes;
+      begin = begin;
       symbol = there;
       stage_is = refl;
       whole = split ∙ ap (λ es. entries_before t n ++ (es ++ entries_behind t n)) under;
     }
 
+pub stop_first : (t : Listed) (begins : List ℕ) (walk : Walk) (n : ℕ) (cursors starts targets : List ℕ) → IsBetween t begins walk n cursors starts targets → n < walk.base ^ walk.columns
+    → is_present (symbol_with t walk n) ≡ true → (f : TupleSymbol) → f ≡ symbol_with t walk n → (count : ℕ) → count ≡ symbol_kids t.signature f → IsStopOf (first_stop t begins n) walk f 0 0 count
+stop_first t begins walk n cursors starts targets h = first_stop_of t begins walk n h.goes h.begin
+
 -- without a present column it has no entries
-absent_presence : (f : TupleSymbol) → is_present f ≡ false → presence f ≡ 0
+pub absent_presence : (f : TupleSymbol) → is_present f ≡ false → presence f ≡ 0
 absent_presence f e = ⊎_elim (λ z. z) (λ z. absurd (true≢false (sym (test_from_present f (present_from_presence f z)) ∙ e))) (cases_eq (presence f) 0)
+
+pub before_absent : (t : Listed) (walk : Walk) (n : ℕ) → IsWalkOf t walk → n < walk.base ^ walk.columns → is_present (symbol_with t walk n) ≡ false → entries_before t (n + 1) ≡ entries_before t n
+before_absent t walk n goes l absent =
+    let own = columns_at (suc (length t.signature)) t.columns n in
+    let no_entry = absent_presence own (ap is_present (sym (symbol_base t walk n goes)) ∙ absent) in
+    entries_more t n (low_base t walk n goes l)
+    ∙ (ap (λ es. entries_before t n ++ es) (under_absent t.signature t.presences own no_entry) ∙ append-nil (entries_before t n))
 
 pub between_absent : (t : Listed) (begins : List ℕ) (walk : Walk) (n : ℕ) (cursors starts targets new : List ℕ) → IsBetween t begins walk n cursors starts targets → n < walk.base ^ walk.columns
     → is_present (symbol_with t walk n) ≡ false → (IsTrue walk.lays → new ≡ starts ++ length targets ∷ []) → IsBetween t begins walk (n + 1) cursors new targets
-between_absent t begins walk n cursors starts targets new h l absent grown =
+between_absent t begins walk n cursors starts targets new h l absent grown = record {
+  goes = h.goes;
+  begin = h.begin;
+  passed = subst (λ es. HasPassed t walk.lays begins es cursors targets) (sym (before_absent t walk n h.goes l absent)) h.passed;
+  laid_are = λ b. laid_none (listed_table t) walk.base n starts targets new h.goes.base (h.laid_are b) absent (grown b);
+}
+
+-- with one it has those over its children
+pub before_present : (t : Listed) (walk : Walk) (n : ℕ) → IsWalkOf t walk → n < walk.base ^ walk.columns → is_present (symbol_with t walk n) ≡ true
+    → (f : TupleSymbol) → f ≡ symbol_with t walk n → (count : ℕ) → count ≡ symbol_kids t.signature f
+    → entries_before t n ++ entries_from t.signature t.presences f [] 0 count ≡ entries_before t (n + 1)
+before_present t walk n goes l present f is count e =
     let own = columns_at (suc (length t.signature)) t.columns n in
-    let same = symbol_base t begins walk n cursors starts targets h in
-    let no_entry = absent_presence own (ap is_present (sym same) ∙ absent) in
-    let all : entries_before t (n + 1) ≡ entries_before t n =
-    entries_more t n (low_base t begins walk n cursors starts targets h l)
-    ∙ (ap (λ es. entries_before t n ++ es) (under_absent t.signature t.presences own no_entry) ∙ append-nil (entries_before t n)) in
-    record {
-      goes = h.goes;
-      begin = h.begin;
-      passed = subst (λ es. HasPassed t walk.lays begins es cursors targets) (sym all) h.passed;
-      laid_are = λ b. laid_none (listed_table t) walk.base n starts targets new h.goes.base (h.laid_are b) absent (grown b);
-    }
+    let same : f ≡ own = is ∙ symbol_base t walk n goes in
+    let symbol = tuple_symbol_at (listed_table t) walk.base n goes.base present in
+    let there : IsTupleSymbol t.signature t.columns f = subst (IsTupleSymbol t.signature t.columns) (sym is) symbol in
+    let under : entries_from t.signature t.presences f [] 0 count ≡ entries_under t.signature t.presences own =
+    ap (entries_from t.signature t.presences f [] 0) e ∙ (sym (under_present t.signature t.presences f there.present) ∙ ap (entries_under t.signature t.presences) same) in
+    ap (λ es. entries_before t n ++ es) under ∙ sym (entries_more t n (low_base t walk n goes l))
 
 pub between_present : (t : Listed) (begins : List ℕ) (walk : Walk) (n : ℕ) (cursors starts targets new_cursors new new_targets : List ℕ) → IsBetween t begins walk n cursors starts targets
     → n < walk.base ^ walk.columns → is_present (symbol_with t walk n) ≡ true → (f : TupleSymbol) → f ≡ symbol_with t walk n → (count : ℕ) → count ≡ symbol_kids t.signature f
@@ -100,15 +115,8 @@ pub between_present : (t : Listed) (begins : List ℕ) (walk : Walk) (n : ℕ) (
     → IsBetween t begins walk (n + 1) new_cursors new new_targets
 between_present t begins walk n cursors starts targets new_cursors new new_targets h l present f is count e grown made =
     let body = listed_table t in
-    let own = columns_at (suc (length t.signature)) t.columns n in
-    let same : f ≡ own = is ∙ symbol_base t begins walk n cursors starts targets h in
-    let symbol = tuple_symbol_at body walk.base n h.goes.base present in
-    let there : IsTupleSymbol t.signature t.columns f = subst (IsTupleSymbol t.signature t.columns) (sym is) symbol in
     let entries = entries_from t.signature t.presences f [] 0 count in
-    let under : entries ≡ entries_under t.signature t.presences own =
-    ap (entries_from t.signature t.presences f [] 0) e ∙ (sym (under_present t.signature t.presences f there.present) ∙ ap (entries_under t.signature t.presences) same) in
-    let all : entries_before t n ++ entries ≡ entries_before t (n + 1) =
-    ap (λ es. entries_before t n ++ es) under ∙ sym (entries_more t n (low_base t begins walk n cursors starts targets h l)) in
+    let all = before_present t walk n h.goes l present f is count e in
     let at : laid body f [] 0 count ≡ laid body (symbol_with t walk n) [] 0 (symbol_kids t.signature (symbol_with t walk n)) =
     ap (laid body f [] 0) e ∙ ap (λ g. laid body g [] 0 (symbol_kids t.signature g)) is in
     record {

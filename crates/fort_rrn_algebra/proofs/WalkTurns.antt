@@ -37,45 +37,57 @@ skipped p f j n m q le none =
     (test_from_apart (get_or t.presences k 0) (kid_presence t.signature f j) (none k a (omega (arith, b, d))))) in
     ap (λ es. p.passed ++ es) (sym over ∙ ap (λ z. joined_below z g) d)
 
+-- up to the first state
+pub below_first : (p : Stop) (f : TupleSymbol) (j n w q : ℕ) → w ≡ kid_presence p.table.signature f j → IsFirstFrom p.table.presences 0 w q → p.passed ≡ passed_below p f j n q
+below_first p f j n w q e first = sym (append-nil p.passed) ∙ skipped p f j n 0 q (omega arith) (λ k a b s. first.none k a b (s ∙ sym e))
+
 pub turn_first : (p : Stop) (walk : Walk) (f : TupleSymbol) (j n w q : ℕ) (cursors laid : List ℕ) → w ≡ kid_presence p.table.signature f j → IsFirstFrom p.table.presences 0 w q
     → HasPassedTo p walk.lays cursors laid → IsTurn p walk f j n q cursors laid
 turn_first p walk f j n w q cursors laid e first h = record {
-  passed = subst (λ es. HasPassed p.table walk.lays p.begins es cursors laid)
-      (sym (append-nil p.passed) ∙ skipped p f j n 0 q (omega arith) (λ k a b s. first.none k a b (s ∙ sym e))) h;
+  passed = subst (λ es. HasPassed p.table walk.lays p.begins es cursors laid) (below_first p f j n w q e first) h;
   high = first.high;
   has = λ l. first.has l ∙ e;
 }
+
+-- up to the next one
+pub below_next : (p : Stop) (f : TupleSymbol) (j n q next : ℕ) → q < length p.table.presences → get_or p.table.presences q 0 ≡ kid_presence p.table.signature f j
+    → IsFirstFrom p.table.presences (suc q) (get_or p.table.presences q 0) next
+    → passed_below p f j n q ++ entries_from p.table.signature p.table.presences f (p.kids ++ q ∷ []) (j + 1) n ≡ passed_below p f j n next
+below_next p f j n q next l has first =
+    let t = p.table in
+    let g = behind t.signature t.presences f p.kids j n in
+    let own = entries_from t.signature t.presences f (p.kids ++ q ∷ []) (suc j) n in
+    let s : j + 1 ≡ suc j = omega arith in
+    let here : own ≡ g q = sym (block_there (get_or t.presences q 0 == kid_presence t.signature f j) own (eq-eqb (get_or t.presences q 0) (kid_presence t.signature f j) has)) in
+    let all : passed_below p f j n q ++ own ≡ passed_below p f j n (suc q) = append_assoc p.passed (joined_below q g) own ∙ ap (λ es. p.passed ++ (joined_below q g ++ es)) here in
+    ap (λ (m : ℕ). passed_below p f j n q ++ entries_from t.signature t.presences f (p.kids ++ q ∷ []) m n) s
+    ∙ (all ∙ skipped p f j n (suc q) next first.low (λ k a b s. first.none k a b (s ∙ sym has)))
 
 pub turn_next : (p : Stop) (walk : Walk) (f : TupleSymbol) (j n q next : ℕ) (cursors laid more_cursors more : List ℕ) → q < length p.table.presences → IsTurn p walk f j n q cursors laid
     → IsFirstFrom p.table.presences (suc q) (get_or p.table.presences q 0) next
     → HasPassed p.table walk.lays p.begins (passed_below p f j n q ++ entries_from p.table.signature p.table.presences f (p.kids ++ q ∷ []) (j + 1) n) more_cursors more
     → IsTurn p walk f j n next more_cursors more
-turn_next p walk f j n q next cursors laid more_cursors more l v first k =
-    let t = p.table in
-    let g = behind t.signature t.presences f p.kids j n in
-    let own = entries_from t.signature t.presences f (p.kids ++ q ∷ []) (suc j) n in
-    let s : j + 1 ≡ suc j = omega arith in
-    let h = subst (λ (m : ℕ). HasPassed t walk.lays p.begins (passed_below p f j n q ++ entries_from t.signature t.presences f (p.kids ++ q ∷ []) m n) more_cursors more) s k in
-    let here : own ≡ g q = sym (block_there (get_or t.presences q 0 == kid_presence t.signature f j) own (eq-eqb (get_or t.presences q 0) (kid_presence t.signature f j) (v.has l))) in
-    let all : passed_below p f j n q ++ own ≡ passed_below p f j n (suc q) = append_assoc p.passed (joined_below q g) own ∙ ap (λ es. p.passed ++ (joined_below q g ++ es)) here in
-    record {
-      passed = subst (λ es. HasPassed t walk.lays p.begins es more_cursors more) (all ∙ skipped p f j n (suc q) next first.low (λ k a b s. first.none k a b (s ∙ sym (v.has l)))) h;
-      high = first.high;
-      has = λ o. first.has o ∙ v.has l;
-    }
+turn_next p walk f j n q next cursors laid more_cursors more l v first k = record {
+  passed = subst (λ es. HasPassed p.table walk.lays p.begins es more_cursors more) (below_next p f j n q next l (v.has l) first) k;
+  high = first.high;
+  has = λ o. first.has o ∙ v.has l;
+}
 
 -- the entries over one more child, list by list
 entries_turn : (sig : Signature) (ps : List ℕ) (f : TupleSymbol) (ks : List ℕ) (j rest : ℕ) → 0 < rest → entries_from sig ps f ks j rest ≡ joined_below (length ps) (behind sig ps f ks j (rest - 1))
 entries_turn sig ps f ks j zero l = absurd (omega arith)
 entries_turn sig ps f ks j (suc n) l = let e : n ≡ suc n - 1 = omega arith in ap (λ m. joined_below (length ps) (behind sig ps f ks j m)) e
 
+pub below_last : (p : Stop) (f : TupleSymbol) (j rest q : ℕ) → 0 < rest → length p.table.presences ≤ q → q ≤ length p.table.presences
+    → passed_below p f j (rest - 1) q ≡ p.passed ++ entries_from p.table.signature p.table.presences f p.kids j rest
+below_last p f j rest q some l high =
+    let t = p.table in
+    let e : q ≡ length t.presences = omega (arith, high) in
+    ap (passed_below p f j (rest - 1)) e ∙ ap (λ es. p.passed ++ es) (sym (entries_turn t.signature t.presences f p.kids j rest some))
+
 pub turn_last : (p : Stop) (walk : Walk) (f : TupleSymbol) (j rest q : ℕ) (cursors laid : List ℕ) → 0 < rest → length p.table.presences ≤ q → IsTurn p walk f j (rest - 1) q cursors laid
     → HasPassedBehind p walk.lays f j rest cursors laid
-turn_last p walk f j rest q cursors laid some l v =
-    let t = p.table in
-    let e : q ≡ length t.presences = omega (arith, v.high) in
-    let all = ap (passed_below p f j (rest - 1)) e ∙ ap (λ es. p.passed ++ es) (sym (entries_turn t.signature t.presences f p.kids j rest some)) in
-    subst (λ es. HasPassed t walk.lays p.begins es cursors laid) all v.passed
+turn_last p walk f j rest q cursors laid some l v = subst (λ es. HasPassed p.table walk.lays p.begins es cursors laid) (below_last p f j rest q some l v.high) v.passed
 
 -- one list among several
 joined_split : {A : Type 0} (n : ℕ) (g : ℕ → List A) (q : ℕ) → q < n → (tail : List A) × (joined_below n g ≡ joined_below q g ++ (g q ++ tail))
@@ -104,15 +116,15 @@ next_stop p f j n q tail = record {
   left = tail ++ p.left;
 }
 
-pub stop_next : (p : Stop) (walk : Walk) (f : TupleSymbol) (latest j rest q next : ℕ) (cursors laid : List ℕ) → 0 < rest → next ≡ max latest (q + 1) → q < length p.table.presences
-    → IsStopOf p walk f latest j rest → IsTurn p walk f j (rest - 1) q cursors laid
+pub stop_at : (p : Stop) (walk : Walk) (f : TupleSymbol) (latest j rest q next : ℕ) → 0 < rest → next ≡ max latest (q + 1) → q < length p.table.presences
+    → IsStopOf p walk f latest j rest → get_or p.table.presences q 0 ≡ kid_presence p.table.signature f j
     → (tail : List Entry) × IsStopOf (next_stop p f j (rest - 1) q tail) walk f next (j + 1) (rest - 1)
-stop_next p walk f latest j rest q next cursors laid some e l h v =
+stop_at p walk f latest j rest q next some e l h has =
     let t = p.table in
     let n = rest - 1 in
     let g = behind t.signature t.presences f p.kids j n in
     let own = entries_from t.signature t.presences f (p.kids ++ q ∷ []) (suc j) n in
-    let there : g q ≡ own = block_there (get_or t.presences q 0 == kid_presence t.signature f j) own (eq-eqb (get_or t.presences q 0) (kid_presence t.signature f j) (v.has l)) in
+    let there : g q ≡ own = block_there (get_or t.presences q 0 == kid_presence t.signature f j) own (eq-eqb (get_or t.presences q 0) (kid_presence t.signature f j) has) in
     let r = joined_split (length t.presences) g q l in
     let split : entries_from t.signature t.presences f p.kids j rest ≡ joined_below q g ++ (own ++ r.0) =
     entries_turn t.signature t.presences f p.kids j rest some ∙ (r.1 ∙ ap (λ es. joined_below q g ++ (es ++ r.0)) there) in
@@ -125,6 +137,11 @@ stop_next p walk f latest j rest q next cursors laid some e l h v =
     let s : suc j ≡ j + 1 = omega arith in
     let stop : IsStopOf (next_stop p f j n q r.0) walk f next (suc j) n = record { goes = h.goes; begin = h.begin; symbol = h.symbol; stage_is = at; whole = whole } in
     (r.0, subst (λ (m : ℕ). IsStopOf (next_stop p f j n q r.0) walk f next m n) s stop)
+
+pub stop_next : (p : Stop) (walk : Walk) (f : TupleSymbol) (latest j rest q next : ℕ) (cursors laid : List ℕ) → 0 < rest → next ≡ max latest (q + 1) → q < length p.table.presences
+    → IsStopOf p walk f latest j rest → IsTurn p walk f j (rest - 1) q cursors laid
+    → (tail : List Entry) × IsStopOf (next_stop p f j (rest - 1) q tail) walk f next (j + 1) (rest - 1)
+stop_next p walk f latest j rest q next cursors laid some e l h v = stop_at p walk f latest j rest q next some e l h (v.has l)
 
 -- no other child is left
 pub stop_end : (p : Stop) (walk : Walk) (f : TupleSymbol) (latest j n : ℕ) → n ≡ 0 → IsStopOf p walk f latest j n → IsStopOf p walk f latest 0 0

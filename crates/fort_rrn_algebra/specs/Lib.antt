@@ -7,6 +7,8 @@ pub mod Negations
 pub mod Places
 pub mod Chains
 pub mod Flats
+pub mod HeldTargets
+pub mod Joints
 pub mod FlatFacts
 pub mod TargetLists
 pub mod ListedOperands
@@ -14,3 +16,4 @@ pub mod LookUps
 pub mod LayRooms
 pub mod Walks
 pub mod TestRules
+pub mod HeldWalks

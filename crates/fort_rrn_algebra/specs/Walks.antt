@@ -1,10 +1,10 @@
 -- Inside: how far a walk over all entries has come, tuple symbol by tuple symbol.
-use Rattle.std.specs.Prelude.{◌≡◌, ℕ, suc, ◌+◌, ◌<◌, ◌≤◌, List, ◌++◌, map, take, length, get_or, Bool, IsTrue}
+use Rattle.std.specs.Prelude.{◌≡◌, ℕ, suc, ◌+◌, ◌^◌, ◌<◌, ◌≤◌, List, ◌++◌, map, take, length, get_or, Bool, IsTrue}
 use Rattle.std.specs.List.{flat_map}
-use Rattle.fort_theory.specs.Signatures.{Signature}
+use Rattle.fort_theory.specs.Signatures.{Signature, most_columns}
 use Rattle.fort_tables.specs.Tuples.{TupleSymbol, IsTupleSymbol}
-use Rattle.fort_tables.specs.Entries.{Entry, stage}
-use Rattle.fort_tables.specs.Tables.{Listed, listed_table, IsListed}
+use Rattle.fort_tables.specs.Entries.{Entry, stage, AreInOrder, HasAllEntries}
+use Rattle.fort_tables.specs.Tables.{Listed, listed_table}
 use Rattle.fort_laid_entries.specs.Laid.{entries_from, entries_under, symbol_list, by_symbol, in_stage, start_of}
 use Rattle.fort_rrn_algebra.specs.Chains.{AreChains}
 use Rattle.fort_rrn_algebra.specs.Flats.{AreLaid}
@@ -19,9 +19,17 @@ entries_of t = by_symbol t.signature t.columns t.presences
 abbrev pub entries_before : Listed → ℕ → List Entry
 entries_before t n = flat_map (entries_under t.signature t.presences) (take n (symbol_list (length t.signature) t.columns))
 
+-- its entries are all those over its states, in order, and there are as many targets, fewer than there are numbers for
+pub record IsCovered (t : Listed) : Type 0 where
+  pub narrow : t.columns ≤ most_columns
+  pub order : AreInOrder t.signature t.columns t.presences t.entries
+  pub all : HasAllEntries t.signature t.columns t.presences t.entries
+  pub count : length t.targets ≡ length t.entries
+  pub few : length t.targets < 2 ^ 32
+
 -- it goes over a table's entries by the chains of its states, beside its targets
 pub record IsWalkOf (t : Listed) (walk : Walk) : Type 0 where
-  pub listed : IsListed t
+  pub listed : IsCovered t
   pub signature : walk.signature.now ≡ t.signature
   pub columns_are : walk.columns ≡ t.columns
   pub base : walk.base ≡ suc (length t.signature)
@@ -30,7 +38,7 @@ pub record IsWalkOf (t : Listed) (walk : Walk) : Type 0 where
 
 -- the table's states are taken up in the room; its signature, columns and targets are these
 pub record IsTakenUp (t : Listed) (sig : Signature) (columns base : ℕ) (targets : List ℕ) (room : LayRoom) : Type 0 where
-  pub listed : IsListed t
+  pub listed : IsCovered t
   pub signature : sig ≡ t.signature
   pub columns_are : columns ≡ t.columns
   pub base_is : base ≡ suc (length t.signature)
@@ -40,6 +48,11 @@ pub record IsTakenUp (t : Listed) (sig : Signature) (columns base : ℕ) (target
 -- how many entries each stage has
 abbrev pub AreStageCounts : List Entry → List ℕ → Type 0
 AreStageCounts es counts = (s : ℕ) → s < length counts → get_or counts s 0 ≡ length (in_stage s es)
+
+-- each stage's cursor stands where the stage begins
+pub record AreStageBegins (t : Listed) (cursors : List ℕ) : Type 0 where
+  pub size : length cursors ≡ suc (length t.presences)
+  pub begin : (s : ℕ) → s < length cursors → get_or cursors s 0 ≡ start_of (entries_of t) s
 
 -- where each stage's cursor begins: no cursor goes past the targets, and where targets are laid, the stage's own begin there
 pub record AreBegins (t : Listed) (lays : Bool) (begins : List ℕ) : Type 0 where

@@ -4,18 +4,18 @@ ghost use Rattle.fort_tables.specs.Entries.{Entry};
 ghost use Rattle.fort_tables.specs.Tables as tables;
 ghost use Rattle.fort_laid_entries.specs.Laid.{start_of};
 ghost use Rattle.fort_rrn_algebra.specs.Flats.{AreLaid};
-ghost use Rattle.fort_rrn_algebra.specs.Walks.{AreStageCounts, IsTakenUp};
+ghost use Rattle.fort_rrn_algebra.specs.Walks.{AreStageCounts, AreStageBegins, IsTakenUp};
 ghost use Rattle.fort_rrn_algebra.specs.LayRooms.{HasLayRoom};
 
 use crate::flat::Listing;
-use crate::states::{LayRoom, fill_zeros};
+use crate::states::{LayRoom, fill_given};
 use crate::walk::Walk;
 use fort_terms::Signature;
 
 /// Turns how many entries each stage has into where it begins.
-fn begin_stages(cursors: &mut [usize])
+fn begin_stages(cursors: &mut [u32])
     requires { (es : List Entry) × AreStageCounts es cursors.old
-        × (start_of es (length cursors.old) < 2 ^ 64) }
+        × (start_of es (length cursors.old) < 2 ^ 32) }
     ensures size { length cursors.new ≡ length cursors.old }
     ensures begins { (es : List Entry) → AreStageCounts es cursors.old
         → (s : ℕ) → s < length cursors.old → slice_index cursors.new s ≡ start_of es s }
@@ -29,6 +29,40 @@ fn begin_stages(cursors: &mut [usize])
 }
 
 impl LayRoom {
+    /// Puts each stage's cursor where the stage's targets begin, for a table whose states are taken up.
+    pub(crate) fn begin_cursors(
+        &mut self,
+        signature: &Signature,
+        columns: usize,
+        base: usize,
+        count: usize,
+        targets: &[u32],
+    )
+        requires count { count ≡ base ^ columns }
+        requires table { (t : tables.Listed) × IsTakenUp t signature.now columns base targets.now
+            self.old }
+        requires cursors { suc (length self.old.chains.nexts.items)
+            ≤ vec_capacity self.old.cursors }
+        ensures begins { (t : tables.Listed)
+            → IsTakenUp t signature.now columns base targets.now self.old
+            → AreStageBegins t self.new.cursors.items }
+        ensures chains { self.new.chains ≡ self.old.chains }
+        ensures room { (n : ℕ) → HasLayRoom n self.old → HasLayRoom n self.new }
+    {
+        fill_given(&mut self.cursors, 0, self.chains.nexts.len() + 1);
+        let cursors = self.cursors.as_mut_slice();
+        let counting = Walk {
+            signature,
+            columns,
+            base,
+            chains: &self.chains,
+            targets,
+            lays: false,
+        };
+        counting.pass_all(count, cursors, &mut self.blank);
+        begin_stages(cursors);
+    }
+
     /// Lays the targets of a table whose states are taken up.
     pub(crate) fn lay_targets(
         &mut self,
@@ -54,24 +88,17 @@ impl LayRoom {
         ensures starts { vec_capacity listing.new.starts ≡ vec_capacity listing.old.starts }
         ensures targets { vec_capacity listing.new.targets ≡ vec_capacity listing.old.targets }
     {
-        fill_zeros(&mut self.cursors, self.chains.nexts.len() + 1);
-        let cursors = self.cursors.as_mut_slice();
-        let counting = Walk {
+        self.begin_cursors(signature, columns, base, count, targets);
+        listing.starts.clear();
+        listing.targets.clear();
+        let laying = Walk {
             signature,
             columns,
             base,
             chains: &self.chains,
             targets,
-            lays: false,
-        };
-        counting.pass_all(count, cursors, listing);
-        begin_stages(cursors);
-        listing.starts.clear();
-        listing.targets.clear();
-        let laying = Walk {
             lays: true,
-            ..counting
         };
-        laying.pass_all(count, cursors, listing);
+        laying.pass_all(count, self.cursors.as_mut_slice(), listing);
     }
 }

@@ -1,6 +1,7 @@
 //! Products of two operands.
-ghost use Rattle.std.specs.Prelude.{◌≡◌, ◌<◌, ◌≤◌, ◌↔◌, IsTrue, IfSome};
+ghost use Rattle.std.specs.Prelude.{◌≡◌, ℕ, ◌<◌, ◌≤◌, ◌^◌, ◌↔◌, map, length, IsTrue, IfSome};
 ghost use Rattle.fort_tables.specs.Tuples.{Tuple, IsTuple};
+ghost use Rattle.fort_tables.specs.Labels.{first_word, AreLabels};
 ghost use Rattle.fort_tables.specs.LabelRules.{label_of};
 ghost use Rattle.fort_operations.specs.Products as products;
 ghost use Rattle.fort_operations.specs.Agreement.{AgreeAtBoth, OperandAgreement};
@@ -9,26 +10,33 @@ ghost use Rattle.fort_operations.proofs.OperandFacts.{AreOperands-prop};
 ghost use Rattle.fort_rrn_algebra.specs.Operands.{operand_of, connective_of};
 ghost use Rattle.fort_rrn_algebra.specs.ListedOperands.{IsListOf, AreListsOf, IfListOf-prop};
 ghost use Rattle.fort_rrn_algebra.specs.TargetLists.{IsLaidListOf};
+ghost use Rattle.fort_rrn_algebra.specs.LayRooms.{HasLayRoom};
+ghost use Rattle.fort_rrn_algebra.specs.HeldTargets.{AreHeldFrom};
 
+use crate::entry_count::has_entries;
 use crate::flat::FlatTargets;
+use crate::held::Holding;
 use crate::listed::write_both;
 use crate::lists::ProductLists;
 use crate::local::both_accepts;
 use crate::operand::{Op, Operand};
+use crate::states::LayRoom;
 use crate::target_list::{TargetList, flat_of};
+use crate::walk::Walk;
 use fort_explore::{LocalRule, Rows};
 use fort_lockstep::{Row, Table};
+use fort_terms::Signature;
 
 /// The labels of a product: of a tuple over its columns, the presence and the states of the two operands on their own columns.
 #[derive(Drop)]
 pub struct Both<'a, T: Table> {
     op: Op,
-    columns: usize,
-    first: Operand<'a, T>,
-    second: Operand<'a, T>,
+    pub(crate) columns: usize,
+    pub(crate) first: Operand<'a, T>,
+    pub(crate) second: Operand<'a, T>,
     /// Each operand's targets in a list, where they are.
-    first_list: Option<&'a FlatTargets>,
-    second_list: Option<&'a FlatTargets>,
+    pub(crate) first_list: Option<&'a FlatTargets>,
+    pub(crate) second_list: Option<&'a FlatTargets>,
     ghost some: { 0 < columns },
     ghost narrow: { columns ≤ 16 },
     ghost operands: { products.AreOperands (products.signature_of (operand_of T.table first)
@@ -121,6 +129,55 @@ impl<'a, T: Table> Both<'a, T> {
             first_list: flat_of(first),
             second_list: flat_of(second),
         }
+    }
+
+    /// Whether the targets are those of the product's entries from a place on, where the states have these labels. Where an operand's
+    /// list isn't there, or the targets aren't as many as the entries, it is false without a look at them. It takes no memory.
+    pub fn are_targets(
+        &self,
+        room: &mut LayRoom,
+        signature: &Signature,
+        presences: &[u16],
+        rows: &Rows,
+        targets: &[u32],
+        from: usize,
+    ) -> bool
+        requires signature { products.signature_of (operand_of T.table self.now.first)
+            (operand_of T.table self.now.second) ≡ signature.now }
+        requires few { length targets.now < 2 ^ 32 }
+        requires few_states { length presences.now < 2 ^ 32 }
+        requires presences { presences.now ≡ map first_word rows.now.labels }
+        requires labels { AreLabels (products.signature_of (operand_of T.table self.now.first)
+            (operand_of T.table self.now.second)) self.now.columns
+            (label_of (products.product_rule self.now.columns (operand_of T.table self.now.first)
+            (operand_of T.table self.now.second))) rows.now.labels }
+        requires room { HasLayRoom (length presences.now) room.old }
+        ensures held { IsTrue result → AreHeldFrom (products.product_rule self.now.columns
+            (operand_of T.table self.now.first) (operand_of T.table self.now.second)) from
+            targets.now rows.now.labels }
+        ensures room { (n : ℕ) → HasLayRoom n room.old → HasLayRoom n room.new }
+    {
+        let base = signature.len() + 1;
+        let count = match base.checked_pow(self.columns as u32) {
+            Some(count) if count <= targets.len() + 1 => count,
+            _ => return false,
+        };
+        room.take_states(self.columns, presences);
+        let counts = room.counts.as_slice();
+        if !has_entries(signature, self.columns, base, count, counts, targets.len()) {
+            return false;
+        }
+        room.begin_cursors(signature, self.columns, base, count, targets);
+        let walk = Walk {
+            signature,
+            columns: self.columns,
+            base,
+            chains: &room.chains,
+            targets,
+            lays: true,
+        };
+        let holding = Holding { walk, rows, from };
+        self.hold_all(&holding, count, room.cursors.as_mut_slice())
     }
 }
 

@@ -5,7 +5,8 @@ ghost use Rattle.fort_rrn_algebra.specs.Chains.{AreChains};
 ghost use Rattle.fort_rrn_algebra.specs.LayRooms.{HasLayRoom, HasSpotRoom};
 
 use crate::chains::Chains;
-use crate::flat::Spots;
+use crate::entry_count::count_states;
+use crate::flat::{Listing, Spots};
 use fort_terms::Memory;
 use std::alloc::{AllocError, Global};
 
@@ -20,11 +21,13 @@ pub struct LayRoom {
     /// The states of each presence.
     pub(crate) chains: Chains,
     /// For each stage where its next target stands.
-    pub(crate) cursors: Vec<usize>,
+    pub(crate) cursors: Vec<u32>,
+    /// A list that stays as it is, for walks that only count.
+    pub(crate) blank: Listing,
 }
 
-/// So many equal numbers.
-fn fill_given(numbers: &mut Vec<u32>, number: u32, count: usize)
+/// Makes these so many equal numbers.
+pub(crate) fn fill_given(numbers: &mut Vec<u32>, number: u32, count: usize)
     requires { count ≤ vec_capacity numbers.old }
     ensures size { length numbers.new.items ≡ count }
     ensures equal { (w : ℕ) → w < count → slice_index numbers.new.items w ≡ number }
@@ -32,20 +35,6 @@ fn fill_given(numbers: &mut Vec<u32>, number: u32, count: usize)
 {
     numbers.clear();
     match numbers.resize(count, number) {
-        Ok(()) => {}
-        Err(_) => unreachable!(),
-    }
-}
-
-/// So many zeros.
-pub(crate) fn fill_zeros(numbers: &mut Vec<usize>, count: usize)
-    requires { count ≤ vec_capacity numbers.old }
-    ensures size { length numbers.new.items ≡ count }
-    ensures zeros { (w : ℕ) → w < count → slice_index numbers.new.items w ≡ 0 }
-    ensures room { vec_capacity numbers.old ≤ vec_capacity numbers.new }
-{
-    numbers.clear();
-    match numbers.resize(count, 0) {
         Ok(()) => {}
         Err(_) => unreachable!(),
     }
@@ -121,7 +110,37 @@ impl LayRoom {
                 nexts: Vec::with_capacity(alloc, states)?,
             },
             cursors: Vec::with_capacity(alloc, stages)?,
+            blank: Listing {
+                starts: Vec::new(alloc),
+                targets: Vec::new(alloc),
+            },
         })
+    }
+
+    /// Takes up a table's states: how many have each presence, and their chains.
+    pub(crate) fn take_states(&mut self, columns: usize, presences: &[u16])
+        requires narrow { columns ≤ 16 }
+        requires few { length presences.now < 2 ^ 32 }
+        requires within { (q : ℕ) → q < length presences.now
+            → slice_index presences.now q < 2 ^ columns }
+        requires room { HasLayRoom (length presences.now) self.old }
+        ensures size { length self.new.counts.items ≡ 2 ^ columns }
+        ensures counts { AreCounts presences.now self.new.counts.items }
+        ensures chains { AreChains columns presences.now self.new.chains.firsts.items
+            self.new.chains.nexts.items }
+        ensures room { (n : ℕ) → HasLayRoom n self.old → HasLayRoom n self.new }
+    {
+        let count = 2usize.pow(columns as u32);
+        let states = presences.len();
+        fill_given(&mut self.counts, 0, count);
+        count_states(presences, self.counts.as_mut_slice());
+        fill_given(&mut self.chains.firsts, states as u32, count);
+        fill_given(&mut self.chains.nexts, states as u32, states);
+        chain_states(
+            presences,
+            self.chains.firsts.as_mut_slice(),
+            self.chains.nexts.as_mut_slice(),
+        );
     }
 
     /// Takes up a table's states: their ranks and their chains.

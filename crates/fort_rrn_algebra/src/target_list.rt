@@ -59,6 +59,7 @@ impl TargetList {
         targets: &[u32],
     )
         requires few { length presences.now < 2 ^ 32 }
+        requires few_targets { length targets.now < 2 ^ 32 }
         requires table { (t : tables.Listed) × IsTableWith t signature.now columns presences.now
             targets.now }
         requires room { HasLayRoom (length presences.now) room.old }

@@ -28,7 +28,7 @@ pub(crate) struct Walk<'a> {
 
 impl<'a> Walk<'a> {
     /// Passes an entry of this stage.
-    fn pass(&self, stage: usize, cursors: &mut [usize], laid: &mut Vec<u32>)
+    fn pass(&self, stage: usize, cursors: &mut [u32], laid: &mut Vec<u32>)
         requires at { (f : TupleSymbol) × (p : Stop) × IsStopOf p self.now f stage 0 0
             × HasPassedTo p self.now.lays cursors.old laid.old.items }
         requires room { IsTrue self.now.lays → length self.now.targets.now ≤ vec_capacity laid.old }
@@ -39,7 +39,7 @@ impl<'a> Walk<'a> {
     {
         let cursor = cursors[stage];
         if self.lays {
-            laid.push_reserved(self.targets[cursor]);
+            laid.push_reserved(self.targets[cursor as usize]);
         }
         cursors[stage] = cursor + 1;
     }
@@ -51,7 +51,7 @@ impl<'a> Walk<'a> {
         latest: usize,
         j: usize,
         rest: usize,
-        cursors: &mut [usize],
+        cursors: &mut [u32],
         laid: &mut Vec<u32>,
     )
         requires some { 0 < rest }
@@ -92,7 +92,7 @@ impl<'a> Walk<'a> {
     }
 
     /// Passes the entries of the tuple symbol with this number.
-    fn pass_symbol(&self, number: usize, cursors: &mut [usize], listing: &mut Listing)
+    fn pass_symbol(&self, number: usize, cursors: &mut [u32], listing: &mut Listing)
         requires low { number < self.now.base ^ self.now.columns }
         requires between { (t : tables.Listed) × (begins : List ℕ)
             × IsBetween t begins self.now number cursors.old listing.old.starts.items
@@ -122,7 +122,7 @@ impl<'a> Walk<'a> {
     }
 
     /// Passes all entries, where there are so many tuple symbols.
-    pub(crate) fn pass_all(&self, count: usize, cursors: &mut [usize], listing: &mut Listing)
+    pub(crate) fn pass_all(&self, count: usize, cursors: &mut [u32], listing: &mut Listing)
         requires count { count ≡ self.now.base ^ self.now.columns }
         requires between { (t : tables.Listed) × (begins : List ℕ) × IsBetween t begins self.now 0
             cursors.old listing.old.starts.items listing.old.targets.items }

@@ -4,6 +4,7 @@ use Rattle.fort_rrn_algebra.specs.Chains.{AreChains}
 use Rattle.fort_rrn_algebra.specs.Flats.{IsFlatOf}
 use Rattle.fort_rrn_algebra.specs.Walks.{IsTakenUp}
 use Rattle.fort_rrn_algebra.specs.declared.flat.FlatTargets.{FlatTargets}
+use Rattle.fort_rrn_algebra.proofs.LayLaws.{covered_listed}
 use Rattle.fort_rrn_algebra.proofs.ListLaws.{symbols_within, presences_few, list_of_laid}
 use Rattle.fort_rrn_algebra.proofs.target_list.TargetList.lay.Goals as goal
 
@@ -58,7 +59,7 @@ returns-clause-list c = λ t h.
     let chains : AreChains t.columns t.presences firsts nexts =
     subst (λ (xs : List ℕ). AreChains t.columns xs firsts nexts) h.presences_are (subst (λ (n : ℕ). AreChains n ps firsts nexts) h.columns_are c.take_up.ensures.chains) in
     let taken : IsTakenUp t sig columns flat.base targets own = record {
-      listed = h.listed;
+      listed = covered_listed t h.listed (omega (arith, c.requires.few_targets, ap length h.targets_are));
       signature = h.signature;
       columns_are = h.columns_are;
       base_is = base_is;

@@ -15,7 +15,7 @@ pub symbol_at-symbol-requires : goal.symbol_at-symbol-requires
 symbol_at-symbol-requires c =
     let h = c.requires.between.2 in
     record {
-      narrow = omega (arith, h.goes.columns_are, h.goes.listed.table.narrow);
+      narrow = omega (arith, h.goes.columns_are, h.goes.listed.narrow);
       some = omega (arith, h.goes.base);
       symbols = omega (arith, h.goes.base, ap length h.goes.signature, c.len-symbols.ensures.count);
     }

@@ -1,0 +1,10 @@
+use Rattle.std.proofs.Common.{ℕ, List}
+use Rattle.fort_tables.specs.Tables.{Listed}
+use Rattle.fort_rrn_algebra.specs.HeldWalks.{operands_of, IsHeldBetween}
+use Rattle.fort_rrn_algebra.proofs.product.Both.hold_all.Given as goal
+
+abbrev pub invariant-loop-number : goal.invariant-loop-number
+invariant-loop-number g l = record {
+  between : (t : Listed) (begins : List ℕ) → IsHeldBetween (operands_of g.T.Table.table l.self.first l.self.second) t begins l.holding 0 l.initial.cursors
+      → IsHeldBetween (operands_of g.T.Table.table l.self.first l.self.second) t begins l.holding l.number l.cursors;
+}
