@@ -1,5 +1,7 @@
 pub mod TableLaws
 pub mod TargetLaws
+pub mod GuessLaws
+pub mod HeldLaws
 pub mod NumberedLaws
 pub mod PairPlaces
 pub mod PairLaws
@@ -11,5 +13,7 @@ pub mod DueLists
 pub mod DueTests
 pub mod PureStates
 mod SparseLaws
+mod LeftWords
 mod KidLaws
+mod WideKidLaws
 pub mod RoomLaws

@@ -6,10 +6,9 @@ use Rattle.fort_rrn_algebra.specs.declared.target_list.TargetList.{TargetList}
 use Rattle.fort_rrn_algebra.specs.LayRooms.{HasLayRoom}
 use Rattle.fort_rrn_algebra.specs.TargetLists.{HasListRoom}
 use Rattle.fort_check_steps.specs.StateLabelsView.{Spaces, HasSpace, IsAsSpacious}
-use Rattle.fort_check_steps.specs.declared.room.ListRoom.{ListRoom}
 use Rattle.fort_check_steps.specs.declared.room.LabelRoom.{LabelRoom}
 use Rattle.fort_check_steps.specs.declared.room.LabelNeeds.{LabelNeeds}
-use Rattle.fort_check_steps.specs.Room.{HasLabelRoom, HasFirstRoom, HasSecondRoom, AreAsRoomy, IsAsRoomy, IsSpaceFor, IsListFor, IsAsNeedy, HasNeeds, most_states}
+use Rattle.fort_check_steps.specs.Room.{HasLabelRoom, HasFirstRoom, HasSecondRoom, IsAsRoomy, IsSpaceFor, IsListFor, IsAsNeedy, HasNeeds, most_states}
 
 pub as_spacious : {a b c : Spaces} → IsAsSpacious b c → IsAsSpacious a b → IsAsSpacious a c
 as_spacious h g = record {
@@ -38,7 +37,7 @@ list_fewer h a b = record { ranks = omega (arith, h.ranks, a); alike = omega (ar
 
 -- room for what labels need is room for them
 pub has_label_room : (w n : ℕ) (targets : List ℕ) (needs : LabelNeeds) (r : LabelRoom) → IsSpaceFor w n needs → HasNeeds needs r → most_states targets ≤ n → HasLabelRoom w targets r
-has_label_room w n targets needs r h g l = record { rows = has_space h.rows l g.rows; out = omega (arith, h.out, g.out) }
+has_label_room w n targets needs r h g l = record { rows = has_space h.rows l g.rows; out = omega (arith, h.out, g.out); lay = lay_fewer g.lay (omega (arith, l, h.states)) }
 
 -- and room for what lists need is room for them
 pub first_room : {targets : List ℕ} {n : LabelNeeds} {r : LabelRoom} → IsListFor targets n.first → HasNeeds n r → HasFirstRoom targets r.lists
@@ -51,6 +50,7 @@ pub more_room : {less more : LabelNeeds} {r : LabelRoom} → IsAsNeedy less more
 more_room h g = record {
   rows = as_spacious g.rows h.rows;
   out = omega (arith, h.out, g.out);
+  lay = lay_fewer g.lay h.states;
   first = list_fewer g.first h.first.states h.first.targets;
   second = list_fewer g.second h.second.states h.second.targets;
   first_lay = lay_fewer g.first_lay h.first.states;
@@ -59,21 +59,4 @@ more_room h g = record {
 
 -- what there was room for, there still is
 pub still_room : {w : ℕ} {targets : List ℕ} {old new : LabelRoom} → HasLabelRoom w targets old → IsAsRoomy old new → HasLabelRoom w targets new
-still_room h g = record { rows = has_space h.rows (omega arith) g.rows; out = omega (arith, h.out, g.out) }
-
-pub lists_still : {targets : List ℕ} {old new : ListRoom} → AreAsRoomy old new → HasFirstRoom targets old → HasFirstRoom targets new
-lists_still g h = record { list = g.first _ _ h.list; lay = g.lay _ h.lay }
-
-pub second_lists_still : {targets : List ℕ} {old new : ListRoom} → AreAsRoomy old new → HasSecondRoom targets old → HasSecondRoom targets new
-second_lists_still g h = record { list = g.second _ _ h.list; lay = g.lay _ h.lay }
-
--- lists that are left alone
-pub AreAsRoomy-refl : (r : ListRoom) → AreAsRoomy r r
-AreAsRoomy-refl r = record { first = λ n k h. h; second = λ n k h. h; lay = λ n h. h }
-
-pub AreAsRoomy-trans : {a b c : ListRoom} → AreAsRoomy a b → AreAsRoomy b c → AreAsRoomy a c
-AreAsRoomy-trans f g = record {
-  first = λ n k h. g.first n k (f.first n k h);
-  second = λ n k h. g.second n k (f.second n k h);
-  lay = λ n h. g.lay n (f.lay n h);
-}
+still_room h g = record { rows = has_space h.rows (omega arith) g.rows; out = omega (arith, h.out, g.out); lay = g.lists.lay _ h.lay }

@@ -1,12 +1,13 @@
 -- Labels and their words that aren't zero.
-use Rattle.std.proofs.Common.{◌≡◌, ℕ, zero, suc, ◌+◌, ◌-◌, ◌*◌, ◌<◌, ◌≤◌, List, [], ◌∷◌, ◌++◌, length, get_or, take, drop, set, refl, ap, sym, ◌∙◌, arith, append_assoc, length-append, length-drop, length-take, ⊎_elim}
+use Rattle.std.proofs.Common.{◌≡◌, ℕ, zero, suc, ◌+◌, ◌-◌, ◌*◌, ◌<◌, ◌≤◌, List, [], ◌∷◌, ◌++◌, length, get_or, take, drop, set, refl, ap, sym, subst, ◌∙◌, arith, append_assoc, length-append, length-drop, length-take, ⊎_elim}
 use Rattle.std.proofs.Math.ListN.{replicate, get_or-append}
 use Rattle.std.proofs.Math.Seq.{drop-cons, set-append_seam, drop-append_seam, take-length, drop-length, get_or-append_seam, get_or-append_right}
 use Rattle.std.proofs.lemmas.Bool.{cases_lt}
-use Rattle.std.proofs.lemmas.List.{drop-append-le, take-append-le, get_or-take, get_or-drop}
+use Rattle.std.proofs.lemmas.List.{drop-append-le, take-append-le, get_or-take, get_or-drop, get_or_default, length-set, length-replicate}
 use Rattle.fort_tables.specs.Tuples.{tabulate}
-use Rattle.fort_tables.proofs.TupleLaws.{tabulate_same}
-use Rattle.fort_check_steps.specs.SparseWords.{places_from, words_of, scattered, start_of, piece, label_at}
+use Rattle.fort_tables.proofs.TupleLaws.{tabulate_same, length-tabulate}
+use Rattle.fort_check_steps.specs.SparseWords.{places_from, words_of, scattered, start_of, piece, label_at, HasWords}
+use Rattle.fort_check_steps.specs.SparseRowsView.{SparseLabels}
 use Rattle.fort_check_steps.specs.SparseRowsInside.{AreSparse, sparse_labels}
 
 -- the words one behind another, from the first on: what stands before them stays
@@ -26,6 +27,11 @@ scattered_words pre (suc w ∷ ws) (suc n) i a b =
 
 pub scattered_label : (ws : List ℕ) (n : ℕ) → n ≡ length ws → scattered (replicate n 0) (places_from 0 ws) (words_of ws) ≡ ws
 scattered_label ws n e = scattered_words [] ws n 0 e refl
+
+length-scattered : (out ps ws : List ℕ) → length (scattered out ps ws) ≡ length out
+length-scattered out [] ws = refl
+length-scattered out (p ∷ ps) [] = refl
+length-scattered out (p ∷ ps) (w ∷ ws) = length-scattered (set out p w) ps ws ∙ length-set out p w
 
 -- one word more
 pub places_zero : (i : ℕ) (ws : List ℕ) (w : ℕ) → w ≡ 0 → places_from i (ws ++ w ∷ []) ≡ places_from i ws
@@ -78,6 +84,13 @@ scattered_turn out ps ws k l e =
 pub scattered_end : (out ps ws : List ℕ) (k : ℕ) → k ≡ length ps → scattered out (drop k ps) (drop k ws) ≡ out
 scattered_end out ps ws k e = ap (λ xs. scattered out xs (drop k ws)) (ap (λ i. drop i ps) e ∙ drop-length ps)
 
+-- the words of a label in equal lists
+pub same_words : {label other ps us ws vs : List ℕ} → HasWords label ps ws → label ≡ other → ps ≡ us → ws ≡ vs → HasWords other us vs
+same_words h a b e = record {
+  places_are = sym (ap (places_from 0) a) ∙ (h.places_are ∙ b);
+  words_are = sym (ap words_of a) ∙ (h.words_are ∙ e);
+}
+
 -- labels one behind another
 pub piece_kept : (from to : ℕ) (xs ys : List ℕ) → from ≤ to → to ≤ length xs → piece from to (xs ++ ys) ≡ piece from to xs
 piece_kept from to xs ys a b =
@@ -111,27 +124,46 @@ none_sparse w = record {
   ordered = λ q l. absurd (omega arith);
   inside = λ q l. absurd (omega arith);
   last = refl;
+  exact = λ q l. absurd (omega arith);
   few = omega arith;
 }
 
-label_kept : (w : ℕ) (es ps ws : List ℕ) (e : ℕ) (us vs : List ℕ) (q : ℕ) → AreSparse w es ps ws → q < length es → label_at w (es ++ e ∷ []) (ps ++ us) (ws ++ vs) q ≡ label_at w es ps ws q
-label_kept w es ps ws e us vs q h l =
+piece_of_kept : (es : List ℕ) (e q : ℕ) (xs ys : List ℕ) → q < length es → start_of es q ≤ get_or es q 0 → get_or es q 0 ≤ length xs → piece (start_of (es ++ e ∷ []) q) (get_or (es ++ e ∷ []) q 0) (xs ++ ys) ≡ piece (start_of es q) (get_or es q 0) xs
+piece_of_kept es e q xs ys l a b =
     let s : start_of (es ++ e ∷ []) q ≡ start_of es q = start_kept es e q (omega arith) in
     let t : get_or (es ++ e ∷ []) q 0 ≡ get_or es q 0 = get_or-append es (e ∷ []) 0 q l in
-    let a = piece_kept (start_of es q) (get_or es q 0) ps us (h.ordered q l) (h.inside q l) in
-    let b = piece_kept (start_of es q) (get_or es q 0) ws vs (h.ordered q l) (omega (arith, h.inside q l, h.count)) in
-    (λ j. scattered (replicate w 0) (piece (s j) (t j) (ps ++ us)) (piece (s j) (t j) (ws ++ vs)))
-    ∙ (λ j. scattered (replicate w 0) (a j) (b j))
+    (λ j. piece (s j) (t j) (xs ++ ys)) ∙ piece_kept (start_of es q) (get_or es q 0) xs ys a b
+
+piece_of_new : (es : List ℕ) (e : ℕ) (xs ys : List ℕ) → start_of es (length es) ≡ length xs → e ≡ length xs + length ys → piece (start_of (es ++ e ∷ []) (length es)) (get_or (es ++ e ∷ []) (length es) 0) (xs ++ ys) ≡ ys
+piece_of_new es e xs ys a b =
+    let s : start_of (es ++ e ∷ []) (length es) ≡ length xs = start_kept es e (length es) (omega arith) ∙ a in
+    let t : get_or (es ++ e ∷ []) (length es) 0 ≡ e = get_or-append_seam es e [] 0 in
+    (λ j. piece (s j) (t j) (xs ++ ys)) ∙ piece_new (length xs) e xs ys refl b
+
+places_kept : (w : ℕ) (es ps ws : List ℕ) (e : ℕ) (us : List ℕ) (q : ℕ) → AreSparse w es ps ws → q < length es → piece (start_of (es ++ e ∷ []) q) (get_or (es ++ e ∷ []) q 0) (ps ++ us) ≡ piece (start_of es q) (get_or es q 0) ps
+places_kept w es ps ws e us q h l = piece_of_kept es e q ps us l (h.ordered q l) (h.inside q l)
+
+words_kept : (w : ℕ) (es ps ws : List ℕ) (e : ℕ) (vs : List ℕ) (q : ℕ) → AreSparse w es ps ws → q < length es → piece (start_of (es ++ e ∷ []) q) (get_or (es ++ e ∷ []) q 0) (ws ++ vs) ≡ piece (start_of es q) (get_or es q 0) ws
+words_kept w es ps ws e vs q h l = piece_of_kept es e q ws vs l (h.ordered q l) (omega (arith, h.inside q l, h.count))
+
+label_kept : (w : ℕ) (es ps ws : List ℕ) (e : ℕ) (us vs : List ℕ) (q : ℕ) → AreSparse w es ps ws → q < length es → label_at w (es ++ e ∷ []) (ps ++ us) (ws ++ vs) q ≡ label_at w es ps ws q
+label_kept w es ps ws e us vs q h l =
+    let a = places_kept w es ps ws e us q h l in
+    let b = words_kept w es ps ws e vs q h l in
+    λ j. scattered (replicate w 0) (a j) (b j)
+
+places_new : (w : ℕ) (es ps ws : List ℕ) (e : ℕ) (label : List ℕ) → AreSparse w es ps ws → e ≡ length ps + length (places_from 0 label) → piece (start_of (es ++ e ∷ []) (length es)) (get_or (es ++ e ∷ []) (length es) 0) (ps ++ places_from 0 label) ≡ places_from 0 label
+places_new w es ps ws e label h end = piece_of_new es e ps (places_from 0 label) h.last end
+
+words_new : (w : ℕ) (es ps ws : List ℕ) (e : ℕ) (label : List ℕ) → AreSparse w es ps ws → e ≡ length ps + length (places_from 0 label) → piece (start_of (es ++ e ∷ []) (length es)) (get_or (es ++ e ∷ []) (length es) 0) (ws ++ words_of label) ≡ words_of label
+words_new w es ps ws e label h end = piece_of_new es e ws (words_of label) (h.last ∙ h.count) (omega (arith, end, h.count, length_words 0 label))
 
 label_new : (w : ℕ) (es ps ws : List ℕ) (e : ℕ) (label : List ℕ) → AreSparse w es ps ws → length label ≡ w → e ≡ length ps + length (places_from 0 label) → label_at w (es ++ e ∷ []) (ps ++ places_from 0 label) (ws ++ words_of label) (length es) ≡ label
 label_new w es ps ws e label h is end =
-    let s : start_of (es ++ e ∷ []) (length es) ≡ length ps = start_kept es e (length es) (omega arith) ∙ h.last in
-    let t : get_or (es ++ e ∷ []) (length es) 0 ≡ e = get_or-append_seam es e [] 0 in
-    let a = piece_new (length ps) e ps (places_from 0 label) refl end in
-    let b = piece_new (length ps) e ws (words_of label) h.count (omega (arith, end, h.count, length_words 0 label)) in
-    (λ j. scattered (replicate w 0) (piece (s j) (t j) (ps ++ places_from 0 label)) (piece (s j) (t j) (ws ++ words_of label)))
-    ∙ ((λ j. scattered (replicate w 0) (a j) (b j))
-    ∙ scattered_label label w (sym is))
+    let a = places_new w es ps ws e label h end in
+    let b = words_new w es ps ws e label h end in
+    (λ j. scattered (replicate w 0) (a j) (b j))
+    ∙ scattered_label label w (sym is)
 
 -- one label more
 pub labels_more : (w : ℕ) (es ps ws : List ℕ) (e : ℕ) (label : List ℕ) → AreSparse w es ps ws → length label ≡ w → e ≡ length ps + length (places_from 0 label) → sparse_labels w (es ++ e ∷ []) (ps ++ places_from 0 label) (ws ++ words_of label) ≡ sparse_labels w es ps ws ++ label ∷ []
@@ -158,6 +190,7 @@ sparse_more w es ps ws e label h is end =
       ordered = ordered;
       inside = inside;
       last = ap (start_of (es ++ e ∷ [])) m ∙ (get_or-append_seam es e [] 0 ∙ all);
+      exact = exact;
       few = few m own;
     }
   where
@@ -188,5 +221,55 @@ sparse_more w es ps ws e label h is end =
         omega (arith, ap (λ i. get_or (es ++ e ∷ []) i 0) b, get_or-append_seam es e [] 0, length-append ps (places_from 0 label), end))
         (cases_lt q (length es))
 
+    exact : (q : ℕ) → q < length (es ++ e ∷ []) → HasWords (label_at w (es ++ e ∷ []) (ps ++ places_from 0 label) (ws ++ words_of label) q) (piece (start_of (es ++ e ∷ []) q) (get_or (es ++ e ∷ []) q 0) (ps ++ places_from 0 label)) (piece (start_of (es ++ e ∷ []) q) (get_or (es ++ e ∷ []) q 0) (ws ++ words_of label))
+    exact q l =
+        let us = ps ++ places_from 0 label in
+        let vs = ws ++ words_of label in
+        let fs = es ++ e ∷ [] in
+        let F : ℕ → Type 0 = λ i. HasWords (label_at w fs us vs i) (piece (start_of fs i) (get_or fs i 0) us) (piece (start_of fs i) (get_or fs i 0) vs) in
+        let own : HasWords label (places_from 0 label) (words_of label) = record { places_are = refl; words_are = refl } in
+        ⊎_elim
+        (λ (a : q < length es). same_words (h.exact q a) (sym (label_kept w es ps ws e (places_from 0 label) (words_of label) q h a)) (sym (places_kept w es ps ws e (places_from 0 label) q h a)) (sym (words_kept w es ps ws e (words_of label) q h a)))
+        (λ (a : length es ≤ q).
+        let b : length es ≡ q = omega (arith, l, length-append es (e ∷ [])) in
+        subst F b (same_words own (sym (label_new w es ps ws e label h is end)) (sym (places_new w es ps ws e label h end)) (sym (words_new w es ps ws e label h end))))
+        (cases_lt q (length es))
+
     few : length (es ++ e ∷ []) ≡ suc (length es) → length (ps ++ places_from 0 label) ≡ length ps + length (places_from 0 label) → length (ps ++ places_from 0 label) ≤ length (es ++ e ∷ []) * w
     few m own = omega (arith, ap (λ i. i * w) m, own, h.few, few_words 0 label, is)
+
+-- a label is the one with its words
+pub label_with : (w : ℕ) (es ps ws label : List ℕ) (q : ℕ) → length label ≡ w → HasWords label (piece (start_of es q) (get_or es q 0) ps) (piece (start_of es q) (get_or es q 0) ws) → label_at w es ps ws q ≡ label
+label_with w es ps ws label q is h =
+    let a = sym h.places_are in
+    let b = sym h.words_are in
+    (λ j. scattered (replicate w 0) (a j) (b j)) ∙ scattered_label label w (sym is)
+
+pub length-label_at : (w : ℕ) (es ps ws : List ℕ) (q : ℕ) → length (label_at w es ps ws q) ≡ w
+length-label_at w es ps ws q = length-scattered (replicate w 0) (piece (start_of es q) (get_or es q 0) ps) (piece (start_of es q) (get_or es q 0) ws) ∙ length-replicate w 0
+
+-- where its words stand
+pub record IsPart (w : ℕ) (es ps ws : List ℕ) (q from to : ℕ) : Type 0 where
+  pub within : q < length es
+  pub first : from ≡ start_of es q
+  pub end : to ≡ get_or es q 0
+  pub ordered : from ≤ to
+  pub inside : to ≤ length ps
+  pub inside_words : to ≤ length ws
+
+pub part_of : (w : ℕ) (es xs ps ws : List ℕ) (q from to : ℕ) → AreSparse w es ps ws → q < length es → xs ≡ es → from ≡ start_of xs q → to ≡ get_or es q to → IsPart w es ps ws q from to
+part_of w es xs ps ws q from to h l same a b =
+    let first : from ≡ start_of es q = a ∙ ap (λ ys. start_of ys q) same in
+    let end : to ≡ get_or es q 0 = b ∙ get_or_default es q to 0 l in
+    record {
+      within = l;
+      first = first;
+      end = end;
+      ordered = omega (arith, first, end, h.ordered q l);
+      inside = omega (arith, end, h.inside q l);
+      inside_words = omega (arith, end, h.inside q l, h.count);
+    }
+
+-- a label that is there
+pub there : (w room most space : ℕ) (es ps ws : List ℕ) (l : SparseLabels) (q : ℕ) → record { width = w; room = room; most = most; space = space; labels = sparse_labels w es ps ws } ≡ l → q < length l.labels → q < length es
+there w room most space es ps ws l q e h = omega (arith, length-tabulate (length es) (label_at w es ps ws), ap (λ (r : SparseLabels). length r.labels) e, h)

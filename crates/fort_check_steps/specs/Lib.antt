@@ -2,6 +2,7 @@ pub mod StepAnswers
 pub mod Room
 pub mod Held
 pub mod OnePlace
+pub mod Guesses
 pub mod Turned
 pub mod TableInside
 pub mod NumberedView
@@ -16,4 +17,5 @@ pub mod SparseWords
 pub mod SparseRowsView
 pub mod SparseRowsInside
 pub mod StateLabelsView
+pub mod WideKidsInside
 pub mod StateLabelsInside

@@ -26,3 +26,13 @@ abbrev pub IsRefused : LabelRule → Entry → ℕ → List (List ℕ) → Reaso
 IsRefused r e q ws Target = length ws < q
 IsRefused r e q ws Label = (q < length ws) × (get_or ws q [] ≡ entry_label r ws e → ⊥)
 IsRefused r e q ws other = ⊥
+
+-- a state there is, of whatever label
+pub record IsKnownState (q : ℕ) (ps ps' : List ℕ) (ws ws' : List (List ℕ)) : Type 0 where
+  pub number : q < length ws
+  pub labels : ws' ≡ ws
+  pub presences : ps' ≡ ps
+
+-- the state of a target is there, or made
+abbrev pub IsMade : LabelRule → Entry → ℕ → List ℕ → List ℕ → List (List ℕ) → List (List ℕ) → Type 0
+IsMade r e q ps ps' ws ws' = IsNewState r e q ps ps' ws ws' ⊎ IsKnownState q ps ps' ws ws'

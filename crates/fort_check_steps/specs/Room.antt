@@ -1,4 +1,4 @@
--- To believe: which room the check of a part needs: for states no more than it has targets, and no more than the greatest target names; words for the labels of so many states, of which the wide ones stand by themselves; and for the list of each operand as many as its targets, and one start more.
+-- To believe: which room the check of a part needs: for states no more than it has targets, and no more than the greatest target names; words for the labels of so many states, of which the wide ones stand by themselves; numbers by which so many states are walked through; and for the list of each operand as many as its targets, and one start more.
 use Rattle.std.specs.Prelude.{ℕ, ◌≤◌, min, List, length, vec_capacity}
 use Rattle.fort_tables.specs.Entries.{stage}
 use Rattle.fort_rrn_algebra.specs.LayRooms.{HasLayRoom}
@@ -18,10 +18,11 @@ pub record HasRoom (targets : List ℕ) (r : PartRoom) : Type 0 where
   pub finals : most_states targets ≤ vec_capacity r.finals
   pub presences : most_states targets ≤ vec_capacity r.presences
 
--- for labels of this width
+-- for labels of this width, and for a walk over their states
 pub record HasLabelRoom (width : ℕ) (targets : List ℕ) (r : LabelRoom) : Type 0 where
   pub rows : HasSpace width (most_states targets) r.rows.spaces
   pub out : width ≤ vec_capacity r.out
+  pub lay : HasLayRoom (most_states targets) r.lists.lay
 
 -- for the list of an only or first operand with these targets
 pub record HasFirstRoom (targets : List ℕ) (r : ListRoom) : Type 0 where
@@ -53,6 +54,7 @@ spaces_of n = record { narrow = n.narrow; wide = n.wide; most = n.most; widest =
 pub record IsSpaceFor (width count : ℕ) (n : LabelNeeds) : Type 0 where
   pub rows : HasSpace width count (spaces_of n)
   pub out : width ≤ n.width
+  pub states : count ≤ n.states
 
 -- what the list of a table with these targets needs
 pub record IsListFor (targets : List ℕ) (n : ListNeeds) : Type 0 where
@@ -68,6 +70,7 @@ pub record IsAsLong (less more : ListNeeds) : Type 0 where
 pub record IsAsNeedy (less more : LabelNeeds) : Type 0 where
   pub rows : IsAsSpacious (spaces_of less) (spaces_of more)
   pub out : less.width ≤ more.width
+  pub states : less.states ≤ more.states
   pub first : IsAsLong less.first more.first
   pub second : IsAsLong less.second more.second
 
@@ -75,6 +78,7 @@ pub record IsAsNeedy (less more : LabelNeeds) : Type 0 where
 pub record HasNeeds (n : LabelNeeds) (r : LabelRoom) : Type 0 where
   pub rows : IsAsSpacious (spaces_of n) r.rows.spaces
   pub out : n.width ≤ vec_capacity r.out
+  pub lay : HasLayRoom n.states r.lists.lay
   pub first : HasListRoom n.first.states n.first.targets r.lists.first
   pub second : HasListRoom n.second.states n.second.targets r.lists.second
   pub first_lay : HasLayRoom n.first.states r.lists.lay

@@ -1,7 +1,7 @@
 -- Inside: what the fields of sparse rows stand for.
 use Rattle.std.specs.Prelude.{◌≡◌, ℕ, ◌*◌, ◌<◌, ◌≤◌, List, length, get_or, vec_capacity}
 use Rattle.fort_tables.specs.Tuples.{tabulate}
-use Rattle.fort_check_steps.specs.SparseWords.{start_of, label_at}
+use Rattle.fort_check_steps.specs.SparseWords.{start_of, piece, label_at, HasWords}
 use Rattle.fort_check_steps.specs.SparseRowsView.{SparseLabels}
 use Rattle.fort_check_steps.specs.declared.sparse_rows.SparseRows.TheInside.{Inside}
 
@@ -17,13 +17,14 @@ sparse_labels_in a = record {
   labels = sparse_labels a.width a.ends.items a.places.items a.words.items;
 }
 
--- the labels' words stand one behind another, each with its place in a label
+-- the labels' words that aren't zero stand one behind another, each with its place in a label
 pub record AreSparse (width : ℕ) (ends places words : List ℕ) : Type 0 where
   pub count : length places ≡ length words
   pub placed : (k : ℕ) → k < length places → get_or places k 0 < width
   pub ordered : (q : ℕ) → q < length ends → start_of ends q ≤ get_or ends q 0
   pub inside : (q : ℕ) → q < length ends → get_or ends q 0 ≤ length places
   pub last : start_of ends (length ends) ≡ length places
+  pub exact : (q : ℕ) → q < length ends → HasWords (label_at width ends places words q) (piece (start_of ends q) (get_or ends q 0) places) (piece (start_of ends q) (get_or ends q 0) words)
   -- no more than without zeros
   pub few : length places ≤ length ends * width
 

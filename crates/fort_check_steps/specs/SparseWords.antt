@@ -1,5 +1,5 @@
 -- Inside: the words of a label that aren't zero, with their places in it.
-use Rattle.std.specs.Prelude.{ℕ, zero, suc, ◌-◌, List, [], ◌∷◌, get_or, take, drop, set, replicate}
+use Rattle.std.specs.Prelude.{◌≡◌, ℕ, zero, suc, ◌-◌, List, [], ◌∷◌, get_or, take, drop, set, replicate}
 
 -- the places of the words that aren't zero, where the first word has this place
 abbrev pub places_from : ℕ → List ℕ → List ℕ
@@ -30,3 +30,8 @@ piece from to xs = take (to - from) (drop from xs)
 -- label q: its words at their places, and zeros else
 abbrev pub label_at : ℕ → List ℕ → List ℕ → List ℕ → ℕ → List ℕ
 label_at width ends ps ws q = scattered (replicate width 0) (piece (start_of ends q) (get_or ends q 0) ps) (piece (start_of ends q) (get_or ends q 0) ws)
+
+-- a label's words that aren't zero are these, at these places
+pub record HasWords (label places words : List ℕ) : Type 0 where
+  pub places_are : places_from 0 label ≡ places
+  pub words_are : words_of label ≡ words

@@ -1,6 +1,7 @@
 -- Inside: what the fields of a part's labels stand for.
-use Rattle.std.specs.Prelude.{◌≡◌, ◌*◌, ◌≤◌, length, vec_capacity, if◌then◌else◌}
+use Rattle.std.specs.Prelude.{◌*◌, ◌≤◌, vec_capacity, if◌then◌else◌}
 use Rattle.fort_check_steps.specs.StateLabelsView.{Spaces, KeptLabels}
+use Rattle.fort_check_steps.specs.WideKidsInside.{AreWideKids}
 use Rattle.fort_check_steps.specs.declared.state_labels.StateLabels.TheInside.{Inside}
 
 abbrev pub spaces_in : Inside → Spaces
@@ -14,10 +15,7 @@ kept_labels_in a = record {
   labels = if a.wide then a.sparse.labels else a.dense.labels;
 }
 
--- what wide labels are read by is of their width
 pub record AreStateLabels (a : Inside) : Type 0 where
-  pub label_width : length a.label.items ≡ a.sparse.width
-  pub label_room : a.widest ≤ vec_capacity a.label
-  pub kids_width : a.kids.width ≡ a.sparse.width
-  pub kids_room : 8 ≤ a.kids.room
-  pub kids_space : 8 * a.widest ≤ a.kids.space
+  pub kids : AreWideKids a.sparse a.kids
+  pub label_room : a.widest ≤ vec_capacity a.kids.label
+  pub kids_space : 8 * a.widest ≤ a.kids.rows.space

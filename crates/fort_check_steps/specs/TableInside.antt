@@ -22,5 +22,6 @@ table_in a = record { table = listed_in a; turns = a.turns }
 pub record IsPartTable (a : Inside) : Type 0 where
   pub listed : IsListed (listed_in a)
   pub few : length a.room.now.presences.items < 2 ^ 32
+  pub few_targets : length a.targets.now < 2 ^ 32
   pub final_count : length a.room.now.finals.items ≡ length a.room.now.presences.items
   pub list_is : IfSome a.list (λ l. IsTargetListOf (listed_table (listed_in a)) l.now)

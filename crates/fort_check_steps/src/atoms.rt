@@ -2,6 +2,7 @@
 ghost use Rattle.std.specs.Prelude.{◌≡◌, ◌<◌, ◌^◌, length};
 ghost use Rattle.fort_atom_labels.specs.Subterms.{subterms};
 
+use crate::part_rule::PartRule;
 use fort_context_closure::local::{is_accepts, is_label, is_width};
 use fort_context_closure::{NormalBits, RelationBits};
 use fort_explore::{LocalRule, Rows};
@@ -49,6 +50,8 @@ impl<'a> LocalRule for Related<'a> {
     }
 }
 
+impl<'a> PartRule for Related<'a> {}
+
 /// The labels of "x is a normal form".
 #[derive(Drop)]
 pub struct Normal<'a> {
@@ -90,6 +93,8 @@ impl<'a> LocalRule for Normal<'a> {
     }
 }
 
+impl<'a> PartRule for Normal<'a> {}
+
 /// The labels of "x is this term".
 #[derive(Drop)]
 pub struct ThisTerm<'a> {
@@ -129,3 +134,5 @@ impl<'a> LocalRule for ThisTerm<'a> {
         is_accepts(self.term, words)
     }
 }
+
+impl<'a> PartRule for ThisTerm<'a> {}

@@ -1,9 +1,12 @@
 //! The check of a part.
-ghost use Rattle.std.specs.Prelude.{◌≡◌, ◌<◌, ◌≤◌, ◌^◌, length, vec_capacity, OnOk};
-ghost use Rattle.fort_tables.specs.LabelRules.{IsTableBy, label_of};
+ghost use Rattle.std.specs.Prelude.{◌≡◌, ℕ, ◌<◌, ◌≤◌, ◌^◌, map, length, vec_capacity, OnOk};
+ghost use Rattle.fort_tables.specs.Labels.{first_word, AreLabels};
+ghost use Rattle.fort_tables.specs.LabelRules.{IsLabelRule, IsTableBy, label_of};
 ghost use Rattle.fort_tables.specs.Tables.{listed_table};
+ghost use Rattle.fort_laid_entries.specs.Laid.{all_entries};
+ghost use Rattle.fort_rrn_algebra.specs.LayRooms.{HasLayRoom};
 ghost use Rattle.fort_in_order.specs.Outcomes.{StepOutcome};
-ghost use Rattle.fort_in_order.specs.PartSteps.{IsPartOutcome};
+ghost use Rattle.fort_in_order.specs.PartSteps.{IsPartOutcome, IsRightPart};
 ghost use Rattle.fort_check_steps.specs.Held.{HoldsPart, held_table};
 ghost use Rattle.fort_check_steps.specs.Room.{HasRoom, most_states};
 ghost use Rattle.fort_check_steps.specs.StateLabelsView.{HasSpace, IsAsSpacious};
@@ -11,26 +14,71 @@ ghost use Rattle.fort_check_steps.specs.StepAnswers.{outcome_of};
 
 use crate::failure::Failure;
 use crate::finals::put_finals;
+use crate::part_rule::PartRule;
+use crate::quick::are_quickly_right;
 use crate::room::PartRoom;
 use crate::state_labels::{StateLabels, put_zeros};
 use crate::targets::check_targets;
-use fort_explore::LocalRule;
+use fort_rrn_algebra::LayRoom;
 use fort_terms::Signature;
 
+/// Holds the targets against the entries: by the rule's own means, or else one by one, which finds the first failure.
+fn hold_targets<R: PartRule>(
+    rule: &R,
+    sig: &Signature,
+    targets: &[u32],
+    presences: &mut Vec<u16>,
+    rows: &mut StateLabels,
+    out: &mut [u64],
+    lay: &mut LayRoom,
+) -> Result<(), Failure>
+    requires signature { (R.rule rule.now).signature ≡ sig.now }
+    requires few { length targets.now < 2 ^ 32 }
+    requires words { length out.old ≡ R.word_count rule.now }
+    requires space { HasSpace (R.word_count rule.now) (most_states targets.now) rows.old.spaces }
+    requires spare { most_states targets.now ≤ vec_capacity presences.old }
+    requires lay { HasLayRoom (most_states targets.now) lay.old }
+    ensures outcome { IsPartOutcome (R.rule rule.now) targets.now (outcome_of result) }
+    ensures right { OnOk result (IsRightPart (R.rule rule.now) targets.now (all_entries
+        (R.rule rule.now).signature (R.rule rule.now).columns (map first_word rows.new.labels))
+        rows.new.labels) }
+    ensures lawful { IsLabelRule (R.rule rule.now) }
+    ensures states { OnOk result (length rows.new.labels ≤ most_states targets.now) }
+    ensures labels { OnOk result (AreLabels (R.rule rule.now).signature (R.rule rule.now).columns
+        (label_of (R.rule rule.now)) rows.new.labels) }
+    ensures presences { OnOk result (presences.new.items ≡ map first_word rows.new.labels) }
+    ensures width { rows.new.width ≡ R.word_count rule.now }
+    ensures spaces { IsAsSpacious rows.old.spaces rows.new.spaces }
+    ensures capacity { vec_capacity presences.new ≡ vec_capacity presences.old }
+    ensures lay { (n : ℕ) → HasLayRoom n lay.old → HasLayRoom n lay.new }
+{
+    let width = rule.width();
+    presences.clear();
+    rows.reset(width);
+    if are_quickly_right(rule, sig, targets, presences, rows, out, lay) {
+        return Ok(());
+    }
+    presences.clear();
+    rows.reset(width);
+    check_targets(rule, sig, targets, presences, rows, out)
+}
+
 /// Whether the targets are a table by the local rule, or their first failure. It takes no memory.
-pub fn check_part<R: LocalRule>(
+pub fn check_part<R: PartRule>(
     rule: &R,
     sig: &Signature,
     targets: &[u32],
     room: &mut PartRoom,
     rows: &mut StateLabels,
     out: &mut Vec<u64>,
+    lay: &mut LayRoom,
 ) -> Result<(), Failure>
     requires signature { (R.rule rule.now).signature ≡ sig.now }
     requires few { length targets.now < 2 ^ 32 }
     requires room { HasRoom targets.now room.old }
     requires space { HasSpace (R.word_count rule.now) (most_states targets.now) rows.old.spaces }
     requires out { R.word_count rule.now ≤ vec_capacity out.old }
+    requires lay { HasLayRoom (most_states targets.now) lay.old }
     ensures outcome { IsPartOutcome (R.rule rule.now) targets.now (outcome_of result) }
     ensures only { (o : StepOutcome) → IsPartOutcome (R.rule rule.now) targets.now o
         → o ≡ outcome_of result }
@@ -42,19 +90,19 @@ pub fn check_part<R: LocalRule>(
     ensures room { HasRoom targets.now room.new }
     ensures space { IsAsSpacious rows.old.spaces rows.new.spaces }
     ensures out { vec_capacity out.old ≤ vec_capacity out.new }
+    ensures lay { (n : ℕ) → HasLayRoom n lay.old → HasLayRoom n lay.new }
 {
     let width = rule.width();
     put_zeros(out, width);
-    room.presences.clear();
     room.finals.clear();
-    rows.reset(width);
-    match check_targets(
+    match hold_targets(
         rule,
         sig,
         targets,
         &mut room.presences,
         rows,
         out.as_mut_slice(),
+        lay,
     ) {
         Ok(()) => {
             put_finals(rule, rows, out.as_mut_slice(), &mut room.finals);

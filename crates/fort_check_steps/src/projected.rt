@@ -4,6 +4,7 @@ ghost use Rattle.fort_operations.specs.Projections as projections;
 ghost use Rattle.fort_operations.proofs.OperandFacts.{ArePure-prop};
 ghost use Rattle.fort_rrn_algebra.specs.TargetLists.{IsTargetListOf, IfTargetList-prop};
 
+use crate::part_rule::PartRule;
 use fort_explore::{LocalRule, Rows};
 use fort_lockstep::{Row, Table};
 use fort_rrn_algebra::TargetList;
@@ -97,3 +98,5 @@ impl<'a, T: Table> LocalRule for Projected<'a, T> {
         project_accepts(self.body, words)
     }
 }
+
+impl<'a, T: Table> PartRule for Projected<'a, T> {}

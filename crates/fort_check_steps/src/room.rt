@@ -55,6 +55,8 @@ pub struct LabelNeeds {
     pub most: usize,
     /// The words of a wide label.
     pub widest: usize,
+    /// How many states the part has at most: `LayRoom` is for these too.
+    pub states: usize,
     pub first: ListNeeds,
     pub second: ListNeeds,
 }
@@ -129,6 +131,7 @@ impl LabelNeeds {
                 wide: words,
                 most: count,
                 widest: width,
+                states: count,
                 first: ListNeeds::default(),
                 second: ListNeeds::default(),
             });
@@ -139,6 +142,7 @@ impl LabelNeeds {
             wide: 0,
             most: 0,
             widest: 0,
+            states: count,
             first: ListNeeds::default(),
             second: ListNeeds::default(),
         })
@@ -157,6 +161,7 @@ impl LabelNeeds {
             wide: self.wide,
             most: self.most,
             widest: self.widest,
+            states: self.states,
             first,
             second,
         }
@@ -173,6 +178,7 @@ impl LabelNeeds {
             wide: self.wide.max(other.wide),
             most: self.most.max(other.most),
             widest: self.widest.max(other.widest),
+            states: self.states.max(other.states),
             first: self.first.max(other.first),
             second: self.second.max(other.second),
         }
@@ -184,13 +190,15 @@ impl LabelRoom {
     pub fn new(alloc: Global, needs: LabelNeeds) -> Result<LabelRoom, Memory>
         ensures { IfOk result (HasNeeds needs) }
     {
+        let lists = needs.first.states.max(needs.second.states);
+        let states = needs.states.max(lists);
         Ok(LabelRoom {
             rows: StateLabels::new(alloc, needs.narrow, needs.wide, needs.most, needs.widest)?,
             out: Vec::with_capacity(alloc, needs.width)?,
             lists: ListRoom {
                 first: list_for(alloc, needs.first)?,
                 second: list_for(alloc, needs.second)?,
-                lay: LayRoom::new(alloc, needs.first.states.max(needs.second.states))?,
+                lay: LayRoom::new(alloc, states)?,
             },
         })
     }

@@ -1,6 +1,6 @@
 //! Lists of labels of one width, kept by their words that aren't zero.
-ghost use Rattle.std.specs.Prelude.{◌≡◌, ℕ, ◌+◌, ◌*◌, ◌<◌, ◌≤◌, [], ◌∷◌, ◌++◌, length, slice_index_or, vec_len, vec_capacity, IfOk};
-ghost use Rattle.fort_check_steps.specs.SparseWords.{places_from, words_of, scattered, start_of};
+ghost use Rattle.std.specs.Prelude.{◌≡◌, ℕ, ◌+◌, ◌*◌, ◌<◌, ◌≤◌, [], ◌∷◌, ◌++◌, length, slice_index_or, vec_len, vec_capacity, IfOk, IsTrue, ◌↔◌};
+ghost use Rattle.fort_check_steps.specs.SparseWords.{places_from, words_of, scattered, start_of, HasWords};
 
 use fort_terms::Memory;
 use std::alloc::Global;
@@ -61,6 +61,24 @@ fn scatter(places: &[usize], words: &[u64], out: &mut [u64])
     for k in 0..places.len() {
         out[places[k]] = words[k];
     }
+}
+
+/// Whether the words that aren't zero are these, at these places.
+fn are_words(label: &[u64], places: &[usize], words: &[u64]) -> bool
+    requires count { length places.now ≡ length words.now }
+    ensures { IsTrue result ↔ HasWords label.now places.now words.now }
+{
+    let mut next = 0;
+    for place in 0..label.len() {
+        let word = label[place];
+        if word != 0 {
+            if next == words.len() || words[next] != word || places[next] != place {
+                return false;
+            }
+            next += 1;
+        }
+    }
+    next == words.len()
 }
 
 /// Where the words of the label with this index begin.
@@ -141,5 +159,18 @@ impl SparseRows {
         let words = self.words.as_slice();
         out.fill(0);
         scatter(&places[from..to], &words[from..to], out);
+    }
+
+    /// Whether a label is this one.
+    pub fn is_label(&self, q: u32, label: &[u64]) -> bool
+        requires { q < length self.now.labels }
+        ensures { IsTrue result ↔ (slice_index_or self.now.labels q [] ≡ label.now) }
+    {
+        let index = q as usize;
+        let from = start(self.ends.as_slice(), index);
+        let to = self.ends[index];
+        let places = self.places.as_slice();
+        let words = self.words.as_slice();
+        label.len() == self.width && are_words(label, &places[from..to], &words[from..to])
     }
 }

@@ -1,8 +1,9 @@
 //! The labels of a part's states.
-ghost use Rattle.std.specs.Prelude.{◌≡◌, ◌↔◌, ℕ, ◌<◌, ◌≤◌, [], ◌∷◌, ◌++◌, map, length, slice_index_or, vec_capacity, IfOk, IsTrue};
+ghost use Rattle.std.specs.Prelude.{◌≡◌, ◌↔◌, ℕ, ◌<◌, ◌≤◌, [], ◌∷◌, ◌++◌, map, length, slice_index_or, vec_capacity, IfOk, IfSome, IsTrue};
 ghost use Rattle.fort_tables.specs.Labels.{IsOverLabels};
 ghost use Rattle.fort_tables.specs.LabelRules.{label_of, entry_label};
 ghost use Rattle.fort_check_steps.specs.StateLabelsView.{HasSpace, IsAsSpacious};
+ghost use Rattle.fort_check_steps.specs.WideKidsInside.{AreWideKids};
 
 use crate::sparse_rows::SparseRows;
 use fort_explore::{LocalRule, Rows};
@@ -17,6 +18,16 @@ pub(crate) const NARROW: usize = 8;
 /// The numbers of an entry's children.
 const NUMBERS: [u32; 8] = [0, 1, 2, 3, 4, 5, 6, 7];
 
+/// The wide labels of an entry's children, with all their words.
+#[derive(Drop)]
+struct WideKids {
+    rows: Rows,
+    /// The states with these labels: entries that follow one another often have the same children.
+    noted: Vec<u32>,
+    /// By its way a label comes into the rows.
+    label: Vec<u64>,
+}
+
 /// The labels of a part's states: narrow ones with all their words, and wide ones, most of whose words are zero, without these.
 #[derive(Drop)]
 pub struct StateLabels {
@@ -25,10 +36,7 @@ pub struct StateLabels {
     sparse: SparseRows,
     /// How many words a wide label has at most.
     widest: usize,
-    /// All words of a wide label.
-    label: Vec<u64>,
-    /// The wide labels of an entry's children, with all their words.
-    kids: Rows,
+    kids: WideKids,
 }
 
 impl Model for StateLabels {
@@ -66,6 +74,29 @@ fn are_same_words(first: &[u64], second: &[u64]) -> bool
     }
 }
 
+/// As `==` does, which takes a call and more for the few children of an entry.
+fn are_same_states(first: &[u32], second: &[u32]) -> bool
+    ensures { IsTrue result ↔ (first.now ≡ second.now) }
+{
+    match (first.split_first(), second.split_first()) {
+        (Some((x, first)), Some((y, second))) => *x == *y && are_same_states(first, second),
+        (None, None) => true,
+        _ => false,
+    }
+}
+
+/// Makes this a list of these states.
+fn put_states(states: &[u32], noted: &mut Vec<u32>)
+    requires { length states.now ≤ vec_capacity noted.old }
+    ensures states { noted.new.items ≡ states.now }
+    ensures capacity { vec_capacity noted.new ≡ vec_capacity noted.old }
+{
+    noted.clear();
+    for q in states {
+        noted.push_reserved(*q);
+    }
+}
+
 /// Makes `kids` the labels of these states, by the way of `label`.
 fn put_kids(sparse: &SparseRows, states: &[u32], label: &mut [u64], kids: &mut Rows)
     requires states { (j : ℕ) → j < length states.now → slice_index_or states.now j 0
@@ -86,30 +117,44 @@ fn put_kids(sparse: &SparseRows, states: &[u32], label: &mut [u64], kids: &mut R
     }
 }
 
+/// Makes the rows of `kids` the labels of these states, which they may be already.
+fn note_kids(sparse: &SparseRows, states: &[u32], kids: &mut WideKids)
+    requires states { (j : ℕ) → j < length states.now → slice_index_or states.now j 0
+        < length sparse.now.labels }
+    requires few { length states.now ≤ 8 }
+    requires kids { AreWideKids sparse.now kids.old }
+    ensures kids { AreWideKids sparse.now kids.new }
+    ensures noted { kids.new.noted.items ≡ states.now }
+    ensures label_room { vec_capacity kids.new.label ≡ vec_capacity kids.old.label }
+    ensures space { kids.old.rows.space ≤ kids.new.rows.space }
+{
+    if !are_same_states(kids.noted.as_slice(), states) {
+        put_kids(sparse, states, kids.label.as_mut_slice(), &mut kids.rows);
+        put_states(states, &mut kids.noted);
+    }
+}
+
 /// Writes the label of an entry over wide labels: that of the entry whose children have the numbers of their labels in `kids`.
 fn step_over<R: LocalRule>(
     rule: &R,
     row: &Row,
     sparse: &SparseRows,
-    label: &mut [u64],
-    kids: &mut Rows,
+    kids: &mut WideKids,
     out: &mut [u64],
 )
     requires over { IsOverLabels (R.rule rule.now).signature (R.rule rule.now).columns
         (label_of (R.rule rule.now)) sparse.now.labels row.now }
     requires room { length out.old ≡ R.word_count rule.now }
-    requires few { 8 ≤ kids.old.room }
-    requires label { length label.old ≡ sparse.now.width }
-    requires width { kids.old.width ≡ sparse.now.width }
+    requires kids { AreWideKids sparse.now kids.old }
     ensures label { out.new ≡ entry_label (R.rule rule.now) sparse.now.labels row.now }
-    ensures width { kids.new.width ≡ kids.old.width }
-    ensures room { kids.new.room ≡ kids.old.room }
-    ensures space { kids.old.space ≤ kids.new.space }
+    ensures kids { AreWideKids sparse.now kids.new }
+    ensures label_room { vec_capacity kids.new.label ≡ vec_capacity kids.old.label }
+    ensures space { kids.old.rows.space ≤ kids.new.rows.space }
 {
     let states = row.kids();
-    put_kids(sparse, states, label, kids);
+    note_kids(sparse, states, kids);
     let numbered = Row::new(row.sym(), &NUMBERS[..states.len()]);
-    rule.step(&numbered, kids, out);
+    rule.step(&numbered, &kids.rows, out);
 }
 
 impl StateLabels {
@@ -133,8 +178,11 @@ impl StateLabels {
             dense: Rows::new(alloc, 1, narrow)?,
             sparse: SparseRows::new(alloc, width, most, wide)?,
             widest,
-            label: vec![in alloc; 0u64; width]?,
-            kids: Rows::new(alloc, width, NUMBERS.len())?,
+            kids: WideKids {
+                rows: Rows::new(alloc, width, NUMBERS.len())?,
+                noted: Vec::with_capacity(alloc, NUMBERS.len())?,
+                label: vec![in alloc; 0u64; width]?,
+            },
         })
     }
 
@@ -150,8 +198,9 @@ impl StateLabels {
         if width > NARROW {
             self.wide = true;
             self.sparse.reset(width);
-            self.kids.reset(width);
-            put_zeros(&mut self.label, width);
+            self.kids.rows.reset(width);
+            self.kids.noted.clear();
+            put_zeros(&mut self.kids.label, width);
         } else {
             self.wide = false;
             self.dense.reset(width);
@@ -166,6 +215,13 @@ impl StateLabels {
         } else {
             self.dense.len()
         }
+    }
+
+    /// All labels, where they are narrow.
+    pub fn narrow(&self) -> Option<&Rows>
+        ensures { IfSome result (λ r. r.now.labels ≡ self.now.labels) }
+    {
+        if self.wide { None } else { Some(&self.dense) }
     }
 
     /// Appends a label, for which there is room.
@@ -199,14 +255,12 @@ impl StateLabels {
     }
 
     /// Whether a state's label is this one.
-    pub fn is_label(&mut self, q: u32, label: &[u64]) -> bool
-        requires { q < length self.old.labels }
-        ensures label { IsTrue result ↔ (slice_index_or self.old.labels q [] ≡ label.now) }
-        ensures same { self.new ≡ self.old }
+    pub fn is_label(&self, q: u32, label: &[u64]) -> bool
+        requires { q < length self.now.labels }
+        ensures { IsTrue result ↔ (slice_index_or self.now.labels q [] ≡ label.now) }
     {
         if self.wide {
-            self.sparse.write(q, self.label.as_mut_slice());
-            self.label.as_slice() == label
+            self.sparse.is_label(q, label)
         } else {
             are_same_words(self.dense.label(q), label)
         }
@@ -221,14 +275,7 @@ impl StateLabels {
         ensures same { self.new ≡ self.old }
     {
         if self.wide {
-            step_over(
-                rule,
-                row,
-                &self.sparse,
-                self.label.as_mut_slice(),
-                &mut self.kids,
-                out,
-            );
+            step_over(rule, row, &self.sparse, &mut self.kids, out);
         } else {
             rule.step(row, &self.dense, out);
         }

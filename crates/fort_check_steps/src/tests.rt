@@ -172,6 +172,8 @@ impl<'a> LocalRule for AtMost<'a> {
     }
 }
 
+impl<'a> PartRule for AtMost<'a> {}
+
 /// The same by labels of ten words, most of them zeros.
 #[derive(Drop)]
 struct WideAtMost<'a>(&'a Signature);
@@ -224,6 +226,8 @@ impl<'a> LocalRule for WideAtMost<'a> {
     }
 }
 
+impl<'a> PartRule for WideAtMost<'a> {}
+
 /// A constant a and a symbol f of one argument.
 fn constant_and_unary(alloc: Global) -> Result<Signature, AddFault> {
     let mut signature = Signature::empty(alloc);
@@ -262,9 +266,9 @@ fn lists_of_targets(rt: HostRuntime) -> Result<(), Fail> {
         let mut room = PartRoom::new(rt.alloc(), targets)?;
         let needs = LabelNeeds::new(4, targets.len())?;
         let mut scratch = LabelRoom::new(rt.alloc(), needs)?;
-        let (rows, out) = (&mut scratch.rows, &mut scratch.out);
-        assert!(rt; check_part(&rule, &signature, targets, &mut room, rows, out) == answer);
-        assert!(rt; check_part(&rule, &signature, targets, &mut room, rows, out) == answer);
+        let (rows, out, lay) = (&mut scratch.rows, &mut scratch.out, &mut scratch.lists.lay);
+        assert!(rt; check_part(&rule, &signature, targets, &mut room, rows, out, lay) == answer);
+        assert!(rt; check_part(&rule, &signature, targets, &mut room, rows, out, lay) == answer);
     }
     Ok(())
 }
@@ -289,9 +293,9 @@ fn wide_labels(rt: HostRuntime) -> Result<(), Fail> {
         let mut room = PartRoom::new(rt.alloc(), targets)?;
         let needs = LabelNeeds::new(10, targets.len())?;
         let mut scratch = LabelRoom::new(rt.alloc(), needs)?;
-        let (rows, out) = (&mut scratch.rows, &mut scratch.out);
-        assert!(rt; check_part(&rule, &signature, targets, &mut room, rows, out) == answer);
-        assert!(rt; check_part(&rule, &signature, targets, &mut room, rows, out) == answer);
+        let (rows, out, lay) = (&mut scratch.rows, &mut scratch.out, &mut scratch.lists.lay);
+        assert!(rt; check_part(&rule, &signature, targets, &mut room, rows, out, lay) == answer);
+        assert!(rt; check_part(&rule, &signature, targets, &mut room, rows, out, lay) == answer);
     }
     Ok(())
 }
@@ -358,6 +362,7 @@ fn has_turned_answers(alloc: Global, turns: usize, accepting: &[u32]) -> Result<
         &mut room,
         &mut scratch.rows,
         &mut scratch.out,
+        &mut scratch.lists.lay,
     ) {
         Ok(()) => {
             let table = PartTable::new(&signature, 2, &targets, &room, turns);
@@ -434,6 +439,7 @@ fn finds_targets(alloc: Global, signature: &Signature, targets: &[u32]) -> Resul
         &mut room,
         &mut scratch.rows,
         &mut scratch.out,
+        &mut scratch.lists.lay,
     ) {
         Ok(()) => {
             let table = PartTable::new(signature, 2, targets, &room, 0);

@@ -1,19 +1,14 @@
-use Rattle.std.proofs.Common.{ℕ, sym, subst, arith}
+use Rattle.std.proofs.Common.{arith}
 use Rattle.fort_in_order.proofs.PartOutcomes.{outcome_one}
 use Rattle.fort_check_steps.specs.declared.room.PartRoom.{PartRoom}
-use Rattle.fort_check_steps.specs.StateLabelsView.{HasSpace}
-use Rattle.fort_check_steps.specs.Room.{most_states}
 use Rattle.fort_check_steps.proofs.TableLaws.{right_held, right_table}
 use Rattle.fort_check_steps.proofs.part.check_part.Goals as goal
-
-pub check_targets-requires-clause-room : goal.check_targets-requires-clause-room
-check_targets-requires-clause-room g c = c.reset.ensures.room (most_states c.args.targets.now) (subst (λ (w : ℕ). HasSpace w (most_states c.args.targets.now) c.args.rows.now.spaces) (sym c.width-width.ensures.count) c.requires.space)
 
 pub returns-in-Ok-clause-held : goal.returns-in-Ok-clause-held
 returns-in-Ok-clause-held g c =
     let r = g.R.LocalRule.rule c.args.rule.now in
-    let labels = c.check_targets.new.rows.labels in
-    let room : PartRoom = record { presences = c.check_targets.new.presences; finals = c.put_finals.new.finals } in
+    let labels = c.hold_targets.new.rows.labels in
+    let room : PartRoom = record { presences = c.hold_targets.new.presences; finals = c.put_finals.new.finals } in
     record {
       labels = labels;
       lawful = c.in-Ok.ensures.lawful;
@@ -32,8 +27,8 @@ pub returns-in-Ok-clause-table : goal.returns-in-Ok-clause-table
 returns-in-Ok-clause-table g c =
     let r = g.R.LocalRule.rule c.args.rule.now in
     let targets = c.args.targets.now in
-    let labels = c.check_targets.new.rows.labels in
-    let room : PartRoom = record { presences = c.check_targets.new.presences; finals = c.put_finals.new.finals } in
+    let labels = c.hold_targets.new.rows.labels in
+    let room : PartRoom = record { presences = c.hold_targets.new.presences; finals = c.put_finals.new.finals } in
     right_table r (g.R.LocalRule.accepting c.args.rule.now) targets room labels c.in-Ok.ensures.lawful (right_held r targets room labels c.in-Ok.ensures.right c.in-Ok.ensures.presences) c.in-Ok.ensures.presences c.put_finals.ensures.finals
 
 pub returns-in-Ok-clause-room : goal.returns-in-Ok-clause-room

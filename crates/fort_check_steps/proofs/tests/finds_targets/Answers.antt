@@ -12,6 +12,9 @@ check_part-requires-clause-space c = has_space c.in_ok-needs_of.ensures.space.ro
 pub check_part-requires-clause-out : goal.check_part-requires-clause-out
 check_part-requires-clause-out c = omega (arith, c.in_ok-needs_of.ensures.space.out, c.in_ok-scratch.ensures.out)
 
+pub check_part-requires-clause-lay : goal.check_part-requires-clause-lay
+check_part-requires-clause-lay c = lay_fewer c.in_ok-scratch.ensures.lay (omega (arith, c.in_ok-needs_of.ensures.space.states))
+
 pub lay-requires-clause-list : goal.lay-requires-clause-list
 lay-requires-clause-list c =
     let r = at_most_rule c.args.signature.now in
@@ -28,4 +31,4 @@ lay-requires-clause-room c =
     let same = c.new-table.ensures.table r pair_accepting refl refl held in
     let few = held_states r pair_accepting c.args.targets.now c.check_part.new.room held in
     let room = first_room c.in_ok-needs_of.ensures.list c.in_ok-scratch.ensures in
-    lay_fewer room.lay (omega (arith, few, ap (λ (t : Listed). length t.presences) same))
+    lay_fewer (c.check_part.ensures.lay _ room.lay) (omega (arith, few, ap (λ (t : Listed). length t.presences) same))

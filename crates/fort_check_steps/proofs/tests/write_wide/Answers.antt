@@ -2,7 +2,7 @@ use Rattle.std.proofs.Common.{◌≡◌, ◌∷◌, [], map, get_or, set, slice_
 use Rattle.std.proofs.Math.ListN.{replicate}
 use Rattle.fort_tables.specs.Tuples.{TupleSymbol, presence}
 use Rattle.fort_lockstep.specs.Columns.{as_column}
-use Rattle.fort_explore.specs.TestLabels.{is_constant, at_most}
+use Rattle.fort_explore.specs.TestLabels.{at_most}
 use Rattle.fort_explore.proofs.TestShapes.{pair_symbol, pair_bits}
 use Rattle.fort_check_steps.specs.TestRule.{wide_step}
 use Rattle.fort_check_steps.proofs.tests.write_wide.Goals as goal

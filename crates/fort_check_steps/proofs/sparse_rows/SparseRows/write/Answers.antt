@@ -1,38 +1,10 @@
-use Rattle.std.proofs.Common.{◌≡◌, ◌+◌, ◌-◌, ◌<◌, ◌≤◌, ℕ, List, [], length, get_or, ap, sym, ◌∙◌, arith}
+use Rattle.std.proofs.Common.{◌≡◌, ◌+◌, ◌-◌, ◌<◌, ℕ, List, [], length, get_or, ap, sym, ◌∙◌, arith}
 use Rattle.std.proofs.Math.ListN.{replicate}
-use Rattle.std.proofs.lemmas.List.{get_or_default}
-use Rattle.fort_tables.proofs.TupleLaws.{length-tabulate, get_or-tabulate}
-use Rattle.fort_check_steps.specs.SparseWords.{start_of, piece, scattered, label_at}
+use Rattle.fort_tables.proofs.TupleLaws.{get_or-tabulate}
+use Rattle.fort_check_steps.specs.SparseWords.{piece, scattered, label_at}
 use Rattle.fort_check_steps.specs.SparseRowsView.{SparseLabels}
-use Rattle.fort_check_steps.specs.SparseRowsInside.{AreSparse, sparse_labels}
-use Rattle.fort_check_steps.proofs.SparseLaws.{length-piece, get_or-piece}
+use Rattle.fort_check_steps.proofs.SparseLaws.{length-piece, get_or-piece, there, part_of}
 use Rattle.fort_check_steps.proofs.sparse_rows.SparseRows.write.Goals as goal
-
--- a label that is there
-there : (w room most space : ℕ) (es ps ws : List ℕ) (l : SparseLabels) (q : ℕ) → record { width = w; room = room; most = most; space = space; labels = sparse_labels w es ps ws } ≡ l → q < length l.labels → q < length es
-there w room most space es ps ws l q e h = omega (arith, length-tabulate (length es) (label_at w es ps ws), ap (λ (r : SparseLabels). length r.labels) e, h)
-
--- where its words stand
-record IsPart (w : ℕ) (es ps ws : List ℕ) (q from to : ℕ) : Type 0 where
-  within : q < length es
-  first : from ≡ start_of es q
-  end : to ≡ get_or es q 0
-  ordered : from ≤ to
-  inside : to ≤ length ps
-  inside_words : to ≤ length ws
-
-part_of : (w : ℕ) (es xs ps ws : List ℕ) (q from to : ℕ) → AreSparse w es ps ws → q < length es → xs ≡ es → from ≡ start_of xs q → to ≡ get_or es q to → IsPart w es ps ws q from to
-part_of w es xs ps ws q from to h l same a b =
-    let first : from ≡ start_of es q = a ∙ ap (λ ys. start_of ys q) same in
-    let end : to ≡ get_or es q 0 = b ∙ get_or_default es q to 0 l in
-    record {
-      within = l;
-      first = first;
-      end = end;
-      ordered = omega (arith, first, end, h.ordered q l);
-      inside = omega (arith, end, h.inside q l);
-      inside_words = omega (arith, end, h.inside q l, h.count);
-    }
 
 pub start-from-requires : goal.start-from-requires
 start-from-requires c =

@@ -6,6 +6,7 @@ invariant_of-result c =
     let h = c.requires.holds in
     record {
       listed = held_listed h.0 h.1 c.args.signature.now c.args.columns c.args.targets.now c.args.room.now h.2 h.3 h.4;
+      few_targets = c.requires.few;
       few = held_few h.0 h.1 c.args.targets.now c.args.room.now h.4 c.requires.few;
       final_count = held_finals h.0 h.1 c.args.targets.now c.args.room.now h.4;
       list_is = tt;
