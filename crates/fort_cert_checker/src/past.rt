@@ -1,5 +1,5 @@
 //! The answers of earlier parts.
-ghost use Rattle.std.specs.Prelude.{◌≡◌, ℕ, Bool, List, length, IfSome};
+ghost use Rattle.std.specs.Prelude.{◌≡◌, ℕ, Bool, List, length, IfSome, IfNone};
 ghost use Rattle.fort_tables.specs.Tables as tables;
 ghost use Rattle.fort_operations.specs.Projections.{some_below};
 ghost use Rattle.fort_parts.specs.PartAnswers as parts;
@@ -110,8 +110,10 @@ pub(crate) fn lay(answer: &Answer<'_>, list: &mut TargetList, room: &mut LayRoom
 /// The list of an answer's targets, where it is a table.
 pub(crate) fn laid_list<'b>(answer: &Answer<'_>, list: &'b TargetList) -> Option<&'b TargetList>
     requires { IsLaidFor (as_answer answer.now) list.now }
-    ensures { (places : List ℕ) → IfSome result (λ l.
+    ensures list { (places : List ℕ) → IfSome result (λ l.
         IsLaidListOf (operand_of (as_answer answer.now) places) l.now) }
+    ensures none { IfNone result ((table : tables.Table)
+        → as_answer answer.now ≡ parts.OfTable table → ⊥) }
 {
     match answer {
         Answer::Truth(_) => None,

@@ -58,6 +58,7 @@ fn check_relation(
         room,
         &mut scratch.rows,
         &mut scratch.out,
+        &mut scratch.lists.lay,
     )
 }
 
@@ -85,6 +86,7 @@ fn check_normal(
         room,
         &mut scratch.rows,
         &mut scratch.out,
+        &mut scratch.lists.lay,
     )
 }
 
@@ -113,6 +115,7 @@ fn check_term(
         room,
         &mut scratch.rows,
         &mut scratch.out,
+        &mut scratch.lists.lay,
     )
 }
 
@@ -183,6 +186,7 @@ fn check_product(
         room,
         &mut scratch.rows,
         &mut scratch.out,
+        &mut scratch.lists.lay,
     )
 }
 
@@ -223,6 +227,7 @@ fn check_projection(
         room,
         &mut scratch.rows,
         &mut scratch.out,
+        &mut scratch.lists.lay,
     )
 }
 
@@ -270,6 +275,7 @@ fn check_many(
         room,
         &mut scratch.rows,
         &mut scratch.out,
+        &mut scratch.lists.lay,
     )
 }
 

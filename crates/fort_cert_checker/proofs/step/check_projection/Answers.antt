@@ -54,11 +54,16 @@ lay-requires-clause-room c =
     let b = c.requires.body in
     (c.table-body.ensures.room b.0 b.1 c.args.scratch.now.lists.first c.args.scratch.now.lists.lay c.requires.list).lay_room
 
+pub check_part-requires-clause-lay : goal.check_part-requires-clause-lay
+check_part-requires-clause-lay c =
+    let b = c.requires.body in
+    c.lay.ensures.room _ b.5.lay
+
 pub returns-clause-scratch : goal.returns-clause-scratch
 returns-clause-scratch c = record {
   rows = c.check_part.ensures.space;
   out = c.check_part.ensures.out;
-  lists = record { first = c.lay.ensures.list_room; second = λ n k h. h; lay = c.lay.ensures.room };
+  lists = record { first = c.lay.ensures.list_room; second = λ n k h. h; lay = λ n h. c.check_part.ensures.lay n (c.lay.ensures.room n h) };
 }
 
 pub returns-clause-step : goal.returns-clause-step
