@@ -1,5 +1,5 @@
 //! Targets held against the labels of their entries, tuple symbol by tuple symbol.
-ghost use Rattle.std.specs.Prelude.{◌≡◌, ℕ, ◌+◌, ◌<◌, ◌≤◌, ◌^◌, List, [], take, length, IsTrue};
+ghost use Rattle.std.specs.Prelude.{◌≡◌, ℕ, ◌+◌, ◌<◌, ◌≤◌, ◌^◌, List, [], take, IsTrue};
 ghost use Rattle.fort_tables.specs.Tuples.{TupleSymbol};
 ghost use Rattle.fort_rrn_algebra.specs.Walks.{Stop};
 ghost use Rattle.fort_tables.specs.Tables as tables;
@@ -135,7 +135,7 @@ impl<'a, T: Table> Both<'a, T> {
             return true;
         }
         let count = kid_count(walk.signature, &symbol);
-        // many tuple symbols have no children, and what they are read by is found in vain
+        // many tuple symbols have no children, and what these are read by would be found in vain
         if count == 0 && (cursors[0] as usize) < holding.from {
             cursors[0] += 1;
             return true;

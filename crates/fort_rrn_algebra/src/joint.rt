@@ -14,12 +14,12 @@ ghost use Rattle.fort_rrn_algebra.specs.Flats.{IsFlatOf};
 ghost use Rattle.fort_rrn_algebra.specs.ListedOperands.{IsListOf};
 ghost use Rattle.fort_rrn_algebra.specs.Joints.{IsUnderOf, IsJointOf, states_under, AreStatesUnder, IsWordThere, word_under};
 
+use crate::columns::{kid_count, selected};
 use crate::flat::FlatTargets;
-use crate::listed::number_behind;
 use crate::operand::Operand;
 use fort_explore::Rows;
 use fort_lockstep::{Table, TupleSym};
-use fort_terms::{Signature, Sym};
+use fort_terms::Sym;
 
 /// What an operand's words under one tuple symbol of a product are read by.
 #[derive(Clone, Copy)]
@@ -63,38 +63,6 @@ fn presence(symbol: &TupleSym) -> u64
     presence
 }
 
-/// The number of the columns at these places.
-fn number_at(base: usize, symbol: &TupleSym, places: &[usize]) -> usize
-    requires some { 0 < base }
-    requires within { ArePlaces (length symbol.now) places.now }
-    requires small { number_of base (selected places.now symbol.now) < 2 ^ 64 }
-    ensures { result ≡ number_of base (selected places.now symbol.now) }
-{
-    let mut number = 0;
-    for k in 0..places.len() {
-        number = number_behind(symbol.symbol(places[k]), base, number);
-    }
-    number
-}
-
-/// How many children the columns at these places have.
-fn kids_at(sig: &Signature, symbol: &TupleSym, places: &[usize]) -> usize
-    requires within { ArePlaces (length symbol.now) places.now }
-    requires symbols { AreSymbols sig.now (selected places.now symbol.now) }
-    ensures { result ≡ symbol_kids sig.now (selected places.now symbol.now) }
-{
-    let mut count = 0;
-    for k in 0..places.len() {
-        if let Some(symbol) = symbol.symbol(places[k]) {
-            let arity = sig.arity(symbol) as usize;
-            if count < arity {
-                count = arity;
-            }
-        }
-    }
-    count
-}
-
 /// What a table's words are read by.
 fn table_under<'a, T: Table>(
     table: &T,
@@ -109,7 +77,8 @@ fn table_under<'a, T: Table>(
     ensures { IsUnderOf (products.OfTable (T.table table.now) places.now) at symbol.now result }
 {
     let _columns = table.columns();
-    let number = number_at(list.base, symbol, places);
+    let own = selected(symbol, places);
+    let number = list.number(&own);
     if number == 0 {
         return Under {
             list: None,
@@ -121,7 +90,7 @@ fn table_under<'a, T: Table>(
     Under {
         list: Some(list),
         start: list.listing.starts[number],
-        count: kids_at(table.signature(), symbol, places),
+        count: kid_count(table.signature(), &own),
         at,
     }
 }

@@ -21,7 +21,7 @@ use fort_lockstep::{Row, Table};
 use fort_terms::{Signature, Sym};
 
 /// The number of a tuple symbol with one more column behind it.
-pub(crate) fn number_behind(column: Option<Sym>, base: usize, number: usize) -> usize
+fn number_behind(column: Option<Sym>, base: usize, number: usize) -> usize
     requires { number * base + digit_of (as_column column) < 2 ^ 64 }
     ensures { result ≡ number * base + digit_of (as_column column) }
 {

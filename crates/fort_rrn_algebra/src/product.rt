@@ -31,7 +31,7 @@ use fort_terms::Signature;
 #[derive(Drop)]
 pub struct Both<'a, T: Table> {
     op: Op,
-    pub(crate) columns: usize,
+    columns: usize,
     pub(crate) first: Operand<'a, T>,
     pub(crate) second: Operand<'a, T>,
     /// Each operand's targets in a list, where they are.
@@ -46,6 +46,14 @@ pub struct Both<'a, T: Table> {
             (operand_of T.table first) (operand_of T.table second) },
     ghost first_listed: { IfSome first_list (λ l. IsListOf (operand_of T.table first) l.now) } by { IfListOf-prop (operand_of T.table first) first_list (λ l. l.now) },
     ghost second_listed: { IfSome second_list (λ l. IsListOf (operand_of T.table second) l.now) } by { IfListOf-prop (operand_of T.table second) second_list (λ l. l.now) },
+}
+
+/// Whether an operand's words are found by its list, or need none.
+fn is_found<T: Table>(operand: &Operand<'_, T>, list: Option<&FlatTargets>) -> bool {
+    match operand {
+        Operand::Auto(_, _) => list.is_some(),
+        Operand::Truth(_) => true,
+    }
 }
 
 impl<'a, T: Table> Both<'a, T> {
@@ -131,8 +139,8 @@ impl<'a, T: Table> Both<'a, T> {
         }
     }
 
-    /// Whether the targets are those of the product's entries from a place on, where the states have these labels. Where an operand's
-    /// list isn't there, or the targets aren't as many as the entries, it is false without a look at them. It takes no memory.
+    /// Whether the targets are those of the product's entries from a place on, where the states have these labels. It may be false of
+    /// right ones too: where the list of an operand that is a table isn't there. It takes no memory.
     pub fn are_targets(
         &self,
         room: &mut LayRoom,
@@ -157,6 +165,9 @@ impl<'a, T: Table> Both<'a, T> {
             targets.now rows.now.labels }
         ensures room { (n : ℕ) → HasLayRoom n room.old → HasLayRoom n room.new }
     {
+        if !is_found(&self.first, self.first_list) || !is_found(&self.second, self.second_list) {
+            return false;
+        }
         let base = signature.len() + 1;
         let count = match base.checked_pow(self.columns as u32) {
             Some(count) if count <= targets.len() + 1 => count,

@@ -117,6 +117,28 @@ impl LayRoom {
         })
     }
 
+    /// Makes the chains of states of so many presences.
+    fn chain_all(&mut self, count: usize, presences: &[u16])
+        requires count { count ≤ 2 ^ 16 }
+        requires few { length presences.now < 2 ^ 32 }
+        requires within { (q : ℕ) → q < length presences.now
+            → slice_index presences.now q < count }
+        requires room { HasLayRoom (length presences.now) self.old }
+        ensures chains { (columns : ℕ) → count ≡ 2 ^ columns → AreChains columns presences.now
+            self.new.chains.firsts.items self.new.chains.nexts.items }
+        ensures counts { self.new.counts ≡ self.old.counts }
+        ensures room { (n : ℕ) → HasLayRoom n self.old → HasLayRoom n self.new }
+    {
+        let states = presences.len();
+        fill_given(&mut self.chains.firsts, states as u32, count);
+        fill_given(&mut self.chains.nexts, states as u32, states);
+        chain_states(
+            presences,
+            self.chains.firsts.as_mut_slice(),
+            self.chains.nexts.as_mut_slice(),
+        );
+    }
+
     /// Takes up a table's states: how many have each presence, and their chains.
     pub(crate) fn take_states(&mut self, columns: usize, presences: &[u16])
         requires narrow { columns ≤ 16 }
@@ -131,16 +153,9 @@ impl LayRoom {
         ensures room { (n : ℕ) → HasLayRoom n self.old → HasLayRoom n self.new }
     {
         let count = 2usize.pow(columns as u32);
-        let states = presences.len();
         fill_given(&mut self.counts, 0, count);
         count_states(presences, self.counts.as_mut_slice());
-        fill_given(&mut self.chains.firsts, states as u32, count);
-        fill_given(&mut self.chains.nexts, states as u32, states);
-        chain_states(
-            presences,
-            self.chains.firsts.as_mut_slice(),
-            self.chains.nexts.as_mut_slice(),
-        );
+        self.chain_all(count, presences);
     }
 
     /// Takes up a table's states: their ranks and their chains.
@@ -158,18 +173,11 @@ impl LayRoom {
         ensures spot_room { (n : ℕ) → HasSpotRoom n spots.old → HasSpotRoom n spots.new }
     {
         let count = 2usize.pow(columns as u32);
-        let states = presences.len();
         fill_given(&mut self.counts, 0, count);
         spots.ranks.clear();
         spots.alike.clear();
         rank_states(presences, self.counts.as_mut_slice(), &mut spots.ranks);
         count_alike(presences, self.counts.as_slice(), &mut spots.alike);
-        fill_given(&mut self.chains.firsts, states as u32, count);
-        fill_given(&mut self.chains.nexts, states as u32, states);
-        chain_states(
-            presences,
-            self.chains.firsts.as_mut_slice(),
-            self.chains.nexts.as_mut_slice(),
-        );
+        self.chain_all(count, presences);
     }
 }

@@ -1,7 +1,0 @@
-use Rattle.std.proofs.Common.{◌≡◌, take}
-use Rattle.fort_tables.specs.Tuples.{symbol_kids}
-use Rattle.fort_operations.specs.Selections.{selected}
-use Rattle.fort_rrn_algebra.proofs.joint.kids_at.Given as goal
-
-abbrev pub invariant-loop-k : goal.invariant-loop-k
-invariant-loop-k l = l.count ≡ symbol_kids l.sig (take l.k (selected l.places l.symbol))
