@@ -1,7 +1,7 @@
 pub mod TableLaws
 pub mod TargetLaws
 pub mod GuessLaws
-pub mod HeldLaws
+pub mod HeldTargetLaws
 pub mod NumberedLaws
 pub mod PairPlaces
 pub mod PairLaws

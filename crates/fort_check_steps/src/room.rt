@@ -65,11 +65,16 @@ pub struct LabelNeeds {
 fn states_named(targets: &[u32]) -> usize
     ensures { result ≡ stage targets.now }
 {
-    let mut most = 0usize;
+    let mut most = 0u32;
+    // the greatest of bare numbers is found several at a time
     for target in targets {
-        most = most.max(*target as usize + 1);
+        most = most.max(*target);
     }
-    most
+    if targets.is_empty() {
+        0
+    } else {
+        most as usize + 1
+    }
 }
 
 /// The most states that the targets can make.

@@ -3,7 +3,7 @@ use Rattle.std.proofs.lemmas.List.{length-map}
 use Rattle.fort_tables.specs.Labels.{first_word}
 use Rattle.fort_check_steps.specs.Room.{most_states}
 use Rattle.fort_check_steps.proofs.GuessLaws.{guessed_most}
-use Rattle.fort_check_steps.proofs.HeldLaws.{guess_right}
+use Rattle.fort_check_steps.proofs.HeldTargetLaws.{guess_right}
 use Rattle.fort_check_steps.proofs.RoomLaws.{lay_fewer}
 use Rattle.fort_check_steps.proofs.quick.are_quickly_right.Goals as goal
 

@@ -86,8 +86,8 @@ walked_front : (r : LabelRule) (qs : List ℕ) (k : ℕ) (entries : List Entry) 
 walked_front r qs k entries ws last w = first_of_all r entries ws last (rows_in_order r qs k entries ws w.right) w.before w.all
 
 -- behind the last one there is none
-none_left : (r : LabelRule) (qs : List ℕ) (k : ℕ) (entries : List Entry) (ws : List (List ℕ)) (last : Entry) → Walked r qs k entries ws last → entries_with r ws ≡ entries → IsLastEntry r.signature r.columns (map first_word ws) last
-none_left r qs k entries ws last w is x h b =
+walk_ended : (r : LabelRule) (qs : List ℕ) (k : ℕ) (entries : List Entry) (ws : List (List ℕ)) (last : Entry) → Walked r qs k entries ws last → entries_with r ws ≡ entries → IsLastEntry r.signature r.columns (map first_word ws) last
+walk_ended r qs k entries ws last w is x h b =
     not_after r qs k entries ws last x w (subst (λ (es : List Entry). Contains es x) is (all_there r.signature r.columns (map first_word ws) x h)) b
 
 -- an element comes before those behind it
@@ -131,7 +131,7 @@ held_on : (r : LabelRule) (qs : List ℕ) (ws : List (List ℕ)) (rest : List En
 held_on r qs ws [] k entries last law w is h =
     let same : entries_with r ws ≡ entries = is ∙ append-nil entries in
     let whole : k ≡ length qs = omega (arith, w.right.count, h.count, ap length same) in
-    right_all r qs entries ws last law (subst (λ (n : ℕ). Walked r qs n entries ws last) whole w) (none_left r qs k entries ws last w same)
+    right_all r qs entries ws last law (subst (λ (n : ℕ). Walked r qs n entries ws last) whole w) (walk_ended r qs k entries ws last w same)
 held_on r qs ws (e ∷ rest) k entries last law w is h =
     let low : k < length qs = omega (arith, w.right.count, h.count, ap length is, length-append entries (e ∷ rest)) in
     let at : get_or (entries_with r ws) k e ≡ e = ap (λ (es : List Entry). get_or es k e) is ∙ get_or_at entries e rest e k w.right.count in
