@@ -7,5 +7,4 @@ pub mod FaultLaws
 pub mod BuildLaws
 pub mod WrongLaws
 mod NumberWords
-mod DigitsAhead
 mod SmallLaws

@@ -1,34 +1,12 @@
--- Words of digits, read from the left.
-use Rattle.std.proofs.Common.{◌≡◌, ℕ, zero, suc, ◌+◌, ◌*◌, ◌-◌, ◌<◌, ◌≤◌, ◌^◌, List, length, get_or, take, ap, sym, ◌∙◌, arith, subst, decimal}
-use Rattle.std.specs.Int.{IsInRange}
+-- Which words of digits are those of numbers.
+use Rattle.std.proofs.Common.{◌≡◌, ℕ, zero, suc, ◌<◌, ◌^◌, List, length, get_or, ap, sym, ◌∙◌, arith, subst, decimal}
 use Rattle.std.specs.Str.Parse.{AllDigits, digits_value}
-use Rattle.std.proofs.lemmas.Str.{digit_value_digit}
-use Rattle.std.proofs.lemmas.Int.Digits.{digits_more, digits_value_more}
-use Rattle.std.proofs.lemmas.Str.Parse.{IsNumeralModel, numerals_by_value, tells_digits, digit_at, digits_value-take-le}
+use Rattle.std.proofs.lemmas.Str.Parse.{IsNumeralModel, numerals_by_value, tells_digits}
 use Rattle.std.proofs.lemmas.Fmt.{decimal-digits_value, digits_decimal, digits_value-decimal, decimal_nonempty, decimal_digit, first_decimal}
 use Rattle.fort_certificate_grammar.specs.CertificateForms.{IsNumberWord}
 
 own : IsNumeralModel (AllDigits 10) (digits_value 10)
 own = numerals_by_value _ tells_digits
-
--- one more digit
-pub digits_next : (bs : List ℕ) (i n d : ℕ) → i < length bs → AllDigits 10 (take i bs) → digits_value 10 (take i bs) ≡ n → IsInRange 48 57 (get_or bs i 0) → d ≡ get_or bs i 0 - 48
-    → AllDigits 10 (take (i + 1) bs) × (digits_value 10 (take (i + 1) bs) ≡ n * 10 + d)
-digits_next bs i n d low all value range digit =
-    let own = digit_value_digit (get_or bs i 0) range in
-    (digits_more 10 bs i low all (omega (arith, own, range.0, range.1)), digits_value_more 10 bs i low ∙ omega (arith, value, own, digit))
-
--- where a byte is no digit they aren't all digits
-pub no_digit : (bs : List ℕ) (i : ℕ) → i < length bs → (IsInRange 48 57 (get_or bs i 0) → ⊥) → AllDigits 10 bs → ⊥
-no_digit bs i low other all = other (digit_at bs i all low)
-
--- a number that is too great with one more digit stays so
-pub stays_great : (bs : List ℕ) (i n d : ℕ) → i < length bs → digits_value 10 (take i bs) ≡ n → AllDigits 10 bs → d ≡ get_or bs i 0 - 48 → 2 ^ 32 ≤ n * 10 + d → digits_value 10 bs < 2 ^ 32 → ⊥
-stays_great bs i n d low value all digit great small =
-    let own = digit_value_digit (get_or bs i 0) (digit_at bs i all low) in
-    let more = digits_value_more 10 bs i low in
-    let most = digits_value-take-le 10 bs (i + 1) (omega arith) in
-    omega (arith, own, more, most, value, digit)
 
 -- digits with no zero in front of others are the word of their value
 pub word_of_value : (word : List ℕ) (n : ℕ) → 0 < length word → (get_or word 0 0 ≡ 48 → length word ≡ 1) → AllDigits 10 word → digits_value 10 word ≡ n → n < 2 ^ 32 → IsNumberWord word n

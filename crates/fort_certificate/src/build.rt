@@ -1,9 +1,10 @@
 //! Reads forms as steps, each number once, and says what is wrong with the first that is none.
-ghost use Rattle.std.specs.Prelude.{◌≡◌, ℕ, ◌≤◌, [], Some, map, drop, IfSome, IfOk, IfErr};
+ghost use Rattle.std.specs.Prelude.{◌≡◌, ℕ, ◌≤◌, List, [], ◌∷◌, Some, map, drop, IfSome, IfNone, IfOk, IfErr};
 ghost use Rattle.std.specs.List.{AllZip};
 ghost use Rattle.fort_grammar.specs.Declarations.{as_list};
+ghost use Rattle.fort_grammar.specs.Forms as grammar;
 ghost use Rattle.fort_certificate_grammar.specs.CertificateForms.{Version, version_for, IsNumberForm, IsPairForm, IsCountForm, IsStepForm};
-ghost use Rattle.fort_certificate_grammar.specs.CertificateFaults.{NumberSlot, PairSlot, CountSlot, ClosureHead, PartHead, CountsHead, ValueHead, fault_of, AreBad, IsBadStep};
+ghost use Rattle.fort_certificate_grammar.specs.CertificateFaults.{NumberSlot, PairSlot, CountSlot, ClosureHead, PartHead, CountsHead, ValueHead, fault_of, AreBad, IsBadAt, IsBadStep};
 ghost use Rattle.fort_sexpr.specs.FormView.{form_count};
 ghost use Rattle.fort_steps.specs.StepView.{as_pair, as_count, as_step};
 ghost use Rattle.fort_certificate.specs.declared.build.Unread.TheVariants as unread;
@@ -15,6 +16,7 @@ use crate::check::fault_at;
 use crate::fault::CertificateFault;
 use crate::slot::{Head, head_of};
 use crate::value::{Wrong, count_in, entry_in, number_in, verdict_in, which_in};
+use crate::word::number_of;
 use fort_sexpr::{Form, FormList, Forms};
 use fort_steps::{ClosureEntry, Count, Step};
 use std::alloc::{AllocError, Global};
@@ -44,6 +46,27 @@ impl From<AllocError> for Unread {
     }
 }
 
+/// The number that the first form is, and the forms behind it, unless there is none.
+fn split_number<'a>(list: &FormList<'a>) -> Result<Option<(u32, FormList<'a>)>, Wrong>
+    ensures some { IfOk result (λ r. IfSome r (λ p. (f : grammar.Form)
+        × (list.now.forms ≡ f ∷ p.1.forms) × IsNumberForm list.now.bytes f p.0)) }
+    ensures bytes { IfOk result (λ r. IfSome r (λ p. p.1.bytes ≡ list.now.bytes)) }
+    ensures none { IfOk result (λ r. IfNone r (list.now.forms ≡ [])) }
+    ensures err { IfErr result (λ wrong. (f : grammar.Form) × (fs : List grammar.Form)
+        × (list.now.forms ≡ f ∷ fs) × IsBadAt list.now.bytes f NumberSlot (as_kind wrong)) }
+{
+    // nearly all that a certificate has are numbers, which are read in one go
+    if let Some((digits, behind)) = list.split_digits() {
+        if let Some(number) = number_of(digits) {
+            return Ok(Some((number, behind)));
+        }
+    }
+    match list.split_first() {
+        Some((form, behind)) => Ok(Some((number_in(&form)?, behind))),
+        None => Ok(None),
+    }
+}
+
 /// The numbers that forms are.
 fn numbers(alloc: Global, elements: FormList) -> Result<Vec<u32>, Unread>
     ensures ok { IfOk result (λ v.
@@ -53,8 +76,8 @@ fn numbers(alloc: Global, elements: FormList) -> Result<Vec<u32>, Unread>
 {
     let mut numbers = Vec::with_capacity(alloc, elements.len())?;
     let mut rest = elements;
-    'elements: while let Some((form, behind)) = rest.split_first() {
-        numbers.push_reserved(number_in(&form)?);
+    'elements: while let Some((number, behind)) = split_number(&rest)? {
+        numbers.push_reserved(number);
         rest = behind;
     }
     Ok(numbers)

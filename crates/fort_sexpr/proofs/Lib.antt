@@ -1,6 +1,7 @@
 pub mod FormLists
 pub mod FoundLaws
 pub mod NodesLaws
+pub mod DigitWords
 pub mod WordTexts
 pub mod Comments
 pub mod Depths

@@ -1,7 +1,8 @@
--- To believe: where a form stands, and whether it is a list; how many forms a list has, and which is its i-th; and the word that bytes begin with.
-use Rattle.std.specs.Prelude.{ℕ, zero, suc, Bool, true, false, List, take, Option, Some, None}
+-- To believe: where a form stands, and whether it is a list; how many forms a list has, and which is its i-th; the word that bytes begin with, and the word that forms begin with.
+use Rattle.std.specs.Prelude.{◌≡◌, ℕ, zero, suc, Bool, true, false, List, ◌∷◌, take, Option, Some, None}
 use Rattle.std.specs.List.{prefix_len}
 use Rattle.fort_theory.specs.Signatures.{is_word_byte}
+use Rattle.fort_grammar.specs.Declarations.{word_of}
 use Rattle.fort_grammar.specs.Forms.{Form, Forms, Word, ListForm, NoForm, MoreForms}
 use Rattle.fort_sexpr.specs.declared.form.Span.{Span}
 
@@ -25,3 +26,9 @@ form_at (MoreForms f fs) (suc i) = form_at fs i
 -- the longest run of bytes of words that these bytes begin with
 abbrev pub word_ahead : List ℕ → List ℕ
 word_ahead bytes = take (prefix_len is_word_byte bytes) bytes
+
+-- the first of these forms is this word, and those behind it are the rest
+pub record IsFirstWord (bytes : List ℕ) (fs : List Form) (word : List ℕ) (rest : List Form) : Type 0 where
+  pub form : Form
+  pub forms : fs ≡ form ∷ rest
+  pub is : word_of bytes form ≡ Some word

@@ -1,11 +1,13 @@
 //! A form of a text, and the forms of a list.
-ghost use Rattle.std.specs.Prelude.{◌≡◌, ◌<◌, ◌≤◌, ◌↔◌, [], ◌∷◌, length, List, Some, None, IsTrue, IfSome, IfNone, slice_get, slice_range};
+ghost use Rattle.std.specs.Prelude.{◌≡◌, ℕ, ◌<◌, ◌≤◌, ◌^◌, ◌↔◌, [], ◌∷◌, length, List, Some, None, IsTrue, IfSome, IfNone, slice_get, slice_range};
+ghost use Rattle.std.specs.Str.Parse.{AllDigits, digits_value};
 ghost use Rattle.fort_grammar.specs.Forms as grammar;
 ghost use Rattle.fort_grammar.specs.Declarations.{word_of, elements_of, IsHeaded};
-ghost use Rattle.fort_sexpr.specs.FormView.{is_list, span_of, word_ahead};
+ghost use Rattle.fort_sexpr.specs.FormView.{is_list, span_of, word_ahead, IsFirstWord};
 ghost use Rattle.fort_sexpr.specs.Nodes.{opens_before};
 
 use crate::arena::{Arena, Node};
+use crate::digits::{Digits, digits_ahead};
 use crate::scan::{end_of_word, is_ahead, next_token};
 use std::marker::Model;
 
@@ -110,6 +112,37 @@ impl<'a> FormList<'a> {
             count: self.count - 1,
         };
         Some((form, rest))
+    }
+
+    /// The first form, where it is a word of digits that write a number of 32 bits, and those behind
+    /// it. Its bytes are read once.
+    pub fn split_digits(&self) -> Option<(Digits<'a>, FormList<'a>)>
+        ensures first { IfSome result (λ p.
+            IsFirstWord self.now.bytes self.now.forms p.0.text.now p.1.forms) }
+        ensures digits { IfSome result (λ p. AllDigits 10 p.0.text.now
+            × (digits_value 10 p.0.text.now ≡ p.0.value)) }
+        ensures small { IfSome result (λ p. p.0.value < 2 ^ 32) }
+        ensures bytes { IfSome result (λ p. p.1.bytes ≡ self.now.bytes) }
+        ensures none { IfNone result ((word : List ℕ) (rest : List grammar.Form)
+            → IsFirstWord self.now.bytes self.now.forms word rest
+            → AllDigits 10 word → digits_value 10 word < 2 ^ 32 → ⊥) }
+    {
+        if self.count == 0 {
+            return None;
+        }
+        let arena = self.arena;
+        let from = next_token(arena.bytes.as_slice(), self.at as usize);
+        let digits = digits_ahead(&arena.bytes[from..])?;
+        if digits.text.is_empty() {
+            return None;
+        }
+        let rest = FormList {
+            arena,
+            at: (from + digits.text.len()) as u32,
+            list: self.list,
+            count: self.count - 1,
+        };
+        Some((digits, rest))
     }
 
     /// The form of this number, found by reading all before it.

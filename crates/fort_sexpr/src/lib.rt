@@ -2,12 +2,14 @@
 #![tactic(auto)]
 
 mod arena;
+mod digits;
 mod fault;
 mod form;
 mod reader;
 mod scan;
 mod text;
 
+pub use digits::{Digits, digits_ahead};
 pub use fault::SFault;
 pub use form::{Form, FormList, Span};
 pub use reader::read;
