@@ -3,6 +3,7 @@ pub mod DigitLaws
 pub mod DigitNumberLaws
 pub mod NumberPlaceLaws
 pub mod SymbolLaws
+pub mod SymbolNumberLaws
 pub mod SymbolSetLaws
 pub mod WalkLaws
 pub mod KidLaws

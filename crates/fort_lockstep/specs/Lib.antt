@@ -1,5 +1,6 @@
 pub mod Columns
 pub mod SymbolDigits
+pub mod SymbolNumbers
 pub mod RowDigits
 pub mod Walks
 pub mod Candidates

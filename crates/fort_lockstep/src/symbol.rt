@@ -1,7 +1,8 @@
 //! Tuple symbols.
-ghost use Rattle.std.specs.Prelude.{◌≡◌, ℕ, ◌<◌, ◌≤◌, ◌↔◌, List, map, length, IsTrue, slice_index, slice_index_or, slice_get, None, Some};
+ghost use Rattle.std.specs.Prelude.{◌≡◌, ℕ, ◌+◌, ◌<◌, ◌≤◌, ◌↔◌, List, map, replicate, length, IsTrue, slice_index, slice_index_or, slice_get, None, Some};
 ghost use Rattle.std.specs.List.{insert};
 ghost use Rattle.fort_lockstep.specs.Columns.{as_column, as_symbol, symbol_of, column_of, digit_of};
+ghost use Rattle.fort_lockstep.specs.SymbolNumbers.{columns_at};
 
 use crate::digits::digit;
 use fort_terms::Sym;
@@ -28,6 +29,26 @@ impl Model for TupleSym {
     ghost inverse = { inside_of };
 
     ghost inverse_ok = { inside_again };
+}
+
+/// Goes to the next digits in a base, the last one counting fastest; behind the greatest come zeros.
+fn to_next_digits(digits: &mut [u32], base: u32)
+    requires some { 0 < base }
+    requires small { (k : ℕ) → slice_index_or digits.old k 0 ≤ 65536 }
+    requires few { base ≤ 65536 }
+    ensures width { length digits.new ≡ length digits.old }
+    ensures small { (k : ℕ) → slice_index_or digits.new k 0 ≤ 65536 }
+    ensures next { (n : ℕ) → symbol_of digits.old ≡ columns_at base (length digits.old) n
+        → symbol_of digits.new ≡ columns_at base (length digits.old) (n + 1) }
+{
+    if let Some((last, before)) = digits.split_last_mut() {
+        if *last + 1 < base {
+            *last += 1;
+        } else {
+            *last = 0;
+            to_next_digits(before, base);
+        }
+    }
 }
 
 /// Digit `k` of these with one more at a place.
@@ -61,6 +82,30 @@ impl TupleSym {
             len: columns.len(),
             digits,
         }
+    }
+
+    /// That many columns, all of them absent.
+    pub fn absent(columns: usize) -> TupleSym
+        requires { columns ≤ 16 }
+        ensures { result ≡ replicate columns None }
+    {
+        TupleSym {
+            len: columns,
+            digits: [0u32; 16],
+        }
+    }
+
+    /// Goes to the tuple symbol of the next number in a base, where a column is 0 or one more than its symbol's number; behind the
+    /// last one comes the first.
+    pub fn to_next(&mut self, base: usize)
+        requires some { 0 < base }
+        requires few { base ≤ 65536 }
+        ensures width { length self.new ≡ length self.old }
+        ensures next { (n : ℕ) → self.old ≡ columns_at base (length self.old) n
+            → self.new ≡ columns_at base (length self.old) (n + 1) }
+    {
+        let len = self.len;
+        to_next_digits(&mut self.digits[..len], base as u32);
     }
 
     /// 0 stands for absent, and one more than its number for a symbol.

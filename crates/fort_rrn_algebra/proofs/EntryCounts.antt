@@ -7,7 +7,7 @@ use Rattle.fort_tables.specs.Tuples.{TupleSymbol, kid_presence}
 use Rattle.fort_tables.specs.Tables.{Table, Listed}
 use Rattle.fort_lockstep.specs.Ranks.{count_of}
 use Rattle.fort_laid_entries.specs.Laid.{entries_from, entries_under}
-use Rattle.fort_rrn_algebra.specs.Places.{columns_at}
+use Rattle.fort_lockstep.specs.SymbolNumbers.{columns_at}
 use Rattle.fort_rrn_algebra.specs.Walks.{entries_of, entries_before}
 use Rattle.fort_rrn_algebra.proofs.PlaceLaws.{room, cap_product}
 use Rattle.fort_rrn_algebra.proofs.ListingLaws.{length-laid}

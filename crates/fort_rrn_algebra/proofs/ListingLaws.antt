@@ -11,11 +11,13 @@ use Rattle.fort_lockstep.specs.Ranks.{rank_in}
 use Rattle.fort_lockstep.proofs.InOrderLaws.{rank_less}
 use Rattle.fort_operations.specs.Selections.{is_present}
 use Rattle.fort_operations.proofs.SelectionLaws.{present_from_test, test_from_present}
-use Rattle.fort_rrn_algebra.specs.Places.{number_of, columns_at, place_from, AreSpots}
+use Rattle.fort_lockstep.specs.SymbolNumbers.{columns_at}
+use Rattle.fort_rrn_algebra.specs.Places.{number_of, IsNumbered, place_from, AreSpots}
 use Rattle.fort_laid_entries.specs.Laid.{joined_below}
-use Rattle.fort_rrn_algebra.specs.Flats.{laid, IsStateFor, HasFrom, AreLaid, IsTargetAt}
+use Rattle.fort_rrn_algebra.specs.Flats.{base_of, laid, IsStateFor, HasFrom, AreLaid, IsTargetAt}
 use Rattle.fort_rrn_algebra.proofs.PlaceLaws.{rank_none, rank_more, rank_whole, room, AreKidsFrom, kids_from_index, place_first, place_below}
-use Rattle.fort_rrn_algebra.proofs.SymbolNumbers.{number_below, columns_again, symbols_at, length-columns_at}
+use Rattle.fort_lockstep.proofs.SymbolNumberLaws.{length-columns_at}
+use Rattle.fort_rrn_algebra.proofs.SymbolNumbers.{number_below, columns_again, symbols_at}
 
 -- lists of one length, of the states of one presence
 abbrev blocks : List ℕ → ℕ → (ℕ → List ℕ) → ℕ → List ℕ
@@ -236,3 +238,16 @@ tuple_symbol_at body base n b p = record {
   present = present_from_test (columns_at base body.columns n) p;
   symbols = symbols_at body.signature base body.columns n b;
 }
+
+-- the tuple symbol of a number, with and without a present column
+pub numbered_symbol : (body : Table) (n : ℕ) (f : TupleSymbol) → IsNumbered (base_of body) body.columns n f → is_present f ≡ true → IsTupleSymbol body.signature body.columns f
+numbered_symbol body n f h p = subst (IsTupleSymbol body.signature body.columns) (sym h.is) (tuple_symbol_at body (base_of body) n refl (ap is_present (sym h.is) ∙ p))
+
+pub numbered_none : (body : Table) (n : ℕ) (f : TupleSymbol) (starts targets new : List ℕ) → IsNumbered (base_of body) body.columns n f → AreLaid body (base_of body) n starts targets → is_present f ≡ false
+    → new ≡ starts ++ length targets ∷ [] → AreLaid body (base_of body) (n + 1) new targets
+numbered_none body n f starts targets new h l absent e = laid_none body (base_of body) n starts targets new refl l (ap is_present (sym h.is) ∙ absent) e
+
+pub numbered_one : (body : Table) (n : ℕ) (f : TupleSymbol) (starts targets new laid_new : List ℕ) → IsNumbered (base_of body) body.columns n f → AreLaid body (base_of body) n starts targets → new ≡ starts ++ length targets ∷ []
+    → laid_new ≡ targets ++ laid body f [] 0 (symbol_kids body.signature f) → AreLaid body (base_of body) (n + 1) new laid_new
+numbered_one body n f starts targets new laid_new h l e m =
+    laid_one body (base_of body) n starts targets new laid_new refl l e (m ∙ ap (λ g. targets ++ laid body g [] 0 (symbol_kids body.signature g)) h.is)

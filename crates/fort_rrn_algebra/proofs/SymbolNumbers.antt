@@ -1,16 +1,16 @@
 -- The numbers of tuple symbols: their columns again, one more column, how far they go.
-use Rattle.std.proofs.Common.{◌≡◌, ℕ, zero, suc, ◌+◌, ◌-◌, ◌*◌, ◌/◌, ◌%◌, ◌^◌, ◌<◌, ◌≤◌, List, [], ◌∷◌, ◌++◌, take, drop, set, length, get_or, get_or-set_same, get_or-set_other, Option, None, Some, refl, ap, sym, ◌∙◌, arith, ⊎_elim, length-append}
-use Rattle.std.proofs.lemmas.Bool.{cases_lt}
-use Rattle.std.proofs.Math.Nat.{mul-le-mul_left, mul-le-mul_right, pow-succ', pow-zero, div-div-eq-div-mul, div-one, mod-lt}
+use Rattle.std.proofs.Common.{◌≡◌, ℕ, zero, suc, ◌+◌, ◌-◌, ◌*◌, ◌/◌, ◌%◌, ◌^◌, ◌<◌, ◌≤◌, [], ◌∷◌, ◌++◌, take, drop, length, get_or, Option, None, Some, refl, ap, ◌∙◌, arith, length-append}
+use Rattle.std.proofs.Math.Nat.{mul-le-mul_left, mul-le-mul_right, pow-succ', pow-zero, mod-lt}
 use Rattle.std.proofs.lemmas.Nat.{mod-mul-add, div-mul-add, pow-add}
 use Rattle.std.proofs.lemmas.List.{take_more, take-append-drop, length-drop}
 use Rattle.std.specs.List.{insert}
 use Rattle.fort_theory.specs.Signatures.{Signature}
 use Rattle.fort_tables.specs.Tuples.{TupleSymbol, AreSymbols}
-use Rattle.fort_terms.specs.declared.sym.Sym.{Sym}
 use Rattle.fort_lockstep.proofs.DigitNumberLaws.{pow_some}
-use Rattle.fort_lockstep.specs.Columns.{as_column, column_of, digit_of}
-use Rattle.fort_rrn_algebra.specs.Places.{number_of, columns_at}
+use Rattle.fort_lockstep.specs.Columns.{column_of, digit_of}
+use Rattle.fort_lockstep.specs.SymbolNumbers.{columns_at}
+use Rattle.fort_lockstep.proofs.SymbolNumberLaws.{column_again}
+use Rattle.fort_rrn_algebra.specs.Places.{number_of}
 
 -- how far the numbers go
 pub below_digits : (d b m p : ℕ) → d < b → m < p → d * p + m < b * p
@@ -32,10 +32,6 @@ number_below sig base (x ∷ f) e h =
       pow-succ' base (length f),
       below_digits (digit_of x) base (number_of base f) (base ^ length f) (digit_below sig base x f e h) (number_below sig base f e (later_symbols sig x f h)),
     )
-
-column_again : (x : Option ℕ) → column_of (digit_of x) ≡ x
-column_again None = refl
-column_again (Some g) = refl
 
 -- the last columns that a number has
 columns_over : (sig : Signature) (base : ℕ) (f : TupleSymbol) (m : ℕ) → base ≡ suc (length sig) → AreSymbols sig f → columns_at base (length f) (m * base ^ length f + number_of base f) ≡ f
@@ -67,27 +63,6 @@ pub symbols_at : (sig : Signature) (base n number : ℕ) → base ≡ suc (lengt
 symbols_at sig base zero number e = tt
 symbols_at sig base (suc n) number e =
     symbols_more sig (number / base ^ n % base) (columns_at base n number) (omega (arith, e, mod-lt (number / base ^ n) {m = base} (omega arith))) (symbols_at sig base n number e)
-
-pub length-columns_at : (base n number : ℕ) → length (columns_at base n number) ≡ n
-length-columns_at base zero number = refl
-length-columns_at base (suc n) number = ap suc (length-columns_at base n number)
-
-get_or-columns_at : (base n number k : ℕ) → k < n → get_or (columns_at base n number) k None ≡ column_of (number / base ^ (n - 1 - k) % base)
-get_or-columns_at base zero number k l = absurd (omega arith)
-get_or-columns_at base (suc n) number zero l = let s : n ≡ suc n - 1 - 0 = omega arith in ap (λ e. column_of (number / base ^ e % base)) s
-get_or-columns_at base (suc n) number (suc k) l =
-    let s : n - 1 - k ≡ suc n - 1 - suc k = omega arith in
-    get_or-columns_at base n number k (omega arith) ∙ ap (λ e. column_of (number / base ^ e % base)) s
-
--- one more digit read
-pub rest_more : (base number k : ℕ) → number / base ^ k / base ≡ number / base ^ (k + 1)
-rest_more base number k =
-    let c : base ^ k * base ≡ base * base ^ k = omega arith in
-    let s : suc k ≡ k + 1 = omega arith in
-    div-div-eq-div-mul number (base ^ k) base ∙ ap (λ p. number / p) (c ∙ (sym (pow-succ' base k) ∙ ap (λ n. base ^ n) s))
-
-pub rest_first : (base number : ℕ) → number ≡ number / base ^ 0
-rest_first base number = sym (ap (λ p. number / p) (pow-zero base) ∙ div-one number)
 
 -- one tuple symbol behind another
 number_of-append : (base : ℕ) (xs ys : TupleSymbol) → number_of base (xs ++ ys) ≡ number_of base xs * base ^ length ys + number_of base ys
@@ -121,20 +96,3 @@ number_of-insert base f c g l =
     let b = number_of-append base xs (None ∷ ys) in
     let w = ap (λ n. suc g * base ^ n) (length-drop c f) in
     omega (arith, a, b, w)
-
--- one more column read, the last one first
-pub columns_more : (base n number k : ℕ) (columns : List (Option Sym)) (x : Option Sym) → k < n → n ≤ length columns → as_column x ≡ column_of (number / base ^ k % base)
-    → ((i : ℕ) → n - k ≤ i → i < n → as_column (get_or columns i None) ≡ get_or (columns_at base n number) i None)
-    → (i : ℕ) → n - (k + 1) ≤ i → i < n → as_column (get_or (set columns (n - 1 - k) x) i None) ≡ get_or (columns_at base n number) i None
-columns_more base n number k columns x l m e h i a b =
-    ⊎_elim
-    (λ (o : i < n - k).
-    let s : i ≡ n - 1 - k = omega arith in
-    let t : k ≡ n - 1 - i = omega arith in
-    ap (λ z. as_column (get_or (set columns (n - 1 - k) x) z None)) s
-    ∙ (ap as_column (get_or-set_same columns (n - 1 - k) x None (omega arith))
-    ∙ (e ∙ (ap (λ z. column_of (number / base ^ z % base)) t ∙ sym (get_or-columns_at base n number i b)))))
-    (λ (o : n - k ≤ i).
-    let ne : i ≡ n - 1 - k → ⊥ = λ s. omega arith in
-    ap as_column (get_or-set_other columns (n - 1 - k) i x None ne) ∙ h i o b)
-    (cases_lt i (n - k))

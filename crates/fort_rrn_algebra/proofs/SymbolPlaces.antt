@@ -9,14 +9,16 @@ use Rattle.fort_theory.specs.Signatures.{Signature}
 use Rattle.fort_tables.specs.Tuples.{TupleSymbol, AreSymbols}
 use Rattle.fort_tables.specs.Entries.{Entry}
 use Rattle.fort_tables.specs.Tables.{Listed}
-use Rattle.fort_lockstep.specs.Columns.{column_of, digit_of}
+use Rattle.fort_lockstep.specs.Columns.{digit_of}
 use Rattle.fort_lockstep.proofs.DigitNumberLaws.{pow_some}
+use Rattle.fort_lockstep.proofs.SymbolNumberLaws.{digit_again, length-columns_at}
 use Rattle.fort_laid_entries.specs.Laid as laid
 use Rattle.fort_laid_entries.proofs.JoinedLists.{get_or-joined}
 use Rattle.fort_laid_entries.proofs.SymbolLists.{length-joined_alike, length-symbol_list}
-use Rattle.fort_rrn_algebra.specs.Places.{number_of, columns_at}
+use Rattle.fort_lockstep.specs.SymbolNumbers.{columns_at}
+use Rattle.fort_rrn_algebra.specs.Places.{number_of}
 use Rattle.fort_rrn_algebra.specs.Walks.{entries_of, entries_before}
-use Rattle.fort_rrn_algebra.proofs.SymbolNumbers.{below_digits, digit_below, later_symbols, number_below, symbols_at, length-columns_at}
+use Rattle.fort_rrn_algebra.proofs.SymbolNumbers.{below_digits, digit_below, later_symbols, number_below, symbols_at}
 
 map_at : {A B : Type 0} (f : A → B) (xs : List A) (i : ℕ) (d : A) (e : B) → i < length xs → get_or (map f xs) i e ≡ f (get_or xs i d)
 map_at f [] i d e l = absurd (omega arith)
@@ -26,10 +28,6 @@ map_at f (x ∷ xs) (suc i) d e l = map_at f xs i d e (omega arith)
 column_again : (x : Option ℕ) → laid.column_of (digit_of x) ≡ x
 column_again None = refl
 column_again (Some g) = refl
-
-digit_again : (d : ℕ) → digit_of (column_of d) ≡ d
-digit_again zero = refl
-digit_again (suc d) = refl
 
 -- Result: a tuple symbol's place is its number
 pub symbol_at_number : (sig : Signature) (f : TupleSymbol) → AreSymbols sig f → get_or (laid.symbol_list (length sig) (length f)) (number_of (suc (length sig)) f) [] ≡ f

@@ -7,6 +7,10 @@ use Rattle.fort_laid_entries.specs.Laid.{joined_below}
 use Rattle.fort_rrn_algebra.specs.Places.{number_of, place_from, AreSpots}
 use Rattle.fort_rrn_algebra.specs.declared.flat.FlatTargets.{FlatTargets}
 
+-- one more than there are symbols
+abbrev pub base_of : Table → ℕ
+base_of body = suc (length body.signature)
+
 -- the targets of a tuple symbol over these first child states and any n others, child j being the next
 abbrev pub laid : Table → TupleSymbol → List ℕ → ℕ → ℕ → List ℕ
 laid body f before j zero = body.target (entry f before) ∷ []

@@ -1,8 +1,9 @@
 -- Inside: the number of a tuple symbol, and the place of child states by their ranks.
-use Rattle.std.specs.Prelude.{◌≡◌, ℕ, zero, suc, ◌+◌, ◌*◌, ◌/◌, ◌%◌, ◌^◌, ◌<◌, List, [], ◌∷◌, length, get_or}
+use Rattle.std.specs.Prelude.{◌≡◌, ℕ, ◌+◌, ◌*◌, ◌^◌, ◌<◌, List, [], ◌∷◌, length, get_or}
 use Rattle.fort_tables.specs.Tuples.{TupleSymbol}
-use Rattle.fort_lockstep.specs.Columns.{column_of, digit_of}
+use Rattle.fort_lockstep.specs.Columns.{digit_of}
 use Rattle.fort_lockstep.specs.Ranks.{count_of, rank_in}
+use Rattle.fort_lockstep.specs.SymbolNumbers.{columns_at}
 use Rattle.fort_rrn_algebra.specs.declared.flat.Spots.{Spots}
 use Rattle.fort_rrn_algebra.specs.declared.flat.FlatTargets.{FlatTargets}
 
@@ -11,10 +12,10 @@ abbrev pub number_of : ℕ → TupleSymbol → ℕ
 number_of base [] = 0
 number_of base (x ∷ f) = digit_of x * base ^ length f + number_of base f
 
--- the last n columns that a number has
-abbrev pub columns_at : ℕ → ℕ → ℕ → TupleSymbol
-columns_at base zero number = []
-columns_at base (suc n) number = column_of (number / base ^ n % base) ∷ columns_at base n number
+-- the tuple symbol of so many columns that has this number
+pub record IsNumbered (base columns n : ℕ) (f : TupleSymbol) : Type 0 where
+  pub low : n < base ^ columns
+  pub is : f ≡ columns_at base columns n
 
 -- the place of child states behind a place, by each state's rank and by how many states are alike
 abbrev pub place_from : List ℕ → List ℕ → ℕ → List ℕ → ℕ

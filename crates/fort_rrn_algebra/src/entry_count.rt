@@ -2,10 +2,9 @@
 ghost use Rattle.std.specs.Prelude.{◌≡◌, ℕ, ◌-◌, ◌<◌, ◌≤◌, ◌^◌, min, List, [], length, slice_index, IsTrue, IsFalse, suc};
 ghost use Rattle.fort_tables.specs.Tuples.{AreSymbols, symbol_kids};
 ghost use Rattle.fort_laid_entries.specs.Laid.{entries_from, entries_under, by_symbol};
-ghost use Rattle.fort_rrn_algebra.specs.Places.{columns_at, AreCounts};
+ghost use Rattle.fort_rrn_algebra.specs.Places.{AreCounts};
 
 use crate::columns::{is_present, kid_count, kid_presence};
-use crate::listing::symbol_at;
 use fort_lockstep::TupleSym;
 use fort_terms::Signature;
 
@@ -39,26 +38,17 @@ fn symbol_entries(signature: &Signature, symbol: &TupleSym, counts: &[u32]) -> u
     entries
 }
 
-/// The same for the tuple symbol with this number.
-fn numbered_entries(
-    signature: &Signature,
-    columns: usize,
-    base: usize,
-    number: usize,
-    counts: &[u32],
-) -> usize
-    requires base { base ≡ suc (length signature.now) }
-    requires narrow { columns ≤ 16 }
-    requires size { 2 ^ columns ≤ length counts.now }
+/// The same where it may have no present column, and no entry then.
+fn all_symbol_entries(signature: &Signature, symbol: &TupleSym, counts: &[u32]) -> usize
+    requires symbols { AreSymbols signature.now symbol.now }
+    requires size { 2 ^ length symbol.now ≤ length counts.now }
     ensures { (ps : List ℕ) → AreCounts ps counts.now → result ≡ min (length (entries_under
-        signature.now ps (columns_at base columns number))) (2 ^ 64 - 1) }
+        signature.now ps symbol.now)) (2 ^ 64 - 1) }
 {
-    let _symbols = signature.len();
-    let symbol = symbol_at(number, base, columns);
-    if !is_present(&symbol) {
+    if !is_present(symbol) {
         return 0;
     }
-    symbol_entries(signature, &symbol, counts)
+    symbol_entries(signature, symbol, counts)
 }
 
 /// Whether a table over states with these counts of presences has so many entries.
@@ -80,12 +70,15 @@ pub(crate) fn has_entries(
     ensures no { (ps : List ℕ) → AreCounts ps counts.now → IsFalse result
         → length (by_symbol signature.now columns ps) ≡ number → ⊥ }
 {
+    let _symbols = signature.len();
+    let mut symbol = TupleSym::absent(columns);
     let mut sum = 0usize;
-    for k in 0..count {
-        sum = sum.saturating_add(numbered_entries(signature, columns, base, k, counts));
+    for _ in 0..count {
+        sum = sum.saturating_add(all_symbol_entries(signature, &symbol, counts));
         if sum > number {
             return false;
         }
+        symbol.to_next(base);
     }
     sum == number
 }

@@ -23,7 +23,7 @@ pub(crate) struct Spots {
 #[derive(Drop)]
 pub(crate) struct Listing {
     /// Where the targets of a tuple symbol start, by its number.
-    pub(crate) starts: Vec<usize>,
+    pub(crate) starts: Vec<u32>,
     pub(crate) targets: Vec<u32>,
 }
 

@@ -1,13 +1,13 @@
 //! Targets held against the labels of their entries, tuple symbol by tuple symbol.
 ghost use Rattle.std.specs.Prelude.{◌≡◌, ℕ, ◌+◌, ◌<◌, ◌≤◌, ◌^◌, List, [], take, IsTrue};
 ghost use Rattle.fort_tables.specs.Tuples.{TupleSymbol};
+ghost use Rattle.fort_rrn_algebra.specs.Places.{IsNumbered};
 ghost use Rattle.fort_rrn_algebra.specs.Walks.{Stop};
 ghost use Rattle.fort_tables.specs.Tables as tables;
 ghost use Rattle.fort_rrn_algebra.specs.HeldWalks.{Operands, operands_of, IsHoldingAt, HasHeldTo, HasHeldBehind, IsHeldBetween};
 
 use crate::columns::{is_present, kid_count, kid_presence};
 use crate::joint::{Joint, joint_of};
-use crate::listing::symbol_at;
 use crate::product::Both;
 use crate::walk::Walk;
 use fort_explore::Rows;
@@ -116,25 +116,26 @@ impl<'a, 'b> Holding<'a, 'b> {
 }
 
 impl<'a, T: Table> Both<'a, T> {
-    /// Passes the entries of the tuple symbol with this number; whether their targets are right.
-    fn hold_symbol(&self, holding: &Holding<'_, '_>, number: usize, cursors: &mut [u32]) -> bool
-        requires low { number < holding.now.walk.base ^ holding.now.walk.columns }
-        requires between { (t : tables.Listed) × (begins : List ℕ) × IsHeldBetween
-            (operands_of T.table self.now.first self.now.second) t begins holding.now number
+    /// Passes the entries of a tuple symbol, all of those with lesser numbers being passed; whether their targets are right.
+    fn hold_symbol(&self, holding: &Holding<'_, '_>, symbol: &TupleSym, cursors: &mut [u32]) -> bool
+        requires between { (n : ℕ) × (t : tables.Listed) × (begins : List ℕ)
+            × IsNumbered holding.now.walk.base holding.now.walk.columns n symbol.now
+            × IsHeldBetween
+            (operands_of T.table self.now.first self.now.second) t begins holding.now n
             cursors.old }
-        ensures { (t : tables.Listed) (begins : List ℕ) → IsHeldBetween
-            (operands_of T.table self.now.first self.now.second) t begins holding.now number
+        ensures { (n : ℕ) (t : tables.Listed) (begins : List ℕ)
+            → IsNumbered holding.now.walk.base holding.now.walk.columns n symbol.now
+            → IsHeldBetween
+            (operands_of T.table self.now.first self.now.second) t begins holding.now n
             cursors.old
             → IsTrue result → IsHeldBetween (operands_of T.table self.now.first self.now.second)
-            t begins holding.now (number + 1) cursors.new }
+            t begins holding.now (n + 1) cursors.new }
     {
         let walk = &holding.walk;
-        let _symbols = walk.signature.len();
-        let symbol = symbol_at(number, walk.base, walk.columns);
-        if !is_present(&symbol) {
+        if !is_present(symbol) {
             return true;
         }
-        let count = kid_count(walk.signature, &symbol);
+        let count = kid_count(walk.signature, symbol);
         // many tuple symbols have no children, and what these are read by would be found in vain
         if count == 0 && (cursors[0] as usize) < holding.from {
             cursors[0] += 1;
@@ -145,10 +146,10 @@ impl<'a, T: Table> Both<'a, T> {
             self.first_list,
             &self.second,
             self.second_list,
-            &symbol,
+            symbol,
         );
         match joint {
-            Some(joint) => holding.pass_under(&symbol, &joint, count, cursors),
+            Some(joint) => holding.pass_under(symbol, &joint, count, cursors),
             None => false,
         }
     }
@@ -170,10 +171,13 @@ impl<'a, T: Table> Both<'a, T> {
             → IsTrue result → IsHeldBetween (operands_of T.table self.now.first self.now.second)
             t begins holding.now count cursors.new }
     {
-        for number in 0..count {
-            if !self.hold_symbol(holding, number, cursors) {
+        let _symbols = holding.walk.signature.len();
+        let mut symbol = TupleSym::absent(holding.walk.columns);
+        for _ in 0..count {
+            if !self.hold_symbol(holding, &symbol, cursors) {
                 return false;
             }
+            symbol.to_next(holding.walk.base);
         }
         true
     }

@@ -14,7 +14,7 @@ ghost use Rattle.fort_rrn_algebra.specs.Flats.{IsFlatOf};
 ghost use Rattle.fort_rrn_algebra.specs.ListedOperands.{IsListOf};
 ghost use Rattle.fort_rrn_algebra.specs.Joints.{IsUnderOf, IsJointOf, states_under, AreStatesUnder, IsWordThere, word_under};
 
-use crate::columns::{kid_count, selected};
+use crate::columns::{selected_kids, selected_number};
 use crate::flat::FlatTargets;
 use crate::operand::Operand;
 use fort_explore::Rows;
@@ -77,8 +77,7 @@ fn table_under<'a, T: Table>(
     ensures { IsUnderOf (products.OfTable (T.table table.now) places.now) at symbol.now result }
 {
     let _columns = table.columns();
-    let own = selected(symbol, places);
-    let number = list.number(&own);
+    let number = selected_number(list.base, symbol, places);
     if number == 0 {
         return Under {
             list: None,
@@ -89,8 +88,8 @@ fn table_under<'a, T: Table>(
     }
     Under {
         list: Some(list),
-        start: list.listing.starts[number],
-        count: kid_count(table.signature(), &own),
+        start: list.listing.starts[number] as usize,
+        count: selected_kids(table.signature(), symbol, places),
         at,
     }
 }

@@ -1,76 +1,27 @@
 //! The labels of products by the operands' targets in lists.
 ghost use Rattle.std.specs.Prelude.{◌≡◌, ℕ, ◌<◌, ◌≤◌, ◌+◌, ◌*◌, ◌^◌, List, [], length, slice_index, IfSome};
 ghost use Rattle.fort_theory.specs.Signatures as theory;
-ghost use Rattle.fort_tables.specs.Tuples.{AreSymbols, symbol_kids};
 ghost use Rattle.fort_tables.specs.Labels.{IsOverLabels};
 ghost use Rattle.fort_tables.specs.LabelRules.{label_of, entry_label};
-ghost use Rattle.fort_lockstep.specs.Columns.{as_column, digit_of};
 ghost use Rattle.fort_operations.specs.Products as products;
-ghost use Rattle.fort_operations.specs.Selections.{selected, ArePlaces};
 ghost use Rattle.fort_rrn_algebra.specs.Operands.{operand_of};
 ghost use Rattle.fort_rrn_algebra.specs.OperandRows.{IsOverWords, labels_at};
-ghost use Rattle.fort_rrn_algebra.specs.Places.{number_of};
 ghost use Rattle.fort_rrn_algebra.specs.Flats.{IsFlatOf};
 ghost use Rattle.fort_rrn_algebra.specs.ListedOperands.{IsListOf};
 
+use crate::columns::{selected_kids, selected_number};
 use crate::flat::FlatTargets;
 use crate::operand::Operand;
 use crate::words::{operand_word, states_at};
 use fort_explore::Rows;
 use fort_lockstep::{Row, Table};
-use fort_terms::{Signature, Sym};
-
-/// The number of a tuple symbol with one more column behind it.
-fn number_behind(column: Option<Sym>, base: usize, number: usize) -> usize
-    requires { number * base + digit_of (as_column column) < 2 ^ 64 }
-    ensures { result ≡ number * base + digit_of (as_column column) }
-{
-    match column {
-        None => number * base,
-        Some(symbol) => number * base + symbol.0 as usize + 1,
-    }
-}
-
-/// The number of the columns at these places.
-fn selected_number(base: usize, row: &Row, places: &[usize]) -> usize
-    requires some { 0 < base }
-    requires within { ArePlaces (length row.now.symbol) places.now }
-    requires small { number_of base (selected places.now row.now.symbol) < 2 ^ 64 }
-    ensures { result ≡ number_of base (selected places.now row.now.symbol) }
-{
-    let mut number = 0;
-    for k in 0..places.len() {
-        number = number_behind(row.symbol(places[k]), base, number);
-    }
-    number
-}
-
-/// How many children the columns at these places have.
-fn selected_kids(sig: &Signature, row: &Row, places: &[usize]) -> usize
-    requires within { ArePlaces (length row.now.symbol) places.now }
-    requires symbols { AreSymbols sig.now (selected places.now row.now.symbol) }
-    ensures count { result ≡ symbol_kids sig.now (selected places.now row.now.symbol) }
-    ensures few { result ≤ 8 }
-{
-    let _symbols = sig.len();
-    let mut count = 0;
-    for k in 0..places.len() {
-        if let Some(symbol) = row.symbol(places[k]) {
-            let arity = sig.arity(symbol) as usize;
-            if count < arity {
-                count = arity;
-            }
-        }
-    }
-    count
-}
 
 /// Where the targets of the tuple symbol with this number start.
 fn start_at(list: &FlatTargets, number: usize) -> usize
     requires { number < length list.now.listing.starts.items }
     ensures { result ≡ slice_index list.now.listing.starts.items number }
 {
-    list.listing.starts[number]
+    list.listing.starts[number] as usize
 }
 
 /// A table's word as an operand.
@@ -90,11 +41,12 @@ fn listed_word<T: Table>(
 {
     let _columns = table.columns();
     let _states = table.states();
-    let number = selected_number(list.base, row, places);
+    let symbol = row.sym();
+    let number = selected_number(list.base, &symbol, places);
     if number == 0 {
         return 0;
     }
-    let count = selected_kids(table.signature(), row, places);
+    let count = selected_kids(table.signature(), &symbol, places);
     let states = states_at(row, rows, at, count);
     list.target(start_at(list, number), &states[..count]) as u64 + 1
 }
@@ -109,7 +61,7 @@ fn constant_word<T: Table>(table: &T, list: &FlatTargets, places: &[usize], row:
         places.now) row.now.symbol [] }
 {
     let _columns = table.columns();
-    let number = selected_number(list.base, row, places);
+    let number = selected_number(list.base, &row.sym(), places);
     if number == 0 {
         return 0;
     }

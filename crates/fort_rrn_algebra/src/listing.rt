@@ -1,16 +1,15 @@
 //! A table's targets, put into one list.
 ghost use Rattle.std.specs.Prelude.{◌≡◌, ◌≢◌, ℕ, ◌+◌, ◌<◌, ◌≤◌, ◌^◌, ◌++◌, [], ◌∷◌, take, length, slice_index, slice_index_or, IfOk, IfSome, OnOk, IsTrue, suc};
 ghost use Rattle.fort_tables.specs.Tuples.{AreSymbols, IsTupleSymbol, symbol_kids, kid_presence as kid_presence_lem};
-ghost use Rattle.fort_lockstep.specs.Columns.{as_column, column_of as column_of_lem};
-ghost use Rattle.fort_rrn_algebra.specs.Places.{columns_at, AreSpots, AreRanks, AreAlike, AreCounts};
+ghost use Rattle.fort_rrn_algebra.specs.Places.{IsNumbered, AreSpots, AreRanks, AreAlike, AreCounts};
 ghost use Rattle.fort_rrn_algebra.specs.Chains.{AreChains};
-ghost use Rattle.fort_rrn_algebra.specs.Flats.{laid, IsStateFor, AreLaid, IsFlatOf};
+ghost use Rattle.fort_rrn_algebra.specs.Flats.{base_of, laid, IsStateFor, AreLaid, IsFlatOf};
 
 use crate::chains::{Chains, fill, make_room, presence_count};
 use crate::columns::{is_present, kid_count, kid_presence};
 use crate::flat::{FlatTargets, Listing, Spots};
 use fort_lockstep::{Table, TupleSym};
-use fort_terms::{Memory, Sym};
+use fort_terms::Memory;
 use std::alloc::Global;
 
 /// So many tuple symbols are numbered at most where a list is made by look-ups.
@@ -25,34 +24,6 @@ fn number_count(base: usize, columns: usize) -> Option<usize>
     match base.checked_pow(columns as u32) {
         Some(count) if count <= MOST_NUMBERS => Some(count),
         _ => None,
-    }
-}
-
-/// The tuple symbol with this number.
-pub(crate) fn symbol_at(number: usize, base: usize, columns: usize) -> TupleSym
-    requires narrow { columns ≤ 16 }
-    requires some { 0 < base }
-    requires symbols { base ≤ 65536 }
-    ensures { result ≡ columns_at base columns number }
-{
-    let mut symbols = [None; 16];
-    let mut rest = number;
-    for k in 0..columns {
-        symbols[columns - 1 - k] = column_of(rest % base);
-        rest /= base;
-    }
-    TupleSym::new(&symbols[..columns])
-}
-
-/// Absent for 0, the symbol before it else.
-fn column_of(digit: usize) -> Option<Sym>
-    requires { digit ≤ 65536 }
-    ensures { as_column result ≡ column_of_lem digit }
-{
-    if digit == 0 {
-        None
-    } else {
-        Some(Sym((digit - 1) as u16))
     }
 }
 
@@ -139,57 +110,70 @@ fn lay<T: Table>(
 }
 
 impl Listing {
-    /// Appends the targets of the tuple symbol with the next number.
+    /// Appends the targets of the tuple symbol with the next number; false where they would start at a place of more than 32 bits.
     fn add<T: Table>(
         &mut self,
         body: &T,
         chains: &Chains,
-        base: usize,
-        number: usize,
-    ) -> Result<(), Memory>
+        symbol: &TupleSym,
+    ) -> Result<bool, Memory>
         requires chains { AreChains (T.table body.now).columns (T.table body.now).presences
             chains.now.firsts.items chains.now.nexts.items }
-        requires base { base ≡ suc (length (T.table body.now).signature) }
-        requires laid { AreLaid (T.table body.now) base number self.old.starts.items
+        requires laid { (n : ℕ) × IsNumbered (base_of (T.table body.now))
+            (T.table body.now).columns n symbol.now
+            × AreLaid (T.table body.now) (base_of (T.table body.now)) n self.old.starts.items
             self.old.targets.items }
-        ensures { OnOk result (AreLaid (T.table body.now) base (number + 1) self.new.starts.items
-            self.new.targets.items) }
+        ensures { IfOk result (λ added. IsTrue added → (n : ℕ)
+            → IsNumbered (base_of (T.table body.now))
+            (T.table body.now).columns n symbol.now
+            → AreLaid (T.table body.now) (base_of (T.table body.now)) n self.old.starts.items
+            self.old.targets.items
+            → AreLaid (T.table body.now) (base_of (T.table body.now)) (n + 1)
+            self.new.starts.items self.new.targets.items) }
     {
-        let columns = body.columns();
-        let _symbols = body.signature().len();
-        self.starts.push(self.targets.len())?;
-        let symbol = symbol_at(number, base, columns);
-        if !is_present(&symbol) {
-            return Ok(());
+        let _columns = body.columns();
+        let Ok(start) = u32::try_from(self.targets.len()) else {
+            return Ok(false);
+        };
+        self.starts.push(start)?;
+        if !is_present(symbol) {
+            return Ok(true);
         }
-        let count = kid_count(body.signature(), &symbol);
+        let count = kid_count(body.signature(), symbol);
         if count == 0 {
-            self.targets.push(body.target(&symbol, &[]))?;
-            return Ok(());
+            self.targets.push(body.target(symbol, &[]))?;
+        } else {
+            lay(body, chains, symbol, [0; 8], 0, count, &mut self.targets)?;
         }
-        lay(body, chains, &symbol, [0; 8], 0, count, &mut self.targets)
+        Ok(true)
     }
 
-    /// Makes these the targets of the tuple symbols with the first numbers.
+    /// Makes these the targets of the tuple symbols, which are so many; false where there are more than 32-bit numbers.
     fn make<T: Table>(
         &mut self,
         body: &T,
         chains: &Chains,
         base: usize,
         count: usize,
-    ) -> Result<(), Memory>
+    ) -> Result<bool, Memory>
         requires chains { AreChains (T.table body.now).columns (T.table body.now).presences
             chains.now.firsts.items chains.now.nexts.items }
-        requires base { base ≡ suc (length (T.table body.now).signature) }
-        ensures { OnOk result (AreLaid (T.table body.now) base count self.new.starts.items
-            self.new.targets.items) }
+        requires base { base ≡ base_of (T.table body.now) }
+        requires count { count ≡ base ^ (T.table body.now).columns }
+        ensures { IfOk result (λ made. IsTrue made → AreLaid (T.table body.now) base count
+            self.new.starts.items self.new.targets.items) }
     {
         make_room(&mut self.starts, count)?;
         self.targets.clear();
-        for number in 0..count {
-            self.add(body, chains, base, number)?;
+        let _symbols = body.signature().len();
+        let mut symbol = TupleSym::absent(body.columns());
+        for _ in 0..count {
+            if !self.add(body, chains, &symbol)? {
+                return Ok(false);
+            }
+            symbol.to_next(base);
         }
-        Ok(())
+        Ok(true)
     }
 }
 
@@ -214,17 +198,17 @@ impl FlatTargets {
         }
     }
 
-    /// Makes this the list of a table's targets, where its tuple symbols have few numbers; whether they have.
+    /// Makes this the list of a table's targets, where its tuple symbols have few numbers, and its targets have 32-bit ones; whether
+    /// they have.
     pub(crate) fn make<T: Table>(&mut self, body: &T) -> Result<bool, Memory>
-        ensures { IfOk result (λ few. IsTrue few → IsFlatOf (T.table body.now) self.new) }
+        ensures { IfOk result (λ made. IsTrue made → IsFlatOf (T.table body.now) self.new) }
     {
         self.base = body.signature().len() + 1;
         match number_count(self.base, body.columns()) {
             Some(count) => {
                 self.spots.make(body, &mut self.counts)?;
                 self.chains.make(body)?;
-                self.listing.make(body, &self.chains, self.base, count)?;
-                Ok(true)
+                self.listing.make(body, &self.chains, self.base, count)
             }
             None => Ok(false),
         }

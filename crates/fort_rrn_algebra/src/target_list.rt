@@ -103,7 +103,7 @@ impl TargetList {
             → tables.IsTableEntry body (entry symbol.now kids.now)
             → result ≡ body.target (entry symbol.now kids.now) }
     {
-        let start = self.list.listing.starts[self.list.number(symbol)];
+        let start = self.list.listing.starts[self.list.number(symbol)] as usize;
         self.list.target(start, kids)
     }
 }

@@ -2,12 +2,12 @@
 ghost use Rattle.std.specs.Prelude.{◌≡◌, ℕ, ◌+◌, ◌^◌, ◌<◌, ◌≤◌, List, [], ◌∷◌, ◌++◌, length, vec_capacity, IsTrue};
 ghost use Rattle.fort_tables.specs.Tuples.{TupleSymbol};
 ghost use Rattle.fort_tables.specs.Tables as tables;
+ghost use Rattle.fort_rrn_algebra.specs.Places.{IsNumbered};
 ghost use Rattle.fort_rrn_algebra.specs.Walks.{IsStopOf, HasPassedTo, HasPassedBehind, IsBetween, Stop};
 
 use crate::chains::Chains;
 use crate::columns::{is_present, kid_count, kid_presence};
 use crate::flat::Listing;
-use crate::listing::symbol_at;
 use fort_lockstep::TupleSym;
 use fort_terms::Signature;
 
@@ -79,7 +79,8 @@ impl<'a> Walk<'a> {
 
     /// Notes where the targets of the next tuple symbol start.
     fn begin(&self, listing: &mut Listing)
-        requires { IsTrue self.now.lays
+        requires few { IsTrue self.now.lays → length listing.old.targets.items < 2 ^ 32 }
+        requires room { IsTrue self.now.lays
             → length listing.old.starts.items < vec_capacity listing.old.starts }
         ensures starts { IsTrue self.now.lays → listing.new.starts.items
             ≡ listing.old.starts.items ++ length listing.old.targets.items ∷ [] }
@@ -87,37 +88,38 @@ impl<'a> Walk<'a> {
         ensures room { vec_capacity listing.new.starts ≡ vec_capacity listing.old.starts }
     {
         if self.lays {
-            listing.starts.push_reserved(listing.targets.len());
+            listing.starts.push_reserved(listing.targets.len() as u32);
         }
     }
 
-    /// Passes the entries of the tuple symbol with this number.
-    fn pass_symbol(&self, number: usize, cursors: &mut [u32], listing: &mut Listing)
-        requires low { number < self.now.base ^ self.now.columns }
-        requires between { (t : tables.Listed) × (begins : List ℕ)
-            × IsBetween t begins self.now number cursors.old listing.old.starts.items
+    /// Passes the entries of a tuple symbol, all of those with lesser numbers being passed.
+    fn pass_symbol(&self, symbol: &TupleSym, cursors: &mut [u32], listing: &mut Listing)
+        requires between { (n : ℕ) × (t : tables.Listed) × (begins : List ℕ)
+            × IsNumbered self.now.base self.now.columns n symbol.now
+            × IsBetween t begins self.now n cursors.old listing.old.starts.items
             listing.old.targets.items }
-        requires starts { IsTrue self.now.lays → number < vec_capacity listing.old.starts }
+        requires starts { IsTrue self.now.lays
+            → length listing.old.starts.items < vec_capacity listing.old.starts }
         requires room { IsTrue self.now.lays
             → length self.now.targets.now ≤ vec_capacity listing.old.targets }
-        ensures between { (t : tables.Listed) (begins : List ℕ) → IsBetween t begins self.now number
-            cursors.old listing.old.starts.items listing.old.targets.items
-            → IsBetween t begins self.now (number + 1) cursors.new listing.new.starts.items
+        ensures between { (n : ℕ) (t : tables.Listed) (begins : List ℕ)
+            → IsNumbered self.now.base self.now.columns n symbol.now
+            → IsBetween t begins self.now n cursors.old listing.old.starts.items
+            listing.old.targets.items
+            → IsBetween t begins self.now (n + 1) cursors.new listing.new.starts.items
             listing.new.targets.items }
         ensures starts { vec_capacity listing.new.starts ≡ vec_capacity listing.old.starts }
         ensures room { vec_capacity listing.new.targets ≡ vec_capacity listing.old.targets }
     {
-        let _symbols = self.signature.len();
         self.begin(listing);
-        let symbol = symbol_at(number, self.base, self.columns);
-        if !is_present(&symbol) {
+        if !is_present(symbol) {
             return;
         }
-        let count = kid_count(self.signature, &symbol);
+        let count = kid_count(self.signature, symbol);
         if count == 0 {
             self.pass(0, cursors, &mut listing.targets);
         } else {
-            self.pass_kids(&symbol, 0, 0, count, cursors, &mut listing.targets);
+            self.pass_kids(symbol, 0, 0, count, cursors, &mut listing.targets);
         }
     }
 
@@ -136,8 +138,11 @@ impl<'a> Walk<'a> {
         ensures starts { vec_capacity listing.new.starts ≡ vec_capacity listing.old.starts }
         ensures room { vec_capacity listing.new.targets ≡ vec_capacity listing.old.targets }
     {
-        for number in 0..count {
-            self.pass_symbol(number, cursors, listing);
+        let _symbols = self.signature.len();
+        let mut symbol = TupleSym::absent(self.columns);
+        for _ in 0..count {
+            self.pass_symbol(&symbol, cursors, listing);
+            symbol.to_next(self.base);
         }
     }
 }

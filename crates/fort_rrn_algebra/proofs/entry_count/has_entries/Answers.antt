@@ -1,46 +1,63 @@
-use Rattle.std.proofs.Common.{◌≡◌, suc, ◌-◌, ◌^◌, ◌<◌, min, length, refl, ap, sym, ◌∙◌, arith}
+use Rattle.std.proofs.Common.{◌≡◌, suc, ◌-◌, ◌^◌, ◌<◌, min, length, refl, ap, sym, ◌∙◌, arith, subst}
+use Rattle.fort_tables.specs.Tuples.{TupleSymbol, AreSymbols}
 use Rattle.fort_tables.proofs.EqualTests.{equal_from_test, apart_from_test}
 use Rattle.fort_laid_entries.specs.Laid.{entries_under}
-use Rattle.fort_rrn_algebra.specs.Places.{columns_at}
+use Rattle.fort_lockstep.specs.SymbolNumbers.{columns_at}
+use Rattle.fort_lockstep.proofs.SymbolNumberLaws.{columns_first, columns_next, length-columns_at}
+use Rattle.fort_rrn_algebra.proofs.SymbolNumbers.{symbols_at}
 use Rattle.fort_rrn_algebra.proofs.SymbolPlaces.{entries_all}
 use Rattle.fort_rrn_algebra.proofs.EntryCounts.{table_with, entries_sum, entries_least}
 use Rattle.fort_rrn_algebra.proofs.entry_count.has_entries.Goals as goal
 
-pub loop-k-init : goal.loop-k-init
-loop-k-init c = record {
+pub loop-init : goal.loop-init
+loop-init c = record {
+  symbol = c.absent-symbol.ensures ∙ sym (columns_first c.args.base c.args.columns (omega (arith, c.requires.base)));
   few = omega arith;
   sum = λ ps h. refl;
 }
 
-pub loop-k-preserved : goal.loop-k-preserved
-loop-k-preserved c =
+pub all_symbol_entries-requires : goal.all_symbol_entries-requires
+all_symbol_entries-requires c =
+    let sig = c.args.signature.now in
+    let is = c.loop.invariant.symbol in
+    record {
+      symbols = subst (AreSymbols sig) (sym is) (symbols_at sig c.args.base c.args.columns c.loop.counter c.requires.base);
+      size = omega (arith, ap (λ n. 2 ^ n) (ap length is ∙ length-columns_at c.args.base c.args.columns c.loop.counter), c.requires.size);
+    }
+
+pub loop-preserved : goal.loop-preserved
+loop-preserved c =
     let sig = c.args.signature.now in
     let columns = c.args.columns in
-    let v = c.loop-k.invariant in
-    let low : c.loop-k.k < suc (length sig) ^ columns = omega (arith, c.loop-k-test.true, c.requires.count, ap (λ b. b ^ columns) c.requires.base) in
+    let v = c.loop.invariant in
+    let low : c.loop.counter < suc (length sig) ^ columns = omega (arith, c.loop-test.true, c.requires.count, ap (λ b. b ^ columns) c.requires.base) in
+    let here : c.loop.symbol ≡ columns_at (suc (length sig)) columns c.loop.counter = v.symbol ∙ ap (λ b. columns_at b columns c.loop.counter) c.requires.base in
     record {
+      symbol = columns_next c.args.base columns c.loop.counter c.loop.symbol c.to_next.new.self v.symbol c.to_next.ensures.next;
       few = omega (arith, c.if-sum-number.false);
       sum = λ ps h.
-          let own = c.numbered_entries.ensures ps h ∙ ap (λ b. min (length (entries_under sig ps (columns_at b columns c.loop-k.k))) (2 ^ 64 - 1)) c.requires.base in
-          omega (arith, own, v.sum ps h, c.saturating_add-sum.ensures, c.if-sum-number.false, c.requires.few, entries_sum sig columns ps c.loop-k.k low);
+          let own = c.all_symbol_entries.ensures ps h ∙ ap (λ (f : TupleSymbol). min (length (entries_under sig ps f)) (2 ^ 64 - 1)) here in
+          omega (arith, own, v.sum ps h, c.saturating_add-sum.ensures, c.if-sum-number.false, c.requires.few, entries_sum sig columns ps c.loop.counter low);
     }
 
 pub returns-then-sum-number-clause-no : goal.returns-then-sum-number-clause-no
 returns-then-sum-number-clause-no c = λ ps h _ e.
     let sig = c.args.signature.now in
     let columns = c.args.columns in
-    let low : c.loop-k.k < suc (length sig) ^ columns = omega (arith, c.loop-k-test.true, c.requires.count, ap (λ b. b ^ columns) c.requires.base) in
-    let own = c.numbered_entries.ensures ps h ∙ ap (λ b. min (length (entries_under sig ps (columns_at b columns c.loop-k.k))) (2 ^ 64 - 1)) c.requires.base in
-    omega (arith, e, own, c.loop-k.invariant.sum ps h, c.saturating_add-sum.ensures, c.if-sum-number.true, entries_least sig columns ps c.loop-k.k low)
+    let v = c.loop.invariant in
+    let low : c.loop.counter < suc (length sig) ^ columns = omega (arith, c.loop-test.true, c.requires.count, ap (λ b. b ^ columns) c.requires.base) in
+    let here : c.loop.symbol ≡ columns_at (suc (length sig)) columns c.loop.counter = v.symbol ∙ ap (λ b. columns_at b columns c.loop.counter) c.requires.base in
+    let own = c.all_symbol_entries.ensures ps h ∙ ap (λ (f : TupleSymbol). min (length (entries_under sig ps f)) (2 ^ 64 - 1)) here in
+    omega (arith, e, own, v.sum ps h, c.saturating_add-sum.ensures, c.if-sum-number.true, entries_least sig columns ps c.loop.counter low)
 
 pub returns-clause-yes : goal.returns-clause-yes
 returns-clause-yes c = λ ps h yes.
     let t = table_with c.args.signature.now c.args.columns ps in
-    let all : c.loop-k.k ≡ suc (length c.args.signature.now) ^ c.args.columns = omega (arith, c.loop-k-test.false, c.loop-k.auto.k-end, c.requires.count, ap (λ b. b ^ c.args.columns) c.requires.base) in
-    ap length (sym (entries_all t c.loop-k.k all)) ∙ (sym (c.loop-k.invariant.sum ps h) ∙ equal_from_test c.loop-k.sum c.args.number yes)
+    let all : c.loop.counter ≡ suc (length c.args.signature.now) ^ c.args.columns = omega (arith, c.loop-test.false, c.loop.auto.counter-end, c.requires.count, ap (λ b. b ^ c.args.columns) c.requires.base) in
+    ap length (sym (entries_all t c.loop.counter all)) ∙ (sym (c.loop.invariant.sum ps h) ∙ equal_from_test c.loop.sum c.args.number yes)
 
 pub returns-clause-no : goal.returns-clause-no
 returns-clause-no c = λ ps h no e.
     let t = table_with c.args.signature.now c.args.columns ps in
-    let all : c.loop-k.k ≡ suc (length c.args.signature.now) ^ c.args.columns = omega (arith, c.loop-k-test.false, c.loop-k.auto.k-end, c.requires.count, ap (λ b. b ^ c.args.columns) c.requires.base) in
-    apart_from_test c.loop-k.sum c.args.number no (c.loop-k.invariant.sum ps h ∙ (ap length (entries_all t c.loop-k.k all) ∙ e))
+    let all : c.loop.counter ≡ suc (length c.args.signature.now) ^ c.args.columns = omega (arith, c.loop-test.false, c.loop.auto.counter-end, c.requires.count, ap (λ b. b ^ c.args.columns) c.requires.base) in
+    apart_from_test c.loop.sum c.args.number no (c.loop.invariant.sum ps h ∙ (ap length (entries_all t c.loop.counter all) ∙ e))

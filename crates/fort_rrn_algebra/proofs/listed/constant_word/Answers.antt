@@ -9,7 +9,7 @@ pub selected_number-number-requires-clause-some : goal.selected_number-number-re
 selected_number-number-requires-clause-some g c = omega (arith, c.requires.list.base_is)
 
 pub selected_number-number-requires-clause-within : goal.selected_number-number-requires-clause-within
-selected_number-number-requires-clause-within g c = c.requires.over.3.operand.1.1
+selected_number-number-requires-clause-within g c = rw c.sym.ensures c.requires.over.3.operand.1.1
 
 pub selected_number-number-requires-clause-small : goal.selected_number-number-requires-clause-small
 selected_number-number-requires-clause-small g c =
@@ -19,7 +19,7 @@ selected_number-number-requires-clause-small g c =
     let e = c.args.row.now in
     let over = c.requires.over in
     let below = selected_below table list places e.symbol c.requires.list over.3.operand.1.0 (operand_symbols over.0 (length e.symbol) table places over.1 over.2 e over.3) in
-    omega (arith, below, c.requires.list.few)
+    omega (arith, below, c.requires.list.few, ap (λ f. number_of list.base (selected places f)) c.sym.ensures)
 
 pub returns-then-number-eq0 : goal.returns-then-number-eq0
 returns-then-number-eq0 g c = λ i.
@@ -28,7 +28,8 @@ returns-then-number-eq0 g c = λ i.
     let places = c.args.places.now in
     let e = c.args.row.now in
     let some : 0 < list.base = omega (arith, c.requires.list.base_is) in
-    sym (step_absent table places i e.symbol [] (number_absent list.base (selected places e.symbol) some (sym c.selected_number-number.ensures ∙ c.if-number-eq0.true)))
+    let num : c.selected_number-number.result ≡ number_of list.base (selected places e.symbol) = c.selected_number-number.ensures ∙ ap (λ f. number_of list.base (selected places f)) c.sym.ensures in
+    sym (step_absent table places i e.symbol [] (number_absent list.base (selected places e.symbol) some (sym num ∙ c.if-number-eq0.true)))
 
 pub start_at-requires : goal.start_at-requires
 start_at-requires g c =
@@ -38,7 +39,8 @@ start_at-requires g c =
     let e = c.args.row.now in
     let over = c.requires.over in
     let below = selected_below table list places e.symbol c.requires.list over.3.operand.1.0 (operand_symbols over.0 (length e.symbol) table places over.1 over.2 e over.3) in
-    omega (arith, below, c.selected_number-number.ensures, c.requires.list.starts_all)
+    let num : c.selected_number-number.result ≡ number_of list.base (selected places e.symbol) = c.selected_number-number.ensures ∙ ap (λ f. number_of list.base (selected places f)) c.sym.ensures in
+    omega (arith, below, num, c.requires.list.starts_all)
 
 pub target-requires-clause-within : goal.target-requires-clause-within
 target-requires-clause-within g c =
@@ -47,7 +49,7 @@ target-requires-clause-within g c =
     let places = c.args.places.now in
     let e = c.args.row.now in
     let over = c.requires.over in
-    let num : c.selected_number-number.result ≡ number_of list.base (selected places e.symbol) = c.selected_number-number.ensures in
+    let num : c.selected_number-number.result ≡ number_of list.base (selected places e.symbol) = c.selected_number-number.ensures ∙ ap (λ f. number_of list.base (selected places f)) c.sym.ensures in
     let x = entry_numbered over.0 (length e.symbol) table list places over.1 over.2 e c.selected_number-number.result c.columns-columns.ensures.lawful over.3 num c.if-number-eq0.false in
     let start : c.start_at.result ≡ get_or list.listing.starts.items (number_of list.base (selected places e.symbol)) 0 = c.start_at.ensures ∙ ap (λ n. get_or list.listing.starts.items n 0) num in
     omega (arith, start, (c.requires.list.entries (entry (selected places e.symbol) []) (constant_entry table places over.1 over.2 e x c.requires.none)).within)
@@ -59,7 +61,7 @@ returns g c = λ i.
     let places = c.args.places.now in
     let e = c.args.row.now in
     let over = c.requires.over in
-    let num : c.selected_number-number.result ≡ number_of list.base (selected places e.symbol) = c.selected_number-number.ensures in
+    let num : c.selected_number-number.result ≡ number_of list.base (selected places e.symbol) = c.selected_number-number.ensures ∙ ap (λ f. number_of list.base (selected places f)) c.sym.ensures in
     let x = entry_numbered over.0 (length e.symbol) table list places over.1 over.2 e c.selected_number-number.result c.columns-columns.ensures.lawful over.3 num c.if-number-eq0.false in
     let start : c.start_at.result + 0 ≡ get_or list.listing.starts.items (number_of list.base (selected places e.symbol)) 0 + 0 = ap (λ n. n + 0) (c.start_at.ensures ∙ ap (λ n. get_or list.listing.starts.items n 0) num) in
     let there = number_present list.base (selected places e.symbol) (λ z. c.if-number-eq0.false (num ∙ z)) in

@@ -1,10 +1,11 @@
-use Rattle.std.proofs.Common.{◌≡◌, ℕ, ◌+◌, ◌<◌, ◌≤◌, List, map, take, length, get_or, Option, None, Some, refl, ap, ◌∙◌, arith}
+use Rattle.std.proofs.Common.{◌≡◌, ℕ, ◌+◌, ◌<◌, ◌≤◌, List, map, take, length, get_or, Option, ap, ◌∙◌, arith}
 use Rattle.std.specs.List.{insert}
 use Rattle.std.proofs.lemmas.List.{ext_get_or, length-map, length-take-le, get_or-take}
 use Rattle.std.proofs.lemmas.List.Edits.{length-insert}
 use Rattle.indexmap.proofs.SetLemmas.{map-insert}
 use Rattle.fort_lockstep.specs.Columns.{as_column, column_of, symbol_of, digit_of}
 use Rattle.fort_lockstep.proofs.Bounds.{symbol_again}
+use Rattle.fort_lockstep.proofs.SymbolNumberLaws.{column_again}
 use Rattle.fort_lockstep.proofs.symbol.TupleSym.with_column.Goals as goal
 
 -- digits read one by one
@@ -13,10 +14,6 @@ digits_read ds all n e l h =
     let a = length-take-le n all l in
     ext_get_or 0 (take n all) ds (omega (arith, a, e))
     (λ k m. let less : k < n = omega (arith, a) in get_or-take n all k 0 less ∙ h k less)
-
-column_again : (c : Option ℕ) → column_of (digit_of c) ≡ c
-column_again None = refl
-column_again (Some g) = refl
 
 -- one more column by its digit
 symbol_with : (ds : List ℕ) (f : List (Option ℕ)) (i : ℕ) (c : Option ℕ) → ds ≡ map digit_of f → symbol_of (insert ds i (digit_of c)) ≡ insert f i c

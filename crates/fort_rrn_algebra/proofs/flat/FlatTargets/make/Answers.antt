@@ -1,22 +1,24 @@
 use Rattle.std.proofs.Common.{◌≡◌, ◌+◌, ◌^◌, suc, length, ap, ◌∙◌, arith}
+use Rattle.std.proofs.lemmas.Result.{IfOk-weaker}
 use Rattle.fort_rrn_algebra.proofs.ListingLaws.{laid_entries}
 use Rattle.fort_rrn_algebra.proofs.flat.FlatTargets.make.Goals as goal
 
-pub returns-in_ok-make-in-Some-3 : goal.returns-in_ok-make-in-Some-3
-returns-in_ok-make-in-Some-3 g c = λ few_told.
+pub returns-in_ok-make-in-Some-2 : goal.returns-in_ok-make-in-Some-2
+returns-in_ok-make-in-Some-2 g c =
     let body = g.T.Table.table c.args.body.now in
     let base = c.len.result + 1 in
     let spots = c.make.new.self in
     let listing = c.make-in-Some-2.new.self in
     let count = c.in-Some.count in
-    let laid = c.in_ok-make-in-Some-3.ensures in
     let b : base ≡ suc (length body.signature) = omega (arith, c.len.ensures.count, ap length c.signature.ensures) in
     let n : count ≡ base ^ body.columns = c.in-Some.ensures.count ∙ ap (λ k. base ^ k) c.columns.ensures.count in
     let few = c.in-Some.ensures.few in
+    IfOk-weaker c.make-in-Some-2.result _ _ (λ made p told.
+    let laid = p told in
     record {
       base_is = b;
       starts_all = laid.count ∙ n;
       few = omega (arith, n, few);
       spots = c.in_ok-make-in-Some.ensures;
       entries = laid_entries body base count listing.starts.items listing.targets.items spots.ranks.items spots.alike.items b n c.in_ok-make-in-Some.ensures laid;
-    }
+    }) c.make-in-Some-2.ensures

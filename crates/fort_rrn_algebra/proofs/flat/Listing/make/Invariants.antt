@@ -1,5 +1,12 @@
+use Rattle.std.proofs.Common.{◌≡◌}
+use Rattle.fort_lockstep.specs.SymbolNumbers.{columns_at}
 use Rattle.fort_rrn_algebra.specs.Flats.{AreLaid}
 use Rattle.fort_rrn_algebra.proofs.flat.Listing.make.Given as goal
 
-abbrev pub invariant-loop-number : goal.invariant-loop-number
-invariant-loop-number g l = AreLaid (g.T.Table.table l.body) l.base l.number l.self.starts.items l.self.targets.items
+abbrev pub invariant-loop : goal.invariant-loop
+invariant-loop g l =
+    let body = g.T.Table.table l.body in
+    record {
+      symbol : l.symbol ≡ columns_at l.base body.columns l.counter;
+      laid : AreLaid body l.base l.counter l.self.starts.items l.self.targets.items;
+    }

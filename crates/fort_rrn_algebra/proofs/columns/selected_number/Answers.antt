@@ -5,12 +5,12 @@ use Rattle.fort_operations.specs.Selections.{selected}
 use Rattle.fort_rrn_algebra.specs.Places.{number_of}
 use Rattle.fort_rrn_algebra.proofs.SymbolNumbers.{number_of-front}
 use Rattle.fort_rrn_algebra.proofs.ListedLaws.{number_turn}
-use Rattle.fort_rrn_algebra.proofs.listed.selected_number.Goals as goal
+use Rattle.fort_rrn_algebra.proofs.columns.selected_number.Goals as goal
 
 pub number_behind-number-requires : goal.number_behind-number-requires
 number_behind-number-requires c =
     let base = c.args.base in
-    let f = c.args.row.now.symbol in
+    let f = c.args.symbol.now in
     let places = c.args.places.now in
     let k = c.loop-k.k in
     let low : k < length places = omega (arith, c.loop-k-test.true) in
@@ -20,7 +20,7 @@ number_behind-number-requires c =
 pub loop-k-preserved : goal.loop-k-preserved
 loop-k-preserved c =
     let base = c.args.base in
-    let f = c.args.row.now.symbol in
+    let f = c.args.symbol.now in
     let places = c.args.places.now in
     let k = c.loop-k.k in
     let low : k < length places = omega (arith, c.loop-k-test.true) in
@@ -28,6 +28,6 @@ loop-k-preserved c =
 
 pub returns : goal.returns
 returns c =
-    let f = selected c.args.places.now c.args.row.now.symbol in
-    let long : length f ≤ c.loop-k.k = omega (arith, c.loop-k-test.false, length-map c.args.places.now (λ p. get_or c.args.row.now.symbol p None)) in
+    let f = selected c.args.places.now c.args.symbol.now in
+    let long : length f ≤ c.loop-k.k = omega (arith, c.loop-k-test.false, length-map c.args.places.now (λ p. get_or c.args.symbol.now p None)) in
     c.loop-k.invariant ∙ ap (number_of c.args.base) (take_all c.loop-k.k f long)
