@@ -1,4 +1,4 @@
--- Inside: the tuple symbol that a number has in a base, its first column the greatest digit.
+-- To believe: the tuple symbol that a number has in a base, its first column the greatest digit.
 use Rattle.std.specs.Prelude.{ℕ, zero, suc, ◌/◌, ◌%◌, ◌^◌, [], ◌∷◌}
 use Rattle.fort_tables.specs.Tuples.{TupleSymbol}
 use Rattle.fort_lockstep.specs.Columns.{column_of}

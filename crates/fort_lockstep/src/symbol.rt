@@ -1,7 +1,7 @@
 //! Tuple symbols.
-ghost use Rattle.std.specs.Prelude.{◌≡◌, ℕ, ◌+◌, ◌<◌, ◌≤◌, ◌↔◌, List, map, replicate, length, IsTrue, slice_index, slice_index_or, slice_get, None, Some};
+ghost use Rattle.std.specs.Prelude.{◌≡◌, ℕ, ◌+◌, ◌<◌, ◌≤◌, ◌↔◌, map, replicate, length, IsTrue, slice_index, slice_index_or, slice_get, None, Some};
 ghost use Rattle.std.specs.List.{insert};
-ghost use Rattle.fort_lockstep.specs.Columns.{as_column, as_symbol, symbol_of, column_of, digit_of};
+ghost use Rattle.fort_lockstep.specs.Columns.{as_column, as_symbol, symbol_of, digit_of};
 ghost use Rattle.fort_lockstep.specs.SymbolNumbers.{columns_at};
 
 use crate::digits::digit;

@@ -14,11 +14,11 @@ use Rattle.std.specs.Str.Parse.{AllDigits, digits_value}
 use Rattle.fort_theory.specs.Signatures.{is_word_byte}
 use Rattle.fort_grammar.specs.Forms.{Form}
 use Rattle.fort_grammar.specs.Declarations.{word_of}
-use Rattle.fort_sexpr.specs.FormView.{is_list, span_of, word_ahead, IsFirstWord}
-use Rattle.fort_sexpr.specs.Found.{word_end, form_made, form_from}
+use Rattle.fort_sexpr.specs.FormView.{is_list, span_of, word_ahead, IsFirstWord, IsDigitWord}
+use Rattle.fort_sexpr.specs.Found.{form_made, form_from}
 use Rattle.fort_sexpr.specs.Nodes.{opens_before, StandOn, forms_on}
 use Rattle.fort_sexpr.proofs.FoundLaws.{form_spans}
-use Rattle.fort_sexpr.proofs.NodesLaws.{IsSplit, is_list-form_from, from-form_from, word-form_from, opens_behind_word}
+use Rattle.fort_sexpr.proofs.NodesLaws.{IsSplit, is_list-form_from, from-form_from, word-form_from, end-form_from, opens_behind_word}
 
 -- one more digit
 pub digits_next : (bs : List ℕ) (i n d : ℕ) → i < length bs → AllDigits 10 (take i bs) → digits_value 10 (take i bs) ≡ n → IsInRange 48 57 (get_or bs i 0) → d ≡ get_or bs i 0 - 48
@@ -78,28 +78,21 @@ module _ (bs : List ℕ) (i : ℕ) (low : i ≤ length bs) (digits : AllDigits 1
         absurd (true≢false (sym more ∙ subst (λ n. is_word_byte (get_or bs n 0) ≡ false) same (prefix_len_stops is_word_byte bs 0 (omega arith)))))
         (cases_lt i size)
 
-    pub no_digit_ahead : (IsInRange 48 57 (get_or bs i 0) → ⊥) → AllDigits 10 (word_ahead bs) → ⊥
-    no_digit_ahead other all =
-        no_digit (word_ahead bs) i goes_on (λ range. other (subst (IsInRange 48 57) (ahead_at bs i goes_on) range)) all
+    pub no_digit_ahead : (IsInRange 48 57 (get_or bs i 0) → ⊥) → IsDigitWord (word_ahead bs) → ⊥
+    no_digit_ahead other word =
+        no_digit (word_ahead bs) i goes_on (λ range. other (subst (IsInRange 48 57) (ahead_at bs i goes_on) range)) word.digits
 
   -- with one more digit the number is too great
   pub great_ahead : (n d : ℕ) → i < length bs → digits_value 10 (take i bs) ≡ n → IsInRange 48 57 (get_or bs i 0) → d ≡ get_or bs i 0 - 48
-      → 2 ^ 32 ≤ n * 10 + d → AllDigits 10 (word_ahead bs) → digits_value 10 (word_ahead bs) < 2 ^ 32 → ⊥
-  great_ahead n d inside value range digit great all small =
+      → 2 ^ 32 ≤ n * 10 + d → IsDigitWord (word_ahead bs) → ⊥
+  great_ahead n d inside value range digit great word =
       let on = goes_on inside (word_digit (get_or bs i 0) range) in
       let size = prefix_len is_word_byte bs in
       let front : take i (word_ahead bs) ≡ take i bs = take-take i size bs at_least in
-      stays_great (word_ahead bs) i n d on (ap (digits_value 10) front ∙ value) all
-      (subst (λ b. d ≡ b - 48) (sym (ahead_at bs i on)) digit) great small
+      stays_great (word_ahead bs) i n d on (ap (digits_value 10) front ∙ value) word.digits
+      (subst (λ b. d ≡ b - 48) (sym (ahead_at bs i on)) digit) great word.small
 
 module _ (bytes : List ℕ) (at list count p : ℕ) (split : IsSplit bytes p at list count) where
-  -- a word is as long as its form
-  end_here : is_list (form_from bytes p) ≡ false → (span_of (form_from bytes p)).to ≡ p + length (word_ahead (drop p bytes))
-  unfolding word_end
-  end_here w =
-      ap (λ b. (span_of (form_made b bytes p)).to) (sym (is_list-form_from bytes p) ∙ w)
-      ∙ ap (λ n. p + n) (sym (length-prefix_len is_word_byte (drop p bytes)))
-
   word_here : (b : Bool) (word : List ℕ) → word_of bytes (form_made b bytes p) ≡ Some word → b ≡ false
   word_here true word e = absurd cc
   word_here false word e = refl
@@ -120,17 +113,14 @@ module _ (bytes : List ℕ) (at list count p : ℕ) (split : IsSplit bytes p at 
 
   -- where it isn't of digits, or no byte is ahead, no first word is
   pub none_ahead : (word : List ℕ) (rest : List Form) → IsFirstWord bytes (forms_on bytes at) word rest
-      → (AllDigits 10 (word_ahead (drop p bytes)) → digits_value 10 (word_ahead (drop p bytes)) < 2 ^ 32 → ⊥)
-      → AllDigits 10 word → digits_value 10 word < 2 ^ 32 → ⊥
-  none_ahead word rest h none all small =
-      let is = (first_is word rest h).is in
-      none (subst (AllDigits 10) is all) (subst (λ w. digits_value 10 w < 2 ^ 32) is small)
+      → (IsDigitWord (word_ahead (drop p bytes)) → ⊥) → IsDigitWord word → ⊥
+  none_ahead word rest h none digits = none (subst IsDigitWord (first_is word rest h).is digits)
 
   pub some_ahead : (word : List ℕ) (rest : List Form) → IsFirstWord bytes (forms_on bytes at) word rest
       → 0 < length (word_ahead (drop p bytes))
   some_ahead word rest h =
       let spans = form_spans bytes (form_from bytes p) split.first.form in
-      omega (arith, spans.some, end_here (first_is word rest h).is_word, from-form_from bytes p)
+      omega (arith, spans.some, end-form_from bytes p (first_is word rest h).is_word, from-form_from bytes p)
 
   -- a digit begins a word
   module _ (text : List ℕ) (is : text ≡ word_ahead (drop p bytes)) (all : AllDigits 10 text) (some : 0 < length text) where
@@ -145,7 +135,7 @@ module _ (bytes : List ℕ) (at list count p : ℕ) (split : IsSplit bytes p at 
         is_list-form_from bytes p ∙ ne_eqb (get_or bytes p 0) 40 (omega (arith, first, digit.0))
 
     behind_here : (span_of (form_from bytes p)).to ≡ p + length text
-    behind_here = end_here digit_here ∙ ap (λ w. p + length w) (sym is)
+    behind_here = end-form_from bytes p digit_here ∙ ap (λ w. p + length w) (sym is)
 
     -- what is behind it
     pub rest_is : StandOn bytes (p + length text) list (count - 1)

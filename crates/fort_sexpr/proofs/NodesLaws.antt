@@ -2,6 +2,7 @@
 use Rattle.std.proofs.Common.{◌≡◌, ℕ, zero, suc, ◌+◌, ◌-◌, ◌<◌, ◌≤◌, Bool, true, false, ◌==◌, Some, List, [], ◌∷◌, length, take, drop, get_or, refl, sym, ap, ◌∙◌, subst, inl, inr, arith}
 use Rattle.std.proofs.lemmas.Bool.{true≢false, cases_lt}
 use Rattle.std.proofs.lemmas.List.{get_or_default}
+use Rattle.std.proofs.lemmas.List.Folds.{length-prefix_len}
 use Rattle.std.specs.List.{prefix_len}
 use Rattle.fort_theory.specs.Signatures.{is_word_byte}
 use Rattle.fort_grammar.specs.Text.{stands_at}
@@ -9,14 +10,14 @@ use Rattle.fort_grammar.specs.Forms.{Form, Forms, Word, ListForm, NoForm, MoreFo
 use Rattle.fort_grammar.specs.Declarations.{word_of, elements_of, as_list}
 use Rattle.fort_grammar.proofs.Bytes.{IsPlain-from_word_byte, is_blank-word_byte, is_blank-at, stands_at-outside, stands_at-in_comment, stands_at-other}
 use Rattle.fort_sexpr.specs.FormView.{is_list, span_of, form_count, form_at, word_ahead}
-use Rattle.fort_sexpr.specs.Progress.{comment_before, IsWordEnd, IsNextToken}
+use Rattle.fort_sexpr.specs.Progress.{comment_before, IsNextToken}
 use Rattle.fort_sexpr.specs.Found.{word_end, run_from, form_made, form_from, IsListAt, StandsIn}
 use Rattle.fort_sexpr.specs.Nodes.{opens_before, list_at, AreListed, nodes_of, Stands, forms_on, StandOn}
 use Rattle.fort_sexpr.specs.declared.arena.Node.{Node}
 use Rattle.fort_sexpr.specs.declared.arena.ListNode.{ListNode}
 use Rattle.fort_sexpr.proofs.Depths.{count_before-yes, count_before-no}
 use Rattle.fort_sexpr.proofs.FormLists.{node_counts-AreForms}
-use Rattle.fort_sexpr.proofs.FoundLaws.{word_end_is, found, form_from_is, each_stands}
+use Rattle.fort_sexpr.proofs.FoundLaws.{found, form_from_is, each_stands}
 
 module _ (bytes : List ℕ) where
   -- how many lists open before one offset and the other
@@ -197,9 +198,13 @@ module _ (bytes : List ℕ) where
       → word_of bytes (form_from bytes from) ≡ Some (word_ahead (drop from bytes))
   word-form_from from w = ap (λ b. word_of bytes (form_made b bytes from)) (sym (is_list-form_from from) ∙ w) ∙ word_made from
 
-  pub end-form_from : (from to : ℕ) → is_list (form_from bytes from) ≡ false → IsWordEnd bytes from to → to ≡ (span_of (form_from bytes from)).to
-  end-form_from from to w e =
-      word_end_is bytes from to e ∙ ap (λ b. (span_of (form_made b bytes from)).to) (sym w ∙ is_list-form_from from)
+  -- and its form is as long
+  pub end-form_from : (from : ℕ) → is_list (form_from bytes from) ≡ false
+      → (span_of (form_from bytes from)).to ≡ from + length (word_ahead (drop from bytes))
+  unfolding word_end
+  end-form_from from w =
+      ap (λ b. (span_of (form_made b bytes from)).to) (sym (is_list-form_from from) ∙ w)
+      ∙ ap (λ n. from + n) (sym (length-prefix_len is_word_byte (drop from bytes)))
 
   -- in a word no list opens
   pub opens_behind_word : (from : ℕ) → is_list (form_from bytes from) ≡ false → StandsIn bytes (form_from bytes from)

@@ -1,8 +1,7 @@
 //! Words of decimal digits. A word is told by the bytes of the text from its first one on.
 ghost use Rattle.std.specs.Prelude.{◌≡◌, ◌+◌, ◌*◌, ◌-◌, ◌<◌, ◌≤◌, ◌^◌, IfSome, IfNone};
 ghost use Rattle.std.specs.Int.{IsInRange};
-ghost use Rattle.std.specs.Str.Parse.{AllDigits, digits_value};
-ghost use Rattle.fort_sexpr.specs.FormView.{word_ahead};
+ghost use Rattle.fort_sexpr.specs.FormView.{word_ahead, IsDigitWord, IsWritten};
 
 use crate::scan::is_word_byte;
 
@@ -42,11 +41,8 @@ fn with_digit(value: u32, digit: u32) -> Option<u32>
 /// Where the word ends is found on the way.
 pub fn digits_ahead(bytes: &[u8]) -> Option<Digits<'_>>
     ensures text { IfSome result (λ d. d.text.now ≡ word_ahead bytes.now) }
-    ensures some { IfSome result (λ d. AllDigits 10 d.text.now
-        × (digits_value 10 d.text.now ≡ d.value)) }
-    ensures small { IfSome result (λ d. d.value < 2 ^ 32) }
-    ensures none { IfNone result (AllDigits 10 (word_ahead bytes.now)
-        → digits_value 10 (word_ahead bytes.now) < 2 ^ 32 → ⊥) }
+    ensures written { IfSome result IsWritten }
+    ensures none { IfNone result (IsDigitWord (word_ahead bytes.now) → ⊥) }
 {
     let mut value = 0u32;
     for i in 0..bytes.len() {

@@ -1,9 +1,8 @@
 //! A form of a text, and the forms of a list.
-ghost use Rattle.std.specs.Prelude.{◌≡◌, ℕ, ◌<◌, ◌≤◌, ◌^◌, ◌↔◌, [], ◌∷◌, length, List, Some, None, IsTrue, IfSome, IfNone, slice_get, slice_range};
-ghost use Rattle.std.specs.Str.Parse.{AllDigits, digits_value};
+ghost use Rattle.std.specs.Prelude.{◌≡◌, ℕ, ◌<◌, ◌≤◌, ◌↔◌, [], ◌∷◌, length, List, Some, None, IsTrue, IfSome, IfNone, slice_get, slice_range};
 ghost use Rattle.fort_grammar.specs.Forms as grammar;
 ghost use Rattle.fort_grammar.specs.Declarations.{word_of, elements_of, IsHeaded};
-ghost use Rattle.fort_sexpr.specs.FormView.{is_list, span_of, word_ahead, IsFirstWord};
+ghost use Rattle.fort_sexpr.specs.FormView.{is_list, span_of, word_ahead, IsFirstWord, IsDigitWord, IsWritten};
 ghost use Rattle.fort_sexpr.specs.Nodes.{opens_before};
 
 use crate::arena::{Arena, Node};
@@ -119,13 +118,10 @@ impl<'a> FormList<'a> {
     pub fn split_digits(&self) -> Option<(Digits<'a>, FormList<'a>)>
         ensures first { IfSome result (λ p.
             IsFirstWord self.now.bytes self.now.forms p.0.text.now p.1.forms) }
-        ensures digits { IfSome result (λ p. AllDigits 10 p.0.text.now
-            × (digits_value 10 p.0.text.now ≡ p.0.value)) }
-        ensures small { IfSome result (λ p. p.0.value < 2 ^ 32) }
+        ensures written { IfSome result (λ p. IsWritten p.0) }
         ensures bytes { IfSome result (λ p. p.1.bytes ≡ self.now.bytes) }
         ensures none { IfNone result ((word : List ℕ) (rest : List grammar.Form)
-            → IsFirstWord self.now.bytes self.now.forms word rest
-            → AllDigits 10 word → digits_value 10 word < 2 ^ 32 → ⊥) }
+            → IsFirstWord self.now.bytes self.now.forms word rest → IsDigitWord word → ⊥) }
     {
         if self.count == 0 {
             return None;

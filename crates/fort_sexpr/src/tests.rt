@@ -1,5 +1,5 @@
 //! Texts, and the forms or the fault that each has.
-use crate::{Form, SFault, Span, is_ahead, is_blank, is_word_byte, read};
+use crate::{Form, SFault, Span, digits_ahead, is_ahead, is_blank, is_word_byte, read};
 use std::alloc::{AllocError, Global};
 use std::test::Fail;
 
@@ -194,6 +194,80 @@ fn gives_the_rest_of_lists(rt: HostRuntime) -> Result<(), Fail> {
         return Err(Fail::from("no second form"));
     };
     assert!(rt; second.is_word(b"b") && rest.is_empty() && rest.split_first().is_none());
+    Ok(())
+}
+
+#[test]
+fn splits_digits_off_lists(rt: HostRuntime) -> Result<(), Fail> {
+    // the number, and how many forms are behind it
+    let table: [(&[u8], Option<(u32, usize)>); 10] = [
+        (b"(12 x)", Some((12, 1))),
+        (b"( ;3\n 4(5) 6)", Some((4, 2))),
+        (b"(007)", Some((7, 0))),
+        (b"(4294967295)", Some((4294967295, 0))),
+        (b"(4294967296)", None),
+        (b"(())", None),
+        (b"(12a)", None),
+        (b"(a12)", None),
+        (b"()", None),
+        (b"(12;c\n)", Some((12, 0))),
+    ];
+    for (source, want) in table {
+        let text = read(rt.alloc(), Vec::from_slice(rt.alloc(), source)?)?;
+        assert!(rt; text.len() == 1);
+        let Some(list) = text.form(0).elements() else {
+            return Err(Fail::from("no list"));
+        };
+        let found = match list.split_digits() {
+            Some((digits, rest)) => Some((digits.value, rest.len())),
+            None => None,
+        };
+        assert_eq!(rt; found, want, "in {source:?}");
+    }
+    Ok(())
+}
+
+#[test]
+fn splits_digits_off_digits(rt: HostRuntime) -> Result<(), Fail> {
+    let text = read(rt.alloc(), Vec::from_slice(rt.alloc(), b"(12;c\n 34(5))")?)?;
+    assert!(rt; text.len() == 1);
+    let Some(list) = text.form(0).elements() else {
+        return Err(Fail::from("no list"));
+    };
+    let Some((first, rest)) = list.split_digits() else {
+        return Err(Fail::from("no first number"));
+    };
+    assert_eq!(rt; first.text, b"12".as_slice());
+    let Some((second, rest)) = rest.split_digits() else {
+        return Err(Fail::from("no second number"));
+    };
+    assert!(rt; second.text == b"34".as_slice() && second.value == 34);
+    assert!(rt; rest.len() == 1 && rest.split_digits().is_none());
+    Ok(())
+}
+
+#[test]
+fn reads_the_digits_ahead(rt: HostRuntime) -> Result<(), Fail> {
+    // how many digits there are, and their number
+    let table: [(&[u8], Option<(usize, u32)>); 10] = [
+        (b"12 x", Some((2, 12))),
+        (b"12;c\n", Some((2, 12))),
+        (b"007", Some((3, 7))),
+        (b"4294967295)", Some((10, 4294967295))),
+        (b"4294967296)", None),
+        (b"99999999999", None),
+        (b"12a", None),
+        (b"x", None),
+        (b"(1)", Some((0, 0))),
+        (b"", Some((0, 0))),
+    ];
+    for (source, want) in table {
+        let found = match digits_ahead(source) {
+            Some(digits) => Some((digits.text.len(), digits.value)),
+            None => None,
+        };
+        assert_eq!(rt; found, want, "in {source:?}");
+    }
     Ok(())
 }
 

@@ -4,9 +4,9 @@ use Rattle.fort_sexpr.proofs.DigitWords.{digits_next, ahead_ended, no_digit_ahea
 use Rattle.fort_sexpr.proofs.digits.digits_ahead.Goals as goal
 
 pub returns-then-is_word_byte-clause-none : goal.returns-then-is_word_byte-clause-none
-returns-then-is_word_byte-clause-none c all small =
+returns-then-is_word_byte-clause-none c =
     no_digit_ahead c.args.bytes.now c.loop-i.i (omega (arith, c.loop-i-test.true)) c.loop-i.invariant.digits (omega (arith, c.loop-i-test.true))
-    (sym c.if-is_word_byte.ensures) c.in_default.ensures.none all
+    (sym c.if-is_word_byte.ensures) c.in_default.ensures.none
 
 pub returns-in_err-value-clause-none : goal.returns-in_err-value-clause-none
 returns-in_err-value-clause-none c =

@@ -42,7 +42,7 @@ returns-then-is_empty-clause-none c =
     let split = split_is bytes list.at list.list list.count from c.self.invariant token (omega arith) in
     let text = rw (c.deref.ensures.value, take_rest) at c.in_ok-digits.ensures.text in
     rw (← c.self.view_is)
-    (λ word rest h all small. omega (
+    (λ word rest h _. omega (
       arith,
       some_ahead bytes list.at list.list list.count from split word rest h,
       ap (λ xs. length xs) text,
@@ -58,7 +58,7 @@ invariant_of-rest c =
     let split = split_is bytes list.at list.list list.count from c.self.invariant token (omega arith) in
     let text = rw (c.deref.ensures.value, take_rest) at c.in_ok-digits.ensures.text in
     let some = eqb-false _ 0 (sym c.is_empty.ensures ∙ c.if-is_empty.false) in
-    rest_is bytes list.at list.list list.count from split c.in_ok-digits.digits.text.now text c.in_ok-digits.ensures.some.0 (omega (arith, some))
+    rest_is bytes list.at list.list list.count from split c.in_ok-digits.digits.text.now text c.in_ok-digits.ensures.written.word.digits (omega (arith, some))
 
 pub returns-clause-first : goal.returns-clause-first
 returns-clause-first c =
@@ -70,4 +70,4 @@ returns-clause-first c =
     let text = rw (c.deref.ensures.value, take_rest) at c.in_ok-digits.ensures.text in
     let some = eqb-false _ 0 (sym c.is_empty.ensures ∙ c.if-is_empty.false) in
     rw (← c.self.view_is)
-    (first_word bytes list.at list.list list.count from split c.in_ok-digits.digits.text.now text c.in_ok-digits.ensures.some.0 (omega (arith, some)))
+    (first_word bytes list.at list.list list.count from split c.in_ok-digits.digits.text.now text c.in_ok-digits.ensures.written.word.digits (omega (arith, some)))
