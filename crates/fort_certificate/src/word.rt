@@ -1,17 +1,14 @@
 //! Which words are numbers. A word is told by the bytes of the text from its first one on.
-ghost use Rattle.std.specs.Prelude.{◌≡◌, ◌<◌, ◌^◌, IfSome, IfNone};
-ghost use Rattle.std.specs.Str.Parse.{AllDigits, digits_value};
+ghost use Rattle.std.specs.Prelude.{IfSome, IfNone};
 ghost use Rattle.fort_certificate_grammar.specs.CertificateForms.{IsNumberWord};
 ghost use Rattle.fort_certificate_grammar.specs.CertificateFaults.{IsNoNumber};
-ghost use Rattle.fort_sexpr.specs.FormView.{word_ahead};
+ghost use Rattle.fort_sexpr.specs.FormView.{word_ahead, IsWritten};
 
 use fort_sexpr::{Digits, digits_ahead};
 
 /// The number that these digits are, with no zero in front of others.
 pub(crate) fn number_of(digits: Digits<'_>) -> Option<u32>
-    requires digits { AllDigits 10 digits.text.now × (digits_value 10 digits.text.now
-        ≡ digits.value) }
-    requires small { digits.value < 2 ^ 32 }
+    requires { IsWritten digits }
     ensures some { IfSome result (λ n. IsNumberWord digits.entry.text.now n) }
     ensures none { IfNone result (IsNoNumber digits.entry.text.now) }
 {

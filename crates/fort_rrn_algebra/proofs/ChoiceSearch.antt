@@ -1,13 +1,14 @@
 -- The search through the choices: the next state that may stand as a child, and one turn of the loop over them.
 use Rattle.std.proofs.Common.{◌≡◌, ◌≢◌, ℕ, zero, suc, ◌+◌, ◌-◌, ◌<◌, ◌≤◌, ◌==◌, ◌&&◌, ◌||◌, List, [], ◌∷◌, ◌++◌, length, get_or, take, set, Option, None, Some, IfNone, Bool, true, false, ⊎_elim, refl, ap, sym, ◌∙◌, arith, subst, append_assoc, get_or-set_same, get_or-set_other}
-use Rattle.std.proofs.lemmas.Bool.{cases_lt}
-use Rattle.std.proofs.lemmas.List.{append-nil, take_more_set, length-take-le, get_or-take}
+use Rattle.std.proofs.lemmas.Bool.{cases_lt, eqb-true, eq-eqb}
+use Rattle.std.proofs.lemmas.List.{append-nil, take_more_set, length-take-le, get_or-take, ext_get_or}
 use Rattle.std.specs.Slice.Scan.{HoldsNowhere}
 use Rattle.fort_tables.specs.Tuples.{TupleSymbol, IsTupleSymbol, symbol_kids}
 use Rattle.fort_tables.specs.Entries.{Entry, entry}
 use Rattle.fort_tables.specs.Tables.{Table, IsTableEntry, IsTable, IsReached}
 use Rattle.fort_tables.proofs.TableLaws.{IsKidState, IsTableEntry-kid_states, table_state}
 use Rattle.fort_operations.specs.Projections.{some_below, some_choice, absent_state, has_state, is_pure}
+use Rattle.fort_operations.proofs.SearchLaws.{same_truth, found_choice, choice_found, options_from_zero, options_at_zero}
 use Rattle.fort_operations.proofs.ProjectLabels.{may_in_set, may_past, may_absent}
 use Rattle.fort_rrn_algebra.specs.OperandRows.{labels_at}
 use Rattle.fort_rrn_algebra.specs.Choices.{IsNext, IsNextChoice, AreNoChoices, AreChoices, may_choose, is_reachable}
@@ -127,3 +128,14 @@ turn_last may reach from m new old l none h = h ∙ ap (λ c. c || old) (sym (so
 pub reach_chosen : (body : Table) (may : ℕ → ℕ → Bool) (f : TupleSymbol) (chosen : List ℕ) (j rest k q : ℕ) → j < length chosen
     → is_reachable body may f (take j chosen ++ k ∷ []) (j + 1) (rest - 1) q ≡ is_reachable body may f (take (j + 1) (set chosen j k)) (j + 1) (rest - 1) q
 reach_chosen body may f chosen j rest k q l = ap (λ b. is_reachable body may f b (j + 1) (rest - 1) q) (sym (take_more_set chosen j k l))
+
+-- where one number alone may stand at each place, a search is true exactly where these numbers pass
+pub one_choice : (m : ℕ) (may : ℕ → ℕ → Bool) (ks : List ℕ) (p : List ℕ → Bool) → ((i : ℕ) → i < length ks → get_or ks i 0 < m) → ((i k : ℕ) → i < length ks → may i k ≡ (get_or ks i 0 == k)) → some_choice m may 0 (length ks) p ≡ p ks
+one_choice m may ks p small one =
+    same_truth (some_choice m may 0 (length ks) p) (p ks)
+    (λ o.
+    let r = found_choice m may 0 (length ks) p o in
+    let all = options_at_zero m may r.0 r.2 in
+    let same : r.0 ≡ ks = ext_get_or 0 r.0 ks r.1 (λ i l. sym (eqb-true (get_or ks i 0) (get_or r.0 i 0) (sym (one i (get_or r.0 i 0) (omega (arith, r.1))) ∙ (all i l).1))) in
+    subst (λ (xs : List ℕ). p xs ≡ true) same r.3)
+    (λ o. choice_found m may 0 (length ks) p ks refl (options_from_zero m may ks (λ i l. (small i l, one i (get_or ks i 0) l ∙ eq-eqb (get_or ks i 0) (get_or ks i 0) refl))) o)

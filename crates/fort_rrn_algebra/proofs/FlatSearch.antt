@@ -75,11 +75,6 @@ rest_more set i state n m r some e =
       is = e ∙ (a ∙ ap (λ k. x / 2 ^ k) t);
     }
 
-pub rest_first : (set : List ℕ) (i n : ℕ) → 2 ≤ i → get_or set i 0 < 2 ^ 64 → n ≡ get_or set i 0 / 2 ^ 0 → IsRestOf set i (64 * (i - 2)) n
-rest_first set i n b small e =
-    let t : 0 ≡ 64 * (i - 2) - 64 * (i - 2) = omega arith in
-    record { behind = b; low = omega arith; high = omega arith; small = small; is = e ∙ ap (λ k. get_or set i 0 / 2 ^ k) t }
-
 pub shift_test : (t q : ℕ) → ((128 + t) == (128 + q)) ≡ (t == q)
 shift_test t q = grind (arith, nat_tests)
 

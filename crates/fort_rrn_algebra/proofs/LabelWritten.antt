@@ -1,5 +1,5 @@
 -- The label of a projection as it is written: the first two words, and then the bits that are marked.
-use Rattle.std.proofs.Common.{◌≡◌, ◌≢◌, ℕ, ◌+◌, ◌*◌, ◌/◌, ◌%◌, ◌<◌, ◌≤◌, ◌&&◌, ◌||◌, ◌==◌, List, [], ◌∷◌, drop, set, length, get_or, Some, max, Bool, true, false, ⊎_elim, refl, ap, sym, ◌∙◌, arith, get_or-set_same, get_or-set_other, length-drop}
+use Rattle.std.proofs.Common.{◌≡◌, ◌≢◌, ℕ, ◌+◌, ◌*◌, ◌/◌, ◌%◌, ◌<◌, ◌≤◌, ◌&&◌, ◌||◌, ◌==◌, List, [], ◌∷◌, map, drop, set, length, get_or, Some, max, Bool, true, false, ⊎_elim, refl, ap, sym, ◌∙◌, arith, get_or-set_same, get_or-set_other, length-drop}
 use Rattle.std.proofs.lemmas.Bool.{cases_lt}
 use Rattle.std.proofs.lemmas.List.{get_or_past, get_or-drop, length-set}
 use Rattle.std.proofs.lemmas.Nat.Bits.{bit_at-zero}
@@ -8,16 +8,17 @@ use Rattle.std.specs.List.{insert}
 use Rattle.fort_theory.specs.Signatures.{Signature, arity_of}
 use Rattle.fort_tables.specs.Tuples.{TupleSymbol, arity}
 use Rattle.fort_tables.specs.Entries.{Entry, entry}
-use Rattle.fort_tables.specs.Tables.{Table}
+use Rattle.fort_tables.specs.Tables.{Table, IsTable, IsReached}
 use Rattle.fort_tables.specs.BitRows.{AreWords, has_bit, bit_row, words_for}
 use Rattle.fort_tables.proofs.TupleLaws.{arity_from_get}
 use Rattle.fort_tables.proofs.BitRowLaws.{has_bit-drop, bit_row_is}
-use Rattle.fort_operations.specs.Projections.{has_state, may_stand, some_choice, ArePure}
+use Rattle.fort_operations.specs.Projections.{absent_state, has_state, may_stand, some_choice, ArePure}
 use Rattle.fort_rrn_algebra.specs.OperandRows.{labels_at}
 use Rattle.fort_rrn_algebra.specs.Choices.{IsSearched, AreChoices, may_choose, is_reachable}
 use Rattle.fort_rrn_algebra.specs.Scopes.{takes, may_in, gives_in}
 use Rattle.fort_rrn_algebra.specs.declared.scope.Scope.{Scope}
-use Rattle.fort_rrn_algebra.proofs.ProjectEntries.{length-labels_at}
+use Rattle.fort_rrn_algebra.proofs.ProjectEntries.{length-labels_at, entry_under_constant}
+use Rattle.fort_rrn_algebra.proofs.ScopeLaws.{gives_over_absent}
 
 two_words : (w : List ℕ) → 2 ≤ length w → w ≡ get_or w 0 0 ∷ get_or w 1 0 ∷ drop 2 w
 two_words [] l = absurd (omega arith)
@@ -81,6 +82,16 @@ under_reachable body c alone labels e scope g f most count q h taken k =
     ∙ (ap (λ y. is_reachable body (may_in scope (may_choose body c labels e y)) (insert e.symbol c (Some g)) [] 0 count q) h.arity_is
     ∙ (ap (λ m. is_reachable body (may_in scope (may_choose body c labels e a)) (insert e.symbol c (Some g)) [] 0 m q) n
     ∙ ap (λ b. b && is_reachable body (may_in scope (may_choose body c labels e a)) (insert e.symbol c (Some g)) [] 0 (max a (length ws)) q) (sym (ap (takes scope) (sym h.arity_is) ∙ taken))))
+
+-- a constant needs no search: its one target is what it gives
+pub constant_gives : (body : Table) (c : ℕ) (alone : List ℕ) (labels : List (List ℕ)) (e : Entry) (scope : Scope) (g : ℕ) (f : TupleSymbol) (most q : ℕ) → IsTable body → IsReached body → AreChoices body c alone labels e g f most → takes scope most ≡ true → most ≡ 0
+    → (body.target (entry f (map absent_state (labels_at labels e.kids))) == q) ≡ gives_in body c e.symbol (labels_at labels e.kids) scope q g
+constant_gives body c alone labels e scope g f most q is reached h taken none =
+    let ws = labels_at labels e.kids in
+    let whole = entry_under_constant body c alone labels e g f most is reached h none in
+    let zero : arity body.signature g ≡ 0 = omega (arith, h.arity_is) in
+    ap (λ z. body.target (entry z (map absent_state ws)) == q) h.symbol
+    ∙ sym (gives_over_absent body c e.symbol ws scope q g zero (ap (takes scope) (sym none) ∙ taken) whole.within)
 
 -- a symbol that isn't in the scope gives nothing
 pub none_taken : (body : Table) (c : ℕ) (f : TupleSymbol) (ws : List (List ℕ)) (scope : Scope) (q g : ℕ) (old : Bool) → takes scope (arity body.signature g) ≡ false → old ≡ (gives_in body c f ws scope q g || old)

@@ -3,7 +3,7 @@ use Rattle.std.proofs.Common.{◌≡◌, ℕ, zero, suc, ◌+◌, ◌-◌, ◌*�
 use Rattle.std.proofs.Math.Nat.{mul-le-mul_right}
 use Rattle.std.proofs.lemmas.Bool.{cases_lt}
 use Rattle.std.proofs.lemmas.List.{append-nil, get_or_append_left, get_or-append-add, take_more_set, length-take-le, get_or-take}
-use Rattle.fort_tables.specs.Tuples.{TupleSymbol, IsTupleSymbol, symbol_kids, kid_presence}
+use Rattle.fort_tables.specs.Tuples.{TupleSymbol, AreSymbols, IsTupleSymbol, symbol_kids, kid_presence}
 use Rattle.fort_tables.specs.Entries.{Entry, entry}
 use Rattle.fort_tables.specs.Tables.{Table, IsTableEntry}
 use Rattle.fort_tables.proofs.EqualTests.{test_from_apart}
@@ -12,9 +12,9 @@ use Rattle.fort_lockstep.proofs.InOrderLaws.{rank_less}
 use Rattle.fort_operations.specs.Selections.{is_present}
 use Rattle.fort_operations.proofs.SelectionLaws.{present_from_test, test_from_present}
 use Rattle.fort_lockstep.specs.SymbolNumbers.{columns_at}
-use Rattle.fort_rrn_algebra.specs.Places.{number_of, IsNumbered, place_from, AreSpots}
+use Rattle.fort_rrn_algebra.specs.Places.{number_of, place_from, AreSpots}
 use Rattle.fort_laid_entries.specs.Laid.{joined_below}
-use Rattle.fort_rrn_algebra.specs.Flats.{base_of, laid, IsStateFor, HasFrom, AreLaid, IsTargetAt}
+use Rattle.fort_rrn_algebra.specs.Flats.{laid, IsStateFor, HasFrom, AreLaid, IsTargetAt}
 use Rattle.fort_rrn_algebra.proofs.PlaceLaws.{rank_none, rank_more, rank_whole, room, AreKidsFrom, kids_from_index, place_first, place_below}
 use Rattle.fort_lockstep.proofs.SymbolNumberLaws.{length-columns_at}
 use Rattle.fort_rrn_algebra.proofs.SymbolNumbers.{number_below, columns_again, symbols_at}
@@ -210,44 +210,32 @@ state_more body f chosen j k l h s i b = ⊎_elim
     (λ (a : j ≤ i). let e : j ≡ i = omega arith in subst (λ (x : ℕ). IsStateFor body f x (get_or (set chosen j k) x 0)) e (subst (IsStateFor body f j) (sym (get_or-set_same chosen j k 0 l)) s))
     (cases_lt i j)
 
--- the tuple symbol with a number
+-- a tuple symbol has the columns of its number
 symbol_is : (body : Table) (base n : ℕ) (f : TupleSymbol) → base ≡ suc (length body.signature) → IsTupleSymbol body.signature body.columns f → number_of base f ≡ n → f ≡ columns_at base body.columns n
 symbol_is body base n f b s e = sym (columns_again body.signature base f b s.symbols) ∙ (ap (λ w. columns_at base w (number_of base f)) s.width ∙ ap (columns_at base body.columns) e)
 
+-- the tuple symbol with a number, where a column is present
+pub tuple_symbol_at : (body : Table) (base n : ℕ) (f : TupleSymbol) → base ≡ suc (length body.signature) → f ≡ columns_at base body.columns n → is_present f ≡ true → IsTupleSymbol body.signature body.columns f
+tuple_symbol_at body base n f b is p = record {
+  width = ap length is ∙ length-columns_at base body.columns n;
+  present = present_from_test f p;
+  symbols = subst (AreSymbols body.signature) (sym is) (symbols_at body.signature base body.columns n b);
+}
+
 -- a number without a tuple symbol
-pub laid_none : (body : Table) (base n : ℕ) (starts targets new : List ℕ) → base ≡ suc (length body.signature) → AreLaid body base n starts targets → is_present (columns_at base body.columns n) ≡ false → new ≡ starts ++ length targets ∷ [] → AreLaid body base (n + 1) new targets
-laid_none body base n starts targets new b h absent e =
+pub laid_none : (body : Table) (base n : ℕ) (f : TupleSymbol) (starts targets new : List ℕ) → base ≡ suc (length body.signature) → f ≡ columns_at base body.columns n → AreLaid body base n starts targets → is_present f ≡ false → new ≡ starts ++ length targets ∷ []
+    → AreLaid body base (n + 1) new targets
+laid_none body base n f starts targets new b is h absent e =
     subst (λ (xs : List ℕ). AreLaid body base (n + 1) xs targets) (sym e)
     (subst (λ (xs : List ℕ). AreLaid body base (n + 1) (starts ++ length targets ∷ []) xs) (append-nil targets)
     (laid_more body base n starts targets [] h
-    (λ f s o. absurd (true≢false (sym (test_from_present f s.present) ∙ (ap is_present (symbol_is body base n f b s o) ∙ absent))))))
+    (λ g s o. absurd (true≢false (sym (test_from_present g s.present) ∙ (ap is_present (symbol_is body base n g b s o ∙ sym is) ∙ absent))))))
 
 -- a number with one
-pub laid_one : (body : Table) (base n : ℕ) (starts targets new laid_new : List ℕ) → base ≡ suc (length body.signature) → AreLaid body base n starts targets → new ≡ starts ++ length targets ∷ []
-    → laid_new ≡ targets ++ laid body (columns_at base body.columns n) [] 0 (symbol_kids body.signature (columns_at base body.columns n)) → AreLaid body base (n + 1) new laid_new
-laid_one body base n starts targets new laid_new b h e m =
-    let g = columns_at base body.columns n in
+pub laid_one : (body : Table) (base n : ℕ) (f : TupleSymbol) (starts targets new laid_new : List ℕ) → base ≡ suc (length body.signature) → f ≡ columns_at base body.columns n → AreLaid body base n starts targets → new ≡ starts ++ length targets ∷ []
+    → laid_new ≡ targets ++ laid body f [] 0 (symbol_kids body.signature f) → AreLaid body base (n + 1) new laid_new
+laid_one body base n f starts targets new laid_new b is h e m =
     subst (λ (xs : List ℕ). AreLaid body base (n + 1) xs laid_new) (sym e)
     (subst (λ (xs : List ℕ). AreLaid body base (n + 1) (starts ++ length targets ∷ []) xs) (sym m)
-    (laid_more body base n starts targets (laid body g [] 0 (symbol_kids body.signature g)) h
-    (λ f s o. ap (λ x. laid body x [] 0 (symbol_kids body.signature x)) (sym (symbol_is body base n f b s o)))))
-
-pub tuple_symbol_at : (body : Table) (base n : ℕ) → base ≡ suc (length body.signature) → is_present (columns_at base body.columns n) ≡ true → IsTupleSymbol body.signature body.columns (columns_at base body.columns n)
-tuple_symbol_at body base n b p = record {
-  width = length-columns_at base body.columns n;
-  present = present_from_test (columns_at base body.columns n) p;
-  symbols = symbols_at body.signature base body.columns n b;
-}
-
--- the tuple symbol of a number, with and without a present column
-pub numbered_symbol : (body : Table) (n : ℕ) (f : TupleSymbol) → IsNumbered (base_of body) body.columns n f → is_present f ≡ true → IsTupleSymbol body.signature body.columns f
-numbered_symbol body n f h p = subst (IsTupleSymbol body.signature body.columns) (sym h.is) (tuple_symbol_at body (base_of body) n refl (ap is_present (sym h.is) ∙ p))
-
-pub numbered_none : (body : Table) (n : ℕ) (f : TupleSymbol) (starts targets new : List ℕ) → IsNumbered (base_of body) body.columns n f → AreLaid body (base_of body) n starts targets → is_present f ≡ false
-    → new ≡ starts ++ length targets ∷ [] → AreLaid body (base_of body) (n + 1) new targets
-numbered_none body n f starts targets new h l absent e = laid_none body (base_of body) n starts targets new refl l (ap is_present (sym h.is) ∙ absent) e
-
-pub numbered_one : (body : Table) (n : ℕ) (f : TupleSymbol) (starts targets new laid_new : List ℕ) → IsNumbered (base_of body) body.columns n f → AreLaid body (base_of body) n starts targets → new ≡ starts ++ length targets ∷ []
-    → laid_new ≡ targets ++ laid body f [] 0 (symbol_kids body.signature f) → AreLaid body (base_of body) (n + 1) new laid_new
-numbered_one body n f starts targets new laid_new h l e m =
-    laid_one body (base_of body) n starts targets new laid_new refl l e (m ∙ ap (λ g. targets ++ laid body g [] 0 (symbol_kids body.signature g)) h.is)
+    (laid_more body base n starts targets (laid body f [] 0 (symbol_kids body.signature f)) h
+    (λ g s o. ap (λ x. laid body x [] 0 (symbol_kids body.signature x)) (is ∙ sym (symbol_is body base n g b s o)))))

@@ -1,6 +1,6 @@
 -- Entries of the body below an entry over the labels of a projection: the one with the column absent, and those with a symbol in it.
 use Rattle.std.proofs.Common.{◌≡◌, ℕ, suc, ◌+◌, ◌-◌, ◌^◌, ◌<◌, ◌≤◌, max, List, [], map, length, None, Some, get_or, true, ⊎_elim, ap, sym, ◌∙◌, arith, subst}
-use Rattle.std.proofs.lemmas.Bool.{cases_lt, eqb-true}
+use Rattle.std.proofs.lemmas.Bool.{cases_lt, eqb-true, eq-eqb}
 use Rattle.std.proofs.lemmas.List.{length-map, get_or-map, get_or_past}
 use Rattle.std.proofs.Math.Pow.{pow_pos}
 use Rattle.std.specs.List.{insert}
@@ -15,7 +15,7 @@ use Rattle.fort_tables.proofs.InsertLaws.{length-all_absent, AreGroundColumns-al
 use Rattle.fort_tables.proofs.InsertSymbolLaws.{symbol_kids-insert_some, symbol_kids-insert_none, IsTupleSymbol-insert_some, IsTupleSymbol-insert_none, FitsKid-insert_some, FitsKid-insert_none, FitsKid-all_absent}
 use Rattle.fort_tables.proofs.TableLaws.{IsKidState, IsTableEntry-kid_states}
 use Rattle.fort_operations.specs.Projections.{absent_state, has_state, is_pure, IsProjected}
-use Rattle.fort_operations.proofs.CompletedTuples.{IsTuple-completed, IsTuple-absent, absent_small}
+use Rattle.fort_operations.proofs.CompletedTuples.{IsTuple-completed, IsTuple-absent}
 use Rattle.fort_operations.proofs.PureLaws.{gives_pure}
 use Rattle.fort_operations.proofs.ProjectLabels.{label_exact, may_in_set, may_past, may_absent}
 use Rattle.fort_rrn_algebra.specs.OperandRows.{labels_at}
@@ -121,6 +121,21 @@ choices_symbol body c alone labels e g f most h =
     let w : suc (body.columns - 1) ≡ body.columns = omega (arith, low) in
     subst (IsTupleSymbol body.signature body.columns) (sym h.symbol) (subst (λ (n : ℕ). IsTupleSymbol body.signature n (insert e.symbol c (Some g))) w (IsTupleSymbol-insert_some body.signature (body.columns - 1) e.symbol c g (omega (arith, low)) h.within h.searched.over.entry.symbol))
 
+-- the entry under a constant in the column, over the children's states with the column absent
+pub entry_under_constant : (body : Table) (c : ℕ) (alone : List ℕ) (labels : List (List ℕ)) (e : Entry) (g : ℕ) (f : TupleSymbol) (most : ℕ) → IsTable body → IsReached body → AreChoices body c alone labels e g f most → most ≡ 0
+    → IsTableEntry body (entry f (map absent_state (labels_at labels e.kids)))
+entry_under_constant body c alone labels e g f most is reached h none =
+    let ws = labels_at labels e.kids in
+    let ks = map absent_state ws in
+    let lw = length-labels_at labels e.kids in
+    let ls : length ks ≡ length ws = length-map ws absent_state in
+    let count = choices_count body c alone labels e g f most h in
+    IsTableEntry-kid_states body (entry f ks) is (choices_symbol body c alone labels e g f most h) (omega arith)
+    (λ j l.
+    let at : absent_state (get_or ws j []) ≡ get_or ks j 0 = sym (get_or-map absent_state ws j [] 0 (omega arith)) in
+    choice_state body c alone labels e g f most is reached h j (get_or ks j 0) (omega arith)
+    (may_absent body c most ws j (get_or ks j 0) (omega arith) ∙ eq-eqb (absent_state (get_or ws j [])) (get_or ks j 0) at))
+
 -- Result: the entry of the tuple with the column absent
 pub absent_entry : (body : Table) (c : ℕ) (labels : List (List ℕ)) (e : Entry) → IsTable body → IsReached body → IsSearched body c labels e → IsTableEntry body (entry (insert e.symbol c None) (map absent_state (labels_at labels e.kids)))
 absent_entry body c labels e is reached s =
@@ -142,11 +157,14 @@ absent_entry body c labels e is reached s =
       state = sym r.says.absent ∙ sym (get_or-map absent_state ws j [] 0 (omega arith) ∙ ap absent_state (label_at labels e.kids j m));
     })
 
--- a child's label is as wide as it should be, and its state with the column absent is one of the body
+-- a child's label is as wide as it should be
 pub kid_label_width : (body : Table) (c : ℕ) (labels : List (List ℕ)) (e : Entry) → IsTable body → IsReached body → IsSearched body c labels e → (j : ℕ) → j < length e.kids → length (get_or labels (get_or e.kids j 0) []) ≡ words_for (length body.presences) + 2
 kid_label_width body c labels e is reached s j l = (kid_label body c labels e is reached s j l).says.width
 
-pub absent_state_small : (body : Table) (c : ℕ) (labels : List (List ℕ)) (e : Entry) → IsTable body → IsReached body → IsSearched body c labels e → (j : ℕ) → j < length e.kids → absent_state (get_or labels (get_or e.kids j 0) []) < length body.presences
-absent_state_small body c labels e is reached s j l =
-    let r = kid_label body c labels e is reached s j l in
-    omega (arith, r.says.absent, absent_small body c r.tuple is s.column r.is_tuple)
+-- a child's state with the column absent is one of the body, where an entry of the body has it
+pub absent_state_small : (body : Table) (f : TupleSymbol) (labels : List (List ℕ)) (ks : List ℕ) → IsTableEntry body (entry f (map absent_state (labels_at labels ks))) → (j : ℕ) → j < length ks → absent_state (get_or labels (get_or ks j 0) []) < length body.presences
+absent_state_small body f labels ks h j l =
+    let ws = labels_at labels ks in
+    let lw = length-labels_at labels ks in
+    let ls : length (map absent_state ws) ≡ length ws = length-map ws absent_state in
+    omega (arith, h.within j (omega arith), get_or-map absent_state ws j [] 0 (omega arith), ap absent_state (label_at labels ks j l))

@@ -1,18 +1,20 @@
 -- The states that a scope leaves, and the symbols above one child of an entry: what they give, state by state.
-use Rattle.std.proofs.Common.{◌≡◌, ℕ, ◌<◌, ◌≤◌, ◌==◌, ◌&&◌, ◌||◌, not, if◌then◌else◌, max, List, [], length, get_or, Some, Bool, true, false, nat_lt, refl, ap, sym, ◌∙◌, arith, subst, ⊎_elim}
+use Rattle.std.proofs.Common.{◌≡◌, ℕ, ◌<◌, ◌≤◌, ◌==◌, ◌&&◌, ◌||◌, not, if◌then◌else◌, max, List, [], map, length, get_or, Some, Bool, true, false, nat_lt, refl, ap, sym, ◌∙◌, arith, subst, ⊎_elim}
 use Rattle.std.proofs.lemmas.Bool.{cases_lt, eqb-true, eq-eqb, lt-ltb, le-ltb, ltb-true, or_cases}
+use Rattle.std.proofs.lemmas.List.{length-map, get_or-map}
 use Rattle.std.specs.List.{insert}
 use Rattle.fort_tables.specs.Tuples.{TupleSymbol, arity}
 use Rattle.fort_tables.specs.Entries.{Entry, entry}
 use Rattle.fort_tables.specs.Tables.{Table, IsTable, IsReached}
 use Rattle.fort_tables.proofs.TableLaws.{table_state}
-use Rattle.fort_operations.specs.Projections.{some_below, some_choice, has_state, may_stand, gives_under, gives}
+use Rattle.fort_operations.specs.Projections.{some_below, some_choice, absent_state, has_state, may_stand, gives_under, gives}
 use Rattle.fort_operations.proofs.SearchLaws.{both, left, right, either_left, either_right, same_truth, found_below, below_found, found_choice, choice_found, options_from_zero, options_at_zero}
-use Rattle.fort_operations.proofs.ProjectLabels.{may_in_set}
+use Rattle.fort_operations.proofs.ProjectLabels.{may_in_set, may_absent}
 use Rattle.fort_operations.proofs.CompletedTuples.{IsTuple-completed}
 use Rattle.fort_rrn_algebra.specs.OperandRows.{labels_at}
 use Rattle.fort_rrn_algebra.specs.Choices.{IsNextChoice, AreNoChoices, IsSearched}
 use Rattle.fort_rrn_algebra.proofs.ProjectEntries.{label_at, kid_label}
+use Rattle.fort_rrn_algebra.proofs.ChoiceSearch.{one_choice}
 use Rattle.fort_rrn_algebra.specs.Scopes.{takes, may_in, gives_in, some_gives, IsScoped}
 use Rattle.fort_rrn_algebra.specs.declared.scope.Scope.{Scope}
 use Rattle.fort_rrn_algebra.specs.declared.scope.Scope.TheVariants.{All, Without, With}
@@ -134,3 +136,25 @@ in_set_small body c labels e is reached s j k l o =
     let r = kid_label body c labels e is reached s j l in
     let y = (r.says.given k).0 (ap (λ w. has_state w k) (sym (label_at labels e.kids j l)) ∙ o) in
     subst (λ (q : ℕ). q < length body.presences) y.2 (table_state body is (insert r.tuple c (Some y.0)) (IsTuple-completed body c r.tuple y.0 s.column y.1 r.is_tuple.width r.is_tuple.grounded)).within
+
+-- a scope with a constant names no state
+open_at_zero : (scope : Scope) (may : ℕ → ℕ → Bool) (j k : ℕ) → takes scope 0 ≡ true → may_in scope may j k ≡ may j k
+open_at_zero All may j k h = refl
+open_at_zero (Without v) may j k h = refl
+open_at_zero (With one) may j k h = let l = ltb-true one.place 0 h in absurd (omega arith)
+
+-- Result: a constant gives the target over the children's states with the column absent, and no other state
+pub gives_over_absent : (body : Table) (c : ℕ) (f : TupleSymbol) (ws : List (List ℕ)) (scope : Scope) (q g : ℕ) → arity body.signature g ≡ 0 → takes scope 0 ≡ true → ((i : ℕ) → i < length (map absent_state ws) → get_or (map absent_state ws) i 0 < length body.presences)
+    → gives_in body c f ws scope q g ≡ (body.target (entry (insert f c (Some g)) (map absent_state ws)) == q)
+gives_over_absent body c f ws scope q g none taken small =
+    let n = length body.presences in
+    let a = arity body.signature g in
+    let ks = map absent_state ws in
+    let lk : length ks ≡ length ws = length-map ws absent_state in
+    let may = may_in scope (may_stand body c a ws) in
+    let p : List ℕ → Bool = λ xs. body.target (entry (insert f c (Some g)) xs) == q in
+    let count : max a (length ws) ≡ length ks = omega arith in
+    ap (λ b. b && some_choice n may 0 (max a (length ws)) p) (ap (takes scope) none ∙ taken)
+    ∙ (ap (λ m. some_choice n may 0 m p) count
+    ∙ one_choice n may ks p small
+    (λ i k l. open_at_zero scope (may_stand body c a ws) i k taken ∙ (may_absent body c a ws i k (omega arith) ∙ ap (λ x. x == k) (sym (get_or-map absent_state ws i [] 0 (omega arith))))))

@@ -60,8 +60,7 @@ pub first_stop_of : (t : Listed) (begins : List ℕ) (walk : Walk) (n : ℕ) →
 first_stop_of t begins walk n goes begin l present f is count e =
     let own = columns_at (suc (length t.signature)) t.columns n in
     let same : f ≡ own = is ∙ symbol_base t walk n goes in
-    let symbol = tuple_symbol_at (listed_table t) walk.base n goes.base present in
-    let there : IsTupleSymbol t.signature t.columns f = subst (IsTupleSymbol t.signature t.columns) (sym is) symbol in
+    let there : IsTupleSymbol t.signature t.columns f = tuple_symbol_at (listed_table t) walk.base n f goes.base is (ap is_present is ∙ present) in
     let split = entries_split t n (low_base t walk n goes l) in
     let under : entries_under t.signature t.presences own ≡ entries_from t.signature t.presences f [] 0 count =
     ap (entries_under t.signature t.presences) (sym same) ∙ (under_present t.signature t.presences f there.present ∙ ap (entries_from t.signature t.presences f [] 0) (sym e)) in
@@ -112,7 +111,7 @@ between_absent t begins walk n cursors starts targets new h l absent grown = rec
   goes = h.goes;
   begin = h.begin;
   passed = subst (λ es. HasPassed t walk.lays begins es cursors targets) (sym (before_absent t walk n h.goes l absent)) h.passed;
-  laid_are = λ b. laid_none (listed_table t) walk.base n starts targets new h.goes.base (h.laid_are b) absent (grown b);
+  laid_are = λ b. laid_none (listed_table t) walk.base n (symbol_with t walk n) starts targets new h.goes.base refl (h.laid_are b) absent (grown b);
 }
 
 -- with one it has those over its children
@@ -122,8 +121,7 @@ pub before_present : (t : Listed) (walk : Walk) (n : ℕ) → IsWalkOf t walk �
 before_present t walk n goes l present f is count e =
     let own = columns_at (suc (length t.signature)) t.columns n in
     let same : f ≡ own = is ∙ symbol_base t walk n goes in
-    let symbol = tuple_symbol_at (listed_table t) walk.base n goes.base present in
-    let there : IsTupleSymbol t.signature t.columns f = subst (IsTupleSymbol t.signature t.columns) (sym is) symbol in
+    let there : IsTupleSymbol t.signature t.columns f = tuple_symbol_at (listed_table t) walk.base n f goes.base is (ap is_present is ∙ present) in
     let under : entries_from t.signature t.presences f [] 0 count ≡ entries_under t.signature t.presences own =
     ap (entries_from t.signature t.presences f [] 0) e ∙ (sym (under_present t.signature t.presences f there.present) ∙ ap (entries_under t.signature t.presences) same) in
     ap (λ es. entries_before t n ++ es) under ∙ sym (entries_more t n (low_base t walk n goes l))
@@ -137,16 +135,14 @@ between_present t begins walk n cursors starts targets new_cursors new new_targe
     let body = listed_table t in
     let entries = entries_from t.signature t.presences f [] 0 count in
     let all = before_present t walk n h.goes l present f is count e in
-    let at : laid body f [] 0 count ≡ laid body (symbol_with t walk n) [] 0 (symbol_kids t.signature (symbol_with t walk n)) =
-    ap (laid body f [] 0) e ∙ ap (λ g. laid body g [] 0 (symbol_kids t.signature g)) is in
     record {
       goes = h.goes;
       begin = h.begin;
       passed = subst (λ es. HasPassed t walk.lays begins es new_cursors new_targets) all made;
       laid_are = λ b.
-          laid_one body walk.base n starts targets new new_targets h.goes.base (h.laid_are b) (grown b)
+          laid_one body walk.base n f starts targets new new_targets h.goes.base is (h.laid_are b) (grown b)
           (made.laid_are b
           ∙ (map-append body.target (entries_before t n) entries
           ∙ (ap (λ qs. qs ++ map body.target entries) (sym (h.passed.laid_are b))
-          ∙ ap (λ qs. targets ++ qs) (sym (laid_targets body f [] 0 count) ∙ at))));
+          ∙ ap (λ qs. targets ++ qs) (sym (laid_targets body f [] 0 count) ∙ ap (laid body f [] 0) e))));
     }

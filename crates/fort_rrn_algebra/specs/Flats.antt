@@ -40,7 +40,7 @@ flat_place flat e = get_or flat.listing.starts.items (number_of flat.base e.symb
 
 -- the flat form of a table has the target of each entry
 pub record IsFlatOf (body : Table) (flat : FlatTargets) : Type 0 where
-  pub base_is : flat.base ≡ suc (length body.signature)
+  pub base_is : flat.base ≡ base_of body
   pub starts_all : length flat.listing.starts.items ≡ flat.base ^ body.columns
   pub few : flat.base ^ body.columns < 2 ^ 64
   pub spots : AreSpots body.presences flat.spots.ranks.items flat.spots.alike.items

@@ -7,7 +7,7 @@ use Rattle.fort_tables.specs.Entries.{Entry, stage, AreInOrder, HasAllEntries}
 use Rattle.fort_tables.specs.Tables.{Listed, listed_table}
 use Rattle.fort_laid_entries.specs.Laid.{entries_from, entries_under, symbol_list, by_symbol, in_stage, start_of}
 use Rattle.fort_rrn_algebra.specs.Chains.{AreChains}
-use Rattle.fort_rrn_algebra.specs.Flats.{AreLaid}
+use Rattle.fort_rrn_algebra.specs.Flats.{base_of, AreLaid}
 use Rattle.fort_rrn_algebra.specs.declared.states.LayRoom.{LayRoom}
 use Rattle.fort_rrn_algebra.specs.declared.walk.Walk.{Walk}
 
@@ -32,7 +32,7 @@ pub record IsWalkOf (t : Listed) (walk : Walk) : Type 0 where
   pub listed : IsCovered t
   pub signature : walk.signature.now ≡ t.signature
   pub columns_are : walk.columns ≡ t.columns
-  pub base : walk.base ≡ suc (length t.signature)
+  pub base : walk.base ≡ base_of (listed_table t)
   pub chains : AreChains t.columns t.presences walk.chains.now.firsts.items walk.chains.now.nexts.items
   pub targets : walk.targets.now ≡ t.targets
 
@@ -41,7 +41,7 @@ pub record IsTakenUp (t : Listed) (sig : Signature) (columns base : ℕ) (target
   pub listed : IsCovered t
   pub signature : sig ≡ t.signature
   pub columns_are : columns ≡ t.columns
-  pub base_is : base ≡ suc (length t.signature)
+  pub base_is : base ≡ base_of (listed_table t)
   pub chains_are : AreChains t.columns t.presences room.chains.firsts.items room.chains.nexts.items
   pub targets_are : targets ≡ t.targets
 

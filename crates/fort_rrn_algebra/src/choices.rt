@@ -164,7 +164,7 @@ impl<'a, T: Table> Choices<'a, T> {
     pub(crate) fn visit(
         &self,
         look_up: &LookUp<'_>,
-        chosen: [u32; 8],
+        chosen: &[u32; 8],
         j: usize,
         rest: usize,
         out: &mut [u64],
@@ -181,7 +181,7 @@ impl<'a, T: Table> Choices<'a, T> {
         requires few { j + rest ≤ 8 }
         requires before { (i : ℕ) → i < j → IsKidState (T.table self.now.body.now)
             (symbol_under self.now.row.now self.now.column self.now.sym.0) i
-            (slice_index_or chosen i 0) }
+            (slice_index_or chosen.now i 0) }
         requires room { length out.old ≡ words_for (length (T.table self.now.body.now).presences)
             + 2 }
         ensures first { slice_index out.new 0 ≡ slice_index out.old 0 }
@@ -190,7 +190,7 @@ impl<'a, T: Table> Choices<'a, T> {
             (T.table self.now.body.now) (may_in self.now.scope (may_choose
             (T.table self.now.body.now) self.now.column self.now.rows.now.labels
             self.now.row.now self.now.arity))
-            (symbol_under self.now.row.now self.now.column self.now.sym.0) (take j chosen) j rest q
+            (symbol_under self.now.row.now self.now.column self.now.sym.0) (take j chosen.now) j rest q
             || has_state out.old q) }
     {
         let _states = self.body.states();
@@ -207,9 +207,9 @@ impl<'a, T: Table> Choices<'a, T> {
         }
         let mut from = 0;
         'states: while let Some(k) = self.next_state(j, from) {
-            let mut next = chosen;
+            let mut next = *chosen;
             next[j] = k as u32;
-            self.visit(look_up, next, j + 1, rest - 1, out);
+            self.visit(look_up, &next, j + 1, rest - 1, out);
             from = k as u32 + 1;
         }
     }

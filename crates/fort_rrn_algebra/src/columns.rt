@@ -1,5 +1,5 @@
 //! Columns of tuple symbols.
-ghost use Rattle.std.specs.Prelude.{◌≡◌, ◌<◌, ◌≤◌, ◌^◌, ◌+◌, ◌*◌, ◌-◌, [], ◌∷◌, length, IfSome};
+ghost use Rattle.std.specs.Prelude.{◌≡◌, ◌<◌, ◌≤◌, ◌^◌, ◌+◌, ◌*◌, [], ◌∷◌, length, IfSome};
 ghost use Rattle.fort_lockstep.specs.Columns.{as_column, digit_of};
 ghost use Rattle.fort_tables.specs.Tuples.{AreSymbols, symbol_kids, kid_presence as kid_presence_lem};
 ghost use Rattle.fort_operations.specs.Selections.{selected as selected_lem, is_present as is_present_lem, ArePlaces};
@@ -22,7 +22,7 @@ pub(crate) fn selected(sym: &TupleSym, places: &[usize]) -> TupleSym
 }
 
 /// The number of a tuple symbol with one more column behind it.
-fn number_behind(column: Option<Sym>, base: usize, number: usize) -> usize
+pub(crate) fn number_behind(column: Option<Sym>, base: usize, number: usize) -> usize
     requires { number * base + digit_of (as_column column) < 2 ^ 64 }
     ensures { result ≡ number * base + digit_of (as_column column) }
 {

@@ -22,8 +22,8 @@ pub(crate) fn count_states(presences: &[u16], counts: &mut [u32])
     }
 }
 
-/// How many entries a tuple symbol has; at most `usize::MAX` is told.
-fn symbol_entries(signature: &Signature, symbol: &TupleSym, counts: &[u32]) -> usize
+/// How many entries a tuple symbol with a present column has; at most `usize::MAX` is told.
+fn present_entries(signature: &Signature, symbol: &TupleSym, counts: &[u32]) -> usize
     requires symbols { AreSymbols signature.now symbol.now }
     requires size { 2 ^ length symbol.now ≤ length counts.now }
     ensures { (ps : List ℕ) → AreCounts ps counts.now → result ≡ min (length (entries_from
@@ -38,8 +38,8 @@ fn symbol_entries(signature: &Signature, symbol: &TupleSym, counts: &[u32]) -> u
     entries
 }
 
-/// The same where it may have no present column, and no entry then.
-fn all_symbol_entries(signature: &Signature, symbol: &TupleSym, counts: &[u32]) -> usize
+/// How many entries a tuple symbol has: none without a present column. At most `usize::MAX` is told.
+fn symbol_entries(signature: &Signature, symbol: &TupleSym, counts: &[u32]) -> usize
     requires symbols { AreSymbols signature.now symbol.now }
     requires size { 2 ^ length symbol.now ≤ length counts.now }
     ensures { (ps : List ℕ) → AreCounts ps counts.now → result ≡ min (length (entries_under
@@ -48,7 +48,7 @@ fn all_symbol_entries(signature: &Signature, symbol: &TupleSym, counts: &[u32]) 
     if !is_present(symbol) {
         return 0;
     }
-    symbol_entries(signature, symbol, counts)
+    present_entries(signature, symbol, counts)
 }
 
 /// Whether a table over states with these counts of presences has so many entries.
@@ -74,7 +74,7 @@ pub(crate) fn has_entries(
     let mut symbol = TupleSym::absent(columns);
     let mut sum = 0usize;
     for _ in 0..count {
-        sum = sum.saturating_add(all_symbol_entries(signature, &symbol, counts));
+        sum = sum.saturating_add(symbol_entries(signature, &symbol, counts));
         if sum > number {
             return false;
         }

@@ -1,11 +1,12 @@
 //! The targets of a table in one list.
-ghost use Rattle.std.specs.Prelude.{◌≡◌, ◌≢◌, ℕ, ◌+◌, ◌-◌, ◌*◌, ◌<◌, ◌≤◌, ◌^◌, ◌&&◌, ◌||◌, ◌==◌, min, Bool, true, length, slice_index, slice_index_or, None};
+ghost use Rattle.std.specs.Prelude.{◌≡◌, ℕ, ◌+◌, ◌-◌, ◌*◌, ◌<◌, ◌≤◌, ◌^◌, ◌&&◌, ◌||◌, ◌==◌, min, Bool, true, length, slice_index, slice_index_or, None};
 ghost use Rattle.std.specs.List.{insert};
-ghost use Rattle.fort_lockstep.specs.Columns.{as_column, digit_of};
+ghost use Rattle.fort_lockstep.specs.Columns.{as_column};
 ghost use Rattle.fort_operations.specs.Projections.{has_state, some_below};
 ghost use Rattle.fort_rrn_algebra.specs.Places.{number_of, place_from, IsReadable, read_at, AreStatesIn};
 
 use crate::chains::Chains;
+use crate::columns::number_behind;
 use fort_explore::set_bit;
 use fort_lockstep::TupleSym;
 use fort_terms::Sym;
@@ -68,6 +69,14 @@ impl Spots {
 }
 
 impl FlatTargets {
+    /// Where the targets of the tuple symbol with this number start.
+    pub(crate) fn start(&self, number: usize) -> usize
+        requires { number < length self.now.listing.starts.items }
+        ensures { result ≡ slice_index self.now.listing.starts.items number }
+    {
+        self.listing.starts[number] as usize
+    }
+
     /// The target of the entry over these child states, where its tuple symbol's targets start there.
     pub(crate) fn target(&self, start: usize, states: &[u32]) -> u32
         requires states { AreStatesIn self.now.spots states.now }
@@ -144,7 +153,7 @@ impl FlatTargets {
     {
         let mut number = 0;
         for k in 0..symbol.len() {
-            number = number * self.base + digit(symbol.symbol(k));
+            number = number_behind(symbol.symbol(k), self.base, number);
         }
         number
     }
@@ -158,33 +167,23 @@ impl FlatTargets {
     {
         let mut number = 0;
         for k in 0..symbol.len() + 1 {
-            number = number * self.base + digit_with_absent(symbol, column, k);
+            number = number_behind(column_with_absent(symbol, column, k), self.base, number);
         }
         number
     }
 }
 
-/// 0 for absent, one more than its number for a symbol.
-fn digit(column: Option<Sym>) -> usize
-    ensures { result ≡ digit_of (as_column column) }
-{
-    match column {
-        None => 0,
-        Some(symbol) => symbol.0 as usize + 1,
-    }
-}
-
-/// The digit of column `k` of the tuple symbol with one more column, which is absent.
-fn digit_with_absent(symbol: &TupleSym, place: usize, k: usize) -> usize
+/// Column `k` of the tuple symbol with one more column, which is absent.
+fn column_with_absent(symbol: &TupleSym, place: usize, k: usize) -> Option<Sym>
     requires within { place ≤ length symbol.now }
     requires column { k ≤ length symbol.now }
-    ensures { result ≡ digit_of (slice_index_or (insert symbol.now place None) k None) }
+    ensures { as_column result ≡ slice_index_or (insert symbol.now place None) k None }
 {
     if k < place {
-        digit(symbol.symbol(k))
+        symbol.symbol(k)
     } else if k == place {
-        0
+        None
     } else {
-        digit(symbol.symbol(k - 1))
+        symbol.symbol(k - 1)
     }
 }

@@ -1,5 +1,5 @@
 //! What a projection keeps from one entry to the next.
-ghost use Rattle.std.specs.Prelude.{◌≡◌, ◌≢◌, ℕ, ◌+◌, ◌*◌, ◌^◌, ◌<◌, ◌≤◌, [], length, slice_index, slice_index_or, IfOk, OnOk, IsTrue, IfSome, IfNone};
+ghost use Rattle.std.specs.Prelude.{◌≡◌, ◌≢◌, ℕ, ◌+◌, ◌^◌, ◌<◌, ◌≤◌, [], length, slice_index, slice_index_or, IfOk, IsTrue, IfSome};
 ghost use Rattle.fort_rrn_algebra.specs.OperandRows.{labels_at};
 ghost use Rattle.fort_tables.specs.Tables as tables;
 ghost use Rattle.fort_tables.specs.BitRows.{words_for};

@@ -1,15 +1,14 @@
 //! The labels of a product's entries, one tuple symbol at a time.
-ghost use Rattle.std.specs.Prelude.{◌≡◌, ℕ, ◌<◌, ◌≤◌, ◌^◌, List, [], ◌∷◌, length, IfSome, IsTrue};
+ghost use Rattle.std.specs.Prelude.{◌≡◌, [], ◌∷◌, length, IfSome, IsTrue};
 ghost use Rattle.fort_theory.specs.Signatures as theory;
-ghost use Rattle.fort_tables.specs.Tuples.{TupleSymbol, AreSymbols, presence as presence_lem, symbol_kids};
+ghost use Rattle.fort_tables.specs.Tuples.{TupleSymbol, AreSymbols, presence as presence_lem};
 ghost use Rattle.fort_tables.specs.Entries.{entry};
 ghost use Rattle.fort_tables.specs.Labels.{IsOverLabels};
 ghost use Rattle.fort_tables.specs.LabelRules.{label_of, entry_label};
 ghost use Rattle.fort_lockstep.specs.Columns.{as_column};
 ghost use Rattle.fort_operations.specs.Products as products;
-ghost use Rattle.fort_operations.specs.Selections.{selected, ArePlaces};
 ghost use Rattle.fort_rrn_algebra.specs.Operands.{operand_of};
-ghost use Rattle.fort_rrn_algebra.specs.Places.{number_of, place_from};
+ghost use Rattle.fort_rrn_algebra.specs.Places.{place_from};
 ghost use Rattle.fort_rrn_algebra.specs.Flats.{IsFlatOf};
 ghost use Rattle.fort_rrn_algebra.specs.ListedOperands.{IsListOf};
 ghost use Rattle.fort_rrn_algebra.specs.Joints.{IsUnderOf, IsJointOf, states_under, AreStatesUnder, IsWordThere, word_under};
@@ -88,7 +87,7 @@ fn table_under<'a, T: Table>(
     }
     Under {
         list: Some(list),
-        start: list.listing.starts[number] as usize,
+        start: list.start(number),
         count: selected_kids(table.signature(), symbol, places),
         at,
     }

@@ -1,5 +1,5 @@
 //! The labels of products by the operands' targets in lists.
-ghost use Rattle.std.specs.Prelude.{◌≡◌, ℕ, ◌<◌, ◌≤◌, ◌+◌, ◌*◌, ◌^◌, List, [], length, slice_index, IfSome};
+ghost use Rattle.std.specs.Prelude.{◌≡◌, ℕ, List, [], length, IfSome};
 ghost use Rattle.fort_theory.specs.Signatures as theory;
 ghost use Rattle.fort_tables.specs.Labels.{IsOverLabels};
 ghost use Rattle.fort_tables.specs.LabelRules.{label_of, entry_label};
@@ -15,14 +15,6 @@ use crate::operand::Operand;
 use crate::words::{operand_word, states_at};
 use fort_explore::Rows;
 use fort_lockstep::{Row, Table};
-
-/// Where the targets of the tuple symbol with this number start.
-fn start_at(list: &FlatTargets, number: usize) -> usize
-    requires { number < length list.now.listing.starts.items }
-    ensures { result ≡ slice_index list.now.listing.starts.items number }
-{
-    list.listing.starts[number] as usize
-}
 
 /// A table's word as an operand.
 fn listed_word<T: Table>(
@@ -48,7 +40,7 @@ fn listed_word<T: Table>(
     }
     let count = selected_kids(table.signature(), &symbol, places);
     let states = states_at(row, rows, at, count);
-    list.target(start_at(list, number), &states[..count]) as u64 + 1
+    list.target(list.start(number), &states[..count]) as u64 + 1
 }
 
 /// A table's word as an operand where the entry has no children: then its tuple symbol has one target.
@@ -65,7 +57,7 @@ fn constant_word<T: Table>(table: &T, list: &FlatTargets, places: &[usize], row:
     if number == 0 {
         return 0;
     }
-    list.target(start_at(list, number), &[]) as u64 + 1
+    list.target(list.start(number), &[]) as u64 + 1
 }
 
 /// An operand's word, by its targets in one list where there is one.

@@ -1,6 +1,6 @@
 //! A table's targets, put into one list.
-ghost use Rattle.std.specs.Prelude.{◌≡◌, ◌≢◌, ℕ, ◌+◌, ◌<◌, ◌≤◌, ◌^◌, ◌++◌, [], ◌∷◌, take, length, slice_index, slice_index_or, IfOk, IfSome, OnOk, IsTrue, suc};
-ghost use Rattle.fort_tables.specs.Tuples.{AreSymbols, IsTupleSymbol, symbol_kids, kid_presence as kid_presence_lem};
+ghost use Rattle.std.specs.Prelude.{◌≡◌, ℕ, ◌+◌, ◌<◌, ◌≤◌, ◌^◌, ◌⊎◌, ◌++◌, [], take, length, slice_index, slice_index_or, IfOk, IfSome, IfNone, OnOk, IsTrue, IsFalse};
+ghost use Rattle.fort_tables.specs.Tuples.{IsTupleSymbol, symbol_kids};
 ghost use Rattle.fort_rrn_algebra.specs.Places.{IsNumbered, AreSpots, AreRanks, AreAlike, AreCounts};
 ghost use Rattle.fort_rrn_algebra.specs.Chains.{AreChains};
 ghost use Rattle.fort_rrn_algebra.specs.Flats.{base_of, laid, IsStateFor, AreLaid, IsFlatOf};
@@ -20,6 +20,7 @@ fn number_count(base: usize, columns: usize) -> Option<usize>
     requires { columns ≤ 16 }
     ensures count { IfSome result (λ n. n ≡ base ^ columns) }
     ensures few { IfSome result (λ n. n ≤ 4194304) }
+    ensures many { IfNone result (4194304 < base ^ columns) }
 {
     match base.checked_pow(columns as u32) {
         Some(count) if count <= MOST_NUMBERS => Some(count),
@@ -110,7 +111,8 @@ fn lay<T: Table>(
 }
 
 impl Listing {
-    /// Appends the targets of the tuple symbol with the next number; false where they would start at a place of more than 32 bits.
+    /// Appends the targets of the tuple symbol with the next number. False where they would start at a place of more than 32 bits: then
+    /// nothing is changed.
     fn add<T: Table>(
         &mut self,
         body: &T,
@@ -123,13 +125,15 @@ impl Listing {
             (T.table body.now).columns n symbol.now
             × AreLaid (T.table body.now) (base_of (T.table body.now)) n self.old.starts.items
             self.old.targets.items }
-        ensures { IfOk result (λ added. IsTrue added → (n : ℕ)
+        ensures laid { IfOk result (λ added. IsTrue added → (n : ℕ)
             → IsNumbered (base_of (T.table body.now))
             (T.table body.now).columns n symbol.now
             → AreLaid (T.table body.now) (base_of (T.table body.now)) n self.old.starts.items
             self.old.targets.items
             → AreLaid (T.table body.now) (base_of (T.table body.now)) (n + 1)
             self.new.starts.items self.new.targets.items) }
+        ensures full { IfOk result (λ added. IsFalse added
+            → (2 ^ 32 ≤ length self.old.targets.items) × (self.new ≡ self.old)) }
     {
         let _columns = body.columns();
         let Ok(start) = u32::try_from(self.targets.len()) else {
@@ -148,7 +152,8 @@ impl Listing {
         Ok(true)
     }
 
-    /// Makes these the targets of the tuple symbols, which are so many; false where there are more than 32-bit numbers.
+    /// Makes these the targets of the tuple symbols, which are so many. False where those of one would start at a place of more than 32
+    /// bits.
     fn make<T: Table>(
         &mut self,
         body: &T,
@@ -160,8 +165,10 @@ impl Listing {
             chains.now.firsts.items chains.now.nexts.items }
         requires base { base ≡ base_of (T.table body.now) }
         requires count { count ≡ base ^ (T.table body.now).columns }
-        ensures { IfOk result (λ made. IsTrue made → AreLaid (T.table body.now) base count
+        ensures laid { IfOk result (λ made. IsTrue made → AreLaid (T.table body.now) base count
             self.new.starts.items self.new.targets.items) }
+        ensures full { IfOk result (λ made. IsFalse made
+            → 2 ^ 32 ≤ length self.new.targets.items) }
     {
         make_room(&mut self.starts, count)?;
         self.targets.clear();
@@ -198,10 +205,13 @@ impl FlatTargets {
         }
     }
 
-    /// Makes this the list of a table's targets, where its tuple symbols have few numbers, and its targets have 32-bit ones; whether
-    /// they have.
+    /// Makes this the list of a table's targets. False where its tuple symbols have too many numbers, or where the targets of one would
+    /// start at a place of more than 32 bits.
     pub(crate) fn make<T: Table>(&mut self, body: &T) -> Result<bool, Memory>
-        ensures { IfOk result (λ made. IsTrue made → IsFlatOf (T.table body.now) self.new) }
+        ensures flat { IfOk result (λ made. IsTrue made → IsFlatOf (T.table body.now) self.new) }
+        ensures not_made { IfOk result (λ made. IsFalse made
+            → (4194304 < base_of (T.table body.now) ^ (T.table body.now).columns)
+            ⊎ (2 ^ 32 ≤ length self.new.listing.targets.items)) }
     {
         self.base = body.signature().len() + 1;
         match number_count(self.base, body.columns()) {
@@ -214,7 +224,7 @@ impl FlatTargets {
         }
     }
 
-    /// The targets of a table whose tuple symbols have few numbers.
+    /// The targets of a table; none where `make` answers false.
     pub(crate) fn of<T: Table>(alloc: Global, body: &T) -> Result<Option<FlatTargets>, Memory>
         ensures { IfOk result (λ flat. IfSome flat (IsFlatOf (T.table body.now))) }
     {

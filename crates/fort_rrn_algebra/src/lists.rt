@@ -19,7 +19,7 @@ pub struct ProductLists {
     pub(crate) second: FlatTargets,
 }
 
-/// Makes this the list of an operand's targets, where its tuple symbols have few numbers; whether they have.
+/// Makes this the list of an operand's targets, where it is a table and `FlatTargets::make` makes one; whether it is made.
 fn make<T: Table>(list: &mut FlatTargets, operand: &Operand<'_, T>) -> Result<bool, Memory>
     ensures { IfOk result (λ few. IsTrue few → IsListOf (operand_of T.table operand.now)
         list.new) }
@@ -41,7 +41,7 @@ impl ProductLists {
         }
     }
 
-    /// Makes these the lists of two operands: four bytes for each entry, and eight for each tuple symbol.
+    /// Makes these the lists of two operands: four bytes for each entry, and four for each tuple symbol.
     pub fn make<T: Table>(
         &mut self,
         first: &Operand<'_, T>,

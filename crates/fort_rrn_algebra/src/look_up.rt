@@ -77,10 +77,7 @@ impl<'a> Finder<'a> {
     {
         match self {
             Finder::InTable => LookUp::Searched(row.sym().with_column(column, None)),
-            Finder::InList(flat, number, _) => LookUp::Flat(
-                *flat,
-                flat.listing.starts[*number] as usize,
-            ),
+            Finder::InList(flat, number, _) => LookUp::Flat(*flat, flat.start(*number)),
         }
     }
 
@@ -96,7 +93,7 @@ impl<'a> Finder<'a> {
             Finder::InTable => LookUp::Searched(row.sym().with_column(column, Some(symbol))),
             Finder::InList(flat, number, step) => {
                 let place = *number + (symbol.0 as usize + 1) * *step;
-                LookUp::Flat(*flat, flat.listing.starts[place] as usize)
+                LookUp::Flat(*flat, flat.start(place))
             }
         }
     }

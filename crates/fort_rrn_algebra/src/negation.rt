@@ -1,5 +1,5 @@
 //! Complements of tables.
-ghost use Rattle.std.specs.Prelude.{◌≡◌, ℕ, ◌<◌, length, slice_index_or, false, IfOk, IsTrue};
+ghost use Rattle.std.specs.Prelude.{◌≡◌, IfOk, IsTrue};
 ghost use Rattle.fort_tables.specs.Tables.{IsListed, listed_table};
 ghost use Rattle.fort_operations.specs.OperationTruth.{complemented, accepts, Complement, TestsRelation};
 ghost use Rattle.fort_rrn_algebra.specs.Negations.{AreTurned};

@@ -1,21 +1,22 @@
 //! What the label of a projection says of one entry.
 ghost use Rattle.std.specs.Prelude.{◌≡◌, ◌<◌, ◌≤◌, ◌+◌, ◌-◌, ◌||◌, ◌^◌, ℕ, false, [], None, map, take, length, slice_index, slice_index_or};
 ghost use Rattle.std.specs.List.{insert};
-ghost use Rattle.fort_tables.specs.Tuples.{presence};
+ghost use Rattle.fort_tables.specs.Tuples.{TupleSymbol, presence};
 ghost use Rattle.fort_tables.specs.Entries.{entry};
+ghost use Rattle.fort_tables.specs.Tables.{IsTableEntry};
 ghost use Rattle.fort_tables.specs.BitRows.{words_for};
 ghost use Rattle.fort_tables.specs.Labels.{IsOverLabels};
 ghost use Rattle.fort_tables.specs.LabelRules.{label_of, entry_label};
 ghost use Rattle.fort_operations.specs.Projections.{ArePure, absent_state, has_state, project_rule};
 ghost use Rattle.fort_rrn_algebra.specs.OperandRows.{labels_at};
 ghost use Rattle.fort_rrn_algebra.specs.Choices.{IsSearched};
-ghost use Rattle.fort_rrn_algebra.specs.LookUps.{FindsAbove};
+ghost use Rattle.fort_rrn_algebra.specs.LookUps.{FindsUnder, FindsAbove};
 ghost use Rattle.fort_rrn_algebra.specs.Scopes.{FitsScope, gives_in, some_gives};
 
 use crate::choices::Choices;
-use crate::look_up::Finder;
+use crate::look_up::{Finder, LookUp};
 use crate::scope::Scope;
-use fort_explore::Rows;
+use fort_explore::{Rows, set_bit};
 use fort_lockstep::{Row, Table};
 use fort_terms::Sym;
 
@@ -90,6 +91,23 @@ fn absent_target<T: Table>(
     let _states = body.states();
     let _columns = body.columns();
     let look_up = finder.absent(row, column);
+    target_over_absent(body, &look_up, row, rows)
+}
+
+/// The body's target over the children's states with the column absent.
+fn target_over_absent<T: Table>(body: &T, look_up: &LookUp<'_>, row: &Row, rows: &Rows) -> u32
+    requires kids { (j : ℕ) → j < length row.now.kids
+        → slice_index_or row.now.kids j 0 < length rows.now.labels }
+    requires found { (f : TupleSymbol) × FindsUnder (T.table body.now) f look_up.now
+        × IsTableEntry (T.table body.now) (entry f
+        (map absent_state (labels_at rows.now.labels row.now.kids))) }
+    ensures { (f : TupleSymbol) → FindsUnder (T.table body.now) f look_up.now
+        → IsTableEntry (T.table body.now) (entry f
+        (map absent_state (labels_at rows.now.labels row.now.kids)))
+        → result ≡ (T.table body.now).target (entry f
+        (map absent_state (labels_at rows.now.labels row.now.kids))) }
+{
+    let _states = body.states();
     let states = absent_states(row, rows);
     look_up.target(body, &states[..row.kids().len()])
 }
@@ -181,6 +199,12 @@ fn mark_under<T: Table>(
         return;
     }
     let look_up = finder.under(row, column, sym);
+    if arity == 0 {
+        // no child has the column: there is one choice of states
+        let state = target_over_absent(body, &look_up, row, rows);
+        set_bit(out, 128 + state as usize);
+        return;
+    }
     let choices = Choices {
         body,
         column,
@@ -191,5 +215,5 @@ fn mark_under<T: Table>(
         arity,
         scope,
     };
-    choices.visit(&look_up, [0; 8], 0, arity.max(row.kids().len()), out);
+    choices.visit(&look_up, &[0; 8], 0, arity.max(row.kids().len()), out);
 }

@@ -1,5 +1,5 @@
 //! A table's targets in one list, laid from the targets in the order of the table's entries.
-ghost use Rattle.std.specs.Prelude.{◌≡◌, ℕ, suc, ◌<◌, ◌≤◌, ◌^◌, length, IfOk, IfSome, IsTrue};
+ghost use Rattle.std.specs.Prelude.{◌≡◌, ℕ, ◌<◌, ◌^◌, length, IfOk, IfSome, IsTrue};
 ghost use Rattle.fort_tables.specs.Entries.{entry};
 ghost use Rattle.fort_tables.specs.Tables as tables;
 ghost use Rattle.fort_operations.specs.Products as products;
@@ -103,7 +103,7 @@ impl TargetList {
             → tables.IsTableEntry body (entry symbol.now kids.now)
             → result ≡ body.target (entry symbol.now kids.now) }
     {
-        let start = self.list.listing.starts[self.list.number(symbol)] as usize;
+        let start = self.list.start(self.list.number(symbol));
         self.list.target(start, kids)
     }
 }

@@ -1,7 +1,6 @@
 //! Products, projections, cylinders and exchanges of small tables.
-ghost use Rattle.std.specs.Prelude.{◌≡◌, ◌<◌, ◌+◌, ℕ, [], ◌∷◌, map, length, None, slice_index_or, slice_get, IfOk, codes};
+ghost use Rattle.std.specs.Prelude.{◌≡◌, ◌<◌, ◌+◌, ℕ, [], map, length, None, slice_index_or, IfOk};
 ghost use Rattle.fort_theory.specs.Signatures.{symbol};
-ghost use Rattle.fort_tables.specs.Tables.{IsListed};
 ghost use Rattle.fort_lockstep.specs.Columns.{as_column};
 ghost use Rattle.fort_rrn_algebra.specs.TestRules.{is_first as is_first_lem, other_height as other_height_lem, height_if_equal as height_if_equal_lem};
 

@@ -1,7 +1,6 @@
 //! An operand's word in the label of a product.
-ghost use Rattle.std.specs.Prelude.{◌≡◌, ◌<◌, ◌≤◌, ◌^◌, ℕ, [], map, take, length, slice_index, slice_index_or};
+ghost use Rattle.std.specs.Prelude.{◌≡◌, ◌<◌, ◌≤◌, ◌^◌, ℕ, [], map, take, length, slice_index_or};
 ghost use Rattle.fort_theory.specs.Signatures as theory;
-ghost use Rattle.fort_tables.specs.Tuples.{Tuple};
 ghost use Rattle.fort_operations.specs.Products as products;
 ghost use Rattle.fort_rrn_algebra.specs.Operands.{operand_of};
 ghost use Rattle.fort_rrn_algebra.specs.OperandRows.{IsOverWords, IsFullWordAt, labels_at};

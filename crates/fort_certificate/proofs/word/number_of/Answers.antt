@@ -21,4 +21,4 @@ returns-clause-some c =
       | else-text-gt1-via-then-text-gt1+else-text-eq48 w ↦ (λ e. absurd (w.if-text-eq48.false e))
       | else-text-gt1-via-else-text-gt1 w ↦ (λ e. omega (arith, w.if-text-gt1.false, some))
     ] in
-    word_of_value word c.args.digits.value some lead c.requires.digits.0 c.requires.digits.1 c.requires.small
+    word_of_value word c.args.digits.value some lead c.requires.word c.requires.value

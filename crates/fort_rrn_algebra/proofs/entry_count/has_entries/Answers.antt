@@ -16,8 +16,8 @@ loop-init c = record {
   sum = λ ps h. refl;
 }
 
-pub all_symbol_entries-requires : goal.all_symbol_entries-requires
-all_symbol_entries-requires c =
+pub symbol_entries-requires : goal.symbol_entries-requires
+symbol_entries-requires c =
     let sig = c.args.signature.now in
     let is = c.loop.invariant.symbol in
     record {
@@ -36,7 +36,7 @@ loop-preserved c =
       symbol = columns_next c.args.base columns c.loop.counter c.loop.symbol c.to_next.new.self v.symbol c.to_next.ensures.next;
       few = omega (arith, c.if-sum-number.false);
       sum = λ ps h.
-          let own = c.all_symbol_entries.ensures ps h ∙ ap (λ (f : TupleSymbol). min (length (entries_under sig ps f)) (2 ^ 64 - 1)) here in
+          let own = c.symbol_entries.ensures ps h ∙ ap (λ (f : TupleSymbol). min (length (entries_under sig ps f)) (2 ^ 64 - 1)) here in
           omega (arith, own, v.sum ps h, c.saturating_add-sum.ensures, c.if-sum-number.false, c.requires.few, entries_sum sig columns ps c.loop.counter low);
     }
 
@@ -47,7 +47,7 @@ returns-then-sum-number-clause-no c = λ ps h _ e.
     let v = c.loop.invariant in
     let low : c.loop.counter < suc (length sig) ^ columns = omega (arith, c.loop-test.true, c.requires.count, ap (λ b. b ^ columns) c.requires.base) in
     let here : c.loop.symbol ≡ columns_at (suc (length sig)) columns c.loop.counter = v.symbol ∙ ap (λ b. columns_at b columns c.loop.counter) c.requires.base in
-    let own = c.all_symbol_entries.ensures ps h ∙ ap (λ (f : TupleSymbol). min (length (entries_under sig ps f)) (2 ^ 64 - 1)) here in
+    let own = c.symbol_entries.ensures ps h ∙ ap (λ (f : TupleSymbol). min (length (entries_under sig ps f)) (2 ^ 64 - 1)) here in
     omega (arith, e, own, v.sum ps h, c.saturating_add-sum.ensures, c.if-sum-number.true, entries_least sig columns ps c.loop.counter low)
 
 pub returns-clause-yes : goal.returns-clause-yes

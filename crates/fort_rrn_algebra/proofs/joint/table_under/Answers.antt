@@ -1,5 +1,4 @@
-use Rattle.std.proofs.Common.{◌≡◌, ◌<◌, length, get_or, refl, ap, sym, ◌∙◌, arith}
-use Rattle.std.proofs.lemmas.List.{get_or_default}
+use Rattle.std.proofs.Common.{◌≡◌, ◌<◌, get_or, refl, ap, sym, ◌∙◌, arith}
 use Rattle.fort_tables.specs.Tuples.{symbol_kids}
 use Rattle.fort_operations.specs.Selections.{selected}
 use Rattle.fort_rrn_algebra.specs.Places.{number_of}
@@ -33,8 +32,8 @@ returns-then-number-eq0 g c = λ ws.
     let num : c.selected_number-number.result ≡ number_of list.base (selected places f) = c.selected_number-number.ensures in
     step_absent table places c.args.at f ws (number_absent list.base (selected places f) some (sym num ∙ c.if-number-eq0.true))
 
-pub index-requires : goal.index-requires
-index-requires g c =
+pub start-requires : goal.start-requires
+start-requires g c =
     let table = g.T.Table.table c.args.table.now in
     let list = c.args.list.now in
     let places = c.args.places.now in
@@ -60,14 +59,11 @@ returns g c =
     let places = c.args.places.now in
     let f = c.args.symbol.now in
     let num : c.selected_number-number.result ≡ number_of list.base (selected places f) = c.selected_number-number.ensures in
-    let columns = operand_columns c.requires.operand.0 table places f c.requires.operand.1 c.requires.operand.2 in
-    let below = selected_below table list places f c.requires.list c.requires.operand.1.1.0 columns in
-    let within : c.selected_number-number.result < length list.listing.starts.items = omega (arith, below, num, c.requires.list.starts_all) in
     record {
       lawful = c.columns-columns.ensures.lawful;
       list_is = c.requires.list;
       there = number_present list.base (selected places f) (λ z. c.if-number-eq0.false (num ∙ z));
-      start_is = c.index.ensures ∙ (get_or_default list.listing.starts.items c.selected_number-number.result c.index.result.now 0 within ∙ ap (λ n. get_or list.listing.starts.items n 0) num);
+      start_is = c.start.ensures ∙ ap (λ n. get_or list.listing.starts.items n 0) num;
       count_is = c.selected_kids.ensures.count ∙ (λ j. symbol_kids (c.signature.ensures j) (selected places f));
       at_is = refl;
     }

@@ -31,8 +31,8 @@ returns-then-number-eq0 g c = λ i.
     let num : c.selected_number-number.result ≡ number_of list.base (selected places e.symbol) = c.selected_number-number.ensures ∙ ap (λ f. number_of list.base (selected places f)) c.sym.ensures in
     sym (step_absent table places i e.symbol [] (number_absent list.base (selected places e.symbol) some (sym num ∙ c.if-number-eq0.true)))
 
-pub start_at-requires : goal.start_at-requires
-start_at-requires g c =
+pub start-requires : goal.start-requires
+start-requires g c =
     let table = g.T.Table.table c.args.table.now in
     let list = c.args.list.now in
     let places = c.args.places.now in
@@ -51,7 +51,7 @@ target-requires-clause-within g c =
     let over = c.requires.over in
     let num : c.selected_number-number.result ≡ number_of list.base (selected places e.symbol) = c.selected_number-number.ensures ∙ ap (λ f. number_of list.base (selected places f)) c.sym.ensures in
     let x = entry_numbered over.0 (length e.symbol) table list places over.1 over.2 e c.selected_number-number.result c.columns-columns.ensures.lawful over.3 num c.if-number-eq0.false in
-    let start : c.start_at.result ≡ get_or list.listing.starts.items (number_of list.base (selected places e.symbol)) 0 = c.start_at.ensures ∙ ap (λ n. get_or list.listing.starts.items n 0) num in
+    let start : c.start.result ≡ get_or list.listing.starts.items (number_of list.base (selected places e.symbol)) 0 = c.start.ensures ∙ ap (λ n. get_or list.listing.starts.items n 0) num in
     omega (arith, start, (c.requires.list.entries (entry (selected places e.symbol) []) (constant_entry table places over.1 over.2 e x c.requires.none)).within)
 
 pub returns : goal.returns
@@ -63,7 +63,7 @@ returns g c = λ i.
     let over = c.requires.over in
     let num : c.selected_number-number.result ≡ number_of list.base (selected places e.symbol) = c.selected_number-number.ensures ∙ ap (λ f. number_of list.base (selected places f)) c.sym.ensures in
     let x = entry_numbered over.0 (length e.symbol) table list places over.1 over.2 e c.selected_number-number.result c.columns-columns.ensures.lawful over.3 num c.if-number-eq0.false in
-    let start : c.start_at.result + 0 ≡ get_or list.listing.starts.items (number_of list.base (selected places e.symbol)) 0 + 0 = ap (λ n. n + 0) (c.start_at.ensures ∙ ap (λ n. get_or list.listing.starts.items n 0) num) in
+    let start : c.start.result + 0 ≡ get_or list.listing.starts.items (number_of list.base (selected places e.symbol)) 0 + 0 = ap (λ n. n + 0) (c.start.ensures ∙ ap (λ n. get_or list.listing.starts.items n 0) num) in
     let there = number_present list.base (selected places e.symbol) (λ z. c.if-number-eq0.false (num ∙ z)) in
     let target = c.target.ensures ∙ (ap (λ p. get_or list.listing.targets.items p 0) start ∙ (c.requires.list.entries (entry (selected places e.symbol) []) (constant_entry table places over.1 over.2 e x c.requires.none)).is) in
     (let more : c.target.result + 1 ≡ suc c.target.result = omega arith in more) ∙ (ap suc target ∙ sym (constant_step table places over.1 over.2 e x c.requires.none i there))

@@ -71,8 +71,8 @@ states_at-states-requires-clause-small g c = λ j l.
     let count : c.selected_kids-count.result ≡ symbol_kids table.signature (selected places e.symbol) = c.selected_kids-count.ensures.count ∙ (λ j. symbol_kids (c.signature.ensures j) (selected places (c.sym-symbol.ensures j))) in
     omega (arith, state_small table places c.args.at labels e x j (omega (arith, count, l)), c.states-states.ensures.count, c.states-states.type_inv)
 
-pub start_at-requires : goal.start_at-requires
-start_at-requires g c =
+pub start-requires : goal.start-requires
+start-requires g c =
     let table = g.T.Table.table c.args.table.now in
     let list = c.args.list.now in
     let places = c.args.places.now in
@@ -92,7 +92,7 @@ target-requires-clause-states g c =
     let num : c.selected_number-number.result ≡ number_of list.base (selected places e.symbol) = c.selected_number-number.ensures ∙ ap (λ f. number_of list.base (selected places f)) c.sym-symbol.ensures in
     let x = entry_numbered c.requires.over.0 (length e.symbol) table list places c.args.at labels e c.selected_number-number.result c.columns-columns.ensures.lawful c.requires.over.1 num c.if-number-eq0.false in
     let count : c.selected_kids-count.result ≡ symbol_kids table.signature (selected places e.symbol) = c.selected_kids-count.ensures.count ∙ (λ j. symbol_kids (c.signature.ensures j) (selected places (c.sym-symbol.ensures j))) in
-    states_ranked table list places c.args.at (labels_at labels e.kids) e c.requires.list x c.selected_number-number.result c.start_at.result c.selected_kids-count.result (take c.selected_kids-count.result c.states_at-states.result) num c.start_at.ensures count c.states_at-states.ensures
+    states_ranked table list places c.args.at (labels_at labels e.kids) e c.requires.list x c.selected_number-number.result c.start.result c.selected_kids-count.result (take c.selected_kids-count.result c.states_at-states.result) num c.start.ensures count c.states_at-states.ensures
 
 pub target-requires-clause-within : goal.target-requires-clause-within
 target-requires-clause-within g c =
@@ -104,7 +104,7 @@ target-requires-clause-within g c =
     let num : c.selected_number-number.result ≡ number_of list.base (selected places e.symbol) = c.selected_number-number.ensures ∙ ap (λ f. number_of list.base (selected places f)) c.sym-symbol.ensures in
     let x = entry_numbered c.requires.over.0 (length e.symbol) table list places c.args.at labels e c.selected_number-number.result c.columns-columns.ensures.lawful c.requires.over.1 num c.if-number-eq0.false in
     let count : c.selected_kids-count.result ≡ symbol_kids table.signature (selected places e.symbol) = c.selected_kids-count.ensures.count ∙ (λ j. symbol_kids (c.signature.ensures j) (selected places (c.sym-symbol.ensures j))) in
-    place_within table list places c.args.at (labels_at labels e.kids) e c.requires.list x c.selected_number-number.result c.start_at.result c.selected_kids-count.result (take c.selected_kids-count.result c.states_at-states.result) num c.start_at.ensures count c.states_at-states.ensures
+    place_within table list places c.args.at (labels_at labels e.kids) e c.requires.list x c.selected_number-number.result c.start.result c.selected_kids-count.result (take c.selected_kids-count.result c.states_at-states.result) num c.start.ensures count c.states_at-states.ensures
 
 pub returns : goal.returns
 returns g c =
@@ -117,5 +117,5 @@ returns g c =
     let x = entry_numbered c.requires.over.0 (length e.symbol) table list places c.args.at labels e c.selected_number-number.result c.columns-columns.ensures.lawful c.requires.over.1 num c.if-number-eq0.false in
     let count : c.selected_kids-count.result ≡ symbol_kids table.signature (selected places e.symbol) = c.selected_kids-count.ensures.count ∙ (λ j. symbol_kids (c.signature.ensures j) (selected places (c.sym-symbol.ensures j))) in
     let there = number_present list.base (selected places e.symbol) (λ z. c.if-number-eq0.false (num ∙ z)) in
-    let target = c.target.ensures ∙ target_listed table list places c.args.at (labels_at labels e.kids) e c.requires.list x c.selected_number-number.result c.start_at.result c.selected_kids-count.result (take c.selected_kids-count.result c.states_at-states.result) num c.start_at.ensures count c.states_at-states.ensures in
+    let target = c.target.ensures ∙ target_listed table list places c.args.at (labels_at labels e.kids) e c.requires.list x c.selected_number-number.result c.start.result c.selected_kids-count.result (take c.selected_kids-count.result c.states_at-states.result) num c.start.ensures count c.states_at-states.ensures in
     (let more : c.target.result + 1 ≡ suc c.target.result = omega arith in more) ∙ (ap suc target ∙ sym (step_present table places c.args.at e.symbol (labels_at labels e.kids) there))

@@ -1,14 +1,16 @@
-use Rattle.std.proofs.Common.{refl, ◌∙◌, ◌||◌, ap, sym, length, arith}
+use Rattle.std.proofs.Common.{◌+◌, ◌||◌, ◌==◌, map, length, refl, ap, sym, ◌∙◌, arith}
 use Rattle.fort_tables.specs.Tuples.{arity}
+use Rattle.fort_tables.specs.Entries.{entry}
 use Rattle.fort_rrn_algebra.specs.OperandRows.{labels_at}
 use Rattle.fort_rrn_algebra.specs.Scopes.{takes}
 use Rattle.fort_tables.proofs.TupleLaws.{arity_from_get}
-use Rattle.fort_operations.specs.Projections.{has_state}
+use Rattle.fort_operations.specs.Projections.{absent_state, has_state}
 use Rattle.fort_rrn_algebra.specs.Choices.{symbol_under}
 use Rattle.fort_rrn_algebra.proofs.LookUpLaws.{finder_is}
 use Rattle.fort_rrn_algebra.proofs.OperandEntries.{arity_small}
-use Rattle.fort_rrn_algebra.proofs.ProjectEntries.{choices_count}
-use Rattle.fort_rrn_algebra.proofs.LabelWritten.{choices_made, under_reachable, none_taken}
+use Rattle.fort_rrn_algebra.proofs.ProjectEntries.{choices_count, entry_under_constant}
+use Rattle.fort_rrn_algebra.proofs.LabelWritten.{choices_made, under_reachable, constant_gives, none_taken}
+use Rattle.fort_rrn_algebra.proofs.FlatSearch.{shift_test}
 use Rattle.fort_rrn_algebra.proofs.projection.mark_under.Goals as goal
 
 pub under-look_up-requires : goal.under-look_up-requires
@@ -48,6 +50,36 @@ returns-then-not-takes-clause-marked g c = λ q.
     let is = (arity_from_get c.signature-sig.result.now c.args.sym.0 c.arity-arity.result c.arity-arity.ensures).0 in
     none_taken body c.args.column c.args.row.now.symbol (labels_at c.args.rows.now.labels c.args.row.now.kids) c.args.scope q c.args.sym.0 (has_state c.args.out.now q)
     (rw (ap (λ z. arity z c.args.sym.0) (sym c.signature-sig.ensures)) (ap (takes c.args.scope) is ∙ (sym c.takes.ensures ∙ c.if-not-takes.true)))
+
+pub target_over_absent-state-requires-clause-found : goal.target_over_absent-state-requires-clause-found
+target_over_absent-state-requires-clause-found g c =
+    let body = g.T.Table.table c.args.body.now in
+    let f = symbol_under c.args.row.now c.args.column c.args.sym.0 in
+    let h = choices_made body c.args.column c.args.alone.now c.args.rows.now.labels c.args.row.now c.signature-sig.result.now c.args.sym.0 c.args.row.now.symbol f c.arity-arity.result c.requires.searched c.requires.alone c.signature-sig.ensures c.requires.symbol refl refl c.arity-arity.ensures in
+    let finds = c.under-look_up.ensures body (finder_is body c.args.column c.args.rows.now.labels c.args.row.now c.args.finder.now c.states-states.ensures.lawful c.requires.searched c.requires.finder) c.requires.symbol in
+    (f, finds, entry_under_constant body c.args.column c.args.alone.now c.args.rows.now.labels c.args.row.now c.args.sym.0 f c.arity-arity.result c.states-states.ensures.lawful c.states-states.ensures.reached h (omega arith))
+
+pub set_bit-requires : goal.set_bit-requires
+set_bit-requires g c =
+    let body = g.T.Table.table c.args.body.now in
+    let f = symbol_under c.args.row.now c.args.column c.args.sym.0 in
+    let ks = map absent_state (labels_at c.args.rows.now.labels c.args.row.now.kids) in
+    let h = choices_made body c.args.column c.args.alone.now c.args.rows.now.labels c.args.row.now c.signature-sig.result.now c.args.sym.0 c.args.row.now.symbol f c.arity-arity.result c.requires.searched c.requires.alone c.signature-sig.ensures c.requires.symbol refl refl c.arity-arity.ensures in
+    let finds = c.under-look_up.ensures body (finder_is body c.args.column c.args.rows.now.labels c.args.row.now c.args.finder.now c.states-states.ensures.lawful c.requires.searched c.requires.finder) c.requires.symbol in
+    let whole = entry_under_constant body c.args.column c.args.alone.now c.args.rows.now.labels c.args.row.now c.args.sym.0 f c.arity-arity.result c.states-states.ensures.lawful c.states-states.ensures.reached h (omega arith) in
+    omega (arith, c.states-states.ensures.lawful.within (entry f ks) whole, c.target_over_absent-state.ensures f finds whole, c.requires.room)
+
+pub returns-then-arity-eq0-clause-marked : goal.returns-then-arity-eq0-clause-marked
+returns-then-arity-eq0-clause-marked g c = λ q.
+    let body = g.T.Table.table c.args.body.now in
+    let f = symbol_under c.args.row.now c.args.column c.args.sym.0 in
+    let h = choices_made body c.args.column c.args.alone.now c.args.rows.now.labels c.args.row.now c.signature-sig.result.now c.args.sym.0 c.args.row.now.symbol f c.arity-arity.result c.requires.searched c.requires.alone c.signature-sig.ensures c.requires.symbol refl refl c.arity-arity.ensures in
+    let finds = c.under-look_up.ensures body (finder_is body c.args.column c.args.rows.now.labels c.args.row.now c.args.finder.now c.states-states.ensures.lawful c.requires.searched c.requires.finder) c.requires.symbol in
+    let whole = entry_under_constant body c.args.column c.args.alone.now c.args.rows.now.labels c.args.row.now c.args.sym.0 f c.arity-arity.result c.states-states.ensures.lawful c.states-states.ensures.reached h (omega arith) in
+    let state = c.target_over_absent-state.result in
+    let given = constant_gives body c.args.column c.args.alone.now c.args.rows.now.labels c.args.row.now c.args.scope c.args.sym.0 f c.arity-arity.result q c.states-states.ensures.lawful c.states-states.ensures.reached h (sym c.takes.ensures ∙ c.if-not-takes.false) (omega arith) in
+    c.set_bit.ensures.bits (128 + q)
+    ∙ ap (λ b. b || has_state c.args.out.now q) (shift_test state q ∙ (ap (λ x. x == q) (c.target_over_absent-state.ensures f finds whole) ∙ given))
 
 pub returns-clause-marked : goal.returns-clause-marked
 returns-clause-marked g c = λ q.

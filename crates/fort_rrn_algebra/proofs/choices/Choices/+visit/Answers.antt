@@ -17,7 +17,7 @@ target-state-requires g t c =
     let f = symbol_under s.row.now s.column s.sym.0 in
     let body = g.T.Table.table s.body.now in
     let symbol = choices_symbol body s.column s.alone.now s.rows.now.labels s.row.now s.sym.0 f s.arity c.requires.choices in
-    (f, c.requires.look_up, whole_entry body f c.args.chosen c.args.j c.states-states.ensures.lawful symbol (omega (arith, c.requires.count, c.if-rest-eq0.true)) (omega (arith, c.requires.few)) c.requires.before)
+    (f, c.requires.look_up, whole_entry body f c.args.chosen.now c.args.j c.states-states.ensures.lawful symbol (omega (arith, c.requires.count, c.if-rest-eq0.true)) (omega (arith, c.requires.few)) c.requires.before)
 
 pub set_bit-requires : goal.set_bit-requires
 set_bit-requires g t c =
@@ -25,8 +25,8 @@ set_bit-requires g t c =
     let f = symbol_under s.row.now s.column s.sym.0 in
     let body = g.T.Table.table s.body.now in
     let symbol = choices_symbol body s.column s.alone.now s.rows.now.labels s.row.now s.sym.0 f s.arity c.requires.choices in
-    let e = whole_entry body f c.args.chosen c.args.j c.states-states.ensures.lawful symbol (omega (arith, c.requires.count, c.if-rest-eq0.true)) (omega (arith, c.requires.few)) c.requires.before in
-    omega (arith, c.states-states.ensures.lawful.within (entry f (take c.args.j c.args.chosen)) e, c.target-state.ensures f c.requires.look_up e, c.requires.room)
+    let e = whole_entry body f c.args.chosen.now c.args.j c.states-states.ensures.lawful symbol (omega (arith, c.requires.count, c.if-rest-eq0.true)) (omega (arith, c.requires.few)) c.requires.before in
+    omega (arith, c.states-states.ensures.lawful.within (entry f (take c.args.j c.args.chosen.now)) e, c.target-state.ensures f c.requires.look_up e, c.requires.room)
 
 pub returns-then-rest-eq0-clause-marked : goal.returns-then-rest-eq0-clause-marked
 returns-then-rest-eq0-clause-marked g t c = λ q.
@@ -34,9 +34,9 @@ returns-then-rest-eq0-clause-marked g t c = λ q.
     let f = symbol_under s.row.now s.column s.sym.0 in
     let body = g.T.Table.table s.body.now in
     let may = may_in s.scope (may_choose body s.column s.rows.now.labels s.row.now s.arity) in
-    let before = take c.args.j c.args.chosen in
+    let before = take c.args.j c.args.chosen.now in
     let symbol = choices_symbol body s.column s.alone.now s.rows.now.labels s.row.now s.sym.0 f s.arity c.requires.choices in
-    let whole = whole_entry body f c.args.chosen c.args.j c.states-states.ensures.lawful symbol (omega (arith, c.requires.count, c.if-rest-eq0.true)) (omega (arith, c.requires.few)) c.requires.before in
+    let whole = whole_entry body f c.args.chosen.now c.args.j c.states-states.ensures.lawful symbol (omega (arith, c.requires.count, c.if-rest-eq0.true)) (omega (arith, c.requires.few)) c.requires.before in
     let state = c.target-state.result in
     c.set_bit.ensures.bits (128 + q)
     ∙ ap (λ b. b || has_state c.args.out.now q)
@@ -63,7 +63,7 @@ visit-requires g t c κs within =
                 (
                   omega (arith, c.requires.few, c.if-rest-eq0.false),
                   (
-                    kid_state_more body (symbol_under s.row.now s.column s.sym.0) c.args.chosen c.args.j c.in-Some.k (omega (arith, c.requires.few, c.if-rest-eq0.false)) c.requires.before state,
+                    kid_state_more body (symbol_under s.row.now s.column s.sym.0) c.args.chosen.now c.args.j c.in-Some.k (omega (arith, c.requires.few, c.if-rest-eq0.false)) c.requires.before state,
                     c.states.invariant.size,
                   ),
                 ),
@@ -81,15 +81,15 @@ states-preserved g t c =
     let may = may_in s.scope (may_choose body s.column s.rows.now.labels s.row.now s.arity) in
     let i = c.states.invariant in
     let n = c.in-Some.ensures.some in
-    let long : c.args.j < length c.args.chosen = omega (arith, c.requires.few, c.if-rest-eq0.false) in
+    let long : c.args.j < length c.args.chosen.now = omega (arith, c.requires.few, c.if-rest-eq0.false) in
     record {
       within = omega (arith, n.within);
       size = c.visit.auto.out ∙ i.size;
       first = c.visit.ensures.first ∙ i.first;
       second = c.visit.ensures.second ∙ i.second;
-      marked = λ q. turn (may c.args.j) (λ k. is_reachable body may (symbol_under s.row.now s.column s.sym.0) (take c.args.j c.args.chosen ++ k ∷ []) (c.args.j + 1) (c.args.rest - 1) q) c.states.from c.in-Some.k
-          (is_reachable body may (symbol_under s.row.now s.column s.sym.0) (take (c.args.j + 1) (set c.args.chosen c.args.j c.in-Some.k)) (c.args.j + 1) (c.args.rest - 1) q) (has_state c.visit.new.out q) (has_state c.states.out q) (has_state c.args.out.now q)
-          n.next (reach_chosen body may (symbol_under s.row.now s.column s.sym.0) c.args.chosen c.args.j c.args.rest c.in-Some.k q long) (c.visit.ensures.marked q) (i.marked q);
+      marked = λ q. turn (may c.args.j) (λ k. is_reachable body may (symbol_under s.row.now s.column s.sym.0) (take c.args.j c.args.chosen.now ++ k ∷ []) (c.args.j + 1) (c.args.rest - 1) q) c.states.from c.in-Some.k
+          (is_reachable body may (symbol_under s.row.now s.column s.sym.0) (take (c.args.j + 1) (set c.args.chosen.now c.args.j c.in-Some.k)) (c.args.j + 1) (c.args.rest - 1) q) (has_state c.visit.new.out q) (has_state c.states.out q) (has_state c.args.out.now q)
+          n.next (reach_chosen body may (symbol_under s.row.now s.column s.sym.0) c.args.chosen.now c.args.j c.args.rest c.in-Some.k q long) (c.visit.ensures.marked q) (i.marked q);
     }
 
 pub returns-clause-marked : goal.returns-clause-marked
@@ -98,5 +98,5 @@ returns-clause-marked g t c = λ q.
     let body = g.T.Table.table s.body.now in
     let may = may_in s.scope (may_choose body s.column s.rows.now.labels s.row.now s.arity) in
     let old = has_state c.args.out.now q in
-    turn_last (may c.args.j) (λ k. is_reachable body may (symbol_under s.row.now s.column s.sym.0) (take c.args.j c.args.chosen ++ k ∷ []) (c.args.j + 1) (c.args.rest - 1) q) c.states.from (length body.presences) (has_state c.states.out q) old c.states.invariant.within c.in_default-next_state.ensures.none (c.states.invariant.marked q)
-    ∙ ap (λ b. b || old) (sym (reachable_turn body may (symbol_under s.row.now s.column s.sym.0) (take c.args.j c.args.chosen) c.args.j c.args.rest q c.if-rest-eq0.false))
+    turn_last (may c.args.j) (λ k. is_reachable body may (symbol_under s.row.now s.column s.sym.0) (take c.args.j c.args.chosen.now ++ k ∷ []) (c.args.j + 1) (c.args.rest - 1) q) c.states.from (length body.presences) (has_state c.states.out q) old c.states.invariant.within c.in_default-next_state.ensures.none (c.states.invariant.marked q)
+    ∙ ap (λ b. b || old) (sym (reachable_turn body may (symbol_under s.row.now s.column s.sym.0) (take c.args.j c.args.chosen.now) c.args.j c.args.rest q c.if-rest-eq0.false))

@@ -1,10 +1,10 @@
-use Rattle.std.proofs.Common.{◌≡◌, ◌+◌, ◌^◌, suc, length, ap, ◌∙◌, arith}
+use Rattle.std.proofs.Common.{◌≡◌, ◌+◌, ◌^◌, suc, length, inr, ap, ◌∙◌, arith}
 use Rattle.std.proofs.lemmas.Result.{IfOk-weaker}
 use Rattle.fort_rrn_algebra.proofs.ListingLaws.{laid_entries}
 use Rattle.fort_rrn_algebra.proofs.flat.FlatTargets.make.Goals as goal
 
-pub returns-in_ok-make-in-Some-2 : goal.returns-in_ok-make-in-Some-2
-returns-in_ok-make-in-Some-2 g c =
+pub returns-in_ok-make-in-Some-2-clause-flat : goal.returns-in_ok-make-in-Some-2-clause-flat
+returns-in_ok-make-in-Some-2-clause-flat g c =
     let body = g.T.Table.table c.args.body.now in
     let base = c.len.result + 1 in
     let spots = c.make.new.self in
@@ -21,4 +21,7 @@ returns-in_ok-make-in-Some-2 g c =
       few = omega (arith, n, few);
       spots = c.in_ok-make-in-Some.ensures;
       entries = laid_entries body base count listing.starts.items listing.targets.items spots.ranks.items spots.alike.items b n c.in_ok-make-in-Some.ensures laid;
-    }) c.make-in-Some-2.ensures
+    }) c.make-in-Some-2.ensures.laid
+
+pub returns-in_ok-make-in-Some-2-clause-not_made : goal.returns-in_ok-make-in-Some-2-clause-not_made
+returns-in_ok-make-in-Some-2-clause-not_made g c = IfOk-weaker c.make-in-Some-2.result _ _ (λ made full no. inr (full no)) c.make-in-Some-2.ensures.full

@@ -3,14 +3,15 @@ use Rattle.fort_theory.specs.Signatures.{Signature}
 use Rattle.fort_tables.specs.Tuples.{AreSymbols, symbol_kids}
 use Rattle.fort_rrn_algebra.specs.Flats.{base_of, laid}
 use Rattle.fort_rrn_algebra.proofs.SymbolNumbers.{symbols_at}
-use Rattle.fort_rrn_algebra.proofs.ListingLaws.{numbered_symbol, numbered_none, numbered_one, laid_end, entry_alone}
+use Rattle.fort_rrn_algebra.proofs.ListingLaws.{tuple_symbol_at, laid_none, laid_one, laid_end, entry_alone}
 use Rattle.fort_rrn_algebra.proofs.flat.Listing.add.Goals as goal
 
-pub returns-then-not-is_present : goal.returns-then-not-is_present
-returns-then-not-is_present g c = λ _ n numbered before.
+pub returns-then-not-is_present-clause-laid : goal.returns-then-not-is_present-clause-laid
+returns-then-not-is_present-clause-laid g c = λ _ n numbered before.
     let own = c.args.self.now in
     let start : c.in-Ok.start ≡ length own.targets.items = omega (arith, c.len.ensures, c.in-Ok.ensures) in
-    numbered_none (g.T.Table.table c.args.body.now) n c.args.symbol.now own.starts.items own.targets.items c.push.new.self.items numbered before (sym c.is_present.ensures ∙ c.if-not-is_present.true)
+    let body = g.T.Table.table c.args.body.now in
+    laid_none body (base_of body) n c.args.symbol.now own.starts.items own.targets.items c.push.new.self.items refl numbered.is before (sym c.is_present.ensures ∙ c.if-not-is_present.true)
     (c.in_ok-push.ensures.items ∙ ap (λ k. own.starts.items ++ k ∷ []) start)
 
 pub kid_count-count-requires : goal.kid_count-count-requires
@@ -26,31 +27,32 @@ target-requires g c =
     let f = c.args.symbol.now in
     let r = c.requires.laid in
     let count : c.kid_count-count.result ≡ symbol_kids body.signature f = c.kid_count-count.ensures.count ∙ ap (λ (sig : Signature). symbol_kids sig f) c.signature.ensures in
-    entry_alone body f (numbered_symbol body r.0 f r.1 (sym c.is_present.ensures ∙ c.if-not-is_present.false)) (sym count ∙ c.if-count-eq0.true)
+    entry_alone body f (tuple_symbol_at body (base_of body) r.0 f refl r.1.is (sym c.is_present.ensures ∙ c.if-not-is_present.false)) (sym count ∙ c.if-count-eq0.true)
 
 pub lay-requires-clause-symbol : goal.lay-requires-clause-symbol
 lay-requires-clause-symbol g c =
     let r = c.requires.laid in
-    numbered_symbol (g.T.Table.table c.args.body.now) r.0 c.args.symbol.now r.1 (sym c.is_present.ensures ∙ c.if-not-is_present.false)
+    let body = g.T.Table.table c.args.body.now in
+    tuple_symbol_at body (base_of body) r.0 c.args.symbol.now refl r.1.is (sym c.is_present.ensures ∙ c.if-not-is_present.false)
 
-pub returns-in_ok-push-2 : goal.returns-in_ok-push-2
-returns-in_ok-push-2 g c = λ _ n numbered before.
+pub returns-in_ok-push-2-clause-laid : goal.returns-in_ok-push-2-clause-laid
+returns-in_ok-push-2-clause-laid g c = λ _ n numbered before.
     let body = g.T.Table.table c.args.body.now in
     let own = c.args.self.now in
     let old = own.targets.items in
     let f = c.args.symbol.now in
     let start : c.in-Ok.start ≡ length old = omega (arith, c.len.ensures, c.in-Ok.ensures) in
     let count : c.kid_count-count.result ≡ symbol_kids body.signature f = c.kid_count-count.ensures.count ∙ ap (λ (sig : Signature). symbol_kids sig f) c.signature.ensures in
-    numbered_one body n f own.starts.items old c.push.new.self.items c.push-then-count-eq0.new.self.items numbered before (c.in_ok-push.ensures.items ∙ ap (λ k. own.starts.items ++ k ∷ []) start)
+    laid_one body (base_of body) n f own.starts.items old c.push.new.self.items c.push-then-count-eq0.new.self.items refl numbered.is before (c.in_ok-push.ensures.items ∙ ap (λ k. own.starts.items ++ k ∷ []) start)
     (c.in_ok-push-2.ensures.items ∙ ap (λ xs. old ++ xs) (ap (λ q. q ∷ []) c.target.ensures ∙ sym (laid_end body f [] 0 (symbol_kids body.signature f) (sym count ∙ c.if-count-eq0.true))))
 
-pub returns-in_ok-lay : goal.returns-in_ok-lay
-returns-in_ok-lay g c = λ _ n numbered before.
+pub returns-in_ok-lay-clause-laid : goal.returns-in_ok-lay-clause-laid
+returns-in_ok-lay-clause-laid g c = λ _ n numbered before.
     let body = g.T.Table.table c.args.body.now in
     let own = c.args.self.now in
     let old = own.targets.items in
     let f = c.args.symbol.now in
     let start : c.in-Ok.start ≡ length old = omega (arith, c.len.ensures, c.in-Ok.ensures) in
     let count : c.kid_count-count.result ≡ symbol_kids body.signature f = c.kid_count-count.ensures.count ∙ ap (λ (sig : Signature). symbol_kids sig f) c.signature.ensures in
-    numbered_one body n f own.starts.items old c.push.new.self.items c.lay.new.targets.items numbered before (c.in_ok-push.ensures.items ∙ ap (λ k. own.starts.items ++ k ∷ []) start)
+    laid_one body (base_of body) n f own.starts.items old c.push.new.self.items c.lay.new.targets.items refl numbered.is before (c.in_ok-push.ensures.items ∙ ap (λ k. own.starts.items ++ k ∷ []) start)
     (c.in_ok-lay.ensures ∙ ap (λ k. old ++ laid body f [] 0 k) count)

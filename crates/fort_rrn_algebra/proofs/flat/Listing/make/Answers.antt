@@ -35,15 +35,15 @@ loop-preserved g c =
     let own = c.loop.self in
     let new = c.add.new.self in
     let numbered : IsNumbered c.args.base body.columns n c.loop.symbol = record { low = omega (arith, c.loop-test.true, c.requires.count); is = v.symbol } in
-    let laid = c.in_ok-add.ensures c.if-not-branch.false n (subst (λ (b : ℕ). IsNumbered b body.columns n c.loop.symbol) c.requires.base numbered)
+    let laid = c.in_ok-add.ensures.laid c.if-not-branch.false n (subst (λ (b : ℕ). IsNumbered b body.columns n c.loop.symbol) c.requires.base numbered)
     (subst (λ (b : ℕ). AreLaid body b n own.starts.items own.targets.items) c.requires.base v.laid) in
     record {
       symbol = columns_next c.args.base body.columns n c.loop.symbol c.to_next.new.self v.symbol c.to_next.ensures.next;
       laid = subst (λ (b : ℕ). AreLaid body b (n + 1) new.starts.items new.targets.items) (sym c.requires.base) laid;
     }
 
-pub returns : goal.returns
-returns g c = λ _.
+pub returns-clause-laid : goal.returns-clause-laid
+returns-clause-laid g c = λ _.
     let body = g.T.Table.table c.args.body.now in
     let own = c.loop.self in
     subst (λ (n : ℕ). AreLaid body c.args.base n own.starts.items own.targets.items) (omega (arith, c.loop-test.false, c.loop.auto.counter-end)) c.loop.invariant.laid

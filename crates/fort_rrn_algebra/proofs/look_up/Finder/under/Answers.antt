@@ -1,8 +1,7 @@
-use Rattle.std.proofs.Common.{◌≡◌, ◌+◌, ◌*◌, ◌<◌, length, get_or, Some, ap, ◌∙◌, arith, subst}
+use Rattle.std.proofs.Common.{◌≡◌, ◌+◌, ◌*◌, get_or, Some, ap, ◌∙◌, arith, subst}
 use Rattle.std.specs.List.{insert}
 use Rattle.fort_rrn_algebra.specs.Places.{number_of}
 use Rattle.fort_rrn_algebra.specs.LookUps.{FindsAbove}
-use Rattle.std.proofs.lemmas.Grind.{get_or_default_zero}
 use Rattle.fort_rrn_algebra.proofs.LookUpLaws.{under_below, under_is}
 use Rattle.fort_rrn_algebra.proofs.look_up.Finder.under.Goals as goal
 
@@ -30,8 +29,8 @@ overflow_add-place-in-InList c =
     let m = ap (λ p. (c.args.symbol.0 + 1) * p) h.2 in
     omega (arith, b, e, m, h.1, h.0.few)
 
-pub index-requires : goal.index-requires
-index-requires c =
+pub start-requires : goal.start-requires
+start-requires c =
     let body = c.requires.0 in
     let finder = c.requires.1 in
     let f = c.args.row.now.symbol in
@@ -46,12 +45,9 @@ pub returns-in-InList : goal.returns-in-InList
 returns-in-InList c = λ body finder low.
     let f = c.args.row.now.symbol in
     let flat = c.in-InList.flat.now in
-    let starts = flat.listing.starts.items in
     let h = subst (FindsAbove body f c.args.column) c.in-InList.is finder.finds in
-    let b = under_below body flat f c.args.column c.args.symbol.0 h.0 finder.column low finder.symbol in
     let e = under_is body flat f c.args.column c.args.symbol.0 finder.column finder.symbol in
     let m = ap (λ p. (c.args.symbol.0 + 1) * p) h.2 in
     let place = c.in-InList.number + (c.args.symbol.0 + 1) * c.in-InList.step in
     let at : place ≡ number_of flat.base (insert f c.args.column (Some c.args.symbol.0)) = omega (arith, e, m, h.1) in
-    let l : place < length starts = omega (arith, at, b, h.0.starts_all) in
-    (h.0, c.index.ensures ∙ (get_or_default_zero starts place c.index.result.now l ∙ ap (λ n. get_or starts n 0) at))
+    (h.0, c.start.ensures ∙ ap (λ n. get_or flat.listing.starts.items n 0) at)

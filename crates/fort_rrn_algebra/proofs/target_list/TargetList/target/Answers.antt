@@ -1,5 +1,4 @@
-use Rattle.std.proofs.Common.{◌≡◌, ◌+◌, ◌<◌, length, get_or, ap, ◌∙◌, arith}
-use Rattle.std.proofs.lemmas.Grind.{get_or_default_zero}
+use Rattle.std.proofs.Common.{◌≡◌, ◌+◌, get_or, ap, ◌∙◌, arith}
 use Rattle.fort_tables.specs.Entries.{entry}
 use Rattle.fort_rrn_algebra.specs.Places.{place_from}
 use Rattle.fort_rrn_algebra.specs.Flats.{flat_place}
@@ -17,8 +16,8 @@ number-requires c =
       small = omega (arith, symbol_below c.requires.0 flat e.symbol h c.requires.2.symbol, h.few);
     }
 
-pub index-requires : goal.index-requires
-index-requires c =
+pub start-start-requires : goal.start-start-requires
+start-start-requires c =
     let e = entry c.args.symbol.now c.args.kids.now in
     let flat = c.args.self.now.list in
     let h = c.requires.1.list_is (c.requires.1.made e c.requires.2) in
@@ -28,11 +27,9 @@ pub target-requires : goal.target-requires
 target-requires c =
     let e = entry c.args.symbol.now c.args.kids.now in
     let flat = c.args.self.now.list in
-    let starts = flat.listing.starts.items in
     let h = c.requires.1.list_is (c.requires.1.made e c.requires.2) in
     let at = h.entries e c.requires.2 in
-    let low : c.number.result < length starts = omega (arith, symbol_below c.requires.0 flat e.symbol h c.requires.2.symbol, h.starts_all, c.number.ensures) in
-    let start = c.index.ensures ∙ (get_or_default_zero starts c.number.result c.index.result.now low ∙ ap (λ n. get_or starts n 0) c.number.ensures) in
+    let start = c.start-start.ensures ∙ ap (λ n. get_or flat.listing.starts.items n 0) c.number.ensures in
     record {
       states = states_in c.requires.0 flat e h c.requires.2;
       within = omega (arith, at.within, start);
@@ -42,9 +39,7 @@ pub returns : goal.returns
 returns c = λ body is there.
     let e = entry c.args.symbol.now c.args.kids.now in
     let flat = c.args.self.now.list in
-    let starts = flat.listing.starts.items in
     let h = is.list_is (is.made e there) in
-    let low : c.number.result < length starts = omega (arith, symbol_below body flat e.symbol h there.symbol, h.starts_all, c.number.ensures) in
-    let start = c.index.ensures ∙ (get_or_default_zero starts c.number.result c.index.result.now low ∙ ap (λ n. get_or starts n 0) c.number.ensures) in
-    let place : c.index.result.now + place_from flat.spots.ranks.items flat.spots.alike.items 0 e.kids ≡ flat_place flat e = ap (λ n. n + place_from flat.spots.ranks.items flat.spots.alike.items 0 e.kids) start in
+    let start = c.start-start.ensures ∙ ap (λ n. get_or flat.listing.starts.items n 0) c.number.ensures in
+    let place : c.start-start.result + place_from flat.spots.ranks.items flat.spots.alike.items 0 e.kids ≡ flat_place flat e = ap (λ n. n + place_from flat.spots.ranks.items flat.spots.alike.items 0 e.kids) start in
     c.target.ensures ∙ (ap (λ p. get_or flat.listing.targets.items p 0) place ∙ (h.entries e there).is)
