@@ -1,4 +1,4 @@
--- The search through the choices: the next state that may stand as a child, and one turn of the loop over them.
+-- The search through the choices: the next state that may stand as a child, one turn of the loop over them, and what is found where there is one choice.
 use Rattle.std.proofs.Common.{◌≡◌, ◌≢◌, ℕ, zero, suc, ◌+◌, ◌-◌, ◌<◌, ◌≤◌, ◌==◌, ◌&&◌, ◌||◌, List, [], ◌∷◌, ◌++◌, length, get_or, take, set, Option, None, Some, IfNone, Bool, true, false, ⊎_elim, refl, ap, sym, ◌∙◌, arith, subst, append_assoc, get_or-set_same, get_or-set_other}
 use Rattle.std.proofs.lemmas.Bool.{cases_lt, eqb-true, eq-eqb}
 use Rattle.std.proofs.lemmas.List.{append-nil, take_more_set, length-take-le, get_or-take, ext_get_or}

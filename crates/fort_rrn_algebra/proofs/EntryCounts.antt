@@ -12,7 +12,7 @@ use Rattle.fort_rrn_algebra.specs.Walks.{entries_of, entries_before}
 use Rattle.fort_rrn_algebra.proofs.PlaceLaws.{room, cap_product}
 use Rattle.fort_rrn_algebra.proofs.ListingLaws.{length-laid}
 use Rattle.fort_rrn_algebra.proofs.SymbolPlaces.{entries_more, entries_behind, entries_split}
-use Rattle.fort_rrn_algebra.proofs.WalkSymbols.{laid_targets}
+use Rattle.fort_rrn_algebra.proofs.LaidTargets.{laid_targets}
 
 -- how many lists of states there are, with one more state at the end
 room_more : (ps : List ℕ) (w : ℕ → ℕ) (j n : ℕ) → room ps w j (suc n) ≡ room ps w j n * count_of (w (j + n)) ps

@@ -1,4 +1,4 @@
--- The label of a projection as it is written: the first two words, and then the bits that are marked.
+-- The label of a projection as it is written: the first two words, and then the bits that are marked, for a constant one alone.
 use Rattle.std.proofs.Common.{◌≡◌, ◌≢◌, ℕ, ◌+◌, ◌*◌, ◌/◌, ◌%◌, ◌<◌, ◌≤◌, ◌&&◌, ◌||◌, ◌==◌, List, [], ◌∷◌, map, drop, set, length, get_or, Some, max, Bool, true, false, ⊎_elim, refl, ap, sym, ◌∙◌, arith, get_or-set_same, get_or-set_other, length-drop}
 use Rattle.std.proofs.lemmas.Bool.{cases_lt}
 use Rattle.std.proofs.lemmas.List.{get_or_past, get_or-drop, length-set}

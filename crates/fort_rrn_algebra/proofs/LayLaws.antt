@@ -105,7 +105,7 @@ laid_first t walk begins h size own =
         cursor = λ s l. let z : get_or begins s 0 ≡ get_or begins s 0 + 0 = omega arith in z;
         laid_are = λ b. refl;
       };
-      laid_are = λ b. record { count = refl; laid_at = λ f s l. absurd (omega (arith, l)) };
+      laid_are = λ b. record { count = refl; size = refl; laid_at = λ f s l. absurd (omega (arith, l)) };
     }
 
 pub laid_begun : (t : Listed) (walk : Walk) (begins starts laid : List ℕ) → IsWalkOf t walk → length begins ≡ suc (length t.presences)

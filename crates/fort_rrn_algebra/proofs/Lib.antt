@@ -9,6 +9,7 @@ mod ScopeLaws
 mod ImageLaws
 mod ImagesKept
 mod LabelWritten
+mod LaidTargets
 mod TableMade
 mod NegationLaws
 mod PlaceLaws

@@ -13,8 +13,9 @@ use Rattle.fort_operations.specs.Selections.{is_present}
 use Rattle.fort_operations.proofs.SelectionLaws.{present_from_test, test_from_present}
 use Rattle.fort_lockstep.specs.SymbolNumbers.{columns_at}
 use Rattle.fort_rrn_algebra.specs.Places.{number_of, place_from, AreSpots}
-use Rattle.fort_laid_entries.specs.Laid.{joined_below}
-use Rattle.fort_rrn_algebra.specs.Flats.{laid, IsStateFor, HasFrom, AreLaid, IsTargetAt}
+use Rattle.fort_laid_entries.specs.Laid.{joined_below, entries_under}
+use Rattle.fort_rrn_algebra.specs.Flats.{entries_below, laid, IsStateFor, HasFrom, AreLaid, IsTargetAt}
+use Rattle.fort_rrn_algebra.proofs.LaidTargets.{under_none, under_laid}
 use Rattle.fort_rrn_algebra.proofs.PlaceLaws.{rank_none, rank_more, rank_whole, room, AreKidsFrom, kids_from_index, place_first, place_below}
 use Rattle.fort_lockstep.proofs.SymbolNumberLaws.{length-columns_at}
 use Rattle.fort_rrn_algebra.proofs.SymbolNumbers.{number_below, columns_again, symbols_at}
@@ -124,10 +125,14 @@ has_from-end xs ys = record {
 
 -- the tuple symbol with the next number is this one, or no tuple symbol has the number
 pub laid_more : (body : Table) (base n : ℕ) (starts targets more : List ℕ) → AreLaid body base n starts targets
+    → length more ≡ length (entries_under body.signature body.presences (columns_at base body.columns n))
     → ((f : TupleSymbol) → IsTupleSymbol body.signature body.columns f → number_of base f ≡ n → more ≡ laid body f [] 0 (symbol_kids body.signature f))
     → AreLaid body base (n + 1) (starts ++ length targets ∷ []) (targets ++ more)
-laid_more body base n starts targets more h own = record {
+laid_more body base n starts targets more h size own = record {
   count = omega (arith, length-append starts (length targets ∷ []), h.count);
+  size =
+      let next : suc n ≡ n + 1 = omega arith in
+      length-append targets more ∙ (ap (λ k. k + length more) h.size ∙ (ap (λ k. entries_below body base n + k) size ∙ ap (entries_below body base) next));
   laid_at = λ f s l.
       let m = number_of base f in
       let ys = laid body f [] 0 (symbol_kids body.signature f) in
@@ -228,14 +233,15 @@ pub laid_none : (body : Table) (base n : ℕ) (f : TupleSymbol) (starts targets 
 laid_none body base n f starts targets new b is h absent e =
     subst (λ (xs : List ℕ). AreLaid body base (n + 1) xs targets) (sym e)
     (subst (λ (xs : List ℕ). AreLaid body base (n + 1) (starts ++ length targets ∷ []) xs) (append-nil targets)
-    (laid_more body base n starts targets [] h
+    (laid_more body base n starts targets [] h (sym (under_none body (columns_at base body.columns n) (ap is_present (sym is) ∙ absent)))
     (λ g s o. absurd (true≢false (sym (test_from_present g s.present) ∙ (ap is_present (symbol_is body base n g b s o ∙ sym is) ∙ absent))))))
 
 -- a number with one
-pub laid_one : (body : Table) (base n : ℕ) (f : TupleSymbol) (starts targets new laid_new : List ℕ) → base ≡ suc (length body.signature) → f ≡ columns_at base body.columns n → AreLaid body base n starts targets → new ≡ starts ++ length targets ∷ []
+pub laid_one : (body : Table) (base n : ℕ) (f : TupleSymbol) (starts targets new laid_new : List ℕ) → base ≡ suc (length body.signature) → f ≡ columns_at base body.columns n → is_present f ≡ true → AreLaid body base n starts targets → new ≡ starts ++ length targets ∷ []
     → laid_new ≡ targets ++ laid body f [] 0 (symbol_kids body.signature f) → AreLaid body base (n + 1) new laid_new
-laid_one body base n f starts targets new laid_new b is h e m =
+laid_one body base n f starts targets new laid_new b is present h e m =
     subst (λ (xs : List ℕ). AreLaid body base (n + 1) xs laid_new) (sym e)
     (subst (λ (xs : List ℕ). AreLaid body base (n + 1) (starts ++ length targets ∷ []) xs) (sym m)
     (laid_more body base n starts targets (laid body f [] 0 (symbol_kids body.signature f)) h
+    (sym (under_laid body f (present_from_test f present)) ∙ ap (λ x. length (entries_under body.signature body.presences x)) is)
     (λ g s o. ap (λ x. laid body x [] 0 (symbol_kids body.signature x)) (is ∙ sym (symbol_is body base n g b s o)))))

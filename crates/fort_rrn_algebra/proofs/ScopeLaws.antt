@@ -137,11 +137,11 @@ in_set_small body c labels e is reached s j k l o =
     let y = (r.says.given k).0 (ap (λ w. has_state w k) (sym (label_at labels e.kids j l)) ∙ o) in
     subst (λ (q : ℕ). q < length body.presences) y.2 (table_state body is (insert r.tuple c (Some y.0)) (IsTuple-completed body c r.tuple y.0 s.column y.1 r.is_tuple.width r.is_tuple.grounded)).within
 
--- a scope with a constant names no state
-open_at_zero : (scope : Scope) (may : ℕ → ℕ → Bool) (j k : ℕ) → takes scope 0 ≡ true → may_in scope may j k ≡ may j k
-open_at_zero All may j k h = refl
-open_at_zero (Without v) may j k h = refl
-open_at_zero (With one) may j k h = let l = ltb-true one.place 0 h in absurd (omega arith)
+-- a scope that takes constants holds no child to one state
+free_in_scope : (scope : Scope) (may : ℕ → ℕ → Bool) (j k : ℕ) → takes scope 0 ≡ true → may_in scope may j k ≡ may j k
+free_in_scope All may j k h = refl
+free_in_scope (Without v) may j k h = refl
+free_in_scope (With one) may j k h = let l = ltb-true one.place 0 h in absurd (omega arith)
 
 -- Result: a constant gives the target over the children's states with the column absent, and no other state
 pub gives_over_absent : (body : Table) (c : ℕ) (f : TupleSymbol) (ws : List (List ℕ)) (scope : Scope) (q g : ℕ) → arity body.signature g ≡ 0 → takes scope 0 ≡ true → ((i : ℕ) → i < length (map absent_state ws) → get_or (map absent_state ws) i 0 < length body.presences)
@@ -157,4 +157,4 @@ gives_over_absent body c f ws scope q g none taken small =
     ap (λ b. b && some_choice n may 0 (max a (length ws)) p) (ap (takes scope) none ∙ taken)
     ∙ (ap (λ m. some_choice n may 0 m p) count
     ∙ one_choice n may ks p small
-    (λ i k l. open_at_zero scope (may_stand body c a ws) i k taken ∙ (may_absent body c a ws i k (omega arith) ∙ ap (λ x. x == k) (sym (get_or-map absent_state ws i [] 0 (omega arith))))))
+    (λ i k l. free_in_scope scope (may_stand body c a ws) i k taken ∙ (may_absent body c a ws i k (omega arith) ∙ ap (λ x. x == k) (sym (get_or-map absent_state ws i [] 0 (omega arith))))))

@@ -15,31 +15,9 @@ use Rattle.fort_lockstep.specs.SymbolNumbers.{columns_at}
 use Rattle.fort_rrn_algebra.specs.Flats.{laid}
 use Rattle.fort_rrn_algebra.specs.Walks.{entries_before, IsWalkOf, AreBegins, HasPassed, Stop, IsStopOf, IsBetween}
 use Rattle.fort_rrn_algebra.specs.declared.walk.Walk.{Walk}
+use Rattle.fort_rrn_algebra.proofs.LaidTargets.{laid_targets, absent_presence}
 use Rattle.fort_rrn_algebra.proofs.ListingLaws.{tuple_symbol_at, laid_none, laid_one}
 use Rattle.fort_rrn_algebra.proofs.SymbolPlaces.{entries_more, entries_behind, entries_split}
-
--- the targets laid over first child states are those of the entries
-joined_same : {A : Type 0} (n : ℕ) (g h : ℕ → List A) → ((k : ℕ) → g k ≡ h k) → joined_below n g ≡ joined_below n h
-joined_same zero g h e = refl
-joined_same (suc n) g h e = λ i. joined_same n g h e i ++ e n i
-
-map_joined : {A B : Type 0} (f : A → B) (n : ℕ) (g : ℕ → List A) → map f (joined_below n g) ≡ joined_below n (λ k. map f (g k))
-map_joined f zero g = refl
-map_joined f (suc n) g = map-append f (joined_below n g) (g n) ∙ ap (λ xs. xs ++ map f (g n)) (map_joined f n g)
-
-map_chosen : {A B : Type 0} (f : A → B) (b : Bool) (xs : List A) → map f (if b then xs else []) ≡ (if b then map f xs else [])
-map_chosen f true xs = refl
-map_chosen f false xs = refl
-
-pub laid_targets : (body : Table) (f : TupleSymbol) (ks : List ℕ) (j n : ℕ) → laid body f ks j n ≡ map body.target (entries_from body.signature body.presences f ks j n)
-laid_targets body f ks j zero = refl
-laid_targets body f ks j (suc n) =
-    let ps = body.presences in
-    let b : ℕ → Bool = λ k. get_or ps k 0 == kid_presence body.signature f j in
-    let own : ℕ → List Entry = λ k. entries_from body.signature ps f (ks ++ k ∷ []) (suc j) n in
-    joined_same (length ps) (λ k. if b k then laid body f (ks ++ k ∷ []) (suc j) n else []) (λ k. map body.target (if b k then own k else []))
-    (λ k. ap (λ qs. if b k then qs else []) (laid_targets body f (ks ++ k ∷ []) (suc j) n) ∙ sym (map_chosen body.target (b k) (own k)))
-    ∙ sym (map_joined body.target (length ps) (λ k. if b k then own k else []))
 
 -- the tuple symbol with a number
 abbrev pub symbol_with : Listed → Walk → ℕ → TupleSymbol
@@ -95,9 +73,6 @@ between_few t begins walk n cursors starts targets h l b =
     )
 
 -- without a present column it has no entries
-pub absent_presence : (f : TupleSymbol) → is_present f ≡ false → presence f ≡ 0
-absent_presence f e = ⊎_elim (λ z. z) (λ z. absurd (true≢false (sym (test_from_present f (present_from_presence f z)) ∙ e))) (cases_eq (presence f) 0)
-
 pub before_absent : (t : Listed) (walk : Walk) (n : ℕ) → IsWalkOf t walk → n < walk.base ^ walk.columns → is_present (symbol_with t walk n) ≡ false → entries_before t (n + 1) ≡ entries_before t n
 before_absent t walk n goes l absent =
     let own = columns_at (suc (length t.signature)) t.columns n in
@@ -140,7 +115,7 @@ between_present t begins walk n cursors starts targets new_cursors new new_targe
       begin = h.begin;
       passed = subst (λ es. HasPassed t walk.lays begins es new_cursors new_targets) all made;
       laid_are = λ b.
-          laid_one body walk.base n f starts targets new new_targets h.goes.base is (h.laid_are b) (grown b)
+          laid_one body walk.base n f starts targets new new_targets h.goes.base is (ap is_present is ∙ present) (h.laid_are b) (grown b)
           (made.laid_are b
           ∙ (map-append body.target (entries_before t n) entries
           ∙ (ap (λ qs. qs ++ map body.target entries) (sym (h.passed.laid_are b))

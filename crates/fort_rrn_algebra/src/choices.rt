@@ -190,8 +190,8 @@ impl<'a, T: Table> Choices<'a, T> {
             (T.table self.now.body.now) (may_in self.now.scope (may_choose
             (T.table self.now.body.now) self.now.column self.now.rows.now.labels
             self.now.row.now self.now.arity))
-            (symbol_under self.now.row.now self.now.column self.now.sym.0) (take j chosen.now) j rest q
-            || has_state out.old q) }
+            (symbol_under self.now.row.now self.now.column self.now.sym.0) (take j chosen.now) j
+            rest q || has_state out.old q) }
     {
         let _states = self.body.states();
         if rest == 0 {

@@ -174,14 +174,14 @@ impl FlatTargets {
 }
 
 /// Column `k` of the tuple symbol with one more column, which is absent.
-fn column_with_absent(symbol: &TupleSym, place: usize, k: usize) -> Option<Sym>
-    requires within { place ≤ length symbol.now }
-    requires column { k ≤ length symbol.now }
-    ensures { as_column result ≡ slice_index_or (insert symbol.now place None) k None }
+fn column_with_absent(symbol: &TupleSym, column: usize, k: usize) -> Option<Sym>
+    requires within { column ≤ length symbol.now }
+    requires index { k ≤ length symbol.now }
+    ensures { as_column result ≡ slice_index_or (insert symbol.now column None) k None }
 {
-    if k < place {
+    if k < column {
         symbol.symbol(k)
-    } else if k == place {
+    } else if k == column {
         None
     } else {
         symbol.symbol(k - 1)

@@ -1,9 +1,9 @@
 //! A table's targets, put into one list.
-ghost use Rattle.std.specs.Prelude.{◌≡◌, ℕ, ◌+◌, ◌<◌, ◌≤◌, ◌^◌, ◌⊎◌, ◌++◌, [], take, length, slice_index, slice_index_or, IfOk, IfSome, IfNone, OnOk, IsTrue, IsFalse};
+ghost use Rattle.std.specs.Prelude.{◌≡◌, ℕ, ◌+◌, ◌<◌, ◌≤◌, ◌^◌, ◌++◌, [], take, length, slice_index, slice_index_or, IfOk, IfSome, IfNone, OnOk, IsTrue, IsFalse};
 ghost use Rattle.fort_tables.specs.Tuples.{IsTupleSymbol, symbol_kids};
 ghost use Rattle.fort_rrn_algebra.specs.Places.{IsNumbered, AreSpots, AreRanks, AreAlike, AreCounts};
 ghost use Rattle.fort_rrn_algebra.specs.Chains.{AreChains};
-ghost use Rattle.fort_rrn_algebra.specs.Flats.{base_of, laid, IsStateFor, AreLaid, IsFlatOf};
+ghost use Rattle.fort_rrn_algebra.specs.Flats.{base_of, laid, entries_below, IsStateFor, AreLaid, IsFlatOf, IsUnlisted};
 
 use crate::chains::{Chains, fill, make_room, presence_count};
 use crate::columns::{is_present, kid_count, kid_presence};
@@ -152,8 +152,8 @@ impl Listing {
         Ok(true)
     }
 
-    /// Makes these the targets of the tuple symbols, which are so many. False where those of one would start at a place of more than 32
-    /// bits.
+    /// Makes these the targets of the tuple symbols, `count` of them. False where the targets of one would start at a place of more than
+    /// 32 bits.
     fn make<T: Table>(
         &mut self,
         body: &T,
@@ -167,8 +167,8 @@ impl Listing {
         requires count { count ≡ base ^ (T.table body.now).columns }
         ensures laid { IfOk result (λ made. IsTrue made → AreLaid (T.table body.now) base count
             self.new.starts.items self.new.targets.items) }
-        ensures full { IfOk result (λ made. IsFalse made
-            → 2 ^ 32 ≤ length self.new.targets.items) }
+        ensures full { IfOk result (λ made. IsFalse made → (n : ℕ) × (n < count)
+            × (2 ^ 32 ≤ entries_below (T.table body.now) base n)) }
     {
         make_room(&mut self.starts, count)?;
         self.targets.clear();
@@ -209,9 +209,7 @@ impl FlatTargets {
     /// start at a place of more than 32 bits.
     pub(crate) fn make<T: Table>(&mut self, body: &T) -> Result<bool, Memory>
         ensures flat { IfOk result (λ made. IsTrue made → IsFlatOf (T.table body.now) self.new) }
-        ensures not_made { IfOk result (λ made. IsFalse made
-            → (4194304 < base_of (T.table body.now) ^ (T.table body.now).columns)
-            ⊎ (2 ^ 32 ≤ length self.new.listing.targets.items)) }
+        ensures not_made { IfOk result (λ made. IsFalse made → IsUnlisted (T.table body.now)) }
     {
         self.base = body.signature().len() + 1;
         match number_count(self.base, body.columns()) {
@@ -226,7 +224,8 @@ impl FlatTargets {
 
     /// The targets of a table; none where `make` answers false.
     pub(crate) fn of<T: Table>(alloc: Global, body: &T) -> Result<Option<FlatTargets>, Memory>
-        ensures { IfOk result (λ flat. IfSome flat (IsFlatOf (T.table body.now))) }
+        ensures flat { IfOk result (λ flat. IfSome flat (IsFlatOf (T.table body.now))) }
+        ensures none { IfOk result (λ flat. IfNone flat (IsUnlisted (T.table body.now))) }
     {
         let mut flat = FlatTargets::new(alloc);
         if flat.make(body)? {

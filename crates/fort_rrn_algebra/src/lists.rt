@@ -10,7 +10,7 @@ use fort_lockstep::Table;
 use fort_terms::Memory;
 use std::alloc::Global;
 
-/// The targets of each operand in one list, where its tuple symbols have few numbers.
+/// The targets of each operand in one list, where it is a table and `FlatTargets::make` makes one.
 #[derive(Drop)]
 pub struct ProductLists {
     pub(crate) has_first: bool,
@@ -19,9 +19,9 @@ pub struct ProductLists {
     pub(crate) second: FlatTargets,
 }
 
-/// Makes this the list of an operand's targets, where it is a table and `FlatTargets::make` makes one; whether it is made.
+/// Makes a list of an operand's targets. False where the operand is a truth, or its table's targets aren't put into one list.
 fn make<T: Table>(list: &mut FlatTargets, operand: &Operand<'_, T>) -> Result<bool, Memory>
-    ensures { IfOk result (λ few. IsTrue few → IsListOf (operand_of T.table operand.now)
+    ensures { IfOk result (λ made. IsTrue made → IsListOf (operand_of T.table operand.now)
         list.new) }
 {
     match operand {
@@ -41,7 +41,7 @@ impl ProductLists {
         }
     }
 
-    /// Makes these the lists of two operands: four bytes for each entry, and four for each tuple symbol.
+    /// Makes these the lists of two operands: four bytes for each entry and each tuple symbol, and twelve for each state.
     pub fn make<T: Table>(
         &mut self,
         first: &Operand<'_, T>,

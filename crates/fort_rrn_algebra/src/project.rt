@@ -27,7 +27,7 @@ pub struct Project<'a, T: Table> {
     pub(crate) column: usize,
     /// The body's states with this column alone present.
     pub(crate) alone: Vec<u32>,
-    /// The body's targets in one list, where its tuple symbols have few numbers.
+    /// The body's targets in one list, where they are put into one.
     pub(crate) flat: Option<FlatTargets>,
     ghost within: { column < (T.table body.now).columns },
     ghost another: { 1 < (T.table body.now).columns },

@@ -1,7 +1,7 @@
 use Rattle.std.proofs.Common.{◌-◌, ◌^◌, min, length, ap, sym, ◌∙◌, arith}
 use Rattle.fort_laid_entries.proofs.KidLists.{under_absent, under_present}
 use Rattle.fort_operations.proofs.SelectionLaws.{present_from_test}
-use Rattle.fort_rrn_algebra.proofs.WalkSymbols.{absent_presence}
+use Rattle.fort_rrn_algebra.proofs.LaidTargets.{absent_presence}
 use Rattle.fort_rrn_algebra.proofs.entry_count.symbol_entries.Goals as goal
 
 pub returns-then-not-is_present : goal.returns-then-not-is_present

@@ -1,5 +1,6 @@
-use Rattle.std.proofs.Common.{◌≡◌, ◌+◌, ◌^◌, suc, length, inr, ap, ◌∙◌, arith}
+use Rattle.std.proofs.Common.{◌≡◌, ℕ, ◌+◌, ◌^◌, ◌≤◌, suc, length, inr, ap, ◌∙◌, arith, subst}
 use Rattle.std.proofs.lemmas.Result.{IfOk-weaker}
+use Rattle.fort_rrn_algebra.specs.Flats.{base_of, entries_below}
 use Rattle.fort_rrn_algebra.proofs.ListingLaws.{laid_entries}
 use Rattle.fort_rrn_algebra.proofs.flat.FlatTargets.make.Goals as goal
 
@@ -24,4 +25,10 @@ returns-in_ok-make-in-Some-2-clause-flat g c =
     }) c.make-in-Some-2.ensures.laid
 
 pub returns-in_ok-make-in-Some-2-clause-not_made : goal.returns-in_ok-make-in-Some-2-clause-not_made
-returns-in_ok-make-in-Some-2-clause-not_made g c = IfOk-weaker c.make-in-Some-2.result _ _ (λ made full no. inr (full no)) c.make-in-Some-2.ensures.full
+returns-in_ok-make-in-Some-2-clause-not_made g c =
+    let body = g.T.Table.table c.args.body.now in
+    let b : c.len.result + 1 ≡ base_of body = omega (arith, c.len.ensures.count, ap length c.signature.ensures) in
+    let count : c.in-Some.count ≡ base_of body ^ body.columns = c.in-Some.ensures.count ∙ (ap (λ k. (c.len.result + 1) ^ k) c.columns.ensures.count ∙ ap (λ k. k ^ body.columns) b) in
+    IfOk-weaker c.make-in-Some-2.result _ _ (λ made full no.
+    let at = full no in
+    inr (at.0, omega (arith, at.1, count), subst (λ (k : ℕ). 2 ^ 32 ≤ entries_below body k at.0) b at.2)) c.make-in-Some-2.ensures.full

@@ -43,7 +43,7 @@ returns-in_ok-push-2-clause-laid g c = λ _ n numbered before.
     let f = c.args.symbol.now in
     let start : c.in-Ok.start ≡ length old = omega (arith, c.len.ensures, c.in-Ok.ensures) in
     let count : c.kid_count-count.result ≡ symbol_kids body.signature f = c.kid_count-count.ensures.count ∙ ap (λ (sig : Signature). symbol_kids sig f) c.signature.ensures in
-    laid_one body (base_of body) n f own.starts.items old c.push.new.self.items c.push-then-count-eq0.new.self.items refl numbered.is before (c.in_ok-push.ensures.items ∙ ap (λ k. own.starts.items ++ k ∷ []) start)
+    laid_one body (base_of body) n f own.starts.items old c.push.new.self.items c.push-then-count-eq0.new.self.items refl numbered.is (sym c.is_present.ensures ∙ c.if-not-is_present.false) before (c.in_ok-push.ensures.items ∙ ap (λ k. own.starts.items ++ k ∷ []) start)
     (c.in_ok-push-2.ensures.items ∙ ap (λ xs. old ++ xs) (ap (λ q. q ∷ []) c.target.ensures ∙ sym (laid_end body f [] 0 (symbol_kids body.signature f) (sym count ∙ c.if-count-eq0.true))))
 
 pub returns-in_ok-lay-clause-laid : goal.returns-in_ok-lay-clause-laid
@@ -54,5 +54,5 @@ returns-in_ok-lay-clause-laid g c = λ _ n numbered before.
     let f = c.args.symbol.now in
     let start : c.in-Ok.start ≡ length old = omega (arith, c.len.ensures, c.in-Ok.ensures) in
     let count : c.kid_count-count.result ≡ symbol_kids body.signature f = c.kid_count-count.ensures.count ∙ ap (λ (sig : Signature). symbol_kids sig f) c.signature.ensures in
-    laid_one body (base_of body) n f own.starts.items old c.push.new.self.items c.lay.new.targets.items refl numbered.is before (c.in_ok-push.ensures.items ∙ ap (λ k. own.starts.items ++ k ∷ []) start)
+    laid_one body (base_of body) n f own.starts.items old c.push.new.self.items c.lay.new.targets.items refl numbered.is (sym c.is_present.ensures ∙ c.if-not-is_present.false) before (c.in_ok-push.ensures.items ∙ ap (λ k. own.starts.items ++ k ∷ []) start)
     (c.in_ok-lay.ensures ∙ ap (λ k. old ++ laid body f [] 0 k) count)

@@ -9,7 +9,7 @@ loop-init g c =
     let body = g.T.Table.table c.args.body.now in
     record {
       symbol = c.absent-symbol.ensures ∙ (ap (λ n. replicate n None) c.columns.ensures.count ∙ sym (columns_first c.args.base body.columns (omega (arith, c.requires.base))));
-      laid = record { count = ap length c.in_ok-make_room.ensures; laid_at = λ f s l. absurd (omega (arith, l)) };
+      laid = record { count = ap length c.in_ok-make_room.ensures; size = ap length c.clear.ensures.items; laid_at = λ f s l. absurd (omega (arith, l)) };
     }
 
 pub add-requires-clause-laid : goal.add-requires-clause-laid
@@ -47,3 +47,8 @@ returns-clause-laid g c = λ _.
     let body = g.T.Table.table c.args.body.now in
     let own = c.loop.self in
     subst (λ (n : ℕ). AreLaid body c.args.base n own.starts.items own.targets.items) (omega (arith, c.loop-test.false, c.loop.auto.counter-end)) c.loop.invariant.laid
+
+pub returns-then-not-branch-clause-full : goal.returns-then-not-branch-clause-full
+returns-then-not-branch-clause-full g c = λ _.
+    let full = c.in_ok-add.ensures.full c.if-not-branch.true in
+    (c.loop.counter, omega (arith, c.loop-test.true), omega (arith, full.0, c.loop.invariant.laid.size))
