@@ -1,5 +1,5 @@
 //! What each part is checked by, taken from the formula and the certificate before the check.
-ghost use Rattle.std.specs.Prelude.{◌≡◌, ℕ, suc, ◌+◌, ◌*◌, ◌<◌, ◌≤◌, ◌^◌, false, true, List, [], map, length, slice_index, slice_index_or, Contains, IfOk};
+ghost use Rattle.std.specs.Prelude.{◌≡◌, ℕ, ◌<◌, ◌^◌, false, true, List, map, length, slice_index, slice_index_or, Contains, IfOk};
 ghost use Rattle.fort_theory.specs.Patterns.{PatternSystem};
 ghost use Rattle.fort_theory.specs.Sides.{IsIndexOf};
 ghost use Rattle.fort_certificate_grammar.specs.Certificates as theory_steps;
@@ -13,7 +13,7 @@ ghost use Rattle.fort_rrn_algebra.specs.Operands.{connective_of};
 ghost use Rattle.fort_in_order.specs.Dues as definitions;
 ghost use Rattle.fort_in_order.specs.Made.{IsPartAt};
 ghost use Rattle.fort_cert_checker.specs.Sources.{IsSourceOf};
-ghost use Rattle.fort_cert_checker.specs.Plans.{AreParted, IsFitPart, IsOperandPlan, IsClosureRead, IsRelationPlan, IsProductPlan, IsWorkOf, IsPlanOf};
+ghost use Rattle.fort_cert_checker.specs.Plans.{AreParted, IsFitPart, IsOperandPlan, IsClosureRead, IsRelationPlan, IsWorkOf, IsPlanOf};
 
 use crate::about::{closure_pairs, marks_of};
 use fort_check_steps::has_columns;

@@ -1,5 +1,5 @@
 //! The checks of a part's value and of its marks.
-ghost use Rattle.std.specs.Prelude.{◌≡◌, ℕ, ◌<◌, List, map, length, Bool, OnOk, IfErr};
+ghost use Rattle.std.specs.Prelude.{◌≡◌, ℕ, ◌<◌, List, map, length, OnOk, IfErr};
 ghost use Rattle.fort_theory.specs.Patterns.{PatternSystem};
 ghost use Rattle.fort_logic.specs.Cores as theory;
 ghost use Rattle.fort_tables.specs.Tables as tables;

@@ -1,5 +1,5 @@
 //! The rules of atoms, by labels that were made before.
-ghost use Rattle.std.specs.Prelude.{◌≡◌, ◌<◌, ◌^◌, length};
+ghost use Rattle.std.specs.Prelude.{◌<◌, ◌^◌, length};
 ghost use Rattle.fort_atom_labels.specs.Subterms.{subterms};
 
 use crate::part_rule::PartRule;

@@ -1,5 +1,5 @@
 //! The check of a closure.
-ghost use Rattle.std.specs.Prelude.{◌≡◌, ℕ, ◌*◌, ◌<◌, ◌≤◌, ◌^◌, length, map, Bool, false, OnOk, IfErr, IfSome, IfNone};
+ghost use Rattle.std.specs.Prelude.{◌≡◌, ℕ, ◌*◌, ◌<◌, ◌≤◌, ◌^◌, length, map, false, OnOk, IfErr, IfSome, IfNone};
 ghost use Rattle.fort_tables.specs.BitRows.{has_bit};
 ghost use Rattle.fort_steps.specs.StepView.{as_pair, as_why};
 ghost use Rattle.fort_in_order.specs.ClosureSteps.{ClosureRules, IsClosureOutcome};

@@ -1,5 +1,5 @@
 //! The steps that are due.
-ghost use Rattle.std.specs.Prelude.{◌≡◌, ◌<◌, ◌≤◌, ◌^◌, ◌++◌, ◌∷◌, [], map, length, IfOk, OnOk};
+ghost use Rattle.std.specs.Prelude.{◌≡◌, ◌<◌, ◌^◌, ◌++◌, map, IfOk, OnOk};
 ghost use Rattle.std.specs.List.{list_any};
 ghost use Rattle.fort_formulas.specs.CoreView.{as_core, as_rel};
 ghost use Rattle.fort_in_order.specs.Dues as definitions;

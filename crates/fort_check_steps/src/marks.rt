@@ -1,11 +1,10 @@
 //! The check of the marks of pure states.
-ghost use Rattle.std.specs.Prelude.{◌≡◌, ℕ, ◌+◌, ◌^◌, ◌<◌, ◌≤◌, [], Bool, map, length, slice_index_or, vec_capacity, true, false, IsTrue, IfSome, IfNone, ◌↔◌, ◌&&◌, ◌||◌};
-ghost use Rattle.std.specs.List.{list_any};
+ghost use Rattle.std.specs.Prelude.{◌≡◌, ℕ, ◌^◌, ◌<◌, ◌≤◌, [], map, length, slice_index_or, vec_capacity, true, false, IfSome, IfNone, ◌&&◌, ◌||◌};
 ghost use Rattle.fort_tables.specs.Tuples.{presence};
-ghost use Rattle.fort_tables.specs.Entries.{Entry, no_entry};
-ghost use Rattle.fort_tables.specs.Tables.{Listed, IsListed};
+ghost use Rattle.fort_tables.specs.Entries.{Entry};
+ghost use Rattle.fort_tables.specs.Tables.{IsListed};
 ghost use Rattle.fort_operations.specs.Projections.{ArePure};
-ghost use Rattle.fort_counts.specs.Counts.{IsFiniteBelow, count_at, is_infinite as is_infinite_lem};
+ghost use Rattle.fort_counts.specs.Counts.{count_at};
 ghost use Rattle.fort_in_order.specs.CountSteps.{IsCountOutcome};
 ghost use Rattle.fort_steps.specs.StepView.{as_count};
 ghost use Rattle.fort_check_steps.specs.Marks.{HasMarkRoom, mark_in, is_below as is_below_lem, are_below as are_below_lem, held_next, entry_next, starts, mark_test, IsSeenTo, IsFirstWrong, AreAllHeld, wrong_reason};

@@ -1,5 +1,5 @@
 //! The rules of a closure, by numbers.
-ghost use Rattle.std.specs.Prelude.{◌≡◌, ◌<◌, ◌^◌, length, IfOk};
+ghost use Rattle.std.specs.Prelude.{◌≡◌, IfOk};
 ghost use Rattle.fort_theory.specs.Sides.{IsIndexOf, at_index};
 ghost use Rattle.fort_terms.specs.BothWays.{both_ways as both_ways_lem};
 ghost use Rattle.fort_steps.specs.StepView.{as_which};

@@ -1,5 +1,5 @@
 //! Closures, parts and marks of small systems.
-ghost use Rattle.std.specs.Prelude.{◌≡◌, ℕ, ◌+◌, ◌<◌, ◌≤◌, ◌^◌, List, [], ◌∷◌, map, take, length, slice_index_or, slice_get, Some, IfOk, codes};
+ghost use Rattle.std.specs.Prelude.{◌≡◌, ℕ, ◌+◌, ◌<◌, ◌≤◌, ◌^◌, [], ◌∷◌, map, length, slice_index_or, Some, IfOk};
 ghost use Rattle.fort_tables.specs.Tuples.{presence};
 ghost use Rattle.fort_lockstep.specs.Columns.{as_column};
 ghost use Rattle.fort_in_order.specs.ClosureSteps.{ClosureRules};

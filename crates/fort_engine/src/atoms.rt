@@ -1,5 +1,5 @@
 //! Atoms, by their labels.
-ghost use Rattle.std.specs.Prelude.{◌≡◌, ℕ};
+ghost use Rattle.std.specs.Prelude.{ℕ};
 ghost use Rattle.fort_theory.specs.Sides.{IsIndexOf};
 ghost use Rattle.fort_logic.specs.Cores as theory;
 ghost use Rattle.fort_formulas.specs.CoreView.{as_rel};

@@ -1,5 +1,5 @@
 //! "Infinitely many" of answers.
-ghost use Rattle.std.specs.Prelude.{◌≡◌, ◌<◌, true};
+ghost use Rattle.std.specs.Prelude.{◌≡◌, true};
 ghost use Rattle.fort_logic.specs.Cores as theory;
 ghost use Rattle.fort_logic.specs.Parts as parts;
 ghost use Rattle.fort_tables.specs.Tables.{listed_table};

@@ -1,5 +1,5 @@
 //! Decides a formula, each of its parts in turn.
-ghost use Rattle.std.specs.Prelude.{◌≡◌, ℕ, ◌<◌, ◌≤◌, List, map, length, slice_index_or, None, IfOk, IfErr, OnOk};
+ghost use Rattle.std.specs.Prelude.{◌≡◌, ℕ, ◌<◌, ◌≤◌, List, length, slice_index_or, None, IfOk, IfErr, OnOk};
 ghost use Rattle.fort_logic.specs.Cores as theory;
 ghost use Rattle.fort_logic.specs.PartLists.{AreParts};
 ghost use Rattle.fort_logic.specs.PatternStructures.{pattern_structure};

@@ -1,5 +1,4 @@
 //! Tables by a formula's labels.
-ghost use Rattle.std.specs.Prelude.{◌≡◌};
 ghost use Rattle.fort_logic.specs.Cores as theory;
 ghost use Rattle.fort_engine.specs.Deciding.{IsDecision, AreLabelsFor};
 

@@ -1,12 +1,10 @@
 //! Projections of answers.
-ghost use Rattle.std.specs.Prelude.{◌≡◌, ◌<◌, ◌≤◌, length, true};
-ghost use Rattle.fort_theory.specs.Signatures.{most_columns};
+ghost use Rattle.std.specs.Prelude.{◌≡◌, ◌<◌, length, true};
 ghost use Rattle.fort_logic.specs.Cores as theory;
 ghost use Rattle.fort_logic.specs.Parts as parts;
-ghost use Rattle.fort_tables.specs.Tables.{listed_table, IsTable};
+ghost use Rattle.fort_tables.specs.Tables.{listed_table};
 ghost use Rattle.fort_operations.specs.Projections.{some_below};
 ghost use Rattle.fort_formulas.specs.CoreView.{as_core};
-ghost use Rattle.fort_parts.specs.PartColumns.{columns_of};
 ghost use Rattle.fort_parts.specs.PartAnswers.{OfTable};
 ghost use Rattle.fort_parts.specs.RightAnswers.{IsRightFor};
 ghost use Rattle.fort_engine.specs.AnswerView.{as_answer};

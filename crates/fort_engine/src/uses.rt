@@ -1,5 +1,5 @@
 //! Which part needs which earlier part last.
-ghost use Rattle.std.specs.Prelude.{◌≡◌, ◌<◌, ◌↔◌, map, length, IsTrue, IfOk};
+ghost use Rattle.std.specs.Prelude.{◌<◌, ◌↔◌, map, length, IsTrue, IfOk};
 ghost use Rattle.fort_formulas.specs.CoreView.{as_core};
 ghost use Rattle.fort_parts.specs.DecidedCores.{IsOperandOf};
 ghost use Rattle.fort_engine.specs.Uses.{IsLastUse, AreLastUses};

@@ -1,5 +1,5 @@
 //! The children of each state, by the entries with one column alone present.
-ghost use Rattle.std.specs.Prelude.{◌≡◌, ◌<◌, ◌≤◌, ◌+◌, ◌-◌, ◌^◌, ◌||◌, ℕ, Some, take, length, slice_index_or, [], OnOk, IfOk};
+ghost use Rattle.std.specs.Prelude.{◌≡◌, ◌<◌, ◌≤◌, ◌+◌, ◌-◌, ◌||◌, ℕ, Some, take, length, slice_index_or, [], OnOk, IfOk};
 ghost use Rattle.std.specs.List.{insert};
 ghost use Rattle.fort_tables.specs.Tuples.{symbol_kids, all_absent};
 ghost use Rattle.fort_counts.specs.PureStates.{IsPureState};

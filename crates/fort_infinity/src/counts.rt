@@ -1,5 +1,5 @@
 //! How many terms give each state with one column alone present.
-ghost use Rattle.std.specs.Prelude.{◌≡◌, ℕ, ◌<◌, ◌^◌, map, length, slice_index_or, [], IfOk};
+ghost use Rattle.std.specs.Prelude.{◌≡◌, ℕ, ◌<◌, map, length, slice_index_or, [], IfOk};
 ghost use Rattle.fort_operations.specs.Projections.{ArePure};
 ghost use Rattle.fort_counts.specs.Counts.{AreCounts};
 ghost use Rattle.fort_counts.specs.Ranks.{count_by};

@@ -1,5 +1,5 @@
 //! What the label of "infinitely many" says of one entry.
-ghost use Rattle.std.specs.Prelude.{◌≡◌, ◌<◌, ◌≤◌, ◌+◌, ◌*◌, ◌||◌, ◌^◌, ℕ, [], None, map, take, length, slice_index, slice_index_or};
+ghost use Rattle.std.specs.Prelude.{◌≡◌, ◌<◌, ◌+◌, ◌*◌, ◌||◌, ◌^◌, ℕ, [], None, map, take, length, slice_index, slice_index_or};
 ghost use Rattle.std.specs.List.{insert};
 ghost use Rattle.fort_tables.specs.Entries.{entry};
 ghost use Rattle.fort_tables.specs.BitRows.{words_for};

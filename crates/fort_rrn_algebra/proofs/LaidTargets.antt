@@ -1,5 +1,5 @@
 -- The targets laid over child states are those of the entries over them, and a tuple symbol has as many of both.
-use Rattle.std.proofs.Common.{◌≡◌, ℕ, zero, suc, ◌+◌, ◌^◌, ◌<◌, List, [], ◌∷◌, ◌++◌, map, length, get_or, Bool, true, false, ◌==◌, if◌then◌else◌, refl, ap, sym, ◌∙◌, arith, ⊎_elim, true≢false}
+use Rattle.std.proofs.Common.{◌≡◌, ℕ, zero, suc, List, [], ◌∷◌, ◌++◌, map, length, get_or, Bool, true, false, ◌==◌, if◌then◌else◌, refl, ap, sym, ◌∙◌, ⊎_elim, true≢false}
 use Rattle.std.proofs.lemmas.Bool.{cases_eq}
 use Rattle.std.proofs.lemmas.List.{length-map, map-append}
 use Rattle.fort_tables.specs.Tuples.{TupleSymbol, IsPresent, presence, symbol_kids, kid_presence}

@@ -1,16 +1,13 @@
 -- A walk over all entries, tuple symbol by tuple symbol: the stop at which one begins, and one more passed.
-use Rattle.std.proofs.Common.{◌≡◌, ℕ, zero, suc, ◌+◌, ◌^◌, ◌<◌, List, [], ◌∷◌, ◌++◌, map, length, get_or, Bool, true, false, IsTrue, ◌==◌, if◌then◌else◌, refl, ap, sym, ◌∙◌, arith, subst, ⊎_elim, true≢false, length-append}
-use Rattle.std.proofs.lemmas.Bool.{cases_eq}
+use Rattle.std.proofs.Common.{◌≡◌, ℕ, suc, ◌+◌, ◌^◌, ◌<◌, List, [], ◌∷◌, ◌++◌, map, length, true, false, IsTrue, refl, ap, sym, ◌∙◌, arith, subst, length-append}
 use Rattle.std.proofs.lemmas.List.{append-nil, length-map, map-append}
-use Rattle.fort_tables.specs.Tuples.{TupleSymbol, IsTupleSymbol, presence, symbol_kids, kid_presence}
-use Rattle.fort_tables.specs.Entries.{Entry}
-use Rattle.fort_tables.specs.Tables.{Table, Listed, listed_table}
+use Rattle.fort_tables.specs.Tuples.{TupleSymbol, IsTupleSymbol, symbol_kids}
+use Rattle.fort_tables.specs.Tables.{Listed, listed_table}
 use Rattle.fort_operations.specs.Selections.{is_present}
-use Rattle.fort_operations.proofs.SelectionLaws.{test_from_present}
-use Rattle.fort_laid_entries.specs.Laid.{joined_below, entries_from, entries_under}
+use Rattle.fort_laid_entries.specs.Laid.{entries_from, entries_under}
 use Rattle.fort_laid_entries.proofs.AllEntries.{entries_unique}
 use Rattle.fort_laid_entries.proofs.Counts.{length-all_entries}
-use Rattle.fort_laid_entries.proofs.KidLists.{present_from_presence, under_absent, under_present}
+use Rattle.fort_laid_entries.proofs.KidLists.{under_absent, under_present}
 use Rattle.fort_lockstep.specs.SymbolNumbers.{columns_at}
 use Rattle.fort_rrn_algebra.specs.Flats.{laid}
 use Rattle.fort_rrn_algebra.specs.Walks.{entries_before, IsWalkOf, AreBegins, HasPassed, Stop, IsStopOf, IsBetween}

@@ -1,10 +1,10 @@
 //! The formula of a text, or the line that refuses it.
-ghost use Rattle.std.specs.Prelude.{◌≡◌, ◌↔◌, ℕ, List, ◌<◌, ◌^◌, [], length, IsTrue, IfOk, IfErr, MatchOption};
+ghost use Rattle.std.specs.Prelude.{◌↔◌, ℕ, List, ◌<◌, ◌^◌, length, IsTrue, IfOk, IfErr, MatchOption};
 ghost use Rattle.fort_logic.specs.FreeNames as names;
 ghost use Rattle.fort_logic.specs.Mentions.{HasPlacesBelow};
 ghost use Rattle.fort_logic.specs.Translation.{IsFormulaTooWide};
 ghost use Rattle.fort_formula_grammar.specs.FormulaText.{IsFormulaText};
-ghost use Rattle.fort_answers.specs.FormulaAnswer.{IsAccepted, IsRefused, IsAcceptedClosed, IsRefusedClosed};
+ghost use Rattle.fort_answers.specs.FormulaAnswer.{IsAccepted, IsAcceptedClosed, IsRefusedClosed};
 ghost use Rattle.fort_formulas.specs.FormulaView.{as_formula};
 ghost use Rattle.fort_formulas.specs.NumbersNeeded.{numbers_needed};
 ghost use Rattle.fort_formula_parser.specs.ParsedView.{AreShort};

@@ -1,5 +1,5 @@
 //! Whether a formula speaks of nothing but what a system has.
-ghost use Rattle.std.specs.Prelude.{◌≡◌, map, IfOk, IfErr};
+ghost use Rattle.std.specs.Prelude.{map, IfOk, IfErr};
 ghost use Rattle.fort_theory.specs.Signatures as theory;
 ghost use Rattle.fort_answers.specs.FitAnswer.{AreTermsOf, FitsSystem, IsUnfit};
 ghost use Rattle.fort_formulas.specs.FormulaView.{as_formula};

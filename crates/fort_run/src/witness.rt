@@ -1,12 +1,11 @@
 //! The least terms that satisfy a formula.
-ghost use Rattle.std.specs.Prelude.{◌≡◌, ◌<◌, ◌^◌, ◌++◌, List, None, map, length, vec_items, IfOk};
+ghost use Rattle.std.specs.Prelude.{◌≡◌, ◌<◌, ◌^◌, ◌++◌, List, None, length, IfOk};
 ghost use Rattle.fort_theory.specs.Signatures as signatures;
 ghost use Rattle.fort_theory.specs.Sides as theory;
 ghost use Rattle.fort_theory.specs.Patterns.{PatternSystem, pattern_system};
 ghost use Rattle.fort_theory.specs.Trees.{Tree};
 ghost use Rattle.fort_logic.specs.FreeNames as names;
 ghost use Rattle.fort_formulas.specs.FormulaView.{as_formula};
-ghost use Rattle.fort_tables.specs.Entries.{AreNodes};
 ghost use Rattle.fort_answers.specs.Lines.{witness_line};
 ghost use Rattle.fort_answers.specs.WitnessAnswer.{bindings};
 ghost use Rattle.fort_run.specs.Asked.{VerdictOn};

@@ -1,5 +1,5 @@
 //! Decides a formula, each of its parts in turn, and records the steps.
-ghost use Rattle.std.specs.Prelude.{◌≡◌, ℕ, ◌<◌, ◌≤◌, List, map, length, slice_index_or, [], None, IfOk, IfErr, OnOk};
+ghost use Rattle.std.specs.Prelude.{ℕ, ◌<◌, ◌≤◌, List, map, length, slice_index_or, [], None, IfOk, IfErr, OnOk};
 ghost use Rattle.fort_logic.specs.Cores as theory;
 ghost use Rattle.fort_logic.specs.Parts as logic;
 ghost use Rattle.fort_logic.specs.PartLists.{AreParts};
