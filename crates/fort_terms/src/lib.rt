@@ -1,6 +1,7 @@
 //! Signatures, patterns, sides of rules, and systems of rules.
 #![tactic(auto)]
 
+mod numbers;
 mod occurrences;
 pub mod pattern;
 pub mod side;
@@ -9,6 +10,7 @@ pub mod sym;
 pub mod system;
 pub mod term;
 
+pub use numbers::has_numbers;
 pub use pattern::{Pattern, Patterns};
 pub use side::{Side, Sides};
 pub use signature::{AddFault, Signature};

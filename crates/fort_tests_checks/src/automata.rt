@@ -1,0 +1,1 @@
+//! Tests of tree automata, transducers and their closures.

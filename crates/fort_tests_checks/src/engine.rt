@@ -1,0 +1,1 @@
+//! Tests of deciding, and recording certificates.

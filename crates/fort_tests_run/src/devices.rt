@@ -1,0 +1,1 @@
+//! Tests of the whole tool over devices that fail.

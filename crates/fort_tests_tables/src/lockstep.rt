@@ -1,0 +1,1 @@
+//! Tests of entries, tables and lists of nodes.

@@ -1,0 +1,1 @@
+//! Tests of formulas, their parts and their texts.

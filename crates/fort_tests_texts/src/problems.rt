@@ -1,0 +1,1 @@
+//! Tests of s-expressions, problems and samples.

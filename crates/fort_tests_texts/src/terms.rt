@@ -1,0 +1,1 @@
+//! Tests of terms, patterns, signatures and systems.
