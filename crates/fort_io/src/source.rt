@@ -26,6 +26,7 @@ pub trait Source {
         ensures end { result ≡ Ok 0 → IsAtEnd (rest self.new) }
         ensures kept { OnErr result (rest self.new ≡ rest self.old) }
         ensures cause { OnErr result (FaultCounted (faults self.old) (faults self.new)) }
+        ensures quiet { OnOk result (faults self.new ≡ faults self.old) }
         ensures never_falls { faults self.old ≤ faults self.new }
         ensures in_range { faults self.new < 2 ^ 64 };
 }
@@ -79,6 +80,7 @@ pub fn read_all<S: Source>(alloc: Global, source: &mut S, limit: usize) -> Resul
         GivesPast limit PIECE (S.rest source.old) (S.rest source.new) }
     ensures fault { IsErrOf result ReadAll.Fault →
         FaultCounted (S.faults source.old) (S.faults source.new) }
+    ensures told { S.faults source.old < S.faults source.new → IsErrOf result ReadAll.Fault }
     ensures err { OnErr result
         ((given : List ℕ) × Consumes (S.rest source.old) (S.rest source.new) given) }
     ensures never_falls { S.faults source.old ≤ S.faults source.new }

@@ -9,7 +9,7 @@ loop-piece-init g c = record {
   sized = omega (arith, c.in_ok-piece.ensures.len);
   within = omega (arith, c.new-bytes.ensures.len);
   given = rw c.new-bytes.ensures.items (Consumes-nil _);
-  never_falls = omega arith;
+  quiet = omega arith;
 }
 
 pub returns-in_err-n-clause-err : goal.returns-in_err-n-clause-err
@@ -49,7 +49,7 @@ loop-piece-preserved g c = record {
       let fits : c.in_ok-n.n ≤ length c.read.new.buf = omega (arith, c.in_ok-n.ensures.bound, c.read.auto.buf) in
       let whole : c.in_ok-n.n ≤ c.loop-piece.piece.len = omega (arith, c.in_ok-n.ensures.bound, c.deref_mut.ensures.len) in
       rw (c.in_ok-extend_from_slice.ensures.items, c.deref.ensures.value, take-filled c.in_ok-n.n _ _ (drop (length c.read.new.buf) c.loop-piece.piece.items) fits whole) (Consumes-trans _ _ _ _ _ c.loop-piece.invariant.given c.in_ok-n.ensures.moved);
-  never_falls = omega (arith, c.in_ok-n.ensures.never_falls, c.loop-piece.invariant.never_falls);
+  quiet = omega (arith, c.in_ok-n.ensures.quiet, c.loop-piece.invariant.quiet);
 }
 
 pub returns-in_err-extend_from_slice-clause-err : goal.returns-in_err-extend_from_slice-clause-err
