@@ -4,9 +4,6 @@ use fort_io::{ClearSink, ClearSource};
 use fort_run::run;
 use std::alloc::{AllocError, Global};
 
-/// The most bytes that an answer of a row may have.
-const ROOM: usize = 65_536;
-
 /// What a command answered.
 #[derive(Drop)]
 pub struct Answer {
@@ -53,17 +50,18 @@ fn push_plain(alloc: Global, words: &mut Vec<String>, part: &str) -> Result<(), 
     Ok(())
 }
 
-/// What a command line answers on a problem; nothing, where it isn't one.
+/// What a command line answers on a problem, in at most `room` bytes; nothing, where it isn't one.
 pub fn run_command(
     alloc: Global,
     line: &str,
     problem: &[u8],
+    room: usize,
 ) -> Result<Option<Answer>, AllocError> {
     let Some(words) = words_of(alloc, line)? else {
         return Ok(None);
     };
     let mut source = ClearSource::new(alloc, problem)?;
-    let mut sink = ClearSink::new(alloc, ROOM)?;
+    let mut sink = ClearSink::new(alloc, room)?;
     let outcome = run(alloc, words.as_slice(), &mut source, &mut sink);
     let text = match sink.taken() {
         Some(text) => Vec::from_slice(alloc, text)?,

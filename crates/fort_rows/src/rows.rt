@@ -5,6 +5,12 @@ use std::alloc::{AllocError, Global};
 use std::rt::Files;
 use std::{fs, io};
 
+/// The most bytes that the answer of a row may have.
+const ROW_ROOM: usize = 65_536;
+
+/// The most bytes that may be put behind a problem.
+const BEHIND_ROOM: usize = 16_777_216;
+
 /// What the next line is a part of.
 #[derive(Clone, Copy, PartialEq, Eq)]
 enum Part {
@@ -21,6 +27,8 @@ pub struct Rows {
     lines: u64,
     part: Part,
     problem: Vec<u8>,
+    /// Where in it begins what stands behind it for the next row alone.
+    behind: Option<usize>,
     /// Some row is about the problem.
     is_used: bool,
     command: String,
@@ -37,6 +45,7 @@ impl Rows {
             lines: 0,
             part: Part::Nothing,
             problem: Vec::new(alloc),
+            behind: None,
             is_used: true,
             command: String::new(alloc),
             wanted: Vec::new(alloc),
@@ -72,6 +81,9 @@ impl Rows {
         }
         if let Some(status) = line.strip_prefix("= ") {
             return self.end_row(rt, status);
+        }
+        if let Some(command) = line.strip_prefix("+ ") {
+            return self.put_behind(rt, command);
         }
         if line.starts_with('$') || line.starts_with('=') {
             return self.fail(rt, "this begins no row, no problem and no status");
@@ -117,6 +129,7 @@ impl Rows {
         self.part = Part::Problem;
         self.is_used = false;
         self.problem.clear();
+        self.behind = None;
         if let Some(path) = name.strip_prefix("< ") {
             let text = fs::read(rt, path)?;
             self.problem.extend_from_slice(text.as_slice())?;
@@ -132,6 +145,22 @@ impl Rows {
         self.wanted.clear();
         self.command = String::from_str(self.alloc, command)?;
         Ok(())
+    }
+
+    /// Puts what a command prints behind the problem, up to the end of the next row.
+    fn put_behind<R: Print + AllocGlobal>(&mut self, rt: &R, command: &str) -> io::Result<()> {
+        self.end_open_row(rt)?;
+        self.part = Part::Nothing;
+        self.is_used = false;
+        self.behind = Some(self.problem.len());
+        match run_command(self.alloc, command, self.problem.as_slice(), BEHIND_ROOM)? {
+            Some(answer) if answer.status == 0 => {
+                self.problem.push(b'\n')?;
+                self.problem.extend_from_slice(answer.text.as_slice())?;
+                Ok(())
+            }
+            _ => self.fail(rt, "this doesn't print what could stand behind the problem"),
+        }
     }
 
     /// A line of a problem or of a wanted text, or a blank one between rows.
@@ -168,7 +197,17 @@ impl Rows {
             return self.fail(rt, "a status without a row");
         }
         self.part = Part::Nothing;
-        match run_command(self.alloc, self.command.as_str(), self.problem.as_slice())? {
+        let answer = run_command(
+            self.alloc,
+            self.command.as_str(),
+            self.problem.as_slice(),
+            ROW_ROOM,
+        )?;
+        if let Some(length) = self.behind {
+            self.problem.truncate(length);
+            self.behind = None;
+        }
+        match answer {
             None => self.fail(rt, "a quoted word that isn't one"),
             Some(got) if self.is_wanted(&got, status) => {
                 self.passed = self.passed.saturating_add(1);
