@@ -29,16 +29,14 @@ use Rattle.fort_answers.specs.InputAnswer.{input_limit}
 use Rattle.fort_answers.specs.FitAnswer.{FitsSystem, IsUnfit}
 use Rattle.fort_answers.specs.Answer.{OwesTold}
 use Rattle.fort_answers.specs.CheckAnswer.{IsCertifiedInput, IsCertifiedInputRefused, TooLong, NoForms, NoProblem, NoCertificate, certificate_fault_line, certified_line, rejected_line, OwesOutcome, CheckAnswer, Early, InputRefused, FormulaUnfit, Checked}
-use Rattle.fort_engine.specs.declared.answer.Last.TheVariants.{Truth as Value}
 use Rattle.fort_run.specs.declared.question.Question.TheVariants.{Certificate as OfCertificate}
 use Rattle.fort_run.specs.declared.refusal.Refusal.{Refusal}
 use Rattle.fort_run.specs.Refusals.{SaysCertificateFault, IsTextRefused, IsProblemRefused, Refuses, RefusesCertified}
 use Rattle.fort_run.specs.Certified.{IsTruth, IsCertified, IsCertifiedTold, CertifiesTruth}
 use Rattle.fort_run.specs.Checked.{TellsOutcome, AnswersCheck}
 use Rattle.fort_run.specs.Posed.{IsPosed}
-use Rattle.fort_run.specs.Ready.{IsLawful, IsDecidedBy}
-use Rattle.fort_run.proofs.Deciding.{is_truth}
-use Rattle.fort_run.proofs.PosedQuestions.{decided_by}
+use Rattle.fort_run.specs.Ready.{IsLawful}
+use Rattle.fort_run.proofs.PosedQuestions.{value_truth}
 use Rattle.fort_run.proofs.Replies.{are, refuses_by, told_are, owes_told, long_told}
 
 -- ---- inputs
@@ -77,18 +75,13 @@ module _ (f : Formula) (system : PatternSystem) (terms : List Tree) (k : Core) (
   outcome_on : (o : Outcome) → HasOutcome system k c o → HasOutcome (pattern_system p) (core_of terms f) c o
   outcome_on o has = subst (λ s. HasOutcome s (core_of terms f) c o) same (subst (λ g. HasOutcome system g c o) posed.is has)
 
-  truth_on : (verdict : Bool) → IsAnswerTo (pattern_structure system) k (OfValue verdict) → IsTruth verdict p terms f
-  truth_on verdict answer =
-      let decided = decided_by OfCertificate f system terms k (Value verdict) posed answer in
-      is_truth p lawful f terms (Value verdict) (subst (λ s. IsDecidedBy f s terms (Value verdict)) same decided) posed.closed verdict refl
-
   pub certified_tells : (verdict : Bool) → HasOutcome system k c (Certified verdict) → IsAnswerTo (pattern_structure system) k (OfValue verdict)
       → TellsOutcome p terms f c positive (certified_line verdict)
   certified_tells verdict has answer = record {
     outcome = Certified verdict;
     has = outcome_on (Certified verdict) has;
     owed = are positive (certified_line verdict);
-    truth = λ v e. let one : verdict ≡ v = cc in subst (λ b. IsTruth b p terms f) one (truth_on verdict answer);
+    truth = λ v e. let one : verdict ≡ v = cc in subst (λ b. IsTruth b p terms f) one (value_truth f system terms k posed p lawful same verdict answer);
   }
 
   pub rejected_tells : (form place : ℕ) (reason : Reason) (line : Text) → HasOutcome system k c (Rejected form place reason)

@@ -1,5 +1,5 @@
 -- A question that is put to a core formula: what its answer, the certificate that is written for it, or its limit says to the question.
-use Rattle.std.specs.Prelude.{◌≡◌, ℕ, ◌<◌, List, map, length, IfSome}
+use Rattle.std.specs.Prelude.{◌≡◌, ℕ, ◌<◌, Bool, List, map, length, IfSome}
 use Rattle.std.specs.List.{AllByRecursion}
 use Rattle.std.proofs.Common.{refl, sym, ap, subst, ◌∙◌, arith}
 use Rattle.fort_theory.specs.Trees.{Tree}
@@ -13,7 +13,7 @@ use Rattle.fort_logic.specs.Parts.{IsClosed}
 use Rattle.fort_logic.specs.PatternStructures.{pattern_structure}
 use Rattle.fort_logic.specs.Translation.{core_of}
 use Rattle.fort_logic.proofs.FreeNumbers.{core_of-free}
-use Rattle.fort_parts.specs.PartAnswers.{IsAnswerTo}
+use Rattle.fort_parts.specs.PartAnswers.{OfValue, IsAnswerTo}
 use Rattle.fort_formulas.specs.KindView.{as_kind}
 use Rattle.fort_certificate_grammar.specs.CertificateForms.{version_for}
 use Rattle.fort_certificate_grammar.specs.CertificateText.{certificate_text, CanBeWritten}
@@ -28,15 +28,17 @@ use Rattle.fort_answers.specs.CertificateAnswer.{CertificateVerdict}
 use Rattle.fort_engine.specs.declared.answer.EngineFault.{EngineFault}
 use Rattle.fort_engine.specs.declared.answer.EngineFault.TheVariants.{Memory, Over}
 use Rattle.fort_engine.specs.declared.answer.Last.{Last}
+use Rattle.fort_engine.specs.declared.answer.Last.TheVariants.{Truth as Value}
 use Rattle.fort_engine.specs.AnswerView.{as_answer, IfOver, IsLimit}
 use Rattle.fort_run.specs.declared.question.Question.{Question}
 use Rattle.fort_run.specs.declared.question.Question.TheVariants.{Certificate}
 use Rattle.fort_run.specs.declared.reply.Reply.{Reply}
-use Rattle.fort_run.specs.Asked.{IsVerdict, Limits, Says}
+use Rattle.fort_run.specs.Asked.{IsTrueCertificate, IsVerdict, Limits, Says}
+use Rattle.fort_run.specs.Certified.{IsTruth}
 use Rattle.fort_run.specs.Posed.{IsPosed, SaysOn, TellsLimit}
 use Rattle.fort_run.specs.Ready.{IsLawful, IsDecidedBy, KeepsCapAt, ShowsLimit}
 use Rattle.fort_run.specs.ReplyView.{status_of, text_of, limit_of}
-use Rattle.fort_run.proofs.Deciding.{passes}
+use Rattle.fort_run.proofs.Deciding.{passes, is_truth}
 use Rattle.fort_run.proofs.Fitting.{number_is}
 use Rattle.fort_run.proofs.WrittenNumbers.{written_numbers}
 
@@ -57,8 +59,15 @@ closed_core f system terms c posed =
     let none : length (free_names f) ≡ 0 = ap length posed.closed in
     omega arith)
 
+-- the value of the core formula is the formula's truth
+pub value_truth : (f : Formula) (system : PatternSystem) (terms : List Tree) (c : Core) → IsPosed Certificate f system terms c → (p : System) → IsLawful p
+    → system ≡ pattern_system p → (verdict : Bool) → IsAnswerTo (pattern_structure system) c (OfValue verdict) → IsTruth verdict p terms f
+value_truth f system terms c posed p lawful same verdict answer =
+    let decided = decided_by Certificate f system terms c (Value verdict) posed answer in
+    is_truth p lawful f terms (Value verdict) (subst (λ s. IsDecidedBy f s terms (Value verdict)) same decided) posed.closed verdict refl
+
 -- the text of the steps that were recorded
-pub certificate_says : (f : Formula) (p : System) (system : PatternSystem) (terms : List Tree) (c : Core) (r : Recorded) (number : ℕ) (text : Text)
+certificate_says : (f : Formula) (p : System) (system : PatternSystem) (terms : List Tree) (c : Core) (r : Recorded) (number : ℕ) (text : Text)
     → system ≡ pattern_system p → IsPosed Certificate f system terms c → ((first : ℕ) → IsWritten system c (as_certificate first r))
     → AllByRecursion HasSmallNumbers (map as_step r.steps.items) → number ≡ length system.rules
     → text ≡ certificate_text number r.verdict (map as_step r.steps.items) → CertificateVerdict p terms f positive text
@@ -76,6 +85,16 @@ certificate_says f p system terms c r number text same posed written numbers cou
         same_text = spelled ∙ ap (λ n. certificate_text n r.verdict (map as_step r.steps.items)) (number_is number system p count same);
       };
     }
+
+-- the same with the truth of its verdict
+pub true_certificate : (f : Formula) (p : System) (system : PatternSystem) (terms : List Tree) (c : Core) (r : Recorded) (number : ℕ) (text : Text) → IsLawful p
+    → system ≡ pattern_system p → IsPosed Certificate f system terms c → IsAnswerTo (pattern_structure system) c (OfValue r.verdict)
+    → ((first : ℕ) → IsWritten system c (as_certificate first r)) → AllByRecursion HasSmallNumbers (map as_step r.steps.items)
+    → number ≡ length system.rules → text ≡ certificate_text number r.verdict (map as_step r.steps.items) → IsTrueCertificate p terms f positive text
+true_certificate f p system terms c r number text lawful same posed answer written numbers count spelled = record {
+  written = certificate_says f p system terms c r number text same posed written numbers count spelled;
+  truth = value_truth f system terms c posed p lawful same r.verdict answer;
+}
 
 -- ---- verdicts
 

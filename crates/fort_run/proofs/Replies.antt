@@ -20,7 +20,7 @@ use Rattle.fort_ari.specs.Faults.{as_fault}
 use Rattle.fort_io.specs.Devices.{Takes}
 use Rattle.fort_answers.specs.CommandGrammar.{request_of}
 use Rattle.fort_answers.specs.Requests.{Text, Request}
-use Rattle.fort_answers.specs.Lines.{input_too_long, problem_fault_line, refused}
+use Rattle.fort_answers.specs.Lines.{positive, input_too_long, problem_fault_line, refused}
 use Rattle.fort_answers.specs.SystemAnswer.{Are, IsAnswerable, IsUnanswerable, InputRefused, FormulaUnfit, Limited}
 use Rattle.fort_answers.specs.DecideAnswer.{Decided}
 use Rattle.fort_answers.specs.DecideAnswer as decide
@@ -29,6 +29,7 @@ use Rattle.fort_answers.specs.WitnessAnswer as witness
 use Rattle.fort_answers.specs.Answer.{IsAbout, owed, OwesTold}
 use Rattle.fort_answers.specs.FitAnswer.{FitsSystem, IsUnfit}
 use Rattle.fort_answers.specs.InputAnswer.{IsInput, IsInputRefused, TooLong, NoForms, NoProblem, FormBehind, input_limit}
+use Rattle.fort_answers.proofs.CertificateAccepted.{written_accepted}
 use Rattle.fort_answers.proofs.OneVerdict.{accepted-not_refused, closed-not_refused}
 use Rattle.fort_run.specs.Refusals.{SaysProblemFault, SaysTextFault, IsTextRefused, IsProblemRefused, Refuses, RefusesInput}
 use Rattle.fort_run.specs.declared.refusal.Refusal.{Refusal}
@@ -39,7 +40,8 @@ use Rattle.fort_run.specs.Limits.{HasLimitTold, IsLimitOf}
 use Rattle.fort_run.specs.Ready.{ShowsLimit}
 use Rattle.fort_run.specs.declared.question.Question.{Question}
 use Rattle.fort_run.specs.declared.question.Question.TheVariants.{Truth, Terms, Certificate}
-use Rattle.fort_run.specs.Asked.{request_for, IsAskable, IsRefusedBy, QuestionNeedsInput, OwesToQuestion, AnswersQuestion, QuestionLimit, QuestionLimitTold, VerdictOn, IsVerdict, Limits, Says}
+use Rattle.fort_run.specs.Asked.{request_for, IsAskable, IsRefusedBy, QuestionNeedsInput, OwesToQuestion, AnswersQuestion, QuestionLimit, QuestionLimitTold, IsPrintedFor, IsPrintedToldFor, VerdictOn, IsVerdict, Limits, Says}
+use Rattle.fort_run.specs.Certified.{IsPrinted, IsPrintedTold, PrintsTruth}
 
 -- the forms of a text, counted
 pub count_of : (forms : Forms) → form_count forms ≡ length (as_list forms)
@@ -178,7 +180,7 @@ module _ (question : Question) (states : ℕ) (text : Text) where
           → AnswersQuestion q states text bytes status line
       by Truth askable is verdict = Decided f askable p terms is verdict
       by Terms askable is verdict = Answered f askable p terms is verdict
-      by Certificate askable is verdict = Decided f askable p terms is verdict
+      by Certificate askable is verdict = Decided f askable p terms is verdict.written
 
   pub input_refused : (f : Formula) (bytes line : Text) → IsAskable question text f → IsInputRefused bytes line → AnswersQuestion question states text bytes refused line
   input_refused f bytes line askable says = withheld f bytes refused line askable (InputRefused line says (are refused line))
@@ -230,6 +232,58 @@ module _ (question : Question) (states : ℕ) (text : Text) where
   too_long_told f told askable long =
       long_told (Some (request_for question states text)) told refused input_too_long
       (λ bytes over. input_refused f bytes input_too_long askable (TooLong over refl)) long
+
+-- ---- certificates that are printed
+
+module _ (states : ℕ) (text : Text) where
+  -- a line with another status is none
+  pub refused_not_printed : (question : Question) (bytes line : Text) → IsPrintedFor question text bytes refused line
+  refused_not_printed Truth bytes line = tt
+  refused_not_printed Terms bytes line = tt
+  refused_not_printed Certificate bytes line = λ e. absurd (omega arith)
+
+  pub refused_not_printed_told : (question : Question) (told : Option Text) (line : Text) → IsPrintedToldFor question text told refused line
+  refused_not_printed_told Truth told line = tt
+  refused_not_printed_told Terms told line = tt
+  refused_not_printed_told Certificate told line = λ e. absurd (omega arith)
+
+  printed : (f : Formula) (bytes : Text) (p : System) (terms : List Tree) (status : ℕ) (line : Text) → IsAskable Certificate text f → IsInput bytes p
+      → FitsSystem text f p terms → IsVerdict Certificate p terms f states status line → status ≡ positive → IsPrinted text bytes line
+  printed f bytes p terms status line askable input fits (Limits k kind over are) e = let other = are.same_status in absurd (omega arith)
+  printed f bytes p terms status line askable input fits (Says keeps verdict) e = record {
+    f = f;
+    accepted = askable;
+    system = p;
+    input = input;
+    terms = terms;
+    fits = fits;
+    verdict = verdict.written.certificate.verdict;
+    is = verdict.truth;
+    steps = verdict.written.certificate.steps;
+    says = verdict.written.are.same_text;
+    again = λ short. written_accepted text f bytes p terms status line askable input fits verdict.written short;
+  }
+
+  -- what was found for a system that has all that the formula speaks of
+  pub fit_printed : (question : Question) (f : Formula) (bytes : Text) (p : System) (terms : List Tree) (status : ℕ) (line : Text) → IsAskable question text f
+      → IsInput bytes p → FitsSystem text f p terms → IsVerdict question p terms f states status line → IsPrintedFor question text bytes status line
+  fit_printed Truth f bytes p terms status line askable input fits is = tt
+  fit_printed Terms f bytes p terms status line askable input fits is = tt
+  fit_printed Certificate f bytes p terms status line askable input fits is = printed f bytes p terms status line askable input fits is
+
+  -- for the bytes that were read, all of them
+  pub printed_told : (question : Question) (old new : Option Text) (bytes : Text) (status : ℕ) (line : Text) → Consumes old new bytes → IsAtEnd new
+      → IsPrintedFor question text bytes status line → IsPrintedToldFor question text old status line
+  printed_told Truth old new bytes status line taken end is = tt
+  printed_told Terms old new bytes status line taken end is = tt
+  printed_told Certificate old new bytes status line taken end is =
+      λ e. record { bytes = bytes; told_are = told_are old new bytes taken end; printed = is e }
+
+-- the certificate was written
+pub prints_truth : (formula : Text) (told old new : Option Text) (written line : Text) → IsPrintedTold formula told line → written ≡ line
+    → Takes old new written → PrintsTruth formula told old new
+prints_truth formula told old new written line printed same taken =
+    record { text = line; printed = printed; taken = subst (Takes old new) same taken }
 
 -- the line of a limit was written
 pub limit_written : (words : List Text) (told old new : Option Text) (line written : Text) (limit : Option Limit)

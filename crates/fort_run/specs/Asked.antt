@@ -7,7 +7,7 @@ use Rattle.fort_logic.specs.Formulas.{Formula}
 use Rattle.fort_logic.specs.FreeNames.{free_names}
 use Rattle.fort_logic.specs.Kinds.{Kind}
 use Rattle.fort_answers.specs.Requests.{Text, Request, Decide, Witness}
-use Rattle.fort_answers.specs.Lines.{limited, limit_line}
+use Rattle.fort_answers.specs.Lines.{positive, limited, limit_line}
 use Rattle.fort_answers.specs.FormulaAnswer.{IsAccepted, IsRefused, IsAcceptedClosed, IsRefusedClosed}
 use Rattle.fort_answers.specs.InputAnswer.{IsInput}
 use Rattle.fort_answers.specs.SystemAnswer.{Are, PassesCap, KeepsCap}
@@ -19,6 +19,7 @@ use Rattle.fort_engine.specs.declared.answer.Limit.{Limit}
 use Rattle.fort_run.specs.declared.question.Question.{Question}
 use Rattle.fort_run.specs.declared.question.Question.TheVariants.{Truth, Terms, Certificate}
 use Rattle.fort_run.specs.Limits.{HasLimit, HasLimitTold}
+use Rattle.fort_run.specs.Certified.{IsTruth, IsPrinted, IsPrintedTold}
 
 abbrev pub request_for : Question → ℕ → Text → Request
 request_for Truth states formula = Decide states false formula
@@ -58,14 +59,30 @@ QuestionLimit question states formula bytes line limit = HasLimit (Some (request
 abbrev pub QuestionLimitTold : Question → ℕ → Text → Option Text → (line : Text) → Limit → Type 0
 QuestionLimitTold question states formula told line limit = HasLimitTold (Some (request_for question states formula)) told line limit
 
+-- what a certificate says that was asked for
+abbrev pub IsPrintedFor : Question → (formula bytes : Text) → ℕ → Text → Type 0
+IsPrintedFor Truth formula bytes status text = Unit {0}
+IsPrintedFor Terms formula bytes status text = Unit {0}
+IsPrintedFor Certificate formula bytes status text = status ≡ positive → IsPrinted formula bytes text
+
+abbrev pub IsPrintedToldFor : Question → Text → Option Text → ℕ → Text → Type 0
+IsPrintedToldFor Truth formula told status text = Unit {0}
+IsPrintedToldFor Terms formula told status text = Unit {0}
+IsPrintedToldFor Certificate formula told status text = status ≡ positive → IsPrintedTold formula told text
+
 -- the input is a system whose pairs of patterns are these
 abbrev pub IsReadFrom : List ℕ → PatternSystem → Type 0
 IsReadFrom bytes system = (p : theory.System) × IsInput bytes p × (system ≡ pattern_system p)
 
+-- the certificate that is written, and its verdict is the formula's truth
+pub record IsTrueCertificate (system : theory.System) (terms : List Tree) (f : Formula) (status : ℕ) (text : Text) : Type 0 where
+  pub written : CertificateVerdict system terms f status text
+  pub truth : IsTruth written.certificate.verdict system terms f
+
 abbrev pub VerdictOn : Question → theory.System → List Tree → Formula → ℕ → Text → Type 0
 VerdictOn Truth system terms f status text = TruthVerdict system terms f status text
 VerdictOn Terms system terms f status text = WitnessVerdict system terms f status text
-VerdictOn Certificate system terms f status text = CertificateVerdict system terms f status text
+VerdictOn Certificate system terms f status text = IsTrueCertificate system terms f status text
 
 -- the answer to a question about a formula over a system, with these ground terms in it
 pub data IsVerdict (question : Question) (system : theory.System) (terms : List Tree) (f : Formula) (states status : ℕ) (text : Text) : Type 0 where

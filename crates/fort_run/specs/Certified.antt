@@ -1,4 +1,4 @@
--- To believe: what CERTIFIED says, whoever wrote the certificate; that `check` answers where there is all that it speaks of; that a certificate which is owed is accepted behind the bytes of its problem.
+-- To believe: what CERTIFIED says, whoever wrote the certificate; that `check` answers where there is all that it speaks of; what a printed certificate says, and that a certificate which is owed is accepted behind the bytes of its problem.
 use Rattle.std.specs.Prelude.{◌≡◌, ℕ, ◌≤◌, Bool, true, false, List, ◌∷◌, ◌++◌, length, Option, Some, IfSome}
 use Rattle.fort_theory.specs.Trees.{Tree}
 use Rattle.fort_theory.specs.Sides.{System}
@@ -14,7 +14,7 @@ use Rattle.fort_answers.specs.Requests.{Text, Check}
 use Rattle.fort_answers.specs.CommandGrammar.{request_of}
 use Rattle.fort_answers.specs.Lines.{positive}
 use Rattle.fort_answers.specs.FormulaAnswer.{IsAcceptedClosed}
-use Rattle.fort_answers.specs.InputAnswer.{input_limit}
+use Rattle.fort_answers.specs.InputAnswer.{IsInput, input_limit}
 use Rattle.fort_answers.specs.FitAnswer.{FitsSystem}
 use Rattle.fort_answers.specs.CheckAnswer.{IsCertifiedInput, CheckAnswer, certified_line}
 
@@ -73,6 +73,33 @@ pub record IsCheckable (words : List Text) (told : Option Text) : Type 0 where
   pub fits : FitsSystem formula f system terms
 
 -- ---- what a printed certificate is worth
+
+-- the text is a certificate with the formula's truth over the system of the bytes; behind these and an LF it is accepted with
+-- that verdict, where the whole keeps the limit of inputs
+pub record IsPrinted (formula bytes text : Text) : Type 0 where
+  pub f : Formula
+  pub accepted : IsAcceptedClosed formula f
+  pub system : System
+  pub input : IsInput bytes system
+  pub terms : List Tree
+  pub fits : FitsSystem formula f system terms
+  pub verdict : Bool
+  pub is : IsTruth verdict system terms f
+  pub steps : List Step
+  pub says : text ≡ certificate_text (length system.rules) verdict steps
+  pub again : length (bytes ++ 10 ∷ text) ≤ input_limit → CheckAnswer formula (bytes ++ 10 ∷ text) positive (certified_line verdict)
+
+-- it is printed for the bytes that were told; where none were, for some bytes
+pub record IsPrintedTold (formula : Text) (told : Option Text) (text : Text) : Type 0 where
+  pub bytes : Text
+  pub told_are : IfSome told (λ b. b ≡ bytes)
+  pub printed : IsPrinted formula bytes text
+
+-- from old to new the sink took the certificate
+pub record PrintsTruth (formula : Text) (told old new : Option Text) : Type 0 where
+  pub text : Text
+  pub printed : IsPrintedTold formula told text
+  pub taken : Takes old new text
 
 -- the text is a certificate; behind the bytes and an LF it is accepted with the verdict of its header, where the whole keeps the limit of inputs
 pub record IsAcceptedBehind (formula bytes text : Text) : Type 0 where

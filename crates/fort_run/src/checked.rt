@@ -1,5 +1,5 @@
 //! The command that checks a certificate, `check`.
-ghost use Rattle.std.specs.Prelude.{◌≡◌, ◌≤◌, [], List, None, Some, length, IfOk, OnOk, IsErrOf};
+ghost use Rattle.std.specs.Prelude.{◌≡◌, ◌<◌, ◌≤◌, [], List, None, Some, length, IfOk, OnOk, IsErrOf};
 ghost use Rattle.fort_theory.specs.Trees.{Tree};
 ghost use Rattle.fort_logic.specs.Formulas as logic;
 ghost use Rattle.fort_logic.specs.FreeNames.{free_names};
@@ -114,6 +114,7 @@ fn reply_to_source<S: Source>(alloc: Global, parsed: &Parsed, input: &mut S) -> 
     ensures whole { OnOk result (ReadsWhole (S.rest input.old) (S.rest input.new)) }
     ensures fault { IsErrOf result Stop.Fault →
         FaultCounted (S.faults input.old) (S.faults input.new) }
+    ensures told { S.faults input.old < S.faults input.new → IsErrOf result Stop.Fault }
     ensures never_falls { S.faults input.old ≤ S.faults input.new }
 {
     let bytes = match read_all(alloc, input, INPUT_LIMIT) {
@@ -139,6 +140,7 @@ pub fn check<S: Source>(alloc: Global, text: &str, input: &mut S) -> Result<Repl
         ReadsWhole (S.rest input.old) (S.rest input.new)) }
     ensures fault { IsErrOf result Stop.Fault →
         FaultCounted (S.faults input.old) (S.faults input.new) }
+    ensures told { S.faults input.old < S.faults input.new → IsErrOf result Stop.Fault }
     ensures asked { IsErrOf result Stop.Fault → NeedsInput (CheckOf text.now) }
     ensures unread { (NeedsInput (CheckOf text.now) → ⊥) → input.new ≡ input.old }
     ensures never_falls { S.faults input.old ≤ S.faults input.new }

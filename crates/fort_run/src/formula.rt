@@ -1,11 +1,11 @@
 //! The commands that ask about a formula, `decide` and `witness`.
-ghost use Rattle.std.specs.Prelude.{◌≡◌, ◌≤◌, length, IfOk, IfSome, OnOk, IsErrOf};
+ghost use Rattle.std.specs.Prelude.{◌≡◌, ◌<◌, ◌≤◌, length, IfOk, IfSome, OnOk, IsErrOf};
 ghost use Rattle.fort_io.specs.Devices.{FaultCounted};
 ghost use Rattle.fort_answers.specs.InputAnswer.{input_limit};
 ghost use Rattle.fort_answers.specs.Requests.{Text};
 ghost use Rattle.fort_run.specs.Accepted.{IsAskedAs, IsRead};
 ghost use Rattle.fort_run.specs.Answered.{ReadsWhole};
-ghost use Rattle.fort_run.specs.Asked.{QuestionNeedsInput, OwesToQuestion, AnswersQuestion, QuestionLimit, QuestionLimitTold};
+ghost use Rattle.fort_run.specs.Asked.{QuestionNeedsInput, OwesToQuestion, AnswersQuestion, QuestionLimit, QuestionLimitTold, IsPrintedFor, IsPrintedToldFor};
 ghost use Rattle.fort_run.specs.ReplyView.{status_of, text_of, limit_of};
 
 use crate::accepted::accepted_formula;
@@ -45,6 +45,8 @@ fn reply_to_bytes(
         → AnswersQuestion question states text bytes.items (status_of r) (text_of r)) }
     ensures limit { IfOk result (λ r. (text : Text) → IsAskedAs question text parsed.now
         → IfSome (limit_of r) (QuestionLimit question states text bytes.items (text_of r))) }
+    ensures printed { IfOk result (λ r. (text : Text) → IsAskedAs question text parsed.now
+        → IsPrintedFor question text bytes.items (status_of r) (text_of r)) }
 {
     let system = match read_system(alloc, bytes) {
         Ok(system) => system,
@@ -72,9 +74,12 @@ fn reply_to_formula<S: Source>(
     ensures limit { IfOk result (λ r. (text : Text) → IsAskedAs question text parsed.now
         → IfSome (limit_of r)
         (QuestionLimitTold question states text (S.rest input.old) (text_of r))) }
+    ensures printed { IfOk result (λ r. (text : Text) → IsAskedAs question text parsed.now
+        → IsPrintedToldFor question text (S.rest input.old) (status_of r) (text_of r)) }
     ensures whole { OnOk result (ReadsWhole (S.rest input.old) (S.rest input.new)) }
     ensures fault { IsErrOf result Stop.Fault →
         FaultCounted (S.faults input.old) (S.faults input.new) }
+    ensures told { S.faults input.old < S.faults input.new → IsErrOf result Stop.Fault }
     ensures never_falls { S.faults input.old ≤ S.faults input.new }
 {
     let bytes = match read_all(alloc, input, INPUT_LIMIT) {
@@ -101,10 +106,13 @@ pub fn ask<S: Source>(
         (S.rest input.old) (status_of r) (text_of r)) }
     ensures limit { IfOk result (λ r. IfSome (limit_of r)
         (QuestionLimitTold question states text.now (S.rest input.old) (text_of r))) }
+    ensures printed { IfOk result (λ r. IsPrintedToldFor question text.now
+        (S.rest input.old) (status_of r) (text_of r)) }
     ensures whole { OnOk result (QuestionNeedsInput question text.now →
         ReadsWhole (S.rest input.old) (S.rest input.new)) }
     ensures fault { IsErrOf result Stop.Fault →
         FaultCounted (S.faults input.old) (S.faults input.new) }
+    ensures told { S.faults input.old < S.faults input.new → IsErrOf result Stop.Fault }
     ensures asked { IsErrOf result Stop.Fault → QuestionNeedsInput question text.now }
     ensures unread { (QuestionNeedsInput question text.now → ⊥) → input.new ≡ input.old }
     ensures never_falls { S.faults input.old ≤ S.faults input.new }

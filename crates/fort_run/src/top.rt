@@ -1,5 +1,5 @@
 //! The top call.
-ghost use Rattle.std.specs.Prelude.{◌≡◌, ◌≤◌, ◌⊎◌, ◌↔◌, ℕ, true, map, string_bytes, IfOk, IfSome, IsSome, OnOk, IsErrOf};
+ghost use Rattle.std.specs.Prelude.{◌≡◌, ◌<◌, ◌≤◌, ◌⊎◌, ◌↔◌, ℕ, true, map, string_bytes, IfOk, IfSome, IsSome, OnOk, IsErrOf};
 ghost use Rattle.fort_io.specs.Devices.{FaultCounted};
 ghost use Rattle.fort_words.specs.RequestView.{as_request};
 ghost use Rattle.fort_answers.specs.SampleSizes.{HasSampleSize};
@@ -7,7 +7,7 @@ ghost use Rattle.fort_answers.specs.Requests.{Text, Decide, Check as CheckOf};
 ghost use Rattle.fort_answers.specs.Answer.{Answer, AnswerFor, AsksNothing, AsksSomething, NeedsInput, OwesTold};
 ghost use Rattle.fort_answers.specs.Lines.{last_answer, limited, negative, positive, out_of_memory, read_failed, write_failed};
 ghost use Rattle.fort_run.specs.Answered.{Answers, CutsShort, IsDecidable, IsDecidableWithin, OwesOnly, OwesOnlyEarly, ReadsWhole};
-ghost use Rattle.fort_run.specs.Certified.{IsCertifiedTold, CertifiesTruth, IsCheckable, IsAcceptedBehind};
+ghost use Rattle.fort_run.specs.Certified.{IsCertifiedTold, CertifiesTruth, IsCheckable, IsPrintedTold, PrintsTruth, IsAcceptedBehind};
 ghost use Rattle.fort_run.specs.ReplyView.{status_of, text_of, limit_of};
 ghost use Rattle.fort_answers.specs.CommandGrammar.{request_of};
 ghost use Rattle.fort_run.specs.Limits.{HasLimitTold, IsLimitOf};
@@ -35,12 +35,16 @@ fn reply_to_request<S: Source>(
     ensures certified { IfOk result (λ r. (formula : Text)
         → as_request request.now ≡ CheckOf formula → status_of r ≡ positive
         → IsCertifiedTold formula (S.rest input.old) (text_of r)) }
+    ensures printed { IfOk result (λ r. (states : ℕ) (formula : Text)
+        → as_request request.now ≡ Decide states true formula → status_of r ≡ positive
+        → IsPrintedTold formula (S.rest input.old) (text_of r)) }
     ensures limit { IfOk result (λ r. IfSome (limit_of r)
         (HasLimitTold (Some (as_request request.now)) (S.rest input.old) (text_of r))) }
     ensures whole { OnOk result (NeedsInput (as_request request.now) →
         ReadsWhole (S.rest input.old) (S.rest input.new)) }
     ensures fault { IsErrOf result Stop.Fault →
         FaultCounted (S.faults input.old) (S.faults input.new) }
+    ensures told { S.faults input.old < S.faults input.new → IsErrOf result Stop.Fault }
     ensures asked { IsErrOf result Stop.Fault → NeedsInput (as_request request.now) }
     ensures unread { (NeedsInput (as_request request.now) → ⊥) → input.new ≡ input.old }
     ensures never_falls { S.faults input.old ≤ S.faults input.new }
@@ -74,12 +78,16 @@ fn reply_to<S: Source>(alloc: Global, words: &[String], input: &mut S) -> Result
     ensures certified { IfOk result (λ r. (formula : Text)
         → request_of (map string_bytes words.now) ≡ Some (CheckOf formula)
         → status_of r ≡ positive → IsCertifiedTold formula (S.rest input.old) (text_of r)) }
+    ensures printed { IfOk result (λ r. (states : ℕ) (formula : Text)
+        → request_of (map string_bytes words.now) ≡ Some (Decide states true formula)
+        → status_of r ≡ positive → IsPrintedTold formula (S.rest input.old) (text_of r)) }
     ensures limit { IfOk result (λ r. IfSome (limit_of r)
         (HasLimitTold (request_of (map string_bytes words.now)) (S.rest input.old) (text_of r))) }
     ensures whole { OnOk result (AsksSomething (map string_bytes words.now) →
         ReadsWhole (S.rest input.old) (S.rest input.new)) }
     ensures fault { IsErrOf result Stop.Fault →
         FaultCounted (S.faults input.old) (S.faults input.new) }
+    ensures told { S.faults input.old < S.faults input.new → IsErrOf result Stop.Fault }
     ensures asked { IsErrOf result Stop.Fault → AsksSomething (map string_bytes words.now) }
     ensures unread { AsksNothing (map string_bytes words.now) → input.new ≡ input.old }
     ensures never_falls { S.faults input.old ≤ S.faults input.new }
@@ -110,10 +118,15 @@ pub fn run<S: Source, K: Sink>(
     ensures whole { result.status ≤ last_answer → AsksSomething (map string_bytes words.now) →
         ReadsWhole (S.rest input.old) (S.rest input.new) }
 
-    // CERTIFIED says the formula's truth, whoever wrote the certificate; a certificate that is owed is certified in its turn.
+    // CERTIFIED says the formula's truth, whoever wrote the certificate; so does a certificate that is printed, and it is
+    // certified in its turn, as each is that is owed.
     ensures certified { (formula : Text)
         → request_of (map string_bytes words.now) ≡ Some (CheckOf formula)
         → result.status ≡ positive → CertifiesTruth formula
+        (S.rest input.old) (K.taken output.old) (K.taken output.new) }
+    ensures printed { (states : ℕ) (formula : Text)
+        → request_of (map string_bytes words.now) ≡ Some (Decide states true formula)
+        → result.status ≡ positive → PrintsTruth formula
         (S.rest input.old) (K.taken output.old) (K.taken output.new) }
     ensures accepted { (states : ℕ) (formula bytes text : Text)
         → request_of (map string_bytes words.now) ≡ Some (Decide states true formula)
@@ -132,11 +145,13 @@ pub fn run<S: Source, K: Sink>(
     ensures silent { (result.status ≡ out_of_memory) ⊎ (result.status ≡ read_failed) →
         output.new ≡ output.old }
 
-    // No other status comes, 6 and 7 only by a fault that was counted, and 6 only after an accepted formula.
+    // No other status comes, 6 and 7 only by a fault that was counted, 6 wherever a read failed and only after an accepted
+    // formula.
     ensures statuses { (result.status ≤ last_answer) ⊎ ((result.status ≡ out_of_memory) ⊎
         ((result.status ≡ read_failed) ⊎ (result.status ≡ write_failed))) }
     ensures read_fault { result.status ≡ read_failed →
         FaultCounted (S.faults input.old) (S.faults input.new) }
+    ensures told { S.faults input.old < S.faults input.new → result.status ≡ read_failed }
     ensures asked { result.status ≡ read_failed → AsksSomething (map string_bytes words.now) }
     ensures write_fault { result.status ≡ write_failed →
         FaultCounted (K.faults output.old) (K.faults output.new) }

@@ -1,8 +1,10 @@
 use Rattle.std.proofs.Common.{subst}
+use Rattle.std.proofs.lemmas.Result.{IfOk-weaker}
+use Rattle.fort_run.specs.Accepted.{IsAskedAs}
 use Rattle.fort_formulas.specs.FormulaView.{as_formula}
 use Rattle.fort_run.specs.Asked.{IsRefusedBy, QuestionNeedsInput}
 use Rattle.fort_run.proofs.FormulaRefusals.{refused_by_line}
-use Rattle.fort_run.proofs.Replies.{needs, owes_refusal, refused_needs_nothing}
+use Rattle.fort_run.proofs.Replies.{needs, owes_refusal, refused_needs_nothing, refused_not_printed_told}
 use Rattle.fort_run.proofs.formula.ask.Goals as goal
 
 pub returns-in-Err-Line-clause-ok : goal.returns-in-Err-Line-clause-ok
@@ -19,3 +21,13 @@ pub returns-clause-unread : goal.returns-clause-unread
 returns-clause-unread g c = λ none.
     absurd (none (subst (QuestionNeedsInput c.args.question) c.as_bytes.ensures.value
     (needs c.args.question c.as_bytes.result.now (as_formula c.in-Ok.parsed.formula) c.in-Ok.ensures.ok.askable)))
+
+pub returns-in-Err-Line-clause-printed : goal.returns-in-Err-Line-clause-printed
+returns-in-Err-Line-clause-printed g c =
+    rw c.in-Err-Line.field-0-is (refused_not_printed_told c.args.states c.args.text.now c.args.question _ c.in-Err-Line.line.items)
+
+pub returns-clause-printed : goal.returns-clause-printed
+returns-clause-printed g c =
+    IfOk-weaker c.reply_to_formula.result _ _ (λ r printed.
+    printed c.args.text.now (subst (λ t. IsAskedAs c.args.question t c.in-Ok.parsed) c.as_bytes.ensures.value c.in-Ok.ensures.ok))
+    c.reply_to_formula.ensures.printed

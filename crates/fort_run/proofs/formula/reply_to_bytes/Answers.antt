@@ -11,7 +11,7 @@ use Rattle.fort_run.specs.Asked.{IsVerdict}
 use Rattle.fort_run.specs.Ready.{IsReady, ShowsLimit}
 use Rattle.fort_run.specs.ReplyView.{status_of, text_of, limit_of}
 use Rattle.fort_run.proofs.Readiness.{ready, closed_for}
-use Rattle.fort_run.proofs.Replies.{input_refused, unfit, fit, fit_limit}
+use Rattle.fort_run.proofs.Replies.{input_refused, unfit, fit, fit_limit, fit_printed, refused_not_printed}
 use Rattle.fort_run.proofs.formula.reply_to_bytes.Goals as goal
 
 pub returns-in-Err-Line-clause-ok : goal.returns-in-Err-Line-clause-ok
@@ -61,3 +61,22 @@ returns-in-Ok-terms_of-clause-limit c =
     fit_limit c.args.question c.args.states text f c.args.bytes.items input.0 c.in-Ok.system terms (text_of r) (limit_of r) is.askable input.1 fits input.2
     (subst (λ ts. IfSome (limit_of r) (ShowsLimit c.in-Ok.system (core_of ts f) c.args.states (text_of r))) c.deref.ensures.value says))
     c.verdict.ensures.limit
+
+pub returns-in-Err-Line-clause-printed : goal.returns-in-Err-Line-clause-printed
+returns-in-Err-Line-clause-printed c = λ text is.
+    rw c.in-Err-Line.field-0-is (refused_not_printed c.args.states text c.args.question c.args.bytes.items c.in-Err-Line.line.items)
+
+pub returns-in-Err-Line-terms_of-clause-printed : goal.returns-in-Err-Line-terms_of-clause-printed
+returns-in-Err-Line-terms_of-clause-printed c = λ text is.
+    rw c.in-Err-Line-terms_of.field-0-is (refused_not_printed c.args.states text c.args.question c.args.bytes.items c.in-Err-Line-terms_of.line.items)
+
+pub returns-in-Ok-terms_of-clause-printed : goal.returns-in-Ok-terms_of-clause-printed
+returns-in-Ok-terms_of-clause-printed c =
+    IfOk-weaker c.verdict.result _ _ (λ r says. λ text is.
+    let f = as_formula c.args.parsed.now.formula in
+    let input = c.in-Ok.ensures.ok in
+    let terms = c.in-Ok-terms_of.terms.items in
+    let fits = c.in-Ok-terms_of.ensures.ok text input.0 is.grounds input.2 in
+    fit_printed c.args.states text c.args.question f c.args.bytes.items input.0 terms (status_of r) (text_of r) is.askable input.1 fits
+    (subst (λ ts. IsVerdict c.args.question input.0 ts f c.args.states (status_of r) (text_of r)) c.deref.ensures.value (says input.0 (IsInput-lawful c.args.bytes.items input.0 input.1) input.2)))
+    c.verdict.ensures.ok

@@ -3,7 +3,7 @@ use Rattle.std.specs.Prelude.{Err}
 use Rattle.fort_io.specs.declared.source.ReadAll.TheVariants.{TooLong}
 use Rattle.fort_formulas.specs.FormulaView.{as_formula}
 use Rattle.fort_run.specs.ReplyView.{text_of, limit_of}
-use Rattle.fort_run.proofs.Replies.{answer_told, limit_told, too_long_told}
+use Rattle.fort_run.proofs.Replies.{answer_told, limit_told, too_long_told, printed_told, refused_not_printed_told}
 use Rattle.fort_run.proofs.formula.reply_to_formula.Goals as goal
 
 pub returns-in-Err-TooLong-clause-ok : goal.returns-in-Err-TooLong-clause-ok
@@ -21,3 +21,10 @@ returns-in-Ok-reply_to_bytes-clause-limit g c = λ text is.
 
 pub reply_to_bytes-requires-clause-read : goal.reply_to_bytes-requires-clause-read
 reply_to_bytes-requires-clause-read g c = c.requires
+
+pub returns-in-Err-TooLong-clause-printed : goal.returns-in-Err-TooLong-clause-printed
+returns-in-Err-TooLong-clause-printed g c = λ text is. refused_not_printed_told c.args.states text c.args.question _ _
+
+pub returns-in-Ok-reply_to_bytes-clause-printed : goal.returns-in-Ok-reply_to_bytes-clause-printed
+returns-in-Ok-reply_to_bytes-clause-printed g c = λ text is.
+    printed_told c.args.states text c.args.question _ _ c.in-Ok.bytes.items _ _ c.in-Ok.ensures.all c.in-Ok.ensures.end (c.in-Ok-reply_to_bytes.ensures.printed text is)

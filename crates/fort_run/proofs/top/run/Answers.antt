@@ -1,7 +1,7 @@
 use Rattle.std.proofs.Common.{inl, map, string_bytes, sym, subst, ◌∙◌}
 use Rattle.std.specs.Prelude.{IfSome}
 use Rattle.fort_run.specs.Limits.{IsLimitOf}
-use Rattle.fort_run.proofs.Replies.{limit_written}
+use Rattle.fort_run.proofs.Replies.{limit_written, prints_truth}
 use Rattle.fort_run.proofs.CheckReplies.{certifies_truth}
 use Rattle.fort_run.proofs.PrintedCertificates.{printed_accepted}
 use Rattle.fort_run.proofs.OneAnswer.{Answers-told, Answers-early, Answers-decided, Answers-kept, Answers-checked, answers}
@@ -64,3 +64,8 @@ returns-in-Err-Fault-clause-accepted g c = printed_accepted (map string_bytes c.
 
 pub returns-in-Err-clause-accepted : goal.returns-in-Err-clause-accepted
 returns-in-Err-clause-accepted g c = printed_accepted (map string_bytes c.args.words.now)
+
+pub returns-in-Ok-write_all-clause-printed : goal.returns-in-Ok-write_all-clause-printed
+returns-in-Ok-write_all-clause-printed g c = λ states formula asked e.
+    prints_truth formula _ _ _ c.text.result.now _ (c.in-Ok.ensures.printed states formula asked (sym c.of_reply.ensures.status ∙ e)) c.text.ensures
+    c.in-Ok-write_all.ensures.all

@@ -4,7 +4,7 @@ use Rattle.fort_certificate_grammar.specs.CertificateText.{certificate_text}
 use Rattle.fort_certificate.specs.Again.{HasSmallNumbers}
 use Rattle.fort_formulas.specs.CoreView.{as_core}
 use Rattle.fort_steps.specs.StepView.{as_step}
-use Rattle.fort_run.proofs.PosedQuestions.{closed_core, certificate_says}
+use Rattle.fort_run.proofs.PosedQuestions.{closed_core, true_certificate}
 use Rattle.fort_run.proofs.verdict.certificate.Goals as goal
 
 pub decide_with_steps-requires-clause-decided : goal.decide_with_steps-requires-clause-decided
@@ -16,7 +16,7 @@ decide_with_steps-requires-clause-closed c = closed_core c.requires.0 c.args.sys
 pub returns-in-Ok-text-clause-says : goal.returns-in-Ok-text-clause-says
 returns-in-Ok-text-clause-says c = λ f p terms lawful same posed.
     let recorded = c.in-Ok.recorded in
-    certificate_says f p c.args.system.now terms (as_core c.args.core.now) recorded c.number.result c.in-Ok-text.text.items same posed
-    c.in-Ok.ensures.written (subst (λ xs. AllByRecursion HasSmallNumbers (map as_step xs)) c.deref.ensures.value c.in-Ok-text.ensures.small)
+    true_certificate f p c.args.system.now terms (as_core c.args.core.now) recorded c.number.result c.in-Ok-text.text.items lawful same posed
+    c.in-Ok.ensures.truth c.in-Ok.ensures.written (subst (λ xs. AllByRecursion HasSmallNumbers (map as_step xs)) c.deref.ensures.value c.in-Ok-text.ensures.small)
     c.number.ensures.count
     (c.in-Ok-text.ensures.text ∙ ap (λ xs. certificate_text c.number.result recorded.verdict (map as_step xs)) c.deref.ensures.value)
