@@ -14,6 +14,3 @@ mod word;
 pub use fault::ProblemFault;
 pub use ground::read_ground;
 pub use problem::{Problem, read_problem};
-
-#[cfg(test)]
-mod tests;

@@ -6,8 +6,6 @@ mod certificate;
 mod check;
 mod fault;
 mod slot;
-#[cfg(test)]
-mod tests;
 mod value;
 mod word;
 mod words;

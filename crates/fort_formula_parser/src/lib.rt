@@ -18,6 +18,3 @@ mod word;
 pub use fault::FFault;
 pub use parsed::{Ground, Parsed};
 pub use top::parse;
-
-#[cfg(test)]
-mod tests;

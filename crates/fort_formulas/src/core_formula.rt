@@ -107,13 +107,6 @@ impl Arm {
         &self.core
     }
 
-    /// Gives the formula back. It takes no memory.
-    pub fn into_core(self) -> Core
-        ensures { as_core result ≡ self }
-    {
-        Box::into_inner(self.core)
-    }
-
     /// An equal operand.
     #[cycle(core_copy)]
     pub fn copy(&self, alloc: Global) -> Result<Arm, AllocError>

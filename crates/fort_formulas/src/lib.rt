@@ -27,6 +27,3 @@ pub use roots::kind;
 pub use subformulas::parts;
 pub use surface::{Arg, Formula, Macro, Name, Operand, SurfaceRel};
 pub use translation::{to_core, too_wide};
-
-#[cfg(test)]
-mod tests;

@@ -14,6 +14,3 @@ pub use mem_sink::MemSink;
 pub use mem_source::MemSource;
 pub use sink::{Sink, WriteFault, write_all};
 pub use source::{Failed, ReadAll, Source, read_all};
-
-#[cfg(test)]
-mod tests;

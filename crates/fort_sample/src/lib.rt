@@ -6,6 +6,3 @@ mod signature;
 mod system;
 
 pub use system::made_system;
-
-#[cfg(test)]
-mod tests;

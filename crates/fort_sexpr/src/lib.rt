@@ -15,6 +15,3 @@ pub use form::{Form, FormList, Span};
 pub use reader::read;
 pub use scan::{is_ahead, is_blank, is_word_byte};
 pub use text::Forms;
-
-#[cfg(test)]
-mod tests;

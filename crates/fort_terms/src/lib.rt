@@ -20,8 +20,3 @@ pub use term::Term;
 
 /// Want of memory.
 pub type Memory = std::alloc::AllocError;
-
-#[cfg(test)]
-mod key_tests;
-#[cfg(test)]
-mod tests;

@@ -64,13 +64,6 @@ impl Patterns {
     {
         self.items.as_slice()
     }
-
-    /// Gives the arguments back. It takes no memory.
-    pub fn into_vec(self) -> Vec<Pattern>
-        ensures { as_patterns result.items ≡ self }
-    {
-        self.items
-    }
 }
 
 impl Pattern {

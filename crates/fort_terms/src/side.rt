@@ -61,13 +61,6 @@ impl Sides {
     {
         self.items.as_slice()
     }
-
-    /// Gives the arguments back. It takes no memory.
-    pub fn into_vec(self) -> Vec<Side>
-        ensures { as_sides result.items ≡ self }
-    {
-        self.items
-    }
 }
 
 impl Side {

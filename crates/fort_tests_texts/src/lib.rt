@@ -1,13 +1,11 @@
-//! Tests of terms, of what reads and writes texts, and of devices.
+//! Tests of terms and formulas as keys, and of devices.
 #![tactic(auto)]
 
-#[cfg(test)]
-mod certificate;
 #[cfg(test)]
 mod devices;
 #[cfg(test)]
 mod formulas;
 #[cfg(test)]
-mod problems;
+mod keys;
 #[cfg(test)]
 mod terms;

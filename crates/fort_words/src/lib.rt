@@ -6,6 +6,3 @@ mod number;
 mod request;
 
 pub use request::{Request, read_request};
-
-#[cfg(test)]
-mod tests;

@@ -1,5 +1,0 @@
-//! Tests.
-
-mod keys;
-mod places;
-mod translations;

@@ -1,1 +1,0 @@
-//! Tests of s-expressions, problems and samples.
