@@ -4,7 +4,6 @@ pub mod FullLaws
 pub mod KnownLaws
 pub mod PlaceLaws
 pub mod ExploreLaws
-pub mod TestShapes
 pub mod RowLaws
 pub mod ShortLabelLaws
 pub mod LabelSetLaws

@@ -18,6 +18,3 @@ pub use labeller::Labeller;
 pub use rows::Rows;
 pub use rule::LocalRule;
 pub use table::{ExploreFault, explore, explore_counted};
-
-#[cfg(test)]
-mod tests;

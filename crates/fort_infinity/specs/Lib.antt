@@ -4,4 +4,3 @@ pub mod Children
 pub mod RankTests
 pub mod Rankings
 pub mod LeastUnranked
-pub mod TestRules

@@ -14,6 +14,3 @@ mod ranks;
 pub use count::Count;
 pub use counts::pure_counts;
 pub use many::Many;
-
-#[cfg(test)]
-mod tests;

@@ -36,6 +36,3 @@ pub use row::Row;
 pub use steps::Steps;
 pub use symbol::TupleSym;
 pub use table::Table;
-
-#[cfg(test)]
-mod tests;

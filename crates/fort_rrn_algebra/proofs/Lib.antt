@@ -29,4 +29,3 @@ mod ListingLaws
 mod LookUpLaws
 mod FinalSearch
 mod FlatSearch
-mod TestOrders

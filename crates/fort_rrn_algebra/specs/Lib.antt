@@ -15,5 +15,4 @@ pub mod ListedOperands
 pub mod LookUps
 pub mod LayRooms
 pub mod Walks
-pub mod TestRules
 pub mod HeldWalks

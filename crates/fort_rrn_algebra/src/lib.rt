@@ -42,6 +42,3 @@ pub use pure::{next_pure, pure_states};
 pub use states::LayRoom;
 pub use tables::{permute, widen};
 pub use target_list::TargetList;
-
-#[cfg(test)]
-mod tests;

@@ -2,12 +2,8 @@
 #![tactic(auto)]
 
 #[cfg(test)]
-mod explored;
+mod equality;
 #[cfg(test)]
-mod infinity;
-#[cfg(test)]
-mod lockstep;
-#[cfg(test)]
-mod products;
+mod rules;
 #[cfg(test)]
 mod witness;

@@ -5,5 +5,3 @@ pub mod Rounds
 pub mod Searching
 pub mod RowsLeft
 pub mod Pieces
-pub mod TestLabels
-pub mod TestLaws

@@ -8,6 +8,3 @@ mod text;
 
 pub use search::least;
 pub use text::write_term;
-
-#[cfg(test)]
-mod tests;

@@ -1,8 +1,0 @@
-use Rattle.std.proofs.Common.{◌≡◌}
-use Rattle.fort_explore.proofs.tests.targets_of.Given as goal
-
-abbrev pub invariant-loop : goal.invariant-loop
-invariant-loop l = record {
-  signature : l.entries.signature ≡ l.table.signature;
-  columns : l.entries.columns ≡ l.table.columns;
-}

@@ -1,1 +1,0 @@
-//! Tests of entries, tables and lists of nodes.

@@ -1,1 +1,0 @@
-//! Tests of products, projections and complements.
