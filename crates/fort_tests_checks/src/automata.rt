@@ -1,25 +1,34 @@
 //! Tests of tree automata, transducers and their closures.
-ghost use Rattle.std.specs.Prelude.{◌≡◌, ◌≤◌, IfOk, length};
+ghost use Rattle.std.specs.Prelude.{◌≡◌, ◌≤◌, [], ◌∷◌, IfOk, codes, length};
+ghost use Rattle.fort_theory.specs.Signatures.{symbol};
 ghost use Rattle.fort_agtt.specs.AgttView.{NamesItsStates};
 ghost use Rattle.fort_gtt_closure.specs.Reasons.{IsNumbered};
 
 use fort_agtt::{Agtt, inverse, root_steps, union};
 use fort_gtt_closure::{Why, close, closed_agtt};
-use fort_terms::{Memory, Side, Sides, Signature, Sym, System, Term};
+use fort_terms::{AddFault, Memory, Side, Sides, Signature, Sym, System, Term};
 use std::alloc::{AllocError, Global};
 use std::process::Abort;
 use std::test::Fail;
 
-/// Index 1: g(x, b) -> a. Index 2: a -> b. Index 3: a -> f(a).
-fn system(alloc: Global) -> Result<System, Fail>
-    ensures { IfOk result (λ s. length s.rules ≡ 3) }
+/// Constants a and b, g of two arguments and f of one.
+fn symbols(alloc: Global) -> Result<Signature, AddFault>
+    ensures { let more = symbol (codes "g") 2 ∷ symbol (codes "f") 1 ∷ [] in
+        IfOk result (λ s. s ≡ symbol (codes "a") 0 ∷ symbol (codes "b") 0 ∷ more) }
 {
     let mut signature = Signature::empty(alloc);
     signature.add(b"a", 0)?;
     signature.add(b"b", 0)?;
     signature.add(b"g", 2)?;
     signature.add(b"f", 1)?;
-    let mut system = System::new(alloc, signature, 3)?;
+    Ok(signature)
+}
+
+/// Index 1: g(x, b) -> a. Index 2: a -> b. Index 3: a -> f(a).
+fn system(alloc: Global) -> Result<System, Fail>
+    ensures { IfOk result (λ s. length s.rules ≡ 3) }
+{
+    let mut system = System::new(alloc, symbols(alloc)?, 3)?;
     let a = Side::App(Sym(0), Sides::new(Vec::new(alloc)));
     let b = Side::App(Sym(1), Sides::new(Vec::new(alloc)));
     system.push(2, &a, &b)?;
