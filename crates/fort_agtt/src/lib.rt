@@ -10,6 +10,3 @@ pub use agtt::Agtt;
 pub use exchange::inverse;
 pub use rules::root_steps;
 pub use unions::union;
-
-#[cfg(test)]
-mod tests;

@@ -1,5 +1,5 @@
 //! The transducer of the root steps of a system.
-ghost use Rattle.std.specs.Prelude.{◌≡◌, ◌↔◌, ◌<◌, ◌^◌, IfOk, Contains, length, map};
+ghost use Rattle.std.specs.Prelude.{◌≡◌, ◌↔◌, ◌<◌, ◌^◌, IfOk, IsTrue, Contains, length, map};
 ghost use Rattle.fort_theory.specs.Trees.{Tree};
 ghost use Rattle.fort_theory.specs.Patterns as theory;
 ghost use Rattle.fort_theory.specs.PatternSteps.{PatternStepAt};
@@ -11,7 +11,7 @@ ghost use Rattle.fort_agtt.specs.AgttView.{NamesItsStates, transducer_of};
 ghost use Rattle.fort_agtt.specs.RootSteps.{ArePlaces, HasRootSteps};
 
 use crate::agtt::Agtt;
-use fort_terms::{Pattern, System};
+use fort_terms::{Pattern, System, has_numbers};
 use fort_tree_automata::{pattern_automaton, place};
 use std::alloc::{AllocError, Global};
 
@@ -28,13 +28,20 @@ pub fn root_steps(alloc: Global, system: &System, index: u32) -> Result<Agtt, Al
 {
     let lefts = system.left_patterns(alloc, index)?;
     let rights = system.right_patterns(alloc, index)?;
-    if lefts.len() > u32::MAX as usize || rights.len() > u32::MAX as usize {
+    if !have_numbers(lefts.len(), rights.len()) {
         return Err(AllocError);
     }
     let left = pattern_automaton(alloc, &lefts)?;
     let right = pattern_automaton(alloc, &rights)?;
     let pairs = places(alloc, system.rules(index), &lefts, &rights)?;
     Ok(Agtt { left, right, pairs })
+}
+
+/// Whether so many left and right patterns have numbers.
+fn have_numbers(lefts: usize, rights: usize) -> bool
+    ensures { IsTrue result ↔ ((lefts < 2 ^ 32) × (rights < 2 ^ 32)) }
+{
+    has_numbers(lefts) && has_numbers(rights)
 }
 
 /// The places of the two sides of each rule.

@@ -24,6 +24,3 @@ pub use atom_labels::AtomLabels;
 pub use normal::NormalBits;
 pub use relation::RelationBits;
 pub use term_labels::TermLabels;
-
-#[cfg(test)]
-mod tests;

@@ -4,4 +4,3 @@ pub mod UseLaws
 pub mod AnswerLaws
 pub mod JoinLaws
 pub mod DecideLaws
-pub mod TestLaws

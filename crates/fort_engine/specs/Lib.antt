@@ -1,4 +1,3 @@
 pub mod AnswerView
 pub mod Uses
 pub mod Deciding
-pub mod TestFormulas

@@ -17,6 +17,3 @@ pub use decide::{decide_core, drop_idle};
 pub use operands::{column_of, place_of};
 pub use part::decide_part;
 pub use uses::last_uses;
-
-#[cfg(test)]
-mod tests;

@@ -14,6 +14,3 @@ mod reasons;
 pub use closed::closed_agtt;
 pub use entry::{Closed, Entry, Why};
 pub use passes::close;
-
-#[cfg(test)]
-mod tests;

@@ -2,10 +2,6 @@
 #![tactic(auto)]
 
 #[cfg(test)]
-mod atoms;
-#[cfg(test)]
 mod automata;
 #[cfg(test)]
 mod checker;
-#[cfg(test)]
-mod engine;

@@ -4,4 +4,3 @@ pub mod ClosureLaws
 pub mod CountLaws
 pub mod AnswerLaws
 pub mod RecordLaws
-pub mod TestLaws

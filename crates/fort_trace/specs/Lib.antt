@@ -1,3 +1,2 @@
 pub mod RecordedView
 pub mod Recording
-pub mod TestFormulas

@@ -8,6 +8,3 @@ mod decide;
 mod targets;
 
 pub use decide::{Recorded, decide_with_steps};
-
-#[cfg(test)]
-mod tests;

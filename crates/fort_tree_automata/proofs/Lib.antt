@@ -1,6 +1,5 @@
 pub mod Truths
 pub mod CopiesLaws
-pub mod NameTestsLaws
 pub mod MarksLaws
 pub mod SettledLaws
 pub mod InhabitedLaws

@@ -4,4 +4,3 @@ pub mod Trimmed
 pub mod PatternMoves
 pub mod InhabitedStates
 pub mod Marks
-pub mod NameTests

@@ -4,7 +4,6 @@
 mod copies;
 mod flags;
 mod inhabited;
-mod names;
 mod nta;
 mod of_patterns;
 mod states_of;
@@ -12,6 +11,3 @@ mod trim;
 
 pub use nta::{Move, Nta};
 pub use of_patterns::{pattern_automaton, place};
-
-#[cfg(test)]
-mod tests;

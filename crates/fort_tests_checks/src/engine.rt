@@ -1,1 +1,0 @@
-//! Tests of deciding, and recording certificates.
