@@ -21,4 +21,3 @@ pub mod LoopKnows
 pub mod LoopSteps
 pub mod NewLaws
 pub mod CheckLaws
-pub mod TestLaws

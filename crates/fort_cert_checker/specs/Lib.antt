@@ -11,4 +11,3 @@ pub mod Values
 pub mod Fronts
 pub mod Checkers
 pub mod OutcomeView
-pub mod TestFormulas

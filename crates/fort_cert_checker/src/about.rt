@@ -1,5 +1,5 @@
 //! The steps of a certificate, by what they are about.
-ghost use Rattle.std.specs.Prelude.{◌≡◌, ℕ, ◌<◌, List, Bool, map, length, slice_index_or, IfSome, IfNone, IfOk};
+ghost use Rattle.std.specs.Prelude.{◌≡◌, ℕ, ◌<◌, ◌^◌, List, Bool, map, length, slice_index_or, IfSome, IfNone, IfOk};
 ghost use Rattle.fort_counts.specs.Counts as counts;
 ghost use Rattle.fort_certificate_grammar.specs.Certificates as theory;
 ghost use Rattle.fort_in_order.specs.Dues as definitions;
@@ -9,6 +9,7 @@ ghost use Rattle.fort_infinity.specs.CountView.{as_count as as_mark};
 ghost use Rattle.fort_check_steps.specs.DueView.{as_due};
 ghost use Rattle.fort_cert_checker.specs.Abouts as abouts;
 ghost use Rattle.fort_cert_checker.specs.Abouts.{IsFirstAbout, IsOnlyAbout};
+ghost use Rattle.fort_cert_checker.specs.Fronts.{HasFewTargets};
 
 use fort_check_steps::{DueStep, is_about};
 use fort_infinity::Count;
@@ -42,8 +43,9 @@ fn targets_in<'a>(step: &'a Step) -> &'a [u32]
 
 /// The targets of a part, by its first step.
 pub(crate) fn targets_of<'a>(steps: &'a [Step], k: u32) -> &'a [u32]
-    ensures { (targets : List ℕ) → IsOnlyAbout (map as_step steps.now) (theory.Part k targets)
-        → result.now ≡ targets }
+    ensures own { (targets : List ℕ) → IsOnlyAbout (map as_step steps.now)
+        (theory.Part k targets) → result.now ≡ targets }
+    ensures few { HasFewTargets (map as_step steps.now) → length result.now < 2 ^ 32 }
 {
     match step_about(steps, DueStep::Part(k)) {
         Some(step) => targets_in(step),

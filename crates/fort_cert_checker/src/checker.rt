@@ -1,5 +1,5 @@
 //! The check of a certificate.
-ghost use Rattle.std.specs.Prelude.{◌≡◌, ℕ, ◌+◌, ◌<◌, ◌^◌, Bool, List, map, length, Some, Err, IfOk, OnOk, IfErr, IsTrue};
+ghost use Rattle.std.specs.Prelude.{◌≡◌, ◌↔◌, ℕ, ◌+◌, ◌<◌, ◌^◌, Bool, List, map, length, Some, Err, IfOk, OnOk, IfErr, IsTrue};
 ghost use Rattle.fort_theory.specs.Patterns.{PatternSystem};
 ghost use Rattle.fort_logic.specs.Cores as theory;
 ghost use Rattle.fort_logic.specs.Parts as logic;
@@ -29,7 +29,7 @@ use fort_check_steps::{
 };
 use fort_formulas::{Core, parts};
 use fort_steps::Step;
-use fort_terms::{Memory, System};
+use fort_terms::{Memory, System, has_numbers};
 use std::alloc::{AllocError, Global};
 
 /// The first form that fails, where it fails, and why.
@@ -58,18 +58,18 @@ pub struct Checker<'a> {
 }
 
 fn has_few(step: &Step) -> bool
-    ensures { IsTrue result → (k : ℕ) (targets : List ℕ) → as_step step.now ≡ Part k targets
-        → length targets < 2 ^ 32 }
+    ensures { IsTrue result ↔ ((k : ℕ) (targets : List ℕ) → as_step step.now ≡ Part k targets
+        → length targets < 2 ^ 32) }
 {
     match step {
-        Step::Part(_, targets) => targets.len() <= u32::MAX as usize,
+        Step::Part(_, targets) => has_numbers(targets.len()),
         _ => true,
     }
 }
 
 /// Whether each part has fewer targets than there are numbers.
 fn have_few(steps: &[Step]) -> bool
-    ensures { IsTrue result → HasFewTargets (map as_step steps.now) }
+    ensures { IsTrue result ↔ HasFewTargets (map as_step steps.now) }
 {
     for step in steps {
         if !has_few(step) {
@@ -77,6 +77,21 @@ fn have_few(steps: &[Step]) -> bool
         }
     }
     true
+}
+
+/// Whether there are numbers for the forms of these steps, of which so many stand in front, and for one more.
+fn has_forms(first: u32, steps: usize) -> bool
+    ensures { IsTrue result ↔ (first + steps + 1 < 2 ^ 32) }
+{
+    has_numbers((first as usize).saturating_add(steps).saturating_add(1))
+}
+
+/// Whether there are numbers for so many parts, for the forms of a certificate, and for the targets of each of its steps.
+fn has_all_numbers(parts: usize, first: u32, steps: &[Step]) -> bool
+    ensures { IsTrue result ↔ ((parts < 2 ^ 32) × (first + length steps.now + 1 < 2 ^ 32)
+        × HasFewTargets (map as_step steps.now)) }
+{
+    has_numbers(parts) && has_forms(first, steps.len()) && have_few(steps)
 }
 
 /// A step that fails, by the number of its form.
@@ -132,8 +147,7 @@ impl<'a> Checker<'a> {
     {
         let steps = certificate.steps.as_slice();
         let parts = parts(alloc, core)?;
-        let forms = (certificate.first as usize).saturating_add(steps.len());
-        if parts.len() > u32::MAX as usize || forms >= u32::MAX as usize || !have_few(steps) {
+        if !has_all_numbers(parts.len(), certificate.first, steps) {
             return Err(AllocError);
         }
         let dues = steps_due(alloc, system.number(), &parts)?;

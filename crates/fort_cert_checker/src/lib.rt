@@ -12,6 +12,3 @@ mod value;
 
 pub use checker::{Checker, Rejected};
 pub use fort_check_steps::Reason;
-
-#[cfg(test)]
-mod tests;

@@ -15,6 +15,7 @@ ghost use Rattle.fort_check_steps.specs.Marks.{HasMarkRoom};
 ghost use Rattle.fort_cert_checker.specs.Abouts.{IsOnlyAbout};
 ghost use Rattle.fort_cert_checker.specs.Plans.{AreParted, IsFitPart, IsPlanOf, IsWidthFor};
 ghost use Rattle.fort_cert_checker.specs.Pasts.{IsMarkRoomFor};
+ghost use Rattle.fort_cert_checker.specs.Fronts.{HasFewTargets};
 ghost use Rattle.fort_cert_checker.specs.Makings.{IsClosurePlan, IsClosureFor, IsScratchFor, AreClosuresMade, ArePlansMade, AreRoomsMade, IsScratchMade, AreMarksMade};
 
 use crate::about::targets_of;
@@ -38,7 +39,6 @@ pub(crate) struct ClosurePlan {
     pub listed: Vec<u64>,
 }
 
-/// More pairs than there are numbers for are want of memory.
 fn closure_plan(
     alloc: Global,
     system: &System,
@@ -49,10 +49,7 @@ fn closure_plan(
     ensures { IfOk result (IsClosurePlan system.now (as_which which) index) }
 {
     let rules = closure_rules(alloc, system, which, index)?;
-    let bits = match rules.rights.len().checked_mul(rules.lefts.len()) {
-        Some(bits) => bits,
-        None => return Err(AllocError),
-    };
+    let bits = rules.rights.len() * rules.lefts.len();
     let listed = vec![in alloc; 0u64; bits.div_ceil(64)]?;
     Ok(ClosurePlan { rules, listed })
 }
@@ -111,35 +108,29 @@ pub(crate) fn plans_of(
     Ok(plans)
 }
 
-/// The most states of the table of a source. More than there are numbers for are want of memory.
-fn states_of(steps: &[Step], source: Source) -> Result<usize, Memory>
-    ensures few { IfOk result (λ n. n < 2 ^ 32) }
-    ensures states { IfOk result (λ n. (targets : List ℕ)
-        → IsOnlyAbout (map as_step steps.now) (Part source.part targets)
-        → n ≡ most_states_lem targets) }
+/// The most states of the table of a source.
+fn states_of(steps: &[Step], source: Source) -> usize
+    requires { HasFewTargets (map as_step steps.now) }
+    ensures few { result < 2 ^ 32 }
+    ensures states { (targets : List ℕ) → IsOnlyAbout (map as_step steps.now)
+        (Part source.part targets) → result ≡ most_states_lem targets }
 {
-    let states = most_states(targets_of(steps, source.part));
-    if states > u32::MAX as usize {
-        return Err(AllocError);
-    }
-    Ok(states)
+    most_states(targets_of(steps, source.part))
 }
 
 /// The words of the labels of a part.
-fn width_of(steps: &[Step], plan: &Plan) -> Result<usize, Memory>
-    requires { (system : PatternSystem) × (parts : List theory.Core) × (k : ℕ)
-        × (f : theory.Core) × IsPlanOf system parts (map as_step steps.now) k f plan.now }
-    ensures some { IfOk result (λ width. 0 < width) }
-    ensures width { IfOk result (IsWidthFor (map as_step steps.now) plan.now.work) }
+fn width_of(steps: &[Step], plan: &Plan) -> usize
+    requires { HasFewTargets (map as_step steps.now) }
+    ensures { IsWidthFor (map as_step steps.now) plan.now.work result }
 {
     match &plan.work {
-        Work::Relation(labels) => Ok(labels.width()),
-        Work::Normal(labels) => Ok(labels.width()),
-        Work::Term => Ok(is_width()),
-        Work::Product(_, _, _) => Ok(3),
-        Work::Projection(source, _) => Ok(project_width(states_of(steps, *source)?)),
-        Work::Many(source, _, _) => Ok(many_width(states_of(steps, *source)?)),
-        Work::Truth | Work::Negation(_) => Ok(1),
+        Work::Relation(labels) => labels.width(),
+        Work::Normal(labels) => labels.width(),
+        Work::Term => is_width(),
+        Work::Product(_, _, _) => 3,
+        Work::Projection(source, _) => project_width(states_of(steps, *source)),
+        Work::Many(source, _, _) => many_width(states_of(steps, *source)),
+        Work::Truth | Work::Negation(_) => 1,
     }
 }
 
@@ -181,15 +172,16 @@ fn list_needs(steps: &[Step], plan: &Plan) -> (ListNeeds, ListNeeds)
     }
 }
 
-/// What the labels of part `k` need, and the lists of its operands.
+/// What the labels of part `k` need, and the lists of its operands. More words than there are numbers for are want of memory.
 fn label_needs(steps: &[Step], k: u32, plan: &Plan) -> Result<LabelNeeds, Memory>
-    requires { (system : PatternSystem) × (parts : List theory.Core) × (j : ℕ)
-        × (f : theory.Core) × IsPlanOf system parts (map as_step steps.now) j f plan.now }
+    requires { HasFewTargets (map as_step steps.now) }
     ensures { IfOk result (λ needs. (scratch : LabelRoom) → HasNeeds needs scratch
         → IsScratchFor (map as_step steps.now) k plan.now scratch) }
 {
-    let width = width_of(steps, plan)?;
-    let needs = LabelNeeds::new(width, most_states(targets_of(steps, k)))?;
+    let states = most_states(targets_of(steps, k));
+    let Some(needs) = LabelNeeds::new(width_of(steps, plan), states) else {
+        return Err(AllocError);
+    };
     let (first, second) = list_needs(steps, plan);
     Ok(needs.with_lists(first, second))
 }
@@ -201,8 +193,7 @@ pub(crate) fn scratch_for(
     plans: &[Plan],
 ) -> Result<LabelRoom, Memory>
     requires few { length plans.now < 2 ^ 32 }
-    requires plans { (system : PatternSystem) × (parts : List theory.Core)
-        × ArePlansMade system parts (map as_step steps.now) (length plans.now) plans.now }
+    requires few_targets { HasFewTargets (map as_step steps.now) }
     ensures { IfOk result (IsScratchMade (map as_step steps.now) plans.now (length plans.now)) }
 {
     let mut needs = LabelNeeds::default();
@@ -222,13 +213,12 @@ fn mark_room(alloc: Global, states: usize, marks: usize) -> Result<MarkRoom, Mem
 }
 
 fn marks_for(alloc: Global, steps: &[Step], plan: &Plan) -> Result<MarkRoom, Memory>
+    requires { HasFewTargets (map as_step steps.now) }
     ensures { IfOk result (IsMarkRoomFor (map as_step steps.now) plan.now.work) }
 {
     match &plan.work {
-        Work::Projection(source, _) => { mark_room(alloc, states_of(steps, *source)?, 0) }
-        Work::Many(source, _, marks) => {
-            mark_room(alloc, states_of(steps, *source)?, marks.len())
-        }
+        Work::Projection(source, _) => mark_room(alloc, states_of(steps, *source), 0),
+        Work::Many(source, _, marks) => mark_room(alloc, states_of(steps, *source), marks.len()),
         _ => mark_room(alloc, 0, 0),
     }
 }
@@ -239,6 +229,7 @@ pub(crate) fn mark_rooms(
     steps: &[Step],
     plans: &[Plan],
 ) -> Result<Vec<MarkRoom>, Memory>
+    requires { HasFewTargets (map as_step steps.now) }
     ensures { IfOk result (λ rooms. AreMarksMade (map as_step steps.now) plans.now
         (length plans.now) rooms.items) }
 {

@@ -11,7 +11,6 @@ pub mod PairSteps
 pub mod Marks
 pub mod DueView
 pub mod AtomLocals
-pub mod TestRule
 pub mod AtomLaws
 pub mod SparseWords
 pub mod SparseRowsView

@@ -1,5 +1,5 @@
 //! The steps that are due.
-ghost use Rattle.std.specs.Prelude.{◌≡◌, ◌<◌, ◌^◌, ◌++◌, map, IfOk, OnOk};
+ghost use Rattle.std.specs.Prelude.{◌≡◌, ◌<◌, ◌^◌, ◌++◌, map, length, IfOk, OnOk};
 ghost use Rattle.std.specs.List.{list_any};
 ghost use Rattle.fort_formulas.specs.CoreView.{as_core, as_rel};
 ghost use Rattle.fort_in_order.specs.Dues as definitions;
@@ -11,7 +11,7 @@ ghost use Rattle.fort_check_steps.specs.DueView.{as_due, same_due};
 use fort_formulas::{Core, Rel, free};
 use fort_steps::{Step, Which};
 use fort_terms::Memory;
-use std::alloc::{AllocError, Global};
+use std::alloc::Global;
 
 /// What a step is about: a closure of an index, or a part by its number.
 #[derive(Clone, Copy)]
@@ -173,14 +173,12 @@ fn push_part(alloc: Global, number: u32, core: &Core, dues: &mut Vec<DueStep>) -
     push_answer(alloc, number, core, dues)
 }
 
-/// The steps of all parts. Parts without a number are want of memory.
+/// The steps of all parts.
 fn push_parts(alloc: Global, parts: &[Core], dues: &mut Vec<DueStep>) -> Result<(), Memory>
+    requires { length parts.now < 2 ^ 32 }
     ensures { OnOk result (map as_due dues.new.items ≡ map as_due dues.old.items
         ++ parts_due 0 (map as_core parts.now)) }
 {
-    if parts.len() > u32::MAX as usize {
-        return Err(AllocError);
-    }
     for k in 0..parts.len() {
         push_part(alloc, k as u32, &parts[k], dues)?;
     }
@@ -189,7 +187,8 @@ fn push_parts(alloc: Global, parts: &[Core], dues: &mut Vec<DueStep>) -> Result<
 
 /// The steps that are due for a formula with these parts, over a system of so many indices.
 pub fn steps_due(alloc: Global, indices: u32, parts: &[Core]) -> Result<Vec<DueStep>, Memory>
-    requires { indices < 2 ^ 31 }
+    requires indices { indices < 2 ^ 31 }
+    requires parts { length parts.now < 2 ^ 32 }
     ensures { IfOk result (λ all. map as_due all.items
         ≡ definitions.dues indices (map as_core parts.now)) }
 {

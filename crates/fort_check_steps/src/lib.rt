@@ -32,8 +32,5 @@ pub use part::check_part;
 pub use part_rule::PartRule;
 pub use projected::Projected;
 pub use room::{LabelNeeds, LabelRoom, ListNeeds, ListRoom, PartRoom, most_states};
-pub use rules::{both_ways, closure_rules};
+pub use rules::closure_rules;
 pub use table::PartTable;
-
-#[cfg(test)]
-mod tests;

@@ -8,7 +8,7 @@ ghost use Rattle.fort_atom_labels.specs.PatternNumbers.{AreAt, IsNumberOf};
 ghost use Rattle.fort_check_steps.specs.NumberedView.{AreNumbersOf, AreRuleNumbers};
 
 use crate::numbered::{Numbered, RuleNumbers};
-use fort_terms::{Memory, Pattern};
+use fort_terms::{Memory, Pattern, has_numbers};
 use fort_tree_automata::place;
 use std::alloc::{AllocError, Global};
 
@@ -19,7 +19,7 @@ pub fn number_patterns(alloc: Global, patterns: &[Pattern]) -> Result<Vec<Number
     ensures numbers { IfOk result (λ rows.
         AreNumbersOf (map as_pattern patterns.now) rows.items) }
 {
-    if patterns.len() > u32::MAX as usize {
+    if !has_numbers(patterns.len()) {
         return Err(AllocError);
     }
     let mut rows = Vec::with_capacity(alloc, patterns.len())?;

@@ -1,5 +1,5 @@
 //! Room for the tables of parts, and for their check.
-ghost use Rattle.std.specs.Prelude.{◌≡◌, ℕ, IfOk};
+ghost use Rattle.std.specs.Prelude.{◌≡◌, ℕ, ◌↔◌, ◌*◌, ◌<◌, ◌≤◌, ◌^◌, IsTrue, IfOk, IfSome, IfNone};
 ghost use Rattle.fort_tables.specs.Entries.{stage};
 ghost use Rattle.fort_rrn_algebra.specs.TargetLists.{HasListRoom};
 ghost use Rattle.fort_check_steps.specs.Room.{HasRoom, IsAsLong, IsSpaceFor, IsAsNeedy, HasNeeds, most_states as most_states_lem};
@@ -110,27 +110,32 @@ impl ListNeeds {
     }
 }
 
+/// Whether there is a number for each start in a list of so many targets.
+fn has_starts(targets: usize) -> bool
+    ensures { IsTrue result ↔ (targets < 2 ^ 63) }
+{
+    targets <= MOST_TARGETS
+}
+
 /// The room for a list. More targets than there are numbers for are want of memory.
 fn list_for(alloc: Global, needs: ListNeeds) -> Result<TargetList, Memory>
     ensures { IfOk result (HasListRoom needs.states needs.targets) }
 {
-    if needs.targets > MOST_TARGETS {
+    if !has_starts(needs.targets) {
         return Err(AllocError);
     }
     TargetList::with_room(alloc, needs.states, needs.targets)
 }
 
 impl LabelNeeds {
-    /// What so many labels of this width need. More words than there are numbers for are want of memory.
-    pub fn new(width: usize, count: usize) -> Result<LabelNeeds, Memory>
-        ensures { IfOk result (IsSpaceFor width count) }
+    /// What so many labels of this width need, or none where there are more words than numbers for them.
+    pub fn new(width: usize, count: usize) -> Option<LabelNeeds>
+        ensures some { IfSome result (IsSpaceFor width count) }
+        ensures none { IfNone result (2 ^ 64 ≤ width * count) }
     {
-        let words = match width.checked_mul(count) {
-            Some(words) => words,
-            None => return Err(AllocError),
-        };
+        let words = width.checked_mul(count)?;
         if width > NARROW {
-            return Ok(LabelNeeds {
+            return Some(LabelNeeds {
                 width,
                 narrow: 0,
                 wide: words,
@@ -141,7 +146,7 @@ impl LabelNeeds {
                 second: ListNeeds::default(),
             });
         }
-        Ok(LabelNeeds {
+        Some(LabelNeeds {
             width,
             narrow: words,
             wide: 0,

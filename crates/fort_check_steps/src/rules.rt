@@ -1,5 +1,5 @@
 //! The rules of a closure, by numbers.
-ghost use Rattle.std.specs.Prelude.{◌≡◌, IfOk};
+ghost use Rattle.std.specs.Prelude.{◌≡◌, ◌↔◌, ◌<◌, IsTrue, IfOk};
 ghost use Rattle.fort_theory.specs.Sides.{IsIndexOf, at_index};
 ghost use Rattle.fort_terms.specs.BothWays.{both_ways as both_ways_lem};
 ghost use Rattle.fort_steps.specs.StepView.{as_which};
@@ -32,13 +32,20 @@ fn rules_of(alloc: Global, system: &System, index: u32) -> Result<PairRules, Mem
     })
 }
 
+/// Whether these are more rules than a system may have of an index that is taken both ways.
+fn has_too_many(rules: usize) -> bool
+    ensures { IsTrue result ↔ (4096 < rules) }
+{
+    rules > MOST_RULES
+}
+
 /// A system whose only index has the rules of this one, and then each from right to left. More rules than a system has are want of
 /// memory.
-pub fn both_ways(alloc: Global, system: &System, index: u32) -> Result<System, Memory>
+fn both_ways(alloc: Global, system: &System, index: u32) -> Result<System, Memory>
     requires { IsIndexOf system.now.rules index }
     ensures { IfOk result (λ s. s ≡ both_ways_lem system.now index) }
 {
-    if system.rules(index).len() > MOST_RULES {
+    if has_too_many(system.rules(index).len()) {
         return Err(AllocError);
     }
     system.both_ways(alloc, index)

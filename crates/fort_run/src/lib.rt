@@ -15,8 +15,6 @@ mod rejection;
 mod reply;
 mod sample;
 mod status;
-#[cfg(test)]
-mod tests;
 mod top;
 mod verdict;
 mod witness;

@@ -15,7 +15,7 @@ returns c = λ scratch has.
       width = c.in_ok-width.width;
       is_width = c.in_ok-width.ensures.width;
       sized = λ targets only.
-          subst (λ (ts : List ℕ). HasLabelRoom c.in_ok-width.width ts scratch) (c.targets_of.ensures targets only)
+          subst (λ (ts : List ℕ). HasLabelRoom c.in_ok-width.width ts scratch) (c.targets_of.ensures.own targets only)
           (has_label_room c.in_ok-width.width c.most_states.result c.targets_of.result.now made scratch space has (omega (arith, c.most_states.ensures)));
       lists = lists_needed (map as_step c.args.steps.now) c.args.plan.now.work made scratch
           (subst (λ (n : ListNeeds). AreNeedsOf (map as_step c.args.steps.now) c.args.plan.now.work n made.second) (sym c.with_lists.ensures.first)

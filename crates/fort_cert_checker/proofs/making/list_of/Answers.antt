@@ -4,7 +4,7 @@ use Rattle.fort_cert_checker.proofs.making.list_of.Goals as goal
 
 pub returns : goal.returns
 returns c = λ targets only.
-    let same = c.targets_of-targets.ensures targets only in
+    let same = c.targets_of-targets.ensures.own targets only in
     record {
       states = omega (arith, c.most_states.ensures, ap most_states same);
       targets_fit = omega (arith, ap length same);

@@ -11,7 +11,7 @@ pub returns-in_ok-states_of-in-Projection : goal.returns-in_ok-states_of-in-Proj
 returns-in_ok-states_of-in-Projection c =
     IfOk-weaker c.mark_room.result _ _ (λ r has.
     subst (λ (w : Work). IsMarkRoomFor (map as_step c.args.steps.now) w r) (sym c.in-Projection.is)
-    (λ targets only. subst (λ (n : ℕ). HasMarkRoom n 0 r) (c.in_ok-states_of-in-Projection.ensures.states targets only) has))
+    (λ targets only. subst (λ (n : ℕ). HasMarkRoom n 0 r) (c.states_of-in-Projection.ensures.states targets only) has))
     c.mark_room.ensures
 
 pub returns-in_ok-states_of-in-Many : goal.returns-in_ok-states_of-in-Many
@@ -21,5 +21,5 @@ returns-in_ok-states_of-in-Many c =
     subst (λ (w : Work). IsMarkRoomFor (map as_step c.args.steps.now) w r) (sym c.in-Many.is)
     (λ targets only.
     subst (λ (m : ℕ). HasMarkRoom (most_states targets) m r) count
-    (subst (λ (n : ℕ). HasMarkRoom n c.len.result r) (c.in_ok-states_of-in-Many.ensures.states targets only) has)))
+    (subst (λ (n : ℕ). HasMarkRoom n c.len.result r) (c.states_of-in-Many.ensures.states targets only) has)))
     c.mark_room-in-Many.ensures

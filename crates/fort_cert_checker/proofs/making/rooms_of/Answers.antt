@@ -8,7 +8,7 @@ use Rattle.fort_cert_checker.proofs.making.rooms_of.Goals as goal
 pub loop-k-preserved : goal.loop-k-preserved
 loop-k-preserved c =
     made_more (IsRoomFor (map as_step c.args.steps.now)) c.loop-k.k c.loop-k.rooms.items c.push.new.self.items c.in_ok-new.field-0 c.loop-k.invariant
-    (λ targets only. subst (λ (ts : List ℕ). HasRoom ts c.in_ok-new.field-0) (c.targets_of.ensures targets only) c.in_ok-new.ensures) c.in_ok-push.ensures.items
+    (λ targets only. subst (λ (ts : List ℕ). HasRoom ts c.in_ok-new.field-0) (c.targets_of.ensures.own targets only) c.in_ok-new.ensures) c.in_ok-push.ensures.items
 
 pub returns : goal.returns
 returns c = let e : c.loop-k.k ≡ c.args.parts = omega arith in subst (λ n. AreRoomsMade (map as_step c.args.steps.now) n c.loop-k.rooms.items) e c.loop-k.invariant

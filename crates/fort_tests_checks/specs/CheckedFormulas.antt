@@ -1,4 +1,4 @@
--- Inside: the formula that the tests check certificates of.
+-- Inside: the formula whose certificate is checked.
 use Rattle.fort_logic.specs.Cores.{Core, Star, Atom, Exists, Infinite}
 
 -- infinitely many x go to some y

@@ -1,4 +1,4 @@
--- The formula of the tests is closed, and may be decided.
+-- The formula whose certificate is checked is closed, and may be decided.
 use Rattle.std.specs.Prelude.{◌≡◌, length, Bool, true, false, not, ◌&&◌, ◌||◌, ◌==◌, refl}
 use Rattle.std.proofs.Common.{sym, subst, arith}
 use Rattle.fort_theory.specs.Patterns.{PatternSystem}
@@ -6,7 +6,7 @@ use Rattle.fort_logic.specs.Cores.{Core}
 use Rattle.fort_logic.specs.Parts.{IsClosed}
 use Rattle.fort_parts.specs.DecidedCores.{IsDecided}
 use Rattle.fort_parts.proofs.PartFacts.{IsWellFormed-few}
-use Rattle.fort_cert_checker.specs.TestFormulas.{many_reduced}
+use Rattle.fort_tests_checks.specs.CheckedFormulas.{many_reduced}
 
 pub IsDecided-many_reduced : (system : PatternSystem) → length system.rules ≡ 1 → (f : Core) → f ≡ many_reduced → IsDecided system f
 IsDecided-many_reduced system one f e =
