@@ -6,12 +6,12 @@ use Rattle.fort_formula_grammar.specs.Tokens.{Token, Open, Close, Comma, Nf, Joi
 use Rattle.fort_formula_grammar.specs.FormulaGrammar.{IsIndex, IsArgument, IsUnary, Named, NormalForm, Joinable, Compared}
 use Rattle.fort_formula_grammar.specs.Continuations.{HasNoNext, HasNoArgument, HasNoRelation}
 use Rattle.fort_formula_grammar.specs.Stuck.{StuckUnary, NfUnopened, NfWithoutArgument, NfUnclosed, JoinUnopened, JoinWithoutArgument, JoinOfOne, JoinHalf, JoinUnclosed, Unrelated, RelatedToNothing}
-use Rattle.fort_formulas.specs.FormulaView.{as_surface_rel, as_formula}
+use Rattle.fort_formulas.specs.FormulaView.{as_surface_rel}
 use Rattle.fort_formula_parser.specs.declared.token.Lexeme.{Lexeme}
 use Rattle.fort_formula_parser.specs.declared.cursor.Indexed.{Indexed}
 use Rattle.fort_formula_parser.specs.declared.cursor.Relation.{Relation}
 use Rattle.fort_formula_parser.specs.declared.reading.Reading.{Reading}
-use Rattle.fort_formula_parser.specs.Parsing.{rest_of, IsTokenAt, IsArgumentAt, IsIndexAt, IsRelationAt, IsParsed}
+use Rattle.fort_formula_parser.specs.Parsing.{rest_of, IsTokenAt, IsArgumentAt, IsIndexAt, IsRelationAt, IsMade, IsParsed}
 
 -- the token at a place, before what stands at the next
 pub rest_of-next : (lexemes : List Lexeme) (n m : ℕ) (t : Token) → IsTokenAt lexemes n t → n + 1 ≡ m → rest_of lexemes n ≡ t ∷ rest_of lexemes m
@@ -19,11 +19,13 @@ rest_of-next lexemes n m t h e = h.next ∙ ap (λ k. t ∷ rest_of lexemes k) e
 
 -- a reading of the tokens from a place, under which the formula was made
 pub IsParsed-unary : (lexemes : List Lexeme) (at : ℕ) (ts : List Token) (f : theory.Formula) (parsed : Reading) → at < parsed.next → parsed.next ≤ length lexemes
-    → rest_of lexemes at ≡ ts → as_formula parsed.formula ≡ f → IsUnary ts f (rest_of lexemes parsed.next) → IsParsed IsUnary lexemes at parsed
+    → rest_of lexemes at ≡ ts → IsMade parsed.made f → IsUnary ts f (rest_of lexemes parsed.next) → IsParsed IsUnary lexemes at parsed
 IsParsed-unary lexemes at ts f parsed further within e is u = record {
   further = further;
   within = within;
-  reads = subst (λ g. IsUnary (rest_of lexemes at) g (rest_of lexemes parsed.next)) (sym is) (subst (λ us. IsUnary us f (rest_of lexemes parsed.next)) (sym e) u);
+  formula = f;
+  reads = subst (λ us. IsUnary us f (rest_of lexemes parsed.next)) (sym e) u;
+  is_made = is;
 }
 
 -- an index, or an argument, and the token behind it
@@ -45,7 +47,7 @@ pub stuck_behind : (X : List Token → List Token → Type 0) (lexemes : List Le
 stuck_behind X lexemes at place t h le s = (le, subst (λ ts. X ts (rest_of lexemes place)) (sym h.next) s)
 
 pub IsParsed-property : (lexemes : List Lexeme) (at : ℕ) (p : Property) (found : Indexed) (parsed : Reading) → IsTokenAt lexemes at (Has p)
-    → IsIndexAt lexemes (at + 1) found → parsed.next ≡ found.next → as_formula parsed.formula ≡ theory.Has p found.index → IsParsed IsUnary lexemes at parsed
+    → IsIndexAt lexemes (at + 1) found → parsed.next ≡ found.next → IsMade parsed.made (theory.Has p found.index) → IsParsed IsUnary lexemes at parsed
 IsParsed-property lexemes at p found parsed h i e is =
     let further : at + 1 ≤ found.next = i.further in
     let within : found.next ≤ length lexemes = i.within in
@@ -58,7 +60,7 @@ module _ (lexemes : List Lexeme) (at : ℕ) (found : Indexed) (i : IsIndexAt lex
 
   pub IsParsed-normal_form : (a : Argument) (parsed : Reading) → IsTokenAt lexemes at Nf → IsTokenAt lexemes found.next Open
       → IsArgumentAt lexemes (found.next + 1) a → IsTokenAt lexemes (found.next + 2) Close → parsed.next ≡ found.next + 3
-      → as_formula parsed.formula ≡ theory.Nf a found.index → IsParsed IsUnary lexemes at parsed
+      → IsMade parsed.made (theory.Nf a found.index) → IsParsed IsUnary lexemes at parsed
   IsParsed-normal_form a parsed n opens x closes e is =
       let last : found.next + 2 < length lexemes = closes.within in
       IsParsed-unary lexemes at _ (theory.Nf a found.index) parsed (omega (arith, further)) (omega arith) n.next is
@@ -67,8 +69,7 @@ module _ (lexemes : List Lexeme) (at : ℕ) (found : Indexed) (i : IsIndexAt lex
 
   pub IsParsed-joinable : (a b : Argument) (parsed : Reading) → IsTokenAt lexemes at Join → IsTokenAt lexemes found.next Open
       → IsArgumentAt lexemes (found.next + 1) a → IsTokenAt lexemes (found.next + 2) Comma → IsArgumentAt lexemes (found.next + 3) b
-      → IsTokenAt lexemes (found.next + 4) Close → parsed.next ≡ found.next + 5 → as_formula parsed.formula ≡ theory.Join a b found.index
-      → IsParsed IsUnary lexemes at parsed
+      → IsTokenAt lexemes (found.next + 4) Close → parsed.next ≡ found.next + 5 → IsMade parsed.made (theory.Join a b found.index) → IsParsed IsUnary lexemes at parsed
   IsParsed-joinable a b parsed n opens x comma y closes e is =
       let last : found.next + 4 < length lexemes = closes.within in
       IsParsed-unary lexemes at _ (theory.Join a b found.index) parsed (omega (arith, further)) (omega arith) n.next is
@@ -137,15 +138,16 @@ module _ (lexemes : List Lexeme) (at : ℕ) (found : Indexed) (i : IsIndexAt lex
 
 pub IsParsed-compared : (lexemes : List Lexeme) (at : ℕ) (found : Relation) (a b : Argument) (parsed : Reading) → IsArgumentAt lexemes at a
     → IsRelationAt lexemes (at + 1) found → IsArgumentAt lexemes found.next b → parsed.next ≡ found.next + 1
-    → as_formula parsed.formula ≡ theory.Related (as_surface_rel found.rel) a b found.index → IsParsed IsUnary lexemes at parsed
+    → IsMade parsed.made (theory.Related (as_surface_rel found.rel) a b found.index) → IsParsed IsUnary lexemes at parsed
 IsParsed-compared lexemes at found a b parsed x r y e is =
     let further : at + 1 < found.next = r.further in
     let last : found.next < length lexemes = y.within in
     record {
       further = omega arith;
       within = omega arith;
-      reads = subst (λ f. IsUnary (rest_of lexemes at) f (rest_of lexemes parsed.next)) (sym is)
-          (Compared x.reads r.reads (argument_to lexemes found.next parsed.next b y (sym e)));
+      formula = theory.Related (as_surface_rel found.rel) a b found.index;
+      reads = Compared x.reads r.reads (argument_to lexemes found.next parsed.next b y (sym e));
+      is_made = is;
     }
 
 pub stuck_unrelated : (lexemes : List Lexeme) (at : ℕ) (a : Argument) → IsArgumentAt lexemes at a → HasNoRelation (rest_of lexemes (at + 1))
@@ -155,6 +157,3 @@ stuck_unrelated lexemes at a x none = let last : at < length lexemes = x.within 
 pub stuck_related : (lexemes : List Lexeme) (at : ℕ) (found : Relation) (a : Argument) → IsArgumentAt lexemes at a → IsRelationAt lexemes (at + 1) found
     → HasNoArgument (rest_of lexemes found.next) → (found.next ≤ length lexemes) × StuckUnary (rest_of lexemes at) (rest_of lexemes found.next)
 stuck_related lexemes at found a x r none = (r.within, RelatedToNothing x.reads r.reads none)
-
-pub same_arguments : (atom : Argument → Argument → theory.Formula) (a b x y : Argument) → a ≡ x → b ≡ y → atom a b ≡ atom x y
-same_arguments atom a b x y p q = ap (λ n. atom n b) p ∙ ap (atom x) q

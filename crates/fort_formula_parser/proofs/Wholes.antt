@@ -1,5 +1,5 @@
 -- From the tokens of a text to its formula or its first fault.
-use Rattle.std.proofs.Common.{◌≡◌, ℕ, ◌+◌, ◌^◌, ◌<◌, ◌≤◌, List, [], ◌∷◌, ◌++◌, length, get_or, take, drop, sym, ap, ◌∙◌, subst, arith}
+use Rattle.std.proofs.Common.{◌≡◌, ℕ, ◌+◌, ◌^◌, ◌<◌, ◌≤◌, List, [], ◌∷◌, ◌++◌, length, get_or, take, drop, Result, Ok, sym, ap, ◌∙◌, subst, arith}
 use Rattle.std.proofs.lemmas.List.{length-map, length-drop, drop_more, drop_all, take-append-drop, append_cancel_right}
 use Rattle.fort_logic.specs.Formulas as theory
 use Rattle.fort_formula_grammar.specs.Tokens.{Open}
@@ -8,15 +8,17 @@ use Rattle.fort_formula_grammar.specs.FormulaGrammar.{IsFormula}
 use Rattle.fort_formula_grammar.specs.Continuations.{continues_formula}
 use Rattle.fort_formula_grammar.specs.Stuck.{StuckWhole, BehindFormula}
 use Rattle.fort_formula_grammar.specs.FormulaText as fault
-use Rattle.fort_formula_grammar.specs.FormulaText.{most_tokens, AreShallow, GoesWrongAt, AtToken, AtEnd, IsFirstFormulaFault, Long, Deep, NoFormula, OpensTooMany}
+use Rattle.fort_formula_grammar.specs.FormulaText.{most_tokens, AreShallow, GoesWrongAt, AtToken, AtEnd, IsFormulaText, IsFirstFormulaFault, Long, Deep, NoFormula, OpensTooMany}
 use Rattle.fort_formula_grammar.proofs.StuckPlaces.{goes_wrong_at_token, goes_wrong_at_end}
+use Rattle.std.specs.declared.alloc.AllocError.{AllocError}
+use Rattle.fort_formulas.specs.declared.surface.Formula as code
 use Rattle.fort_formulas.specs.FormulaView.{as_formula}
 use Rattle.fort_formulas.specs.NumbersNeeded.{numbers_needed}
 use Rattle.fort_formula_parser.specs.declared.token.Lexeme.{Lexeme}
 use Rattle.fort_formula_parser.specs.declared.reading.Reading.{Reading}
 use Rattle.fort_formula_parser.specs.TokenView.{as_token, tokens_of}
 use Rattle.fort_formula_parser.specs.Places.{HavePlaces}
-use Rattle.fort_formula_parser.specs.Parsing.{rest_of, IsParsed, IsWholeFormula}
+use Rattle.fort_formula_parser.specs.Parsing.{rest_of, IsMade, IsParsed, IsWholeFormula, IsWhole}
 use Rattle.fort_formula_parser.proofs.FewNumbers.{IsFormula-few}
 use Rattle.fort_formula_parser.proofs.PlacesLaws.{tokens_of-at}
 
@@ -31,8 +33,34 @@ stuck_behind_formula lexemes p h lt =
     let here = drop_more (tokens_of lexemes) p.next Open (omega (arith, size, lt)) in (
       h.within,
       subst (λ us. StuckWhole (tokens_of lexemes) us) (sym here)
-          (BehindFormula (subst (λ us. IsFormula (tokens_of lexemes) (as_formula p.formula) us) here h.reads.0) (ap continues_formula (sym here) ∙ h.reads.1)),
+          (BehindFormula (subst (λ us. IsFormula (tokens_of lexemes) h.formula us) here h.reads.0) (ap continues_formula (sym here) ∙ h.reads.1)),
     )
+
+-- a formula up to the end
+pub IsWhole-parsed : (lexemes : List Lexeme) (p : Reading) → IsParsed IsWholeFormula lexemes 0 p → length lexemes ≤ p.next → IsWhole lexemes p.made
+IsWhole-parsed lexemes p h le =
+    let end : rest_of lexemes p.next ≡ [] = drop_all p.next (tokens_of lexemes) (omega (arith, tokens_of-length lexemes, le)) in record {
+      formula = h.formula;
+      reads = subst (λ us. IsFormula (tokens_of lexemes) h.formula us) end h.reads.0;
+      is_made = h.is_made;
+    }
+
+-- the formula that was made of all tokens
+pub IsFormula-made : (lexemes : List Lexeme) (made : Result code.Formula AllocError) (g : code.Formula) → IsWhole lexemes made → made ≡ Ok g
+    → IsFormula (tokens_of lexemes) (as_formula g) []
+IsFormula-made lexemes made g w e =
+    let same : as_formula g ≡ w.formula = subst (λ m. IsMade m w.formula) e w.is_made in subst (λ f. IsFormula (tokens_of lexemes) f []) (sym same) w.reads
+
+pub IsFormulaText-tokens : (text : List ℕ) (lexemes : List Lexeme) (f : theory.Formula) → AreTokensOf text (tokens_of lexemes) → length lexemes ≤ most_tokens
+    → AreShallow (tokens_of lexemes) → IsFormula (tokens_of lexemes) f [] → IsFormulaText text f
+IsFormulaText-tokens text lexemes f read le shallow whole =
+    let size = tokens_of-length lexemes in record {
+      tokens = tokens_of lexemes;
+      read = read;
+      few = omega (arith, size, le);
+      shallow = shallow;
+      formula = whole;
+    }
 
 pub too_long : (text : List ℕ) (lexemes : List Lexeme) → AreTokensOf text (tokens_of lexemes) → most_tokens < length lexemes → IsFirstFormulaFault text fault.TooLong
 too_long text lexemes read lt = let size = tokens_of-length lexemes in Long (tokens_of lexemes) read (omega (arith, size, lt))

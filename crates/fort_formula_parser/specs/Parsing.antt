@@ -1,14 +1,15 @@
 -- Inside: what reading a part of the tokens gives, seen by the relations of the grammar.
-use Rattle.std.specs.Prelude.{◌≡◌, ℕ, ◌+◌, ◌^◌, ◌<◌, ◌≤◌, false, List, ◌∷◌, length, drop, slice_index_or}
+use Rattle.std.specs.Prelude.{◌≡◌, ℕ, ◌+◌, ◌^◌, ◌<◌, ◌≤◌, false, List, [], ◌∷◌, length, drop, slice_index_or, Result, IfOk}
+use Rattle.std.specs.declared.alloc.AllocError.{AllocError}
 use Rattle.fort_logic.specs.Formulas as theory
 use Rattle.fort_logic.specs.Formulas.{Formula}
 use Rattle.fort_formula_grammar.specs.Tokens.{Token, Open, Close, Ground}
 use Rattle.fort_formula_grammar.specs.FormulaGrammar as grammar
 use Rattle.fort_formula_grammar.specs.FormulaGrammar.{IsIndex, IsArgument, IsRelation, IsFormula, IsImplication, IsDisjunction, IsConjunction}
 use Rattle.fort_formula_grammar.specs.Continuations.{continues_formula, continues_implication, continues_disjunction, continues_conjunction}
+use Rattle.fort_formulas.specs.declared.surface.Formula as code
 use Rattle.fort_formulas.specs.FormulaView.{as_surface_rel, as_formula}
 use Rattle.fort_formula_parser.specs.declared.stuck.Stuck.{Stuck}
-use Rattle.fort_formula_parser.specs.declared.stuck.Stuck.TheVariants as stuck
 use Rattle.fort_formula_parser.specs.declared.cursor.Argument.{Argument}
 use Rattle.fort_formula_parser.specs.declared.cursor.Argument.TheVariants as argument
 use Rattle.fort_formula_parser.specs.declared.cursor.Indexed.{Indexed}
@@ -30,21 +31,40 @@ pub record IsTokenAt (lexemes : List Lexeme) (at : ℕ) (token : Token) : Type 0
   pub within : at < length lexemes
   pub next : rest_of lexemes at ≡ token ∷ rest_of lexemes (at + 1)
 
--- from the place on the tokens are this kind of formula, up to where the reading goes on
+-- this formula was made, or memory was wanted for it
+abbrev pub IsMade : Result code.Formula AllocError → Formula → Type 0
+IsMade made f = IfOk made (λ g. as_formula g ≡ f)
+
+-- from the place on the tokens are this kind of formula, up to where the reading goes on, and it was made, or memory was wanted
 pub record IsParsed (kind : List Token → Formula → List Token → Type 0) (lexemes : List Lexeme) (at : ℕ) (reading : Reading) : Type 0 where
   pub further : at < reading.next
   pub within : reading.next ≤ length lexemes
-  pub reads : kind (rest_of lexemes at) (as_formula reading.formula) (rest_of lexemes reading.next)
+  pub formula : Formula
+  pub reads : kind (rest_of lexemes at) formula (rest_of lexemes reading.next)
+  pub is_made : IsMade reading.made formula
 
 -- the formula that was made, and where its tokens end
 pub record IsReadAs (f : Formula) (next : ℕ) (reading : Reading) : Type 0 where
-  pub formula : as_formula reading.formula ≡ f
+  pub is_made : IsMade reading.made f
   pub place : reading.next ≡ next
 
--- want of memory, or the place up to which a reading of this kind comes
+-- a reading that is made of another one, and ends there
+abbrev pub IsBuilt : (Formula → Formula) → Reading → Reading → Type 0
+IsBuilt build inner reading = (f : Formula) → IsMade inner.made f → IsReadAs (build f) inner.next reading
+
+-- a reading that is made of two others, and ends where the second one does
+abbrev pub IsJoined : (Formula → Formula → Formula) → Reading → Reading → Reading → Type 0
+IsJoined join left right reading = (f g : Formula) → IsMade left.made f → IsMade right.made g → IsReadAs (join f g) right.next reading
+
+-- all tokens are a formula, and it was made, or memory was wanted
+pub record IsWhole (lexemes : List Lexeme) (made : Result code.Formula AllocError) : Type 0 where
+  pub formula : Formula
+  pub reads : IsFormula (tokens_of lexemes) formula []
+  pub is_made : IsMade made formula
+
+-- a reading of this kind comes up to the place
 abbrev pub IsStuckAt : (List Token → List Token → Type 0) → List Lexeme → ℕ → Stuck → Type 0
-IsStuckAt kind lexemes at stuck.Memory = Unit {0}
-IsStuckAt kind lexemes at (stuck.At place) = (place ≤ length lexemes) × kind (rest_of lexemes at) (rest_of lexemes place)
+IsStuckAt kind lexemes at stuck = (stuck.0 ≤ length lexemes) × kind (rest_of lexemes at) (rest_of lexemes stuck.0)
 
 abbrev pub argument_of : Argument → theory.Argument
 argument_of (argument.Variable x) = theory.Var x.now

@@ -3,9 +3,10 @@
 ghost use Rattle.std.specs.Prelude.{◌≡◌, ◌<◌, length, IfOk, IfErr};
 ghost use Rattle.fort_formula_grammar.specs.Tokens as grammar;
 ghost use Rattle.fort_formula_grammar.specs.FormulaGrammar.{IsUnary};
-ghost use Rattle.fort_formulas.specs.FormulaView.{as_property};
+ghost use Rattle.fort_logic.specs.Formulas as theory;
+ghost use Rattle.fort_formulas.specs.FormulaView.{as_property, as_surface_rel};
 ghost use Rattle.fort_formula_grammar.specs.Stuck.{StuckUnary};
-ghost use Rattle.fort_formula_parser.specs.Parsing.{AreFewGrounds, IsTokenAt, IsParsed, IsStuckAt, IsArgumentAt, argument_of};
+ghost use Rattle.fort_formula_parser.specs.Parsing.{AreFewGrounds, IsTokenAt, IsParsed, IsStuckAt, IsMade, IsArgumentAt, argument_of};
 
 use crate::cursor::{
     Argument, Indexed, Mark, Relation, argument_at, index_at, is_next, relation_at,
@@ -13,8 +14,8 @@ use crate::cursor::{
 use crate::reading::{Reading, arg_of};
 use crate::stuck::Stuck;
 use crate::token::Lexeme;
-use fort_formulas::{Formula, Macro};
-use std::alloc::Global;
+use fort_formulas::{Formula, Macro, SurfaceRel};
+use std::alloc::{AllocError, Global};
 
 /// A property with its index, at whose first token it is.
 pub(crate) fn property_formula(lexemes: &[Lexeme], at: usize, property: Macro) -> Reading
@@ -23,9 +24,15 @@ pub(crate) fn property_formula(lexemes: &[Lexeme], at: usize, property: Macro) -
 {
     let Indexed { index, next } = index_at(lexemes, at + 1);
     Reading {
-        formula: Formula::Macro(property, index),
+        made: Ok(Formula::Macro(property, index)),
         next,
     }
+}
+
+fn nf(alloc: Global, x: Argument, index: u32) -> Result<Formula, AllocError>
+    ensures { IsMade result (theory.Nf (argument_of x.entry) index) }
+{
+    Ok(Formula::Nf(arg_of(alloc, x)?, index))
 }
 
 /// `NF ( x )`, at whose first token it is.
@@ -37,18 +44,24 @@ pub(crate) fn normal_form(alloc: Global, lexemes: &[Lexeme], at: usize) -> Resul
 {
     let Indexed { index, next } = index_at(lexemes, at + 1);
     if !is_next(lexemes, next, Mark::Open) {
-        return Err(Stuck::At(next));
+        return Err(Stuck(next));
     }
     let Some(x) = argument_at(lexemes, next + 1) else {
-        return Err(Stuck::At(next + 1));
+        return Err(Stuck(next + 1));
     };
     if !is_next(lexemes, next + 2, Mark::Close) {
-        return Err(Stuck::At(next + 2));
+        return Err(Stuck(next + 2));
     }
     Ok(Reading {
-        formula: Formula::Nf(arg_of(alloc, x)?, index),
+        made: nf(alloc, x, index),
         next: next + 3,
     })
+}
+
+fn join(alloc: Global, x: Argument, y: Argument, index: u32) -> Result<Formula, AllocError>
+    ensures { IsMade result (theory.Join (argument_of x.entry) (argument_of y.entry) index) }
+{
+    Ok(Formula::Join(arg_of(alloc, x)?, arg_of(alloc, y)?, index))
 }
 
 /// `JOIN ( x , y )`, at whose first token it is.
@@ -60,24 +73,37 @@ pub(crate) fn joinable(alloc: Global, lexemes: &[Lexeme], at: usize) -> Result<R
 {
     let Indexed { index, next } = index_at(lexemes, at + 1);
     if !is_next(lexemes, next, Mark::Open) {
-        return Err(Stuck::At(next));
+        return Err(Stuck(next));
     }
     let Some(x) = argument_at(lexemes, next + 1) else {
-        return Err(Stuck::At(next + 1));
+        return Err(Stuck(next + 1));
     };
     if !is_next(lexemes, next + 2, Mark::Comma) {
-        return Err(Stuck::At(next + 2));
+        return Err(Stuck(next + 2));
     }
     let Some(y) = argument_at(lexemes, next + 3) else {
-        return Err(Stuck::At(next + 3));
+        return Err(Stuck(next + 3));
     };
     if !is_next(lexemes, next + 4, Mark::Close) {
-        return Err(Stuck::At(next + 4));
+        return Err(Stuck(next + 4));
     }
     Ok(Reading {
-        formula: Formula::Join(arg_of(alloc, x)?, arg_of(alloc, y)?, index),
+        made: join(alloc, x, y, index),
         next: next + 5,
     })
+}
+
+fn related(
+    alloc: Global,
+    rel: SurfaceRel,
+    x: Argument,
+    y: Argument,
+    index: u32,
+) -> Result<Formula, AllocError>
+    ensures { IsMade result (theory.Related (as_surface_rel rel)
+        (argument_of x.entry) (argument_of y.entry) index) }
+{
+    Ok(Formula::Rel(rel, arg_of(alloc, x)?, arg_of(alloc, y)?, index))
 }
 
 /// `x -> y` with any relation, at whose first argument it is.
@@ -93,13 +119,13 @@ pub(crate) fn compared(
     ensures err { IfErr result (IsStuckAt StuckUnary lexemes.now at) }
 {
     let Some(Relation { rel, index, next }) = relation_at(lexemes, at + 1) else {
-        return Err(Stuck::At(at + 1));
+        return Err(Stuck(at + 1));
     };
     let Some(y) = argument_at(lexemes, next) else {
-        return Err(Stuck::At(next));
+        return Err(Stuck(next));
     };
     Ok(Reading {
-        formula: Formula::Rel(rel, arg_of(alloc, x)?, arg_of(alloc, y)?, index),
+        made: related(alloc, rel, x, y, index),
         next: next + 1,
     })
 }

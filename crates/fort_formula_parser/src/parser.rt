@@ -3,7 +3,8 @@
 ghost use Rattle.std.specs.Prelude.{◌≡◌, ◌+◌, ◌^◌, ◌<◌, ◌≤◌, length, IfOk, IfErr};
 ghost use Rattle.fort_formula_grammar.specs.FormulaGrammar.{IsUnary, IsBound};
 ghost use Rattle.fort_formula_grammar.specs.Stuck.{StuckUnary, StuckBinders, StuckConjunction, StuckDisjunction, StuckImplication, StuckFormula, StuckBody};
-ghost use Rattle.fort_formula_parser.specs.Parsing.{AreFewGrounds, IsParsed, IsStuckAt, IsWholeFormula, IsWholeImplication, IsWholeDisjunction, IsWholeConjunction, IsBody, as_quantifier};
+ghost use Rattle.fort_formulas.specs.FormulaView.{as_formula};
+ghost use Rattle.fort_formula_parser.specs.Parsing.{AreFewGrounds, IsMade, IsParsed, IsStuckAt, IsWholeFormula, IsWholeImplication, IsWholeDisjunction, IsWholeConjunction, IsBody, as_quantifier};
 
 use crate::atom::{compared, joinable, normal_form, property_formula};
 use crate::cursor::{Mark, argument_at, is_next, variable_at};
@@ -27,9 +28,9 @@ pub(crate) fn formula(alloc: Global, lexemes: &[Lexeme], at: usize) -> Result<Re
     }
     let right = implication(alloc, lexemes, left.next + 1)?;
     if is_next(lexemes, right.next, Mark::Iff) {
-        return Err(Stuck::At(right.next));
+        return Err(Stuck(right.next));
     }
-    joined(alloc, Connective::Iff, left, right)
+    Ok(joined(alloc, Connective::Iff, left, right))
 }
 
 /// The longest implication that begins at a place.
@@ -45,7 +46,7 @@ fn implication(alloc: Global, lexemes: &[Lexeme], at: usize) -> Result<Reading, 
         return Ok(premise);
     }
     let conclusion = implication(alloc, lexemes, premise.next + 1)?;
-    joined(alloc, Connective::Imp, premise, conclusion)
+    Ok(joined(alloc, Connective::Imp, premise, conclusion))
 }
 
 /// The longest disjunction that begins at a place.
@@ -59,7 +60,7 @@ fn disjunction(alloc: Global, lexemes: &[Lexeme], at: usize) -> Result<Reading, 
     let mut left = conjunction(alloc, lexemes, at)?;
     'more: while is_next(lexemes, left.next, Mark::Or) {
         let right = conjunction(alloc, lexemes, left.next + 1)?;
-        left = joined(alloc, Connective::Or, left, right)?;
+        left = joined(alloc, Connective::Or, left, right);
     }
     Ok(left)
 }
@@ -75,7 +76,7 @@ fn conjunction(alloc: Global, lexemes: &[Lexeme], at: usize) -> Result<Reading, 
     let mut left = unary(alloc, lexemes, at)?;
     'more: while is_next(lexemes, left.next, Mark::And) {
         let right = unary(alloc, lexemes, left.next + 1)?;
-        left = joined(alloc, Connective::And, left, right)?;
+        left = joined(alloc, Connective::And, left, right);
     }
     Ok(left)
 }
@@ -89,17 +90,17 @@ fn unary(alloc: Global, lexemes: &[Lexeme], at: usize) -> Result<Reading, Stuck>
     ensures err { IfErr result (IsStuckAt StuckUnary lexemes.now at) }
 {
     let Some(lexeme) = lexemes.get(at) else {
-        return Err(Stuck::At(at));
+        return Err(Stuck(at));
     };
     match lexeme.token {
-        Token::Not => negated(alloc, unary(alloc, lexemes, at + 1)?),
+        Token::Not => Ok(negated(alloc, unary(alloc, lexemes, at + 1)?)),
         Token::Exists => binders(alloc, lexemes, at + 1, Quantifier::Exists),
         Token::Forall => binders(alloc, lexemes, at + 1, Quantifier::Forall),
         Token::Infinite => {
             let Some(x) = variable_at(lexemes, at + 1) else {
-                return Err(Stuck::At(at + 1));
+                return Err(Stuck(at + 1));
             };
-            infinite(alloc, x, enclosed(alloc, lexemes, at + 2)?)
+            Ok(infinite(alloc, x, enclosed(alloc, lexemes, at + 2)?))
         }
         Token::Open => enclosed(alloc, lexemes, at),
         Token::True => Ok(constant(Formula::True, at)),
@@ -110,7 +111,7 @@ fn unary(alloc: Global, lexemes: &[Lexeme], at: usize) -> Result<Reading, Stuck>
         Token::Join => joinable(alloc, lexemes, at),
         _ => {
             let Some(x) = argument_at(lexemes, at) else {
-                return Err(Stuck::At(at));
+                return Err(Stuck(at));
             };
             compared(alloc, lexemes, at, x)
         }
@@ -120,11 +121,11 @@ fn unary(alloc: Global, lexemes: &[Lexeme], at: usize) -> Result<Reading, Stuck>
 /// A formula of one token.
 fn constant(formula: Formula, at: usize) -> Reading
     requires { at + 1 < 2 ^ 64 }
-    ensures formula { result.formula ≡ formula }
+    ensures made { IsMade result.made (as_formula formula) }
     ensures next { result.next ≡ at + 1 }
 {
     Reading {
-        formula,
+        made: Ok(formula),
         next: at + 1,
     }
 }
@@ -143,14 +144,14 @@ fn binders(
     ensures err { IfErr result (IsStuckAt StuckBinders lexemes.now at) }
 {
     let Some(x) = variable_at(lexemes, at) else {
-        return Err(Stuck::At(at));
+        return Err(Stuck(at));
     };
     if is_next(lexemes, at + 1, Mark::Comma) {
         let others = binders(alloc, lexemes, at + 2, quantifier)?;
-        return bound(alloc, quantifier, x, others);
+        return Ok(bound(alloc, quantifier, x, others));
     }
     let body = enclosed(alloc, lexemes, at + 1)?;
-    bound(alloc, quantifier, x, body)
+    Ok(bound(alloc, quantifier, x, body))
 }
 
 /// The formula in parentheses that begins at a place.
@@ -162,14 +163,14 @@ fn enclosed(alloc: Global, lexemes: &[Lexeme], at: usize) -> Result<Reading, Stu
     ensures err { IfErr result (IsStuckAt StuckBody lexemes.now at) }
 {
     if !is_next(lexemes, at, Mark::Open) {
-        return Err(Stuck::At(at));
+        return Err(Stuck(at));
     }
-    let Reading { formula, next } = formula(alloc, lexemes, at + 1)?;
+    let Reading { made, next } = formula(alloc, lexemes, at + 1)?;
     if !is_next(lexemes, next, Mark::Close) {
-        return Err(Stuck::At(next));
+        return Err(Stuck(next));
     }
     Ok(Reading {
-        formula,
+        made,
         next: next + 1,
     })
 }

@@ -1,8 +1,6 @@
 use Rattle.std.proofs.Common.{refl}
-use Rattle.fort_logic.specs.Formulas as theory
-use Rattle.fort_formulas.specs.FormulaView.{as_argument, as_surface_rel}
 use Rattle.fort_formula_parser.specs.Parsing.{argument_of}
-use Rattle.fort_formula_parser.proofs.Atoms.{IsParsed-compared, same_arguments, stuck_unrelated, stuck_related}
+use Rattle.fort_formula_parser.proofs.Atoms.{IsParsed-compared, stuck_unrelated, stuck_related}
 use Rattle.fort_formula_parser.proofs.atom.compared.Goals as goal
 
 pub returns-in_default-clause-err : goal.returns-in_default-clause-err
@@ -17,5 +15,4 @@ returns-clause-ok c =
     let found = c.in-Some.field-0 in
     let x = argument_of c.args.x in
     let y = argument_of c.in-Some-argument_at.y in
-    IsParsed-compared c.args.lexemes.now c.args.at found x y _ c.requires.here c.in-Some.ensures c.in-Some-argument_at.ensures refl
-    (same_arguments (λ a b. theory.Related (as_surface_rel found.rel) a b found.index) (as_argument c.in_ok-arg_of.field-0) (as_argument c.in_ok-arg_of-2.field-0) x y c.in_ok-arg_of.ensures.ok c.in_ok-arg_of-2.ensures.ok)
+    IsParsed-compared c.args.lexemes.now c.args.at found x y _ c.requires.here c.in-Some.ensures c.in-Some-argument_at.ensures refl c.related.ensures

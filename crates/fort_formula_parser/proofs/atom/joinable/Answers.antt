@@ -1,8 +1,6 @@
 use Rattle.std.proofs.Common.{refl}
-use Rattle.fort_logic.specs.Formulas as theory
-use Rattle.fort_formulas.specs.FormulaView.{as_argument}
 use Rattle.fort_formula_parser.specs.Parsing.{argument_of}
-use Rattle.fort_formula_parser.proofs.Atoms.{IsParsed-joinable, same_arguments, stuck_join_unopened, stuck_join_empty, stuck_join_of_one, stuck_join_half, stuck_join_unclosed}
+use Rattle.fort_formula_parser.proofs.Atoms.{IsParsed-joinable, stuck_join_unopened, stuck_join_empty, stuck_join_of_one, stuck_join_half, stuck_join_unclosed}
 use Rattle.fort_formula_parser.proofs.atom.joinable.Goals as goal
 
 pub returns-then-not-is_next-clause-err : goal.returns-then-not-is_next-clause-err
@@ -30,9 +28,8 @@ returns-then-not-is_next-3-clause-err c =
 
 pub returns-clause-ok : goal.returns-clause-ok
 returns-clause-ok c =
-    let index = c.index_at-index.result.index in
     let x = argument_of c.in-Some.x in
     let y = argument_of c.in-Some-argument_at.y in
     IsParsed-joinable c.args.lexemes.now c.args.at c.index_at-index.result c.index_at-index.ensures x y _ c.requires.here
     c.if-not-is_next.ensures c.in-Some.ensures c.if-not-is_next-2.ensures c.in-Some-argument_at.ensures c.if-not-is_next-3.ensures refl
-    (same_arguments (λ a b. theory.Join a b index) (as_argument c.in_ok-arg_of.field-0) (as_argument c.in_ok-arg_of-2.field-0) x y c.in_ok-arg_of.ensures.ok c.in_ok-arg_of-2.ensures.ok)
+    c.join.ensures

@@ -1,5 +1,4 @@
-use Rattle.std.proofs.Common.{refl, ap}
-use Rattle.fort_logic.specs.Formulas as theory
+use Rattle.std.proofs.Common.{refl}
 use Rattle.fort_formula_parser.specs.Parsing.{argument_of}
 use Rattle.fort_formula_parser.proofs.Atoms.{IsParsed-normal_form, stuck_nf_unopened, stuck_nf_empty, stuck_nf_unclosed}
 use Rattle.fort_formula_parser.proofs.atom.normal_form.Goals as goal
@@ -20,4 +19,4 @@ returns-then-not-is_next-2-clause-err c =
 pub returns-clause-ok : goal.returns-clause-ok
 returns-clause-ok c =
     IsParsed-normal_form c.args.lexemes.now c.args.at c.index_at-index.result c.index_at-index.ensures (argument_of c.in-Some.x) _ c.requires.here
-    c.if-not-is_next.ensures c.in-Some.ensures c.if-not-is_next-2.ensures refl (ap (λ a. theory.Nf a c.index_at-index.result.index) c.in_ok-arg_of.ensures.ok)
+    c.if-not-is_next.ensures c.in-Some.ensures c.if-not-is_next-2.ensures refl c.nf.ensures

@@ -1,11 +1,11 @@
-use Rattle.std.proofs.Common.{◌+◌, refl, ap, subst, ◌∙◌}
+use Rattle.std.proofs.Common.{◌≡◌, ◌+◌, ◌<◌, ◌≤◌, length, refl, ap, subst, ◌∙◌, arith}
 use Rattle.std.proofs.lemmas.Result.{err_from_is_err_and, IfOk-weaker, IfErr-weaker}
 use Rattle.fort_logic.specs.Formulas as theory
 use Rattle.fort_formula_grammar.specs.Tokens.{Open, Not, Exists, Forall, Infinite, True, False, Nf, Join, Has, Com}
 use Rattle.fort_formula_grammar.specs.FormulaGrammar.{Truth, Falsity, Commuting}
 use Rattle.fort_formula_grammar.specs.Continuations.{HasNoArgument}
 use Rattle.fort_formula_grammar.specs.Stuck.{starts_unary, StuckFormula, OnTheLeft, StuckImplication, InPremise, StuckDisjunction, InFirstOr, StuckConjunction, InFirstAnd, StuckUnary, StuckBinders, StuckBody}
-use Rattle.fort_formulas.specs.FormulaView.{as_property, as_formula}
+use Rattle.fort_formulas.specs.FormulaView.{as_property}
 use Rattle.fort_formula_parser.specs.TokenView.{as_token}
 use Rattle.fort_formula_parser.specs.Parsing.{as_quantifier}
 use Rattle.fort_formula_parser.proofs.Cursors.{rest_of-at, rest_of-end, IsTokenAt-lexeme}
@@ -33,10 +33,8 @@ formula-returns-then-is_next-clause-err t c =
 
 pub formula-returns-clause-ok : goal.formula-returns-clause-ok
 formula-returns-clause-ok t c =
-    IfOk-weaker c.joined.result _ _
-    (λ p built. formula-joined c.args.lexemes.now c.args.at c.in_ok-left.left c.in_ok-right.right p c.in_ok-left.ensures.ok c.if-not-is_next.ensures c.in_ok-right.ensures.ok
-    c.if-is_next.ensures built)
-    c.joined.ensures.ok
+    formula-joined c.args.lexemes.now c.args.at c.in_ok-left.left c.in_ok-right.right c.joined.result c.in_ok-left.ensures.ok c.if-not-is_next.ensures c.in_ok-right.ensures.ok
+    c.if-is_next.ensures c.joined.ensures
 
 pub implication-returns-in_err-premise-clause-err : goal.implication-returns-in_err-premise-clause-err
 implication-returns-in_err-premise-clause-err t c =
@@ -54,10 +52,8 @@ implication-returns-in_err-conclusion-clause-err t c =
 
 pub implication-returns-clause-ok : goal.implication-returns-clause-ok
 implication-returns-clause-ok t c =
-    IfOk-weaker c.joined.result _ _
-    (λ p built. implication-joined c.args.lexemes.now c.args.at c.in_ok-premise.premise c.in_ok-conclusion.conclusion p c.in_ok-premise.ensures.ok c.if-not-is_next.ensures c.in_ok-conclusion.ensures.ok
-    built)
-    c.joined.ensures.ok
+    implication-joined c.args.lexemes.now c.args.at c.in_ok-premise.premise c.in_ok-conclusion.conclusion c.joined.result c.in_ok-premise.ensures.ok c.if-not-is_next.ensures c.in_ok-conclusion.ensures.ok
+    c.joined.ensures
 
 pub disjunction-returns-in_err-left-clause-err : goal.disjunction-returns-in_err-left-clause-err
 disjunction-returns-in_err-left-clause-err t c =
@@ -75,7 +71,7 @@ disjunction-returns-in_err-right-clause-err t c =
 
 pub disjunction-more-preserved : goal.disjunction-more-preserved
 disjunction-more-preserved t c =
-    disjunction-more c.args.lexemes.now c.args.at c.more.left c.in_ok-right.right c.in_ok-left-2.left c.more.invariant c.more-test.ensures c.in_ok-right.ensures.ok c.in_ok-left-2.ensures.ok
+    disjunction-more c.args.lexemes.now c.args.at c.more.left c.in_ok-right.right c.joined-left.result c.more.invariant c.more-test.ensures c.in_ok-right.ensures.ok c.joined-left.ensures
 
 pub conjunction-returns-in_err-left-clause-err : goal.conjunction-returns-in_err-left-clause-err
 conjunction-returns-in_err-left-clause-err t c =
@@ -93,15 +89,15 @@ conjunction-returns-in_err-right-clause-err t c =
 
 pub conjunction-more-preserved : goal.conjunction-more-preserved
 conjunction-more-preserved t c =
-    conjunction-more c.args.lexemes.now c.args.at c.more.left c.in_ok-right.right c.in_ok-left-2.left c.more.invariant c.more-test.ensures c.in_ok-right.ensures.ok c.in_ok-left-2.ensures.ok
+    conjunction-more c.args.lexemes.now c.args.at c.more.left c.in_ok-right.right c.joined-left.result c.more.invariant c.more-test.ensures c.in_ok-right.ensures.ok c.joined-left.ensures
 
 pub enclosed-returns-then-not-is_next-2-clause-err : goal.enclosed-returns-then-not-is_next-2-clause-err
 enclosed-returns-then-not-is_next-2-clause-err t c =
-    stuck_unclosed c.args.lexemes.now c.args.at c.in_ok-formula.field-0 c.if-not-is_next.ensures c.in_ok-formula.ensures.ok c.if-not-is_next-2.ensures
+    stuck_unclosed c.args.lexemes.now c.args.at c.in_ok-made.field-0 c.if-not-is_next.ensures c.in_ok-made.ensures.ok c.if-not-is_next-2.ensures
 
 pub enclosed-returns-clause-ok : goal.enclosed-returns-clause-ok
 enclosed-returns-clause-ok t c =
-    IsParsed-body c.args.lexemes.now c.args.at c.in_ok-formula.field-0 _ c.if-not-is_next.ensures c.in_ok-formula.ensures.ok c.if-not-is_next-2.ensures refl refl
+    IsParsed-body c.args.lexemes.now c.args.at c.in_ok-made.field-0 _ c.if-not-is_next.ensures c.in_ok-made.ensures.ok c.if-not-is_next-2.ensures refl refl
 
 pub binders-returns-in_err-others-clause-err : goal.binders-returns-in_err-others-clause-err
 binders-returns-in_err-others-clause-err t c =
@@ -110,10 +106,8 @@ binders-returns-in_err-others-clause-err t c =
 
 pub binders-returns-then-is_next-clause-ok : goal.binders-returns-then-is_next-clause-ok
 binders-returns-then-is_next-clause-ok t c =
-    IfOk-weaker c.bound.result _ _
-    (λ p built. IsParsed-more_binders c.args.lexemes.now c.args.at (as_quantifier c.args.quantifier) c.in-Some.x.now c.in_ok-others.others p c.in-Some.ensures c.if-is_next.ensures
-    c.in_ok-others.ensures.ok built)
-    c.bound.ensures.ok
+    IsParsed-more_binders c.args.lexemes.now c.args.at (as_quantifier c.args.quantifier) c.in-Some.x.now c.in_ok-others.others c.bound.result c.in-Some.ensures c.if-is_next.ensures
+    c.in_ok-others.ensures.ok c.bound.ensures
 
 pub binders-returns-in_err-body-clause-err : goal.binders-returns-in_err-body-clause-err
 binders-returns-in_err-body-clause-err t c =
@@ -122,9 +116,7 @@ binders-returns-in_err-body-clause-err t c =
 
 pub binders-returns-clause-ok : goal.binders-returns-clause-ok
 binders-returns-clause-ok t c =
-    IfOk-weaker c.bound-2.result _ _
-    (λ p built. IsParsed-last_binder c.args.lexemes.now c.args.at (as_quantifier c.args.quantifier) c.in-Some.x.now c.in_ok-body.body p c.in-Some.ensures c.in_ok-body.ensures.ok built)
-    c.bound-2.ensures.ok
+    IsParsed-last_binder c.args.lexemes.now c.args.at (as_quantifier c.args.quantifier) c.in-Some.x.now c.in_ok-body.body c.bound-2.result c.in-Some.ensures c.in_ok-body.ensures.ok c.bound-2.ensures
 
 pub unary-returns-in_default-clause-err : goal.unary-returns-in_default-clause-err
 unary-returns-in_default-clause-err t c =
@@ -150,9 +142,7 @@ pub unary-returns-in_ok-unary-in-Not-clause-ok : goal.unary-returns-in_ok-unary-
 unary-returns-in_ok-unary-in-Not-clause-ok t c =
     let at = c.in-Some.ensures.lookup.3 in
     let next = IsTokenAt-lexeme c.args.lexemes.now c.args.at c.in-Some.lexeme.now Not at.0 at.1 (ap as_token c.in-Not.is) in
-    IfOk-weaker c.negated.result _ _
-    (λ p built. IsParsed-negated c.args.lexemes.now c.args.at c.in_ok-unary-in-Not.field-0 p next c.in_ok-unary-in-Not.ensures.ok built)
-    c.negated.ensures.ok
+    IsParsed-negated c.args.lexemes.now c.args.at c.in_ok-unary-in-Not.field-0 c.negated.result next c.in_ok-unary-in-Not.ensures.ok c.negated.ensures
 
 pub unary-returns-in-Exists-clause-ok : goal.unary-returns-in-Exists-clause-ok
 unary-returns-in-Exists-clause-ok t c =
@@ -195,10 +185,8 @@ pub unary-returns-in_ok-enclosed-in-Infinite-clause-ok : goal.unary-returns-in_o
 unary-returns-in_ok-enclosed-in-Infinite-clause-ok t c =
     let at = c.in-Some.ensures.lookup.3 in
     let next = IsTokenAt-lexeme c.args.lexemes.now c.args.at c.in-Some.lexeme.now Infinite at.0 at.1 (ap as_token c.in-Infinite.is) in
-    IfOk-weaker c.infinite.result _ _
-    (λ p built. IsParsed-infinite c.args.lexemes.now c.args.at c.in-Some-variable_at.x.now c.in_ok-enclosed-in-Infinite.field-0 p next c.in-Some-variable_at.ensures
-    c.in_ok-enclosed-in-Infinite.ensures.ok built)
-    c.infinite.ensures.ok
+    IsParsed-infinite c.args.lexemes.now c.args.at c.in-Some-variable_at.x.now c.in_ok-enclosed-in-Infinite.field-0 c.infinite.result next c.in-Some-variable_at.ensures
+    c.in_ok-enclosed-in-Infinite.ensures.ok c.infinite.ensures
 
 pub unary-returns-in-Open-clause-ok : goal.unary-returns-in-Open-clause-ok
 unary-returns-in-Open-clause-ok t c =
@@ -214,19 +202,19 @@ pub unary-returns-in-True-clause-ok : goal.unary-returns-in-True-clause-ok
 unary-returns-in-True-clause-ok t c =
     let at = c.in-Some.ensures.lookup.3 in
     let next = IsTokenAt-lexeme c.args.lexemes.now c.args.at c.in-Some.lexeme.now True at.0 at.1 (ap as_token c.in-True.is) in
-    IsParsed-constant c.args.lexemes.now c.args.at True theory.True c.constant.result next (λ us. Truth) (ap as_formula c.constant.ensures.formula) c.constant.ensures.next
+    IsParsed-constant c.args.lexemes.now c.args.at True theory.True c.constant.result next (λ us. Truth) c.constant.ensures.made c.constant.ensures.next
 
 pub unary-returns-in-False-clause-ok : goal.unary-returns-in-False-clause-ok
 unary-returns-in-False-clause-ok t c =
     let at = c.in-Some.ensures.lookup.3 in
     let next = IsTokenAt-lexeme c.args.lexemes.now c.args.at c.in-Some.lexeme.now False at.0 at.1 (ap as_token c.in-False.is) in
-    IsParsed-constant c.args.lexemes.now c.args.at False theory.False c.constant-in-False.result next (λ us. Falsity) (ap as_formula c.constant-in-False.ensures.formula) c.constant-in-False.ensures.next
+    IsParsed-constant c.args.lexemes.now c.args.at False theory.False c.constant-in-False.result next (λ us. Falsity) c.constant-in-False.ensures.made c.constant-in-False.ensures.next
 
 pub unary-returns-in-Com-clause-ok : goal.unary-returns-in-Com-clause-ok
 unary-returns-in-Com-clause-ok t c =
     let at = c.in-Some.ensures.lookup.3 in
     let next = IsTokenAt-lexeme c.args.lexemes.now c.args.at c.in-Some.lexeme.now Com at.0 at.1 (ap as_token c.in-Com.is) in
-    IsParsed-constant c.args.lexemes.now c.args.at Com theory.Com c.constant-in-Com.result next (λ us. Commuting) (ap as_formula c.constant-in-Com.ensures.formula) c.constant-in-Com.ensures.next
+    IsParsed-constant c.args.lexemes.now c.args.at Com theory.Com c.constant-in-Com.result next (λ us. Commuting) c.constant-in-Com.ensures.made c.constant-in-Com.ensures.next
 
 pub unary-property_formula-requires : goal.unary-property_formula-requires
 unary-property_formula-requires t c =
@@ -246,11 +234,29 @@ unary-joinable-requires t c =
 pub enclosed-returns-then-not-is_next-clause-err : goal.enclosed-returns-then-not-is_next-clause-err
 enclosed-returns-then-not-is_next-clause-err t c = stuck_unopened c.args.lexemes.now c.args.at c.requires.within c.if-not-is_next.ensures
 
-pub enclosed-returns-in_err-formula-clause-err : goal.enclosed-returns-in_err-formula-clause-err
-enclosed-returns-in_err-formula-clause-err t c =
+pub enclosed-returns-in_err-made-clause-err : goal.enclosed-returns-in_err-made-clause-err
+enclosed-returns-in_err-made-clause-err t c =
     let p = err_from_is_err_and c.from_residual.result c.from_residual.ensures.1 in
-    handed_on StuckFormula StuckBody c.args.lexemes.now (c.args.at + 1) c.args.at c.from_residual.result p.0 c.in_err-formula.field-0.0
-    (stuck_inside c.args.lexemes.now c.args.at c.if-not-is_next.ensures) p.1 p.2 c.in_err-formula.ensures.err
+    handed_on StuckFormula StuckBody c.args.lexemes.now (c.args.at + 1) c.args.at c.from_residual.result p.0 c.in_err-made.field-0.0
+    (stuck_inside c.args.lexemes.now c.args.at c.if-not-is_next.ensures) p.1 p.2 c.in_err-made.ensures.err
 
 pub binders-returns-in_default-clause-err : goal.binders-returns-in_default-clause-err
 binders-returns-in_default-clause-err t c = stuck_no_binder c.args.lexemes.now c.args.at c.requires.within c.in_default.ensures
+
+pub conjunction-more-smaller : goal.conjunction-more-smaller
+conjunction-more-smaller t c =
+    let left = c.more.invariant in
+    let right = c.in_ok-right.ensures.ok in
+    let further : c.more.left.next + 1 < c.in_ok-right.right.next = right.further in
+    let within : c.in_ok-right.right.next ≤ length c.args.lexemes.now = right.within in
+    let place : c.joined-left.result.next ≡ c.in_ok-right.right.next = (c.joined-left.ensures left.formula right.formula left.is_made right.is_made).place in
+    omega (arith, further, within, place)
+
+pub disjunction-more-smaller : goal.disjunction-more-smaller
+disjunction-more-smaller t c =
+    let left = c.more.invariant in
+    let right = c.in_ok-right.ensures.ok in
+    let further : c.more.left.next + 1 < c.in_ok-right.right.next = right.further in
+    let within : c.in_ok-right.right.next ≤ length c.args.lexemes.now = right.within in
+    let place : c.joined-left.result.next ≡ c.in_ok-right.right.next = (c.joined-left.ensures left.formula right.formula left.is_made right.is_made).place in
+    omega (arith, further, within, place)
