@@ -1,15 +1,14 @@
 -- To believe: an atom with the patterns of its rules' sides and the entries of a closure; the test that the entries make, and the labels by it.
-use Rattle.std.specs.Prelude.{◌≡◌, ℕ, List, [], ◌++◌, map, Option, true, Bool}
-use Rattle.fort_theory.specs.Patterns.{Pattern, Pair, PatternSystem}
-use Rattle.fort_theory.specs.PatternOrder.{AreSubpatternsInOrder}
+use Rattle.std.specs.Prelude.{◌≡◌, ℕ, List, [], ◌++◌, map, Option, true, false, Bool}
+use Rattle.fort_theory.specs.Patterns.{Pattern, Pair}
 use Rattle.fort_logic.specs.Cores.{Rel}
 use Rattle.fort_tables.specs.Labels.{Labelling}
 use Rattle.fort_tables.specs.LabelRules.{label_of}
-use Rattle.fort_alike.specs.Atoms.{kind_for, pairs_for, relation_atom}
+use Rattle.fort_alike.specs.Atoms.{kind_for, pairs_for}
 use Rattle.fort_alike.specs.Alike.{is_reaching}
-use Rattle.fort_atom_labels.specs.ListedAtoms.{ListedAtom, listed}
+use Rattle.fort_atom_labels.specs.ListedAtoms.{ListedAtom}
 use Rattle.fort_atom_labels.specs.AtomRules.{atom_rule, bit_in, first_step, second_step}
-use Rattle.fort_atom_labels.specs.ClosureTests.{closure_test, ListsClosure}
+use Rattle.fort_atom_labels.specs.ClosureTests.{closure_test}
 use Rattle.fort_agtt.specs.declared.agtt.Agtt.{Agtt}
 use Rattle.fort_agtt.specs.RootSteps.{HasRootSteps}
 use Rattle.fort_gtt_closure.specs.declared.entry.Entry.{Entry}
@@ -29,17 +28,13 @@ test_of c = closure_test c.atom.rights c.atom.lefts (numbers_of c.entries)
 abbrev pub closed_label : ClosedAtom → Labelling
 closed_label c = label_of (atom_rule c.atom (test_of c))
 
--- of a relation that asks for it: the entries list exactly the closure of the rules, over the patterns of their sides in order
-abbrev pub ListsClosureFor : PatternSystem → Rel → (index : ℕ) → List Entry → Type 0
-ListsClosureFor system rel index es =
-    is_reaching (kind_for rel) ≡ true → (lefts rights : List Pattern)
-    → AreSubpatternsInOrder (map (λ (pair : Pair). pair.0) (relation_atom system rel index 0 0 []).pairs) lefts
-    → AreSubpatternsInOrder (map (λ (pair : Pair). pair.1) (relation_atom system rel index 0 0 []).pairs) rights
-    → ListsClosure (listed (relation_atom system rel index 0 0 []) lefts rights) (numbers_of es)
-
 -- of a reduction or a conversion: the entries are those that passes over a transducer of the rules' root steps make
 abbrev pub ListsPasses : Rel → List Pair → List Entry → Type 0
 ListsPasses rel pairs es = is_reaching (kind_for rel) ≡ true → (agtt : Agtt) × HasRootSteps (pairs_for rel pairs) agtt × IsListOfPasses agtt es
+
+-- of any other relation: there are none
+abbrev pub ListsNone : Rel → List Entry → Type 0
+ListsNone rel es = is_reaching (kind_for rel) ≡ false → es ≡ []
 
 -- the bits of the patterns at a node with these roots
 abbrev pub pattern_bits : ClosedAtom → (x y : Option ℕ) → List (List ℕ) → List Bool

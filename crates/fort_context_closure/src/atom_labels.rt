@@ -8,14 +8,14 @@ ghost use Rattle.fort_logic.specs.Cores as cores;
 ghost use Rattle.fort_logic.specs.Parts as parts;
 ghost use Rattle.fort_formulas.specs.CoreView.{as_rel};
 ghost use Rattle.fort_alike.specs.Atoms.{relation_atom, normal_atom};
-ghost use Rattle.fort_context_closure.specs.ClosedAtoms.{ListsClosureFor, ListsPasses};
+ghost use Rattle.fort_context_closure.specs.ClosedAtoms.{ListsNone, ListsPasses};
 
 use crate::normal::NormalBits;
 use crate::relation::RelationBits;
 use crate::term_labels::TermLabels;
 use fort_explore::{Labeller, Rows};
 use fort_formulas::Rel;
-use fort_gtt_closure::{Closed, Entry};
+use fort_gtt_closure::Entry;
 use fort_lockstep::Row;
 use fort_terms::{Memory, System, Term};
 use std::alloc::Global;
@@ -65,45 +65,9 @@ impl AtomLabels {
             → AcceptsMet s (cores.Atom (as_rel rel) index x y) columns l) }
         ensures closure { IfOk result (λ l. ListsPasses (as_rel rel)
             (at_index index system.now.rules) (entries_of l)) }
+        ensures no_closure { IfOk result (λ l. ListsNone (as_rel rel) (entries_of l)) }
     {
         Ok(AtomLabels::Relation(RelationBits::new(alloc, system, index, rel, x, y)?))
-    }
-
-    /// The same, by a closure that is handed in. It serves where the entries list exactly the closure of the rules.
-    pub fn atom_with_closure(
-        alloc: Global,
-        system: &System,
-        index: u32,
-        rel: Rel,
-        x: u32,
-        y: u32,
-        closed: Closed,
-    ) -> Result<AtomLabels, Memory>
-        requires index { IsIndexOf system.now.rules index }
-        requires listed { ListsClosureFor system.now (as_rel rel) index closed.entries.items }
-        ensures columns { IfOk result (λ l. (columns : List ℕ)
-            → parts.AreColumns (cores.Atom (as_rel rel) index x y) columns
-            → column_count l ≡ length columns) }
-        ensures alike { IfOk result (λ l. (columns : List ℕ)
-            → parts.AreColumns (cores.Atom (as_rel rel) index x y) columns
-            → TellsAlike system.now.signature
-            (relation_atom system.now (as_rel rel) index x y columns) l) }
-        ensures accepted { IfOk result (λ l. (columns : List ℕ)
-            → parts.AreColumns (cores.Atom (as_rel rel) index x y) columns
-            → AcceptsTrue system.now.signature
-            (relation_atom system.now (as_rel rel) index x y columns) l) }
-        ensures related { IfOk result (λ l. (columns : List ℕ)
-            → parts.AreColumns (cores.Atom (as_rel rel) index x y) columns
-            → AcceptsRelated system.now (as_rel rel) index x y columns l) }
-        ensures truth { IfOk result (λ l. (s : sides.System) (columns : List ℕ)
-            → system.now ≡ pattern_system s → All (All sides.IsLinearSeparated) s.rules
-            → parts.AreColumns (cores.Atom (as_rel rel) index x y) columns
-            → AcceptsMet s (cores.Atom (as_rel rel) index x y) columns l) }
-        ensures closure { IfOk result (λ l. entries_of l ≡ closed.entries.items) }
-    {
-        Ok(AtomLabels::Relation(RelationBits::with_closure(
-            alloc, system, index, rel, x, y, closed,
-        )?))
     }
 
     /// The entries of the rules' closure by which a reduction or a conversion is told, in their order; none of the other labels.
@@ -128,6 +92,7 @@ impl AtomLabels {
         ensures truth { IfOk result (λ l. (s : sides.System) (x : ℕ)
             → system.now ≡ pattern_system s → All (All sides.IsLinearSeparated) s.rules
             → AcceptsMet s (cores.Nf index x) (x ∷ []) l) }
+        ensures no_closure { IfOk result (λ l. entries_of l ≡ []) }
     {
         Ok(AtomLabels::Normal(NormalBits::new(alloc, system, index)?))
     }
@@ -139,6 +104,7 @@ impl AtomLabels {
             → TellsAlikeAtTerm sig term.now l) }
         ensures accepted { IfOk result (λ l. (sig : theory.Signature)
             → AcceptsTerm sig term.now l) }
+        ensures no_closure { IfOk result (λ l. entries_of l ≡ []) }
     {
         Ok(AtomLabels::Is(TermLabels::new(alloc, term)?))
     }

@@ -1,5 +1,5 @@
 //! The closure of some rules: which right pattern reaches which left pattern.
-ghost use Rattle.std.specs.Prelude.{◌<◌, ◌^◌, IfOk, Contains, length, map};
+ghost use Rattle.std.specs.Prelude.{◌↔◌, ◌<◌, ◌^◌, IfOk, IsTrue, Contains, length, map};
 ghost use Rattle.fort_theory.specs.Patterns as theory;
 ghost use Rattle.fort_terms.specs.PatternView.{as_pair, as_pattern};
 ghost use Rattle.fort_tree_automata.specs.PatternMoves.{IsClosedInOrder};
@@ -12,7 +12,7 @@ ghost use Rattle.fort_context_closure.specs.Closures.{IsClosureOf, IsTransducerO
 use crate::rule_list::RuleList;
 use fort_agtt::Agtt;
 use fort_gtt_closure::{Closed, close};
-use fort_terms::{Memory, Pattern};
+use fort_terms::{Memory, Pattern, has_numbers};
 use fort_tree_automata::{pattern_automaton, place};
 use std::alloc::{AllocError, Global};
 
@@ -33,20 +33,23 @@ fn transducer(alloc: Global, list: &RuleList) -> Result<Agtt, Memory>
     ensures named { IfOk result NamesItsStates }
     ensures numbered { IfOk result IsNumbered }
 {
-    let most = u32::MAX as usize;
-    if list.lefts.len() > most {
-        return Err(AllocError);
-    }
-    if list.rights.len() > most {
-        return Err(AllocError);
-    }
-    if list.rules.len() > most {
+    if !have_numbers(list) {
         return Err(AllocError);
     }
     let left = pattern_automaton(alloc, &list.lefts)?;
     let right = pattern_automaton(alloc, &list.rights)?;
     let pairs = places(alloc, &list.rules, &list.lefts, &list.rights)?;
     Ok(Agtt { left, right, pairs })
+}
+
+/// Whether the rules and the patterns of both sides have numbers.
+fn have_numbers(list: &RuleList) -> bool
+    ensures { IsTrue result ↔ ((length list.now.lefts.items < 2 ^ 32)
+        × (length list.now.rights.items < 2 ^ 32) × (length list.now.rules.items < 2 ^ 32)) }
+{
+    has_numbers(list.lefts.len())
+        && has_numbers(list.rights.len())
+        && has_numbers(list.rules.len())
 }
 
 /// The places of the two sides of each rule.

@@ -15,7 +15,7 @@ use crate::bits::{add_mark, has_mark, put_mark};
 use crate::rooted::Rooted;
 use fort_explore::Rows;
 use fort_lockstep::Row;
-use fort_terms::{Memory, Pattern, Sym};
+use fort_terms::{Memory, Pattern, Sym, has_numbers};
 use fort_tree_automata::place;
 use std::alloc::{AllocError, Global};
 use std::marker::Model;
@@ -53,7 +53,7 @@ pub(crate) fn number_patterns(alloc: Global, patterns: &[Pattern]) -> Result<Vec
     ensures numbers { IfOk result (λ rows.
         AreNumbersOf (map as_pattern patterns.now) rows.items) }
 {
-    if patterns.len() > u32::MAX as usize {
+    if !has_numbers(patterns.len()) {
         return Err(AllocError);
     }
     let mut rows = Vec::with_capacity(alloc, patterns.len())?;

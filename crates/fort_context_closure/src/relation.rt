@@ -10,7 +10,7 @@ ghost use Rattle.fort_alike.specs.Alike.{is_reaching};
 ghost use Rattle.fort_atom_labels.specs.AtomRules.{marks_of, atom_rule, atom_accepts};
 ghost use Rattle.fort_context_closure.specs.RowBits.{HasBits, labels_at};
 ghost use Rattle.fort_context_closure.specs.PlainAtoms.{IsRelationAtomOf, IsOfRules, IsByPairs};
-ghost use Rattle.fort_context_closure.specs.ClosedAtoms.{ListsClosureFor, ListsPasses, numbers_of, pattern_bits, test_of};
+ghost use Rattle.fort_context_closure.specs.ClosedAtoms.{ListsNone, ListsPasses, numbers_of, pattern_bits, test_of};
 ghost use Rattle.fort_context_closure.specs.Closures.{IsClosureOf};
 ghost use Rattle.fort_context_closure.specs.ReachRows.{IsReach};
 ghost use Rattle.fort_context_closure.specs.RuleLists.{ListsRules};
@@ -86,32 +86,12 @@ impl RelationBits {
         ensures atom { IfOk result (IsRelationAtomOf system.now (as_rel rel) index x y) }
         ensures passes { IfOk result (λ c. ListsPasses (as_rel rel)
             (at_index index system.now.rules) c.entries) }
+        ensures none { IfOk result (λ c. ListsNone (as_rel rel) c.entries) }
     {
-        // A system keeps to the law of systems.
+        // Fetches the law that a system keeps to.
         let _lawful = system.signature();
         let list = rules_of(alloc, system, index, rel)?;
         let closed = closure_for(alloc, rel, &list)?;
-        RelationBits::of_rules(alloc, rel, x, y, list, closed)
-    }
-
-    /// By a closure that is handed in.
-    pub(crate) fn with_closure(
-        alloc: Global,
-        system: &System,
-        index: u32,
-        rel: Rel,
-        x: u32,
-        y: u32,
-        closed: Closed,
-    ) -> Result<RelationBits, Memory>
-        requires index { IsIndexOf system.now.rules index }
-        requires listed { ListsClosureFor system.now (as_rel rel) index closed.entries.items }
-        ensures atom { IfOk result (IsRelationAtomOf system.now (as_rel rel) index x y) }
-        ensures entries { IfOk result (λ c. c.entries ≡ closed.entries.items) }
-    {
-        // A system keeps to the law of systems.
-        let _lawful = system.signature();
-        let list = rules_of(alloc, system, index, rel)?;
         RelationBits::of_rules(alloc, rel, x, y, list, closed)
     }
 
@@ -309,11 +289,12 @@ fn entries_of(alloc: Global, pairs: &[(u32, u32)]) -> Result<Vec<Entry>, Memory>
     Ok(entries)
 }
 
-/// The closure of the rules where the relation is about reductions.
+/// The closure of the rules where the relation is about reductions, else an empty list.
 fn closure_for(alloc: Global, rel: Rel, list: &RuleList) -> Result<Closed, Memory>
     requires { ListsRules (map as_pair list.now.rules.items) list.now }
-    ensures { IfOk result (λ closed. is_reaching (kind_for (as_rel rel)) ≡ true
+    ensures exact { IfOk result (λ closed. is_reaching (kind_for (as_rel rel)) ≡ true
         → IsClosureOf list.now closed.entries.items) }
+    ensures none { IfOk result (λ closed. ListsNone (as_rel rel) closed.entries.items) }
 {
     if !is_reduction(rel) {
         return Ok(Closed {

@@ -27,3 +27,6 @@ returns-clause-truth c s columns same apart are =
 
 pub returns-clause-closure : goal.returns-clause-closure
 returns-clause-closure c = c.in_ok-new.ensures.passes
+
+pub returns-clause-no_closure : goal.returns-clause-no_closure
+returns-clause-no_closure c = c.in_ok-new.ensures.none

@@ -1,4 +1,4 @@
-use Rattle.std.proofs.Common.{List, map, sym, subst}
+use Rattle.std.proofs.Common.{List, map, sym, ◌∙◌, subst}
 use Rattle.std.proofs.lemmas.Result.{IfOk-weaker}
 use Rattle.fort_theory.specs.Sides.{at_index}
 use Rattle.fort_theory.specs.Patterns.{Pair}
@@ -32,7 +32,7 @@ returns-clause-atom c =
     (λ columns are e.
     ListsClosure-passes (relation_atom system rel c.args.index c.args.x c.args.y columns) list es
     (IsListedAtom-relation system lawful c.args.index rel c.args.x c.args.y columns are (map as_pattern list.lefts.items) (map as_pattern list.rights.items)
-    lists.left_order lists.right_order) lists (c.in_ok-closed.ensures e)))
+    lists.left_order lists.right_order) lists (c.in_ok-closed.ensures.exact e)))
     c.of_rules.ensures
 
 pub returns-clause-passes : goal.returns-clause-passes
@@ -41,6 +41,9 @@ returns-clause-passes c =
     let list = c.in_ok-list.list in
     IfOk-weaker c.of_rules.result _ _
     (λ cl made e.
-    let w = c.in_ok-closed.ensures e in
+    let w = c.in_ok-closed.ensures.exact e in
     (w.agtt, root_steps_of pairs list c.in_ok-list.ensures w.agtt w.is, subst (IsListOfPasses w.agtt) (sym made.1) w.passes))
     c.of_rules.ensures
+
+pub returns-clause-none : goal.returns-clause-none
+returns-clause-none c = IfOk-weaker c.of_rules.result _ _ (λ cl made e. made.1 ∙ c.in_ok-closed.ensures.none e) c.of_rules.ensures
