@@ -91,6 +91,7 @@ pub true_certificate : (f : Formula) (p : System) (system : PatternSystem) (term
     → system ≡ pattern_system p → IsPosed Certificate f system terms c → IsAnswerTo (pattern_structure system) c (OfValue r.verdict)
     → ((first : ℕ) → IsWritten system c (as_certificate first r)) → AllByRecursion HasSmallNumbers (map as_step r.steps.items)
     → number ≡ length system.rules → text ≡ certificate_text number r.verdict (map as_step r.steps.items) → IsTrueCertificate p terms f positive text
+unfolding certificate_says
 true_certificate f p system terms c r number text lawful same posed answer written numbers count spelled = record {
   written = certificate_says f p system terms c r number text same posed written numbers count spelled;
   truth = value_truth f system terms c posed p lawful same r.verdict answer;
