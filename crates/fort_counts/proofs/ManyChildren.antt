@@ -17,6 +17,16 @@ use Rattle.fort_counts.proofs.TellsLaws.{FindsMany}
 use Rattle.fort_counts.proofs.PureStateLaws.{pure_from_term}
 use Rattle.fort_counts.proofs.PureSearchLaws.{pure_from_test, test_from_pure}
 
+-- what a label says of the terms that there are, whatever tells which are infinitely many
+pub record TellsGiven (body : Table) (c : ℕ) (t : Tuple) (w : List ℕ) : Type 0 where
+  pub width : length w ≡ words_for (2 * length body.presences) + 2
+  pub first : get_or w 0 0 ≡ presence t
+  pub absent : absent_state w ≡ state_of body (insert t c None)
+  pub given : (q : ℕ) → q < length body.presences → (has_state w q ≡ true) ↔ Gives body c t q
+
+abbrev pub TellsKids : Table → ℕ → Labelling → Tuple → Type 0
+TellsKids body c label t = (j : ℕ) → j < kid_count t → TellsGiven body c (kid t j) (label (kid t j))
+
 -- what a label says, with the terms and the bounds at hand
 pub record FindsTerms (body : Table) (c : ℕ) (t : Tuple) (w : List ℕ) : Type 0 where
   pub width : length w ≡ words_for (2 * length body.presences) + 2
@@ -30,6 +40,9 @@ pub record FindsTerms (body : Table) (c : ℕ) (t : Tuple) (w : List ℕ) : Type
 abbrev pub FindsKids : Table → ℕ → Labelling → Tuple → Type 0
 FindsKids body c label t = (j : ℕ) → j < kid_count t → FindsTerms body c (kid t j) (label (kid t j))
 
+pub told_kids : (body : Table) (c : ℕ) (label : Labelling) (t : Tuple) → FindsKids body c label t → TellsKids body c label t
+told_kids body c label t known j l = let k = known j l in record { width = k.width; first = k.first; absent = k.absent; given = k.given }
+
 -- a state that may stand as a child, in terms of the tuple
 pub record MayStand (body : Table) (c a : ℕ) (t : Tuple) (j k : ℕ) : Type 0 where
   pub given : j < a → Gives body c (kid t j) k
@@ -38,7 +51,7 @@ pub record MayStand (body : Table) (c a : ℕ) (t : Tuple) (j k : ℕ) : Type 0 
 alone_past : (body : Table) (t : Tuple) (j : ℕ) → length t ≡ body.columns - 1 → kid_count t ≤ j → kid t j ≡ all_absent (body.columns - 1)
 alone_past body t j len l = kid-past t j l ∙ ap all_absent len
 
-pub may_exact : (body : Table) (c : ℕ) (label : Labelling) → IsTable body → IsReached body → c < body.columns → (t : Tuple) → length t ≡ body.columns - 1 → FindsKids body c label t
+pub may_exact : (body : Table) (c : ℕ) (label : Labelling) → IsTable body → IsReached body → c < body.columns → (t : Tuple) → length t ≡ body.columns - 1 → TellsKids body c label t
     → (a j k : ℕ) → j < max a (kid_count t) → k < length body.presences → (may_stand body c a (kid_words label t) j k ≡ true) ↔ MayStand body c a t j k
 may_exact body c label is reached low t len known a j k within small =
     let ws = kid_words label t in

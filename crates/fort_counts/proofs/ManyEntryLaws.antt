@@ -13,11 +13,11 @@ use Rattle.fort_tables.proofs.TableLaws.{IsKidState, IsTableEntry-kid_states}
 use Rattle.fort_operations.specs.Projections.{absent_state, has_state}
 use Rattle.fort_operations.proofs.CompletedTuples.{IsTuple-completed, IsTuple-absent, absent_small}
 use Rattle.fort_operations.proofs.ProjectLabels.{may_in_set, may_past, may_absent}
-use Rattle.fort_counts.specs.ManyLabels.{IsManyLabel}
 use Rattle.fort_counts.specs.ManyEntries.{kid_labels, IsManyEntry, AreManyChoices, may_be}
 use Rattle.fort_counts.proofs.PureStateLaws.{lone_tuple, no_others, term_of_pure}
 use Rattle.fort_counts.proofs.PureSearchLaws.{pure_from_test}
-use Rattle.fort_counts.proofs.ManyLabelLaws.{label_exact}
+use Rattle.fort_counts.proofs.ManyChildren.{TellsGiven}
+use Rattle.fort_counts.proofs.ManyLabelLaws.{label_told}
 
 pub kid_label_at : (labels : List (List ℕ)) (e : Entry) (j : ℕ) → j < length e.kids → get_or (kid_labels labels e) j [] ≡ get_or labels (get_or e.kids j 0) []
 kid_label_at labels e j l = get_or-map (λ q. get_or labels q []) e.kids j 0 [] l
@@ -30,7 +30,7 @@ pub record IsKidLabel (body : Table) (c : ℕ) (f : TupleSymbol) (j : ℕ) (w : 
   pub tuple : Tuple
   pub is_tuple : IsTuple body.signature (body.columns - 1) tuple
   pub fits : FitsKid body.signature f j tuple
-  pub says : IsManyLabel body c tuple w
+  pub says : TellsGiven body c tuple w
 
 module _ (body : Table) (c : ℕ) (many : ℕ → Bool) (labels : List (List ℕ)) (e : Entry) (is : IsTable body) (reached : IsReached body) (s : IsManyEntry body c many labels e) where
   pub kid_within : (j : ℕ) → j < length e.kids → get_or e.kids j 0 < length labels
@@ -41,7 +41,7 @@ module _ (body : Table) (c : ℕ) (many : ℕ → Bool) (labels : List (List ℕ
       let q = get_or e.kids j 0 in
       let there = kid_within j l in
       let r = s.over.are q there in
-      let says : IsManyLabel body c r.0 (get_or labels q []) = subst (IsManyLabel body c r.0) r.2 (label_exact body c many is reached s.column s.tells r.0 r.1) in
+      let says : TellsGiven body c r.0 (get_or labels q []) = subst (TellsGiven body c r.0) r.2 (label_told body c many is reached s.column r.0 r.1) in
       let p : presence r.0 ≡ kid_presence body.signature e.symbol j = sym says.first ∙ (sym (get_or-map first_word labels q [] 0 there) ∙ s.over.entry.presence j l) in
       record {
         tuple = r.0;

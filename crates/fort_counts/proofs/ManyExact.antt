@@ -21,7 +21,7 @@ use Rattle.fort_counts.specs.Heights.{HasEveryHeight, HasHeightsTo}
 use Rattle.fort_counts.specs.ManyLabels.{kid_has_many, some_kid_has_many, gives_many_under, gives_many}
 use Rattle.fort_counts.proofs.TellsLaws.{FindsMany}
 use Rattle.fort_counts.proofs.TermsMade.{made_by_term, node_made, chosen_trees, heights_at, heights_below, tree_at-some}
-use Rattle.fort_counts.proofs.ManyChildren.{FindsKids, MayStand, may_exact, kid_every, kid_bound}
+use Rattle.fort_counts.proofs.ManyChildren.{TellsKids, FindsKids, told_kids, MayStand, may_exact, kid_every, kid_bound}
 
 -- bounds for all children
 abbrev pub greatest_below : ℕ → (ℕ → ℕ) → ℕ
@@ -54,8 +54,8 @@ fails p m k = elim (cases_Bool (p k)) [
   | inr e ↦ ⊎_elim (λ (l : k < m). inr (e, l)) (λ (l : m ≤ k). inl (inr l)) (cases_lt k m)
 ]
 
-module _ (body : Table) (c : ℕ) (many : ℕ → Bool) (label : Labelling) (is : IsTable body) (reached : IsReached body) (low : c < body.columns)
-    (t : Tuple) (h : IsTuple body.signature (body.columns - 1) t) (known : FindsKids body c label t) where
+module _ (body : Table) (c : ℕ) (label : Labelling) (is : IsTable body) (reached : IsReached body) (low : c < body.columns)
+    (t : Tuple) (h : IsTuple body.signature (body.columns - 1) t) (known : TellsKids body c label t) where
   choice_from_options : (g : ℕ) (ks : List ℕ) → length ks ≡ max (arity body.signature g) (length (kid_words label t)) → AreOptions (length body.presences) (may_stand body c (arity body.signature g) (kid_words label t)) 0 ks → IsChoice body c t g ks
   choice_from_options g ks len o =
       let ws = kid_words label t in
@@ -117,6 +117,11 @@ module _ (body : Table) (c : ℕ) (many : ℕ → Bool) (label : Labelling) (is 
             (eq-eqb (body.target (entry (insert (root t) c (Some g)) y.states)) q y.made))),
       )
 
+module _ (body : Table) (c : ℕ) (many : ℕ → Bool) (label : Labelling) (is : IsTable body) (reached : IsReached body) (low : c < body.columns)
+    (t : Tuple) (h : IsTuple body.signature (body.columns - 1) t) (known : FindsKids body c label t) where
+  told : TellsKids body c label t
+  told = told_kids body c label t known
+
   -- a choice with a child that infinitely many terms give
   record IsManyChoice (q : ℕ) : Type 0 where
     symbol : ℕ
@@ -146,7 +151,7 @@ module _ (body : Table) (c : ℕ) (many : ℕ → Bool) (label : Labelling) (is 
         within = r.1;
         states = ks;
         options = s.2;
-        choice = choice_from_options g ks s.1 s.2;
+        choice = choice_from_options body c label is reached low t h told g ks s.1 s.2;
         made = eqb-true (body.target (entry (insert (root t) c (Some g)) ks)) q (left (target ks) (some_kid_has_many body many ws a ks) s.3);
         place = k.0;
         below = k.1;
@@ -198,14 +203,14 @@ module _ (body : Table) (c : ℕ) (many : ℕ → Bool) (label : Labelling) (is 
         let v = r.1.child j below in
         let same : v.0 ≡ x = some-injective (sym v.1 ∙ there) in
         let k = get_or ks j 0 in
-        let k_small = given_small j k v.0 v.2 in
+        let k_small = given_small body c label is reached low t h told j k v.0 v.2 in
         let target : List ℕ → Bool = λ is. body.target (entry (insert (root t) c (Some g)) is) == q in
         let not_many : kid_has_many body many ws j k ≡ true → ⊥ = λ e.
         let some = below_found a (λ i. kid_has_many body many ws i (get_or ks i 0)) j below e in
         let found = below_found (length sig) (gives_many_under body c many (root t) ws q) g r.1.within
         (choice_found m (may_stand body c a ws) 0 (max a (length ws)) (λ is. target is && some_kid_has_many body many ws a is) ks
         (r.1.choice.count ∙ ap (max a) (sym (length-kid_words label t)))
-        (options_from_choice g ks r.1.choice)
+        (options_from_choice body c label is reached low t h told g ks r.1.choice)
         (both (target ks) (some_kid_has_many body many ws a ks) (eq-eqb (body.target (entry (insert (root t) c (Some g)) ks)) q r.1.made) some)) in
         let z : true ≡ false = sym found ∙ none in absurd cc in
         let bounded = bound_is (HasHeightsTo (CompletesTo body c (kid t j) k)) (fails (kid_has_many body many ws j) m k) (find j k)

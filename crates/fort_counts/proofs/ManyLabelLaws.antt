@@ -20,7 +20,7 @@ use Rattle.fort_counts.specs.PureStates.{CompletesTo}
 use Rattle.fort_counts.specs.ManyLabels.{TellsMany, has_many, gives_many, many_bit, many_rule, IsManyLabel}
 use Rattle.fort_counts.proofs.HeightLaws.{many_from_every_height, not_many_from_heights}
 use Rattle.fort_counts.proofs.TellsLaws.{finds_many}
-use Rattle.fort_counts.proofs.ManyChildren.{FindsTerms, FindsKids}
+use Rattle.fort_counts.proofs.ManyChildren.{TellsGiven, TellsKids, FindsTerms, FindsKids, told_kids}
 use Rattle.fort_counts.proofs.ManyExact.{gives_exact, every_exact, bound_exact}
 
 -- the two halves of the bits
@@ -33,7 +33,7 @@ many_bit-second body c many f ws q =
     let e : m + q - m ≡ q = omega arith in
     ap (λ b. if b then gives body c f ws (m + q) else gives_many body c many f ws (m + q - m)) (le-ltb (m + q) m (omega arith)) ∙ ap (gives_many body c many f ws) e
 
-absent_exact : (body : Table) (c : ℕ) (many : ℕ → Bool) (t : Tuple) → FindsKids body c (label_of (many_rule body c many)) t
+absent_exact : (body : Table) (c : ℕ) (many : ℕ → Bool) (t : Tuple) → TellsKids body c (label_of (many_rule body c many)) t
     → body.target (entry (insert (root t) c None) (map absent_state (kid_words (label_of (many_rule body c many)) t))) ≡ state_of body (insert t c None)
 absent_exact body c many t known =
     let label = label_of (many_rule body c many) in
@@ -47,7 +47,35 @@ absent_exact body c many t known =
     get_or-map absent_state ws j [] 0 (omega (arith, lw)) ∙ (ap absent_state (get_or-kid_words label t j m) ∙ ((known j m).absent ∙ sym (get_or-tabulate (kid_count t) f j 0 m)))) in
     ap (λ ks. body.target (entry (insert (root t) c None) ks)) states ∙ sym (state-absent body c t)
 
--- the label of one tuple, from those of its children
+-- the label of one tuple, from those of its children: the terms that there are
+told_step : (body : Table) (c : ℕ) (many : ℕ → Bool) → IsTable body → IsReached body → c < body.columns → (t : Tuple) → IsTuple body.signature (body.columns - 1) t → TellsKids body c (label_of (many_rule body c many)) t
+    → TellsGiven body c t ((many_rule body c many).step (root t) (kid_words (label_of (many_rule body c many)) t))
+told_step body c many is reached low t h known =
+    let label = label_of (many_rule body c many) in
+    let ws = kid_words label t in
+    let m = length body.presences in
+    let p = many_bit body c many (root t) ws in
+    let first = presence (root t) in
+    let second = body.target (entry (insert (root t) c None) (map absent_state ws)) in
+    let bit : (q : ℕ) → q < m → has_state (first ∷ second ∷ bit_row (2 * m) p) q ≡ gives body c (root t) ws q =
+    λ q l. has_state-below first second (2 * m) p q (words_enough (2 * m) q (omega arith)) ∙ many_bit-first body c many (root t) ws q l in
+    record {
+      width = omega (arith, length-bit_row (2 * m) p);
+      first = presence_root t;
+      absent = absent_exact body c many t known;
+      given = λ q l.
+          let z = gives_exact body c label is reached low t h known q in
+          ((λ y. z.0 (sym (bit q l) ∙ y)), (λ y. bit q l ∙ z.1 y));
+    }
+
+-- Result: whatever tells which are infinitely many, the label of each tuple says which terms there are
+pub label_told : (body : Table) (c : ℕ) (many : ℕ → Bool) → IsTable body → IsReached body → c < body.columns → (t : Tuple) → IsTuple body.signature (body.columns - 1) t → TellsGiven body c t (label_of (many_rule body c many) t)
+label_told body c many is reached low = tuple_induction (λ t. IsTuple body.signature (body.columns - 1) t → TellsGiven body c t (label_of (many_rule body c many) t))
+    (λ t ih h.
+    let known : TellsKids body c (label_of (many_rule body c many)) t = λ j l. ih j l (IsTuple-kid body.signature (body.columns - 1) t j h l) in
+    subst (TellsGiven body c t) (sym (label_of-step (many_rule body c many) t)) (told_step body c many is reached low t h known))
+
+-- the same with the terms and the bounds
 finds_step : (body : Table) (c : ℕ) (many : ℕ → Bool) → IsTable body → IsReached body → c < body.columns → TellsMany body c many → (t : Tuple) → IsTuple body.signature (body.columns - 1) t → FindsKids body c (label_of (many_rule body c many)) t
     → FindsTerms body c t ((many_rule body c many).step (root t) (kid_words (label_of (many_rule body c many)) t))
 finds_step body c many is reached low tells t h known =
@@ -58,17 +86,14 @@ finds_step body c many is reached low tells t h known =
     let finds = finds_many body c many is reached low tells in
     let first = presence (root t) in
     let second = body.target (entry (insert (root t) c None) (map absent_state ws)) in
-    let bit : (q : ℕ) → q < m → has_state (first ∷ second ∷ bit_row (2 * m) p) q ≡ gives body c (root t) ws q =
-    λ q l. has_state-below first second (2 * m) p q (words_enough (2 * m) q (omega arith)) ∙ many_bit-first body c many (root t) ws q l in
+    let told = told_step body c many is reached low t h (told_kids body c label t known) in
     let later : (q : ℕ) → q < m → has_many m (first ∷ second ∷ bit_row (2 * m) p) q ≡ gives_many body c many (root t) ws q =
     λ q l. has_state-below first second (2 * m) p (m + q) (words_enough (2 * m) (m + q) (omega arith)) ∙ many_bit-second body c many (root t) ws q in
     record {
-      width = omega (arith, length-bit_row (2 * m) p);
-      first = presence_root t;
-      absent = absent_exact body c many t known;
-      given = λ q l.
-          let z = gives_exact body c many label is reached low t h known q in
-          ((λ y. z.0 (sym (bit q l) ∙ y)), (λ y. bit q l ∙ z.1 y));
+      width = told.width;
+      first = told.first;
+      absent = told.absent;
+      given = told.given;
       every = λ q l y. every_exact body c many label is reached low t h known finds q (sym (later q l) ∙ y);
       bound = λ q l y. bound_exact body c many label is reached low t h known finds q (sym (later q l) ∙ y);
     }

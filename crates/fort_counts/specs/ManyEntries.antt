@@ -7,7 +7,7 @@ use Rattle.fort_tables.specs.Tables.{Table}
 use Rattle.fort_tables.specs.Labels.{IsOverLabels}
 use Rattle.fort_tables.specs.LabelRules.{label_of}
 use Rattle.fort_operations.specs.Projections.{some_below, some_choice, may_stand}
-use Rattle.fort_counts.specs.ManyLabels.{TellsMany, kid_has_many, some_kid_has_many, many_rule}
+use Rattle.fort_counts.specs.ManyLabels.{kid_has_many, some_kid_has_many, many_rule}
 
 -- the labels of the entry's children
 abbrev pub kid_labels : List (List ℕ) → Entry → List (List ℕ)
@@ -15,7 +15,6 @@ kid_labels labels e = map (λ q. get_or labels q []) e.kids
 
 pub record IsManyEntry (body : Table) (c : ℕ) (many : ℕ → Bool) (labels : List (List ℕ)) (e : Entry) : Type 0 where
   pub column : c < body.columns
-  pub tells : TellsMany body c many
   pub over : IsOverLabels body.signature (body.columns - 1) (label_of (many_rule body c many)) labels e
 
 -- the symbol g in the column, above such an entry

@@ -2,7 +2,7 @@
 ghost use Rattle.std.specs.Prelude.{◌≡◌, ℕ, ◌+◌, ◌*◌, ◌<◌, ◌≤◌, List, [], ◌∷◌, ◌++◌, length, slice_index_or, IfOk, OnOk, OnErr};
 
 use fort_terms::Memory;
-use std::alloc::{AllocError, Global};
+use std::alloc::Global;
 use std::marker::Model;
 
 /// A list of labels of one width, in one piece: label q stands at number q, as that of state q.
@@ -35,15 +35,12 @@ impl Rows {
         ensures space { IfOk result (λ r. room * width ≤ r.space) }
         ensures labels { IfOk result (λ r. r.labels ≡ []) }
     {
-        match room.checked_mul(width) {
-            Some(size) => Ok(Rows {
-                width,
-                room,
-                count: 0,
-                words: Vec::with_capacity(alloc, size)?,
-            }),
-            None => Err(AllocError),
-        }
+        Ok(Rows {
+            width,
+            room,
+            count: 0,
+            words: Vec::with_capacity(alloc, room.saturating_mul(width))?,
+        })
     }
 
     /// Appends a label, for which there is room.

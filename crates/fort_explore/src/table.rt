@@ -147,6 +147,7 @@ fn give_targets<G: Ledger, L: Labeller>(
         → IsOver sig (L.column_count labeller.now) (L.label labeller.now) found.new.firsts cap) }
     ensures steps { IfOk result (λ b. b ≡ true → steps.new + length maker.old.targets
         ≡ steps.old + length maker.new.targets) }
+    ensures grows { steps.old ≤ steps.new }
 {
     'entries: while let Some(row) = maker.due_row() {
         let q = place_of(alloc, labeller, found, row, memo, out, steps)?;
@@ -158,7 +159,7 @@ fn give_targets<G: Ledger, L: Labeller>(
     Ok(true)
 }
 
-/// `explore`, counting the calls of the labeller's step: one for each entry of the table.
+/// `explore`, counting the calls of the labeller's step: one for each entry of the table. Those before an error stay counted.
 pub fn explore_counted<G: Ledger, L: Labeller>(
     alloc: Global,
     sig: &Signature,
@@ -179,6 +180,7 @@ pub fn explore_counted<G: Ledger, L: Labeller>(
     ensures nodes { IfErr result (λ e. IfOver e (λ tuples. AreNodes sig.now
         (L.column_count labeller.now) tuples)) }
     ensures steps { IfOk result (λ t. steps.new ≡ steps.old + length t.entries) }
+    ensures grows { steps.old ≤ steps.new }
 {
     let mut maker = Maker::new(alloc, sig, labeller.columns())?;
     let mut words = vec![in alloc; 0u64; labeller.width()]?;

@@ -53,6 +53,7 @@ module _ (body : Table) (c : ℕ) (children : List (List ℕ)) (r : ℕ) (old s 
         (λ d. ⊎_elim (λ (a : q ≡ x). absurd (omega (arith, e, none, ap (rank_of s) a))) (λ b. inl b) (Contains-cons_cases q left x d))
         (λ w. inr w) (h.waits x pure none);
     pure_waiting = h.pure_waiting;
+    child_waited = h.child_waited;
     pure_left = λ x d. h.pure_left x (Contains-behind q left x d);
     are_ranked = h.are_ranked;
     all_ranked = h.all_ranked;
@@ -107,6 +108,15 @@ module _ (body : Table) (c : ℕ) (children : List (List ℕ)) (r : ℕ) (old s 
             (λ (n : k ≡ child_at children q y.place → ⊥). inl (subst (λ (xs : List ℕ). Contains xs x) (y.waits k ∙ if_apart k _ (waiting_of s k ++ q ∷ []) (waiting_of s k) n) d))
             (cases_eq k (child_at children q y.place))
 
+        held_child : (k x : ℕ) → Contains (waiting_of new k) x → IsPureChild body c x k
+        held_child k x d = ⊎_elim
+            (λ (e : k ≡ child_at children q y.place). ⊎_elim
+            (λ a. h.child_waited k x a)
+            (λ (f : q ≡ x). subst (λ (z : ℕ). IsPureChild body c z k) f (subst (λ (i : ℕ). IsPureChild body c q i) (sym e) (child_there body c children q y.place h.are_children y.within)))
+            (Contains-push_cases (waiting_of s k) q x (subst (λ (xs : List ℕ). Contains xs x) (y.waits k ∙ if_equal k _ (waiting_of s k ++ q ∷ []) (waiting_of s k) e) d)))
+            (λ (n : k ≡ child_at children q y.place → ⊥). h.child_waited k x (subst (λ (xs : List ℕ). Contains xs x) (y.waits k ∙ if_apart k _ (waiting_of s k ++ q ∷ []) (waiting_of s k) n) d))
+            (cases_eq k (child_at children q y.place))
+
         held_passed : (x i : ℕ) → i < passed_of new x → (n : ℕ) × (rank_of old (child_at children x i) ≡ suc n)
         held_passed x i l = ⊎_elim
             (λ (e : q ≡ x). subst (λ (z : ℕ). (n : ℕ) × (rank_of old (child_at children z i) ≡ suc n)) e (passed_before y.place y.before i (omega (arith, passed_here, ap (passed_of new) e))))
@@ -139,6 +149,7 @@ module _ (body : Table) (c : ℕ) (children : List (List ℕ)) (r : ℕ) (old s 
           passed_by = held_passed;
           waits = held_waits;
           pure_waiting = λ k x d. ⊎_elim (λ e. h.pure_waiting k x e) (λ (e : q ≡ x). subst (IsPureState body c) e pure_q) (waits_from k x d);
+          child_waited = held_child;
           pure_left = λ x d. h.pure_left x (Contains-behind q left x d);
           are_ranked = λ x d. let z = h.are_ranked x (subst (λ (xs : List ℕ). Contains xs x) y.same_ranked d) in (z.0, z.1, same_rank x ∙ z.2);
           all_ranked = λ x pure a b. subst (λ (xs : List ℕ). Contains xs x) (sym y.same_ranked) (h.all_ranked x pure a (sym (same_rank x) ∙ b));
@@ -218,6 +229,7 @@ module _ (body : Table) (c : ℕ) (children : List (List ℕ)) (r : ℕ) (old s 
           passed_by = λ x i l. h.passed_by x i (omega (arith, passed_same x));
           waits = raised_waits;
           pure_waiting = λ k x d. h.pure_waiting k x (subst (λ (xs : List ℕ). Contains xs x) (waiting_same k) d);
+          child_waited = λ k x d. h.child_waited k x (subst (λ (xs : List ℕ). Contains xs x) (waiting_same k) d);
           pure_left = λ x d. h.pure_left x (Contains-behind q left x d);
           are_ranked = raised_ranked;
           all_ranked = raised_all;

@@ -12,7 +12,7 @@ use Rattle.fort_counts.proofs.PureSearchLaws.{pure_from_test}
 use Rattle.fort_counts.proofs.CountLaws.{pure_listed}
 use Rattle.fort_counts.proofs.RankLaws.{ranks_at_start, ranks_after, settled_by_round, settled_by_count}
 use Rattle.fort_infinity.specs.Children.{AreChildren}
-use Rattle.fort_infinity.specs.Rankings.{rank_of, passed_of, waiting_of, child_at, HasRoom, IsWaiting, AreTried, AreReady, AreWoken}
+use Rattle.fort_infinity.specs.Rankings.{rank_of, passed_of, waiting_of, child_at, HasRoom, IsWaiting, AreTried, AreReady, AreWoken, HasUnranked}
 use Rattle.fort_infinity.specs.declared.ranks.Ranking.{Ranking}
 use Rattle.fort_infinity.proofs.RankingLaws.{child_there}
 
@@ -34,6 +34,18 @@ module _ (body : Table) (c : ℕ) (children : List (List ℕ)) (r : ℕ) (old s 
   -- a state with a rank of this round is ranked now
   newly : (q i : ℕ) → IsPureState body c q → rank_of old q ≡ 0 → rank_of s q ≡ suc i → Contains ranked q
   newly q i pure e now = h.all_ranked q pure e (now ∙ ap suc (h.fresh q i e now).0)
+
+  -- Result: a state that waits for one of those ranked has no rank itself
+  pub waiting_unranked : (k q : ℕ) → Contains ranked k → Contains (waiting_of s k) q → HasUnranked body c s
+  waiting_unranked k q d w = (q, h.pure_waiting k q w, by (rank_of s q) refl)
+    where
+      before : (n : ℕ) → rank_of old q ≡ n → (i : ℕ) → rank_of s q ≡ suc i → ⊥
+      before zero e i now = let z = (h.fresh q i e now).1 k (h.child_waited k q w) in omega (arith, z.1, (h.are_ranked k d).1)
+      before (suc n) e i now = let z = ranks.children q n (h.pure_waiting k q w) e k (h.child_waited k q w) in omega (arith, z.1, (h.are_ranked k d).1)
+
+      by : (n : ℕ) → rank_of s q ≡ n → rank_of s q ≡ 0
+      by zero now = now
+      by (suc i) now = absurd (before (rank_of old q) refl i now)
 
   -- Result: no state was ranked
   pub settled_now : ranked ≡ [] → AreSettled body c (rank_of s)
@@ -70,6 +82,7 @@ module _ (body : Table) (c : ℕ) (children : List (List ℕ)) (r : ℕ) (old s 
             passed_by = λ x i l. let y = h.passed_by x i l in (y.0, h.kept (child_at children x i) y.0 y.1);
             waits = next_waits;
             pure_waiting = h.pure_waiting;
+            child_waited = h.child_waited;
             pure_left = λ x e. let y = (are x).0 e in h.pure_waiting y.0 x y.2;
             are_ranked = λ x e. absurd (Contains-none x e);
             all_ranked = λ x pure a b. absurd (omega (arith, a, b));
@@ -90,6 +103,7 @@ ready_at_start body c children s alone low are pure room ranks passed waiting = 
     passed_by = λ q i l. absurd (omega (arith, passed q));
     waits = λ q p e. inl (pure_listed body c alone pure q p);
     pure_waiting = λ k q d. absurd (Contains-none q (subst (λ (xs : List ℕ). Contains xs q) (waiting k) d));
+    child_waited = λ k q d. absurd (Contains-none q (subst (λ (xs : List ℕ). Contains xs q) (waiting k) d));
     pure_left = λ q d. listed q d;
     are_ranked = λ q d. absurd (Contains-none q d);
     all_ranked = λ q p a b. absurd (omega (arith, a, b));

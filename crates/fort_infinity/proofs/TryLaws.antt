@@ -1,5 +1,5 @@
 -- The states tried in a round, one after another, and those that are woken.
-use Rattle.std.proofs.Common.{◌≡◌, ℕ, zero, suc, ◌+◌, ◌<◌, List, [], ◌∷◌, ◌++◌, length, get_or, take, drop, ⊎_elim, refl, sym, ◌∙◌, arith, subst}
+use Rattle.std.proofs.Common.{◌≡◌, ℕ, zero, suc, ◌+◌, ◌<◌, List, [], ◌∷◌, ◌++◌, length, get_or, take, drop, ⊎_elim, refl, sym, ◌∙◌, arith, subst, Result, Ok, Err, OnErr}
 use Rattle.std.specs.Prelude.{Contains}
 use Rattle.std.proofs.lemmas.List.{drop_more, take_more, get_or_default}
 use Rattle.std.proofs.lemmas.List.Elements.{Contains-append_left, Contains-append_right, Contains-append_cases, Contains-push, Contains-push_cases}
@@ -7,9 +7,14 @@ use Rattle.fort_theory.proofs.Members.{Contains-head}
 use Rattle.fort_tables.specs.Tables.{Table}
 use Rattle.fort_counts.proofs.PureStateLaws.{pure_child}
 use Rattle.fort_infinity.specs.Children.{AreChildren}
-use Rattle.fort_infinity.specs.Rankings.{rank_of, waiting_of, HasRoom, IsAdvanced, AreTried, AreReady, AreWoken}
+use Rattle.fort_infinity.specs.Rankings.{rank_of, waiting_of, HasRoom, IsAdvanced, AreTried, AreReady, AreWoken, HasUnranked}
 use Rattle.fort_infinity.specs.declared.ranks.Ranking.{Ranking}
 use Rattle.fort_infinity.proofs.RankingLaws.{child_there, tried_skipped, tried_advanced}
+
+-- a fact that holds anyway holds at an error
+pub OnErr-always : {T E : Type 0} (r : Result T E) (P : Type 0) → P → OnErr r P
+OnErr-always (Ok x) P p = tt
+OnErr-always (Err e) P p = p
 
 pub children_within : (body : Table) (c : ℕ) (children : List (List ℕ)) → c < body.columns → AreChildren body c children → (k i : ℕ) → i < length (get_or children k []) → get_or (get_or children k []) i 0 < length children
 children_within body c children low are k i l =
@@ -43,6 +48,18 @@ module _ (body : Table) (c : ℕ) (children : List (List ℕ)) (r : ℕ) (old s 
 
   pub advanced : (new : Ranking) (again : List ℕ) → rank_of s (get_or tried i 0) ≡ 0 → IsAdvanced children r (get_or tried i 0) s new ranked again → AreTried body c children r old new (drop (i + 1) tried) again
   advanced new again none a = tried_advanced body c children r old s (drop (i + 1) tried) ranked ready.ranks (get_or tried i 0) next_tried none new again a
+
+  -- a state that memory is wanted for has no rank
+  pub tried_unranked : (new : Ranking) → rank_of s (get_or tried i 0) ≡ 0 → rank_of new (get_or tried i 0) ≡ rank_of s (get_or tried i 0) → HasUnranked body c new
+  tried_unranked new none same = (get_or tried i 0, next_tried.pure_left (get_or tried i 0) (Contains-head (get_or tried i 0) (drop (i + 1) tried)), same ∙ none)
+
+-- a list of states that wait, which has some
+pub woken_some : (s : Ranking) (ranked : List ℕ) (i : ℕ) (list : List ℕ) → i < length ranked → list ≡ waiting_of s (get_or ranked i 0) → 0 < length list → (k : ℕ) × (q : ℕ) × Contains ranked k × Contains (waiting_of s k) q
+woken_some s ranked i list l at some =
+    let k = get_or ranked i 0 in
+    let q = get_or list 0 0 in
+    let there : Contains list q = (0, some, get_or_default list 0 q 0 some) in
+    (k, q, (i, l, get_or_default ranked i k 0 l), subst (λ (xs : List ℕ). Contains xs q) at there)
 
 -- the states that wait for one more
 pub woken_more : (s : Ranking) (ranked : List ℕ) (i : ℕ) (woken list new : List ℕ) → i < length ranked → AreWoken s (take i ranked) woken → list ≡ waiting_of s (get_or ranked i 0) → new ≡ woken ++ list → AreWoken s (take (i + 1) ranked) new

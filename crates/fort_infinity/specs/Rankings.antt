@@ -1,7 +1,7 @@
 -- Inside: ranks in the making: how far each state has gone through its children, and which states wait for the rank of a state.
 use Rattle.std.specs.Prelude.{◌≡◌, ℕ, suc, ◌+◌, ◌<◌, ◌≤◌, ◌⊎◌, ◌↔◌, ◌==◌, List, [], ◌∷◌, ◌++◌, length, get_or, slice_set, Contains, if◌then◌else◌}
 use Rattle.fort_tables.specs.Tables.{Table}
-use Rattle.fort_counts.specs.PureStates.{IsPureState}
+use Rattle.fort_counts.specs.PureStates.{IsPureState, IsPureChild}
 use Rattle.fort_counts.specs.Ranks.{HasOnlyChildren, AreRanks}
 use Rattle.fort_infinity.specs.Children.{AreChildren}
 use Rattle.fort_infinity.specs.RankTests.{IsEarlier, IsOpen}
@@ -66,6 +66,7 @@ pub record AreTried (body : Table) (c : ℕ) (children : List (List ℕ)) (r : �
   pub passed_by : (q i : ℕ) → i < passed_of s q → (n : ℕ) × (rank_of old (child_at children q i) ≡ suc n)
   pub waits : (q : ℕ) → IsPureState body c q → rank_of s q ≡ 0 → Contains left q ⊎ IsWaiting children s q (λ k. rank_of old k ≡ 0)
   pub pure_waiting : (k q : ℕ) → Contains (waiting_of s k) q → IsPureState body c q
+  pub child_waited : (k q : ℕ) → Contains (waiting_of s k) q → IsPureChild body c q k
   pub pure_left : (q : ℕ) → Contains left q → IsPureState body c q
   pub are_ranked : (q : ℕ) → Contains ranked q → IsPureState body c q × (rank_of old q ≡ 0) × (rank_of s q ≡ suc r)
   pub all_ranked : (q : ℕ) → IsPureState body c q → rank_of old q ≡ 0 → rank_of s q ≡ suc r → Contains ranked q
@@ -82,3 +83,7 @@ AreSomeReady children r s tried = (body : Table) × (c : ℕ) × AreReady body c
 -- exactly the states that wait for some of these
 abbrev pub AreWoken : Ranking → List ℕ → List ℕ → Type 0
 AreWoken s ranked woken = (q : ℕ) → Contains woken q ↔ ((k : ℕ) × Contains ranked k × Contains (waiting_of s k) q)
+
+-- some pure state has no rank yet
+abbrev pub HasUnranked : Table → ℕ → Ranking → Type 0
+HasUnranked body c s = (q : ℕ) × IsPureState body c q × (rank_of s q ≡ 0)

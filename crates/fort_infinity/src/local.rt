@@ -6,7 +6,7 @@ ghost use Rattle.fort_tables.specs.BitRows.{words_for};
 ghost use Rattle.fort_operations.specs.Projections.{ArePure};
 ghost use Rattle.fort_operations.specs.OperationTruth.{accepts as accepts_lem};
 ghost use Rattle.fort_counts.specs.Counts.{KeepRules, count_at};
-ghost use Rattle.fort_counts.specs.ManyLabels.{TellsMany, many_rule, many_accepts as many_accepts_lem, many_value as many_value_lem, ManyComplete};
+ghost use Rattle.fort_counts.specs.ManyLabels.{many_rule, many_accepts as many_accepts_lem, many_value as many_value_lem, ManyComplete};
 ghost use Rattle.fort_infinity.specs.CountView.{as_count, is_many};
 
 use crate::count::Count;
@@ -23,8 +23,8 @@ pub fn many_width(states: usize) -> usize
 }
 
 /// Writes the label of an entry: the presence, the body's state with the column absent, a bit for each state that some term in the
-/// column gives, and one for each that infinitely many give. `alone` are the body's pure states in that column, and `counts` tell of
-/// each whether infinitely many terms give it, whoever counted them.
+/// column gives, and one for each that infinitely many give. `alone` are the body's pure states in that column, and `counts` are to tell
+/// of each whether infinitely many terms give it; the label is the one by these counts, whether they are right or not.
 pub fn many_label<T: Table>(
     body: &T,
     column: usize,
@@ -37,7 +37,6 @@ pub fn many_label<T: Table>(
     requires column { column < (T.table body.now).columns }
     requires alone { ArePure (T.table body.now) column alone.now }
     requires counts { length counts.now ≡ length alone.now }
-    requires tells { TellsMany (T.table body.now) column (is_many alone.now counts.now) }
     requires over { IsOverLabels (T.table body.now).signature ((T.table body.now).columns - 1)
         (label_of (many_rule (T.table body.now) column (is_many alone.now counts.now)))
         rows.now.labels row.now }

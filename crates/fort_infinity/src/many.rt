@@ -28,7 +28,6 @@ pub struct Many<'a, T: Table> {
     ghost another: { 1 < (T.table body.now).columns },
     ghost pure: { projections.ArePure (T.table body.now) column alone.now } by { ArePure-prop (T.table body.now) column alone.now },
     ghost sizes: { length counts.now ≡ length alone.now },
-    ghost tells: { labels.TellsMany (T.table body.now) column (is_many alone.now counts.now) },
 }
 
 impl<'a, T: Table> Many<'a, T> {

@@ -1,5 +1,5 @@
 //! Ranks of states: one more than the greatest height of their terms, as far as there is one.
-ghost use Rattle.std.specs.Prelude.{◌≡◌, ℕ, ◌<◌, ◌≤◌, ◌^◌, [], length, slice_index_or, IfOk, OnOk, IfSome, IfNone};
+ghost use Rattle.std.specs.Prelude.{◌≡◌, ℕ, ◌<◌, ◌≤◌, ◌^◌, [], length, slice_index_or, Contains, IfOk, OnOk, OnErr, IfSome, IfNone};
 ghost use Rattle.fort_tables.specs.Tables as tables;
 ghost use Rattle.fort_counts.specs.Ranks.{AreSettled};
 ghost use Rattle.fort_infinity.specs.Children.{AreChildren, IsPureColumn};
@@ -43,7 +43,7 @@ fn first_open(ranks: &[u32], children: &[u32], from: usize, round: u32) -> Optio
 }
 
 impl Ranking {
-    ghost use Rattle.fort_infinity.specs.Rankings.{rank_of, passed_of, waiting_of, HasRoom, IsAdvanced, AreTried, AreReady, AreSomeReady, AreWoken};
+    ghost use Rattle.fort_infinity.specs.Rankings.{rank_of, passed_of, waiting_of, HasRoom, IsAdvanced, AreTried, AreReady, AreSomeReady, AreWoken, HasUnranked};
 
     /// Nothing is known yet.
     fn new(alloc: Global, states: u32) -> Result<Ranking, Memory>
@@ -73,8 +73,9 @@ impl Ranking {
             → slice_index_or (slice_index_or children.now k []) i 0 < length children.now }
         requires early { round < length children.now }
         requires small { length children.now < 2 ^ 32 }
-        ensures { OnOk result (IsAdvanced children.now round q self.old self.new ranked.old.items
-            ranked.new.items) }
+        ensures advanced { OnOk result (IsAdvanced children.now round q self.old self.new
+            ranked.old.items ranked.new.items) }
+        ensures memory { OnErr result (rank_of self.new q ≡ rank_of self.old q) }
     {
         let own = children.list(q);
         match first_open(&self.ranks, own, self.passed[q as usize], round) {
@@ -83,8 +84,9 @@ impl Ranking {
                 self.waiting.append(own[place], &[q])
             }
             None => {
+                ranked.reserve(1)?;
                 self.ranks[q as usize] = round + 1;
-                ranked.push(q)?;
+                ranked.push_reserved(q);
                 Ok(())
             }
         }
@@ -101,9 +103,12 @@ impl Ranking {
         requires ready { AreSomeReady children.now round self.old tried.now }
         requires early { round < length children.now }
         requires small { length children.now < 2 ^ 32 }
-        ensures { IfOk result (λ ranked. (body : tables.Table) (c : ℕ)
+        ensures tried { IfOk result (λ ranked. (body : tables.Table) (c : ℕ)
             → AreReady body c children.now round self.old tried.now
             → AreTried body c children.now round self.old self.new [] ranked.items) }
+        ensures memory { OnErr result ((body : tables.Table) (c : ℕ)
+            → AreReady body c children.now round self.old tried.now
+            → HasUnranked body c self.new) }
     {
         let mut ranked = Vec::new(alloc);
         for q in tried {
@@ -118,7 +123,9 @@ impl Ranking {
     fn woken(&self, alloc: Global, ranked: &[u32]) -> Result<Vec<u32>, Memory>
         requires { (i : ℕ) → i < length ranked.now
             → slice_index_or ranked.now i 0 < length self.now.waiting }
-        ensures { IfOk result (λ woken. AreWoken self.now ranked.now woken.items) }
+        ensures woken { IfOk result (λ woken. AreWoken self.now ranked.now woken.items) }
+        ensures memory { OnErr result ((k : ℕ) × (q : ℕ) × Contains ranked.now k
+            × Contains (waiting_of self.now k) q) }
     {
         let mut woken = Vec::new(alloc);
         for k in ranked {
@@ -127,16 +134,24 @@ impl Ranking {
         Ok(woken)
     }
 
-    /// Ranks states in rounds, until a round ranks none.
-    fn settle(&mut self, alloc: Global, children: &StateLists, alone: &[u32]) -> Result<(), Memory>
-        requires ready { AreSomeReady children.now 0 self.old alone.now }
+    /// Ranks states in rounds, until a round ranks none. It wants memory only while some state has no rank.
+    fn settle(
+        &mut self,
+        alloc: Global,
+        children: &StateLists,
+        alone: Vec<u32>,
+    ) -> Result<(), Memory>
+        requires ready { AreSomeReady children.now 0 self.old alone.items }
         requires small { length children.now < 2 ^ 32 }
         ensures room { OnOk result (HasRoom self.new (length children.now)) }
         ensures settled { OnOk result ((body : tables.Table) (c : ℕ)
-            → AreReady body c children.now 0 self.old alone.now
+            → AreReady body c children.now 0 self.old alone.items
             → AreSettled body c (rank_of self.new)) }
+        ensures memory { OnErr result ((body : tables.Table) (c : ℕ)
+            → AreReady body c children.now 0 self.old alone.items
+            → HasUnranked body c self.new) }
     {
-        let mut tried = alone.to_vec(alloc)?;
+        let mut tried = alone;
         // Each round but the last ranks some state.
         let rounds = children.states();
         for round in 0..rounds {
@@ -165,6 +180,7 @@ pub(crate) fn settled_ranks(
         → AreSettled body c (λ q. slice_index_or ranks.items q 0)) }
 {
     let mut ranking = Ranking::new(alloc, children.states())?;
-    ranking.settle(alloc, children, alone)?;
+    let tried = alone.to_vec(alloc)?;
+    ranking.settle(alloc, children, tried)?;
     Ok(ranking.ranks)
 }

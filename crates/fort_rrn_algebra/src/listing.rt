@@ -1,5 +1,5 @@
 //! A table's targets, put into one list.
-ghost use Rattle.std.specs.Prelude.{◌≡◌, ℕ, ◌+◌, ◌<◌, ◌≤◌, ◌^◌, ◌++◌, [], take, length, slice_index, slice_index_or, IfOk, IfSome, IfNone, OnOk, IsTrue, IsFalse};
+ghost use Rattle.std.specs.Prelude.{◌≡◌, ℕ, ◌+◌, ◌<◌, ◌≤◌, ◌^◌, ◌++◌, [], take, length, slice_index, slice_index_or, IfOk, IfSome, IfNone, OnOk, OnErr, IsTrue, IsFalse};
 ghost use Rattle.fort_tables.specs.Tuples.{IsTupleSymbol, symbol_kids};
 ghost use Rattle.fort_rrn_algebra.specs.Places.{IsNumbered, AreSpots, AreRanks, AreAlike, AreCounts};
 ghost use Rattle.fort_rrn_algebra.specs.Chains.{AreChains};
@@ -134,6 +134,7 @@ impl Listing {
             self.new.starts.items self.new.targets.items) }
         ensures full { IfOk result (λ added. IsFalse added
             → (2 ^ 32 ≤ length self.old.targets.items) × (self.new ≡ self.old)) }
+        ensures memory { OnErr result (length self.old.targets.items < 2 ^ 32) }
     {
         let _columns = body.columns();
         let Ok(start) = u32::try_from(self.targets.len()) else {
@@ -206,10 +207,12 @@ impl FlatTargets {
     }
 
     /// Makes this the list of a table's targets. False where its tuple symbols have too many numbers, or where the targets of one would
-    /// start at a place of more than 32 bits.
+    /// start at a place of more than 32 bits. It takes memory only where the numbers are few.
     pub(crate) fn make<T: Table>(&mut self, body: &T) -> Result<bool, Memory>
         ensures flat { IfOk result (λ made. IsTrue made → IsFlatOf (T.table body.now) self.new) }
         ensures not_made { IfOk result (λ made. IsFalse made → IsUnlisted (T.table body.now)) }
+        ensures memory { OnErr result (base_of (T.table body.now) ^ (T.table body.now).columns
+            ≤ 4194304) }
     {
         self.base = body.signature().len() + 1;
         match number_count(self.base, body.columns()) {
@@ -226,6 +229,8 @@ impl FlatTargets {
     pub(crate) fn of<T: Table>(alloc: Global, body: &T) -> Result<Option<FlatTargets>, Memory>
         ensures flat { IfOk result (λ flat. IfSome flat (IsFlatOf (T.table body.now))) }
         ensures none { IfOk result (λ flat. IfNone flat (IsUnlisted (T.table body.now))) }
+        ensures memory { OnErr result (base_of (T.table body.now) ^ (T.table body.now).columns
+            ≤ 4194304) }
     {
         let mut flat = FlatTargets::new(alloc);
         if flat.make(body)? {

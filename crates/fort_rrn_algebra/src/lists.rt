@@ -1,8 +1,8 @@
 //! Lists of the targets of a product's operands.
-ghost use Rattle.std.specs.Prelude.{IfOk, IfSome, OnOk, IsTrue};
+ghost use Rattle.std.specs.Prelude.{◌⊎◌, IfOk, IfSome, OnOk, OnErr, IsTrue, IsFalse};
 ghost use Rattle.fort_operations.specs.Products as products;
 ghost use Rattle.fort_rrn_algebra.specs.Operands.{operand_of};
-ghost use Rattle.fort_rrn_algebra.specs.ListedOperands.{IsListOf, AreListsOf};
+ghost use Rattle.fort_rrn_algebra.specs.ListedOperands.{IsListOf, IsNotListed, HasFewNumbers, AreListsOf, AreAllLists};
 
 use crate::flat::FlatTargets;
 use crate::operand::Operand;
@@ -21,8 +21,11 @@ pub struct ProductLists {
 
 /// Makes a list of an operand's targets. False where the operand is a truth, or its table's targets aren't put into one list.
 fn make<T: Table>(list: &mut FlatTargets, operand: &Operand<'_, T>) -> Result<bool, Memory>
-    ensures { IfOk result (λ made. IsTrue made → IsListOf (operand_of T.table operand.now)
+    ensures list { IfOk result (λ made. IsTrue made → IsListOf (operand_of T.table operand.now)
         list.new) }
+    ensures not_made { IfOk result (λ made. IsFalse made
+        → IsNotListed (operand_of T.table operand.now)) }
+    ensures memory { OnErr result (HasFewNumbers (operand_of T.table operand.now)) }
 {
     match operand {
         Operand::Auto(table, _) => list.make(*table),
@@ -42,13 +45,18 @@ impl ProductLists {
     }
 
     /// Makes these the lists of two operands: four bytes for each entry and each tuple symbol, and twelve for each state.
+    /// Where there is no list, that is so by the limits, and want of memory comes only where some operand has few tuple symbols.
     pub fn make<T: Table>(
         &mut self,
         first: &Operand<'_, T>,
         second: &Operand<'_, T>,
     ) -> Result<(), Memory>
-        ensures { OnOk result (AreListsOf (operand_of T.table first.now)
+        ensures lists { OnOk result (AreListsOf (operand_of T.table first.now)
             (operand_of T.table second.now) self.new) }
+        ensures all { OnOk result (AreAllLists (operand_of T.table first.now)
+            (operand_of T.table second.now) self.new) }
+        ensures memory { OnErr result (HasFewNumbers (operand_of T.table first.now)
+            ⊎ HasFewNumbers (operand_of T.table second.now)) }
     {
         self.has_first = make(&mut self.first, first)?;
         self.has_second = make(&mut self.second, second)?;

@@ -8,7 +8,7 @@ use crate::chains::Chains;
 use crate::entry_count::count_states;
 use crate::flat::{Listing, Spots};
 use fort_terms::Memory;
-use std::alloc::{AllocError, Global};
+use std::alloc::Global;
 
 /// One more than the greatest presence, that of all sixteen columns.
 const MOST_PRESENCES: usize = 65536;
@@ -95,21 +95,17 @@ fn chain_states(presences: &[u16], firsts: &mut [u32], nexts: &mut [u32])
 }
 
 impl LayRoom {
-    /// The room for tables of at most so many states. More than there are numbers for are want of memory.
+    /// The room for tables of at most so many states.
     pub fn new(alloc: Global, states: usize) -> Result<LayRoom, Memory>
         ensures { IfOk result (HasLayRoom states) }
     {
-        let stages = match states.checked_add(1) {
-            Some(stages) => stages,
-            None => return Err(AllocError),
-        };
         Ok(LayRoom {
             counts: Vec::with_capacity(alloc, MOST_PRESENCES)?,
             chains: Chains {
                 firsts: Vec::with_capacity(alloc, MOST_PRESENCES)?,
                 nexts: Vec::with_capacity(alloc, states)?,
             },
-            cursors: Vec::with_capacity(alloc, stages)?,
+            cursors: Vec::with_capacity(alloc, states.saturating_add(1))?,
             blank: Listing {
                 starts: Vec::new(alloc),
                 targets: Vec::new(alloc),

@@ -72,8 +72,14 @@ fn complement_and_pure_states(rt: HostRuntime) -> Result<(), Fail> {
     assert!(rt; has_states(&complement, &[2, 1, 3], None));
     let again = negate(rt.alloc(), &complement)?;
     assert!(rt; has_states(&again, &[2, 1, 3], Some(2)));
-    assert_eq!(rt; pure_states(rt.alloc(), &table, 0)?.as_slice(), [1].as_slice());
-    assert_eq!(rt; pure_states(rt.alloc(), &table, 1)?.as_slice(), [0].as_slice());
+    assert_eq!(rt;
+        pure_states(rt.alloc(), &table, 0)?.as_slice(),
+        [1].as_slice()
+    );
+    assert_eq!(rt;
+        pure_states(rt.alloc(), &table, 1)?.as_slice(),
+        [0].as_slice()
+    );
     Ok(())
 }
 

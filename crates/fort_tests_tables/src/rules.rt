@@ -37,13 +37,7 @@ fn storeys(top: u64, column: Option<Sym>, below: u64) -> u64
     match column {
         None => 0,
         Some(Sym(0)) => 0,
-        Some(_) => {
-            if below < top {
-                below + 1
-            } else {
-                top
-            }
-        }
+        Some(_) => { if below < top { below + 1 } else { top } }
     }
 }
 

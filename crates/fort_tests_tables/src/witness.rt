@@ -1,27 +1,33 @@
 //! The least tuple of a table, and the text of its term.
+ghost use Rattle.std.specs.Prelude.{◌≡◌, ◌<◌, IfOk};
+ghost use Rattle.fort_tables.specs.Tables.{listed_table};
+ghost use Rattle.fort_witness.specs.Answers.{IsWitness};
+
 use super::rules::Tower;
 use fort_explore::{ByRule, explore};
-use fort_lockstep::{Dta, Table};
-use fort_terms::{AddFault, Signature};
+use fort_lockstep::{Dag, Dta, Table};
+use fort_terms::{AddFault, Memory, Signature};
 use fort_witness::{least, write_term};
 use std::alloc::Global;
 use std::test::Fail;
 
-/// The least term of a table of one column.
-fn text_of(alloc: Global, table: &Dta) -> Result<Vec<u8>, AddFault>
-    requires { 0 < table.now.columns }
+/// The term in the first column of a least tuple.
+fn text_of(alloc: Global, table: &Dta, dag: &Dag) -> Result<Vec<u8>, Memory>
+    requires witness { IsWitness (listed_table table.now) dag.now }
+    requires column { 0 < table.now.columns }
 {
     let mut out = Vec::new(alloc);
-    if let Some(dag) = least(alloc, table)? {
-        let _states = table.states();
-        let last = dag.len() - 1;
-        write_term(alloc, &dag, last as u32, 0, table.signature(), &mut out)?;
-    }
+    // fetches the law that a table has fewer than 2^32 states
+    let _states = table.states();
+    let last = dag.len() - 1;
+    write_term(alloc, dag, last as u32, 0, table.signature(), &mut out)?;
     Ok(out)
 }
 
-/// The least term of this height over a constant a and a symbol f of one argument.
-fn tower(alloc: Global, top: u64) -> Result<Vec<u8>, AddFault> {
+/// The table that accepts the terms of this height, and of greater ones.
+fn tower_table(alloc: Global, top: u64) -> Result<Dta, AddFault>
+    ensures { IfOk result (λ t. t.columns ≡ 1) }
+{
     let mut signature = Signature::empty(alloc);
     signature.add(b"a", 0)?;
     signature.add(b"f", 1)?;
@@ -30,8 +36,17 @@ fn tower(alloc: Global, top: u64) -> Result<Vec<u8>, AddFault> {
         top,
     };
     match explore(alloc, &signature, &ByRule(&rule), 20_000) {
-        Ok(table) => text_of(alloc, &table),
+        Ok(table) => Ok(table),
         Err(_) => Err(AddFault::Memory),
+    }
+}
+
+/// The least term of this height over a constant a and a symbol f of one argument.
+fn tower(alloc: Global, top: u64) -> Result<Vec<u8>, AddFault> {
+    let table = tower_table(alloc, top)?;
+    match least(alloc, &table)? {
+        Some(dag) => Ok(text_of(alloc, &table, &dag)?),
+        None => Ok(Vec::new(alloc)),
     }
 }
 

@@ -17,7 +17,7 @@ returns-then-not-is_whole g c =
     let m = c.in_ok-maker.ensures in
     let old = exploring_none c.args.sig.now _ (g.L.Labeller.label c.args.labeller.now) c.in_ok-maker.maker _ _ m.signature (m.columns ∙ c.columns.ensures.count) m.presences m.entries m.targets c.in_ok-found.ensures.firsts c.in_ok-found.ensures.labels in
     let o = c.in_ok-is_whole.ensures.over c.args.sig.now c.requires old c.if-not-is_whole.true in
-    rw c.into_firsts.ensures (record { ok = tt; table = tt; listed = tt; few = tt; over = o.tuples; nodes = o.nodes; steps = tt })
+    rw c.into_firsts.ensures (record { ok = tt; table = tt; listed = tt; few = tt; over = o.tuples; nodes = o.nodes; steps = tt; grows = c.give_targets.ensures.grows })
 
 pub finals_of-requires-clause-labels : goal.finals_of-requires-clause-labels
 finals_of-requires-clause-labels g c =
@@ -48,6 +48,7 @@ returns g c =
       over = tt;
       nodes = tt;
       steps = omega (arith, c.in_ok-is_whole.ensures.steps c.if-not-is_whole.false, ap length m.targets, x.count, ap (λ (t : Listed). length t.entries) c.in_ok-finish.ensures.table);
+      grows = c.give_targets.ensures.grows;
     }
 
 pub finish-requires-clause-finals : goal.finish-requires-clause-finals

@@ -68,6 +68,7 @@ entries-preserved g c =
       kept = c.place_of.ensures.kept;
       room = c.place_of.auto.out ∙ c.entries.invariant.room;
       few = omega (arith, c.len.ensures);
+      grows = omega (arith, c.place_of.ensures.steps, c.entries.invariant.grows);
       steps = omega (arith, c.place_of.ensures.steps, c.entries.invariant.steps, length-appended c.entries.maker.targets c.give.new.self.targets c.in_ok-q.q given.targets);
     }
 

@@ -11,6 +11,7 @@ invariant-entries g l = record {
   kept : g.L.Labeller.fits l.labeller l.memo;
   room : length l.out ≡ g.L.Labeller.word_count l.labeller;
   few : length l.found.labels.labels ≤ l.cap;
+  grows : l.fn.steps ≤ l.steps;
   steps : l.steps + length l.fn.maker.targets ≡ l.fn.steps + length l.maker.targets;
 }
 

@@ -12,10 +12,10 @@ use Rattle.fort_infinity.proofs.ManyMarks.{label_written, first_set, second_set,
 use Rattle.fort_infinity.proofs.local.many_label.Goals as goal
 
 pub absent_target-requires : goal.absent_target-requires
-absent_target-requires g c = record { column = c.requires.column; tells = c.requires.tells; over = c.requires.over }
+absent_target-requires g c = record { column = c.requires.column; over = c.requires.over }
 
 pub mark-requires-clause-entry : goal.mark-requires-clause-entry
-mark-requires-clause-entry g c = record { column = c.requires.column; tells = c.requires.tells; over = c.requires.over }
+mark-requires-clause-entry g c = record { column = c.requires.column; over = c.requires.over }
 
 pub returns : goal.returns
 returns g c =

@@ -7,10 +7,6 @@ use Rattle.fort_counts.proofs.ManyTruth.{many_decides}
 use Rattle.fort_infinity.specs.CountView.{as_count, is_many}
 use Rattle.fort_infinity.proofs.many.Many.new.Goals as goal
 
-pub invariant_of-result-clause-tells : goal.invariant_of-result-clause-tells
-invariant_of-result-clause-tells g c =
-    TellsMany-marks (g.T.Table.table c.args.body.now) c.args.column (count_at c.args.alone.now (map as_count c.args.counts.now)) c.states-states.ensures.lawful c.states-states.ensures.reached c.requires.column c.requires.rules
-
 pub returns-clause-tells : goal.returns-clause-tells
 returns-clause-tells g c =
     TellsMany-marks (g.T.Table.table c.args.body.now) c.args.column (count_at c.args.alone.now (map as_count c.args.counts.now)) c.states-states.ensures.lawful c.states-states.ensures.reached c.requires.column c.requires.rules

@@ -1,7 +1,8 @@
 use Rattle.std.proofs.Common.{◌≡◌, ℕ, ◌+◌, get_or, drop, Vec, Global, ◌∙◌, sym, arith, subst}
 use Rattle.std.proofs.lemmas.List.{get_or_default}
-use Rattle.fort_infinity.specs.Rankings.{rank_of, AreTried}
-use Rattle.fort_infinity.proofs.TryLaws.{children_within, room_for, tried_within, skipped, advanced}
+use Rattle.fort_tables.specs.Tables.{Table}
+use Rattle.fort_infinity.specs.Rankings.{rank_of, AreTried, AreReady, HasUnranked}
+use Rattle.fort_infinity.proofs.TryLaws.{OnErr-always, children_within, room_for, tried_within, skipped, advanced, tried_unranked}
 use Rattle.fort_infinity.proofs.ranks.Ranking.round.Goals as goal
 use Rattle.fort_infinity.proofs.ranks.Ranking.round.Goals.{then-index-eq0+in_ok-advance, else-index-eq0}
 
@@ -41,7 +42,7 @@ loop-q-preserved c = λ body column ready.
     elim c.if-index-eq0.branch [
       | then-index-eq0+in_ok-advance w ↦
           let none : rank_of s q ≡ 0 = sym rank ∙ w.if-index-eq0.true in
-          let now = advanced body column children c.args.round c.args.self.now s tried i c.loop-q.ranked.items ready c.loop-q-test.true h w.advance.new.self w.advance.new.ranked.items none w.in_ok-advance.ensures in
+          let now = advanced body column children c.args.round c.args.self.now s tried i c.loop-q.ranked.items ready c.loop-q-test.true h w.advance.new.self w.advance.new.ranked.items none w.in_ok-advance.ensures.advanced in
           subst (λ (z : Vec ℕ Global). AreTried body column children c.args.round c.args.self.now c.if-index-eq0.self (drop (i + 1) tried) z.items) (sym w.ranked-is)
           (subst (λ z. AreTried body column children c.args.round c.args.self.now z (drop (i + 1) tried) w.advance.new.ranked.items) (sym w.self-is) now)
       | else-index-eq0 w ↦
@@ -49,3 +50,18 @@ loop-q-preserved c = λ body column ready.
           subst (λ (z : Vec ℕ Global). AreTried body column children c.args.round c.args.self.now c.if-index-eq0.self (drop (i + 1) tried) z.items) (sym w.ranked-is)
           (subst (λ z. AreTried body column children c.args.round c.args.self.now z (drop (i + 1) tried) c.loop-q.ranked.items) (sym w.self-is) now)
     ]
+
+pub returns-in_err-advance-clause-memory : goal.returns-in_err-advance-clause-memory
+returns-in_err-advance-clause-memory c =
+    let children = c.args.children.now in
+    let tried = c.args.tried.now in
+    let i = c.loop-q.q-index in
+    let s = c.loop-q.self in
+    let wanted : (body : Table) (column : ℕ) → AreReady body column children c.args.round c.args.self.now tried → HasUnranked body column c.advance.new.self =
+    λ body column ready.
+    let h = c.loop-q.invariant body column ready in
+    let room = room_for body column children c.args.round c.args.self.now s (drop i tried) c.loop-q.ranked.items h in
+    let within = tried_within body column children c.args.round c.args.self.now s tried i c.loop-q.ranked.items ready c.loop-q-test.true h in
+    let rank : c.index.result.now ≡ rank_of s (get_or tried i 0) = c.index.ensures ∙ get_or_default s.ranks.items (get_or tried i 0) c.index.result.now 0 (omega (arith, within, room.ranks)) in
+    tried_unranked body column children c.args.round c.args.self.now s tried i c.loop-q.ranked.items ready c.loop-q-test.true h c.advance.new.self (sym rank ∙ c.if-index-eq0.true) c.in_err-advance.ensures.memory in
+    OnErr-always c.from_residual.result _ wanted
