@@ -23,7 +23,7 @@ use fort_engine::{EngineFault, Last, Limit, drop_idle, last_uses, place_of};
 use fort_explore::ExploreFault;
 use fort_formulas::{Core, kind, parts};
 use fort_steps::Step;
-use fort_terms::System;
+use fort_terms::{System, has_numbers};
 use std::alloc::Global;
 
 /// A closed formula's truth, with the steps of a certificate of it.
@@ -121,7 +121,7 @@ pub fn decide_with_steps(
     ensures over { IfErr result (λ e. IfOver e (IsLimit system.now (as_core core.now) cap)) }
 {
     let all = parts(alloc, core)?;
-    if all.len() > u32::MAX as usize {
+    if !has_numbers(all.len()) {
         return Err(EngineFault::Memory);
     }
     let root = place_of(&all, core, all.len());

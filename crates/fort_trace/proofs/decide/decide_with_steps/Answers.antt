@@ -33,7 +33,7 @@ unreachable-requires c =
       decided = c.requires.decided;
       are = c.in_ok-all.ensures;
       last = subst (λ xs. AreLastUses (map as_core xs) root uses) c.deref-2.ensures.value c.in_ok-uses.ensures;
-      few = omega (arith, long, c.if-len.false, c.len.ensures, c.len-2.ensures);
+      few = omega (arith, long, c.if-not-has_numbers.ensures, c.len.ensures, c.len-2.ensures);
     } in
     let r : IsRecording system parts uses a.cap (length items) kept steps =
     subst (λ xs. IsRecording system (map as_core xs) uses a.cap (length xs) kept steps) c.deref-4.ensures.value
@@ -62,7 +62,7 @@ unreachable-requires-in-None c =
       decided = c.requires.decided;
       are = c.in_ok-all.ensures;
       last = subst (λ xs. AreLastUses (map as_core xs) root uses) c.deref-2.ensures.value c.in_ok-uses.ensures;
-      few = omega (arith, long, c.if-len.false, c.len.ensures, c.len-2.ensures);
+      few = omega (arith, long, c.if-not-has_numbers.ensures, c.len.ensures, c.len-2.ensures);
     } in
     let r : IsRecording system parts uses a.cap (length items) kept steps =
     subst (λ xs. IsRecording system (map as_core xs) uses a.cap (length xs) kept steps) c.deref-4.ensures.value
@@ -90,7 +90,7 @@ returns-clause-truth c =
       decided = c.requires.decided;
       are = c.in_ok-all.ensures;
       last = subst (λ xs. AreLastUses (map as_core xs) root uses) c.deref-2.ensures.value c.in_ok-uses.ensures;
-      few = omega (arith, long, c.if-len.false, c.len.ensures, c.len-2.ensures);
+      few = omega (arith, long, c.if-not-has_numbers.ensures, c.len.ensures, c.len-2.ensures);
     } in
     let r : IsRecording system parts uses a.cap (length items) kept steps =
     subst (λ xs. IsRecording system (map as_core xs) uses a.cap (length xs) kept steps) c.deref-4.ensures.value
@@ -119,7 +119,7 @@ returns-clause-written c first =
       decided = c.requires.decided;
       are = c.in_ok-all.ensures;
       last = subst (λ xs. AreLastUses (map as_core xs) root uses) c.deref-2.ensures.value c.in_ok-uses.ensures;
-      few = omega (arith, long, c.if-len.false, c.len.ensures, c.len-2.ensures);
+      few = omega (arith, long, c.if-not-has_numbers.ensures, c.len.ensures, c.len-2.ensures);
     } in
     let r : IsRecording system parts uses a.cap (length items) kept steps =
     subst (λ xs. IsRecording system (map as_core xs) uses a.cap (length xs) kept steps) c.deref-4.ensures.value
@@ -148,7 +148,7 @@ returns-clause-within c =
       decided = c.requires.decided;
       are = c.in_ok-all.ensures;
       last = subst (λ xs. AreLastUses (map as_core xs) root uses) c.deref-2.ensures.value c.in_ok-uses.ensures;
-      few = omega (arith, long, c.if-len.false, c.len.ensures, c.len-2.ensures);
+      few = omega (arith, long, c.if-not-has_numbers.ensures, c.len.ensures, c.len-2.ensures);
     } in
     let r : IsRecording system parts uses a.cap (length items) kept steps =
     subst (λ xs. IsRecording system (map as_core xs) uses a.cap (length xs) kept steps) c.deref-4.ensures.value
