@@ -24,9 +24,25 @@ fn faults_of_devices(rt: HostRuntime) -> Result<(), Fail> {
         ("forall x (NF(x))", &[1][..], 100, 100, &no_calls[..], 6, ""),
         ("forall x (NF(x))", &no_calls[..], 100, 100, &[0][..], 7, ""),
         ("forall x (NF(x))", &no_calls[..], 100, 2, &[1][..], 7, "YE"),
-        ("forall x (NF(x))", &no_calls[..], 2, 100, &no_calls[..], 7, "YE"),
+        (
+            "forall x (NF(x))",
+            &no_calls[..],
+            2,
+            100,
+            &no_calls[..],
+            7,
+            "YE",
+        ),
         // nothing is read where the formula is refused
-        ("NF(x)", &[0][..], 100, 100, &no_calls[..], 3, "REFUSED formula open x\n"),
+        (
+            "NF(x)",
+            &[0][..],
+            100,
+            100,
+            &no_calls[..],
+            3,
+            "REFUSED formula open x\n",
+        ),
     ] {
         let words = words(alloc, formula)?;
         let mut source = MemSource::new(alloc, ONE.as_bytes(), 8, reads)?;

@@ -1,6 +1,6 @@
-use Rattle.std.proofs.Common.{List, map, take, subst, ◌∙◌, ap, refl, arith, ⊎_elim}
+use Rattle.std.proofs.Common.{List, map, take, subst, sym, ◌∙◌, ap, refl, arith, ⊎_elim}
 use Rattle.std.specs.Prelude.{Contains}
-use Rattle.std.proofs.lemmas.List.{take_all, map_more}
+use Rattle.std.proofs.lemmas.List.{length-map, get_or-map, take_all, map_more}
 use Rattle.std.proofs.lemmas.List.Elements.{Contains-push_cases}
 use Rattle.fort_certificate_grammar.specs.Certificates as theory
 use Rattle.fort_certificate_grammar.specs.Certificates.{Part}
@@ -14,8 +14,16 @@ loop-step-preserved c = λ k targets among.
     let more = map_more as_step c.args.steps.now c.loop-step.step-index item c.loop-step-test.true in
     ⊎_elim
     (λ before. c.loop-step.invariant k targets before)
-    (λ here. c.if-not-has_few.ensures refl k targets (ap as_step c.step-item.is ∙ here))
+    (λ here. c.if-not-has_few.ensures.0 refl k targets (ap as_step c.step-item.is ∙ here))
     (Contains-push_cases (map as_step (take c.loop-step.step-index c.args.steps.now)) _ (Part k targets) (subst (λ (ss : List theory.Step). Contains ss (Part k targets)) more among))
 
+pub returns-then-not-has_few : goal.returns-then-not-has_few
+returns-then-not-has_few c = (
+  λ no. absurd cc,
+  λ few. c.if-not-has_few.ensures.1 (λ k targets same.
+      let inside = c.loop-step-test.true in
+      few k targets (c.loop-step.step-index, omega (arith, length-map c.args.steps.now as_step, inside), get_or-map as_step c.args.steps.now c.loop-step.step-index c.step-item.result (Part k targets) inside ∙ (ap as_step (sym c.step-item.is) ∙ same))),
+)
+
 pub returns : goal.returns
-returns c = λ yes. subst (λ ss. HasFewTargets (map as_step ss)) (take_all c.loop-step.step-index c.args.steps.now (omega arith)) c.loop-step.invariant
+returns c = (λ yes. subst (λ ss. HasFewTargets (map as_step ss)) (take_all c.loop-step.step-index c.args.steps.now (omega arith)) c.loop-step.invariant, λ few. refl)

@@ -10,13 +10,13 @@ use Rattle.fort_cert_checker.proofs.making.label_needs.Goals as goal
 pub returns : goal.returns
 returns c = λ scratch has.
     let made = c.with_lists.result in
-    let space = c.with_lists.ensures.labels c.in_ok-width.width c.most_states.result c.in_ok-needs.ensures in
+    let space = c.with_lists.ensures.labels c.width_of.result c.most_states-states.result c.in-Some.ensures.some in
     record {
-      width = c.in_ok-width.width;
-      is_width = c.in_ok-width.ensures.width;
+      width = c.width_of.result;
+      is_width = c.width_of.ensures;
       sized = λ targets only.
-          subst (λ (ts : List ℕ). HasLabelRoom c.in_ok-width.width ts scratch) (c.targets_of.ensures.own targets only)
-          (has_label_room c.in_ok-width.width c.most_states.result c.targets_of.result.now made scratch space has (omega (arith, c.most_states.ensures)));
+          subst (λ (ts : List ℕ). HasLabelRoom c.width_of.result ts scratch) (c.targets_of.ensures.own targets only)
+          (has_label_room c.width_of.result c.most_states-states.result c.targets_of.result.now made scratch space has (omega (arith, c.most_states-states.ensures)));
       lists = lists_needed (map as_step c.args.steps.now) c.args.plan.now.work made scratch
           (subst (λ (n : ListNeeds). AreNeedsOf (map as_step c.args.steps.now) c.args.plan.now.work n made.second) (sym c.with_lists.ensures.first)
           (subst (λ (n : ListNeeds). AreNeedsOf (map as_step c.args.steps.now) c.args.plan.now.work c.list_needs.result.0 n) (sym c.with_lists.ensures.second) c.list_needs.ensures)) has;

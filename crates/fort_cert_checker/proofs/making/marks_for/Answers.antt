@@ -7,15 +7,15 @@ use Rattle.fort_cert_checker.specs.declared.plan.Work.{Work}
 use Rattle.fort_cert_checker.specs.Pasts.{IsMarkRoomFor}
 use Rattle.fort_cert_checker.proofs.making.marks_for.Goals as goal
 
-pub returns-in_ok-states_of-in-Projection : goal.returns-in_ok-states_of-in-Projection
-returns-in_ok-states_of-in-Projection c =
+pub returns-in-Projection : goal.returns-in-Projection
+returns-in-Projection c =
     IfOk-weaker c.mark_room.result _ _ (λ r has.
     subst (λ (w : Work). IsMarkRoomFor (map as_step c.args.steps.now) w r) (sym c.in-Projection.is)
-    (λ targets only. subst (λ (n : ℕ). HasMarkRoom n 0 r) (c.states_of-in-Projection.ensures.states targets only) has))
+    (λ targets only. subst (λ (n : ℕ). HasMarkRoom n 0 r) (c.states_of.ensures.states targets only) has))
     c.mark_room.ensures
 
-pub returns-in_ok-states_of-in-Many : goal.returns-in_ok-states_of-in-Many
-returns-in_ok-states_of-in-Many c =
+pub returns-in-Many : goal.returns-in-Many
+returns-in-Many c =
     let count : c.len.result ≡ length c.in-Many.marks.items = omega (arith, c.len.ensures, c.in-Many.marks.ok.0) in
     IfOk-weaker c.mark_room-in-Many.result _ _ (λ r has.
     subst (λ (w : Work). IsMarkRoomFor (map as_step c.args.steps.now) w r) (sym c.in-Many.is)

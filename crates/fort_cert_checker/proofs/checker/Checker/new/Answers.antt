@@ -27,8 +27,15 @@ plans_of-requires-clause-fit c = λ f among.
     fit_part c.args.system.now (as_core c.args.core.now) (map as_core c.deref-3.result.now)
     (subst (λ ps. AreParts (as_core c.args.core.now) (map as_core ps)) (sym c.deref-3.ensures.value) c.in_ok-parts.ensures) c.requires.decided f among
 
+pub scratch_for-requires-clause-few_targets : goal.scratch_for-requires-clause-few_targets
+scratch_for-requires-clause-few_targets c = let numbers = c.if-not-has_all_numbers.ensures.0 refl in numbers.2
+
+pub mark_rooms-requires : goal.mark_rooms-requires
+mark_rooms-requires c = let numbers = c.if-not-has_all_numbers.ensures.0 refl in numbers.2
+
 pub returns : goal.returns
 returns c =
+    let numbers = c.if-not-has_all_numbers.ensures.0 refl in
     let system = c.args.system.now in
     let rules = system.rules in
     let steps = c.as_slice-steps.result.now in
@@ -47,13 +54,13 @@ returns c =
       certificate_is = refl;
       lawful = c.number.ensures.lawful;
       closed = c.requires.closed;
-      forms = omega (arith, c.if-forms.false, c.saturating_add-forms.ensures, c.as_slice-steps.ensures.len, ap length steps_are);
+      forms = omega (arith, numbers.1, ap length steps_are);
       dues = due_are;
       ready = subst (λ ss. IsReady system (as_core c.args.core.now) parts (map as_step ss) plans c.in_ok-closures.closures.items c.in_ok-rooms.rooms.items c.in_ok-scratch.scratch c.in_ok-marks.marks.items) steps_are
           record {
             are = c.in_ok-parts.ensures;
             decided = c.requires.decided;
-            few = c.if-not-have_few.ensures refl;
+            few = numbers.2;
             plans_made = plans_made;
             rooms_made =
                 let n : c.len-2.result ≡ length parts = omega (arith, c.len-2.ensures, c.in_ok-plans.plans.ok.0, plans_made.count) in
