@@ -31,6 +31,7 @@ pub fn put_pure<T: Table>(table: &T, column: usize, states: &mut Vec<u32>)
     ensures pure { ArePure (T.table table.now) column states.new.items }
     ensures capacity { vec_capacity states.new ≡ vec_capacity states.old }
 {
+    // its clause says that the table is lawful
     let _columns = table.columns();
     for q in 0..table.states() {
         if table.presence(q) == 1 << column {

@@ -59,6 +59,7 @@ impl NormalBits {
         ensures count { result ≡ self.now.atom.columns }
         ensures one { result ≡ 1 }
     {
+        // read, so that what the struct keeps is known
         let _patterns = &self.patterns;
         1
     }

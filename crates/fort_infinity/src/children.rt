@@ -46,6 +46,7 @@ impl<'a, T: Table> Alone<'a, T> {
             ≡ (is_child_after (T.table self.now.body.now) self.now.column self.now.symbol
             (take j chosen) j rest q k || has_number k (slice_index_or children.old q []))) }
     {
+        // its clause says that the table is lawful
         let _states = self.body.states();
         if rest == 0 {
             let state = self.body.target(&self.symbol, &chosen[..j]);
@@ -86,8 +87,10 @@ fn note_under<T: Table>(
         ≡ (is_child_under (T.table body.now) column q k sym.0
         || has_number k (slice_index_or children.old q []))) }
 {
+    // its clause says that the table is lawful
     let _states = body.states();
     let sig = body.signature();
+    // its clause says that the signature is lawful
     let _symbols = sig.len();
     let arity = sig.arity(sym) as usize;
     let alone = Alone {

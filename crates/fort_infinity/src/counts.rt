@@ -83,6 +83,7 @@ pub fn pure_counts<T: Table>(
     ensures { IfOk result (λ counts. AreCounts (T.table body.now) column alone.now
         (map as_count counts.items)) }
 {
+    // its clause says that the table is lawful
     let _states = body.states();
     let children = pure_children(alloc, body, column, alone)?;
     let ranks = settled_ranks(alloc, &children, alone)?;

@@ -44,6 +44,7 @@ pub fn many_label<T: Table>(
     ensures { out.new ≡ entry_label (many_rule (T.table body.now) column
         (is_many alone.now counts.now)) rows.now.labels row.now }
 {
+    // its clause says that the table is lawful
     let _states = body.states();
     for word in out.iter_mut() {
         *word = 0;
@@ -78,6 +79,7 @@ pub fn many_value<T: Table>(body: &T, column: usize, alone: &[u32], counts: &[Co
         → Decides result (ManyComplete (T.table body.now).signature column
         (λ t. IsTrue (accepts_lem (T.table body.now) t)) []) }
 {
+    // its clause says that the table is lawful
     let _states = body.states();
     for i in 0..alone.len() {
         if counts[i].is_infinite() && body.is_final(alone[i]) {

@@ -63,6 +63,7 @@ impl<'a, T: Table> Many<'a, T> {
             (labels.ManyComplete (T.table body.now).signature column
             (λ t. IsTrue (accepts_lem (T.table body.now) t))) }
     {
+        // its clause says that the table is lawful
         let _states = body.states();
         Many {
             body,

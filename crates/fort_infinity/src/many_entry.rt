@@ -45,6 +45,7 @@ pub(crate) fn absent_target<T: Table>(
     ensures { result ≡ (T.table body.now).target (entry (insert row.now.symbol column None)
         (map absent_state (kid_labels rows.now.labels row.now))) }
 {
+    // its clause says that the table is lawful
     let _states = body.states();
     let symbol = row.sym().with_column(column, None);
     let states = absent_states(row, rows);
@@ -76,6 +77,7 @@ pub(crate) fn mark<T: Table>(
         (kid_labels rows.now.labels row.now) q
         || has_many (length (T.table body.now).presences) out.old q) }
 {
+    // its clause says that the table is lawful
     let _states = body.states();
     for g in 0..body.signature().len() {
         mark_under(body, column, alone, counts, row, rows, Sym(g as u16), out);
@@ -109,8 +111,10 @@ fn mark_under<T: Table>(
         row.now.symbol (kid_labels rows.now.labels row.now) q sym.0
         || has_many (length (T.table body.now).presences) out.old q) }
 {
+    // its clause says that the table is lawful
     let _states = body.states();
     let sig = body.signature();
+    // its clause says that the signature is lawful
     let _symbols = sig.len();
     let arity = sig.arity(sym) as usize;
     let choices = ManyChoices {

@@ -86,6 +86,7 @@ impl Maker {
         ensures none { IfNone result (IsComplete self.now) }
         ensures counted { length self.now.targets < 2 ^ 64 }
     {
+        // its clause says that it counts the targets
         let _count = self.given.len();
         if self.is_due { Some(&self.row) } else { None }
     }
@@ -98,6 +99,7 @@ impl Maker {
             target self.new) }
         ensures err { OnErr result (self.new ≡ self.old) }
     {
+        // its clause says that the signature is lawful
         let _symbols = self.signature.len();
         self.given.push(&self.row, target)?;
         self.is_due = self

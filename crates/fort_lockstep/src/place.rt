@@ -16,6 +16,7 @@ fn count_before(presences: &[u16], counts: &Counts, first: usize, want: u16) -> 
     requires want { want < counts.now.width }
     ensures { result ≡ rank_in want presences.now first }
 {
+    // its clause bounds the length
     let _count = presences.len();
     counts.before[first * counts.width + want as usize] as usize
 }

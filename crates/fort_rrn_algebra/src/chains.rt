@@ -20,6 +20,7 @@ pub(crate) fn presence_count<T: Table>(body: &T) -> usize
     ensures within { (q : ℕ) → q < length (T.table body.now).presences
         → slice_index (T.table body.now).presences q < result }
 {
+    // its clause says that the table is lawful
     let _states = body.states();
     2usize.pow(body.columns() as u32)
 }

@@ -83,6 +83,7 @@ impl<'a, T: Table> Choices<'a, T> {
             (may_choose (T.table self.now.body.now) self.now.column self.now.rows.now.labels
             self.now.row.now self.now.arity j) from) }
     {
+        // its clause says that the table is lawful
         let _states = self.body.states();
         let kids = self.row.kids();
         if self.arity <= j {
@@ -110,6 +111,7 @@ impl<'a, T: Table> Choices<'a, T> {
             (may_in self.now.scope (may_choose (T.table self.now.body.now) self.now.column
             self.now.rows.now.labels self.now.row.now self.now.arity) j) from) }
     {
+        // its clause says that the table is lawful
         let _states = self.body.states();
         match self.scope.state_at(j) {
             Some(state) => next_one(state, from),
@@ -151,6 +153,7 @@ impl<'a, T: Table> Choices<'a, T> {
             (symbol_under self.now.row.now self.now.column self.now.sym.0) before.now
             (length before.now) 1 q || has_state out.old q) }
     {
+        // its clause says that the table is lawful
         let _states = self.body.states();
         let _count = flat.listing.targets.len();
         let j = before.len();
@@ -193,6 +196,7 @@ impl<'a, T: Table> Choices<'a, T> {
             (symbol_under self.now.row.now self.now.column self.now.sym.0) (take j chosen.now) j
             rest q || has_state out.old q) }
     {
+        // its clause says that the table is lawful
         let _states = self.body.states();
         if rest == 0 {
             let state = look_up.target(self.body, &chosen[..j]);

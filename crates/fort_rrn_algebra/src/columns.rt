@@ -53,6 +53,7 @@ pub(crate) fn selected_kids(sig: &Signature, symbol: &TupleSym, places: &[usize]
     ensures count { result ≡ symbol_kids sig.now (selected_lem places.now symbol.now) }
     ensures few { result ≤ 8 }
 {
+    // its clause says that the signature is lawful
     let _symbols = sig.len();
     let mut count = 0;
     for k in 0..places.len() {
@@ -83,6 +84,7 @@ pub(crate) fn kid_count(sig: &Signature, sym: &TupleSym) -> usize
     ensures count { result ≡ symbol_kids sig.now sym.now }
     ensures few { result ≤ 8 }
 {
+    // its clause says that the signature is lawful
     let _symbols = sig.len();
     let mut count = 0;
     for k in 0..sym.len() {
@@ -102,6 +104,7 @@ pub(crate) fn kid_presence(sig: &Signature, sym: &TupleSym, j: usize) -> u16
     ensures value { result ≡ kid_presence_lem sig.now sym.now j }
     ensures bound { result < 2 ^ length sym.now }
 {
+    // its clause says that the signature is lawful
     let _symbols = sig.len();
     let mut presence = 0u32;
     for k in 0..sym.len() {

@@ -70,6 +70,7 @@ pub(crate) fn has_entries(
     ensures no { (ps : List ℕ) → AreCounts ps counts.now → IsFalse result
         → length (by_symbol signature.now columns ps) ≡ number → ⊥ }
 {
+    // its clause says that the signature is lawful
     let _symbols = signature.len();
     let mut symbol = TupleSym::absent(columns);
     let mut sum = 0usize;

@@ -85,6 +85,7 @@ impl FlatTargets {
         ensures { result ≡ slice_index self.now.listing.targets.items (start
             + place_from self.now.spots.ranks.items self.now.spots.alike.items 0 states.now) }
     {
+        // its clause bounds the length
         let _count = self.listing.targets.len();
         self.listing.targets[start + self.spots.place_of(states)]
     }
@@ -94,6 +95,7 @@ impl FlatTargets {
         requires { IsReadable self.now start place state }
         ensures { result ≡ read_at self.now start place state }
     {
+        // its clause bounds the length
         let _count = self.listing.targets.len();
         let behind = place * self.spots.alike[state] as usize + self.spots.ranks[state] as usize;
         self.listing.targets[start + behind]

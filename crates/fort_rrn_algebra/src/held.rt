@@ -171,6 +171,7 @@ impl<'a, T: Table> Both<'a, T> {
             → IsTrue result → IsHeldBetween (operands_of T.table self.now.first self.now.second)
             t begins holding.now count cursors.new }
     {
+        // its clause says that the signature is lawful
         let _symbols = holding.walk.signature.len();
         let mut symbol = TupleSym::absent(holding.walk.columns);
         for _ in 0..count {

@@ -40,6 +40,7 @@ pub(crate) fn write_kept<T: Table>(
     ensures label { out.new ≡ entry_label (project_rule (T.table body.now) column)
         rows.now.labels row.now }
 {
+    // its clause says that the table is lawful
     let _states = body.states();
     write_front(body, finder, column, row, rows, out);
     if images.turn_to(row, rows) {
@@ -77,6 +78,7 @@ fn mark_set<T: Table>(
         column row.now.symbol (labels_at rows.now.labels row.now.kids)
         (with_state images.old.place s) q) || has_state out.old q) }
 {
+    // its clause says that the table is lawful
     let _states = body.states();
     let kids = row.kids();
     let set = rows.label(kids[images.place]);
@@ -120,6 +122,7 @@ fn mark_state<T: Table>(
         row.now.symbol (labels_at rows.now.labels row.now.kids)
         (with_state images.old.place state) q || has_state out.old q) }
 {
+    // its clause says that the table is lawful
     let _states = body.states();
     let number = images.slots[state as usize];
     if number == 0 {

@@ -75,6 +75,7 @@ fn table_under<'a, T: Table>(
         (products.OfTable (T.table table.now) places.now) × AreSymbols sig symbol.now }
     ensures { IsUnderOf (products.OfTable (T.table table.now) places.now) at symbol.now result }
 {
+    // its clause says that the table is lawful
     let _columns = table.columns();
     let number = selected_number(list.base, symbol, places);
     if number == 0 {
@@ -154,6 +155,7 @@ impl Under<'_> {
         ensures { result ≡ place_from list.now.spots.ranks.items list.now.spots.alike.items 0
             (states_under self.now rows.now.labels kids.now) }
     {
+        // its clause bounds the length
         let _count = list.listing.targets.len();
         let mut place = 0usize;
         for j in 0..self.count {

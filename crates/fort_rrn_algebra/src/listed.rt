@@ -31,6 +31,7 @@ fn listed_word<T: Table>(
     ensures { result ≡ products.operand_step at (products.OfTable (T.table table.now) places.now)
         row.now.symbol (labels_at rows.now.labels row.now.kids) }
 {
+    // its clause says that the table is lawful
     let _columns = table.columns();
     let _states = table.states();
     let symbol = row.sym();
@@ -52,6 +53,7 @@ fn constant_word<T: Table>(table: &T, list: &FlatTargets, places: &[usize], row:
     ensures { (i : ℕ) → result ≡ products.operand_step i (products.OfTable (T.table table.now)
         places.now) row.now.symbol [] }
 {
+    // its clause says that the table is lawful
     let _columns = table.columns();
     let number = selected_number(list.base, &row.sym(), places);
     if number == 0 {

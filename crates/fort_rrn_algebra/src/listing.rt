@@ -95,6 +95,7 @@ fn lay<T: Table>(
     ensures { OnOk result (targets.new.items ≡ targets.old.items
         ++ laid (T.table body.now) symbol.now (take j chosen) j rest) }
 {
+    // its clause says that the table is lawful
     let _states = body.states();
     let mut q = chains.first(kid_presence(body.signature(), symbol, j));
     'states: while q < body.states() {
@@ -136,6 +137,7 @@ impl Listing {
             → (2 ^ 32 ≤ length self.old.targets.items) × (self.new ≡ self.old)) }
         ensures memory { OnErr result (length self.old.targets.items < 2 ^ 32) }
     {
+        // its clause says that the table is lawful
         let _columns = body.columns();
         let Ok(start) = u32::try_from(self.targets.len()) else {
             return Ok(false);
@@ -173,6 +175,7 @@ impl Listing {
     {
         make_room(&mut self.starts, count)?;
         self.targets.clear();
+        // its clause says that the signature is lawful
         let _symbols = body.signature().len();
         let mut symbol = TupleSym::absent(body.columns());
         for _ in 0..count {

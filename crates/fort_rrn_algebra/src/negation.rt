@@ -29,6 +29,7 @@ pub fn negate(alloc: Global, table: &Dta) -> Result<Dta, Memory>
         (Complement (λ s. IsTrue (accepts (listed_table table.now) s)))) }
     ensures listed { IfOk result IsListed }
 {
+    // its clause says that the table is lawful
     let _columns = table.columns();
     let finals = turned_finals(alloc, table)?;
     table.with_finals(finals)

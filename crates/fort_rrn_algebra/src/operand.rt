@@ -28,6 +28,7 @@ impl<'a, T: Table> Operand<'a, T> {
     {
         match self {
             Operand::Auto(table, places) => {
+                // its clause says that the table is lawful
                 let _states = table.states();
                 places.len()
             }

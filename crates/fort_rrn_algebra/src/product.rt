@@ -89,6 +89,7 @@ impl<'a, T: Table> Both<'a, T> {
             (λ t. Connected (connective_of op) (IsTrue (said_by (operand_of T.table first.entry) t))
             (IsTrue (said_by (operand_of T.table second.entry) t))) }
     {
+        // its clause says that the table is lawful
         let _first_columns = first.columns();
         let _second_columns = second.columns();
         Both {

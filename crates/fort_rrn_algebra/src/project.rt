@@ -56,6 +56,7 @@ impl<'a, T: Table> Project<'a, T> {
             (SomeCompletes (T.table body.now).signature column
             (λ t. IsTrue (accepts_lem (T.table body.now) t)))) }
     {
+        // its clause says that the table is lawful
         let _states = body.states();
         let alone = pure_states(alloc, body, column)?;
         let flat = FlatTargets::of(alloc, body)?;

@@ -88,6 +88,7 @@ fn absent_target<T: Table>(
     ensures { result ≡ (T.table body.now).target (entry (insert row.now.symbol column None)
         (map absent_state (labels_at rows.now.labels row.now.kids))) }
 {
+    // its clause says that the table is lawful
     let _states = body.states();
     let _columns = body.columns();
     let look_up = finder.absent(row, column);
@@ -107,6 +108,7 @@ fn target_over_absent<T: Table>(body: &T, look_up: &LookUp<'_>, row: &Row, rows:
         → result ≡ (T.table body.now).target (entry f
         (map absent_state (labels_at rows.now.labels row.now.kids))) }
 {
+    // its clause says that the table is lawful
     let _states = body.states();
     let states = absent_states(row, rows);
     look_up.target(body, &states[..row.kids().len()])
@@ -150,6 +152,7 @@ pub(crate) fn mark<T: Table>(
     ensures marked { (q : ℕ) → has_state out.new q ≡ (some_gives (T.table body.now) column
         row.now.symbol (labels_at rows.now.labels row.now.kids) scope q || has_state out.old q) }
 {
+    // its clause says that the table is lawful
     let _states = body.states();
     for g in 0..body.signature().len() {
         mark_under(
@@ -190,9 +193,11 @@ fn mark_under<T: Table>(
         row.now.symbol (labels_at rows.now.labels row.now.kids) scope q sym.0
         || has_state out.old q) }
 {
+    // its clause says that the table is lawful
     let _states = body.states();
     let _columns = body.columns();
     let sig = body.signature();
+    // its clause says that the signature is lawful
     let _symbols = sig.len();
     let arity = sig.arity(sym) as usize;
     if !scope.takes(arity) {

@@ -14,6 +14,7 @@ pub fn pure_states<T: Table>(alloc: Global, table: &T, column: usize) -> Result<
     requires { column < (T.table table.now).columns }
     ensures { IfOk result (λ states. ArePure (T.table table.now) column states.items) }
 {
+    // its clause says that the table is lawful
     let _columns = table.columns();
     let mut states = Vec::new(alloc);
     for q in 0..table.states() {

@@ -39,6 +39,7 @@ pub fn widen<T: Table>(
         total (label_of (product_rule total (OfTable (T.table old.now) places.now)
         (OfTruth true))) 4294967296 (tuples_of tuples))) }
 {
+    // its clause says that the table is lawful
     let _states = old.states();
     let both = Both::new(
         Op::And,

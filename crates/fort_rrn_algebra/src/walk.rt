@@ -138,6 +138,7 @@ impl<'a> Walk<'a> {
         ensures starts { vec_capacity listing.new.starts ≡ vec_capacity listing.old.starts }
         ensures room { vec_capacity listing.new.targets ≡ vec_capacity listing.old.targets }
     {
+        // its clause says that the signature is lawful
         let _symbols = self.signature.len();
         let mut symbol = TupleSym::absent(self.columns);
         for _ in 0..count {

@@ -35,6 +35,7 @@ fn table_word<T: Table>(table: &T, places: &[usize], at: usize, row: &Row, rows:
     ensures { result ≡ products.operand_step at (products.OfTable (T.table table.now) places.now)
         row.now.symbol (labels_at rows.now.labels row.now.kids) }
 {
+    // its clause says that the table is lawful
     let _columns = table.columns();
     let _states = table.states();
     let symbol = selected(&row.sym(), places);
@@ -81,6 +82,7 @@ fn table_accepts<T: Table>(table: &T, _places: &[usize], at: usize, label: &[u64
     requires { IsFullWordAt (products.OfTable (T.table table.now) _places.now) at label.now }
     ensures { result ≡ (T.table table.now).accepting (products.state_at at label.now) }
 {
+    // its clause says that the table is lawful
     let _states = table.states();
     table.is_final(word_at(label, at).saturating_sub(1) as u32)
 }

@@ -68,6 +68,7 @@ pub fn witness(
         Last::Truth(true) => Ok(Reply::Found(Vec::from_slice(alloc, b"WITNESS\n")?)),
         Last::Truth(false) => Ok(Reply::NotFound),
         Last::Auto(table) => {
+            // its clause says that the table is lawful
             let _states = table.states();
             match least(alloc, table)? {
                 Some(dag) => Ok(Reply::Found(witness_text(alloc, signature, formula, &dag)?)),

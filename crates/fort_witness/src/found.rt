@@ -97,6 +97,7 @@ impl Search {
         ensures kept { OnOk result ((q : ℕ) (x : Entry) → Leads self.old.candidates.items q x
             → Leads self.new.candidates.items q x) }
     {
+        // its clause says that the table is lawful
         let _states = table.states();
         let own = over_states(states, row);
         let state = table.target(&own.sym(), own.kids());
