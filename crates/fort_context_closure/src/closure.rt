@@ -47,9 +47,7 @@ fn have_numbers(list: &RuleList) -> bool
     ensures { IsTrue result ↔ ((length list.now.lefts.items < 2 ^ 32)
         × (length list.now.rights.items < 2 ^ 32) × (length list.now.rules.items < 2 ^ 32)) }
 {
-    has_numbers(list.lefts.len())
-        && has_numbers(list.rights.len())
-        && has_numbers(list.rules.len())
+    has_numbers(list.lefts.len()) && has_numbers(list.rights.len()) && has_numbers(list.rules.len())
 }
 
 /// The places of the two sides of each rule.
