@@ -43,14 +43,19 @@ fn code_of(outcome: &Outcome) -> ExitCode
     ExitCode::from(outcome.status)
 }
 
-fn main(rt: HostRuntime) -> ExitCode
+/// Runs the words of the command line on standard input and output.
+fn answer(rt: &HostRuntime) -> ExitCode
     ensures { exit_status result ≤ 7 }
 {
-    let words = match words(&rt) {
+    let words = match words(rt) {
         Ok(words) => words,
         Err(AllocError) => return code_of(&Outcome::out_of_memory()),
     };
     let mut input = StdSource::new(rt.stdin());
     let mut output = StdSink::new(rt.stdout());
     code_of(&run(rt.alloc(), words.as_slice(), &mut input, &mut output))
+}
+
+fn main(rt: HostRuntime) -> ExitCode {
+    answer(&rt)
 }
