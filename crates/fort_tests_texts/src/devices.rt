@@ -1,5 +1,7 @@
 //! Sources and sinks over memory.
-use fort_io::{ClearSink, ClearSource, MemSink, MemSource, ReadAll, WriteFault, read_all, write_all};
+use fort_io::{
+    ClearSink, ClearSource, MemSink, MemSource, ReadAll, WriteFault, read_all, write_all,
+};
 use std::test::Fail;
 
 #[test]
