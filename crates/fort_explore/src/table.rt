@@ -159,7 +159,7 @@ fn give_targets<G: Ledger, L: Labeller>(
     Ok(true)
 }
 
-/// `explore`, counting the calls of the labeller's step: one for each entry of the table. Those before an error stay counted.
+/// `explore`, counting the calls of the labeller's step: one for each entry of the table. After an error none is taken back.
 pub fn explore_counted<G: Ledger, L: Labeller>(
     alloc: Global,
     sig: &Signature,

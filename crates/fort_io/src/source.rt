@@ -14,7 +14,7 @@ pub trait Source {
     /// The bytes still to come, where the source tells them.
     ghost rest: { Self → Option (List ℕ) };
 
-    /// How many faults there were. It never falls, and stays at its last value, 2^64 - 1.
+    /// How many faults there were. It never falls, stays at its last value, 2^64 - 1, and rises only where a read fails.
     ghost faults: { Self → ℕ };
 
     /// Moves some of the next bytes to the front of `buf` and says how many: 0 only at the end.

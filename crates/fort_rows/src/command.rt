@@ -9,6 +9,8 @@ use std::alloc::{AllocError, Global};
 pub struct Answer {
     pub status: u8,
     pub text: Vec<u8>,
+    /// The text is all that was printed.
+    pub is_whole: bool,
 }
 
 /// A word that was written in quotes; there is none where a backslash begins no escape, or the bytes aren't UTF-8.
@@ -63,12 +65,10 @@ pub fn run_command(
     let mut source = ClearSource::new(alloc, problem)?;
     let mut sink = ClearSink::new(alloc, room)?;
     let outcome = run(alloc, words.as_slice(), &mut source, &mut sink);
-    let text = match sink.taken() {
-        Some(text) => Vec::from_slice(alloc, text)?,
-        None => Vec::new(alloc),
-    };
+    let taken = sink.taken();
     Ok(Some(Answer {
         status: outcome.status,
-        text,
+        text: Vec::from_slice(alloc, taken.unwrap_or(&[]))?,
+        is_whole: taken.is_some(),
     }))
 }

@@ -2,14 +2,14 @@
 //!
 //! `== NAME` begins a problem, whose text are the lines up to the next row; `== < FILE` takes a file's text. `$ WORDS` is a
 //! command on the last problem; words stand between blanks, and one in quotes may hold blanks. The lines behind it are the
-//! text that it has to print, up to `= STATUS`. `+ WORDS` puts a line's end and what this command prints behind the
-//! problem for the next row, as `check` wants a certificate; its status has to be 0. In problems and quoted words `\xHH`, with digits 0 to 9
-//! and a to f, is the byte of that number, `\*N[TEXT]` is N copies of the text, and `\` at the end of a problem's line
-//! takes away the line's end. A line that begins with `#` is a comment, wherever it stands. Between rows there are blank
-//! lines.
+//! text that it has to print, up to `= STATUS`. `+ WORDS` puts a line's end and what this command prints behind the problem
+//! for the next row, as `check` wants a certificate; its status has to be 0. In problems and quoted words `\xHH`, with
+//! digits 0 to 9 and a to f, is the byte of that number, `\*N[TEXT]` is N copies of a text without `]` and escapes, and `\`
+//! at the end of a problem's line takes away the line's end. A line that begins with `#` is a comment, wherever it stands.
+//! Between rows there are blank lines.
 //!
 //! All else fails as a wrong answer does: a row without its status, a problem without a row, a backslash that begins no
-//! escape.
+//! escape, a `+` with another status, more text than a row may have.
 #![tactic(auto)]
 
 use rows::Rows;

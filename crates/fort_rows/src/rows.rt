@@ -152,9 +152,9 @@ impl Rows {
         self.end_open_row(rt)?;
         self.part = Part::Nothing;
         self.is_used = false;
-        self.behind = Some(self.problem.len());
+        self.behind = Some(self.behind.unwrap_or(self.problem.len()));
         match run_command(self.alloc, command, self.problem.as_slice(), BEHIND_ROOM)? {
-            Some(answer) if answer.status == 0 => {
+            Some(answer) if answer.status == 0 && answer.is_whole => {
                 self.problem.push(b'\n')?;
                 self.problem.extend_from_slice(answer.text.as_slice())?;
                 Ok(())
@@ -232,7 +232,7 @@ impl Rows {
     /// Whether an answer has this status and the wanted text.
     fn is_wanted(&self, got: &Answer, status: &str) -> bool {
         match status.parse::<u8>() {
-            Ok(wanted) => got.status == wanted && got.text == self.wanted,
+            Ok(wanted) => got.is_whole && got.status == wanted && got.text == self.wanted,
             Err(_) => false,
         }
     }

@@ -145,8 +145,8 @@ pub fn run<S: Source, K: Sink>(
     ensures silent { (result.status ≡ out_of_memory) ⊎ (result.status ≡ read_failed) →
         output.new ≡ output.old }
 
-    // No other status comes, 6 and 7 only by a fault that was counted, 6 wherever a read failed and only after an accepted
-    // formula.
+    // No other status comes, 6 and 7 only by a fault that was counted, 6 wherever the source's count rose, and only after
+    // an accepted formula.
     ensures statuses { (result.status ≤ last_answer) ⊎ ((result.status ≡ out_of_memory) ⊎
         ((result.status ≡ read_failed) ⊎ (result.status ≡ write_failed))) }
     ensures read_fault { result.status ≡ read_failed →

@@ -1,4 +1,4 @@
-//! Tests of automata, closures and atoms, of deciding, and of checking certificates.
+//! Tests of automata, transducers and closures, and of checking certificates.
 #![tactic(auto)]
 
 #[cfg(test)]
