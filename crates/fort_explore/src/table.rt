@@ -2,10 +2,10 @@
 ghost use Rattle.std.specs.Prelude.{◌≡◌, ℕ, ◌+◌, ◌<◌, ◌≤◌, ◌^◌, List, Bool, true, false, length, IfOk, IfErr, OnOk};
 ghost use Rattle.fort_theory.specs.Signatures as theory;
 ghost use Rattle.fort_tables.specs.Entries.{AreNodes, tuples_of};
-ghost use Rattle.fort_tables.specs.Tables.{IsListed, listed_table};
+ghost use Rattle.fort_tables.specs.Tables.{IsComplete, IsListed, finished, listed_table};
 ghost use Rattle.fort_tables.specs.Labels.{IsLabel, AreLabels, HaveLabels, HasMoreLabels, IsTableOf, final_by};
 ghost use Rattle.fort_tables.specs.LabelRules.{IsTableBy};
-ghost use Rattle.fort_explore.specs.Exploring.{AreLabelFinals, IsExploring, IsWhole, IsOver};
+ghost use Rattle.fort_explore.specs.Exploring.{AreLabelFinals, IsExploring, IsWhole, IsOver, IsFound};
 ghost use Rattle.fort_explore.specs.Answer.{IfOver};
 
 use crate::found::{Found, place_of};
@@ -159,6 +159,88 @@ fn give_targets<G: Ledger, L: Labeller>(
     Ok(true)
 }
 
+/// `give_targets` with the room that it wants. What a function owns is let go at each of its ends, and each end proves so: so the
+/// tables are lent here.
+fn give_all<G: Ledger, L: Labeller>(
+    alloc: Global,
+    labeller: &L,
+    cap: u32,
+    maker: &mut Maker,
+    found: &mut Found,
+    steps: &mut Steps<G>,
+) -> Result<bool, Memory>
+    requires served { L.serves labeller.now maker.old.signature }
+    requires exploring { IsExploring maker.old.signature (L.column_count labeller.now)
+        (L.label labeller.now) maker.old found.old.firsts found.old.labels.labels }
+    requires same { found.old.numbers ≡ found.old.labels.labels }
+    requires width { found.old.labels.width ≡ L.word_count labeller.now }
+    requires few { length found.old.labels.labels ≤ cap }
+    ensures whole { IfOk result (λ b. b ≡ true → IsWhole maker.old.signature
+        (L.column_count labeller.now) (L.label labeller.now) maker.new found.new.firsts
+        found.new.labels.labels cap) }
+    ensures over { IfOk result (λ b. b ≡ false → IsOver maker.old.signature
+        (L.column_count labeller.now) (L.label labeller.now) found.new.firsts cap) }
+    ensures steps { IfOk result (λ b. b ≡ true → steps.new + length maker.old.targets
+        ≡ steps.old + length maker.new.targets) }
+    ensures grows { steps.old ≤ steps.new }
+{
+    let mut words = vec![in alloc; 0u64; labeller.width()]?;
+    let mut memo = labeller.memo(alloc)?;
+    let out = words.as_mut_slice();
+    give_targets(alloc, labeller, cap, maker, found, &mut memo, out, steps)
+}
+
+/// The table, where each entry has its target.
+fn finish_whole<L: Labeller>(
+    alloc: Global,
+    labeller: &L,
+    maker: Maker,
+    found: Found,
+) -> Result<Dta, Memory>
+    requires exploring { (sig : theory.Signature) × L.serves labeller.now sig
+        × IsExploring sig (L.column_count labeller.now) (L.label labeller.now) maker
+        found.firsts found.labels.labels }
+    requires complete { IsComplete maker }
+    requires few { length found.labels.labels < 2 ^ 32 }
+    ensures finals { IfOk result (λ t. AreLabelFinals (L.column_count labeller.now)
+        (L.accepting labeller.now) found.labels.labels t.finals) }
+    ensures made { IfOk result (λ t. t ≡ finished maker t.finals) }
+    ensures listed { IfOk result IsListed }
+{
+    let finals = finals_of(alloc, labeller, &found.labels)?;
+    maker.finish(finals)
+}
+
+/// The table from where the exploration stands.
+fn explore_on<G: Ledger, L: Labeller>(
+    alloc: Global,
+    labeller: &L,
+    cap: u32,
+    mut maker: Maker,
+    mut found: Found,
+    steps: &mut Steps<G>,
+) -> Result<Dta, ExploreFault>
+    requires served { L.serves labeller.now maker.signature }
+    requires exploring { IsExploring maker.signature (L.column_count labeller.now)
+        (L.label labeller.now) maker found.firsts found.labels.labels }
+    requires same { found.numbers ≡ found.labels.labels }
+    requires width { found.labels.width ≡ L.word_count labeller.now }
+    requires few { length found.labels.labels ≤ cap }
+    ensures table { IfOk result (λ t. IsFound maker.signature (L.column_count labeller.now)
+        (L.label labeller.now) (L.accepting labeller.now) cap t) }
+    ensures over { IfErr result (λ e. IfOver e (λ tuples. IsOver maker.signature
+        (L.column_count labeller.now) (L.label labeller.now) tuples cap)) }
+    ensures steps { IfOk result (λ t. steps.new + length maker.targets
+        ≡ steps.old + length t.entries) }
+    ensures grows { steps.old ≤ steps.new }
+{
+    let is_whole = give_all(alloc, labeller, cap, &mut maker, &mut found, steps)?;
+    if !is_whole {
+        return Err(ExploreFault::Over(found.into_firsts()));
+    }
+    Ok(finish_whole(alloc, labeller, maker, found)?)
+}
+
 /// `explore`, counting the calls of the labeller's step: one for each entry of the table. After an error none is taken back.
 pub fn explore_counted<G: Ledger, L: Labeller>(
     alloc: Global,
@@ -182,17 +264,7 @@ pub fn explore_counted<G: Ledger, L: Labeller>(
     ensures steps { IfOk result (λ t. steps.new ≡ steps.old + length t.entries) }
     ensures grows { steps.old ≤ steps.new }
 {
-    let mut maker = Maker::new(alloc, sig, labeller.columns())?;
-    let mut words = vec![in alloc; 0u64; labeller.width()]?;
-    let mut memo = labeller.memo(alloc)?;
-    let mut found = Found::new(alloc, labeller.width())?;
-    let out = words.as_mut_slice();
-    let is_whole = give_targets(
-        alloc, labeller, cap, &mut maker, &mut found, &mut memo, out, steps,
-    )?;
-    if !is_whole {
-        return Err(ExploreFault::Over(found.into_firsts()));
-    }
-    let finals = finals_of(alloc, labeller, &found.labels)?;
-    Ok(maker.finish(finals)?)
+    let found = Found::new(alloc, labeller.width())?;
+    let maker = Maker::new(alloc, sig, labeller.columns())?;
+    explore_on(alloc, labeller, cap, maker, found, steps)
 }
