@@ -17,12 +17,22 @@ use std::sync::ledger::Ledger;
 const FIRST_ROOM: usize = 1 << 20;
 
 /// The labels so far, and for each the entry that gave it first.
-#[derive(Drop)]
 pub struct Found {
     pub labels: Rows,
     /// The same labels, by which a label's number is found.
     pub numbers: LabelSet,
     pub firsts: Dag,
+}
+
+impl Drop for Found {
+    /// A function of its own: where labels are let go, one call is proved, and not one for each part.
+    fn drop(self) {
+        let Found {
+            labels: _labels,
+            numbers: _numbers,
+            firsts: _firsts,
+        } = self;
+    }
 }
 
 impl Found {
@@ -62,10 +72,11 @@ impl Found {
         Ok(())
     }
 
-    pub fn into_firsts(self) -> Dag
-        ensures { result ≡ self.firsts }
+    /// Takes the entries out.
+    pub fn take_firsts(&mut self, alloc: Global) -> Dag
+        ensures { result ≡ self.old.firsts }
     {
-        self.firsts
+        std::mem::replace(&mut self.firsts, Dag::new(alloc))
     }
 }
 

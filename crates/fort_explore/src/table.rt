@@ -26,6 +26,22 @@ pub enum ExploreFault {
     Over(Dag),
 }
 
+/// A table in the making, and the labels that were found.
+struct Exploration {
+    maker: Maker,
+    found: Found,
+}
+
+impl Drop for Exploration {
+    /// A function of its own: where an exploration is let go, one call is proved, and not one for each part of the table.
+    fn drop(self) {
+        let Exploration {
+            maker: _maker,
+            found: _found,
+        } = self;
+    }
+}
+
 impl From<AllocError> for ExploreFault {
     ghost use Rattle.std.specs.Prelude.{◌≡◌};
     ghost use Rattle.fort_explore.specs.declared.table.ExploreFault.TheVariants.{Memory};
@@ -159,86 +175,95 @@ fn give_targets<G: Ledger, L: Labeller>(
     Ok(true)
 }
 
-/// `give_targets` with the room that it wants. What a function owns is let go at each of its ends, and each end proves so: so the
-/// tables are lent here.
-fn give_all<G: Ledger, L: Labeller>(
-    alloc: Global,
-    labeller: &L,
-    cap: u32,
-    maker: &mut Maker,
-    found: &mut Found,
-    steps: &mut Steps<G>,
-) -> Result<bool, Memory>
-    requires served { L.serves labeller.now maker.old.signature }
-    requires exploring { IsExploring maker.old.signature (L.column_count labeller.now)
-        (L.label labeller.now) maker.old found.old.firsts found.old.labels.labels }
-    requires same { found.old.numbers ≡ found.old.labels.labels }
-    requires width { found.old.labels.width ≡ L.word_count labeller.now }
-    requires few { length found.old.labels.labels ≤ cap }
-    ensures whole { IfOk result (λ b. b ≡ true → IsWhole maker.old.signature
-        (L.column_count labeller.now) (L.label labeller.now) maker.new found.new.firsts
-        found.new.labels.labels cap) }
-    ensures over { IfOk result (λ b. b ≡ false → IsOver maker.old.signature
-        (L.column_count labeller.now) (L.label labeller.now) found.new.firsts cap) }
-    ensures steps { IfOk result (λ b. b ≡ true → steps.new + length maker.old.targets
-        ≡ steps.old + length maker.new.targets) }
-    ensures grows { steps.old ≤ steps.new }
-{
-    let mut words = vec![in alloc; 0u64; labeller.width()]?;
-    let mut memo = labeller.memo(alloc)?;
-    let out = words.as_mut_slice();
-    give_targets(alloc, labeller, cap, maker, found, &mut memo, out, steps)
-}
-
-/// The table, where each entry has its target.
-fn finish_whole<L: Labeller>(
-    alloc: Global,
-    labeller: &L,
-    maker: Maker,
-    found: Found,
-) -> Result<Dta, Memory>
-    requires exploring { (sig : theory.Signature) × L.serves labeller.now sig
-        × IsExploring sig (L.column_count labeller.now) (L.label labeller.now) maker
-        found.firsts found.labels.labels }
-    requires complete { IsComplete maker }
-    requires few { length found.labels.labels < 2 ^ 32 }
-    ensures finals { IfOk result (λ t. AreLabelFinals (L.column_count labeller.now)
-        (L.accepting labeller.now) found.labels.labels t.finals) }
-    ensures made { IfOk result (λ t. t ≡ finished maker t.finals) }
-    ensures listed { IfOk result IsListed }
-{
-    let finals = finals_of(alloc, labeller, &found.labels)?;
-    maker.finish(finals)
-}
-
-/// The table from where the exploration stands.
-fn explore_on<G: Ledger, L: Labeller>(
-    alloc: Global,
-    labeller: &L,
-    cap: u32,
-    mut maker: Maker,
-    mut found: Found,
-    steps: &mut Steps<G>,
-) -> Result<Dta, ExploreFault>
-    requires served { L.serves labeller.now maker.signature }
-    requires exploring { IsExploring maker.signature (L.column_count labeller.now)
-        (L.label labeller.now) maker found.firsts found.labels.labels }
-    requires same { found.numbers ≡ found.labels.labels }
-    requires width { found.labels.width ≡ L.word_count labeller.now }
-    requires few { length found.labels.labels ≤ cap }
-    ensures table { IfOk result (λ t. IsFound maker.signature (L.column_count labeller.now)
-        (L.label labeller.now) (L.accepting labeller.now) cap t) }
-    ensures over { IfErr result (λ e. IfOver e (λ tuples. IsOver maker.signature
-        (L.column_count labeller.now) (L.label labeller.now) tuples cap)) }
-    ensures steps { IfOk result (λ t. steps.new + length maker.targets
-        ≡ steps.old + length t.entries) }
-    ensures grows { steps.old ≤ steps.new }
-{
-    let is_whole = give_all(alloc, labeller, cap, &mut maker, &mut found, steps)?;
-    if !is_whole {
-        return Err(ExploreFault::Over(found.into_firsts()));
+impl Exploration {
+    /// `give_targets` with the room that it wants.
+    fn give_all<G: Ledger, L: Labeller>(
+        &mut self,
+        alloc: Global,
+        labeller: &L,
+        cap: u32,
+        steps: &mut Steps<G>,
+    ) -> Result<bool, Memory>
+        requires served { L.serves labeller.now self.old.maker.signature }
+        requires exploring { IsExploring self.old.maker.signature (L.column_count labeller.now)
+            (L.label labeller.now) self.old.maker self.old.found.firsts
+            self.old.found.labels.labels }
+        requires same { self.old.found.numbers ≡ self.old.found.labels.labels }
+        requires width { self.old.found.labels.width ≡ L.word_count labeller.now }
+        requires few { length self.old.found.labels.labels ≤ cap }
+        ensures whole { IfOk result (λ b. b ≡ true → IsWhole self.old.maker.signature
+            (L.column_count labeller.now) (L.label labeller.now) self.new.maker
+            self.new.found.firsts self.new.found.labels.labels cap) }
+        ensures over { IfOk result (λ b. b ≡ false → IsOver self.old.maker.signature
+            (L.column_count labeller.now) (L.label labeller.now) self.new.found.firsts cap) }
+        ensures steps { IfOk result (λ b. b ≡ true → steps.new + length self.old.maker.targets
+            ≡ steps.old + length self.new.maker.targets) }
+        ensures grows { steps.old ≤ steps.new }
+    {
+        let mut words = vec![in alloc; 0u64; labeller.width()]?;
+        let mut memo = labeller.memo(alloc)?;
+        let out = words.as_mut_slice();
+        give_targets(
+            alloc,
+            labeller,
+            cap,
+            &mut self.maker,
+            &mut self.found,
+            &mut memo,
+            out,
+            steps,
+        )
     }
-    Ok(finish_whole(alloc, labeller, maker, found)?)
+
+    /// The table, where each entry has its target.
+    fn finish<L: Labeller>(self, alloc: Global, labeller: &L) -> Result<Dta, Memory>
+        requires exploring { (sig : theory.Signature) × L.serves labeller.now sig
+            × IsExploring sig (L.column_count labeller.now) (L.label labeller.now) self.maker
+            self.found.firsts self.found.labels.labels }
+        requires complete { IsComplete self.maker }
+        requires few { length self.found.labels.labels < 2 ^ 32 }
+        ensures finals { IfOk result (λ t. AreLabelFinals (L.column_count labeller.now)
+            (L.accepting labeller.now) self.found.labels.labels t.finals) }
+        ensures made { IfOk result (λ t. t ≡ finished self.maker t.finals) }
+        ensures listed { IfOk result IsListed }
+    {
+        let finals = finals_of(alloc, labeller, &self.found.labels)?;
+        let Exploration {
+            maker,
+            found: _found,
+        } = self;
+        maker.finish(finals)
+    }
+
+    /// The table from where the exploration stands.
+    fn explore_on<G: Ledger, L: Labeller>(
+        mut self,
+        alloc: Global,
+        labeller: &L,
+        cap: u32,
+        steps: &mut Steps<G>,
+    ) -> Result<Dta, ExploreFault>
+        requires served { L.serves labeller.now self.maker.signature }
+        requires exploring { IsExploring self.maker.signature (L.column_count labeller.now)
+            (L.label labeller.now) self.maker self.found.firsts self.found.labels.labels }
+        requires same { self.found.numbers ≡ self.found.labels.labels }
+        requires width { self.found.labels.width ≡ L.word_count labeller.now }
+        requires few { length self.found.labels.labels ≤ cap }
+        ensures table { IfOk result (λ t. IsFound self.maker.signature
+            (L.column_count labeller.now) (L.label labeller.now) (L.accepting labeller.now) cap
+            t) }
+        ensures over { IfErr result (λ e. IfOver e (λ tuples. IsOver self.maker.signature
+            (L.column_count labeller.now) (L.label labeller.now) tuples cap)) }
+        ensures steps { IfOk result (λ t. steps.new + length self.maker.targets
+            ≡ steps.old + length t.entries) }
+        ensures grows { steps.old ≤ steps.new }
+    {
+        let is_whole = self.give_all(alloc, labeller, cap, steps)?;
+        if !is_whole {
+            return Err(ExploreFault::Over(self.found.take_firsts(alloc)));
+        }
+        Ok(self.finish(alloc, labeller)?)
+    }
 }
 
 /// `explore`, counting the calls of the labeller's step: one for each entry of the table. After an error none is taken back.
@@ -266,5 +291,5 @@ pub fn explore_counted<G: Ledger, L: Labeller>(
 {
     let found = Found::new(alloc, labeller.width())?;
     let maker = Maker::new(alloc, sig, labeller.columns())?;
-    explore_on(alloc, labeller, cap, maker, found, steps)
+    Exploration { maker, found }.explore_on(alloc, labeller, cap, steps)
 }

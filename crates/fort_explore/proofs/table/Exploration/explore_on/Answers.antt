@@ -3,7 +3,7 @@ use Rattle.std.proofs.lemmas.Result.{err_from_is_err_and}
 use Rattle.fort_tables.specs.Tables.{Listed, listed_table}
 use Rattle.fort_tables.specs.Labels.{IsTableOf}
 use Rattle.fort_explore.proofs.ExploreLaws.{exploring_table, exploring_few}
-use Rattle.fort_explore.proofs.table.explore_on.Goals as goal
+use Rattle.fort_explore.proofs.table.Exploration.explore_on.Goals as goal
 
 pub returns-in_err-is_whole-clause-over : goal.returns-in_err-is_whole-clause-over
 returns-in_err-is_whole-clause-over g c =
@@ -11,38 +11,38 @@ returns-in_err-is_whole-clause-over g c =
     rw (p.1, p.2) tt
 
 pub returns-then-not-is_whole-clause-over : goal.returns-then-not-is_whole-clause-over
-returns-then-not-is_whole-clause-over g c = rw c.into_firsts.ensures (c.in_ok-is_whole.ensures.over c.if-not-is_whole.true)
+returns-then-not-is_whole-clause-over g c = rw c.take_firsts.ensures (c.in_ok-is_whole.ensures.over c.if-not-is_whole.true)
 
-pub finish_whole-requires : goal.finish_whole-requires
-finish_whole-requires g c =
+pub finish-requires : goal.finish-requires
+finish-requires g c =
     let w = c.in_ok-is_whole.ensures.whole c.if-not-is_whole.false in
     record {
-      exploring = (c.args.maker.signature, c.requires.served, w.exploring);
+      exploring = (c.args.self.maker.signature, c.requires.served, w.exploring);
       complete = w.complete;
       few = omega (arith, w.few, c.ranges.cap.fits);
     }
 
-pub returns-in_err-finish_whole-clause-over : goal.returns-in_err-finish_whole-clause-over
-returns-in_err-finish_whole-clause-over g c =
-    let p = err_from_is_err_and c.from_residual-in_err-finish_whole.result c.from_residual-in_err-finish_whole.ensures.1 in
+pub returns-in_err-finish-clause-over : goal.returns-in_err-finish-clause-over
+returns-in_err-finish-clause-over g c =
+    let p = err_from_is_err_and c.from_residual-in_err-finish.result c.from_residual-in_err-finish.ensures.1 in
     rw (p.1, p.2) tt
 
 pub returns : goal.returns
 returns g c =
-    let sig = c.args.maker.signature in
-    let m = c.give_all.new.maker in
-    let f = c.give_all.new.found in
+    let sig = c.args.self.maker.signature in
+    let m = c.give_all.new.self.maker in
+    let f = c.give_all.new.self.found in
     let n = g.L.Labeller.column_count c.args.labeller.now in
     let label = g.L.Labeller.label c.args.labeller.now in
     let accepting = g.L.Labeller.accepting c.args.labeller.now in
     let tells = g.met.L.Labeller.tells_presence c.args.labeller.now sig c.requires.served in
     let w = c.in_ok-is_whole.ensures.whole c.if-not-is_whole.false in
-    let made = c.in_ok-finish_whole.ensures.made in
-    let by_label = exploring_table sig n label accepting m f.firsts f.labels.labels _ tells w.exploring w.complete c.in_ok-finish_whole.ensures.finals in
+    let made = c.in_ok-finish.ensures.made in
+    let by_label = exploring_table sig n label accepting m f.firsts f.labels.labels _ tells w.exploring w.complete c.in_ok-finish.ensures.finals in
     record {
       table = record {
         table = subst (λ (t : Listed). IsTableOf sig n label accepting (listed_table t)) (sym made) by_label;
-        listed = c.in_ok-finish_whole.ensures.listed;
+        listed = c.in_ok-finish.ensures.listed;
         few = exploring_few sig n label m f.firsts f.labels.labels c.args.cap tells w.exploring w.complete w.few;
       };
       over = tt;

@@ -4,24 +4,24 @@ use Rattle.fort_tables.specs.Tables.{Listed, finished}
 use Rattle.fort_explore.specs.Exploring.{AreLabelFinals}
 use Rattle.fort_explore.proofs.KnownLaws.{known_labels}
 use Rattle.fort_explore.proofs.ExploreLaws.{exploring_finals}
-use Rattle.fort_explore.proofs.table.finish_whole.Goals as goal
+use Rattle.fort_explore.proofs.table.Exploration.finish.Goals as goal
 
 pub finals_of-requires-clause-labels : goal.finals_of-requires-clause-labels
 finals_of-requires-clause-labels g c =
     let r = c.requires.exploring in
-    let f = c.args.found in
+    let f = c.args.self.found in
     (r.0, r.1, known_labels r.0 _ (g.L.Labeller.label c.args.labeller.now) f.firsts f.labels.labels r.2.known)
 
 pub finish-requires-clause-finals : goal.finish-requires-clause-finals
 finish-requires-clause-finals g c =
     let r = c.requires.exploring in
-    let f = c.args.found in
-    exploring_finals r.0 (g.L.Labeller.column_count c.args.labeller.now) (g.L.Labeller.label c.args.labeller.now) (g.L.Labeller.accepting c.args.labeller.now) c.args.maker f.firsts f.labels.labels c.in_ok-finals.finals.items r.2 c.in_ok-finals.ensures
+    let f = c.args.self.found in
+    exploring_finals r.0 (g.L.Labeller.column_count c.args.labeller.now) (g.L.Labeller.label c.args.labeller.now) (g.L.Labeller.accepting c.args.labeller.now) c.args.self.maker f.firsts f.labels.labels c.in_ok-finals.finals.items r.2 c.in_ok-finals.ensures
 
 pub returns-clause-finals : goal.returns-clause-finals
 returns-clause-finals g c =
-    let F : List Bool → Type 0 = AreLabelFinals (g.L.Labeller.column_count c.args.labeller.now) (g.L.Labeller.accepting c.args.labeller.now) c.args.found.labels.labels in
+    let F : List Bool → Type 0 = AreLabelFinals (g.L.Labeller.column_count c.args.labeller.now) (g.L.Labeller.accepting c.args.labeller.now) c.args.self.found.labels.labels in
     IfOk-weaker c.finish.result _ _ (λ (t : Listed) made. subst F (sym (ap (λ (x : Listed). x.finals) made)) c.in_ok-finals.ensures) c.finish.ensures.table
 
 pub returns-clause-made : goal.returns-clause-made
-returns-clause-made g c = IfOk-weaker c.finish.result _ _ (λ (t : Listed) made. made ∙ ap (finished c.args.maker) (sym (ap (λ (x : Listed). x.finals) made))) c.finish.ensures.table
+returns-clause-made g c = IfOk-weaker c.finish.result _ _ (λ (t : Listed) made. made ∙ ap (finished c.args.self.maker) (sym (ap (λ (x : Listed). x.finals) made))) c.finish.ensures.table
