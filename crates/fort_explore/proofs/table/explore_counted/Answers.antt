@@ -1,4 +1,4 @@
-use Rattle.std.proofs.Common.{ℕ, List, length, IfOk, IfErr, arith, ap, refl, sym, ◌∙◌, subst}
+use Rattle.std.proofs.Common.{List, length, IfOk, IfErr, arith, ap, refl, sym, ◌∙◌, subst}
 use Rattle.std.proofs.lemmas.Result.{IfOk-weaker, IfErr-weaker}
 use Rattle.fort_theory.specs.Signatures.{Signature}
 use Rattle.fort_tables.specs.Entries.{Entry}
