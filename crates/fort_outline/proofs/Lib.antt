@@ -1,0 +1,5 @@
+pub mod ColumnLaws
+pub mod RootKeys
+pub mod RootLaws
+pub mod UseLaws
+pub mod NumberLaws

@@ -1,0 +1,74 @@
+//! The columns of parts.
+ghost use Rattle.std.specs.Prelude.{◌≡◌, ℕ, ◌↔◌, ◌<◌, List, ◌∷◌, ◌++◌, ◌==◌, not, filter, length, IfOk, OnOk, Contains};
+ghost use Rattle.std.specs.List.Sorted.{IsStrictlyIncreasing};
+ghost use Rattle.fort_logic.specs.Cores as theory;
+ghost use Rattle.fort_parts.specs.PartColumns.{columns_of};
+ghost use Rattle.fort_outline.specs.Roots.{root_core, cores_of, IsOver, AreInOrder};
+ghost use Rattle.fort_outline.specs.Outlines.{AreColumnsOf};
+
+use crate::root::Root;
+use std::alloc::{AllocError, Global};
+
+/// The same numbers, each once and ascending.
+fn put_in_order(numbers: &mut Vec<u32>) -> Result<(), AllocError>
+    ensures rise { OnOk result (IsStrictlyIncreasing numbers.new.items) }
+    ensures same { OnOk result ((n : ℕ) → Contains numbers.new.items n
+        ↔ Contains numbers.old.items n) }
+{
+    numbers.sort()?;
+    numbers.dedup();
+    Ok(())
+}
+
+/// The numbers of both lists, each once and ascending.
+fn of_both(alloc: Global, first: &[u32], second: &[u32]) -> Result<Vec<u32>, AllocError>
+    ensures rise { IfOk result (λ ns. IsStrictlyIncreasing ns.items) }
+    ensures same { IfOk result (λ ns. (n : ℕ) → Contains ns.items n
+        ↔ Contains (first.now ++ second.now) n) }
+{
+    let mut numbers = Vec::from_slice(alloc, first)?;
+    numbers.extend_from_slice(second)?;
+    put_in_order(&mut numbers)?;
+    Ok(numbers)
+}
+
+/// The numbers but for one.
+fn without(alloc: Global, numbers: &[u32], number: u32) -> Result<Vec<u32>, AllocError>
+    ensures { IfOk result (λ ns. ns.items ≡ filter (λ n. not (number == n)) numbers.now) }
+{
+    let mut others = Vec::from_slice(alloc, numbers)?;
+    others.retain(|other| number != *other);
+    Ok(others)
+}
+
+/// The columns of a part with this root, by those of the parts before it.
+fn root_columns(alloc: Global, root: &Root, before: &[Vec<u32>]) -> Result<Vec<u32>, AllocError>
+    requires { IsOver (length before.now) root.now }
+    ensures { IfOk result (λ ns. (parts : List theory.Core) → AreColumnsOf parts before.now
+        → ns.items ≡ columns_of (root_core parts root.now)) }
+{
+    match root {
+        Root::True => Ok(Vec::new(alloc)),
+        Root::Atom(_, _, x, y) => of_both(alloc, &[*x], &[*y]),
+        Root::Nf(_, x) | Root::Is(x, _) => Ok(vec![in alloc; *x]?),
+        Root::Not(f) => Vec::from_slice(alloc, &before[*f]),
+        Root::And(f, g) | Root::Or(f, g) | Root::Iff(f, g) => {
+            of_both(alloc, &before[*f], &before[*g])
+        }
+        Root::Exists(n, f) | Root::Infinite(n, f) => without(alloc, &before[*f], *n),
+    }
+}
+
+/// The columns of all parts: their free numbers, ascending.
+pub(crate) fn all_columns(alloc: Global, roots: &[Root]) -> Result<Vec<Vec<u32>>, AllocError>
+    requires { AreInOrder roots.now }
+    ensures count { IfOk result (λ lists. length lists.items ≡ length roots.now) }
+    ensures each { IfOk result (λ lists. AreColumnsOf (cores_of roots.now) lists.items) }
+{
+    let mut lists = Vec::with_capacity(alloc, roots.len())?;
+    for k in 0..roots.len() {
+        let columns = root_columns(alloc, &roots[k], &lists)?;
+        lists.push(columns)?;
+    }
+    Ok(lists)
+}
