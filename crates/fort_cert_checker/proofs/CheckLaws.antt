@@ -28,8 +28,8 @@ use Rattle.fort_cert_checker.specs.OutcomeView.{as_outcome}
 use Rattle.fort_parts.specs.PartAnswers.{OfValue, IsAnswerTo}
 use Rattle.fort_logic.specs.PatternStructures.{pattern_structure}
 use Rattle.fort_in_order_laws.proofs.CertifiedTruth.{certified_truth}
-use Rattle.fort_formulas.specs.CoreView.{as_core}
-use Rattle.fort_formulas.specs.declared.core_formula.Core as forms
+use Rattle.fort_outline.specs.declared.root.Root.{Root}
+use Rattle.fort_outline.specs.Roots.{cores_of, AreInOrder}
 use Rattle.fort_check_steps.specs.declared.room.PartRoom.{PartRoom}
 use Rattle.fort_check_steps.specs.declared.room.LabelRoom.{LabelRoom}
 use Rattle.fort_check_steps.specs.declared.marks.MarkRoom.{MarkRoom}
@@ -147,7 +147,7 @@ module _ (system : PatternSystem) (f : Core) (c : Certificate) (a : Checker) (h 
     system = a.system;
     core = a.core;
     certificate = a.certificate;
-    parts = a.parts;
+    outline = a.outline;
     dues = a.dues;
     closures = with_items a.closures closures;
     plans = a.plans;
@@ -156,20 +156,23 @@ module _ (system : PatternSystem) (f : Core) (c : Certificate) (a : Checker) (h 
     marks = with_items a.marks marks;
   }
 
-  module _ (cores : List forms.Core) (plans : List Plan) (cores_are : cores ≡ a.parts.items) (plans_are : plans ≡ a.plans.items) where
-    to_given : (P : PatternSystem → List Core → List Plan → Type 0) → P system (parts_in a) a.plans.items → P a.system.now (map as_core cores) plans
-    to_given P x =
-        subst (λ ps. P a.system.now (map as_core cores) ps) (sym plans_are)
-        (subst (λ cs. P a.system.now (map as_core cs) a.plans.items) (sym cores_are) (subst (λ s. P s (parts_in a) a.plans.items) (sym h.system_is) x))
+  module _ (roots : List Root) (plans : List Plan) (roots_are : roots ≡ a.outline.roots.items) (plans_are : plans ≡ a.plans.items) where
+    pub order_given : AreInOrder roots
+    order_given = subst AreInOrder (sym roots_are) h.outline_is.in_order
 
-    from_given : (P : PatternSystem → List Core → List Plan → Type 0) → P a.system.now (map as_core cores) plans → P system (parts_in a) a.plans.items
+    to_given : (P : PatternSystem → List Core → List Plan → Type 0) → P system (parts_in a) a.plans.items → P a.system.now (cores_of roots) plans
+    to_given P x =
+        subst (λ ps. P a.system.now (cores_of roots) ps) (sym plans_are)
+        (subst (λ cs. P a.system.now (cores_of cs) a.plans.items) (sym roots_are) (subst (λ s. P s (parts_in a) a.plans.items) (sym h.system_is) x))
+
+    from_given : (P : PatternSystem → List Core → List Plan → Type 0) → P a.system.now (cores_of roots) plans → P system (parts_in a) a.plans.items
     from_given P x =
         subst (λ ps. P system (parts_in a) ps) plans_are
-        (subst (λ cs. P system (map as_core cs) plans) cores_are (subst (λ s. P s (map as_core cores) plans) h.system_is x))
+        (subst (λ cs. P system (cores_of cs) plans) roots_are (subst (λ s. P s (cores_of roots) plans) h.system_is x))
 
     -- Result
     pub loop_given : (closures : List (Option ClosurePlan)) (rooms : List PartRoom) (marks : List MarkRoom) (n : ℕ) (made : Made) → closures ≡ a.closures.items → rooms ≡ a.rooms.items → marks ≡ a.marks.items
-        → IsCheckAt system f c a n made → IsLoopAt a.system.now f (map as_core cores) c plans closures rooms a.scratch marks n made
+        → IsCheckAt system f c a n made → IsLoopAt a.system.now f (cores_of roots) c plans closures rooms a.scratch marks n made
     loop_given closures rooms marks n made closures_are rooms_are marks_are at =
         to_given (λ s ps ws. IsLoopAt s f ps c ws closures rooms a.scratch marks n made)
         (subst (λ ms. IsLoopAt system f (parts_in a) c a.plans.items closures rooms a.scratch ms n made) (sym marks_are)
@@ -177,11 +180,11 @@ module _ (system : PatternSystem) (f : Core) (c : Certificate) (a : Checker) (h 
         (subst (λ cs. IsLoopAt system f (parts_in a) c a.plans.items cs a.rooms.items a.scratch a.marks.items n made) (sym closures_are) at.loop)))
 
     -- Result
-    pub due_given : (n : ℕ) → IsStepDue system (parts_in a) c n → IsStepDue a.system.now (map as_core cores) c n
+    pub due_given : (n : ℕ) → IsStepDue system (parts_in a) c n → IsStepDue a.system.now (cores_of roots) c n
     due_given n d = to_given (λ s ps ws. IsStepDue s ps c n) d
 
     -- Result
-    pub failing_given : (made : Made) (s : certificates.Step) (place : ℕ) (reason : Reason) → IsFailing a.system.now (map as_core cores) made s place reason → IsFailing system (parts_in a) made s place reason
+    pub failing_given : (made : Made) (s : certificates.Step) (place : ℕ) (reason : Reason) → IsFailing a.system.now (cores_of roots) made s place reason → IsFailing system (parts_in a) made s place reason
     failing_given made s place reason k = from_given (λ t ps ws. IsFailing t ps made s place reason) k
 
     module _ (closures : List (Option ClosurePlan)) (rooms : List PartRoom) (scratch : LabelRoom) (marks : List MarkRoom) (closures_in : (with_items a.closures closures).items ≡ closures)
@@ -193,12 +196,13 @@ module _ (system : PatternSystem) (f : Core) (c : Certificate) (a : Checker) (h 
           (subst (λ rs. P (with_items a.closures closures).items rs marks) (sym rooms_in) (subst (λ cs. P cs rooms marks) (sym closures_in) x))
 
       -- Result
-      pub ready_after : IsReady a.system.now f (map as_core cores) c.steps plans closures rooms scratch marks → IsCheckerOf system f c (with_rooms closures rooms scratch marks)
+      pub ready_after : IsReady a.system.now f (cores_of roots) c.steps plans closures rooms scratch marks → IsCheckerOf system f c (with_rooms closures rooms scratch marks)
       ready_after r = record {
         system_is = h.system_is;
         certificate_is = h.certificate_is;
         lawful = h.lawful;
         closed = h.closed;
+        outline_is = h.outline_is;
         forms = h.forms;
         dues = h.dues;
         ready = put_in (λ cs rs ms. IsReady system f (parts_in a) c.steps a.plans.items cs rs scratch ms)
@@ -206,7 +210,7 @@ module _ (system : PatternSystem) (f : Core) (c : Certificate) (a : Checker) (h 
       }
 
       -- Result
-      pub loop_after : (n : ℕ) (made : Made) → IsLoopAt a.system.now f (map as_core cores) c plans closures rooms scratch marks n made → IsCheckAt system f c (with_rooms closures rooms scratch marks) n made
+      pub loop_after : (n : ℕ) (made : Made) → IsLoopAt a.system.now f (cores_of roots) c plans closures rooms scratch marks n made → IsCheckAt system f c (with_rooms closures rooms scratch marks) n made
       loop_after n made l = record {
         checker = ready_after l.ready;
         loop = put_in (λ cs rs ms. IsLoopAt system f (parts_in a) c a.plans.items cs rs scratch ms n made)

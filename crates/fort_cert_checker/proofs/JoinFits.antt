@@ -7,7 +7,6 @@ use Rattle.fort_theory.specs.Signatures.{Signature}
 use Rattle.fort_theory.proofs.Members.{Contains-none}
 use Rattle.fort_logic.specs.Cores.{Core}
 use Rattle.fort_logic.specs.Parts.{is_free}
-use Rattle.fort_logic.specs.PartLists.{AreParts}
 use Rattle.fort_operations.specs.Products.{Connective, And, Or, Iff, AreOperands, signature_of}
 use Rattle.fort_parts.specs.DecidedCores.{IsOperandOf}
 use Rattle.fort_parts.specs.PartColumns.{columns_of, places_in}
@@ -17,7 +16,6 @@ use Rattle.fort_parts.specs.RightAnswers.{joined}
 use Rattle.fort_parts.proofs.PartColumnLaws.{is_free-from_column, column-from_free, first_within, second_within}
 use Rattle.fort_parts.proofs.StepTables.{IsOperand-answer}
 use Rattle.fort_parts.proofs.StepAnswers.{is_free-joined}
-use Rattle.fort_cert_checker.proofs.SourceLaws.{operand_among}
 
 pub joined_first : (op : Connective) (f g : Core) (n : ℕ) → Contains (columns_of f) n → Contains (columns_of (joined op f g)) n
 joined_first op f g = first_within (joined op f g) f g (is_free-joined op f g)
@@ -58,17 +56,3 @@ pub operand_second : (op : Connective) (f g : Core) → IsOperandOf g (joined op
 operand_second And f g = inr refl
 operand_second Or f g = inr refl
 operand_second Iff f g = inr refl
-
--- where the whole is among the parts, so are its operands, and their columns are among its own
-module _ (root : Core) (parts : List Core) (are : AreParts root parts) (op : Connective) (f g : Core) (whole : Contains parts (joined op f g)) where
-  pub first_among : Contains parts f
-  first_among = operand_among root parts are (joined op f g) f whole (operand_first op f g)
-
-  pub second_among : Contains parts g
-  second_among = operand_among root parts are (joined op f g) g whole (operand_second op f g)
-
-pub first_columns : (op : Connective) (f g : Core) (columns : List ℕ) → columns ≡ columns_of (joined op f g) → (n : ℕ) → Contains (columns_of f) n → Contains columns n
-first_columns op f g columns e n c = subst (λ (xs : List ℕ). Contains xs n) (sym e) (joined_first op f g n c)
-
-pub second_columns : (op : Connective) (f g : Core) (columns : List ℕ) → columns ≡ columns_of (joined op f g) → (n : ℕ) → Contains (columns_of g) n → Contains columns n
-second_columns op f g columns e n c = subst (λ (xs : List ℕ). Contains xs n) (sym e) (joined_second op f g n c)

@@ -93,10 +93,10 @@ module _ (system : PatternSystem) (parts : List Core) (past : Past) (k : ℕ) (m
         let own : has_columns (get_or parts s.part core.True) ≡ true = same_columns ∙ has in
         let t = known.tables s.part before own plain in
         let p = known.plans s.part low in
-        let count : length p.0.columns.items ≡ length (columns_of (get_or parts s.part core.True)) = ap length p.2 in
+        let count : p.0.columns ≡ length (columns_of (get_or parts s.part core.True)) = p.2 in
         let some : 0 < length (columns_of (get_or parts s.part core.True)) = some_columns (get_or parts s.part core.True) own in
-        let held : IsHeld past.signature.now (length p.0.columns.items) t.targets t.room t.table =
-        subst (λ (sig : Signature). IsHeld sig (length p.0.columns.items) t.targets t.room t.table) (sym known.signature)
+        let held : IsHeld past.signature.now p.0.columns t.targets t.room t.table =
+        subst (λ (sig : Signature). IsHeld sig p.0.columns t.targets t.room t.table) (sym known.signature)
         (subst (λ (n : ℕ). IsHeld system.signature n t.targets t.room t.table) (sym count) t.held) in
         let over : IsTableOver system.signature (columns_of g) t.table =
         subst (λ (xs : List ℕ). IsTableOver system.signature xs t.table) columns (held_over system.signature (columns_of (get_or parts s.part core.True)) t.targets t.room t.table some t.held) in
@@ -127,7 +127,7 @@ module _ (system : PatternSystem) (parts : List Core) (past : Past) (k : ℕ) (m
         let own : has_columns (get_or parts s.part core.True) ≡ false = same_columns ∙ none in
         let v = known.values s.part before own plain in
         let p = known.plans s.part low in
-        let empty_is : length p.0.columns.items ≡ 0 = ap length p.2 ∙ none_columns (get_or parts s.part core.True) own in (
+        let empty_is : p.0.columns ≡ 0 = p.2 ∙ none_columns (get_or parts s.part core.True) own in (
           v.value,
           record { plan = p.0; plan_at = p.1; none = empty_is; only = v.only },
           source_value parts made g s.part s.turns v.value source own v.made_is,

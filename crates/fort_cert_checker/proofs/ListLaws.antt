@@ -1,11 +1,12 @@
 -- The room for the lists of operands: from what is taken before a check, and through a check.
-use Rattle.std.specs.Prelude.{ℕ, List}
+use Rattle.std.specs.Prelude.{◌≡◌, ℕ, ◌*◌, ◌^◌, ◌<◌, ◌≤◌, List, [], ◌∷◌, length}
+use Rattle.std.proofs.Common.{ap, arith}
 use Rattle.fort_certificate_grammar.specs.Certificates.{Step}
 use Rattle.fort_rrn_algebra.specs.LayRooms.{HasLayRoom}
 use Rattle.fort_rrn_algebra.specs.TargetLists.{HasListRoom}
 use Rattle.fort_rrn_algebra.specs.declared.states.LayRoom.{LayRoom}
 use Rattle.fort_rrn_algebra.specs.declared.target_list.TargetList.{TargetList}
-use Rattle.fort_check_steps.specs.Room.{AreAsRoomy, HasNeeds}
+use Rattle.fort_check_steps.specs.Room.{most_states, AreAsRoomy, HasNeeds}
 use Rattle.fort_check_steps.specs.declared.room.ListRoom.{ListRoom}
 use Rattle.fort_check_steps.specs.declared.room.LabelRoom.{LabelRoom}
 use Rattle.fort_check_steps.specs.declared.room.LabelNeeds.{LabelNeeds}
@@ -58,3 +59,11 @@ lists_needed ss (Normal labels) n r h has = tt
 lists_needed ss Term n r h has = tt
 lists_needed ss Truth n r h has = tt
 lists_needed ss (Negation s) n r h has = tt
+
+-- where there are more words than numbers for them, there are targets
+pub targets_needed : (width : ℕ) (targets : List ℕ) → 2 ^ 64 ≤ width * most_states targets → 0 < length targets
+targets_needed width [] many =
+    let none : most_states [] ≡ 0 = omega arith in
+    let words : width * most_states [] ≡ width * 0 = ap (λ n. width * n) none in
+    absurd (omega (arith, many, words))
+targets_needed width (t ∷ ts) many = omega arith

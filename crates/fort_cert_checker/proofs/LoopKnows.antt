@@ -90,10 +90,10 @@ module _ (system : PatternSystem) (root : Core) (parts : List Core) (c : Certifi
     only : (t : Step) → Contains front t → IsOnlyAbout (steps_of past) t
     only t m = subst (λ (ss : List Step). IsOnlyAbout ss t) (sym steps) (only_front system parts c front rest s d wanted made up t m)
 
-    plan_for : (j : ℕ) → j < length parts → (p : Plan) × IsElement past.plans.now j p × (p.columns.items ≡ columns_of (get_or parts j core.True))
+    plan_for : (j : ℕ) → j < length parts → (p : Plan) × IsElement past.plans.now j p × (p.columns ≡ length (columns_of (get_or parts j core.True)))
     plan_for j l =
         let w = element_of plans j (omega (arith, l, planned.count)) in
-        (w.0, subst (λ (ps : List Plan). IsElement ps j w.0) (sym plans_are) w.1, ap (λ (p : Plan). p.columns.items) (sym (w.1.1 w.0)) ∙ (planned.each j w.0 l).columns)
+        (w.0, subst (λ (ps : List Plan). IsElement ps j w.0) (sym plans_are) w.1, ap (λ (p : Plan). p.columns) (sym (w.1.1 w.0)) ∙ (planned.each j w.0 l).columns)
 
     table_for : (j : ℕ) → j < k → has_columns (get_or parts j core.True) ≡ true → is_turned (get_or parts j core.True) ≡ false → IsTableKnown system.signature parts past made j
     table_for j l has plain =

@@ -14,8 +14,10 @@ use Rattle.fort_in_order.specs.Made.{Made, with_closure}
 use Rattle.fort_in_order.specs.Checked.{IsClosureJudged, IsFine, FineClosure, IsFailing, FailingClosure, IsUpTo}
 use Rattle.fort_check_steps.specs.declared.failure.Failure.{Failure}
 use Rattle.fort_check_steps.specs.StepAnswers.{as_reason, outcome_of}
-use Rattle.fort_formulas.specs.declared.core_formula.Core as formulas
-use Rattle.fort_formulas.specs.CoreView.{as_core}
+use Rattle.fort_outline.specs.declared.root.Root.{Root}
+use Rattle.fort_outline.specs.Roots.{root_core, cores_of, AreInOrder}
+use Rattle.fort_outline.proofs.RootLaws.{length-cores_of}
+use Rattle.fort_check_steps.proofs.OutlineLaws.{part_root}
 use Rattle.fort_steps.specs.declared.count.Count.{Count}
 use Rattle.fort_steps.specs.declared.step.Step as steps
 use Rattle.fort_steps.specs.declared.step.Step.TheVariants as variants
@@ -70,13 +72,15 @@ map_at f (x ∷ xs) (suc n) d e l = map_at f xs n d e (omega arith)
 pub step_at : (xs : List steps.Step) (ss : List Step) (n : ℕ) (d : steps.Step) (e : Step) → ss ≡ map as_step xs → n < length ss → get_or ss n e ≡ as_step (get_or xs n d)
 step_at xs ss n d e same l = ap (λ (zs : List Step). get_or zs n e) same ∙ map_at as_step xs n d e (omega (arith, l, ap length same))
 
-pub core_at : (xs : List formulas.Core) (n : ℕ) (d : formulas.Core) → n < length (map as_core xs) → as_core (get_or xs n d) ≡ get_or (map as_core xs) n core.True
-core_at xs n d l = sym (map_at as_core xs n d core.True l)
-
 get_same : {A : Type 0} (xs : List A) (k : ℕ) (d e : A) → k < length xs → get_or xs k d ≡ get_or xs k e
 get_same [] k d e l = absurd (omega arith)
 get_same (x ∷ xs) zero d e l = refl
 get_same (x ∷ xs) (suc k) d e l = get_same xs k d e (omega arith)
+
+pub root_at : (rs : List Root) → AreInOrder rs → (n : ℕ) (d : Root) → n < length (cores_of rs) → root_core (cores_of rs) (get_or rs n d) ≡ get_or (cores_of rs) n core.True
+root_at rs order n d l =
+    let low : n < length rs = omega (arith, length-cores_of rs) in
+    sym (part_root rs order n (get_or rs n d) low (get_same rs n d (get_or rs n d) low))
 
 pub element_at : {A : Type 0} (xs : List A) (k : ℕ) (e : A) → k < length xs → IsElement xs k (get_or xs k e)
 element_at xs k e l = (l, λ d. get_same xs k d e l)

@@ -1,6 +1,6 @@
 -- The table of an earlier part, as its room holds it.
-use Rattle.std.specs.Prelude.{◌≡◌, ℕ, zero, suc, ◌^◌, ◌<◌, ◌==◌, List, length, get_or, vec_len, Bool, false, refl}
-use Rattle.std.proofs.Common.{sym, ap, ◌∙◌, subst, arith, eq-eqb, true≢false}
+use Rattle.std.specs.Prelude.{◌≡◌, ℕ, zero, suc, ◌^◌, ◌<◌, List, length, get_or, Bool, refl}
+use Rattle.std.proofs.Common.{sym, ap, ◌∙◌, subst, arith}
 use Rattle.fort_tables.specs.Tables.{Table, Listed, listed_table}
 use Rattle.fort_tables.specs.LabelRules.{LabelRule}
 use Rattle.fort_operations.specs.OperationTruth.{complemented}
@@ -31,7 +31,7 @@ turned_is t l n own table a b e h =
     ap turned_table same ∙ (turned_of n l ∙ (ap (turned n) e ∙ sym h))
 
 module _ (past : Past) (s : Source) (table : Table) (h : IsTableAt past s table) (p : Plan) (room : PartRoom) (targets : List ℕ) (columns : ℕ) (plan_is : p ≡ get_or past.plans.now s.part p)
-    (room_is : room ≡ get_or past.rooms.now s.part room) (count : columns ≡ vec_len (get_or past.plans.now s.part p).columns) (targets_are : targets ≡ h.targets) where
+    (room_is : room ≡ get_or past.rooms.now s.part room) (count : columns ≡ (get_or past.plans.now s.part p).columns) (targets_are : targets ≡ h.targets) where
   pub targets_few : length targets < 2 ^ 32
   targets_few = omega (arith, h.few, ap length targets_are)
 
@@ -41,8 +41,8 @@ module _ (past : Past) (s : Source) (table : Table) (h : IsTableAt past s table)
   room_same : room ≡ h.room
   room_same = room_is ∙ h.room_at.1 room
 
-  columns_same : columns ≡ length h.plan.columns.items
-  columns_same = let e : vec_len p.columns ≡ length p.columns.items = omega (arith, p.columns.ok.0) in count ∙ (ap (λ (q : Plan). vec_len q.columns) (sym plan_is) ∙ (e ∙ ap (λ (q : Plan). length q.columns.items) plan_same))
+  columns_same : columns ≡ h.plan.columns
+  columns_same = count ∙ ap (λ (q : Plan). q.columns) (sym plan_is ∙ plan_same)
 
   own_columns : h.held.rule.columns ≡ columns
   own_columns = h.held.columns_are ∙ sym columns_same
@@ -74,7 +74,7 @@ module _ (past : Past) (s : Source) (table : Table) (h : IsTableAt past s table)
       let states : length t.table.presences ≡ most_states h.targets =
       ap (λ (l : Listed). length l.presences) own
       ∙ (ap (λ (r : PartRoom). length r.presences.items) room_same
-      ∙ (ap (λ (x : Table). length x.presences) h.held.is ∙ held_states past.signature.now (length h.plan.columns.items) h.targets h.room h.own h.held)) in
+      ∙ (ap (λ (x : Table). length x.presences) h.held.is ∙ held_states past.signature.now h.plan.columns h.targets h.room h.own h.held)) in
       record {
         list_room = subst (λ (n : ℕ). HasListRoom n (length t.table.targets) list) (sym states)
             (subst (λ (k : ℕ). HasListRoom (most_states h.targets) k list) (sym count) (fits.list_fits h.targets h.only));
@@ -82,14 +82,10 @@ module _ (past : Past) (s : Source) (table : Table) (h : IsTableAt past s table)
       }
 
 -- a part with columns has no truth
-truth_without : (past : Past) (s : Source) (truth : Bool) (p : Plan) → IsTruthAt past s truth → (vec_len (get_or past.plans.now s.part p).columns == 0) ≡ false → ⊥
-truth_without past s truth p h e =
-    let q = get_or past.plans.now s.part p in
-    let own : vec_len q.columns ≡ length q.columns.items = omega (arith, q.columns.ok.0) in
-    let none : vec_len q.columns ≡ 0 = own ∙ (ap (λ (x : Plan). length x.columns.items) (h.plan_at.1 p) ∙ h.none) in
-    true≢false (sym (eq-eqb (vec_len q.columns) 0 none) ∙ e)
+truth_without : (past : Past) (s : Source) (truth : Bool) (p : Plan) → IsTruthAt past s truth → ((get_or past.plans.now s.part p).columns ≡ 0 → ⊥) → ⊥
+truth_without past s truth p h some = some (ap (λ (x : Plan). x.columns) (h.plan_at.1 p) ∙ h.none)
 
-pub answer_room : (past : Past) (s : Source) (t : TurnedTable) (p : Plan) → (vec_len (get_or past.plans.now s.part p).columns == 0) ≡ false
+pub answer_room : (past : Past) (s : Source) (t : TurnedTable) (p : Plan) → ((get_or past.plans.now s.part p).columns ≡ 0 → ⊥)
     → ((table : Table) → IsTableAt past s table → (list : TargetList) (lay : LayRoom) → FitsList (steps_of past) s list lay → HasTableRoom t list lay)
     → (answer : Answer) → IsAnswerAt past s answer → (list : TargetList) (lay : LayRoom) → FitsList (steps_of past) s list lay → HasTableRoom t list lay
 answer_room past s t p some room (OfTable table) at = room table at

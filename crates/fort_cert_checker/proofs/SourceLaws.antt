@@ -1,7 +1,6 @@
 -- A formula under negations: the part whose answer it is, where that part stands, and its table.
-use Rattle.std.specs.Prelude.{◌≡◌, ℕ, zero, suc, ◌+◌, ◌<◌, List, length, get_or, Contains, Bool, nat_lt, true, false, refl}
+use Rattle.std.specs.Prelude.{◌≡◌, ℕ, zero, suc, ◌<◌, List, length, get_or, Bool, nat_lt, true, false, refl}
 use Rattle.std.proofs.Common.{sym, ap, ◌∙◌, subst, arith, true≢false}
-use Rattle.std.proofs.lemmas.List.{get_or_default}
 use Rattle.fort_theory.specs.Signatures.{Signature}
 use Rattle.fort_logic.specs.Cores as core
 use Rattle.fort_logic.specs.Cores.{Core}
@@ -15,7 +14,7 @@ use Rattle.fort_parts.proofs.StepTables.{IsTableOver-complemented}
 use Rattle.fort_parts.proofs.PartOrder.{operand_earlier}
 use Rattle.fort_in_order.specs.Dues.{has_columns, is_turned}
 use Rattle.fort_in_order.specs.Made.{Made, IsAnswerOf, OfStep, Turned}
-use Rattle.fort_cert_checker.specs.Sources.{IsSourceOf, turned}
+use Rattle.fort_cert_checker.specs.Sources.{IsSourceOf, IsTurnedBody, turned}
 use Rattle.fort_in_order.proofs.RuleLaws.{part_one}
 
 under : (parts : List Core) (f : Core) (k n : ℕ) → IsSourceOf parts f k (suc n) → (g : Core) × (f ≡ core.Not g) × (has_columns g ≡ true) × IsSourceOf parts g k n
@@ -60,28 +59,15 @@ source_earlier root parts are j within f o k (suc n) h =
     let l = source_earlier root parts are before.place (omega (arith, before.before, within)) w.0 inner k n w.3 in
     omega (arith, l, before.before)
 
--- operands of parts are parts
-pub operand_among : (root : Core) (parts : List Core) → AreParts root parts → (h f : Core) → Contains parts h → IsOperandOf f h → Contains parts f
-operand_among root parts are h f c o =
-    let at : get_or parts c.0 core.True ≡ h = get_or_default parts c.0 core.True h c.1 ∙ c.2 in
-    let before = operand_earlier root parts are c.0 c.1 f (subst (IsOperandOf f) (sym at) o) in
-    let low : before.place < length parts = omega (arith, before.before, c.1) in
-    (before.place, low, get_or_default parts before.place f core.True low ∙ before.is)
-
 -- a negation without columns has its own source, and one with columns that of its operand
 pub plain_negation : (f g : Core) → f ≡ core.Not g → has_columns f ≡ false → is_turned f ≡ false
 plain_negation f g e h = ap is_turned e ∙ (sym (ap has_columns e) ∙ h)
 
-pub negation_source : (parts : List Core) (f g h : Core) (k n m : ℕ) → f ≡ core.Not g → h ≡ g → has_columns f ≡ true → n + 1 ≡ m → IsSourceOf parts h k n → IsSourceOf parts f k m
-negation_source parts f g h k n m e same has count s =
-    let more : suc n ≡ m = omega arith in
-    let inner : IsSourceOf parts g k n = subst (λ (x : Core). IsSourceOf parts x k n) same s in
-    let own : has_columns g ≡ true = sym (ap has_columns e) ∙ has in
-    subst (λ (x : Core). IsSourceOf parts x k m) (sym e) (subst (IsSourceOf parts (core.Not g) k) more (own, inner))
-
-pub negation_among : (parts : List Core) (f g h : Core) → (root : Core) → AreParts root parts → f ≡ core.Not g → h ≡ g → Contains parts f → Contains parts h
-negation_among parts f g h root are e same c =
-    subst (Contains parts) (sym same) (operand_among root parts are f g c (subst (IsOperandOf g) (sym e) refl))
+pub negation_source : (parts : List Core) (k body : ℕ) → IsTurnedBody parts k body → (p n : ℕ) → IsSourceOf parts (get_or parts body core.True) p n → IsSourceOf parts (get_or parts k core.True) p (suc n)
+negation_source parts k body t p n source =
+    let g = get_or parts body core.True in
+    let own : has_columns g ≡ true = sym (ap has_columns t.whole) ∙ t.columns in
+    subst (λ (f : Core). IsSourceOf parts f p (suc n)) (sym t.whole) (own, source)
 
 -- a table over its columns stays one
 pub turned_over : (sig : Signature) (columns : List ℕ) (turns : ℕ) (table : Table) → IsTableOver sig columns table → IsTableOver sig columns (turned turns table)
@@ -96,11 +82,3 @@ source_value parts made f k (suc n) value h none e =
     let w = under parts f k n h in
     let same : has_columns (get_or parts k core.True) ≡ has_columns w.0 = ap (λ (xs : List ℕ). nat_lt 0 (length xs)) (source_columns parts w.0 k n w.3) in
     absurd (true≢false (sym w.2 ∙ (sym same ∙ none)))
-
-pub exists_among : (parts : List Core) (f g h : Core) (n : ℕ) → (root : Core) → AreParts root parts → f ≡ core.Exists n g → h ≡ g → Contains parts f → Contains parts h
-exists_among parts f g h n root are e same c =
-    subst (Contains parts) (sym same) (operand_among root parts are f g c (subst (IsOperandOf g) (sym e) refl))
-
-pub infinite_among : (parts : List Core) (f g h : Core) (n : ℕ) → (root : Core) → AreParts root parts → f ≡ core.Infinite n g → h ≡ g → Contains parts f → Contains parts h
-infinite_among parts f g h n root are e same c =
-    subst (Contains parts) (sym same) (operand_among root parts are f g c (subst (IsOperandOf g) (sym e) refl))

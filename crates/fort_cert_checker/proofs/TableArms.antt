@@ -1,5 +1,5 @@
 -- The targets of a part, work by work: what its check needs, and that its rule is the one that the part is to have.
-use Rattle.std.specs.Prelude.{◌≡◌, ℕ, zero, suc, ◌++◌, false, ◌+◌, ◌*◌, ◌<◌, List, [], ◌∷◌, map, length, get_or, vec_len, nat_lt, ◌-◌, Bool, true, Result, refl}
+use Rattle.std.specs.Prelude.{◌≡◌, ℕ, zero, suc, ◌++◌, false, ◌+◌, ◌*◌, ◌<◌, List, [], ◌∷◌, map, length, get_or, nat_lt, ◌-◌, Bool, true, Result, refl}
 use Rattle.std.proofs.Common.{sym, ap, ◌∙◌, subst, arith, true≢false, Vec, Global}
 use Rattle.std.proofs.lemmas.Bool.{lt-ltb}
 use Rattle.std.proofs.lemmas.List.{length-map}
@@ -203,7 +203,7 @@ module _ (system : PatternSystem) (parts : List Core) (past : Past) (k : ℕ) (m
         step = step;
       }
 
-  module _ (op : Op) (first second : Operand) (plan : IsProductPlan parts f op first second) (columns : ℕ) (count : columns ≡ vec_len p.columns) where
+  module _ (op : Op) (first second : Operand) (plan : IsProductPlan parts f op first second) (columns : ℕ) (count : columns ≡ p.columns) where
     pub one : IsKnown system parts past k made due.due.known plan.one first.source
     one = known_answer system parts past k made due.due.known plan.one (operand_is plan.one (joined (connective_of op) plan.one plan.other) plan.whole (operand_first (connective_of op) plan.one plan.other)) first.source plan.one_is.source
 
@@ -211,7 +211,7 @@ module _ (system : PatternSystem) (parts : List Core) (past : Past) (k : ℕ) (m
     other = known_answer system parts past k made due.due.known plan.other (operand_is plan.other (joined (connective_of op) plan.one plan.other) plan.whole (operand_second (connective_of op) plan.one plan.other)) second.source plan.other_is.source
 
     count_is : columns ≡ length (columns_of f)
-    count_is = let e : vec_len p.columns ≡ length p.columns.items = omega (arith, p.columns.ok.0) in count ∙ (e ∙ ap length due.due.plan.columns)
+    count_is = count ∙ due.due.plan.columns
 
     pub product_joined : AreJoined past.signature.now columns one.answer first.places.items other.answer second.places.items
     product_joined =

@@ -6,7 +6,8 @@ use Rattle.fort_logic.specs.Parts.{IsClosed}
 use Rattle.fort_certificate_grammar.specs.Certificates.{Step, Certificate}
 use Rattle.fort_in_order.specs.Made.{Made}
 use Rattle.fort_in_order.specs.Dues.{dues}
-use Rattle.fort_formulas.specs.CoreView.{as_core}
+use Rattle.fort_outline.specs.Roots.{cores_of}
+use Rattle.fort_outline.specs.Outlines.{IsOutlineOf}
 use Rattle.fort_steps.specs.StepView.{as_step}
 use Rattle.fort_certificate.specs.CertificateView.{as_certificate}
 use Rattle.fort_check_steps.specs.DueView.{as_due}
@@ -17,7 +18,7 @@ abbrev pub steps_in : Checker → List Step
 steps_in a = map as_step a.certificate.now.steps.items
 
 abbrev pub parts_in : Checker → List Core
-parts_in a = map as_core a.parts.items
+parts_in a = cores_of a.outline.roots.items
 
 -- of this certificate of this formula over this system
 pub record IsCheckerOf (system : PatternSystem) (f : Core) (c : Certificate) (a : Checker) : Type 0 where
@@ -25,6 +26,7 @@ pub record IsCheckerOf (system : PatternSystem) (f : Core) (c : Certificate) (a 
   pub certificate_is : as_certificate a.certificate.now ≡ c
   pub lawful : IsSystem system
   pub closed : IsClosed f
+  pub outline_is : IsOutlineOf f a.outline
   pub forms : a.certificate.now.first + length a.certificate.now.steps.items + 1 < 2 ^ 32
   pub dues : map as_due a.dues.items ≡ dues (length system.rules) (parts_in a)
   pub ready : IsReady system f (parts_in a) c.steps a.plans.items a.closures.items a.rooms.items a.scratch a.marks.items

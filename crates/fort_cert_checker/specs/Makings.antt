@@ -1,5 +1,5 @@
 -- Inside: what is made before a check, for each step that is due and for each part.
-use Rattle.std.specs.Prelude.{◌≡◌, ℕ, ◌*◌, ◌<◌, ◌≤◌, List, length, get_or, Option, None, Some}
+use Rattle.std.specs.Prelude.{◌≡◌, ℕ, ◌*◌, ◌^◌, ◌<◌, ◌≤◌, List, length, get_or, Option, None, Some}
 use Rattle.fort_theory.specs.Patterns.{PatternSystem}
 use Rattle.fort_logic.specs.Cores as core
 use Rattle.fort_logic.specs.Cores.{Core}
@@ -9,12 +9,13 @@ use Rattle.fort_check_steps.specs.PairSteps.{HasClosureRules}
 use Rattle.fort_check_steps.specs.declared.room.PartRoom.{PartRoom}
 use Rattle.fort_check_steps.specs.declared.room.LabelRoom.{LabelRoom}
 use Rattle.fort_check_steps.specs.declared.marks.MarkRoom.{MarkRoom}
-use Rattle.fort_check_steps.specs.Room.{HasRoom, HasLabelRoom}
-use Rattle.fort_cert_checker.specs.Abouts.{IsOnlyAbout}
+use Rattle.fort_check_steps.specs.Room.{HasRoom, HasLabelRoom, most_states}
+use Rattle.fort_cert_checker.specs.Abouts.{IsFirstAbout, IsOnlyAbout, targets_in}
 use Rattle.fort_cert_checker.specs.OperandLists.{AreListsFor}
 use Rattle.fort_cert_checker.specs.Plans.{IsPlanOf, IsWidthFor}
 use Rattle.fort_cert_checker.specs.Pasts.{IsMarkRoomFor}
 use Rattle.fort_cert_checker.specs.declared.plan.Plan.{Plan}
+use Rattle.fort_cert_checker.specs.declared.plan.Work.{Work}
 use Rattle.fort_cert_checker.specs.declared.making.ClosurePlan.{ClosurePlan}
 
 -- as many as n, each right at its place
@@ -45,6 +46,14 @@ IsRoomFor ss k r = (targets : List ℕ) → IsOnlyAbout ss (Part k targets) → 
 
 abbrev pub AreRoomsMade : List Step → ℕ → List PartRoom → Type 0
 AreRoomsMade ss n rs = AreMade (IsRoomFor ss) n rs
+
+-- a label of part k has so many words that there is no number for those of all labels
+pub record HasTooManyWords (ss : List Step) (k : ℕ) (w : Work) : Type 0 where
+  pub width : ℕ
+  pub is_width : IsWidthFor ss w width
+  pub step : Step
+  pub first : IsFirstAbout ss (OfPart k) step
+  pub many : 2 ^ 64 ≤ width * most_states (targets_in step)
 
 -- room for the labels of part k, and for its operands' lists
 pub record IsScratchFor (ss : List Step) (k : ℕ) (p : Plan) (r : LabelRoom) : Type 0 where

@@ -64,14 +64,14 @@ pub record IsTableAt (past : Past) (s : Source) (table : Table) : Type 0 where
   pub room_at : IsElement past.rooms.now s.part room
   pub only : IsOnlyAbout (steps_of past) (Part s.part targets)
   pub few : length targets < 2 ^ 32
-  pub some : 0 < length plan.columns.items
-  pub held : IsHeld past.signature.now (length plan.columns.items) targets room own
+  pub some : 0 < plan.columns
+  pub held : IsHeld past.signature.now plan.columns targets room own
   pub is : table ≡ turned s.turns own
 
 pub record IsTruthAt (past : Past) (s : Source) (truth : Bool) : Type 0 where
   pub plan : Plan
   pub plan_at : IsElement past.plans.now s.part plan
-  pub none : length plan.columns.items ≡ 0
+  pub none : plan.columns ≡ 0
   pub only : IsOnlyAbout (steps_of past) (Value s.part truth)
 
 abbrev pub IsAnswerAt : Past → Source → Answer → Type 0
@@ -120,7 +120,7 @@ pub record KnowsPast (system : PatternSystem) (parts : List Core) (past : Past) 
   pub parted : AreParted parts
   pub within : k < length parts
   pub signature : past.signature.now ≡ system.signature
-  pub plans : (j : ℕ) → j < length parts → (p : Plan) × IsElement past.plans.now j p × (p.columns.items ≡ columns_of (get_or parts j core.True))
+  pub plans : (j : ℕ) → j < length parts → (p : Plan) × IsElement past.plans.now j p × (p.columns ≡ length (columns_of (get_or parts j core.True)))
   pub tables : (j : ℕ) → j < k → has_columns (get_or parts j core.True) ≡ true → is_turned (get_or parts j core.True) ≡ false → IsTableKnown system.signature parts past made j
   pub values : (j : ℕ) → j < k → has_columns (get_or parts j core.True) ≡ false → is_turned (get_or parts j core.True) ≡ false → IsValueKnown past made j
   pub closures : (rel : core.Rel) (index x y : ℕ) → get_or parts k core.True ≡ core.Atom rel index x y → IsClosureKnown (steps_of past) made rel index

@@ -116,7 +116,7 @@ IsWorkOf system parts ss k f (Projection s c) = IsProjectionPlan parts f s c
 IsWorkOf system parts ss k f (Many s c marks) = IsManyPlan parts ss k f s c marks.items
 
 pub record IsPlanOf (system : PatternSystem) (parts : List Core) (ss : List Step) (k : ℕ) (f : Core) (p : Plan) : Type 0 where
-  pub columns : p.columns.items ≡ columns_of f
+  pub columns : p.columns ≡ length (columns_of f)
   pub work : IsWorkOf system parts ss k f p.work
 
 -- the words of its labels

@@ -1,11 +1,23 @@
 -- Inside: the part whose answer a formula has, under negations with columns, each of which turns the table.
-use Rattle.std.specs.Prelude.{◌≡◌, ℕ, zero, suc, List, true, false}
+use Rattle.std.specs.Prelude.{◌≡◌, ℕ, zero, suc, ◌<◌, List, get_or, true, false}
 use Rattle.fort_logic.specs.Cores as core
 use Rattle.fort_logic.specs.Cores.{Core}
 use Rattle.fort_tables.specs.Tables.{Table}
 use Rattle.fort_operations.specs.OperationTruth.{complemented}
 use Rattle.fort_in_order.specs.Dues.{has_columns, is_turned}
 use Rattle.fort_in_order.specs.Made.{IsPartAt}
+use Rattle.fort_outline.specs.declared.outline.Outline.{Outline}
+use Rattle.fort_outline.specs.Outlines.{parts_in}
+
+-- part k
+abbrev pub core_at : Outline → ℕ → Core
+core_at o k = get_or (parts_in o) k core.True
+
+-- part k is a negation with columns, of this earlier part
+pub record IsTurnedBody (parts : List Core) (k body : ℕ) : Type 0 where
+  pub before : body < k
+  pub whole : get_or parts k core.True ≡ core.Not (get_or parts body core.True)
+  pub columns : has_columns (get_or parts k core.True) ≡ true
 
 -- the formula is part k, under so many negations with columns
 abbrev pub IsSourceOf : List Core → Core → (k turns : ℕ) → Type 0

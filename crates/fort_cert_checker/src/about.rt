@@ -45,6 +45,9 @@ fn targets_in<'a>(step: &'a Step) -> &'a [u32]
 pub(crate) fn targets_of<'a>(steps: &'a [Step], k: u32) -> &'a [u32]
     ensures own { (targets : List ℕ) → IsOnlyAbout (map as_step steps.now)
         (theory.Part k targets) → result.now ≡ targets }
+    ensures first { 0 < length result.now → (s : theory.Step)
+        × IsFirstAbout (map as_step steps.now) (definitions.OfPart k) s
+        × (result.now ≡ abouts.targets_in s) }
     ensures few { HasFewTargets (map as_step steps.now) → length result.now < 2 ^ 32 }
 {
     match step_about(steps, DueStep::Part(k)) {

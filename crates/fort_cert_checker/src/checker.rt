@@ -27,7 +27,8 @@ use fort_certificate::Certificate;
 use fort_check_steps::{
     DueStep, Failure, LabelRoom, MarkRoom, PartRoom, Reason, failed, is_about, steps_due,
 };
-use fort_formulas::{Core, parts};
+use fort_formulas::Core;
+use fort_outline::Outline;
 use fort_steps::Step;
 use fort_terms::{Memory, System, has_numbers};
 use std::alloc::{AllocError, Global};
@@ -46,7 +47,7 @@ pub struct Checker<'a> {
     system: &'a System,
     core: &'a Core,
     certificate: &'a Certificate,
-    parts: Vec<Core>,
+    outline: Outline,
     dues: Vec<DueStep>,
     /// For each step that is due.
     closures: Vec<Option<ClosurePlan>>,
@@ -146,13 +147,13 @@ impl<'a> Checker<'a> {
             (as_certificate certificate.now)) }
     {
         let steps = certificate.steps.as_slice();
-        let parts = parts(alloc, core)?;
-        if !has_all_numbers(parts.len(), certificate.first, steps) {
+        let outline = Outline::new(alloc, core)?;
+        if !has_all_numbers(outline.roots.len(), certificate.first, steps) {
             return Err(AllocError);
         }
-        let dues = steps_due(alloc, system.number(), &parts)?;
+        let dues = steps_due(alloc, system.number(), &outline)?;
         let closures = closure_plans(alloc, system, &dues)?;
-        let plans = plans_of(alloc, system, steps, &parts)?;
+        let plans = plans_of(alloc, system, steps, &outline)?;
         let rooms = rooms_of(alloc, steps, plans.len())?;
         let scratch = scratch_for(alloc, steps, &plans)?;
         let marks = mark_rooms(alloc, steps, &plans)?;
@@ -160,7 +161,7 @@ impl<'a> Checker<'a> {
             system,
             core,
             certificate,
-            parts,
+            outline,
             dues,
             closures,
             plans,
@@ -198,7 +199,7 @@ impl<'a> Checker<'a> {
         let given = Given {
             system: self.system,
             steps,
-            parts: &self.parts,
+            roots: &self.outline.roots,
             plans: &self.plans,
         };
         check_step(

@@ -1,22 +1,22 @@
 //! What a check needs, taken before it: the rules of closures, the plans of parts, and room.
-ghost use Rattle.std.specs.Prelude.{◌≡◌, ℕ, ◌<◌, ◌^◌, List, map, length, Contains, Option, IfOk};
+ghost use Rattle.std.specs.Prelude.{◌≡◌, ℕ, ◌<◌, ◌^◌, List, map, length, Contains, Option, IfOk, IfSome, IfNone};
 ghost use Rattle.fort_theory.specs.Patterns.{PatternSystem};
 ghost use Rattle.fort_theory.specs.Sides.{IsIndexOf};
 ghost use Rattle.fort_logic.specs.Cores as theory;
 ghost use Rattle.fort_certificate_grammar.specs.Certificates as theory_steps;
 ghost use Rattle.fort_certificate_grammar.specs.Certificates.{Part};
 ghost use Rattle.fort_in_order.specs.Dues as definitions;
-ghost use Rattle.fort_formulas.specs.CoreView.{as_core};
+ghost use Rattle.fort_outline.specs.Outlines.{IsOutlineOf, parts_in};
 ghost use Rattle.fort_steps.specs.StepView.{as_step, as_which};
 ghost use Rattle.fort_check_steps.specs.DueView.{as_due};
 ghost use Rattle.fort_check_steps.specs.Room.{HasNeeds, IsListFor, most_states as most_states_lem};
 ghost use Rattle.fort_cert_checker.specs.OperandLists.{AreNeedsOf};
 ghost use Rattle.fort_check_steps.specs.Marks.{HasMarkRoom};
 ghost use Rattle.fort_cert_checker.specs.Abouts.{IsOnlyAbout};
-ghost use Rattle.fort_cert_checker.specs.Plans.{AreParted, IsFitPart, IsPlanOf, IsWidthFor};
+ghost use Rattle.fort_cert_checker.specs.Plans.{IsFitPart, IsPlanOf, IsWidthFor};
 ghost use Rattle.fort_cert_checker.specs.Pasts.{IsMarkRoomFor};
 ghost use Rattle.fort_cert_checker.specs.Fronts.{HasFewTargets};
-ghost use Rattle.fort_cert_checker.specs.Makings.{IsClosurePlan, IsClosureFor, IsScratchFor, AreClosuresMade, ArePlansMade, AreRoomsMade, IsScratchMade, AreMarksMade};
+ghost use Rattle.fort_cert_checker.specs.Makings.{IsClosurePlan, IsClosureFor, IsScratchFor, HasTooManyWords, AreClosuresMade, ArePlansMade, AreRoomsMade, IsScratchMade, AreMarksMade};
 
 use crate::about::targets_of;
 use crate::plan::{Plan, Source, Work};
@@ -25,8 +25,8 @@ use fort_check_steps::{
     most_states,
 };
 use fort_context_closure::local::is_width;
-use fort_formulas::Core;
 use fort_infinity::local::many_width;
+use fort_outline::Outline;
 use fort_rrn_algebra::local::project_width;
 use fort_steps::{Step, Which};
 use fort_terms::{Memory, System};
@@ -92,18 +92,18 @@ pub(crate) fn plans_of(
     alloc: Global,
     system: &System,
     steps: &[Step],
-    parts: &[Core],
+    outline: &Outline,
 ) -> Result<Vec<Plan>, Memory>
-    requires few { length parts.now < 2 ^ 32 }
-    requires parts { AreParted (map as_core parts.now) }
-    requires fit { (f : theory.Core) → Contains (map as_core parts.now) f
+    requires outline { (f : theory.Core) × IsOutlineOf f outline.now }
+    requires few { length outline.now.roots.items < 2 ^ 32 }
+    requires fit { (f : theory.Core) → Contains (parts_in outline.now) f
         → IsFitPart system.now f }
-    ensures { IfOk result (λ plans. ArePlansMade system.now (map as_core parts.now)
-        (map as_step steps.now) (length parts.now) plans.items) }
+    ensures { IfOk result (λ plans. ArePlansMade system.now (parts_in outline.now)
+        (map as_step steps.now) (length (parts_in outline.now)) plans.items) }
 {
-    let mut plans = Vec::with_capacity(alloc, parts.len())?;
-    for k in 0..parts.len() {
-        plans.push(Plan::new(alloc, system, steps, parts, k)?)?;
+    let mut plans = Vec::with_capacity(alloc, outline.roots.len())?;
+    for k in 0..outline.roots.len() {
+        plans.push(Plan::new(alloc, system, steps, outline, k)?)?;
     }
     Ok(plans)
 }
@@ -172,21 +172,23 @@ fn list_needs(steps: &[Step], plan: &Plan) -> (ListNeeds, ListNeeds)
     }
 }
 
-/// What the labels of part `k` need, and the lists of its operands. More words than there are numbers for are want of memory.
-fn label_needs(steps: &[Step], k: u32, plan: &Plan) -> Result<LabelNeeds, Memory>
+/// What the labels of part `k` need, and the lists of its operands, or none where there are more words than numbers for them.
+fn label_needs(steps: &[Step], k: u32, plan: &Plan) -> Option<LabelNeeds>
     requires { HasFewTargets (map as_step steps.now) }
-    ensures { IfOk result (λ needs. (scratch : LabelRoom) → HasNeeds needs scratch
+    ensures some { IfSome result (λ needs. (scratch : LabelRoom) → HasNeeds needs scratch
         → IsScratchFor (map as_step steps.now) k plan.now scratch) }
+    ensures none { IfNone result (HasTooManyWords (map as_step steps.now) k plan.now.work) }
 {
     let states = most_states(targets_of(steps, k));
     let Some(needs) = LabelNeeds::new(width_of(steps, plan), states) else {
-        return Err(AllocError);
+        return None;
     };
     let (first, second) = list_needs(steps, plan);
-    Ok(needs.with_lists(first, second))
+    Some(needs.with_lists(first, second))
 }
 
-/// Room for the labels of each part in its turn, and for its operands' lists.
+/// Room for the labels of each part in its turn, and for its operands' lists. More words of a part's labels than there are numbers for
+/// are want of memory.
 pub(crate) fn scratch_for(
     alloc: Global,
     steps: &[Step],
@@ -198,7 +200,10 @@ pub(crate) fn scratch_for(
 {
     let mut needs = LabelNeeds::default();
     for k in 0..plans.len() {
-        needs = needs.max(label_needs(steps, k as u32, &plans[k])?);
+        let Some(own) = label_needs(steps, k as u32, &plans[k]) else {
+            return Err(AllocError);
+        };
+        needs = needs.max(own);
     }
     LabelRoom::new(alloc, needs)
 }

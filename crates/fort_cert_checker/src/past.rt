@@ -50,7 +50,7 @@ impl<'a> Past<'a> {
         let plan = &self.plans[source.part as usize];
         PartTable::new(
             self.signature,
-            plan.columns.len(),
+            plan.columns,
             targets_of(self.steps, source.part),
             &self.rooms[source.part as usize],
             source.turns,
@@ -72,7 +72,8 @@ impl<'a> Past<'a> {
             → (list : TargetList) (lay : LayRoom) → FitsList (steps_of self.now) source list lay
             → HasRoomFor result list lay }
     {
-        if self.plans[source.part as usize].columns.is_empty() {
+        let columns = self.plans[source.part as usize].columns;
+        if columns == 0 {
             Answer::Truth(self.truth(source))
         } else {
             Answer::Auto(self.table(source))

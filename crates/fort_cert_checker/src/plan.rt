@@ -1,26 +1,26 @@
 //! What each part is checked by, taken from the formula and the certificate before the check.
-ghost use Rattle.std.specs.Prelude.{◌≡◌, ℕ, ◌<◌, ◌^◌, false, true, List, map, length, slice_index, slice_index_or, Contains, IfOk};
+ghost use Rattle.std.specs.Prelude.{◌≡◌, ℕ, ◌<◌, ◌≤◌, ◌^◌, false, List, map, length, slice_index, Contains, IfOk, IfSome, IfNone};
 ghost use Rattle.fort_theory.specs.Patterns.{PatternSystem};
 ghost use Rattle.fort_theory.specs.Sides.{IsIndexOf};
 ghost use Rattle.fort_certificate_grammar.specs.Certificates as theory_steps;
 ghost use Rattle.fort_logic.specs.Cores as theory;
-ghost use Rattle.fort_logic.specs.Parts.{is_free};
-ghost use Rattle.fort_formulas.specs.CoreView.{as_core, as_rel};
+ghost use Rattle.fort_formulas.specs.CoreView.{as_rel};
+ghost use Rattle.fort_outline.specs.Outlines.{IsOutlineOf, parts_in};
+ghost use Rattle.fort_atom_labels.specs.Subterms.{subterms};
 ghost use Rattle.fort_parts.specs.PartColumns.{columns_of, place_in, places_in};
 ghost use Rattle.fort_parts.specs.RightAnswers.{joined};
 ghost use Rattle.fort_steps.specs.StepView.{as_step};
 ghost use Rattle.fort_rrn_algebra.specs.Operands.{connective_of};
 ghost use Rattle.fort_in_order.specs.Dues as definitions;
-ghost use Rattle.fort_in_order.specs.Made.{IsPartAt};
-ghost use Rattle.fort_cert_checker.specs.Sources.{IsSourceOf};
-ghost use Rattle.fort_cert_checker.specs.Plans.{AreParted, IsFitPart, IsOperandPlan, IsClosureRead, IsRelationPlan, IsWorkOf, IsPlanOf};
+ghost use Rattle.fort_cert_checker.specs.Sources.{core_at, IsSourceOf, IsTurnedBody};
+ghost use Rattle.fort_cert_checker.specs.Plans.{IsFitPart, IsOperandPlan, IsClosureRead, IsRelationPlan, IsWorkOf, IsPlanOf};
 
 use crate::about::{closure_pairs, marks_of};
-use fort_check_steps::has_columns;
 use fort_context_closure::local::has_few_subterms;
 use fort_context_closure::{NormalBits, RelationBits};
-use fort_formulas::{Core, Rel, free};
+use fort_formulas::Rel;
 use fort_infinity::Count;
+use fort_outline::{Outline, Root};
 use fort_rrn_algebra::Op;
 use fort_steps::{Step, Which};
 use fort_terms::{Memory, System, Term};
@@ -57,62 +57,49 @@ pub(crate) enum Work {
     Many(Source, usize, Vec<Count>),
 }
 
-/// What a part is checked by, and its columns.
+/// What a part is checked by, and how many columns it has.
 #[derive(Drop)]
 pub(crate) struct Plan {
-    pub columns: Vec<u32>,
+    pub columns: usize,
     pub work: Work,
 }
 
-/// The number of a formula among the parts.
-fn number_of(parts: &[Core], core: &Core) -> u32
-    requires few { length parts.now < 2 ^ 32 }
-    requires there { Contains (map as_core parts.now) (as_core core.now) }
-    ensures { IsPartAt (map as_core parts.now) result (as_core core.now) }
+/// The operand of a negation with columns, whose table is that of the operand with the accepting states turned.
+fn turned_body(outline: &Outline, k: usize) -> Option<usize>
+    requires outline { (f : theory.Core) × IsOutlineOf f outline.now }
+    requires within { k < length outline.now.roots.items }
+    ensures some { IfSome result (IsTurnedBody (parts_in outline.now) k) }
+    ensures none { IfNone result (definitions.is_turned (core_at outline.now k) ≡ false) }
 {
-    for place in 0..parts.len() {
-        if parts[place] == *core {
-            return place as u32;
+    match &outline.roots[k] {
+        Root::Not(body) => {
+            if outline.columns[k].is_empty() {
+                None
+            } else {
+                Some(*body)
+            }
         }
+        _ => None,
     }
-    unreachable!()
 }
 
-fn own_source(parts: &[Core], core: &Core) -> Source
-    requires few { length parts.now < 2 ^ 32 }
-    requires there { Contains (map as_core parts.now) (as_core core.now) }
-    requires plain { definitions.is_turned (as_core core.now) ≡ false }
-    ensures { IsSourceOf (map as_core parts.now) (as_core core.now) result.part result.turns }
+/// Where the answer to part `k` is.
+fn source_of(outline: &Outline, k: usize) -> Source
+    requires outline { (f : theory.Core) × IsOutlineOf f outline.now }
+    requires few { length outline.now.roots.items < 2 ^ 32 }
+    requires within { k < length outline.now.roots.items }
+    ensures { IsSourceOf (parts_in outline.now) (core_at outline.now k) result.part
+        result.turns }
 {
+    let mut part = k;
+    let mut turns = 0;
+    while let Some(body) = turned_body(outline, part) {
+        part = body;
+        turns += 1;
+    }
     Source {
-        part: number_of(parts, core),
-        turns: 0,
-    }
-}
-
-/// Where the answer to a part is. More negations than there are numbers for are want of memory.
-fn source_of(alloc: Global, parts: &[Core], core: &Core) -> Result<Source, Memory>
-    requires few { length parts.now < 2 ^ 32 }
-    requires parts { AreParted (map as_core parts.now) }
-    requires there { Contains (map as_core parts.now) (as_core core.now) }
-    ensures { IfOk result (λ s. IsSourceOf (map as_core parts.now) (as_core core.now)
-        s.part s.turns) }
-{
-    match core {
-        Core::Not(f) => {
-            if !has_columns(alloc, core)? {
-                return Ok(own_source(parts, core));
-            }
-            let inner = source_of(alloc, parts, f.as_core())?;
-            match inner.turns.checked_add(1) {
-                Some(turns) => Ok(Source {
-                    part: inner.part,
-                    turns,
-                }),
-                None => Err(AllocError),
-            }
-        }
-        _ => Ok(own_source(parts, core)),
+        part: part as u32,
+        turns,
     }
 }
 
@@ -141,66 +128,56 @@ fn places_among(alloc: Global, columns: &[u32], numbers: &[u32]) -> Result<Vec<u
     Ok(places)
 }
 
-/// The places of a formula's columns among those of another, which has them all.
-fn places_of(alloc: Global, columns: &[u32], core: &Core) -> Result<Vec<usize>, Memory>
-    requires { (n : ℕ) → Contains (columns_of (as_core core.now)) n → Contains columns.now n }
-    ensures { IfOk result (λ ps. ps.items ≡ places_in columns.now (columns_of (as_core core.now))) }
+/// The place of a bound number among the columns of the operand `f` that it is bound in.
+fn bound_column(outline: &Outline, n: u32, f: usize) -> usize
+    requires outline { (g : theory.Core) × IsOutlineOf g outline.now }
+    requires within { f < length outline.now.roots.items }
+    requires free { Contains (columns_of (core_at outline.now f)) n }
+    ensures { result ≡ place_in (columns_of (core_at outline.now f)) n }
 {
-    let numbers = free(alloc, core)?;
-    places_among(alloc, columns, &numbers)
+    column_of(&outline.columns[f], n)
 }
 
-fn operand_plan(
-    alloc: Global,
-    parts: &[Core],
-    columns: &[u32],
-    core: &Core,
-) -> Result<Operand, Memory>
-    requires few { length parts.now < 2 ^ 32 }
-    requires parts { AreParted (map as_core parts.now) }
-    requires there { Contains (map as_core parts.now) (as_core core.now) }
-    requires within { (n : ℕ) → Contains (columns_of (as_core core.now)) n
-        → Contains columns.now n }
-    ensures { IfOk result (λ o. (h : theory.Core) → columns.now ≡ columns_of h
-        → IsOperandPlan (map as_core parts.now) h (as_core core.now) o) }
+/// Operand `f` of part `k`, which has all its columns.
+fn operand_plan(alloc: Global, outline: &Outline, k: usize, f: usize) -> Result<Operand, Memory>
+    requires outline { (g : theory.Core) × IsOutlineOf g outline.now }
+    requires few { length outline.now.roots.items < 2 ^ 32 }
+    requires whole { k < length outline.now.roots.items }
+    requires within { f < length outline.now.roots.items }
+    requires columns { (n : ℕ) → Contains (columns_of (core_at outline.now f)) n
+        → Contains (columns_of (core_at outline.now k)) n }
+    ensures { IfOk result (IsOperandPlan (parts_in outline.now) (core_at outline.now k)
+        (core_at outline.now f)) }
 {
+    let places = places_among(alloc, &outline.columns[k], &outline.columns[f])?;
     Ok(Operand {
-        source: source_of(alloc, parts, core)?,
-        places: places_of(alloc, columns, core)?,
+        source: source_of(outline, f),
+        places,
     })
 }
 
-/// The product of two formulas, over the columns of both.
+/// The product of two parts, which part `k` is.
 fn product_work(
     alloc: Global,
-    parts: &[Core],
-    columns: &[u32],
+    outline: &Outline,
+    k: usize,
     op: Op,
-    first: &Core,
-    second: &Core,
+    first: usize,
+    second: usize,
 ) -> Result<Work, Memory>
-    requires few { length parts.now < 2 ^ 32 }
-    requires parts { AreParted (map as_core parts.now) }
-    requires whole { Contains (map as_core parts.now) (joined (connective_of op)
-        (as_core first.now) (as_core second.now)) }
-    requires columns { columns.now ≡ columns_of (joined (connective_of op)
-        (as_core first.now) (as_core second.now)) }
-    ensures { IfOk result (λ w. (system : PatternSystem) (ss : List theory_steps.Step) (k : ℕ)
-        → IsWorkOf system (map as_core parts.now) ss k (joined (connective_of op)
-        (as_core first.now) (as_core second.now)) w) }
+    requires outline { (g : theory.Core) × IsOutlineOf g outline.now }
+    requires few { length outline.now.roots.items < 2 ^ 32 }
+    requires within { k < length outline.now.roots.items }
+    requires first { first < length outline.now.roots.items }
+    requires second { second < length outline.now.roots.items }
+    requires whole { core_at outline.now k ≡ joined (connective_of op)
+        (core_at outline.now first) (core_at outline.now second) }
+    ensures { IfOk result (λ w. (system : PatternSystem) (ss : List theory_steps.Step) (i : ℕ)
+        → IsWorkOf system (parts_in outline.now) ss i (core_at outline.now k) w) }
 {
-    let first = operand_plan(alloc, parts, columns, first)?;
-    let second = operand_plan(alloc, parts, columns, second)?;
+    let first = operand_plan(alloc, outline, k, first)?;
+    let second = operand_plan(alloc, outline, k, second)?;
     Ok(Work::Product(op, first, second))
-}
-
-/// The place of a bound number among the columns of the formula that it is bound in.
-fn bound_column(alloc: Global, core: &Core, number: u32) -> Result<usize, Memory>
-    requires { is_free number (as_core core.now) ≡ true }
-    ensures { IfOk result (λ c. c ≡ place_in (columns_of (as_core core.now)) number) }
-{
-    let columns = free(alloc, core)?;
-    Ok(column_of(&columns, number))
 }
 
 /// The pairs that a relation reads: none, or those of a closure.
@@ -238,56 +215,58 @@ fn relation_labels(
     RelationBits::by_pairs(alloc, system, index, rel, x, y, &pairs)
 }
 
-fn term_work(term: &Term) -> Result<Work, Memory>
-    ensures { IfOk result (λ w. (system : PatternSystem) (parts : List theory.Core)
+/// How the answer to "is this term" is found, or none where there are more subterms than numbers for them.
+fn term_work(term: &Term) -> Option<Work>
+    ensures some { IfSome result (λ w. (system : PatternSystem) (parts : List theory.Core)
         (ss : List theory_steps.Step) (k x : ℕ)
         → IsWorkOf system parts ss k (theory.Is x term.now) w) }
+    ensures none { IfNone result (2 ^ 32 ≤ length (subterms term.now)) }
 {
     if has_few_subterms(term) {
-        Ok(Work::Term)
+        Some(Work::Term)
     } else {
-        Err(AllocError)
+        None
     }
 }
 
-/// How the answer of part `k`, which has these columns, is found.
+/// How the answer of part `k` is found.
 fn work_of(
     alloc: Global,
     system: &System,
     steps: &[Step],
-    parts: &[Core],
-    k: u32,
-    core: &Core,
-    columns: &[u32],
+    outline: &Outline,
+    k: usize,
 ) -> Result<Work, Memory>
-    requires few { length parts.now < 2 ^ 32 }
-    requires parts { AreParted (map as_core parts.now) }
-    requires there { Contains (map as_core parts.now) (as_core core.now) }
-    requires fit { IsFitPart system.now (as_core core.now) }
-    requires columns { columns.now ≡ columns_of (as_core core.now) }
-    ensures { IfOk result (λ w. IsWorkOf system.now (map as_core parts.now)
-        (map as_step steps.now) k (as_core core.now) w) }
+    requires outline { (g : theory.Core) × IsOutlineOf g outline.now }
+    requires few { length outline.now.roots.items < 2 ^ 32 }
+    requires within { k < length outline.now.roots.items }
+    requires fit { IsFitPart system.now (core_at outline.now k) }
+    ensures { IfOk result (IsWorkOf system.now (parts_in outline.now) (map as_step steps.now) k
+        (core_at outline.now k)) }
 {
-    match core {
-        Core::True => Ok(Work::Truth),
-        Core::Atom(rel, index, x, y) => {
+    match &outline.roots[k] {
+        Root::True => Ok(Work::Truth),
+        Root::Atom(rel, index, x, y) => {
             let labels = relation_labels(alloc, system, steps, *rel, *index, *x, *y)?;
             Ok(Work::Relation(labels))
         }
-        Core::Nf(index, _) => Ok(Work::Normal(NormalBits::new(alloc, system, *index)?)),
-        Core::Is(_, term) => term_work(term),
-        Core::Not(f) => Ok(Work::Negation(source_of(alloc, parts, f.as_core())?)),
-        Core::And(f, g) => product_work(alloc, parts, columns, Op::And, f.as_core(), g.as_core()),
-        Core::Or(f, g) => product_work(alloc, parts, columns, Op::Or, f.as_core(), g.as_core()),
-        Core::Iff(f, g) => product_work(alloc, parts, columns, Op::Iff, f.as_core(), g.as_core()),
-        Core::Exists(n, f) => {
-            let source = source_of(alloc, parts, f.as_core())?;
-            Ok(Work::Projection(source, bound_column(alloc, f.as_core(), *n)?))
+        Root::Nf(index, _) => Ok(Work::Normal(NormalBits::new(alloc, system, *index)?)),
+        Root::Is(_, term) => match term_work(term) {
+            Some(work) => Ok(work),
+            None => Err(AllocError),
+        },
+        Root::Not(f) => Ok(Work::Negation(source_of(outline, *f))),
+        Root::And(f, g) => product_work(alloc, outline, k, Op::And, *f, *g),
+        Root::Or(f, g) => product_work(alloc, outline, k, Op::Or, *f, *g),
+        Root::Iff(f, g) => product_work(alloc, outline, k, Op::Iff, *f, *g),
+        Root::Exists(n, f) => {
+            let column = bound_column(outline, *n, *f);
+            Ok(Work::Projection(source_of(outline, *f), column))
         }
-        Core::Infinite(n, f) => {
-            let source = source_of(alloc, parts, f.as_core())?;
-            let column = bound_column(alloc, f.as_core(), *n)?;
-            Ok(Work::Many(source, column, marks_of(alloc, steps, k)?))
+        Root::Infinite(n, f) => {
+            let column = bound_column(outline, *n, *f);
+            let marks = marks_of(alloc, steps, k as u32)?;
+            Ok(Work::Many(source_of(outline, *f), column, marks))
         }
     }
 }
@@ -298,20 +277,20 @@ impl Plan {
         alloc: Global,
         system: &System,
         steps: &[Step],
-        parts: &[Core],
+        outline: &Outline,
         k: usize,
     ) -> Result<Plan, Memory>
-        requires few { length parts.now < 2 ^ 32 }
-        requires parts { AreParted (map as_core parts.now) }
-        requires within { k < length parts.now }
-        requires fit { (f : theory.Core) → Contains (map as_core parts.now) f
-            → IsFitPart system.now f }
-        ensures { IfOk result (λ p. IsPlanOf system.now (map as_core parts.now)
-            (map as_step steps.now) k (slice_index_or (map as_core parts.now) k theory.True) p) }
+        requires outline { (g : theory.Core) × IsOutlineOf g outline.now }
+        requires few { length outline.now.roots.items < 2 ^ 32 }
+        requires within { k < length outline.now.roots.items }
+        requires fit { IsFitPart system.now (core_at outline.now k) }
+        ensures { IfOk result (IsPlanOf system.now (parts_in outline.now) (map as_step steps.now) k
+            (core_at outline.now k)) }
     {
-        let core = &parts[k];
-        let columns = free(alloc, core)?;
-        let work = work_of(alloc, system, steps, parts, k as u32, core, &columns)?;
-        Ok(Plan { columns, work })
+        let work = work_of(alloc, system, steps, outline, k)?;
+        Ok(Plan {
+            columns: outline.columns[k].len(),
+            work,
+        })
     }
 }

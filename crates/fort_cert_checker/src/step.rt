@@ -8,7 +8,7 @@ ghost use Rattle.fort_operations.specs.Projections.{ArePure};
 ghost use Rattle.fort_parts.specs.PartAnswers as answers;
 ghost use Rattle.fort_rrn_algebra.specs.Operands.{connective_of};
 ghost use Rattle.fort_infinity.specs.CountView.{as_count as as_mark};
-ghost use Rattle.fort_formulas.specs.CoreView.{as_core};
+ghost use Rattle.fort_outline.specs.Roots.{root_core};
 ghost use Rattle.fort_atom_labels.specs.AtomRules.{marks_of};
 ghost use Rattle.fort_atom_labels.specs.Subterms.{subterms};
 ghost use Rattle.fort_in_order.specs.PartRules.{term_local, project_local, many_local};
@@ -29,8 +29,8 @@ use fort_check_steps::{
     put_pure,
 };
 use fort_context_closure::{NormalBits, RelationBits};
-use fort_formulas::Core;
 use fort_infinity::{Count, Many};
+use fort_outline::Root;
 use fort_rrn_algebra::{Both, Op};
 use fort_terms::{System, Term};
 
@@ -119,25 +119,26 @@ fn check_term(
     )
 }
 
-/// Holds the targets of the term that the formula names.
+/// Holds the targets of the term that the part's root names.
 fn check_own_term(
     system: &System,
-    core: &Core,
+    root: &Root,
     targets: &[u32],
     room: &mut PartRoom,
     scratch: &mut LabelRoom,
 ) -> Result<(), Failure>
-    requires term { IsTermPlan (as_core core.now) }
+    requires term { (parts : List theory.Core) × IsTermPlan (root_core parts root.now) }
     requires few { length targets.now < 2 ^ 32 }
     requires room { HasRoom targets.now room.old }
     requires scratch { HasLabelRoom 2 targets.now scratch.old }
-    ensures step { (number : ℕ) (term : Tree) → as_core core.now ≡ theory.Is number term
+    ensures step { (parts : List theory.Core) (number : ℕ) (term : Tree)
+        → root_core parts root.now ≡ theory.Is number term
         → IsPartStep (term_local system.now.signature term) targets.now room.new result }
     ensures room { HasRoom targets.now room.new }
     ensures scratch { IsAsRoomy scratch.old scratch.new }
 {
-    match core {
-        Core::Is(_, term) => check_term(system, term, targets, room, scratch),
+    match root {
+        Root::Is(_, term) => check_term(system, term, targets, room, scratch),
         _ => unreachable!(),
     }
 }
@@ -282,7 +283,7 @@ fn check_many(
 /// Holds the targets of a part against the labels that it is to have.
 pub(crate) fn check_table(
     system: &System,
-    core: &Core,
+    root: &Root,
     plan: &Plan,
     past: &Past<'_>,
     targets: &[u32],
@@ -291,12 +292,12 @@ pub(crate) fn check_table(
     marks: &mut MarkRoom,
 ) -> Result<(), Failure>
     requires due { (parts : List theory.Core) × (k : ℕ) × (made : Made) × IsTableDue system.now
-        parts past.now k made (as_core core.now) plan.now targets.now room.old scratch.old
+        parts past.now k made (root_core parts root.now) plan.now targets.now room.old scratch.old
         marks.old }
     ensures step { (parts : List theory.Core) (k : ℕ) (made : Made) → IsTableDue system.now
-        parts past.now k made (as_core core.now) plan.now targets.now room.old scratch.old
-        marks.old
-        → IsTableStep system.now parts k made (as_core core.now) targets.now room.new result }
+        parts past.now k made (root_core parts root.now) plan.now targets.now room.old scratch.old
+        marks.old → IsTableStep system.now parts k made (root_core parts root.now) targets.now
+        room.new result }
     ensures room { HasRoom targets.now room.new }
     ensures scratch { IsAsRoomy scratch.old scratch.new }
     ensures marks { (states count : ℕ) → HasMarkRoom states count marks.old
@@ -305,11 +306,17 @@ pub(crate) fn check_table(
     match &plan.work {
         Work::Relation(labels) => check_relation(system, labels, targets, room, scratch),
         Work::Normal(labels) => check_normal(system, labels, targets, room, scratch),
-        Work::Term => check_own_term(system, core, targets, room, scratch),
-        Work::Product(op, first, second) => {
-            let columns = plan.columns.len();
-            check_product(*op, columns, first, second, past, targets, room, scratch)
-        }
+        Work::Term => check_own_term(system, root, targets, room, scratch),
+        Work::Product(op, first, second) => check_product(
+            *op,
+            plan.columns,
+            first,
+            second,
+            past,
+            targets,
+            room,
+            scratch,
+        ),
         Work::Projection(source, column) => {
             check_projection(past, *source, *column, targets, room, scratch, marks)
         }

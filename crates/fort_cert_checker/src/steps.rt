@@ -2,7 +2,7 @@
 ghost use Rattle.std.specs.Prelude.{◌≡◌, ℕ, ◌+◌, List, map, slice_index_or, OnOk, IfErr};
 ghost use Rattle.fort_theory.specs.Patterns.{PatternSystem};
 ghost use Rattle.fort_logic.specs.Cores as theory;
-ghost use Rattle.fort_formulas.specs.CoreView.{as_core};
+ghost use Rattle.fort_outline.specs.Roots.{root_core, cores_of, AreInOrder};
 ghost use Rattle.fort_certificate_grammar.specs.Certificates as certificates;
 ghost use Rattle.fort_steps.specs.StepView.{as_step, as_pair};
 ghost use Rattle.fort_in_order.specs.Dues as definitions;
@@ -21,7 +21,7 @@ use crate::plan::Plan;
 use crate::step::check_table;
 use crate::value::{check_counts, check_value};
 use fort_check_steps::{Failure, LabelRoom, MarkRoom, PartRoom, check_closure};
-use fort_formulas::Core;
+use fort_outline::Root;
 use fort_steps::{ClosureEntry, Step};
 use fort_terms::System;
 
@@ -30,7 +30,8 @@ use fort_terms::System;
 pub(crate) struct Given<'a> {
     pub system: &'a System,
     pub steps: &'a [Step],
-    pub parts: &'a [Core],
+    /// The roots of the parts.
+    pub roots: &'a [Root],
     pub plans: &'a [Plan],
 }
 
@@ -52,7 +53,7 @@ fn check_pairs(plan: &mut Option<ClosurePlan>, entries: &[ClosureEntry]) -> Resu
 /// A step that names a part.
 fn check_own(
     given: &Given<'_>,
-    core: &Core,
+    root: &Root,
     plan: &Plan,
     step: &Step,
     front: &[PartRoom],
@@ -61,29 +62,29 @@ fn check_own(
     marks: &mut MarkRoom,
 ) -> Result<(), Failure>
     requires due { (made : Made) × IsDueBehind given.now.system.now
-        (map as_core given.now.parts.now) (map as_step given.now.steps.now) given.now.plans.now
-        front.now made (as_core core.now) plan.now (as_step step.now) room.old
-        scratch.old marks.old }
+        (cores_of given.now.roots.now) (map as_step given.now.steps.now) given.now.plans.now
+        front.now made (root_core (cores_of given.now.roots.now) root.now) plan.now
+        (as_step step.now) room.old scratch.old marks.old }
     ensures fine { OnOk result ((made : Made) → IsDueBehind given.now.system.now
-        (map as_core given.now.parts.now) (map as_step given.now.steps.now) given.now.plans.now
-        front.now made (as_core core.now) plan.now (as_step step.now) room.old
-        scratch.old marks.old
-        → IsFineStep given.now.system.now (map as_core given.now.parts.now) made (as_step step.now)
+        (cores_of given.now.roots.now) (map as_step given.now.steps.now) given.now.plans.now
+        front.now made (root_core (cores_of given.now.roots.now) root.now) plan.now
+        (as_step step.now) room.old scratch.old marks.old
+        → IsFineStep given.now.system.now (cores_of given.now.roots.now) made (as_step step.now)
         room.new) }
     ensures failing { IfErr result (λ e. (made : Made) → IsDueBehind given.now.system.now
-        (map as_core given.now.parts.now) (map as_step given.now.steps.now) given.now.plans.now
-        front.now made (as_core core.now) plan.now (as_step step.now) room.old
-        scratch.old marks.old
-        → IsFailing given.now.system.now (map as_core given.now.parts.now) made (as_step step.now)
+        (cores_of given.now.roots.now) (map as_step given.now.steps.now) given.now.plans.now
+        front.now made (root_core (cores_of given.now.roots.now) root.now) plan.now
+        (as_step step.now) room.old scratch.old marks.old
+        → IsFailing given.now.system.now (cores_of given.now.roots.now) made (as_step step.now)
         e.place (as_reason e.reason)) }
     ensures room { (ss : List certificates.Step) → IsOnlyAbout ss (as_step step.now)
         → IsRoomFor ss (part_in (as_step step.now)) room.old
         → IsRoomFor ss (part_in (as_step step.now)) room.new }
     ensures scratch { IsAsRoomy scratch.old scratch.new }
     ensures marks { (made : Made) → IsDueBehind given.now.system.now
-        (map as_core given.now.parts.now) (map as_step given.now.steps.now) given.now.plans.now
-        front.now made (as_core core.now) plan.now (as_step step.now) room.old
-        scratch.old marks.old
+        (cores_of given.now.roots.now) (map as_step given.now.steps.now) given.now.plans.now
+        front.now made (root_core (cores_of given.now.roots.now) root.now) plan.now
+        (as_step step.now) room.old scratch.old marks.old
         → IsMarkRoomFor (map as_step given.now.steps.now) plan.now.work marks.new }
 {
     let past = Past {
@@ -95,7 +96,7 @@ fn check_own(
     match step {
         Step::Part(_, targets) => check_table(
             given.system,
-            core,
+            root,
             plan,
             &past,
             targets,
@@ -118,31 +119,32 @@ pub(crate) fn check_step(
     scratch: &mut LabelRoom,
     marks: &mut [MarkRoom],
 ) -> Result<(), Failure>
+    requires order { AreInOrder given.now.roots.now }
     requires due { (root : theory.Core) × (c : certificates.Certificate) × (made : Made)
         × (c.steps ≡ map as_step given.now.steps.now)
-        × IsLoopAt given.now.system.now root (map as_core given.now.parts.now) c given.now.plans.now
+        × IsLoopAt given.now.system.now root (cores_of given.now.roots.now) c given.now.plans.now
         closures.old rooms.old scratch.old marks.old place made
-        × IsStepDue given.now.system.now (map as_core given.now.parts.now) c place }
+        × IsStepDue given.now.system.now (cores_of given.now.roots.now) c place }
     ensures fine { OnOk result ((root : theory.Core) (c : certificates.Certificate) (made : Made)
         → c.steps ≡ map as_step given.now.steps.now
-        → IsLoopAt given.now.system.now root (map as_core given.now.parts.now) c given.now.plans.now
+        → IsLoopAt given.now.system.now root (cores_of given.now.roots.now) c given.now.plans.now
         closures.old rooms.old scratch.old marks.old place made
-        → IsStepDue given.now.system.now (map as_core given.now.parts.now) c place
-        → (next : Made) × IsLoopAt given.now.system.now root (map as_core given.now.parts.now) c
+        → IsStepDue given.now.system.now (cores_of given.now.roots.now) c place
+        → (next : Made) × IsLoopAt given.now.system.now root (cores_of given.now.roots.now) c
         given.now.plans.now closures.new rooms.new scratch.new marks.new (place + 1) next) }
     ensures failing { IfErr result (λ e. (root : theory.Core) (c : certificates.Certificate)
         (made : Made) (s : certificates.Step) → c.steps ≡ map as_step given.now.steps.now
-        → IsLoopAt given.now.system.now root (map as_core given.now.parts.now) c given.now.plans.now
+        → IsLoopAt given.now.system.now root (cores_of given.now.roots.now) c given.now.plans.now
         closures.old rooms.old scratch.old marks.old place made
-        → IsStepDue given.now.system.now (map as_core given.now.parts.now) c place
-        → IsFailing given.now.system.now (map as_core given.now.parts.now) made
+        → IsStepDue given.now.system.now (cores_of given.now.roots.now) c place
+        → IsFailing given.now.system.now (cores_of given.now.roots.now) made
         (slice_index_or c.steps place s) e.place (as_reason e.reason)) }
     ensures ready { (root : theory.Core) (c : certificates.Certificate) (made : Made)
         → c.steps ≡ map as_step given.now.steps.now
-        → IsLoopAt given.now.system.now root (map as_core given.now.parts.now) c given.now.plans.now
+        → IsLoopAt given.now.system.now root (cores_of given.now.roots.now) c given.now.plans.now
         closures.old rooms.old scratch.old marks.old place made
-        → IsStepDue given.now.system.now (map as_core given.now.parts.now) c place
-        → IsReady given.now.system.now root (map as_core given.now.parts.now) c.steps
+        → IsStepDue given.now.system.now (cores_of given.now.roots.now) c place
+        → IsReady given.now.system.now root (cores_of given.now.roots.now) c.steps
         given.now.plans.now closures.new rooms.new scratch.new marks.new }
 {
     let step = &given.steps[place];
@@ -150,12 +152,12 @@ pub(crate) fn check_step(
         Step::Closure(_, _, entries) => check_pairs(&mut closures[place], entries),
         Step::Part(k, _) | Step::Counts(k, _) | Step::Value(k, _) => {
             let part = *k as usize;
-            let core = &given.parts[part];
+            let root = &given.roots[part];
             let plan = &given.plans[part];
             let (front, back) = rooms.split_at_mut(part);
             check_own(
                 given,
-                core,
+                root,
                 plan,
                 step,
                 front,

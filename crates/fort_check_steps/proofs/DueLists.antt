@@ -1,20 +1,20 @@
 -- The lists of steps that are due, grown index by index and part by part.
 use Rattle.std.specs.Prelude.{◌≡◌, ℕ, zero, suc, ◌+◌, ◌<◌, List, [], ◌∷◌, ◌++◌, take, length, get_or, Bool, true, false, not, ◌==◌, nat_lt, if◌then◌else◌, refl}
-use Rattle.std.proofs.Common.{sym, ap, ◌∙◌, arith, append_assoc}
-use Rattle.std.proofs.lemmas.List.{take_more, length-take-le}
+use Rattle.std.proofs.Common.{map, sym, ap, ◌∙◌, arith, append_assoc, append-nil}
+use Rattle.std.proofs.lemmas.List.{take_more, length-take-le, map-append}
 use Rattle.std.proofs.lemmas.Bool.{lt-ltb}
 use Rattle.fort_logic.specs.Cores as core
 use Rattle.fort_logic.specs.Cores.{Core}
-use Rattle.fort_logic.specs.Parts.{AreColumns}
 use Rattle.fort_tables.proofs.EqualTests.{test_from_apart}
 use Rattle.fort_parts.specs.PartColumns.{columns_of}
-use Rattle.fort_parts.proofs.PartColumnLaws.{columns_of-unique}
 use Rattle.fort_certificate_grammar.specs.Certificates.{Star, Conv}
 use Rattle.fort_in_order.specs.Dues.{DueStep, OfPart, OfValue, closure_due, closures_due, has_columns, is_turned, counts_due, answer_due, parts_due}
+use Rattle.fort_check_steps.specs.declared.dues.DueStep as due
+use Rattle.fort_check_steps.specs.DueView.{as_due}
 use Rattle.fort_in_order_laws.proofs.FineSteps.{chosen, passed_over}
 use Rattle.fort_in_order_laws.proofs.StepLists.{closures_due-push, parts_due-push}
 
-regroup : {A : Type 0} (ds us vs xs ys : List A) → xs ≡ ds ++ us → ys ≡ xs ++ vs → ys ≡ ds ++ (us ++ vs)
+pub regroup : {A : Type 0} (ds us vs xs ys : List A) → xs ≡ ds ++ us → ys ≡ xs ++ vs → ys ≡ ds ++ (us ++ vs)
 regroup ds us vs xs ys e h = h ∙ (ap (λ zs. zs ++ vs) e ∙ append_assoc ds us vs)
 
 -- one more index
@@ -54,11 +54,16 @@ answer_part k f t h =
     chosen (has_columns f) (if is_turned f then [] else (OfPart k ∷ [])) (OfValue k ∷ []) h ∙ passed_over (is_turned f) [] (OfPart k ∷ []) t
 
 -- whether there are columns, by the list of them
-pub columns_there : (f : Core) (ns : List ℕ) (n : ℕ) (empty : Bool) → AreColumns f ns → n ≡ length ns → empty ≡ (n == 0) → not empty ≡ has_columns f
-columns_there f ns n empty are e is =
-    let count : n ≡ length (columns_of f) = e ∙ ap length (columns_of-unique f ns are) in
-    ap not is ∙ (ap (λ m. not (m == 0)) count ∙ by (length (columns_of f)))
+pub columns_there : (f : Core) (ns : List ℕ) (empty : Bool) → ns ≡ columns_of f → empty ≡ (length ns == 0) → not empty ≡ has_columns f
+columns_there f ns empty are is = ap not is ∙ (ap (λ (xs : List ℕ). not (length xs == 0)) are ∙ by (length (columns_of f)))
   where
     by : (m : ℕ) → not (m == 0) ≡ nat_lt 0 m
     by zero = refl
     by (suc m) = let l : 0 < suc m = omega arith in ap not (test_from_apart (suc m) 0 (λ z. omega (arith, z))) ∙ sym (lt-ltb 0 (suc m) l)
+
+-- one step more, and none
+pub due_put : (ds es : List due.DueStep) (x : due.DueStep) (added : List DueStep) → es ≡ ds ++ x ∷ [] → added ≡ as_due x ∷ [] → map as_due es ≡ map as_due ds ++ added
+due_put ds es x added e is = ap (map as_due) e ∙ (map-append as_due ds (x ∷ []) ∙ ap (λ ys. map as_due ds ++ ys) (sym is))
+
+pub none_put : (ds : List due.DueStep) (added : List DueStep) → added ≡ [] → map as_due ds ≡ map as_due ds ++ added
+none_put ds added is = sym (ap (λ ys. map as_due ds ++ ys) is ∙ append-nil (map as_due ds))

@@ -9,6 +9,7 @@ pub mod PairStepLaws
 pub mod MarkLaws
 pub mod ListedWalks
 pub mod MarkSearch
+pub mod OutlineLaws
 pub mod DueLists
 pub mod DueTests
 pub mod PureStates

@@ -1,14 +1,19 @@
 //! The steps that are due.
-ghost use Rattle.std.specs.Prelude.{◌≡◌, ◌<◌, ◌^◌, ◌++◌, map, length, IfOk, OnOk};
+ghost use Rattle.std.specs.Prelude.{◌≡◌, ◌<◌, ◌^◌, ◌++◌, List, map, length, IfOk, OnOk};
 ghost use Rattle.std.specs.List.{list_any};
-ghost use Rattle.fort_formulas.specs.CoreView.{as_core, as_rel};
+ghost use Rattle.fort_logic.specs.Cores as theory;
+ghost use Rattle.fort_parts.specs.PartColumns.{columns_of};
+ghost use Rattle.fort_formulas.specs.CoreView.{as_rel};
+ghost use Rattle.fort_outline.specs.Roots.{root_core, cores_of};
+ghost use Rattle.fort_outline.specs.Outlines.{IsOutlineOf, parts_in};
 ghost use Rattle.fort_in_order.specs.Dues as definitions;
 ghost use Rattle.fort_in_order.specs.Dues.{counts_due, answer_due, closure_due, closures_due, parts_due};
 ghost use Rattle.fort_steps.specs.StepView.{as_step, as_which};
 ghost use Rattle.fort_in_order.specs.Made.{same_which};
 ghost use Rattle.fort_check_steps.specs.DueView.{as_due, same_due};
 
-use fort_formulas::{Core, Rel, free};
+use fort_formulas::Rel;
+use fort_outline::{Outline, Root};
 use fort_steps::{Step, Which};
 use fort_terms::Memory;
 use std::alloc::Global;
@@ -72,68 +77,62 @@ fn reads(which: Which, rel: Rel) -> bool
 }
 
 /// Whether a part asks for the closure of an index.
-fn asks(which: Which, index: u32, core: &Core) -> bool
-    ensures { result ≡ definitions.asks (as_which which) index (as_core core.now) }
+fn asks(which: Which, index: u32, root: &Root) -> bool
+    ensures { (parts : List theory.Core) → result ≡ definitions.asks (as_which which) index
+        (root_core parts root.now) }
 {
-    match core {
-        Core::Atom(rel, own, _, _) => reads(which, *rel) && *own == index,
+    match root {
+        Root::Atom(rel, own, _, _) => reads(which, *rel) && *own == index,
         _ => false,
     }
 }
 
-fn some_asks(which: Which, index: u32, parts: &[Core]) -> bool
-    ensures { result ≡ list_any (definitions.asks (as_which which) index)
-        (map as_core parts.now) }
+fn some_asks(which: Which, index: u32, roots: &[Root]) -> bool
+    ensures { result ≡ list_any (definitions.asks (as_which which) index) (cores_of roots.now) }
 {
-    for part in parts {
-        if asks(which, index, part) {
+    for root in roots {
+        if asks(which, index, root) {
             return true;
         }
     }
     false
 }
 
-/// Whether the formula has free variables.
-pub fn has_columns(alloc: Global, core: &Core) -> Result<bool, Memory>
-    ensures { IfOk result (λ has. has ≡ definitions.has_columns (as_core core.now)) }
-{
-    Ok(!free(alloc, core)?.is_empty())
-}
-
 fn push_closure(
     which: Which,
     index: u32,
-    parts: &[Core],
+    roots: &[Root],
     dues: &mut Vec<DueStep>,
 ) -> Result<(), Memory>
     ensures { OnOk result (map as_due dues.new.items ≡ map as_due dues.old.items
-        ++ closure_due (map as_core parts.now) index (as_which which)) }
+        ++ closure_due (cores_of roots.now) index (as_which which)) }
 {
-    if some_asks(which, index, parts) {
+    if some_asks(which, index, roots) {
         dues.push(DueStep::Closure(which, index))?;
     }
     Ok(())
 }
 
 /// The closures of all indices.
-fn push_closures(indices: u32, parts: &[Core], dues: &mut Vec<DueStep>) -> Result<(), Memory>
+fn push_closures(indices: u32, roots: &[Root], dues: &mut Vec<DueStep>) -> Result<(), Memory>
     requires { indices < 2 ^ 31 }
     ensures { OnOk result (map as_due dues.new.items ≡ map as_due dues.old.items
-        ++ closures_due (map as_core parts.now) indices 1) }
+        ++ closures_due (cores_of roots.now) indices 1) }
 {
     for i in 0..indices {
-        push_closure(Which::Star, i + 1, parts, dues)?;
-        push_closure(Which::Conv, i + 1, parts, dues)?;
+        push_closure(Which::Star, i + 1, roots, dues)?;
+        push_closure(Which::Conv, i + 1, roots, dues)?;
     }
     Ok(())
 }
 
-fn push_counts(number: u32, core: &Core, dues: &mut Vec<DueStep>) -> Result<(), Memory>
-    ensures { OnOk result (map as_due dues.new.items ≡ map as_due dues.old.items
-        ++ counts_due number (as_core core.now)) }
+fn push_counts(number: u32, root: &Root, dues: &mut Vec<DueStep>) -> Result<(), Memory>
+    ensures { OnOk result ((parts : List theory.Core)
+        → map as_due dues.new.items ≡ map as_due dues.old.items
+        ++ counts_due number (root_core parts root.now)) }
 {
-    match core {
-        Core::Infinite(_, _) => {
+    match root {
+        Root::Infinite(_, _) => {
             dues.push(DueStep::Counts(number))?;
             Ok(())
         }
@@ -141,22 +140,24 @@ fn push_counts(number: u32, core: &Core, dues: &mut Vec<DueStep>) -> Result<(), 
     }
 }
 
-/// The table or the value of a part; the table of a negation is that of its operand.
+/// The table or the value of a part with these columns; the table of a negation is that of its operand.
 fn push_answer(
-    alloc: Global,
     number: u32,
-    core: &Core,
+    root: &Root,
+    columns: &[u32],
     dues: &mut Vec<DueStep>,
 ) -> Result<(), Memory>
-    ensures { OnOk result (map as_due dues.new.items ≡ map as_due dues.old.items
-        ++ answer_due number (as_core core.now)) }
+    ensures { OnOk result ((parts : List theory.Core)
+        → columns.now ≡ columns_of (root_core parts root.now)
+        → map as_due dues.new.items ≡ map as_due dues.old.items
+        ++ answer_due number (root_core parts root.now)) }
 {
-    if !has_columns(alloc, core)? {
+    if columns.is_empty() {
         dues.push(DueStep::Value(number))?;
         return Ok(());
     }
-    match core {
-        Core::Not(_) => Ok(()),
+    match root {
+        Root::Not(_) => Ok(()),
         _ => {
             dues.push(DueStep::Part(number))?;
             Ok(())
@@ -164,36 +165,46 @@ fn push_answer(
     }
 }
 
-/// The steps of a part.
-fn push_part(alloc: Global, number: u32, core: &Core, dues: &mut Vec<DueStep>) -> Result<(), Memory>
-    ensures { OnOk result (map as_due dues.new.items ≡ map as_due dues.old.items
-        ++ (counts_due number (as_core core.now) ++ answer_due number (as_core core.now))) }
+/// The steps of a part with these columns.
+fn push_part(
+    number: u32,
+    root: &Root,
+    columns: &[u32],
+    dues: &mut Vec<DueStep>,
+) -> Result<(), Memory>
+    ensures { OnOk result ((parts : List theory.Core)
+        → columns.now ≡ columns_of (root_core parts root.now)
+        → map as_due dues.new.items ≡ map as_due dues.old.items
+        ++ (counts_due number (root_core parts root.now)
+        ++ answer_due number (root_core parts root.now))) }
 {
-    push_counts(number, core, dues)?;
-    push_answer(alloc, number, core, dues)
+    push_counts(number, root, dues)?;
+    push_answer(number, root, columns, dues)
 }
 
 /// The steps of all parts.
-fn push_parts(alloc: Global, parts: &[Core], dues: &mut Vec<DueStep>) -> Result<(), Memory>
-    requires { length parts.now < 2 ^ 32 }
+fn push_parts(outline: &Outline, dues: &mut Vec<DueStep>) -> Result<(), Memory>
+    requires outline { (f : theory.Core) × IsOutlineOf f outline.now }
+    requires few { length outline.now.roots.items < 2 ^ 32 }
     ensures { OnOk result (map as_due dues.new.items ≡ map as_due dues.old.items
-        ++ parts_due 0 (map as_core parts.now)) }
+        ++ parts_due 0 (parts_in outline.now)) }
 {
-    for k in 0..parts.len() {
-        push_part(alloc, k as u32, &parts[k], dues)?;
+    for k in 0..outline.roots.len() {
+        push_part(k as u32, &outline.roots[k], &outline.columns[k], dues)?;
     }
     Ok(())
 }
 
-/// The steps that are due for a formula with these parts, over a system of so many indices.
-pub fn steps_due(alloc: Global, indices: u32, parts: &[Core]) -> Result<Vec<DueStep>, Memory>
+/// The steps that are due for a formula with this outline, over a system of so many indices.
+pub fn steps_due(alloc: Global, indices: u32, outline: &Outline) -> Result<Vec<DueStep>, Memory>
     requires indices { indices < 2 ^ 31 }
-    requires parts { length parts.now < 2 ^ 32 }
+    requires outline { (f : theory.Core) × IsOutlineOf f outline.now }
+    requires parts { length outline.now.roots.items < 2 ^ 32 }
     ensures { IfOk result (λ all. map as_due all.items
-        ≡ definitions.dues indices (map as_core parts.now)) }
+        ≡ definitions.dues indices (parts_in outline.now)) }
 {
     let mut all = Vec::new(alloc);
-    push_closures(indices, parts, &mut all)?;
-    push_parts(alloc, parts, &mut all)?;
+    push_closures(indices, &outline.roots, &mut all)?;
+    push_parts(outline, &mut all)?;
     Ok(all)
 }

@@ -23,7 +23,7 @@ mod targets;
 
 pub use atoms::{Normal, Related, ThisTerm};
 pub use closure::check_closure;
-pub use dues::{DueStep, has_columns, is_about, steps_due};
+pub use dues::{DueStep, is_about, steps_due};
 pub use failure::{Failure, Reason, failed};
 pub use marks::{MarkRoom, check_marks, put_pure};
 pub use numbered::{Numbered, RuleNumbers};

@@ -21,7 +21,7 @@ use Rattle.fort_parts.specs.PartColumns.{columns_of, place_in}
 use Rattle.fort_parts.specs.AlikeParts.{IsPartOver}
 use Rattle.fort_parts.specs.PartAnswers.{OfValue, OfTable}
 use Rattle.fort_parts.specs.RightAnswers.{IsRightFor}
-use Rattle.fort_parts.proofs.PartColumnLaws.{AreColumns-columns_of, columns_of-unique, columns_of-Nf, columns_of-Is, column-from_free}
+use Rattle.fort_parts.proofs.PartColumnLaws.{AreColumns-columns_of, columns_of-Nf, columns_of-Is, column-from_free}
 use Rattle.fort_parts.proofs.StepAnswers.{IsRightFor-Not-table, IsPartOver-Not, IsPartOver-closed, IsPartOver-few, bound_place, bound_count, LabelsTellAlike-projected, IsRightFor-projected, IsRightFor-closed, LabelsTellAlike-many, IsRightFor-many, IsRightFor-many_closed}
 use Rattle.fort_parts.proofs.AtomResults.{IsRightFor-Atom, IsRightFor-Nf, IsRightFor-Is, LabelsTellAlike-Nf, LabelsTellAlike-Is}
 use Rattle.fort_engine.specs.declared.answer.Last.{Last}
@@ -123,18 +123,21 @@ IsDecision-closed system n f cap body table b is right among one says =
     (IsRightFor-closed system n f (listed_table table) own among (sym own.answers.over.columns_are ∙ one)) in
     record { ok = whole; within = IsPartOver-closed system (core.Exists n f) cap whole.answers.over; over = tt }
 
-pub bound_within : (system : PatternSystem) (n : ℕ) (f : core.Core) (table : Table) (columns : List ℕ) → AreColumns f columns
+pub bound_column : (n : ℕ) (f : core.Core) (columns : List ℕ) → columns ≡ columns_of f → is_free n f ≡ true → Contains columns n
+bound_column n f columns are among = subst (λ ns. Contains ns n) (sym are) (column-from_free f n among)
+
+pub bound_within : (system : PatternSystem) (n : ℕ) (f : core.Core) (table : Table) (columns : List ℕ) → columns ≡ columns_of f
     → IsRightFor system f (OfTable table) → is_free n f ≡ true → place_in columns n < table.columns
 bound_within system n f table columns are right among =
     let low = bound_place system n f table right among in
-    let same : place_in columns n ≡ place_in (columns_of f) n = ap (λ ns. place_in ns n) (columns_of-unique f columns are) in
+    let same : place_in columns n ≡ place_in (columns_of f) n = ap (λ ns. place_in ns n) are in
     omega (arith, right.answers.over.columns_are)
 
-pub AreLabelsFor-Exists : (system : PatternSystem) (n : ℕ) (f : core.Core) (table own : Table) (columns : List ℕ) (c : ℕ) → own ≡ table → AreColumns f columns
+pub AreLabelsFor-Exists : (system : PatternSystem) (n : ℕ) (f : core.Core) (table own : Table) (columns : List ℕ) (c : ℕ) → own ≡ table → columns ≡ columns_of f
     → c ≡ place_in columns n → IsRightFor system f (OfTable table) → is_free n f ≡ true → 1 < table.columns
     → AreLabelsFor system (core.Exists n f) (own.columns - 1) (label_of (project_rule own c)) (project_accepts own)
 AreLabelsFor-Exists system n f table own columns c same are at right among others =
-    let place : c ≡ place_in (columns_of f) n = at ∙ ap (λ ns. place_in ns n) (columns_of-unique f columns are) in
+    let place : c ≡ place_in (columns_of f) n = at ∙ ap (λ ns. place_in ns n) are in
     let count : table.columns - 1 ≡ length (columns_of (core.Exists n f)) =
     omega (arith, bound_count system n f table right among, right.answers.over.columns_are) in
     let some : 0 < length (columns_of (core.Exists n f)) = omega arith in
@@ -153,10 +156,10 @@ AreLabelsFor-Exists system n f table own columns c same are at right among other
 -- infinitely many
 
 pub IsDecision-many_closed : (system : PatternSystem) (n : ℕ) (f : core.Core) (cap : ℕ) (table : Table) (columns : List ℕ) (c : ℕ) (many : ℕ → Bool) (b : Bool)
-    → AreColumns f columns → c ≡ place_in columns n → IsRightFor system f (OfTable table) → is_free n f ≡ true → table.columns ≡ 1 → TellsMany table c many
+    → columns ≡ columns_of f → c ≡ place_in columns n → IsRightFor system f (OfTable table) → is_free n f ≡ true → table.columns ≡ 1 → TellsMany table c many
     → b ≡ many_value table c many → IsDecision system (core.Infinite n f) cap (Ok (Truth b))
 IsDecision-many_closed system n f cap table columns c many b are at right among one tells says =
-    let place : c ≡ place_in (columns_of f) n = at ∙ ap (λ ns. place_in ns n) (columns_of-unique f columns are) in
+    let place : c ≡ place_in (columns_of f) n = at ∙ ap (λ ns. place_in ns n) are in
     let whole : IsRightFor system (core.Infinite n f) (OfValue (many_value table (place_in (columns_of f) n) many)) =
     IsRightFor-many_closed system n f table many right among (subst (λ k. TellsMany table k many) place tells) (sym right.answers.over.columns_are ∙ one) in
     let own : IsRightFor system (core.Infinite n f) (OfValue b) =
@@ -164,11 +167,11 @@ IsDecision-many_closed system n f cap table columns c many b are at right among 
     record { ok = own; within = IsPartOver-closed system (core.Infinite n f) cap own.answers.over; over = tt }
 
 pub AreLabelsFor-Infinite : (system : PatternSystem) (n : ℕ) (f : core.Core) (table own : Table) (columns : List ℕ) (c d : ℕ) (many few : ℕ → Bool) → own ≡ table
-    → AreColumns f columns → c ≡ place_in columns n → d ≡ c → few ≡ many → IsRightFor system f (OfTable table) → is_free n f ≡ true → 1 < table.columns
+    → columns ≡ columns_of f → c ≡ place_in columns n → d ≡ c → few ≡ many → IsRightFor system f (OfTable table) → is_free n f ≡ true → 1 < table.columns
     → TellsMany table c many
     → AreLabelsFor system (core.Infinite n f) (own.columns - 1) (label_of (many_rule own d few)) (many_accepts own)
 AreLabelsFor-Infinite system n f table own columns c d many few same are at also alike_many right among others tells =
-    let place : c ≡ place_in (columns_of f) n = at ∙ ap (λ ns. place_in ns n) (columns_of-unique f columns are) in
+    let place : c ≡ place_in (columns_of f) n = at ∙ ap (λ ns. place_in ns n) are in
     let there : TellsMany table (place_in (columns_of f) n) many = subst (λ k. TellsMany table k many) place tells in
     let count : table.columns - 1 ≡ length (columns_of (core.Infinite n f)) =
     omega (arith, bound_count system n f table right among, right.answers.over.columns_are) in

@@ -2,7 +2,7 @@
 use Rattle.std.specs.Prelude.{◌≡◌, ◌<◌, ◌≤◌, ◌+◌, ℕ, List, [], ◌∷◌, ◌++◌, length, get_or, Option, None, Some, refl}
 use Rattle.std.proofs.Common.{ap, sym, ◌∙◌, subst, arith, ⊎_elim, length-append}
 use Rattle.std.proofs.lemmas.Bool.{cases_eq}
-use Rattle.std.proofs.lemmas.List.{get_or_push, get_or_append_left, get_or_default}
+use Rattle.std.proofs.lemmas.List.{get_or_push, get_or_append_left}
 use Rattle.std.proofs.lemmas.List.Elements.{Contains-get_or}
 use Rattle.fort_theory.specs.Signatures.{Signature}
 use Rattle.fort_theory.specs.Patterns.{PatternSystem}
@@ -21,13 +21,17 @@ use Rattle.fort_parts.specs.AlikeParts.{IsPartOver, IsFirstOver}
 use Rattle.fort_parts.specs.PartAnswers.{IsAnswerTo}
 use Rattle.fort_parts.specs.DecidedCores.{IsDecided, IsOperandOf}
 use Rattle.fort_parts.specs.RightAnswers.{IsRightFor, HasTooMany}
-use Rattle.fort_parts.proofs.PartOrder.{IsEarlier, Contains-postorder, operand_earlier}
+use Rattle.fort_parts.proofs.PartOrder.{IsEarlier, operand_earlier}
 use Rattle.fort_parts.proofs.PartFacts.{IsOverSystem-part, BindsFree-part, columns_of-few}
+use Rattle.fort_outline.specs.declared.outline.Outline.{Outline}
+use Rattle.fort_outline.specs.Outlines.{AreLastUses, parts_in, IsOutlineOf}
 use Rattle.fort_engine.specs.declared.answer.Last.{Last}
 use Rattle.fort_engine.specs.declared.answer.Limit.{Limit}
 use Rattle.fort_engine.specs.AnswerView.{as_answer, IsLimit}
-use Rattle.fort_engine.specs.Uses.{AreLastUses, HasRightAnswer, AreKept}
-use Rattle.fort_engine.specs.Deciding.{IsFit, HasOperands}
+use Rattle.fort_engine.specs.Kept.{HasRightAnswer, AreKept}
+use Rattle.fort_engine.specs.Deciding.{IsFit, HasOperands, IsNextPart}
+use Rattle.fort_outline.proofs.RootLaws.{length-cores_of}
+use Rattle.fort_engine.proofs.OperandLaws.{IsRightFor-taken}
 
 pub IsFit-part : (system : PatternSystem) (f : Core) (parts : List Core) (k : ℕ) → IsDecided system f → AreParts f parts → k < length parts
     → IsFit system (get_or parts k core.True)
@@ -39,12 +43,6 @@ IsFit-part system f parts k d are l =
       binders = BindsFree-part f h d.well_formed.binders among;
       few = columns_of-few f h d.well_formed among;
     }
-
--- the root is a part
-pub IsEarlier-root : (f : Core) (parts : List Core) → AreParts f parts → IsEarlier parts (length parts) f
-IsEarlier-root f parts are =
-    let there = (are.same f).0 (Contains-postorder f) in
-    record { place = there.0; before = there.1; is = get_or_default parts there.0 core.True f there.1 ∙ there.2 }
 
 pub record IsSoFar (system : PatternSystem) (parts : List Core) (uses : List ℕ) (cap k : ℕ) (kept : List (Option Last)) : Type 0 where
   pub kept_are : AreKept system parts uses k kept
@@ -102,7 +100,7 @@ module _ (system : PatternSystem) (f : Core) (parts : List Core) (are : AreParts
 
   pub HasRightAnswer-root : k ≡ length parts → root < length parts → get_or parts root core.True ≡ f → HasRightAnswer system f (get_or kept root None)
   HasRightAnswer-root end l is =
-      subst (λ z. HasRightAnswer system z (get_or kept root None)) is (far.kept_are.each root (omega arith) (omega (arith, last.root_is)))
+      subst (λ z. HasRightAnswer system z (get_or kept root None)) is (far.kept_are.each root (omega arith) (omega (arith, last.whole_is)))
 
   pub none_over : k ≡ length parts → (ps : List Core) (j : ℕ) → AreParts f ps → j < length ps → IsPartOver system (get_or ps j core.True) cap → ⊥
   none_over end ps j also l over =
@@ -143,14 +141,20 @@ module _ (system : PatternSystem) (f : Core) (parts : List Core) (are : AreParts
         over = (tuples_of nodes, many.unlike);
       }
 
--- what is taken of the answers that are kept
+-- part k of an outline is next
+pub IsNextPart-at : (system : PatternSystem) (f : Core) (o : Outline) → IsDecided system f → IsOutlineOf f o → (cap k : ℕ) (kept : List (Option Last))
+    → IsSoFar system (parts_in o) o.last_uses.items cap k kept → k < length o.roots.items → IsNextPart system cap o k kept
+IsNextPart-at system f o decided laid cap k kept far l =
+    let low : k < length (parts_in o) = omega (arith, length-cores_of o.roots.items) in
+    record {
+      formula = f;
+      laid = laid;
+      within = l;
+      count = far.kept_are.count;
+      fit = IsFit-part system f (parts_in o) k decided laid.parts low;
+      operands = HasOperands-part system f (parts_in o) laid.parts o.whole o.last_uses.items laid.uses cap k kept far low;
+    }
 
 pub IsAnswerTo-taken : (system : PatternSystem) (f : Core) (taken : Option Last) (answer : Last) → HasRightAnswer system f taken → taken ≡ Some answer
     → IsAnswerTo (pattern_structure system) f (as_answer answer)
-IsAnswerTo-taken system f taken answer has is =
-    let both : Some has.answer ≡ Some answer = sym has.is ∙ is in
-    let same : has.answer ≡ answer = cc in
-    subst (λ a. IsAnswerTo (pattern_structure system) f (as_answer a)) same has.right.answers
-
-pub none_taken : (system : PatternSystem) (f : Core) (taken : Option Last) → HasRightAnswer system f taken → taken ≡ None → ⊥
-none_taken system f taken has is = let both : Some has.answer ≡ None = sym has.is ∙ is in absurd cc
+IsAnswerTo-taken system f taken answer has is = (IsRightFor-taken system f taken answer has is).answers

@@ -4,7 +4,6 @@ use Rattle.std.proofs.Common.{ap, sym, ◌∙◌, subst, arith}
 use Rattle.fort_theory.specs.Signatures.{most_columns}
 use Rattle.fort_theory.specs.Patterns.{PatternSystem}
 use Rattle.fort_logic.specs.Cores.{Core}
-use Rattle.fort_logic.specs.Parts.{AreColumns}
 use Rattle.fort_tables.specs.Tables.{listed_table}
 use Rattle.fort_tables.specs.LabelRules.{label_of}
 use Rattle.fort_operations.specs.Products.{Connective, Operand, IsOperand, AreOperands, signature_of, connected, product_rule, product_accepts}
@@ -13,13 +12,13 @@ use Rattle.fort_parts.specs.PartColumns.{columns_of, places_in}
 use Rattle.fort_parts.specs.PartAnswers.{Answer, OfValue, OfTable}
 use Rattle.fort_parts.specs.PartSteps.{operand_of}
 use Rattle.fort_parts.specs.RightAnswers.{IsRightFor, joined}
-use Rattle.fort_parts.proofs.PartColumnLaws.{columns_of-unique, first_within, second_within}
+use Rattle.fort_parts.proofs.PartColumnLaws.{first_within, second_within}
 use Rattle.fort_parts.proofs.StepTables.{IsOperand-answer}
 use Rattle.fort_parts.proofs.StepAnswers.{is_free-joined, closed-values, some-first, some-second, IsRightFor-values, IsPartOver-closed, LabelsTellAlike-joined, IsRightFor-joined}
 use Rattle.fort_engine.specs.declared.answer.Last.{Last}
 use Rattle.fort_engine.specs.declared.answer.Last.TheVariants.{Truth, Auto}
 use Rattle.fort_engine.specs.AnswerView.{as_answer}
-use Rattle.fort_engine.specs.Deciding.{IsDecision, AreLabelsFor, IsJoining}
+use Rattle.fort_engine.specs.Deciding.{AreJoined, IsDecision, AreLabelsFor, IsJoining}
 
 -- two truths
 
@@ -36,27 +35,31 @@ IsDecision-truths system cap op h f g first second a b c whole is also says one 
 
 -- a table among the operands has a column
 
-pub some_of_first : (system : PatternSystem) (op : Connective) (h f g : Core) (first : Last) (table : Dta) → h ≡ joined op f g → first ≡ Auto table
-    → IsRightFor system f (as_answer first) → 0 < length (columns_of h)
-some_of_first system op h f g first table whole is right =
-    subst (λ z. 0 < length (columns_of z)) (sym whole)
-    (some-first system op f g (listed_table table) (subst (λ z. IsRightFor system f (as_answer z)) is right))
+pub some_of_first : (system : PatternSystem) (op : Connective) (h f g : Core) (zs ones others : List ℕ) (first second : Last) (table : Dta)
+    → AreJoined system op h f g zs ones others (as_answer first) (as_answer second) → first ≡ Auto table → 0 < length zs
+some_of_first system op h f g zs ones others first second table j is =
+    subst (λ ns. 0 < length ns) (sym (j.columns_are ∙ ap columns_of j.whole))
+    (some-first system op f g (listed_table table) (subst (λ z. IsRightFor system f (as_answer z)) is j.first_right))
 
-pub some_of_second : (system : PatternSystem) (op : Connective) (h f g : Core) (second : Last) (table : Dta) → h ≡ joined op f g → second ≡ Auto table
-    → IsRightFor system g (as_answer second) → 0 < length (columns_of h)
-some_of_second system op h f g second table whole is right =
-    subst (λ z. 0 < length (columns_of z)) (sym whole)
-    (some-second system op f g (listed_table table) (subst (λ z. IsRightFor system g (as_answer z)) is right))
+pub some_of_second : (system : PatternSystem) (op : Connective) (h f g : Core) (zs ones others : List ℕ) (first second : Last) (table : Dta)
+    → AreJoined system op h f g zs ones others (as_answer first) (as_answer second) → second ≡ Auto table → 0 < length zs
+some_of_second system op h f g zs ones others first second table j is =
+    subst (λ ns. 0 < length ns) (sym (j.columns_are ∙ ap columns_of j.whole))
+    (some-second system op f g (listed_table table) (subst (λ z. IsRightFor system g (as_answer z)) is j.second_right))
 
-pub first_among : (op : Connective) (h f g : Core) (zs : List ℕ) → h ≡ joined op f g → AreColumns h zs → (n : ℕ) → Contains (columns_of f) n → Contains zs n
-first_among op h f g zs whole are n c =
-    subst (λ ns. Contains ns n) (sym (columns_of-unique h zs are))
-    (subst (λ z. Contains (columns_of z) n) (sym whole) (first_within (joined op f g) f g (is_free-joined op f g) n c))
+-- the operands' columns are among those of the whole
 
-pub second_among : (op : Connective) (h f g : Core) (zs : List ℕ) → h ≡ joined op f g → AreColumns h zs → (n : ℕ) → Contains (columns_of g) n → Contains zs n
-second_among op h f g zs whole are n c =
-    subst (λ ns. Contains ns n) (sym (columns_of-unique h zs are))
-    (subst (λ z. Contains (columns_of z) n) (sym whole) (second_within (joined op f g) f g (is_free-joined op f g) n c))
+pub first_among : (system : PatternSystem) (op : Connective) (h f g : Core) (zs ones others : List ℕ) (first second : Answer)
+    → AreJoined system op h f g zs ones others first second → (n : ℕ) → Contains ones n → Contains zs n
+first_among system op h f g zs ones others first second j n c =
+    subst (λ ns. Contains ns n) (sym (j.columns_are ∙ ap columns_of j.whole))
+    (first_within (joined op f g) f g (is_free-joined op f g) n (subst (λ ns. Contains ns n) j.ones_are c))
+
+pub second_among : (system : PatternSystem) (op : Connective) (h f g : Core) (zs ones others : List ℕ) (first second : Answer)
+    → AreJoined system op h f g zs ones others first second → (n : ℕ) → Contains others n → Contains zs n
+second_among system op h f g zs ones others first second j n c =
+    subst (λ ns. Contains ns n) (sym (j.columns_are ∙ ap columns_of j.whole))
+    (second_within (joined op f g) f g (is_free-joined op f g) n (subst (λ ns. Contains ns n) j.others_are c))
 
 signature-joined : (system : PatternSystem) (op : Connective) (f g : Core) (first second : Answer) (ps qs : List ℕ) → IsRightFor system f first
     → IsRightFor system g second → 0 < length (columns_of (joined op f g)) → signature_of (operand_of first ps) (operand_of second qs) ≡ system.signature
@@ -122,19 +125,18 @@ module _ (system : PatternSystem) (op : Connective) (h f g : Core) (first : Answ
       canonical))))
 
 -- the places on the columns that are found
-pub IsJoining-places : (system : PatternSystem) (op : Connective) (h f g : Core) (first second : Answer) (zs ps qs : List ℕ) (count : ℕ) → h ≡ joined op f g
-    → AreColumns h zs → count ≡ length zs → ps ≡ places_in zs (columns_of f) → qs ≡ places_in zs (columns_of g) → 0 < length (columns_of h)
-    → length (columns_of h) ≤ most_columns → IsRightFor system f first → IsRightFor system g second → IsJoining system op h f g first ps second qs count
-IsJoining-places system op h f g first second zs ps qs count whole are long one_places other_places some few one other =
-    let same = columns_of-unique h zs are in
-    let number : count ≡ length (columns_of h) = long ∙ ap length same in
+pub IsJoining-places : (system : PatternSystem) (op : Connective) (h f g : Core) (zs ones others : List ℕ) (first second : Answer) (ps qs : List ℕ) (count : ℕ)
+    → AreJoined system op h f g zs ones others first second → 0 < length zs → count ≡ length zs → ps ≡ places_in zs ones → qs ≡ places_in zs others
+    → IsJoining system op h f g first ps second qs count
+IsJoining-places system op h f g zs ones others first second ps qs count j some long one_places other_places =
+    let number : count ≡ length (columns_of h) = long ∙ ap length j.columns_are in
     record {
-      whole = whole;
+      whole = j.whole;
       count = number;
-      some = subst (λ n. 0 < n) (sym number) some;
-      few = subst (λ n. n ≤ most_columns) (sym number) few;
-      first_places = one_places ∙ ap (λ z. places_in z (columns_of f)) same;
-      second_places = other_places ∙ ap (λ z. places_in z (columns_of g)) same;
-      first_right = one;
-      second_right = other;
+      some = subst (λ n. 0 < n) (sym long) some;
+      few = subst (λ n. n ≤ most_columns) (sym number) j.few;
+      first_places = one_places ∙ (λ i. places_in (j.columns_are i) (j.ones_are i));
+      second_places = other_places ∙ (λ i. places_in (j.columns_are i) (j.others_are i));
+      first_right = j.first_right;
+      second_right = j.second_right;
     }

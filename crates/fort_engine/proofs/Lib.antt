@@ -1,6 +1,5 @@
 pub mod OperandLaws
 pub mod PlaceLaws
-pub mod UseLaws
 pub mod AnswerLaws
 pub mod JoinLaws
 pub mod DecideLaws

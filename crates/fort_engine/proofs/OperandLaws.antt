@@ -1,86 +1,157 @@
--- The operands of a formula, by the tests of the program.
-use Rattle.std.specs.Prelude.{◌≡◌, ◌↔◌, ◌⊎◌, ◌<◌, ℕ, List, map, length, get_or, Option, Bool, true, false, IsTrue, Decides}
-use Rattle.std.proofs.Common.{ap, sym, ◌∙◌, subst, inl, inr, ⊎_elim, true≢false}
-use Rattle.std.specs.Ordering.{on}
-use Rattle.std.proofs.lemmas.List.{get_or-map}
+-- A part by its root: its operands are earlier parts, whose answers are kept.
+use Rattle.std.specs.Prelude.{◌≡◌, ◌<◌, ℕ, List, length, get_or, Option, None, Some, Ok, true, refl}
+use Rattle.std.proofs.Common.{sym, ◌∙◌, ap, subst, inl, inr, arith}
+use Rattle.std.proofs.lemmas.List.{get_or_default}
 use Rattle.fort_theory.specs.Patterns.{PatternSystem}
 use Rattle.fort_logic.specs.Cores as core
-use Rattle.fort_formulas.specs.declared.core_formula.Core.{Core}
-use Rattle.fort_formulas.specs.declared.core_formula.Core.TheVariants.{Not, And, Or, Iff, Exists, Infinite}
-use Rattle.fort_formulas.specs.CoreView.{as_core}
-use Rattle.fort_formulas.specs.CoreKeys.{core_spelled, same_marks}
-use Rattle.fort_formulas.specs.CoreKeyLaws.{arm_eq-Decides}
+use Rattle.fort_logic.specs.Parts.{is_free}
+use Rattle.fort_operations.specs.Products.{Connective, And, Or, Iff}
 use Rattle.fort_parts.specs.AlikeParts.{IsPartOver}
+use Rattle.fort_parts.specs.PartAnswers.{OfValue}
+use Rattle.fort_parts.specs.PartColumns.{columns_of}
 use Rattle.fort_parts.specs.DecidedCores.{IsOperandOf}
-use Rattle.fort_parts.specs.RightAnswers.{IsRightFor}
+use Rattle.fort_parts.specs.RightAnswers.{IsRightFor, joined}
+use Rattle.fort_parts.proofs.StepAnswers.{IsRightFor-True, IsPartOver-closed}
+use Rattle.fort_outline.specs.declared.root.Root.{Root}
+use Rattle.fort_outline.specs.declared.root.Root.TheVariants.{True}
+use Rattle.fort_outline.specs.declared.outline.Outline.{Outline}
+use Rattle.fort_outline.specs.Roots.{root_core, IsOver}
+use Rattle.fort_outline.specs.Outlines.{AreColumnsOf, parts_in}
 use Rattle.fort_engine.specs.declared.answer.Last.{Last}
+use Rattle.fort_engine.specs.declared.answer.Last.TheVariants.{Truth}
 use Rattle.fort_engine.specs.AnswerView.{as_answer}
-use Rattle.fort_engine.specs.Deciding.{IsAnswered, HasOperands}
+use Rattle.fort_engine.specs.Kept.{HasRightAnswer}
+use Rattle.fort_engine.specs.Deciding.{AreJoined, IsBody, IsDecision, IsNextPart, IsOfTwo}
+use Rattle.fort_outline.proofs.RootLaws.{part_at}
 
--- equality of formulas
-pub Decides-as_core : (c d : Core) → Decides (on core_spelled same_marks c d) (as_core c ≡ as_core d)
-Decides-as_core c d = arm_eq-Decides (as_core c) (as_core d)
+-- what is taken of the answers that are kept
 
--- a formula of one operand
-unary_operand : (g f : core.Core) (c : Core) → (c ≡ Not f) ⊎ (((x : ℕ) × (c ≡ Exists x f)) ⊎ ((x : ℕ) × (c ≡ Infinite x f))) → (g ≡ f) ↔ IsOperandOf g (as_core c)
-unary_operand g f c is =
-    ⊎_elim
-    (λ e. subst (λ d. (g ≡ f) ↔ IsOperandOf g (as_core d)) (sym e) ((λ h. h), (λ h. h)))
-    (λ other. ⊎_elim
-    (λ w. subst (λ d. (g ≡ f) ↔ IsOperandOf g (as_core d)) (sym w.1) ((λ h. h), (λ h. h)))
-    (λ w. subst (λ d. (g ≡ f) ↔ IsOperandOf g (as_core d)) (sym w.1) ((λ h. h), (λ h. h)))
-    other)
-    is
+pub IsRightFor-taken : (system : PatternSystem) (f : core.Core) (taken : Option Last) (answer : Last) → HasRightAnswer system f taken → taken ≡ Some answer
+    → IsRightFor system f (as_answer answer)
+IsRightFor-taken system f taken answer has is =
+    let both : Some has.answer ≡ Some answer = sym has.is ∙ is in
+    let same : has.answer ≡ answer = cc in
+    subst (λ a. IsRightFor system f (as_answer a)) same has.right
 
-binary_operand : (g f h : core.Core) (c : Core) → (c ≡ And f h) ⊎ ((c ≡ Or f h) ⊎ (c ≡ Iff f h)) → ((g ≡ f) ⊎ (g ≡ h)) ↔ IsOperandOf g (as_core c)
-binary_operand g f h c is =
-    ⊎_elim
-    (λ e. subst (λ d. ((g ≡ f) ⊎ (g ≡ h)) ↔ IsOperandOf g (as_core d)) (sym e) ((λ p. p), (λ p. p)))
-    (λ other. ⊎_elim
-    (λ e. subst (λ d. ((g ≡ f) ⊎ (g ≡ h)) ↔ IsOperandOf g (as_core d)) (sym e) ((λ p. p), (λ p. p)))
-    (λ e. subst (λ d. ((g ≡ f) ⊎ (g ≡ h)) ↔ IsOperandOf g (as_core d)) (sym e) ((λ p. p), (λ p. p)))
-    other)
-    is
+pub none_taken : (system : PatternSystem) (f : core.Core) (taken : Option Last) → HasRightAnswer system f taken → taken ≡ None → ⊥
+none_taken system f taken has is = let both : Some has.answer ≡ None = sym has.is ∙ is in absurd cc
 
-pub is_operand-unary : (r : Bool) (g d c : Core) (f : core.Core) → r ≡ on core_spelled same_marks g d → as_core d ≡ f
-    → (c ≡ Not f) ⊎ (((x : ℕ) × (c ≡ Exists x f)) ⊎ ((x : ℕ) × (c ≡ Infinite x f))) → IsTrue r ↔ IsOperandOf (as_core g) (as_core c)
-is_operand-unary r g d c f e s is =
-    let same = Decides-as_core g d in
-    let at = unary_operand (as_core g) f c is in
-    ((λ t. at.0 (same.0 (sym e ∙ t) ∙ s)), (λ o. e ∙ same.1 (at.1 o ∙ sym s)))
+-- the next part, by its root
 
--- equal to the first of two operands
-pub is_operand-first : (g d c : Core) (f h : core.Core) → true ≡ on core_spelled same_marks g d → as_core d ≡ f
-    → (c ≡ And f h) ⊎ ((c ≡ Or f h) ⊎ (c ≡ Iff f h)) → IsOperandOf (as_core g) (as_core c)
-is_operand-first g d c f h e s is = (binary_operand (as_core g) f h c is).0 (inl ((Decides-as_core g d).0 (sym e) ∙ s))
+pub record HasRoot (system : PatternSystem) (cap : ℕ) (o : Outline) (k : ℕ) (kept : List (Option Last)) (r : Root) : Type 0 where
+  pub next : IsNextPart system cap o k kept
+  pub root : get_or o.roots.items k True ≡ r
 
--- not to the first, and so to the second
-pub is_operand-second : (r : Bool) (g d b c : Core) (f h : core.Core) → false ≡ on core_spelled same_marks g d → as_core d ≡ f
-    → r ≡ on core_spelled same_marks g b → as_core b ≡ h → (c ≡ And f h) ⊎ ((c ≡ Or f h) ⊎ (c ≡ Iff f h)) → IsTrue r ↔ IsOperandOf (as_core g) (as_core c)
-is_operand-second r g d b c f h differs s e q is =
-    let first = Decides-as_core g d in
-    let second = Decides-as_core g b in
-    let at = binary_operand (as_core g) f h c is in (
-      (λ t. at.0 (inr (second.0 (sym e ∙ t) ∙ q))),
-      (λ o. ⊎_elim
-          (λ p. absurd (true≢false (sym (first.1 (p ∙ sym s)) ∙ sym differs)))
-          (λ p. e ∙ second.1 (p ∙ sym q))
-          (at.1 o)),
-    )
+pub has_root : {system : PatternSystem} {cap : ℕ} {o : Outline} {k : ℕ} {kept : List (Option Last)} {item r : Root} → IsNextPart system cap o k kept
+    → item ≡ get_or o.roots.items k item → item ≡ r → HasRoot system cap o k kept r
+has_root {o = o} {k = k} {item = item} next is at = record { next = next; root = get_or_default o.roots.items k True item next.within ∙ (sym is ∙ at) }
 
--- a formula at a place of a list
-pub part_at : (parts : List Core) (i : ℕ) (x : Core) → i < length parts → x ≡ get_or parts i x → get_or (map as_core parts) i core.True ≡ as_core x
-part_at parts i x l is = get_or-map as_core parts i x core.True l ∙ ap as_core (sym is)
+pub next_is : {system : PatternSystem} {cap : ℕ} {o : Outline} {k : ℕ} {kept : List (Option Last)} {r : Root} → HasRoot system cap o k kept r
+    → get_or (parts_in o) k core.True ≡ root_core (parts_in o) r
+next_is {o = o} {k = k} h = part_at o.roots.items h.next.laid.in_order k h.next.within ∙ ap (root_core (parts_in o)) h.root
 
--- what is known of an operand, at the formula as the program has it
-pub operand_right : (system : PatternSystem) (cap : ℕ) (parts : List core.Core) (kept : List (Option Last)) (whole given own : Core) (f : core.Core) (answer : Last)
-    → HasOperands system cap parts kept (as_core whole) → IsOperandOf f (as_core whole) → as_core given ≡ f → own ≡ given
-    → ((s : PatternSystem) (c : ℕ) → IsAnswered s c parts kept (as_core given) → IsRightFor s (as_core given) (as_answer answer))
-    → IsRightFor system (as_core own) (as_answer answer)
-operand_right system cap parts kept whole given own f answer operands o is same right =
-    subst (λ z. IsRightFor system (as_core z) (as_answer answer)) (sym same) (right system cap (subst (IsAnswered system cap parts kept) (sym is) (operands f o)))
+pub next_over : {system : PatternSystem} {cap : ℕ} {o : Outline} {k : ℕ} {kept : List (Option Last)} {r : Root} → HasRoot system cap o k kept r → IsOver k r
+next_over {k = k} h = subst (IsOver k) h.root (h.next.laid.in_order k h.next.within)
 
-pub operand_within : (system : PatternSystem) (cap : ℕ) (parts : List core.Core) (kept : List (Option Last)) (whole given own : Core) (f : core.Core)
-    → HasOperands system cap parts kept (as_core whole) → IsOperandOf f (as_core whole) → as_core given ≡ f → own ≡ given → IsPartOver system (as_core own) cap → ⊥
-operand_within system cap parts kept whole given own f operands o is same over =
-    (operands f o).within (subst (λ z. IsPartOver system z cap) (ap as_core same ∙ is) over)
+-- part f is an operand of the next part
+
+pub record IsOperandAt (system : PatternSystem) (cap : ℕ) (o : Outline) (k : ℕ) (kept : List (Option Last)) (f : ℕ) : Type 0 where
+  pub next : IsNextPart system cap o k kept
+  pub low : f < k
+  pub operand : IsOperandOf (get_or (parts_in o) f core.True) (get_or (parts_in o) k core.True)
+
+pub operand_of_root : {system : PatternSystem} {cap : ℕ} {o : Outline} {k : ℕ} {kept : List (Option Last)} {r : Root} (f : ℕ) → HasRoot system cap o k kept r → f < k
+    → IsOperandOf (get_or (parts_in o) f core.True) (root_core (parts_in o) r) → IsOperandAt system cap o k kept f
+operand_of_root {o = o} f h low operand =
+    record { next = h.next; low = low; operand = subst (IsOperandOf (get_or (parts_in o) f core.True)) (sym (next_is h)) operand }
+
+first_joined : (op : Connective) (f g : core.Core) → IsOperandOf f (joined op f g)
+first_joined And f g = inl refl
+first_joined Or f g = inl refl
+first_joined Iff f g = inl refl
+
+second_joined : (op : Connective) (f g : core.Core) → IsOperandOf g (joined op f g)
+second_joined And f g = inr refl
+second_joined Or f g = inr refl
+second_joined Iff f g = inr refl
+
+pub first_of_two : {system : PatternSystem} {cap : ℕ} {o : Outline} {k : ℕ} {kept : List (Option Last)} {op : Connective} {f g : ℕ} → IsNextPart system cap o k kept
+    → IsOfTwo op (parts_in o) k f g → IsOperandAt system cap o k kept f
+first_of_two {o = o} {op = op} {f = f} {g = g} next two = record {
+  next = next;
+  low = two.first;
+  operand = subst (IsOperandOf (get_or (parts_in o) f core.True)) (sym two.is)
+      (first_joined op (get_or (parts_in o) f core.True) (get_or (parts_in o) g core.True));
+}
+
+pub second_of_two : {system : PatternSystem} {cap : ℕ} {o : Outline} {k : ℕ} {kept : List (Option Last)} {op : Connective} {f g : ℕ} → IsNextPart system cap o k kept
+    → IsOfTwo op (parts_in o) k f g → IsOperandAt system cap o k kept g
+second_of_two {o = o} {op = op} {f = f} {g = g} next two = record {
+  next = next;
+  low = two.second;
+  operand = subst (IsOperandOf (get_or (parts_in o) g core.True)) (sym two.is)
+      (second_joined op (get_or (parts_in o) f core.True) (get_or (parts_in o) g core.True));
+}
+
+-- its answer is kept
+
+pub kept_below : {system : PatternSystem} {cap : ℕ} {o : Outline} {k : ℕ} {kept : List (Option Last)} {f : ℕ} → IsOperandAt system cap o k kept f → f < length kept
+kept_below h = omega (arith, h.low, h.next.count)
+
+pub columns_below : {system : PatternSystem} {cap : ℕ} {o : Outline} {k : ℕ} {kept : List (Option Last)} {f : ℕ} → IsOperandAt system cap o k kept f
+    → f < length o.columns.items
+columns_below h = omega (arith, h.low, h.next.within, h.next.laid.count)
+
+pub operand_right : {system : PatternSystem} {cap : ℕ} {o : Outline} {k : ℕ} {kept : List (Option Last)} {f : ℕ} → IsOperandAt system cap o k kept f
+    → HasRightAnswer system (get_or (parts_in o) f core.True) (get_or kept f None)
+operand_right {o = o} {f = f} h = (h.next.operands (get_or (parts_in o) f core.True) h.operand).right f (kept_below h) refl
+
+pub operand_there : {system : PatternSystem} {cap : ℕ} {o : Outline} {k : ℕ} {kept : List (Option Last)} {f : ℕ} → IsOperandAt system cap o k kept f
+    → get_or kept f None ≡ None → ⊥
+operand_there {system = system} {o = o} {kept = kept} {f = f} h = none_taken system (get_or (parts_in o) f core.True) (get_or kept f None) (operand_right h)
+
+pub operand_taken : {system : PatternSystem} {cap : ℕ} {o : Outline} {k : ℕ} {kept : List (Option Last)} {f : ℕ} {answer : Last} → IsOperandAt system cap o k kept f
+    → get_or kept f None ≡ Some answer → IsRightFor system (get_or (parts_in o) f core.True) (as_answer answer)
+operand_taken {system = system} {o = o} {kept = kept} {f = f} {answer = answer} h is =
+    IsRightFor-taken system (get_or (parts_in o) f core.True) (get_or kept f None) answer (operand_right h) is
+
+pub operand_within : {system : PatternSystem} {cap : ℕ} {o : Outline} {k : ℕ} {kept : List (Option Last)} {f : ℕ} → IsOperandAt system cap o k kept f
+    → IsPartOver system (get_or (parts_in o) f core.True) cap → ⊥
+operand_within {o = o} {f = f} h = (h.next.operands (get_or (parts_in o) f core.True) h.operand).within
+
+-- with its columns
+
+pub operand_columns : {system : PatternSystem} {cap : ℕ} {o : Outline} {k : ℕ} {kept : List (Option Last)} {f : ℕ} (columns : List ℕ) → IsOperandAt system cap o k kept f
+    → ((parts : List core.Core) → AreColumnsOf parts o.columns.items → columns ≡ columns_of (get_or parts f core.True))
+    → columns ≡ columns_of (get_or (parts_in o) f core.True)
+operand_columns {o = o} columns h each = each (parts_in o) h.next.laid.columns
+
+pub IsBody-operand : {system : PatternSystem} {cap : ℕ} {o : Outline} {k : ℕ} {kept : List (Option Last)} {f : ℕ} {answer : Last} (n : ℕ) (columns : List ℕ)
+    → IsOperandAt system cap o k kept f → is_free n (get_or (parts_in o) f core.True) ≡ true → get_or kept f None ≡ Some answer
+    → ((parts : List core.Core) → AreColumnsOf parts o.columns.items → columns ≡ columns_of (get_or parts f core.True))
+    → IsBody system n (get_or (parts_in o) f core.True) columns (as_answer answer)
+IsBody-operand n columns h among is each =
+    record { among = among; columns_are = operand_columns columns h each; right = operand_taken h is }
+
+pub AreJoined-parts : {system : PatternSystem} {cap : ℕ} {o : Outline} {k : ℕ} {kept : List (Option Last)} {op : Connective} {f g : ℕ} {first second : Last}
+    (columns ones others : List ℕ) → IsNextPart system cap o k kept → IsOfTwo op (parts_in o) k f g → get_or kept f None ≡ Some first → get_or kept g None ≡ Some second
+    → ((parts : List core.Core) → AreColumnsOf parts o.columns.items → columns ≡ columns_of (get_or parts k core.True))
+    → ((parts : List core.Core) → AreColumnsOf parts o.columns.items → ones ≡ columns_of (get_or parts f core.True))
+    → ((parts : List core.Core) → AreColumnsOf parts o.columns.items → others ≡ columns_of (get_or parts g core.True))
+    → AreJoined system op (get_or (parts_in o) k core.True) (get_or (parts_in o) f core.True) (get_or (parts_in o) g core.True) columns ones others (as_answer first)
+    (as_answer second)
+AreJoined-parts {o = o} columns ones others next two one other each first_each second_each = record {
+  whole = two.is;
+  few = next.fit.few;
+  columns_are = each (parts_in o) next.laid.columns;
+  ones_are = first_each (parts_in o) next.laid.columns;
+  others_are = second_each (parts_in o) next.laid.columns;
+  first_right = operand_taken (first_of_two next two) one;
+  second_right = operand_taken (second_of_two next two) other;
+}
+
+-- the formula that is true
+pub IsDecision-True : (system : PatternSystem) (f : core.Core) (cap : ℕ) → f ≡ core.True → IsDecision system f cap (Ok (Truth true))
+IsDecision-True system f cap is =
+    let right = subst (λ z. IsRightFor system z (OfValue true)) (sym is) (IsRightFor-True system) in
+    record { ok = right; within = IsPartOver-closed system f cap right.answers.over; over = tt }

@@ -1,35 +1,11 @@
--- Where a formula stands among the parts, and a number among columns, as a search from the front finds it.
-use Rattle.std.specs.Prelude.{◌≡◌, ◌<◌, ◌≤◌, ◌+◌, ◌==◌, ℕ, List, map, length, get_or, true, false, Contains}
-use Rattle.std.specs.Ordering.{on}
-use Rattle.std.proofs.Common.{ap, sym, ◌∙◌, subst, arith, ⊎_elim, true≢false, eq-eqb}
-use Rattle.std.proofs.lemmas.Bool.{cases_eq}
+-- Where a number stands among columns, as a search from the front finds it.
+use Rattle.std.specs.Prelude.{◌≡◌, ◌<◌, ◌≤◌, ◌==◌, ℕ, List, length, get_or, false, Contains}
+use Rattle.std.proofs.Common.{sym, ◌∙◌, arith, true≢false, eq-eqb}
 use Rattle.std.proofs.lemmas.List.{ext_get_or, length-map, get_or-map}
 use Rattle.std.proofs.lemmas.List.Sums.{position_or_len_is}
 use Rattle.std.proofs.lemmas.List.Elements.{Contains-get_or}
-use Rattle.fort_logic.specs.Cores as core
-use Rattle.fort_logic.specs.Parts.{AreColumns}
-use Rattle.fort_formulas.specs.declared.core_formula.Core.{Core}
-use Rattle.fort_formulas.specs.CoreView.{as_core}
-use Rattle.fort_formulas.specs.CoreKeys.{core_spelled, same_marks}
-use Rattle.fort_parts.specs.PartColumns.{columns_of, place_in, places_in}
-use Rattle.fort_parts.proofs.PartColumnLaws.{columns_of-unique, place_of-member}
-use Rattle.fort_engine.proofs.OperandLaws.{Decides-as_core, part_at}
-
--- the part at this place isn't the formula either
-pub unlike_more : (parts : List Core) (place : ℕ) (x c : Core) → place < length parts → x ≡ get_or parts place x → false ≡ on core_spelled same_marks x c
-    → ((j : ℕ) → j < place → get_or (map as_core parts) j core.True ≡ as_core c → ⊥) → (j : ℕ) → j < place + 1
-    → get_or (map as_core parts) j core.True ≡ as_core c → ⊥
-unlike_more parts place x c l is differs before j m e =
-    ⊎_elim
-    (λ s.
-    let here : as_core x ≡ as_core c = sym (part_at parts place x l is) ∙ (ap (λ i. get_or (map as_core parts) i core.True) (sym s) ∙ e) in
-    true≢false (sym ((Decides-as_core x c).1 here) ∙ sym differs))
-    (λ other. before j (omega arith) e)
-    (cases_eq j place)
-
-pub found_part : (parts : List Core) (place : ℕ) (x c : Core) → place < length parts → x ≡ get_or parts place x → true ≡ on core_spelled same_marks x c
-    → get_or (map as_core parts) place core.True ≡ as_core c
-found_part parts place x c l is same = part_at parts place x l is ∙ (Decides-as_core x c).0 (sym same)
+use Rattle.fort_parts.specs.PartColumns.{place_in, places_in}
+use Rattle.fort_parts.proofs.PartColumnLaws.{place_of-member}
 
 -- the first place of a number
 pub found_number : (columns : List ℕ) (n place : ℕ) → place < length columns → ((k : ℕ) → k < place → (get_or columns k 0 == n) ≡ false)
@@ -50,8 +26,7 @@ all_places columns numbers places count each =
     let m : i < length numbers = omega arith in
     each i m ∙ sym (get_or-map (place_in columns) numbers i 0 0 m))
 
--- each column of a formula is among those of another that has them all
-pub columns_among : (f : core.Core) (columns numbers : List ℕ) → AreColumns f numbers → ((n : ℕ) → Contains (columns_of f) n → Contains columns n)
-    → (k : ℕ) → k < length numbers → Contains columns (get_or numbers k 0)
-columns_among f columns numbers are within k l =
-    within (get_or numbers k 0) (subst (λ ns. Contains ns (get_or numbers k 0)) (columns_of-unique f numbers are) (Contains-get_or numbers k 0 l))
+-- numbers that are all among columns
+pub each_among : (columns numbers : List ℕ) → ((n : ℕ) → Contains numbers n → Contains columns n) → (k : ℕ) → k < length numbers
+    → Contains columns (get_or numbers k 0)
+each_among columns numbers within k l = within (get_or numbers k 0) (Contains-get_or numbers k 0 l)

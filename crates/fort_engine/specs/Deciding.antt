@@ -1,9 +1,9 @@
 -- Inside: what a part meets that is decided, what is known of its operands, what a decision of it is, and which labels are a formula's.
-use Rattle.std.specs.Prelude.{◌≡◌, ℕ, ◌<◌, ◌≤◌, List, length, get_or, Bool, Option, None, Result, IfOk, IfErr, OnOk}
+use Rattle.std.specs.Prelude.{◌≡◌, ℕ, ◌<◌, ◌≤◌, List, length, get_or, Bool, true, Option, None, Result, IfOk, IfErr, OnOk}
 use Rattle.fort_theory.specs.Signatures.{most_columns}
 use Rattle.fort_theory.specs.Patterns.{PatternSystem}
 use Rattle.fort_logic.specs.Cores as core
-use Rattle.fort_logic.specs.Parts.{BindsFree}
+use Rattle.fort_logic.specs.Parts.{BindsFree, is_free}
 use Rattle.fort_tables.specs.Tables.{Table}
 use Rattle.fort_tables.specs.Labels.{Labelling, IsTableOf}
 use Rattle.fort_tables.specs.LabelRules.{IsTableBy}
@@ -15,11 +15,13 @@ use Rattle.fort_parts.specs.PartLabels.{LabelsTellAlike}
 use Rattle.fort_parts.specs.DecidedCores.{IsOverSystem, IsOperandOf}
 use Rattle.fort_parts.specs.RightAnswers.{IsRightFor, HasTooMany, joined}
 use Rattle.fort_parts.proofs.PartOrder.{IsEarlier}
+use Rattle.fort_outline.specs.declared.outline.Outline.{Outline}
+use Rattle.fort_outline.specs.Outlines.{parts_in, IsOutlineOf}
 use Rattle.fort_explore.specs.declared.table.ExploreFault.{ExploreFault}
 use Rattle.fort_explore.specs.Answer.{IfOver}
 use Rattle.fort_engine.specs.declared.answer.Last.{Last}
 use Rattle.fort_engine.specs.AnswerView.{as_answer}
-use Rattle.fort_engine.specs.Uses.{HasRightAnswer}
+use Rattle.fort_engine.specs.Kept.{HasRightAnswer}
 
 -- its indices and terms are the system's, and it is no wider than a tuple
 pub record IsFit (system : PatternSystem) (f : core.Core) : Type 0 where
@@ -36,6 +38,24 @@ pub record IsAnswered (system : PatternSystem) (cap : ℕ) (parts : List core.Co
 abbrev pub HasOperands : PatternSystem → ℕ → List core.Core → List (Option Last) → core.Core → Type 0
 HasOperands system cap parts kept f = (g : core.Core) → IsOperandOf g f → IsAnswered system cap parts kept g
 
+abbrev pub part_in : Outline → ℕ → core.Core
+part_in o k = get_or (parts_in o) k core.True
+
+-- part k of an outline is decided next, from the answers to the parts before it that are kept
+pub record IsNextPart (system : PatternSystem) (cap : ℕ) (outline : Outline) (k : ℕ) (kept : List (Option Last)) : Type 0 where
+  pub formula : core.Core
+  pub laid : IsOutlineOf formula outline
+  pub within : k < length outline.roots.items
+  pub count : length kept ≡ k
+  pub fit : IsFit system (part_in outline k)
+  pub operands : HasOperands system cap (parts_in outline) kept (part_in outline k)
+
+-- part k is parts f and g joined
+pub record IsOfTwo (op : Connective) (parts : List core.Core) (k f g : ℕ) : Type 0 where
+  pub first : f < k
+  pub second : g < k
+  pub is : get_or parts k core.True ≡ joined op (get_or parts f core.True) (get_or parts g core.True)
+
 -- a right answer, and then the formula is not over the cap; or tuples that show that it is
 pub record IsDecision (system : PatternSystem) (f : core.Core) (cap : ℕ) (result : Result Last ExploreFault) : Type 0 where
   pub ok : IfOk result (λ a. IsRightFor system f (as_answer a))
@@ -48,6 +68,22 @@ pub record AreLabelsFor (system : PatternSystem) (f : core.Core) (columns : ℕ)
   pub alike : LabelsTellAlike system f label
   pub right : (table : Table) → IsTableOf system.signature columns label accepting table → IsTableBy system.signature columns label accepting table
       → IsRightFor system f (OfTable table)
+
+-- a formula with this number among its columns, and a right answer to it
+pub record IsBody (system : PatternSystem) (n : ℕ) (f : core.Core) (columns : List ℕ) (answer : Answer) : Type 0 where
+  pub among : is_free n f ≡ true
+  pub columns_are : columns ≡ columns_of f
+  pub right : IsRightFor system f answer
+
+-- h is f and g joined, no wider than a tuple, each with its columns, and there are right answers to both
+pub record AreJoined (system : PatternSystem) (op : Connective) (h f g : core.Core) (columns ones others : List ℕ) (first second : Answer) : Type 0 where
+  pub whole : h ≡ joined op f g
+  pub few : length (columns_of h) ≤ most_columns
+  pub columns_are : columns ≡ columns_of h
+  pub ones_are : ones ≡ columns_of f
+  pub others_are : others ≡ columns_of g
+  pub first_right : IsRightFor system f first
+  pub second_right : IsRightFor system g second
 
 -- h is f and g joined, with right answers to both and the places of their columns among those of h
 pub record IsJoining (system : PatternSystem) (op : Connective) (h f g : core.Core) (first : Answer) (places : List ℕ) (second : Answer) (others : List ℕ) (columns : ℕ) : Type 0 where

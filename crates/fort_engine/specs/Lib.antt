@@ -1,3 +1,3 @@
 pub mod AnswerView
-pub mod Uses
+pub mod Kept
 pub mod Deciding

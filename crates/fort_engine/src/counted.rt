@@ -1,19 +1,14 @@
 //! "Infinitely many" of answers.
-ghost use Rattle.std.specs.Prelude.{◌≡◌, true};
 ghost use Rattle.fort_logic.specs.Cores as theory;
-ghost use Rattle.fort_logic.specs.Parts as parts;
 ghost use Rattle.fort_tables.specs.Tables.{listed_table};
-ghost use Rattle.fort_formulas.specs.CoreView.{as_core};
 ghost use Rattle.fort_parts.specs.PartAnswers.{OfTable};
-ghost use Rattle.fort_parts.specs.RightAnswers.{IsRightFor};
 ghost use Rattle.fort_engine.specs.AnswerView.{as_answer};
-ghost use Rattle.fort_engine.specs.Deciding.{IsDecision};
+ghost use Rattle.fort_engine.specs.Deciding.{IsBody, IsDecision};
 
 use crate::answer::Last;
 use crate::explored::explored;
 use crate::operands::{Answered, column_of};
 use fort_explore::{ByRule, ExploreFault};
-use fort_formulas::{Core, free};
 use fort_infinity::local::many_value;
 use fort_infinity::{Many, pure_counts};
 use fort_lockstep::{Dta, Table};
@@ -26,16 +21,17 @@ fn count_table(
     alloc: Global,
     system: &System,
     number: u32,
-    core: &Core,
+    columns: &[u32],
     table: &Dta,
     cap: u32,
 ) -> Result<Last, ExploreFault>
-    requires among { parts.is_free number (as_core core.now) ≡ true }
-    requires right { IsRightFor system.now (as_core core.now) (OfTable (listed_table table.now)) }
-    ensures { IsDecision system.now (theory.Infinite number (as_core core.now)) cap result }
+    requires { (f : theory.Core) × IsBody system.now number f columns.now
+        (OfTable (listed_table table.now)) }
+    ensures { (f : theory.Core) → IsBody system.now number f columns.now
+        (OfTable (listed_table table.now))
+        → IsDecision system.now (theory.Infinite number f) cap result }
 {
-    let columns = free(alloc, core)?;
-    let column = column_of(&columns, number);
+    let column = column_of(columns, number);
     let alone = pure_states(alloc, table, column)?;
     let counts = pure_counts(alloc, table, column, &alone)?;
     if table.columns() == 1 {
@@ -53,14 +49,14 @@ pub(crate) fn count(
     body: &Answered<'_>,
     cap: u32,
 ) -> Result<Last, ExploreFault>
-    requires among { parts.is_free number (as_core body.now.core.now) ≡ true }
-    requires right { IsRightFor system.now (as_core body.now.core.now)
+    requires { (f : theory.Core) × IsBody system.now number f body.now.columns.now
         (as_answer body.now.answer.now) }
-    ensures { IsDecision system.now (theory.Infinite number (as_core body.now.core.now)) cap
-        result }
+    ensures { (f : theory.Core) → IsBody system.now number f body.now.columns.now
+        (as_answer body.now.answer.now)
+        → IsDecision system.now (theory.Infinite number f) cap result }
 {
     match body.answer {
         Last::Truth(_) => unreachable!(),
-        Last::Auto(table) => count_table(alloc, system, number, body.core, table, cap),
+        Last::Auto(table) => count_table(alloc, system, number, body.columns, table, cap),
     }
 }

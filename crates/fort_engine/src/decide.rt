@@ -7,27 +7,48 @@ ghost use Rattle.fort_formulas.specs.CoreView.{as_core};
 ghost use Rattle.fort_parts.specs.AlikeParts.{IsPartOver};
 ghost use Rattle.fort_parts.specs.DecidedCores.{IsDecided};
 ghost use Rattle.fort_parts.specs.PartAnswers.{IsAnswerTo};
+ghost use Rattle.fort_outline.specs.Roots.{IsOver};
 ghost use Rattle.fort_engine.specs.AnswerView.{as_answer, IfOver, IsLimit};
 
 use crate::answer::{EngineFault, Last, Limit, Trace};
-use crate::operands::place_of;
 use crate::part::decide_part;
-use crate::uses::last_uses;
 use fort_explore::ExploreFault;
-use fort_formulas::{Core, kind, parts};
+use fort_formulas::Core;
+use fort_outline::{Outline, Root};
 use fort_terms::System;
 use std::alloc::Global;
 
-/// Lets go of the answers that no part after part `k` needs.
-pub fn drop_idle(kept: &mut Vec<Option<Last>>, uses: &[usize], k: usize)
-    requires { length kept.old.items ≤ length uses.now }
+/// Lets go of the answer to part `j`, where no part after part `k` needs it.
+fn let_go(kept: &mut Vec<Option<Last>>, uses: &[usize], j: usize, k: usize)
+    requires within { j < length kept.old.items }
+    requires used { j < length uses.now }
     ensures count { length kept.new.items ≡ length kept.old.items }
-    ensures needed { (j : ℕ) → j < length kept.old.items → k < slice_index_or uses.now j 0
+    ensures needed { (i : ℕ) → i < length kept.old.items → k < slice_index_or uses.now i 0
+        → slice_index_or kept.new.items i None ≡ slice_index_or kept.old.items i None }
+{
+    if uses[j] <= k {
+        kept[j] = None;
+    }
+}
+
+/// Lets go of the answers to the operands of part `k` that no later part needs.
+pub fn drop_idle(kept: &mut Vec<Option<Last>>, outline: &Outline, k: usize)
+    requires within { k < length outline.now.roots.items }
+    requires over { IsOver (length kept.old.items)
+        (slice_index_or outline.now.roots.items k Root.True) }
+    requires uses { length kept.old.items ≤ length outline.now.last_uses.items }
+    ensures count { length kept.new.items ≡ length kept.old.items }
+    ensures needed { (j : ℕ) → j < length kept.old.items
+        → k < slice_index_or outline.now.last_uses.items j 0
         → slice_index_or kept.new.items j None ≡ slice_index_or kept.old.items j None }
 {
-    for j in 0..kept.len() {
-        if uses[j] <= k {
-            kept[j] = None;
+    let uses = outline.last_uses.as_slice();
+    match &outline.roots[k] {
+        Root::True | Root::Atom(_, _, _, _) | Root::Nf(_, _) | Root::Is(_, _) => {}
+        Root::Not(f) | Root::Exists(_, f) | Root::Infinite(_, f) => let_go(kept, uses, *f, k),
+        Root::And(f, g) | Root::Or(f, g) | Root::Iff(f, g) => {
+            let_go(kept, uses, *f, k);
+            let_go(kept, uses, *g, k);
         }
     }
 }
@@ -48,23 +69,21 @@ pub fn decide_core(
         → IsPartOver system.now (slice_index_or ps k theory.True) cap → ⊥) }
     ensures over { IfErr result (λ e. IfOver e (IsLimit system.now (as_core core.now) cap)) }
 {
-    let all = parts(alloc, core)?;
-    let root = place_of(&all, core, all.len());
-    let uses = last_uses(alloc, &all, root)?;
+    let outline = Outline::new(alloc, core)?;
     let mut kept: Vec<Option<Last>> = Vec::new(alloc);
-    for k in 0..all.len() {
-        match decide_part(alloc, system, &all[k], &all, &kept, cap) {
+    for k in 0..outline.roots.len() {
+        match decide_part(alloc, system, &outline, k, &kept, cap) {
             Ok(answer) => kept.push(Some(answer))?,
             Err(ExploreFault::Memory) => return Err(EngineFault::Memory),
             Err(ExploreFault::Over(tuples)) => return Err(EngineFault::Over(Limit {
                 part: k,
-                kind: kind(&all[k]),
+                kind: outline.roots[k].kind(),
                 tuples,
             })),
         }
-        drop_idle(&mut kept, &uses, k);
+        drop_idle(&mut kept, &outline, k);
     }
-    match kept.swap_remove(root) {
+    match kept.swap_remove(outline.whole) {
         Some(last) => Ok(Trace { last }),
         None => unreachable!(),
     }

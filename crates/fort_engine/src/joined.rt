@@ -1,23 +1,18 @@
 //! Connectives of answers.
-ghost use Rattle.std.specs.Prelude.{◌≡◌, ◌<◌, ◌≤◌, length};
-ghost use Rattle.fort_theory.specs.Signatures.{most_columns};
+ghost use Rattle.std.specs.Prelude.{◌≡◌, ◌<◌, length};
 ghost use Rattle.fort_logic.specs.Cores as theory;
 ghost use Rattle.fort_tables.specs.Tables.{listed_table};
 ghost use Rattle.fort_operations.specs.Products.{connected};
-ghost use Rattle.fort_formulas.specs.CoreView.{as_core};
 ghost use Rattle.fort_rrn_algebra.specs.Operands as algebra;
 ghost use Rattle.fort_rrn_algebra.specs.Operands.{connective_of};
-ghost use Rattle.fort_parts.specs.PartColumns.{columns_of};
 ghost use Rattle.fort_parts.specs.PartSteps.{operand_of};
-ghost use Rattle.fort_parts.specs.RightAnswers.{IsRightFor, joined};
 ghost use Rattle.fort_engine.specs.AnswerView.{as_answer};
-ghost use Rattle.fort_engine.specs.Deciding.{IsDecision, IsJoining};
+ghost use Rattle.fort_engine.specs.Deciding.{AreJoined, IsDecision, IsJoining};
 
 use crate::answer::Last;
 use crate::explored::explored;
-use crate::operands::{Answered, places_of};
+use crate::operands::{Answered, places_among};
 use fort_explore::{ByRule, ExploreFault};
-use fort_formulas::{Core, free};
 use fort_lockstep::Dta;
 use fort_rrn_algebra::{Both, Op, Operand, ProductLists};
 use fort_terms::System;
@@ -69,29 +64,26 @@ fn product_table<'a>(
     explored(alloc, system, &ByRule(&product), cap)
 }
 
-/// Decides a formula of two operands by their product.
+/// Decides a formula with these columns, of two operands, by their product.
 fn join_tables(
     alloc: Global,
     system: &System,
-    whole: &Core,
     op: Op,
+    columns: &[u32],
     first: &Answered<'_>,
     second: &Answered<'_>,
     cap: u32,
 ) -> Result<Last, ExploreFault>
-    requires whole { as_core whole.now ≡ joined (connective_of op) (as_core first.now.core.now)
-        (as_core second.now.core.now) }
-    requires some { 0 < length (columns_of (as_core whole.now)) }
-    requires few { length (columns_of (as_core whole.now)) ≤ most_columns }
-    requires first { IsRightFor system.now (as_core first.now.core.now)
-        (as_answer first.now.answer.now) }
-    requires second { IsRightFor system.now (as_core second.now.core.now)
+    requires two { (h f g : theory.Core) × AreJoined system.now (connective_of op) h f g
+        columns.now first.now.columns.now second.now.columns.now (as_answer first.now.answer.now)
         (as_answer second.now.answer.now) }
-    ensures { IsDecision system.now (as_core whole.now) cap result }
+    requires some { 0 < length columns.now }
+    ensures { (h f g : theory.Core) → AreJoined system.now (connective_of op) h f g
+        columns.now first.now.columns.now second.now.columns.now (as_answer first.now.answer.now)
+        (as_answer second.now.answer.now) → IsDecision system.now h cap result }
 {
-    let columns = free(alloc, whole)?;
-    let places = places_of(alloc, &columns, first.core)?;
-    let others = places_of(alloc, &columns, second.core)?;
+    let places = places_among(alloc, columns, first.columns)?;
+    let others = places_among(alloc, columns, second.columns)?;
     product_table(
         alloc,
         system,
@@ -105,30 +97,28 @@ fn join_tables(
     )
 }
 
-/// Decides a formula of two operands.
+/// Decides a formula with these columns, of two operands.
 pub(crate) fn join(
     alloc: Global,
     system: &System,
-    whole: &Core,
     op: Op,
+    columns: &[u32],
     first: &Answered<'_>,
     second: &Answered<'_>,
     cap: u32,
 ) -> Result<Last, ExploreFault>
-    requires whole { as_core whole.now ≡ joined (connective_of op) (as_core first.now.core.now)
-        (as_core second.now.core.now) }
-    requires few { length (columns_of (as_core whole.now)) ≤ most_columns }
-    requires first { IsRightFor system.now (as_core first.now.core.now)
-        (as_answer first.now.answer.now) }
-    requires second { IsRightFor system.now (as_core second.now.core.now)
+    requires { (h f g : theory.Core) × AreJoined system.now (connective_of op) h f g
+        columns.now first.now.columns.now second.now.columns.now (as_answer first.now.answer.now)
         (as_answer second.now.answer.now) }
-    ensures { IsDecision system.now (as_core whole.now) cap result }
+    ensures { (h f g : theory.Core) → AreJoined system.now (connective_of op) h f g
+        columns.now first.now.columns.now second.now.columns.now (as_answer first.now.answer.now)
+        (as_answer second.now.answer.now) → IsDecision system.now h cap result }
 {
     match first.answer {
         Last::Truth(a) => match second.answer {
             Last::Truth(b) => Ok(Last::Truth(connect(op, *a, *b))),
-            Last::Auto(_) => join_tables(alloc, system, whole, op, first, second, cap),
+            Last::Auto(_) => join_tables(alloc, system, op, columns, first, second, cap),
         },
-        Last::Auto(_) => join_tables(alloc, system, whole, op, first, second, cap),
+        Last::Auto(_) => join_tables(alloc, system, op, columns, first, second, cap),
     }
 }

@@ -10,10 +10,8 @@ mod joined;
 mod operands;
 mod part;
 mod projected;
-mod uses;
 
 pub use answer::{EngineFault, Last, Limit, Trace};
 pub use decide::{decide_core, drop_idle};
-pub use operands::{column_of, place_of};
+pub use operands::{column_of, kept_answer};
 pub use part::decide_part;
-pub use uses::last_uses;

@@ -1,59 +1,49 @@
-//! The operands of a part: where they stand among the parts, their answers, and their columns among its own.
-ghost use Rattle.std.specs.Prelude.{◌≡◌, ◌<◌, ◌≤◌, ℕ, map, length, Contains, slice_index, slice_index_or, IfOk};
-ghost use Rattle.fort_theory.specs.Patterns.{PatternSystem};
+//! The operands of a part: their answers and columns by their numbers, and the places of their columns among its own.
+ghost use Rattle.std.specs.Prelude.{◌≡◌, ◌<◌, ℕ, List, length, Contains, slice_index, slice_index_or, None, Some, IfOk};
 ghost use Rattle.fort_logic.specs.Cores as theory;
-ghost use Rattle.fort_formulas.specs.CoreView.{as_core};
 ghost use Rattle.fort_parts.specs.PartColumns.{columns_of, place_in, places_in};
-ghost use Rattle.fort_parts.specs.RightAnswers.{IsRightFor};
-ghost use Rattle.fort_parts.proofs.PartOrder.{IsEarlier};
-ghost use Rattle.fort_engine.specs.AnswerView.{as_answer};
-ghost use Rattle.fort_engine.specs.Deciding.{IsAnswered};
+ghost use Rattle.fort_outline.specs.Outlines.{AreColumnsOf};
 
 use crate::answer::Last;
-use fort_formulas::{Core, free};
+use fort_outline::Outline;
 use fort_terms::Memory;
 use std::alloc::Global;
 
-/// A formula with its answer.
+/// An operand's answer, with its columns.
 #[derive(Drop)]
 pub(crate) struct Answered<'a> {
-    pub(crate) core: &'a Core,
+    pub(crate) columns: &'a [u32],
     pub(crate) answer: &'a Last,
 }
 
-/// The place of a formula among the parts before `end`.
-pub fn place_of(parts: &[Core], core: &Core, end: usize) -> usize
-    requires within { end ≤ length parts.now }
-    requires there { IsEarlier (map as_core parts.now) end (as_core core.now) }
-    ensures before { result < end }
-    ensures is { slice_index_or (map as_core parts.now) result theory.True ≡ as_core core.now }
+/// The answer to an earlier part, which is kept.
+pub fn kept_answer(kept: &[Option<Last>], part: usize) -> &Last
+    requires within { part < length kept.now }
+    requires there { slice_index_or kept.now part None ≡ None → ⊥ }
+    ensures { slice_index_or kept.now part None ≡ Some result.now }
 {
-    for place in 0..end {
-        if parts[place] == *core {
-            return place;
-        }
+    match &kept[part] {
+        Some(answer) => answer,
+        None => unreachable!(),
     }
-    unreachable!()
 }
 
-/// An operand with its answer, which is kept.
-pub(crate) fn kept_answer<'a>(
-    parts: &[Core],
+/// The same with the part's columns.
+pub(crate) fn kept_operand<'a>(
+    outline: &'a Outline,
     kept: &'a [Option<Last>],
-    core: &'a Core,
+    part: usize,
 ) -> Answered<'a>
-    requires few { length kept.now ≤ length parts.now }
-    requires there { (system : PatternSystem) × (cap : ℕ)
-        × IsAnswered system cap (map as_core parts.now) kept.now (as_core core.now) }
-    ensures core { result.core.now ≡ core.now }
-    ensures right { (system : PatternSystem) (cap : ℕ)
-        → IsAnswered system cap (map as_core parts.now) kept.now (as_core core.now)
-        → IsRightFor system (as_core core.now) (as_answer result.answer.now) }
+    requires within { part < length kept.now }
+    requires there { slice_index_or kept.now part None ≡ None → ⊥ }
+    requires listed { part < length outline.now.columns.items }
+    ensures answer { slice_index_or kept.now part None ≡ Some result.answer.now }
+    ensures columns { (parts : List theory.Core) → AreColumnsOf parts outline.now.columns.items
+        → result.columns.now ≡ columns_of (slice_index_or parts part theory.True) }
 {
-    let place = place_of(parts, core, kept.len());
-    match &kept[place] {
-        Some(answer) => Answered { core, answer },
-        None => unreachable!(),
+    Answered {
+        columns: outline.columns[part].as_slice(),
+        answer: kept_answer(kept, part),
     }
 }
 
@@ -70,10 +60,13 @@ pub fn column_of(columns: &[u32], number: u32) -> usize
     unreachable!()
 }
 
-/// The places of numbers among ascending columns.
-fn places_among(alloc: Global, columns: &[u32], numbers: &[u32]) -> Result<Vec<usize>, Memory>
-    requires { (k : ℕ) → k < length numbers.now
-        → Contains columns.now (slice_index numbers.now k) }
+/// The places of numbers among ascending columns, which have them all.
+pub(crate) fn places_among(
+    alloc: Global,
+    columns: &[u32],
+    numbers: &[u32],
+) -> Result<Vec<usize>, Memory>
+    requires { (n : ℕ) → Contains numbers.now n → Contains columns.now n }
     ensures { IfOk result (λ ps. ps.items ≡ places_in columns.now numbers.now) }
 {
     let mut places = Vec::with_capacity(alloc, numbers.len())?;
@@ -81,13 +74,4 @@ fn places_among(alloc: Global, columns: &[u32], numbers: &[u32]) -> Result<Vec<u
         places.push(column_of(columns, numbers[k]))?;
     }
     Ok(places)
-}
-
-/// The places of a formula's columns among those of another, which has them all.
-pub(crate) fn places_of(alloc: Global, columns: &[u32], core: &Core) -> Result<Vec<usize>, Memory>
-    requires { (n : ℕ) → Contains (columns_of (as_core core.now)) n → Contains columns.now n }
-    ensures { IfOk result (λ ps. ps.items ≡ places_in columns.now (columns_of (as_core core.now))) }
-{
-    let numbers = free(alloc, core)?;
-    places_among(alloc, columns, &numbers)
 }

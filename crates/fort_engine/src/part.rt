@@ -1,87 +1,83 @@
 //! Decides one part from the answers to its operands.
-ghost use Rattle.std.specs.Prelude.{◌≤◌, ℕ, map, length};
+ghost use Rattle.std.specs.Prelude.{ℕ};
 ghost use Rattle.fort_theory.specs.Patterns.{PatternSystem};
 ghost use Rattle.fort_logic.specs.Cores as theory;
-ghost use Rattle.fort_formulas.specs.CoreView.{as_core};
+ghost use Rattle.fort_rrn_algebra.specs.Operands.{connective_of};
 ghost use Rattle.fort_parts.specs.AlikeParts.{IsPartOver};
 ghost use Rattle.fort_parts.specs.RightAnswers.{IsRightFor};
+ghost use Rattle.fort_outline.specs.Outlines.{parts_in};
 ghost use Rattle.fort_engine.specs.AnswerView.{as_answer};
-ghost use Rattle.fort_engine.specs.Deciding.{IsFit, HasOperands, IsDecision};
+ghost use Rattle.fort_engine.specs.Deciding.{part_in, IsNextPart, IsOfTwo, IsDecision};
 
 use crate::answer::Last;
 use crate::atoms::{normal_form, related, this_term};
 use crate::counted::count;
 use crate::joined::join;
-use crate::operands::{Answered, kept_answer};
+use crate::operands::{kept_answer, kept_operand};
 use crate::projected::project;
 use fort_explore::ExploreFault;
-use fort_formulas::Core;
+use fort_outline::{Outline, Root};
 use fort_rrn_algebra::{Op, negate};
 use fort_terms::System;
 use std::alloc::Global;
 
-/// Decides the negation of a formula.
-fn complement(alloc: Global, body: &Answered<'_>) -> Result<Last, ExploreFault>
-    ensures { (system : PatternSystem) (cap : ℕ)
-        → IsRightFor system (as_core body.now.core.now) (as_answer body.now.answer.now)
-        → (IsPartOver system (as_core body.now.core.now) cap → ⊥)
-        → IsDecision system (theory.Not (as_core body.now.core.now)) cap result }
+/// Decides the negation of a formula with this answer.
+fn complement(alloc: Global, body: &Last) -> Result<Last, ExploreFault>
+    ensures { (system : PatternSystem) (cap : ℕ) (f : theory.Core)
+        → IsRightFor system f (as_answer body.now)
+        → (IsPartOver system f cap → ⊥)
+        → IsDecision system (theory.Not f) cap result }
 {
-    match body.answer {
+    match body {
         Last::Truth(truth) => Ok(Last::Truth(!*truth)),
         Last::Auto(table) => Ok(Last::Auto(negate(alloc, table)?)),
     }
 }
 
-/// Decides a part from the answers to the parts before it.
-pub fn decide_part<'a>(
+/// Decides part k, which is parts f and g joined.
+fn join_parts(
     alloc: Global,
     system: &System,
-    core: &'a Core,
-    parts: &[Core],
-    kept: &'a [Option<Last>],
+    outline: &Outline,
+    k: usize,
+    op: Op,
+    f: usize,
+    g: usize,
+    kept: &[Option<Last>],
     cap: u32,
 ) -> Result<Last, ExploreFault>
-    requires few { length kept.now ≤ length parts.now }
-    requires fit { IsFit system.now (as_core core.now) }
-    requires operands { HasOperands system.now cap (map as_core parts.now) kept.now
-        (as_core core.now) }
-    ensures { IsDecision system.now (as_core core.now) cap result }
+    requires next { IsNextPart system.now cap outline.now k kept.now }
+    requires two { IsOfTwo (connective_of op) (parts_in outline.now) k f g }
+    ensures { IsDecision system.now (part_in outline.now k) cap result }
 {
-    match core {
-        Core::True => Ok(Last::Truth(true)),
-        Core::Atom(rel, index, x, y) => related(alloc, system, *rel, *index, *x, *y, cap),
-        Core::Nf(index, _) => normal_form(alloc, system, *index, cap),
-        Core::Is(_, term) => this_term(alloc, system, term, cap),
-        Core::Not(f) => complement(alloc, &kept_answer(parts, kept, f.as_core())),
-        Core::And(f, g) => {
-            let first = kept_answer(parts, kept, f.as_core());
-            let second = kept_answer(parts, kept, g.as_core());
-            join(alloc, system, core, Op::And, &first, &second, cap)
-        }
-        Core::Or(f, g) => {
-            let first = kept_answer(parts, kept, f.as_core());
-            let second = kept_answer(parts, kept, g.as_core());
-            join(alloc, system, core, Op::Or, &first, &second, cap)
-        }
-        Core::Iff(f, g) => {
-            let first = kept_answer(parts, kept, f.as_core());
-            let second = kept_answer(parts, kept, g.as_core());
-            join(alloc, system, core, Op::Iff, &first, &second, cap)
-        }
-        Core::Exists(n, f) => project(
-            alloc,
-            system,
-            *n,
-            &kept_answer(parts, kept, f.as_core()),
-            cap,
-        ),
-        Core::Infinite(n, f) => count(
-            alloc,
-            system,
-            *n,
-            &kept_answer(parts, kept, f.as_core()),
-            cap,
-        ),
+    let first = kept_operand(outline, kept, f);
+    let second = kept_operand(outline, kept, g);
+    let columns = outline.columns[k].as_slice();
+    join(alloc, system, op, columns, &first, &second, cap)
+}
+
+/// Decides part k from the answers to the parts before it.
+pub fn decide_part(
+    alloc: Global,
+    system: &System,
+    outline: &Outline,
+    k: usize,
+    kept: &[Option<Last>],
+    cap: u32,
+) -> Result<Last, ExploreFault>
+    requires { IsNextPart system.now cap outline.now k kept.now }
+    ensures { IsDecision system.now (part_in outline.now k) cap result }
+{
+    match &outline.roots[k] {
+        Root::True => Ok(Last::Truth(true)),
+        Root::Atom(rel, index, x, y) => related(alloc, system, *rel, *index, *x, *y, cap),
+        Root::Nf(index, _) => normal_form(alloc, system, *index, cap),
+        Root::Is(_, term) => this_term(alloc, system, term, cap),
+        Root::Not(f) => complement(alloc, kept_answer(kept, *f)),
+        Root::And(f, g) => { join_parts(alloc, system, outline, k, Op::And, *f, *g, kept, cap) }
+        Root::Or(f, g) => join_parts(alloc, system, outline, k, Op::Or, *f, *g, kept, cap),
+        Root::Iff(f, g) => { join_parts(alloc, system, outline, k, Op::Iff, *f, *g, kept, cap) }
+        Root::Exists(n, f) => { project(alloc, system, *n, &kept_operand(outline, kept, *f), cap) }
+        Root::Infinite(n, f) => { count(alloc, system, *n, &kept_operand(outline, kept, *f), cap) }
     }
 }

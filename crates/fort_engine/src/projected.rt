@@ -1,20 +1,16 @@
 //! Projections of answers.
-ghost use Rattle.std.specs.Prelude.{◌≡◌, ◌<◌, length, true};
+ghost use Rattle.std.specs.Prelude.{◌≡◌, ◌<◌, length};
 ghost use Rattle.fort_logic.specs.Cores as theory;
-ghost use Rattle.fort_logic.specs.Parts as parts;
 ghost use Rattle.fort_tables.specs.Tables.{listed_table};
 ghost use Rattle.fort_operations.specs.Projections.{some_below};
-ghost use Rattle.fort_formulas.specs.CoreView.{as_core};
 ghost use Rattle.fort_parts.specs.PartAnswers.{OfTable};
-ghost use Rattle.fort_parts.specs.RightAnswers.{IsRightFor};
 ghost use Rattle.fort_engine.specs.AnswerView.{as_answer};
-ghost use Rattle.fort_engine.specs.Deciding.{IsDecision};
+ghost use Rattle.fort_engine.specs.Deciding.{IsBody, IsDecision};
 
 use crate::answer::Last;
 use crate::explored::explored;
 use crate::operands::{Answered, column_of};
 use fort_explore::ExploreFault;
-use fort_formulas::{Core, free};
 use fort_lockstep::{Dta, Table};
 use fort_rrn_algebra::{Project, Projecting};
 use fort_terms::System;
@@ -37,17 +33,18 @@ fn project_table(
     alloc: Global,
     system: &System,
     number: u32,
-    core: &Core,
+    columns: &[u32],
     table: &Dta,
     cap: u32,
 ) -> Result<Last, ExploreFault>
-    requires among { parts.is_free number (as_core core.now) ≡ true }
+    requires body { (f : theory.Core) × IsBody system.now number f columns.now
+        (OfTable (listed_table table.now)) }
     requires others { 1 < table.now.columns }
-    requires right { IsRightFor system.now (as_core core.now) (OfTable (listed_table table.now)) }
-    ensures { IsDecision system.now (theory.Exists number (as_core core.now)) cap result }
+    ensures { (f : theory.Core) → IsBody system.now number f columns.now
+        (OfTable (listed_table table.now))
+        → IsDecision system.now (theory.Exists number f) cap result }
 {
-    let columns = free(alloc, core)?;
-    let projection = Project::new(alloc, table, column_of(&columns, number))?;
+    let projection = Project::new(alloc, table, column_of(columns, number))?;
     explored(alloc, system, &Projecting(&projection), cap)
 }
 
@@ -59,10 +56,11 @@ pub(crate) fn project(
     body: &Answered<'_>,
     cap: u32,
 ) -> Result<Last, ExploreFault>
-    requires among { parts.is_free number (as_core body.now.core.now) ≡ true }
-    requires right { IsRightFor system.now (as_core body.now.core.now)
+    requires { (f : theory.Core) × IsBody system.now number f body.now.columns.now
         (as_answer body.now.answer.now) }
-    ensures { IsDecision system.now (theory.Exists number (as_core body.now.core.now)) cap result }
+    ensures { (f : theory.Core) → IsBody system.now number f body.now.columns.now
+        (as_answer body.now.answer.now)
+        → IsDecision system.now (theory.Exists number f) cap result }
 {
     match body.answer {
         Last::Truth(_) => unreachable!(),
@@ -70,7 +68,7 @@ pub(crate) fn project(
             if table.columns() == 1 {
                 Ok(Last::Truth(accepts_some(table)))
             } else {
-                project_table(alloc, system, number, body.core, table, cap)
+                project_table(alloc, system, number, body.columns, table, cap)
             }
         }
     }

@@ -5,7 +5,7 @@ use super::rules::IsFirst;
 use fort_explore::{ByRule, ExploreFault, explore};
 use fort_lockstep::{Dta, Table};
 use fort_rrn_algebra::{Both, Op, Operand, ProductLists, negate, permute, pure_states, widen};
-use fort_terms::{AddFault, Signature};
+use fort_terms::Signature;
 use std::alloc::Global;
 use std::test::Fail;
 
@@ -30,22 +30,22 @@ fn joined(alloc: Global, signature: &Signature) -> Result<Dta, ExploreFault>
 }
 
 /// A table that was explored.
-fn explored(table: Result<Dta, ExploreFault>) -> Result<Dta, AddFault> {
+fn explored(table: Result<Dta, ExploreFault>) -> Result<Dta, Fail> {
     match table {
         Ok(table) => Ok(table),
-        Err(_) => Err(AddFault::Memory),
+        Err(_) => Err(Fail::new("no table")),
     }
 }
 
 /// Equality over one constant.
-fn equality_table(alloc: Global) -> Result<Dta, AddFault>
+fn equality_table(alloc: Global) -> Result<Dta, Fail>
     ensures { IfOk result (λ t. t.columns ≡ 2) }
 {
     let mut signature = Signature::empty(alloc);
     signature.add(b"a", 0)?;
     match joined(alloc, &signature) {
         Ok(table) => Ok(table),
-        Err(_) => Err(AddFault::Memory),
+        Err(_) => Err(Fail::new("no table")),
     }
 }
 

@@ -6,7 +6,7 @@ ghost use Rattle.fort_witness.specs.Answers.{IsWitness};
 use super::rules::Tower;
 use fort_explore::{ByRule, explore};
 use fort_lockstep::{Dag, Dta, Table};
-use fort_terms::{AddFault, Memory, Signature};
+use fort_terms::{Memory, Signature};
 use fort_witness::{least, write_term};
 use std::alloc::Global;
 use std::test::Fail;
@@ -25,7 +25,7 @@ fn text_of(alloc: Global, table: &Dta, dag: &Dag) -> Result<Vec<u8>, Memory>
 }
 
 /// The table that accepts the terms of this height, and of greater ones.
-fn tower_table(alloc: Global, top: u64) -> Result<Dta, AddFault>
+fn tower_table(alloc: Global, top: u64) -> Result<Dta, Fail>
     ensures { IfOk result (λ t. t.columns ≡ 1) }
 {
     let mut signature = Signature::empty(alloc);
@@ -37,12 +37,12 @@ fn tower_table(alloc: Global, top: u64) -> Result<Dta, AddFault>
     };
     match explore(alloc, &signature, &ByRule(&rule), 20_000) {
         Ok(table) => Ok(table),
-        Err(_) => Err(AddFault::Memory),
+        Err(_) => Err(Fail::new("no table")),
     }
 }
 
 /// The least term of this height over a constant a and a symbol f of one argument.
-fn tower(alloc: Global, top: u64) -> Result<Vec<u8>, AddFault> {
+fn tower(alloc: Global, top: u64) -> Result<Vec<u8>, Fail> {
     let table = tower_table(alloc, top)?;
     match least(alloc, &table)? {
         Some(dag) => Ok(text_of(alloc, &table, &dag)?),

@@ -4,14 +4,14 @@ use Rattle.fort_theory.specs.Patterns.{PatternSystem}
 use Rattle.fort_logic.specs.Cores as core
 use Rattle.fort_tables.specs.Tables.{Listed, listed_table}
 use Rattle.fort_operations.specs.OperationTruth.{complemented}
-use Rattle.fort_formulas.specs.declared.core_formula.Core.{Core}
-use Rattle.fort_formulas.specs.declared.core_formula.Core.TheVariants.{True, Atom, Nf, Is, Not, And, Or, Iff, Exists, Infinite}
-use Rattle.fort_formulas.specs.CoreView.{as_core}
 use Rattle.fort_parts.specs.PartAnswers.{OfValue, OfTable}
 use Rattle.fort_parts.specs.RightAnswers.{IsRightFor}
 use Rattle.fort_parts.proofs.StepAnswers.{IsRightFor-Not-value, IsPartOver-closed}
 use Rattle.fort_in_order.specs.Dues.{has_columns, is_turned}
 use Rattle.fort_in_order.specs.Made.{Made, IsAnswerOf, Turned}
+use Rattle.fort_outline.specs.declared.root.Root.{Root}
+use Rattle.fort_outline.specs.declared.root.Root.TheVariants.{True, Atom, Nf, Is, Not, And, Or, Iff, Exists, Infinite}
+use Rattle.fort_outline.specs.Roots.{root_core}
 use Rattle.fort_engine.specs.declared.answer.Last.{Last}
 use Rattle.fort_engine.specs.declared.answer.Last.TheVariants.{Truth, Auto}
 use Rattle.fort_engine.specs.AnswerView.{as_answer}
@@ -37,14 +37,14 @@ turned_answer parts made f body table turned is same columns h =
     subst (λ t. IsAnswerOf parts made (core.Not f) (OfTable t)) (sym same) (Turned (listed_table table) columns own)
 
 -- only a negation is turned
-pub not_turned : (c : Core) → ((f : core.Core) → c ≡ Not f → ⊥) → is_turned (as_core c) ≡ true → ⊥
-not_turned True other e = absurd cc
-not_turned (Atom rel index x y) other e = absurd cc
-not_turned (Nf index x) other e = absurd cc
-not_turned (Is x t) other e = absurd cc
-not_turned (Not f) other e = other f refl
-not_turned (And f g) other e = absurd cc
-not_turned (Or f g) other e = absurd cc
-not_turned (Iff f g) other e = absurd cc
-not_turned (Exists n f) other e = absurd cc
-not_turned (Infinite n f) other e = absurd cc
+pub not_turned : (parts : List core.Core) (r : Root) → ((f : ℕ) → r ≡ Not f → ⊥) → is_turned (root_core parts r) ≡ true → ⊥
+not_turned parts True other e = absurd cc
+not_turned parts (Atom rel index x y) other e = absurd cc
+not_turned parts (Nf index x) other e = absurd cc
+not_turned parts (Is x t) other e = absurd cc
+not_turned parts (Not f) other e = other f refl
+not_turned parts (And f g) other e = absurd cc
+not_turned parts (Or f g) other e = absurd cc
+not_turned parts (Iff f g) other e = absurd cc
+not_turned parts (Exists n f) other e = absurd cc
+not_turned parts (Infinite n f) other e = absurd cc

@@ -1,24 +1,22 @@
 -- The counts of "infinitely many": those of the body's table, whose answer is kept.
 use Rattle.std.proofs.Common.{◌≡◌, ℕ, List, refl, ap, sym, ◌∙◌, subst}
-use Rattle.fort_logic.specs.Cores as core
-use Rattle.fort_logic.specs.Parts.{AreColumns}
+use Rattle.fort_logic.specs.Cores.{Core}
 use Rattle.fort_tables.specs.Tables.{Table}
 use Rattle.fort_operations.specs.Projections.{ArePure}
 use Rattle.fort_counts.specs.Counts as counts
 use Rattle.fort_counts.specs.Counts.{AreCounts}
-use Rattle.fort_formulas.specs.declared.core_formula.Core.{Core}
-use Rattle.fort_formulas.specs.declared.core_formula.Core.TheVariants.{True, Atom, Nf, Is, Not, And, Or, Iff, Exists, Infinite}
-use Rattle.fort_formulas.specs.CoreView.{as_core}
 use Rattle.fort_parts.specs.PartColumns.{columns_of, place_in}
-use Rattle.fort_parts.proofs.PartColumnLaws.{columns_of-unique}
 use Rattle.fort_in_order.specs.Made.{Made}
+use Rattle.fort_outline.specs.declared.root.Root.{Root}
+use Rattle.fort_outline.specs.declared.root.Root.TheVariants.{True, Atom, Nf, Is, Not, And, Or, Iff, Exists, Infinite}
+use Rattle.fort_outline.specs.Roots.{root_core}
 use Rattle.fort_steps.specs.declared.step.Step.{Step}
 use Rattle.fort_trace.specs.Recording.{AreMarks, CountsAdded}
 
-pub AreMarks-counts : (n : ℕ) (g : core.Core) (table : Table) (columns : List ℕ) (c : ℕ) (alone : List ℕ) (own marks : List counts.Count) → AreColumns g columns → c ≡ place_in columns n → ArePure table c alone
+pub AreMarks-counts : (n : ℕ) (g : Core) (table : Table) (columns : List ℕ) (c : ℕ) (alone : List ℕ) (own marks : List counts.Count) → columns ≡ columns_of g → c ≡ place_in columns n → ArePure table c alone
     → AreCounts table c alone own → marks ≡ own → AreMarks n g table marks
 AreMarks-counts n g table columns c alone own marks are at pure counted same =
-    let place : c ≡ place_in (columns_of g) n = at ∙ ap (λ ns. place_in ns n) (columns_of-unique g columns are) in
+    let place : c ≡ place_in (columns_of g) n = at ∙ ap (λ ns. place_in ns n) are in
     record {
       states = alone;
       pure = subst (λ i. ArePure table i alone) place pure;
@@ -26,7 +24,8 @@ AreMarks-counts n g table columns c alone own marks are at pure counted same =
     }
 
 -- no other formula has counts
-pub CountsAdded-none : (parts : List core.Core) (made : Made) (k : ℕ) (c : Core) (steps : List Step) → ((n : ℕ) (f : core.Core) → c ≡ Infinite n f → ⊥) → CountsAdded parts made k (as_core c) steps steps
+pub CountsAdded-none : (parts : List Core) (made : Made) (k : ℕ) (r : Root) (steps : List Step) → ((n f : ℕ) → r ≡ Infinite n f → ⊥)
+    → CountsAdded parts made k (root_core parts r) steps steps
 CountsAdded-none parts made k True steps other = refl
 CountsAdded-none parts made k (Atom rel index x y) steps other = refl
 CountsAdded-none parts made k (Nf index x) steps other = refl

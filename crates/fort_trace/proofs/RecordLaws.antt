@@ -31,13 +31,16 @@ use Rattle.fort_in_order_laws.proofs.CertifiedTruth.{moved_answer, asked_closure
 use Rattle.fort_in_order_laws.proofs.StepLists.{steps_append, parts_due-push}
 use Rattle.fort_in_order_laws.proofs.AnsweredParts.{AreOperandsRight, AreCountsRight, labels_of, value_of}
 use Rattle.fort_in_order_laws.proofs.StepsOfParts.{last_value-push, kept_answer, AreCountsDone, IsAnswerDone, no_counts_done, counts_done, value_done, table_done, turned_done, HasClosures-written}
+use Rattle.fort_outline.specs.declared.outline.Outline.{Outline}
+use Rattle.fort_outline.specs.Outlines.{AreLastUses, parts_in}
 use Rattle.fort_engine.specs.declared.answer.Last.{Last}
 use Rattle.fort_engine.specs.declared.answer.Last.TheVariants.{Truth, Auto}
 use Rattle.fort_engine.specs.AnswerView.{as_answer, IsLimit}
 use Rattle.fort_engine.specs.declared.answer.Limit.{Limit}
-use Rattle.fort_engine.specs.Uses.{AreLastUses, HasRightAnswer}
-use Rattle.fort_engine.specs.Deciding.{IsFit, HasOperands, IsDecision}
-use Rattle.fort_engine.proofs.DecideLaws.{IsFit-part, IsSoFar-none, HasOperands-part, IsSoFar-more, HasRightAnswer-root, none_over, IsLimit-part}
+use Rattle.fort_engine.specs.Kept.{HasRightAnswer}
+use Rattle.fort_engine.specs.Deciding.{HasOperands, part_in, IsNextPart, IsDecision}
+use Rattle.fort_outline.proofs.RootLaws.{length-cores_of}
+use Rattle.fort_engine.proofs.DecideLaws.{IsSoFar-none, IsNextPart-at, IsSoFar-more, HasRightAnswer-root, none_over, IsLimit-part}
 use Rattle.fort_steps.specs.declared.step.Step.{Step}
 use Rattle.fort_steps.specs.StepView.{as_step}
 use Rattle.fort_trace.specs.Recording.{AddsSteps, AreOperandsMade, CountsAdded, is_negation, AnswerAdded, HasRightSteps, IsReadyFor, IsPartRecorded, IsRecordedTo, IsPlanned, IsRecording}
@@ -299,52 +302,61 @@ pub IsRecording-none : (system : PatternSystem) (parts : List Core) (uses : List
     → IsRecording system parts uses cap 0 [] steps
 IsRecording-none system parts uses cap steps h = record { far = IsSoFar-none system parts uses cap; recorded = IsRecordedTo-none system parts uses steps h }
 
-module _ (system : PatternSystem) (root : Core) (parts : List Core) (place : ℕ) (uses : List ℕ) (plan : IsPlanned system root parts place uses) (cap k : ℕ) (kept : List (Option Last)) (steps : List Step)
-    (r : IsRecording system parts uses cap k kept steps) where
-  module _ (within : k < length parts) where
-    pub IsFit-next : IsFit system (get_or parts k core.True)
-    IsFit-next = IsFit-part system root parts k plan.decided plan.are within
+module _ (system : PatternSystem) (root : Core) (o : Outline) (plan : IsPlanned system root o) (cap k : ℕ) (kept : List (Option Last)) (steps : List Step)
+    (r : IsRecording system (parts_in o) o.last_uses.items cap k kept steps) where
+  low_part : k < length o.roots.items → k < length (parts_in o)
+  low_part within = omega (arith, length-cores_of o.roots.items)
 
-    pub HasOperands-next : HasOperands system cap parts kept (get_or parts k core.True)
-    HasOperands-next = HasOperands-part system root parts plan.are place uses plan.last cap k kept r.far within
+  module _ (within : k < length o.roots.items) where
+    pub IsNextPart-next : IsNextPart system cap o k kept
+    IsNextPart-next = IsNextPart-at system root o plan.decided plan.laid cap k kept r.far within
 
-    pub IsReadyFor-next : IsReadyFor system root parts k kept r.recorded.made
-    IsReadyFor-next = IsReadyFor-part system root plan.decided parts plan.are place uses plan.last k kept steps r.far.kept_are.count r.recorded within
+    pub IsReadyFor-next : IsReadyFor system root (parts_in o) k kept r.recorded.made
+    IsReadyFor-next =
+        IsReadyFor-part system root plan.decided (parts_in o) plan.laid.parts o.whole o.last_uses.items plan.laid.uses k kept steps r.far.kept_are.count r.recorded (low_part within)
 
-    pub IsRecording-more : (answer : Last) → IsDecision system (get_or parts k core.True) cap (Ok answer) → (new : List Step) → IsPartRecorded system parts k r.recorded.made answer steps new
+    pub IsRecording-more : (answer : Last) → IsDecision system (part_in o k) cap (Ok answer) → (new : List Step) → IsPartRecorded system (parts_in o) k r.recorded.made answer steps new
         → (less : List (Option Last)) → length less ≡ length (kept ++ Some answer ∷ [])
-        → ((j : ℕ) → j < length (kept ++ Some answer ∷ []) → k < get_or uses j 0 → get_or less j None ≡ get_or (kept ++ Some answer ∷ []) j None)
-        → IsRecording system parts uses cap (k + 1) less new
+        → ((j : ℕ) → j < length (kept ++ Some answer ∷ []) → k < get_or o.last_uses.items j 0 → get_or less j None ≡ get_or (kept ++ Some answer ∷ []) j None)
+        → IsRecording system (parts_in o) o.last_uses.items cap (k + 1) less new
     IsRecording-more answer decided new part less count needed = record {
-      far = IsSoFar-more system root parts plan.are place uses plan.last cap k kept r.far answer less decided.ok decided.within count needed;
-      recorded = IsRecordedTo-more system root plan.decided parts plan.are place uses plan.last k kept steps r.far.kept_are.count r.recorded within answer decided.ok new part less
-          (λ j l m. needed j (omega (arith, length-append kept (Some answer ∷ []), r.far.kept_are.count)) m);
+      far = IsSoFar-more system root (parts_in o) plan.laid.parts o.whole o.last_uses.items plan.laid.uses cap k kept r.far answer less decided.ok decided.within count needed;
+      recorded = IsRecordedTo-more system root plan.decided (parts_in o) plan.laid.parts o.whole o.last_uses.items plan.laid.uses k kept steps r.far.kept_are.count r.recorded
+          (low_part within) answer decided.ok new part less (λ j l m. needed j (omega (arith, length-append kept (Some answer ∷ []), r.far.kept_are.count)) m);
     }
 
-    pub IsLimit-next : (limit : Limit) → limit.part ≡ k → as_kind limit.kind ≡ kind_of (get_or parts k core.True) → HasTooMany system (get_or parts k core.True) cap limit.tuples → IsLimit system root cap limit
-    IsLimit-next limit at kind many = IsLimit-part system root parts plan.are place uses plan.last cap k kept r.far limit within at kind many
+    pub IsLimit-next : (limit : Limit) → limit.part ≡ k → as_kind limit.kind ≡ kind_of (part_in o k) → HasTooMany system (part_in o k) cap limit.tuples → IsLimit system root cap limit
+    IsLimit-next limit at kind many =
+        IsLimit-part system root (parts_in o) plan.laid.parts o.whole o.last_uses.items plan.laid.uses cap k kept r.far limit (low_part within) at kind many
 
-  module _ (end : k ≡ length parts) (low : place < length parts) (is : get_or parts place core.True ≡ root) where
-    pub taken_right : HasRightAnswer system root (get_or kept place None)
-    taken_right = HasRightAnswer-root system root parts plan.are place uses plan.last cap k kept r.far end low is
+  module _ (all : k ≡ length o.roots.items) where
+    end : k ≡ length (parts_in o)
+    end = all ∙ sym (length-cores_of o.roots.items)
+
+    low : o.whole < length (parts_in o)
+    low = omega (arith, plan.laid.within, length-cores_of o.roots.items)
+
+    pub taken_right : HasRightAnswer system root (get_or kept o.whole None)
+    taken_right = HasRightAnswer-root system root (parts_in o) plan.laid.parts o.whole o.last_uses.items plan.laid.uses cap k kept r.far end low plan.laid.whole_is
 
     pub none_over_end : (ps : List Core) (j : ℕ) → AreParts root ps → j < length ps → IsPartOver system (get_or ps j core.True) cap → ⊥
-    none_over_end ps j also l over = none_over system root parts plan.are place uses plan.last cap k kept r.far end ps j also l over
+    none_over_end ps j also l over = none_over system root (parts_in o) plan.laid.parts o.whole o.last_uses.items plan.laid.uses cap k kept r.far end ps j also l over
 
     -- the root is the last part
-    root_last : (n : ℕ) → length parts ≡ suc n → place ≡ n
+    root_last : (n : ℕ) → length (parts_in o) ≡ suc n → o.whole ≡ n
     root_last n e =
-        let at = last_part root parts plan.are n e in
-        part_one root parts plan.are root place n (low, is) (omega arith, at)
+        let at = last_part root (parts_in o) plan.laid.parts n e in
+        part_one root (parts_in o) plan.laid.parts root o.whole n (low, plan.laid.whole_is) (omega arith, at)
 
-    pub IsWritten-root : (v : Bool) → get_or kept place None ≡ Some (Truth v) → (first : ℕ) → IsWritten system root (record { first = first; verdict = v; steps = map as_step steps })
+    pub IsWritten-root : (v : Bool) → get_or kept o.whole None ≡ Some (Truth v) → (first : ℕ) → IsWritten system root (record { first = first; verdict = v; steps = map as_step steps })
     IsWritten-root v e first =
-        let next : place + 1 ≡ k = by (length parts) refl in
-        IsWritten-end system root plan.decided parts plan.are place uses plan.last k kept steps r.far.kept_are.count r.recorded end place v next (omega (arith, plan.last.root_is)) e steps refl first
+        let next : o.whole + 1 ≡ k = by (length (parts_in o)) refl in
+        IsWritten-end system root plan.decided (parts_in o) plan.laid.parts o.whole o.last_uses.items plan.laid.uses k kept steps r.far.kept_are.count r.recorded end o.whole v next
+        (omega (arith, end, plan.laid.uses.whole_is)) e steps refl first
       where
-        by : (n : ℕ) → length parts ≡ n → place + 1 ≡ k
-        by zero e = absurd (omega arith)
-        by (suc n) e = let at = root_last n e in omega arith
+        by : (n : ℕ) → length (parts_in o) ≡ n → o.whole + 1 ≡ k
+        by zero e = absurd (omega (arith, low))
+        by (suc n) e = let at = root_last n e in omega (arith, end)
 
 -- a closed formula has a truth
 pub no_table : (system : PatternSystem) (f : Core) (taken : Option Last) (table : Listed) → IsClosed f → HasRightAnswer system f taken → taken ≡ Some (Auto table) → ⊥

@@ -18,10 +18,11 @@ use Rattle.fort_in_order.specs.Made.{Made, nothing_made, IsAnswerOf}
 use Rattle.fort_in_order.specs.Checked.{AreSteps, last_value}
 use Rattle.fort_in_order.specs.Written.{IsWrittenStep}
 use Rattle.fort_in_order_laws.proofs.FineSteps.{HasClosures}
+use Rattle.fort_outline.specs.declared.outline.Outline.{Outline}
+use Rattle.fort_outline.specs.Outlines.{IsOutlineOf}
 use Rattle.fort_engine.specs.declared.answer.Last.{Last}
 use Rattle.fort_engine.specs.declared.answer.Last.TheVariants.{Truth, Auto}
 use Rattle.fort_engine.specs.AnswerView.{as_answer}
-use Rattle.fort_engine.specs.Uses.{AreLastUses}
 use Rattle.fort_engine.proofs.DecideLaws.{IsSoFar}
 use Rattle.fort_steps.specs.declared.step.Step.{Step}
 use Rattle.fort_steps.specs.StepView.{as_step}
@@ -121,12 +122,11 @@ pub record IsRecordedTo (system : PatternSystem) (parts : List Core) (uses : Lis
       → IsAnswerOf parts made (get_or parts j core.True) (as_answer a)
   pub value : (j : ℕ) (v : Bool) → j + 1 ≡ k → k ≤ get_or uses j 0 → get_or kept j None ≡ Some (Truth v) → last_value (map as_step steps) ≡ Some v
 
--- the parts of a formula to be decided, numbered by 32 bits, with their last uses
-pub record IsPlanned (system : PatternSystem) (root : Core) (parts : List Core) (place : ℕ) (uses : List ℕ) : Type 0 where
+-- the outline of a formula to be decided, whose parts are numbered by 32 bits
+pub record IsPlanned (system : PatternSystem) (root : Core) (outline : Outline) : Type 0 where
   pub decided : IsDecided system root
-  pub are : AreParts root parts
-  pub last : AreLastUses parts place uses
-  pub few : length parts < 2 ^ 32
+  pub laid : IsOutlineOf root outline
+  pub few : length outline.roots.items < 2 ^ 32
 
 -- the first k parts are decided and recorded
 pub record IsRecording (system : PatternSystem) (parts : List Core) (uses : List ℕ) (cap k : ℕ) (kept : List (Option Last)) (steps : List Step) : Type 0 where

@@ -1,8 +1,10 @@
 //! The closures that the parts of a formula ask for, as steps.
-ghost use Rattle.std.specs.Prelude.{◌≡◌, ◌++◌, map, length, IfOk, OnOk};
+ghost use Rattle.std.specs.Prelude.{◌≡◌, List, ◌++◌, map, length, IfOk, OnOk};
 ghost use Rattle.std.specs.List.{list_any};
 ghost use Rattle.fort_theory.specs.Sides.{IsIndexOf};
-ghost use Rattle.fort_formulas.specs.CoreView.{as_core, as_rel};
+ghost use Rattle.fort_logic.specs.Cores as theory;
+ghost use Rattle.fort_formulas.specs.CoreView.{as_rel};
+ghost use Rattle.fort_outline.specs.Roots.{root_core, cores_of};
 ghost use Rattle.fort_certificate_grammar.specs.Certificates.{Star, Conv};
 ghost use Rattle.fort_in_order.specs.ClosureSteps.{relation_of};
 ghost use Rattle.fort_in_order.specs.Dues as dues;
@@ -14,8 +16,9 @@ ghost use Rattle.fort_written_closures.specs.ItemView as items;
 ghost use Rattle.fort_trace.specs.Recording.{AddsSteps};
 
 use fort_context_closure::AtomLabels;
-use fort_formulas::{Core, Rel};
+use fort_formulas::Rel;
 use fort_gtt_closure::{Entry, Why};
+use fort_outline::Root;
 use fort_steps::{ClosureEntry, Reason, Step, Which};
 use fort_terms::{Memory, System};
 use std::alloc::Global;
@@ -30,24 +33,25 @@ fn reads(which: Which, rel: Rel) -> bool
     }
 }
 
-/// Whether a formula asks for the closure of an index.
-fn asks(which: Which, index: u32, core: &Core) -> bool
-    ensures { result ≡ dues.asks (as_which which) index (as_core core.now) }
+/// Whether a formula with this root asks for the closure of an index.
+fn asks(which: Which, index: u32, root: &Root) -> bool
+    ensures { (parts : List theory.Core)
+        → result ≡ dues.asks (as_which which) index (root_core parts root.now) }
 {
-    match core {
-        Core::Atom(rel, own, _, _) => reads(which, *rel) && *own == index,
-        Core::True | Core::Nf(_, _) | Core::Is(_, _) => false,
-        Core::Not(_) | Core::Exists(_, _) | Core::Infinite(_, _) => false,
-        Core::And(_, _) | Core::Or(_, _) | Core::Iff(_, _) => false,
+    match root {
+        Root::Atom(rel, own, _, _) => reads(which, *rel) && *own == index,
+        Root::True | Root::Nf(_, _) | Root::Is(_, _) => false,
+        Root::Not(_) | Root::Exists(_, _) | Root::Infinite(_, _) => false,
+        Root::And(_, _) | Root::Or(_, _) | Root::Iff(_, _) => false,
     }
 }
 
 /// Whether some part does.
-fn some_asks(which: Which, index: u32, parts: &[Core]) -> bool
-    ensures { result ≡ list_any (dues.asks (as_which which) index) (map as_core parts.now) }
+fn some_asks(which: Which, index: u32, roots: &[Root]) -> bool
+    ensures { result ≡ list_any (dues.asks (as_which which) index) (cores_of roots.now) }
 {
-    for part in parts {
-        if asks(which, index, part) {
+    for root in roots {
+        if asks(which, index, root) {
             return true;
         }
     }
@@ -111,17 +115,17 @@ fn closure(
 fn push_closure(
     alloc: Global,
     system: &System,
-    parts: &[Core],
+    roots: &[Root],
     which: Which,
     index: u32,
     steps: &mut Vec<Step>,
 ) -> Result<(), Memory>
     requires { IsIndexOf system.now.rules index }
-    ensures { OnOk result ((made : Made) → AddsSteps system.now (map as_core parts.now) made
-        (closure_due (map as_core parts.now) index (as_which which))
+    ensures { OnOk result ((made : Made) → AddsSteps system.now (cores_of roots.now) made
+        (closure_due (cores_of roots.now) index (as_which which))
         steps.old.items steps.new.items) }
 {
-    if !some_asks(which, index, parts) {
+    if !some_asks(which, index, roots) {
         return Ok(());
     }
     let entries = closure(alloc, system, which, index)?;
@@ -133,17 +137,17 @@ fn push_closure(
 fn push_both(
     alloc: Global,
     system: &System,
-    parts: &[Core],
+    roots: &[Root],
     index: u32,
     steps: &mut Vec<Step>,
 ) -> Result<(), Memory>
     requires { IsIndexOf system.now.rules index }
-    ensures { OnOk result ((made : Made) → AddsSteps system.now (map as_core parts.now) made
-        (closure_due (map as_core parts.now) index Star
-        ++ closure_due (map as_core parts.now) index Conv) steps.old.items steps.new.items) }
+    ensures { OnOk result ((made : Made) → AddsSteps system.now (cores_of roots.now) made
+        (closure_due (cores_of roots.now) index Star
+        ++ closure_due (cores_of roots.now) index Conv) steps.old.items steps.new.items) }
 {
-    push_closure(alloc, system, parts, Which::Star, index, steps)?;
-    push_closure(alloc, system, parts, Which::Conv, index, steps)?;
+    push_closure(alloc, system, roots, Which::Star, index, steps)?;
+    push_closure(alloc, system, roots, Which::Conv, index, steps)?;
     Ok(())
 }
 
@@ -151,15 +155,15 @@ fn push_both(
 pub(crate) fn push_closures(
     alloc: Global,
     system: &System,
-    parts: &[Core],
+    roots: &[Root],
     steps: &mut Vec<Step>,
 ) -> Result<(), Memory>
-    ensures { OnOk result ((made : Made) → AddsSteps system.now (map as_core parts.now) made
-        (closures_due (map as_core parts.now) (length system.now.rules) 1)
+    ensures { OnOk result ((made : Made) → AddsSteps system.now (cores_of roots.now) made
+        (closures_due (cores_of roots.now) (length system.now.rules) 1)
         steps.old.items steps.new.items) }
 {
     for i in 0..system.number() {
-        push_both(alloc, system, parts, i + 1, steps)?;
+        push_both(alloc, system, roots, i + 1, steps)?;
     }
     Ok(())
 }

@@ -1,23 +1,22 @@
 //! The counts of "infinitely many", as steps.
-ghost use Rattle.std.specs.Prelude.{◌≡◌, ◌<◌, ◌≤◌, ℕ, true, map, length, slice_index_or, IfOk, OnOk};
+ghost use Rattle.std.specs.Prelude.{◌≡◌, ℕ, List, map, IfOk, OnOk};
 ghost use Rattle.fort_theory.specs.Patterns.{PatternSystem};
 ghost use Rattle.fort_logic.specs.Cores as theory;
-ghost use Rattle.fort_logic.specs.Parts as logic;
 ghost use Rattle.fort_tables.specs.Tables.{listed_table};
-ghost use Rattle.fort_formulas.specs.CoreView.{as_core};
 ghost use Rattle.fort_infinity.specs.CountView as counted;
 ghost use Rattle.fort_parts.specs.PartAnswers.{OfTable};
-ghost use Rattle.fort_parts.specs.RightAnswers.{IsRightFor};
-ghost use Rattle.fort_in_order.specs.Made.{Made};
-ghost use Rattle.fort_engine.specs.Deciding.{IsFit, IsAnswered, HasOperands};
+ghost use Rattle.fort_parts.specs.PartColumns.{columns_of};
+ghost use Rattle.fort_in_order.specs.Made.{Made, IsAnswerOf};
+ghost use Rattle.fort_outline.specs.Outlines.{parts_in};
+ghost use Rattle.fort_engine.specs.AnswerView.{as_answer};
+ghost use Rattle.fort_engine.specs.Deciding.{part_in, IsNextPart, IsBody};
 ghost use Rattle.fort_steps.specs.StepView.{as_count};
-ghost use Rattle.fort_trace.specs.Recording.{AreMarks, AreMarksMade, IsKeptMade, AreOperandsMade, CountsAdded};
+ghost use Rattle.fort_trace.specs.Recording.{AreMarks, AreMarksMade, AreOperandsMade, CountsAdded};
 
-use crate::answers::kept_answer;
-use fort_engine::{Last, column_of};
-use fort_formulas::{Core, free};
+use fort_engine::{Last, column_of, kept_answer};
 use fort_infinity::{Count, pure_counts};
 use fort_lockstep::{Dta, Table};
+use fort_outline::{Outline, Root};
 use fort_rrn_algebra::pure_states;
 use fort_steps::{Count as Mark, Step};
 use fort_terms::Memory;
@@ -42,43 +41,37 @@ fn marks(alloc: Global, counts: &[Count]) -> Result<Vec<Mark>, Memory>
     Ok(marks)
 }
 
-/// The marks of the states of a formula's table in which this variable alone is present.
-fn marks_of(alloc: Global, number: u32, core: &Core, table: &Dta) -> Result<Vec<Mark>, Memory>
-    requires among { logic.is_free number (as_core core.now) ≡ true }
-    requires right { (system : PatternSystem)
-        × IsRightFor system (as_core core.now) (OfTable (listed_table table.now)) }
-    ensures { IfOk result (λ marks. AreMarks number (as_core core.now) (listed_table table.now)
-        (map as_count marks.items)) }
+/// The marks of the states of a table over these columns in which this variable alone is present.
+fn marks_of(alloc: Global, number: u32, columns: &[u32], table: &Dta) -> Result<Vec<Mark>, Memory>
+    requires { (system : PatternSystem) × (f : theory.Core)
+        × IsBody system number f columns.now (OfTable (listed_table table.now)) }
+    ensures { IfOk result (λ marks. (f : theory.Core) → columns.now ≡ columns_of f
+        → AreMarks number f (listed_table table.now) (map as_count marks.items)) }
 {
-    let columns = free(alloc, core)?;
-    let column = column_of(&columns, number);
+    let column = column_of(columns, number);
     let alone = pure_states(alloc, table, column)?;
     let counts = pure_counts(alloc, table, column, &alone)?;
     let listed = marks(alloc, &counts)?;
     Ok(listed)
 }
 
-/// The marks of the body of "infinitely many", whose answer is kept.
+/// The marks of the body of "infinitely many", which has this answer.
 fn body_marks(
     alloc: Global,
-    parts: &[Core],
-    kept: &[Option<Last>],
     number: u32,
-    body: &Core,
+    columns: &[u32],
+    answer: &Last,
 ) -> Result<Vec<Mark>, Memory>
-    requires few { length kept.now ≤ length parts.now }
-    requires among { logic.is_free number (as_core body.now) ≡ true }
-    requires there { (system : PatternSystem) × (cap : ℕ)
-        × IsAnswered system cap (map as_core parts.now) kept.now (as_core body.now) }
-    ensures { IfOk result (λ marks. (made : Made)
-        → IsKeptMade (map as_core parts.now) made kept.now (as_core body.now)
-        → AreMarksMade (map as_core parts.now) made number (as_core body.now)
-        (map as_count marks.items)) }
+    requires { (system : PatternSystem) × (f : theory.Core)
+        × IsBody system number f columns.now (as_answer answer.now) }
+    ensures { IfOk result (λ marks. (parts : List theory.Core) (made : Made) (f : theory.Core)
+        → columns.now ≡ columns_of f → IsAnswerOf parts made f (as_answer answer.now)
+        → AreMarksMade parts made number f (map as_count marks.items)) }
 {
-    match kept_answer(parts, kept, body) {
+    match answer {
         Last::Truth(_) => unreachable!(),
         Last::Auto(table) => {
-            let marks = marks_of(alloc, number, body, table)?;
+            let marks = marks_of(alloc, number, columns, table)?;
             Ok(marks)
         }
     }
@@ -87,25 +80,20 @@ fn body_marks(
 /// The step of the counts of part k, where it is one of "infinitely many".
 pub(crate) fn push_counts(
     alloc: Global,
-    parts: &[Core],
+    outline: &Outline,
     kept: &[Option<Last>],
     k: u32,
     steps: &mut Vec<Step>,
 ) -> Result<(), Memory>
-    requires few { length kept.now ≤ length parts.now }
-    requires within { k < length parts.now }
-    requires ready { (system : PatternSystem) × (cap : ℕ)
-        × IsFit system (slice_index_or (map as_core parts.now) k theory.True)
-        × HasOperands system cap (map as_core parts.now) kept.now
-        (slice_index_or (map as_core parts.now) k theory.True) }
+    requires { (system : PatternSystem) × (cap : ℕ) × IsNextPart system cap outline.now k kept.now }
     ensures { OnOk result ((made : Made)
-        → AreOperandsMade (map as_core parts.now) made kept.now
-        (slice_index_or (map as_core parts.now) k theory.True)
-        → CountsAdded (map as_core parts.now) made k
-        (slice_index_or (map as_core parts.now) k theory.True) steps.old.items steps.new.items) }
+        → AreOperandsMade (parts_in outline.now) made kept.now (part_in outline.now k)
+        → CountsAdded (parts_in outline.now) made k (part_in outline.now k)
+        steps.old.items steps.new.items) }
 {
-    if let Core::Infinite(number, body) = &parts[k as usize] {
-        let marks = body_marks(alloc, parts, kept, *number, body.as_core())?;
+    if let Root::Infinite(number, body) = &outline.roots[k as usize] {
+        let columns = outline.columns[*body].as_slice();
+        let marks = body_marks(alloc, *number, columns, kept_answer(kept, *body))?;
         steps.push(Step::Counts(k, marks))?;
     }
     Ok(())

@@ -1,5 +1,5 @@
 //! Decides a formula, each of its parts in turn, and records the steps.
-ghost use Rattle.std.specs.Prelude.{ℕ, ◌<◌, ◌≤◌, List, map, length, slice_index_or, [], None, IfOk, IfErr, OnOk};
+ghost use Rattle.std.specs.Prelude.{ℕ, ◌<◌, List, length, slice_index_or, [], IfOk, IfErr, OnOk};
 ghost use Rattle.fort_logic.specs.Cores as theory;
 ghost use Rattle.fort_logic.specs.Parts as logic;
 ghost use Rattle.fort_logic.specs.PartLists.{AreParts};
@@ -12,16 +12,18 @@ ghost use Rattle.fort_in_order.specs.Dues.{closures_due};
 ghost use Rattle.fort_in_order.specs.Made.{Made, nothing_made};
 ghost use Rattle.fort_in_order.specs.Written.{IsWritten};
 ghost use Rattle.fort_engine.specs.AnswerView.{IfOver, IsLimit};
-ghost use Rattle.fort_engine.specs.Deciding.{IsFit, HasOperands, IsDecision};
+ghost use Rattle.fort_outline.specs.Outlines.{parts_in};
+ghost use Rattle.fort_engine.specs.Deciding.{part_in, IsNextPart, IsDecision};
 ghost use Rattle.fort_trace.specs.Recording.{AddsSteps, IsPlanned, IsReadyFor, IsPartRecorded, IsRecording};
 ghost use Rattle.fort_trace.specs.RecordedView.{as_certificate};
 
 use crate::answers::{next_answer, push_answer};
 use crate::closures::push_closures;
 use crate::counts::push_counts;
-use fort_engine::{EngineFault, Last, Limit, drop_idle, last_uses, place_of};
+use fort_engine::{EngineFault, Last, Limit, drop_idle};
 use fort_explore::ExploreFault;
-use fort_formulas::{Core, kind, parts};
+use fort_formulas::Core;
+use fort_outline::Outline;
 use fort_steps::Step;
 use fort_terms::{System, has_numbers};
 use std::alloc::Global;
@@ -37,30 +39,24 @@ pub struct Recorded {
 fn record_part(
     alloc: Global,
     system: &System,
-    parts: &[Core],
+    outline: &Outline,
     kept: &[Option<Last>],
     k: u32,
     cap: u32,
     steps: &mut Vec<Step>,
 ) -> Result<Last, ExploreFault>
-    requires few { length kept.now ≤ length parts.now }
-    requires within { k < length parts.now }
-    requires fit { IsFit system.now (slice_index_or (map as_core parts.now) k theory.True) }
-    requires operands { HasOperands system.now cap (map as_core parts.now) kept.now
-        (slice_index_or (map as_core parts.now) k theory.True) }
-    ensures decided { IsDecision system.now
-        (slice_index_or (map as_core parts.now) k theory.True) cap result }
+    requires { IsNextPart system.now cap outline.now k kept.now }
+    ensures decided { IsDecision system.now (part_in outline.now k) cap result }
     ensures recorded { IfOk result (λ a. (root : theory.Core) (made : Made)
-        → IsReadyFor system.now root (map as_core parts.now) k kept.now made
-        → IsPartRecorded system.now (map as_core parts.now) k made a
+        → IsReadyFor system.now root (parts_in outline.now) k kept.now made
+        → IsPartRecorded system.now (parts_in outline.now) k made a
         steps.old.items steps.new.items) }
 {
     // A system keeps to the law of systems.
     let _lawful = system.signature();
-    push_counts(alloc, parts, kept, k, steps)?;
-    let core = &parts[k as usize];
-    let answer = next_answer(alloc, system, core, parts, kept, cap)?;
-    push_answer(alloc, k, core, &answer, steps)?;
+    push_counts(alloc, outline, kept, k, steps)?;
+    let answer = next_answer(alloc, system, outline, k as usize, kept, cap)?;
+    push_answer(alloc, k, &outline.roots[k as usize], &answer, steps)?;
     Ok(answer)
 }
 
@@ -68,35 +64,33 @@ fn record_part(
 fn record_parts(
     alloc: Global,
     system: &System,
-    parts: &[Core],
-    uses: &[usize],
+    outline: &Outline,
     cap: u32,
     steps: &mut Vec<Step>,
 ) -> Result<Vec<Option<Last>>, EngineFault>
-    requires planned { (root : theory.Core) × (place : ℕ)
-        × IsPlanned system.now root (map as_core parts.now) place uses.now }
-    requires begun { AddsSteps system.now (map as_core parts.now) nothing_made
-        (closures_due (map as_core parts.now) (length system.now.rules) 1) [] steps.old.items }
-    ensures done { IfOk result (λ kept. IsRecording system.now (map as_core parts.now) uses.now cap
-        (length parts.now) kept.items steps.new.items) }
-    ensures over { IfErr result (λ e. (root : theory.Core) (place : ℕ)
-        → IsPlanned system.now root (map as_core parts.now) place uses.now
-        → IfOver e (IsLimit system.now root cap)) }
+    requires planned { (root : theory.Core) × IsPlanned system.now root outline.now }
+    requires begun { AddsSteps system.now (parts_in outline.now) nothing_made
+        (closures_due (parts_in outline.now) (length system.now.rules) 1) [] steps.old.items }
+    ensures done { IfOk result (λ kept. IsRecording system.now (parts_in outline.now)
+        outline.now.last_uses.items cap (length outline.now.roots.items) kept.items
+        steps.new.items) }
+    ensures over { IfErr result (λ e. (root : theory.Core)
+        → IsPlanned system.now root outline.now → IfOver e (IsLimit system.now root cap)) }
 {
     let mut kept: Vec<Option<Last>> = Vec::new(alloc);
-    for k in 0..parts.len() {
-        match record_part(alloc, system, parts, &kept, k as u32, cap, steps) {
+    for k in 0..outline.roots.len() {
+        match record_part(alloc, system, outline, &kept, k as u32, cap, steps) {
             Ok(answer) => kept.push(Some(answer))?,
             Err(ExploreFault::Memory) => return Err(EngineFault::Memory),
             Err(ExploreFault::Over(tuples)) => {
                 return Err(EngineFault::Over(Limit {
                     part: k,
-                    kind: kind(&parts[k]),
+                    kind: outline.roots[k].kind(),
                     tuples,
                 }));
             }
         }
-        drop_idle(&mut kept, uses, k);
+        drop_idle(&mut kept, outline, k);
     }
     Ok(kept)
 }
@@ -120,19 +114,17 @@ pub fn decide_with_steps(
         → IsPartOver system.now (slice_index_or ps k theory.True) cap → ⊥) }
     ensures over { IfErr result (λ e. IfOver e (IsLimit system.now (as_core core.now) cap)) }
 {
-    let all = parts(alloc, core)?;
-    if !has_numbers(all.len()) {
+    let outline = Outline::new(alloc, core)?;
+    if !has_numbers(outline.roots.len()) {
         return Err(EngineFault::Memory);
     }
-    let root = place_of(&all, core, all.len());
-    let uses = last_uses(alloc, &all, root)?;
     let mut steps = Vec::new(alloc);
-    push_closures(alloc, system, &all, &mut steps)?;
-    let mut kept = match record_parts(alloc, system, &all, &uses, cap, &mut steps) {
+    push_closures(alloc, system, &outline.roots, &mut steps)?;
+    let mut kept = match record_parts(alloc, system, &outline, cap, &mut steps) {
         Ok(kept) => kept,
         Err(fault) => return Err(fault),
     };
-    match kept.swap_remove(root) {
+    match kept.swap_remove(outline.whole) {
         Some(Last::Truth(verdict)) => Ok(Recorded { verdict, steps }),
         Some(Last::Auto(_)) => unreachable!(),
         None => unreachable!(),

@@ -18,7 +18,7 @@ loop-k-preserved c scratch has = λ j d l.
     (λ (m : j < k). c.loop-k.invariant scratch (more_room c.max-needs.ensures.own has) j d m)
     (λ (m : k ≤ j).
     let same : k ≡ j = omega (arith, l) in
-    let own = c.in_ok-label_needs.ensures scratch (more_room c.max-needs.ensures.other has) in
+    let own = c.in-Some.ensures.some scratch (more_room c.max-needs.ensures.other has) in
     let is = get_or_default c.args.plans.now k d c.index-plans-k.result (omega (arith, c.loop-k-test.true)) ∙ sym c.index-plans-k.is in
     subst (λ (i : ℕ). IsScratchFor (map as_step c.args.steps.now) i (get_or c.args.plans.now i d) scratch) same
     (subst (λ (p : Plan). IsScratchFor (map as_step c.args.steps.now) k p scratch) (sym is) own))

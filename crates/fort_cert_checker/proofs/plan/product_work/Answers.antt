@@ -1,25 +1,23 @@
-use Rattle.std.proofs.Common.{map}
-use Rattle.fort_formulas.specs.CoreView.{as_core}
+use Rattle.std.proofs.Common.{sym, subst}
+use Rattle.std.specs.Prelude.{Contains}
+use Rattle.fort_logic.specs.Cores.{Core}
+use Rattle.fort_parts.specs.PartColumns.{columns_of}
 use Rattle.fort_rrn_algebra.specs.Operands.{connective_of}
-use Rattle.fort_cert_checker.proofs.JoinFits.{first_among, second_among, first_columns, second_columns}
+use Rattle.fort_cert_checker.specs.Sources.{core_at}
+use Rattle.fort_cert_checker.proofs.JoinFits.{joined_first, joined_second}
 use Rattle.fort_cert_checker.proofs.plan.product_work.Goals as goal
 
-pub operand_plan-requires-clause-there : goal.operand_plan-requires-clause-there
-operand_plan-requires-clause-there c =
-    let a = c.args in
-    first_among c.requires.parts.root (map as_core a.parts.now) c.requires.parts.are (connective_of a.op) (as_core a.first.now) (as_core a.second.now) c.requires.whole
+pub operand_plan-requires-clause-columns : goal.operand_plan-requires-clause-columns
+operand_plan-requires-clause-columns c = λ n own.
+    let o = c.args.outline.now in
+    subst (λ (h : Core). Contains (columns_of h) n) (sym c.requires.whole) (joined_first (connective_of c.args.op) (core_at o c.args.first) (core_at o c.args.second) n own)
 
-pub operand_plan-requires-clause-within : goal.operand_plan-requires-clause-within
-operand_plan-requires-clause-within c =
-    let a = c.args in
-    first_columns (connective_of a.op) (as_core a.first.now) (as_core a.second.now) a.columns.now c.requires.columns
+pub operand_plan-requires-2-clause-columns : goal.operand_plan-requires-2-clause-columns
+operand_plan-requires-2-clause-columns c = λ n own.
+    let o = c.args.outline.now in
+    subst (λ (h : Core). Contains (columns_of h) n) (sym c.requires.whole) (joined_second (connective_of c.args.op) (core_at o c.args.first) (core_at o c.args.second) n own)
 
-pub operand_plan-requires-2-clause-there : goal.operand_plan-requires-2-clause-there
-operand_plan-requires-2-clause-there c =
-    let a = c.args in
-    second_among c.requires.parts.root (map as_core a.parts.now) c.requires.parts.are (connective_of a.op) (as_core a.first.now) (as_core a.second.now) c.requires.whole
-
-pub operand_plan-requires-2-clause-within : goal.operand_plan-requires-2-clause-within
-operand_plan-requires-2-clause-within c =
-    let a = c.args in
-    second_columns (connective_of a.op) (as_core a.first.now) (as_core a.second.now) a.columns.now c.requires.columns
+pub returns : goal.returns
+returns c = λ system ss i.
+    let o = c.args.outline.now in
+    record { one = core_at o c.args.first; other = core_at o c.args.second; whole = c.requires.whole; one_is = c.in_ok-first.ensures; other_is = c.in_ok-second.ensures }

@@ -1,18 +1,159 @@
-use Rattle.std.proofs.Common.{map, ap}
-use Rattle.fort_formulas.specs.CoreView.{as_core}
-use Rattle.fort_cert_checker.proofs.SourceLaws.{negation_among, exists_among, infinite_among}
+use Rattle.std.proofs.Common.{map, sym, subst, arith}
+use Rattle.std.proofs.lemmas.Result.{IfOk-weaker}
+use Rattle.fort_logic.specs.Cores.{Core}
+use Rattle.fort_logic.specs.Parts.{BindsFree}
+use Rattle.fort_parts.specs.DecidedCores.{IsOverSystem}
+use Rattle.fort_parts.proofs.PartColumnLaws.{column-from_free}
+use Rattle.fort_outline.specs.Outlines.{parts_in}
+use Rattle.fort_steps.specs.StepView.{as_step}
+use Rattle.fort_check_steps.proofs.OutlineLaws.{part_is, over_is}
+use Rattle.fort_cert_checker.specs.Sources.{core_at}
+use Rattle.fort_cert_checker.specs.Plans.{IsRelationPlan, IsWorkOf}
 use Rattle.fort_cert_checker.proofs.plan.work_of.Goals as goal
 
-pub source_of-requires-clause-there : goal.source_of-requires-clause-there
-source_of-requires-clause-there c =
-    negation_among (map as_core c.args.parts.now) (as_core c.args.core.now) c.in-Not.f (as_core c.as_core.result.now) c.requires.parts.root c.requires.parts.are (ap as_core c.in-Not.is) c.as_core.ensures c.requires.there
+pub index-requires : goal.index-requires
+index-requires c = omega (arith, c.requires.within, c.args.outline.now.roots.ok.0)
 
-pub source_of-requires-in-Exists-clause-there : goal.source_of-requires-in-Exists-clause-there
-source_of-requires-in-Exists-clause-there c =
-    exists_among (map as_core c.args.parts.now) (as_core c.args.core.now) c.in-Exists.f (as_core c.as_core-in-Exists.result.now) c.in-Exists.n c.requires.parts.root c.requires.parts.are (ap as_core c.in-Exists.is)
-    c.as_core-in-Exists.ensures c.requires.there
+pub returns-in-True : goal.returns-in-True
+returns-in-True c = part_is c.args.outline.now.roots.items c.requires.outline.1.in_order c.args.k c.index.result.now _ c.requires.within c.index.ensures c.in-True.is
 
-pub source_of-requires-in-Infinite-clause-there : goal.source_of-requires-in-Infinite-clause-there
-source_of-requires-in-Infinite-clause-there c =
-    infinite_among (map as_core c.args.parts.now) (as_core c.args.core.now) c.in-Infinite.f (as_core c.as_core-in-Infinite.result.now) c.in-Infinite.n c.requires.parts.root c.requires.parts.are (ap as_core c.in-Infinite.is)
-    c.as_core-in-Infinite.ensures c.requires.there
+pub relation_labels-requires : goal.relation_labels-requires
+relation_labels-requires c =
+    let part = part_is c.args.outline.now.roots.items c.requires.outline.1.in_order c.args.k c.index.result.now _ c.requires.within c.index.ensures c.in-Atom.is in
+    subst (λ (f : Core). IsOverSystem c.args.system.now f) part c.requires.fit.over
+
+pub returns-in_ok-labels-in-Atom : goal.returns-in_ok-labels-in-Atom
+returns-in_ok-labels-in-Atom c =
+    let part = part_is c.args.outline.now.roots.items c.requires.outline.1.in_order c.args.k c.index.result.now _ c.requires.within c.index.ensures c.in-Atom.is in
+    subst (λ (f : Core). IsRelationPlan c.args.system.now (map as_step c.args.steps.now) f c.in_ok-labels-in-Atom.labels) (sym part) c.in_ok-labels-in-Atom.ensures
+
+pub new-requires : goal.new-requires
+new-requires c =
+    let part = part_is c.args.outline.now.roots.items c.requires.outline.1.in_order c.args.k c.index.result.now _ c.requires.within c.index.ensures c.in-Nf.is in
+    subst (λ (f : Core). IsOverSystem c.args.system.now f) part c.requires.fit.over
+
+pub returns-in_ok-new-in-Nf : goal.returns-in_ok-new-in-Nf
+returns-in_ok-new-in-Nf c = record {
+  index = c.in-Nf.index;
+  number = c.in-Nf.field-1;
+  whole = part_is c.args.outline.now.roots.items c.requires.outline.1.in_order c.args.k c.index.result.now _ c.requires.within c.index.ensures c.in-Nf.is;
+  labels = c.in_ok-new-in-Nf.ensures;
+}
+
+pub returns-in-Some : goal.returns-in-Some
+returns-in-Some c =
+    let o = c.args.outline.now in
+    let part = part_is o.roots.items c.requires.outline.1.in_order c.args.k c.index.result.now _ c.requires.within c.index.ensures c.in-Is.is in
+    let ss = map as_step c.args.steps.now in
+    subst (λ (f : Core). IsWorkOf c.args.system.now (parts_in o) ss c.args.k f c.in-Some.work) (sym part) (c.in-Some.ensures.some c.args.system.now (parts_in o) ss c.args.k c.in-Is.field-0)
+
+pub source_of-requires-clause-within : goal.source_of-requires-clause-within
+source_of-requires-clause-within c =
+    let before = over_is c.args.outline.now.roots.items c.requires.outline.1.in_order c.args.k c.index.result.now _ c.requires.within c.index.ensures c.in-Not.is in
+    omega (arith, before, c.requires.within)
+
+pub returns-in-Not : goal.returns-in-Not
+returns-in-Not c = record {
+  body = core_at c.args.outline.now c.in-Not.f;
+  whole = part_is c.args.outline.now.roots.items c.requires.outline.1.in_order c.args.k c.index.result.now _ c.requires.within c.index.ensures c.in-Not.is;
+  source = c.source_of.ensures;
+}
+
+pub product_work-requires-clause-first : goal.product_work-requires-clause-first
+product_work-requires-clause-first c =
+    let before = over_is c.args.outline.now.roots.items c.requires.outline.1.in_order c.args.k c.index.result.now _ c.requires.within c.index.ensures c.in-And.is in
+    omega (arith, before.0, c.requires.within)
+
+pub product_work-requires-clause-second : goal.product_work-requires-clause-second
+product_work-requires-clause-second c =
+    let before = over_is c.args.outline.now.roots.items c.requires.outline.1.in_order c.args.k c.index.result.now _ c.requires.within c.index.ensures c.in-And.is in
+    omega (arith, before.1, c.requires.within)
+
+pub product_work-requires-clause-whole : goal.product_work-requires-clause-whole
+product_work-requires-clause-whole c = part_is c.args.outline.now.roots.items c.requires.outline.1.in_order c.args.k c.index.result.now _ c.requires.within c.index.ensures c.in-And.is
+
+pub returns-in-And : goal.returns-in-And
+returns-in-And c = IfOk-weaker c.product_work.result _ _ (λ w made. made c.args.system.now (map as_step c.args.steps.now) c.args.k) c.product_work.ensures
+
+pub product_work-requires-in-Or-clause-first : goal.product_work-requires-in-Or-clause-first
+product_work-requires-in-Or-clause-first c =
+    let before = over_is c.args.outline.now.roots.items c.requires.outline.1.in_order c.args.k c.index.result.now _ c.requires.within c.index.ensures c.in-Or.is in
+    omega (arith, before.0, c.requires.within)
+
+pub product_work-requires-in-Or-clause-second : goal.product_work-requires-in-Or-clause-second
+product_work-requires-in-Or-clause-second c =
+    let before = over_is c.args.outline.now.roots.items c.requires.outline.1.in_order c.args.k c.index.result.now _ c.requires.within c.index.ensures c.in-Or.is in
+    omega (arith, before.1, c.requires.within)
+
+pub product_work-requires-in-Or-clause-whole : goal.product_work-requires-in-Or-clause-whole
+product_work-requires-in-Or-clause-whole c = part_is c.args.outline.now.roots.items c.requires.outline.1.in_order c.args.k c.index.result.now _ c.requires.within c.index.ensures c.in-Or.is
+
+pub returns-in-Or : goal.returns-in-Or
+returns-in-Or c = IfOk-weaker c.product_work-in-Or.result _ _ (λ w made. made c.args.system.now (map as_step c.args.steps.now) c.args.k) c.product_work-in-Or.ensures
+
+pub product_work-requires-in-Iff-clause-first : goal.product_work-requires-in-Iff-clause-first
+product_work-requires-in-Iff-clause-first c =
+    let before = over_is c.args.outline.now.roots.items c.requires.outline.1.in_order c.args.k c.index.result.now _ c.requires.within c.index.ensures c.in-Iff.is in
+    omega (arith, before.0, c.requires.within)
+
+pub product_work-requires-in-Iff-clause-second : goal.product_work-requires-in-Iff-clause-second
+product_work-requires-in-Iff-clause-second c =
+    let before = over_is c.args.outline.now.roots.items c.requires.outline.1.in_order c.args.k c.index.result.now _ c.requires.within c.index.ensures c.in-Iff.is in
+    omega (arith, before.1, c.requires.within)
+
+pub product_work-requires-in-Iff-clause-whole : goal.product_work-requires-in-Iff-clause-whole
+product_work-requires-in-Iff-clause-whole c = part_is c.args.outline.now.roots.items c.requires.outline.1.in_order c.args.k c.index.result.now _ c.requires.within c.index.ensures c.in-Iff.is
+
+pub returns-in-Iff : goal.returns-in-Iff
+returns-in-Iff c = IfOk-weaker c.product_work-in-Iff.result _ _ (λ w made. made c.args.system.now (map as_step c.args.steps.now) c.args.k) c.product_work-in-Iff.ensures
+
+pub bound_column-column-requires-clause-within : goal.bound_column-column-requires-clause-within
+bound_column-column-requires-clause-within c =
+    let before = over_is c.args.outline.now.roots.items c.requires.outline.1.in_order c.args.k c.index.result.now _ c.requires.within c.index.ensures c.in-Exists.is in
+    omega (arith, before, c.requires.within)
+
+pub bound_column-column-requires-clause-free : goal.bound_column-column-requires-clause-free
+bound_column-column-requires-clause-free c =
+    let part = part_is c.args.outline.now.roots.items c.requires.outline.1.in_order c.args.k c.index.result.now _ c.requires.within c.index.ensures c.in-Exists.is in
+    let binders = subst BindsFree part c.requires.fit.binders in
+    column-from_free (core_at c.args.outline.now c.in-Exists.f) c.in-Exists.n binders.0
+
+pub source_of-requires-in-Exists-clause-within : goal.source_of-requires-in-Exists-clause-within
+source_of-requires-in-Exists-clause-within c =
+    let before = over_is c.args.outline.now.roots.items c.requires.outline.1.in_order c.args.k c.index.result.now _ c.requires.within c.index.ensures c.in-Exists.is in
+    omega (arith, before, c.requires.within)
+
+pub returns-in-Exists : goal.returns-in-Exists
+returns-in-Exists c = record {
+  number = c.in-Exists.n;
+  body = core_at c.args.outline.now c.in-Exists.f;
+  whole = part_is c.args.outline.now.roots.items c.requires.outline.1.in_order c.args.k c.index.result.now _ c.requires.within c.index.ensures c.in-Exists.is;
+  source = c.source_of-in-Exists.ensures;
+  column = c.bound_column-column.ensures;
+}
+
+pub bound_column-column-requires-in-Infinite-clause-within : goal.bound_column-column-requires-in-Infinite-clause-within
+bound_column-column-requires-in-Infinite-clause-within c =
+    let before = over_is c.args.outline.now.roots.items c.requires.outline.1.in_order c.args.k c.index.result.now _ c.requires.within c.index.ensures c.in-Infinite.is in
+    omega (arith, before, c.requires.within)
+
+pub bound_column-column-requires-in-Infinite-clause-free : goal.bound_column-column-requires-in-Infinite-clause-free
+bound_column-column-requires-in-Infinite-clause-free c =
+    let part = part_is c.args.outline.now.roots.items c.requires.outline.1.in_order c.args.k c.index.result.now _ c.requires.within c.index.ensures c.in-Infinite.is in
+    let binders = subst BindsFree part c.requires.fit.binders in
+    column-from_free (core_at c.args.outline.now c.in-Infinite.f) c.in-Infinite.n binders.0
+
+pub source_of-requires-in-Infinite-clause-within : goal.source_of-requires-in-Infinite-clause-within
+source_of-requires-in-Infinite-clause-within c =
+    let before = over_is c.args.outline.now.roots.items c.requires.outline.1.in_order c.args.k c.index.result.now _ c.requires.within c.index.ensures c.in-Infinite.is in
+    omega (arith, before, c.requires.within)
+
+pub returns-in_ok-marks-in-Infinite : goal.returns-in_ok-marks-in-Infinite
+returns-in_ok-marks-in-Infinite c = record {
+  number = c.in-Infinite.n;
+  body = core_at c.args.outline.now c.in-Infinite.f;
+  whole = part_is c.args.outline.now.roots.items c.requires.outline.1.in_order c.args.k c.index.result.now _ c.requires.within c.index.ensures c.in-Infinite.is;
+  source = c.source_of-in-Infinite.ensures;
+  column = c.bound_column-column-in-Infinite.ensures;
+  marks_are = c.in_ok-marks-in-Infinite.ensures;
+}

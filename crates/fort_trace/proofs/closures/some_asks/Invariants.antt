@@ -1,9 +1,10 @@
-use Rattle.std.proofs.Common.{◌≡◌, map, drop}
+use Rattle.std.proofs.Common.{◌≡◌, drop}
 use Rattle.std.specs.List.{list_any}
-use Rattle.fort_formulas.specs.CoreView.{as_core}
-use Rattle.fort_in_order.specs.Dues.{asks}
 use Rattle.fort_steps.specs.StepView.{as_which}
+use Rattle.fort_in_order.specs.Dues.{asks}
+use Rattle.fort_outline.specs.Roots.{cores_of}
+use Rattle.fort_trace.proofs.ClosureLaws.{asks_root}
 use Rattle.fort_trace.proofs.closures.some_asks.Given as goal
 
-abbrev pub invariant-loop-part : goal.invariant-loop-part
-invariant-loop-part l = list_any (asks (as_which l.which) l.index) (map as_core l.parts) ≡ list_any (asks (as_which l.which) l.index) (map as_core (drop l.part-index l.parts))
+abbrev pub invariant-loop-root : goal.invariant-loop-root
+invariant-loop-root l = list_any (asks (as_which l.which) l.index) (cores_of l.roots) ≡ list_any (asks_root (as_which l.which) l.index) (drop l.root-index l.roots)

@@ -1,7 +1,6 @@
-use Rattle.std.proofs.Common.{map}
-use Rattle.fort_formulas.specs.CoreView.{as_core}
+use Rattle.fort_outline.specs.Outlines.{parts_in}
 use Rattle.fort_trace.specs.Recording.{IsRecording}
 use Rattle.fort_trace.proofs.decide.record_parts.Given as goal
 
 abbrev pub invariant-loop-k : goal.invariant-loop-k
-invariant-loop-k l = IsRecording l.system (map as_core l.parts) l.uses l.cap l.k l.kept.items l.steps.items
+invariant-loop-k l = IsRecording l.system (parts_in l.outline) l.outline.last_uses.items l.cap l.k l.kept.items l.steps.items

@@ -4,7 +4,7 @@ use Rattle.std.proofs.lemmas.List.{with_items_is, places}
 use Rattle.std.proofs.lemmas.Bool.Decides.{nat_tests}
 use Rattle.fort_steps.specs.StepView.{as_step}
 use Rattle.fort_cert_checker.specs.OutcomeView.{as_reason}
-use Rattle.fort_cert_checker.proofs.CheckLaws.{map_ok, map_err, missing, are_read, not_due, is_due, fails, steps_are, loop_given, due_given, failing_given, ready_after, loop_after}
+use Rattle.fort_cert_checker.proofs.CheckLaws.{map_ok, map_err, missing, are_read, not_due, is_due, fails, steps_are, order_given, loop_given, due_given, failing_given, ready_after, loop_after}
 use Rattle.fort_cert_checker.proofs.checker.Checker.check_due.Goals as goal
 
 pub returns-in_default-clause-failing : goal.returns-in_default-clause-failing
@@ -33,6 +33,7 @@ check_step-requires c =
     let made = c.requires.due.3 in
     let at = c.requires.due.4 in
     record {
+      order = order_given system f certificate a at.checker c.deref.result.now c.deref-2.result.now c.deref.ensures.value c.deref-2.ensures.value;
       due = (
         f,
         certificate,

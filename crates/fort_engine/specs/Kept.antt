@@ -1,21 +1,10 @@
--- Inside: which part needs an earlier part last, and what is kept of the answers.
+-- Inside: what is kept of the answers.
 use Rattle.std.specs.Prelude.{◌≡◌, ℕ, ◌<◌, ◌≤◌, List, length, get_or, Option, None, Some}
 use Rattle.fort_theory.specs.Patterns.{PatternSystem}
 use Rattle.fort_logic.specs.Cores as core
-use Rattle.fort_parts.specs.DecidedCores.{IsOperandOf}
 use Rattle.fort_parts.specs.RightAnswers.{IsRightFor}
 use Rattle.fort_engine.specs.declared.answer.Last.{Last}
 use Rattle.fort_engine.specs.AnswerView.{as_answer}
-
--- no part after `last` has part j as an operand
-abbrev pub IsLastUse : List core.Core → ℕ → ℕ → Type 0
-IsLastUse parts j last = (i : ℕ) → i < length parts → IsOperandOf (get_or parts j core.True) (get_or parts i core.True) → i ≤ last
-
--- one for each part; that of the root is behind all
-pub record AreLastUses (parts : List core.Core) (root : ℕ) (uses : List ℕ) : Type 0 where
-  pub count : length uses ≡ length parts
-  pub each : (j : ℕ) → j < length parts → IsLastUse parts j (get_or uses j 0)
-  pub root_is : length parts ≤ get_or uses root 0
 
 pub record HasRightAnswer (system : PatternSystem) (f : core.Core) (kept : Option Last) : Type 0 where
   pub answer : Last
