@@ -1,6 +1,6 @@
 -- Which answers are right: by a formula's labels, of atoms, of a complement, of a projection, of "infinitely many".
 use Rattle.std.specs.Prelude.{◌≡◌, ◌<◌, ℕ, ◌-◌, List, length, Contains, Bool, true, Ok}
-use Rattle.std.proofs.Common.{ap, sym, ◌∙◌, subst, arith}
+use Rattle.std.proofs.Common.{not, ap, sym, ◌∙◌, subst, arith}
 use Rattle.fort_theory.specs.Trees.{Tree}
 use Rattle.fort_theory.specs.Signatures.{Signature}
 use Rattle.fort_theory.specs.Patterns.{PatternSystem}
@@ -22,7 +22,7 @@ use Rattle.fort_parts.specs.AlikeParts.{IsPartOver}
 use Rattle.fort_parts.specs.PartAnswers.{OfValue, OfTable}
 use Rattle.fort_parts.specs.RightAnswers.{IsRightFor}
 use Rattle.fort_parts.proofs.PartColumnLaws.{AreColumns-columns_of, columns_of-Nf, columns_of-Is, column-from_free}
-use Rattle.fort_parts.proofs.StepAnswers.{IsRightFor-Not-table, IsPartOver-Not, IsPartOver-closed, IsPartOver-few, bound_place, bound_count, LabelsTellAlike-projected, IsRightFor-projected, IsRightFor-closed, LabelsTellAlike-many, IsRightFor-many, IsRightFor-many_closed}
+use Rattle.fort_parts.proofs.StepAnswers.{IsRightFor-Not-value, IsRightFor-Not-table, IsPartOver-Not, IsPartOver-closed, IsPartOver-few, bound_place, bound_count, LabelsTellAlike-projected, IsRightFor-projected, IsRightFor-closed, LabelsTellAlike-many, IsRightFor-many, IsRightFor-many_closed}
 use Rattle.fort_parts.proofs.AtomResults.{IsRightFor-Atom, IsRightFor-Nf, IsRightFor-Is, LabelsTellAlike-Nf, LabelsTellAlike-Is}
 use Rattle.fort_engine.specs.declared.answer.Last.{Last}
 use Rattle.fort_engine.specs.declared.answer.Last.TheVariants.{Truth, Auto}
@@ -93,6 +93,13 @@ AreLabelsFor-Atom system rel index x y l count tells accepts =
     }
 
 -- a complement
+
+pub IsDecision-Not-truth : (system : PatternSystem) (cap : ℕ) (f : core.Core) (body : Last) (b c : Bool) → body ≡ Truth b → c ≡ not b
+    → IsRightFor system f (as_answer body) → IsDecision system (core.Not f) cap (Ok (Truth c))
+IsDecision-Not-truth system cap f body b c is says right =
+    let own : IsRightFor system f (OfValue b) = subst (λ a. IsRightFor system f (as_answer a)) is right in
+    let whole : IsRightFor system (core.Not f) (OfValue c) = subst (λ v. IsRightFor system (core.Not f) (OfValue v)) (sym says) (IsRightFor-Not-value system f b own) in
+    record { ok = whole; within = IsPartOver-closed system (core.Not f) cap whole.answers.over; over = tt }
 
 pub IsDecision-Not-table : (system : PatternSystem) (cap : ℕ) (f : core.Core) (body : Last) (table turned : Dta) → body ≡ Auto table
     → listed_table turned ≡ complemented (listed_table table) → IsRightFor system f (as_answer body) → (IsPartOver system f cap → ⊥)

@@ -28,7 +28,7 @@ use Rattle.fort_outline.specs.Outlines.{AreLastUses, parts_in, IsOutlineOf}
 use Rattle.fort_engine.specs.declared.answer.Last.{Last}
 use Rattle.fort_engine.specs.declared.answer.Limit.{Limit}
 use Rattle.fort_engine.specs.AnswerView.{as_answer, IsLimit}
-use Rattle.fort_engine.specs.Kept.{HasRightAnswer, AreKept}
+use Rattle.fort_engine.specs.Kept.{HasRightAnswer, IsSoFar}
 use Rattle.fort_engine.specs.Deciding.{IsFit, HasOperands, IsNextPart}
 use Rattle.fort_outline.proofs.RootLaws.{length-cores_of}
 use Rattle.fort_engine.proofs.OperandLaws.{IsRightFor-taken}
@@ -43,10 +43,6 @@ IsFit-part system f parts k d are l =
       binders = BindsFree-part f h d.well_formed.binders among;
       few = columns_of-few f h d.well_formed among;
     }
-
-pub record IsSoFar (system : PatternSystem) (parts : List Core) (uses : List ℕ) (cap k : ℕ) (kept : List (Option Last)) : Type 0 where
-  pub kept_are : AreKept system parts uses k kept
-  pub before : (j : ℕ) → j < k → IsPartOver system (get_or parts j core.True) cap → ⊥
 
 pub IsSoFar-none : (system : PatternSystem) (parts : List Core) (uses : List ℕ) (cap : ℕ) → IsSoFar system parts uses cap 0 []
 IsSoFar-none system parts uses cap =
@@ -148,6 +144,7 @@ IsNextPart-at system f o decided laid cap k kept far l =
     let low : k < length (parts_in o) = omega (arith, length-cores_of o.roots.items) in
     record {
       formula = f;
+      decided = decided;
       laid = laid;
       within = l;
       count = far.kept_are.count;

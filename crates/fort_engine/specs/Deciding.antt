@@ -12,7 +12,7 @@ use Rattle.fort_parts.specs.PartColumns.{columns_of, places_in}
 use Rattle.fort_parts.specs.AlikeParts.{IsPartOver}
 use Rattle.fort_parts.specs.PartAnswers.{Answer, OfTable}
 use Rattle.fort_parts.specs.PartLabels.{LabelsTellAlike}
-use Rattle.fort_parts.specs.DecidedCores.{IsOverSystem, IsOperandOf}
+use Rattle.fort_parts.specs.DecidedCores.{IsDecided, IsOverSystem, IsOperandOf}
 use Rattle.fort_parts.specs.RightAnswers.{IsRightFor, HasTooMany, joined}
 use Rattle.fort_parts.proofs.PartOrder.{IsEarlier}
 use Rattle.fort_outline.specs.declared.outline.Outline.{Outline}
@@ -41,9 +41,15 @@ HasOperands system cap parts kept f = (g : core.Core) → IsOperandOf g f → Is
 abbrev pub part_in : Outline → ℕ → core.Core
 part_in o k = get_or (parts_in o) k core.True
 
+-- the outline of a formula that is to be decided
+pub record IsPlanned (system : PatternSystem) (root : core.Core) (outline : Outline) : Type 0 where
+  pub decided : IsDecided system root
+  pub laid : IsOutlineOf root outline
+
 -- part k of an outline is decided next, from the answers to the parts before it that are kept
 pub record IsNextPart (system : PatternSystem) (cap : ℕ) (outline : Outline) (k : ℕ) (kept : List (Option Last)) : Type 0 where
   pub formula : core.Core
+  pub decided : IsDecided system formula
   pub laid : IsOutlineOf formula outline
   pub within : k < length outline.roots.items
   pub count : length kept ≡ k

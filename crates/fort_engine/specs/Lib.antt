@@ -1,3 +1,4 @@
 pub mod AnswerView
 pub mod Kept
 pub mod Deciding
+pub mod Found

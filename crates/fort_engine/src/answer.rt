@@ -1,5 +1,6 @@
 //! What formulas are decided to.
 use fort_formulas::Kind;
+use fort_infinity::Count;
 use fort_lockstep::{Dag, Dta};
 use std::alloc::{AllocError, AllocFailed};
 
@@ -10,6 +11,14 @@ pub enum Last {
     Truth(bool),
     /// The table over its columns, which are its free variables, ascending.
     Auto(Dta),
+}
+
+/// The answer to a part.
+#[derive(Drop)]
+pub struct Decided {
+    pub answer: Last,
+    /// Where it is one of "infinitely many", the counts of the states of its body's table that have its variable alone.
+    pub counts: Option<Vec<Count>>,
 }
 
 /// How a formula was decided.

@@ -1,5 +1,5 @@
 //! Decides a formula, each of its parts in turn.
-ghost use Rattle.std.specs.Prelude.{◌≡◌, ℕ, ◌<◌, ◌≤◌, List, length, slice_index_or, None, IfOk, IfErr, OnOk};
+ghost use Rattle.std.specs.Prelude.{◌≡◌, ℕ, ◌<◌, ◌≤◌, List, [], length, slice_index_or, None, IfOk, IfErr, OnOk};
 ghost use Rattle.fort_logic.specs.Cores as theory;
 ghost use Rattle.fort_logic.specs.PartLists.{AreParts};
 ghost use Rattle.fort_logic.specs.PatternStructures.{pattern_structure};
@@ -8,10 +8,14 @@ ghost use Rattle.fort_parts.specs.AlikeParts.{IsPartOver};
 ghost use Rattle.fort_parts.specs.DecidedCores.{IsDecided};
 ghost use Rattle.fort_parts.specs.PartAnswers.{IsAnswerTo};
 ghost use Rattle.fort_outline.specs.Roots.{IsOver};
+ghost use Rattle.fort_outline.specs.Outlines.{parts_in};
 ghost use Rattle.fort_engine.specs.AnswerView.{as_answer, IfOver, IsLimit};
+ghost use Rattle.fort_engine.specs.Kept.{IsSoFar};
+ghost use Rattle.fort_engine.specs.Deciding.{IsPlanned};
 
 use crate::answer::{EngineFault, Last, Limit, Trace};
 use crate::part::decide_part;
+use crate::recorder::Recorder;
 use fort_explore::ExploreFault;
 use fort_formulas::Core;
 use fort_outline::{Outline, Root};
@@ -32,7 +36,7 @@ fn let_go(kept: &mut Vec<Option<Last>>, uses: &[usize], j: usize, k: usize)
 }
 
 /// Lets go of the answers to the operands of part `k` that no later part needs.
-pub fn drop_idle(kept: &mut Vec<Option<Last>>, outline: &Outline, k: usize)
+fn drop_idle(kept: &mut Vec<Option<Last>>, outline: &Outline, k: usize)
     requires within { k < length outline.now.roots.items }
     requires over { IsOver (length kept.old.items)
         (slice_index_or outline.now.roots.items k Root.True) }
@@ -53,6 +57,44 @@ pub fn drop_idle(kept: &mut Vec<Option<Last>>, outline: &Outline, k: usize)
     }
 }
 
+/// Decides the parts one after another and has them recorded; the answers that are needed at the end are kept.
+pub fn decide_parts<R: Recorder>(
+    alloc: Global,
+    system: &System,
+    outline: &Outline,
+    cap: u32,
+    recorder: &mut R,
+) -> Result<Vec<Option<Last>>, EngineFault>
+    requires planned { (root : theory.Core) × IsPlanned system.now root outline.now }
+    requires begun { R.recorded recorder.old system.now outline.now 0 [] }
+    ensures far { IfOk result (λ kept. IsSoFar system.now (parts_in outline.now)
+        outline.now.last_uses.items cap (length outline.now.roots.items) kept.items) }
+    ensures recorded { IfOk result (λ kept. R.recorded recorder.new system.now outline.now
+        (length outline.now.roots.items) kept.items) }
+    ensures over { IfErr result (λ e. (root : theory.Core)
+        → IsPlanned system.now root outline.now → IfOver e (IsLimit system.now root cap)) }
+{
+    let mut kept: Vec<Option<Last>> = Vec::new(alloc);
+    for k in 0..outline.roots.len() {
+        let answers = kept.as_slice();
+        let decided = match decide_part(alloc, system, outline, k, answers, cap) {
+            Ok(decided) => decided,
+            Err(ExploreFault::Memory) => return Err(EngineFault::Memory),
+            Err(ExploreFault::Over(tuples)) => {
+                return Err(EngineFault::Over(Limit {
+                    part: k,
+                    kind: outline.roots[k].kind(),
+                    tuples,
+                }));
+            }
+        };
+        recorder.note(alloc, system, outline, k, answers, &decided)?;
+        kept.push(Some(decided.answer))?;
+        drop_idle(&mut kept, outline, k);
+    }
+    Ok(kept)
+}
+
 /// Decides a core formula over a system: its truth where it is closed, else a table that accepts exactly the tuples that meet it.
 /// It is over the cap where some part has more labels than the cap; the first such part is told.
 pub fn decide_core(
@@ -70,19 +112,10 @@ pub fn decide_core(
     ensures over { IfErr result (λ e. IfOver e (IsLimit system.now (as_core core.now) cap)) }
 {
     let outline = Outline::new(alloc, core)?;
-    let mut kept: Vec<Option<Last>> = Vec::new(alloc);
-    for k in 0..outline.roots.len() {
-        match decide_part(alloc, system, &outline, k, &kept, cap) {
-            Ok(answer) => kept.push(Some(answer))?,
-            Err(ExploreFault::Memory) => return Err(EngineFault::Memory),
-            Err(ExploreFault::Over(tuples)) => return Err(EngineFault::Over(Limit {
-                part: k,
-                kind: outline.roots[k].kind(),
-                tuples,
-            })),
-        }
-        drop_idle(&mut kept, &outline, k);
-    }
+    let mut kept = match decide_parts(alloc, system, &outline, cap, &mut ()) {
+        Ok(kept) => kept,
+        Err(fault) => return Err(fault),
+    };
     match kept.swap_remove(outline.whole) {
         Some(last) => Ok(Trace { last }),
         None => unreachable!(),

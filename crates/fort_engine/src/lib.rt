@@ -10,8 +10,8 @@ mod joined;
 mod operands;
 mod part;
 mod projected;
+mod recorder;
 
-pub use answer::{EngineFault, Last, Limit, Trace};
-pub use decide::{decide_core, drop_idle};
-pub use operands::{column_of, kept_answer};
-pub use part::decide_part;
+pub use answer::{Decided, EngineFault, Last, Limit, Trace};
+pub use decide::{decide_core, decide_parts};
+pub use recorder::Recorder;

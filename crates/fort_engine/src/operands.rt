@@ -1,5 +1,5 @@
 //! The operands of a part: their answers and columns by their numbers, and the places of their columns among its own.
-ghost use Rattle.std.specs.Prelude.{◌≡◌, ◌<◌, ℕ, List, length, Contains, slice_index, slice_index_or, None, Some, IfOk};
+ghost use Rattle.std.specs.Prelude.{◌≡◌, ◌<◌, ℕ, List, length, Contains, slice_index_or, None, Some, IfOk};
 ghost use Rattle.fort_logic.specs.Cores as theory;
 ghost use Rattle.fort_parts.specs.PartColumns.{columns_of, place_in, places_in};
 ghost use Rattle.fort_outline.specs.Outlines.{AreColumnsOf};
@@ -17,7 +17,7 @@ pub(crate) struct Answered<'a> {
 }
 
 /// The answer to an earlier part, which is kept.
-pub fn kept_answer(kept: &[Option<Last>], part: usize) -> &Last
+pub(crate) fn kept_answer(kept: &[Option<Last>], part: usize) -> &Last
     requires within { part < length kept.now }
     requires there { slice_index_or kept.now part None ≡ None → ⊥ }
     ensures { slice_index_or kept.now part None ≡ Some result.now }
@@ -48,7 +48,7 @@ pub(crate) fn kept_operand<'a>(
 }
 
 /// The place of a number among ascending columns.
-pub fn column_of(columns: &[u32], number: u32) -> usize
+pub(crate) fn column_of(columns: &[u32], number: u32) -> usize
     requires { Contains columns.now number }
     ensures { result ≡ place_in columns.now number }
 {

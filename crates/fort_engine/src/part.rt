@@ -1,5 +1,5 @@
 //! Decides one part from the answers to its operands.
-ghost use Rattle.std.specs.Prelude.{ℕ};
+ghost use Rattle.std.specs.Prelude.{◌≡◌, ℕ, None, IfOk};
 ghost use Rattle.fort_theory.specs.Patterns.{PatternSystem};
 ghost use Rattle.fort_logic.specs.Cores as theory;
 ghost use Rattle.fort_rrn_algebra.specs.Operands.{connective_of};
@@ -8,10 +8,11 @@ ghost use Rattle.fort_parts.specs.RightAnswers.{IsRightFor};
 ghost use Rattle.fort_outline.specs.Outlines.{parts_in};
 ghost use Rattle.fort_engine.specs.AnswerView.{as_answer};
 ghost use Rattle.fort_engine.specs.Deciding.{part_in, IsNextPart, IsOfTwo, IsDecision};
+ghost use Rattle.fort_engine.specs.Found.{decided_with, IsTurnedOf, IsDecidedBy, IsFound};
 
-use crate::answer::Last;
+use crate::answer::{Decided, Last};
 use crate::atoms::{normal_form, related, this_term};
-use crate::counted::count;
+use crate::counted::{count, with_counts};
 use crate::joined::join;
 use crate::operands::{kept_answer, kept_operand};
 use crate::projected::project;
@@ -23,10 +24,11 @@ use std::alloc::Global;
 
 /// Decides the negation of a formula with this answer.
 fn complement(alloc: Global, body: &Last) -> Result<Last, ExploreFault>
-    ensures { (system : PatternSystem) (cap : ℕ) (f : theory.Core)
+    ensures decided { (system : PatternSystem) (cap : ℕ) (f : theory.Core)
         → IsRightFor system f (as_answer body.now)
         → (IsPartOver system f cap → ⊥)
         → IsDecision system (theory.Not f) cap result }
+    ensures turned { IfOk result (IsTurnedOf body.now) }
 {
     match body {
         Last::Truth(truth) => Ok(Last::Truth(!*truth)),
@@ -56,28 +58,42 @@ fn join_parts(
     join(alloc, system, op, columns, &first, &second, cap)
 }
 
+/// An answer that was found without counts.
+fn plain(answer: Result<Last, ExploreFault>) -> Result<Decided, ExploreFault>
+    ensures { result ≡ decided_with None answer }
+{
+    with_counts(answer, None)
+}
+
 /// Decides part k from the answers to the parts before it.
-pub fn decide_part(
+pub(crate) fn decide_part(
     alloc: Global,
     system: &System,
     outline: &Outline,
     k: usize,
     kept: &[Option<Last>],
     cap: u32,
-) -> Result<Last, ExploreFault>
+) -> Result<Decided, ExploreFault>
     requires { IsNextPart system.now cap outline.now k kept.now }
-    ensures { IsDecision system.now (part_in outline.now k) cap result }
+    ensures { IsDecidedBy system.now (part_in outline.now k) cap
+        (IsFound system.now (parts_in outline.now) kept.now (part_in outline.now k)) result }
 {
     match &outline.roots[k] {
-        Root::True => Ok(Last::Truth(true)),
-        Root::Atom(rel, index, x, y) => related(alloc, system, *rel, *index, *x, *y, cap),
-        Root::Nf(index, _) => normal_form(alloc, system, *index, cap),
-        Root::Is(_, term) => this_term(alloc, system, term, cap),
-        Root::Not(f) => complement(alloc, kept_answer(kept, *f)),
-        Root::And(f, g) => { join_parts(alloc, system, outline, k, Op::And, *f, *g, kept, cap) }
-        Root::Or(f, g) => join_parts(alloc, system, outline, k, Op::Or, *f, *g, kept, cap),
-        Root::Iff(f, g) => { join_parts(alloc, system, outline, k, Op::Iff, *f, *g, kept, cap) }
-        Root::Exists(n, f) => { project(alloc, system, *n, &kept_operand(outline, kept, *f), cap) }
-        Root::Infinite(n, f) => { count(alloc, system, *n, &kept_operand(outline, kept, *f), cap) }
+        Root::True => plain(Ok(Last::Truth(true))),
+        Root::Atom(rel, index, x, y) => plain(related(alloc, system, *rel, *index, *x, *y, cap)),
+        Root::Nf(index, _) => plain(normal_form(alloc, system, *index, cap)),
+        Root::Is(_, term) => plain(this_term(alloc, system, term, cap)),
+        Root::Not(f) => plain(complement(alloc, kept_answer(kept, *f))),
+        Root::And(f, g) => plain(join_parts(alloc, system, outline, k, Op::And, *f, *g, kept, cap)),
+        Root::Or(f, g) => plain(join_parts(alloc, system, outline, k, Op::Or, *f, *g, kept, cap)),
+        Root::Iff(f, g) => plain(join_parts(alloc, system, outline, k, Op::Iff, *f, *g, kept, cap)),
+        Root::Exists(n, f) => plain(project(
+            alloc,
+            system,
+            *n,
+            &kept_operand(outline, kept, *f),
+            cap,
+        )),
+        Root::Infinite(n, f) => count(alloc, system, *n, &kept_operand(outline, kept, *f), cap),
     }
 }

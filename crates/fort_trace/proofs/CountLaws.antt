@@ -1,38 +1,41 @@
 -- The counts of "infinitely many": those of the body's table, whose answer is kept.
-use Rattle.std.proofs.Common.{◌≡◌, ℕ, List, refl, ap, sym, ◌∙◌, subst}
+use Rattle.std.proofs.Common.{◌≡◌, ℕ, List, map, Option, None, Some, refl, subst}
+use Rattle.std.specs.declared.alloc.Global.{Global}
+use Rattle.std.specs.declared.vec.Vec.{Vec}
+use Rattle.fort_logic.specs.Cores as core
 use Rattle.fort_logic.specs.Cores.{Core}
-use Rattle.fort_tables.specs.Tables.{Table}
-use Rattle.fort_operations.specs.Projections.{ArePure}
-use Rattle.fort_counts.specs.Counts as counts
-use Rattle.fort_counts.specs.Counts.{AreCounts}
-use Rattle.fort_parts.specs.PartColumns.{columns_of, place_in}
+use Rattle.fort_tables.specs.Tables.{listed_table}
+use Rattle.fort_infinity.specs.declared.count.Count.{Count}
+use Rattle.fort_infinity.specs.CountView.{as_count}
 use Rattle.fort_in_order.specs.Made.{Made}
-use Rattle.fort_outline.specs.declared.root.Root.{Root}
-use Rattle.fort_outline.specs.declared.root.Root.TheVariants.{True, Atom, Nf, Is, Not, And, Or, Iff, Exists, Infinite}
-use Rattle.fort_outline.specs.Roots.{root_core}
+use Rattle.fort_engine.specs.declared.answer.Last.{Last}
+use Rattle.fort_engine.specs.declared.answer.Last.TheVariants.{Auto}
+use Rattle.fort_engine.specs.Found.{AreItsCounts}
 use Rattle.fort_steps.specs.declared.step.Step.{Step}
-use Rattle.fort_trace.specs.Recording.{AreMarks, CountsAdded}
+use Rattle.fort_trace.specs.Recording.{AreOperandsMade, CountsPushed, CountsAdded}
 
-pub AreMarks-counts : (n : ℕ) (g : Core) (table : Table) (columns : List ℕ) (c : ℕ) (alone : List ℕ) (own marks : List counts.Count) → columns ≡ columns_of g → c ≡ place_in columns n → ArePure table c alone
-    → AreCounts table c alone own → marks ≡ own → AreMarks n g table marks
-AreMarks-counts n g table columns c alone own marks are at pure counted same =
-    let place : c ≡ place_in (columns_of g) n = at ∙ ap (λ ns. place_in ns n) are in
-    record {
-      states = alone;
-      pure = subst (λ i. ArePure table i alone) place pure;
-      counts = subst (AreCounts table (place_in (columns_of g) n) alone) (sym same) (subst (λ i. AreCounts table i alone own) place counted);
-    }
+pub CountsPushed-none : (k : ℕ) (own : Option (Vec Count Global)) (steps : List Step) → ((list : Vec Count Global) → own ≡ Some list → ⊥) → CountsPushed k own steps steps
+CountsPushed-none k None steps none = refl
+CountsPushed-none k (Some list) steps none = absurd (none list refl)
 
--- no other formula has counts
-pub CountsAdded-none : (parts : List Core) (made : Made) (k : ℕ) (r : Root) (steps : List Step) → ((n f : ℕ) → r ≡ Infinite n f → ⊥)
-    → CountsAdded parts made k (root_core parts r) steps steps
-CountsAdded-none parts made k True steps other = refl
-CountsAdded-none parts made k (Atom rel index x y) steps other = refl
-CountsAdded-none parts made k (Nf index x) steps other = refl
-CountsAdded-none parts made k (Is x t) steps other = refl
-CountsAdded-none parts made k (Not f) steps other = refl
-CountsAdded-none parts made k (And f g) steps other = refl
-CountsAdded-none parts made k (Or f g) steps other = refl
-CountsAdded-none parts made k (Iff f g) steps other = refl
-CountsAdded-none parts made k (Exists n f) steps other = refl
-CountsAdded-none parts made k (Infinite n f) steps other = absurd (other n f refl)
+module _ (parts : List Core) (made : Made) (kept : List (Option Last)) (k : ℕ) (own : Option (Vec Count Global)) (old new : List Step) where
+  none_pushed : own ≡ None → CountsPushed k own old new → new ≡ old
+  none_pushed none h = subst (λ o. CountsPushed k o old new) none h
+
+  pub counts_added : (f : Core) → AreOperandsMade parts made kept f → AreItsCounts parts kept f own → CountsPushed k own old new → CountsAdded parts made k f old new
+  counts_added core.True made_are its h = none_pushed its h
+  counts_added (core.Atom rel index x y) made_are its h = none_pushed its h
+  counts_added (core.Nf index x) made_are its h = none_pushed its h
+  counts_added (core.Is x t) made_are its h = none_pushed its h
+  counts_added (core.Not f) made_are its h = none_pushed its h
+  counts_added (core.And f g) made_are its h = none_pushed its h
+  counts_added (core.Or f g) made_are its h = none_pushed its h
+  counts_added (core.Iff f g) made_are its h = none_pushed its h
+  counts_added (core.Exists n f) made_are its h = none_pushed its h
+  counts_added (core.Infinite n g) made_are its h =
+      let is = its.kept_is in
+      record {
+        counts = map as_count its.list.items;
+        step = subst (λ o. CountsPushed k o old new) its.list_is h;
+        made_are = record { table = listed_table its.table; body = made_are g refl is.place (Auto its.table) is.before is.is is.there; are = its.marks };
+      }

@@ -1,5 +1,5 @@
 -- The steps of a part make its answer, and the recording goes on with the next part.
-use Rattle.std.proofs.Common.{◌≡◌, ℕ, zero, suc, ◌+◌, ◌<◌, ◌≤◌, List, [], ◌∷◌, ◌++◌, map, take, length, get_or, Bool, true, false, nat_lt, Option, None, Some, Ok, true≢false, refl, ap, sym, ◌∙◌, arith, subst, inl, inr, ⊎_elim, append_assoc, append-nil, length-append}
+use Rattle.std.proofs.Common.{◌≡◌, ℕ, zero, suc, ◌+◌, ◌<◌, ◌≤◌, List, [], ◌∷◌, ◌++◌, map, take, length, get_or, Bool, true, false, nat_lt, Option, None, Some, true≢false, refl, ap, sym, ◌∙◌, arith, subst, inl, inr, ⊎_elim, append_assoc, append-nil}
 use Rattle.std.proofs.lemmas.Bool.{cases_eq, cases_Bool, lt-ltb}
 use Rattle.std.proofs.lemmas.List.{take_all, length-take-le, get_or_push, get_or_append_left}
 use Rattle.std.proofs.Math.Seq.{take-suc}
@@ -10,15 +10,13 @@ use Rattle.fort_logic.specs.Cores as core
 use Rattle.fort_logic.specs.Cores.{Core}
 use Rattle.fort_logic.specs.Parts.{BindsFree, IsClosed}
 use Rattle.fort_logic.specs.PartLists.{AreParts}
-use Rattle.fort_logic.specs.Kinds.{kind_of}
 use Rattle.fort_logic.specs.PatternStructures.{pattern_structure}
 use Rattle.fort_tables.specs.Tables.{Listed, listed_table}
 use Rattle.fort_parts.specs.PartColumns.{columns_of}
 use Rattle.fort_parts.specs.PartAnswers.{Answer, OfTable, IsAnswerTo}
 use Rattle.fort_parts.specs.DecidedCores.{IsDecided, IsOperandOf}
-use Rattle.fort_parts.specs.RightAnswers.{IsRightFor, HasTooMany}
+use Rattle.fort_parts.specs.RightAnswers.{IsRightFor}
 use Rattle.fort_parts.specs.AlikeParts.{IsPartOver}
-use Rattle.fort_formulas.specs.KindView.{as_kind}
 use Rattle.fort_parts.proofs.PartFacts.{BindsFree-part, columns_of-few}
 use Rattle.fort_certificate_grammar.specs.Certificates as certificates
 use Rattle.fort_in_order.specs.Dues.{DueStep, has_columns, is_turned, closures_due, counts_due, answer_due, parts_due, dues}
@@ -35,15 +33,18 @@ use Rattle.fort_outline.specs.declared.outline.Outline.{Outline}
 use Rattle.fort_outline.specs.Outlines.{AreLastUses, parts_in}
 use Rattle.fort_engine.specs.declared.answer.Last.{Last}
 use Rattle.fort_engine.specs.declared.answer.Last.TheVariants.{Truth, Auto}
-use Rattle.fort_engine.specs.AnswerView.{as_answer, IsLimit}
-use Rattle.fort_engine.specs.declared.answer.Limit.{Limit}
-use Rattle.fort_engine.specs.Kept.{HasRightAnswer}
-use Rattle.fort_engine.specs.Deciding.{HasOperands, part_in, IsNextPart, IsDecision}
+use Rattle.fort_engine.specs.declared.answer.Decided.{Decided}
+use Rattle.fort_engine.specs.AnswerView.{as_answer}
+use Rattle.fort_engine.specs.Kept.{HasRightAnswer, IsSoFar}
+use Rattle.fort_engine.specs.Deciding.{HasOperands, part_in, IsPlanned, IsNextPart}
+use Rattle.fort_engine.specs.Found.{IsFound}
 use Rattle.fort_outline.proofs.RootLaws.{length-cores_of}
-use Rattle.fort_engine.proofs.DecideLaws.{IsSoFar-none, IsNextPart-at, IsSoFar-more, HasRightAnswer-root, none_over, IsLimit-part}
+use Rattle.fort_engine.proofs.DecideLaws.{HasRightAnswer-root, none_over}
 use Rattle.fort_steps.specs.declared.step.Step.{Step}
 use Rattle.fort_steps.specs.StepView.{as_step}
-use Rattle.fort_trace.specs.Recording.{AddsSteps, AreOperandsMade, CountsAdded, is_negation, AnswerAdded, HasRightSteps, IsReadyFor, IsPartRecorded, IsRecordedTo, IsPlanned, IsRecording}
+use Rattle.fort_trace.specs.Recording.{AddsSteps, AreOperandsMade, CountsPushed, CountsAdded, is_negation, AnswerAdded, HasRightSteps, IsPartRecorded, IsRecordedTo, AreRecordedTo}
+use Rattle.fort_trace.proofs.AnswerLaws.{turned_answer}
+use Rattle.fort_trace.proofs.CountLaws.{counts_added}
 
 -- ---- one part
 
@@ -207,19 +208,12 @@ IsRecordedTo-none system parts uses steps h = record {
 
 module _ (system : PatternSystem) (root : Core) (decided : IsDecided system root) (parts : List Core) (are : AreParts root parts) (place : ℕ) (uses : List ℕ) (last : AreLastUses parts place uses) (k : ℕ)
     (kept : List (Option Last)) (steps : List Step) (count : length kept ≡ k) (far : IsRecordedTo system parts uses k kept steps) where
-  pub IsReadyFor-part : k < length parts → IsReadyFor system root parts k kept far.made
-  IsReadyFor-part within = record {
-    decided = decided;
-    are = are;
-    closures = far.closures;
-    right = far.right;
-    operands = λ g o j a l e f.
-        let needed : k ≤ get_or uses j 0 = last.each j (omega arith) k within (subst (λ z. IsOperandOf z (get_or parts k core.True)) (sym e) o) in
-        subst (λ (z : Core). IsAnswerOf parts far.made z (as_answer a)) e (far.kept_made j a (omega arith) needed f);
-  }
+  operands_made : k < length parts → AreOperandsMade parts far.made kept (get_or parts k core.True)
+  operands_made within g o j a l e f =
+      let needed : k ≤ get_or uses j 0 = last.each j (omega arith) k within (subst (λ z. IsOperandOf z (get_or parts k core.True)) (sym e) o) in
+      subst (λ (z : Core). IsAnswerOf parts far.made z (as_answer a)) e (far.kept_made j a (omega arith) needed f)
 
-  module _ (within : k < length parts) (answer : Last) (right : IsRightFor system (get_or parts k core.True) (as_answer answer)) (new : List Step) (part : IsPartRecorded system parts k far.made answer steps new)
-      (less : List (Option Last)) (needed : (j : ℕ) → j < k + 1 → k < get_or uses j 0 → get_or less j None ≡ get_or (kept ++ Some answer ∷ []) j None) where
+  module _ (within : k < length parts) (answer : Last) (right : IsRightFor system (get_or parts k core.True) (as_answer answer)) (new : List Step) (part : IsPartRecorded system parts k far.made answer steps new) where
     one_more : parts_due 0 (take (k + 1) parts) ≡ parts_due 0 (take k parts) ++ (counts_due k (get_or parts k core.True) ++ answer_due k (get_or parts k core.True))
     one_more =
         let f = get_or parts k core.True in
@@ -255,9 +249,8 @@ module _ (system : PatternSystem) (root : Core) (decided : IsDecided system root
     at_end : get_or (kept ++ Some answer ∷ []) k None ≡ Some answer
     at_end = get_or_push kept (Some answer) None k count
 
-    kept_more : (j : ℕ) (a : Last) → j < k + 1 → k + 1 ≤ get_or uses j 0 → get_or less j None ≡ Some a → IsAnswerOf parts part.last (get_or parts j core.True) (as_answer a)
-    kept_more j a l m e =
-        let there : get_or (kept ++ Some answer ∷ []) j None ≡ Some a = sym (needed j l (omega arith)) ∙ e in
+    kept_more : (j : ℕ) (a : Last) → j < k + 1 → k + 1 ≤ get_or uses j 0 → get_or (kept ++ Some answer ∷ []) j None ≡ Some a → IsAnswerOf parts part.last (get_or parts j core.True) (as_answer a)
+    kept_more j a l m there =
         ⊎_elim
         (λ (z : j ≡ k).
         let same : answer ≡ a = some_same answer a (sym at_end ∙ (ap (λ i. get_or (kept ++ Some answer ∷ []) i None) (sym z) ∙ there)) in
@@ -268,16 +261,15 @@ module _ (system : PatternSystem) (root : Core) (decided : IsDecided system root
         kept_answer root parts are k far.made part.last part.others (get_or parts j core.True) (as_answer a) j low (omega arith) refl (far.kept_made j a low (omega arith) here))
         (cases_eq j k)
 
-    pub IsRecordedTo-more : IsRecordedTo system parts uses (k + 1) less new
+    pub IsRecordedTo-more : IsRecordedTo system parts uses (k + 1) (kept ++ Some answer ∷ []) new
     IsRecordedTo-more = record {
       made = part.last;
       done = done_more;
       closures = part.closures;
       right = right_more;
       kept_made = kept_more;
-      value = λ j v e m f.
+      value = λ j v e m there.
           let z : j ≡ k = omega arith in
-          let there : get_or (kept ++ Some answer ∷ []) j None ≡ Some (Truth v) = sym (needed j (omega arith) (omega arith)) ∙ f in
           part.value v (some_same answer (Truth v) (sym at_end ∙ (ap (λ i. get_or (kept ++ Some answer ∷ []) i None) (sym z) ∙ there)));
     }
 
@@ -298,37 +290,28 @@ module _ (system : PatternSystem) (root : Core) (decided : IsDecided system root
 
 -- ---- with what the engine knows
 
-pub IsRecording-none : (system : PatternSystem) (parts : List Core) (uses : List ℕ) (cap : ℕ) (steps : List Step) → AddsSteps system parts nothing_made (closures_due parts (length system.rules) 1) [] steps
-    → IsRecording system parts uses cap 0 [] steps
-IsRecording-none system parts uses cap steps h = record { far = IsSoFar-none system parts uses cap; recorded = IsRecordedTo-none system parts uses steps h }
-
-module _ (system : PatternSystem) (root : Core) (o : Outline) (plan : IsPlanned system root o) (cap k : ℕ) (kept : List (Option Last)) (steps : List Step)
-    (r : IsRecording system (parts_in o) o.last_uses.items cap k kept steps) where
-  low_part : k < length o.roots.items → k < length (parts_in o)
-  low_part within = omega (arith, length-cores_of o.roots.items)
-
-  module _ (within : k < length o.roots.items) where
-    pub IsNextPart-next : IsNextPart system cap o k kept
-    IsNextPart-next = IsNextPart-at system root o plan.decided plan.laid cap k kept r.far within
-
-    pub IsReadyFor-next : IsReadyFor system root (parts_in o) k kept r.recorded.made
-    IsReadyFor-next =
-        IsReadyFor-part system root plan.decided (parts_in o) plan.laid.parts o.whole o.last_uses.items plan.laid.uses k kept steps r.far.kept_are.count r.recorded (low_part within)
-
-    pub IsRecording-more : (answer : Last) → IsDecision system (part_in o k) cap (Ok answer) → (new : List Step) → IsPartRecorded system (parts_in o) k r.recorded.made answer steps new
-        → (less : List (Option Last)) → length less ≡ length (kept ++ Some answer ∷ [])
-        → ((j : ℕ) → j < length (kept ++ Some answer ∷ []) → k < get_or o.last_uses.items j 0 → get_or less j None ≡ get_or (kept ++ Some answer ∷ []) j None)
-        → IsRecording system (parts_in o) o.last_uses.items cap (k + 1) less new
-    IsRecording-more answer decided new part less count needed = record {
-      far = IsSoFar-more system root (parts_in o) plan.laid.parts o.whole o.last_uses.items plan.laid.uses cap k kept r.far answer less decided.ok decided.within count needed;
-      recorded = IsRecordedTo-more system root plan.decided (parts_in o) plan.laid.parts o.whole o.last_uses.items plan.laid.uses k kept steps r.far.kept_are.count r.recorded
-          (low_part within) answer decided.ok new part less (λ j l m. needed j (omega (arith, length-append kept (Some answer ∷ []), r.far.kept_are.count)) m);
+pub AreRecordedTo-more : (system : PatternSystem) → IsSystem system → (cap : ℕ) (o : Outline) (k : ℕ) (kept : List (Option Last)) → IsNextPart system cap o k kept → (d : Decided)
+    → IsFound system (parts_in o) kept (part_in o k) d → (old mid new : List Step) → AreRecordedTo system o k kept old → CountsPushed k d.counts old mid
+    → AnswerAdded k (part_in o k) d.answer mid new → AreRecordedTo system o (k + 1) (kept ++ Some d.answer ∷ []) new
+AreRecordedTo-more system is cap o k kept next d found old mid new h pushed added =
+    let parts = parts_in o in
+    let own = part_in o k in
+    let uses = o.last_uses.items in
+    let laid = next.laid in
+    let far = h.recorded in
+    let within : k < length parts = omega (arith, next.within, length-cores_of o.roots.items) in
+    let made_are = operands_made system next.formula next.decided parts laid.parts o.whole uses laid.uses k kept old next.count far within in
+    let part =
+    part_recorded system is next.formula next.decided parts laid.parts k within cap kept far.made d.answer old mid new next.operands far.closures made_are
+    (counts_added parts far.made kept k d.counts old mid own made_are found.counted pushed) found.right
+    (turned_answer system cap parts far.made kept own d.answer next.operands made_are found.turned) added in
+    record {
+      few = h.few;
+      recorded =
+          IsRecordedTo-more system next.formula next.decided parts laid.parts o.whole uses laid.uses k kept old next.count far within d.answer found.right new part;
     }
 
-    pub IsLimit-next : (limit : Limit) → limit.part ≡ k → as_kind limit.kind ≡ kind_of (part_in o k) → HasTooMany system (part_in o k) cap limit.tuples → IsLimit system root cap limit
-    IsLimit-next limit at kind many =
-        IsLimit-part system root (parts_in o) plan.laid.parts o.whole o.last_uses.items plan.laid.uses cap k kept r.far limit (low_part within) at kind many
-
+module _ (system : PatternSystem) (root : Core) (o : Outline) (plan : IsPlanned system root o) (cap k : ℕ) (kept : List (Option Last)) (far : IsSoFar system (parts_in o) o.last_uses.items cap k kept) where
   module _ (all : k ≡ length o.roots.items) where
     end : k ≡ length (parts_in o)
     end = all ∙ sym (length-cores_of o.roots.items)
@@ -337,10 +320,10 @@ module _ (system : PatternSystem) (root : Core) (o : Outline) (plan : IsPlanned 
     low = omega (arith, plan.laid.within, length-cores_of o.roots.items)
 
     pub taken_right : HasRightAnswer system root (get_or kept o.whole None)
-    taken_right = HasRightAnswer-root system root (parts_in o) plan.laid.parts o.whole o.last_uses.items plan.laid.uses cap k kept r.far end low plan.laid.whole_is
+    taken_right = HasRightAnswer-root system root (parts_in o) plan.laid.parts o.whole o.last_uses.items plan.laid.uses cap k kept far end low plan.laid.whole_is
 
     pub none_over_end : (ps : List Core) (j : ℕ) → AreParts root ps → j < length ps → IsPartOver system (get_or ps j core.True) cap → ⊥
-    none_over_end ps j also l over = none_over system root (parts_in o) plan.laid.parts o.whole o.last_uses.items plan.laid.uses cap k kept r.far end ps j also l over
+    none_over_end ps j also l over = none_over system root (parts_in o) plan.laid.parts o.whole o.last_uses.items plan.laid.uses cap k kept far end ps j also l over
 
     -- the root is the last part
     root_last : (n : ℕ) → length (parts_in o) ≡ suc n → o.whole ≡ n
@@ -348,10 +331,11 @@ module _ (system : PatternSystem) (root : Core) (o : Outline) (plan : IsPlanned 
         let at = last_part root (parts_in o) plan.laid.parts n e in
         part_one root (parts_in o) plan.laid.parts root o.whole n (low, plan.laid.whole_is) (omega arith, at)
 
-    pub IsWritten-root : (v : Bool) → get_or kept o.whole None ≡ Some (Truth v) → (first : ℕ) → IsWritten system root (record { first = first; verdict = v; steps = map as_step steps })
-    IsWritten-root v e first =
+    pub IsWritten-root : (steps : List Step) → IsRecordedTo system (parts_in o) o.last_uses.items k kept steps → (v : Bool) → get_or kept o.whole None ≡ Some (Truth v) → (first : ℕ)
+        → IsWritten system root (record { first = first; verdict = v; steps = map as_step steps })
+    IsWritten-root steps recorded v e first =
         let next : o.whole + 1 ≡ k = by (length (parts_in o)) refl in
-        IsWritten-end system root plan.decided (parts_in o) plan.laid.parts o.whole o.last_uses.items plan.laid.uses k kept steps r.far.kept_are.count r.recorded end o.whole v next
+        IsWritten-end system root plan.decided (parts_in o) plan.laid.parts o.whole o.last_uses.items plan.laid.uses k kept steps far.kept_are.count recorded end o.whole v next
         (omega (arith, end, plan.laid.uses.whole_is)) e steps refl first
       where
         by : (n : ℕ) → length (parts_in o) ≡ n → o.whole + 1 ≡ k

@@ -1,17 +1,18 @@
--- Inside: steps behind those that are recorded, what is known before a part is decided, and what it adds.
+-- Inside: steps behind those that are recorded, what a part adds, and what is recorded of the first parts.
 use Rattle.std.specs.Prelude.{◌≡◌, ℕ, ◌+◌, ◌<◌, ◌≤◌, ◌^◌, List, [], ◌∷◌, ◌++◌, map, take, length, get_or, Bool, true, false, Option, None, Some}
+use Rattle.std.specs.declared.alloc.Global.{Global}
+use Rattle.std.specs.declared.vec.Vec.{Vec}
+use Rattle.std.proofs.Common.{sym, ◌∙◌, arith}
 use Rattle.fort_theory.specs.Patterns.{PatternSystem}
 use Rattle.fort_logic.specs.Cores as core
 use Rattle.fort_logic.specs.Cores.{Core}
-use Rattle.fort_logic.specs.PartLists.{AreParts}
 use Rattle.fort_logic.specs.PatternStructures.{pattern_structure}
 use Rattle.fort_tables.specs.Tables.{Table, Listed, IsListed}
-use Rattle.fort_operations.specs.Projections.{ArePure}
 use Rattle.fort_counts.specs.Counts as counts
-use Rattle.fort_counts.specs.Counts.{AreCounts}
-use Rattle.fort_parts.specs.PartColumns.{columns_of, place_in}
+use Rattle.fort_infinity.specs.declared.count.Count.{Count}
+use Rattle.fort_infinity.specs.CountView.{as_count}
 use Rattle.fort_parts.specs.PartAnswers.{OfTable, IsAnswerTo}
-use Rattle.fort_parts.specs.DecidedCores.{IsDecided, IsOperandOf}
+use Rattle.fort_parts.specs.DecidedCores.{IsOperandOf}
 use Rattle.fort_certificate_grammar.specs.Certificates as certificates
 use Rattle.fort_in_order.specs.Dues.{DueStep, is_turned, counts_due, answer_due, parts_due, closures_due}
 use Rattle.fort_in_order.specs.Made.{Made, nothing_made, IsAnswerOf}
@@ -19,11 +20,11 @@ use Rattle.fort_in_order.specs.Checked.{AreSteps, last_value}
 use Rattle.fort_in_order.specs.Written.{IsWrittenStep}
 use Rattle.fort_in_order_laws.proofs.FineSteps.{HasClosures}
 use Rattle.fort_outline.specs.declared.outline.Outline.{Outline}
-use Rattle.fort_outline.specs.Outlines.{IsOutlineOf}
+use Rattle.fort_outline.specs.Outlines.{parts_in}
 use Rattle.fort_engine.specs.declared.answer.Last.{Last}
 use Rattle.fort_engine.specs.declared.answer.Last.TheVariants.{Truth, Auto}
 use Rattle.fort_engine.specs.AnswerView.{as_answer}
-use Rattle.fort_engine.proofs.DecideLaws.{IsSoFar}
+use Rattle.fort_engine.specs.Found.{AreMarks}
 use Rattle.fort_steps.specs.declared.step.Step.{Step}
 use Rattle.fort_steps.specs.StepView.{as_step}
 
@@ -46,17 +47,16 @@ IsKeptMade parts made kept g =
 abbrev pub AreOperandsMade : List Core → Made → List (Option Last) → Core → Type 0
 AreOperandsMade parts made kept f = (g : Core) → IsOperandOf g f → IsKeptMade parts made kept g
 
--- the counts of the states of a table of g with the column of the number n alone present
-pub record AreMarks (n : ℕ) (g : Core) (table : Table) (marks : List counts.Count) : Type 0 where
-  pub states : List ℕ
-  pub pure : ArePure table (place_in (columns_of g) n) states
-  pub counts : AreCounts table (place_in (columns_of g) n) states marks
-
 -- those of the table that the steps make for g
 pub record AreMarksMade (parts : List Core) (made : Made) (n : ℕ) (g : Core) (marks : List counts.Count) : Type 0 where
   pub table : Table
   pub body : IsAnswerOf parts made g (OfTable table)
   pub are : AreMarks n g table marks
+
+-- the step of counts, where there are any
+abbrev pub CountsPushed : ℕ → Option (Vec Count Global) → (old new : List Step) → Type 0
+CountsPushed k None old new = new ≡ old
+CountsPushed k (Some list) old new = IsOneMore old (certificates.Counts k (map as_count list.items)) new
 
 -- the counts of part k, which is "infinitely many" of g
 pub record AreCountsAdded (parts : List Core) (made : Made) (k n : ℕ) (g : Core) (old new : List Step) : Type 0 where
@@ -93,14 +93,6 @@ HasRightSteps system parts k made =
     (j : ℕ) → j < k → j < length parts → is_turned (get_or parts j core.True) ≡ false
     → IsAnswerTo (pattern_structure system) (get_or parts j core.True) (made.answers j)
 
--- what is known before part k
-pub record IsReadyFor (system : PatternSystem) (root : Core) (parts : List Core) (k : ℕ) (kept : List (Option Last)) (made : Made) : Type 0 where
-  pub decided : IsDecided system root
-  pub are : AreParts root parts
-  pub closures : HasClosures system parts (1 + length system.rules) made
-  pub right : HasRightSteps system parts k made
-  pub operands : AreOperandsMade parts made kept (get_or parts k core.True)
-
 -- its steps, which make its answer and leave the others
 pub record IsPartRecorded (system : PatternSystem) (parts : List Core) (k : ℕ) (made : Made) (answer : Last) (old new : List Step) : Type 0 where
   pub added : List certificates.Step
@@ -122,13 +114,24 @@ pub record IsRecordedTo (system : PatternSystem) (parts : List Core) (uses : Lis
       → IsAnswerOf parts made (get_or parts j core.True) (as_answer a)
   pub value : (j : ℕ) (v : Bool) → j + 1 ≡ k → k ≤ get_or uses j 0 → get_or kept j None ≡ Some (Truth v) → last_value (map as_step steps) ≡ Some v
 
--- the outline of a formula to be decided, whose parts are numbered by 32 bits
-pub record IsPlanned (system : PatternSystem) (root : Core) (outline : Outline) : Type 0 where
-  pub decided : IsDecided system root
-  pub laid : IsOutlineOf root outline
+-- the same, where the parts are numbered by 32 bits
+pub record AreRecordedTo (system : PatternSystem) (outline : Outline) (k : ℕ) (kept : List (Option Last)) (steps : List Step) : Type 0 where
   pub few : length outline.roots.items < 2 ^ 32
+  pub recorded : IsRecordedTo system (parts_in outline) outline.last_uses.items k kept steps
 
--- the first k parts are decided and recorded
-pub record IsRecording (system : PatternSystem) (parts : List Core) (uses : List ℕ) (cap k : ℕ) (kept : List (Option Last)) (steps : List Step) : Type 0 where
-  pub far : IsSoFar system parts uses cap k kept
-  pub recorded : IsRecordedTo system parts uses k kept steps
+-- answers that are not needed may be let go
+pub AreRecordedTo-less : (system : PatternSystem) (outline : Outline) (k : ℕ) (kept less : List (Option Last)) (steps : List Step) → AreRecordedTo system outline k kept steps
+    → ((j : ℕ) → j < k → k ≤ get_or outline.last_uses.items j 0 → get_or less j None ≡ get_or kept j None) → AreRecordedTo system outline k less steps
+AreRecordedTo-less system outline k kept less steps h same =
+    let far = h.recorded in
+    record {
+      few = h.few;
+      recorded = record {
+        made = far.made;
+        done = far.done;
+        closures = far.closures;
+        right = far.right;
+        kept_made = λ j a l m e. far.kept_made j a l m (sym (same j l m) ∙ e);
+        value = λ j v n m e. far.value j v n m (sym (same j (omega arith) m) ∙ e);
+      };
+    }

@@ -5,6 +5,7 @@ mod answers;
 mod closures;
 mod counts;
 mod decide;
+mod recorder;
 mod targets;
 
 pub use decide::{Recorded, decide_with_steps};

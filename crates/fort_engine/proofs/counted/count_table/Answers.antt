@@ -1,10 +1,9 @@
-use Rattle.std.proofs.Common.{◌≡◌, ◌<◌, map, subst, sym, ap, ◌∙◌, arith}
-use Rattle.fort_logic.specs.Cores as core
+use Rattle.std.proofs.Common.{◌≡◌, ◌<◌, map, subst, sym}
 use Rattle.fort_tables.specs.Tables.{listed_table}
-use Rattle.fort_counts.specs.Counts.{KeepRules, count_at}
-use Rattle.fort_counts.proofs.TellsLaws.{TellsMany-marks}
-use Rattle.fort_infinity.specs.CountView.{as_count, is_many}
-use Rattle.fort_engine.proofs.AnswerLaws.{bound_column, bound_within, IsDecision-many_closed, AreLabelsFor-Infinite}
+use Rattle.fort_infinity.specs.CountView.{as_count}
+use Rattle.fort_engine.specs.Found.{IsCounted}
+use Rattle.fort_engine.proofs.AnswerLaws.{bound_column, bound_within}
+use Rattle.fort_engine.proofs.FoundLaws.{IsCounted-body, IsDecidedBy-many}
 use Rattle.fort_engine.proofs.counted.count_table.Goals as goal
 
 pub column_of-column-requires : goal.column_of-column-requires
@@ -24,53 +23,34 @@ pure_counts-requires-clause-column c =
     subst (λ k. k < table.columns) (sym c.column_of-column.ensures)
     (bound_within c.args.system.now c.args.number c.requires.0 (listed_table table) c.args.columns.now b.columns_are b.right b.among)
 
-pub many_value-requires-clause-column : goal.many_value-requires-clause-column
-many_value-requires-clause-column c =
-    let table = c.args.table.now in
-    let b = c.requires.1 in
-    subst (λ k. k < table.columns) (sym c.column_of-column.ensures)
-    (bound_within c.args.system.now c.args.number c.requires.0 (listed_table table) c.args.columns.now b.columns_are b.right b.among)
-
-pub new-many-requires-clause-column : goal.new-many-requires-clause-column
-new-many-requires-clause-column c =
-    let table = c.args.table.now in
-    let b = c.requires.1 in
-    subst (λ k. k < table.columns) (sym c.column_of-column.ensures)
-    (bound_within c.args.system.now c.args.number c.requires.0 (listed_table table) c.args.columns.now b.columns_are b.right b.among)
-
-pub returns-then-columns-eq1 : goal.returns-then-columns-eq1
-returns-then-columns-eq1 c f b =
-    let table = listed_table c.args.table.now in
-    let alone : c.deref.result.now ≡ c.deref-then-columns-eq1.result.now = cc in
-    let counts : c.in_ok-counts.counts.items ≡ c.deref-then-columns-eq1-2.result.now = cc in
-    let over = b.right.answers.over in
-    let low = subst (λ k. k < table.columns) (sym c.column_of-column.ensures)
-    (bound_within c.args.system.now c.args.number f table c.args.columns.now b.columns_are b.right b.among) in
-    let rules = subst (λ ks. KeepRules table c.column_of-column.result (count_at ks (map as_count c.deref-then-columns-eq1-2.result.now))) alone
-    (subst (λ ns. KeepRules table c.column_of-column.result (count_at c.deref.result.now (map as_count ns))) counts c.in_ok-counts.ensures.rules) in
-    IsDecision-many_closed c.args.system.now c.args.number f c.args.cap table c.args.columns.now c.column_of-column.result
-    (is_many c.deref-then-columns-eq1.result.now c.deref-then-columns-eq1-2.result.now) c.many_value.result b.columns_are
-    c.column_of-column.ensures b.right b.among (sym c.columns.ensures.count ∙ c.if-columns-eq1.true)
-    (TellsMany-marks table c.column_of-column.result (count_at c.deref-then-columns-eq1.result.now (map as_count c.deref-then-columns-eq1-2.result.now)) over.lawful over.reached low rules)
-    c.many_value.ensures.value
-
-pub returns : goal.returns
-returns c f b =
+pub by_counts-answer-requires : goal.by_counts-answer-requires
+by_counts-answer-requires c =
     let table = listed_table c.args.table.now in
     let alone : c.deref.result.now ≡ c.deref-2.result.now = cc in
     let counts : c.in_ok-counts.counts.items ≡ c.deref-3.result.now = cc in
-    let over = b.right.answers.over in
-    let low = subst (λ k. k < table.columns) (sym c.column_of-column.ensures)
-    (bound_within c.args.system.now c.args.number f table c.args.columns.now b.columns_are b.right b.among) in
-    let rules = subst (λ ks. KeepRules table c.column_of-column.result (count_at ks (map as_count c.deref-3.result.now))) alone
-    (subst (λ ns. KeepRules table c.column_of-column.result (count_at c.deref.result.now (map as_count ns))) counts c.in_ok-counts.ensures.rules) in
-    let made = c.new-many.ensures in
-    let some = over.some in
-    let wide : 1 < table.columns = omega (arith, c.columns.ensures.count, c.if-columns-eq1.false, over.some, over.columns_are) in
-    let few : is_many c.new-many.result.alone.now c.new-many.result.counts.now ≡ is_many c.deref-2.result.now c.deref-3.result.now =
-    ap (λ ks. is_many ks c.new-many.result.counts.now) made.alone ∙ ap (λ ns. is_many c.deref-2.result.now ns) made.counts in
-    c.explored.ensures (core.Infinite c.args.number f)
-    (AreLabelsFor-Infinite c.args.system.now c.args.number f table (listed_table c.new-many.result.body.now) c.args.columns.now c.column_of-column.result
-    c.new-many.result.column (is_many c.deref-2.result.now c.deref-3.result.now) (is_many c.new-many.result.alone.now c.new-many.result.counts.now)
-    (ap listed_table made.body) b.columns_are c.column_of-column.ensures made.column few b.right b.among wide
-    (TellsMany-marks table c.column_of-column.result (count_at c.deref-2.result.now (map as_count c.deref-3.result.now)) over.lawful over.reached low rules))
+    let is : IsCounted c.args.system.now c.args.number c.requires.0 table c.column_of-column.result c.deref.result.now (map as_count c.in_ok-counts.counts.items) =
+    IsCounted-body c.args.system.now c.args.number c.requires.0 table c.args.columns.now c.column_of-column.result c.in_ok-alone.alone.items c.deref.result.now
+    (map as_count c.in_ok-counts.counts.items) c.requires.1 c.column_of-column.ensures c.in_ok-alone.ensures (sym c.deref.ensures.value) c.in_ok-counts.ensures in (
+      c.args.number,
+      c.requires.0,
+      subst (λ ks. IsCounted c.args.system.now c.args.number c.requires.0 table c.column_of-column.result ks (map as_count c.deref-3.result.now)) alone
+          (subst (λ ns. IsCounted c.args.system.now c.args.number c.requires.0 table c.column_of-column.result c.deref.result.now (map as_count ns)) counts is),
+    )
+
+pub returns : goal.returns
+returns c f b =
+    let system = c.args.system.now in
+    let n = c.args.number in
+    let table = listed_table c.args.table.now in
+    let at = c.column_of-column.result in
+    let list = c.in_ok-counts.counts in
+    let alone : c.deref.result.now ≡ c.deref-2.result.now = cc in
+    let counts : list.items ≡ c.deref-3.result.now = cc in
+    let is : IsCounted system n f table at c.deref.result.now (map as_count list.items) =
+    IsCounted-body system n f table c.args.columns.now at c.in_ok-alone.alone.items c.deref.result.now (map as_count list.items) b c.column_of-column.ensures
+    c.in_ok-alone.ensures (sym c.deref.ensures.value) c.in_ok-counts.ensures in
+    let there : IsCounted system n f table at c.deref-2.result.now (map as_count c.deref-3.result.now) =
+    subst (λ ks. IsCounted system n f table at ks (map as_count c.deref-3.result.now)) alone
+    (subst (λ ns. IsCounted system n f table at c.deref.result.now (map as_count ns)) counts is) in
+    IsDecidedBy-many system c.args.cap n f c.args.table.now list at c.deref.result.now is c.by_counts-answer.result c.with_counts.result
+    (c.by_counts-answer.ensures n f there) c.with_counts.ensures

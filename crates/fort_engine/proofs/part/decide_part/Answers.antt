@@ -1,14 +1,18 @@
-use Rattle.std.proofs.Common.{refl, sym, subst, get_or}
+use Rattle.std.proofs.Common.{Ok, true, refl, subst, get_or}
 use Rattle.fort_logic.specs.Cores as core
 use Rattle.fort_logic.specs.Parts.{BindsFree}
 use Rattle.fort_parts.specs.DecidedCores.{IsOverSystem}
 use Rattle.fort_outline.specs.Outlines.{parts_in}
+use Rattle.fort_engine.specs.declared.answer.Last.TheVariants.{Truth}
 use Rattle.fort_engine.specs.Deciding.{IsDecision}
 use Rattle.fort_engine.proofs.OperandLaws.{has_root, next_is, next_over, operand_of_root, kept_below, columns_below, operand_there, operand_taken, operand_within, IsBody-operand, IsDecision-True}
+use Rattle.fort_engine.proofs.FoundLaws.{plain_found, negation_found, many_found}
 use Rattle.fort_engine.proofs.part.decide_part.Goals as goal
 
 pub returns-in-True : goal.returns-in-True
-returns-in-True c = IsDecision-True c.args.system.now (get_or (parts_in c.args.outline.now) c.args.k core.True) c.args.cap (next_is (has_root c.requires c.index.ensures c.in-True.is))
+returns-in-True c =
+    plain_found (has_root c.requires c.index.ensures c.in-True.is) tt (Ok (Truth true)) c.plain.result (IsDecision-True c.args.system.now core.True c.args.cap refl)
+    c.plain.ensures
 
 pub related-requires : goal.related-requires
 related-requires c = subst (IsOverSystem c.args.system.now) (next_is (has_root c.requires c.index.ensures c.in-Atom.is)) c.requires.fit.over
@@ -18,15 +22,17 @@ normal_form-requires c = subst (IsOverSystem c.args.system.now) (next_is (has_ro
 
 pub returns-in-Atom : goal.returns-in-Atom
 returns-in-Atom c =
-    subst (λ z. IsDecision c.args.system.now z c.args.cap c.related.result) (sym (next_is (has_root c.requires c.index.ensures c.in-Atom.is))) c.related.ensures
+    plain_found (has_root c.requires c.index.ensures c.in-Atom.is) tt c.related.result c.plain-in-Atom.result c.related.ensures c.plain-in-Atom.ensures
 
 pub returns-in-Nf : goal.returns-in-Nf
 returns-in-Nf c =
-    subst (λ z. IsDecision c.args.system.now z c.args.cap c.normal_form.result) (sym (next_is (has_root c.requires c.index.ensures c.in-Nf.is))) (c.normal_form.ensures c.in-Nf.field-1)
+    plain_found (has_root c.requires c.index.ensures c.in-Nf.is) tt c.normal_form.result c.plain-in-Nf.result (c.normal_form.ensures c.in-Nf.field-1)
+    c.plain-in-Nf.ensures
 
 pub returns-in-Is : goal.returns-in-Is
 returns-in-Is c =
-    subst (λ z. IsDecision c.args.system.now z c.args.cap c.this_term.result) (sym (next_is (has_root c.requires c.index.ensures c.in-Is.is))) (c.this_term.ensures c.in-Is.field-0)
+    plain_found (has_root c.requires c.index.ensures c.in-Is.is) tt c.this_term.result c.plain-in-Is.result (c.this_term.ensures c.in-Is.field-0)
+    c.plain-in-Is.ensures
 
 pub kept_answer-requires-clause-within : goal.kept_answer-requires-clause-within
 kept_answer-requires-clause-within c = let h = has_root c.requires c.index.ensures c.in-Not.is in kept_below (operand_of_root c.in-Not.f h (next_over h) refl)
@@ -66,8 +72,27 @@ returns-in-Not c =
     let a = c.args in
     let h = has_root c.requires c.index.ensures c.in-Not.is in
     let o = operand_of_root c.in-Not.f h (next_over h) refl in
-    subst (λ z. IsDecision a.system.now z a.cap c.complement.result) (sym (next_is h))
-    (c.complement.ensures a.system.now a.cap (get_or (parts_in a.outline.now) c.in-Not.f core.True) (operand_taken o c.kept_answer.ensures) (operand_within o))
+    negation_found c.in-Not.f c.kept_answer.result.now h c.kept_answer.ensures c.complement.result c.plain-in-Not.result
+    (c.complement.ensures.decided a.system.now a.cap (get_or (parts_in a.outline.now) c.in-Not.f core.True) (operand_taken o c.kept_answer.ensures) (operand_within o))
+    c.complement.ensures.turned c.plain-in-Not.ensures
+
+pub returns-in-And : goal.returns-in-And
+returns-in-And c =
+    let h = has_root c.requires c.index.ensures c.in-And.is in
+    plain_found h tt c.join_parts.result c.plain-in-And.result (subst (λ z. IsDecision c.args.system.now z c.args.cap c.join_parts.result) (next_is h) c.join_parts.ensures)
+    c.plain-in-And.ensures
+
+pub returns-in-Or : goal.returns-in-Or
+returns-in-Or c =
+    let h = has_root c.requires c.index.ensures c.in-Or.is in
+    plain_found h tt c.join_parts-in-Or.result c.plain-in-Or.result (subst (λ z. IsDecision c.args.system.now z c.args.cap c.join_parts-in-Or.result) (next_is h) c.join_parts-in-Or.ensures)
+    c.plain-in-Or.ensures
+
+pub returns-in-Iff : goal.returns-in-Iff
+returns-in-Iff c =
+    let h = has_root c.requires c.index.ensures c.in-Iff.is in
+    plain_found h tt c.join_parts-in-Iff.result c.plain-in-Iff.result (subst (λ z. IsDecision c.args.system.now z c.args.cap c.join_parts-in-Iff.result) (next_is h) c.join_parts-in-Iff.ensures)
+    c.plain-in-Iff.ensures
 
 pub project-requires : goal.project-requires
 project-requires c =
@@ -87,7 +112,7 @@ returns-in-Exists c =
     let g = get_or (parts_in a.outline.now) c.in-Exists.f core.True in
     let binds : BindsFree (core.Exists c.in-Exists.n g) = subst BindsFree (next_is h) c.requires.fit.binders in
     let body = IsBody-operand c.in-Exists.n c.kept_operand.result.columns.now o binds.0 c.kept_operand.ensures.answer c.kept_operand.ensures.columns in
-    subst (λ z. IsDecision a.system.now z a.cap c.project.result) (sym (next_is h)) (c.project.ensures g body)
+    plain_found h tt c.project.result c.plain-in-Exists.result (c.project.ensures g body) c.plain-in-Exists.ensures
 
 pub count-requires : goal.count-requires
 count-requires c =
@@ -107,4 +132,5 @@ returns-in-Infinite c =
     let g = get_or (parts_in a.outline.now) c.in-Infinite.f core.True in
     let binds : BindsFree (core.Infinite c.in-Infinite.n g) = subst BindsFree (next_is h) c.requires.fit.binders in
     let body = IsBody-operand c.in-Infinite.n c.kept_operand-in-Infinite.result.columns.now o binds.0 c.kept_operand-in-Infinite.ensures.answer c.kept_operand-in-Infinite.ensures.columns in
-    subst (λ z. IsDecision a.system.now z a.cap c.count.result) (sym (next_is h)) (c.count.ensures g body)
+    many_found c.in-Infinite.n c.in-Infinite.f c.kept_operand-in-Infinite.result.answer.now h c.kept_operand-in-Infinite.ensures.answer c.count.result
+    (c.count.ensures g body)

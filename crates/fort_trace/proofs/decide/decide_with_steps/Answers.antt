@@ -1,12 +1,34 @@
-use Rattle.std.proofs.Common.{◌≡◌, Some, None, length, get_or, refl, sym, ap, ◌∙◌, arith}
+use Rattle.std.proofs.Common.{◌≡◌, ◌<◌, ◌^◌, List, [], Some, None, length, get_or, refl, sym, ap, ◌∙◌, subst, arith}
 use Rattle.std.proofs.lemmas.List.{get_or_default}
 use Rattle.fort_formulas.specs.CoreView.{as_core}
+use Rattle.fort_in_order.specs.Dues.{closures_due}
+use Rattle.fort_in_order.specs.Made.{nothing_made}
+use Rattle.fort_outline.specs.declared.root.Root.{Root}
+use Rattle.fort_outline.specs.Roots.{cores_of}
+use Rattle.fort_outline.specs.Outlines.{parts_in}
 use Rattle.fort_engine.specs.declared.answer.Last.TheVariants.{Truth}
+use Rattle.fort_engine.specs.Deciding.{IsPlanned}
 use Rattle.fort_engine.proofs.OperandLaws.{none_taken}
 use Rattle.fort_engine.proofs.DecideLaws.{IsAnswerTo-taken}
-use Rattle.fort_trace.specs.Recording.{IsPlanned}
-use Rattle.fort_trace.proofs.RecordLaws.{taken_right, none_over_end, IsWritten-root, no_table}
+use Rattle.fort_steps.specs.declared.step.Step.{Step}
+use Rattle.fort_trace.specs.Recording.{AddsSteps}
+use Rattle.fort_trace.proofs.RecordLaws.{IsRecordedTo-none, taken_right, none_over_end, IsWritten-root, no_table}
 use Rattle.fort_trace.proofs.decide.decide_with_steps.Goals as goal
+
+pub decide_parts-requires-clause-planned : goal.decide_parts-requires-clause-planned
+decide_parts-requires-clause-planned c = (as_core c.args.core.now, record { decided = c.requires.decided; laid = c.in_ok-outline.ensures })
+
+pub decide_parts-requires-clause-begun : goal.decide_parts-requires-clause-begun
+decide_parts-requires-clause-begun c =
+    let system = c.args.system.now in
+    let o = c.in_ok-outline.outline in
+    let new = c.push_closures.new.steps.items in
+    let few : length o.roots.items < 2 ^ 32 = omega (arith, c.len.ensures) in
+    let begun : AddsSteps system (parts_in o) nothing_made (closures_due (parts_in o) (length system.rules) 1) [] new =
+    subst (λ (rs : List Root). AddsSteps system (cores_of rs) nothing_made (closures_due (cores_of rs) (length system.rules) 1) [] new) c.deref.ensures.value
+    (subst (λ (xs : List Step). AddsSteps system (cores_of c.deref.result.now) nothing_made (closures_due (cores_of c.deref.result.now) (length system.rules) 1) xs new)
+    c.new-list.ensures.items (c.in_ok-push_closures.ensures nothing_made)) in
+    record { few = few; recorded = IsRecordedTo-none system (parts_in o) o.last_uses.items new begun }
 
 pub unreachable-requires : goal.unreachable-requires
 unreachable-requires c =
@@ -15,17 +37,12 @@ unreachable-requires c =
     let f = as_core a.core.now in
     let o = c.in_ok-outline.outline in
     let kept = c.in-Ok.kept.items in
-    let steps = c.record_parts.new.steps.items in
-    let all : length o.roots.items ≡ length o.roots.items = refl in
-    let plan : IsPlanned system f o = record {
-      decided = c.requires.decided;
-      laid = c.in_ok-outline.ensures;
-      few = omega (arith, c.len.ensures);
-    } in
-    let r = c.in-Ok.ensures.done in
+    let n = length o.roots.items in
+    let plan : IsPlanned system f o = record { decided = c.requires.decided; laid = c.in_ok-outline.ensures } in
+    let far = c.in-Ok.ensures.far in
     let taken : get_or kept o.whole None ≡ c.swap_remove.result =
-    get_or_default kept o.whole None c.swap_remove.result (omega (arith, plan.laid.within, r.far.kept_are.count)) ∙ sym c.swap_remove.ensures.value in
-    let has = taken_right system f o plan a.cap (length o.roots.items) kept steps r all in
+    get_or_default kept o.whole None c.swap_remove.result (omega (arith, plan.laid.within, far.kept_are.count)) ∙ sym c.swap_remove.ensures.value in
+    let has = taken_right system f o plan a.cap n kept far refl in
     no_table system f (get_or kept o.whole None) c.in-Some-Auto.field-0-0 c.requires.closed has (taken ∙ (c.in-Some-Auto.is ∙ ap Some c.in-Some-Auto.field-0-is))
 
 pub unreachable-requires-in-None : goal.unreachable-requires-in-None
@@ -35,17 +52,12 @@ unreachable-requires-in-None c =
     let f = as_core a.core.now in
     let o = c.in_ok-outline.outline in
     let kept = c.in-Ok.kept.items in
-    let steps = c.record_parts.new.steps.items in
-    let all : length o.roots.items ≡ length o.roots.items = refl in
-    let plan : IsPlanned system f o = record {
-      decided = c.requires.decided;
-      laid = c.in_ok-outline.ensures;
-      few = omega (arith, c.len.ensures);
-    } in
-    let r = c.in-Ok.ensures.done in
+    let n = length o.roots.items in
+    let plan : IsPlanned system f o = record { decided = c.requires.decided; laid = c.in_ok-outline.ensures } in
+    let far = c.in-Ok.ensures.far in
     let taken : get_or kept o.whole None ≡ c.swap_remove.result =
-    get_or_default kept o.whole None c.swap_remove.result (omega (arith, plan.laid.within, r.far.kept_are.count)) ∙ sym c.swap_remove.ensures.value in
-    let has = taken_right system f o plan a.cap (length o.roots.items) kept steps r all in
+    get_or_default kept o.whole None c.swap_remove.result (omega (arith, plan.laid.within, far.kept_are.count)) ∙ sym c.swap_remove.ensures.value in
+    let has = taken_right system f o plan a.cap n kept far refl in
     none_taken system f (get_or kept o.whole None) has (taken ∙ c.in-None.is)
 
 pub returns-clause-truth : goal.returns-clause-truth
@@ -55,17 +67,12 @@ returns-clause-truth c =
     let f = as_core a.core.now in
     let o = c.in_ok-outline.outline in
     let kept = c.in-Ok.kept.items in
-    let steps = c.record_parts.new.steps.items in
-    let all : length o.roots.items ≡ length o.roots.items = refl in
-    let plan : IsPlanned system f o = record {
-      decided = c.requires.decided;
-      laid = c.in_ok-outline.ensures;
-      few = omega (arith, c.len.ensures);
-    } in
-    let r = c.in-Ok.ensures.done in
+    let n = length o.roots.items in
+    let plan : IsPlanned system f o = record { decided = c.requires.decided; laid = c.in_ok-outline.ensures } in
+    let far = c.in-Ok.ensures.far in
     let taken : get_or kept o.whole None ≡ c.swap_remove.result =
-    get_or_default kept o.whole None c.swap_remove.result (omega (arith, plan.laid.within, r.far.kept_are.count)) ∙ sym c.swap_remove.ensures.value in
-    let has = taken_right system f o plan a.cap (length o.roots.items) kept steps r all in
+    get_or_default kept o.whole None c.swap_remove.result (omega (arith, plan.laid.within, far.kept_are.count)) ∙ sym c.swap_remove.ensures.value in
+    let has = taken_right system f o plan a.cap n kept far refl in
     let truth : get_or kept o.whole None ≡ Some (Truth c.in-Some-Truth.verdict) = taken ∙ (c.in-Some-Truth.is ∙ ap Some c.in-Some-Truth.field-0-is) in
     IsAnswerTo-taken system f (get_or kept o.whole None) (Truth c.in-Some-Truth.verdict) has truth
 
@@ -76,19 +83,13 @@ returns-clause-written c first =
     let f = as_core a.core.now in
     let o = c.in_ok-outline.outline in
     let kept = c.in-Ok.kept.items in
-    let steps = c.record_parts.new.steps.items in
-    let all : length o.roots.items ≡ length o.roots.items = refl in
-    let plan : IsPlanned system f o = record {
-      decided = c.requires.decided;
-      laid = c.in_ok-outline.ensures;
-      few = omega (arith, c.len.ensures);
-    } in
-    let r = c.in-Ok.ensures.done in
+    let n = length o.roots.items in
+    let plan : IsPlanned system f o = record { decided = c.requires.decided; laid = c.in_ok-outline.ensures } in
+    let far = c.in-Ok.ensures.far in
     let taken : get_or kept o.whole None ≡ c.swap_remove.result =
-    get_or_default kept o.whole None c.swap_remove.result (omega (arith, plan.laid.within, r.far.kept_are.count)) ∙ sym c.swap_remove.ensures.value in
-    let has = taken_right system f o plan a.cap (length o.roots.items) kept steps r all in
+    get_or_default kept o.whole None c.swap_remove.result (omega (arith, plan.laid.within, far.kept_are.count)) ∙ sym c.swap_remove.ensures.value in
     let truth : get_or kept o.whole None ≡ Some (Truth c.in-Some-Truth.verdict) = taken ∙ (c.in-Some-Truth.is ∙ ap Some c.in-Some-Truth.field-0-is) in
-    IsWritten-root system f o plan a.cap (length o.roots.items) kept steps r all c.in-Some-Truth.verdict truth first
+    IsWritten-root system f o plan a.cap n kept far refl c.decide_parts.new.recorder.list.items c.in-Ok.ensures.recorded.recorded c.in-Some-Truth.verdict truth first
 
 pub returns-clause-within : goal.returns-clause-within
 returns-clause-within c =
@@ -97,12 +98,7 @@ returns-clause-within c =
     let f = as_core a.core.now in
     let o = c.in_ok-outline.outline in
     let kept = c.in-Ok.kept.items in
-    let steps = c.record_parts.new.steps.items in
-    let all : length o.roots.items ≡ length o.roots.items = refl in
-    let plan : IsPlanned system f o = record {
-      decided = c.requires.decided;
-      laid = c.in_ok-outline.ensures;
-      few = omega (arith, c.len.ensures);
-    } in
-    let r = c.in-Ok.ensures.done in
-    none_over_end system f o plan a.cap (length o.roots.items) kept steps r all
+    let n = length o.roots.items in
+    let plan : IsPlanned system f o = record { decided = c.requires.decided; laid = c.in_ok-outline.ensures } in
+    let far = c.in-Ok.ensures.far in
+    none_over_end system f o plan a.cap n kept far refl

@@ -1,0 +1,104 @@
+-- Inside: how the answer to a part was found: the answer that a negation turns, and the counts of "infinitely many".
+use Rattle.std.specs.Prelude.{◌≡◌, ℕ, ◌<◌, List, length, map, get_or, true, Option, None, Some, Result, Ok, Err, IfOk, IfErr, OnOk}
+use Rattle.std.specs.declared.alloc.Global.{Global}
+use Rattle.std.specs.declared.vec.Vec.{Vec}
+use Rattle.fort_theory.specs.Patterns.{PatternSystem}
+use Rattle.fort_logic.specs.Cores as core
+use Rattle.fort_logic.specs.Parts.{is_free}
+use Rattle.fort_tables.specs.Tables.{Table, Listed, listed_table}
+use Rattle.fort_operations.specs.Projections.{ArePure}
+use Rattle.fort_operations.specs.OperationTruth.{complemented}
+use Rattle.fort_counts.specs.Counts as counts
+use Rattle.fort_counts.specs.Counts.{AreCounts}
+use Rattle.fort_infinity.specs.declared.count.Count.{Count}
+use Rattle.fort_infinity.specs.CountView.{as_count}
+use Rattle.fort_parts.specs.PartColumns.{columns_of, place_in}
+use Rattle.fort_parts.specs.AlikeParts.{IsPartOver}
+use Rattle.fort_parts.specs.PartAnswers.{OfTable}
+use Rattle.fort_parts.specs.RightAnswers.{IsRightFor, HasTooMany}
+use Rattle.fort_explore.specs.declared.table.ExploreFault.{ExploreFault}
+use Rattle.fort_explore.specs.Answer.{IfOver}
+use Rattle.fort_engine.specs.declared.answer.Last.{Last}
+use Rattle.fort_engine.specs.declared.answer.Last.TheVariants.{Truth, Auto}
+use Rattle.fort_engine.specs.declared.answer.Decided.{Decided}
+use Rattle.fort_engine.specs.AnswerView.{as_answer}
+
+-- what is decided has the property, and then the formula is not over the cap; or tuples that show that it is
+pub record IsDecidedBy (system : PatternSystem) (f : core.Core) (cap : ℕ) (P : Decided → Type 0) (result : Result Decided ExploreFault) : Type 0 where
+  pub ok : IfOk result P
+  pub within : OnOk result (IsPartOver system f cap → ⊥)
+  pub over : IfErr result (λ e. IfOver e (HasTooMany system f cap))
+
+abbrev pub decided_with : Option (Vec Count Global) → Result Last ExploreFault → Result Decided ExploreFault
+decided_with counts (Ok a) = Ok (record { answer = a; counts = counts })
+decided_with counts (Err e) = Err e
+
+-- the answer to g that is kept
+pub record IsKeptAnswer (parts : List core.Core) (kept : List (Option Last)) (g : core.Core) (answer : Last) : Type 0 where
+  pub place : ℕ
+  pub before : place < length kept
+  pub is : get_or parts place core.True ≡ g
+  pub there : get_or kept place None ≡ Some answer
+
+-- negations
+
+-- the body's table with the accepting states turned
+abbrev pub IsTurnedOf : Last → Last → Type 0
+IsTurnedOf (Truth b) answer = Unit {0}
+IsTurnedOf (Auto table) answer = as_answer answer ≡ OfTable (complemented (listed_table table))
+
+pub record IsNegation (parts : List core.Core) (kept : List (Option Last)) (g : core.Core) (answer : Last) : Type 0 where
+  pub body : Last
+  pub kept_is : IsKeptAnswer parts kept g body
+  pub turned : IsTurnedOf body answer
+
+-- infinitely many
+
+-- a right table of f with its counts, by which "for infinitely many values of n" is decided
+pub record IsCounted (system : PatternSystem) (n : ℕ) (f : core.Core) (table : Table) (column : ℕ) (alone : List ℕ) (marks : List counts.Count) : Type 0 where
+  pub among : is_free n f ≡ true
+  pub right : IsRightFor system f (OfTable table)
+  pub column_is : column ≡ place_in (columns_of f) n
+  pub pure : ArePure table column alone
+  pub marks_are : AreCounts table column alone marks
+
+-- the counts of the states of a table of g with the column of the number n alone present
+pub record AreMarks (n : ℕ) (g : core.Core) (table : Table) (marks : List counts.Count) : Type 0 where
+  pub states : List ℕ
+  pub pure : ArePure table (place_in (columns_of g) n) states
+  pub counts : AreCounts table (place_in (columns_of g) n) states marks
+
+-- a right answer to "for infinitely many values of n" of f, with the counts of the table of f
+pub record IsMany (system : PatternSystem) (n : ℕ) (f : core.Core) (table : Listed) (d : Decided) : Type 0 where
+  pub right : IsRightFor system (core.Infinite n f) (as_answer d.answer)
+  pub list : Vec Count Global
+  pub list_is : d.counts ≡ Some list
+  pub marks : AreMarks n f (listed_table table) (map as_count list.items)
+
+pub record IsManyOf (system : PatternSystem) (n : ℕ) (f : core.Core) (body : Last) (d : Decided) : Type 0 where
+  pub table : Listed
+  pub body_is : body ≡ Auto table
+  pub many : IsMany system n f table d
+
+pub record HasCounts (parts : List core.Core) (kept : List (Option Last)) (n : ℕ) (g : core.Core) (own : Option (Vec Count Global)) : Type 0 where
+  pub table : Listed
+  pub kept_is : IsKeptAnswer parts kept g (Auto table)
+  pub list : Vec Count Global
+  pub list_is : own ≡ Some list
+  pub marks : AreMarks n g (listed_table table) (map as_count list.items)
+
+-- parts
+
+abbrev pub IsItsTurned : List core.Core → List (Option Last) → core.Core → Last → Type 0
+IsItsTurned parts kept (core.Not g) answer = IsNegation parts kept g answer
+IsItsTurned parts kept other answer = Unit {0}
+
+abbrev pub AreItsCounts : List core.Core → List (Option Last) → core.Core → Option (Vec Count Global) → Type 0
+AreItsCounts parts kept (core.Infinite n g) own = HasCounts parts kept n g own
+AreItsCounts parts kept other own = own ≡ None
+
+-- a right answer to f; that of a negation is its body's, turned; "infinitely many" has its counts, and no other formula has any
+pub record IsFound (system : PatternSystem) (parts : List core.Core) (kept : List (Option Last)) (f : core.Core) (d : Decided) : Type 0 where
+  pub right : IsRightFor system f (as_answer d.answer)
+  pub turned : IsItsTurned parts kept f d.answer
+  pub counted : AreItsCounts parts kept f d.counts

@@ -1,0 +1,46 @@
+//! The steps of a certificate are recorded part by part.
+use crate::answers::push_answer;
+use crate::counts::push_counts;
+use fort_engine::{Decided, Last, Recorder};
+use fort_outline::Outline;
+use fort_steps::Step;
+use fort_terms::{Memory, System};
+use std::alloc::Global;
+
+/// The steps so far.
+#[derive(Drop)]
+pub(crate) struct Steps {
+    pub(crate) list: Vec<Step>,
+}
+
+impl Recorder for Steps {
+    ghost use Rattle.fort_trace.specs.Recording.{AreRecordedTo, AreRecordedTo-less};
+
+    ghost recorded = { λ s system o k kept. AreRecordedTo system o k kept s.list.items };
+
+    ghost lets_go = { λ s system o k kept less h same.
+        AreRecordedTo-less system o k kept less s.list.items h same };
+
+    fn note(
+        &mut self,
+        alloc: Global,
+        system: &System,
+        outline: &Outline,
+        k: usize,
+        _kept: &[Option<Last>],
+        decided: &Decided,
+    ) -> Result<(), Memory> {
+        // A system keeps to the law of systems.
+        let _lawful = system.signature();
+        let number = k as u32;
+        push_counts(alloc, number, decided, &mut self.list)?;
+        push_answer(
+            alloc,
+            number,
+            &outline.roots[k],
+            &decided.answer,
+            &mut self.list,
+        )?;
+        Ok(())
+    }
+}
