@@ -3,7 +3,6 @@ pub mod FrontLaws
 pub mod FrontTells
 pub mod FrontKnows
 pub mod SourceLaws
-pub mod PlaceLaws
 pub mod AboutLaws
 pub mod JoinFits
 pub mod LastValues

@@ -6,8 +6,7 @@ use Rattle.fort_logic.specs.Parts.{IsClosed}
 use Rattle.fort_certificate_grammar.specs.Certificates.{Step, Certificate}
 use Rattle.fort_in_order.specs.Made.{Made}
 use Rattle.fort_in_order.specs.Dues.{dues}
-use Rattle.fort_outline.specs.Roots.{cores_of}
-use Rattle.fort_outline.specs.Outlines.{IsOutlineOf}
+use Rattle.fort_outline.specs.Outlines.{IsOutlineOf, parts_in}
 use Rattle.fort_steps.specs.StepView.{as_step}
 use Rattle.fort_certificate.specs.CertificateView.{as_certificate}
 use Rattle.fort_check_steps.specs.DueView.{as_due}
@@ -17,9 +16,6 @@ use Rattle.fort_cert_checker.specs.declared.checker.Checker.{Checker}
 abbrev pub steps_in : Checker → List Step
 steps_in a = map as_step a.certificate.now.steps.items
 
-abbrev pub parts_in : Checker → List Core
-parts_in a = cores_of a.outline.roots.items
-
 -- of this certificate of this formula over this system
 pub record IsCheckerOf (system : PatternSystem) (f : Core) (c : Certificate) (a : Checker) : Type 0 where
   pub system_is : a.system.now ≡ system
@@ -28,10 +24,10 @@ pub record IsCheckerOf (system : PatternSystem) (f : Core) (c : Certificate) (a 
   pub closed : IsClosed f
   pub outline_is : IsOutlineOf f a.outline
   pub forms : a.certificate.now.first + length a.certificate.now.steps.items + 1 < 2 ^ 32
-  pub dues : map as_due a.dues.items ≡ dues (length system.rules) (parts_in a)
-  pub ready : IsReady system f (parts_in a) c.steps a.plans.items a.closures.items a.rooms.items a.scratch a.marks.items
+  pub dues : map as_due a.dues.items ≡ dues (length system.rules) (parts_in a.outline)
+  pub ready : IsReady system f (parts_in a.outline) c.steps a.plans.items a.closures.items a.rooms.items a.scratch a.marks.items
 
 -- its first n steps are fine, and the rooms hold their tables
 pub record IsCheckAt (system : PatternSystem) (f : Core) (c : Certificate) (a : Checker) (n : ℕ) (made : Made) : Type 0 where
   pub checker : IsCheckerOf system f c a
-  pub loop : IsLoopAt system f (parts_in a) c a.plans.items a.closures.items a.rooms.items a.scratch a.marks.items n made
+  pub loop : IsLoopAt system f (parts_in a.outline) c a.plans.items a.closures.items a.rooms.items a.scratch a.marks.items n made

@@ -121,10 +121,11 @@ pub record IsPlanOf (system : PatternSystem) (parts : List Core) (ss : List Step
 
 -- the words of its labels
 abbrev pub IsWidthFor : List Step → Work → ℕ → Type 0
+IsWidthFor ss Truth w = w ≡ 1
 IsWidthFor ss (Relation c) w = w ≡ suc (words_for (length (marks_of c.atom)))
 IsWidthFor ss (Normal a) w = w ≡ suc (words_for (length (marks_of a)))
 IsWidthFor ss Term w = w ≡ 2
+IsWidthFor ss (Negation s) w = w ≡ 1
 IsWidthFor ss (Product op first second) w = w ≡ 3
 IsWidthFor ss (Projection s c) w = (targets : List ℕ) → IsOnlyAbout ss (Part s.part targets) → w ≡ words_for (most_states targets) + 2
 IsWidthFor ss (Many s c marks) w = (targets : List ℕ) → IsOnlyAbout ss (Part s.part targets) → w ≡ words_for (2 * most_states targets) + 2
-IsWidthFor ss other w = Unit {0}

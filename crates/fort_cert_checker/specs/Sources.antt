@@ -6,12 +6,6 @@ use Rattle.fort_tables.specs.Tables.{Table}
 use Rattle.fort_operations.specs.OperationTruth.{complemented}
 use Rattle.fort_in_order.specs.Dues.{has_columns, is_turned}
 use Rattle.fort_in_order.specs.Made.{IsPartAt}
-use Rattle.fort_outline.specs.declared.outline.Outline.{Outline}
-use Rattle.fort_outline.specs.Outlines.{parts_in}
-
--- part k
-abbrev pub core_at : Outline → ℕ → Core
-core_at o k = get_or (parts_in o) k core.True
 
 -- part k is a negation with columns, of this earlier part
 pub record IsTurnedBody (parts : List Core) (k body : ℕ) : Type 0 where

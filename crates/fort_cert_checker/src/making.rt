@@ -1,6 +1,5 @@
 //! What a check needs, taken before it: the rules of closures, the plans of parts, and room.
 ghost use Rattle.std.specs.Prelude.{◌≡◌, ℕ, ◌<◌, ◌^◌, List, map, length, Contains, Option, IfOk, IfSome, IfNone};
-ghost use Rattle.fort_theory.specs.Patterns.{PatternSystem};
 ghost use Rattle.fort_theory.specs.Sides.{IsIndexOf};
 ghost use Rattle.fort_logic.specs.Cores as theory;
 ghost use Rattle.fort_certificate_grammar.specs.Certificates as theory_steps;
@@ -13,7 +12,7 @@ ghost use Rattle.fort_check_steps.specs.Room.{HasNeeds, IsListFor, most_states a
 ghost use Rattle.fort_cert_checker.specs.OperandLists.{AreNeedsOf};
 ghost use Rattle.fort_check_steps.specs.Marks.{HasMarkRoom};
 ghost use Rattle.fort_cert_checker.specs.Abouts.{IsOnlyAbout};
-ghost use Rattle.fort_cert_checker.specs.Plans.{IsFitPart, IsPlanOf, IsWidthFor};
+ghost use Rattle.fort_cert_checker.specs.Plans.{IsFitPart, IsWidthFor};
 ghost use Rattle.fort_cert_checker.specs.Pasts.{IsMarkRoomFor};
 ghost use Rattle.fort_cert_checker.specs.Fronts.{HasFewTargets};
 ghost use Rattle.fort_cert_checker.specs.Makings.{IsClosurePlan, IsClosureFor, IsScratchFor, HasTooManyWords, AreClosuresMade, ArePlansMade, AreRoomsMade, IsScratchMade, AreMarksMade};

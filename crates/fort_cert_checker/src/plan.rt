@@ -1,18 +1,18 @@
 //! What each part is checked by, taken from the formula and the certificate before the check.
-ghost use Rattle.std.specs.Prelude.{◌≡◌, ℕ, ◌<◌, ◌≤◌, ◌^◌, false, List, map, length, slice_index, Contains, IfOk, IfSome, IfNone};
+ghost use Rattle.std.specs.Prelude.{◌≡◌, ℕ, ◌<◌, ◌≤◌, ◌^◌, false, List, map, length, Contains, IfOk, IfSome, IfNone};
 ghost use Rattle.fort_theory.specs.Patterns.{PatternSystem};
 ghost use Rattle.fort_theory.specs.Sides.{IsIndexOf};
 ghost use Rattle.fort_certificate_grammar.specs.Certificates as theory_steps;
 ghost use Rattle.fort_logic.specs.Cores as theory;
 ghost use Rattle.fort_formulas.specs.CoreView.{as_rel};
-ghost use Rattle.fort_outline.specs.Outlines.{IsOutlineOf, parts_in};
+ghost use Rattle.fort_outline.specs.Outlines.{IsOutlineOf, parts_in, core_at};
 ghost use Rattle.fort_atom_labels.specs.Subterms.{subterms};
-ghost use Rattle.fort_parts.specs.PartColumns.{columns_of, place_in, places_in};
+ghost use Rattle.fort_parts.specs.PartColumns.{columns_of, place_in};
 ghost use Rattle.fort_parts.specs.RightAnswers.{joined};
 ghost use Rattle.fort_steps.specs.StepView.{as_step};
 ghost use Rattle.fort_rrn_algebra.specs.Operands.{connective_of};
 ghost use Rattle.fort_in_order.specs.Dues as definitions;
-ghost use Rattle.fort_cert_checker.specs.Sources.{core_at, IsSourceOf, IsTurnedBody};
+ghost use Rattle.fort_cert_checker.specs.Sources.{IsSourceOf, IsTurnedBody};
 ghost use Rattle.fort_cert_checker.specs.Plans.{IsFitPart, IsOperandPlan, IsClosureRead, IsRelationPlan, IsWorkOf, IsPlanOf};
 
 use crate::about::{closure_pairs, marks_of};
@@ -20,7 +20,7 @@ use fort_context_closure::local::has_few_subterms;
 use fort_context_closure::{NormalBits, RelationBits};
 use fort_formulas::Rel;
 use fort_infinity::Count;
-use fort_outline::{Outline, Root};
+use fort_outline::{Outline, Root, column_of, places_among};
 use fort_rrn_algebra::Op;
 use fort_steps::{Step, Which};
 use fort_terms::{Memory, System, Term};
@@ -64,7 +64,8 @@ pub(crate) struct Plan {
     pub work: Work,
 }
 
-/// The operand of a negation with columns, whose table is that of the operand with the accepting states turned.
+/// The operand of part `k`, a negation with columns, whose table is that of the operand with the accepting states turned; or none where
+/// part `k` is no such negation.
 fn turned_body(outline: &Outline, k: usize) -> Option<usize>
     requires outline { (f : theory.Core) × IsOutlineOf f outline.now }
     requires within { k < length outline.now.roots.items }
@@ -101,31 +102,6 @@ fn source_of(outline: &Outline, k: usize) -> Source
         part: part as u32,
         turns,
     }
-}
-
-/// The place of a number among ascending columns.
-fn column_of(columns: &[u32], number: u32) -> usize
-    requires { Contains columns.now number }
-    ensures { result ≡ place_in columns.now number }
-{
-    for place in 0..columns.len() {
-        if columns[place] == number {
-            return place;
-        }
-    }
-    unreachable!()
-}
-
-fn places_among(alloc: Global, columns: &[u32], numbers: &[u32]) -> Result<Vec<usize>, Memory>
-    requires { (k : ℕ) → k < length numbers.now
-        → Contains columns.now (slice_index numbers.now k) }
-    ensures { IfOk result (λ ps. ps.items ≡ places_in columns.now numbers.now) }
-{
-    let mut places = Vec::with_capacity(alloc, numbers.len())?;
-    for k in 0..numbers.len() {
-        places.push(column_of(columns, numbers[k]))?;
-    }
-    Ok(places)
 }
 
 /// The place of a bound number among the columns of the operand `f` that it is bound in.
@@ -229,7 +205,8 @@ fn term_work(term: &Term) -> Option<Work>
     }
 }
 
-/// How the answer of part `k` is found.
+/// How the answer of part `k` is found. It is want of memory of its own where part `k` is "is this term" of a term with more subterms
+/// than numbers for them.
 fn work_of(
     alloc: Global,
     system: &System,

@@ -11,7 +11,7 @@ use Rattle.fort_in_order.specs.Dues.{asks, is_turned}
 use Rattle.fort_outline.specs.declared.root.Root.{Root}
 use Rattle.fort_outline.specs.declared.root.Root.TheVariants.{True, Atom, Nf, Is, Not, And, Or, Iff, Exists, Infinite}
 use Rattle.fort_outline.specs.declared.outline.Outline.{Outline}
-use Rattle.fort_outline.specs.Roots.{root_core, cores_behind, cores_of, IsOver, AreInOrder}
+use Rattle.fort_outline.specs.Roots.{root_core, cores_behind, cores_of, HasOperandsBelow, AreInOrder}
 use Rattle.fort_outline.specs.Outlines.{IsOutlineOf, parts_in}
 use Rattle.fort_outline.proofs.RootLaws.{part_at}
 
@@ -24,8 +24,8 @@ part_root rs order k r l is = part_at rs order k l ∙ ap (root_core (cores_of r
 pub part_is : (rs : List Root) → AreInOrder rs → (k : ℕ) (d r : Root) → k < length rs → d ≡ get_or rs k d → d ≡ r → get_or (cores_of rs) k core.True ≡ root_core (cores_of rs) r
 part_is rs order k d r l at is = part_root rs order k d l at ∙ ap (root_core (cores_of rs)) is
 
-pub over_is : (rs : List Root) → AreInOrder rs → (k : ℕ) (d r : Root) → k < length rs → d ≡ get_or rs k d → d ≡ r → IsOver k r
-over_is rs order k d r l at is = subst (IsOver k) (get_or_default rs k True d l ∙ (sym at ∙ is)) (order k l)
+pub over_is : (rs : List Root) → AreInOrder rs → (k : ℕ) (d r : Root) → k < length rs → d ≡ get_or rs k d → d ≡ r → HasOperandsBelow k r
+over_is rs order k d r l at is = subst (HasOperandsBelow k) (get_or_default rs k True d l ∙ (sym at ∙ is)) (order k l)
 
 pub columns_at : (f : Core) (o : Outline) → IsOutlineOf f o → (k : ℕ) (v : Vec ℕ Global) → k < length o.roots.items → v ≡ get_or o.columns.items k v → v.items ≡ columns_of (get_or (parts_in o) k core.True)
 columns_at f o are k v l is =

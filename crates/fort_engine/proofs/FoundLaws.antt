@@ -20,12 +20,12 @@ use Rattle.fort_outline.specs.declared.root.Root.{Root}
 use Rattle.fort_outline.specs.declared.root.Root.TheVariants.{True, Atom, Nf, Is, Not, And, Or, Iff, Exists, Infinite}
 use Rattle.fort_outline.specs.declared.outline.Outline.{Outline}
 use Rattle.fort_outline.specs.Roots.{root_core}
-use Rattle.fort_outline.specs.Outlines.{parts_in}
+use Rattle.fort_outline.specs.Outlines.{parts_in, core_at}
 use Rattle.fort_engine.specs.declared.answer.Last.{Last}
 use Rattle.fort_engine.specs.declared.answer.Last.TheVariants.{Auto}
 use Rattle.fort_engine.specs.declared.answer.Decided.{Decided}
 use Rattle.fort_engine.specs.AnswerView.{as_answer}
-use Rattle.fort_engine.specs.Deciding.{IsBody, IsDecision, part_in}
+use Rattle.fort_engine.specs.Deciding.{IsBody, IsDecision}
 use Rattle.fort_engine.specs.Found.{IsDecidedBy, decided_with, IsKeptAnswer, IsTurnedOf, IsCounted, AreMarks, IsMany, IsManyOf, IsFound}
 use Rattle.fort_engine.proofs.OperandLaws.{HasRoot, next_is, next_over, operand_of_root, kept_below}
 
@@ -75,7 +75,7 @@ IsPartFound system cap o kept out f = IsDecidedBy system f cap (IsFound system (
 module _ {system : PatternSystem} {cap : ℕ} {o : Outline} {k : ℕ} {kept : List (Option Last)} where
   pub plain_found : {r : Root} → HasRoot system cap o k kept r → IsPlain r → (answer : Result Last ExploreFault) (out : Result Decided ExploreFault)
       → IsDecision system (root_core (parts_in o) r) cap answer → out ≡ decided_with None answer
-      → IsDecidedBy system (part_in o k) cap (IsFound system (parts_in o) kept (part_in o k)) out
+      → IsDecidedBy system (core_at o k) cap (IsFound system (parts_in o) kept (core_at o k)) out
   plain_found {r = r} h p answer out d is =
       let f = root_core (parts_in o) r in
       subst (IsPartFound system cap o kept out) (sym (next_is h))
@@ -89,7 +89,7 @@ module _ {system : PatternSystem} {cap : ℕ} {o : Outline} {k : ℕ} {kept : Li
   pub negation_found : (f : ℕ) (body : Last) → HasRoot system cap o k kept (Not f) → get_or kept f None ≡ Some body
       → (answer : Result Last ExploreFault) (out : Result Decided ExploreFault) → IsDecision system (core.Not (get_or (parts_in o) f core.True)) cap answer
       → IfOk answer (IsTurnedOf body) → out ≡ decided_with None answer
-      → IsDecidedBy system (part_in o k) cap (IsFound system (parts_in o) kept (part_in o k)) out
+      → IsDecidedBy system (core_at o k) cap (IsFound system (parts_in o) kept (core_at o k)) out
   negation_found f body h there answer out d turned is =
       let g = get_or (parts_in o) f core.True in
       subst (IsPartFound system cap o kept out) (sym (next_is h))
@@ -98,7 +98,7 @@ module _ {system : PatternSystem} {cap : ℕ} {o : Outline} {k : ℕ} {kept : Li
 
   pub many_found : (n f : ℕ) (body : Last) → HasRoot system cap o k kept (Infinite n f) → get_or kept f None ≡ Some body → (out : Result Decided ExploreFault)
       → IsDecidedBy system (core.Infinite n (get_or (parts_in o) f core.True)) cap (IsManyOf system n (get_or (parts_in o) f core.True) body) out
-      → IsDecidedBy system (part_in o k) cap (IsFound system (parts_in o) kept (part_in o k)) out
+      → IsDecidedBy system (core_at o k) cap (IsFound system (parts_in o) kept (core_at o k)) out
   many_found n f body h there out d =
       let g = get_or (parts_in o) f core.True in
       let is = operand_kept f body h (next_over h) refl there in

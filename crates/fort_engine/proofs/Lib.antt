@@ -1,5 +1,4 @@
 pub mod OperandLaws
-pub mod PlaceLaws
 pub mod AnswerLaws
 pub mod FoundLaws
 pub mod JoinLaws

@@ -15,7 +15,7 @@ use Rattle.fort_parts.proofs.StepAnswers.{IsRightFor-True, IsPartOver-closed}
 use Rattle.fort_outline.specs.declared.root.Root.{Root}
 use Rattle.fort_outline.specs.declared.root.Root.TheVariants.{True}
 use Rattle.fort_outline.specs.declared.outline.Outline.{Outline}
-use Rattle.fort_outline.specs.Roots.{root_core, IsOver}
+use Rattle.fort_outline.specs.Roots.{root_core, HasOperandsBelow}
 use Rattle.fort_outline.specs.Outlines.{AreColumnsOf, parts_in}
 use Rattle.fort_engine.specs.declared.answer.Last.{Last}
 use Rattle.fort_engine.specs.declared.answer.Last.TheVariants.{Truth}
@@ -50,8 +50,8 @@ pub next_is : {system : PatternSystem} {cap : ℕ} {o : Outline} {k : ℕ} {kept
     → get_or (parts_in o) k core.True ≡ root_core (parts_in o) r
 next_is {o = o} {k = k} h = part_at o.roots.items h.next.laid.in_order k h.next.within ∙ ap (root_core (parts_in o)) h.root
 
-pub next_over : {system : PatternSystem} {cap : ℕ} {o : Outline} {k : ℕ} {kept : List (Option Last)} {r : Root} → HasRoot system cap o k kept r → IsOver k r
-next_over {k = k} h = subst (IsOver k) h.root (h.next.laid.in_order k h.next.within)
+pub next_over : {system : PatternSystem} {cap : ℕ} {o : Outline} {k : ℕ} {kept : List (Option Last)} {r : Root} → HasRoot system cap o k kept r → HasOperandsBelow k r
+next_over {k = k} h = subst (HasOperandsBelow k) h.root (h.next.laid.in_order k h.next.within)
 
 -- part f is an operand of the next part
 

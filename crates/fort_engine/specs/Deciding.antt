@@ -16,7 +16,7 @@ use Rattle.fort_parts.specs.DecidedCores.{IsDecided, IsOverSystem, IsOperandOf}
 use Rattle.fort_parts.specs.RightAnswers.{IsRightFor, HasTooMany, joined}
 use Rattle.fort_parts.proofs.PartOrder.{IsEarlier}
 use Rattle.fort_outline.specs.declared.outline.Outline.{Outline}
-use Rattle.fort_outline.specs.Outlines.{parts_in, IsOutlineOf}
+use Rattle.fort_outline.specs.Outlines.{parts_in, core_at, IsOutlineOf}
 use Rattle.fort_explore.specs.declared.table.ExploreFault.{ExploreFault}
 use Rattle.fort_explore.specs.Answer.{IfOver}
 use Rattle.fort_engine.specs.declared.answer.Last.{Last}
@@ -38,9 +38,6 @@ pub record IsAnswered (system : PatternSystem) (cap : ℕ) (parts : List core.Co
 abbrev pub HasOperands : PatternSystem → ℕ → List core.Core → List (Option Last) → core.Core → Type 0
 HasOperands system cap parts kept f = (g : core.Core) → IsOperandOf g f → IsAnswered system cap parts kept g
 
-abbrev pub part_in : Outline → ℕ → core.Core
-part_in o k = get_or (parts_in o) k core.True
-
 -- the outline of a formula that is to be decided
 pub record IsPlanned (system : PatternSystem) (root : core.Core) (outline : Outline) : Type 0 where
   pub decided : IsDecided system root
@@ -53,8 +50,8 @@ pub record IsNextPart (system : PatternSystem) (cap : ℕ) (outline : Outline) (
   pub laid : IsOutlineOf formula outline
   pub within : k < length outline.roots.items
   pub count : length kept ≡ k
-  pub fit : IsFit system (part_in outline k)
-  pub operands : HasOperands system cap (parts_in outline) kept (part_in outline k)
+  pub fit : IsFit system (core_at outline k)
+  pub operands : HasOperands system cap (parts_in outline) kept (core_at outline k)
 
 -- part k is parts f and g joined
 pub record IsOfTwo (op : Connective) (parts : List core.Core) (k f g : ℕ) : Type 0 where

@@ -10,11 +10,12 @@ ghost use Rattle.fort_engine.specs.Found.{decided_with, IsCounted, IsDecidedBy, 
 
 use crate::answer::{Decided, Last};
 use crate::explored::explored;
-use crate::operands::{Answered, column_of};
+use crate::operands::Answered;
 use fort_explore::{ByRule, ExploreFault};
 use fort_infinity::local::many_value;
 use fort_infinity::{Count, Many, pure_counts};
 use fort_lockstep::{Dta, Table};
+use fort_outline::column_of;
 use fort_rrn_algebra::pure_states;
 use fort_terms::System;
 use std::alloc::Global;

@@ -7,7 +7,7 @@ ghost use Rattle.fort_formulas.specs.CoreView.{as_core};
 ghost use Rattle.fort_parts.specs.AlikeParts.{IsPartOver};
 ghost use Rattle.fort_parts.specs.DecidedCores.{IsDecided};
 ghost use Rattle.fort_parts.specs.PartAnswers.{IsAnswerTo};
-ghost use Rattle.fort_outline.specs.Roots.{IsOver};
+ghost use Rattle.fort_outline.specs.Roots.{HasOperandsBelow};
 ghost use Rattle.fort_outline.specs.Outlines.{parts_in};
 ghost use Rattle.fort_engine.specs.AnswerView.{as_answer, IfOver, IsLimit};
 ghost use Rattle.fort_engine.specs.Kept.{IsSoFar};
@@ -38,7 +38,7 @@ fn let_go(kept: &mut Vec<Option<Last>>, uses: &[usize], j: usize, k: usize)
 /// Lets go of the answers to the operands of part `k` that no later part needs.
 fn drop_idle(kept: &mut Vec<Option<Last>>, outline: &Outline, k: usize)
     requires within { k < length outline.now.roots.items }
-    requires over { IsOver (length kept.old.items)
+    requires operands { HasOperandsBelow (length kept.old.items)
         (slice_index_or outline.now.roots.items k Root.True) }
     requires uses { length kept.old.items ≤ length outline.now.last_uses.items }
     ensures count { length kept.new.items ≡ length kept.old.items }

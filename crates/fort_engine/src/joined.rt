@@ -11,9 +11,10 @@ ghost use Rattle.fort_engine.specs.Deciding.{AreJoined, IsDecision, IsJoining};
 
 use crate::answer::Last;
 use crate::explored::explored;
-use crate::operands::{Answered, places_among};
+use crate::operands::Answered;
 use fort_explore::{ByRule, ExploreFault};
 use fort_lockstep::Dta;
+use fort_outline::places_among;
 use fort_rrn_algebra::{Both, Op, Operand, ProductLists};
 use fort_terms::System;
 use std::alloc::Global;

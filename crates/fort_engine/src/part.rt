@@ -5,9 +5,9 @@ ghost use Rattle.fort_logic.specs.Cores as theory;
 ghost use Rattle.fort_rrn_algebra.specs.Operands.{connective_of};
 ghost use Rattle.fort_parts.specs.AlikeParts.{IsPartOver};
 ghost use Rattle.fort_parts.specs.RightAnswers.{IsRightFor};
-ghost use Rattle.fort_outline.specs.Outlines.{parts_in};
+ghost use Rattle.fort_outline.specs.Outlines.{parts_in, core_at};
 ghost use Rattle.fort_engine.specs.AnswerView.{as_answer};
-ghost use Rattle.fort_engine.specs.Deciding.{part_in, IsNextPart, IsOfTwo, IsDecision};
+ghost use Rattle.fort_engine.specs.Deciding.{IsNextPart, IsOfTwo, IsDecision};
 ghost use Rattle.fort_engine.specs.Found.{decided_with, IsTurnedOf, IsDecidedBy, IsFound};
 
 use crate::answer::{Decided, Last};
@@ -50,7 +50,7 @@ fn join_parts(
 ) -> Result<Last, ExploreFault>
     requires next { IsNextPart system.now cap outline.now k kept.now }
     requires two { IsOfTwo (connective_of op) (parts_in outline.now) k f g }
-    ensures { IsDecision system.now (part_in outline.now k) cap result }
+    ensures { IsDecision system.now (core_at outline.now k) cap result }
 {
     let first = kept_operand(outline, kept, f);
     let second = kept_operand(outline, kept, g);
@@ -75,8 +75,8 @@ pub(crate) fn decide_part(
     cap: u32,
 ) -> Result<Decided, ExploreFault>
     requires { IsNextPart system.now cap outline.now k kept.now }
-    ensures { IsDecidedBy system.now (part_in outline.now k) cap
-        (IsFound system.now (parts_in outline.now) kept.now (part_in outline.now k)) result }
+    ensures { IsDecidedBy system.now (core_at outline.now k) cap
+        (IsFound system.now (parts_in outline.now) kept.now (core_at outline.now k)) result }
 {
     match &outline.roots[k] {
         Root::True => plain(Ok(Last::Truth(true))),

@@ -9,9 +9,10 @@ ghost use Rattle.fort_engine.specs.Deciding.{IsBody, IsDecision};
 
 use crate::answer::Last;
 use crate::explored::explored;
-use crate::operands::{Answered, column_of};
+use crate::operands::Answered;
 use fort_explore::ExploreFault;
 use fort_lockstep::{Dta, Table};
+use fort_outline::column_of;
 use fort_rrn_algebra::{Project, Projecting};
 use fort_terms::System;
 use std::alloc::Global;

@@ -2,9 +2,9 @@
 ghost use Rattle.std.specs.Prelude.{◌≡◌, ℕ, ◌+◌, ◌<◌, ◌≤◌, List, [], ◌∷◌, ◌++◌, slice_index_or, Option, None, Some, OnOk};
 ghost use Rattle.fort_theory.specs.Patterns.{PatternSystem};
 ghost use Rattle.fort_outline.specs.declared.outline.Outline as outlines;
-ghost use Rattle.fort_outline.specs.Outlines.{parts_in};
+ghost use Rattle.fort_outline.specs.Outlines.{parts_in, core_at};
 ghost use Rattle.fort_engine.specs.declared.answer.Last as answers;
-ghost use Rattle.fort_engine.specs.Deciding.{part_in, IsNextPart};
+ghost use Rattle.fort_engine.specs.Deciding.{IsNextPart};
 ghost use Rattle.fort_engine.specs.Found.{IsFound};
 
 use crate::answer::{Decided, Last};
@@ -30,7 +30,7 @@ pub trait Recorder {
     ) -> Result<(), Memory>
         requires next { (cap : ℕ) × IsNextPart system.now cap outline.now k kept.now }
         requires found { IsFound system.now (parts_in outline.now) kept.now
-            (part_in outline.now k) decided.now }
+            (core_at outline.now k) decided.now }
         requires before { recorded self.old system.now outline.now k kept.now }
         ensures { OnOk result (recorded self.new system.now outline.now (k + 1)
             (kept.now ++ Some decided.now.answer ∷ [])) };

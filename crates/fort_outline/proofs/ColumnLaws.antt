@@ -14,7 +14,7 @@ use Rattle.fort_parts.specs.PartColumns.{columns_of}
 use Rattle.fort_parts.proofs.PartColumnLaws.{AreColumns-columns_of, columns_of-unique}
 use Rattle.fort_outline.specs.declared.root.Root.{Root}
 use Rattle.fort_outline.specs.declared.root.Root.TheVariants.{Atom, Nf, Is, And, Or, Iff, Exists, Infinite}
-use Rattle.fort_outline.specs.Roots.{root_core, IsOver}
+use Rattle.fort_outline.specs.Roots.{root_core, HasOperandsBelow}
 use Rattle.fort_outline.specs.Outlines.{AreColumnsOf}
 
 -- two facts of what was made
@@ -42,12 +42,12 @@ pub operand_columns : (parts : List Core) (before : List (Vec ℕ Global)) (f : 
 operand_columns parts before f own xs are l e is = is ∙ (ap (λ v. vec_items v) e ∙ are f own l)
 
 -- a root of one operand, or of two
-pub over_one : (k : ℕ) (root : Root) (n f : ℕ) → (root ≡ Exists n f) ⊎ (root ≡ Infinite n f) → IsOver k root → f < k
-over_one k root n f is over = ⊎_elim (λ e. subst (IsOver k) e over) (λ e. subst (IsOver k) e over) is
+pub over_one : (k : ℕ) (root : Root) (n f : ℕ) → (root ≡ Exists n f) ⊎ (root ≡ Infinite n f) → HasOperandsBelow k root → f < k
+over_one k root n f is over = ⊎_elim (λ e. subst (HasOperandsBelow k) e over) (λ e. subst (HasOperandsBelow k) e over) is
 
-pub over_two : (k : ℕ) (root : Root) (f g : ℕ) → (root ≡ And f g) ⊎ ((root ≡ Or f g) ⊎ (root ≡ Iff f g)) → IsOver k root → (f < k) × (g < k)
+pub over_two : (k : ℕ) (root : Root) (f g : ℕ) → (root ≡ And f g) ⊎ ((root ≡ Or f g) ⊎ (root ≡ Iff f g)) → HasOperandsBelow k root → (f < k) × (g < k)
 over_two k root f g is over =
-    ⊎_elim (λ e. subst (IsOver k) e over) (λ other. ⊎_elim (λ e. subst (IsOver k) e over) (λ e. subst (IsOver k) e over) other) is
+    ⊎_elim (λ e. subst (HasOperandsBelow k) e over) (λ other. ⊎_elim (λ e. subst (HasOperandsBelow k) e over) (λ e. subst (HasOperandsBelow k) e over) other) is
 
 pub columns_two : (parts : List Core) (root : Root) (f g : ℕ) (xs ys columns : List ℕ) → (root ≡ And f g) ⊎ ((root ≡ Or f g) ⊎ (root ≡ Iff f g))
     → xs ≡ columns_of (get_or parts f core.True) → ys ≡ columns_of (get_or parts g core.True) → IsStrictlyIncreasing columns

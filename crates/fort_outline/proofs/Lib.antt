@@ -1,4 +1,5 @@
 pub mod ColumnLaws
+pub mod PlaceLaws
 pub mod RootKeys
 pub mod RootLaws
 pub mod UseLaws

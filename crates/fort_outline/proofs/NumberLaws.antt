@@ -13,11 +13,10 @@ use Rattle.fort_logic.proofs.EachOnceLaws.{AreEachOnce-nil, AreEachOnce-there, A
 use Rattle.fort_outline.specs.declared.root.Root.{Root}
 use Rattle.fort_outline.specs.declared.root.Root.TheVariants.{True}
 use Rattle.fort_outline.specs.contracts.root.RootPartialEq.TheImpl.{eq-value}
-use Rattle.fort_outline.specs.Roots.{root_core, cores_of, IsOver, AreInOrder}
-use Rattle.fort_outline.specs.Outlines.{AreApart}
-use Rattle.fort_outline.specs.Numbered.{AreNumbered, IsNumbered}
+use Rattle.fort_outline.specs.Roots.{root_core, cores_of, HasOperandsBelow, AreInOrder}
+use Rattle.fort_outline.specs.Numbered.{AreDistinct, AreNumbered, IsNumbered}
 use Rattle.fort_outline.proofs.RootKeys.{Decides-root}
-use Rattle.fort_outline.proofs.RootLaws.{cores_of-push, length-cores_of, part_kept, part_at, same_root, IsOver-more}
+use Rattle.fort_outline.proofs.RootLaws.{cores_of-push, length-cores_of, part_kept, part_at, same_root, HasOperandsBelow-more}
 
 stands_before : (xs : List Core) (j k : ℕ) (x y : Core) → j < k → k < length xs → get_or xs j core.True ≡ x → get_or xs k core.True ≡ y → StandsBefore xs x y
 stands_before [] j k x y l m p q = absurd (omega arith)
@@ -30,8 +29,8 @@ stands_before (z ∷ xs) (suc j) (suc k) x y l m p q =
     record { front = z ∷ w.front; back = w.back; split = ap (λ ys. z ∷ ys) w.split; behind = w.behind }
 
 -- Result: no formula stands at two places
-pub AreApart-once : (before parts : List Core) → AreEachOnce before parts → AreApart parts
-AreApart-once before parts once j k l m e =
+pub AreDistinct-once : (before parts : List Core) → AreEachOnce before parts → AreDistinct parts
+AreDistinct-once before parts once j k l m e =
     ⊎_elim (λ same. same)
     (λ other.
     ⊎_elim
@@ -55,13 +54,13 @@ module _ (before : List Core) (rs : List Root) (r : Root) (so_far : AreNumbered 
       }
 
   -- it is a new one
-  pub numbered_new : IsOver (length rs) r → ((k : ℕ) → k < length rs → get_or rs k True ≡ r → ⊥)
+  pub numbered_new : HasOperandsBelow (length rs) r → ((k : ℕ) → k < length rs → get_or rs k True ≡ r → ⊥)
       → IsNumbered (before ++ root_core (cores_of rs) r ∷ []) rs (rs ++ r ∷ []) (root_core (cores_of rs) r) (length rs)
   numbered_new over none =
       let parts = cores_of rs in
       let whole = root_core parts r in
       let long : length parts ≡ length rs = length-cores_of rs in
-      let apart = AreApart-once before parts so_far.once in
+      let apart = AreDistinct-once before parts so_far.once in
       let fresh : Contains parts whole → ⊥ =
       λ there.
       let l : there.0 < length rs = omega (arith, there.1) in
@@ -69,8 +68,8 @@ module _ (before : List Core) (rs : List Root) (r : Root) (so_far : AreNumbered 
       let same = part_at rs so_far.in_order there.0 l in
       none there.0 l
       (same_root parts apart (get_or rs there.0 True) r
-      (IsOver-more there.0 (length parts) (get_or rs there.0 True) (omega arith) own)
-      (IsOver-more (length rs) (length parts) r (omega arith) over)
+      (HasOperandsBelow-more there.0 (length parts) (get_or rs there.0 True) (omega arith) own)
+      (HasOperandsBelow-more (length rs) (length parts) r (omega arith) over)
       (sym same ∙ (get_or_default parts there.0 core.True whole there.1 ∙ there.2))) in
       record {
         numbered = record {
@@ -83,13 +82,13 @@ module _ (before : List Core) (rs : List Root) (r : Root) (so_far : AreNumbered 
         is = ap (λ cs. get_or cs (length rs) core.True) (cores_of-push rs r) ∙ get_or_push parts whole core.True (length rs) long;
       }
     where
-      order : IsOver (length rs) r → AreInOrder (rs ++ r ∷ [])
+      order : HasOperandsBelow (length rs) r → AreInOrder (rs ++ r ∷ [])
       order over k l =
           ⊎_elim
-          (λ (low : k < length rs). subst (IsOver k) (sym (get_or_append_left rs (r ∷ []) True k low)) (so_far.in_order k low))
+          (λ (low : k < length rs). subst (HasOperandsBelow k) (sym (get_or_append_left rs (r ∷ []) True k low)) (so_far.in_order k low))
           (λ (high : length rs ≤ k).
           let at : length rs ≡ k = omega (arith, length-append rs (r ∷ [])) in
-          subst (IsOver k) (sym (get_or_push rs r True k at)) (IsOver-more (length rs) k r (omega arith) over))
+          subst (HasOperandsBelow k) (sym (get_or_push rs r True k at)) (HasOperandsBelow-more (length rs) k r (omega arith) over))
           (cases_lt k (length rs))
 
 -- one formula after another
@@ -127,7 +126,7 @@ stored_at (s ∷ ks) zero k e l = cc
 stored_at (s ∷ ks) (suc n) k e l = stored_at ks n k e (omega arith)
 
 -- the number that the set gives is the root's
-pub numbered_stored : (before : List Core) (rs new : List Root) (r : Root) (n : ℕ) → AreNumbered before rs → IsOver (length rs) r
+pub numbered_stored : (before : List Core) (rs new : List Root) (r : Root) (n : ℕ) → AreNumbered before rs → HasOperandsBelow (length rs) r
     → new ≡ (if list_any (eq-value.it r) rs then rs else rs ++ r ∷ []) → n < length new
     → ((k : Root) × (slice_get new n ≡ Some k) × (eq-value.it r k ≡ true)) → IsNumbered (before ++ root_core (cores_of rs) r ∷ []) rs new (root_core (cores_of rs) r) n
 numbered_stored before rs new r n so_far over is l stored =

@@ -10,8 +10,8 @@ use Rattle.fort_formulas.specs.CoreView.{as_rel}
 use Rattle.fort_formulas.specs.CoreKeyLaws.{as_core-injective}
 use Rattle.fort_outline.specs.declared.root.Root.{Root}
 use Rattle.fort_outline.specs.declared.root.Root.TheVariants.{True, Atom, Nf, Is, Not, And, Or, Iff, Exists, Infinite}
-use Rattle.fort_outline.specs.Roots.{root_core, cores_behind, cores_of, IsOver, AreInOrder}
-use Rattle.fort_outline.specs.Outlines.{AreApart}
+use Rattle.fort_outline.specs.Roots.{root_core, cores_behind, cores_of, HasOperandsBelow, AreInOrder}
+use Rattle.fort_outline.specs.Numbered.{AreDistinct}
 
 -- more roots
 
@@ -49,20 +49,20 @@ part_kept rs qs k l =
 
 -- the operands of a root
 
-pub IsOver-more : (j k : ℕ) (r : Root) → j ≤ k → IsOver j r → IsOver k r
-IsOver-more j k True l o = tt
-IsOver-more j k (Atom rel index x y) l o = tt
-IsOver-more j k (Nf index x) l o = tt
-IsOver-more j k (Is x t) l o = tt
-IsOver-more j k (Not f) l o = omega arith
-IsOver-more j k (And f g) l o = (omega (arith, o.0), omega (arith, o.1))
-IsOver-more j k (Or f g) l o = (omega (arith, o.0), omega (arith, o.1))
-IsOver-more j k (Iff f g) l o = (omega (arith, o.0), omega (arith, o.1))
-IsOver-more j k (Exists n f) l o = omega arith
-IsOver-more j k (Infinite n f) l o = omega arith
+pub HasOperandsBelow-more : (j k : ℕ) (r : Root) → j ≤ k → HasOperandsBelow j r → HasOperandsBelow k r
+HasOperandsBelow-more j k True l o = tt
+HasOperandsBelow-more j k (Atom rel index x y) l o = tt
+HasOperandsBelow-more j k (Nf index x) l o = tt
+HasOperandsBelow-more j k (Is x t) l o = tt
+HasOperandsBelow-more j k (Not f) l o = omega arith
+HasOperandsBelow-more j k (And f g) l o = (omega (arith, o.0), omega (arith, o.1))
+HasOperandsBelow-more j k (Or f g) l o = (omega (arith, o.0), omega (arith, o.1))
+HasOperandsBelow-more j k (Iff f g) l o = (omega (arith, o.0), omega (arith, o.1))
+HasOperandsBelow-more j k (Exists n f) l o = omega arith
+HasOperandsBelow-more j k (Infinite n f) l o = omega arith
 
 -- a root's formula over lists with the same operands
-root_core-same : (k : ℕ) (ps qs : List Core) (r : Root) → IsOver k r → ((a : ℕ) → a < k → get_or ps a core.True ≡ get_or qs a core.True)
+root_core-same : (k : ℕ) (ps qs : List Core) (r : Root) → HasOperandsBelow k r → ((a : ℕ) → a < k → get_or ps a core.True ≡ get_or qs a core.True)
     → root_core ps r ≡ root_core qs r
 root_core-same k ps qs True o same = refl
 root_core-same k ps qs (Atom rel index x y) o same = refl
@@ -77,13 +77,13 @@ root_core-same k ps qs (Infinite n f) o same = ap (λ z. core.Infinite n z) (sam
 
 -- Result: each part is the formula of its root
 
-root_at : (parts : List Core) (rs : List Root) (j : ℕ) → j < length rs → IsOver (length parts + j) (get_or rs j True)
+root_at : (parts : List Core) (rs : List Root) (j : ℕ) → j < length rs → HasOperandsBelow (length parts + j) (get_or rs j True)
     → get_or (cores_behind parts rs) (length parts + j) core.True ≡ root_core (cores_behind parts rs) (get_or rs j True)
 root_at parts [] j l o = absurd (omega arith)
 root_at parts (r ∷ rs) zero l o =
     let more = parts ++ root_core parts r ∷ [] in
     let at : length parts + 0 ≡ length parts = omega arith in
-    let over : IsOver (length parts) r = IsOver-more (length parts + 0) (length parts) r (omega arith) o in
+    let over : HasOperandsBelow (length parts) r = HasOperandsBelow-more (length parts + 0) (length parts) r (omega arith) o in
     let first : get_or (cores_behind more rs) (length parts + 0) core.True ≡ root_core parts r =
     part_behind more rs (length parts + 0) (omega (arith, length-append parts (root_core parts r ∷ []))) ∙ get_or_push parts (root_core parts r) core.True (length parts + 0) (sym at) in
     first
@@ -92,13 +92,13 @@ root_at parts (r ∷ rs) zero l o =
 root_at parts (r ∷ rs) (suc j) l o =
     let more = parts ++ root_core parts r ∷ [] in
     let at : length more + j ≡ length parts + suc j = omega (arith, length-append parts (root_core parts r ∷ [])) in
-    let rest = root_at more rs j (omega arith) (IsOver-more (length parts + suc j) (length more + j) (get_or rs j True) (omega arith) o) in
+    let rest = root_at more rs j (omega arith) (HasOperandsBelow-more (length parts + suc j) (length more + j) (get_or rs j True) (omega arith) o) in
     ap (λ i. get_or (cores_behind more rs) i core.True) (sym at) ∙ rest
 
 pub part_at : (rs : List Root) → AreInOrder rs → (k : ℕ) → k < length rs → get_or (cores_of rs) k core.True ≡ root_core (cores_of rs) (get_or rs k True)
 part_at rs order k l =
     let at : 0 + k ≡ k = omega arith in
-    ap (λ i. get_or (cores_of rs) i core.True) (sym at) ∙ root_at [] rs k l (IsOver-more k (0 + k) (get_or rs k True) (omega arith) (order k l))
+    ap (λ i. get_or (cores_of rs) i core.True) (sym at) ∙ root_at [] rs k l (HasOperandsBelow-more k (0 + k) (get_or rs k True) (omega arith) (order k l))
 
 -- parts of one formula have one root
 
@@ -123,7 +123,7 @@ same_shape (core.Exists n f) (core.Exists m g) = true
 same_shape (core.Infinite n f) (core.Infinite m g) = true
 same_shape f g = false
 
-pub same_root : (parts : List Core) → AreApart parts → (r s : Root) → IsOver (length parts) r → IsOver (length parts) s → root_core parts r ≡ root_core parts s → r ≡ s
+pub same_root : (parts : List Core) → AreDistinct parts → (r s : Root) → HasOperandsBelow (length parts) r → HasOperandsBelow (length parts) s → root_core parts r ≡ root_core parts s → r ≡ s
 same_root parts apart True True o p e = refl
 same_root parts apart (Atom a i x y) (Atom b j u v) o p e =
     let rel : as_rel a ≡ as_rel b = cc in

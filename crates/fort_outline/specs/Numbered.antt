@@ -6,6 +6,10 @@ use Rattle.fort_logic.specs.EachOnce.{AreEachOnce}
 use Rattle.fort_outline.specs.declared.root.Root.{Root}
 use Rattle.fort_outline.specs.Roots.{cores_of, AreInOrder}
 
+-- no formula stands at two places
+abbrev pub AreDistinct : List Core → Type 0
+AreDistinct parts = (j k : ℕ) → j < length parts → k < length parts → get_or parts j core.True ≡ get_or parts k core.True → j ≡ k
+
 -- the roots are those formulas, each once, operands before their formula
 pub record AreNumbered (before : List Core) (roots : List Root) : Type 0 where
   pub once : AreEachOnce before (cores_of roots)

@@ -29,21 +29,21 @@ abbrev pub cores_of : List Root → List Core
 cores_of rs = cores_behind [] rs
 
 -- its operands are among the first k parts
-abbrev pub IsOver : ℕ → Root → Type 0
-IsOver k True = Unit {0}
-IsOver k (Atom rel index x y) = Unit {0}
-IsOver k (Nf index x) = Unit {0}
-IsOver k (Is x t) = Unit {0}
-IsOver k (Not f) = f < k
-IsOver k (And f g) = (f < k) × (g < k)
-IsOver k (Or f g) = (f < k) × (g < k)
-IsOver k (Iff f g) = (f < k) × (g < k)
-IsOver k (Exists n f) = f < k
-IsOver k (Infinite n f) = f < k
+abbrev pub HasOperandsBelow : ℕ → Root → Type 0
+HasOperandsBelow k True = Unit {0}
+HasOperandsBelow k (Atom rel index x y) = Unit {0}
+HasOperandsBelow k (Nf index x) = Unit {0}
+HasOperandsBelow k (Is x t) = Unit {0}
+HasOperandsBelow k (Not f) = f < k
+HasOperandsBelow k (And f g) = (f < k) × (g < k)
+HasOperandsBelow k (Or f g) = (f < k) × (g < k)
+HasOperandsBelow k (Iff f g) = (f < k) × (g < k)
+HasOperandsBelow k (Exists n f) = f < k
+HasOperandsBelow k (Infinite n f) = f < k
 
 -- the operands of each stand before it
 abbrev pub AreInOrder : List Root → Type 0
-AreInOrder rs = (k : ℕ) → k < length rs → IsOver k (get_or rs k True)
+AreInOrder rs = (k : ℕ) → k < length rs → HasOperandsBelow k (get_or rs k True)
 
 -- part j is one of its operands
 abbrev pub is_operand : ℕ → Root → Bool

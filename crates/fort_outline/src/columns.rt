@@ -1,9 +1,9 @@
 //! The columns of parts.
-ghost use Rattle.std.specs.Prelude.{◌≡◌, ℕ, ◌↔◌, ◌<◌, List, ◌∷◌, ◌++◌, ◌==◌, not, filter, length, IfOk, OnOk, Contains};
+ghost use Rattle.std.specs.Prelude.{◌≡◌, ℕ, ◌↔◌, ◌<◌, List, ◌++◌, ◌==◌, not, filter, length, IfOk, OnOk, Contains};
 ghost use Rattle.std.specs.List.Sorted.{IsStrictlyIncreasing};
 ghost use Rattle.fort_logic.specs.Cores as theory;
 ghost use Rattle.fort_parts.specs.PartColumns.{columns_of};
-ghost use Rattle.fort_outline.specs.Roots.{root_core, cores_of, IsOver, AreInOrder};
+ghost use Rattle.fort_outline.specs.Roots.{root_core, cores_of, HasOperandsBelow, AreInOrder};
 ghost use Rattle.fort_outline.specs.Outlines.{AreColumnsOf};
 
 use crate::root::Root;
@@ -43,7 +43,7 @@ fn without(alloc: Global, numbers: &[u32], number: u32) -> Result<Vec<u32>, Allo
 
 /// The columns of a part with this root, by those of the parts before it.
 fn root_columns(alloc: Global, root: &Root, before: &[Vec<u32>]) -> Result<Vec<u32>, AllocError>
-    requires { IsOver (length before.now) root.now }
+    requires { HasOperandsBelow (length before.now) root.now }
     ensures { IfOk result (λ ns. (parts : List theory.Core) → AreColumnsOf parts before.now
         → ns.items ≡ columns_of (root_core parts root.now)) }
 {

@@ -3,7 +3,7 @@ ghost use Rattle.std.specs.Prelude.{◌<◌, ◌≤◌, List, [], ◌∷◌, ◌
 ghost use Rattle.fort_logic.specs.Cores as theory;
 ghost use Rattle.fort_logic.specs.Parts.{postorder};
 ghost use Rattle.fort_formulas.specs.CoreView.{as_core};
-ghost use Rattle.fort_outline.specs.Roots.{root_core, cores_of, IsOver};
+ghost use Rattle.fort_outline.specs.Roots.{root_core, cores_of, HasOperandsBelow};
 ghost use Rattle.fort_outline.specs.Numbered.{AreNumbered, IsNumbered};
 
 use crate::root::Root;
@@ -13,10 +13,11 @@ use std::alloc::{AllocError, Global};
 
 /// The number of a part with this root, which is a new one where no part has it yet.
 fn number_of(roots: &mut IndexSet<Root>, root: Root) -> Result<usize, AllocError>
-    requires { IsOver (length roots.old.keys) root }
+    requires { HasOperandsBelow (length roots.old.keys) root }
     ensures within { IfOk result (λ n. n < length roots.new.keys) }
     ensures grows { OnOk result (length roots.old.keys ≤ length roots.new.keys) }
-    ensures numbered { IfOk result (λ n. (before : List theory.Core) → AreNumbered before roots.old.keys
+    ensures numbered { IfOk result (λ n. (before : List theory.Core)
+        → AreNumbered before roots.old.keys
         → IsNumbered (before ++ root_core (cores_of roots.old.keys) root ∷ []) roots.old.keys
         roots.new.keys (root_core (cores_of roots.old.keys) root) n) }
 {

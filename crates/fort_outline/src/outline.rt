@@ -18,7 +18,7 @@ pub struct Outline {
     pub roots: Vec<Root>,
     /// The free numbers of each part, ascending.
     pub columns: Vec<Vec<u32>>,
-    /// The last part that needs the answer of each; the whole formula's is needed behind all.
+    /// The last part that needs the answer of each, or 0 where none does; the whole formula's is needed behind all.
     pub last_uses: Vec<usize>,
     /// The number of the whole formula.
     pub whole: usize,

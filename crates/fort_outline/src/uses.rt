@@ -1,14 +1,15 @@
 //! Which part needs which earlier part last.
 ghost use Rattle.std.specs.Prelude.{◌≡◌, ℕ, ◌<◌, length, slice_index, IfOk, if◌then◌else◌};
-ghost use Rattle.fort_outline.specs.Roots.{cores_of, IsOver, AreInOrder, is_operand};
-ghost use Rattle.fort_outline.specs.Outlines.{AreApart, AreLastUses};
+ghost use Rattle.fort_outline.specs.Roots.{cores_of, HasOperandsBelow, AreInOrder, is_operand};
+ghost use Rattle.fort_outline.specs.Numbered.{AreDistinct};
+ghost use Rattle.fort_outline.specs.Outlines.{AreLastUses};
 
 use crate::root::Root;
 use std::alloc::{AllocError, Global};
 
 /// Notes that part `k`, which has this root, needs its operands.
 fn note_operands(root: &Root, k: usize, uses: &mut [usize])
-    requires { IsOver (length uses.old) root.now }
+    requires { HasOperandsBelow (length uses.old) root.now }
     ensures { (j : ℕ) → j < length uses.old → slice_index uses.new j
         ≡ (if is_operand j root.now then k else slice_index uses.old j) }
 {
@@ -22,14 +23,15 @@ fn note_operands(root: &Root, k: usize, uses: &mut [usize])
     }
 }
 
-/// For each part the last one that needs its answer; that of the whole formula, which is part `whole`, is needed to the end.
+/// For each part the last one that needs its answer, or 0 where none does; that of the whole formula, which is part `whole`, is needed to
+/// the end.
 pub(crate) fn last_uses(
     alloc: Global,
     roots: &[Root],
     whole: usize,
 ) -> Result<Vec<usize>, AllocError>
     requires order { AreInOrder roots.now }
-    requires apart { AreApart (cores_of roots.now) }
+    requires distinct { AreDistinct (cores_of roots.now) }
     requires within { whole < length roots.now }
     ensures { IfOk result (λ uses. AreLastUses (cores_of roots.now) whole uses.items) }
 {

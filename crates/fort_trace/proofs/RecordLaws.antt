@@ -30,13 +30,13 @@ use Rattle.fort_in_order_laws.proofs.StepLists.{steps_append, parts_due-push}
 use Rattle.fort_in_order_laws.proofs.AnsweredParts.{AreOperandsRight, AreCountsRight, labels_of, value_of}
 use Rattle.fort_in_order_laws.proofs.StepsOfParts.{last_value-push, kept_answer, AreCountsDone, IsAnswerDone, no_counts_done, counts_done, value_done, table_done, turned_done, HasClosures-written}
 use Rattle.fort_outline.specs.declared.outline.Outline.{Outline}
-use Rattle.fort_outline.specs.Outlines.{AreLastUses, parts_in}
+use Rattle.fort_outline.specs.Outlines.{AreLastUses, parts_in, core_at}
 use Rattle.fort_engine.specs.declared.answer.Last.{Last}
 use Rattle.fort_engine.specs.declared.answer.Last.TheVariants.{Truth, Auto}
 use Rattle.fort_engine.specs.declared.answer.Decided.{Decided}
 use Rattle.fort_engine.specs.AnswerView.{as_answer}
 use Rattle.fort_engine.specs.Kept.{HasRightAnswer, IsSoFar}
-use Rattle.fort_engine.specs.Deciding.{HasOperands, part_in, IsPlanned, IsNextPart}
+use Rattle.fort_engine.specs.Deciding.{HasOperands, IsPlanned, IsNextPart}
 use Rattle.fort_engine.specs.Found.{IsFound}
 use Rattle.fort_outline.proofs.RootLaws.{length-cores_of}
 use Rattle.fort_engine.proofs.DecideLaws.{HasRightAnswer-root, none_over}
@@ -291,11 +291,11 @@ module _ (system : PatternSystem) (root : Core) (decided : IsDecided system root
 -- ---- with what the engine knows
 
 pub AreRecordedTo-more : (system : PatternSystem) → IsSystem system → (cap : ℕ) (o : Outline) (k : ℕ) (kept : List (Option Last)) → IsNextPart system cap o k kept → (d : Decided)
-    → IsFound system (parts_in o) kept (part_in o k) d → (old mid new : List Step) → AreRecordedTo system o k kept old → CountsPushed k d.counts old mid
-    → AnswerAdded k (part_in o k) d.answer mid new → AreRecordedTo system o (k + 1) (kept ++ Some d.answer ∷ []) new
+    → IsFound system (parts_in o) kept (core_at o k) d → (old mid new : List Step) → AreRecordedTo system o k kept old → CountsPushed k d.counts old mid
+    → AnswerAdded k (core_at o k) d.answer mid new → AreRecordedTo system o (k + 1) (kept ++ Some d.answer ∷ []) new
 AreRecordedTo-more system is cap o k kept next d found old mid new h pushed added =
     let parts = parts_in o in
-    let own = part_in o k in
+    let own = core_at o k in
     let uses = o.last_uses.items in
     let laid = next.laid in
     let far = h.recorded in

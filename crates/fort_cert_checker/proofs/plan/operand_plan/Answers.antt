@@ -1,8 +1,6 @@
-use Rattle.std.proofs.Common.{◌∙◌, arith}
+use Rattle.std.proofs.Common.{ℕ, List, Contains, sym, ◌∙◌, subst, arith}
 use Rattle.fort_parts.specs.PartColumns.{places_in}
 use Rattle.fort_check_steps.proofs.OutlineLaws.{columns_at}
-use Rattle.fort_cert_checker.specs.Sources.{core_at}
-use Rattle.fort_cert_checker.proofs.PlaceLaws.{columns_among}
 use Rattle.fort_cert_checker.proofs.plan.operand_plan.Goals as goal
 
 pub index-requires : goal.index-requires
@@ -15,9 +13,9 @@ pub places_among-requires : goal.places_among-requires
 places_among-requires c =
     let o = c.args.outline.now in
     let are = c.requires.outline in
-    columns_among (core_at o c.args.k) (core_at o c.args.f) c.deref.result.now c.deref-2.result.now
-    (c.deref.ensures.value ∙ columns_at are.0 o are.1 c.args.k c.index.result.now c.requires.whole c.index.ensures)
-    (c.deref-2.ensures.value ∙ columns_at are.0 o are.1 c.args.f c.index-2.result.now c.requires.within c.index-2.ensures) c.requires.columns
+    let whole = c.deref.ensures.value ∙ columns_at are.0 o are.1 c.args.k c.index.result.now c.requires.whole c.index.ensures in
+    let own = c.deref-2.ensures.value ∙ columns_at are.0 o are.1 c.args.f c.index-2.result.now c.requires.within c.index-2.ensures in
+    λ n there. subst (λ (ns : List ℕ). Contains ns n) (sym whole) (c.requires.columns n (subst (λ (ns : List ℕ). Contains ns n) own there))
 
 pub returns : goal.returns
 returns c =

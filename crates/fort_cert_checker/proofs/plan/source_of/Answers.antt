@@ -1,7 +1,7 @@
 use Rattle.std.proofs.Common.{◌≡◌, ◌+◌, ◌<◌, suc, length, subst, refl, arith}
-use Rattle.fort_outline.specs.Outlines.{parts_in}
+use Rattle.fort_outline.specs.Outlines.{parts_in, core_at}
 use Rattle.fort_outline.proofs.RootLaws.{length-cores_of}
-use Rattle.fort_cert_checker.specs.Sources.{core_at, IsSourceOf}
+use Rattle.fort_cert_checker.specs.Sources.{IsSourceOf}
 use Rattle.fort_cert_checker.proofs.SourceLaws.{negation_source}
 use Rattle.fort_cert_checker.proofs.plan.source_of.Goals as goal
 

@@ -1,7 +1,7 @@
 use Rattle.std.proofs.Common.{ℕ, ◌+◌, ◌≤◌}
 use Rattle.fort_outline.specs.declared.outline.Outline.{Outline}
-use Rattle.fort_outline.specs.Outlines.{parts_in}
-use Rattle.fort_cert_checker.specs.Sources.{core_at, IsSourceOf}
+use Rattle.fort_outline.specs.Outlines.{parts_in, core_at}
+use Rattle.fort_cert_checker.specs.Sources.{IsSourceOf}
 use Rattle.fort_cert_checker.proofs.plan.source_of.Given as goal
 
 -- so many turns lead from part k to another

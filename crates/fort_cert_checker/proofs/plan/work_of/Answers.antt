@@ -4,10 +4,9 @@ use Rattle.fort_logic.specs.Cores.{Core}
 use Rattle.fort_logic.specs.Parts.{BindsFree}
 use Rattle.fort_parts.specs.DecidedCores.{IsOverSystem}
 use Rattle.fort_parts.proofs.PartColumnLaws.{column-from_free}
-use Rattle.fort_outline.specs.Outlines.{parts_in}
+use Rattle.fort_outline.specs.Outlines.{parts_in, core_at}
 use Rattle.fort_steps.specs.StepView.{as_step}
 use Rattle.fort_check_steps.proofs.OutlineLaws.{part_is, over_is}
-use Rattle.fort_cert_checker.specs.Sources.{core_at}
 use Rattle.fort_cert_checker.specs.Plans.{IsRelationPlan, IsWorkOf}
 use Rattle.fort_cert_checker.proofs.plan.work_of.Goals as goal
 

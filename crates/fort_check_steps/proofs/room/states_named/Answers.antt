@@ -1,5 +1,4 @@
-use Rattle.std.proofs.Common.{◌≡◌, ℕ, ◌+◌, ◌<◌, max, take, length, get_or, refl, ap, sym, ◌∙◌, arith, ⊎_elim}
-use Rattle.std.proofs.Math.Seq.{take-length}
+use Rattle.std.proofs.Common.{◌≡◌, ◌+◌, max, take, get_or, refl, ap, arith, ⊎_elim}
 use Rattle.std.proofs.lemmas.Bool.{cases_eq}
 use Rattle.fort_tables.specs.Entries.{stage}
 use Rattle.fort_in_order.specs.PartSteps.{states_before}

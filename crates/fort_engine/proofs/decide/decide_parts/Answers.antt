@@ -1,11 +1,11 @@
 use Rattle.std.proofs.Common.{◌≡◌, ◌+◌, ◌<◌, ◌∷◌, ◌++◌, [], Ok, Err, Some, None, sym, ap, subst, ◌∙◌, arith, refl, length, get_or, length-append}
 use Rattle.fort_logic.specs.Kinds.{kind_of}
 use Rattle.fort_explore.specs.declared.table.ExploreFault.TheVariants.{Over}
-use Rattle.fort_outline.specs.Outlines.{parts_in}
+use Rattle.fort_outline.specs.Outlines.{parts_in, core_at}
 use Rattle.fort_outline.specs.declared.root.Root.TheVariants.{True}
-use Rattle.fort_outline.proofs.RootLaws.{length-cores_of, IsOver-more}
+use Rattle.fort_outline.proofs.RootLaws.{length-cores_of, HasOperandsBelow-more}
 use Rattle.fort_engine.specs.declared.answer.Limit.{Limit}
-use Rattle.fort_engine.specs.Deciding.{IsNextPart, part_in}
+use Rattle.fort_engine.specs.Deciding.{IsNextPart}
 use Rattle.fort_engine.specs.Kept.{IsSoFar}
 use Rattle.fort_engine.specs.Found.{IsFound, IsDecidedBy}
 use Rattle.fort_engine.proofs.OperandLaws.{has_root, next_is}
@@ -43,7 +43,7 @@ returns-in-Err-Over-clause-over g c f plan =
     let k = c.loop-k.k in
     let kept = c.loop-k.kept.items in
     let far = c.loop-k.invariant.far in
-    let own = part_in o k in
+    let own = core_at o k in
     let within : k < length o.roots.items = omega (arith, c.loop-k-test.true, c.len-k-end.ensures) in
     let low : k < length parts = omega (arith, length-cores_of o.roots.items) in
     let decided : IsDecidedBy system own cap (IsFound system parts c.as_slice-answers.result.now own) (Err (Over c.in-Err-Over.tuples)) =
@@ -71,7 +71,7 @@ pub note-requires-clause-found : goal.note-requires-clause-found
 note-requires-clause-found g c =
     let system = c.args.system.now in
     let o = c.args.outline.now in
-    let own = part_in o c.loop-k.k in
+    let own = core_at o c.loop-k.k in
     let decided : IsDecidedBy system own c.args.cap (IsFound system (parts_in o) c.as_slice-answers.result.now own) (Ok c.in-Ok.decided) =
     subst (IsDecidedBy system own c.args.cap (IsFound system (parts_in o) c.as_slice-answers.result.now own)) c.in-Ok.is c.decide_part.ensures in
     decided.ok
@@ -92,7 +92,7 @@ drop_idle-requires g c =
     ap length pushed ∙ (length-append kept (Some c.in-Ok.decided.answer ∷ []) ∙ omega (arith, c.loop-k.invariant.far.kept_are.count)) in
     record {
       within = within;
-      over = IsOver-more k (length c.push.new.self.items) (get_or o.roots.items k True) (omega (arith, long)) (laid.in_order k within);
+      operands = HasOperandsBelow-more k (length c.push.new.self.items) (get_or o.roots.items k True) (omega (arith, long)) (laid.in_order k within);
       uses = omega (arith, long, laid.uses.count, length-cores_of o.roots.items);
     }
 
@@ -109,7 +109,7 @@ loop-k-preserved g c =
     let k = c.loop-k.k in
     let kept = c.loop-k.kept.items in
     let far = c.loop-k.invariant.far in
-    let own = part_in o k in
+    let own = core_at o k in
     let answer = c.in-Ok.decided.answer in
     let all = kept ++ Some answer ∷ [] in
     let within : k < length o.roots.items = omega (arith, c.loop-k-test.true, c.len-k-end.ensures) in

@@ -5,7 +5,7 @@ use Rattle.std.specs.Prelude.{vec_items}
 use Rattle.fort_logic.specs.Cores as core
 use Rattle.fort_parts.specs.PartColumns.{columns_of}
 use Rattle.fort_outline.specs.declared.root.Root.TheVariants.{True}
-use Rattle.fort_outline.specs.Roots.{root_core, cores_of, IsOver}
+use Rattle.fort_outline.specs.Roots.{root_core, cores_of, HasOperandsBelow}
 use Rattle.fort_outline.proofs.RootLaws.{part_at}
 use Rattle.fort_outline.proofs.columns.all_columns.Goals as goal
 
@@ -14,8 +14,8 @@ root_columns-requires c =
     let k = c.loop-k.k in
     let root = c.index-roots-k.result in
     let is : get_or c.args.roots.now k True ≡ root = get_or_default c.args.roots.now k True root c.loop-k-test.true ∙ sym c.index-roots-k.is in
-    let own = subst (IsOver k) is (c.requires k c.loop-k-test.true) in
-    subst (λ n. IsOver n root) (sym (ap length c.deref.ensures.value ∙ c.loop-k.invariant.count)) own
+    let own = subst (HasOperandsBelow k) is (c.requires k c.loop-k-test.true) in
+    subst (λ n. HasOperandsBelow n root) (sym (ap length c.deref.ensures.value ∙ c.loop-k.invariant.count)) own
 
 pub loop-k-init : goal.loop-k-init
 loop-k-init c = record { count = ap length c.in_ok-lists.ensures.items; each = λ k d l. absurd (omega (arith, ap length c.in_ok-lists.ensures.items)) }

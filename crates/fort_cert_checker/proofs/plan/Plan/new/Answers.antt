@@ -1,7 +1,7 @@
 use Rattle.std.proofs.Common.{◌≡◌, length, ap, arith}
 use Rattle.fort_parts.specs.PartColumns.{columns_of}
 use Rattle.fort_check_steps.proofs.OutlineLaws.{columns_at}
-use Rattle.fort_cert_checker.specs.Sources.{core_at}
+use Rattle.fort_outline.specs.Outlines.{core_at}
 use Rattle.fort_cert_checker.proofs.plan.Plan.new.Goals as goal
 
 pub index-requires : goal.index-requires

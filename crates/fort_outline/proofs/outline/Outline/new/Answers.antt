@@ -1,14 +1,13 @@
 use Rattle.std.proofs.Common.{◌≡◌, ◌<◌, List, [], length, get_or, sym, ap, ◌∙◌, subst}
 use Rattle.fort_logic.specs.Cores as core
-use Rattle.fort_logic.specs.Cores.{Core}
 use Rattle.fort_logic.specs.Parts.{postorder}
 use Rattle.fort_logic.specs.PartLists.{AreParts}
 use Rattle.fort_formulas.specs.CoreView.{as_core}
 use Rattle.fort_outline.specs.declared.root.Root.{Root}
 use Rattle.fort_outline.specs.Roots.{cores_of, AreInOrder}
-use Rattle.fort_outline.specs.Outlines.{AreApart, AreColumnsOf, AreLastUses}
-use Rattle.fort_outline.specs.Numbered.{AreNumbered}
-use Rattle.fort_outline.proofs.NumberLaws.{AreNumbered-none, AreApart-once}
+use Rattle.fort_outline.specs.Outlines.{AreColumnsOf, AreLastUses}
+use Rattle.fort_outline.specs.Numbered.{AreDistinct, AreNumbered}
+use Rattle.fort_outline.proofs.NumberLaws.{AreNumbered-none, AreDistinct-once}
 use Rattle.fort_outline.proofs.outline.Outline.new.Goals as goal
 
 pub all_columns-requires : goal.all_columns-requires
@@ -21,12 +20,12 @@ last_uses-requires-clause-order c =
     let one = c.in_ok-whole.ensures.numbered [] (subst (AreNumbered []) (sym c.new-found.ensures.empty) AreNumbered-none) in
     subst AreInOrder (sym (c.deref-2.ensures.value ∙ c.in_ok-roots.ensures)) one.numbered.in_order
 
-pub last_uses-requires-clause-apart : goal.last_uses-requires-clause-apart
-last_uses-requires-clause-apart c =
+pub last_uses-requires-clause-distinct : goal.last_uses-requires-clause-distinct
+last_uses-requires-clause-distinct c =
     let one = c.in_ok-whole.ensures.numbered [] (subst (AreNumbered []) (sym c.new-found.ensures.empty) AreNumbered-none) in
     let keys = c.number_core.new.roots.keys in
-    subst (λ (rs : List Root). AreApart (cores_of rs)) (sym (c.deref-2.ensures.value ∙ c.in_ok-roots.ensures))
-    (AreApart-once (postorder (as_core c.args.core.now)) (cores_of keys) one.numbered.once)
+    subst (λ (rs : List Root). AreDistinct (cores_of rs)) (sym (c.deref-2.ensures.value ∙ c.in_ok-roots.ensures))
+    (AreDistinct-once (postorder (as_core c.args.core.now)) (cores_of keys) one.numbered.once)
 
 pub returns : goal.returns
 returns c =

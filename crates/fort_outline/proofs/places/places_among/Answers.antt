@@ -1,6 +1,6 @@
 use Rattle.std.proofs.Common.{◌≡◌, ◌∙◌, arith, length}
-use Rattle.fort_engine.proofs.PlaceLaws.{each_among, all_places}
-use Rattle.fort_engine.proofs.operands.places_among.Goals as goal
+use Rattle.fort_outline.proofs.PlaceLaws.{each_among, all_places}
+use Rattle.fort_outline.proofs.places.places_among.Goals as goal
 
 pub column_of-requires : goal.column_of-requires
 column_of-requires c = each_among c.args.columns.now c.args.numbers.now c.requires c.loop-k.k c.loop-k-test.true

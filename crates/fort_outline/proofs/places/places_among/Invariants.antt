@@ -1,6 +1,6 @@
 use Rattle.std.proofs.Common.{◌≡◌, ◌<◌, ℕ, length, get_or}
 use Rattle.fort_parts.specs.PartColumns.{place_in}
-use Rattle.fort_engine.proofs.operands.places_among.Given as goal
+use Rattle.fort_outline.proofs.places.places_among.Given as goal
 
 abbrev pub invariant-loop-k : goal.invariant-loop-k
 invariant-loop-k l = record {

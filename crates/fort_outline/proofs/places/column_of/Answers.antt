@@ -1,5 +1,5 @@
-use Rattle.fort_engine.proofs.PlaceLaws.{found_number, no_number}
-use Rattle.fort_engine.proofs.operands.column_of.Goals as goal
+use Rattle.fort_outline.proofs.PlaceLaws.{found_number, no_number}
+use Rattle.fort_outline.proofs.places.column_of.Goals as goal
 
 pub returns-then-columns-place : goal.returns-then-columns-place
 returns-then-columns-place c = found_number c.args.columns.now c.args.number c.loop-place.place c.loop-place-test.true c.loop-place.invariant c.if-columns-place.true
