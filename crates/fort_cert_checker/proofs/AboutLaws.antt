@@ -8,7 +8,7 @@ use Rattle.fort_certificate_grammar.specs.Certificates as theory
 use Rattle.fort_in_order.specs.Dues.{DueStep, OfPart, due_of}
 use Rattle.fort_steps.specs.declared.step.Step.{Step}
 use Rattle.fort_steps.specs.StepView.{as_step}
-use Rattle.fort_check_steps.specs.DueView.{same_due}
+use Rattle.fort_check_steps.specs.SameDue.{same_due}
 use Rattle.fort_check_steps.proofs.DueTests.{Decides-same_due}
 use Rattle.fort_cert_checker.specs.Abouts.{IsFirstAbout, targets_in}
 use Rattle.fort_cert_checker.specs.Fronts.{HasFewTargets}

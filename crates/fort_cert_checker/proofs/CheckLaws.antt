@@ -16,8 +16,9 @@ use Rattle.fort_steps.specs.declared.step.Step.{Step}
 use Rattle.fort_steps.specs.declared.step.Step.TheVariants as program_step
 use Rattle.std.proofs.lemmas.Option.{slice_get-get_or}
 use Rattle.std.proofs.lemmas.Bool.Decides.{nat_tests}
-use Rattle.fort_check_steps.specs.DueView.{as_due, same_due}
-use Rattle.fort_check_steps.specs.declared.dues.DueStep as due_program
+use Rattle.fort_outline.specs.DueView.{as_due}
+use Rattle.fort_check_steps.specs.SameDue.{same_due}
+use Rattle.fort_outline.specs.declared.dues.DueStep as due_program
 use Rattle.fort_check_steps.proofs.DueTests.{Decides-same_due}
 use Rattle.fort_cert_checker.specs.Abouts.{value_in}
 use Rattle.fort_cert_checker.specs.Fronts.{IsReady, IsLoopAt, IsStepDue}
@@ -28,9 +29,6 @@ use Rattle.fort_cert_checker.specs.OutcomeView.{as_outcome}
 use Rattle.fort_parts.specs.PartAnswers.{OfValue, IsAnswerTo}
 use Rattle.fort_logic.specs.PatternStructures.{pattern_structure}
 use Rattle.fort_in_order_laws.proofs.CertifiedTruth.{certified_truth}
-use Rattle.fort_outline.specs.declared.root.Root.{Root}
-use Rattle.fort_outline.specs.Roots.{cores_of, AreInOrder}
-use Rattle.fort_outline.specs.Outlines.{parts_in}
 use Rattle.fort_check_steps.specs.declared.room.PartRoom.{PartRoom}
 use Rattle.fort_check_steps.specs.declared.room.LabelRoom.{LabelRoom}
 use Rattle.fort_check_steps.specs.declared.marks.MarkRoom.{MarkRoom}
@@ -111,7 +109,7 @@ are_read a n d s steps e test step low due =
 
 module _ (system : PatternSystem) (f : Core) (c : Certificate) (a : Checker) (h : IsCheckerOf system f c a) where
   abbrev all_due : List DueStep
-  all_due = dues (length system.rules) (parts_in a.outline)
+  all_due = dues (length system.rules) h.parts
 
   pub steps_are : c.steps ≡ steps_in a
   steps_are = ap (λ (d : Certificate). d.steps) (sym h.certificate_is)
@@ -128,8 +126,8 @@ module _ (system : PatternSystem) (f : Core) (c : Certificate) (a : Checker) (h 
   pub due_count : length all_due ≡ length a.dues.items
   due_count = ap length (sym h.dues) ∙ length-map a.dues.items as_due
 
-  has : (o : Outcome) → IsChecked system (parts_in a.outline) c o → HasOutcome system f c o
-  has o k = record { parts = parts_in a.outline; parts_are = h.ready.are; checked = k }
+  has : (o : Outcome) → IsChecked system h.parts c o → HasOutcome system f c o
+  has o k = record { parts = h.parts; parts_are = h.ready.are; checked = k }
 
   -- Result
   pub start : IsCheckAt system f c a 0 nothing_made
@@ -137,7 +135,7 @@ module _ (system : PatternSystem) (f : Core) (c : Certificate) (a : Checker) (h 
     checker = h;
     loop = record {
       ready = h.ready;
-      place = at_start system (parts_in a.outline) c;
+      place = at_start system h.parts c;
       held = λ j targets among. absurd (Contains-none (Part j targets) among);
     };
   }
@@ -148,7 +146,6 @@ module _ (system : PatternSystem) (f : Core) (c : Certificate) (a : Checker) (h 
     system = a.system;
     core = a.core;
     certificate = a.certificate;
-    outline = a.outline;
     dues = a.dues;
     closures = with_items a.closures closures;
     plans = a.plans;
@@ -157,36 +154,29 @@ module _ (system : PatternSystem) (f : Core) (c : Certificate) (a : Checker) (h 
     marks = with_items a.marks marks;
   }
 
-  module _ (roots : List Root) (plans : List Plan) (roots_are : roots ≡ a.outline.roots.items) (plans_are : plans ≡ a.plans.items) where
-    pub order_given : AreInOrder roots
-    order_given = subst AreInOrder (sym roots_are) h.outline_is.in_order
+  module _ (plans : List Plan) (plans_are : plans ≡ a.plans.items) where
+    to_given : (P : PatternSystem → List Plan → Type 0) → P system a.plans.items → P a.system.now plans
+    to_given P x = subst (λ ps. P a.system.now ps) (sym plans_are) (subst (λ s. P s a.plans.items) (sym h.system_is) x)
 
-    to_given : (P : PatternSystem → List Core → List Plan → Type 0) → P system (parts_in a.outline) a.plans.items → P a.system.now (cores_of roots) plans
-    to_given P x =
-        subst (λ ps. P a.system.now (cores_of roots) ps) (sym plans_are)
-        (subst (λ cs. P a.system.now (cores_of cs) a.plans.items) (sym roots_are) (subst (λ s. P s (parts_in a.outline) a.plans.items) (sym h.system_is) x))
-
-    from_given : (P : PatternSystem → List Core → List Plan → Type 0) → P a.system.now (cores_of roots) plans → P system (parts_in a.outline) a.plans.items
-    from_given P x =
-        subst (λ ps. P system (parts_in a.outline) ps) plans_are
-        (subst (λ cs. P system (cores_of cs) plans) roots_are (subst (λ s. P s (cores_of roots) plans) h.system_is x))
+    from_given : (P : PatternSystem → List Plan → Type 0) → P a.system.now plans → P system a.plans.items
+    from_given P x = subst (λ ps. P system ps) plans_are (subst (λ s. P s plans) h.system_is x)
 
     -- Result
     pub loop_given : (closures : List (Option ClosurePlan)) (rooms : List PartRoom) (marks : List MarkRoom) (n : ℕ) (made : Made) → closures ≡ a.closures.items → rooms ≡ a.rooms.items → marks ≡ a.marks.items
-        → IsCheckAt system f c a n made → IsLoopAt a.system.now f (cores_of roots) c plans closures rooms a.scratch marks n made
+        → IsLoopAt system f h.parts c a.plans.items a.closures.items a.rooms.items a.scratch a.marks.items n made → IsLoopAt a.system.now f h.parts c plans closures rooms a.scratch marks n made
     loop_given closures rooms marks n made closures_are rooms_are marks_are at =
-        to_given (λ s ps ws. IsLoopAt s f ps c ws closures rooms a.scratch marks n made)
-        (subst (λ ms. IsLoopAt system f (parts_in a.outline) c a.plans.items closures rooms a.scratch ms n made) (sym marks_are)
-        (subst (λ rs. IsLoopAt system f (parts_in a.outline) c a.plans.items closures rs a.scratch a.marks.items n made) (sym rooms_are)
-        (subst (λ cs. IsLoopAt system f (parts_in a.outline) c a.plans.items cs a.rooms.items a.scratch a.marks.items n made) (sym closures_are) at.loop)))
+        to_given (λ s ws. IsLoopAt s f h.parts c ws closures rooms a.scratch marks n made)
+        (subst (λ ms. IsLoopAt system f h.parts c a.plans.items closures rooms a.scratch ms n made) (sym marks_are)
+        (subst (λ rs. IsLoopAt system f h.parts c a.plans.items closures rs a.scratch a.marks.items n made) (sym rooms_are)
+        (subst (λ cs. IsLoopAt system f h.parts c a.plans.items cs a.rooms.items a.scratch a.marks.items n made) (sym closures_are) at)))
 
     -- Result
-    pub due_given : (n : ℕ) → IsStepDue system (parts_in a.outline) c n → IsStepDue a.system.now (cores_of roots) c n
-    due_given n d = to_given (λ s ps ws. IsStepDue s ps c n) d
+    pub due_given : (n : ℕ) → IsStepDue system h.parts c n → IsStepDue a.system.now h.parts c n
+    due_given n d = to_given (λ s ws. IsStepDue s h.parts c n) d
 
     -- Result
-    pub failing_given : (made : Made) (s : certificates.Step) (place : ℕ) (reason : Reason) → IsFailing a.system.now (cores_of roots) made s place reason → IsFailing system (parts_in a.outline) made s place reason
-    failing_given made s place reason k = from_given (λ t ps ws. IsFailing t ps made s place reason) k
+    pub failing_given : (made : Made) (s : certificates.Step) (place : ℕ) (reason : Reason) → IsFailing a.system.now h.parts made s place reason → IsFailing system h.parts made s place reason
+    failing_given made s place reason k = from_given (λ t ws. IsFailing t h.parts made s place reason) k
 
     module _ (closures : List (Option ClosurePlan)) (rooms : List PartRoom) (scratch : LabelRoom) (marks : List MarkRoom) (closures_in : (with_items a.closures closures).items ≡ closures)
         (rooms_in : (with_items a.rooms rooms).items ≡ rooms) (marks_in : (with_items a.marks marks).items ≡ marks) where
@@ -197,28 +187,29 @@ module _ (system : PatternSystem) (f : Core) (c : Certificate) (a : Checker) (h 
           (subst (λ rs. P (with_items a.closures closures).items rs marks) (sym rooms_in) (subst (λ cs. P cs rooms marks) (sym closures_in) x))
 
       -- Result
-      pub ready_after : IsReady a.system.now f (cores_of roots) c.steps plans closures rooms scratch marks → IsCheckerOf system f c (with_rooms closures rooms scratch marks)
+      pub ready_after : IsReady a.system.now f h.parts c.steps plans closures rooms scratch marks → IsCheckerOf system f c (with_rooms closures rooms scratch marks)
       ready_after r = record {
         system_is = h.system_is;
         certificate_is = h.certificate_is;
         lawful = h.lawful;
         closed = h.closed;
-        outline_is = h.outline_is;
+        parts = h.parts;
         forms = h.forms;
         dues = h.dues;
-        ready = put_in (λ cs rs ms. IsReady system f (parts_in a.outline) c.steps a.plans.items cs rs scratch ms)
-            (from_given (λ s ps ws. IsReady s f ps c.steps ws closures rooms scratch marks) r);
+        ready = put_in (λ cs rs ms. IsReady system f h.parts c.steps a.plans.items cs rs scratch ms)
+            (from_given (λ s ws. IsReady s f h.parts c.steps ws closures rooms scratch marks) r);
       }
 
       -- Result
-      pub loop_after : (n : ℕ) (made : Made) → IsLoopAt a.system.now f (cores_of roots) c plans closures rooms scratch marks n made → IsCheckAt system f c (with_rooms closures rooms scratch marks) n made
+      pub loop_after : (n : ℕ) (made : Made) → IsLoopAt a.system.now f h.parts c plans closures rooms scratch marks n made → IsCheckAt system f c (with_rooms closures rooms scratch marks) n made
+      unfolding ready_after
       loop_after n made l = record {
         checker = ready_after l.ready;
-        loop = put_in (λ cs rs ms. IsLoopAt system f (parts_in a.outline) c a.plans.items cs rs scratch ms n made)
-            (from_given (λ s ps ws. IsLoopAt s f ps c ws closures rooms scratch marks n made) l);
+        loop = put_in (λ cs rs ms. IsLoopAt system f h.parts c a.plans.items cs rs scratch ms n made)
+            (from_given (λ s ws. IsLoopAt s f h.parts c ws closures rooms scratch marks n made) l);
       }
 
-  module _ (n : ℕ) (made : Made) (at : IsCheckAt system f c a n made) where
+  module _ (n : ℕ) (made : Made) (at : IsLoopAt system f h.parts c a.plans.items a.closures.items a.rooms.items a.scratch a.marks.items n made) where
     module _ (low : n < length a.dues.items) where
       due_low : n < length all_due
       due_low = omega (arith, due_count)
@@ -226,7 +217,7 @@ module _ (system : PatternSystem) (f : Core) (c : Certificate) (a : Checker) (h 
       -- Result
       pub missing : length a.certificate.now.steps.items ≤ n → HasOutcome system f c (Rejected (c.first + 1 + n) 0 Due)
       missing l = has (Rejected (c.first + 1 + n) 0 Due)
-          (at_missing system (parts_in a.outline) c n made at.loop.place (get_or all_due n (OfPart 0)) due_low (sym (get_or_default all_due n (OfPart 0) (get_or all_due n (OfPart 0)) due_low)) (omega (arith, step_count)))
+          (at_missing system h.parts c n made at.place (get_or all_due n (OfPart 0)) due_low (sym (get_or_default all_due n (OfPart 0) (get_or all_due n (OfPart 0)) due_low)) (omega (arith, step_count)))
 
       module _ (d : due_program.DueStep) (s : Step) (r : AreRead a n d s) where
         due_there : (e : DueStep) → get_or all_due n e ≡ as_due d
@@ -241,7 +232,7 @@ module _ (system : PatternSystem) (f : Core) (c : Certificate) (a : Checker) (h 
         -- Result
         pub not_due : same_due (due_of (as_step s)) (as_due d) ≡ false → HasOutcome system f c (Rejected (c.first + 1 + n) 0 Due)
         not_due other = has (Rejected (c.first + 1 + n) 0 Due)
-            (at_not_due system (parts_in a.outline) c n made at.loop.place (as_due d) due_low (due_there (as_due d)) (as_step s) low_step (step_there (as_step s))
+            (at_not_due system h.parts c n made at.place (as_due d) due_low (due_there (as_due d)) (as_step s) low_step (step_there (as_step s))
             (λ e. let yes = (Decides-same_due (due_of (as_step s)) (as_due d)).1 e in absurd cc))
 
         module _ (own : same_due (due_of (as_step s)) (as_due d) ≡ true) where
@@ -249,7 +240,7 @@ module _ (system : PatternSystem) (f : Core) (c : Certificate) (a : Checker) (h 
           same = (Decides-same_due (due_of (as_step s)) (as_due d)).0 own
 
           -- Result
-          pub is_due : IsStepDue system (parts_in a.outline) c n
+          pub is_due : IsStepDue system h.parts c n
           is_due = record {
             low = low_step;
             due_low = due_low;
@@ -257,10 +248,10 @@ module _ (system : PatternSystem) (f : Core) (c : Certificate) (a : Checker) (h 
           }
 
           -- Result
-          pub fails : (place : ℕ) (reason : Reason) → ((t : certificates.Step) → IsFailing system (parts_in a.outline) made (get_or c.steps n t) place reason) → HasOutcome system f c (Rejected (c.first + 1 + n) place reason)
+          pub fails : (place : ℕ) (reason : Reason) → ((t : certificates.Step) → IsFailing system h.parts made (get_or c.steps n t) place reason) → HasOutcome system f c (Rejected (c.first + 1 + n) place reason)
           fails place reason k = has (Rejected (c.first + 1 + n) place reason)
-              (at_failing system (parts_in a.outline) c n made at.loop.place (as_due d) due_low (due_there (as_due d)) (as_step s) low_step (step_there (as_step s)) same place reason
-              (subst (λ t. IsFailing system (parts_in a.outline) made t place reason) (step_there (as_step s)) (k (as_step s))))
+              (at_failing system h.parts c n made at.place (as_due d) due_low (due_there (as_due d)) (as_step s) low_step (step_there (as_step s)) same place reason
+              (subst (λ t. IsFailing system h.parts made t place reason) (step_there (as_step s)) (k (as_step s))))
 
     module _ (whole : length a.dues.items ≤ n) where
       due_whole : length all_due ≤ n
@@ -271,14 +262,14 @@ module _ (system : PatternSystem) (f : Core) (c : Certificate) (a : Checker) (h 
       too_many l =
           let low : n < length c.steps = omega (arith, step_count) in
           let s = get_or c.steps n (Part 0 []) in
-          has (Rejected (c.first + 1 + n) 0 Due) (at_too_many system (parts_in a.outline) c n made at.loop.place due_whole s low (sym (get_or_default c.steps n (Part 0 []) s low)))
+          has (Rejected (c.first + 1 + n) 0 Due) (at_too_many system h.parts c n made at.place due_whole s low (sym (get_or_default c.steps n (Part 0 []) s low)))
 
       module _ (steps_whole : length a.certificate.now.steps.items ≤ n) where
         all_steps : length c.steps ≤ n
         all_steps = omega (arith, step_count)
 
         value : (v : Bool) × (last_value c.steps ≡ Some v)
-        value = last_is_value (IsFine system (parts_in a.outline)) (length system.rules) f (parts_in a.outline) c.steps made h.ready.are h.closed (fine_steps system (parts_in a.outline) c n made at.loop.place due_whole all_steps)
+        value = last_is_value (IsFine system h.parts) (length system.rules) f h.parts c.steps made h.ready.are h.closed (fine_steps system h.parts c n made at.place due_whole all_steps)
 
         -- Result
         pub has_value : (v : Bool) × (last_value (map as_step a.certificate.now.steps.items) ≡ Some v)
@@ -288,14 +279,14 @@ module _ (system : PatternSystem) (f : Core) (c : Certificate) (a : Checker) (h 
         pub certified : last_value (map as_step a.certificate.now.steps.items) ≡ Some a.certificate.now.verdict → HasOutcome system f c (Certified a.certificate.now.verdict)
         certified e =
             subst (λ v. HasOutcome system f c (Certified v)) verdict_is
-            (has (Certified c.verdict) (at_end system (parts_in a.outline) c n made at.loop.place due_whole all_steps (ap last_value steps_are ∙ (e ∙ ap Some (sym verdict_is)))))
+            (has (Certified c.verdict) (at_end system h.parts c n made at.place due_whole all_steps (ap last_value steps_are ∙ (e ∙ ap Some (sym verdict_is)))))
 
         -- Result
         pub other_verdict : ((v : Bool) → last_value (map as_step a.certificate.now.steps.items) ≡ Some v → a.certificate.now.verdict ≡ v → ⊥) → HasOutcome system f c (Rejected a.certificate.now.first 0 Verdict)
         other_verdict other =
             subst (λ m. HasOutcome system f c (Rejected m 0 Verdict)) first_is
             (has (Rejected c.first 0 Verdict)
-            (at_other system (parts_in a.outline) c n made at.loop.place due_whole all_steps value.0 value.1 (λ e. other value.0 (ap last_value (sym steps_are) ∙ value.1) (sym verdict_is ∙ e))))
+            (at_other system h.parts c n made at.place due_whole all_steps value.0 value.1 (λ e. other value.0 (ap last_value (sym steps_are) ∙ value.1) (sym verdict_is ∙ e))))
 
         -- Result
         pub judged : (r : Result Bool program.Rejected) → OnOk r (last_value (map as_step a.certificate.now.steps.items) ≡ Some a.certificate.now.verdict) → IfOk r (λ v. v ≡ a.certificate.now.verdict)

@@ -1,14 +1,13 @@
 -- Two answers that fit the columns of two formulas are operands of a product over the columns of both.
 use Rattle.std.specs.Prelude.{◌≡◌, ℕ, ◌<◌, List, [], length, get_or, Contains, true}
-use Rattle.std.proofs.Common.{sym, ◌∙◌, subst, inl, inr, ⊎_elim, refl}
+use Rattle.std.proofs.Common.{sym, ◌∙◌, subst, ⊎_elim}
 use Rattle.std.proofs.lemmas.Bool.{or_cases}
 use Rattle.std.proofs.lemmas.List.Elements.{Contains-get_or}
 use Rattle.fort_theory.specs.Signatures.{Signature}
 use Rattle.fort_theory.proofs.Members.{Contains-none}
 use Rattle.fort_logic.specs.Cores.{Core}
 use Rattle.fort_logic.specs.Parts.{is_free}
-use Rattle.fort_operations.specs.Products.{Connective, And, Or, Iff, AreOperands, signature_of}
-use Rattle.fort_parts.specs.DecidedCores.{IsOperandOf}
+use Rattle.fort_operations.specs.Products.{Connective, AreOperands, signature_of}
 use Rattle.fort_parts.specs.PartColumns.{columns_of, places_in}
 use Rattle.fort_parts.specs.PartAnswers.{Answer, OfValue, OfTable, FitsColumns}
 use Rattle.fort_parts.specs.PartSteps.{operand_of}
@@ -46,13 +45,3 @@ module _ (sig : Signature) (op : Connective) (f g : Core) (some : 0 < length (co
     first_is = IsOperand-answer sig (columns_of f) (columns_of (joined op f g)) a (joined_first op f g) one;
     second_is = IsOperand-answer sig (columns_of g) (columns_of (joined op f g)) b (joined_second op f g) other;
   }
-
-pub operand_first : (op : Connective) (f g : Core) → IsOperandOf f (joined op f g)
-operand_first And f g = inl refl
-operand_first Or f g = inl refl
-operand_first Iff f g = inl refl
-
-pub operand_second : (op : Connective) (f g : Core) → IsOperandOf g (joined op f g)
-operand_second And f g = inr refl
-operand_second Or f g = inr refl
-operand_second Iff f g = inr refl

@@ -14,7 +14,7 @@ use Rattle.fort_check_steps.proofs.RoomLaws.{first_room, second_room}
 use Rattle.fort_cert_checker.specs.OperandLists.{FitsList, AreListsFor, IsNeedOf, AreNeedsOf}
 use Rattle.fort_cert_checker.specs.declared.plan.Source.{Source}
 use Rattle.fort_cert_checker.specs.declared.plan.Work.{Work}
-use Rattle.fort_cert_checker.specs.declared.plan.Work.TheVariants.{Relation, Normal, Term, Truth, Negation, Product, Projection, Many}
+use Rattle.fort_cert_checker.specs.declared.plan.Work.TheVariants.{Atom, Truth, Negation, Product, Projection, Many}
 
 -- what fits, fits on where room is kept
 pub fits_on : (ss : List Step) (s : Source) (list next : TargetList) (lay after : LayRoom) → ((n k : ℕ) → HasListRoom n k list → HasListRoom n k next) → ((n : ℕ) → HasLayRoom n lay → HasLayRoom n after)
@@ -31,9 +31,7 @@ lists_kept ss (Product op first second) old new k h = (
 )
 lists_kept ss (Projection s c) old new k h = fits_on ss s old.first new.first old.lay new.lay k.first k.lay h
 lists_kept ss (Many s c marks) old new k h = fits_on ss s old.first new.first old.lay new.lay k.first k.lay h
-lists_kept ss (Relation labels) old new k h = tt
-lists_kept ss (Normal labels) old new k h = tt
-lists_kept ss Term old new k h = tt
+lists_kept ss (Atom labels) old new k h = tt
 lists_kept ss Truth old new k h = tt
 lists_kept ss (Negation s) old new k h = tt
 
@@ -54,9 +52,7 @@ pub lists_needed : (ss : List Step) (w : Work) (n : LabelNeeds) (r : LabelRoom) 
 lists_needed ss (Product op first second) n r h has = (fits_first ss first.source n r h.0 has, fits_second ss second.source n r h.1 has)
 lists_needed ss (Projection s c) n r h has = fits_first ss s n r h has
 lists_needed ss (Many s c marks) n r h has = fits_first ss s n r h has
-lists_needed ss (Relation labels) n r h has = tt
-lists_needed ss (Normal labels) n r h has = tt
-lists_needed ss Term n r h has = tt
+lists_needed ss (Atom labels) n r h has = tt
 lists_needed ss Truth n r h has = tt
 lists_needed ss (Negation s) n r h has = tt
 

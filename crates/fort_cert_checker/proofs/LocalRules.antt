@@ -1,6 +1,7 @@
 -- The rules by the labels that the program makes are those that a part is to have.
-use Rattle.std.specs.Prelude.{◌≡◌, ℕ, List}
-use Rattle.std.proofs.Common.{ap, ◌∙◌}
+use Rattle.std.specs.Prelude.{◌≡◌, ℕ, List, map}
+use Rattle.std.proofs.Common.{sym, ap, ◌∙◌}
+use Rattle.std.proofs.lemmas.Simd.{map-map}
 use Rattle.fort_theory.specs.Signatures.{Signature}
 use Rattle.fort_theory.specs.Sides.{at_index}
 use Rattle.fort_theory.specs.Patterns.{Pattern, Pair, PatternSystem}
@@ -12,23 +13,25 @@ use Rattle.fort_atom_labels.specs.AtomRules.{atom_rule, atom_accepts}
 use Rattle.fort_atom_labels.specs.ClosureTests.{closure_test}
 use Rattle.fort_context_closure.specs.ClosedAtoms as closures
 use Rattle.fort_context_closure.specs.ClosedAtoms.{ClosedAtom}
-use Rattle.fort_context_closure.specs.PlainAtoms.{no_closure, IsByPairs, IsNormalAtomOf}
+use Rattle.fort_context_closure.specs.PlainAtoms.{no_closure, signed, IsByPairs, IsNormalAtomOf}
+use Rattle.fort_context_closure.specs.declared.atom_labels.AtomLabels.TheVariants.{Relation, Normal}
 use Rattle.fort_context_closure.proofs.NormalLaws.{normal, normal-step}
 use Rattle.fort_parts.specs.PartColumns.{columns_of}
 use Rattle.fort_parts.proofs.PartColumnLaws.{AreColumns-columns_of}
 use Rattle.fort_certificate_grammar.specs.Certificates.{Pair as Item}
+use Rattle.fort_steps.specs.declared.closure.ClosureEntry.{ClosureEntry}
+use Rattle.fort_steps.specs.StepView.{as_pair}
 use Rattle.fort_in_order.specs.ClosureSteps.{numbers_of}
 use Rattle.fort_in_order.specs.PartRules.{Local, relation_local, normal_local}
-use Rattle.fort_check_steps.specs.AtomLocals.{signed}
 use Rattle.fort_cert_checker.specs.AtomPlans as own
 
 abbrev normal_by : Signature → List Pair → List Pattern → Local
 normal_by sig pairs lefts = record { rule = atom_rule (normal sig pairs lefts) no_closure; accepting = atom_accepts (normal sig pairs lefts) }
 
 -- Result
-pub relation_local_is : (system : PatternSystem) (rel : Rel) (index x y : ℕ) (pairs : List (ℕ × ℕ)) (items : List Item) (c : ClosedAtom)
-    → IsByPairs system rel index x y pairs c → pairs ≡ numbers_of items
-    → own.related_local system c ≡ relation_local system rel index x y c.atom.lefts c.atom.rights items
+pub relation_local_is : (system : PatternSystem) (rel : Rel) (index x y : ℕ) (pairs : List ClosureEntry) (items : List Item) (c : ClosedAtom)
+    → IsByPairs system rel index x y pairs c → map as_pair pairs ≡ items
+    → own.atom_local system (Relation c) ≡ relation_local system rel index x y c.atom.lefts c.atom.rights items
 relation_local_is system rel index x y pairs items c h e =
     let sig = system.signature in
     let f = Atom rel index x y in
@@ -36,17 +39,18 @@ relation_local_is system rel index x y pairs items c h e =
     let rights = c.atom.rights in
     let here : signed sig c.atom ≡ listed (relation_atom system rel index x y (columns_of f)) lefts rights =
     ap (λ (a : kinds.Atom). signed sig (listed a lefts rights)) (h.rules.same index (columns_of f) (AreColumns-columns_of f)) in
-    let numbers : closures.numbers_of c.entries ≡ numbers_of items = h.numbers_are ∙ e in
+    let numbers : closures.numbers_of c.entries ≡ numbers_of items =
+    ap closures.numbers_of h.entries_are ∙ (sym (map-map (λ (i : Item). (i.p, i.q)) as_pair pairs) ∙ ap numbers_of e) in
     λ i. record { rule = atom_rule (here i) (closure_test rights lefts (numbers i)); accepting = atom_accepts (here i) }
 
 -- Result
 pub normal_local_is : (system : PatternSystem) (index : ℕ) (a : ListedAtom) → IsNormalAtomOf system index a
-    → own.normal_local system a ≡ normal_local system index a.lefts
+    → own.atom_local system (Normal a) ≡ normal_local system index a.lefts
 normal_local_is system index a h =
     let sig = system.signature in
     let pairs = at_index index system.rules in
-    let seen : own.normal_local system a ≡ normal_by sig a.atom.pairs a.lefts =
-    ap (own.normal_local system) h.same in
+    let seen : own.atom_local system (Normal a) ≡ normal_by sig a.atom.pairs a.lefts =
+    ap (λ (b : ListedAtom). own.atom_local system (Normal b)) h.same in
     seen ∙ (λ i. record {
       rule = record { signature = sig; columns = 1; step = λ f ws. normal-step sig sig a.atom.pairs pairs a.lefts h.left_sides f ws i };
       accepting = atom_accepts (normal sig pairs a.lefts);

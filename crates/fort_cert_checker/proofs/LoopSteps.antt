@@ -14,10 +14,6 @@ use Rattle.fort_in_order.specs.Made.{Made, with_closure}
 use Rattle.fort_in_order.specs.Checked.{IsClosureJudged, IsFine, FineClosure, IsFailing, FailingClosure, IsUpTo}
 use Rattle.fort_check_steps.specs.declared.failure.Failure.{Failure}
 use Rattle.fort_check_steps.specs.StepAnswers.{as_reason, outcome_of}
-use Rattle.fort_outline.specs.declared.root.Root.{Root}
-use Rattle.fort_outline.specs.Roots.{root_core, cores_of, AreInOrder}
-use Rattle.fort_outline.proofs.RootLaws.{length-cores_of}
-use Rattle.fort_check_steps.proofs.OutlineLaws.{part_root}
 use Rattle.fort_steps.specs.declared.count.Count.{Count}
 use Rattle.fort_steps.specs.declared.step.Step as steps
 use Rattle.fort_steps.specs.declared.step.Step.TheVariants as variants
@@ -76,11 +72,6 @@ get_same : {A : Type 0} (xs : List A) (k : ℕ) (d e : A) → k < length xs → 
 get_same [] k d e l = absurd (omega arith)
 get_same (x ∷ xs) zero d e l = refl
 get_same (x ∷ xs) (suc k) d e l = get_same xs k d e (omega arith)
-
-pub root_at : (rs : List Root) → AreInOrder rs → (n : ℕ) (d : Root) → n < length (cores_of rs) → root_core (cores_of rs) (get_or rs n d) ≡ get_or (cores_of rs) n core.True
-root_at rs order n d l =
-    let low : n < length rs = omega (arith, length-cores_of rs) in
-    sym (part_root rs order n (get_or rs n d) low (get_same rs n d (get_or rs n d) low))
 
 pub element_at : {A : Type 0} (xs : List A) (k : ℕ) (e : A) → k < length xs → IsElement xs k (get_or xs k e)
 element_at xs k e l = (l, λ d. get_same xs k d e l)

@@ -28,7 +28,7 @@ use Rattle.fort_check_steps.specs.Room.{HasRoom, most_states}
 use Rattle.fort_check_steps.specs.Marks.{HasMarkRoom}
 use Rattle.fort_cert_checker.specs.declared.plan.Plan.{Plan}
 use Rattle.fort_cert_checker.specs.declared.plan.Work.{Work}
-use Rattle.fort_cert_checker.specs.declared.plan.Work.TheVariants.{Truth, Relation, Normal, Term, Negation, Product, Projection, Many}
+use Rattle.fort_cert_checker.specs.declared.plan.Work.TheVariants.{Truth, Atom, Negation, Product, Projection, Many}
 use Rattle.fort_cert_checker.specs.declared.past.Past.{Past}
 use Rattle.fort_cert_checker.specs.Abouts.{IsOnlyAbout}
 use Rattle.fort_cert_checker.specs.Pasts.{steps_of, IsMarkRoomFor, IsTableDue, IsTableStep}
@@ -47,9 +47,7 @@ if_err (Err e) by h = by e h
 
 pub marks_kept : (ss : List Step) (w : Work) (old new : MarkRoom) → IsMarkRoomFor ss w old → ((states count : ℕ) → HasMarkRoom states count old → HasMarkRoom states count new) → IsMarkRoomFor ss w new
 marks_kept ss Truth old new h keep = h
-marks_kept ss (Relation r) old new h keep = h
-marks_kept ss (Normal a) old new h keep = h
-marks_kept ss Term old new h keep = h
+marks_kept ss (Atom labels) old new h keep = h
 marks_kept ss (Negation s) old new h keep = h
 marks_kept ss (Product op a b) old new h keep = h
 marks_kept ss (Projection s c) old new h keep = λ targets only. keep (most_states targets) 0 (h targets only)
@@ -64,6 +62,20 @@ failure_of r targets o place reason (IsFailed at why h) e =
     let a : at ≡ place = cc in
     let b : why ≡ reason = cc in
     subst (λ (x : ℕ). IsPartFailure r targets x reason) a (subst (λ (x : outcomes.Reason). IsPartFailure r targets at x) b h)
+
+-- for any parts and formula
+module _ (system : PatternSystem) (ss : List Step) (plans : List Plan) (rooms : List PartRoom) (p : Plan) (s : Step) (room : PartRoom) (scratch : LabelRoom) (marks : MarkRoom) where
+  pub all_fine : {U : Type 0} (new : PartRoom) (result : Result U Failure)
+      → ((parts : List Core) (f : Core) → OnOk result ((made : Made) → IsDueBehind system parts ss plans rooms made f p s room scratch marks → IsFineStep system parts made s new))
+      → OnOk result ((parts : List Core) (f : Core) (made : Made) → IsDueBehind system parts ss plans rooms made f p s room scratch marks → IsFineStep system parts made s new)
+  all_fine new (Ok u) h = h
+  all_fine new (Err e) h = tt
+
+  pub all_failing : {U : Type 0} (result : Result U Failure)
+      → ((parts : List Core) (f : Core) → IfErr result (λ e. (made : Made) → IsDueBehind system parts ss plans rooms made f p s room scratch marks → IsFailing system parts made s e.place (as_reason e.reason)))
+      → IfErr result (λ e. (parts : List Core) (f : Core) (made : Made) → IsDueBehind system parts ss plans rooms made f p s room scratch marks → IsFailing system parts made s e.place (as_reason e.reason))
+  all_failing (Ok u) h = tt
+  all_failing (Err e) h = h
 
 module _ (system : PatternSystem) (parts : List Core) (ss : List Step) (plans : List Plan) (rooms : List PartRoom) (f : Core) (p : Plan) (past : Past) (is : IsPastOf system ss plans rooms past) (room : PartRoom) (scratch : LabelRoom)
     (marks : MarkRoom) (s : Step) where

@@ -13,25 +13,26 @@ use Rattle.fort_tables.specs.Tables.{Table}
 use Rattle.fort_operations.specs.Projections.{ArePure, ArePureBelow, is_pure}
 use Rattle.fort_counts.specs.Counts as counts
 use Rattle.fort_counts.specs.Counts.{KeepRules, count_at}
-use Rattle.fort_atom_labels.specs.ListedAtoms.{ListedAtom}
-use Rattle.fort_atom_labels.specs.AtomRules.{marks_of}
-use Rattle.fort_context_closure.specs.ClosedAtoms.{ClosedAtom}
+use Rattle.fort_context_closure.specs.declared.atom_labels.AtomLabels.{AtomLabels}
+use Rattle.fort_context_closure.specs.declared.atom_labels.AtomLabels.TheVariants.{Relation, Normal, Is}
+use Rattle.fort_context_closure.specs.AtomLabelsView.{word_count}
+use Rattle.fort_context_closure.specs.SignedAtoms.{signature_by}
 use Rattle.fort_parts.specs.PartColumns.{columns_of, place_in}
 use Rattle.fort_parts.specs.PartAnswers.{Answer}
 use Rattle.fort_parts.specs.DecidedCores.{IsOperandOf}
 use Rattle.fort_parts.specs.RightAnswers.{joined}
 use Rattle.fort_parts.proofs.PartColumnLaws.{columns_of-Nf, columns_of-Is}
 use Rattle.fort_certificate_grammar.specs.Certificates.{Step, Part, Counts}
-use Rattle.fort_in_order.specs.ClosureSteps.{numbers_of}
 use Rattle.fort_in_order.specs.Dues.{has_columns, is_turned}
 use Rattle.fort_in_order.specs.Made.{Made}
-use Rattle.fort_in_order.specs.PartRules.{Local, closure_for, IsLocalOf, term_local, project_local, many_local, is_many, IsCounted}
+use Rattle.fort_in_order.specs.PartRules.{Local, closure_for, IsLocalOf, project_local, many_local, is_many, IsCounted}
 use Rattle.fort_in_order_laws.proofs.RightParts.{some_columns}
 use Rattle.fort_in_order_laws.proofs.JoinedTables.{bound_within, bound_many}
 use Rattle.fort_rrn_algebra.specs.declared.operand.Op.{Op}
 use Rattle.fort_rrn_algebra.specs.Operands.{connective_of}
-use Rattle.fort_infinity.specs.declared.count.Count.{Count}
-use Rattle.fort_infinity.specs.CountView.{as_count as as_mark}
+use Rattle.fort_steps.specs.declared.closure.ClosureEntry.{ClosureEntry}
+use Rattle.fort_steps.specs.declared.count.Count.{Count}
+use Rattle.fort_steps.specs.StepView.{as_count, as_pair}
 use Rattle.fort_check_steps.specs.declared.failure.Failure.{Failure}
 use Rattle.fort_check_steps.specs.declared.room.PartRoom.{PartRoom}
 use Rattle.fort_check_steps.specs.declared.room.LabelRoom.{LabelRoom}
@@ -42,17 +43,17 @@ use Rattle.fort_check_steps.specs.Marks.{HasMarkRoom}
 use Rattle.fort_cert_checker.specs.declared.plan.Source.{Source}
 use Rattle.fort_cert_checker.specs.declared.plan.Operand.{Operand}
 use Rattle.fort_cert_checker.specs.declared.plan.Work.{Work}
-use Rattle.fort_cert_checker.specs.declared.plan.Work.TheVariants.{Truth, Negation, Relation, Normal, Term, Product, Projection, Many}
+use Rattle.fort_cert_checker.specs.declared.plan.Work.TheVariants.{Truth, Negation, Atom, Product, Projection, Many}
 use Rattle.fort_cert_checker.specs.declared.plan.Plan.{Plan}
 use Rattle.fort_cert_checker.specs.declared.past.Past.{Past}
 use Rattle.fort_cert_checker.specs.Abouts.{IsOnlyAbout}
 use Rattle.fort_cert_checker.specs.Sources.{IsSourceOf}
 use Rattle.fort_cert_checker.specs.AtomPlans as own
 use Rattle.fort_cert_checker.specs.Joins.{joined_local, AreJoined}
-use Rattle.fort_cert_checker.specs.Plans.{IsClosureRead, IsRelationPlan, IsNormalPlan, IsTermPlan, IsNegationPlan, IsProductPlan, IsProjectionPlan, IsManyPlan, IsWorkOf, IsWidthFor}
+use Rattle.fort_cert_checker.specs.Plans.{IsClosureRead, IsAtomPlan, IsNegationPlan, IsProductPlan, IsProjectionPlan, IsManyPlan, IsWorkOf, IsWidthFor}
 use Rattle.fort_cert_checker.specs.OperandLists.{FitsList, AreListsFor}
 use Rattle.fort_cert_checker.specs.Pasts.{steps_of, IsTableAt, IsAnswerAt, IsPartStep, IsClosureKnown, IsMarkRoomFor, AreCountsKnown, IsTableDue, IsTableStep}
-use Rattle.fort_cert_checker.proofs.JoinFits.{operand_first, operand_second}
+use Rattle.fort_outline.proofs.JoinedOperands.{operand_first, operand_second}
 use Rattle.fort_cert_checker.proofs.KnownAnswers.{IsKnown, IsKnownTable, known_answer, known_table}
 use Rattle.fort_cert_checker.proofs.LocalRules.{relation_local_is, normal_local_is}
 use Rattle.fort_cert_checker.proofs.PartLocals.{joined_local_is, joined_fit, projected_local_is, many_local_is}
@@ -72,15 +73,15 @@ some_pure body c (suc n) =
     by true e w = (w.0 ++ n ∷ [], pure_push body c n w.0 w.1 e)
     by false e w = (w.0, pure_left body c n w.0 w.1 e)
 
-closure_is : (ss : List Step) (made : Made) (rel : core.Rel) (index : ℕ) (pairs : List (ℕ × ℕ)) → IsClosureRead ss rel index pairs → IsClosureKnown ss made rel index → pairs ≡ numbers_of (closure_for made rel index)
-closure_is ss made core.Eq index pairs r k = r
-closure_is ss made core.Root index pairs r k = r
-closure_is ss made core.Below index pairs r k = r
-closure_is ss made core.Step index pairs r k = r
-closure_is ss made core.Par index pairs r k = r
-closure_is ss made core.Plus index pairs r k = r k.0 k.1 ∙ ap numbers_of (sym k.2)
-closure_is ss made core.Star index pairs r k = r k.0 k.1 ∙ ap numbers_of (sym k.2)
-closure_is ss made core.Conv index pairs r k = r k.0 k.1 ∙ ap numbers_of (sym k.2)
+closure_is : (ss : List Step) (made : Made) (rel : core.Rel) (index : ℕ) (pairs : List ClosureEntry) → IsClosureRead ss rel index pairs → IsClosureKnown ss made rel index → map as_pair pairs ≡ closure_for made rel index
+closure_is ss made core.Eq index pairs r k = ap (map as_pair) r
+closure_is ss made core.Root index pairs r k = ap (map as_pair) r
+closure_is ss made core.Below index pairs r k = ap (map as_pair) r
+closure_is ss made core.Step index pairs r k = ap (map as_pair) r
+closure_is ss made core.Par index pairs r k = ap (map as_pair) r
+closure_is ss made core.Plus index pairs r k = r k.0 k.1 ∙ sym k.2
+closure_is ss made core.Star index pairs r k = r k.0 k.1 ∙ sym k.2
+closure_is ss made core.Conv index pairs r k = r k.0 k.1 ∙ sym k.2
 
 module _ (system : PatternSystem) (parts : List Core) (past : Past) (k : ℕ) (made : Made) (f : Core) (p : Plan) (targets : List ℕ) (room : PartRoom) (scratch : LabelRoom)
     (marks : MarkRoom) (due : IsTableDue system parts past k made f p targets room scratch marks) where
@@ -114,57 +115,44 @@ module _ (system : PatternSystem) (parts : List Core) (past : Past) (k : ℕ) (m
   operand_is : (g h : Core) → f ≡ h → IsOperandOf g h → IsOperandOf g (get_or parts k core.True)
   operand_is g h e o = subst (IsOperandOf g) (sym (due.due.part ∙ e)) o
 
-  module _ (c : ClosedAtom) (is : p.work ≡ Relation c) where
-    relation_plan : IsRelationPlan system (steps_of past) f c
-    relation_plan = at_work (Relation c) is
+  -- the rule by the labels is the atom's, over its columns
+  atom_right : (labels : AtomLabels) → IsAtomPlan system (steps_of past) f labels
+      → IsLocalOf system parts made k f (own.atom_local system labels) × ((own.atom_local system labels).rule.columns ≡ length (columns_of f))
+  atom_right (Relation c) h =
+      let pairs = closure_is (steps_of past) made h.rel h.index h.pairs h.closure (due.due.known.closures h.rel h.index h.first h.second (due.due.part ∙ h.whole)) in
+      let same = relation_local_is system h.rel h.index h.first h.second h.pairs (closure_for made h.rel h.index) c h.labels pairs in (
+        subst (λ (g : Core). IsLocalOf system parts made k g (own.atom_local system (Relation c))) (sym h.whole) (record {
+          lefts = c.atom.lefts;
+          rights = c.atom.rights;
+          patterns = record { left = h.labels.left_order; right = h.labels.right_order };
+          is = same;
+        }),
+        ap (λ (l : Local). l.rule.columns) same ∙ ap (λ (g : Core). length (columns_of g)) (sym h.whole),
+      )
+  atom_right (Normal a) h =
+      let same = normal_local_is system h.index a h.labels in (
+        subst (λ (g : Core). IsLocalOf system parts made k g (own.atom_local system (Normal a))) (sym h.whole) (record { lefts = a.lefts; patterns = h.labels.left_order; is = same }),
+        ap (λ (l : Local). l.rule.columns) same ∙ sym (ap (λ (g : Core). length (columns_of g)) h.whole ∙ ap length (columns_of-Nf h.index h.number)),
+      )
+  atom_right (Is term) h = (
+    subst (λ (g : Core). IsLocalOf system parts made k g (own.atom_local system (Is term))) (sym h.whole) refl,
+    sym (ap (λ (g : Core). length (columns_of g)) h.whole ∙ ap length (columns_of-Is h.number term)),
+  )
 
-    pub relation_room : HasLabelRoom (suc (words_for (length (marks_of c.atom)))) targets scratch
-    relation_room = sized_for _ (width_for (Relation c) is)
+  module _ (labels : AtomLabels) (is : p.work ≡ Atom labels) where
+    pub atom_room : HasLabelRoom (word_count labels) targets scratch
+    atom_room = sized_for _ (width_for (Atom labels) is)
 
-    pub relation_step : {U : Type 0} (new : PartRoom) (result : Result U Failure) → IsPartStep (own.related_local system c) targets new result → IsTableStep system parts k made f targets new result
-    relation_step new result step =
-        let h = relation_plan in
-        let pairs = closure_is (steps_of past) made h.rel h.index h.pairs h.closure (due.due.known.closures h.rel h.index h.first h.second (due.due.part ∙ h.whole)) in
-        let local = own.related_local system c in
-        let same = relation_local_is system h.rel h.index h.first h.second h.pairs (closure_for made h.rel h.index) c h.labels pairs in
+    pub atom_step : {U : Type 0} (new : PartRoom) (result : Result U Failure) → IsPartStep (own.atom_local system labels) targets new result → IsTableStep system parts k made f targets new result
+    atom_step new result step =
+        let right = atom_right labels (at_work (Atom labels) is) in
         record {
-          local = local;
-          local_is = subst (λ (g : Core). IsLocalOf system parts made k g local) (sym h.whole) (record {
-            lefts = c.atom.lefts;
-            rights = c.atom.rights;
-            patterns = record { left = h.labels.left_order; right = h.labels.right_order };
-            is = same;
-          });
-          signature = refl;
-          columns_are = ap (λ (l : Local). l.rule.columns) same ∙ ap (λ (g : Core). length (columns_of g)) (sym h.whole);
+          local = own.atom_local system labels;
+          local_is = right.0;
+          signature = signature_by system.signature labels;
+          columns_are = right.1;
           step = step;
         }
-
-  module _ (a : ListedAtom) (is : p.work ≡ Normal a) where
-    normal_plan : IsNormalPlan system f a
-    normal_plan = at_work (Normal a) is
-
-    pub normal_room : HasLabelRoom (suc (words_for (length (marks_of a)))) targets scratch
-    normal_room = sized_for _ (width_for (Normal a) is)
-
-    pub normal_step : {U : Type 0} (new : PartRoom) (result : Result U Failure) → IsPartStep (own.normal_local system a) targets new result → IsTableStep system parts k made f targets new result
-    normal_step new result step =
-        let h = normal_plan in
-        let local = own.normal_local system a in
-        let same = normal_local_is system h.index a h.labels in
-        record {
-          local = local;
-          local_is = subst (λ (g : Core). IsLocalOf system parts made k g local) (sym h.whole) (record { lefts = a.lefts; patterns = h.labels.left_order; is = same });
-          signature = refl;
-          columns_are = ap (λ (l : Local). l.rule.columns) same ∙ sym (ap (λ (g : Core). length (columns_of g)) h.whole ∙ ap length (columns_of-Nf h.index h.number));
-          step = step;
-        }
-
-  pub term_plan : p.work ≡ Term → IsTermPlan f
-  term_plan e = at_work Term e
-
-  pub term_room : p.work ≡ Term → HasLabelRoom 2 targets scratch
-  term_room e = sized_for 2 (width_for Term e)
 
   pub product_plan : (op : Op) (first second : Operand) → p.work ≡ Product op first second → IsProductPlan parts f op first second
   product_plan op first second e = at_work (Product op first second) e
@@ -191,17 +179,6 @@ module _ (system : PatternSystem) (parts : List Core) (past : Past) (k : ℕ) (m
   not_negation s e =
       let h : IsNegationPlan parts f s = at_work (Negation s) e in
       true≢false (sym due.columns ∙ (ap has_columns h.whole ∙ (sym (ap is_turned h.whole) ∙ due.plain)))
-
-  pub term_step : {U : Type 0} (plan : IsTermPlan f) (new : PartRoom) (result : Result U Failure) → IsPartStep (term_local system.signature plan.term) targets new result → IsTableStep system parts k made f targets new result
-  term_step plan new result step =
-      let local = term_local system.signature plan.term in
-      record {
-        local = local;
-        local_is = subst (λ (g : Core). IsLocalOf system parts made k g local) (sym plan.whole) refl;
-        signature = refl;
-        columns_are = sym (ap (λ (g : Core). length (columns_of g)) plan.whole ∙ ap length (columns_of-Is plan.number plan.term));
-        step = step;
-      }
 
   module _ (op : Op) (first second : Operand) (plan : IsProductPlan parts f op first second) (columns : ℕ) (count : columns ≡ p.columns) where
     pub one : IsKnown system parts past k made due.due.known plan.one first.source
@@ -303,7 +280,7 @@ module _ (system : PatternSystem) (parts : List Core) (past : Past) (k : ℕ) (m
           step = step projected.table projected.at;
         }
 
-  module _ (s : Source) (c : ℕ) (ns : List Count) (is : (own_marks : List counts.Count) → IsOnlyAbout (steps_of past) (Counts k own_marks) → map as_mark ns ≡ own_marks) (plan : IsManyPlan parts (steps_of past) k f s c ns)
+  module _ (s : Source) (c : ℕ) (ns : List Count) (is : (own_marks : List counts.Count) → IsOnlyAbout (steps_of past) (Counts k own_marks) → map as_count ns ≡ own_marks) (plan : IsManyPlan parts (steps_of past) k f s c ns)
       (sized : (qs : List ℕ) → IsOnlyAbout (steps_of past) (Part s.part qs) → due.width ≡ words_for (2 * most_states qs) + 2)
       (marks_sized : (qs : List ℕ) → IsOnlyAbout (steps_of past) (Part s.part qs) → HasMarkRoom (most_states qs) (length ns) marks) where
     many_free : is_free plan.number plan.body ≡ true
@@ -321,21 +298,21 @@ module _ (system : PatternSystem) (parts : List Core) (past : Past) (k : ℕ) (m
     many_counts : AreCountsKnown parts past made k
     many_counts = due.counts plan.number plan.body (due.due.part ∙ plan.whole)
 
-    many_made : made.counts k ≡ map as_mark ns
+    many_made : made.counts k ≡ map as_count ns
     many_made = many_counts.made_is ∙ sym (is many_counts.marks many_counts.only)
 
-    many_marks : (states : List ℕ) → ArePure many_known.table c states → (length ns ≡ length states) × KeepRules many_known.table c (count_at states (map as_mark ns))
+    many_marks : (states : List ℕ) → ArePure many_known.table c states → (length ns ≡ length states) × KeepRules many_known.table c (count_at states (map as_count ns))
     many_marks states pure =
         let counted : IsCounted parts made plan.number plan.body many_known.table states =
         record { body_is = many_known.is; pure = subst (λ (d : ℕ). ArePure many_known.table d states) plan.column pure } in
         let keep = many_counts.rules plan.number plan.body many_known.table states (due.due.part ∙ plan.whole) counted in (
-          sym (length-map ns as_mark) ∙ (sym (ap length many_made) ∙ keep.1),
-          subst (λ (d : ℕ). KeepRules many_known.table d (count_at states (map as_mark ns))) (sym plan.column)
+          sym (length-map ns as_count) ∙ (sym (ap length many_made) ∙ keep.1),
+          subst (λ (d : ℕ). KeepRules many_known.table d (count_at states (map as_count ns))) (sym plan.column)
               (subst (λ (ms : List counts.Count). KeepRules many_known.table (place_in (columns_of plan.body) plan.number) (count_at states ms)) many_made keep.0),
         )
 
     pub many_needs : (table : Table) × IsTableAt past s table × (table.signature ≡ past.signature.now) × (c < table.columns) × (1 < table.columns) × HasLabelRoom (words_for (2 * length table.presences) + 2) targets scratch
-        × HasMarkRoom (length table.presences) 0 marks × ((states : List ℕ) → ArePure table c states → (length ns ≡ length states) × KeepRules table c (count_at states (map as_mark ns)))
+        × HasMarkRoom (length table.presences) 0 marks × ((states : List ℕ) → ArePure table c states → (length ns ≡ length states) × KeepRules table c (count_at states (map as_count ns)))
     unfolding many_known body
     many_needs =
         let only = body_only plan.number plan.body many_operand s plan.source many_free c plan.column many_bound in
@@ -355,14 +332,14 @@ module _ (system : PatternSystem) (parts : List Core) (past : Past) (k : ℕ) (m
     many_states = some_pure many_known.table c (length many_known.table.presences)
 
     pub many_step : {U : Type 0} (new : PartRoom) (result : Result U Failure)
-        → ((table : Table) (states : List ℕ) → IsTableAt past s table → ArePure table c states → IsPartStep (many_local table c (is_many states (map as_mark ns))) targets new result)
+        → ((table : Table) (states : List ℕ) → IsTableAt past s table → ArePure table c states → IsPartStep (many_local table c (is_many states (map as_count ns))) targets new result)
         → IsTableStep system parts k made f targets new result
     unfolding many_known body
     many_step new result step =
         let states = many_states.0 in
         let pure = many_states.1 in record {
-          local = many_local many_known.table c (is_many states (map as_mark ns));
-          local_is = many_local_is system parts k made f plan.number plan.body many_known.table c states (map as_mark ns) plan.whole many_known.is plan.column pure many_made;
+          local = many_local many_known.table c (is_many states (map as_count ns));
+          local_is = many_local_is system parts k made f plan.number plan.body many_known.table c states (map as_count ns) plan.whole many_known.is plan.column pure many_made;
           signature = body_signature plan.number plan.body many_operand s plan.source many_free c plan.column many_bound ∙ due.due.known.signature;
           columns_are = body_columns plan.number plan.body many_operand s plan.source many_free c plan.column many_bound;
           step = step many_known.table states many_known.at pure;

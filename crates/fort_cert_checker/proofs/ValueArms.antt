@@ -28,26 +28,27 @@ use Rattle.fort_in_order_laws.proofs.RightParts.{some_columns, none_columns}
 use Rattle.fort_in_order_laws.proofs.JoinedTables.{bound_within}
 use Rattle.fort_rrn_algebra.specs.declared.operand.Op.{Op}
 use Rattle.fort_rrn_algebra.specs.Operands.{connective_of}
-use Rattle.fort_infinity.specs.declared.count.Count.{Count}
-use Rattle.fort_infinity.specs.CountView.{as_count as as_mark}
+use Rattle.fort_steps.specs.declared.count.Count.{Count}
+use Rattle.fort_steps.specs.StepView.{as_count}
 use Rattle.fort_check_steps.specs.declared.marks.MarkRoom.{MarkRoom}
 use Rattle.fort_check_steps.specs.Room.{most_states}
 use Rattle.fort_check_steps.specs.Marks.{HasMarkRoom}
 use Rattle.fort_cert_checker.specs.declared.plan.Source.{Source}
 use Rattle.fort_cert_checker.specs.declared.plan.Operand.{Operand}
-use Rattle.fort_atom_labels.specs.ListedAtoms.{ListedAtom}
-use Rattle.fort_context_closure.specs.ClosedAtoms.{ClosedAtom}
+use Rattle.fort_context_closure.specs.declared.atom_labels.AtomLabels.{AtomLabels}
+use Rattle.fort_context_closure.specs.declared.atom_labels.AtomLabels.TheVariants.{Relation, Normal, Is}
 use Rattle.fort_cert_checker.specs.declared.plan.Work.{Work}
-use Rattle.fort_cert_checker.specs.declared.plan.Work.TheVariants.{Truth, Negation, Relation, Normal, Term, Product, Projection, Many}
+use Rattle.fort_cert_checker.specs.declared.plan.Work.TheVariants.{Truth, Negation, Atom, Product, Projection, Many}
 use Rattle.fort_cert_checker.specs.declared.plan.Plan.{Plan}
 use Rattle.fort_cert_checker.specs.declared.past.Past.{Past}
 use Rattle.fort_cert_checker.specs.Abouts.{IsOnlyAbout}
 use Rattle.fort_cert_checker.specs.Sources.{IsSourceOf}
-use Rattle.fort_cert_checker.specs.Plans.{IsRelationPlan, IsNegationPlan, IsProductPlan, IsProjectionPlan, IsManyPlan, IsWorkOf}
+use Rattle.fort_cert_checker.specs.Plans.{IsAtomPlan, IsNegationPlan, IsProductPlan, IsProjectionPlan, IsManyPlan, IsWorkOf}
 use Rattle.fort_cert_checker.specs.Pasts.{steps_of, IsTableAt, IsTruthAt, IsPartDue, AreCountsKnown, IsMarkRoomFor}
 use Rattle.fort_cert_checker.specs.Values.{IsValueDue, AreCountsDue}
 use Rattle.fort_cert_checker.proofs.FrontLaws.{only_targets}
-use Rattle.fort_cert_checker.proofs.JoinFits.{joined_first, joined_second, operand_first, operand_second}
+use Rattle.fort_cert_checker.proofs.JoinFits.{joined_first, joined_second}
+use Rattle.fort_outline.proofs.JoinedOperands.{operand_first, operand_second}
 use Rattle.fort_cert_checker.proofs.KnownAnswers.{IsKnownTable, known_table, known_value}
 use Rattle.fort_cert_checker.proofs.PartLocals.{joined_value_is, some_value_is, negated_value_is, true_value_is, many_value_is}
 use Rattle.fort_cert_checker.proofs.TableArms.{some_pure}
@@ -176,14 +177,14 @@ module _ (system : PatternSystem) (parts : List Core) (past : Past) (k : ℕ) (m
     many_counts : AreCountsKnown parts past made k
     many_counts = due.counts plan.number plan.body (due.due.part ∙ plan.whole)
 
-    many_made : made.counts k ≡ map as_mark xs
-    many_made = many_counts.made_is ∙ (sym (plan.marks_are many_counts.marks many_counts.only) ∙ ap (map as_mark) (sym same))
+    many_made : made.counts k ≡ map as_count xs
+    many_made = many_counts.made_is ∙ (sym (plan.marks_are many_counts.marks many_counts.only) ∙ ap (map as_count) (sym same))
 
     many_sizes : (states : List ℕ) → ArePure body.table c states → length xs ≡ length states
     many_sizes states pure =
         let counted : IsCounted parts made plan.number plan.body body.table states = record { body_is = body.is; pure = subst (λ (d : ℕ). ArePure body.table d states) plan.column pure } in
         let keep = many_counts.rules plan.number plan.body body.table states (due.due.part ∙ plan.whole) counted in
-        sym (length-map xs as_mark) ∙ (sym (ap length many_made) ∙ keep.1)
+        sym (length-map xs as_count) ∙ (sym (ap length many_made) ∙ keep.1)
 
     pub many_needs : (table : Table) × IsTableAt past s table × (c < table.columns) × HasMarkRoom (length table.presences) 0 marks × ((states : List ℕ) → ArePure table c states → length xs ≡ length states)
     unfolding body plan
@@ -191,33 +192,29 @@ module _ (system : PatternSystem) (parts : List Core) (past : Past) (k : ℕ) (m
         let m = (subst (λ (w : Work). IsMarkRoomFor (steps_of past) w marks) is due.marks_sized) body.targets (many_only system parts past k made f p due.due s c ns is) in
         (body.table, body.at, many_low system parts past k made f p due.due s c ns is, subst (λ (w : ℕ). HasMarkRoom w 0 marks) (sym body.states) (record { pure = m.pure; holds = omega arith }), many_sizes)
 
-    pub many_value_at : (value : Bool) → ((table : Table) (states : List ℕ) → IsTableAt past s table → ArePure table c states → value ≡ many_value table c (is_many states (map as_mark xs))) → IsValueOf parts made k f value
+    pub many_value_at : (value : Bool) → ((table : Table) (states : List ℕ) → IsTableAt past s table → ArePure table c states → value ≡ many_value table c (is_many states (map as_count xs))) → IsValueOf parts made k f value
     many_value_at value told =
         let w = some_pure body.table c (length body.table.presences) in
-        many_value_is system parts k made f plan.number plan.body body.table c w.0 (map as_mark xs) plan.whole body.is plan.column w.1 many_made value (told body.table w.0 body.at w.1)
+        many_value_is system parts k made f plan.number plan.body body.table c w.0 (map as_count xs) plan.whole body.is plan.column w.1 many_made value (told body.table w.0 body.at w.1)
 
-  pub not_atom : (r : ClosedAtom) → p.work ≡ Relation r → ⊥
-  not_atom r e =
-      let h : IsRelationPlan system (steps_of past) f r = work_is (Relation r) e in
-      let g = core.Atom h.rel h.index h.first h.second in
-      let free : is_free h.first g ≡ true = ap (λ (b : Bool). b || (h.second == h.first)) (eq-eqb h.first h.first refl) in
-      let c = column-from_free g h.first free in
-      let none = none_columns f due.columns in
-      omega (arith, none, ap (λ (x : Core). length (columns_of x)) h.whole, c.1)
-
-  pub not_normal : (a : ListedAtom) → p.work ≡ Normal a → ⊥
-  not_normal a e =
-      let h = work_is (Normal a) e in
-      let none = none_columns f due.columns in
-      let one = ap length (columns_of-Nf h.index h.number) in
-      omega (arith, none, ap (λ (g : Core). length (columns_of g)) h.whole, one)
-
-  pub not_term : p.work ≡ Term → ⊥
-  not_term e =
-      let h = work_is Term e in
-      let none = none_columns f due.columns in
-      let one = ap length (columns_of-Is h.number h.term) in
-      omega (arith, none, ap (λ (g : Core). length (columns_of g)) h.whole, one)
+  pub not_atom : (labels : AtomLabels) → p.work ≡ Atom labels → ⊥
+  not_atom labels e = by labels (work_is (Atom labels) e)
+    where
+      by : (l : AtomLabels) → IsAtomPlan system (steps_of past) f l → ⊥
+      by (Relation c) h =
+          let g = core.Atom h.rel h.index h.first h.second in
+          let free : is_free h.first g ≡ true = ap (λ (b : Bool). b || (h.second == h.first)) (eq-eqb h.first h.first refl) in
+          let at = column-from_free g h.first free in
+          let none = none_columns f due.columns in
+          omega (arith, none, ap (λ (x : Core). length (columns_of x)) h.whole, at.1)
+      by (Normal a) h =
+          let none = none_columns f due.columns in
+          let one = ap length (columns_of-Nf h.index h.number) in
+          omega (arith, none, ap (λ (g : Core). length (columns_of g)) h.whole, one)
+      by (Is term) h =
+          let none = none_columns f due.columns in
+          let one = ap length (columns_of-Is h.number term) in
+          omega (arith, none, ap (λ (g : Core). length (columns_of g)) h.whole, one)
 
 -- ---- the marks that are due
 
@@ -230,12 +227,15 @@ module _ (system : PatternSystem) (parts : List Core) (past : Past) (k : ℕ) (m
   pub only_many : ((s : Source) (c : ℕ) (ns : Vec Count Global) → p.work ≡ Many s c ns → ⊥) → ⊥
   only_many other = by p.work refl due.due.plan.work
     where
+      by_atom : (l : AtomLabels) → IsAtomPlan system (steps_of past) f l → ⊥
+      by_atom (Relation c) h = let z : core.Infinite due.number due.body ≡ core.Atom h.rel h.index h.first h.second = sym due.whole ∙ h.whole in cc
+      by_atom (Normal a) h = let z : core.Infinite due.number due.body ≡ core.Nf h.index h.number = sym due.whole ∙ h.whole in cc
+      by_atom (Is term) h = let z : core.Infinite due.number due.body ≡ core.Is h.number term = sym due.whole ∙ h.whole in cc
+
       by : (w : Work) → p.work ≡ w → IsWorkOf system parts (steps_of past) k f w → ⊥
       by Truth e h = let z : core.Infinite due.number due.body ≡ core.True = sym due.whole ∙ h in cc
       by (Negation s) e h = let z : core.Infinite due.number due.body ≡ core.Not h.body = sym due.whole ∙ h.whole in cc
-      by (Relation r) e h = let z : core.Infinite due.number due.body ≡ core.Atom h.rel h.index h.first h.second = sym due.whole ∙ h.whole in cc
-      by (Normal a) e h = let z : core.Infinite due.number due.body ≡ core.Nf h.index h.number = sym due.whole ∙ h.whole in cc
-      by Term e h = let z : core.Infinite due.number due.body ≡ core.Is h.number h.term = sym due.whole ∙ h.whole in cc
+      by (Atom labels) e h = by_atom labels h
       by (Product op a b) e h = joined_apart (connective_of op) h.one h.other due.number due.body (sym due.whole ∙ h.whole)
       by (Projection s c) e h = let z : core.Infinite due.number due.body ≡ core.Exists h.number h.body = sym due.whole ∙ h.whole in cc
       by (Many s c ns) e h = other s c ns e
@@ -256,7 +256,7 @@ module _ (system : PatternSystem) (parts : List Core) (past : Past) (k : ℕ) (m
     counted_room own count told size =
         let m : HasMarkRoom (most_states body_is.targets) (length ns.items) room =
         (subst (λ (w : Work). IsMarkRoomFor (steps_of past) w room) is due.marks_sized) body_is.targets (many_only system parts past k made f p due.due s c ns is) in
-        let sizes : length ns.items ≡ length own_marks = sym (length-map ns.items as_mark) ∙ ap length (plan_is.marks_are own_marks due.only) in
+        let sizes : length ns.items ≡ length own_marks = sym (length-map ns.items as_count) ∙ ap length (plan_is.marks_are own_marks due.only) in
         let same = told body_is.table body_is.at in
         let states : length own.presences ≡ most_states body_is.targets = ap (λ (t : Table). length t.presences) same ∙ body_is.states in
         record { pure = omega (arith, m.pure, states); holds = omega (arith, m.holds, sizes, size) }
@@ -275,6 +275,6 @@ module _ (system : PatternSystem) (parts : List Core) (past : Past) (k : ℕ) (m
         (λ targets only.
         let same = only_targets (steps_of past) s.part body_is.targets targets (many_only system parts past k made f p due.due s c ns is) only in
         let most : most_states body_is.targets ≡ most_states targets = ap most_states same in
-        let sizes : length ns.items ≡ length own_marks = sym (length-map ns.items as_mark) ∙ ap length (plan_is.marks_are own_marks due.only) in
+        let sizes : length ns.items ≡ length own_marks = sym (length-map ns.items as_count) ∙ ap length (plan_is.marks_are own_marks due.only) in
         let states : length own.presences ≡ most_states body_is.targets = ap (λ (t : Table). length t.presences) (told body_is.table body_is.at) ∙ body_is.states in
         record { pure = omega (arith, h.pure, states, most); holds = omega (arith, h.holds, sizes, size) })

@@ -6,10 +6,9 @@ use Rattle.fort_logic.specs.Parts.{IsClosed}
 use Rattle.fort_certificate_grammar.specs.Certificates.{Step, Certificate}
 use Rattle.fort_in_order.specs.Made.{Made}
 use Rattle.fort_in_order.specs.Dues.{dues}
-use Rattle.fort_outline.specs.Outlines.{IsOutlineOf, parts_in}
 use Rattle.fort_steps.specs.StepView.{as_step}
 use Rattle.fort_certificate.specs.CertificateView.{as_certificate}
-use Rattle.fort_check_steps.specs.DueView.{as_due}
+use Rattle.fort_outline.specs.DueView.{as_due}
 use Rattle.fort_cert_checker.specs.Fronts.{IsReady, IsLoopAt}
 use Rattle.fort_cert_checker.specs.declared.checker.Checker.{Checker}
 
@@ -22,12 +21,12 @@ pub record IsCheckerOf (system : PatternSystem) (f : Core) (c : Certificate) (a 
   pub certificate_is : as_certificate a.certificate.now ≡ c
   pub lawful : IsSystem system
   pub closed : IsClosed f
-  pub outline_is : IsOutlineOf f a.outline
+  pub parts : List Core
   pub forms : a.certificate.now.first + length a.certificate.now.steps.items + 1 < 2 ^ 32
-  pub dues : map as_due a.dues.items ≡ dues (length system.rules) (parts_in a.outline)
-  pub ready : IsReady system f (parts_in a.outline) c.steps a.plans.items a.closures.items a.rooms.items a.scratch a.marks.items
+  pub dues : map as_due a.dues.items ≡ dues (length system.rules) parts
+  pub ready : IsReady system f parts c.steps a.plans.items a.closures.items a.rooms.items a.scratch a.marks.items
 
 -- its first n steps are fine, and the rooms hold their tables
 pub record IsCheckAt (system : PatternSystem) (f : Core) (c : Certificate) (a : Checker) (n : ℕ) (made : Made) : Type 0 where
   pub checker : IsCheckerOf system f c a
-  pub loop : IsLoopAt system f (parts_in a.outline) c a.plans.items a.closures.items a.rooms.items a.scratch a.marks.items n made
+  pub loop : IsLoopAt system f checker.parts c a.plans.items a.closures.items a.rooms.items a.scratch a.marks.items n made

@@ -1,5 +1,5 @@
 -- Inside: what a part is checked by, and the words of its labels.
-use Rattle.std.specs.Prelude.{◌≡◌, ℕ, suc, ◌+◌, ◌*◌, ◌^◌, ◌<◌, ◌≤◌, List, [], map, length}
+use Rattle.std.specs.Prelude.{◌≡◌, ℕ, ◌+◌, ◌*◌, ◌≤◌, List, [], map, length}
 use Rattle.fort_theory.specs.Trees.{Tree}
 use Rattle.fort_theory.specs.Signatures.{most_columns}
 use Rattle.fort_theory.specs.Patterns.{PatternSystem}
@@ -9,27 +9,28 @@ use Rattle.fort_logic.specs.Parts.{BindsFree}
 use Rattle.fort_logic.specs.PartLists.{AreParts}
 use Rattle.fort_tables.specs.BitRows.{words_for}
 use Rattle.fort_counts.specs.Counts as counts
-use Rattle.fort_atom_labels.specs.Subterms.{subterms}
 use Rattle.fort_atom_labels.specs.ListedAtoms.{ListedAtom}
-use Rattle.fort_atom_labels.specs.AtomRules.{marks_of}
 use Rattle.fort_context_closure.specs.ClosedAtoms.{ClosedAtom}
+use Rattle.fort_context_closure.specs.declared.atom_labels.AtomLabels.{AtomLabels}
+use Rattle.fort_context_closure.specs.declared.atom_labels.AtomLabels.TheVariants.{Relation, Normal, Is}
+use Rattle.fort_context_closure.specs.AtomLabelsView.{word_count}
 use Rattle.fort_context_closure.specs.PlainAtoms.{IsByPairs, IsNormalAtomOf}
 use Rattle.fort_parts.specs.PartColumns.{columns_of, place_in, places_in}
 use Rattle.fort_parts.specs.DecidedCores.{IsOverSystem}
 use Rattle.fort_parts.specs.RightAnswers.{joined}
 use Rattle.fort_certificate_grammar.specs.Certificates.{Star, Conv, Pair as Item, Step, Closure, Part, Counts}
-use Rattle.fort_in_order.specs.ClosureSteps.{numbers_of}
+use Rattle.fort_steps.specs.declared.closure.ClosureEntry.{ClosureEntry}
+use Rattle.fort_steps.specs.declared.count.Count.{Count}
+use Rattle.fort_steps.specs.StepView.{as_count, as_pair}
 use Rattle.fort_rrn_algebra.specs.declared.operand.Op.{Op}
 use Rattle.fort_rrn_algebra.specs.Operands.{connective_of}
-use Rattle.fort_infinity.specs.declared.count.Count.{Count}
-use Rattle.fort_infinity.specs.CountView.{as_count}
 use Rattle.fort_check_steps.specs.Room.{most_states}
 use Rattle.fort_cert_checker.specs.Abouts.{IsOnlyAbout}
 use Rattle.fort_cert_checker.specs.Sources.{IsSourceOf}
 use Rattle.fort_cert_checker.specs.declared.plan.Source.{Source}
 use Rattle.fort_cert_checker.specs.declared.plan.Operand.{Operand}
 use Rattle.fort_cert_checker.specs.declared.plan.Work.{Work}
-use Rattle.fort_cert_checker.specs.declared.plan.Work.TheVariants.{Truth, Relation, Normal, Term, Negation, Product, Projection, Many}
+use Rattle.fort_cert_checker.specs.declared.plan.Work.TheVariants.{Truth, Atom, Negation, Product, Projection, Many}
 use Rattle.fort_cert_checker.specs.declared.plan.Plan.{Plan}
 
 -- the parts of some formula
@@ -48,10 +49,10 @@ pub record IsOperandPlan (parts : List Core) (h f : Core) (o : Operand) : Type 0
   pub places : o.places.items ≡ places_in (columns_of h) (columns_of f)
 
 -- the pairs that a relation reads
-abbrev pub IsClosureRead : List Step → core.Rel → ℕ → List (ℕ × ℕ) → Type 0
-IsClosureRead ss core.Star index pairs = (items : List Item) → IsOnlyAbout ss (Closure Star index items) → pairs ≡ numbers_of items
-IsClosureRead ss core.Plus index pairs = (items : List Item) → IsOnlyAbout ss (Closure Star index items) → pairs ≡ numbers_of items
-IsClosureRead ss core.Conv index pairs = (items : List Item) → IsOnlyAbout ss (Closure Conv index items) → pairs ≡ numbers_of items
+abbrev pub IsClosureRead : List Step → core.Rel → ℕ → List ClosureEntry → Type 0
+IsClosureRead ss core.Star index pairs = (items : List Item) → IsOnlyAbout ss (Closure Star index items) → map as_pair pairs ≡ items
+IsClosureRead ss core.Plus index pairs = (items : List Item) → IsOnlyAbout ss (Closure Star index items) → map as_pair pairs ≡ items
+IsClosureRead ss core.Conv index pairs = (items : List Item) → IsOnlyAbout ss (Closure Conv index items) → map as_pair pairs ≡ items
 IsClosureRead ss other index pairs = pairs ≡ []
 
 -- the labels are those of the relation that it is, by the pairs that it reads
@@ -60,7 +61,7 @@ pub record IsRelationPlan (system : PatternSystem) (ss : List Step) (f : Core) (
   pub index : ℕ
   pub first : ℕ
   pub second : ℕ
-  pub pairs : List (ℕ × ℕ)
+  pub pairs : List ClosureEntry
   pub whole : f ≡ core.Atom rel index first second
   pub closure : IsClosureRead ss rel index pairs
   pub labels : IsByPairs system rel index first second pairs c
@@ -71,11 +72,15 @@ pub record IsNormalPlan (system : PatternSystem) (f : Core) (a : ListedAtom) : T
   pub whole : f ≡ core.Nf index number
   pub labels : IsNormalAtomOf system index a
 
-pub record IsTermPlan (f : Core) : Type 0 where
+pub record IsTermPlan (f : Core) (term : Tree) : Type 0 where
   pub number : ℕ
-  pub term : Tree
   pub whole : f ≡ core.Is number term
-  pub few : length (subterms term) < 2 ^ 32
+
+-- the labels are those of the atom that it is
+abbrev pub IsAtomPlan : PatternSystem → List Step → Core → AtomLabels → Type 0
+IsAtomPlan system ss f (Relation c) = IsRelationPlan system ss f c
+IsAtomPlan system ss f (Normal a) = IsNormalPlan system f a
+IsAtomPlan system ss f (Is term) = IsTermPlan f term
 
 pub record IsNegationPlan (parts : List Core) (f : Core) (s : Source) : Type 0 where
   pub body : Core
@@ -107,9 +112,7 @@ pub record IsManyPlan (parts : List Core) (ss : List Step) (k : ℕ) (f : Core) 
 -- of part k, which is this formula
 abbrev pub IsWorkOf : PatternSystem → List Core → List Step → ℕ → Core → Work → Type 0
 IsWorkOf system parts ss k f Truth = f ≡ core.True
-IsWorkOf system parts ss k f (Relation c) = IsRelationPlan system ss f c
-IsWorkOf system parts ss k f (Normal a) = IsNormalPlan system f a
-IsWorkOf system parts ss k f Term = IsTermPlan f
+IsWorkOf system parts ss k f (Atom labels) = IsAtomPlan system ss f labels
 IsWorkOf system parts ss k f (Negation s) = IsNegationPlan parts f s
 IsWorkOf system parts ss k f (Product op first second) = IsProductPlan parts f op first second
 IsWorkOf system parts ss k f (Projection s c) = IsProjectionPlan parts f s c
@@ -122,9 +125,7 @@ pub record IsPlanOf (system : PatternSystem) (parts : List Core) (ss : List Step
 -- the words of its labels
 abbrev pub IsWidthFor : List Step → Work → ℕ → Type 0
 IsWidthFor ss Truth w = w ≡ 1
-IsWidthFor ss (Relation c) w = w ≡ suc (words_for (length (marks_of c.atom)))
-IsWidthFor ss (Normal a) w = w ≡ suc (words_for (length (marks_of a)))
-IsWidthFor ss Term w = w ≡ 2
+IsWidthFor ss (Atom labels) w = w ≡ word_count labels
 IsWidthFor ss (Negation s) w = w ≡ 1
 IsWidthFor ss (Product op first second) w = w ≡ 3
 IsWidthFor ss (Projection s c) w = (targets : List ℕ) → IsOnlyAbout ss (Part s.part targets) → w ≡ words_for (most_states targets) + 2

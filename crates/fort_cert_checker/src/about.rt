@@ -1,21 +1,17 @@
 //! The steps of a certificate, by what they are about.
-ghost use Rattle.std.specs.Prelude.{◌≡◌, ℕ, ◌<◌, ◌^◌, List, Bool, map, length, slice_index_or, IfSome, IfNone, IfOk};
+ghost use Rattle.std.specs.Prelude.{◌≡◌, ℕ, ◌<◌, ◌^◌, List, Bool, map, length, slice_index_or, IfSome, IfNone};
 ghost use Rattle.fort_counts.specs.Counts as counts;
 ghost use Rattle.fort_certificate_grammar.specs.Certificates as theory;
 ghost use Rattle.fort_in_order.specs.Dues as definitions;
-ghost use Rattle.fort_in_order.specs.ClosureSteps.{numbers_of};
 ghost use Rattle.fort_steps.specs.StepView.{as_step, as_which, as_count, as_pair};
-ghost use Rattle.fort_infinity.specs.CountView.{as_count as as_mark};
-ghost use Rattle.fort_check_steps.specs.DueView.{as_due};
+ghost use Rattle.fort_outline.specs.DueView.{as_due};
 ghost use Rattle.fort_cert_checker.specs.Abouts as abouts;
 ghost use Rattle.fort_cert_checker.specs.Abouts.{IsFirstAbout, IsOnlyAbout};
 ghost use Rattle.fort_cert_checker.specs.Fronts.{HasFewTargets};
 
-use fort_check_steps::{DueStep, is_about};
-use fort_infinity::Count;
-use fort_steps::{ClosureEntry, Count as Mark, Step, Which};
-use fort_terms::Memory;
-use std::alloc::Global;
+use fort_check_steps::is_about;
+use fort_outline::DueStep;
+use fort_steps::{ClosureEntry, Count, Step, Which};
 
 /// The first step about this.
 fn step_about<'a>(steps: &'a [Step], due: DueStep) -> Option<&'a Step>
@@ -76,80 +72,42 @@ pub(crate) fn value_of(steps: &[Step], k: u32) -> bool
     }
 }
 
-fn as_mark(mark: Mark) -> Count
-    ensures { as_mark result ≡ as_count mark }
-{
-    match mark {
-        Mark::Finite(height) => Count::Finite(height),
-        Mark::Infinite(child) => Count::Infinite(child),
-    }
-}
-
-fn as_marks(alloc: Global, marks: &[Mark]) -> Result<Vec<Count>, Memory>
-    ensures { IfOk result (λ counts. map as_mark counts.items ≡ map as_count marks.now) }
-{
-    let mut counts = Vec::with_capacity(alloc, marks.len())?;
-    for mark in marks {
-        counts.push(as_mark(*mark))?;
-    }
-    Ok(counts)
-}
-
-fn marks_in(alloc: Global, step: &Step) -> Result<Vec<Count>, Memory>
-    ensures { IfOk result (λ counts. map as_mark counts.items
-        ≡ abouts.marks_in (as_step step.now)) }
+fn marks_in<'a>(step: &'a Step) -> &'a [Count]
+    ensures { map as_count result.now ≡ abouts.marks_in (as_step step.now) }
 {
     match step {
-        Step::Counts(_, marks) => as_marks(alloc, marks),
-        _ => Ok(Vec::new(alloc)),
+        Step::Counts(_, marks) => marks,
+        _ => &[],
     }
 }
 
 /// The marks of a part, by its first step with counts.
-pub(crate) fn marks_of(alloc: Global, steps: &[Step], k: u32) -> Result<Vec<Count>, Memory>
-    ensures { IfOk result (λ found. (marks : List counts.Count)
-        → IsOnlyAbout (map as_step steps.now) (theory.Counts k marks)
-        → map as_mark found.items ≡ marks) }
+pub(crate) fn marks_of<'a>(steps: &'a [Step], k: u32) -> &'a [Count]
+    ensures { (marks : List counts.Count) → IsOnlyAbout (map as_step steps.now)
+        (theory.Counts k marks) → map as_count result.now ≡ marks }
 {
     match step_about(steps, DueStep::Counts(k)) {
-        Some(step) => marks_in(alloc, step),
-        None => Ok(Vec::new(alloc)),
+        Some(step) => marks_in(step),
+        None => &[],
     }
 }
 
-fn pairs_of(alloc: Global, entries: &[ClosureEntry]) -> Result<Vec<(u32, u32)>, Memory>
-    ensures { IfOk result (λ pairs. pairs.items ≡ numbers_of (map as_pair entries.now)) }
-{
-    let mut pairs = Vec::with_capacity(alloc, entries.len())?;
-    for entry in entries {
-        pairs.push((entry.p, entry.q))?;
-    }
-    Ok(pairs)
-}
-
-fn pairs_in(alloc: Global, step: &Step) -> Result<Vec<(u32, u32)>, Memory>
-    ensures { IfOk result (λ pairs. pairs.items ≡ numbers_of
-        (abouts.items_in (as_step step.now))) }
+fn pairs_in<'a>(step: &'a Step) -> &'a [ClosureEntry]
+    ensures { map as_pair result.now ≡ abouts.items_in (as_step step.now) }
 {
     match step {
-        Step::Closure(_, _, entries) => pairs_of(alloc, entries),
-        _ => Ok(Vec::new(alloc)),
+        Step::Closure(_, _, entries) => entries,
+        _ => &[],
     }
 }
 
 /// The pairs of a closure, by its first step.
-pub(crate) fn closure_pairs(
-    alloc: Global,
-    steps: &[Step],
-    which: Which,
-    index: u32,
-) -> Result<Vec<(u32, u32)>, Memory>
-    ensures { IfOk result (λ pairs. (items : List theory.Pair)
-        → IsOnlyAbout (map as_step steps.now) (theory.Closure (as_which which) index items)
-        → pairs.items ≡ numbers_of items) }
+pub(crate) fn closure_pairs<'a>(steps: &'a [Step], which: Which, index: u32) -> &'a [ClosureEntry]
+    ensures { (items : List theory.Pair) → IsOnlyAbout (map as_step steps.now)
+        (theory.Closure (as_which which) index items) → map as_pair result.now ≡ items }
 {
     match step_about(steps, DueStep::Closure(which, index)) {
-        Some(step) => pairs_in(alloc, step),
-        None => Ok(Vec::new(alloc)),
+        Some(step) => pairs_in(step),
+        None => &[],
     }
 }

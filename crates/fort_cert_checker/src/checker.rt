@@ -24,11 +24,9 @@ use crate::making::{ClosurePlan, closure_plans, mark_rooms, plans_of, rooms_of, 
 use crate::plan::Plan;
 use crate::steps::{Given, check_step};
 use fort_certificate::Certificate;
-use fort_check_steps::{
-    DueStep, Failure, LabelRoom, MarkRoom, PartRoom, Reason, failed, is_about, steps_due,
-};
+use fort_check_steps::{Failure, LabelRoom, MarkRoom, PartRoom, Reason, failed, is_about};
 use fort_formulas::Core;
-use fort_outline::Outline;
+use fort_outline::{DueStep, Outline, steps_due};
 use fort_steps::Step;
 use fort_terms::{Memory, System, has_numbers};
 use std::alloc::{AllocError, Global};
@@ -47,7 +45,6 @@ pub struct Checker<'a> {
     system: &'a System,
     core: &'a Core,
     certificate: &'a Certificate,
-    outline: Outline,
     dues: Vec<DueStep>,
     /// For each step that is due.
     closures: Vec<Option<ClosurePlan>>,
@@ -161,7 +158,6 @@ impl<'a> Checker<'a> {
             system,
             core,
             certificate,
-            outline,
             dues,
             closures,
             plans,
@@ -199,7 +195,6 @@ impl<'a> Checker<'a> {
         let given = Given {
             system: self.system,
             steps,
-            roots: &self.outline.roots,
             plans: &self.plans,
         };
         check_step(

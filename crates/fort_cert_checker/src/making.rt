@@ -7,7 +7,7 @@ ghost use Rattle.fort_certificate_grammar.specs.Certificates.{Part};
 ghost use Rattle.fort_in_order.specs.Dues as definitions;
 ghost use Rattle.fort_outline.specs.Outlines.{IsOutlineOf, parts_in};
 ghost use Rattle.fort_steps.specs.StepView.{as_step, as_which};
-ghost use Rattle.fort_check_steps.specs.DueView.{as_due};
+ghost use Rattle.fort_outline.specs.DueView.{as_due};
 ghost use Rattle.fort_check_steps.specs.Room.{HasNeeds, IsListFor, most_states as most_states_lem};
 ghost use Rattle.fort_cert_checker.specs.OperandLists.{AreNeedsOf};
 ghost use Rattle.fort_check_steps.specs.Marks.{HasMarkRoom};
@@ -20,12 +20,10 @@ ghost use Rattle.fort_cert_checker.specs.Makings.{IsClosurePlan, IsClosureFor, I
 use crate::about::targets_of;
 use crate::plan::{Plan, Source, Work};
 use fort_check_steps::{
-    DueStep, LabelNeeds, LabelRoom, ListNeeds, MarkRoom, PairRules, PartRoom, closure_rules,
-    most_states,
+    LabelNeeds, LabelRoom, ListNeeds, MarkRoom, PairRules, PartRoom, closure_rules, most_states,
 };
-use fort_context_closure::local::is_width;
 use fort_infinity::local::many_width;
-use fort_outline::Outline;
+use fort_outline::{DueStep, Outline};
 use fort_rrn_algebra::local::project_width;
 use fort_steps::{Step, Which};
 use fort_terms::{Memory, System};
@@ -123,9 +121,7 @@ fn width_of(steps: &[Step], plan: &Plan) -> usize
     ensures { IsWidthFor (map as_step steps.now) plan.now.work result }
 {
     match &plan.work {
-        Work::Relation(labels) => labels.width(),
-        Work::Normal(labels) => labels.width(),
-        Work::Term => is_width(),
+        Work::Atom(labels) => labels.width(),
         Work::Product(_, _, _) => 3,
         Work::Projection(source, _) => project_width(states_of(steps, *source)),
         Work::Many(source, _, _) => many_width(states_of(steps, *source)),

@@ -1,30 +1,27 @@
 //! What each part is checked by, taken from the formula and the certificate before the check.
-ghost use Rattle.std.specs.Prelude.{◌≡◌, ℕ, ◌<◌, ◌≤◌, ◌^◌, false, List, map, length, Contains, IfOk, IfSome, IfNone};
+ghost use Rattle.std.specs.Prelude.{◌≡◌, ℕ, ◌<◌, ◌^◌, false, List, map, length, Contains, IfOk, IfSome, IfNone};
 ghost use Rattle.fort_theory.specs.Patterns.{PatternSystem};
 ghost use Rattle.fort_theory.specs.Sides.{IsIndexOf};
 ghost use Rattle.fort_certificate_grammar.specs.Certificates as theory_steps;
 ghost use Rattle.fort_logic.specs.Cores as theory;
 ghost use Rattle.fort_formulas.specs.CoreView.{as_rel};
 ghost use Rattle.fort_outline.specs.Outlines.{IsOutlineOf, parts_in, core_at};
-ghost use Rattle.fort_atom_labels.specs.Subterms.{subterms};
 ghost use Rattle.fort_parts.specs.PartColumns.{columns_of, place_in};
 ghost use Rattle.fort_parts.specs.RightAnswers.{joined};
 ghost use Rattle.fort_steps.specs.StepView.{as_step};
 ghost use Rattle.fort_rrn_algebra.specs.Operands.{connective_of};
 ghost use Rattle.fort_in_order.specs.Dues as definitions;
 ghost use Rattle.fort_cert_checker.specs.Sources.{IsSourceOf, IsTurnedBody};
-ghost use Rattle.fort_cert_checker.specs.Plans.{IsFitPart, IsOperandPlan, IsClosureRead, IsRelationPlan, IsWorkOf, IsPlanOf};
+ghost use Rattle.fort_cert_checker.specs.Plans.{IsFitPart, IsOperandPlan, IsClosureRead, IsAtomPlan, IsWorkOf, IsPlanOf};
 
 use crate::about::{closure_pairs, marks_of};
-use fort_context_closure::local::has_few_subterms;
-use fort_context_closure::{NormalBits, RelationBits};
+use fort_context_closure::AtomLabels;
 use fort_formulas::Rel;
-use fort_infinity::Count;
 use fort_outline::{Outline, Root, column_of, places_among};
 use fort_rrn_algebra::Op;
-use fort_steps::{Step, Which};
-use fort_terms::{Memory, System, Term};
-use std::alloc::{AllocError, Global};
+use fort_steps::{ClosureEntry, Count, Step, Which};
+use fort_terms::{Memory, System};
+use std::alloc::Global;
 
 /// Where the answer to a formula is: that of a part's step, under so many negations.
 #[derive(Clone, Copy)]
@@ -45,10 +42,7 @@ pub(crate) struct Operand {
 pub(crate) enum Work {
     /// It is true.
     Truth,
-    Relation(RelationBits),
-    Normal(NormalBits),
-    /// Whether the variable is the part's term.
-    Term,
+    Atom(AtomLabels),
     Negation(Source),
     Product(Op, Operand, Operand),
     /// "Some" over the column of this place in the operand.
@@ -157,19 +151,13 @@ fn product_work(
 }
 
 /// The pairs that a relation reads: none, or those of a closure.
-fn pairs_read(
-    alloc: Global,
-    steps: &[Step],
-    rel: Rel,
-    index: u32,
-) -> Result<Vec<(u32, u32)>, Memory>
-    ensures { IfOk result (λ pairs. IsClosureRead (map as_step steps.now) (as_rel rel) index
-        pairs.items) }
+fn pairs_read<'a>(steps: &'a [Step], rel: Rel, index: u32) -> &'a [ClosureEntry]
+    ensures { IsClosureRead (map as_step steps.now) (as_rel rel) index result.now }
 {
     match rel {
-        Rel::Star | Rel::Plus => closure_pairs(alloc, steps, Which::Star, index),
-        Rel::Conv => closure_pairs(alloc, steps, Which::Conv, index),
-        _ => Ok(Vec::new(alloc)),
+        Rel::Star | Rel::Plus => closure_pairs(steps, Which::Star, index),
+        Rel::Conv => closure_pairs(steps, Which::Conv, index),
+        _ => &[],
     }
 }
 
@@ -182,31 +170,16 @@ fn relation_labels(
     index: u32,
     x: u32,
     y: u32,
-) -> Result<RelationBits, Memory>
+) -> Result<AtomLabels, Memory>
     requires { IsIndexOf system.now.rules index }
-    ensures { IfOk result (IsRelationPlan system.now (map as_step steps.now)
+    ensures { IfOk result (IsAtomPlan system.now (map as_step steps.now)
         (theory.Atom (as_rel rel) index x y)) }
 {
-    let pairs = pairs_read(alloc, steps, rel, index)?;
-    RelationBits::by_pairs(alloc, system, index, rel, x, y, &pairs)
+    let pairs = pairs_read(steps, rel, index);
+    AtomLabels::by_pairs(alloc, system, index, rel, x, y, pairs)
 }
 
-/// How the answer to "is this term" is found, or none where there are more subterms than numbers for them.
-fn term_work(term: &Term) -> Option<Work>
-    ensures some { IfSome result (λ w. (system : PatternSystem) (parts : List theory.Core)
-        (ss : List theory_steps.Step) (k x : ℕ)
-        → IsWorkOf system parts ss k (theory.Is x term.now) w) }
-    ensures none { IfNone result (2 ^ 32 ≤ length (subterms term.now)) }
-{
-    if has_few_subterms(term) {
-        Some(Work::Term)
-    } else {
-        None
-    }
-}
-
-/// How the answer of part `k` is found. It is want of memory of its own where part `k` is "is this term" of a term with more subterms
-/// than numbers for them.
+/// How the answer of part `k` is found.
 fn work_of(
     alloc: Global,
     system: &System,
@@ -225,13 +198,10 @@ fn work_of(
         Root::True => Ok(Work::Truth),
         Root::Atom(rel, index, x, y) => {
             let labels = relation_labels(alloc, system, steps, *rel, *index, *x, *y)?;
-            Ok(Work::Relation(labels))
+            Ok(Work::Atom(labels))
         }
-        Root::Nf(index, _) => Ok(Work::Normal(NormalBits::new(alloc, system, *index)?)),
-        Root::Is(_, term) => match term_work(term) {
-            Some(work) => Ok(work),
-            None => Err(AllocError),
-        },
+        Root::Nf(index, _) => Ok(Work::Atom(AtomLabels::nf(alloc, system, *index)?)),
+        Root::Is(_, term) => Ok(Work::Atom(AtomLabels::is(alloc, term)?)),
         Root::Not(f) => Ok(Work::Negation(source_of(outline, *f))),
         Root::And(f, g) => product_work(alloc, outline, k, Op::And, *f, *g),
         Root::Or(f, g) => product_work(alloc, outline, k, Op::Or, *f, *g),
@@ -242,7 +212,7 @@ fn work_of(
         }
         Root::Infinite(n, f) => {
             let column = bound_column(outline, *n, *f);
-            let marks = marks_of(alloc, steps, k as u32)?;
+            let marks = Vec::from_slice(alloc, marks_of(steps, k as u32))?;
             Ok(Work::Many(source_of(outline, *f), column, marks))
         }
     }

@@ -1,5 +1,5 @@
 //! The checks of a part's steps.
-ghost use Rattle.std.specs.Prelude.{◌≡◌, ℕ, suc, ◌+◌, ◌*◌, ◌<◌, ◌^◌, List, map, length};
+ghost use Rattle.std.specs.Prelude.{◌≡◌, ℕ, ◌+◌, ◌*◌, ◌<◌, ◌^◌, List, map, length};
 ghost use Rattle.fort_logic.specs.Cores as theory;
 ghost use Rattle.fort_tables.specs.BitRows.{words_for};
 ghost use Rattle.fort_tables.specs.Tables as tables;
@@ -7,52 +7,44 @@ ghost use Rattle.fort_counts.specs.Counts.{KeepRules, count_at, is_infinite};
 ghost use Rattle.fort_operations.specs.Projections.{ArePure};
 ghost use Rattle.fort_parts.specs.PartAnswers as answers;
 ghost use Rattle.fort_rrn_algebra.specs.Operands.{connective_of};
-ghost use Rattle.fort_infinity.specs.CountView.{as_count as as_mark};
-ghost use Rattle.fort_outline.specs.Roots.{root_core};
-ghost use Rattle.fort_atom_labels.specs.AtomRules.{marks_of};
-ghost use Rattle.fort_atom_labels.specs.Subterms.{subterms};
-ghost use Rattle.fort_in_order.specs.PartRules.{term_local, project_local, many_local};
+ghost use Rattle.fort_steps.specs.StepView.{as_count};
+ghost use Rattle.fort_in_order.specs.PartRules.{project_local, many_local};
+ghost use Rattle.fort_context_closure.specs.AtomLabelsView.{word_count};
 ghost use Rattle.fort_check_steps.specs.Room.{HasRoom, HasLabelRoom, IsAsRoomy};
 ghost use Rattle.fort_check_steps.specs.Marks.{HasMarkRoom};
 ghost use Rattle.fort_in_order.specs.Made.{Made};
-ghost use Rattle.fort_theory.specs.Trees.{Tree};
-ghost use Rattle.fort_cert_checker.specs.Plans.{IsTermPlan};
-ghost use Rattle.fort_cert_checker.specs.AtomPlans.{related_local, normal_local};
+ghost use Rattle.fort_cert_checker.specs.AtomPlans.{atom_local};
 ghost use Rattle.fort_cert_checker.specs.Joins.{AreJoined, joined_local};
 ghost use Rattle.fort_cert_checker.specs.OperandLists.{FitsList};
 ghost use Rattle.fort_cert_checker.specs.Pasts.{steps_of, IsAnswerAt, IsTableAt, IsPartStep, IsTableDue, IsTableStep};
 
 use crate::past::{Past, factor, laid_list, lay};
 use crate::plan::{Operand, Plan, Source, Work};
-use fort_check_steps::{
-    Failure, LabelRoom, MarkRoom, Normal, PartRoom, Projected, Related, ThisTerm, check_part,
-    put_pure,
-};
-use fort_context_closure::{NormalBits, RelationBits};
-use fort_infinity::{Count, Many};
-use fort_outline::Root;
+use fort_check_steps::{Failure, LabelRoom, MarkRoom, PartRoom, Projected, check_part, put_pure};
+use fort_context_closure::{AtomLabels, SignedAtom};
+use fort_infinity::Many;
 use fort_rrn_algebra::{Both, Op};
-use fort_terms::{System, Term};
+use fort_steps::Count;
+use fort_terms::System;
 
-/// Holds the targets of a relation.
-fn check_relation(
+/// Holds the targets of an atom.
+fn check_atom(
     system: &System,
-    labels: &RelationBits,
+    labels: &AtomLabels,
     targets: &[u32],
     room: &mut PartRoom,
     scratch: &mut LabelRoom,
 ) -> Result<(), Failure>
     requires few { length targets.now < 2 ^ 32 }
     requires room { HasRoom targets.now room.old }
-    requires scratch { HasLabelRoom (suc (words_for (length (marks_of labels.now.atom))))
-        targets.now scratch.old }
-    ensures step { IsPartStep (related_local system.now labels.now) targets.now room.new result }
+    requires scratch { HasLabelRoom (word_count labels.now) targets.now scratch.old }
+    ensures step { IsPartStep (atom_local system.now labels.now) targets.now room.new result }
     ensures room { HasRoom targets.now room.new }
     ensures scratch { IsAsRoomy scratch.old scratch.new }
 {
     let signature = system.signature();
     check_part(
-        &Related { signature, labels },
+        &SignedAtom { signature, labels },
         signature,
         targets,
         room,
@@ -60,87 +52,6 @@ fn check_relation(
         &mut scratch.out,
         &mut scratch.lists.lay,
     )
-}
-
-/// Holds the targets of normal forms.
-fn check_normal(
-    system: &System,
-    labels: &NormalBits,
-    targets: &[u32],
-    room: &mut PartRoom,
-    scratch: &mut LabelRoom,
-) -> Result<(), Failure>
-    requires few { length targets.now < 2 ^ 32 }
-    requires room { HasRoom targets.now room.old }
-    requires scratch { HasLabelRoom (suc (words_for (length (marks_of labels.now)))) targets.now
-        scratch.old }
-    ensures step { IsPartStep (normal_local system.now labels.now) targets.now room.new result }
-    ensures room { HasRoom targets.now room.new }
-    ensures scratch { IsAsRoomy scratch.old scratch.new }
-{
-    let signature = system.signature();
-    check_part(
-        &Normal { signature, labels },
-        signature,
-        targets,
-        room,
-        &mut scratch.rows,
-        &mut scratch.out,
-        &mut scratch.lists.lay,
-    )
-}
-
-/// Holds the targets of a term.
-fn check_term(
-    system: &System,
-    term: &Term,
-    targets: &[u32],
-    room: &mut PartRoom,
-    scratch: &mut LabelRoom,
-) -> Result<(), Failure>
-    requires subterms { length (subterms term.now) < 2 ^ 32 }
-    requires few { length targets.now < 2 ^ 32 }
-    requires room { HasRoom targets.now room.old }
-    requires scratch { HasLabelRoom 2 targets.now scratch.old }
-    ensures step { IsPartStep (term_local system.now.signature term.now) targets.now room.new
-        result }
-    ensures room { HasRoom targets.now room.new }
-    ensures scratch { IsAsRoomy scratch.old scratch.new }
-{
-    let signature = system.signature();
-    check_part(
-        &ThisTerm { signature, term },
-        signature,
-        targets,
-        room,
-        &mut scratch.rows,
-        &mut scratch.out,
-        &mut scratch.lists.lay,
-    )
-}
-
-/// Holds the targets of the term that the part's root names.
-fn check_own_term(
-    system: &System,
-    root: &Root,
-    targets: &[u32],
-    room: &mut PartRoom,
-    scratch: &mut LabelRoom,
-) -> Result<(), Failure>
-    requires term { (parts : List theory.Core) × IsTermPlan (root_core parts root.now) }
-    requires few { length targets.now < 2 ^ 32 }
-    requires room { HasRoom targets.now room.old }
-    requires scratch { HasLabelRoom 2 targets.now scratch.old }
-    ensures step { (parts : List theory.Core) (number : ℕ) (term : Tree)
-        → root_core parts root.now ≡ theory.Is number term
-        → IsPartStep (term_local system.now.signature term) targets.now room.new result }
-    ensures room { HasRoom targets.now room.new }
-    ensures scratch { IsAsRoomy scratch.old scratch.new }
-{
-    match root {
-        Root::Is(_, term) => check_term(system, term, targets, room, scratch),
-        _ => unreachable!(),
-    }
 }
 
 /// Holds the targets of a product over so many columns.
@@ -249,14 +160,14 @@ fn check_many(
         targets.now scratch.old × HasMarkRoom (length table.presences) 0 marks.old
         × ((states : List ℕ) → ArePure table column states
         → (length counts.now ≡ length states)
-        × KeepRules table column (count_at states (map as_mark counts.now))) }
+        × KeepRules table column (count_at states (map as_count counts.now))) }
     requires list { FitsList (steps_of past.now) source scratch.old.lists.first
         scratch.old.lists.lay }
     requires few { length targets.now < 2 ^ 32 }
     requires room { HasRoom targets.now room.old }
     ensures step { (table : tables.Table) (states : List ℕ) → IsTableAt past.now source table
         → ArePure table column states → IsPartStep (many_local table column
-        (λ q. is_infinite (count_at states (map as_mark counts.now) q))) targets.now room.new
+        (λ q. is_infinite (count_at states (map as_count counts.now) q))) targets.now room.new
         result }
     ensures room { HasRoom targets.now room.new }
     ensures scratch { IsAsRoomy scratch.old scratch.new }
@@ -283,7 +194,6 @@ fn check_many(
 /// Holds the targets of a part against the labels that it is to have.
 pub(crate) fn check_table(
     system: &System,
-    root: &Root,
     plan: &Plan,
     past: &Past<'_>,
     targets: &[u32],
@@ -291,22 +201,19 @@ pub(crate) fn check_table(
     scratch: &mut LabelRoom,
     marks: &mut MarkRoom,
 ) -> Result<(), Failure>
-    requires due { (parts : List theory.Core) × (k : ℕ) × (made : Made) × IsTableDue system.now
-        parts past.now k made (root_core parts root.now) plan.now targets.now room.old scratch.old
+    requires due { (parts : List theory.Core) × (k : ℕ) × (made : Made) × (f : theory.Core)
+        × IsTableDue system.now parts past.now k made f plan.now targets.now room.old scratch.old
         marks.old }
-    ensures step { (parts : List theory.Core) (k : ℕ) (made : Made) → IsTableDue system.now
-        parts past.now k made (root_core parts root.now) plan.now targets.now room.old scratch.old
-        marks.old → IsTableStep system.now parts k made (root_core parts root.now) targets.now
-        room.new result }
+    ensures step { (parts : List theory.Core) (k : ℕ) (made : Made) (f : theory.Core)
+        → IsTableDue system.now parts past.now k made f plan.now targets.now room.old scratch.old
+        marks.old → IsTableStep system.now parts k made f targets.now room.new result }
     ensures room { HasRoom targets.now room.new }
     ensures scratch { IsAsRoomy scratch.old scratch.new }
     ensures marks { (states count : ℕ) → HasMarkRoom states count marks.old
         → HasMarkRoom states count marks.new }
 {
     match &plan.work {
-        Work::Relation(labels) => check_relation(system, labels, targets, room, scratch),
-        Work::Normal(labels) => check_normal(system, labels, targets, room, scratch),
-        Work::Term => check_own_term(system, root, targets, room, scratch),
+        Work::Atom(labels) => check_atom(system, labels, targets, room, scratch),
         Work::Product(op, first, second) => check_product(
             *op,
             plan.columns,

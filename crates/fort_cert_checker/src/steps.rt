@@ -2,7 +2,6 @@
 ghost use Rattle.std.specs.Prelude.{◌≡◌, ℕ, ◌+◌, List, map, slice_index_or, OnOk, IfErr};
 ghost use Rattle.fort_theory.specs.Patterns.{PatternSystem};
 ghost use Rattle.fort_logic.specs.Cores as theory;
-ghost use Rattle.fort_outline.specs.Roots.{root_core, cores_of, AreInOrder};
 ghost use Rattle.fort_certificate_grammar.specs.Certificates as certificates;
 ghost use Rattle.fort_steps.specs.StepView.{as_step, as_pair};
 ghost use Rattle.fort_in_order.specs.Dues as definitions;
@@ -21,7 +20,6 @@ use crate::plan::Plan;
 use crate::step::check_table;
 use crate::value::{check_counts, check_value};
 use fort_check_steps::{Failure, LabelRoom, MarkRoom, PartRoom, check_closure};
-use fort_outline::Root;
 use fort_steps::{ClosureEntry, Step};
 use fort_terms::System;
 
@@ -30,8 +28,6 @@ use fort_terms::System;
 pub(crate) struct Given<'a> {
     pub system: &'a System,
     pub steps: &'a [Step],
-    /// The roots of the parts.
-    pub roots: &'a [Root],
     pub plans: &'a [Plan],
 }
 
@@ -53,7 +49,6 @@ fn check_pairs(plan: &mut Option<ClosurePlan>, entries: &[ClosureEntry]) -> Resu
 /// A step that names a part.
 fn check_own(
     given: &Given<'_>,
-    root: &Root,
     plan: &Plan,
     step: &Step,
     front: &[PartRoom],
@@ -61,30 +56,25 @@ fn check_own(
     scratch: &mut LabelRoom,
     marks: &mut MarkRoom,
 ) -> Result<(), Failure>
-    requires due { (made : Made) × IsDueBehind given.now.system.now
-        (cores_of given.now.roots.now) (map as_step given.now.steps.now) given.now.plans.now
-        front.now made (root_core (cores_of given.now.roots.now) root.now) plan.now
-        (as_step step.now) room.old scratch.old marks.old }
-    ensures fine { OnOk result ((made : Made) → IsDueBehind given.now.system.now
-        (cores_of given.now.roots.now) (map as_step given.now.steps.now) given.now.plans.now
-        front.now made (root_core (cores_of given.now.roots.now) root.now) plan.now
-        (as_step step.now) room.old scratch.old marks.old
-        → IsFineStep given.now.system.now (cores_of given.now.roots.now) made (as_step step.now)
-        room.new) }
-    ensures failing { IfErr result (λ e. (made : Made) → IsDueBehind given.now.system.now
-        (cores_of given.now.roots.now) (map as_step given.now.steps.now) given.now.plans.now
-        front.now made (root_core (cores_of given.now.roots.now) root.now) plan.now
-        (as_step step.now) room.old scratch.old marks.old
-        → IsFailing given.now.system.now (cores_of given.now.roots.now) made (as_step step.now)
-        e.place (as_reason e.reason)) }
+    requires due { (parts : List theory.Core) × (f : theory.Core) × (made : Made) × IsDueBehind
+        given.now.system.now parts (map as_step given.now.steps.now) given.now.plans.now
+        front.now made f plan.now (as_step step.now) room.old scratch.old marks.old }
+    ensures fine { OnOk result ((parts : List theory.Core) (f : theory.Core) (made : Made)
+        → IsDueBehind given.now.system.now parts (map as_step given.now.steps.now)
+        given.now.plans.now front.now made f plan.now (as_step step.now) room.old scratch.old
+        marks.old → IsFineStep given.now.system.now parts made (as_step step.now) room.new) }
+    ensures failing { IfErr result (λ e. (parts : List theory.Core) (f : theory.Core)
+        (made : Made) → IsDueBehind given.now.system.now parts (map as_step given.now.steps.now)
+        given.now.plans.now front.now made f plan.now (as_step step.now) room.old scratch.old
+        marks.old → IsFailing given.now.system.now parts made (as_step step.now) e.place
+        (as_reason e.reason)) }
     ensures room { (ss : List certificates.Step) → IsOnlyAbout ss (as_step step.now)
         → IsRoomFor ss (part_in (as_step step.now)) room.old
         → IsRoomFor ss (part_in (as_step step.now)) room.new }
     ensures scratch { IsAsRoomy scratch.old scratch.new }
-    ensures marks { (made : Made) → IsDueBehind given.now.system.now
-        (cores_of given.now.roots.now) (map as_step given.now.steps.now) given.now.plans.now
-        front.now made (root_core (cores_of given.now.roots.now) root.now) plan.now
-        (as_step step.now) room.old scratch.old marks.old
+    ensures marks { (parts : List theory.Core) (f : theory.Core) (made : Made) → IsDueBehind
+        given.now.system.now parts (map as_step given.now.steps.now) given.now.plans.now
+        front.now made f plan.now (as_step step.now) room.old scratch.old marks.old
         → IsMarkRoomFor (map as_step given.now.steps.now) plan.now.work marks.new }
 {
     let past = Past {
@@ -96,7 +86,6 @@ fn check_own(
     match step {
         Step::Part(_, targets) => check_table(
             given.system,
-            root,
             plan,
             &past,
             targets,
@@ -119,45 +108,46 @@ pub(crate) fn check_step(
     scratch: &mut LabelRoom,
     marks: &mut [MarkRoom],
 ) -> Result<(), Failure>
-    requires order { AreInOrder given.now.roots.now }
-    requires due { (root : theory.Core) × (c : certificates.Certificate) × (made : Made)
+    requires due { (parts : List theory.Core) × (root : theory.Core)
+        × (c : certificates.Certificate) × (made : Made)
         × (c.steps ≡ map as_step given.now.steps.now)
-        × IsLoopAt given.now.system.now root (cores_of given.now.roots.now) c given.now.plans.now
-        closures.old rooms.old scratch.old marks.old place made
-        × IsStepDue given.now.system.now (cores_of given.now.roots.now) c place }
-    ensures fine { OnOk result ((root : theory.Core) (c : certificates.Certificate) (made : Made)
+        × IsLoopAt given.now.system.now root parts c given.now.plans.now closures.old rooms.old
+        scratch.old marks.old place made
+        × IsStepDue given.now.system.now parts c place }
+    ensures fine { OnOk result ((parts : List theory.Core) (root : theory.Core)
+        (c : certificates.Certificate) (made : Made)
         → c.steps ≡ map as_step given.now.steps.now
-        → IsLoopAt given.now.system.now root (cores_of given.now.roots.now) c given.now.plans.now
-        closures.old rooms.old scratch.old marks.old place made
-        → IsStepDue given.now.system.now (cores_of given.now.roots.now) c place
-        → (next : Made) × IsLoopAt given.now.system.now root (cores_of given.now.roots.now) c
-        given.now.plans.now closures.new rooms.new scratch.new marks.new (place + 1) next) }
-    ensures failing { IfErr result (λ e. (root : theory.Core) (c : certificates.Certificate)
-        (made : Made) (s : certificates.Step) → c.steps ≡ map as_step given.now.steps.now
-        → IsLoopAt given.now.system.now root (cores_of given.now.roots.now) c given.now.plans.now
-        closures.old rooms.old scratch.old marks.old place made
-        → IsStepDue given.now.system.now (cores_of given.now.roots.now) c place
-        → IsFailing given.now.system.now (cores_of given.now.roots.now) made
-        (slice_index_or c.steps place s) e.place (as_reason e.reason)) }
-    ensures ready { (root : theory.Core) (c : certificates.Certificate) (made : Made)
+        → IsLoopAt given.now.system.now root parts c given.now.plans.now closures.old rooms.old
+        scratch.old marks.old place made
+        → IsStepDue given.now.system.now parts c place
+        → (next : Made) × IsLoopAt given.now.system.now root parts c given.now.plans.now
+        closures.new rooms.new scratch.new marks.new (place + 1) next) }
+    ensures failing { IfErr result (λ e. (parts : List theory.Core) (root : theory.Core)
+        (c : certificates.Certificate) (made : Made) (s : certificates.Step)
         → c.steps ≡ map as_step given.now.steps.now
-        → IsLoopAt given.now.system.now root (cores_of given.now.roots.now) c given.now.plans.now
-        closures.old rooms.old scratch.old marks.old place made
-        → IsStepDue given.now.system.now (cores_of given.now.roots.now) c place
-        → IsReady given.now.system.now root (cores_of given.now.roots.now) c.steps
-        given.now.plans.now closures.new rooms.new scratch.new marks.new }
+        → IsLoopAt given.now.system.now root parts c given.now.plans.now closures.old rooms.old
+        scratch.old marks.old place made
+        → IsStepDue given.now.system.now parts c place
+        → IsFailing given.now.system.now parts made (slice_index_or c.steps place s) e.place
+        (as_reason e.reason)) }
+    ensures ready { (parts : List theory.Core) (root : theory.Core)
+        (c : certificates.Certificate) (made : Made)
+        → c.steps ≡ map as_step given.now.steps.now
+        → IsLoopAt given.now.system.now root parts c given.now.plans.now closures.old rooms.old
+        scratch.old marks.old place made
+        → IsStepDue given.now.system.now parts c place
+        → IsReady given.now.system.now root parts c.steps given.now.plans.now closures.new
+        rooms.new scratch.new marks.new }
 {
     let step = &given.steps[place];
     match step {
         Step::Closure(_, _, entries) => check_pairs(&mut closures[place], entries),
         Step::Part(k, _) | Step::Counts(k, _) | Step::Value(k, _) => {
             let part = *k as usize;
-            let root = &given.roots[part];
             let plan = &given.plans[part];
             let (front, back) = rooms.split_at_mut(part);
             check_own(
                 given,
-                root,
                 plan,
                 step,
                 front,

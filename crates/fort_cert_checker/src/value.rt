@@ -8,7 +8,6 @@ ghost use Rattle.fort_counts.specs.ManyLabels.{many_value as many_value_lem};
 ghost use Rattle.fort_operations.specs.Products.{connected};
 ghost use Rattle.fort_operations.specs.Projections.{ArePure};
 ghost use Rattle.fort_rrn_algebra.specs.Operands.{connective_of};
-ghost use Rattle.fort_infinity.specs.CountView.{as_count as as_mark};
 ghost use Rattle.fort_steps.specs.StepView.{as_count};
 ghost use Rattle.fort_in_order.specs.Made.{Made};
 ghost use Rattle.fort_in_order.specs.PartRules.{IsValueOf};
@@ -21,10 +20,9 @@ ghost use Rattle.fort_cert_checker.specs.Values.{IsValueDue, AreCountsDue, IsOth
 use crate::past::{Past, accepts_some};
 use crate::plan::{Plan, Source, Work};
 use fort_check_steps::{Failure, MarkRoom, Reason, check_marks, failed, put_pure};
-use fort_infinity::Count;
 use fort_infinity::local::many_value;
 use fort_rrn_algebra::Op;
-use fort_steps::Count as Mark;
+use fort_steps::Count;
 
 fn connect(op: Op, first: bool, second: bool) -> bool
     ensures { result ≡ connected (connective_of op) first second }
@@ -50,7 +48,7 @@ fn accepts_many(
         → length counts.now ≡ length states) }
     ensures value { (table : tables.Table) (states : List ℕ) → IsTableAt past.now source table
         → ArePure table column states → result ≡ many_value_lem table column
-        (λ q. is_infinite (count_at states (map as_mark counts.now) q)) }
+        (λ q. is_infinite (count_at states (map as_count counts.now) q)) }
     ensures marks { (states count : ℕ) → HasMarkRoom states count marks.old
         → HasMarkRoom states count marks.new }
 {
@@ -86,9 +84,7 @@ fn own_value(plan: &Plan, past: &Past<'_>, marks: &mut MarkRoom) -> bool
         Work::Many(source, column, counts) => {
             accepts_many(past, *source, *column, counts, marks)
         }
-        Work::Relation(_) => unreachable!(),
-        Work::Normal(_) => unreachable!(),
-        Work::Term => unreachable!(),
+        Work::Atom(_) => unreachable!(),
     }
 }
 
@@ -123,7 +119,7 @@ pub(crate) fn check_value(
 pub(crate) fn check_counts(
     plan: &Plan,
     past: &Past<'_>,
-    counts: &[Mark],
+    counts: &[Count],
     marks: &mut MarkRoom,
 ) -> Result<(), Failure>
     requires due { (system : PatternSystem) × (parts : List theory.Core) × (k : ℕ)

@@ -2,15 +2,12 @@ pub mod TableLaws
 pub mod TargetLaws
 pub mod GuessLaws
 pub mod HeldTargetLaws
-pub mod NumberedLaws
 pub mod PairPlaces
 pub mod PairLaws
 pub mod PairStepLaws
 pub mod MarkLaws
 pub mod ListedWalks
 pub mod MarkSearch
-pub mod OutlineLaws
-pub mod DueLists
 pub mod DueTests
 pub mod PureStates
 mod SparseLaws

@@ -14,10 +14,10 @@ use Rattle.fort_certificate_grammar.specs.Certificates as certificates
 use Rattle.fort_certificate_grammar.specs.Certificates.{Why, Pair as Item}
 use Rattle.fort_in_order.specs.ClosureSteps.{ClosureRules, IsPatternAt, IsListed, AreListed, AllListed, Follows, AnyRight, AnyLeft, ByArguments, ByRule, FollowsBy, FollowsAt}
 use Rattle.fort_in_order.proofs.OrderedLists.{before_asymmetric}
-use Rattle.fort_check_steps.specs.declared.numbered.RuleNumbers.{RuleNumbers}
+use Rattle.fort_context_closure.specs.declared.rule_places.RulePlaces.{RulePlaces}
+use Rattle.fort_context_closure.specs.RulePlaces.{pair_at, no_rule}
 use Rattle.fort_check_steps.specs.declared.pairs.PairRules.{PairRules}
-use Rattle.fort_check_steps.specs.NumberedView.{pair_at}
-use Rattle.fort_check_steps.specs.PairTests.{all_pairs, by_any, by_kids, by_rule, no_rule, by_reason, follows}
+use Rattle.fort_check_steps.specs.PairTests.{all_pairs, by_any, by_kids, by_rule, by_reason, follows}
 use Rattle.fort_check_steps.specs.PairSteps.{IsPairRules}
 
 -- a pattern has one place
@@ -111,7 +111,7 @@ module _ (c : ClosureRules) (r : PairRules) (rules : IsPairRules c r) (items : L
       (λ e. Decides-all w.1 v.1 xs ys a.1 b.1)
 
   -- a rule by its numbers
-  record IsRuleAt (k : ℕ) (rule : RuleNumbers) : Type 0 where
+  record IsRuleAt (k : ℕ) (rule : RulePlaces) : Type 0 where
     pair : Pair
     within : k < length c.pairs
     is : get_or c.pairs k pair ≡ pair

@@ -2,11 +2,12 @@
 use Rattle.std.specs.Prelude.{◌≡◌, ℕ, ◌+◌, ◌*◌, ◌^◌, ◌<◌, List, length, take, get_or, None, nat_lt, Bool, true, false, not, ◌==◌, ◌&&◌, ◌||◌, Decides, Result, Ok, Err}
 use Rattle.fort_theory.specs.Patterns.{Pair, PatternSystem}
 use Rattle.fort_tables.specs.BitRows.{has_bit}
+use Rattle.fort_context_closure.specs.NumberedView.{AreNumbersOf}
+use Rattle.fort_context_closure.specs.RulePlaces.{ArePlacesOf}
 use Rattle.fort_certificate_grammar.specs.Certificates as certificates
 use Rattle.fort_certificate_grammar.specs.Certificates.{Which, Why, Pair as Item}
 use Rattle.fort_in_order.specs.Outcomes.{Fails}
 use Rattle.fort_in_order.specs.ClosureSteps.{ClosureRules, AreSidePatterns, AreClosureRules, IsListed, AreFounded, IsClosureOutcome}
-use Rattle.fort_check_steps.specs.NumberedView.{AreNumbersOf, AreRuleNumbers}
 use Rattle.fort_check_steps.specs.PairTests.{has_pair, by_reason, follows}
 use Rattle.fort_check_steps.specs.StepAnswers.{as_reason}
 use Rattle.fort_check_steps.specs.declared.pairs.PairRules.{PairRules}
@@ -19,7 +20,7 @@ pub record IsPairRules (c : ClosureRules) (r : PairRules) : Type 0 where
   pub patterns : AreSidePatterns c.pairs c.lefts c.rights
   pub rights : AreNumbersOf c.rights r.rights.items
   pub lefts : AreNumbersOf c.lefts r.lefts.items
-  pub rules : AreRuleNumbers c.lefts c.rights c.pairs r.rules.items
+  pub rules : ArePlacesOf c.lefts c.rights c.pairs r.rules.items
 
 abbrev pub rule_test : ℕ → Why → Bool
 rule_test n certificates.Any = true

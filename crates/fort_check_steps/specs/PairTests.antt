@@ -3,8 +3,9 @@ use Rattle.std.specs.Prelude.{ℕ, ◌+◌, ◌*◌, List, [], ◌∷◌, length
 use Rattle.std.specs.List.{list_any}
 use Rattle.fort_tables.specs.BitRows.{has_bit}
 use Rattle.fort_atom_labels.specs.PatternNumbers.{PatternNumber}
+use Rattle.fort_context_closure.specs.declared.rule_places.RulePlaces.{RulePlaces}
+use Rattle.fort_context_closure.specs.RulePlaces.{no_rule}
 use Rattle.fort_certificate_grammar.specs.Certificates.{Why, Any, Kids, Rule}
-use Rattle.fort_check_steps.specs.declared.numbered.RuleNumbers.{RuleNumbers}
 
 -- whether the bit of the pair is set, among pairs with so many left patterns
 abbrev pub has_pair : ℕ → List ℕ → ℕ → ℕ → Bool
@@ -27,16 +28,13 @@ by_kids has None left = false
 by_kids has (Some x) None = false
 by_kids has (Some x) (Some y) = (x.0 == y.0) && all_pairs has x.1 y.1
 
-abbrev pub by_rule : (ℕ → ℕ → Bool) → ℕ → ℕ → RuleNumbers → Bool
+abbrev pub by_rule : (ℕ → ℕ → Bool) → ℕ → ℕ → RulePlaces → Bool
 by_rule has p q rule = has p rule.left && has rule.right q
 
-abbrev pub no_rule : RuleNumbers
-no_rule = record { left = 0; right = 0 }
-
-abbrev pub by_reason : (ℕ → ℕ → Bool) → PatternNumber → PatternNumber → List RuleNumbers → ℕ → ℕ → Why → Bool
+abbrev pub by_reason : (ℕ → ℕ → Bool) → PatternNumber → PatternNumber → List RulePlaces → ℕ → ℕ → Why → Bool
 by_reason has right left rules p q Any = by_any right left
 by_reason has right left rules p q Kids = by_kids has right left
 by_reason has right left rules p q (Rule k) = nat_lt k (length rules) && by_rule has p q (get_or rules k no_rule)
 
-abbrev pub follows : (ℕ → ℕ → Bool) → PatternNumber → PatternNumber → List RuleNumbers → ℕ → ℕ → Bool
+abbrev pub follows : (ℕ → ℕ → Bool) → PatternNumber → PatternNumber → List RulePlaces → ℕ → ℕ → Bool
 follows has right left rules p q = (by_any right left || by_kids has right left) || list_any (by_rule has p q) rules

@@ -1,14 +1,11 @@
 //! Checks the steps of certificates one by one, by the definition of one in order: closures, the tables of parts, the marks of states.
 #![tactic(auto)]
 
-mod atoms;
+mod about;
 mod closure;
-mod dues;
 mod failure;
 mod finals;
 mod marks;
-mod numbered;
-mod numbering;
 mod pairs;
 mod part;
 mod part_rule;
@@ -21,12 +18,10 @@ mod state_labels;
 mod table;
 mod targets;
 
-pub use atoms::{Normal, Related, ThisTerm};
+pub use about::is_about;
 pub use closure::check_closure;
-pub use dues::{DueStep, is_about, steps_due};
 pub use failure::{Failure, Reason, failed};
 pub use marks::{MarkRoom, check_marks, put_pure};
-pub use numbered::{Numbered, RuleNumbers};
 pub use pairs::PairRules;
 pub use part::check_part;
 pub use part_rule::PartRule;

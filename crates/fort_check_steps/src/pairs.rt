@@ -4,7 +4,7 @@ ghost use Rattle.std.specs.List.{list_any};
 ghost use Rattle.fort_steps.specs.StepView.{as_why};
 ghost use Rattle.fort_check_steps.specs.PairTests.{has_pair as has_pair_lem, all_pairs, by_any, by_kids, by_rule, by_reason, follows as follows_lem};
 
-use crate::numbered::{Numbered, RuleNumbers};
+use fort_context_closure::{Numbered, RulePlaces};
 use fort_explore::has_bit;
 use fort_steps::Reason;
 
@@ -13,7 +13,7 @@ use fort_steps::Reason;
 pub struct PairRules {
     pub rights: Vec<Numbered>,
     pub lefts: Vec<Numbered>,
-    pub rules: Vec<RuleNumbers>,
+    pub rules: Vec<RulePlaces>,
 }
 
 /// Whether a pair is listed, among those of so many left patterns.
@@ -57,7 +57,7 @@ fn has_kids(right: &Numbered, left: &Numbered, lefts: usize, listed: &[u64]) -> 
 }
 
 /// Whether a pair follows by a rule.
-fn has_sides(rule: RuleNumbers, p: u32, q: u32, lefts: usize, listed: &[u64]) -> bool
+fn has_sides(rule: RulePlaces, p: u32, q: u32, lefts: usize, listed: &[u64]) -> bool
     requires { lefts < 2 ^ 32 }
     ensures { result ≡ by_rule (has_pair_lem lefts listed.now) p q rule }
 {
@@ -65,7 +65,7 @@ fn has_sides(rule: RuleNumbers, p: u32, q: u32, lefts: usize, listed: &[u64]) ->
 }
 
 /// Whether a pair follows by some rule.
-fn some_rule(rules: &[RuleNumbers], p: u32, q: u32, lefts: usize, listed: &[u64]) -> bool
+fn some_rule(rules: &[RulePlaces], p: u32, q: u32, lefts: usize, listed: &[u64]) -> bool
     requires { lefts < 2 ^ 32 }
     ensures { result ≡ list_any (by_rule (has_pair_lem lefts listed.now) p q) rules.now }
 {

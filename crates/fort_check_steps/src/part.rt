@@ -1,13 +1,12 @@
 //! The check of a part.
-ghost use Rattle.std.specs.Prelude.{◌≡◌, ℕ, ◌<◌, ◌≤◌, ◌^◌, map, length, vec_capacity, OnOk};
-ghost use Rattle.fort_tables.specs.Labels.{first_word, AreLabels};
+ghost use Rattle.std.specs.Prelude.{◌≡◌, ℕ, ◌<◌, ◌≤◌, ◌^◌, length, vec_capacity, OnOk};
 ghost use Rattle.fort_tables.specs.LabelRules.{IsLabelRule, IsTableBy, label_of};
 ghost use Rattle.fort_tables.specs.Tables.{listed_table};
-ghost use Rattle.fort_laid_entries.specs.Laid.{all_entries};
 ghost use Rattle.fort_rrn_algebra.specs.LayRooms.{HasLayRoom};
 ghost use Rattle.fort_in_order.specs.Outcomes.{StepOutcome};
-ghost use Rattle.fort_in_order.specs.PartSteps.{IsPartOutcome, IsRightPart};
+ghost use Rattle.fort_in_order.specs.PartSteps.{IsPartOutcome};
 ghost use Rattle.fort_check_steps.specs.Held.{HoldsPart, held_table};
+ghost use Rattle.fort_check_steps.specs.HeldStates.{AreRightStates, IsRoomLeft};
 ghost use Rattle.fort_check_steps.specs.Room.{HasRoom, most_states};
 ghost use Rattle.fort_check_steps.specs.StateLabelsView.{HasSpace, IsAsSpacious};
 ghost use Rattle.fort_check_steps.specs.StepAnswers.{outcome_of};
@@ -39,17 +38,11 @@ fn hold_targets<R: PartRule>(
     requires spare { most_states targets.now ≤ vec_capacity presences.old }
     requires lay { HasLayRoom (most_states targets.now) lay.old }
     ensures outcome { IsPartOutcome (R.rule rule.now) targets.now (outcome_of result) }
-    ensures right { OnOk result (IsRightPart (R.rule rule.now) targets.now (all_entries
-        (R.rule rule.now).signature (R.rule rule.now).columns (map first_word rows.new.labels))
-        rows.new.labels) }
     ensures lawful { IsLabelRule (R.rule rule.now) }
-    ensures states { OnOk result (length rows.new.labels ≤ most_states targets.now) }
-    ensures labels { OnOk result (AreLabels (R.rule rule.now).signature (R.rule rule.now).columns
-        (label_of (R.rule rule.now)) rows.new.labels) }
-    ensures presences { OnOk result (presences.new.items ≡ map first_word rows.new.labels) }
-    ensures width { rows.new.width ≡ R.word_count rule.now }
-    ensures spaces { IsAsSpacious rows.old.spaces rows.new.spaces }
-    ensures capacity { vec_capacity presences.new ≡ vec_capacity presences.old }
+    ensures right { OnOk result (AreRightStates (R.rule rule.now) targets.now presences.new.items
+        rows.new.labels) }
+    ensures left { IsRoomLeft (R.word_count rule.now) presences.old presences.new rows.old
+        rows.new }
     ensures lay { (n : ℕ) → HasLayRoom n lay.old → HasLayRoom n lay.new }
 {
     let width = rule.width();

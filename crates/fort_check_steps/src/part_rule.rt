@@ -5,6 +5,7 @@ ghost use Rattle.fort_tables.specs.LabelRules.{label_of};
 ghost use Rattle.fort_rrn_algebra.specs.LayRooms.{HasLayRoom};
 ghost use Rattle.fort_rrn_algebra.specs.HeldTargets.{AreHeldFrom};
 
+use fort_context_closure::SignedAtom;
 use fort_explore::{LocalRule, Rows};
 use fort_infinity::Many;
 use fort_lockstep::Table;
@@ -63,3 +64,5 @@ impl<'a, T: Table> PartRule for Both<'a, T> {
 }
 
 impl<'a, T: Table> PartRule for Many<'a, T> {}
+
+impl<'a> PartRule for SignedAtom<'a> {}

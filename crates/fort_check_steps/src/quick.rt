@@ -1,12 +1,11 @@
 //! Targets held by the rule's own means, where only the labels of new states are found entry by entry.
-ghost use Rattle.std.specs.Prelude.{◌≡◌, ℕ, ◌<◌, ◌≤◌, ◌^◌, List, [], map, length, vec_len, vec_capacity, IsTrue};
+ghost use Rattle.std.specs.Prelude.{◌≡◌, ℕ, ◌<◌, ◌≤◌, ◌^◌, List, map, length, vec_len, vec_capacity, IsTrue};
 ghost use Rattle.fort_tables.specs.Entries.{Entry};
 ghost use Rattle.fort_tables.specs.Labels.{first_word, IsOverLabels, AreLabels};
 ghost use Rattle.fort_tables.specs.LabelRules.{IsLabelRule, label_of};
-ghost use Rattle.fort_laid_entries.specs.Laid.{all_entries};
 ghost use Rattle.fort_rrn_algebra.specs.LayRooms.{HasLayRoom};
 ghost use Rattle.fort_rrn_algebra.specs.HeldTargets.{AreHeldFrom};
-ghost use Rattle.fort_in_order.specs.PartSteps.{IsRightPart};
+ghost use Rattle.fort_check_steps.specs.HeldStates.{IsReadyFor, AreRightStates, IsRoomLeft};
 ghost use Rattle.fort_check_steps.specs.OnePlace.{IsMade};
 ghost use Rattle.fort_check_steps.specs.Guesses.{Guessed};
 ghost use Rattle.fort_check_steps.specs.Room.{most_states};
@@ -87,21 +86,16 @@ fn make_states<R: LocalRule>(
 ) -> bool
     requires signature { (R.rule rule.now).signature ≡ sig.now }
     requires few { length targets.now < 2 ^ 32 }
-    requires no_presences { presences.old.items ≡ [] }
-    requires no_rows { rows.old.labels ≡ [] }
-    requires width { rows.old.width ≡ R.word_count rule.now }
     requires words { length out.old ≡ R.word_count rule.now }
-    requires room { most_states targets.now ≤ rows.old.room }
-    requires spare { most_states targets.now ≤ vec_capacity presences.old }
+    requires ready { IsReadyFor targets.now (R.word_count rule.now) presences.old rows.old }
     ensures guessed { IsTrue result → (k : ℕ) × (entries : List Entry) × (last : Entry)
         × Guessed (R.rule rule.now) targets.now k entries rows.new.labels last }
     ensures lawful { IsLabelRule (R.rule rule.now) }
     ensures labels { IsTrue result → AreLabels (R.rule rule.now).signature
         (R.rule rule.now).columns (label_of (R.rule rule.now)) rows.new.labels }
     ensures presences { IsTrue result → presences.new.items ≡ map first_word rows.new.labels }
-    ensures width { rows.new.width ≡ R.word_count rule.now }
-    ensures spaces { IsAsSpacious rows.old.spaces rows.new.spaces }
-    ensures capacity { vec_capacity presences.new ≡ vec_capacity presences.old }
+    ensures left { IsRoomLeft (R.word_count rule.now) presences.old presences.new rows.old
+        rows.new }
 {
     let known = known_from(targets);
     let mut entries = Entries::new(sig, rule.columns());
@@ -157,24 +151,14 @@ pub fn are_quickly_right<R: PartRule>(
 ) -> bool
     requires signature { (R.rule rule.now).signature ≡ sig.now }
     requires few { length targets.now < 2 ^ 32 }
-    requires no_presences { presences.old.items ≡ [] }
-    requires no_rows { rows.old.labels ≡ [] }
-    requires width { rows.old.width ≡ R.word_count rule.now }
     requires words { length out.old ≡ R.word_count rule.now }
-    requires room { most_states targets.now ≤ rows.old.room }
-    requires spare { most_states targets.now ≤ vec_capacity presences.old }
+    requires ready { IsReadyFor targets.now (R.word_count rule.now) presences.old rows.old }
     requires lay { HasLayRoom (most_states targets.now) lay.old }
-    ensures right { IsTrue result → IsRightPart (R.rule rule.now) targets.now (all_entries
-        (R.rule rule.now).signature (R.rule rule.now).columns (map first_word rows.new.labels))
-        rows.new.labels }
     ensures lawful { IsTrue result → IsLabelRule (R.rule rule.now) }
-    ensures states { IsTrue result → length rows.new.labels ≤ most_states targets.now }
-    ensures labels { IsTrue result → AreLabels (R.rule rule.now).signature
-        (R.rule rule.now).columns (label_of (R.rule rule.now)) rows.new.labels }
-    ensures presences { IsTrue result → presences.new.items ≡ map first_word rows.new.labels }
-    ensures width { rows.new.width ≡ R.word_count rule.now }
-    ensures spaces { IsAsSpacious rows.old.spaces rows.new.spaces }
-    ensures capacity { vec_capacity presences.new ≡ vec_capacity presences.old }
+    ensures right { IsTrue result → AreRightStates (R.rule rule.now) targets.now
+        presences.new.items rows.new.labels }
+    ensures left { IsRoomLeft (R.word_count rule.now) presences.old presences.new rows.old
+        rows.new }
     ensures lay { (n : ℕ) → HasLayRoom n lay.old → HasLayRoom n lay.new }
 {
     if !rule.is_quick() {

@@ -5,8 +5,8 @@ ghost use Rattle.fort_terms.specs.BothWays.{both_ways as both_ways_lem};
 ghost use Rattle.fort_steps.specs.StepView.{as_which};
 ghost use Rattle.fort_check_steps.specs.PairSteps.{HasPairRules, HasClosureRules};
 
-use crate::numbering::{number_patterns, number_rules};
 use crate::pairs::PairRules;
+use fort_context_closure::{number_patterns, places_of_rules};
 use fort_steps::Which;
 use fort_terms::{Memory, System};
 use std::alloc::{AllocError, Global};
@@ -24,7 +24,7 @@ fn rules_of(alloc: Global, system: &System, index: u32) -> Result<PairRules, Mem
     let rights = system.right_patterns(alloc, index)?;
     let left_numbers = number_patterns(alloc, &lefts)?;
     let right_numbers = number_patterns(alloc, &rights)?;
-    let rules = number_rules(alloc, system.rules(index), &lefts, &rights)?;
+    let rules = places_of_rules(alloc, system.rules(index), &lefts, &rights)?;
     Ok(PairRules {
         rights: right_numbers,
         lefts: left_numbers,

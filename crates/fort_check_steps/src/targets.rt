@@ -1,11 +1,10 @@
 //! The targets of a part, held against the entries in their order.
-ghost use Rattle.std.specs.Prelude.{◌≡◌, ◌<◌, ◌≤◌, ◌^◌, [], map, length, vec_len, vec_capacity, OnOk, IfErr};
-ghost use Rattle.fort_tables.specs.Labels.{first_word, IsOverLabels, AreLabels};
+ghost use Rattle.std.specs.Prelude.{◌≡◌, ◌<◌, ◌^◌, length, vec_len, vec_capacity, OnOk, IfErr};
+ghost use Rattle.fort_tables.specs.Labels.{IsOverLabels};
 ghost use Rattle.fort_tables.specs.LabelRules.{IsLabelRule, label_of};
-ghost use Rattle.fort_laid_entries.specs.Laid.{all_entries};
-ghost use Rattle.fort_in_order.specs.PartSteps.{IsPartOutcome, IsRightPart};
+ghost use Rattle.fort_in_order.specs.PartSteps.{IsPartOutcome};
 ghost use Rattle.fort_check_steps.specs.OnePlace.{IsTaken, IsRefused};
-ghost use Rattle.fort_check_steps.specs.Room.{most_states};
+ghost use Rattle.fort_check_steps.specs.HeldStates.{IsReadyFor, AreRightStates, IsRoomLeft};
 ghost use Rattle.fort_check_steps.specs.StateLabelsView.{IsAsSpacious};
 ghost use Rattle.fort_check_steps.specs.StepAnswers.{outcome_of};
 
@@ -66,24 +65,14 @@ pub fn check_targets<R: LocalRule>(
 ) -> Result<(), Failure>
     requires signature { (R.rule rule.now).signature ≡ sig.now }
     requires few { length targets.now < 2 ^ 32 }
-    requires no_presences { presences.old.items ≡ [] }
-    requires no_rows { rows.old.labels ≡ [] }
-    requires width { rows.old.width ≡ R.word_count rule.now }
     requires words { length out.old ≡ R.word_count rule.now }
-    requires room { most_states targets.now ≤ rows.old.room }
-    requires spare { most_states targets.now ≤ vec_capacity presences.old }
+    requires ready { IsReadyFor targets.now (R.word_count rule.now) presences.old rows.old }
     ensures outcome { IsPartOutcome (R.rule rule.now) targets.now (outcome_of result) }
-    ensures right { OnOk result (IsRightPart (R.rule rule.now) targets.now (all_entries
-        (R.rule rule.now).signature (R.rule rule.now).columns (map first_word rows.new.labels))
-        rows.new.labels) }
     ensures lawful { IsLabelRule (R.rule rule.now) }
-    ensures states { OnOk result (length rows.new.labels ≤ most_states targets.now) }
-    ensures labels { OnOk result (AreLabels (R.rule rule.now).signature (R.rule rule.now).columns
-        (label_of (R.rule rule.now)) rows.new.labels) }
-    ensures presences { OnOk result (presences.new.items ≡ map first_word rows.new.labels) }
-    ensures width { rows.new.width ≡ R.word_count rule.now }
-    ensures spaces { IsAsSpacious rows.old.spaces rows.new.spaces }
-    ensures capacity { vec_capacity presences.new ≡ vec_capacity presences.old }
+    ensures right { OnOk result (AreRightStates (R.rule rule.now) targets.now presences.new.items
+        rows.new.labels) }
+    ensures left { IsRoomLeft (R.word_count rule.now) presences.old presences.new rows.old
+        rows.new }
 {
     let mut entries = Entries::new(sig, rule.columns());
     // its clause says that the signature is lawful

@@ -13,6 +13,7 @@ use Rattle.fort_logic.specs.Parts.{AreColumns}
 use Rattle.fort_tables.specs.Tuples.{Tuple}
 use Rattle.fort_tables.specs.LabelRules.{label_of}
 use Rattle.fort_alike.specs.Atoms.{Atom, IsTrueOf, relation_atom, normal_atom}
+use Rattle.fort_alike.specs.Alike.{Alike}
 use Rattle.fort_atom_labels.specs.ListedAtoms.{ListedAtom, listed}
 use Rattle.fort_atom_labels.specs.AtomRules.{atom_rule, atom_accepts}
 use Rattle.fort_atom_labels.specs.ClosureTests.{IsClosure}
@@ -20,33 +21,32 @@ use Rattle.fort_atom_labels.specs.AssignedTuples.{tuple_of}
 use Rattle.fort_atom_labels.proofs.AtomMeans.{labels_alike, Decides-atom_accepts}
 use Rattle.fort_atom_labels.proofs.AtomTruth.{Decides-relation, Decides-normal, accepts_truth, accepts_normal_truth}
 use Rattle.fort_atom_labels.proofs.ClosureTestLaws.{IsClosure-unread}
-use Rattle.fort_context_closure.specs.PlainAtoms.{no_closure, atom_label, IsAtomOf, IsNormalAtomOf, IsRelationAtomOf}
-use Rattle.fort_context_closure.specs.ClosedAtoms.{ClosedAtom, test_of, closed_label}
-use Rattle.fort_context_closure.specs.AtomLabelsView.{TellsAlike, AcceptsTrue, AcceptsRelated, AcceptsNormal, AcceptsMet}
+use Rattle.fort_context_closure.specs.PlainAtoms.{no_closure, signed, IsAtomOf, IsNormalAtomOf, IsRelationAtomOf}
+use Rattle.fort_context_closure.specs.ClosedAtoms.{ClosedAtom, test_of}
+use Rattle.fort_context_closure.specs.AtomLabelsView.{label_by, accepted_by, TellsAlike, AcceptsTrue, AcceptsRelated, AcceptsNormal, AcceptsMet}
 use Rattle.fort_context_closure.specs.declared.atom_labels.AtomLabels.TheVariants.{Relation, Normal}
 use Rattle.fort_context_closure.proofs.NormalLaws.{normal-label}
 
 -- relations
 module _ (atom : Atom) (c : ClosedAtom) (h : IsAtomOf atom c.atom) (closes : IsClosure (listed atom c.atom.lefts c.atom.rights) (test_of c)) where
-  abbrev signed : ListedAtom
-  signed = listed atom c.atom.lefts c.atom.rights
+  abbrev whole : ListedAtom
+  whole = listed atom c.atom.lefts c.atom.rights
 
-  label-same : (t : Tuple) → closed_label c t ≡ label_of (atom_rule signed (test_of c)) t
-  label-same t = ap (λ (z : Atom). label_of (atom_rule (listed z c.atom.lefts c.atom.rights) (test_of c)) t) h.same
+  signed_is : signed atom.signature c.atom ≡ whole
+  signed_is = ap (λ (z : Atom). signed atom.signature (listed z c.atom.lefts c.atom.rights)) h.same
 
   accepts-same : (t : Tuple)
-      → atom_accepts c.atom (closed_label c t) ≡ atom_accepts signed (label_of (atom_rule signed (test_of c)) t)
-  accepts-same t =
-      ap (λ (z : Atom). atom_accepts (listed z c.atom.lefts c.atom.rights) (label_of (atom_rule (listed z c.atom.lefts c.atom.rights) (test_of c)) t)) h.same
+      → accepted_by atom.signature (Relation c) (label_by atom.signature (Relation c) t) ≡ atom_accepts whole (label_of (atom_rule whole (test_of c)) t)
+  accepts-same t = ap (λ (a : ListedAtom). atom_accepts a (label_of (atom_rule a (test_of c)) t)) signed_is
 
   pub TellsAlike-relation : TellsAlike atom.signature atom (Relation c)
   TellsAlike-relation t u ti ui =
-      let both = labels_alike signed (test_of c) h.is_listed closes t u ti ui in
-      ((λ e. both.0 (sym (label-same t) ∙ (e ∙ label-same u))), (λ k. label-same t ∙ (both.1 k ∙ sym (label-same u))))
+      subst (λ (a : ListedAtom). (label_of (atom_rule a (test_of c)) t ≡ label_of (atom_rule a (test_of c)) u) ↔ Alike atom t u) (sym signed_is)
+      (labels_alike whole (test_of c) h.is_listed closes t u ti ui)
 
   pub AcceptsTrue-relation : AcceptsTrue atom.signature atom (Relation c)
   AcceptsTrue-relation t ti =
-      subst (λ b. Decides b (IsTrueOf atom t)) (sym (accepts-same t)) (Decides-atom_accepts signed (test_of c) h.is_listed closes t ti)
+      subst (λ b. Decides b (IsTrueOf atom t)) (sym (accepts-same t)) (Decides-atom_accepts whole (test_of c) h.is_listed closes t ti)
 
 pub AcceptsRelated-relation : (system : PatternSystem) (rel : Rel) (index x y : ℕ) (columns : List ℕ) → AreColumns (CoreAtom rel index x y) columns
     → (c : ClosedAtom) → IsRelationAtomOf system rel index x y c → AcceptsRelated system rel index x y columns (Relation c)
@@ -70,26 +70,28 @@ AcceptsMet-relation s apart system same rel index x y columns are c made v g =
 
 -- normal forms
 module _ (system : PatternSystem) (index : ℕ) (a : ListedAtom) (h : IsNormalAtomOf system index a) where
-  normal-same : (t : Tuple) → atom_label a t ≡ atom_label (listed (normal_atom system index) a.lefts []) t
+  abbrev normal_whole : ListedAtom
+  normal_whole = listed (normal_atom system index) a.lefts []
+
+  normal-same : (t : Tuple) → label_by system.signature (Normal a) t ≡ label_of (atom_rule normal_whole no_closure) t
   normal-same t =
-      ap (λ z. atom_label z t) h.same ∙ normal-label [] system.signature a.atom.pairs (at_index index system.rules) a.lefts h.left_sides t
+      ap (λ z. label_of (atom_rule (signed system.signature z) no_closure) t) h.same
+      ∙ normal-label system.signature system.signature a.atom.pairs (at_index index system.rules) a.lefts h.left_sides t
 
   normal-accepts : (t : Tuple)
-      → atom_accepts a (atom_label a t) ≡ atom_accepts (listed (normal_atom system index) a.lefts []) (atom_label (listed (normal_atom system index) a.lefts []) t)
+      → accepted_by system.signature (Normal a) (label_by system.signature (Normal a) t) ≡ atom_accepts normal_whole (label_of (atom_rule normal_whole no_closure) t)
   normal-accepts t =
-      ap (λ z. atom_accepts z (atom_label a t)) h.same ∙ ap (atom_accepts (listed (normal_atom system index) a.lefts [])) (normal-same t)
+      ap (λ z. atom_accepts (signed system.signature z) (label_by system.signature (Normal a) t)) h.same ∙ ap (atom_accepts normal_whole) (normal-same t)
 
   pub TellsAlike-normal : TellsAlike system.signature (normal_atom system index) (Normal a)
   TellsAlike-normal t u ti ui =
-      let atom = listed (normal_atom system index) a.lefts [] in
-      let both = labels_alike atom no_closure h.is_listed (IsClosure-unread atom no_closure refl) t u ti ui in
+      let both = labels_alike normal_whole no_closure h.is_listed (IsClosure-unread normal_whole no_closure refl) t u ti ui in
       ((λ e. both.0 (sym (normal-same t) ∙ (e ∙ normal-same u))), (λ k. normal-same t ∙ (both.1 k ∙ sym (normal-same u))))
 
   pub AcceptsTrue-normal : AcceptsTrue system.signature (normal_atom system index) (Normal a)
   AcceptsTrue-normal t ti =
-      let atom = listed (normal_atom system index) a.lefts [] in
       subst (λ b. Decides b (IsTrueOf (normal_atom system index) t)) (sym (normal-accepts t))
-      (Decides-atom_accepts atom no_closure h.is_listed (IsClosure-unread atom no_closure refl) t ti)
+      (Decides-atom_accepts normal_whole no_closure h.is_listed (IsClosure-unread normal_whole no_closure refl) t ti)
 
   pub AcceptsNormal-normal : (x : ℕ) → AcceptsNormal system index x (Normal a)
   AcceptsNormal-normal x v g =

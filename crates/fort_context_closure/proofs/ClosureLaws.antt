@@ -1,6 +1,7 @@
 -- The transducer over the patterns of a list of rules is one of their root steps; the entries of its closure list exactly the closure over patterns.
-use Rattle.std.specs.Prelude.{ℕ, List, map, get_or, Contains}
-use Rattle.std.proofs.Common.{subst}
+use Rattle.std.specs.Prelude.{◌≡◌, ℕ, List, map, get_or, Contains}
+use Rattle.std.proofs.Common.{sym, ap, ◌∙◌, subst}
+use Rattle.std.proofs.lemmas.Simd.{map-map}
 use Rattle.std.proofs.lemmas.Option.{slice_get-get_or, get_or_from_slice_get}
 use Rattle.std.proofs.lemmas.List.Elements.{Contains-get_or}
 use Rattle.fort_theory.specs.Signatures.{Signature}
@@ -17,6 +18,10 @@ use Rattle.fort_agtt.specs.AgttView.{NamesItsStates, transducer_of}
 use Rattle.fort_agtt.specs.RootSteps.{ArePlaces, HasRootSteps}
 use Rattle.fort_agtt.proofs.RootStepsLaws.{IsPatternTransducer-rules, NamesItsStates-rules}
 use Rattle.fort_gtt_closure.specs.declared.entry.Entry.{Entry}
+use Rattle.fort_certificate_grammar.specs.Certificates.{Pair as Item}
+use Rattle.fort_steps.specs.declared.closure.ClosureEntry.{ClosureEntry}
+use Rattle.fort_steps.specs.StepView as steps
+use Rattle.fort_context_closure.specs.ItemView.{as_item, as_items}
 use Rattle.fort_alike.specs.Atoms.{Atom}
 use Rattle.fort_atom_labels.specs.ListedAtoms.{ListedAtom, listed, IsListedAtom}
 use Rattle.fort_atom_labels.specs.ClosureTests.{ListsClosure}
@@ -25,6 +30,12 @@ use Rattle.fort_context_closure.specs.ClosedAtoms.{numbers_of}
 use Rattle.fort_context_closure.specs.Closures.{IsClosureOf, IsTransducerOf}
 use Rattle.fort_context_closure.specs.declared.rule_list.RuleList.{RuleList}
 use Rattle.fort_context_closure.specs.RuleLists.{ListsRules}
+
+-- written entries have the numbers of those that were found
+pub numbers_written : (es : List ClosureEntry) (found : List Entry) → map steps.as_pair es ≡ as_items found → numbers_of es ≡ map (λ (e : Entry). (e.p, e.q)) found
+numbers_written es found written =
+    let number : Item → ℕ × ℕ = λ (i : Item). (i.p, i.q) in
+    sym (map-map number steps.as_pair es) ∙ (ap (map number) written ∙ map-map number as_item found)
 
 abbrev lefts_of : RuleList → List Pattern
 lefts_of list = map as_pattern list.lefts.items
@@ -55,7 +66,7 @@ fits-at : (sig : Signature) (ps : List Pattern) → ArePatterns sig ps → (q : 
 fits-at sig ps are q p h =
     are.fit p (subst (Contains ps) (get_or_from_slice_get ps q p Any h) (Contains-get_or ps q Any (StandsAt-below ps q p h)))
 
-pub ListsClosure-passes : (atom : Atom) (list : RuleList) (es : List Entry) → IsListedAtom (listed atom (lefts_of list) (rights_of list)) → ListsRules atom.pairs list
+pub ListsClosure-passes : (atom : Atom) (list : RuleList) (es : List ClosureEntry) → IsListedAtom (listed atom (lefts_of list) (rights_of list)) → ListsRules atom.pairs list
     → IsClosureOf list es → ListsClosure (listed atom (lefts_of list) (rights_of list)) (numbers_of es)
 ListsClosure-passes atom list es is lists made i j l m =
     let a : ListedAtom = listed atom (lefts_of list) (rights_of list) in

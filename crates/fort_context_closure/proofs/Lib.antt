@@ -12,7 +12,6 @@ pub mod MakerLaws
 pub mod NormalMakerLaws
 pub mod AtomLabelsLaws
 pub mod MarkCounts
-pub mod LocalTermLaws
 pub mod ReachLaws
 pub mod RootPlaceLaws
 pub mod RuleRootLaws

@@ -1,136 +1,106 @@
--- The first node with a symbol over the numbers of some trees is that of the tree over them; so a step gives the label.
+-- The number of the node with a symbol over the numbers of some trees is that of the tree over them; so a step gives the label.
 use Rattle.std.specs.Prelude.{◌≡◌, ℕ, zero, suc, ◌<◌, List, [], ◌∷◌, map, length, set, Contains, Option, None, Some, get_or, refl}
-use Rattle.std.proofs.Common.{sym, ap, subst, ◌∙◌, arith, inl, inr}
-use Rattle.std.proofs.lemmas.List.{length-map}
+use Rattle.std.proofs.Common.{sym, ap, ◌∙◌, arith, inl, inr}
 use Rattle.fort_theory.specs.Trees.{Tree, Trees, Node, Nil, More}
 use Rattle.fort_theory.specs.Signatures.{Signature}
 use Rattle.fort_theory.proofs.Lists.{none-some, some-injective}
-use Rattle.fort_theory.proofs.Members.{Contains-head, Contains-behind, Contains-cons_cases, Contains-none}
-use Rattle.fort_tables.specs.Tuples.{Tuple, root, kid, kids, presence, IsTuple}
-use Rattle.fort_tables.specs.Entries.{Entry}
-use Rattle.fort_tables.specs.Labels.{GivesLabel}
+use Rattle.fort_tables.specs.Labels.{AreLabels}
 use Rattle.fort_tables.specs.LabelRules.{label_of}
-use Rattle.fort_tables.proofs.TableLaws.{presence_root}
-use Rattle.fort_tables.proofs.TupleLaws.{IsTuple-kid}
 use Rattle.fort_atom_labels.specs.Subterms.{subterms}
-use Rattle.fort_atom_labels.specs.TermRule.{number_in, number_of, numbers, number_word, ListsSubterms, term_rule}
-use Rattle.fort_atom_labels.proofs.SubtermLaws.{number_in-stands, number_in-none, number_in-zero, number_in-at, AllAmong, ListsSubterms-subterms}
-use Rattle.fort_atom_labels.proofs.TermLabels.{HasChildren, TellsNumber-tuple, child_numbers}
-use Rattle.fort_context_closure.specs.TermNodes.{HasMore, node_for, no_node, numbers_in, IsNode, AreNoNode, IsFirstNode, IsNodeNumber}
+use Rattle.fort_atom_labels.specs.TermRule.{number_in, number_of, numbers, numbered, put_first, all_numbered, number_over, number_at, number_word, term_rule}
+use Rattle.fort_atom_labels.proofs.SubtermLaws.{number_in-stands, number_in-none, number_in-zero, number_in-at, AllAmong, ListsSubterms-subterms, children_listed}
+use Rattle.fort_atom_labels.proofs.TermLabels.{HasChildren, TellsNumber-tuple}
+use Rattle.fort_context_closure.specs.TermNodes.{TermNode, node_for, AreNodesOf, numbers_told, IsNode, AreNoNode, IsNodeNumber}
 
--- a tree of the list by its place
-pub in_list : (xs : List Tree) (v : Tree) → Contains xs v → (k : ℕ) × (k < length xs) × (get_or (map Some xs) k None ≡ Some v)
-in_list [] v c = absurd (Contains-none v c)
-in_list (x ∷ xs) v c = elim (Contains-cons_cases x xs v c) [
-  | inl e ↦ (0, omega arith, ap Some e)
-  | inr k ↦ (let w = in_list xs v k in (suc w.0, omega (arith, w.1), w.2))
-]
+-- the trees of their numbers are the trees
+numbered-own : (listed : List Tree) (s : Tree) (n : ℕ) → number_in listed s ≡ n → Contains listed s → numbered listed n ≡ Some s
+numbered-own listed s zero h c = absurd (number_in-none listed s h c)
+numbered-own listed s (suc i) h c = number_in-stands listed s i h
 
-from_list : (xs : List Tree) (k : ℕ) → k < length xs → (v : Tree) × Contains xs v × (get_or (map Some xs) k None ≡ Some v)
-from_list [] k l = absurd (omega arith)
-from_list (x ∷ xs) zero l = (x, Contains-head x xs, refl)
-from_list (x ∷ xs) (suc k) l = let w = from_list xs k (omega arith) in (w.0, Contains-behind x xs w.0 w.1, w.2)
+numbered-again : (listed : List Tree) (ss : Trees) → AllAmong listed ss → all_numbered listed (numbers listed ss) ≡ Some ss
+numbered-again listed Nil a = refl
+numbered-again listed (More s ss) a =
+    let one = numbered-own listed s (number_in listed s) refl a.0 in
+    let rest = numbered-again listed ss a.1 in
+    λ i. put_first (one i) (rest i)
 
-node-at : (listed xs : List Tree) (k : ℕ) (v : Tree) → get_or (map Some xs) k None ≡ Some v → get_or (map (node_for listed) xs) k no_node ≡ node_for listed v
-node-at listed [] k v h = absurd (none-some h)
-node-at listed (x ∷ xs) zero v h = ap (node_for listed) (some-injective h)
-node-at listed (x ∷ xs) (suc k) v h = node-at listed xs k v h
+-- each number is that of some column
+abbrev pub OwnNumbers : List Tree → List ℕ → Type 0
+OwnNumbers listed [] = Unit {0}
+OwnNumbers listed (n ∷ ns) = ((x : Option Tree) × (number_of listed x ≡ n)) × OwnNumbers listed ns
 
--- the numbers tell listed trees apart
-numbers-injective_at : (listed : List Tree) (u s : Tree) (n : ℕ) → Contains listed u → number_in listed u ≡ n → number_in listed s ≡ n → u ≡ s
-numbers-injective_at listed u s zero c a b = absurd (number_in-none listed u a c)
-numbers-injective_at listed u s (suc i) c a b = some-injective (sym (number_in-stands listed u i a) ∙ number_in-stands listed s i b)
+own_number : (listed : List Tree) (n : ℕ) (x : Option Tree) (s : Tree) → number_of listed x ≡ n → numbered listed n ≡ Some s → n ≡ number_in listed s
+own_number listed zero x s o e = absurd (none-some e)
+own_number listed (suc i) None s o e = absurd (omega arith)
+own_number listed (suc i) (Some v) s o e =
+    let same : v ≡ s = some-injective (sym (number_in-stands listed v i o) ∙ e) in
+    sym (ap (number_in listed) (sym same) ∙ o)
 
-head-injective : {m n : ℕ} {ms ns : List ℕ} → m ∷ ms ≡ n ∷ ns → m ≡ n
-head-injective h = cc
-
-tail-injective : {m n : ℕ} {ms ns : List ℕ} → m ∷ ms ≡ n ∷ ns → ms ≡ ns
-tail-injective h = cc
-
-numbers-injective : (listed : List Tree) (us ss : Trees) → AllAmong listed us → numbers listed us ≡ numbers listed ss → us ≡ ss
-numbers-injective listed Nil Nil a h = refl
-numbers-injective listed Nil (More s ss) a h = absurd (let e : [] ≡ number_in listed s ∷ numbers listed ss = h in cc)
-numbers-injective listed (More u us) Nil a h = absurd (let e : number_in listed u ∷ numbers listed us ≡ [] = h in cc)
-numbers-injective listed (More u us) (More s ss) a h =
-    let d = numbers-injective_at listed u s (number_in listed s) a.0 (head-injective h) refl in
-    let e = numbers-injective listed us ss a.1 (tail-injective h) in cc
+-- such numbers of trees are the trees' numbers
+own_numbers : (listed : List Tree) (ns : List ℕ) (ss : Trees) → OwnNumbers listed ns → all_numbered listed ns ≡ Some ss → ns ≡ numbers listed ss
+own_numbers listed [] ss o e = ap (numbers listed) (some-injective e)
+own_numbers listed (n ∷ ns) ss o e = by (numbered listed n) (all_numbered listed ns) refl refl e (λ rest k. own_numbers listed ns rest o.1 k)
+  where
+    by : (m : Option Tree) (found : Option Trees) → numbered listed n ≡ m → all_numbered listed ns ≡ found → put_first m found ≡ Some ss
+        → ((rest : Trees) → all_numbered listed ns ≡ Some rest → ns ≡ numbers listed rest) → n ∷ ns ≡ numbers listed ss
+    by None found h k e inner = absurd (none-some e)
+    by (Some s) None h k e inner = absurd (none-some e)
+    by (Some s) (Some rest) h k e inner =
+        let first = own_number listed n o.0.0 s o.0.1 h in
+        let behind = inner rest k in
+        (λ i. first i ∷ behind i) ∙ ap (numbers listed) (some-injective e)
 
 -- the numbers that the children's labels tell
-pub number_words : (labels : List (List ℕ)) (kids : List ℕ) → map number_word (map (λ q. get_or labels q []) kids) ≡ numbers_in labels kids
+number_words : (labels : List (List ℕ)) (kids : List ℕ) → map number_word (map (λ q. get_or labels q []) kids) ≡ numbers_told labels kids
 number_words labels [] = refl
 number_words labels (q ∷ kids) = ap (λ ns. number_word (get_or labels q []) ∷ ns) (number_words labels kids)
 
 module _ (listed : List Tree) (closed : HasChildren listed) where
-  tree-from_node : (f : ℕ) (ss : Trees) (v : Tree) → Contains listed v → IsNode f (numbers listed ss) (node_for listed v) → v ≡ Node f ss
-  tree-from_node f ss (Node g us) c w =
-      let e = numbers-injective listed us ss (closed g us c) w.1 in
-      let d = w.0 in cc
+  OwnNumbers-labels : (sig : Signature) (labels : List (List ℕ)) (qs : List ℕ) → AreLabels sig 1 (label_of (term_rule sig listed)) labels
+      → ((j : ℕ) → j < length qs → get_or qs j 0 < length labels) → OwnNumbers listed (numbers_told labels qs)
+  OwnNumbers-labels sig labels [] are within = tt
+  OwnNumbers-labels sig labels (q ∷ qs) are within =
+      let w = are q (within 0 (omega arith)) in (
+        (get_or w.0 0 None, ap number_word (sym (TellsNumber-tuple sig listed closed w.0 w.1) ∙ w.2)),
+        OwnNumbers-labels sig labels qs are (λ j l. within (suc j) (omega arith)),
+      )
 
-  node-from_tree : (f : ℕ) (ss : Trees) (v : Tree) → v ≡ Node f ss → IsNode f (numbers listed ss) (node_for listed v)
-  node-from_tree f ss v e = subst (λ u. IsNode f (numbers listed ss) (node_for listed u)) (sym e) (refl, refl)
+  module _ (nodes : List TermNode) (are : AreNodesOf listed nodes) where
+    over_found : (f : ℕ) (ns : List ℕ) (node : TermNode) → Contains nodes node → IsNode f ns node → node.number ≡ number_over listed f (all_numbered listed ns)
+    over_found f ns node c is = by (are.each node c).0 (are.each node c).1 (are.each node c).2
+      where
+        by : (v : Tree) → Contains listed v → node ≡ node_for listed v → node.number ≡ number_over listed f (all_numbered listed ns)
+        by (Node g us) there same =
+            let symbol : g ≡ f = sym (ap (λ (n : TermNode). n.symbol) same) ∙ is.0 in
+            let kids : numbers listed us ≡ ns = sym (ap (λ (n : TermNode). n.kids) same) ∙ is.1 in
+            let again : all_numbered listed ns ≡ Some us = ap (all_numbered listed) (sym kids) ∙ numbered-again listed us (closed g us there) in
+            ap (λ (n : TermNode). n.number) same ∙ (ap (λ h. number_in listed (Node h us)) symbol ∙ sym (ap (number_over listed f) again))
 
-  -- no node of this kind before the place, and one at it
-  abbrev NodeAt : ℕ → List ℕ → ℕ → Type 0
-  NodeAt f ns k = IsNode f ns (get_or (map (node_for listed) listed) k no_node)
+    over_none : (f : ℕ) (ns : List ℕ) → OwnNumbers listed ns → AreNoNode nodes f ns → 0 ≡ number_over listed f (all_numbered listed ns)
+    over_none f ns o none = sym (by (all_numbered listed ns) refl)
+      where
+        by : (found : Option Trees) → all_numbered listed ns ≡ found → number_over listed f found ≡ 0
+        by None e = refl
+        by (Some ss) e = number_in-zero listed (Node f ss) (λ c. none (node_for listed (Node f ss)) (are.all (Node f ss) c) (refl, sym (own_numbers listed ns ss o e)))
 
-  node-from_place : (f : ℕ) (ss : Trees) (k : ℕ) → get_or (map Some listed) k None ≡ Some (Node f ss) → NodeAt f (numbers listed ss) k
-  node-from_place f ss k h = subst (IsNode f (numbers listed ss)) (sym (node-at listed listed k (Node f ss) h)) (refl, refl)
+    number_is : (x : Option ℕ) (ns : List ℕ) (n : ℕ) → OwnNumbers listed ns → IsNodeNumber nodes x ns n → n ≡ number_at listed x ns
+    number_is None ns n o h = h
+    number_is (Some f) ns n o (inl w) = w.3 ∙ over_found f ns w.0 w.1 w.2
+    number_is (Some f) ns n o (inr w) = w.0 ∙ over_none f ns o w.1
 
-  place-from_node : (f : ℕ) (ss : Trees) (k : ℕ) → k < length listed → NodeAt f (numbers listed ss) k → get_or (map Some listed) k None ≡ Some (Node f ss)
-  place-from_node f ss k l h =
-      let w = from_list listed k l in
-      w.2 ∙ ap Some (tree-from_node f ss w.0 w.1 (subst (IsNode f (numbers listed ss)) (node-at listed listed k w.0 w.2) h))
+-- Result: the node's number is what the rule asks for
+pub number_at-nodes : (term : Tree) (nodes : List TermNode) → AreNodesOf (subterms term) nodes → (sig : Signature) (labels : List (List ℕ)) (x : Option ℕ) (qs : List ℕ) (n : ℕ)
+    → AreLabels sig 1 (label_of (term_rule sig (subterms term))) labels → ((j : ℕ) → j < length qs → get_or qs j 0 < length labels)
+    → IsNodeNumber nodes x (numbers_told labels qs) n → n ≡ number_at (subterms term) x (map number_word (map (λ q. get_or labels q []) qs))
+number_at-nodes term nodes are sig labels x qs n own within h =
+    let listed = subterms term in
+    let closed = children_listed term listed (ListsSubterms-subterms term) in
+    number_is listed closed nodes are x (numbers_told labels qs) n (OwnNumbers-labels listed closed sig labels qs own within) h
+    ∙ ap (number_at listed x) (sym (number_words labels qs))
 
-  number-from_first : (f : ℕ) (ss : Trees) (i : ℕ) → IsFirstNode (map (node_for listed) listed) f (numbers listed ss) i → number_in listed (Node f ss) ≡ suc i
-  number-from_first f ss i h =
-      number_in-at listed (Node f ss) i (place-from_node f ss i (omega (arith, h.within, length-map listed (node_for listed))) h.is)
-      (λ k l e. h.first k l (node-from_place f ss k e))
-
-  number-from_none : (f : ℕ) (ss : Trees) → AreNoNode (map (node_for listed) listed) f (numbers listed ss) → number_in listed (Node f ss) ≡ 0
-  number-from_none f ss h = number_in-zero listed (Node f ss) (λ c.
-      let w = in_list listed (Node f ss) c in
-      h w.0 (omega (arith, w.1, length-map listed (node_for listed))) (node-from_place f ss w.0 w.2))
-
-  number-from_nodes : (f : ℕ) (ss : Trees) (n : ℕ) → IsNodeNumber (map (node_for listed) listed) (Some f) (numbers listed ss) n → number_in listed (Node f ss) ≡ n
-  number-from_nodes f ss n (inl h) = number-from_none f ss h.1 ∙ sym h.0
-  number-from_nodes f ss n (inr h) = number-from_first f ss h.0 h.2 ∙ sym h.1
-
-  step-number : (sig : Signature) (labels : List (List ℕ)) (e : Entry) (n : ℕ) → IsNodeNumber (map (node_for listed) listed) (get_or e.symbol 0 None) (numbers_in labels e.kids) n
-      → (t : Tuple) → IsTuple sig 1 t → root t ≡ e.symbol → map (label_of (term_rule sig listed)) (kids t) ≡ map (λ q. get_or labels q []) e.kids
-      → number_of listed (get_or t 0 None) ≡ n
-  step-number sig labels e n h [] is r same = absurd (let w : 0 ≡ 1 = is.width in omega arith)
-  step-number sig labels e n h (None ∷ []) is r same = absurd is.present
-  step-number sig labels e n h (Some (Node f ss) ∷ []) is r same =
-      let at : Some f ≡ get_or e.symbol 0 None = ap (λ (x : List (Option ℕ)). get_or x 0 None) r in
-      let ns : numbers_in labels e.kids ≡ numbers listed ss =
-      sym (number_words labels e.kids) ∙ (ap (map number_word) (sym same)
-      ∙ child_numbers sig listed closed f ss (λ j l. TellsNumber-tuple sig listed closed (kid (Some (Node f ss) ∷ []) j) (IsTuple-kid sig 1 (Some (Node f ss) ∷ []) j is l))) in
-      number-from_nodes f ss n (subst (λ x. IsNodeNumber (map (node_for listed) listed) x (numbers listed ss) n) (sym at)
-      (subst (λ (x : List ℕ). IsNodeNumber (map (node_for listed) listed) (get_or e.symbol 0 None) x n) ns h))
-  step-number sig labels e n h (x ∷ y ∷ t) is r same = absurd (omega (arith, is.width))
-
-  -- Result: the presence and the node's number are the label
-  pub GivesLabel-nodes : (sig : Signature) (labels : List (List ℕ)) (e : Entry) (out : List ℕ) (n : ℕ)
-      → IsNodeNumber (map (node_for listed) listed) (get_or e.symbol 0 None) (numbers_in labels e.kids) n
-      → out ≡ presence e.symbol ∷ n ∷ [] → GivesLabel sig 1 (label_of (term_rule [] listed)) labels e out
-  GivesLabel-nodes sig labels e out n h o t is r same =
-      TellsNumber-tuple sig listed closed t is
-      ∙ (ap (λ p. p ∷ number_of listed (get_or t 0 None) ∷ []) (sym (presence_root t) ∙ ap presence r)
-      ∙ (ap (λ m. presence e.symbol ∷ m ∷ []) (step-number sig labels e n h t is r same) ∙ sym o))
-
--- a list made of the term and its subterms
-module _ (term : Tree) (keys : List Tree) (more : HasMore (subterms term) (term ∷ []) keys) where
-  pub ListsSubterms-made : ListsSubterms term keys
-  ListsSubterms-made v = (
-    (λ c. elim ((more.same v).0 c) [
-      | inl one ↦ elim (Contains-cons_cases term [] v one) [ inl e ↦ ([], ap Some e) | inr none ↦ absurd (Contains-none v none) ]
-      | inr among ↦ (ListsSubterms-subterms term v).0 among
-    ]),
-    (λ w. (more.same v).1 (inr ((ListsSubterms-subterms term v).1 w))),
-  )
-
-  pub first-made : keys ≡ term ∷ more.rest
-  first-made = more.longer
+-- the term itself stands first
+pub own_number_is : (t : Tree) → number_in (subterms t) t ≡ 1
+own_number_is (Node f ss) = number_in-at (subterms (Node f ss)) (Node f ss) 0 refl (λ k l. absurd (omega arith))
 
 -- two words, each written
 pub two_words : (out : List ℕ) (p q n : ℕ) → length out ≡ 2 → p ≡ q → set (set out 0 p) 1 n ≡ q ∷ n ∷ []

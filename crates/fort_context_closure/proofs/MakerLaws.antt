@@ -1,6 +1,6 @@
 -- What is made of the rules of a system's index is the atom of that index.
 use Rattle.std.specs.Prelude.{◌≡◌, ℕ, List, [], map, length, Contains, true, refl}
-use Rattle.std.proofs.Common.{sym, subst, ap, ◌∙◌, arith}
+use Rattle.std.proofs.Common.{sym, subst, ◌∙◌, arith}
 use Rattle.fort_theory.specs.Patterns.{Pattern, Pair, PatternSystem, IsSystem}
 use Rattle.fort_theory.specs.PatternOrder.{AreSubpatternsInOrder}
 use Rattle.fort_theory.specs.Sides.{at_index}
@@ -19,7 +19,7 @@ use Rattle.fort_atom_labels.specs.ListedAtoms.{ListedAtom, listed, IsListedAtom}
 use Rattle.fort_atom_labels.specs.ClosureTests.{IsClosure, ListsClosure, closure_test}
 use Rattle.fort_atom_labels.proofs.ClosureTestLaws.{IsClosure-listed}
 use Rattle.fort_atom_labels.proofs.SystemAtoms.{IsListedAtom-relation}
-use Rattle.fort_gtt_closure.specs.declared.entry.Entry.{Entry}
+use Rattle.fort_steps.specs.declared.closure.ClosureEntry.{ClosureEntry}
 use Rattle.fort_context_closure.specs.PlainAtoms.{IsAtomOf, IsOfRules, IsRelationAtomOf, IsByPairs}
 use Rattle.fort_context_closure.specs.ClosedAtoms.{ClosedAtom, numbers_of}
 use Rattle.fort_context_closure.specs.declared.rule_list.RuleList.{RuleList}
@@ -65,7 +65,7 @@ pub ListsRules-own : (pairs : List Pair) (list : RuleList) → ListsRules pairs 
 ListsRules-own pairs list h = subst (λ (ps : List Pair). ListsRules ps list) (sym h.rules) h
 
 -- with the entries of a closure
-pub relation-closed : (system : PatternSystem) → IsSystem system → (rel : Rel) (index x y : ℕ) (list : RuleList) (es : List Entry) (c : ClosedAtom)
+pub relation-closed : (system : PatternSystem) → IsSystem system → (rel : Rel) (index x y : ℕ) (list : RuleList) (es : List ClosureEntry) (c : ClosedAtom)
     → ListsRules (pairs_for rel (at_index index system.rules)) list
     → IsOfRules rel x y (map as_pair list.rules.items) (map as_pattern list.lefts.items) (map as_pattern list.rights.items) c.atom → c.entries ≡ es
     → ((columns : List ℕ) → AreColumns (CoreAtom rel index x y) columns → is_reaching (kind_for rel) ≡ true
@@ -83,7 +83,7 @@ relation-closed system is rel index x y list es c lists made same exact columns 
       relation-made system is rel index x y (map as_pair list.rules.items) lefts rights c.atom lists.rules left_order right_order made columns are,
       subst (λ (ls : List Pattern). IsClosure (listed atom ls c.atom.rights) (closure_test c.atom.rights ls (numbers_of c.entries))) (sym made.lefts_are)
           (subst (λ (rs : List Pattern). IsClosure (listed atom lefts rs) (closure_test rs lefts (numbers_of c.entries))) (sym made.rights_are)
-          (subst (λ (xs : List Entry). IsClosure (listed atom lefts rights) (closure_test rights lefts (numbers_of xs))) (sym same) closes)),
+          (subst (λ (xs : List ClosureEntry). IsClosure (listed atom lefts rights) (closure_test rights lefts (numbers_of xs))) (sym same) closes)),
     )
 
 -- of the program and of the definitions
@@ -98,11 +98,11 @@ not_eq rels.Star other h = cc
 not_eq rels.Conv other h = cc
 
 -- with pairs that are handed in
-pub relation-by_pairs : (system : PatternSystem) (rel : Rel) (index x y : ℕ) (list : RuleList) (es : List Entry) (numbers : List (ℕ × ℕ)) (c : ClosedAtom)
+pub relation-by_pairs : (system : PatternSystem) (rel : Rel) (index x y : ℕ) (list : RuleList) (es : List ClosureEntry) (c : ClosedAtom)
     → ListsRules (pairs_for rel (at_index index system.rules)) list
     → IsOfRules rel x y (map as_pair list.rules.items) (map as_pattern list.lefts.items) (map as_pattern list.rights.items) c.atom → c.entries ≡ es
-    → numbers_of es ≡ numbers → IsByPairs system rel index x y numbers c
-relation-by_pairs system rel index x y list es numbers c lists made same are =
+    → IsByPairs system rel index x y es c
+relation-by_pairs system rel index x y list es c lists made same =
     let pairs : List Pair = pairs_for rel (at_index index system.rules) in
     let own : IsOfRules rel x y pairs (map as_pattern list.lefts.items) (map as_pattern list.rights.items) c.atom =
     subst (λ (ps : List Pair). IsOfRules rel x y ps (map as_pattern list.lefts.items) (map as_pattern list.rights.items) c.atom) lists.rules made in
@@ -110,5 +110,5 @@ relation-by_pairs system rel index x y list es numbers c lists made same are =
       rules = record { same = own.same; lefts_are = refl; rights_are = refl };
       left_order = subst (AreSubpatternsInOrder (map (λ (pair : Pair). pair.0) pairs)) (sym made.lefts_are) lists.left_order;
       right_order = subst (AreSubpatternsInOrder (map (λ (pair : Pair). pair.1) pairs)) (sym made.rights_are) lists.right_order;
-      numbers_are = ap numbers_of same ∙ are;
+      entries_are = same;
     }

@@ -18,7 +18,8 @@ use Rattle.fort_atom_labels.proofs.RuleLaws.{row_is}
 use Rattle.fort_context_closure.specs.declared.rule_places.RulePlaces.{RulePlaces}
 use Rattle.fort_context_closure.specs.NumberedView.{AreNumbersOf}
 use Rattle.fort_context_closure.specs.RowBits.{labels_at, bit_of, HasBits, IsRow}
-use Rattle.fort_context_closure.specs.RulePlaces.{pair_at, AreWithin, some_rule}
+use Rattle.fort_context_closure.specs.RulePlaces.{pair_at, AreWithin}
+use Rattle.fort_context_closure.specs.RuleLefts.{some_rule}
 use Rattle.fort_context_closure.proofs.RulePlaceLaws.{some_rule-any_pair}
 
 map-numbers : (f : PatternNumber → Bool) (g : Pattern → Bool) (listed : List Pattern) (rows : List PatternNumber) → length rows ≡ length listed

@@ -6,6 +6,7 @@ use Rattle.std.proofs.lemmas.List.{get_or-map}
 use Rattle.fort_theory.specs.Signatures.{Signature}
 use Rattle.fort_theory.specs.Patterns.{Pattern, Any, Pair}
 use Rattle.fort_tables.specs.Tuples.{Tuple, TupleSymbol, presence, fold_tuple}
+use Rattle.fort_tables.specs.LabelRules.{label_of}
 use Rattle.fort_alike.specs.Atoms.{NfKind}
 use Rattle.fort_alike.specs.Alike.{IsNormal}
 use Rattle.fort_atom_labels.specs.ListedAtoms.{OfFirst, OfBoth, ListedAtom, listed}
@@ -14,7 +15,7 @@ use Rattle.fort_atom_labels.proofs.PatternNumberLaws.{fact_bit}
 use Rattle.fort_tables.specs.BitRows.{bit_row}
 use Rattle.fort_context_closure.specs.RowBits.{bit_of, HasBits}
 use Rattle.fort_context_closure.specs.SidePlaces.{side_at, AreSidesWithin, some_side}
-use Rattle.fort_context_closure.specs.PlainAtoms.{no_closure, atom_label}
+use Rattle.fort_context_closure.specs.PlainAtoms.{no_closure}
 use Rattle.fort_context_closure.proofs.SidePlaceLaws.{some_side-any_pair}
 use Rattle.fort_context_closure.proofs.NodeRowLaws.{node_marks}
 use Rattle.fort_context_closure.proofs.RelationLaws.{map-marks}
@@ -86,5 +87,5 @@ module _ (sig tag : Signature) (pairs others : List Pair) (lefts : List Pattern)
       presence f ∷ bit_row (length (marks_of (normal sig pairs lefts)))
       (λ k. get_or (marks-same (get_or f 0 None) (get_or f 0 None) ws i) k false)
 
-  pub normal-label : (t : Tuple) → atom_label (normal sig pairs lefts) t ≡ atom_label (normal tag others lefts) t
+  pub normal-label : (t : Tuple) → label_of (atom_rule (normal sig pairs lefts) no_closure) t ≡ label_of (atom_rule (normal tag others lefts) no_closure) t
   normal-label t = λ i. fold_tuple (λ f ws. normal-step f ws i) t

@@ -1,5 +1,5 @@
 -- The places of arguments, one after another; the bits at a node, child after child.
-use Rattle.std.specs.Prelude.{◌≡◌, ℕ, zero, suc, ◌+◌, ◌<◌, List, [], ◌∷◌, ◌++◌, map, length, drop, get_or, Contains, Bool, true, false, ◌&&◌, refl}
+use Rattle.std.specs.Prelude.{◌≡◌, ℕ, ◌+◌, ◌<◌, List, [], ◌∷◌, ◌++◌, map, length, drop, get_or, Bool, true, false, ◌&&◌, refl}
 use Rattle.std.proofs.Common.{sym, ap, arith}
 use Rattle.std.proofs.lemmas.List.{drop_more, length-map, get_or-map}
 use Rattle.fort_theory.specs.Patterns as theory
@@ -7,7 +7,6 @@ use Rattle.fort_terms.specs.declared.pattern.Pattern.{Pattern}
 use Rattle.fort_terms.specs.PatternView.{as_pattern, as_patterns}
 use Rattle.fort_tables.specs.BitRows.{has_bit}
 use Rattle.fort_atom_labels.specs.PatternNumbers.{AreAt, all_at}
-use Rattle.fort_theory.specs.PatternOrder.{AllAmong}
 
 pub AreAt-push : (listed : List theory.Pattern) (ks : List ℕ) (ps : List Pattern) (k : ℕ) (p : Pattern) → AreAt listed ks (as_patterns ps)
     → k < length listed → get_or listed k theory.Any ≡ as_pattern p → AreAt listed (ks ++ k ∷ []) (as_patterns (ps ++ p ∷ []))
@@ -15,12 +14,6 @@ AreAt-push listed [] [] k p h l e = (l, e, tt)
 AreAt-push listed [] (q ∷ qs) k p h l e = absurd h
 AreAt-push listed (j ∷ js) [] k p h l e = absurd h
 AreAt-push listed (j ∷ js) (q ∷ qs) k p h l e = (h.0, h.1, AreAt-push listed js qs k p h.2 l e)
-
-pub AllAmong-at : (listed : List theory.Pattern) (ps : List Pattern) (i : ℕ) (d : Pattern) → AllAmong listed (as_patterns ps) → i < length ps
-    → Contains listed (as_pattern (get_or ps i d))
-AllAmong-at listed [] i d h l = absurd (omega arith)
-AllAmong-at listed (p ∷ ps) zero d h l = h.0
-AllAmong-at listed (p ∷ ps) (suc i) d h l = AllAmong-at listed ps i d h.1 (omega arith)
 
 -- the bits at a node
 

@@ -17,7 +17,7 @@ use Rattle.fort_tables.proofs.BitRowLaws.{has_bit-drop, has_bit-past}
 use Rattle.fort_tables.proofs.EqualTests.{test_from_apart}
 use Rattle.fort_atom_labels.proofs.Bits.{Decides-false, same_from_iff}
 use Rattle.fort_context_closure.proofs.RowBitLaws.{HasBits-none}
-use Rattle.fort_gtt_closure.specs.declared.entry.Entry.{Entry}
+use Rattle.fort_steps.specs.declared.closure.ClosureEntry.{ClosureEntry}
 use Rattle.fort_context_closure.specs.RowBits.{bit_of}
 use Rattle.fort_context_closure.specs.ClosedAtoms.{numbers_of}
 use Rattle.fort_context_closure.specs.declared.reach.Reach.{Reach}
@@ -110,12 +110,12 @@ list_any-more test xs i x l at =
 
 -- one more entry
 
-pub Decides-is_within : (lefts : ℕ) (reach : Reach) (entry : Entry)
+pub Decides-is_within : (lefts : ℕ) (reach : Reach) (entry : ClosureEntry)
     → Decides (is_within lefts reach entry) ((entry.p < length (firsts_of reach)) × (entry.q < lefts))
 Decides-is_within lefts reach entry =
     Decides-and (nat_lt entry.p (length (firsts_of reach))) (nat_lt entry.q lefts) (Decides-ltb entry.p (length (firsts_of reach))) (Decides-ltb entry.q lefts)
 
-module _ (lefts rights : ℕ) (reach new : Reach) (numbers : List (ℕ × ℕ)) (entry : Entry) (is : IsReach lefts rights numbers reach) (marks : MarksEntry lefts reach entry new) where
+module _ (lefts rights : ℕ) (reach new : Reach) (numbers : List (ℕ × ℕ)) (entry : ClosureEntry) (is : IsReach lefts rights numbers reach) (marks : MarksEntry lefts reach entry new) where
   abbrev further : List (ℕ × ℕ)
   further = numbers ++ (entry.p, entry.q) ∷ []
 
@@ -189,7 +189,7 @@ module _ (lefts rights : ℕ) (reach new : Reach) (numbers : List (ℕ × ℕ)) 
 
 -- what the marks of an entry change
 
-pub MarksEntry-none : (lefts : ℕ) (reach : Reach) (entry : Entry) → is_within lefts reach entry ≡ false → MarksEntry lefts reach entry reach
+pub MarksEntry-none : (lefts : ℕ) (reach : Reach) (entry : ClosureEntry) → is_within lefts reach entry ≡ false → MarksEntry lefts reach entry reach
 MarksEntry-none lefts reach entry off = record {
   first_count = refl;
   second_count = refl;
@@ -199,7 +199,7 @@ MarksEntry-none lefts reach entry off = record {
   seconds = λ q k. ap (λ t. (t && ((entry.q == q) && (lefts + entry.p == k))) || bit_of k (row_in (seconds_of reach) q)) (sym off);
 }
 
-pub MarksEntry-both : (lefts : ℕ) (old new : Reach) (entry : Entry) → is_within lefts old entry ≡ true
+pub MarksEntry-both : (lefts : ℕ) (old new : Reach) (entry : ClosureEntry) → is_within lefts old entry ≡ true
     → SetsBit (firsts_of old) entry.p entry.q (firsts_of new) → SetsBit (seconds_of old) entry.q (lefts + entry.p) (seconds_of new) → MarksEntry lefts old entry new
 MarksEntry-both lefts old new entry on f s = record {
   first_count = f.count;
@@ -229,13 +229,13 @@ IsReach-clear lefts rights width reach wide f s = record {
 }
 
 -- one more entry of a list
-pub IsReach-entry : (lefts rights : ℕ) (reach new : Reach) (es : List Entry) (i : ℕ) (entry : Entry) → i < length es → entry ≡ get_or es i entry
+pub IsReach-entry : (lefts rights : ℕ) (reach new : Reach) (es : List ClosureEntry) (i : ℕ) (entry : ClosureEntry) → i < length es → entry ≡ get_or es i entry
     → IsReach lefts rights (numbers_of (take i es)) reach → MarksEntry lefts reach entry new → IsReach lefts rights (numbers_of (take (i + 1) es)) new
 IsReach-entry lefts rights reach new es i entry l at is marks =
-    let number : Entry → ℕ × ℕ = λ (e : Entry). (e.p, e.q) in
+    let number : ClosureEntry → ℕ × ℕ = λ (e : ClosureEntry). (e.p, e.q) in
     let more : numbers_of (take (i + 1) es) ≡ numbers_of (take i es) ++ (entry.p, entry.q) ∷ [] =
     ap numbers_of (take_more es i entry l) ∙ (map-append number (take i es) (get_or es i entry ∷ [])
-    ∙ ap (λ (e : Entry). numbers_of (take i es) ++ (e.p, e.q) ∷ []) (sym at)) in
+    ∙ ap (λ (e : ClosureEntry). numbers_of (take i es) ++ (e.p, e.q) ∷ []) (sym at)) in
     subst (λ ns. IsReach lefts rights ns new) (sym more) (IsReach-more lefts rights reach new (numbers_of (take i es)) entry is marks)
 
 -- the bits of two words together

@@ -10,9 +10,8 @@ use Rattle.fort_theory.proofs.Members.{Contains-none, Contains-cons_cases, Conta
 use Rattle.fort_atom_labels.proofs.Bits.{Decides-false, same_from_iff}
 use Rattle.fort_context_closure.specs.RowBits.{bit_of}
 use Rattle.fort_context_closure.specs.RootPlaces.{list_at}
-use Rattle.fort_context_closure.specs.RulePlaces.{has_both, some_rule}
-use Rattle.fort_context_closure.specs.RuleRootPlaces.{no_rule}
-use Rattle.fort_context_closure.specs.RuleLefts.{AreUnderLefts, NoneBefore, both_at}
+use Rattle.fort_context_closure.specs.RulePlaces.{no_rule}
+use Rattle.fort_context_closure.specs.RuleLefts.{AreUnderLefts, NoneBefore, both_at, has_both, some_rule}
 use Rattle.fort_context_closure.specs.declared.rule_places.RulePlaces.{RulePlaces}
 use Rattle.fort_context_closure.proofs.RootPlaceLaws.{any_at, any_true, Decides-any}
 

@@ -10,7 +10,8 @@ use Rattle.fort_terms.specs.declared.pattern.Pattern as terms
 use Rattle.fort_terms.specs.PatternView.{as_pair}
 use Rattle.fort_atom_labels.specs.AtomRules.{any_pair}
 use Rattle.fort_context_closure.specs.declared.rule_places.RulePlaces.{RulePlaces}
-use Rattle.fort_context_closure.specs.RulePlaces.{pair_at, ArePlacesOf, has_both, some_rule}
+use Rattle.fort_context_closure.specs.RulePlaces.{pair_at, ArePlacesOf}
+use Rattle.fort_context_closure.specs.RuleLefts.{has_both, some_rule}
 
 pub ArePlacesOf-one : (lefts rights : List Pattern) (pair : Pair) (rule : RulePlaces) → rule.left < length lefts → rule.right < length rights
     → get_or lefts rule.left Any ≡ pair.0 → get_or rights rule.right Any ≡ pair.1 → ArePlacesOf lefts rights (pair ∷ []) (rule ∷ [])

@@ -7,7 +7,8 @@ use Rattle.std.proofs.lemmas.List.Elements.{Contains-get_or}
 use Rattle.fort_atom_labels.specs.PatternNumbers.{PatternNumber, number_inside}
 use Rattle.fort_atom_labels.proofs.Bits.{same_from_iff}
 use Rattle.fort_context_closure.specs.RootPlaces.{IsRooted, places_at, root_of}
-use Rattle.fort_context_closure.specs.RuleRootPlaces.{no_rule, left_roots, right_roots, start_adds, end_adds, starts_at, ends_at}
+use Rattle.fort_context_closure.specs.RulePlaces.{no_rule}
+use Rattle.fort_context_closure.specs.RuleRootPlaces.{left_roots, right_roots, start_adds, end_adds, starts_at, ends_at}
 use Rattle.fort_context_closure.specs.declared.reach.Reach.{Reach}
 use Rattle.fort_context_closure.specs.declared.rooted.Rooted.{Rooted}
 use Rattle.fort_context_closure.specs.declared.rule_places.RulePlaces.{RulePlaces}

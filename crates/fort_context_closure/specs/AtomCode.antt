@@ -8,9 +8,9 @@ use Rattle.fort_theory.specs.Patterns.{Pattern, Pair}
 use Rattle.fort_theory.specs.PatternCode.{pattern_code}
 use Rattle.fort_alike.specs.Atoms.{AtomKind, EqKind, RootKind, StepKind, BelowKind, ParKind, NfKind, StarKind, PlusKind}
 use Rattle.fort_atom_labels.specs.ListedAtoms.{ListedAtom, listed}
-use Rattle.fort_gtt_closure.specs.declared.entry.Entry.{Entry}
-use Rattle.fort_gtt_closure.specs.declared.entry.Why.{Why}
-use Rattle.fort_gtt_closure.specs.declared.entry.Why.TheVariants as whys
+use Rattle.fort_steps.specs.declared.closure.ClosureEntry.{ClosureEntry}
+use Rattle.fort_steps.specs.declared.closure.Reason.{Reason}
+use Rattle.fort_steps.specs.declared.closure.Reason.TheVariants as reasons
 use Rattle.fort_context_closure.specs.ClosedAtoms.{ClosedAtom}
 
 abbrev pub kind_number : AtomKind → ℕ
@@ -68,34 +68,28 @@ listed_code =
     (coded× (coded× (coded× (coded× signature_code (coded_list coded_ℕ)) (coded_list (coded× pattern_code pattern_code))) (coded_list pattern_code)) (coded_list pattern_code))
     fields_of from_fields fields_again
 
--- the kind of a reason, and its places
-abbrev pub why_numbers : Why → List ℕ
-why_numbers whys.Any = 0 ∷ []
-why_numbers (whys.Kids k j) = 1 ∷ k ∷ j ∷ []
-why_numbers (whys.SilentRight k) = 2 ∷ k ∷ []
-why_numbers (whys.SilentLeft k) = 3 ∷ k ∷ []
-why_numbers (whys.Pair k) = 4 ∷ k ∷ []
+-- the kind of a reason, and its rule
+abbrev pub why_numbers : Reason → List ℕ
+why_numbers reasons.Any = 0 ∷ []
+why_numbers reasons.Kids = 1 ∷ []
+why_numbers (reasons.Rule k) = 2 ∷ k ∷ []
 
-abbrev pub why_back : List ℕ → Why
-why_back ns =
-    let k = get_or ns 1 0 in
-    get_or (whys.Any ∷ whys.Kids k (get_or ns 2 0) ∷ whys.SilentRight k ∷ whys.SilentLeft k ∷ whys.Pair k ∷ []) (get_or ns 0 0) whys.Any
+abbrev pub why_back : List ℕ → Reason
+why_back ns = get_or (reasons.Any ∷ reasons.Kids ∷ reasons.Rule (get_or ns 1 0) ∷ []) (get_or ns 0 0) reasons.Any
 
-pub why_again : (why : Why) → why_back (why_numbers why) ≡ why
-why_again whys.Any = refl
-why_again (whys.Kids k j) = refl
-why_again (whys.SilentRight k) = refl
-why_again (whys.SilentLeft k) = refl
-why_again (whys.Pair k) = refl
+pub why_again : (why : Reason) → why_back (why_numbers why) ≡ why
+why_again reasons.Any = refl
+why_again reasons.Kids = refl
+why_again (reasons.Rule k) = refl
 
-abbrev pub entry_code : Coded Entry
+abbrev pub entry_code : Coded ClosureEntry
 entry_code =
     code_by ((ℕ × ℕ) × List ℕ) (coded× (coded× coded_ℕ coded_ℕ) (coded_list coded_ℕ))
-    (λ (e : Entry). ((e.p, e.q), why_numbers e.why))
+    (λ (e : ClosureEntry). ((e.p, e.q), why_numbers e.why))
     (λ w. record { p = w.0.0; q = w.0.1; why = why_back w.1 })
-    (λ (e : Entry). ap (λ (why : Why). record { p = e.p; q = e.q; why = why }) (why_again e.why))
+    (λ (e : ClosureEntry). ap (λ (why : Reason). record { p = e.p; q = e.q; why = why }) (why_again e.why))
 
 abbrev pub atom_code : Coded ClosedAtom
 atom_code =
-    code_by (ListedAtom × List Entry) (coded× listed_code (coded_list entry_code))
+    code_by (ListedAtom × List ClosureEntry) (coded× listed_code (coded_list entry_code))
     (λ (c : ClosedAtom). (c.atom, c.entries)) (λ w. record { atom = w.0; entries = w.1 }) (λ _. refl)

@@ -1,13 +1,12 @@
 -- Inside: the transducer of a list of rules, and the entries of its closure.
-use Rattle.std.specs.Prelude.{◌↔◌, ℕ, List, map}
+use Rattle.std.specs.Prelude.{◌↔◌, ℕ, List, map, Contains}
 use Rattle.fort_reachability.specs.ClosureTables.{InClosure}
 use Rattle.fort_terms.specs.PatternView.{as_pair, as_pattern}
 use Rattle.fort_agtt.specs.declared.agtt.Agtt.{Agtt}
 use Rattle.fort_agtt.specs.AgttView.{transducer_of}
 use Rattle.fort_agtt.specs.RootSteps.{HasPatternStates, ArePlaces}
-use Rattle.fort_gtt_closure.specs.declared.entry.Entry.{Entry}
-use Rattle.fort_gtt_closure.specs.Reasons.{IsListed}
-use Rattle.fort_gtt_closure.specs.Passes.{IsListOfPasses}
+use Rattle.fort_steps.specs.declared.closure.ClosureEntry.{ClosureEntry}
+use Rattle.fort_context_closure.specs.ClosedAtoms.{ArePassed, numbers_of}
 use Rattle.fort_context_closure.specs.declared.rule_list.RuleList.{RuleList}
 
 -- its states are the places in these lists of patterns
@@ -17,8 +16,8 @@ pub record IsTransducerOf (list : RuleList) (agtt : Agtt) : Type 0 where
   pub places : ArePlaces (map as_pattern list.lefts.items) (map as_pattern list.rights.items) (map as_pair list.rules.items) agtt.pairs.items
 
 -- the list that the passes over its transducer make
-pub record IsClosureOf (list : RuleList) (es : List Entry) : Type 0 where
+pub record IsClosureOf (list : RuleList) (es : List ClosureEntry) : Type 0 where
   pub agtt : Agtt
   pub is : IsTransducerOf list agtt
-  pub passes : IsListOfPasses agtt es
-  pub table : (p q : ℕ) → IsListed es p q ↔ InClosure (transducer_of agtt) p q
+  pub passed : ArePassed agtt es
+  pub table : (p q : ℕ) → Contains (numbers_of es) (p, q) ↔ InClosure (transducer_of agtt) p q

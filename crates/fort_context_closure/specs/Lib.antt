@@ -11,7 +11,8 @@ pub mod RelationView
 pub mod SidePlaces
 pub mod NormalView
 pub mod AtomLabelsView
-pub mod LocalTerms
+pub mod SignedAtoms
+pub mod ItemView
 pub mod ClosedAtoms
 pub mod ReachRows
 pub mod RuleRootPlaces

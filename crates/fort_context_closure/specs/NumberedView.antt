@@ -1,4 +1,4 @@
--- Inside: what a pattern by numbers is seen as, and a list of them.
+-- To believe: what a pattern by numbers is seen as, and a list of them.
 use Rattle.std.specs.Prelude.{◌≡◌, ℕ, ◌<◌, List, length, get_or, Option, None, Some}
 use Rattle.fort_theory.specs.Patterns.{Pattern, Any}
 use Rattle.fort_terms.specs.declared.sym.Sym.{Sym}

@@ -1,18 +1,17 @@
--- To believe: an atom without its signature, whose labels are the same; a rule of labels that asks no closure; an atom with pairs that are handed in.
+-- To believe: an atom without its signature, whose labels are the same, and with one; a rule of labels that asks no closure; an atom with pairs that are handed in.
 use Rattle.std.specs.Prelude.{◌≡◌, ℕ, List, [], map, length, ◌==◌, Bool, false}
 use Rattle.std.specs.List.{position_or_len}
+use Rattle.fort_theory.specs.Signatures.{Signature}
 use Rattle.fort_theory.specs.Patterns.{Pattern, Pair, PatternSystem}
 use Rattle.fort_theory.specs.PatternOrder.{AreSubpatternsInOrder}
 use Rattle.fort_theory.specs.Sides.{at_index}
 use Rattle.fort_logic.specs.Cores.{Rel, Atom as CoreAtom}
 use Rattle.fort_logic.specs.Parts.{AreColumns}
-use Rattle.fort_tables.specs.Labels.{Labelling}
-use Rattle.fort_tables.specs.LabelRules.{label_of}
 use Rattle.fort_alike.specs.Atoms.{Atom, NfKind, kind_for, pairs_for, relation_atom, normal_atom}
 use Rattle.fort_atom_labels.specs.ListedAtoms.{ListedAtom, listed, IsListedAtom}
-use Rattle.fort_atom_labels.specs.AtomRules.{atom_rule}
 use Rattle.fort_atom_labels.specs.ClosureTests.{IsClosure}
-use Rattle.fort_context_closure.specs.ClosedAtoms.{ClosedAtom, numbers_of, test_of}
+use Rattle.fort_steps.specs.declared.closure.ClosureEntry.{ClosureEntry}
+use Rattle.fort_context_closure.specs.ClosedAtoms.{ClosedAtom, test_of}
 
 -- of the kinds of single steps, whose rule asks none
 abbrev pub no_closure : Pattern → Pattern → Bool
@@ -22,8 +21,15 @@ no_closure p q = false
 abbrev pub unsigned : Atom → Atom
 unsigned a = record { signature = []; columns = a.columns; first = a.first; second = a.second; kind = a.kind; pairs = a.pairs }
 
-abbrev pub atom_label : ListedAtom → Labelling
-atom_label a = label_of (atom_rule a no_closure)
+abbrev pub signed : Signature → ListedAtom → ListedAtom
+signed sig a = listed (record {
+  signature = sig;
+  columns = a.atom.columns;
+  first = a.atom.first;
+  second = a.atom.second;
+  kind = a.atom.kind;
+  pairs = a.atom.pairs;
+}) a.lefts a.rights
 
 -- it is this atom, with the patterns that count for it
 pub record IsAtomOf (atom : Atom) (a : ListedAtom) : Type 0 where
@@ -66,9 +72,9 @@ pub record IsOfRules (rel : Rel) (x y : ℕ) (pairs : List Pair) (lefts rights :
   pub rights_are : a.rights ≡ rights
 
 -- the atom x REL y for the rules of an index, whichever list is that of its columns, over the patterns of its rules' sides in order, and a
--- closure test by these numbers
-pub record IsByPairs (system : PatternSystem) (rel : Rel) (index x y : ℕ) (numbers : List (ℕ × ℕ)) (c : ClosedAtom) : Type 0 where
+-- closure test by these entries
+pub record IsByPairs (system : PatternSystem) (rel : Rel) (index x y : ℕ) (entries : List ClosureEntry) (c : ClosedAtom) : Type 0 where
   pub rules : IsOfRules rel x y (pairs_for rel (at_index index system.rules)) c.atom.lefts c.atom.rights c.atom
   pub left_order : AreSubpatternsInOrder (map (λ (pair : Pair). pair.0) (pairs_for rel (at_index index system.rules))) c.atom.lefts
   pub right_order : AreSubpatternsInOrder (map (λ (pair : Pair). pair.1) (pairs_for rel (at_index index system.rules))) c.atom.rights
-  pub numbers_are : numbers_of c.entries ≡ numbers
+  pub entries_are : c.entries ≡ entries

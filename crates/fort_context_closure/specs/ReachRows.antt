@@ -4,7 +4,7 @@ use Rattle.fort_theory.specs.Patterns.{Pattern, Any}
 use Rattle.fort_tables.specs.BitRows.{words_for}
 use Rattle.fort_atom_labels.specs.PatternNumbers.{PatternNumber, number_inside}
 use Rattle.fort_context_closure.specs.RowBits.{bit_of}
-use Rattle.fort_gtt_closure.specs.declared.entry.Entry.{Entry}
+use Rattle.fort_steps.specs.declared.closure.ClosureEntry.{ClosureEntry}
 use Rattle.fort_context_closure.specs.declared.reach.Reach.{Reach}
 use Rattle.fort_context_closure.specs.declared.rule_places.RulePlaces.{RulePlaces}
 
@@ -30,7 +30,7 @@ pub record AreClear (count width : ℕ) (rows : List (List ℕ)) : Type 0 where
   pub bits : (k q : ℕ) → bit_of q (row_in rows k) ≡ false
 
 -- the entry is about these patterns
-abbrev pub is_within : ℕ → Reach → Entry → Bool
+abbrev pub is_within : ℕ → Reach → ClosureEntry → Bool
 is_within lefts reach entry = nat_lt entry.p (length (firsts_of reach)) && nat_lt entry.q lefts
 
 -- as many rows as patterns, as wide as the bits of both sorts need
@@ -49,7 +49,7 @@ pub record IsReach (lefts rights : ℕ) (numbers : List (ℕ × ℕ)) (reach : R
       → Decides (bit_of k (row_in (seconds_of reach) q)) ((p : ℕ) × (lefts + p ≡ k) × (p < rights) × Contains numbers (p, q))
 
 -- one more entry; one of other numbers changes nothing
-pub record MarksEntry (lefts : ℕ) (old : Reach) (entry : Entry) (new : Reach) : Type 0 where
+pub record MarksEntry (lefts : ℕ) (old : Reach) (entry : ClosureEntry) (new : Reach) : Type 0 where
   pub first_count : length (firsts_of new) ≡ length (firsts_of old)
   pub second_count : length (seconds_of new) ≡ length (seconds_of old)
   pub first_widths : (k : ℕ) → length (row_in (firsts_of new) k) ≡ length (row_in (firsts_of old) k)

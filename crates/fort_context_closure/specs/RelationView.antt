@@ -35,7 +35,7 @@ listed_seen b = listed (record {
 }) (left_patterns b) (right_patterns b)
 
 abbrev pub atom_seen : Inside → ClosedAtom
-atom_seen b = record { atom = listed_seen b; entries = b.closed.entries.items }
+atom_seen b = record { atom = listed_seen b; entries = b.entries.items }
 
 pub record IsRelation (b : Inside) : Type 0 where
   pub left_numbers : AreNumbersOf (left_patterns b) b.lefts.items
@@ -47,7 +47,7 @@ pub record IsRelation (b : Inside) : Type 0 where
   pub left_once : NoPatternTwice (left_patterns b)
   pub right_once : NoPatternTwice (right_patterns b)
   pub reaching : is_reaching (kind_for (as_rel b.rel)) ≡ true
-      → IsReach (length (left_patterns b)) (length (right_patterns b)) (numbers_of b.closed.entries.items) b.reach
+      → IsReach (length (left_patterns b)) (length (right_patterns b)) (numbers_of b.entries.items) b.reach
   pub arguments : AreArguments b.arguments.columns b.arguments.first b.arguments.second
   pub left_roots : IsRooted (map root_of b.lefts.items) b.left_roots
   pub right_roots : IsRooted (map root_of b.rights.items) b.right_roots

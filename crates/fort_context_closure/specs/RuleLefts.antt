@@ -1,9 +1,17 @@
 -- Inside: rules by the places of their left sides, and the search for one that has both its bits in a label.
-use Rattle.std.specs.Prelude.{◌≡◌, ℕ, ◌<◌, List, length, get_or, Contains, Bool, false}
+use Rattle.std.specs.Prelude.{◌≡◌, ℕ, ◌+◌, ◌<◌, List, length, get_or, Contains, Bool, false, ◌&&◌}
+use Rattle.std.specs.List.{list_any}
+use Rattle.fort_context_closure.specs.RowBits.{bit_of}
 use Rattle.fort_context_closure.specs.RootPlaces.{list_at}
-use Rattle.fort_context_closure.specs.RulePlaces.{has_both}
-use Rattle.fort_context_closure.specs.RuleRootPlaces.{no_rule}
+use Rattle.fort_context_closure.specs.RulePlaces.{no_rule}
 use Rattle.fort_context_closure.specs.declared.rule_places.RulePlaces.{RulePlaces}
+
+-- some rule has both its bits in the label, those of right sides from this one on
+abbrev pub has_both : ℕ → List ℕ → RulePlaces → Bool
+has_both base w r = bit_of r.left w && bit_of (base + r.right) w
+
+abbrev pub some_rule : ℕ → List RulePlaces → List ℕ → Bool
+some_rule base rules w = list_any (has_both base w) rules
 
 -- each rule is listed under its left side, by its place among the rules
 pub record AreUnderLefts (rules : List RulePlaces) (under : List (List ℕ)) : Type 0 where

@@ -1,8 +1,6 @@
--- Inside: a rule by the places of its sides in two lists of patterns.
-use Rattle.std.specs.Prelude.{◌≡◌, ◌<◌, ◌+◌, ℕ, List, map, length, get_or, Contains, Bool, ◌&&◌}
-use Rattle.std.specs.List.{list_any}
+-- To believe: a rule by the places of its sides in two lists of patterns.
+use Rattle.std.specs.Prelude.{◌≡◌, ◌<◌, List, map, length, get_or, Contains}
 use Rattle.fort_theory.specs.Patterns.{Pattern, Any, Pair}
-use Rattle.fort_context_closure.specs.RowBits.{bit_of}
 use Rattle.fort_context_closure.specs.declared.rule_places.RulePlaces.{RulePlaces}
 
 abbrev pub pair_at : (lefts rights : List Pattern) → RulePlaces → Pair
@@ -16,9 +14,5 @@ pub record ArePlacesOf (lefts rights : List Pattern) (pairs : List Pair) (rules 
   pub pairs_are : map (pair_at lefts rights) rules ≡ pairs
   pub within : AreWithin lefts rights rules
 
--- some rule has both its bits in the label, those of right sides from this one on
-abbrev pub has_both : ℕ → List ℕ → RulePlaces → Bool
-has_both base w r = bit_of r.left w && bit_of (base + r.right) w
-
-abbrev pub some_rule : ℕ → List RulePlaces → List ℕ → Bool
-some_rule base rules w = list_any (has_both base w) rules
+abbrev pub no_rule : RulePlaces
+no_rule = record { left = 0; right = 0 }

@@ -6,10 +6,8 @@ use Rattle.fort_context_closure.specs.RootPlaces.{IsRooted, root_of}
 use Rattle.fort_context_closure.specs.ReachRows.{row_in, firsts_of, seconds_of}
 use Rattle.fort_context_closure.specs.declared.reach.Reach.{Reach}
 use Rattle.fort_context_closure.specs.declared.reached.RuleRoots.{RuleRoots}
+use Rattle.fort_context_closure.specs.RulePlaces.{no_rule}
 use Rattle.fort_context_closure.specs.declared.rule_places.RulePlaces.{RulePlaces}
-
-abbrev pub no_rule : RulePlaces
-no_rule = record { left = 0; right = 0 }
 
 abbrev pub left_roots : List PatternNumber → List RulePlaces → List (Option ℕ)
 left_roots lefts rules = map (λ (r : RulePlaces). root_of (get_or lefts r.left None)) rules

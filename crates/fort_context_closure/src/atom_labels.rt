@@ -1,5 +1,5 @@
 //! The labels of an atom, whichever it is.
-ghost use Rattle.std.specs.Prelude.{◌≡◌, ℕ, List, [], ◌∷◌, length, All, IfOk};
+ghost use Rattle.std.specs.Prelude.{◌≡◌, ◌<◌, ◌≤◌, ℕ, List, [], ◌∷◌, length, All, IfOk};
 ghost use Rattle.fort_theory.specs.Sides.{IsIndexOf, at_index};
 ghost use Rattle.fort_theory.specs.Sides as sides;
 ghost use Rattle.fort_theory.specs.Patterns.{pattern_system};
@@ -8,19 +8,19 @@ ghost use Rattle.fort_logic.specs.Cores as cores;
 ghost use Rattle.fort_logic.specs.Parts as parts;
 ghost use Rattle.fort_formulas.specs.CoreView.{as_rel};
 ghost use Rattle.fort_alike.specs.Atoms.{relation_atom, normal_atom};
-ghost use Rattle.fort_context_closure.specs.ClosedAtoms.{ListsNone, ListsPasses};
+ghost use Rattle.fort_atom_labels.specs.ListedAtoms.{ListedAtom};
+ghost use Rattle.fort_context_closure.specs.ClosedAtoms.{ClosedAtom, ListsNone, ListsPasses};
+ghost use Rattle.fort_context_closure.specs.PlainAtoms.{IsByPairs, IsNormalAtomOf};
 
 use crate::normal::NormalBits;
 use crate::relation::RelationBits;
 use crate::term_labels::TermLabels;
-use fort_explore::{Labeller, Rows};
 use fort_formulas::Rel;
-use fort_gtt_closure::Entry;
-use fort_lockstep::Row;
+use fort_steps::ClosureEntry;
 use fort_terms::{Memory, System, Term};
 use std::alloc::Global;
 
-/// The labels of an atom. They serve each signature, of which they read nothing.
+/// The labels of an atom. They read nothing of a signature.
 #[derive(Drop)]
 pub enum AtomLabels {
     /// Two variables are related.
@@ -32,7 +32,7 @@ pub enum AtomLabels {
 }
 
 impl AtomLabels {
-    ghost use Rattle.fort_context_closure.specs.AtomLabelsView.{column_count, entries_of, TellsAlike, AcceptsTrue, AcceptsRelated, AcceptsNormal, AcceptsMet, TellsAlikeAtTerm, AcceptsTerm};
+    ghost use Rattle.fort_context_closure.specs.AtomLabelsView.{column_count, word_count, entries_of, TellsAlike, AcceptsTrue, AcceptsRelated, AcceptsNormal, AcceptsMet, TellsAlikeAtTerm, AcceptsTerm};
 
     /// The labels of "x is related to y". The columns stand in the order of the variables' numbers; there is one where both are one
     /// variable.
@@ -70,8 +70,25 @@ impl AtomLabels {
         Ok(AtomLabels::Relation(RelationBits::new(alloc, system, index, rel, x, y)?))
     }
 
+    /// The labels of "x is related to y" by pairs that are handed in, whatever they are.
+    pub fn by_pairs(
+        alloc: Global,
+        system: &System,
+        index: u32,
+        rel: Rel,
+        x: u32,
+        y: u32,
+        pairs: &[ClosureEntry],
+    ) -> Result<AtomLabels, Memory>
+        requires { IsIndexOf system.now.rules index }
+        ensures { IfOk result (λ l. (c : ClosedAtom) × (l ≡ AtomLabels.Relation c)
+            × IsByPairs system.now (as_rel rel) index x y pairs.now c) }
+    {
+        Ok(AtomLabels::Relation(RelationBits::by_pairs(alloc, system, index, rel, x, y, pairs)?))
+    }
+
     /// The entries of the rules' closure by which a reduction or a conversion is told, in their order; none of the other labels.
-    pub fn closure(&self) -> &[Entry]
+    pub fn closure(&self) -> &[ClosureEntry]
         ensures { result.now ≡ entries_of self.now }
     {
         match self {
@@ -93,6 +110,8 @@ impl AtomLabels {
             → system.now ≡ pattern_system s → All (All sides.IsLinearSeparated) s.rules
             → AcceptsMet s (cores.Nf index x) (x ∷ []) l) }
         ensures no_closure { IfOk result (λ l. entries_of l ≡ []) }
+        ensures plain { IfOk result (λ l. (a : ListedAtom) × (l ≡ AtomLabels.Normal a)
+            × IsNormalAtomOf system.now index a) }
     {
         Ok(AtomLabels::Normal(NormalBits::new(alloc, system, index)?))
     }
@@ -105,65 +124,31 @@ impl AtomLabels {
         ensures accepted { IfOk result (λ l. (sig : theory.Signature)
             → AcceptsTerm sig term.now l) }
         ensures no_closure { IfOk result (λ l. entries_of l ≡ []) }
+        ensures term { IfOk result (λ l. l ≡ AtomLabels.Is term.now) }
     {
         Ok(AtomLabels::Is(TermLabels::new(alloc, term)?))
     }
-}
 
-impl Labeller for AtomLabels {
-    type Memo = ();
-
-    ghost use Rattle.fort_context_closure.specs.AtomLabelsView as view;
-
-    ghost serves = { λ _ _. Unit {0} };
-
-    ghost column_count = { view.column_count };
-
-    ghost word_count = { view.word_count };
-
-    ghost label = { view.label_by };
-
-    ghost accepting = { view.accepted_by };
-
-    ghost tells_presence = { λ l sig _. view.TellsPresence-by l sig };
-
-    ghost has_width = { λ l sig _. view.HasWidth-by l sig };
-
-    ghost fits = { λ _ _. Unit {0} };
-
-    fn columns(&self) -> usize {
+    pub fn columns(&self) -> usize
+        ensures count { result ≡ column_count self.now }
+        ensures some { 0 < result }
+        ensures narrow { result ≤ 2 }
+    {
         match self {
             AtomLabels::Relation(bits) => bits.columns(),
             AtomLabels::Normal(bits) => bits.columns(),
-            AtomLabels::Is(labels) => labels.columns(),
+            AtomLabels::Is(_) => 1,
         }
     }
 
-    fn width(&self) -> usize {
+    /// The number of words.
+    pub fn width(&self) -> usize
+        ensures { result ≡ word_count self.now }
+    {
         match self {
             AtomLabels::Relation(bits) => bits.width(),
             AtomLabels::Normal(bits) => bits.width(),
-            AtomLabels::Is(labels) => labels.width(),
-        }
-    }
-
-    fn memo(&self, _alloc: Global) -> Result<(), Memory> {
-        Ok(())
-    }
-
-    fn step(&self, row: &Row, rows: &Rows, _memo: &mut (), out: &mut [u64]) {
-        match self {
-            AtomLabels::Relation(bits) => bits.step(row, rows, out),
-            AtomLabels::Normal(bits) => bits.step(row, rows, out),
-            AtomLabels::Is(labels) => labels.step(row, rows, &mut (), out),
-        }
-    }
-
-    fn accepts(&self, label: &[u64]) -> bool {
-        match self {
-            AtomLabels::Relation(bits) => bits.accepts(label),
-            AtomLabels::Normal(bits) => bits.accepts(label),
-            AtomLabels::Is(labels) => labels.accepts(label),
+            AtomLabels::Is(_) => 2,
         }
     }
 }

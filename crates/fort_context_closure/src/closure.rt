@@ -1,29 +1,59 @@
 //! The closure of some rules: which right pattern reaches which left pattern.
-ghost use Rattle.std.specs.Prelude.{◌↔◌, ◌<◌, ◌^◌, IfOk, IsTrue, Contains, length, map};
+ghost use Rattle.std.specs.Prelude.{◌≡◌, ◌↔◌, ◌<◌, ◌^◌, IfOk, IsTrue, Contains, length, map};
 ghost use Rattle.fort_theory.specs.Patterns as theory;
 ghost use Rattle.fort_terms.specs.PatternView.{as_pair, as_pattern};
 ghost use Rattle.fort_tree_automata.specs.PatternMoves.{IsClosedInOrder};
 ghost use Rattle.fort_agtt.specs.AgttView.{NamesItsStates};
 ghost use Rattle.fort_agtt.specs.RootSteps.{ArePlaces};
 ghost use Rattle.fort_gtt_closure.specs.Reasons.{IsNumbered};
+ghost use Rattle.fort_steps.specs.StepView as steps;
+ghost use Rattle.fort_context_closure.specs.ItemView.{as_items, as_why};
 ghost use Rattle.fort_context_closure.specs.RuleLists.{ListsRules};
 ghost use Rattle.fort_context_closure.specs.Closures.{IsClosureOf, IsTransducerOf};
 
 use crate::rule_list::RuleList;
 use fort_agtt::Agtt;
-use fort_gtt_closure::{Closed, close};
+use fort_gtt_closure::{Entry, Why, close};
+use fort_steps::{ClosureEntry, Reason};
 use fort_terms::{Memory, Pattern, has_numbers};
 use fort_tree_automata::{pattern_automaton, place};
 use std::alloc::{AllocError, Global};
 
 /// The closure of the transducer whose states are the patterns.
-pub(crate) fn closure_of(alloc: Global, list: &RuleList) -> Result<Closed, Memory>
+pub(crate) fn closure_of(alloc: Global, list: &RuleList) -> Result<Vec<ClosureEntry>, Memory>
     requires { ListsRules (map as_pair list.now.rules.items) list.now }
-    ensures { IfOk result (λ closed. IsClosureOf list.now closed.entries.items) }
+    ensures { IfOk result (λ entries. IsClosureOf list.now entries.items) }
 {
     let agtt = transducer(alloc, list)?;
     let closed = close(alloc, &agtt)?;
-    Ok(closed)
+    let entries = listed(alloc, &closed.entries)?;
+    Ok(entries)
+}
+
+/// The pairs of states as pairs of patterns.
+fn listed(alloc: Global, entries: &[Entry]) -> Result<Vec<ClosureEntry>, Memory>
+    ensures { IfOk result (λ list. map steps.as_pair list.items ≡ as_items entries.now) }
+{
+    let mut list = Vec::with_capacity(alloc, entries.len())?;
+    for entry in entries {
+        list.push(ClosureEntry {
+            p: entry.p,
+            q: entry.q,
+            why: reason(entry.why),
+        })?;
+    }
+    Ok(list)
+}
+
+/// The reason in a certificate. An automaton of patterns has no silent moves.
+fn reason(why: Why) -> Reason
+    ensures { steps.as_why result ≡ as_why why }
+{
+    match why {
+        Why::Any => Reason::Any,
+        Why::Kids(_, _) | Why::SilentRight(_) | Why::SilentLeft(_) => Reason::Kids,
+        Why::Pair(rule) => Reason::Rule(rule),
+    }
 }
 
 /// The transducer of the rules' root steps. Lists of 2^32 rules or patterns or more, for which there are no numbers, are want of memory.

@@ -1,17 +1,19 @@
 //! The subterms of a term, and each of them as a node over the others.
-ghost use Rattle.std.specs.Prelude.{◌≡◌, map, IfOk, OnOk};
+ghost use Rattle.std.specs.Prelude.{◌≡◌, ◌++◌, List, map, IfOk, OnOk};
+ghost use Rattle.fort_theory.specs.Trees.{Tree};
 ghost use Rattle.fort_atom_labels.specs.TermRule.{number_in};
-ghost use Rattle.fort_context_closure.specs.TermNodes.{HasMore, node_for};
+ghost use Rattle.fort_context_closure.specs.TermNodes.{AreNumbersIn, AreNodesOf, node_for};
 ghost use Rattle.fort_atom_labels.specs.Subterms.{subterms};
 
 use fort_terms::{Memory, Sym, Term};
-use indexmap::IndexSet;
+use indexmap::IndexMap;
 use std::alloc::Global;
 use std::marker::Model;
 
-/// A subterm: its symbol, and the number of each child among the subterms, from 1.
+/// A subterm: its number, its symbol, and the numbers of its children. A subterm's number is one more than its first place.
 #[derive(Drop)]
 pub(crate) struct Node {
+    pub number: u64,
     pub sym: Sym,
     pub kids: Vec<u64>,
 }
@@ -21,57 +23,82 @@ impl Model for Node {
 
     ghost Value = { TermNode };
 
-    ghost view = { λ n. record { symbol = n.sym.0; kids = n.kids.items } };
+    ghost view = { λ n. record { number = n.number; symbol = n.sym.0; kids = n.kids.items } };
 }
 
-/// Adds a term and the subterms of its children.
-pub(crate) fn insert_subterms(
-    alloc: Global,
-    term: &Term,
-    found: &mut IndexSet<Term>,
-) -> Result<(), Memory>
-    ensures { OnOk result (HasMore (subterms term.now) found.old.keys found.new.keys) }
+/// Lists the subterms of a term, each as often as it stands there, a term before those of its children.
+fn push_subterms<'a>(term: &'a Term, listed: &mut Vec<&'a Term>) -> Result<(), Memory>
+    ensures { OnOk result (map (λ t. t.now) listed.new.items
+        ≡ map (λ t. t.now) listed.old.items ++ subterms term.now) }
 {
-    found.insert(term.copy(alloc)?)?;
+    listed.push(term)?;
     for kid in &term.kids {
-        insert_subterms(alloc, kid, found)?;
+        push_subterms(kid, listed)?;
     }
     Ok(())
 }
 
-/// One more than the place of a term, or 0 where it isn't there.
-pub(crate) fn number_of(term: &Term, subterms: &IndexSet<Term>) -> u64
-    ensures { result ≡ number_in subterms.now.keys term.now }
+/// The number of a term, or 0 where it has none.
+fn number_of(term: &Term, numbers: &IndexMap<Term, u64>) -> u64
+    ensures { (listed : List Tree) → AreNumbersIn listed numbers.now.entries
+        → result ≡ number_in listed term.now }
 {
-    // A set's length is below 2^63.
-    let _bound = subterms.len();
-    match subterms.get_index_of(term) {
-        Some(place) => place as u64 + 1,
-        None => 0,
-    }
+    numbers.get(term).copied().unwrap_or(0)
 }
 
-fn node_of(alloc: Global, term: &Term, subterms: &IndexSet<Term>) -> Result<Node, Memory>
-    ensures { IfOk result (λ node. node ≡ node_for subterms.now.keys term.now) }
+/// The numbers of the terms of a list.
+fn numbers_in(alloc: Global, listed: &[&Term]) -> Result<IndexMap<Term, u64>, Memory>
+    ensures { IfOk result (λ numbers. AreNumbersIn (map (λ t. t.now) listed.now)
+        numbers.entries) }
+{
+    let mut numbers = IndexMap::new(alloc);
+    for (place, term) in listed.iter().enumerate() {
+        if number_of(term, &numbers) == 0 {
+            numbers.insert(term.copy(alloc)?, place as u64 + 1)?;
+        }
+    }
+    Ok(numbers)
+}
+
+fn node_of(alloc: Global, term: &Term, numbers: &IndexMap<Term, u64>) -> Result<Node, Memory>
+    ensures { IfOk result (λ node. (listed : List Tree) → AreNumbersIn listed numbers.now.entries
+        → node ≡ node_for listed term.now) }
 {
     let mut kids = Vec::new(alloc);
     for kid in &term.kids {
-        kids.push(number_of(kid, subterms))?;
+        kids.push(number_of(kid, numbers))?;
     }
     Ok(Node {
+        number: number_of(term, numbers),
         sym: term.sym,
         kids,
     })
 }
 
-/// The subterms as nodes, in their order.
-pub(crate) fn nodes_of(alloc: Global, subterms: &IndexSet<Term>) -> Result<Vec<Node>, Memory>
-    ensures { IfOk result (λ nodes.
-        nodes.items ≡ map (node_for subterms.now.keys) subterms.now.keys) }
+/// The terms of a list as nodes, each at its first place alone.
+fn first_nodes(
+    alloc: Global,
+    listed: &[&Term],
+    numbers: &IndexMap<Term, u64>,
+) -> Result<Vec<Node>, Memory>
+    requires { AreNumbersIn (map (λ t. t.now) listed.now) numbers.now.entries }
+    ensures { IfOk result (λ nodes. AreNodesOf (map (λ t. t.now) listed.now) nodes.items) }
 {
-    let mut nodes = Vec::with_capacity(alloc, subterms.len())?;
-    for term in subterms {
-        nodes.push(node_of(alloc, term, subterms)?)?;
+    let mut nodes = Vec::with_capacity(alloc, numbers.len())?;
+    for (place, term) in listed.iter().enumerate() {
+        if number_of(term, numbers) == place as u64 + 1 {
+            nodes.push(node_of(alloc, term, numbers)?)?;
+        }
     }
     Ok(nodes)
+}
+
+/// The subterms of a term as nodes, each once.
+pub(crate) fn nodes_of(alloc: Global, term: &Term) -> Result<Vec<Node>, Memory>
+    ensures { IfOk result (λ nodes. AreNodesOf (subterms term.now) nodes.items) }
+{
+    let mut listed = Vec::new(alloc);
+    push_subterms(term, &mut listed)?;
+    let numbers = numbers_in(alloc, &listed)?;
+    first_nodes(alloc, &listed, &numbers)
 }

@@ -22,10 +22,10 @@ use std::marker::Model;
 
 /// A pattern by its symbol and the places of its arguments in a list of patterns, or Any.
 #[derive(Drop)]
-pub(crate) struct Numbered {
+pub struct Numbered {
     /// None for Any, which has no arguments.
-    sym: Option<Sym>,
-    args: Vec<u32>,
+    pub sym: Option<Sym>,
+    pub args: Vec<u32>,
 }
 
 impl Model for Numbered {
@@ -47,7 +47,7 @@ impl Numbered {
 }
 
 /// Each pattern by numbers, in the list's order. A list of 2^32 patterns or more, for which there are no numbers, is want of memory.
-pub(crate) fn number_patterns(alloc: Global, patterns: &[Pattern]) -> Result<Vec<Numbered>, Memory>
+pub fn number_patterns(alloc: Global, patterns: &[Pattern]) -> Result<Vec<Numbered>, Memory>
     requires { IsClosedInOrder (map as_pattern patterns.now) }
     ensures few { OnOk result (length patterns.now < 2 ^ 32) }
     ensures numbers { IfOk result (λ rows.

@@ -6,7 +6,7 @@ ghost use Rattle.fort_context_closure.specs.ClosedAtoms.{numbers_of};
 ghost use Rattle.fort_context_closure.specs.ReachRows.{AreClear, HasRows, IsReach, MarksEntry, SetsBit, row_in};
 
 use fort_explore::set_bit;
-use fort_gtt_closure::Entry;
+use fort_steps::ClosureEntry;
 use fort_terms::Memory;
 use std::alloc::Global;
 
@@ -23,7 +23,7 @@ pub(crate) fn reach_of(
     alloc: Global,
     lefts: usize,
     rights: usize,
-    entries: &[Entry],
+    entries: &[ClosureEntry],
 ) -> Result<Reach, Memory>
     requires left { lefts < 2 ^ 32 }
     requires right { rights < 2 ^ 32 }
@@ -51,7 +51,7 @@ fn clear_rows(alloc: Global, count: usize, width: usize) -> Result<Vec<Vec<u64>>
 }
 
 /// An entry of other numbers says nothing of these patterns.
-fn mark_entry(reach: &mut Reach, lefts: usize, entry: Entry)
+fn mark_entry(reach: &mut Reach, lefts: usize, entry: ClosureEntry)
     requires left { lefts < 2 ^ 32 }
     requires right { length reach.old.firsts.items < 2 ^ 32 }
     requires rows { HasRows lefts (length reach.old.firsts.items) reach.old }

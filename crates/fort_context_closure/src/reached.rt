@@ -5,7 +5,8 @@ ghost use Rattle.fort_tables.specs.BitRows.{words_for};
 ghost use Rattle.fort_lockstep.specs.Columns.{as_column};
 ghost use Rattle.fort_context_closure.specs.RowBits.{bit_of, labels_at};
 ghost use Rattle.fort_context_closure.specs.ReachRows.{HasRows, rule_adds};
-ghost use Rattle.fort_context_closure.specs.RuleRootPlaces.{AreRuleRoots, no_rule, start_adds, end_adds, starts_at, ends_at};
+ghost use Rattle.fort_context_closure.specs.RulePlaces.{no_rule};
+ghost use Rattle.fort_context_closure.specs.RuleRootPlaces.{AreRuleRoots, start_adds, end_adds, starts_at, ends_at};
 ghost use Rattle.fort_context_closure.specs.declared.rule_places.RulePlaces as places;
 
 use crate::numbered::{Numbered, is_inside, pattern_at};

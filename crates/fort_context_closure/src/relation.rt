@@ -29,8 +29,8 @@ use crate::rule_list::{RuleList, rules_of};
 use crate::rule_places::{RulePlaces, places_of_rules, some_rule};
 use fort_explore::Rows;
 use fort_formulas::Rel;
-use fort_gtt_closure::{Closed, Entry, Why};
 use fort_lockstep::Row;
+use fort_steps::ClosureEntry;
 use fort_terms::{Memory, Pattern, Sym, System};
 use std::alloc::Global;
 use std::marker::Model;
@@ -54,7 +54,7 @@ pub struct RelationBits {
     /// For each left pattern, the places of the rules whose left side it is.
     under: Vec<Vec<usize>>,
     reach: Reach,
-    closed: Closed,
+    entries: Vec<ClosureEntry>,
 }
 
 impl Model for RelationBits {
@@ -91,11 +91,12 @@ impl RelationBits {
         // Fetches the law that a system keeps to.
         let _lawful = system.signature();
         let list = rules_of(alloc, system, index, rel)?;
-        let closed = closure_for(alloc, rel, &list)?;
-        RelationBits::of_rules(alloc, rel, x, y, list, closed)
+        let entries = closure_for(alloc, rel, &list)?;
+        RelationBits::of_rules(alloc, rel, x, y, list, entries)
     }
 
-    /// By pairs that are handed in, whatever they are: each is read as the places of a right pattern and of a left one.
+    /// By pairs that are handed in, whatever they are: each is read as the places of a right pattern and of a left one. No label reads
+    /// its reason.
     pub fn by_pairs(
         alloc: Global,
         system: &System,
@@ -103,14 +104,14 @@ impl RelationBits {
         rel: Rel,
         x: u32,
         y: u32,
-        pairs: &[(u32, u32)],
+        pairs: &[ClosureEntry],
     ) -> Result<RelationBits, Memory>
         requires { IsIndexOf system.now.rules index }
         ensures { IfOk result (IsByPairs system.now (as_rel rel) index x y pairs.now) }
     {
         let list = rules_of(alloc, system, index, rel)?;
-        let entries = entries_of(alloc, pairs)?;
-        RelationBits::of_rules(alloc, rel, x, y, list, Closed { entries })
+        let entries = Vec::from_slice(alloc, pairs)?;
+        RelationBits::of_rules(alloc, rel, x, y, list, entries)
     }
 
     /// By rules, the patterns of their sides, and a closure.
@@ -120,12 +121,12 @@ impl RelationBits {
         x: u32,
         y: u32,
         list: RuleList,
-        closed: Closed,
+        entries: Vec<ClosureEntry>,
     ) -> Result<RelationBits, Memory>
         requires { ListsRules (map as_pair list.rules.items) list }
         ensures { IfOk result (λ c. IsOfRules (as_rel rel) x y (map as_pair list.rules.items)
             (map as_pattern list.lefts.items) (map as_pattern list.rights.items) c.atom
-            × (c.entries ≡ closed.entries.items)) }
+            × (c.entries ≡ entries.items)) }
     {
         let lefts = number_patterns(alloc, &list.lefts)?;
         let rights = number_patterns(alloc, &list.rights)?;
@@ -133,7 +134,7 @@ impl RelationBits {
         let left_roots = root_patterns(alloc, &lefts)?;
         let right_roots = root_patterns(alloc, &rights)?;
         let rule_roots = root_rules(alloc, &rules, &lefts, &rights)?;
-        let reach = reach_for(alloc, rel, lefts.len(), rights.len(), &closed)?;
+        let reach = reach_for(alloc, rel, lefts.len(), rights.len(), &entries)?;
         let under = rules_under(alloc, &rules, lefts.len())?;
         Ok(RelationBits {
             rel,
@@ -148,15 +149,15 @@ impl RelationBits {
             rule_roots,
             under,
             reach,
-            closed,
+            entries,
         })
     }
 
     /// The entries of the closure, with their reasons.
-    pub(crate) fn closure(&self) -> &[Entry]
+    pub(crate) fn closure(&self) -> &[ClosureEntry]
         ensures { result.now ≡ self.now.entries }
     {
-        &self.closed.entries
+        &self.entries
     }
 
     /// How many bits the patterns and facts have.
@@ -268,38 +269,15 @@ fn is_reduction(rel: Rel) -> bool
     matches!(rel, Rel::Plus | Rel::Star | Rel::Conv)
 }
 
-/// A pair as an entry of a closure. No label reads the reason.
-fn entry_of(pair: (u32, u32)) -> Entry
-    ensures { (result.p, result.q) ≡ pair }
-{
-    Entry {
-        p: pair.0,
-        q: pair.1,
-        why: Why::Any,
-    }
-}
-
-fn entries_of(alloc: Global, pairs: &[(u32, u32)]) -> Result<Vec<Entry>, Memory>
-    ensures { IfOk result (λ entries. numbers_of entries.items ≡ pairs.now) }
-{
-    let mut entries = Vec::with_capacity(alloc, pairs.len())?;
-    for pair in pairs {
-        entries.push(entry_of(*pair))?;
-    }
-    Ok(entries)
-}
-
 /// The closure of the rules where the relation is about reductions, else an empty list.
-fn closure_for(alloc: Global, rel: Rel, list: &RuleList) -> Result<Closed, Memory>
+fn closure_for(alloc: Global, rel: Rel, list: &RuleList) -> Result<Vec<ClosureEntry>, Memory>
     requires { ListsRules (map as_pair list.now.rules.items) list.now }
-    ensures exact { IfOk result (λ closed. is_reaching (kind_for (as_rel rel)) ≡ true
-        → IsClosureOf list.now closed.entries.items) }
-    ensures none { IfOk result (λ closed. ListsNone (as_rel rel) closed.entries.items) }
+    ensures exact { IfOk result (λ entries. is_reaching (kind_for (as_rel rel)) ≡ true
+        → IsClosureOf list.now entries.items) }
+    ensures none { IfOk result (λ entries. ListsNone (as_rel rel) entries.items) }
 {
     if !is_reduction(rel) {
-        return Ok(Closed {
-            entries: Vec::new(alloc),
-        });
+        return Ok(Vec::new(alloc));
     }
     closure_of(alloc, list)
 }
@@ -310,12 +288,12 @@ fn reach_for(
     rel: Rel,
     lefts: usize,
     rights: usize,
-    closed: &Closed,
+    entries: &[ClosureEntry],
 ) -> Result<Reach, Memory>
     requires left { lefts < 2 ^ 32 }
     requires right { rights < 2 ^ 32 }
     ensures { IfOk result (λ reach. is_reaching (kind_for (as_rel rel)) ≡ true
-        → IsReach lefts rights (numbers_of closed.now.entries.items) reach) }
+        → IsReach lefts rights (numbers_of entries.now) reach) }
 {
     if !is_reduction(rel) {
         return Ok(Reach {
@@ -323,5 +301,5 @@ fn reach_for(
             seconds: Vec::new(alloc),
         });
     }
-    reach_of(alloc, lefts, rights, &closed.entries)
+    reach_of(alloc, lefts, rights, entries)
 }

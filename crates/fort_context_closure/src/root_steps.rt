@@ -2,8 +2,7 @@
 ghost use Rattle.std.specs.Prelude.{◌≡◌, ℕ, ◌<◌, ◌≤◌, ◌^◌, length, map, vec_items, Contains, IfOk};
 ghost use Rattle.std.specs.List.{list_any};
 ghost use Rattle.fort_context_closure.specs.RootPlaces.{list_at};
-ghost use Rattle.fort_context_closure.specs.RulePlaces.{some_rule};
-ghost use Rattle.fort_context_closure.specs.RuleLefts.{AreUnderLefts, both_at};
+ghost use Rattle.fort_context_closure.specs.RuleLefts.{AreUnderLefts, both_at, some_rule};
 ghost use Rattle.fort_context_closure.specs.declared.rule_places.RulePlaces as places;
 
 use crate::bits::{has_mark, skip_off};

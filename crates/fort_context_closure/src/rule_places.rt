@@ -3,7 +3,8 @@ ghost use Rattle.std.specs.Prelude.{◌≡◌, ◌<◌, ◌^◌, ◌≤◌, IfOk
 ghost use Rattle.fort_theory.specs.Patterns as theory;
 ghost use Rattle.fort_terms.specs.PatternView.{as_pair, as_pattern};
 ghost use Rattle.fort_tree_automata.specs.PatternMoves.{IsClosedInOrder};
-ghost use Rattle.fort_context_closure.specs.RulePlaces.{ArePlacesOf, some_rule as some_rule_lem};
+ghost use Rattle.fort_context_closure.specs.RulePlaces.{ArePlacesOf};
+ghost use Rattle.fort_context_closure.specs.RuleLefts.{some_rule as some_rule_lem};
 
 use crate::bits::has_mark;
 use crate::numbered::place_of;
@@ -12,13 +13,13 @@ use std::alloc::Global;
 
 /// The places of a rule's sides, in the list of the left and in that of the right patterns.
 #[derive(Clone, Copy)]
-pub(crate) struct RulePlaces {
+pub struct RulePlaces {
     pub left: u32,
     pub right: u32,
 }
 
 /// The rules by places, in their order.
-pub(crate) fn places_of_rules(
+pub fn places_of_rules(
     alloc: Global,
     rules: &[(Pattern, Pattern)],
     lefts: &[Pattern],

@@ -1,16 +1,16 @@
 -- How the answer to a part was found, by its root.
-use Rattle.std.specs.Prelude.{◌≡◌, ℕ, ◌<◌, List, map, get_or, Option, None, Some, Result, Ok, Err, IfOk, refl}
+use Rattle.std.specs.Prelude.{◌≡◌, ℕ, ◌<◌, List, map, get_or, Bool, true, false, Option, None, Some, Result, Ok, Err, IfOk, refl}
 use Rattle.std.specs.declared.alloc.Global.{Global}
 use Rattle.std.specs.declared.vec.Vec.{Vec}
-use Rattle.std.proofs.Common.{ap, sym, ◌∙◌, subst}
+use Rattle.std.proofs.Common.{true≢false, ap, sym, ◌∙◌, subst}
 use Rattle.fort_theory.specs.Patterns.{PatternSystem}
 use Rattle.fort_logic.specs.Cores as core
 use Rattle.fort_tables.specs.Tables.{Table, Listed, listed_table}
 use Rattle.fort_operations.specs.Projections.{ArePure}
 use Rattle.fort_counts.specs.Counts as counts
 use Rattle.fort_counts.specs.Counts.{AreCounts}
-use Rattle.fort_infinity.specs.declared.count.Count.{Count}
-use Rattle.fort_infinity.specs.CountView.{as_count}
+use Rattle.fort_steps.specs.declared.count.Count.{Count}
+use Rattle.fort_steps.specs.StepView.{as_count}
 use Rattle.fort_parts.specs.DecidedCores.{IsOperandOf}
 use Rattle.fort_parts.specs.PartAnswers.{OfTable}
 use Rattle.fort_parts.specs.PartColumns.{place_in}
@@ -26,7 +26,7 @@ use Rattle.fort_engine.specs.declared.answer.Last.TheVariants.{Auto}
 use Rattle.fort_engine.specs.declared.answer.Decided.{Decided}
 use Rattle.fort_engine.specs.AnswerView.{as_answer}
 use Rattle.fort_engine.specs.Deciding.{IsBody, IsDecision}
-use Rattle.fort_engine.specs.Found.{IsDecidedBy, decided_with, IsKeptAnswer, IsTurnedOf, IsCounted, AreMarks, IsMany, IsManyOf, IsFound}
+use Rattle.fort_engine.specs.Found.{IsDecidedBy, counted_with, ListsTargets, IsKeptAnswer, IsTurnedOf, IsCounted, AreMarks, IsMany, IsManyOf, IsFound}
 use Rattle.fort_engine.proofs.OperandLaws.{HasRoot, next_is, next_over, operand_of_root, kept_below}
 
 pub IsDecidedBy-weaker : (system : PatternSystem) (f : core.Core) (cap : ℕ) (P Q : Decided → Type 0) (r : Result Decided ExploreFault) → ((d : Decided) → P d → Q d)
@@ -40,46 +40,44 @@ IsPlain (Not f) = ⊥
 IsPlain (Infinite n f) = ⊥
 IsPlain other = Unit {0}
 
-plain_one : (system : PatternSystem) (parts : List core.Core) (kept : List (Option Last)) (r : Root) → IsPlain r → (a : Last)
-    → IsRightFor system (root_core parts r) (as_answer a) → IsFound system parts kept (root_core parts r) (record { answer = a; counts = None })
-plain_one system parts kept True p a right = record { right = right; turned = tt; counted = refl }
-plain_one system parts kept (Atom rel index x y) p a right = record { right = right; turned = tt; counted = refl }
-plain_one system parts kept (Nf index x) p a right = record { right = right; turned = tt; counted = refl }
-plain_one system parts kept (Is x t) p a right = record { right = right; turned = tt; counted = refl }
-plain_one system parts kept (Not f) p a right = absurd p
-plain_one system parts kept (And f g) p a right = record { right = right; turned = tt; counted = refl }
-plain_one system parts kept (Or f g) p a right = record { right = right; turned = tt; counted = refl }
-plain_one system parts kept (Iff f g) p a right = record { right = right; turned = tt; counted = refl }
-plain_one system parts kept (Exists n f) p a right = record { right = right; turned = tt; counted = refl }
-plain_one system parts kept (Infinite n f) p a right = absurd p
+plain_one : (system : PatternSystem) (parts : List core.Core) (kept : List (Option Last)) (r : Root) → IsPlain r → (lists : Bool) (d : Decided)
+    → IsRightFor system (root_core parts r) (as_answer d.answer) → d.counts ≡ None → (lists ≡ true → ListsTargets d.answer d.targets)
+    → IsFound system parts kept (root_core parts r) lists d
+plain_one system parts kept True p lists d right none listed = record { right = right; turned = tt; counted = none; listed = λ asked _. listed asked }
+plain_one system parts kept (Atom rel index x y) p lists d right none listed = record { right = right; turned = tt; counted = none; listed = λ asked _. listed asked }
+plain_one system parts kept (Nf index x) p lists d right none listed = record { right = right; turned = tt; counted = none; listed = λ asked _. listed asked }
+plain_one system parts kept (Is x t) p lists d right none listed = record { right = right; turned = tt; counted = none; listed = λ asked _. listed asked }
+plain_one system parts kept (Not f) p lists d right none listed = absurd p
+plain_one system parts kept (And f g) p lists d right none listed = record { right = right; turned = tt; counted = none; listed = λ asked _. listed asked }
+plain_one system parts kept (Or f g) p lists d right none listed = record { right = right; turned = tt; counted = none; listed = λ asked _. listed asked }
+plain_one system parts kept (Iff f g) p lists d right none listed = record { right = right; turned = tt; counted = none; listed = λ asked _. listed asked }
+plain_one system parts kept (Exists n f) p lists d right none listed = record { right = right; turned = tt; counted = none; listed = λ asked _. listed asked }
+plain_one system parts kept (Infinite n f) p lists d right none listed = absurd p
 
-plain_by : (system : PatternSystem) (cap : ℕ) (parts : List core.Core) (kept : List (Option Last)) (r : Root) → IsPlain r → (answer : Result Last ExploreFault)
-    → IsDecision system (root_core parts r) cap answer
-    → IsDecidedBy system (root_core parts r) cap (IsFound system parts kept (root_core parts r)) (decided_with None answer)
-plain_by system cap parts kept r p (Ok a) d = record { ok = plain_one system parts kept r p a d.ok; within = d.within; over = tt }
-plain_by system cap parts kept r p (Err e) d = record { ok = tt; within = tt; over = d.over }
+plain_by : (system : PatternSystem) (cap : ℕ) (parts : List core.Core) (kept : List (Option Last)) (r : Root) → IsPlain r → (lists : Bool) (out : Result Decided ExploreFault)
+    → IsDecision system (root_core parts r) cap lists out → IsDecidedBy system (root_core parts r) cap (IsFound system parts kept (root_core parts r) lists) out
+plain_by system cap parts kept r p lists (Ok d) i = record { ok = plain_one system parts kept r p lists d i.ok i.plain i.listed; within = i.within; over = tt }
+plain_by system cap parts kept r p lists (Err e) i = record { ok = tt; within = tt; over = i.over }
 
 negation_by : (system : PatternSystem) (cap : ℕ) (parts : List core.Core) (kept : List (Option Last)) (g : core.Core) (body : Last) → IsKeptAnswer parts kept g body
-    → (answer : Result Last ExploreFault) → IsDecision system (core.Not g) cap answer → IfOk answer (IsTurnedOf body)
-    → IsDecidedBy system (core.Not g) cap (IsFound system parts kept (core.Not g)) (decided_with None answer)
-negation_by system cap parts kept g body is (Ok a) d turned = record {
-  ok = record { right = d.ok; turned = record { body = body; kept_is = is; turned = turned }; counted = refl };
-  within = d.within;
+    → (lists : Bool) (out : Result Decided ExploreFault) → IsDecision system (core.Not g) cap false out → IfOk out (λ d. IsTurnedOf body d.answer)
+    → IsDecidedBy system (core.Not g) cap (IsFound system parts kept (core.Not g) lists) out
+negation_by system cap parts kept g body is lists (Ok d) i turned = record {
+  ok = record { right = i.ok; turned = record { body = body; kept_is = is; turned = turned }; counted = i.plain; listed = λ _ e. absurd (true≢false e) };
+  within = i.within;
   over = tt;
 }
-negation_by system cap parts kept g body is (Err e) d turned = record { ok = tt; within = tt; over = d.over }
+negation_by system cap parts kept g body is lists (Err e) i turned = record { ok = tt; within = tt; over = i.over }
 
-abbrev IsPartFound : PatternSystem → ℕ → Outline → List (Option Last) → Result Decided ExploreFault → core.Core → Type 0
-IsPartFound system cap o kept out f = IsDecidedBy system f cap (IsFound system (parts_in o) kept f) out
+abbrev IsPartFound : PatternSystem → ℕ → Outline → List (Option Last) → Bool → Result Decided ExploreFault → core.Core → Type 0
+IsPartFound system cap o kept lists out f = IsDecidedBy system f cap (IsFound system (parts_in o) kept f lists) out
 
 module _ {system : PatternSystem} {cap : ℕ} {o : Outline} {k : ℕ} {kept : List (Option Last)} where
-  pub plain_found : {r : Root} → HasRoot system cap o k kept r → IsPlain r → (answer : Result Last ExploreFault) (out : Result Decided ExploreFault)
-      → IsDecision system (root_core (parts_in o) r) cap answer → out ≡ decided_with None answer
-      → IsDecidedBy system (core_at o k) cap (IsFound system (parts_in o) kept (core_at o k)) out
-  plain_found {r = r} h p answer out d is =
-      let f = root_core (parts_in o) r in
-      subst (IsPartFound system cap o kept out) (sym (next_is h))
-      (subst (λ x. IsPartFound system cap o kept x f) (sym is) (plain_by system cap (parts_in o) kept r p answer d))
+  pub plain_found : {r : Root} → HasRoot system cap o k kept r → IsPlain r → (lists : Bool) (out : Result Decided ExploreFault)
+      → IsDecision system (root_core (parts_in o) r) cap lists out
+      → IsDecidedBy system (core_at o k) cap (IsFound system (parts_in o) kept (core_at o k) lists) out
+  plain_found {r = r} h p lists out d =
+      subst (IsPartFound system cap o kept lists out) (sym (next_is h)) (plain_by system cap (parts_in o) kept r p lists out d)
 
   operand_kept : {r : Root} (f : ℕ) (body : Last) → HasRoot system cap o k kept r → f < k
       → IsOperandOf (get_or (parts_in o) f core.True) (root_core (parts_in o) r) → get_or kept f None ≡ Some body
@@ -87,23 +85,21 @@ module _ {system : PatternSystem} {cap : ℕ} {o : Outline} {k : ℕ} {kept : Li
   operand_kept f body h low operand there = record { place = f; before = kept_below (operand_of_root f h low operand); is = refl; there = there }
 
   pub negation_found : (f : ℕ) (body : Last) → HasRoot system cap o k kept (Not f) → get_or kept f None ≡ Some body
-      → (answer : Result Last ExploreFault) (out : Result Decided ExploreFault) → IsDecision system (core.Not (get_or (parts_in o) f core.True)) cap answer
-      → IfOk answer (IsTurnedOf body) → out ≡ decided_with None answer
-      → IsDecidedBy system (core_at o k) cap (IsFound system (parts_in o) kept (core_at o k)) out
-  negation_found f body h there answer out d turned is =
+      → (lists : Bool) (out : Result Decided ExploreFault) → IsDecision system (core.Not (get_or (parts_in o) f core.True)) cap false out
+      → IfOk out (λ d. IsTurnedOf body d.answer) → IsDecidedBy system (core_at o k) cap (IsFound system (parts_in o) kept (core_at o k) lists) out
+  negation_found f body h there lists out d turned =
       let g = get_or (parts_in o) f core.True in
-      subst (IsPartFound system cap o kept out) (sym (next_is h))
-      (subst (λ x. IsPartFound system cap o kept x (core.Not g)) (sym is)
-      (negation_by system cap (parts_in o) kept g body (operand_kept f body h (next_over h) refl there) answer d turned))
+      subst (IsPartFound system cap o kept lists out) (sym (next_is h))
+      (negation_by system cap (parts_in o) kept g body (operand_kept f body h (next_over h) refl there) lists out d turned)
 
-  pub many_found : (n f : ℕ) (body : Last) → HasRoot system cap o k kept (Infinite n f) → get_or kept f None ≡ Some body → (out : Result Decided ExploreFault)
-      → IsDecidedBy system (core.Infinite n (get_or (parts_in o) f core.True)) cap (IsManyOf system n (get_or (parts_in o) f core.True) body) out
-      → IsDecidedBy system (core_at o k) cap (IsFound system (parts_in o) kept (core_at o k)) out
-  many_found n f body h there out d =
+  pub many_found : (n f : ℕ) (body : Last) → HasRoot system cap o k kept (Infinite n f) → get_or kept f None ≡ Some body → (lists : Bool) (out : Result Decided ExploreFault)
+      → IsDecidedBy system (core.Infinite n (get_or (parts_in o) f core.True)) cap (IsManyOf system n (get_or (parts_in o) f core.True) body lists) out
+      → IsDecidedBy system (core_at o k) cap (IsFound system (parts_in o) kept (core_at o k) lists) out
+  many_found n f body h there lists out d =
       let g = get_or (parts_in o) f core.True in
       let is = operand_kept f body h (next_over h) refl there in
-      subst (IsPartFound system cap o kept out) (sym (next_is h))
-      (IsDecidedBy-weaker system (core.Infinite n g) cap (IsManyOf system n g body) (IsFound system (parts_in o) kept (core.Infinite n g)) out
+      subst (IsPartFound system cap o kept lists out) (sym (next_is h))
+      (IsDecidedBy-weaker system (core.Infinite n g) cap (IsManyOf system n g body lists) (IsFound system (parts_in o) kept (core.Infinite n g) lists) out
       (λ e m. record {
         right = m.many.right;
         turned = tt;
@@ -114,17 +110,18 @@ module _ {system : PatternSystem} {cap : ℕ} {o : Outline} {k : ℕ} {kept : Li
           list_is = m.many.list_is;
           marks = m.many.marks;
         };
+        listed = λ asked _. m.many.listed asked;
       })
       d)
 
 -- infinitely many
 
 many_by : (system : PatternSystem) (cap n : ℕ) (f : core.Core) (table : Listed) (list : Vec Count Global) → AreMarks n f (listed_table table) (map as_count list.items)
-    → (answer : Result Last ExploreFault) → IsDecision system (core.Infinite n f) cap answer
-    → IsDecidedBy system (core.Infinite n f) cap (IsMany system n f table) (decided_with (Some list) answer)
-many_by system cap n f table list marks (Ok a) d =
-    record { ok = record { right = d.ok; list = list; list_is = refl; marks = marks }; within = d.within; over = tt }
-many_by system cap n f table list marks (Err e) d = record { ok = tt; within = tt; over = d.over }
+    → (lists : Bool) (decided : Result Decided ExploreFault) → IsDecision system (core.Infinite n f) cap lists decided
+    → IsDecidedBy system (core.Infinite n f) cap (IsMany system n f table lists) (counted_with list decided)
+many_by system cap n f table list marks lists (Ok d) i =
+    record { ok = record { right = i.ok; list = list; list_is = refl; marks = marks; listed = i.listed }; within = i.within; over = tt }
+many_by system cap n f table list marks lists (Err e) i = record { ok = tt; within = tt; over = i.over }
 
 pub IsCounted-body : (system : PatternSystem) (n : ℕ) (f : core.Core) (table : Table) (columns : List ℕ) (c : ℕ) (alone states : List ℕ) (marks : List counts.Count)
     → IsBody system n f columns (OfTable table) → c ≡ place_in columns n → ArePure table c alone → alone ≡ states → AreCounts table c states marks
@@ -138,21 +135,21 @@ IsCounted-body system n f table columns c alone states marks b at pure same coun
 }
 
 pub IsDecidedBy-many : (system : PatternSystem) (cap n : ℕ) (f : core.Core) (table : Listed) (list : Vec Count Global) (column : ℕ) (alone : List ℕ)
-    → IsCounted system n f (listed_table table) column alone (map as_count list.items) → (answer : Result Last ExploreFault) (out : Result Decided ExploreFault)
-    → IsDecision system (core.Infinite n f) cap answer → out ≡ decided_with (Some list) answer
-    → IsDecidedBy system (core.Infinite n f) cap (IsMany system n f table) out
-IsDecidedBy-many system cap n f table list column alone c answer out d is =
+    → IsCounted system n f (listed_table table) column alone (map as_count list.items) → (lists : Bool) (decided out : Result Decided ExploreFault)
+    → IsDecision system (core.Infinite n f) cap lists decided → out ≡ counted_with list decided
+    → IsDecidedBy system (core.Infinite n f) cap (IsMany system n f table lists) out
+IsDecidedBy-many system cap n f table list column alone c lists decided out d is =
     let t = listed_table table in
     let marks : AreMarks n f t (map as_count list.items) = record {
       states = alone;
       pure = subst (λ i. ArePure t i alone) c.column_is c.pure;
       counts = subst (λ i. AreCounts t i alone (map as_count list.items)) c.column_is c.marks_are;
     } in
-    subst (IsDecidedBy system (core.Infinite n f) cap (IsMany system n f table)) (sym is) (many_by system cap n f table list marks answer d)
+    subst (IsDecidedBy system (core.Infinite n f) cap (IsMany system n f table lists)) (sym is) (many_by system cap n f table list marks lists decided d)
 
 -- the body's table, whatever its answer is called
-pub IsDecidedBy-many_of : (system : PatternSystem) (cap n : ℕ) (f : core.Core) (body : Last) (table : Listed) (out : Result Decided ExploreFault) → body ≡ Auto table
-    → IsDecidedBy system (core.Infinite n f) cap (IsMany system n f table) out → IsDecidedBy system (core.Infinite n f) cap (IsManyOf system n f body) out
-IsDecidedBy-many_of system cap n f body table out is d =
-    IsDecidedBy-weaker system (core.Infinite n f) cap (IsMany system n f table) (IsManyOf system n f body) out
+pub IsDecidedBy-many_of : (system : PatternSystem) (cap n : ℕ) (f : core.Core) (body : Last) (table : Listed) (lists : Bool) (out : Result Decided ExploreFault) → body ≡ Auto table
+    → IsDecidedBy system (core.Infinite n f) cap (IsMany system n f table lists) out → IsDecidedBy system (core.Infinite n f) cap (IsManyOf system n f body lists) out
+IsDecidedBy-many_of system cap n f body table lists out is d =
+    IsDecidedBy-weaker system (core.Infinite n f) cap (IsMany system n f table lists) (IsManyOf system n f body lists) out
     (λ e m. record { table = table; body_is = is; many = m }) d

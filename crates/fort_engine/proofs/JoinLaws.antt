@@ -1,5 +1,5 @@
 -- The labels of a product are those of a formula of two operands, whose answers are right.
-use Rattle.std.specs.Prelude.{◌≡◌, ◌<◌, ◌≤◌, ℕ, List, length, Contains, Ok, Bool, refl}
+use Rattle.std.specs.Prelude.{◌≡◌, ◌<◌, ◌≤◌, ℕ, List, length, Contains, Ok, None, Bool, refl}
 use Rattle.std.proofs.Common.{ap, sym, ◌∙◌, subst, arith}
 use Rattle.fort_theory.specs.Signatures.{most_columns}
 use Rattle.fort_theory.specs.Patterns.{PatternSystem}
@@ -14,24 +14,26 @@ use Rattle.fort_parts.specs.PartSteps.{operand_of}
 use Rattle.fort_parts.specs.RightAnswers.{IsRightFor, joined}
 use Rattle.fort_parts.proofs.PartColumnLaws.{first_within, second_within}
 use Rattle.fort_parts.proofs.StepTables.{IsOperand-answer}
-use Rattle.fort_parts.proofs.StepAnswers.{is_free-joined, closed-values, some-first, some-second, IsRightFor-values, IsPartOver-closed, LabelsTellAlike-joined, IsRightFor-joined}
+use Rattle.fort_parts.proofs.StepAnswers.{is_free-joined, closed-values, some-first, some-second, IsRightFor-values, LabelsTellAlike-joined, IsRightFor-joined}
 use Rattle.fort_engine.specs.declared.answer.Last.{Last}
 use Rattle.fort_engine.specs.declared.answer.Last.TheVariants.{Truth, Auto}
+use Rattle.fort_engine.specs.declared.answer.Decided.{Decided}
 use Rattle.fort_engine.specs.AnswerView.{as_answer}
+use Rattle.fort_engine.proofs.AnswerLaws.{IsDecision-truth}
 use Rattle.fort_engine.specs.Deciding.{AreJoined, IsDecision, AreLabelsFor, IsJoining}
 
 -- two truths
 
-pub IsDecision-truths : (system : PatternSystem) (cap : ℕ) (op : Connective) (h f g : Core) (first second : Last) (a b c : Bool) → h ≡ joined op f g
-    → first ≡ Truth a → second ≡ Truth b → c ≡ connected op a b → IsRightFor system f (as_answer first) → IsRightFor system g (as_answer second)
-    → IsDecision system h cap (Ok (Truth c))
-IsDecision-truths system cap op h f g first second a b c whole is also says one other =
+pub IsDecision-truths : (system : PatternSystem) (cap : ℕ) (lists : Bool) (op : Connective) (h f g : Core) (first second : Last) (a b c : Bool) (d : Decided) → h ≡ joined op f g
+    → first ≡ Truth a → second ≡ Truth b → c ≡ connected op a b → d.answer ≡ Truth c → d.counts ≡ None → IsRightFor system f (as_answer first)
+    → IsRightFor system g (as_answer second) → IsDecision system h cap lists (Ok d)
+IsDecision-truths system cap lists op h f g first second a b c d whole is also says has none one other =
     let one_is : IsRightFor system f (OfValue a) = subst (λ z. IsRightFor system f (as_answer z)) is one in
     let other_is : IsRightFor system g (OfValue b) = subst (λ z. IsRightFor system g (as_answer z)) also other in
     let right : IsRightFor system h (OfValue c) =
     subst (λ z. IsRightFor system z (OfValue c)) (sym whole)
     (subst (λ v. IsRightFor system (joined op f g) (OfValue v)) (sym says) (IsRightFor-values system op f g a b one_is other_is)) in
-    record { ok = right; within = IsPartOver-closed system h cap right.answers.over; over = tt }
+    IsDecision-truth system h cap lists d c has none right
 
 -- a table among the operands has a column
 

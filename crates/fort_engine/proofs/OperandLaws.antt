@@ -1,17 +1,17 @@
 -- A part by its root: its operands are earlier parts, whose answers are kept.
-use Rattle.std.specs.Prelude.{◌≡◌, ◌<◌, ℕ, List, length, get_or, Option, None, Some, Ok, true, refl}
-use Rattle.std.proofs.Common.{sym, ◌∙◌, ap, subst, inl, inr, arith}
+use Rattle.std.specs.Prelude.{◌≡◌, ◌<◌, ℕ, List, length, get_or, Option, None, Some, Ok, Bool, true, refl}
+use Rattle.std.proofs.Common.{sym, ◌∙◌, ap, subst, arith}
 use Rattle.std.proofs.lemmas.List.{get_or_default}
 use Rattle.fort_theory.specs.Patterns.{PatternSystem}
 use Rattle.fort_logic.specs.Cores as core
 use Rattle.fort_logic.specs.Parts.{is_free}
-use Rattle.fort_operations.specs.Products.{Connective, And, Or, Iff}
+use Rattle.fort_operations.specs.Products.{Connective}
 use Rattle.fort_parts.specs.AlikeParts.{IsPartOver}
 use Rattle.fort_parts.specs.PartAnswers.{OfValue}
 use Rattle.fort_parts.specs.PartColumns.{columns_of}
 use Rattle.fort_parts.specs.DecidedCores.{IsOperandOf}
-use Rattle.fort_parts.specs.RightAnswers.{IsRightFor, joined}
-use Rattle.fort_parts.proofs.StepAnswers.{IsRightFor-True, IsPartOver-closed}
+use Rattle.fort_parts.specs.RightAnswers.{IsRightFor}
+use Rattle.fort_parts.proofs.StepAnswers.{IsRightFor-True}
 use Rattle.fort_outline.specs.declared.root.Root.{Root}
 use Rattle.fort_outline.specs.declared.root.Root.TheVariants.{True}
 use Rattle.fort_outline.specs.declared.outline.Outline.{Outline}
@@ -19,10 +19,13 @@ use Rattle.fort_outline.specs.Roots.{root_core, HasOperandsBelow}
 use Rattle.fort_outline.specs.Outlines.{AreColumnsOf, parts_in}
 use Rattle.fort_engine.specs.declared.answer.Last.{Last}
 use Rattle.fort_engine.specs.declared.answer.Last.TheVariants.{Truth}
+use Rattle.fort_engine.specs.declared.answer.Decided.{Decided}
 use Rattle.fort_engine.specs.AnswerView.{as_answer}
 use Rattle.fort_engine.specs.Kept.{HasRightAnswer}
 use Rattle.fort_engine.specs.Deciding.{AreJoined, IsBody, IsDecision, IsNextPart, IsOfTwo}
+use Rattle.fort_engine.proofs.AnswerLaws.{IsDecision-truth}
 use Rattle.fort_outline.proofs.RootLaws.{part_at}
+use Rattle.fort_outline.proofs.JoinedOperands.{operand_first, operand_second}
 
 -- what is taken of the answers that are kept
 
@@ -65,23 +68,13 @@ pub operand_of_root : {system : PatternSystem} {cap : ℕ} {o : Outline} {k : �
 operand_of_root {o = o} f h low operand =
     record { next = h.next; low = low; operand = subst (IsOperandOf (get_or (parts_in o) f core.True)) (sym (next_is h)) operand }
 
-first_joined : (op : Connective) (f g : core.Core) → IsOperandOf f (joined op f g)
-first_joined And f g = inl refl
-first_joined Or f g = inl refl
-first_joined Iff f g = inl refl
-
-second_joined : (op : Connective) (f g : core.Core) → IsOperandOf g (joined op f g)
-second_joined And f g = inr refl
-second_joined Or f g = inr refl
-second_joined Iff f g = inr refl
-
 pub first_of_two : {system : PatternSystem} {cap : ℕ} {o : Outline} {k : ℕ} {kept : List (Option Last)} {op : Connective} {f g : ℕ} → IsNextPart system cap o k kept
     → IsOfTwo op (parts_in o) k f g → IsOperandAt system cap o k kept f
 first_of_two {o = o} {op = op} {f = f} {g = g} next two = record {
   next = next;
   low = two.first;
   operand = subst (IsOperandOf (get_or (parts_in o) f core.True)) (sym two.is)
-      (first_joined op (get_or (parts_in o) f core.True) (get_or (parts_in o) g core.True));
+      (operand_first op (get_or (parts_in o) f core.True) (get_or (parts_in o) g core.True));
 }
 
 pub second_of_two : {system : PatternSystem} {cap : ℕ} {o : Outline} {k : ℕ} {kept : List (Option Last)} {op : Connective} {f g : ℕ} → IsNextPart system cap o k kept
@@ -90,7 +83,7 @@ second_of_two {o = o} {op = op} {f = f} {g = g} next two = record {
   next = next;
   low = two.second;
   operand = subst (IsOperandOf (get_or (parts_in o) g core.True)) (sym two.is)
-      (second_joined op (get_or (parts_in o) f core.True) (get_or (parts_in o) g core.True));
+      (operand_second op (get_or (parts_in o) f core.True) (get_or (parts_in o) g core.True));
 }
 
 -- its answer is kept
@@ -151,7 +144,8 @@ AreJoined-parts {o = o} columns ones others next two one other each first_each s
 }
 
 -- the formula that is true
-pub IsDecision-True : (system : PatternSystem) (f : core.Core) (cap : ℕ) → f ≡ core.True → IsDecision system f cap (Ok (Truth true))
-IsDecision-True system f cap is =
+pub IsDecision-True : (system : PatternSystem) (f : core.Core) (cap : ℕ) (lists : Bool) (d : Decided) → f ≡ core.True → d.answer ≡ Truth true → d.counts ≡ None
+    → IsDecision system f cap lists (Ok d)
+IsDecision-True system f cap lists d is has none =
     let right = subst (λ z. IsRightFor system z (OfValue true)) (sym is) (IsRightFor-True system) in
-    record { ok = right; within = IsPartOver-closed system f cap right.answers.over; over = tt }
+    IsDecision-truth system f cap lists d true has none right

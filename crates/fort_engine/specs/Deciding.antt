@@ -1,4 +1,4 @@
--- Inside: what a part meets that is decided, what is known of its operands, what a decision of it is, and which labels are a formula's.
+-- To believe: what a part meets that is decided, what is known of its operands, what a decision of it is, and which labels are a formula's.
 use Rattle.std.specs.Prelude.{◌≡◌, ℕ, ◌<◌, ◌≤◌, List, length, get_or, Bool, true, Option, None, Result, IfOk, IfErr, OnOk}
 use Rattle.fort_theory.specs.Signatures.{most_columns}
 use Rattle.fort_theory.specs.Patterns.{PatternSystem}
@@ -20,7 +20,9 @@ use Rattle.fort_outline.specs.Outlines.{parts_in, core_at, IsOutlineOf}
 use Rattle.fort_explore.specs.declared.table.ExploreFault.{ExploreFault}
 use Rattle.fort_explore.specs.Answer.{IfOver}
 use Rattle.fort_engine.specs.declared.answer.Last.{Last}
+use Rattle.fort_engine.specs.declared.answer.Decided.{Decided}
 use Rattle.fort_engine.specs.AnswerView.{as_answer}
+use Rattle.fort_engine.specs.Found.{ListsTargets}
 use Rattle.fort_engine.specs.Kept.{HasRightAnswer}
 
 -- its indices and terms are the system's, and it is no wider than a tuple
@@ -59,9 +61,11 @@ pub record IsOfTwo (op : Connective) (parts : List core.Core) (k f g : ℕ) : Ty
   pub second : g < k
   pub is : get_or parts k core.True ≡ joined op (get_or parts f core.True) (get_or parts g core.True)
 
--- a right answer, and then the formula is not over the cap; or tuples that show that it is
-pub record IsDecision (system : PatternSystem) (f : core.Core) (cap : ℕ) (result : Result Last ExploreFault) : Type 0 where
-  pub ok : IfOk result (λ a. IsRightFor system f (as_answer a))
+-- a right answer without counts, with its table's targets where they are asked for, and then the formula is not over the cap; or tuples that show that it is
+pub record IsDecision (system : PatternSystem) (f : core.Core) (cap : ℕ) (lists : Bool) (result : Result Decided ExploreFault) : Type 0 where
+  pub ok : IfOk result (λ d. IsRightFor system f (as_answer d.answer))
+  pub plain : IfOk result (λ d. d.counts ≡ None)
+  pub listed : IfOk result (λ d. lists ≡ true → ListsTargets d.answer d.targets)
   pub within : OnOk result (IsPartOver system f cap → ⊥)
   pub over : IfErr result (λ e. IfOver e (HasTooMany system f cap))
 

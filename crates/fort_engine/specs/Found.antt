@@ -1,5 +1,5 @@
--- Inside: how the answer to a part was found: the answer that a negation turns, and the counts of "infinitely many".
-use Rattle.std.specs.Prelude.{◌≡◌, ℕ, ◌<◌, List, length, map, get_or, true, Option, None, Some, Result, Ok, Err, IfOk, IfErr, OnOk}
+-- To believe: how the answer to a part was found: the answer that a negation turns, the counts of "infinitely many", the targets of a table.
+use Rattle.std.specs.Prelude.{◌≡◌, ℕ, ◌<◌, List, length, map, get_or, Bool, true, false, Option, None, Some, Result, Ok, Err, IfOk, IfErr, OnOk}
 use Rattle.std.specs.declared.alloc.Global.{Global}
 use Rattle.std.specs.declared.vec.Vec.{Vec}
 use Rattle.fort_theory.specs.Patterns.{PatternSystem}
@@ -10,8 +10,8 @@ use Rattle.fort_operations.specs.Projections.{ArePure}
 use Rattle.fort_operations.specs.OperationTruth.{complemented}
 use Rattle.fort_counts.specs.Counts as counts
 use Rattle.fort_counts.specs.Counts.{AreCounts}
-use Rattle.fort_infinity.specs.declared.count.Count.{Count}
-use Rattle.fort_infinity.specs.CountView.{as_count}
+use Rattle.fort_steps.specs.declared.count.Count.{Count}
+use Rattle.fort_steps.specs.StepView.{as_count}
 use Rattle.fort_parts.specs.PartColumns.{columns_of, place_in}
 use Rattle.fort_parts.specs.AlikeParts.{IsPartOver}
 use Rattle.fort_parts.specs.PartAnswers.{OfTable}
@@ -29,9 +29,14 @@ pub record IsDecidedBy (system : PatternSystem) (f : core.Core) (cap : ℕ) (P :
   pub within : OnOk result (IsPartOver system f cap → ⊥)
   pub over : IfErr result (λ e. IfOver e (HasTooMany system f cap))
 
-abbrev pub decided_with : Option (Vec Count Global) → Result Last ExploreFault → Result Decided ExploreFault
-decided_with counts (Ok a) = Ok (record { answer = a; counts = counts })
-decided_with counts (Err e) = Err e
+abbrev pub counted_with : Vec Count Global → Result Decided ExploreFault → Result Decided ExploreFault
+counted_with counts (Ok d) = Ok (record { answer = d.answer; counts = Some counts; targets = d.targets })
+counted_with counts (Err e) = Err e
+
+-- the targets of a table, in the order of its entries
+abbrev pub ListsTargets : Last → Option (Vec ℕ Global) → Type 0
+ListsTargets (Truth b) own = Unit {0}
+ListsTargets (Auto table) own = (list : Vec ℕ Global) × (own ≡ Some list) × (list.items ≡ table.targets)
 
 -- the answer to g that is kept
 pub record IsKeptAnswer (parts : List core.Core) (kept : List (Option Last)) (g : core.Core) (answer : Last) : Type 0 where
@@ -69,16 +74,17 @@ pub record AreMarks (n : ℕ) (g : core.Core) (table : Table) (marks : List coun
   pub counts : AreCounts table (place_in (columns_of g) n) states marks
 
 -- a right answer to "for infinitely many values of n" of f, with the counts of the table of f
-pub record IsMany (system : PatternSystem) (n : ℕ) (f : core.Core) (table : Listed) (d : Decided) : Type 0 where
+pub record IsMany (system : PatternSystem) (n : ℕ) (f : core.Core) (table : Listed) (lists : Bool) (d : Decided) : Type 0 where
   pub right : IsRightFor system (core.Infinite n f) (as_answer d.answer)
   pub list : Vec Count Global
   pub list_is : d.counts ≡ Some list
   pub marks : AreMarks n f (listed_table table) (map as_count list.items)
+  pub listed : lists ≡ true → ListsTargets d.answer d.targets
 
-pub record IsManyOf (system : PatternSystem) (n : ℕ) (f : core.Core) (body : Last) (d : Decided) : Type 0 where
+pub record IsManyOf (system : PatternSystem) (n : ℕ) (f : core.Core) (body : Last) (lists : Bool) (d : Decided) : Type 0 where
   pub table : Listed
   pub body_is : body ≡ Auto table
-  pub many : IsMany system n f table d
+  pub many : IsMany system n f table lists d
 
 pub record HasCounts (parts : List core.Core) (kept : List (Option Last)) (n : ℕ) (g : core.Core) (own : Option (Vec Count Global)) : Type 0 where
   pub table : Listed
@@ -97,8 +103,18 @@ abbrev pub AreItsCounts : List core.Core → List (Option Last) → core.Core �
 AreItsCounts parts kept (core.Infinite n g) own = HasCounts parts kept n g own
 AreItsCounts parts kept other own = own ≡ None
 
--- a right answer to f; that of a negation is its body's, turned; "infinitely many" has its counts, and no other formula has any
-pub record IsFound (system : PatternSystem) (parts : List core.Core) (kept : List (Option Last)) (f : core.Core) (d : Decided) : Type 0 where
+abbrev pub is_negation : core.Core → Bool
+is_negation (core.Not f) = true
+is_negation other = false
+
+-- a negation has no table of its own
+abbrev pub AreItsTargets : core.Core → Last → Option (Vec ℕ Global) → Type 0
+AreItsTargets f answer own = is_negation f ≡ false → ListsTargets answer own
+
+-- a right answer to f; that of a negation is its body's, turned; "infinitely many" has its counts, and no other formula has any; the targets of other tables than a negation's are there where
+-- they are asked for
+pub record IsFound (system : PatternSystem) (parts : List core.Core) (kept : List (Option Last)) (f : core.Core) (lists : Bool) (d : Decided) : Type 0 where
   pub right : IsRightFor system f (as_answer d.answer)
   pub turned : IsItsTurned parts kept f d.answer
   pub counted : AreItsCounts parts kept f d.counts
+  pub listed : lists ≡ true → AreItsTargets f d.answer d.targets

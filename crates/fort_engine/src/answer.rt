@@ -1,4 +1,7 @@
 //! What formulas are decided to.
+ghost use Rattle.std.specs.Prelude.{◌≡◌, None};
+ghost use Rattle.fort_engine.specs.declared.answer.Last.TheVariants.{Truth};
+
 use fort_formulas::Kind;
 use fort_infinity::Count;
 use fort_lockstep::{Dag, Dta};
@@ -13,12 +16,28 @@ pub enum Last {
     Auto(Dta),
 }
 
-/// The answer to a part.
+/// The answer to a part, and what was found with it.
 #[derive(Drop)]
 pub struct Decided {
     pub answer: Last,
     /// Where it is one of "infinitely many", the counts of the states of its body's table that have its variable alone.
     pub counts: Option<Vec<Count>>,
+    /// Where they are asked for, the targets of its table in the order of the entries; none of a negation's, which has its body's.
+    pub targets: Option<Vec<u32>>,
+}
+
+impl Decided {
+    /// A truth.
+    pub(crate) fn truth(value: bool) -> Decided
+        ensures answer { result.answer ≡ Truth value }
+        ensures counts { result.counts ≡ None }
+    {
+        Decided {
+            answer: Last::Truth(value),
+            counts: None,
+            targets: None,
+        }
+    }
 }
 
 /// How a formula was decided.

@@ -3,15 +3,34 @@ ghost use Rattle.std.specs.Prelude.{ℕ};
 ghost use Rattle.fort_theory.specs.Sides.{IsIndexOf};
 ghost use Rattle.fort_logic.specs.Cores as theory;
 ghost use Rattle.fort_formulas.specs.CoreView.{as_rel};
-ghost use Rattle.fort_engine.specs.Deciding.{IsDecision};
+ghost use Rattle.fort_context_closure.specs.AtomLabelsView.{rule_by, label_by, accepted_by};
+ghost use Rattle.fort_engine.specs.Deciding.{IsDecision, AreLabelsFor};
 
-use crate::answer::Last;
+use crate::answer::Decided;
 use crate::explored::explored;
-use fort_context_closure::AtomLabels;
-use fort_explore::ExploreFault;
+use fort_context_closure::{AtomLabels, SignedAtom};
+use fort_explore::{ByRule, ExploreFault};
 use fort_formulas::Rel;
 use fort_terms::{System, Term};
 use std::alloc::Global;
+
+/// Decides the atom that has these labels.
+fn by_labels(
+    alloc: Global,
+    system: &System,
+    labels: &AtomLabels,
+    cap: u32,
+    lists: bool,
+) -> Result<Decided, ExploreFault>
+    ensures { (f : theory.Core) → let sig = system.now.signature in
+        AreLabelsFor system.now f (rule_by sig labels.now).columns
+        (label_by sig labels.now) (accepted_by sig labels.now)
+        → IsDecision system.now f cap lists result }
+{
+    let signature = system.signature();
+    let atom = SignedAtom { signature, labels };
+    explored(alloc, system, &ByRule(&atom), cap, lists)
+}
 
 /// Decides whether two variables are related.
 pub(crate) fn related(
@@ -22,12 +41,13 @@ pub(crate) fn related(
     x: u32,
     y: u32,
     cap: u32,
-) -> Result<Last, ExploreFault>
+    lists: bool,
+) -> Result<Decided, ExploreFault>
     requires { IsIndexOf system.now.rules index }
-    ensures { IsDecision system.now (theory.Atom (as_rel rel) index x y) cap result }
+    ensures { IsDecision system.now (theory.Atom (as_rel rel) index x y) cap lists result }
 {
     let labels = AtomLabels::atom(alloc, system, index, rel, x, y)?;
-    explored(alloc, system, &labels, cap)
+    by_labels(alloc, system, &labels, cap, lists)
 }
 
 /// Decides whether a variable is a normal form.
@@ -36,12 +56,13 @@ pub(crate) fn normal_form(
     system: &System,
     index: u32,
     cap: u32,
-) -> Result<Last, ExploreFault>
+    lists: bool,
+) -> Result<Decided, ExploreFault>
     requires { IsIndexOf system.now.rules index }
-    ensures { (x : ℕ) → IsDecision system.now (theory.Nf index x) cap result }
+    ensures { (x : ℕ) → IsDecision system.now (theory.Nf index x) cap lists result }
 {
     let labels = AtomLabels::nf(alloc, system, index)?;
-    explored(alloc, system, &labels, cap)
+    by_labels(alloc, system, &labels, cap, lists)
 }
 
 /// Decides whether a variable is this term.
@@ -50,9 +71,10 @@ pub(crate) fn this_term(
     system: &System,
     term: &Term,
     cap: u32,
-) -> Result<Last, ExploreFault>
-    ensures { (x : ℕ) → IsDecision system.now (theory.Is x term.now) cap result }
+    lists: bool,
+) -> Result<Decided, ExploreFault>
+    ensures { (x : ℕ) → IsDecision system.now (theory.Is x term.now) cap lists result }
 {
     let labels = AtomLabels::is(alloc, term)?;
-    explored(alloc, system, &labels, cap)
+    by_labels(alloc, system, &labels, cap, lists)
 }

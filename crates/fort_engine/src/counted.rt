@@ -2,11 +2,11 @@
 ghost use Rattle.std.specs.Prelude.{◌≡◌, ℕ, map};
 ghost use Rattle.fort_logic.specs.Cores as theory;
 ghost use Rattle.fort_tables.specs.Tables.{listed_table};
-ghost use Rattle.fort_infinity.specs.CountView.{as_count};
+ghost use Rattle.fort_steps.specs.StepView.{as_count};
 ghost use Rattle.fort_parts.specs.PartAnswers.{OfTable};
 ghost use Rattle.fort_engine.specs.AnswerView.{as_answer};
 ghost use Rattle.fort_engine.specs.Deciding.{IsBody, IsDecision};
-ghost use Rattle.fort_engine.specs.Found.{decided_with, IsCounted, IsDecidedBy, IsMany, IsManyOf};
+ghost use Rattle.fort_engine.specs.Found.{counted_with, IsCounted, IsDecidedBy, IsMany, IsManyOf};
 
 use crate::answer::{Decided, Last};
 use crate::explored::explored;
@@ -20,15 +20,26 @@ use fort_rrn_algebra::pure_states;
 use fort_terms::System;
 use std::alloc::Global;
 
-/// An answer with the counts by which it was found.
-pub(crate) fn with_counts(
-    answer: Result<Last, ExploreFault>,
-    counts: Option<Vec<Count>>,
+/// A decision with the counts by which it was found.
+fn with_counts(
+    decided: Result<Decided, ExploreFault>,
+    counts: Vec<Count>,
 ) -> Result<Decided, ExploreFault>
-    ensures { result ≡ decided_with counts answer }
+    ensures { result ≡ counted_with counts decided }
 {
-    match answer {
-        Ok(answer) => Ok(Decided { answer, counts }),
+    match decided {
+        Ok(decided) => {
+            let Decided {
+                answer,
+                counts: _none,
+                targets,
+            } = decided;
+            Ok(Decided {
+                answer,
+                counts: Some(counts),
+                targets,
+            })
+        }
         Err(fault) => Err(fault),
     }
 }
@@ -42,18 +53,19 @@ fn by_counts(
     alone: &[u32],
     counts: &[Count],
     cap: u32,
-) -> Result<Last, ExploreFault>
+    lists: bool,
+) -> Result<Decided, ExploreFault>
     requires { (n : ℕ) × (f : theory.Core) × IsCounted system.now n f (listed_table table.now)
         column alone.now (map as_count counts.now) }
     ensures { (n : ℕ) (f : theory.Core) → IsCounted system.now n f (listed_table table.now)
         column alone.now (map as_count counts.now)
-        → IsDecision system.now (theory.Infinite n f) cap result }
+        → IsDecision system.now (theory.Infinite n f) cap lists result }
 {
     if table.columns() == 1 {
-        return Ok(Last::Truth(many_value(table, column, alone, counts)));
+        return Ok(Decided::truth(many_value(table, column, alone, counts)));
     }
     let many = Many::new(table, column, alone, counts);
-    explored(alloc, system, &ByRule(&many), cap)
+    explored(alloc, system, &ByRule(&many), cap, lists)
 }
 
 /// Decides "for infinitely many values of this variable" of a formula with this table.
@@ -64,19 +76,20 @@ fn count_table(
     columns: &[u32],
     table: &Dta,
     cap: u32,
+    lists: bool,
 ) -> Result<Decided, ExploreFault>
     requires { (f : theory.Core) × IsBody system.now number f columns.now
         (OfTable (listed_table table.now)) }
     ensures { (f : theory.Core) → IsBody system.now number f columns.now
         (OfTable (listed_table table.now))
         → IsDecidedBy system.now (theory.Infinite number f) cap
-        (IsMany system.now number f table.now) result }
+        (IsMany system.now number f table.now lists) result }
 {
     let column = column_of(columns, number);
     let alone = pure_states(alloc, table, column)?;
     let counts = pure_counts(alloc, table, column, &alone)?;
-    let answer = by_counts(alloc, system, table, column, &alone, &counts, cap);
-    with_counts(answer, Some(counts))
+    let decided = by_counts(alloc, system, table, column, &alone, &counts, cap, lists);
+    with_counts(decided, counts)
 }
 
 /// Decides "for infinitely many values of this variable" of a formula.
@@ -86,16 +99,17 @@ pub(crate) fn count(
     number: u32,
     body: &Answered<'_>,
     cap: u32,
+    lists: bool,
 ) -> Result<Decided, ExploreFault>
     requires { (f : theory.Core) × IsBody system.now number f body.now.columns.now
         (as_answer body.now.answer.now) }
     ensures { (f : theory.Core) → IsBody system.now number f body.now.columns.now
         (as_answer body.now.answer.now)
         → IsDecidedBy system.now (theory.Infinite number f) cap
-        (IsManyOf system.now number f body.now.answer.now) result }
+        (IsManyOf system.now number f body.now.answer.now lists) result }
 {
     match body.answer {
         Last::Truth(_) => unreachable!(),
-        Last::Auto(table) => count_table(alloc, system, number, body.columns, table, cap),
+        Last::Auto(table) => count_table(alloc, system, number, body.columns, table, cap, lists),
     }
 }

@@ -77,7 +77,7 @@ pub fn decide_parts<R: Recorder>(
     let mut kept: Vec<Option<Last>> = Vec::new(alloc);
     for k in 0..outline.roots.len() {
         let answers = kept.as_slice();
-        let decided = match decide_part(alloc, system, outline, k, answers, cap) {
+        let decided = match decide_part(alloc, system, outline, k, answers, cap, recorder.lists()) {
             Ok(decided) => decided,
             Err(ExploreFault::Memory) => return Err(EngineFault::Memory),
             Err(ExploreFault::Over(tuples)) => {
@@ -88,8 +88,8 @@ pub fn decide_parts<R: Recorder>(
                 }));
             }
         };
-        recorder.note(alloc, system, outline, k, answers, &decided)?;
-        kept.push(Some(decided.answer))?;
+        let answer = recorder.note(alloc, system, outline, k, answers, decided)?;
+        kept.push(Some(answer))?;
         drop_idle(&mut kept, outline, k);
     }
     Ok(kept)

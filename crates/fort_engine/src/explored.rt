@@ -2,8 +2,8 @@
 ghost use Rattle.fort_logic.specs.Cores as theory;
 ghost use Rattle.fort_engine.specs.Deciding.{IsDecision, AreLabelsFor};
 
-use crate::answer::Last;
-use fort_explore::{ExploreFault, Labeller, explore};
+use crate::answer::{Decided, Last};
+use fort_explore::{ExploreFault, Explored, Labeller, explore_listed};
 use fort_terms::System;
 use std::alloc::Global;
 
@@ -13,11 +13,17 @@ pub(crate) fn explored<L: Labeller>(
     system: &System,
     labels: &L,
     cap: u32,
-) -> Result<Last, ExploreFault>
+    lists: bool,
+) -> Result<Decided, ExploreFault>
     requires { L.serves labels.now system.now.signature }
     ensures { (f : theory.Core) → AreLabelsFor system.now f (L.column_count labels.now)
-        (L.label labels.now) (L.accepting labels.now) → IsDecision system.now f cap result }
+        (L.label labels.now) (L.accepting labels.now) → IsDecision system.now f cap lists result }
 {
-    let table = explore(alloc, system.signature(), labels, cap)?;
-    Ok(Last::Auto(table))
+    let found = explore_listed(alloc, system.signature(), labels, cap, lists)?;
+    let Explored { table, targets } = found;
+    Ok(Decided {
+        answer: Last::Auto(table),
+        counts: None,
+        targets,
+    })
 }

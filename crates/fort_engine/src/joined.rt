@@ -9,7 +9,7 @@ ghost use Rattle.fort_parts.specs.PartSteps.{operand_of};
 ghost use Rattle.fort_engine.specs.AnswerView.{as_answer};
 ghost use Rattle.fort_engine.specs.Deciding.{AreJoined, IsDecision, IsJoining};
 
-use crate::answer::Last;
+use crate::answer::{Decided, Last};
 use crate::explored::explored;
 use crate::operands::Answered;
 use fort_explore::{ByRule, ExploreFault};
@@ -51,18 +51,19 @@ fn product_table<'a>(
     others: &'a [usize],
     columns: usize,
     cap: u32,
-) -> Result<Last, ExploreFault>
+    lists: bool,
+) -> Result<Decided, ExploreFault>
     requires { (h f g : theory.Core) × IsJoining system.now (connective_of op) h f g
         (as_answer first.now) places.now (as_answer second.now) others.now columns }
     ensures { (h f g : theory.Core) → IsJoining system.now (connective_of op) h f g
         (as_answer first.now) places.now (as_answer second.now) others.now columns
-        → IsDecision system.now h cap result }
+        → IsDecision system.now h cap lists result }
 {
     let (one, other) = (operand(first, places), operand(second, others));
-    let mut lists = ProductLists::new(alloc);
-    lists.make(&one, &other)?;
-    let product = Both::new(op, one, other, columns).listed(&lists);
-    explored(alloc, system, &ByRule(&product), cap)
+    let mut operand_lists = ProductLists::new(alloc);
+    operand_lists.make(&one, &other)?;
+    let product = Both::new(op, one, other, columns).listed(&operand_lists);
+    explored(alloc, system, &ByRule(&product), cap, lists)
 }
 
 /// Decides a formula with these columns, of two operands, by their product.
@@ -74,14 +75,15 @@ fn join_tables(
     first: &Answered<'_>,
     second: &Answered<'_>,
     cap: u32,
-) -> Result<Last, ExploreFault>
+    lists: bool,
+) -> Result<Decided, ExploreFault>
     requires two { (h f g : theory.Core) × AreJoined system.now (connective_of op) h f g
         columns.now first.now.columns.now second.now.columns.now (as_answer first.now.answer.now)
         (as_answer second.now.answer.now) }
     requires some { 0 < length columns.now }
     ensures { (h f g : theory.Core) → AreJoined system.now (connective_of op) h f g
         columns.now first.now.columns.now second.now.columns.now (as_answer first.now.answer.now)
-        (as_answer second.now.answer.now) → IsDecision system.now h cap result }
+        (as_answer second.now.answer.now) → IsDecision system.now h cap lists result }
 {
     let places = places_among(alloc, columns, first.columns)?;
     let others = places_among(alloc, columns, second.columns)?;
@@ -95,6 +97,7 @@ fn join_tables(
         &others,
         columns.len(),
         cap,
+        lists,
     )
 }
 
@@ -107,19 +110,20 @@ pub(crate) fn join(
     first: &Answered<'_>,
     second: &Answered<'_>,
     cap: u32,
-) -> Result<Last, ExploreFault>
+    lists: bool,
+) -> Result<Decided, ExploreFault>
     requires { (h f g : theory.Core) × AreJoined system.now (connective_of op) h f g
         columns.now first.now.columns.now second.now.columns.now (as_answer first.now.answer.now)
         (as_answer second.now.answer.now) }
     ensures { (h f g : theory.Core) → AreJoined system.now (connective_of op) h f g
         columns.now first.now.columns.now second.now.columns.now (as_answer first.now.answer.now)
-        (as_answer second.now.answer.now) → IsDecision system.now h cap result }
+        (as_answer second.now.answer.now) → IsDecision system.now h cap lists result }
 {
     match first.answer {
         Last::Truth(a) => match second.answer {
-            Last::Truth(b) => Ok(Last::Truth(connect(op, *a, *b))),
-            Last::Auto(_) => join_tables(alloc, system, op, columns, first, second, cap),
+            Last::Truth(b) => Ok(Decided::truth(connect(op, *a, *b))),
+            Last::Auto(_) => join_tables(alloc, system, op, columns, first, second, cap, lists),
         },
-        Last::Auto(_) => join_tables(alloc, system, op, columns, first, second, cap),
+        Last::Auto(_) => join_tables(alloc, system, op, columns, first, second, cap, lists),
     }
 }

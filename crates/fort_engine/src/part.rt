@@ -1,5 +1,5 @@
 //! Decides one part from the answers to its operands.
-ghost use Rattle.std.specs.Prelude.{◌≡◌, ℕ, None, IfOk};
+ghost use Rattle.std.specs.Prelude.{◌≡◌, ℕ, false, IfOk};
 ghost use Rattle.fort_theory.specs.Patterns.{PatternSystem};
 ghost use Rattle.fort_logic.specs.Cores as theory;
 ghost use Rattle.fort_rrn_algebra.specs.Operands.{connective_of};
@@ -8,11 +8,11 @@ ghost use Rattle.fort_parts.specs.RightAnswers.{IsRightFor};
 ghost use Rattle.fort_outline.specs.Outlines.{parts_in, core_at};
 ghost use Rattle.fort_engine.specs.AnswerView.{as_answer};
 ghost use Rattle.fort_engine.specs.Deciding.{IsNextPart, IsOfTwo, IsDecision};
-ghost use Rattle.fort_engine.specs.Found.{decided_with, IsTurnedOf, IsDecidedBy, IsFound};
+ghost use Rattle.fort_engine.specs.Found.{IsTurnedOf, IsDecidedBy, IsFound};
 
 use crate::answer::{Decided, Last};
 use crate::atoms::{normal_form, related, this_term};
-use crate::counted::{count, with_counts};
+use crate::counted::count;
 use crate::joined::join;
 use crate::operands::{kept_answer, kept_operand};
 use crate::projected::project;
@@ -22,17 +22,21 @@ use fort_rrn_algebra::{Op, negate};
 use fort_terms::System;
 use std::alloc::Global;
 
-/// Decides the negation of a formula with this answer.
-fn complement(alloc: Global, body: &Last) -> Result<Last, ExploreFault>
+/// Decides the negation of a formula with this answer. No targets are listed, since its table has its body's.
+fn complement(alloc: Global, body: &Last) -> Result<Decided, ExploreFault>
     ensures decided { (system : PatternSystem) (cap : ℕ) (f : theory.Core)
         → IsRightFor system f (as_answer body.now)
         → (IsPartOver system f cap → ⊥)
-        → IsDecision system (theory.Not f) cap result }
-    ensures turned { IfOk result (IsTurnedOf body.now) }
+        → IsDecision system (theory.Not f) cap false result }
+    ensures turned { IfOk result (λ d. IsTurnedOf body.now d.answer) }
 {
     match body {
-        Last::Truth(truth) => Ok(Last::Truth(!*truth)),
-        Last::Auto(table) => Ok(Last::Auto(negate(alloc, table)?)),
+        Last::Truth(truth) => Ok(Decided::truth(!*truth)),
+        Last::Auto(table) => Ok(Decided {
+            answer: Last::Auto(negate(alloc, table)?),
+            counts: None,
+            targets: None,
+        }),
     }
 }
 
@@ -47,22 +51,16 @@ fn join_parts(
     g: usize,
     kept: &[Option<Last>],
     cap: u32,
-) -> Result<Last, ExploreFault>
+    lists: bool,
+) -> Result<Decided, ExploreFault>
     requires next { IsNextPart system.now cap outline.now k kept.now }
     requires two { IsOfTwo (connective_of op) (parts_in outline.now) k f g }
-    ensures { IsDecision system.now (core_at outline.now k) cap result }
+    ensures { IsDecision system.now (core_at outline.now k) cap lists result }
 {
     let first = kept_operand(outline, kept, f);
     let second = kept_operand(outline, kept, g);
     let columns = outline.columns[k].as_slice();
-    join(alloc, system, op, columns, &first, &second, cap)
-}
-
-/// An answer that was found without counts.
-fn plain(answer: Result<Last, ExploreFault>) -> Result<Decided, ExploreFault>
-    ensures { result ≡ decided_with None answer }
-{
-    with_counts(answer, None)
+    join(alloc, system, op, columns, &first, &second, cap, lists)
 }
 
 /// Decides part k from the answers to the parts before it.
@@ -73,27 +71,28 @@ pub(crate) fn decide_part(
     k: usize,
     kept: &[Option<Last>],
     cap: u32,
+    lists: bool,
 ) -> Result<Decided, ExploreFault>
     requires { IsNextPart system.now cap outline.now k kept.now }
     ensures { IsDecidedBy system.now (core_at outline.now k) cap
-        (IsFound system.now (parts_in outline.now) kept.now (core_at outline.now k)) result }
+        (IsFound system.now (parts_in outline.now) kept.now (core_at outline.now k) lists) result }
 {
     match &outline.roots[k] {
-        Root::True => plain(Ok(Last::Truth(true))),
-        Root::Atom(rel, index, x, y) => plain(related(alloc, system, *rel, *index, *x, *y, cap)),
-        Root::Nf(index, _) => plain(normal_form(alloc, system, *index, cap)),
-        Root::Is(_, term) => plain(this_term(alloc, system, term, cap)),
-        Root::Not(f) => plain(complement(alloc, kept_answer(kept, *f))),
-        Root::And(f, g) => plain(join_parts(alloc, system, outline, k, Op::And, *f, *g, kept, cap)),
-        Root::Or(f, g) => plain(join_parts(alloc, system, outline, k, Op::Or, *f, *g, kept, cap)),
-        Root::Iff(f, g) => plain(join_parts(alloc, system, outline, k, Op::Iff, *f, *g, kept, cap)),
-        Root::Exists(n, f) => plain(project(
-            alloc,
-            system,
-            *n,
-            &kept_operand(outline, kept, *f),
-            cap,
-        )),
-        Root::Infinite(n, f) => count(alloc, system, *n, &kept_operand(outline, kept, *f), cap),
+        Root::True => Ok(Decided::truth(true)),
+        Root::Atom(rel, index, x, y) => related(alloc, system, *rel, *index, *x, *y, cap, lists),
+        Root::Nf(index, _) => normal_form(alloc, system, *index, cap, lists),
+        Root::Is(_, term) => this_term(alloc, system, term, cap, lists),
+        Root::Not(f) => complement(alloc, kept_answer(kept, *f)),
+        Root::And(f, g) => join_parts(alloc, system, outline, k, Op::And, *f, *g, kept, cap, lists),
+        Root::Or(f, g) => join_parts(alloc, system, outline, k, Op::Or, *f, *g, kept, cap, lists),
+        Root::Iff(f, g) => join_parts(alloc, system, outline, k, Op::Iff, *f, *g, kept, cap, lists),
+        Root::Exists(n, f) => {
+            let body = kept_operand(outline, kept, *f);
+            project(alloc, system, *n, &body, cap, lists)
+        }
+        Root::Infinite(n, f) => {
+            let body = kept_operand(outline, kept, *f);
+            count(alloc, system, *n, &body, cap, lists)
+        }
     }
 }

@@ -7,7 +7,7 @@ ghost use Rattle.fort_parts.specs.PartAnswers.{OfTable};
 ghost use Rattle.fort_engine.specs.AnswerView.{as_answer};
 ghost use Rattle.fort_engine.specs.Deciding.{IsBody, IsDecision};
 
-use crate::answer::Last;
+use crate::answer::{Decided, Last};
 use crate::explored::explored;
 use crate::operands::Answered;
 use fort_explore::ExploreFault;
@@ -37,16 +37,17 @@ fn project_table(
     columns: &[u32],
     table: &Dta,
     cap: u32,
-) -> Result<Last, ExploreFault>
+    lists: bool,
+) -> Result<Decided, ExploreFault>
     requires body { (f : theory.Core) × IsBody system.now number f columns.now
         (OfTable (listed_table table.now)) }
     requires others { 1 < table.now.columns }
     ensures { (f : theory.Core) → IsBody system.now number f columns.now
         (OfTable (listed_table table.now))
-        → IsDecision system.now (theory.Exists number f) cap result }
+        → IsDecision system.now (theory.Exists number f) cap lists result }
 {
     let projection = Project::new(alloc, table, column_of(columns, number))?;
-    explored(alloc, system, &Projecting(&projection), cap)
+    explored(alloc, system, &Projecting(&projection), cap, lists)
 }
 
 /// Decides "for some value of this variable" of a formula.
@@ -56,20 +57,21 @@ pub(crate) fn project(
     number: u32,
     body: &Answered<'_>,
     cap: u32,
-) -> Result<Last, ExploreFault>
+    lists: bool,
+) -> Result<Decided, ExploreFault>
     requires { (f : theory.Core) × IsBody system.now number f body.now.columns.now
         (as_answer body.now.answer.now) }
     ensures { (f : theory.Core) → IsBody system.now number f body.now.columns.now
         (as_answer body.now.answer.now)
-        → IsDecision system.now (theory.Exists number f) cap result }
+        → IsDecision system.now (theory.Exists number f) cap lists result }
 {
     match body.answer {
         Last::Truth(_) => unreachable!(),
         Last::Auto(table) => {
             if table.columns() == 1 {
-                Ok(Last::Truth(accepts_some(table)))
+                Ok(Decided::truth(accepts_some(table)))
             } else {
-                project_table(alloc, system, number, body.columns, table, cap)
+                project_table(alloc, system, number, body.columns, table, cap, lists)
             }
         }
     }

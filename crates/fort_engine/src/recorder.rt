@@ -1,5 +1,5 @@
 //! What is recorded while a formula is decided.
-ghost use Rattle.std.specs.Prelude.{◌≡◌, ℕ, ◌+◌, ◌<◌, ◌≤◌, List, [], ◌∷◌, ◌++◌, slice_index_or, Option, None, Some, OnOk};
+ghost use Rattle.std.specs.Prelude.{◌≡◌, ℕ, ◌+◌, ◌<◌, ◌≤◌, List, [], ◌∷◌, ◌++◌, slice_index_or, Bool, false, Option, None, Some, IfOk, OnOk};
 ghost use Rattle.fort_theory.specs.Patterns.{PatternSystem};
 ghost use Rattle.fort_outline.specs.declared.outline.Outline as outlines;
 ghost use Rattle.fort_outline.specs.Outlines.{parts_in, core_at};
@@ -18,7 +18,13 @@ pub trait Recorder {
     ghost recorded: { Self → PatternSystem → outlines.Outline → ℕ → List (Option answers.Last)
         → Type 0 };
 
-    /// Records part k, which was decided from the answers that are kept.
+    /// Whether it is told the targets of tables.
+    ghost listing: { Self → Bool };
+
+    fn lists(&self) -> bool
+        ensures { result ≡ listing self.now };
+
+    /// Records part k, which was decided from the answers that are kept, and hands on its answer.
     fn note(
         &mut self,
         alloc: Global,
@@ -26,14 +32,15 @@ pub trait Recorder {
         outline: &Outline,
         k: usize,
         kept: &[Option<Last>],
-        decided: &Decided,
-    ) -> Result<(), Memory>
+        decided: Decided,
+    ) -> Result<Last, Memory>
         requires next { (cap : ℕ) × IsNextPart system.now cap outline.now k kept.now }
         requires found { IsFound system.now (parts_in outline.now) kept.now
-            (core_at outline.now k) decided.now }
+            (core_at outline.now k) (listing self.old) decided }
         requires before { recorded self.old system.now outline.now k kept.now }
-        ensures { OnOk result (recorded self.new system.now outline.now (k + 1)
-            (kept.now ++ Some decided.now.answer ∷ [])) };
+        ensures recorded { OnOk result (recorded self.new system.now outline.now (k + 1)
+            (kept.now ++ Some decided.answer ∷ [])) }
+        ensures answer { IfOk result (λ a. a ≡ decided.answer) };
 
     /// Answers that are not needed may be let go.
     ghost lets_go: { (s : Self) (system : PatternSystem) (o : outlines.Outline) (k : ℕ)
@@ -47,7 +54,13 @@ pub trait Recorder {
 impl Recorder for () {
     ghost recorded = { λ _ _ _ _ _. Unit {0} };
 
+    ghost listing = { λ _. false };
+
     ghost lets_go = { λ _ _ _ _ _ _ _ _. tt };
+
+    fn lists(&self) -> bool {
+        false
+    }
 
     fn note(
         &mut self,
@@ -56,8 +69,8 @@ impl Recorder for () {
         _outline: &Outline,
         _k: usize,
         _kept: &[Option<Last>],
-        _decided: &Decided,
-    ) -> Result<(), Memory> {
-        Ok(())
+        decided: Decided,
+    ) -> Result<Last, Memory> {
+        Ok(decided.answer)
     }
 }

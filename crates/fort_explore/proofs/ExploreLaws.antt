@@ -9,6 +9,9 @@ use Rattle.fort_tables.specs.Tables.{Made, finished, listed_table, IsMadeDue, Is
 use Rattle.fort_tables.specs.Labels.{Labelling, first_word, TellsPresence, GivesLabel, HaveLabels, HasMoreLabels, IsTableOf}
 use Rattle.fort_tables.proofs.OrderLaws.{entry_grows}
 use Rattle.fort_tables.proofs.EqualTests.{if_equal, if_apart, equal_from_if}
+use Rattle.fort_explore.specs.declared.table.ExploreFault.{ExploreFault}
+use Rattle.fort_explore.specs.declared.table.ExploreFault.TheVariants.{Over, Memory}
+use Rattle.fort_explore.specs.Answer.{IfOver}
 use Rattle.fort_explore.specs.Exploring.{IsReady, IsPlaced, IsLabelTarget, IsExploring, ListsEntries, AreLabelFinals}
 use Rattle.fort_explore.proofs.KnownLaws.{length_known, known_answer, known_few}
 use Rattle.fort_explore.proofs.StateLaws.{HasStatesByLabel}
@@ -198,3 +201,8 @@ exploring_table sig n label accepting m fs labels finals tells x all f =
 pub exploring_few : (sig : Signature) (n : ℕ) (label : Labelling) (m : Made) (fs : List Entry) (labels : List (List ℕ)) (cap : ℕ) → TellsPresence sig n label → IsExploring sig n label m fs labels → IsComplete m → length labels ≤ cap → HasMoreLabels sig n label cap → ⊥
 exploring_few sig n label m fs labels cap tells x all few =
     known_few sig n label fs labels m.entries m.targets cap tells x.known (exploring_lists sig n label m fs labels x all) x.count x.targets few
+
+-- tuples that are too many have what follows from that
+pub if_over : (P Q : List Entry → Type 0) → ((ts : List Entry) → P ts → Q ts) → (e : ExploreFault) → IfOver e P → IfOver e Q
+if_over P Q f Memory h = tt
+if_over P Q f (Over ts) h = f ts h

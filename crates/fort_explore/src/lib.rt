@@ -17,4 +17,4 @@ pub use by_rule::ByRule;
 pub use labeller::Labeller;
 pub use rows::Rows;
 pub use rule::LocalRule;
-pub use table::{ExploreFault, explore, explore_counted};
+pub use table::{ExploreFault, Explored, explore, explore_counted, explore_listed};

@@ -1,5 +1,5 @@
 //! The exploration of all labels.
-ghost use Rattle.std.specs.Prelude.{◌≡◌, ℕ, ◌+◌, ◌<◌, ◌≤◌, ◌^◌, List, Bool, true, false, length, IfOk, IfErr, OnOk};
+ghost use Rattle.std.specs.Prelude.{◌≡◌, ℕ, ◌+◌, ◌<◌, ◌≤◌, ◌^◌, List, [], ◌∷◌, ◌++◌, Bool, true, false, length, is_some, IfSome, IfOk, IfErr, OnOk};
 ghost use Rattle.fort_theory.specs.Signatures as theory;
 ghost use Rattle.fort_tables.specs.Entries.{AreNodes, tuples_of};
 ghost use Rattle.fort_tables.specs.Tables.{IsComplete, IsListed, finished, listed_table};
@@ -7,6 +7,7 @@ ghost use Rattle.fort_tables.specs.Labels.{IsLabel, AreLabels, HaveLabels, HasMo
 ghost use Rattle.fort_tables.specs.LabelRules.{IsTableBy};
 ghost use Rattle.fort_explore.specs.Exploring.{AreLabelFinals, IsExploring, IsWhole, IsOver, IsFound};
 ghost use Rattle.fort_explore.specs.Answer.{IfOver};
+ghost use Rattle.fort_explore.specs.ListedTargets.{AreListedTargets};
 
 use crate::found::{Found, place_of};
 use crate::labeller::Labeller;
@@ -26,10 +27,18 @@ pub enum ExploreFault {
     Over(Dag),
 }
 
-/// A table in the making, and the labels that were found.
+/// A table, and its targets in the order of its entries where they were asked for.
+#[derive(Drop)]
+pub struct Explored {
+    pub table: Dta,
+    pub targets: Option<Vec<u32>>,
+}
+
+/// A table in the making, and the labels that were found; the targets so far, where they are listed.
 struct Exploration {
     maker: Maker,
     found: Found,
+    targets: Option<Vec<u32>>,
 }
 
 impl Drop for Exploration {
@@ -38,6 +47,7 @@ impl Drop for Exploration {
         let Exploration {
             maker: _maker,
             found: _found,
+            targets: _targets,
         } = self;
     }
 }
@@ -101,7 +111,36 @@ pub fn explore<L: Labeller>(
     ensures nodes { IfErr result (λ e. IfOver e (λ tuples. AreNodes sig.now
         (L.column_count labeller.now) tuples)) }
 {
-    explore_by::<Brand, L>(alloc, sig, labeller, cap, Blank::new(1))
+    let Explored {
+        table,
+        targets: _none,
+    } = explore_listed(alloc, sig, labeller, cap, false)?;
+    Ok(table)
+}
+
+/// `explore`, with the table's targets where they are asked for: the list takes four bytes for each entry.
+pub fn explore_listed<L: Labeller>(
+    alloc: Global,
+    sig: &Signature,
+    labeller: &L,
+    cap: u32,
+    lists: bool,
+) -> Result<Explored, ExploreFault>
+    requires { L.serves labeller.now sig.now }
+    ensures ok { IfOk result (λ x. IsTableOf sig.now (L.column_count labeller.now)
+        (L.label labeller.now) (L.accepting labeller.now) (listed_table x.table)) }
+    ensures table { IfOk result (λ x. IsTableBy sig.now (L.column_count labeller.now)
+        (L.label labeller.now) (L.accepting labeller.now) (listed_table x.table)) }
+    ensures listed { IfOk result (λ x. IsListed x.table) }
+    ensures targets { IfOk result (AreListedTargets lists) }
+    ensures few { OnOk result (HasMoreLabels sig.now (L.column_count labeller.now)
+        (L.label labeller.now) cap → ⊥) }
+    ensures over { IfErr result (λ e. IfOver e (λ tuples. HaveLabels sig.now
+        (L.column_count labeller.now) (L.label labeller.now) (cap + 1) (tuples_of tuples))) }
+    ensures nodes { IfErr result (λ e. IfOver e (λ tuples. AreNodes sig.now
+        (L.column_count labeller.now) tuples)) }
+{
+    explore_by::<Brand, L>(alloc, sig, labeller, cap, lists, Blank::new(1))
 }
 
 /// The same in a ledger that nobody reads.
@@ -110,35 +149,54 @@ fn explore_by<G: Ledger, L: Labeller>(
     sig: &Signature,
     labeller: &L,
     cap: u32,
+    lists: bool,
     blank: Blank,
-) -> Result<Dta, ExploreFault>
+) -> Result<Explored, ExploreFault>
     requires name { blank.name ≡ G.name }
     requires parts { blank.parts ≡ G.parts }
     requires one { blank.parts ≡ 1 }
     requires served { L.serves labeller.now sig.now }
-    ensures ok { IfOk result (λ t. IsTableOf sig.now (L.column_count labeller.now)
-        (L.label labeller.now) (L.accepting labeller.now) (listed_table t)) }
-    ensures table { IfOk result (λ t. IsTableBy sig.now (L.column_count labeller.now)
-        (L.label labeller.now) (L.accepting labeller.now) (listed_table t)) }
-    ensures listed { IfOk result IsListed }
-    ensures few { OnOk result (HasMoreLabels sig.now (L.column_count labeller.now)
-        (L.label labeller.now) cap → ⊥) }
-    ensures over { IfErr result (λ e. IfOver e (λ tuples. HaveLabels sig.now
-        (L.column_count labeller.now) (L.label labeller.now) (cap + 1) (tuples_of tuples))) }
-    ensures nodes { IfErr result (λ e. IfOver e (λ tuples. AreNodes sig.now
-        (L.column_count labeller.now) tuples)) }
+    ensures found { IfOk result (λ x. IsFound sig.now (L.column_count labeller.now)
+        (L.label labeller.now) (L.accepting labeller.now) cap x.table) }
+    ensures targets { IfOk result (AreListedTargets lists) }
+    ensures over { IfErr result (λ e. IfOver e (λ tuples. IsOver sig.now
+        (L.column_count labeller.now) (L.label labeller.now) tuples cap)) }
 {
     let mut steps = Steps::<G>::new(blank);
-    explore_counted(alloc, sig, labeller, cap, &mut steps)
+    explore_from_none(alloc, sig, labeller, cap, lists, &mut steps)
 }
 
-/// Gives each entry that comes due the number of its label. It ends with true where none is due, and with false as soon as the
-/// labels are more than the cap.
+/// An empty list, where one is asked for.
+fn list_for(alloc: Global, lists: bool) -> Option<Vec<u32>>
+    ensures there { is_some result ≡ lists }
+    ensures empty { IfSome result (λ l. l.items ≡ []) }
+{
+    if lists { Some(Vec::new(alloc)) } else { None }
+}
+
+/// Puts one more target into the list, where there is one.
+fn list_target(targets: &mut Option<Vec<u32>>, target: u32) -> Result<(), Memory>
+    ensures list { OnOk result ((ts : List ℕ) → IfSome targets.old (λ l. l.items ≡ ts)
+        → IfSome targets.new (λ l. l.items ≡ ts ++ target ∷ [])) }
+    ensures there { OnOk result (is_some targets.new ≡ is_some targets.old) }
+{
+    match targets {
+        Some(list) => {
+            list.push(target)?;
+            Ok(())
+        }
+        None => Ok(()),
+    }
+}
+
+/// Gives each entry that comes due the number of its label, and lists it. It ends with true where none is due, and with false as soon
+/// as the labels are more than the cap.
 fn give_targets<G: Ledger, L: Labeller>(
     alloc: Global,
     labeller: &L,
     cap: u32,
     maker: &mut Maker,
+    targets: &mut Option<Vec<u32>>,
     found: &mut Found,
     memo: &mut L::Memo,
     out: &mut [u64],
@@ -147,6 +205,7 @@ fn give_targets<G: Ledger, L: Labeller>(
     requires exploring { (sig : theory.Signature) × L.serves labeller.now sig
         × IsExploring sig (L.column_count labeller.now) (L.label labeller.now) maker.old
         found.old.firsts found.old.labels.labels }
+    requires listed { IfSome targets.old (λ l. l.items ≡ maker.old.targets) }
     requires same { found.old.numbers ≡ found.old.labels.labels }
     requires width { found.old.labels.width ≡ L.word_count labeller.now }
     requires few { length found.old.labels.labels ≤ cap }
@@ -161,6 +220,8 @@ fn give_targets<G: Ledger, L: Labeller>(
         → IsExploring sig (L.column_count labeller.now) (L.label labeller.now) maker.old
         found.old.firsts found.old.labels.labels → b ≡ false
         → IsOver sig (L.column_count labeller.now) (L.label labeller.now) found.new.firsts cap) }
+    ensures listed { OnOk result (IfSome targets.new (λ l. l.items ≡ maker.new.targets)) }
+    ensures there { OnOk result (is_some targets.new ≡ is_some targets.old) }
     ensures steps { IfOk result (λ b. b ≡ true → steps.new + length maker.old.targets
         ≡ steps.old + length maker.new.targets) }
     ensures grows { steps.old ≤ steps.new }
@@ -171,6 +232,7 @@ fn give_targets<G: Ledger, L: Labeller>(
             return Ok(false);
         }
         maker.give(q as u32)?;
+        list_target(targets, q as u32)?;
     }
     Ok(true)
 }
@@ -188,6 +250,7 @@ impl Exploration {
         requires exploring { IsExploring self.old.maker.signature (L.column_count labeller.now)
             (L.label labeller.now) self.old.maker self.old.found.firsts
             self.old.found.labels.labels }
+        requires listed { IfSome self.old.targets (λ l. l.items ≡ self.old.maker.targets) }
         requires same { self.old.found.numbers ≡ self.old.found.labels.labels }
         requires width { self.old.found.labels.width ≡ L.word_count labeller.now }
         requires few { length self.old.found.labels.labels ≤ cap }
@@ -196,6 +259,9 @@ impl Exploration {
             self.new.found.firsts self.new.found.labels.labels cap) }
         ensures over { IfOk result (λ b. b ≡ false → IsOver self.old.maker.signature
             (L.column_count labeller.now) (L.label labeller.now) self.new.found.firsts cap) }
+        ensures listed { OnOk result (IfSome self.new.targets (λ l. l.items
+            ≡ self.new.maker.targets)) }
+        ensures there { OnOk result (is_some self.new.targets ≡ is_some self.old.targets) }
         ensures steps { IfOk result (λ b. b ≡ true → steps.new + length self.old.maker.targets
             ≡ steps.old + length self.new.maker.targets) }
         ensures grows { steps.old ≤ steps.new }
@@ -208,6 +274,7 @@ impl Exploration {
             labeller,
             cap,
             &mut self.maker,
+            &mut self.targets,
             &mut self.found,
             &mut memo,
             out,
@@ -216,23 +283,27 @@ impl Exploration {
     }
 
     /// The table, where each entry has its target.
-    fn finish<L: Labeller>(self, alloc: Global, labeller: &L) -> Result<Dta, Memory>
+    fn finish<L: Labeller>(self, alloc: Global, labeller: &L) -> Result<Explored, Memory>
         requires exploring { (sig : theory.Signature) × L.serves labeller.now sig
             × IsExploring sig (L.column_count labeller.now) (L.label labeller.now) self.maker
             self.found.firsts self.found.labels.labels }
         requires complete { IsComplete self.maker }
         requires few { length self.found.labels.labels < 2 ^ 32 }
-        ensures finals { IfOk result (λ t. AreLabelFinals (L.column_count labeller.now)
-            (L.accepting labeller.now) self.found.labels.labels t.finals) }
-        ensures made { IfOk result (λ t. t ≡ finished self.maker t.finals) }
-        ensures listed { IfOk result IsListed }
+        requires targets { IfSome self.targets (λ l. l.items ≡ self.maker.targets) }
+        ensures finals { IfOk result (λ x. AreLabelFinals (L.column_count labeller.now)
+            (L.accepting labeller.now) self.found.labels.labels x.table.finals) }
+        ensures made { IfOk result (λ x. x.table ≡ finished self.maker x.table.finals) }
+        ensures listed { IfOk result (λ x. IsListed x.table) }
+        ensures targets { IfOk result (AreListedTargets (is_some self.targets)) }
     {
         let finals = finals_of(alloc, labeller, &self.found.labels)?;
         let Exploration {
             maker,
             found: _found,
+            targets,
         } = self;
-        maker.finish(finals)
+        let table = maker.finish(finals)?;
+        Ok(Explored { table, targets })
     }
 
     /// The table from where the exploration stands.
@@ -242,28 +313,60 @@ impl Exploration {
         labeller: &L,
         cap: u32,
         steps: &mut Steps<G>,
-    ) -> Result<Dta, ExploreFault>
+    ) -> Result<Explored, ExploreFault>
         requires served { L.serves labeller.now self.maker.signature }
         requires exploring { IsExploring self.maker.signature (L.column_count labeller.now)
             (L.label labeller.now) self.maker self.found.firsts self.found.labels.labels }
+        requires listed { IfSome self.targets (λ l. l.items ≡ self.maker.targets) }
         requires same { self.found.numbers ≡ self.found.labels.labels }
         requires width { self.found.labels.width ≡ L.word_count labeller.now }
         requires few { length self.found.labels.labels ≤ cap }
-        ensures table { IfOk result (λ t. IsFound self.maker.signature
+        ensures table { IfOk result (λ x. IsFound self.maker.signature
             (L.column_count labeller.now) (L.label labeller.now) (L.accepting labeller.now) cap
-            t) }
+            x.table) }
+        ensures targets { IfOk result (AreListedTargets (is_some self.targets)) }
         ensures over { IfErr result (λ e. IfOver e (λ tuples. IsOver self.maker.signature
             (L.column_count labeller.now) (L.label labeller.now) tuples cap)) }
-        ensures steps { IfOk result (λ t. steps.new + length self.maker.targets
-            ≡ steps.old + length t.entries) }
+        ensures steps { IfOk result (λ x. steps.new + length self.maker.targets
+            ≡ steps.old + length x.table.entries) }
         ensures grows { steps.old ≤ steps.new }
     {
         let is_whole = self.give_all(alloc, labeller, cap, steps)?;
         if !is_whole {
             return Err(ExploreFault::Over(self.found.take_firsts(alloc)));
         }
-        Ok(self.finish(alloc, labeller)?)
+        let explored = self.finish(alloc, labeller)?;
+        Ok(explored)
     }
+}
+
+/// The exploration from its beginning.
+fn explore_from_none<G: Ledger, L: Labeller>(
+    alloc: Global,
+    sig: &Signature,
+    labeller: &L,
+    cap: u32,
+    lists: bool,
+    steps: &mut Steps<G>,
+) -> Result<Explored, ExploreFault>
+    requires { L.serves labeller.now sig.now }
+    ensures found { IfOk result (λ x. IsFound sig.now (L.column_count labeller.now)
+        (L.label labeller.now) (L.accepting labeller.now) cap x.table) }
+    ensures targets { IfOk result (AreListedTargets lists) }
+    ensures over { IfErr result (λ e. IfOver e (λ tuples. IsOver sig.now
+        (L.column_count labeller.now) (L.label labeller.now) tuples cap)) }
+    ensures steps { IfOk result (λ x. steps.new ≡ steps.old + length x.table.entries) }
+    ensures grows { steps.old ≤ steps.new }
+{
+    let found = Found::new(alloc, labeller.width())?;
+    let maker = Maker::new(alloc, sig, labeller.columns())?;
+    let targets = list_for(alloc, lists);
+    let exploration = Exploration {
+        maker,
+        found,
+        targets,
+    };
+    exploration.explore_on(alloc, labeller, cap, steps)
 }
 
 /// `explore`, counting the calls of the labeller's step: one for each entry of the table. After an error none is taken back.
@@ -289,7 +392,9 @@ pub fn explore_counted<G: Ledger, L: Labeller>(
     ensures steps { IfOk result (λ t. steps.new ≡ steps.old + length t.entries) }
     ensures grows { steps.old ≤ steps.new }
 {
-    let found = Found::new(alloc, labeller.width())?;
-    let maker = Maker::new(alloc, sig, labeller.columns())?;
-    Exploration { maker, found }.explore_on(alloc, labeller, cap, steps)
+    let Explored {
+        table,
+        targets: _none,
+    } = explore_from_none(alloc, sig, labeller, cap, false, steps)?;
+    Ok(table)
 }

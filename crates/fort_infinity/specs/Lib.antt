@@ -1,4 +1,4 @@
-pub mod CountView
+pub mod ManyCounts
 pub mod StateListsView
 pub mod Children
 pub mod RankTests

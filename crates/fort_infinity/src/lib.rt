@@ -2,7 +2,6 @@
 #![tactic(auto)]
 
 mod children;
-mod count;
 mod counts;
 mod lists;
 pub mod local;
@@ -11,6 +10,6 @@ mod many_choices;
 mod many_entry;
 mod ranks;
 
-pub use count::Count;
 pub use counts::pure_counts;
+pub use fort_steps::Count;
 pub use many::Many;

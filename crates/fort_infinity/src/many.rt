@@ -8,12 +8,12 @@ ghost use Rattle.fort_operations.specs.Agreement.{HaveOneState};
 ghost use Rattle.fort_operations.specs.OperationTruth.{TestsRelation, accepts as accepts_lem};
 ghost use Rattle.fort_counts.specs.ManyLabels as labels;
 ghost use Rattle.fort_counts.specs.ManyAgreement.{AgreeAtMany};
-ghost use Rattle.fort_infinity.specs.CountView.{is_many};
+ghost use Rattle.fort_infinity.specs.ManyCounts.{is_many};
 
-use crate::count::Count;
 use crate::local::{many_accepts, many_label, many_width};
 use fort_explore::{LocalRule, Rows};
 use fort_lockstep::{Row, Table};
+use fort_steps::Count;
 
 /// The labels of "infinitely many": of a tuple of the other columns, those of the projection, and the set of states that infinitely
 /// many terms of the column give.
@@ -32,7 +32,7 @@ pub struct Many<'a, T: Table> {
 
 impl<'a, T: Table> Many<'a, T> {
     ghost use Rattle.fort_counts.specs.Counts.{KeepRules, count_at};
-    ghost use Rattle.fort_infinity.specs.CountView.{as_count};
+    ghost use Rattle.fort_steps.specs.StepView.{as_count};
 
     /// "Infinitely many" of a body that has another column. `alone` are the body's pure states in the column; the counts beside them
     /// hold by their rules, whoever counted them. It takes no memory.
@@ -79,7 +79,7 @@ impl<'a, T: Table> LocalRule for Many<'a, T> {
     ghost use Rattle.fort_tables.specs.BitRows.{words_for};
     ghost use Rattle.fort_counts.specs.ManyLabels as labels;
     ghost use Rattle.fort_counts.proofs.ManyLabelLaws.{length-many_rule};
-    ghost use Rattle.fort_infinity.specs.CountView.{is_many};
+    ghost use Rattle.fort_infinity.specs.ManyCounts.{is_many};
 
     ghost rule = { λ m. labels.many_rule (T.table m.body.now) m.column (is_many m.alone.now m.counts.now) };
 

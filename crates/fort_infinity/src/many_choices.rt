@@ -8,12 +8,12 @@ ghost use Rattle.fort_operations.specs.Projections.{ArePure, has_state};
 ghost use Rattle.fort_counts.specs.ManyLabels.{has_many, kid_has_many as kid_has_many_lem};
 ghost use Rattle.fort_counts.specs.ManyEntries.{kid_labels, AreManyChoices, finds, may_be, gives_state, gives_endless, has_endless};
 ghost use Rattle.fort_rrn_algebra.specs.Choices.{IsNext, IsNextChoice, AreNoChoices, may_choose};
-ghost use Rattle.fort_infinity.specs.CountView.{is_many};
+ghost use Rattle.fort_infinity.specs.ManyCounts.{is_many};
 
-use crate::count::{Count, is_many_at};
 use fort_explore::{Rows, has_bit, set_bit};
 use fort_lockstep::{Row, Table, TupleSym};
 use fort_rrn_algebra::{next_absent, next_in_set, next_pure};
+use fort_steps::Count;
 use fort_terms::Sym;
 
 /// A symbol in the column above an entry over labels of "infinitely many".
@@ -30,6 +30,19 @@ pub(crate) struct ManyChoices<'a, T: Table> {
     /// The entry's symbol with `sym` in the column.
     pub(crate) symbol: TupleSym,
     pub(crate) arity: usize,
+}
+
+/// Whether the count beside a state is infinite; a state that isn't in the list has none.
+fn is_many_at(alone: &[u32], counts: &[Count], k: u32) -> bool
+    requires ascending { (i j : ℕ) → i < j → j < length alone.now
+        → slice_index_or alone.now i 0 < slice_index_or alone.now j 0 }
+    requires sizes { length counts.now ≡ length alone.now }
+    ensures { result ≡ is_many alone.now counts.now k }
+{
+    match alone.binary_search(&k) {
+        Ok(place) => counts[place].is_infinite(),
+        Err(_) => false,
+    }
 }
 
 /// Marks that some term gives a state, and where a child is endless, that infinitely many do.

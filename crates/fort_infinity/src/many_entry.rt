@@ -6,12 +6,12 @@ ghost use Rattle.fort_tables.specs.BitRows.{words_for};
 ghost use Rattle.fort_operations.specs.Projections.{ArePure, absent_state, has_state, gives, gives_under};
 ghost use Rattle.fort_counts.specs.ManyLabels.{has_many, gives_many, gives_many_under};
 ghost use Rattle.fort_counts.specs.ManyEntries.{kid_labels, IsManyEntry};
-ghost use Rattle.fort_infinity.specs.CountView.{is_many};
+ghost use Rattle.fort_infinity.specs.ManyCounts.{is_many};
 
-use crate::count::Count;
 use crate::many_choices::ManyChoices;
 use fort_explore::Rows;
 use fort_lockstep::{Row, Table};
+use fort_steps::Count;
 use fort_terms::Sym;
 
 /// The children's states with the column absent.

@@ -4,3 +4,6 @@ pub mod RootKeys
 pub mod RootLaws
 pub mod UseLaws
 pub mod NumberLaws
+pub mod OutlineLaws
+pub mod DueLists
+pub mod JoinedOperands

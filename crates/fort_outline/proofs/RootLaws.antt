@@ -155,3 +155,8 @@ same_root parts apart (Infinite n f) (Infinite m g) o p e =
     let body : get_or parts f core.True ≡ get_or parts g core.True = cc in
     λ i. Infinite (number i) (apart f g o p body i)
 same_root parts apart r s o p e = absurd (true≢false (ap (same_shape (root_core parts r)) e))
+
+-- a part with another root is no atom
+pub no_atom : (parts : List Core) (r : Root) → ((rel : Rel) (index x y : ℕ) → r ≡ Atom rel index x y → ⊥) → (rel : core.Rel) (index x y : ℕ) → root_core parts r ≡ core.Atom rel index x y → ⊥
+no_atom parts (Atom own i u v) other rel index x y e = other own i u v refl
+no_atom parts r other rel index x y e = true≢false (ap (same_shape (core.Atom rel index x y)) (sym e))

@@ -1,12 +1,12 @@
 //! The roots of parts.
-ghost use Rattle.std.specs.Prelude.{◌≡◌, List};
+ghost use Rattle.std.specs.Prelude.{◌≡◌, ℕ, List, IfSome, IfNone};
 ghost use Rattle.fort_logic.specs.Cores as theory;
-ghost use Rattle.fort_logic.specs.Kinds.{kind_of, kind_of_relation};
+ghost use Rattle.fort_logic.specs.Kinds.{kind_of};
 ghost use Rattle.fort_formulas.specs.CoreView.{as_rel};
 ghost use Rattle.fort_formulas.specs.KindView.{as_kind};
 ghost use Rattle.fort_outline.specs.Roots.{root_core};
 
-use fort_formulas::{Kind, Rel};
+use fort_formulas::{Core, Kind, Rel, kind};
 use fort_terms::Term;
 
 /// The root of a part, with its operands by their numbers among the parts.
@@ -36,7 +36,7 @@ impl Root {
     {
         match self {
             Root::True => Kind::True,
-            Root::Atom(rel, _, _, _) => relation_kind(*rel),
+            Root::Atom(rel, index, x, y) => kind(&Core::Atom(*rel, *index, *x, *y)),
             Root::Nf(_, _) => Kind::Nf,
             Root::Is(_, _) => Kind::Is,
             Root::Not(_) => Kind::Not,
@@ -47,19 +47,18 @@ impl Root {
             Root::Infinite(_, _) => Kind::Infinite,
         }
     }
-}
 
-fn relation_kind(rel: Rel) -> Kind
-    ensures { as_kind result ≡ kind_of_relation (as_rel rel) }
-{
-    match rel {
-        Rel::Eq => Kind::Eq,
-        Rel::Root => Kind::Root,
-        Rel::Below => Kind::Below,
-        Rel::Step => Kind::Step,
-        Rel::Par => Kind::Par,
-        Rel::Plus => Kind::Plus,
-        Rel::Star => Kind::Star,
-        Rel::Conv => Kind::Conv,
+    /// The relation of an atom, with the index of its rules.
+    pub fn relation(&self) -> Option<(Rel, u32)>
+        ensures some { IfSome result (λ told. (parts : List theory.Core)
+            → (x : ℕ) × (y : ℕ)
+            × (root_core parts self.now ≡ theory.Atom (as_rel told.0) told.1 x y)) }
+        ensures none { IfNone result ((parts : List theory.Core) (rel : theory.Rel)
+            (index x y : ℕ) → root_core parts self.now ≡ theory.Atom rel index x y → ⊥) }
+    {
+        match self {
+            Root::Atom(rel, index, _, _) => Some((*rel, *index)),
+            _ => None,
+        }
     }
 }

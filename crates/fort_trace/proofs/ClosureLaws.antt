@@ -1,15 +1,13 @@
 -- The steps of the closures, index by index.
-use Rattle.std.proofs.Common.{◌≡◌, ℕ, suc, ◌+◌, List, [], ◌∷◌, ◌++◌, map, Bool, ◌||◌, true, false, refl, ap, sym, ◌∙◌, arith, subst, append_assoc, append-nil}
+use Rattle.std.proofs.Common.{◌≡◌, ℕ, suc, ◌+◌, List, [], ◌∷◌, ◌++◌, map, true, false, refl, ap, sym, ◌∙◌, arith, subst, append_assoc, append-nil}
 use Rattle.std.specs.List.{list_any}
 use Rattle.std.proofs.lemmas.List.{map-append}
-use Rattle.std.proofs.lemmas.List.Folds.{list_any-append}
 use Rattle.fort_theory.specs.Sides.{at_index}
 use Rattle.fort_theory.specs.Patterns.{PatternSystem, IsSystem}
 use Rattle.fort_logic.specs.Cores.{Core, Rel}
 use Rattle.fort_alike.specs.Atoms.{kind_for}
 use Rattle.fort_alike.specs.Alike.{is_reaching}
 use Rattle.fort_context_closure.specs.ClosedAtoms.{ListsPasses}
-use Rattle.fort_gtt_closure.specs.declared.entry.Entry.{Entry}
 use Rattle.fort_certificate_grammar.specs.Certificates as certificates
 use Rattle.fort_certificate_grammar.specs.Certificates.{Which, Star, Conv}
 use Rattle.fort_in_order.specs.ClosureSteps.{relation_of}
@@ -20,12 +18,9 @@ use Rattle.fort_in_order.specs.Written.{IsWrittenClosure, IsWrittenStep}
 use Rattle.fort_in_order_laws.proofs.FineSteps.{chosen, passed_over}
 use Rattle.fort_in_order_laws.proofs.StepLists.{steps_append, closures_due-push}
 use Rattle.fort_in_order_laws.proofs.WrittenSteps.{written_closure}
-use Rattle.fort_outline.specs.declared.root.Root.{Root}
-use Rattle.fort_outline.specs.declared.root.Root.TheVariants.{True, Atom, Nf, Is, Not, And, Or, Iff, Exists, Infinite}
-use Rattle.fort_outline.specs.Roots.{root_core, cores_behind, cores_of}
+use Rattle.fort_steps.specs.declared.closure.ClosureEntry.{ClosureEntry}
 use Rattle.fort_steps.specs.declared.step.Step.{Step}
-use Rattle.fort_steps.specs.StepView.{as_step}
-use Rattle.fort_written_closures.specs.ItemView.{as_items}
+use Rattle.fort_steps.specs.StepView.{as_pair, as_step}
 use Rattle.fort_written_closures.proofs.PassesLaws.{closure_items}
 use Rattle.fort_trace.specs.Recording.{AddsSteps, IsOneMore}
 
@@ -34,11 +29,12 @@ reading : (which : Which) → is_reaching (kind_for (relation_of which)) ≡ tru
 reading Star = refl
 reading Conv = refl
 
-pub IsWrittenClosure-entries : (system : PatternSystem) → IsSystem system → (which : Which) (index : ℕ) (rel : Rel) → rel ≡ relation_of which → (es : List Entry)
-    → ListsPasses rel (at_index index system.rules) es → (items : List certificates.Pair) → items ≡ as_items es → IsWrittenClosure system which index items
-IsWrittenClosure-entries system is which index rel e es passes items same =
+pub IsWrittenClosure-entries : (system : PatternSystem) → IsSystem system → (which : Which) (index : ℕ) (rel : Rel) → rel ≡ relation_of which → (es : List ClosureEntry)
+    → ListsPasses rel (at_index index system.rules) es → IsWrittenClosure system which index (map as_pair es)
+IsWrittenClosure-entries system is which index rel e es passes =
     let own = subst (λ (r : Rel). ListsPasses r (at_index index system.rules) es) e passes (reading which) in
-    subst (IsWrittenClosure system which index) (sym same) (closure_items system is which index own.0 own.1 es own.2)
+    let passed = own.2 in
+    subst (IsWrittenClosure system which index) (sym passed.written) (closure_items system is which index own.0 own.1 passed.found passed.passes)
 
 module _ (system : PatternSystem) (parts : List Core) where
   pub AddsSteps-none : (made : Made) (due : List DueStep) (steps : List Step) → due ≡ [] → AddsSteps system parts made due steps steps
@@ -90,42 +86,3 @@ module _ (system : PatternSystem) (parts : List Core) where
 -- a step at the end
 pub one_more : (old new : List Step) (s : Step) → new ≡ old ++ s ∷ [] → IsOneMore old (as_step s) new
 one_more old new s e = ap (map as_step) e ∙ map-append as_step old (s ∷ [])
-
--- whether a root asks is a matter of the root alone
-
-pub asks_alike : (which : Which) (i : ℕ) (ps qs : List Core) (r : Root) → asks which i (root_core ps r) ≡ asks which i (root_core qs r)
-asks_alike which i ps qs True = refl
-asks_alike which i ps qs (Atom rel index x y) = refl
-asks_alike which i ps qs (Nf index x) = refl
-asks_alike which i ps qs (Is x t) = refl
-asks_alike which i ps qs (Not f) = refl
-asks_alike which i ps qs (And f g) = refl
-asks_alike which i ps qs (Or f g) = refl
-asks_alike which i ps qs (Iff f g) = refl
-asks_alike which i ps qs (Exists n f) = refl
-asks_alike which i ps qs (Infinite n f) = refl
-
-abbrev pub asks_root : Which → ℕ → Root → Bool
-asks_root which i r = asks which i (root_core [] r)
-
-or_chain : (a b c : Bool) → ((a || (b || false)) || c) ≡ (a || (b || c))
-or_chain true b c = refl
-or_chain false true c = refl
-or_chain false false c = refl
-
-or_none : (a : Bool) → a ≡ (a || false)
-or_none true = refl
-or_none false = refl
-
-any_behind : (which : Which) (i : ℕ) (ps : List Core) (rs : List Root)
-    → list_any (asks which i) (cores_behind ps rs) ≡ (list_any (asks which i) ps || list_any (asks_root which i) rs)
-any_behind which i ps [] = or_none (list_any (asks which i) ps)
-any_behind which i ps (r ∷ rs) =
-    let old = list_any (asks which i) ps in
-    let rest = list_any (asks_root which i) rs in
-    any_behind which i (ps ++ root_core ps r ∷ []) rs
-    ∙ (ap (λ b. b || rest) (list_any-append (asks which i) ps (root_core ps r ∷ []))
-    ∙ (or_chain old (asks which i (root_core ps r)) rest ∙ ap (λ b. old || (b || rest)) (asks_alike which i ps [] r)))
-
-pub any_root : (which : Which) (i : ℕ) (rs : List Root) → list_any (asks which i) (cores_of rs) ≡ list_any (asks_root which i) rs
-any_root which i rs = any_behind which i [] rs

@@ -5,13 +5,13 @@ use Rattle.std.specs.declared.vec.Vec.{Vec}
 use Rattle.fort_logic.specs.Cores as core
 use Rattle.fort_logic.specs.Cores.{Core}
 use Rattle.fort_tables.specs.Tables.{listed_table}
-use Rattle.fort_infinity.specs.declared.count.Count.{Count}
-use Rattle.fort_infinity.specs.CountView.{as_count}
 use Rattle.fort_in_order.specs.Made.{Made}
 use Rattle.fort_engine.specs.declared.answer.Last.{Last}
 use Rattle.fort_engine.specs.declared.answer.Last.TheVariants.{Auto}
 use Rattle.fort_engine.specs.Found.{AreItsCounts}
+use Rattle.fort_steps.specs.declared.count.Count.{Count}
 use Rattle.fort_steps.specs.declared.step.Step.{Step}
+use Rattle.fort_steps.specs.StepView.{as_count}
 use Rattle.fort_trace.specs.Recording.{AreOperandsMade, CountsPushed, CountsAdded}
 
 pub CountsPushed-none : (k : ℕ) (own : Option (Vec Count Global)) (steps : List Step) → ((list : Vec Count Global) → own ≡ Some list → ⊥) → CountsPushed k own steps steps

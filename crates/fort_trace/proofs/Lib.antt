@@ -1,5 +1,3 @@
-pub mod ListLaws
-pub mod TargetLaws
 pub mod ClosureLaws
 pub mod CountLaws
 pub mod AnswerLaws

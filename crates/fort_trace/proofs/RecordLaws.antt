@@ -37,12 +37,12 @@ use Rattle.fort_engine.specs.declared.answer.Decided.{Decided}
 use Rattle.fort_engine.specs.AnswerView.{as_answer}
 use Rattle.fort_engine.specs.Kept.{HasRightAnswer, IsSoFar}
 use Rattle.fort_engine.specs.Deciding.{HasOperands, IsPlanned, IsNextPart}
-use Rattle.fort_engine.specs.Found.{IsFound}
+use Rattle.fort_engine.specs.Found.{is_negation, IsFound}
 use Rattle.fort_outline.proofs.RootLaws.{length-cores_of}
 use Rattle.fort_engine.proofs.DecideLaws.{HasRightAnswer-root, none_over}
 use Rattle.fort_steps.specs.declared.step.Step.{Step}
 use Rattle.fort_steps.specs.StepView.{as_step}
-use Rattle.fort_trace.specs.Recording.{AddsSteps, AreOperandsMade, CountsPushed, CountsAdded, is_negation, AnswerAdded, HasRightSteps, IsPartRecorded, IsRecordedTo, AreRecordedTo}
+use Rattle.fort_trace.specs.Recording.{AddsSteps, AreOperandsMade, CountsPushed, CountsAdded, AnswerAdded, HasRightSteps, IsPartRecorded, IsRecordedTo, AreRecordedTo}
 use Rattle.fort_trace.proofs.AnswerLaws.{turned_answer}
 use Rattle.fort_trace.proofs.CountLaws.{counts_added}
 
@@ -291,7 +291,7 @@ module _ (system : PatternSystem) (root : Core) (decided : IsDecided system root
 -- ---- with what the engine knows
 
 pub AreRecordedTo-more : (system : PatternSystem) → IsSystem system → (cap : ℕ) (o : Outline) (k : ℕ) (kept : List (Option Last)) → IsNextPart system cap o k kept → (d : Decided)
-    → IsFound system (parts_in o) kept (core_at o k) d → (old mid new : List Step) → AreRecordedTo system o k kept old → CountsPushed k d.counts old mid
+    → IsFound system (parts_in o) kept (core_at o k) true d → (old mid new : List Step) → AreRecordedTo system o k kept old → CountsPushed k d.counts old mid
     → AnswerAdded k (core_at o k) d.answer mid new → AreRecordedTo system o (k + 1) (kept ++ Some d.answer ∷ []) new
 AreRecordedTo-more system is cap o k kept next d found old mid new h pushed added =
     let parts = parts_in o in

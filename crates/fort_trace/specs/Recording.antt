@@ -9,8 +9,6 @@ use Rattle.fort_logic.specs.Cores.{Core}
 use Rattle.fort_logic.specs.PatternStructures.{pattern_structure}
 use Rattle.fort_tables.specs.Tables.{Table, Listed, IsListed}
 use Rattle.fort_counts.specs.Counts as counts
-use Rattle.fort_infinity.specs.declared.count.Count.{Count}
-use Rattle.fort_infinity.specs.CountView.{as_count}
 use Rattle.fort_parts.specs.PartAnswers.{OfTable, IsAnswerTo}
 use Rattle.fort_parts.specs.DecidedCores.{IsOperandOf}
 use Rattle.fort_certificate_grammar.specs.Certificates as certificates
@@ -24,9 +22,10 @@ use Rattle.fort_outline.specs.Outlines.{parts_in}
 use Rattle.fort_engine.specs.declared.answer.Last.{Last}
 use Rattle.fort_engine.specs.declared.answer.Last.TheVariants.{Truth, Auto}
 use Rattle.fort_engine.specs.AnswerView.{as_answer}
-use Rattle.fort_engine.specs.Found.{AreMarks}
+use Rattle.fort_engine.specs.Found.{AreMarks, is_negation}
+use Rattle.fort_steps.specs.declared.count.Count.{Count}
 use Rattle.fort_steps.specs.declared.step.Step.{Step}
-use Rattle.fort_steps.specs.StepView.{as_step}
+use Rattle.fort_steps.specs.StepView.{as_count, as_step}
 
 -- the steps behind the old ones are those due, each as it is written, and make the last
 pub record AddsSteps (system : PatternSystem) (parts : List Core) (made : Made) (due : List DueStep) (old new : List Step) : Type 0 where
@@ -72,10 +71,6 @@ pub record AreTargetsAdded (k : ℕ) (table : Listed) (old new : List Step) : Ty
   pub step : IsOneMore old (certificates.Part k table.targets) new
   pub finals : length table.finals ≡ length table.presences
   pub lawful : IsListed table
-
-abbrev pub is_negation : Core → Bool
-is_negation (core.Not f) = true
-is_negation other = false
 
 -- the table of a negation is its body's, and has no step
 pub record IsTableAdded (k : ℕ) (f : Core) (table : Listed) (old new : List Step) : Type 0 where

@@ -1,87 +1,22 @@
 //! The closures that the parts of a formula ask for, as steps.
-ghost use Rattle.std.specs.Prelude.{◌≡◌, List, ◌++◌, map, length, IfOk, OnOk};
-ghost use Rattle.std.specs.List.{list_any};
+ghost use Rattle.std.specs.Prelude.{◌≡◌, ◌++◌, map, length, IfOk, OnOk};
 ghost use Rattle.fort_theory.specs.Sides.{IsIndexOf};
-ghost use Rattle.fort_logic.specs.Cores as theory;
 ghost use Rattle.fort_formulas.specs.CoreView.{as_rel};
-ghost use Rattle.fort_outline.specs.Roots.{root_core, cores_of};
+ghost use Rattle.fort_outline.specs.Roots.{cores_of};
 ghost use Rattle.fort_certificate_grammar.specs.Certificates.{Star, Conv};
 ghost use Rattle.fort_in_order.specs.ClosureSteps.{relation_of};
-ghost use Rattle.fort_in_order.specs.Dues as dues;
 ghost use Rattle.fort_in_order.specs.Dues.{closure_due, closures_due};
 ghost use Rattle.fort_in_order.specs.Made.{Made};
 ghost use Rattle.fort_in_order.specs.Written.{IsWrittenClosure};
-ghost use Rattle.fort_steps.specs.StepView.{as_which, as_why, as_pair};
-ghost use Rattle.fort_written_closures.specs.ItemView as items;
+ghost use Rattle.fort_steps.specs.StepView.{as_which, as_pair};
 ghost use Rattle.fort_trace.specs.Recording.{AddsSteps};
 
 use fort_context_closure::AtomLabels;
 use fort_formulas::Rel;
-use fort_gtt_closure::{Entry, Why};
-use fort_outline::Root;
-use fort_steps::{ClosureEntry, Reason, Step, Which};
+use fort_outline::{Root, is_closure_due};
+use fort_steps::{ClosureEntry, Step, Which};
 use fort_terms::{Memory, System};
 use std::alloc::Global;
-
-/// Whether a closure tells a relation.
-fn reads(which: Which, rel: Rel) -> bool
-    ensures { result ≡ dues.reads (as_which which) (as_rel rel) }
-{
-    match which {
-        Which::Star => matches!(rel, Rel::Star | Rel::Plus),
-        Which::Conv => matches!(rel, Rel::Conv),
-    }
-}
-
-/// Whether a formula with this root asks for the closure of an index.
-fn asks(which: Which, index: u32, root: &Root) -> bool
-    ensures { (parts : List theory.Core)
-        → result ≡ dues.asks (as_which which) index (root_core parts root.now) }
-{
-    match root {
-        Root::Atom(rel, own, _, _) => reads(which, *rel) && *own == index,
-        Root::True | Root::Nf(_, _) | Root::Is(_, _) => false,
-        Root::Not(_) | Root::Exists(_, _) | Root::Infinite(_, _) => false,
-        Root::And(_, _) | Root::Or(_, _) | Root::Iff(_, _) => false,
-    }
-}
-
-/// Whether some part does.
-fn some_asks(which: Which, index: u32, roots: &[Root]) -> bool
-    ensures { result ≡ list_any (dues.asks (as_which which) index) (cores_of roots.now) }
-{
-    for root in roots {
-        if asks(which, index, root) {
-            return true;
-        }
-    }
-    false
-}
-
-/// The reason in a certificate. An automaton of patterns has no silent moves.
-fn reason(why: Why) -> Reason
-    ensures { as_why result ≡ items.as_why why }
-{
-    match why {
-        Why::Any => Reason::Any,
-        Why::Kids(_, _) | Why::SilentRight(_) | Why::SilentLeft(_) => Reason::Kids,
-        Why::Pair(rule) => Reason::Rule(rule),
-    }
-}
-
-fn listed(alloc: Global, entries: &[Entry]) -> Result<Vec<ClosureEntry>, Memory>
-    ensures { IfOk result (λ list. map as_pair list.items ≡ items.as_items entries.now) }
-{
-    let mut list = Vec::with_capacity(alloc, entries.len())?;
-    for entry in entries {
-        list.push(ClosureEntry {
-            p: entry.p,
-            q: entry.q,
-            why: reason(entry.why),
-        })?;
-    }
-    Ok(list)
-}
 
 /// The relation that a closure tells.
 fn relation(which: Which) -> Rel
@@ -107,7 +42,7 @@ fn closure(
     // A system keeps to the law of systems.
     let _lawful = system.signature();
     let labels = AtomLabels::atom(alloc, system, index, relation(which), 0, 1)?;
-    let list = listed(alloc, labels.closure())?;
+    let list = Vec::from_slice(alloc, labels.closure())?;
     Ok(list)
 }
 
@@ -125,7 +60,7 @@ fn push_closure(
         (closure_due (cores_of roots.now) index (as_which which))
         steps.old.items steps.new.items) }
 {
-    if !some_asks(which, index, roots) {
+    if !is_closure_due(which, index, roots) {
         return Ok(());
     }
     let entries = closure(alloc, system, which, index)?;

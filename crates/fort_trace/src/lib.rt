@@ -6,6 +6,5 @@ mod closures;
 mod counts;
 mod decide;
 mod recorder;
-mod targets;
 
 pub use decide::{Recorded, decide_with_steps};

@@ -14,33 +14,39 @@ pub(crate) struct Steps {
 }
 
 impl Recorder for Steps {
+    ghost use Rattle.std.specs.Prelude.{true};
     ghost use Rattle.fort_trace.specs.Recording.{AreRecordedTo, AreRecordedTo-less};
 
     ghost recorded = { λ s system o k kept. AreRecordedTo system o k kept s.list.items };
 
+    ghost listing = { λ _. true };
+
     ghost lets_go = { λ s system o k kept less h same.
         AreRecordedTo-less system o k kept less s.list.items h same };
 
+    fn lists(&self) -> bool {
+        true
+    }
+
     fn note(
         &mut self,
-        alloc: Global,
+        _alloc: Global,
         system: &System,
         outline: &Outline,
         k: usize,
         _kept: &[Option<Last>],
-        decided: &Decided,
-    ) -> Result<(), Memory> {
+        decided: Decided,
+    ) -> Result<Last, Memory> {
         // A system keeps to the law of systems.
         let _lawful = system.signature();
         let number = k as u32;
-        push_counts(alloc, number, decided, &mut self.list)?;
-        push_answer(
-            alloc,
-            number,
-            &outline.roots[k],
-            &decided.answer,
-            &mut self.list,
-        )?;
-        Ok(())
+        let Decided {
+            answer,
+            counts,
+            targets,
+        } = decided;
+        push_counts(number, counts, &mut self.list)?;
+        push_answer(number, &outline.roots[k], &answer, targets, &mut self.list)?;
+        Ok(answer)
     }
 }

@@ -37,7 +37,7 @@ use Rattle.fort_in_order.specs.ClosureSteps.{ClosureRules, relation_of, IsPatter
 use Rattle.fort_in_order.specs.Passes.{IsDuePair, rank, IsFirstReason, last_number, IsPassed, IsNextItem, IsListOfPasses}
 use Rattle.fort_in_order.specs.Written.{IsWrittenClosure}
 use Rattle.fort_in_order.proofs.OrderedLists.{before_asymmetric}
-use Rattle.fort_written_closures.specs.ItemView.{as_why, as_item, as_items}
+use Rattle.fort_context_closure.specs.ItemView.{as_why, as_item, as_items}
 
 -- an element by its place, in both ways of saying it
 slice_from : {A : Type 0} (xs : List A) (k : ℕ) (x : A) → k < length xs → get_or xs k x ≡ x → slice_get xs k ≡ Some x

@@ -1,7 +1,7 @@
 use Rattle.std.proofs.Common.{List, ℕ, sym, ap, ◌∙◌, subst, arith}
 use Rattle.std.specs.Prelude.{Contains}
 use Rattle.fort_parts.specs.PartColumns.{place_in}
-use Rattle.fort_check_steps.proofs.OutlineLaws.{columns_at}
+use Rattle.fort_outline.proofs.OutlineLaws.{columns_at}
 use Rattle.fort_cert_checker.proofs.plan.bound_column.Goals as goal
 
 pub index-requires : goal.index-requires

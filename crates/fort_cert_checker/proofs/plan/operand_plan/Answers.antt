@@ -1,6 +1,6 @@
 use Rattle.std.proofs.Common.{ℕ, List, Contains, sym, ◌∙◌, subst, arith}
 use Rattle.fort_parts.specs.PartColumns.{places_in}
-use Rattle.fort_check_steps.proofs.OutlineLaws.{columns_at}
+use Rattle.fort_outline.proofs.OutlineLaws.{columns_at}
 use Rattle.fort_cert_checker.proofs.plan.operand_plan.Goals as goal
 
 pub index-requires : goal.index-requires

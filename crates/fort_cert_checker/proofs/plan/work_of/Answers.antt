@@ -1,13 +1,13 @@
-use Rattle.std.proofs.Common.{map, sym, subst, arith}
+use Rattle.std.proofs.Common.{map, sym, ap, ◌∙◌, subst, arith}
 use Rattle.std.proofs.lemmas.Result.{IfOk-weaker}
 use Rattle.fort_logic.specs.Cores.{Core}
 use Rattle.fort_logic.specs.Parts.{BindsFree}
 use Rattle.fort_parts.specs.DecidedCores.{IsOverSystem}
 use Rattle.fort_parts.proofs.PartColumnLaws.{column-from_free}
-use Rattle.fort_outline.specs.Outlines.{parts_in, core_at}
-use Rattle.fort_steps.specs.StepView.{as_step}
-use Rattle.fort_check_steps.proofs.OutlineLaws.{part_is, over_is}
-use Rattle.fort_cert_checker.specs.Plans.{IsRelationPlan, IsWorkOf}
+use Rattle.fort_outline.specs.Outlines.{core_at}
+use Rattle.fort_steps.specs.StepView.{as_step, as_count}
+use Rattle.fort_outline.proofs.OutlineLaws.{part_is, over_is}
+use Rattle.fort_cert_checker.specs.Plans.{IsAtomPlan}
 use Rattle.fort_cert_checker.proofs.plan.work_of.Goals as goal
 
 pub index-requires : goal.index-requires
@@ -24,27 +24,29 @@ relation_labels-requires c =
 pub returns-in_ok-labels-in-Atom : goal.returns-in_ok-labels-in-Atom
 returns-in_ok-labels-in-Atom c =
     let part = part_is c.args.outline.now.roots.items c.requires.outline.1.in_order c.args.k c.index.result.now _ c.requires.within c.index.ensures c.in-Atom.is in
-    subst (λ (f : Core). IsRelationPlan c.args.system.now (map as_step c.args.steps.now) f c.in_ok-labels-in-Atom.labels) (sym part) c.in_ok-labels-in-Atom.ensures
+    subst (λ (f : Core). IsAtomPlan c.args.system.now (map as_step c.args.steps.now) f c.in_ok-labels-in-Atom.labels) (sym part) c.in_ok-labels-in-Atom.ensures
 
-pub new-requires : goal.new-requires
-new-requires c =
+pub nf-requires : goal.nf-requires
+nf-requires c =
     let part = part_is c.args.outline.now.roots.items c.requires.outline.1.in_order c.args.k c.index.result.now _ c.requires.within c.index.ensures c.in-Nf.is in
     subst (λ (f : Core). IsOverSystem c.args.system.now f) part c.requires.fit.over
 
-pub returns-in_ok-new-in-Nf : goal.returns-in_ok-new-in-Nf
-returns-in_ok-new-in-Nf c = record {
-  index = c.in-Nf.index;
-  number = c.in-Nf.field-1;
-  whole = part_is c.args.outline.now.roots.items c.requires.outline.1.in_order c.args.k c.index.result.now _ c.requires.within c.index.ensures c.in-Nf.is;
-  labels = c.in_ok-new-in-Nf.ensures;
-}
+pub returns-in_ok-nf-in-Nf : goal.returns-in_ok-nf-in-Nf
+returns-in_ok-nf-in-Nf c =
+    let made = c.in_ok-nf-in-Nf.ensures.plain in
+    subst (IsAtomPlan c.args.system.now (map as_step c.args.steps.now) (core_at c.args.outline.now c.args.k)) (sym made.1) (record {
+      index = c.in-Nf.index;
+      number = c.in-Nf.field-1;
+      whole = part_is c.args.outline.now.roots.items c.requires.outline.1.in_order c.args.k c.index.result.now _ c.requires.within c.index.ensures c.in-Nf.is;
+      labels = made.2;
+    })
 
-pub returns-in-Some : goal.returns-in-Some
-returns-in-Some c =
-    let o = c.args.outline.now in
-    let part = part_is o.roots.items c.requires.outline.1.in_order c.args.k c.index.result.now _ c.requires.within c.index.ensures c.in-Is.is in
-    let ss = map as_step c.args.steps.now in
-    subst (λ (f : Core). IsWorkOf c.args.system.now (parts_in o) ss c.args.k f c.in-Some.work) (sym part) (c.in-Some.ensures.some c.args.system.now (parts_in o) ss c.args.k c.in-Is.field-0)
+pub returns-in_ok-is-in-Is : goal.returns-in_ok-is-in-Is
+returns-in_ok-is-in-Is c =
+    subst (IsAtomPlan c.args.system.now (map as_step c.args.steps.now) (core_at c.args.outline.now c.args.k)) (sym c.in_ok-is-in-Is.ensures.term) (record {
+      number = c.in-Is.field-0;
+      whole = part_is c.args.outline.now.roots.items c.requires.outline.1.in_order c.args.k c.index.result.now _ c.requires.within c.index.ensures c.in-Is.is;
+    })
 
 pub source_of-requires-clause-within : goal.source_of-requires-clause-within
 source_of-requires-clause-within c =
@@ -154,5 +156,5 @@ returns-in_ok-marks-in-Infinite c = record {
   whole = part_is c.args.outline.now.roots.items c.requires.outline.1.in_order c.args.k c.index.result.now _ c.requires.within c.index.ensures c.in-Infinite.is;
   source = c.source_of-in-Infinite.ensures;
   column = c.bound_column-column-in-Infinite.ensures;
-  marks_are = c.in_ok-marks-in-Infinite.ensures;
+  marks_are = λ own only. ap (map as_count) c.in_ok-marks-in-Infinite.ensures.items ∙ c.marks_of.ensures own only;
 }

@@ -5,8 +5,9 @@ use Rattle.fort_operations.specs.Projections.{ArePure}
 use Rattle.fort_counts.specs.Counts.{KeepRules, count_at}
 use Rattle.fort_in_order.specs.PartRules.{many_local}
 use Rattle.fort_in_order.proofs.OrderedLists.{pure_one}
-use Rattle.fort_infinity.specs.declared.count.Count.{Count}
-use Rattle.fort_infinity.specs.CountView.{as_count as as_mark, is_many}
+use Rattle.fort_steps.specs.declared.count.Count.{Count}
+use Rattle.fort_steps.specs.StepView.{as_count}
+use Rattle.fort_infinity.specs.ManyCounts.{is_many}
 use Rattle.fort_check_steps.specs.Turned.{turned_table}
 use Rattle.fort_check_steps.specs.Room.{HasLabelRoom}
 use Rattle.fort_cert_checker.specs.Pasts.{IsPartStep}
@@ -81,8 +82,8 @@ pub new-rule-requires-clause-rules : goal.new-rule-requires-clause-rules
 new-rule-requires-clause-rules c =
     let b = c.requires.body in
     let pure = subst (λ (t : Table). ArePure t c.args.column c.put_pure.new.states.items) (c.table-body.ensures.is b.0 b.1) c.put_pure.ensures.pure in
-    subst (λ (t : Table). KeepRules t c.args.column (count_at c.deref.result.now (map as_mark c.args.counts.now))) (sym (ap turned_table c.listed-listed.ensures ∙ c.table-body.ensures.is b.0 b.1))
-    (subst (λ (xs : List ℕ). KeepRules b.0 c.args.column (count_at xs (map as_mark c.args.counts.now))) (sym c.deref.ensures.value) (b.7 c.put_pure.new.states.items pure).1)
+    subst (λ (t : Table). KeepRules t c.args.column (count_at c.deref.result.now (map as_count c.args.counts.now))) (sym (ap turned_table c.listed-listed.ensures ∙ c.table-body.ensures.is b.0 b.1))
+    (subst (λ (xs : List ℕ). KeepRules b.0 c.args.column (count_at xs (map as_count c.args.counts.now))) (sym c.deref.ensures.value) (b.7 c.put_pure.new.states.items pure).1)
 
 pub returns-clause-step : goal.returns-clause-step
 returns-clause-step c table states at pure =

@@ -1,52 +1,51 @@
 use Rattle.std.proofs.Common.{List, map, sym, ap, ◌∙◌, refl}
-use Rattle.fort_outline.specs.Roots.{root_core, cores_of}
 use Rattle.fort_certificate_grammar.specs.Certificates as certificates
 use Rattle.fort_steps.specs.StepView.{as_step, as_count, as_pair, as_which}
-use Rattle.fort_steps.specs.declared.count.Count.{Count as Mark}
+use Rattle.fort_steps.specs.declared.count.Count.{Count}
 use Rattle.fort_cert_checker.proofs.OwnSteps as own
 use Rattle.fort_cert_checker.proofs.OwnSteps.{on_ok, if_err}
 use Rattle.fort_cert_checker.proofs.steps.check_own.Goals as goal
 
 pub check_table-requires : goal.check_table-requires
-check_table-requires c = let d = c.requires.due in record { due = (cores_of c.args.given.now.roots.now, c.in-Part.field-0, d.0, own.part_due c.args.given.now.system.now (cores_of c.args.given.now.roots.now) (map as_step c.args.given.now.steps.now) c.args.given.now.plans.now c.args.front.now (root_core (cores_of c.args.given.now.roots.now) c.args.root.now) c.args.plan.now (record { signature = c.signature.result; steps = c.args.given.now.steps; plans = c.args.given.now.plans; rooms = c.args.front }) (record { signature = c.signature.ensures.same; steps = refl; plans_are = refl; rooms_are = refl }) c.args.room.now c.args.scratch.now c.args.marks.now (as_step c.args.step.now) c.in-Part.field-0 c.deref.result.now (ap as_step c.in-Part.is ∙ ap (certificates.Part c.in-Part.field-0) (sym c.deref.ensures.value)) d.0 d.1) }
+check_table-requires c = let d = c.requires.due in record { due = (d.0, c.in-Part.field-0, d.2, d.1, own.part_due c.args.given.now.system.now d.0 (map as_step c.args.given.now.steps.now) c.args.given.now.plans.now c.args.front.now d.1 c.args.plan.now (record { signature = c.signature.result; steps = c.args.given.now.steps; plans = c.args.given.now.plans; rooms = c.args.front }) (record { signature = c.signature.ensures.same; steps = refl; plans_are = refl; rooms_are = refl }) c.args.room.now c.args.scratch.now c.args.marks.now (as_step c.args.step.now) c.in-Part.field-0 c.deref.result.now (ap as_step c.in-Part.is ∙ ap (certificates.Part c.in-Part.field-0) (sym c.deref.ensures.value)) d.2 d.3) }
 
 pub check_counts-requires : goal.check_counts-requires
-check_counts-requires c = let d = c.requires.due in record { due = (c.args.given.now.system.now, cores_of c.args.given.now.roots.now, c.in-Counts.field-0, d.0, root_core (cores_of c.args.given.now.roots.now) c.args.root.now, own.counts_due c.args.given.now.system.now (cores_of c.args.given.now.roots.now) (map as_step c.args.given.now.steps.now) c.args.given.now.plans.now c.args.front.now (root_core (cores_of c.args.given.now.roots.now) c.args.root.now) c.args.plan.now (record { signature = c.signature.result; steps = c.args.given.now.steps; plans = c.args.given.now.plans; rooms = c.args.front }) (record { signature = c.signature.ensures.same; steps = refl; plans_are = refl; rooms_are = refl }) c.args.room.now c.args.scratch.now c.args.marks.now (as_step c.args.step.now) c.in-Counts.field-0 (map as_count c.deref-in-Counts.result.now) (ap as_step c.in-Counts.is ∙ ap (λ (xs : List Mark). certificates.Counts c.in-Counts.field-0 (map as_count xs)) (sym c.deref-in-Counts.ensures.value)) d.0 d.1) }
+check_counts-requires c = let d = c.requires.due in record { due = (c.args.given.now.system.now, d.0, c.in-Counts.field-0, d.2, d.1, own.counts_due c.args.given.now.system.now d.0 (map as_step c.args.given.now.steps.now) c.args.given.now.plans.now c.args.front.now d.1 c.args.plan.now (record { signature = c.signature.result; steps = c.args.given.now.steps; plans = c.args.given.now.plans; rooms = c.args.front }) (record { signature = c.signature.ensures.same; steps = refl; plans_are = refl; rooms_are = refl }) c.args.room.now c.args.scratch.now c.args.marks.now (as_step c.args.step.now) c.in-Counts.field-0 (map as_count c.deref-in-Counts.result.now) (ap as_step c.in-Counts.is ∙ ap (λ (xs : List Count). certificates.Counts c.in-Counts.field-0 (map as_count xs)) (sym c.deref-in-Counts.ensures.value)) d.2 d.3) }
 
 pub check_value-requires : goal.check_value-requires
-check_value-requires c = let d = c.requires.due in record { due = (c.args.given.now.system.now, cores_of c.args.given.now.roots.now, c.in-Value.field-0, d.0, root_core (cores_of c.args.given.now.roots.now) c.args.root.now, own.value_due c.args.given.now.system.now (cores_of c.args.given.now.roots.now) (map as_step c.args.given.now.steps.now) c.args.given.now.plans.now c.args.front.now (root_core (cores_of c.args.given.now.roots.now) c.args.root.now) c.args.plan.now (record { signature = c.signature.result; steps = c.args.given.now.steps; plans = c.args.given.now.plans; rooms = c.args.front }) (record { signature = c.signature.ensures.same; steps = refl; plans_are = refl; rooms_are = refl }) c.args.room.now c.args.scratch.now c.args.marks.now (as_step c.args.step.now) c.in-Value.field-0 c.in-Value.value (ap as_step c.in-Value.is) d.0 d.1) }
+check_value-requires c = let d = c.requires.due in record { due = (c.args.given.now.system.now, d.0, c.in-Value.field-0, d.2, d.1, own.value_due c.args.given.now.system.now d.0 (map as_step c.args.given.now.steps.now) c.args.given.now.plans.now c.args.front.now d.1 c.args.plan.now (record { signature = c.signature.result; steps = c.args.given.now.steps; plans = c.args.given.now.plans; rooms = c.args.front }) (record { signature = c.signature.ensures.same; steps = refl; plans_are = refl; rooms_are = refl }) c.args.room.now c.args.scratch.now c.args.marks.now (as_step c.args.step.now) c.in-Value.field-0 c.in-Value.value (ap as_step c.in-Value.is) d.2 d.3) }
 
 pub unreachable-requires : goal.unreachable-requires
-unreachable-requires c = let d = c.requires.due in own.not_closure c.args.given.now.system.now (cores_of c.args.given.now.roots.now) (map as_step c.args.given.now.steps.now) c.args.given.now.plans.now c.args.front.now (root_core (cores_of c.args.given.now.roots.now) c.args.root.now) c.args.plan.now (record { signature = c.signature.result; steps = c.args.given.now.steps; plans = c.args.given.now.plans; rooms = c.args.front }) (record { signature = c.signature.ensures.same; steps = refl; plans_are = refl; rooms_are = refl }) c.args.room.now c.args.scratch.now c.args.marks.now (as_step c.args.step.now) (as_which c.in-Closure.field-0) c.in-Closure.field-1 (map as_pair c.in-Closure.field-2.items) (ap as_step c.in-Closure.is) d.0 d.1
+unreachable-requires c = let d = c.requires.due in own.not_closure c.args.given.now.system.now d.0 (map as_step c.args.given.now.steps.now) c.args.given.now.plans.now c.args.front.now d.1 c.args.plan.now (record { signature = c.signature.result; steps = c.args.given.now.steps; plans = c.args.given.now.plans; rooms = c.args.front }) (record { signature = c.signature.ensures.same; steps = refl; plans_are = refl; rooms_are = refl }) c.args.room.now c.args.scratch.now c.args.marks.now (as_step c.args.step.now) (as_which c.in-Closure.field-0) c.in-Closure.field-1 (map as_pair c.in-Closure.field-2.items) (ap as_step c.in-Closure.is) d.2 d.3
 
 pub returns-in-Part-clause-fine : goal.returns-in-Part-clause-fine
-returns-in-Part-clause-fine c = own.part_fine c.args.given.now.system.now (cores_of c.args.given.now.roots.now) (map as_step c.args.given.now.steps.now) c.args.given.now.plans.now c.args.front.now (root_core (cores_of c.args.given.now.roots.now) c.args.root.now) c.args.plan.now (record { signature = c.signature.result; steps = c.args.given.now.steps; plans = c.args.given.now.plans; rooms = c.args.front }) (record { signature = c.signature.ensures.same; steps = refl; plans_are = refl; rooms_are = refl }) c.args.room.now c.args.scratch.now c.args.marks.now (as_step c.args.step.now) c.in-Part.field-0 c.deref.result.now (ap as_step c.in-Part.is ∙ ap (certificates.Part c.in-Part.field-0) (sym c.deref.ensures.value)) c.check_table.result c.check_table.new.room (λ made d. c.check_table.ensures.step (cores_of c.args.given.now.roots.now) c.in-Part.field-0 made d)
+returns-in-Part-clause-fine c = own.all_fine c.args.given.now.system.now (map as_step c.args.given.now.steps.now) c.args.given.now.plans.now c.args.front.now c.args.plan.now (as_step c.args.step.now) c.args.room.now c.args.scratch.now c.args.marks.now c.check_table.new.room c.check_table.result (λ parts f. own.part_fine c.args.given.now.system.now parts (map as_step c.args.given.now.steps.now) c.args.given.now.plans.now c.args.front.now f c.args.plan.now (record { signature = c.signature.result; steps = c.args.given.now.steps; plans = c.args.given.now.plans; rooms = c.args.front }) (record { signature = c.signature.ensures.same; steps = refl; plans_are = refl; rooms_are = refl }) c.args.room.now c.args.scratch.now c.args.marks.now (as_step c.args.step.now) c.in-Part.field-0 c.deref.result.now (ap as_step c.in-Part.is ∙ ap (certificates.Part c.in-Part.field-0) (sym c.deref.ensures.value)) c.check_table.result c.check_table.new.room (λ made d. c.check_table.ensures.step parts c.in-Part.field-0 made f d))
 
 pub returns-in-Part-clause-failing : goal.returns-in-Part-clause-failing
-returns-in-Part-clause-failing c = own.part_failing c.args.given.now.system.now (cores_of c.args.given.now.roots.now) (map as_step c.args.given.now.steps.now) c.args.given.now.plans.now c.args.front.now (root_core (cores_of c.args.given.now.roots.now) c.args.root.now) c.args.plan.now (record { signature = c.signature.result; steps = c.args.given.now.steps; plans = c.args.given.now.plans; rooms = c.args.front }) (record { signature = c.signature.ensures.same; steps = refl; plans_are = refl; rooms_are = refl }) c.args.room.now c.args.scratch.now c.args.marks.now (as_step c.args.step.now) c.in-Part.field-0 c.deref.result.now (ap as_step c.in-Part.is ∙ ap (certificates.Part c.in-Part.field-0) (sym c.deref.ensures.value)) c.check_table.result c.check_table.new.room (λ made d. c.check_table.ensures.step (cores_of c.args.given.now.roots.now) c.in-Part.field-0 made d)
+returns-in-Part-clause-failing c = own.all_failing c.args.given.now.system.now (map as_step c.args.given.now.steps.now) c.args.given.now.plans.now c.args.front.now c.args.plan.now (as_step c.args.step.now) c.args.room.now c.args.scratch.now c.args.marks.now c.check_table.result (λ parts f. own.part_failing c.args.given.now.system.now parts (map as_step c.args.given.now.steps.now) c.args.given.now.plans.now c.args.front.now f c.args.plan.now (record { signature = c.signature.result; steps = c.args.given.now.steps; plans = c.args.given.now.plans; rooms = c.args.front }) (record { signature = c.signature.ensures.same; steps = refl; plans_are = refl; rooms_are = refl }) c.args.room.now c.args.scratch.now c.args.marks.now (as_step c.args.step.now) c.in-Part.field-0 c.deref.result.now (ap as_step c.in-Part.is ∙ ap (certificates.Part c.in-Part.field-0) (sym c.deref.ensures.value)) c.check_table.result c.check_table.new.room (λ made d. c.check_table.ensures.step parts c.in-Part.field-0 made f d))
 
 pub returns-in-Part-clause-room : goal.returns-in-Part-clause-room
-returns-in-Part-clause-room c = own.part_room c.args.given.now.system.now (cores_of c.args.given.now.roots.now) (map as_step c.args.given.now.steps.now) c.args.given.now.plans.now c.args.front.now (root_core (cores_of c.args.given.now.roots.now) c.args.root.now) c.args.plan.now (record { signature = c.signature.result; steps = c.args.given.now.steps; plans = c.args.given.now.plans; rooms = c.args.front }) (record { signature = c.signature.ensures.same; steps = refl; plans_are = refl; rooms_are = refl }) c.args.room.now c.args.scratch.now c.args.marks.now (as_step c.args.step.now) c.in-Part.field-0 c.deref.result.now (ap as_step c.in-Part.is ∙ ap (certificates.Part c.in-Part.field-0) (sym c.deref.ensures.value)) c.check_table.new.room c.check_table.ensures.room
+returns-in-Part-clause-room c = let d = c.requires.due in own.part_room c.args.given.now.system.now d.0 (map as_step c.args.given.now.steps.now) c.args.given.now.plans.now c.args.front.now d.1 c.args.plan.now (record { signature = c.signature.result; steps = c.args.given.now.steps; plans = c.args.given.now.plans; rooms = c.args.front }) (record { signature = c.signature.ensures.same; steps = refl; plans_are = refl; rooms_are = refl }) c.args.room.now c.args.scratch.now c.args.marks.now (as_step c.args.step.now) c.in-Part.field-0 c.deref.result.now (ap as_step c.in-Part.is ∙ ap (certificates.Part c.in-Part.field-0) (sym c.deref.ensures.value)) c.check_table.new.room c.check_table.ensures.room
 
 pub returns-in-Part-clause-marks : goal.returns-in-Part-clause-marks
-returns-in-Part-clause-marks c = own.part_marks c.args.given.now.system.now (cores_of c.args.given.now.roots.now) (map as_step c.args.given.now.steps.now) c.args.given.now.plans.now c.args.front.now (root_core (cores_of c.args.given.now.roots.now) c.args.root.now) c.args.plan.now (record { signature = c.signature.result; steps = c.args.given.now.steps; plans = c.args.given.now.plans; rooms = c.args.front }) (record { signature = c.signature.ensures.same; steps = refl; plans_are = refl; rooms_are = refl }) c.args.room.now c.args.scratch.now c.args.marks.now (as_step c.args.step.now) c.in-Part.field-0 c.deref.result.now (ap as_step c.in-Part.is ∙ ap (certificates.Part c.in-Part.field-0) (sym c.deref.ensures.value)) c.check_table.new.marks c.check_table.ensures.marks
+returns-in-Part-clause-marks c parts f = own.part_marks c.args.given.now.system.now parts (map as_step c.args.given.now.steps.now) c.args.given.now.plans.now c.args.front.now f c.args.plan.now (record { signature = c.signature.result; steps = c.args.given.now.steps; plans = c.args.given.now.plans; rooms = c.args.front }) (record { signature = c.signature.ensures.same; steps = refl; plans_are = refl; rooms_are = refl }) c.args.room.now c.args.scratch.now c.args.marks.now (as_step c.args.step.now) c.in-Part.field-0 c.deref.result.now (ap as_step c.in-Part.is ∙ ap (certificates.Part c.in-Part.field-0) (sym c.deref.ensures.value)) c.check_table.new.marks c.check_table.ensures.marks
 
 pub returns-in-Counts-clause-fine : goal.returns-in-Counts-clause-fine
-returns-in-Counts-clause-fine c = own.counts_fine c.args.given.now.system.now (cores_of c.args.given.now.roots.now) (map as_step c.args.given.now.steps.now) c.args.given.now.plans.now c.args.front.now (root_core (cores_of c.args.given.now.roots.now) c.args.root.now) c.args.plan.now (record { signature = c.signature.result; steps = c.args.given.now.steps; plans = c.args.given.now.plans; rooms = c.args.front }) (record { signature = c.signature.ensures.same; steps = refl; plans_are = refl; rooms_are = refl }) c.args.room.now c.args.scratch.now c.args.marks.now (as_step c.args.step.now) c.in-Counts.field-0 (map as_count c.deref-in-Counts.result.now) (ap as_step c.in-Counts.is ∙ ap (λ (xs : List Mark). certificates.Counts c.in-Counts.field-0 (map as_count xs)) (sym c.deref-in-Counts.ensures.value)) c.check_counts.result c.args.room.now (λ made d. c.check_counts.ensures.judged c.args.given.now.system.now (cores_of c.args.given.now.roots.now) c.in-Counts.field-0 made (root_core (cores_of c.args.given.now.roots.now) c.args.root.now) d)
+returns-in-Counts-clause-fine c = own.all_fine c.args.given.now.system.now (map as_step c.args.given.now.steps.now) c.args.given.now.plans.now c.args.front.now c.args.plan.now (as_step c.args.step.now) c.args.room.now c.args.scratch.now c.args.marks.now c.args.room.now c.check_counts.result (λ parts f. own.counts_fine c.args.given.now.system.now parts (map as_step c.args.given.now.steps.now) c.args.given.now.plans.now c.args.front.now f c.args.plan.now (record { signature = c.signature.result; steps = c.args.given.now.steps; plans = c.args.given.now.plans; rooms = c.args.front }) (record { signature = c.signature.ensures.same; steps = refl; plans_are = refl; rooms_are = refl }) c.args.room.now c.args.scratch.now c.args.marks.now (as_step c.args.step.now) c.in-Counts.field-0 (map as_count c.deref-in-Counts.result.now) (ap as_step c.in-Counts.is ∙ ap (λ (xs : List Count). certificates.Counts c.in-Counts.field-0 (map as_count xs)) (sym c.deref-in-Counts.ensures.value)) c.check_counts.result c.args.room.now (λ made d. c.check_counts.ensures.judged c.args.given.now.system.now parts c.in-Counts.field-0 made f d))
 
 pub returns-in-Counts-clause-failing : goal.returns-in-Counts-clause-failing
-returns-in-Counts-clause-failing c = own.counts_failing c.args.given.now.system.now (cores_of c.args.given.now.roots.now) (map as_step c.args.given.now.steps.now) c.args.given.now.plans.now c.args.front.now (root_core (cores_of c.args.given.now.roots.now) c.args.root.now) c.args.plan.now (record { signature = c.signature.result; steps = c.args.given.now.steps; plans = c.args.given.now.plans; rooms = c.args.front }) (record { signature = c.signature.ensures.same; steps = refl; plans_are = refl; rooms_are = refl }) c.args.room.now c.args.scratch.now c.args.marks.now (as_step c.args.step.now) c.in-Counts.field-0 (map as_count c.deref-in-Counts.result.now) (ap as_step c.in-Counts.is ∙ ap (λ (xs : List Mark). certificates.Counts c.in-Counts.field-0 (map as_count xs)) (sym c.deref-in-Counts.ensures.value)) c.check_counts.result (λ made d. c.check_counts.ensures.judged c.args.given.now.system.now (cores_of c.args.given.now.roots.now) c.in-Counts.field-0 made (root_core (cores_of c.args.given.now.roots.now) c.args.root.now) d)
+returns-in-Counts-clause-failing c = own.all_failing c.args.given.now.system.now (map as_step c.args.given.now.steps.now) c.args.given.now.plans.now c.args.front.now c.args.plan.now (as_step c.args.step.now) c.args.room.now c.args.scratch.now c.args.marks.now c.check_counts.result (λ parts f. own.counts_failing c.args.given.now.system.now parts (map as_step c.args.given.now.steps.now) c.args.given.now.plans.now c.args.front.now f c.args.plan.now (record { signature = c.signature.result; steps = c.args.given.now.steps; plans = c.args.given.now.plans; rooms = c.args.front }) (record { signature = c.signature.ensures.same; steps = refl; plans_are = refl; rooms_are = refl }) c.args.room.now c.args.scratch.now c.args.marks.now (as_step c.args.step.now) c.in-Counts.field-0 (map as_count c.deref-in-Counts.result.now) (ap as_step c.in-Counts.is ∙ ap (λ (xs : List Count). certificates.Counts c.in-Counts.field-0 (map as_count xs)) (sym c.deref-in-Counts.ensures.value)) c.check_counts.result (λ made d. c.check_counts.ensures.judged c.args.given.now.system.now parts c.in-Counts.field-0 made f d))
 
 pub returns-in-Counts-clause-marks : goal.returns-in-Counts-clause-marks
-returns-in-Counts-clause-marks c = own.counts_marks c.args.given.now.system.now (cores_of c.args.given.now.roots.now) (map as_step c.args.given.now.steps.now) c.args.given.now.plans.now c.args.front.now (root_core (cores_of c.args.given.now.roots.now) c.args.root.now) c.args.plan.now (record { signature = c.signature.result; steps = c.args.given.now.steps; plans = c.args.given.now.plans; rooms = c.args.front }) (record { signature = c.signature.ensures.same; steps = refl; plans_are = refl; rooms_are = refl }) c.args.room.now c.args.scratch.now c.args.marks.now (as_step c.args.step.now) c.in-Counts.field-0 (map as_count c.deref-in-Counts.result.now) (ap as_step c.in-Counts.is ∙ ap (λ (xs : List Mark). certificates.Counts c.in-Counts.field-0 (map as_count xs)) (sym c.deref-in-Counts.ensures.value)) c.check_counts.new.marks (λ made d. c.check_counts.ensures.marks c.args.given.now.system.now (cores_of c.args.given.now.roots.now) c.in-Counts.field-0 made (root_core (cores_of c.args.given.now.roots.now) c.args.root.now) d)
+returns-in-Counts-clause-marks c parts f = own.counts_marks c.args.given.now.system.now parts (map as_step c.args.given.now.steps.now) c.args.given.now.plans.now c.args.front.now f c.args.plan.now (record { signature = c.signature.result; steps = c.args.given.now.steps; plans = c.args.given.now.plans; rooms = c.args.front }) (record { signature = c.signature.ensures.same; steps = refl; plans_are = refl; rooms_are = refl }) c.args.room.now c.args.scratch.now c.args.marks.now (as_step c.args.step.now) c.in-Counts.field-0 (map as_count c.deref-in-Counts.result.now) (ap as_step c.in-Counts.is ∙ ap (λ (xs : List Count). certificates.Counts c.in-Counts.field-0 (map as_count xs)) (sym c.deref-in-Counts.ensures.value)) c.check_counts.new.marks (λ made d. c.check_counts.ensures.marks c.args.given.now.system.now parts c.in-Counts.field-0 made f d)
 
 pub returns-in-Value-clause-fine : goal.returns-in-Value-clause-fine
-returns-in-Value-clause-fine c = own.value_fine c.args.given.now.system.now (cores_of c.args.given.now.roots.now) (map as_step c.args.given.now.steps.now) c.args.given.now.plans.now c.args.front.now (root_core (cores_of c.args.given.now.roots.now) c.args.root.now) c.args.plan.now (record { signature = c.signature.result; steps = c.args.given.now.steps; plans = c.args.given.now.plans; rooms = c.args.front }) (record { signature = c.signature.ensures.same; steps = refl; plans_are = refl; rooms_are = refl }) c.args.room.now c.args.scratch.now c.args.marks.now (as_step c.args.step.now) c.in-Value.field-0 c.in-Value.value (ap as_step c.in-Value.is) c.check_value.result c.args.room.now
-    (on_ok c.check_value.result (λ h made d. h c.args.given.now.system.now (cores_of c.args.given.now.roots.now) c.in-Value.field-0 made (root_core (cores_of c.args.given.now.roots.now) c.args.root.now) d) c.check_value.ensures.fine)
+returns-in-Value-clause-fine c = own.all_fine c.args.given.now.system.now (map as_step c.args.given.now.steps.now) c.args.given.now.plans.now c.args.front.now c.args.plan.now (as_step c.args.step.now) c.args.room.now c.args.scratch.now c.args.marks.now c.args.room.now c.check_value.result (λ parts f. own.value_fine c.args.given.now.system.now parts (map as_step c.args.given.now.steps.now) c.args.given.now.plans.now c.args.front.now f c.args.plan.now (record { signature = c.signature.result; steps = c.args.given.now.steps; plans = c.args.given.now.plans; rooms = c.args.front }) (record { signature = c.signature.ensures.same; steps = refl; plans_are = refl; rooms_are = refl }) c.args.room.now c.args.scratch.now c.args.marks.now (as_step c.args.step.now) c.in-Value.field-0 c.in-Value.value (ap as_step c.in-Value.is) c.check_value.result c.args.room.now
+    (on_ok c.check_value.result (λ h made d. h c.args.given.now.system.now parts c.in-Value.field-0 made f d) c.check_value.ensures.fine))
 
 pub returns-in-Value-clause-failing : goal.returns-in-Value-clause-failing
-returns-in-Value-clause-failing c = own.value_failing c.args.given.now.system.now (cores_of c.args.given.now.roots.now) (map as_step c.args.given.now.steps.now) c.args.given.now.plans.now c.args.front.now (root_core (cores_of c.args.given.now.roots.now) c.args.root.now) c.args.plan.now (record { signature = c.signature.result; steps = c.args.given.now.steps; plans = c.args.given.now.plans; rooms = c.args.front }) (record { signature = c.signature.ensures.same; steps = refl; plans_are = refl; rooms_are = refl }) c.args.room.now c.args.scratch.now c.args.marks.now (as_step c.args.step.now) c.in-Value.field-0 c.in-Value.value (ap as_step c.in-Value.is) c.check_value.result
-    (if_err c.check_value.result (λ e h made d. h c.args.given.now.system.now (cores_of c.args.given.now.roots.now) c.in-Value.field-0 made (root_core (cores_of c.args.given.now.roots.now) c.args.root.now) d) c.check_value.ensures.failing)
+returns-in-Value-clause-failing c = own.all_failing c.args.given.now.system.now (map as_step c.args.given.now.steps.now) c.args.given.now.plans.now c.args.front.now c.args.plan.now (as_step c.args.step.now) c.args.room.now c.args.scratch.now c.args.marks.now c.check_value.result (λ parts f. own.value_failing c.args.given.now.system.now parts (map as_step c.args.given.now.steps.now) c.args.given.now.plans.now c.args.front.now f c.args.plan.now (record { signature = c.signature.result; steps = c.args.given.now.steps; plans = c.args.given.now.plans; rooms = c.args.front }) (record { signature = c.signature.ensures.same; steps = refl; plans_are = refl; rooms_are = refl }) c.args.room.now c.args.scratch.now c.args.marks.now (as_step c.args.step.now) c.in-Value.field-0 c.in-Value.value (ap as_step c.in-Value.is) c.check_value.result
+    (if_err c.check_value.result (λ e h made d. h c.args.given.now.system.now parts c.in-Value.field-0 made f d) c.check_value.ensures.failing))
 
 pub returns-in-Value-clause-marks : goal.returns-in-Value-clause-marks
-returns-in-Value-clause-marks c = own.value_marks c.args.given.now.system.now (cores_of c.args.given.now.roots.now) (map as_step c.args.given.now.steps.now) c.args.given.now.plans.now c.args.front.now (root_core (cores_of c.args.given.now.roots.now) c.args.root.now) c.args.plan.now (record { signature = c.signature.result; steps = c.args.given.now.steps; plans = c.args.given.now.plans; rooms = c.args.front }) (record { signature = c.signature.ensures.same; steps = refl; plans_are = refl; rooms_are = refl }) c.args.room.now c.args.scratch.now c.args.marks.now (as_step c.args.step.now) c.in-Value.field-0 c.in-Value.value (ap as_step c.in-Value.is) c.check_value.new.marks c.check_value.ensures.marks
+returns-in-Value-clause-marks c parts f = own.value_marks c.args.given.now.system.now parts (map as_step c.args.given.now.steps.now) c.args.given.now.plans.now c.args.front.now f c.args.plan.now (record { signature = c.signature.result; steps = c.args.given.now.steps; plans = c.args.given.now.plans; rooms = c.args.front }) (record { signature = c.signature.ensures.same; steps = refl; plans_are = refl; rooms_are = refl }) c.args.room.now c.args.scratch.now c.args.marks.now (as_step c.args.step.now) c.in-Value.field-0 c.in-Value.value (ap as_step c.in-Value.is) c.check_value.new.marks c.check_value.ensures.marks

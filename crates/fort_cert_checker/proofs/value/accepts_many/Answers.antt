@@ -4,7 +4,7 @@ use Rattle.fort_operations.specs.Projections.{ArePure}
 use Rattle.fort_counts.specs.Counts.{count_at, is_infinite}
 use Rattle.fort_counts.specs.ManyLabels.{many_value}
 use Rattle.fort_in_order.proofs.OrderedLists.{pure_one}
-use Rattle.fort_infinity.specs.CountView.{as_count as as_mark}
+use Rattle.fort_steps.specs.StepView.{as_count}
 use Rattle.fort_check_steps.specs.Turned.{turned_table}
 use Rattle.fort_cert_checker.proofs.value.accepts_many.Goals as goal
 
@@ -36,6 +36,6 @@ returns-clause-value c table states at pure =
     pure_one table c.args.column c.put_pure.new.states.items states (subst (λ (t : Table). ArePure t c.args.column c.put_pure.new.states.items) made c.put_pure.ensures.pure) pure in
     let given : c.deref.result.now ≡ states = c.deref.ensures.value ∙ alone in
     let Is : Table → List ℕ → Type 0 =
-    λ t xs. c.many_value.result ≡ many_value t c.args.column (λ q. is_infinite (count_at xs (map as_mark c.args.counts.now) q)) in
+    λ t xs. c.many_value.result ≡ many_value t c.args.column (λ q. is_infinite (count_at xs (map as_count c.args.counts.now) q)) in
     subst (λ (xs : List ℕ). Is table xs) given
     (subst (λ (t : Table). Is t c.deref.result.now) made c.many_value.ensures.value)

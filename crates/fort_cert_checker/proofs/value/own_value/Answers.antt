@@ -25,10 +25,4 @@ pub returns-in-Many-clause-value : goal.returns-in-Many-clause-value
 returns-in-Many-clause-value c system parts k made f due = arms.many_value_at system parts c.args.past.now k made f c.args.plan.now c.args.marks.now due c.in-Many.source c.in-Many.column c.in-Many.counts c.in-Many.is c.deref.result.now c.deref.ensures.value c.accepts_many.result c.accepts_many.ensures.value
 
 pub unreachable-requires : goal.unreachable-requires
-unreachable-requires c = let d = c.requires.due in arms.not_atom d.0 d.1 c.args.past.now d.2 d.3 d.4 c.args.plan.now c.args.marks.now d.5 c.in-Relation.field-0 c.in-Relation.is
-
-pub unreachable-requires-in-Normal : goal.unreachable-requires-in-Normal
-unreachable-requires-in-Normal c = let d = c.requires.due in arms.not_normal d.0 d.1 c.args.past.now d.2 d.3 d.4 c.args.plan.now c.args.marks.now d.5 c.in-Normal.field-0 c.in-Normal.is
-
-pub unreachable-requires-in-Term : goal.unreachable-requires-in-Term
-unreachable-requires-in-Term c = let d = c.requires.due in arms.not_term d.0 d.1 c.args.past.now d.2 d.3 d.4 c.args.plan.now c.args.marks.now d.5 c.in-Term.is
+unreachable-requires c = let d = c.requires.due in arms.not_atom d.0 d.1 c.args.past.now d.2 d.3 d.4 c.args.plan.now c.args.marks.now d.5 c.in-Atom.field-0 c.in-Atom.is

@@ -12,8 +12,8 @@ returns-in-Ok-clause-held g c =
     record {
       labels = labels;
       lawful = c.in-Ok.ensures.lawful;
-      right = right_held r c.args.targets.now room labels c.in-Ok.ensures.right c.in-Ok.ensures.presences;
-      presences = c.in-Ok.ensures.presences;
+      right = right_held r c.args.targets.now room labels c.in-Ok.ensures.right.right c.in-Ok.ensures.right.presences_are;
+      presences = c.in-Ok.ensures.right.presences_are;
       finals = c.put_finals.ensures.finals;
     }
 
@@ -29,10 +29,10 @@ returns-in-Ok-clause-table g c =
     let targets = c.args.targets.now in
     let labels = c.hold_targets.new.rows.labels in
     let room : PartRoom = record { presences = c.hold_targets.new.presences; finals = c.put_finals.new.finals } in
-    right_table r (g.R.LocalRule.accepting c.args.rule.now) targets room labels c.in-Ok.ensures.lawful (right_held r targets room labels c.in-Ok.ensures.right c.in-Ok.ensures.presences) c.in-Ok.ensures.presences c.put_finals.ensures.finals
+    right_table r (g.R.LocalRule.accepting c.args.rule.now) targets room labels c.in-Ok.ensures.lawful (right_held r targets room labels c.in-Ok.ensures.right.right c.in-Ok.ensures.right.presences_are) c.in-Ok.ensures.right.presences_are c.put_finals.ensures.finals
 
 pub returns-in-Ok-clause-room : goal.returns-in-Ok-clause-room
 returns-in-Ok-clause-room g c = record {
   finals = omega (arith, c.requires.room.finals, c.put_finals.ensures.capacity);
-  presences = omega (arith, c.requires.room.presences, c.in-Ok.ensures.capacity);
+  presences = omega (arith, c.requires.room.presences, c.in-Ok.ensures.left.capacity);
 }

@@ -1,4 +1,4 @@
-use Rattle.std.proofs.Common.{ℕ, map, sym, subst, arith}
+use Rattle.std.proofs.Common.{ℕ, map, sym, subst, ◌∙◌, arith, rules}
 use Rattle.fort_tables.specs.Labels.{first_word}
 use Rattle.fort_laid_entries.specs.Laid.{all_entries}
 use Rattle.fort_in_order.specs.PartSteps.{IsRight}
@@ -11,10 +11,17 @@ pub returns-then-are_quickly_right-clause-outcome : goal.returns-then-are_quickl
 returns-then-are_quickly_right-clause-outcome g c =
     let r = g.R.LocalRule.rule c.args.rule.now in
     let ws = c.are_quickly_right.new.rows.labels in
-    IsRight (all_entries r.signature r.columns (map first_word ws)) ws (c.are_quickly_right.ensures.right c.if-are_quickly_right.true)
+    IsRight (all_entries r.signature r.columns (map first_word ws)) ws (c.are_quickly_right.ensures.right c.if-are_quickly_right.true).right
 
-pub check_targets-requires-clause-room : goal.check_targets-requires-clause-room
-check_targets-requires-clause-room g c =
+pub check_targets-requires-clause-ready : goal.check_targets-requires-clause-ready
+check_targets-requires-clause-ready g c =
     let most = most_states c.args.targets.now in
-    let still = has_space c.requires.space (omega arith) (as_spacious c.are_quickly_right.ensures.spaces c.reset.ensures.spaces) in
-    c.reset-2.ensures.room most (subst (λ (w : ℕ). HasSpace w most c.are_quickly_right.new.rows.spaces) (sym c.width-width.ensures.count) still)
+    let still : HasSpace (g.R.LocalRule.word_count c.args.rule.now) most c.are_quickly_right.new.rows.spaces =
+    has_space c.requires.space (omega arith) (as_spacious c.are_quickly_right.ensures.left.spaces c.reset.ensures.spaces) in
+    record {
+      no_presences = search rules;
+      no_rows = c.reset-2.ensures.labels;
+      width = c.reset-2.ensures.width ∙ c.width-width.ensures.count;
+      room = c.reset-2.ensures.room most (subst (λ (w : ℕ). HasSpace w most c.are_quickly_right.new.rows.spaces) (sym c.width-width.ensures.count) still);
+      spare = omega (arith, c.requires.spare, c.are_quickly_right.ensures.left.capacity, c.clear.ensures.capacity, c.clear-2.ensures.capacity);
+    }

@@ -25,10 +25,14 @@ are_held-requires-clause-room g c =
 
 pub returns-clause-right : goal.returns-clause-right
 returns-clause-right g c =
-    let made = c.make_states.ensures.guessed c.if-not-make_states.false in
-    λ yes. guess_right (g.R.LocalRule.rule c.args.rule.now) c.args.targets.now made.0 made.1 c.make_states.new.rows.labels made.2 c.make_states.ensures.lawful made.3 (c.are_held.ensures.held yes)
-
-pub returns-clause-states : goal.returns-clause-states
-returns-clause-states g c =
-    let made = c.make_states.ensures.guessed c.if-not-make_states.false in
-    λ yes. guessed_most (g.R.LocalRule.rule c.args.rule.now) c.args.targets.now made.0 made.1 c.make_states.new.rows.labels made.2 made.3
+    let r = g.R.LocalRule.rule c.args.rule.now in
+    let qs = c.args.targets.now in
+    let ws = c.make_states.new.rows.labels in
+    let is_made = c.if-not-make_states.false in
+    let made = c.make_states.ensures.guessed is_made in
+    λ yes. record {
+      right = guess_right r qs made.0 made.1 ws made.2 c.make_states.ensures.lawful made.3 (c.are_held.ensures.held yes);
+      few = guessed_most r qs made.0 made.1 ws made.2 made.3;
+      are_labels = c.make_states.ensures.labels is_made;
+      presences_are = c.make_states.ensures.presences is_made;
+    }

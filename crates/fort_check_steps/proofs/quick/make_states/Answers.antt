@@ -9,10 +9,10 @@ use Rattle.fort_check_steps.proofs.quick.make_states.Goals as goal
 
 pub targets-init : goal.targets-init
 targets-init g c = record {
-  after = ([], none_made (g.R.LocalRule.rule c.args.rule.now) c.args.targets.now c.args.rows.now.labels c.args.presences.now.items c.new-entries.result.last c.columns.result c.requires.no_rows c.requires.no_presences c.columns.ensures.count c.new-entries.ensures.start);
+  after = ([], none_made (g.R.LocalRule.rule c.args.rule.now) c.args.targets.now c.args.rows.now.labels c.args.presences.now.items c.new-entries.result.last c.columns.result c.requires.ready.no_rows c.requires.ready.no_presences c.columns.ensures.count c.new-entries.ensures.start);
   signature = c.new-entries.ensures.signature;
   columns = c.new-entries.ensures.columns ∙ c.columns.ensures.count;
-  width = c.requires.width;
+  width = c.requires.ready.width;
   words = c.requires.words;
   room = refl;
   spaces = record { narrow = omega arith; wide = omega arith; most = omega arith; widest = omega arith };
@@ -41,7 +41,7 @@ make_state-requires-clause-room g c =
     let last = c.targets.entries.last in
     let inv = c.targets.invariant in
     let low : k < length qs = omega (arith, c.targets-test.true, c.known_from-known.ensures) in
-    λ e. omega (arith, new_guess_room r qs k es ws last inv.after.1.guessed low e, inv.room, c.requires.room)
+    λ e. omega (arith, new_guess_room r qs k es ws last inv.after.1.guessed low e, inv.room, c.requires.ready.room)
 
 pub make_state-requires-clause-spare : goal.make_state-requires-clause-spare
 make_state-requires-clause-spare g c =
@@ -54,7 +54,7 @@ make_state-requires-clause-spare g c =
     let last = c.targets.entries.last in
     let inv = c.targets.invariant in
     let low : k < length qs = omega (arith, c.targets-test.true, c.known_from-known.ensures) in
-    λ e. omega (arith, new_guess_room r qs k es ws last inv.after.1.guessed low e, made_states r qs k es ws ps last inv.after.1, ap length c.as_slice.ensures.value, c.as_slice.ensures.len, inv.spare, c.requires.spare)
+    λ e. omega (arith, new_guess_room r qs k es ws last inv.after.1.guessed low e, made_states r qs k es ws ps last inv.after.1, ap length c.as_slice.ensures.value, c.as_slice.ensures.len, inv.spare, c.requires.ready.spare)
 
 pub targets-preserved : goal.targets-preserved
 targets-preserved g c =

@@ -5,7 +5,7 @@ use Rattle.fort_theory.specs.Patterns.{Pattern, Pair}
 use Rattle.fort_terms.specs.PatternView.{as_pattern}
 use Rattle.fort_tree_automata.proofs.SubpatternsClosed.{IsClosedInOrder-subpatterns}
 use Rattle.fort_in_order.specs.ClosureSteps.{ClosureRules}
-use Rattle.fort_check_steps.proofs.NumberedLaws.{sides_among}
+use Rattle.fort_context_closure.proofs.MakerLaws.{Contains-left_side, Contains-right_side}
 use Rattle.fort_check_steps.proofs.rules.rules_of.Goals as goal
 
 pub number_patterns-requires : goal.number_patterns-requires
@@ -14,16 +14,19 @@ number_patterns-requires c = rw c.deref.ensures.value (IsClosedInOrder-subpatter
 pub number_patterns-requires-2 : goal.number_patterns-requires-2
 number_patterns-requires-2 c = rw c.deref-2.ensures.value (IsClosedInOrder-subpatterns _ (map as_pattern c.in_ok-rights.rights.items) c.in_ok-rights.ensures)
 
-pub number_rules-requires-clause-left_closed : goal.number_rules-requires-clause-left_closed
-number_rules-requires-clause-left_closed c = rw c.deref-3.ensures.value (IsClosedInOrder-subpatterns _ (map as_pattern c.in_ok-lefts.lefts.items) c.in_ok-lefts.ensures)
+pub places_of_rules-requires-clause-left_closed : goal.places_of_rules-requires-clause-left_closed
+places_of_rules-requires-clause-left_closed c = rw c.deref-3.ensures.value (IsClosedInOrder-subpatterns _ (map as_pattern c.in_ok-lefts.lefts.items) c.in_ok-lefts.ensures)
 
-pub number_rules-requires-clause-right_closed : goal.number_rules-requires-clause-right_closed
-number_rules-requires-clause-right_closed c = rw c.deref-4.ensures.value (IsClosedInOrder-subpatterns _ (map as_pattern c.in_ok-rights.rights.items) c.in_ok-rights.ensures)
+pub places_of_rules-requires-clause-right_closed : goal.places_of_rules-requires-clause-right_closed
+places_of_rules-requires-clause-right_closed c = rw c.deref-4.ensures.value (IsClosedInOrder-subpatterns _ (map as_pattern c.in_ok-rights.rights.items) c.in_ok-rights.ensures)
 
-pub number_rules-requires-clause-among : goal.number_rules-requires-clause-among
-number_rules-requires-clause-among c =
+pub places_of_rules-requires-clause-among : goal.places_of_rules-requires-clause-among
+places_of_rules-requires-clause-among c =
     rw (c.rules.ensures.pairs, c.deref-3.ensures.value, c.deref-4.ensures.value)
-    (sides_among (at_index c.args.index c.args.system.now.rules) (map as_pattern c.in_ok-lefts.lefts.items) (map as_pattern c.in_ok-rights.rights.items) c.in_ok-lefts.ensures c.in_ok-rights.ensures)
+    (λ pair k. (
+      Contains-left_side (at_index c.args.index c.args.system.now.rules) (map as_pattern c.in_ok-lefts.lefts.items) c.in_ok-lefts.ensures pair k,
+      Contains-right_side (at_index c.args.index c.args.system.now.rules) (map as_pattern c.in_ok-rights.rights.items) c.in_ok-rights.ensures pair k,
+    ))
 
 pub returns : goal.returns
 returns c =

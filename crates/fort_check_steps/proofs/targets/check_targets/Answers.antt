@@ -4,7 +4,7 @@ use Rattle.fort_tables.specs.Labels.{first_word}
 use Rattle.fort_tables.specs.LabelRules.{IsLabelRule}
 use Rattle.fort_laid_entries.specs.Laid.{all_entries}
 use Rattle.fort_in_order.specs.Outcomes.{StepOutcome}
-use Rattle.fort_in_order.specs.PartSteps.{IsPartOutcome, IsRight}
+use Rattle.fort_in_order.specs.PartSteps.{IsPartOutcome, IsRightPart, IsRight}
 use Rattle.fort_check_steps.specs.StepAnswers.{outcome_of}
 use Rattle.fort_in_order_laws.proofs.EntryWalks.{IsNextOf}
 use Rattle.fort_check_steps.proofs.TargetLaws.{IsAfter, after_none, next_of, last_of, new_state_room, refused, too_many, too_few, right_all, taken, few_states, few_presences, right_states, label_rule}
@@ -13,10 +13,10 @@ use Rattle.fort_check_steps.proofs.targets.check_targets.Goals as goal
 
 pub targets-init : goal.targets-init
 targets-init g c = record {
-  after = ([], after_none (g.R.LocalRule.rule c.args.rule.now) c.args.targets.now c.args.rows.now.labels c.args.presences.now.items c.new-entries.result.last c.columns.result c.requires.no_rows c.requires.no_presences c.columns.ensures.count c.new-entries.ensures.start);
+  after = ([], after_none (g.R.LocalRule.rule c.args.rule.now) c.args.targets.now c.args.rows.now.labels c.args.presences.now.items c.new-entries.result.last c.columns.result c.requires.ready.no_rows c.requires.ready.no_presences c.columns.ensures.count c.new-entries.ensures.start);
   signature = c.new-entries.ensures.signature;
   columns = c.new-entries.ensures.columns ∙ c.columns.ensures.count;
-  width = c.requires.width;
+  width = c.requires.ready.width;
   words = c.requires.words;
   room = refl;
   spaces = record { narrow = omega arith; wide = omega arith; most = omega arith; widest = omega arith };
@@ -58,7 +58,7 @@ take_target-requires-clause-room g c =
     let ps = c.targets.presences.items in
     let last = c.targets.entries.last in
     let inv = c.targets.invariant in
-    λ e. omega (arith, new_state_room r qs k es ws last inv.after.1.walked c.targets-test.true e, inv.room, c.requires.room)
+    λ e. omega (arith, new_state_room r qs k es ws last inv.after.1.walked c.targets-test.true e, inv.room, c.requires.ready.room)
 
 pub take_target-requires-clause-spare : goal.take_target-requires-clause-spare
 take_target-requires-clause-spare g c =
@@ -70,7 +70,7 @@ take_target-requires-clause-spare g c =
     let ps = c.targets.presences.items in
     let last = c.targets.entries.last in
     let inv = c.targets.invariant in
-    λ e. omega (arith, new_state_room r qs k es ws last inv.after.1.walked c.targets-test.true e, few_states r qs k es ws ps last inv.after.1, ap length c.as_slice.ensures.value, c.as_slice.ensures.len, inv.spare, c.requires.spare)
+    λ e. omega (arith, new_state_room r qs k es ws last inv.after.1.walked c.targets-test.true e, few_states r qs k es ws ps last inv.after.1, ap length c.as_slice.ensures.value, c.as_slice.ensures.len, inv.spare, c.requires.ready.spare)
 
 pub returns-in-Err-clause-outcome : goal.returns-in-Err-clause-outcome
 returns-in-Err-clause-outcome g c =
@@ -165,20 +165,5 @@ returns-clause-right g c =
     let after : IsAfter r qs (length qs) es ws ps last = subst (λ (i : ℕ). IsAfter r qs i es ws ps last) whole inv.after.1 in
     let none = last_of r ws last c.targets.entries.signature c.targets.entries.columns c.as_slice-2.result.now (inv.signature ∙ sym c.requires.signature) inv.columns (c.as_slice-2.ensures.value ∙ inv.after.1.presences) (c.advance-2.ensures.none c.if-advance.false) in
     let law : IsLabelRule r = label_rule r c.columns.result c.columns.ensures.count c.columns.ensures.some c.columns.ensures.narrow (g.met.R.LocalRule.tells c.args.rule.now) in
-    right_all r qs es ws last law after.walked none
-
-pub returns-clause-states : goal.returns-clause-states
-returns-clause-states g c =
-    let r = g.R.LocalRule.rule c.args.rule.now in
-    let qs = c.args.targets.now in
-    let k = c.targets.place in
-    let es = c.targets.invariant.after.0 in
-    let ws = c.targets.rows.labels in
-    let ps = c.targets.presences.items in
-    let last = c.targets.entries.last in
-    let inv = c.targets.invariant in
-    let whole : k ≡ length qs = omega arith in
-    let after : IsAfter r qs (length qs) es ws ps last = subst (λ (i : ℕ). IsAfter r qs i es ws ps last) whole inv.after.1 in
-    let none = last_of r ws last c.targets.entries.signature c.targets.entries.columns c.as_slice-2.result.now (inv.signature ∙ sym c.requires.signature) inv.columns (c.as_slice-2.ensures.value ∙ inv.after.1.presences) (c.advance-2.ensures.none c.if-advance.false) in
-    let law : IsLabelRule r = label_rule r c.columns.result c.columns.ensures.count c.columns.ensures.some c.columns.ensures.narrow (g.met.R.LocalRule.tells c.args.rule.now) in
-    right_states r qs (all_entries r.signature r.columns (map first_word ws)) ws (right_all r qs es ws last law after.walked none)
+    let right : IsRightPart r qs (all_entries r.signature r.columns (map first_word ws)) ws = right_all r qs es ws last law after.walked none in
+    record { right = right; few = right_states r qs (all_entries r.signature r.columns (map first_word ws)) ws right; are_labels = after.labels; presences_are = after.presences }

@@ -8,7 +8,8 @@ use Rattle.fort_lockstep.specs.Columns.{as_column}
 use Rattle.fort_atom_labels.specs.PatternNumbers.{PatternNumber, number_inside}
 use Rattle.fort_context_closure.specs.RowBits.{bit_of, labels_at}
 use Rattle.fort_context_closure.specs.ReachRows.{row_in, seconds_of}
-use Rattle.fort_context_closure.specs.RuleRootPlaces.{no_rule, ends_at}
+use Rattle.fort_context_closure.specs.RulePlaces.{no_rule}
+use Rattle.fort_context_closure.specs.RuleRootPlaces.{ends_at}
 use Rattle.fort_context_closure.specs.declared.rule_places.RulePlaces.{RulePlaces}
 use Rattle.fort_context_closure.proofs.ReachRowLaws.{list_any-more}
 use Rattle.fort_context_closure.proofs.reached.add_ends.Goals as goal

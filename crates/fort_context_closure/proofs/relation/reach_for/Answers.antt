@@ -6,4 +6,4 @@ pub returns-then-not-is_reduction : goal.returns-then-not-is_reduction
 returns-then-not-is_reduction c e = absurd (true≢false (sym e ∙ sym c.if-not-is_reduction.ensures))
 
 pub returns : goal.returns
-returns c = IfOk-weaker c.reach_of.result _ _ (λ reach h e. rw c.deref.ensures.value at h) c.reach_of.ensures
+returns c = IfOk-weaker c.reach_of.result _ _ (λ reach h e. h) c.reach_of.ensures

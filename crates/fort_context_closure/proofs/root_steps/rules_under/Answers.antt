@@ -3,7 +3,7 @@ use Rattle.std.specs.Prelude.{vec_items}
 use Rattle.std.proofs.lemmas.List.{get_or_default, length-map, length-set}
 use Rattle.std.proofs.lemmas.List.Elements.{Contains-get_or}
 use Rattle.fort_context_closure.specs.RootPlaces.{list_at}
-use Rattle.fort_context_closure.specs.RuleRootPlaces.{no_rule}
+use Rattle.fort_context_closure.specs.RulePlaces.{no_rule}
 use Rattle.fort_context_closure.specs.declared.rule_places.RulePlaces.{RulePlaces}
 use Rattle.fort_context_closure.proofs.RuleLeftLaws.{AreUnderLefts-next}
 use Rattle.fort_context_closure.proofs.root_steps.rules_under.Goals as goal

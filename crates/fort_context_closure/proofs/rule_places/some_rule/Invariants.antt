@@ -1,5 +1,5 @@
 use Rattle.std.proofs.Common.{◌≡◌, drop}
-use Rattle.fort_context_closure.specs.RulePlaces.{some_rule}
+use Rattle.fort_context_closure.specs.RuleLefts.{some_rule}
 use Rattle.fort_context_closure.proofs.rule_places.some_rule.Given as goal
 
 abbrev pub invariant-loop-rule : goal.invariant-loop-rule

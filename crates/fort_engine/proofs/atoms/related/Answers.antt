@@ -7,5 +7,5 @@ pub returns : goal.returns
 returns c =
     let l = c.in_ok-labels.ensures in
     let rel = as_rel c.args.rel in
-    c.explored.ensures (core.Atom rel c.args.index c.args.x c.args.y)
+    c.by_labels.ensures (core.Atom rel c.args.index c.args.x c.args.y)
     (AreLabelsFor-Atom c.args.system.now rel c.args.index c.args.x c.args.y c.in_ok-labels.labels l.columns l.alike l.accepted)

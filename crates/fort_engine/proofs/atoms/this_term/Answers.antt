@@ -6,5 +6,5 @@ pub returns : goal.returns
 returns c x =
     let l = c.in_ok-labels.ensures in
     let sig = c.args.system.now.signature in
-    c.explored.ensures (core.Is x c.args.term.now)
+    c.by_labels.ensures (core.Is x c.args.term.now)
     (AreLabelsFor-Is c.args.system.now x c.args.term.now c.in_ok-labels.labels l.columns (l.alike sig) (l.accepted sig))

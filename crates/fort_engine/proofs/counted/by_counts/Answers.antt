@@ -3,7 +3,8 @@ use Rattle.fort_logic.specs.Cores as core
 use Rattle.fort_tables.specs.Tables.{listed_table}
 use Rattle.fort_counts.specs.Counts.{count_at}
 use Rattle.fort_counts.proofs.TellsLaws.{TellsMany-marks}
-use Rattle.fort_infinity.specs.CountView.{as_count, is_many}
+use Rattle.fort_steps.specs.StepView.{as_count}
+use Rattle.fort_infinity.specs.ManyCounts.{is_many}
 use Rattle.fort_parts.specs.PartColumns.{columns_of}
 use Rattle.fort_engine.proofs.AnswerLaws.{bound_within, IsDecision-many_closed, AreLabelsFor-Infinite}
 use Rattle.fort_engine.proofs.counted.by_counts.Goals as goal
@@ -38,9 +39,10 @@ returns-then-columns-eq1 c n f b =
     let counts = c.args.counts.now in
     let over = b.right.answers.over in
     let low = subst (λ k. k < table.columns) (sym b.column_is) (bound_within c.args.system.now n f table (columns_of f) refl b.right b.among) in
-    IsDecision-many_closed c.args.system.now n f c.args.cap table (columns_of f) c.args.column (is_many alone counts) c.many_value.result refl
+    IsDecision-many_closed c.args.system.now n f c.args.cap c.args.lists table (columns_of f) c.args.column (is_many alone counts) c.many_value.result c.truth.result refl
     b.column_is b.right b.among (sym c.columns.ensures.count ∙ c.if-columns-eq1.true)
     (TellsMany-marks table c.args.column (count_at alone (map as_count counts)) over.lawful over.reached low b.marks_are.rules) c.many_value.ensures.value
+    c.truth.ensures.answer c.truth.ensures.counts
 
 pub returns : goal.returns
 returns c n f b =

@@ -13,5 +13,5 @@ unreachable-requires c =
 pub returns : goal.returns
 returns c f b =
     let own = subst (λ a. IsBody c.args.system.now c.args.number f c.args.body.now.columns.now (as_answer a)) c.in-Auto.is b in
-    IsDecidedBy-many_of c.args.system.now c.args.cap c.args.number f c.args.body.now.answer.now c.in-Auto.table c.count_table.result c.in-Auto.is
+    IsDecidedBy-many_of c.args.system.now c.args.cap c.args.number f c.args.body.now.answer.now c.in-Auto.table c.args.lists c.count_table.result c.in-Auto.is
     (c.count_table.ensures f own)

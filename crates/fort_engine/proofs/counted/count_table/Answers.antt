@@ -1,6 +1,6 @@
 use Rattle.std.proofs.Common.{◌≡◌, ◌<◌, map, subst, sym}
 use Rattle.fort_tables.specs.Tables.{listed_table}
-use Rattle.fort_infinity.specs.CountView.{as_count}
+use Rattle.fort_steps.specs.StepView.{as_count}
 use Rattle.fort_engine.specs.Found.{IsCounted}
 use Rattle.fort_engine.proofs.AnswerLaws.{bound_column, bound_within}
 use Rattle.fort_engine.proofs.FoundLaws.{IsCounted-body, IsDecidedBy-many}
@@ -23,8 +23,8 @@ pure_counts-requires-clause-column c =
     subst (λ k. k < table.columns) (sym c.column_of-column.ensures)
     (bound_within c.args.system.now c.args.number c.requires.0 (listed_table table) c.args.columns.now b.columns_are b.right b.among)
 
-pub by_counts-answer-requires : goal.by_counts-answer-requires
-by_counts-answer-requires c =
+pub by_counts-decided-requires : goal.by_counts-decided-requires
+by_counts-decided-requires c =
     let table = listed_table c.args.table.now in
     let alone : c.deref.result.now ≡ c.deref-2.result.now = cc in
     let counts : c.in_ok-counts.counts.items ≡ c.deref-3.result.now = cc in
@@ -52,5 +52,5 @@ returns c f b =
     let there : IsCounted system n f table at c.deref-2.result.now (map as_count c.deref-3.result.now) =
     subst (λ ks. IsCounted system n f table at ks (map as_count c.deref-3.result.now)) alone
     (subst (λ ns. IsCounted system n f table at c.deref.result.now (map as_count ns)) counts is) in
-    IsDecidedBy-many system c.args.cap n f c.args.table.now list at c.deref.result.now is c.by_counts-answer.result c.with_counts.result
-    (c.by_counts-answer.ensures n f there) c.with_counts.ensures
+    IsDecidedBy-many system c.args.cap n f c.args.table.now list at c.deref.result.now is c.args.lists c.by_counts-decided.result c.with_counts.result
+    (c.by_counts-decided.ensures n f there) c.with_counts.ensures

@@ -19,5 +19,6 @@ join_tables-requires-in-Auto-clause-some c =
 pub returns-in-Truth-answer : goal.returns-in-Truth-answer
 returns-in-Truth-answer c h f g joined =
     let a = c.args in
-    IsDecision-truths a.system.now a.cap (connective_of a.op) h f g a.first.now.answer.now a.second.now.answer.now c.in-Truth.a c.in-Truth-answer.b
-    c.connect.result joined.whole c.in-Truth.is c.in-Truth-answer.is c.connect.ensures joined.first_right joined.second_right
+    IsDecision-truths a.system.now a.cap a.lists (connective_of a.op) h f g a.first.now.answer.now a.second.now.answer.now c.in-Truth.a c.in-Truth-answer.b
+    c.connect.result c.truth.result joined.whole c.in-Truth.is c.in-Truth-answer.is c.connect.ensures c.truth.ensures.answer c.truth.ensures.counts joined.first_right
+    joined.second_right

@@ -1,9 +1,8 @@
-use Rattle.std.proofs.Common.{Ok, true, refl, subst, get_or}
+use Rattle.std.proofs.Common.{Ok, refl, subst, get_or}
 use Rattle.fort_logic.specs.Cores as core
 use Rattle.fort_logic.specs.Parts.{BindsFree}
 use Rattle.fort_parts.specs.DecidedCores.{IsOverSystem}
 use Rattle.fort_outline.specs.Outlines.{parts_in}
-use Rattle.fort_engine.specs.declared.answer.Last.TheVariants.{Truth}
 use Rattle.fort_engine.specs.Deciding.{IsDecision}
 use Rattle.fort_engine.proofs.OperandLaws.{has_root, next_is, next_over, operand_of_root, kept_below, columns_below, operand_there, operand_taken, operand_within, IsBody-operand, IsDecision-True}
 use Rattle.fort_engine.proofs.FoundLaws.{plain_found, negation_found, many_found}
@@ -11,8 +10,8 @@ use Rattle.fort_engine.proofs.part.decide_part.Goals as goal
 
 pub returns-in-True : goal.returns-in-True
 returns-in-True c =
-    plain_found (has_root c.requires c.index.ensures c.in-True.is) tt (Ok (Truth true)) c.plain.result (IsDecision-True c.args.system.now core.True c.args.cap refl)
-    c.plain.ensures
+    plain_found (has_root c.requires c.index.ensures c.in-True.is) tt c.args.lists (Ok c.truth.result)
+    (IsDecision-True c.args.system.now core.True c.args.cap c.args.lists c.truth.result refl c.truth.ensures.answer c.truth.ensures.counts)
 
 pub related-requires : goal.related-requires
 related-requires c = subst (IsOverSystem c.args.system.now) (next_is (has_root c.requires c.index.ensures c.in-Atom.is)) c.requires.fit.over
@@ -22,17 +21,15 @@ normal_form-requires c = subst (IsOverSystem c.args.system.now) (next_is (has_ro
 
 pub returns-in-Atom : goal.returns-in-Atom
 returns-in-Atom c =
-    plain_found (has_root c.requires c.index.ensures c.in-Atom.is) tt c.related.result c.plain-in-Atom.result c.related.ensures c.plain-in-Atom.ensures
+    plain_found (has_root c.requires c.index.ensures c.in-Atom.is) tt c.args.lists c.related.result c.related.ensures
 
 pub returns-in-Nf : goal.returns-in-Nf
 returns-in-Nf c =
-    plain_found (has_root c.requires c.index.ensures c.in-Nf.is) tt c.normal_form.result c.plain-in-Nf.result (c.normal_form.ensures c.in-Nf.field-1)
-    c.plain-in-Nf.ensures
+    plain_found (has_root c.requires c.index.ensures c.in-Nf.is) tt c.args.lists c.normal_form.result (c.normal_form.ensures c.in-Nf.field-1)
 
 pub returns-in-Is : goal.returns-in-Is
 returns-in-Is c =
-    plain_found (has_root c.requires c.index.ensures c.in-Is.is) tt c.this_term.result c.plain-in-Is.result (c.this_term.ensures c.in-Is.field-0)
-    c.plain-in-Is.ensures
+    plain_found (has_root c.requires c.index.ensures c.in-Is.is) tt c.args.lists c.this_term.result (c.this_term.ensures c.in-Is.field-0)
 
 pub kept_answer-requires-clause-within : goal.kept_answer-requires-clause-within
 kept_answer-requires-clause-within c = let h = has_root c.requires c.index.ensures c.in-Not.is in kept_below (operand_of_root c.in-Not.f h (next_over h) refl)
@@ -40,23 +37,23 @@ kept_answer-requires-clause-within c = let h = has_root c.requires c.index.ensur
 pub kept_answer-requires-clause-there : goal.kept_answer-requires-clause-there
 kept_answer-requires-clause-there c = let h = has_root c.requires c.index.ensures c.in-Not.is in operand_there (operand_of_root c.in-Not.f h (next_over h) refl)
 
-pub kept_operand-requires-clause-within : goal.kept_operand-requires-clause-within
-kept_operand-requires-clause-within c = let h = has_root c.requires c.index.ensures c.in-Exists.is in kept_below (operand_of_root c.in-Exists.f h (next_over h) refl)
+pub kept_operand-body-requires-clause-within : goal.kept_operand-body-requires-clause-within
+kept_operand-body-requires-clause-within c = let h = has_root c.requires c.index.ensures c.in-Exists.is in kept_below (operand_of_root c.in-Exists.f h (next_over h) refl)
 
-pub kept_operand-requires-clause-there : goal.kept_operand-requires-clause-there
-kept_operand-requires-clause-there c = let h = has_root c.requires c.index.ensures c.in-Exists.is in operand_there (operand_of_root c.in-Exists.f h (next_over h) refl)
+pub kept_operand-body-requires-clause-there : goal.kept_operand-body-requires-clause-there
+kept_operand-body-requires-clause-there c = let h = has_root c.requires c.index.ensures c.in-Exists.is in operand_there (operand_of_root c.in-Exists.f h (next_over h) refl)
 
-pub kept_operand-requires-clause-listed : goal.kept_operand-requires-clause-listed
-kept_operand-requires-clause-listed c = let h = has_root c.requires c.index.ensures c.in-Exists.is in columns_below (operand_of_root c.in-Exists.f h (next_over h) refl)
+pub kept_operand-body-requires-clause-listed : goal.kept_operand-body-requires-clause-listed
+kept_operand-body-requires-clause-listed c = let h = has_root c.requires c.index.ensures c.in-Exists.is in columns_below (operand_of_root c.in-Exists.f h (next_over h) refl)
 
-pub kept_operand-requires-in-Infinite-clause-within : goal.kept_operand-requires-in-Infinite-clause-within
-kept_operand-requires-in-Infinite-clause-within c = let h = has_root c.requires c.index.ensures c.in-Infinite.is in kept_below (operand_of_root c.in-Infinite.f h (next_over h) refl)
+pub kept_operand-body-requires-in-Infinite-clause-within : goal.kept_operand-body-requires-in-Infinite-clause-within
+kept_operand-body-requires-in-Infinite-clause-within c = let h = has_root c.requires c.index.ensures c.in-Infinite.is in kept_below (operand_of_root c.in-Infinite.f h (next_over h) refl)
 
-pub kept_operand-requires-in-Infinite-clause-there : goal.kept_operand-requires-in-Infinite-clause-there
-kept_operand-requires-in-Infinite-clause-there c = let h = has_root c.requires c.index.ensures c.in-Infinite.is in operand_there (operand_of_root c.in-Infinite.f h (next_over h) refl)
+pub kept_operand-body-requires-in-Infinite-clause-there : goal.kept_operand-body-requires-in-Infinite-clause-there
+kept_operand-body-requires-in-Infinite-clause-there c = let h = has_root c.requires c.index.ensures c.in-Infinite.is in operand_there (operand_of_root c.in-Infinite.f h (next_over h) refl)
 
-pub kept_operand-requires-in-Infinite-clause-listed : goal.kept_operand-requires-in-Infinite-clause-listed
-kept_operand-requires-in-Infinite-clause-listed c = let h = has_root c.requires c.index.ensures c.in-Infinite.is in columns_below (operand_of_root c.in-Infinite.f h (next_over h) refl)
+pub kept_operand-body-requires-in-Infinite-clause-listed : goal.kept_operand-body-requires-in-Infinite-clause-listed
+kept_operand-body-requires-in-Infinite-clause-listed c = let h = has_root c.requires c.index.ensures c.in-Infinite.is in columns_below (operand_of_root c.in-Infinite.f h (next_over h) refl)
 
 pub join_parts-requires-clause-two : goal.join_parts-requires-clause-two
 join_parts-requires-clause-two c = let h = has_root c.requires c.index.ensures c.in-And.is in let over = next_over h in record { first = over.0; second = over.1; is = next_is h }
@@ -72,27 +69,24 @@ returns-in-Not c =
     let a = c.args in
     let h = has_root c.requires c.index.ensures c.in-Not.is in
     let o = operand_of_root c.in-Not.f h (next_over h) refl in
-    negation_found c.in-Not.f c.kept_answer.result.now h c.kept_answer.ensures c.complement.result c.plain-in-Not.result
+    negation_found c.in-Not.f c.kept_answer.result.now h c.kept_answer.ensures a.lists c.complement.result
     (c.complement.ensures.decided a.system.now a.cap (get_or (parts_in a.outline.now) c.in-Not.f core.True) (operand_taken o c.kept_answer.ensures) (operand_within o))
-    c.complement.ensures.turned c.plain-in-Not.ensures
+    c.complement.ensures.turned
 
 pub returns-in-And : goal.returns-in-And
 returns-in-And c =
     let h = has_root c.requires c.index.ensures c.in-And.is in
-    plain_found h tt c.join_parts.result c.plain-in-And.result (subst (λ z. IsDecision c.args.system.now z c.args.cap c.join_parts.result) (next_is h) c.join_parts.ensures)
-    c.plain-in-And.ensures
+    plain_found h tt c.args.lists c.join_parts.result (subst (λ z. IsDecision c.args.system.now z c.args.cap c.args.lists c.join_parts.result) (next_is h) c.join_parts.ensures)
 
 pub returns-in-Or : goal.returns-in-Or
 returns-in-Or c =
     let h = has_root c.requires c.index.ensures c.in-Or.is in
-    plain_found h tt c.join_parts-in-Or.result c.plain-in-Or.result (subst (λ z. IsDecision c.args.system.now z c.args.cap c.join_parts-in-Or.result) (next_is h) c.join_parts-in-Or.ensures)
-    c.plain-in-Or.ensures
+    plain_found h tt c.args.lists c.join_parts-in-Or.result (subst (λ z. IsDecision c.args.system.now z c.args.cap c.args.lists c.join_parts-in-Or.result) (next_is h) c.join_parts-in-Or.ensures)
 
 pub returns-in-Iff : goal.returns-in-Iff
 returns-in-Iff c =
     let h = has_root c.requires c.index.ensures c.in-Iff.is in
-    plain_found h tt c.join_parts-in-Iff.result c.plain-in-Iff.result (subst (λ z. IsDecision c.args.system.now z c.args.cap c.join_parts-in-Iff.result) (next_is h) c.join_parts-in-Iff.ensures)
-    c.plain-in-Iff.ensures
+    plain_found h tt c.args.lists c.join_parts-in-Iff.result (subst (λ z. IsDecision c.args.system.now z c.args.cap c.args.lists c.join_parts-in-Iff.result) (next_is h) c.join_parts-in-Iff.ensures)
 
 pub project-requires : goal.project-requires
 project-requires c =
@@ -101,7 +95,7 @@ project-requires c =
     let o = operand_of_root c.in-Exists.f h (next_over h) refl in
     let g = get_or (parts_in a.outline.now) c.in-Exists.f core.True in
     let binds : BindsFree (core.Exists c.in-Exists.n g) = subst BindsFree (next_is h) c.requires.fit.binders in
-    let body = IsBody-operand c.in-Exists.n c.kept_operand.result.columns.now o binds.0 c.kept_operand.ensures.answer c.kept_operand.ensures.columns in
+    let body = IsBody-operand c.in-Exists.n c.kept_operand-body.result.columns.now o binds.0 c.kept_operand-body.ensures.answer c.kept_operand-body.ensures.columns in
     (g, body)
 
 pub returns-in-Exists : goal.returns-in-Exists
@@ -111,8 +105,8 @@ returns-in-Exists c =
     let o = operand_of_root c.in-Exists.f h (next_over h) refl in
     let g = get_or (parts_in a.outline.now) c.in-Exists.f core.True in
     let binds : BindsFree (core.Exists c.in-Exists.n g) = subst BindsFree (next_is h) c.requires.fit.binders in
-    let body = IsBody-operand c.in-Exists.n c.kept_operand.result.columns.now o binds.0 c.kept_operand.ensures.answer c.kept_operand.ensures.columns in
-    plain_found h tt c.project.result c.plain-in-Exists.result (c.project.ensures g body) c.plain-in-Exists.ensures
+    let body = IsBody-operand c.in-Exists.n c.kept_operand-body.result.columns.now o binds.0 c.kept_operand-body.ensures.answer c.kept_operand-body.ensures.columns in
+    plain_found h tt a.lists c.project.result (c.project.ensures g body)
 
 pub count-requires : goal.count-requires
 count-requires c =
@@ -121,7 +115,7 @@ count-requires c =
     let o = operand_of_root c.in-Infinite.f h (next_over h) refl in
     let g = get_or (parts_in a.outline.now) c.in-Infinite.f core.True in
     let binds : BindsFree (core.Infinite c.in-Infinite.n g) = subst BindsFree (next_is h) c.requires.fit.binders in
-    let body = IsBody-operand c.in-Infinite.n c.kept_operand-in-Infinite.result.columns.now o binds.0 c.kept_operand-in-Infinite.ensures.answer c.kept_operand-in-Infinite.ensures.columns in
+    let body = IsBody-operand c.in-Infinite.n c.kept_operand-body-in-Infinite.result.columns.now o binds.0 c.kept_operand-body-in-Infinite.ensures.answer c.kept_operand-body-in-Infinite.ensures.columns in
     (g, body)
 
 pub returns-in-Infinite : goal.returns-in-Infinite
@@ -131,6 +125,6 @@ returns-in-Infinite c =
     let o = operand_of_root c.in-Infinite.f h (next_over h) refl in
     let g = get_or (parts_in a.outline.now) c.in-Infinite.f core.True in
     let binds : BindsFree (core.Infinite c.in-Infinite.n g) = subst BindsFree (next_is h) c.requires.fit.binders in
-    let body = IsBody-operand c.in-Infinite.n c.kept_operand-in-Infinite.result.columns.now o binds.0 c.kept_operand-in-Infinite.ensures.answer c.kept_operand-in-Infinite.ensures.columns in
-    many_found c.in-Infinite.n c.in-Infinite.f c.kept_operand-in-Infinite.result.answer.now h c.kept_operand-in-Infinite.ensures.answer c.count.result
+    let body = IsBody-operand c.in-Infinite.n c.kept_operand-body-in-Infinite.result.columns.now o binds.0 c.kept_operand-body-in-Infinite.ensures.answer c.kept_operand-body-in-Infinite.ensures.columns in
+    many_found c.in-Infinite.n c.in-Infinite.f c.kept_operand-body-in-Infinite.result.answer.now h c.kept_operand-body-in-Infinite.ensures.answer a.lists c.count.result
     (c.count.ensures g body)

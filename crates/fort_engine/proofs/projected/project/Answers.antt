@@ -9,5 +9,5 @@ unreachable-requires c =
 
 pub returns-then-columns-eq1 : goal.returns-then-columns-eq1
 returns-then-columns-eq1 c f b =
-    IsDecision-closed c.args.system.now c.args.number f c.args.cap c.args.body.now.answer.now c.in-Auto.table c.accepts_some.result c.in-Auto.is b.right b.among
-    (sym c.columns.ensures.count ∙ c.if-columns-eq1.true) c.accepts_some.ensures
+    IsDecision-closed c.args.system.now c.args.number f c.args.cap c.args.lists c.args.body.now.answer.now c.in-Auto.table c.accepts_some.result c.truth.result c.in-Auto.is b.right
+    b.among (sym c.columns.ensures.count ∙ c.if-columns-eq1.true) c.accepts_some.ensures c.truth.ensures.answer c.truth.ensures.counts

@@ -1,4 +1,4 @@
-use Rattle.std.proofs.Common.{◌≡◌, ℕ, ◌+◌, List, [], ◌∷◌, ◌++◌, length, arith, ap, ◌∙◌, length-append}
+use Rattle.std.proofs.Common.{◌≡◌, ℕ, ◌+◌, List, [], ◌∷◌, ◌++◌, length, IfSome, arith, ap, sym, ◌∙◌, subst, length-append}
 use Rattle.fort_explore.proofs.ExploreLaws.{exploring_ready, exploring_allowed, exploring_give, placed_over}
 use Rattle.fort_explore.proofs.table.give_targets.Goals as goal
 
@@ -63,6 +63,8 @@ entries-preserved g c =
           let ready = exploring_ready sig n label c.entries.maker f.firsts f.labels.labels c.in-Some.row.now x due in
           let p = c.in_ok-q.ensures.placed sig s ready in
           exploring_give sig n label c.entries.maker c.give.new.self f.firsts c.place_of.new.found.firsts f.labels.labels c.place_of.new.found.labels.labels c.in-Some.row.now c.in_ok-q.q x due p given;
+      listed = subst (λ (ts : List ℕ). IfSome c.list_target.new.targets (λ v. v.items ≡ ts)) (sym given.targets) (c.in_ok-list_target.ensures.list c.entries.maker.targets c.entries.invariant.listed);
+      there = c.in_ok-list_target.ensures.there ∙ c.entries.invariant.there;
       same = c.in_ok-q.ensures.same;
       width = c.in_ok-q.ensures.width ∙ c.entries.invariant.width;
       kept = c.place_of.ensures.kept;

@@ -3,7 +3,7 @@ use Rattle.std.specs.List.{insert}
 use Rattle.fort_tables.specs.Entries.{entry}
 use Rattle.fort_tables.specs.Tables.{IsTableEntry}
 use Rattle.fort_counts.proofs.ManyEntryLaws.{kid_within, absent_entry, absent_state_small}
-use Rattle.fort_infinity.specs.CountView.{is_many}
+use Rattle.fort_infinity.specs.ManyCounts.{is_many}
 use Rattle.fort_infinity.proofs.many_entry.absent_target.Goals as goal
 
 pub absent_states-states-requires-clause-kids : goal.absent_states-states-requires-clause-kids

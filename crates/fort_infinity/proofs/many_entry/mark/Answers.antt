@@ -3,7 +3,7 @@ use Rattle.fort_operations.specs.Projections.{has_state, gives_under}
 use Rattle.fort_counts.specs.ManyLabels.{has_many, gives_many_under}
 use Rattle.fort_counts.specs.ManyEntries.{kid_labels}
 use Rattle.fort_counts.proofs.ManySearchLaws.{below_turn}
-use Rattle.fort_infinity.specs.CountView.{is_many}
+use Rattle.fort_infinity.specs.ManyCounts.{is_many}
 use Rattle.fort_infinity.proofs.many_entry.mark.Goals as goal
 
 pub loop-g-preserved : goal.loop-g-preserved

@@ -5,7 +5,7 @@ use Rattle.fort_counts.specs.ManyLabels.{has_many}
 use Rattle.fort_counts.specs.ManyEntries.{kid_labels}
 use Rattle.fort_counts.proofs.ManyEntryLaws.{choices_count}
 use Rattle.fort_counts.proofs.ManySearchLaws.{endless_start, under_state, under_endless}
-use Rattle.fort_infinity.specs.CountView.{is_many}
+use Rattle.fort_infinity.specs.ManyCounts.{is_many}
 use Rattle.fort_infinity.proofs.ChildrenLaws.{arity_small}
 use Rattle.fort_infinity.proofs.ManyMarks.{choices_made}
 use Rattle.fort_infinity.proofs.many_entry.mark_under.Goals as goal

@@ -1,8 +1,5 @@
-use Rattle.std.proofs.Common.{[], ◌∷◌, ◌++◌, map, sym, ap, ◌∙◌, subst}
-use Rattle.fort_infinity.specs.CountView as counted
-use Rattle.fort_certificate_grammar.specs.Certificates as certificates
+use Rattle.std.proofs.Common.{sym, subst}
 use Rattle.fort_steps.specs.declared.step.Step.TheVariants.{Counts}
-use Rattle.fort_steps.specs.StepView.{as_step}
 use Rattle.fort_trace.specs.Recording.{CountsPushed}
 use Rattle.fort_trace.proofs.ClosureLaws.{one_more}
 use Rattle.fort_trace.proofs.CountLaws.{CountsPushed-none}
@@ -10,12 +7,9 @@ use Rattle.fort_trace.proofs.counts.push_counts.Goals as goal
 
 pub returns-in_ok-push : goal.returns-in_ok-push
 returns-in_ok-push c =
-    let k = c.args.k in
     let old = c.args.steps.now.items in
     let new = c.push.new.self.items in
-    subst (λ o. CountsPushed k o old new) (sym c.in-Some.is)
-    (one_more old new (Counts k c.in_ok-marks.marks) c.in_ok-push.ensures.items
-    ∙ ap (λ ms. map as_step old ++ certificates.Counts k ms ∷ []) (c.in_ok-marks.ensures ∙ ap (map counted.as_count) c.as_slice.ensures.value))
+    subst (λ o. CountsPushed c.args.k o old new) (sym c.in-Some.is) (one_more old new (Counts c.args.k c.in-Some.counts) c.in_ok-push.ensures.items)
 
 pub returns-in_default : goal.returns-in_default
-returns-in_default c = CountsPushed-none c.args.k c.args.decided.now.counts c.args.steps.now.items c.in_default.not-Some
+returns-in_default c = CountsPushed-none c.args.k c.args.counts c.args.steps.now.items c.in_default.not-Some

@@ -57,7 +57,7 @@ returns-then-due-len-clause-outcome c = λ system f certificate h.
     subst (λ (o : Outcome). HasOutcome system f certificate o)
     (ap (λ m. Rejected (m + 1 + c.dues.place) 0 Due) first
     ∙ (ap (λ n. Rejected (c.dues.self.certificate.now.first + 1 + n) 0 Due) here ∙ sym c.rejected_at-then-due-len.ensures))
-    (too_many system f certificate c.dues.self at.1.checker c.dues.place at.0 at.1 (omega (arith, due, c.dues-test.false, c.len-place-end.ensures))
+    (too_many system f certificate c.dues.self at.1.checker c.dues.place at.0 at.1.loop (omega (arith, due, c.dues-test.false, c.len-place-end.ensures))
     (omega (arith, here, c.if-due-len.true, c.len.ensures)))
 
 pub returns-then-due-len-clause-again : goal.returns-then-due-len-clause-again
@@ -67,14 +67,14 @@ pub verdict_of-requires : goal.verdict_of-requires
 verdict_of-requires c =
     let at = c.dues.invariant.at c.requires.0 c.requires.1 c.requires.2 c.requires.3 in
     let due = ap (λ ds. length ds.items) c.dues.invariant.dues in
-    has_value c.requires.0 c.requires.1 c.requires.2 c.dues.self at.1.checker c.dues.place at.0 at.1 (omega (arith, due, c.dues-test.false, c.len-place-end.ensures))
+    has_value c.requires.0 c.requires.1 c.requires.2 c.dues.self at.1.checker c.dues.place at.0 at.1.loop (omega (arith, due, c.dues-test.false, c.len-place-end.ensures))
     (omega (arith, due, c.dues-test.false, c.len-place-end.ensures, c.if-due-len.false, c.len.ensures, c.len-due.ensures))
 
 pub returns-clause-outcome : goal.returns-clause-outcome
 returns-clause-outcome c = λ system f certificate h.
     let at = c.dues.invariant.at system f certificate h in
     let due = ap (λ ds. length ds.items) c.dues.invariant.dues in
-    judged system f certificate c.dues.self at.1.checker c.dues.place at.0 at.1 (omega (arith, due, c.dues-test.false, c.len-place-end.ensures))
+    judged system f certificate c.dues.self at.1.checker c.dues.place at.0 at.1.loop (omega (arith, due, c.dues-test.false, c.len-place-end.ensures))
     (omega (arith, due, c.dues-test.false, c.len-place-end.ensures, c.if-due-len.false, c.len.ensures, c.len-due.ensures))
     c.verdict_of.result c.verdict_of.ensures.verdict c.verdict_of.ensures.same c.verdict_of.ensures.other c.verdict_of.ensures.header
 
@@ -82,7 +82,7 @@ pub returns-clause-truth : goal.returns-clause-truth
 returns-clause-truth c = truths c.args.self.now c.verdict_of.result (λ system f certificate h.
     let at = c.dues.invariant.at system f certificate h in
     let due = ap (λ ds. length ds.items) c.dues.invariant.dues in
-    judged system f certificate c.dues.self at.1.checker c.dues.place at.0 at.1 (omega (arith, due, c.dues-test.false, c.len-place-end.ensures))
+    judged system f certificate c.dues.self at.1.checker c.dues.place at.0 at.1.loop (omega (arith, due, c.dues-test.false, c.len-place-end.ensures))
     (omega (arith, due, c.dues-test.false, c.len-place-end.ensures, c.if-due-len.false, c.len.ensures, c.len-due.ensures))
     c.verdict_of.result c.verdict_of.ensures.verdict c.verdict_of.ensures.same c.verdict_of.ensures.other c.verdict_of.ensures.header)
 

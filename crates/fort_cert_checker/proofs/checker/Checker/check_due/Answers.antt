@@ -4,7 +4,7 @@ use Rattle.std.proofs.lemmas.List.{with_items_is, places}
 use Rattle.std.proofs.lemmas.Bool.Decides.{nat_tests}
 use Rattle.fort_steps.specs.StepView.{as_step}
 use Rattle.fort_cert_checker.specs.OutcomeView.{as_reason}
-use Rattle.fort_cert_checker.proofs.CheckLaws.{map_ok, map_err, missing, are_read, not_due, is_due, fails, steps_are, order_given, loop_given, due_given, failing_given, ready_after, loop_after}
+use Rattle.fort_cert_checker.proofs.CheckLaws.{map_ok, map_err, missing, are_read, not_due, is_due, fails, steps_are, loop_given, due_given, failing_given, ready_after, loop_after}
 use Rattle.fort_cert_checker.proofs.checker.Checker.check_due.Goals as goal
 
 pub returns-in_default-clause-failing : goal.returns-in_default-clause-failing
@@ -12,13 +12,13 @@ returns-in_default-clause-failing c =
     let test = c.in_default.ensures.lookup.0 in
     let l : length c.as_slice-steps.result.now ≤ c.args.place = grind (arith, nat_tests) in
     rw c.failed.ensures
-    (λ system f certificate made at. missing system f certificate c.args.self.now at.checker c.args.place made at c.requires.due.5
+    (λ system f certificate made at. missing system f certificate c.args.self.now at.checker c.args.place made at.loop c.requires.due.5
     (omega (arith, l, ap length c.as_slice-steps.ensures.value)))
 
 pub returns-then-not-is_about-clause-failing : goal.returns-then-not-is_about-clause-failing
 returns-then-not-is_about-clause-failing c =
     rw c.failed-then-not-is_about.ensures
-    (λ system f certificate made at. not_due system f certificate c.args.self.now at.checker c.args.place made at c.requires.due.5
+    (λ system f certificate made at. not_due system f certificate c.args.self.now at.checker c.args.place made at.loop c.requires.due.5
     c.index.result.now c.in-Some.step.now (are_read c.args.self.now c.args.place c.index.result.now c.in-Some.step.now c.as_slice-steps.result.now c.as_slice-steps.ensures.value c.in-Some.ensures.lookup.0 c.in-Some.ensures.lookup.1 c.requires.due.5 c.index.ensures)
     (sym c.is_about.ensures ∙ c.if-not-is_about.true))
 
@@ -33,15 +33,15 @@ check_step-requires c =
     let made = c.requires.due.3 in
     let at = c.requires.due.4 in
     record {
-      order = order_given system f certificate a at.checker c.deref.result.now c.deref-2.result.now c.deref.ensures.value c.deref-2.ensures.value;
       due = (
+        at.checker.parts,
         f,
         certificate,
         made,
         (steps_are system f certificate a at.checker ∙ ap (map as_step) (sym c.as_slice-steps.ensures.value)),
-        (loop_given system f certificate a at.checker c.deref.result.now c.deref-2.result.now c.deref.ensures.value c.deref-2.ensures.value c.deref_mut.result.now c.deref_mut-2.result.now c.deref_mut-3.result.now
-            c.args.place made c.deref_mut.ensures.value c.deref_mut-2.ensures.value c.deref_mut-3.ensures.value at),
-        (due_given system f certificate a at.checker c.deref.result.now c.deref-2.result.now c.deref.ensures.value c.deref-2.ensures.value c.args.place (is_due system f certificate a at.checker c.args.place made at c.requires.due.5 c.index.result.now c.in-Some.step.now read own)),
+        (loop_given system f certificate a at.checker c.deref.result.now c.deref.ensures.value c.deref_mut.result.now c.deref_mut-2.result.now c.deref_mut-3.result.now
+            c.args.place made c.deref_mut.ensures.value c.deref_mut-2.ensures.value c.deref_mut-3.ensures.value at.loop),
+        (due_given system f certificate a at.checker c.deref.result.now c.deref.ensures.value c.args.place (is_due system f certificate a at.checker c.args.place made at.loop c.requires.due.5 c.index.result.now c.in-Some.step.now read own)),
       );
     }
 
@@ -55,11 +55,11 @@ returns-clause-fine c =
     let marks_in = with_items_is c.args.self.now.marks c.check_step.new.marks (search (rules, places)) in
     map_ok c.check_step.result
     (λ own_next system f certificate made at.
-    let next = own_next f certificate made (steps_are system f certificate a at.checker ∙ ap (map as_step) (sym c.as_slice-steps.ensures.value))
-    (loop_given system f certificate a at.checker c.deref.result.now c.deref-2.result.now c.deref.ensures.value c.deref-2.ensures.value c.deref_mut.result.now c.deref_mut-2.result.now c.deref_mut-3.result.now
-    c.args.place made c.deref_mut.ensures.value c.deref_mut-2.ensures.value c.deref_mut-3.ensures.value at)
-    (due_given system f certificate a at.checker c.deref.result.now c.deref-2.result.now c.deref.ensures.value c.deref-2.ensures.value c.args.place (is_due system f certificate a at.checker c.args.place made at c.requires.due.5 c.index.result.now c.in-Some.step.now read own)) in
-    (next.0, loop_after system f certificate a at.checker c.deref.result.now c.deref-2.result.now c.deref.ensures.value c.deref-2.ensures.value c.check_step.new.closures c.check_step.new.rooms c.check_step.new.scratch c.check_step.new.marks closures_in rooms_in marks_in (c.args.place + 1) next.0 next.1))
+    let next = own_next at.checker.parts f certificate made (steps_are system f certificate a at.checker ∙ ap (map as_step) (sym c.as_slice-steps.ensures.value))
+    (loop_given system f certificate a at.checker c.deref.result.now c.deref.ensures.value c.deref_mut.result.now c.deref_mut-2.result.now c.deref_mut-3.result.now
+    c.args.place made c.deref_mut.ensures.value c.deref_mut-2.ensures.value c.deref_mut-3.ensures.value at.loop)
+    (due_given system f certificate a at.checker c.deref.result.now c.deref.ensures.value c.args.place (is_due system f certificate a at.checker c.args.place made at.loop c.requires.due.5 c.index.result.now c.in-Some.step.now read own)) in
+    (next.0, loop_after system f certificate a at.checker c.deref.result.now c.deref.ensures.value c.check_step.new.closures c.check_step.new.rooms c.check_step.new.scratch c.check_step.new.marks closures_in rooms_in marks_in (c.args.place + 1) next.0 next.1))
     c.check_step.ensures.fine
 
 pub returns-clause-failing : goal.returns-clause-failing
@@ -69,12 +69,12 @@ returns-clause-failing c =
     let own = sym c.is_about.ensures ∙ c.if-not-is_about.false in
     map_err c.check_step.result
     (λ e own_failing system f certificate made at.
-    fails system f certificate a at.checker c.args.place made at c.requires.due.5 c.index.result.now c.in-Some.step.now read own e.place (as_reason e.reason)
-    (λ t. failing_given system f certificate a at.checker c.deref.result.now c.deref-2.result.now c.deref.ensures.value c.deref-2.ensures.value made (get_or certificate.steps c.args.place t) e.place (as_reason e.reason)
-    (own_failing f certificate made t (steps_are system f certificate a at.checker ∙ ap (map as_step) (sym c.as_slice-steps.ensures.value))
-    (loop_given system f certificate a at.checker c.deref.result.now c.deref-2.result.now c.deref.ensures.value c.deref-2.ensures.value c.deref_mut.result.now c.deref_mut-2.result.now c.deref_mut-3.result.now
-    c.args.place made c.deref_mut.ensures.value c.deref_mut-2.ensures.value c.deref_mut-3.ensures.value at)
-    (due_given system f certificate a at.checker c.deref.result.now c.deref-2.result.now c.deref.ensures.value c.deref-2.ensures.value c.args.place (is_due system f certificate a at.checker c.args.place made at c.requires.due.5 c.index.result.now c.in-Some.step.now read own)))))
+    fails system f certificate a at.checker c.args.place made at.loop c.requires.due.5 c.index.result.now c.in-Some.step.now read own e.place (as_reason e.reason)
+    (λ t. failing_given system f certificate a at.checker c.deref.result.now c.deref.ensures.value made (get_or certificate.steps c.args.place t) e.place (as_reason e.reason)
+    (own_failing at.checker.parts f certificate made t (steps_are system f certificate a at.checker ∙ ap (map as_step) (sym c.as_slice-steps.ensures.value))
+    (loop_given system f certificate a at.checker c.deref.result.now c.deref.ensures.value c.deref_mut.result.now c.deref_mut-2.result.now c.deref_mut-3.result.now
+    c.args.place made c.deref_mut.ensures.value c.deref_mut-2.ensures.value c.deref_mut-3.ensures.value at.loop)
+    (due_given system f certificate a at.checker c.deref.result.now c.deref.ensures.value c.args.place (is_due system f certificate a at.checker c.args.place made at.loop c.requires.due.5 c.index.result.now c.in-Some.step.now read own)))))
     c.check_step.ensures.failing
 
 pub returns-clause-same : goal.returns-clause-same
@@ -85,8 +85,8 @@ returns-clause-same c = λ system f certificate made at.
     let closures_in = with_items_is c.args.self.now.closures c.check_step.new.closures (search (rules, places)) in
     let rooms_in = with_items_is c.args.self.now.rooms c.check_step.new.rooms (search (rules, places)) in
     let marks_in = with_items_is c.args.self.now.marks c.check_step.new.marks (search (rules, places)) in
-    ready_after system f certificate a at.checker c.deref.result.now c.deref-2.result.now c.deref.ensures.value c.deref-2.ensures.value c.check_step.new.closures c.check_step.new.rooms c.check_step.new.scratch c.check_step.new.marks closures_in rooms_in marks_in
-    (c.check_step.ensures.ready f certificate made (steps_are system f certificate a at.checker ∙ ap (map as_step) (sym c.as_slice-steps.ensures.value))
-    (loop_given system f certificate a at.checker c.deref.result.now c.deref-2.result.now c.deref.ensures.value c.deref-2.ensures.value c.deref_mut.result.now c.deref_mut-2.result.now c.deref_mut-3.result.now
-    c.args.place made c.deref_mut.ensures.value c.deref_mut-2.ensures.value c.deref_mut-3.ensures.value at)
-    (due_given system f certificate a at.checker c.deref.result.now c.deref-2.result.now c.deref.ensures.value c.deref-2.ensures.value c.args.place (is_due system f certificate a at.checker c.args.place made at c.requires.due.5 c.index.result.now c.in-Some.step.now read own)))
+    ready_after system f certificate a at.checker c.deref.result.now c.deref.ensures.value c.check_step.new.closures c.check_step.new.rooms c.check_step.new.scratch c.check_step.new.marks closures_in rooms_in marks_in
+    (c.check_step.ensures.ready at.checker.parts f certificate made (steps_are system f certificate a at.checker ∙ ap (map as_step) (sym c.as_slice-steps.ensures.value))
+    (loop_given system f certificate a at.checker c.deref.result.now c.deref.ensures.value c.deref_mut.result.now c.deref_mut-2.result.now c.deref_mut-3.result.now
+    c.args.place made c.deref_mut.ensures.value c.deref_mut-2.ensures.value c.deref_mut-3.ensures.value at.loop)
+    (due_given system f certificate a at.checker c.deref.result.now c.deref.ensures.value c.args.place (is_due system f certificate a at.checker c.args.place made at.loop c.requires.due.5 c.index.result.now c.in-Some.step.now read own)))

@@ -6,7 +6,7 @@ use Rattle.fort_outline.proofs.RootLaws.{length-cores_of}
 use Rattle.fort_in_order.specs.Dues.{DueStep, OfClosure, dues}
 use Rattle.fort_formulas.specs.CoreView.{as_core}
 use Rattle.fort_steps.specs.StepView.{as_step}
-use Rattle.fort_check_steps.specs.DueView.{as_due}
+use Rattle.fort_outline.specs.DueView.{as_due}
 use Rattle.fort_cert_checker.specs.Fronts.{IsReady}
 use Rattle.fort_cert_checker.specs.Makings.{AreClosuresMade, ArePlansMade, AreRoomsMade, IsScratchMade, AreMarksMade}
 use Rattle.fort_cert_checker.proofs.NewLaws.{index_due}
@@ -75,7 +75,7 @@ returns c =
       certificate_is = refl;
       lawful = c.number.ensures.lawful;
       closed = c.requires.closed;
-      outline_is = c.in_ok-outline.ensures;
+      parts = parts;
       forms = omega (arith, numbers.1, ap length steps_are);
       dues = due_are;
       ready = subst (λ ss. IsReady system (as_core c.args.core.now) parts (map as_step ss) plans c.in_ok-closures.closures.items c.in_ok-rooms.rooms.items c.in_ok-scratch.scratch c.in_ok-marks.marks.items) steps_are

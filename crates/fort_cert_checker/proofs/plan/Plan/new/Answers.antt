@@ -1,6 +1,6 @@
 use Rattle.std.proofs.Common.{◌≡◌, length, ap, arith}
 use Rattle.fort_parts.specs.PartColumns.{columns_of}
-use Rattle.fort_check_steps.proofs.OutlineLaws.{columns_at}
+use Rattle.fort_outline.proofs.OutlineLaws.{columns_at}
 use Rattle.fort_outline.specs.Outlines.{core_at}
 use Rattle.fort_cert_checker.proofs.plan.Plan.new.Goals as goal
 

@@ -64,7 +64,7 @@ rules_under-requires c =
     let places : ArePlacesOf ls rs (map as_pair c.args.list.rules.items) c.in_ok-rules.rules.items =
     rw (c.deref-3.ensures.value, c.deref-4.ensures.value, c.deref-5.ensures.value) at c.in_ok-rules.ensures in
     let left_numbers : AreNumbersOf ls c.in_ok-lefts.lefts.items = rw c.deref.ensures.value at c.in_ok-lefts.ensures.numbers in
-    rw c.deref-11.ensures.value (λ r k. let l = (places.within r k).0 in omega (arith, l, left_numbers.count, c.len-3.ensures))
+    rw c.deref-12.ensures.value (λ r k. let l = (places.within r k).0 in omega (arith, l, left_numbers.count, c.len-3.ensures))
 
 pub invariant_of-result : goal.invariant_of-result
 invariant_of-result c =
@@ -87,7 +87,7 @@ invariant_of-result c =
       rule_roots = c.in_ok-rule_roots.rule_roots;
       under = c.in_ok-under.under;
       reach = c.in_ok-reach.reach;
-      closed = c.args.closed;
+      entries = c.args.entries;
     } in
     let left_size : c.len.result ≡ length ls = omega (arith, c.len.ensures, left_numbers.count) in
     let right_size : c.len-2.result ≡ length rs = omega (arith, c.len-2.ensures, right_numbers.count) in
@@ -101,14 +101,14 @@ invariant_of-result c =
       left_once = NoPatternTwice-ordered ls c.requires.left_order.ordered;
       right_once = NoPatternTwice-ordered rs c.requires.right_order.ordered;
       reaching = λ e.
-          subst (λ n. IsReach n (length rs) (numbers_of c.args.closed.entries.items) c.in_ok-reach.reach) left_size
-          (subst (λ n. IsReach c.len.result n (numbers_of c.args.closed.entries.items) c.in_ok-reach.reach) right_size
-          (c.in_ok-reach.ensures e));
+          subst (λ n. IsReach n (length rs) (numbers_of c.args.entries.items) c.in_ok-reach.reach) left_size
+          (subst (λ n. IsReach c.len.result n (numbers_of c.args.entries.items) c.in_ok-reach.reach) right_size
+          ((rw c.deref-11.ensures.value at c.in_ok-reach.ensures) e));
       arguments = c.arguments_of.ensures.arguments;
       left_roots = rw c.deref-6.ensures.value at c.in_ok-left_roots.ensures;
       right_roots = rw c.deref-7.ensures.value at c.in_ok-right_roots.ensures;
       rule_roots = rw (c.deref-8.ensures.value, c.deref-9.ensures.value, c.deref-10.ensures.value) at c.in_ok-rule_roots.ensures;
-      under = rw c.deref-11.ensures.value at c.in_ok-under.ensures;
+      under = rw c.deref-12.ensures.value at c.in_ok-under.ensures;
     }
 
 pub returns : goal.returns

@@ -1,5 +1,4 @@
-use Rattle.std.proofs.Common.{ap, sym, ◌∙◌, subst, List, Bool}
-use Rattle.std.proofs.lemmas.Result.{IfOk-weaker}
+use Rattle.std.proofs.Common.{◌≡◌, IfSome, refl, ap, sym, ◌∙◌, subst, List, Bool}
 use Rattle.fort_tables.specs.Tables.{Listed, finished}
 use Rattle.fort_explore.specs.Exploring.{AreLabelFinals}
 use Rattle.fort_explore.proofs.KnownLaws.{known_labels}
@@ -21,7 +20,15 @@ finish-requires-clause-finals g c =
 pub returns-clause-finals : goal.returns-clause-finals
 returns-clause-finals g c =
     let F : List Bool → Type 0 = AreLabelFinals (g.L.Labeller.column_count c.args.labeller.now) (g.L.Labeller.accepting c.args.labeller.now) c.args.self.found.labels.labels in
-    IfOk-weaker c.finish.result _ _ (λ (t : Listed) made. subst F (sym (ap (λ (x : Listed). x.finals) made)) c.in_ok-finals.ensures) c.finish.ensures.table
+    subst F (sym (ap (λ (x : Listed). x.finals) c.in_ok-table.ensures.table)) c.in_ok-finals.ensures
 
 pub returns-clause-made : goal.returns-clause-made
-returns-clause-made g c = IfOk-weaker c.finish.result _ _ (λ (t : Listed) made. made ∙ ap (finished c.args.self.maker) (sym (ap (λ (x : Listed). x.finals) made))) c.finish.ensures.table
+returns-clause-made g c =
+    let made = c.in_ok-table.ensures.table in
+    made ∙ ap (finished c.args.self.maker) (sym (ap (λ (x : Listed). x.finals) made))
+
+pub returns-clause-targets : goal.returns-clause-targets
+returns-clause-targets g c = record {
+  all = subst (λ (x : Listed). IfSome c.args.self.targets (λ l. l.items ≡ x.targets)) (sym c.in_ok-table.ensures.table) c.requires.targets;
+  asked = refl;
+}

@@ -3,7 +3,7 @@ use Rattle.fort_tables.specs.BitRows.{words_for}
 use Rattle.fort_operations.specs.Projections.{has_state, some_below}
 use Rattle.fort_counts.specs.ManyLabels.{has_many}
 use Rattle.fort_counts.specs.ManyEntries.{finds, may_be, gives_state, gives_endless}
-use Rattle.fort_infinity.specs.CountView.{is_many}
+use Rattle.fort_infinity.specs.ManyCounts.{is_many}
 use Rattle.fort_infinity.proofs.many_choices.ManyChoices.+visit.Given as goal
 
 abbrev pub decreases-visit : goal.decreases-visit

@@ -1,0 +1,27 @@
+use Rattle.std.proofs.Common.{ap, sym, ◌∙◌, get_or}
+use Rattle.std.specs.Prelude.{not}
+use Rattle.fort_logic.specs.Cores as core
+use Rattle.fort_outline.specs.Roots.{root_core}
+use Rattle.fort_outline.proofs.OutlineLaws.{plain_root}
+use Rattle.fort_outline.proofs.DueLists.{columns_there, answer_value, answer_turned, answer_part, due_put, none_put}
+use Rattle.fort_outline.proofs.dues.push_answer.Goals as goal
+
+pub returns-then-is_empty : goal.returns-then-is_empty
+returns-then-is_empty c = λ parts are.
+    let f = root_core parts c.args.root.now in
+    due_put c.args.dues.now.items c.push.new.self.items _ _ c.in_ok-push.ensures.items
+    (answer_value c.args.number f (sym (columns_there f c.args.columns.now c.is_empty.result are c.is_empty.ensures) ∙ ap not c.if-is_empty.true))
+
+pub returns-in-Not : goal.returns-in-Not
+returns-in-Not c = λ parts are.
+    let f = root_core parts c.args.root.now in
+    none_put c.args.dues.now.items _
+    (answer_turned c.args.number f (get_or parts c.in-Not.field-0 core.True) (ap (root_core parts) c.in-Not.is)
+    (sym (columns_there f c.args.columns.now c.is_empty.result are c.is_empty.ensures) ∙ ap not c.if-is_empty.false))
+
+pub returns-in_ok-push-in_default : goal.returns-in_ok-push-in_default
+returns-in_ok-push-in_default c = λ parts are.
+    let f = root_core parts c.args.root.now in
+    due_put c.args.dues.now.items c.push-in_default.new.self.items _ _ c.in_ok-push-in_default.ensures.items
+    (answer_part c.args.number f (plain_root parts c.args.root.now c.in_default.not-Not)
+    (sym (columns_there f c.args.columns.now c.is_empty.result are c.is_empty.ensures) ∙ ap not c.if-is_empty.false))

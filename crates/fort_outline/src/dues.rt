@@ -1,0 +1,172 @@
+//! The steps that are due for a formula, by its outline.
+ghost use Rattle.std.specs.Prelude.{◌≡◌, ◌<◌, ◌^◌, ◌++◌, List, map, length, IfOk, OnOk};
+ghost use Rattle.std.specs.List.{list_any};
+ghost use Rattle.fort_logic.specs.Cores as theory;
+ghost use Rattle.fort_parts.specs.PartColumns.{columns_of};
+ghost use Rattle.fort_formulas.specs.CoreView.{as_rel};
+ghost use Rattle.fort_outline.specs.Roots.{root_core, cores_of};
+ghost use Rattle.fort_outline.specs.Outlines.{IsOutlineOf, parts_in};
+ghost use Rattle.fort_in_order.specs.Dues as definitions;
+ghost use Rattle.fort_in_order.specs.Dues.{counts_due, answer_due, closure_due, closures_due, parts_due};
+ghost use Rattle.fort_steps.specs.StepView.{as_which};
+ghost use Rattle.fort_outline.specs.DueView.{as_due};
+
+use crate::outline::Outline;
+use crate::root::Root;
+use fort_formulas::Rel;
+use fort_steps::Which;
+use fort_terms::Memory;
+use std::alloc::Global;
+
+/// What a step is about: a closure of an index, or a part by its number.
+#[derive(Clone, Copy)]
+pub enum DueStep {
+    Closure(Which, u32),
+    Part(u32),
+    Counts(u32),
+    Value(u32),
+}
+
+/// Whether a relation is told by a closure.
+fn reads(which: Which, rel: Rel) -> bool
+    ensures { result ≡ definitions.reads (as_which which) (as_rel rel) }
+{
+    match which {
+        Which::Star => rel == Rel::Star || rel == Rel::Plus,
+        Which::Conv => rel == Rel::Conv,
+    }
+}
+
+/// Whether a part asks for the closure of an index.
+fn asks(which: Which, index: u32, root: &Root) -> bool
+    ensures { (parts : List theory.Core) → result ≡ definitions.asks (as_which which) index
+        (root_core parts root.now) }
+{
+    match root.relation() {
+        Some((rel, own)) => reads(which, rel) && own == index,
+        None => false,
+    }
+}
+
+/// Whether the closure of an index is due for a formula whose parts have these roots.
+pub fn is_closure_due(which: Which, index: u32, roots: &[Root]) -> bool
+    ensures { result ≡ list_any (definitions.asks (as_which which) index) (cores_of roots.now) }
+{
+    for root in roots {
+        if asks(which, index, root) {
+            return true;
+        }
+    }
+    false
+}
+
+fn push_closure(
+    which: Which,
+    index: u32,
+    roots: &[Root],
+    dues: &mut Vec<DueStep>,
+) -> Result<(), Memory>
+    ensures { OnOk result (map as_due dues.new.items ≡ map as_due dues.old.items
+        ++ closure_due (cores_of roots.now) index (as_which which)) }
+{
+    if is_closure_due(which, index, roots) {
+        dues.push(DueStep::Closure(which, index))?;
+    }
+    Ok(())
+}
+
+/// The closures of all indices.
+fn push_closures(indices: u32, roots: &[Root], dues: &mut Vec<DueStep>) -> Result<(), Memory>
+    requires { indices < 2 ^ 31 }
+    ensures { OnOk result (map as_due dues.new.items ≡ map as_due dues.old.items
+        ++ closures_due (cores_of roots.now) indices 1) }
+{
+    for i in 0..indices {
+        push_closure(Which::Star, i + 1, roots, dues)?;
+        push_closure(Which::Conv, i + 1, roots, dues)?;
+    }
+    Ok(())
+}
+
+fn push_counts(number: u32, root: &Root, dues: &mut Vec<DueStep>) -> Result<(), Memory>
+    ensures { OnOk result ((parts : List theory.Core)
+        → map as_due dues.new.items ≡ map as_due dues.old.items
+        ++ counts_due number (root_core parts root.now)) }
+{
+    match root {
+        Root::Infinite(_, _) => {
+            dues.push(DueStep::Counts(number))?;
+            Ok(())
+        }
+        _ => Ok(()),
+    }
+}
+
+/// The table or the value of a part with these columns; the table of a negation is that of its operand.
+fn push_answer(
+    number: u32,
+    root: &Root,
+    columns: &[u32],
+    dues: &mut Vec<DueStep>,
+) -> Result<(), Memory>
+    ensures { OnOk result ((parts : List theory.Core)
+        → columns.now ≡ columns_of (root_core parts root.now)
+        → map as_due dues.new.items ≡ map as_due dues.old.items
+        ++ answer_due number (root_core parts root.now)) }
+{
+    if columns.is_empty() {
+        dues.push(DueStep::Value(number))?;
+        return Ok(());
+    }
+    match root {
+        Root::Not(_) => Ok(()),
+        _ => {
+            dues.push(DueStep::Part(number))?;
+            Ok(())
+        }
+    }
+}
+
+/// The steps of a part with these columns.
+fn push_part(
+    number: u32,
+    root: &Root,
+    columns: &[u32],
+    dues: &mut Vec<DueStep>,
+) -> Result<(), Memory>
+    ensures { OnOk result ((parts : List theory.Core)
+        → columns.now ≡ columns_of (root_core parts root.now)
+        → map as_due dues.new.items ≡ map as_due dues.old.items
+        ++ (counts_due number (root_core parts root.now)
+        ++ answer_due number (root_core parts root.now))) }
+{
+    push_counts(number, root, dues)?;
+    push_answer(number, root, columns, dues)
+}
+
+/// The steps of all parts.
+fn push_parts(outline: &Outline, dues: &mut Vec<DueStep>) -> Result<(), Memory>
+    requires outline { (f : theory.Core) × IsOutlineOf f outline.now }
+    requires few { length outline.now.roots.items < 2 ^ 32 }
+    ensures { OnOk result (map as_due dues.new.items ≡ map as_due dues.old.items
+        ++ parts_due 0 (parts_in outline.now)) }
+{
+    for k in 0..outline.roots.len() {
+        push_part(k as u32, &outline.roots[k], &outline.columns[k], dues)?;
+    }
+    Ok(())
+}
+
+/// The steps that are due for a formula with this outline, over a system of so many indices.
+pub fn steps_due(alloc: Global, indices: u32, outline: &Outline) -> Result<Vec<DueStep>, Memory>
+    requires indices { indices < 2 ^ 31 }
+    requires outline { (f : theory.Core) × IsOutlineOf f outline.now }
+    requires parts { length outline.now.roots.items < 2 ^ 32 }
+    ensures { IfOk result (λ all. map as_due all.items
+        ≡ definitions.dues indices (parts_in outline.now)) }
+{
+    let mut all = Vec::new(alloc);
+    push_closures(indices, &outline.roots, &mut all)?;
+    push_parts(outline, &mut all)?;
+    Ok(all)
+}

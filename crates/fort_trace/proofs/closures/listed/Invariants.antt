@@ -1,7 +1,0 @@
-use Rattle.std.proofs.Common.{◌≡◌, map, take}
-use Rattle.fort_steps.specs.StepView.{as_pair}
-use Rattle.fort_written_closures.specs.ItemView.{as_items}
-use Rattle.fort_trace.proofs.closures.listed.Given as goal
-
-abbrev pub invariant-loop-entry : goal.invariant-loop-entry
-invariant-loop-entry l = map as_pair l.list.items ≡ as_items (take l.entry-index l.entries)
