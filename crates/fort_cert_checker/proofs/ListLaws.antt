@@ -2,10 +2,10 @@
 use Rattle.std.specs.Prelude.{◌≡◌, ℕ, ◌*◌, ◌^◌, ◌<◌, ◌≤◌, List, [], ◌∷◌, length}
 use Rattle.std.proofs.Common.{ap, arith}
 use Rattle.fort_certificate_grammar.specs.Certificates.{Step}
-use Rattle.fort_rrn_algebra.specs.LayRooms.{HasLayRoom}
-use Rattle.fort_rrn_algebra.specs.TargetLists.{HasListRoom}
-use Rattle.fort_rrn_algebra.specs.declared.states.LayRoom.{LayRoom}
-use Rattle.fort_rrn_algebra.specs.declared.target_list.TargetList.{TargetList}
+use Rattle.fort_target_lists.specs.LayRooms.{HasLayRoom}
+use Rattle.fort_target_lists.specs.TargetLists.{HasListRoom}
+use Rattle.fort_target_lists.specs.declared.states.LayRoom.{LayRoom}
+use Rattle.fort_target_lists.specs.declared.target_list.TargetList.{TargetList}
 use Rattle.fort_check_steps.specs.Room.{most_states, AreAsRoomy, HasNeeds}
 use Rattle.fort_check_steps.specs.declared.room.ListRoom.{ListRoom}
 use Rattle.fort_check_steps.specs.declared.room.LabelRoom.{LabelRoom}

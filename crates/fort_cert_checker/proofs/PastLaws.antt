@@ -16,10 +16,10 @@ use Rattle.fort_cert_checker.specs.Pasts.{steps_of, IsTableAt, IsTruthAt, IsAnsw
 use Rattle.fort_cert_checker.specs.OperandLists.{FitsList, HasTableRoom}
 use Rattle.fort_cert_checker.proofs.KnownAnswers.{held_states}
 use Rattle.fort_check_steps.specs.Room.{most_states}
-use Rattle.fort_rrn_algebra.specs.LayRooms.{HasLayRoom}
-use Rattle.fort_rrn_algebra.specs.TargetLists.{HasListRoom}
-use Rattle.fort_rrn_algebra.specs.declared.states.LayRoom.{LayRoom}
-use Rattle.fort_rrn_algebra.specs.declared.target_list.TargetList.{TargetList}
+use Rattle.fort_target_lists.specs.LayRooms.{HasLayRoom}
+use Rattle.fort_target_lists.specs.TargetLists.{HasListRoom}
+use Rattle.fort_target_lists.specs.declared.states.LayRoom.{LayRoom}
+use Rattle.fort_target_lists.specs.declared.target_list.TargetList.{TargetList}
 
 turned_of : (n : ℕ) (l : Listed) → turned_table (record { table = l; turns = n }) ≡ turned n (listed_table l)
 turned_of zero l = refl

@@ -28,8 +28,8 @@ use Rattle.fort_in_order.specs.Made.{Made}
 use Rattle.fort_in_order.specs.PartRules.{Local, closure_for, IsLocalOf, project_local, many_local, is_many, IsCounted}
 use Rattle.fort_in_order_laws.proofs.RightParts.{some_columns}
 use Rattle.fort_in_order_laws.proofs.JoinedTables.{bound_within, bound_many}
-use Rattle.fort_rrn_algebra.specs.declared.operand.Op.{Op}
-use Rattle.fort_rrn_algebra.specs.Operands.{connective_of}
+use Rattle.fort_products.specs.declared.operand.Op.{Op}
+use Rattle.fort_products.specs.Operands.{connective_of}
 use Rattle.fort_steps.specs.declared.closure.ClosureEntry.{ClosureEntry}
 use Rattle.fort_steps.specs.declared.count.Count.{Count}
 use Rattle.fort_steps.specs.StepView.{as_count, as_pair}

@@ -26,8 +26,8 @@ use Rattle.fort_in_order.specs.PartRules.{IsValueOf, IsCounted, is_many}
 use Rattle.fort_in_order.specs.Checked.{IsCountJudged}
 use Rattle.fort_in_order_laws.proofs.RightParts.{some_columns, none_columns}
 use Rattle.fort_in_order_laws.proofs.JoinedTables.{bound_within}
-use Rattle.fort_rrn_algebra.specs.declared.operand.Op.{Op}
-use Rattle.fort_rrn_algebra.specs.Operands.{connective_of}
+use Rattle.fort_products.specs.declared.operand.Op.{Op}
+use Rattle.fort_products.specs.Operands.{connective_of}
 use Rattle.fort_steps.specs.declared.count.Count.{Count}
 use Rattle.fort_steps.specs.StepView.{as_count}
 use Rattle.fort_check_steps.specs.declared.marks.MarkRoom.{MarkRoom}

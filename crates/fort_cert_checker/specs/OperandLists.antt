@@ -2,10 +2,10 @@
 use Rattle.std.specs.Prelude.{ℕ, List, length}
 use Rattle.fort_parts.specs.PartAnswers.{Answer, OfValue, OfTable}
 use Rattle.fort_certificate_grammar.specs.Certificates.{Step, Part}
-use Rattle.fort_rrn_algebra.specs.LayRooms.{HasLayRoom}
-use Rattle.fort_rrn_algebra.specs.TargetLists.{IsTargetListOf, HasListRoom}
-use Rattle.fort_rrn_algebra.specs.declared.states.LayRoom.{LayRoom}
-use Rattle.fort_rrn_algebra.specs.declared.target_list.TargetList.{TargetList}
+use Rattle.fort_target_lists.specs.LayRooms.{HasLayRoom}
+use Rattle.fort_target_lists.specs.TargetLists.{IsTargetListOf, HasListRoom}
+use Rattle.fort_target_lists.specs.declared.states.LayRoom.{LayRoom}
+use Rattle.fort_target_lists.specs.declared.target_list.TargetList.{TargetList}
 use Rattle.fort_check_steps.specs.Turned.{TurnedTable}
 use Rattle.fort_check_steps.specs.Room.{most_states, IsListFor}
 use Rattle.fort_check_steps.specs.declared.room.ListRoom.{ListRoom}

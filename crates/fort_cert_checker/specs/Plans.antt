@@ -22,8 +22,8 @@ use Rattle.fort_certificate_grammar.specs.Certificates.{Star, Conv, Pair as Item
 use Rattle.fort_steps.specs.declared.closure.ClosureEntry.{ClosureEntry}
 use Rattle.fort_steps.specs.declared.count.Count.{Count}
 use Rattle.fort_steps.specs.StepView.{as_count, as_pair}
-use Rattle.fort_rrn_algebra.specs.declared.operand.Op.{Op}
-use Rattle.fort_rrn_algebra.specs.Operands.{connective_of}
+use Rattle.fort_products.specs.declared.operand.Op.{Op}
+use Rattle.fort_products.specs.Operands.{connective_of}
 use Rattle.fort_check_steps.specs.Room.{most_states}
 use Rattle.fort_cert_checker.specs.Abouts.{IsOnlyAbout}
 use Rattle.fort_cert_checker.specs.Sources.{IsSourceOf}

@@ -9,7 +9,7 @@ ghost use Rattle.fort_outline.specs.Outlines.{IsOutlineOf, parts_in, core_at};
 ghost use Rattle.fort_parts.specs.PartColumns.{columns_of, place_in};
 ghost use Rattle.fort_parts.specs.RightAnswers.{joined};
 ghost use Rattle.fort_steps.specs.StepView.{as_step};
-ghost use Rattle.fort_rrn_algebra.specs.Operands.{connective_of};
+ghost use Rattle.fort_products.specs.Operands.{connective_of};
 ghost use Rattle.fort_in_order.specs.Dues as definitions;
 ghost use Rattle.fort_cert_checker.specs.Sources.{IsSourceOf, IsTurnedBody};
 ghost use Rattle.fort_cert_checker.specs.Plans.{IsFitPart, IsOperandPlan, IsClosureRead, IsAtomPlan, IsWorkOf, IsPlanOf};

@@ -6,7 +6,7 @@ ghost use Rattle.fort_tables.specs.Tables as tables;
 ghost use Rattle.fort_counts.specs.Counts.{KeepRules, count_at, is_infinite};
 ghost use Rattle.fort_operations.specs.Projections.{ArePure};
 ghost use Rattle.fort_parts.specs.PartAnswers as answers;
-ghost use Rattle.fort_rrn_algebra.specs.Operands.{connective_of};
+ghost use Rattle.fort_products.specs.Operands.{connective_of};
 ghost use Rattle.fort_steps.specs.StepView.{as_count};
 ghost use Rattle.fort_in_order.specs.PartRules.{project_local, many_local};
 ghost use Rattle.fort_context_closure.specs.AtomLabelsView.{word_count};

@@ -7,7 +7,7 @@ ghost use Rattle.fort_counts.specs.Counts.{count_at, is_infinite};
 ghost use Rattle.fort_counts.specs.ManyLabels.{many_value as many_value_lem};
 ghost use Rattle.fort_operations.specs.Products.{connected};
 ghost use Rattle.fort_operations.specs.Projections.{ArePure};
-ghost use Rattle.fort_rrn_algebra.specs.Operands.{connective_of};
+ghost use Rattle.fort_products.specs.Operands.{connective_of};
 ghost use Rattle.fort_steps.specs.StepView.{as_count};
 ghost use Rattle.fort_in_order.specs.Made.{Made};
 ghost use Rattle.fort_in_order.specs.PartRules.{IsValueOf};

@@ -12,7 +12,7 @@ use Rattle.fort_tables.proofs.OrderLaws.{before_irrefl, before_trans}
 use Rattle.fort_laid_entries.specs.Laid.{all_entries}
 use Rattle.fort_laid_entries.proofs.OrderedLists.{AllPairs-head, AllPairs-tail}
 use Rattle.fort_laid_entries.proofs.AllEntries.{all_in_order, all_there}
-use Rattle.fort_rrn_algebra.specs.HeldTargets.{IsHeld, AreHeldFrom, entries_with}
+use Rattle.fort_products.specs.HeldTargets.{IsHeld, AreHeldFrom, entries_with}
 use Rattle.fort_in_order.specs.PartSteps.{states_before, AreRightTo, IsRightPart}
 use Rattle.fort_in_order.proofs.PartTables.{rows_in_order, entry_label_same}
 use Rattle.fort_in_order_laws.proofs.EntryWalks.{Walked, IsNextOf, walked_old}

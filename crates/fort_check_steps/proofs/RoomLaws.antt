@@ -1,10 +1,10 @@
 -- Room for labels, and for lists of targets.
 use Rattle.std.proofs.Common.{ℕ, ◌≤◌, List, arith}
 use Rattle.std.proofs.Math.Nat.{mul-le-mul_right}
-use Rattle.fort_rrn_algebra.specs.declared.states.LayRoom.{LayRoom}
-use Rattle.fort_rrn_algebra.specs.declared.target_list.TargetList.{TargetList}
-use Rattle.fort_rrn_algebra.specs.LayRooms.{HasLayRoom}
-use Rattle.fort_rrn_algebra.specs.TargetLists.{HasListRoom}
+use Rattle.fort_target_lists.specs.declared.states.LayRoom.{LayRoom}
+use Rattle.fort_target_lists.specs.declared.target_list.TargetList.{TargetList}
+use Rattle.fort_target_lists.specs.LayRooms.{HasLayRoom}
+use Rattle.fort_target_lists.specs.TargetLists.{HasListRoom}
 use Rattle.fort_check_steps.specs.StateLabelsView.{Spaces, HasSpace, IsAsSpacious}
 use Rattle.fort_check_steps.specs.declared.room.LabelRoom.{LabelRoom}
 use Rattle.fort_check_steps.specs.declared.room.LabelNeeds.{LabelNeeds}

@@ -1,8 +1,8 @@
 -- To believe: which room the check of a part needs: for states no more than it has targets, and no more than the greatest target names; words for the labels of so many states, of which the wide ones stand by themselves; numbers by which so many states are walked through; and for the list of each operand as many as its targets, and one start more.
 use Rattle.std.specs.Prelude.{ℕ, ◌≤◌, min, List, length, vec_capacity}
 use Rattle.fort_tables.specs.Entries.{stage}
-use Rattle.fort_rrn_algebra.specs.LayRooms.{HasLayRoom}
-use Rattle.fort_rrn_algebra.specs.TargetLists.{HasListRoom}
+use Rattle.fort_target_lists.specs.LayRooms.{HasLayRoom}
+use Rattle.fort_target_lists.specs.TargetLists.{HasListRoom}
 use Rattle.fort_check_steps.specs.declared.room.PartRoom.{PartRoom}
 use Rattle.fort_check_steps.specs.StateLabelsView.{Spaces, HasSpace, IsAsSpacious}
 use Rattle.fort_check_steps.specs.declared.room.ListRoom.{ListRoom}

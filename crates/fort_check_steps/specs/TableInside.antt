@@ -2,7 +2,7 @@
 use Rattle.std.specs.Prelude.{◌≡◌, ◌<◌, ◌^◌, length, IfSome}
 use Rattle.fort_tables.specs.Tables.{Listed, listed_table, IsListed}
 use Rattle.fort_laid_entries.specs.Laid.{all_entries}
-use Rattle.fort_rrn_algebra.specs.TargetLists.{IsTargetListOf}
+use Rattle.fort_target_lists.specs.TargetLists.{IsTargetListOf}
 use Rattle.fort_check_steps.specs.Turned.{TurnedTable}
 use Rattle.fort_check_steps.specs.declared.table.PartTable.TheInside.{Inside}
 

@@ -2,7 +2,7 @@
 ghost use Rattle.std.specs.Prelude.{◌≡◌, ℕ, ◌<◌, ◌≤◌, ◌^◌, length, vec_capacity, OnOk};
 ghost use Rattle.fort_tables.specs.LabelRules.{IsLabelRule, IsTableBy, label_of};
 ghost use Rattle.fort_tables.specs.Tables.{listed_table};
-ghost use Rattle.fort_rrn_algebra.specs.LayRooms.{HasLayRoom};
+ghost use Rattle.fort_target_lists.specs.LayRooms.{HasLayRoom};
 ghost use Rattle.fort_in_order.specs.Outcomes.{StepOutcome};
 ghost use Rattle.fort_in_order.specs.PartSteps.{IsPartOutcome};
 ghost use Rattle.fort_check_steps.specs.Held.{HoldsPart, held_table};

@@ -2,8 +2,8 @@
 ghost use Rattle.std.specs.Prelude.{◌≡◌, ℕ, ◌<◌, ◌^◌, map, length, IsTrue};
 ghost use Rattle.fort_tables.specs.Labels.{first_word, AreLabels};
 ghost use Rattle.fort_tables.specs.LabelRules.{label_of};
-ghost use Rattle.fort_rrn_algebra.specs.LayRooms.{HasLayRoom};
-ghost use Rattle.fort_rrn_algebra.specs.HeldTargets.{AreHeldFrom};
+ghost use Rattle.fort_target_lists.specs.LayRooms.{HasLayRoom};
+ghost use Rattle.fort_products.specs.HeldTargets.{AreHeldFrom};
 
 use fort_context_closure::SignedAtom;
 use fort_explore::{LocalRule, Rows};

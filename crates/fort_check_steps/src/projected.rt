@@ -2,7 +2,7 @@
 ghost use Rattle.std.specs.Prelude.{◌≡◌, ◌<◌, IfSome};
 ghost use Rattle.fort_operations.specs.Projections as projections;
 ghost use Rattle.fort_operations.proofs.OperandFacts.{ArePure-prop};
-ghost use Rattle.fort_rrn_algebra.specs.TargetLists.{IsTargetListOf, IfTargetList-prop};
+ghost use Rattle.fort_target_lists.specs.TargetLists.{IsTargetListOf, IfTargetList-prop};
 
 use crate::part_rule::PartRule;
 use fort_explore::{LocalRule, Rows};

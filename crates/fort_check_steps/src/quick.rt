@@ -3,8 +3,8 @@ ghost use Rattle.std.specs.Prelude.{◌≡◌, ℕ, ◌<◌, ◌≤◌, ◌^◌,
 ghost use Rattle.fort_tables.specs.Entries.{Entry};
 ghost use Rattle.fort_tables.specs.Labels.{first_word, IsOverLabels, AreLabels};
 ghost use Rattle.fort_tables.specs.LabelRules.{IsLabelRule, label_of};
-ghost use Rattle.fort_rrn_algebra.specs.LayRooms.{HasLayRoom};
-ghost use Rattle.fort_rrn_algebra.specs.HeldTargets.{AreHeldFrom};
+ghost use Rattle.fort_target_lists.specs.LayRooms.{HasLayRoom};
+ghost use Rattle.fort_products.specs.HeldTargets.{AreHeldFrom};
 ghost use Rattle.fort_check_steps.specs.HeldStates.{IsReadyFor, AreRightStates, IsRoomLeft};
 ghost use Rattle.fort_check_steps.specs.OnePlace.{IsMade};
 ghost use Rattle.fort_check_steps.specs.Guesses.{Guessed};

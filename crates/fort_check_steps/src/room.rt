@@ -1,7 +1,7 @@
 //! Room for the tables of parts, and for their check.
 ghost use Rattle.std.specs.Prelude.{◌≡◌, ℕ, ◌↔◌, ◌*◌, ◌<◌, ◌≤◌, ◌^◌, IsTrue, IfOk, IfSome, IfNone};
 ghost use Rattle.fort_tables.specs.Entries.{stage};
-ghost use Rattle.fort_rrn_algebra.specs.TargetLists.{HasListRoom};
+ghost use Rattle.fort_target_lists.specs.TargetLists.{HasListRoom};
 ghost use Rattle.fort_check_steps.specs.Room.{HasRoom, IsAsLong, IsSpaceFor, IsAsNeedy, HasNeeds, most_states as most_states_lem};
 
 use crate::state_labels::{NARROW, StateLabels};

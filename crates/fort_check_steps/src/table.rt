@@ -3,8 +3,8 @@ ghost use Rattle.std.specs.Prelude.{◌≡◌, ◌<◌, ◌≤◌, ◌^◌, ◌=
 ghost use Rattle.fort_tables.specs.LabelRules.{LabelRule};
 ghost use Rattle.fort_tables.specs.Entries.{entry};
 ghost use Rattle.fort_tables.specs.Tables.{full_presence, IsListed, IsTableEntry};
-ghost use Rattle.fort_rrn_algebra.specs.LayRooms.{HasLayRoom};
-ghost use Rattle.fort_rrn_algebra.specs.TargetLists.{IsTargetListOf, HasListRoom};
+ghost use Rattle.fort_target_lists.specs.LayRooms.{HasLayRoom};
+ghost use Rattle.fort_target_lists.specs.TargetLists.{IsTargetListOf, HasListRoom};
 ghost use Rattle.fort_check_steps.specs.Turned.{turned_by, turned_table};
 ghost use Rattle.fort_check_steps.specs.Held.{HoldsPart, held_table};
 

@@ -2,7 +2,7 @@
 ghost use Rattle.std.specs.Prelude.{◌≡◌, ℕ, ◌+◌, ◌*◌, ◌<◌, ◌≤◌, ◌^◌, List, [], ◌∷◌, ◌++◌, Bool, length, drop, ◌-◌, ◌&&◌, ◌||◌, ◌==◌, slice_index, slice_index_or};
 ghost use Rattle.std.specs.Slice.Scan.{HoldsNowhere};
 ghost use Rattle.fort_atom_labels.specs.AtomRules.{all_kids, one_kid, some_kid, same_roots as same_roots_lem, is_there as is_there_lem};
-ghost use Rattle.fort_lockstep.specs.Columns.{as_column};
+ghost use Rattle.fort_tuple_symbols.specs.Columns.{as_column};
 ghost use Rattle.fort_context_closure.specs.RowBits.{HasBits, IsRow, bit_of, labels_at};
 
 use fort_explore::{Rows, has_bit, set_bit};

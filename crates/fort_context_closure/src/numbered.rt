@@ -4,7 +4,7 @@ ghost use Rattle.fort_theory.specs.Patterns.{Any};
 ghost use Rattle.fort_theory.specs.PatternOrder.{AllAmong};
 ghost use Rattle.fort_terms.specs.PatternView.{as_pattern, as_patterns};
 ghost use Rattle.fort_tree_automata.specs.PatternMoves.{IsClosedInOrder};
-ghost use Rattle.fort_lockstep.specs.Columns.{as_column};
+ghost use Rattle.fort_tuple_symbols.specs.Columns.{as_column};
 ghost use Rattle.fort_atom_labels.specs.PatternNumbers.{AreAt, IsNumberOf, all_at, number_inside};
 ghost use Rattle.fort_context_closure.specs.NumberedView.{AreNumbersOf};
 ghost use Rattle.fort_context_closure.specs.RowBits.{HasBits, bit_of, labels_at};

@@ -2,7 +2,7 @@
 ghost use Rattle.std.specs.Prelude.{◌≡◌, ℕ, ◌+◌, ◌*◌, ◌<◌, ◌≤◌, ◌^◌, ◌||◌, suc, length, get_or, slice_index_or, Contains, IfOk};
 ghost use Rattle.std.specs.List.{list_any};
 ghost use Rattle.fort_tables.specs.BitRows.{words_for};
-ghost use Rattle.fort_lockstep.specs.Columns.{as_column};
+ghost use Rattle.fort_tuple_symbols.specs.Columns.{as_column};
 ghost use Rattle.fort_context_closure.specs.RowBits.{bit_of, labels_at};
 ghost use Rattle.fort_context_closure.specs.ReachRows.{HasRows, rule_adds};
 ghost use Rattle.fort_context_closure.specs.RulePlaces.{no_rule};

@@ -4,7 +4,7 @@ ghost use Rattle.fort_theory.specs.Sides.{IsIndexOf, at_index};
 ghost use Rattle.fort_formulas.specs.CoreView.{as_rel};
 ghost use Rattle.fort_tables.specs.BitRows.{words_for};
 ghost use Rattle.fort_tables.specs.LabelRules.{entry_label};
-ghost use Rattle.fort_lockstep.specs.Columns.{as_column};
+ghost use Rattle.fort_tuple_symbols.specs.Columns.{as_column};
 ghost use Rattle.fort_alike.specs.Atoms.{kind_for};
 ghost use Rattle.fort_alike.specs.Alike.{is_reaching};
 ghost use Rattle.fort_atom_labels.specs.AtomRules.{marks_of, atom_rule, atom_accepts};

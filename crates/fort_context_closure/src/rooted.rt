@@ -1,6 +1,6 @@
 //! Places by the symbols at their roots.
 ghost use Rattle.std.specs.Prelude.{◌≡◌, ℕ, ◌+◌, ◌<◌, ◌≤◌, [], ◌∷◌, ◌++◌, map, set, length, OnOk, vec_items, Option};
-ghost use Rattle.fort_lockstep.specs.Columns.{as_column};
+ghost use Rattle.fort_tuple_symbols.specs.Columns.{as_column};
 ghost use Rattle.fort_context_closure.specs.RootPlaces.{IsRooted, HasMoreRoots, list_at, places_at};
 
 use fort_terms::{Memory, Sym};

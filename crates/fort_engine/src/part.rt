@@ -2,7 +2,7 @@
 ghost use Rattle.std.specs.Prelude.{◌≡◌, ℕ, false, IfOk};
 ghost use Rattle.fort_theory.specs.Patterns.{PatternSystem};
 ghost use Rattle.fort_logic.specs.Cores as theory;
-ghost use Rattle.fort_rrn_algebra.specs.Operands.{connective_of};
+ghost use Rattle.fort_products.specs.Operands.{connective_of};
 ghost use Rattle.fort_parts.specs.AlikeParts.{IsPartOver};
 ghost use Rattle.fort_parts.specs.RightAnswers.{IsRightFor};
 ghost use Rattle.fort_outline.specs.Outlines.{parts_in, core_at};

@@ -17,7 +17,7 @@ use Rattle.fort_counts.specs.PureStates.{IsPureState}
 use Rattle.fort_counts.specs.PureSearch.{lone_symbol, has_number, is_child_after, is_child_under, is_child}
 use Rattle.fort_counts.proofs.PureSearchLaws.{pure_from_test, pure_entry_made, is_child_exactly}
 use Rattle.fort_counts.proofs.ManySearchLaws.{choice_turn}
-use Rattle.fort_lockstep.specs.Columns.{as_column, as_symbol}
+use Rattle.fort_tuple_symbols.specs.Columns.{as_column, as_symbol}
 use Rattle.fort_terms.specs.declared.sym.Sym.{Sym}
 use Rattle.fort_infinity.specs.Children.{AreChildren, IsPureColumn, IsLone}
 use Rattle.fort_infinity.proofs.ListLaws.{has_number-noted}

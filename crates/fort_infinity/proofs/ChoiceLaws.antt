@@ -6,7 +6,7 @@ use Rattle.fort_tables.specs.Tables.{Table, IsTable, IsReached}
 use Rattle.fort_operations.specs.Projections.{absent_state}
 use Rattle.fort_counts.specs.ManyEntries.{IsManyEntry}
 use Rattle.fort_counts.proofs.ManyEntryLaws.{absent_state_small}
-use Rattle.fort_rrn_algebra.specs.Choices.{IsNext, IsNextChoice, may_choose}
+use Rattle.fort_projections.specs.Choices.{IsNext, IsNextChoice, may_choose}
 
 pub next_choice : (body : Table) (c : ℕ) (labels : List (List ℕ)) (e : Entry) (most j from k : ℕ) (p : ℕ → Bool) → ((i : ℕ) → p i ≡ may_choose body c labels e most j i) → k < length body.presences → IsNext p from k → IsNextChoice body (may_choose body c labels e most j) from k
 next_choice body c labels e most j from k p same l n = record {

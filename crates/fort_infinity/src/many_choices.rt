@@ -7,7 +7,7 @@ ghost use Rattle.fort_tables.proofs.TableLaws.{IsKidState};
 ghost use Rattle.fort_operations.specs.Projections.{ArePure, has_state};
 ghost use Rattle.fort_counts.specs.ManyLabels.{has_many, kid_has_many as kid_has_many_lem};
 ghost use Rattle.fort_counts.specs.ManyEntries.{kid_labels, AreManyChoices, finds, may_be, gives_state, gives_endless, has_endless};
-ghost use Rattle.fort_rrn_algebra.specs.Choices.{IsNext, IsNextChoice, AreNoChoices, may_choose};
+ghost use Rattle.fort_projections.specs.Choices.{IsNext, IsNextChoice, AreNoChoices, may_choose};
 ghost use Rattle.fort_infinity.specs.ManyCounts.{is_many};
 
 use fort_explore::{Rows, has_bit, set_bit};

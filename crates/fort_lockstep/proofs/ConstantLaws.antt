@@ -5,14 +5,14 @@ use Rattle.std.specs.Int.Digits.{number_from_digits, AllBelowBase}
 use Rattle.std.proofs.lemmas.Bool.{cases_lt}
 use Rattle.std.proofs.lemmas.Bool.Decides.{eqb_tells}
 use Rattle.std.proofs.lemmas.List.{length-set, get_or-set_other}
-use Rattle.fort_lockstep.specs.Columns.{symbol_of, digits_again, digit_of}
-use Rattle.fort_lockstep.specs.DigitNumbers.{AreDigits, digits_at}
-use Rattle.fort_lockstep.specs.NumberPlaces.{IsWider}
+use Rattle.fort_tuple_symbols.specs.Columns.{symbol_of, digits_again, digit_of}
+use Rattle.fort_tuple_symbols.specs.DigitNumbers.{AreDigits, digits_at}
+use Rattle.fort_tuple_symbols.specs.WiderPlaces.{IsWider}
 use Rattle.fort_lockstep.specs.Transitions.{Transition, transition, IsPut}
 use Rattle.fort_lockstep.specs.ConstantsInside.{constants_from}
-use Rattle.fort_lockstep.proofs.InLaws.{In, Contains-from_In, In-from_Contains}
-use Rattle.fort_lockstep.proofs.DigitNumberLaws.{length-digits_at, digits_at-below, number_of_digits}
-use Rattle.fort_lockstep.proofs.SymbolSetLaws.{digits_back, number_small}
+use Rattle.fort_entry_walk.proofs.InLaws.{In, Contains-from_In, In-from_Contains}
+use Rattle.fort_tuple_symbols.proofs.DigitNumberLaws.{length-digits_at, digits_at-below, number_of_digits}
+use Rattle.fort_tuple_symbols.proofs.SymbolSetLaws.{digits_back, number_small}
 
 -- more numbers without targets
 constants_wider : (b c n : ℕ) (old new : List ℕ) → length old ≤ length new → ((k : ℕ) → k < length old → get_or new k 0 ≡ get_or old k 0) → ((k : ℕ) → length old ≤ k → k < length new → get_or new k 0 ≡ 0) → constants_from b c n new ≡ constants_from b c n old

@@ -7,13 +7,14 @@ use Rattle.std.proofs.lemmas.List.{length_push, get_or_append_left}
 use Rattle.fort_tables.specs.Tuples.{tabulate}
 use Rattle.fort_tables.proofs.TupleLaws.{length-tabulate, get_or-tabulate}
 use Rattle.fort_tables.proofs.EqualTests.{equal_from_test}
-use Rattle.fort_lockstep.specs.Walks.{AreUpTo, digit_lists}
+use Rattle.fort_tuple_symbols.specs.DigitNumbers.{AreUpTo}
+use Rattle.fort_entry_walk.specs.Walks.{digit_lists}
 use Rattle.fort_lockstep.specs.Transitions.{KidsBefore}
 use Rattle.fort_lockstep.specs.Ranks.{space, AreOf, wants_at}
 use Rattle.fort_lockstep.specs.InOrder.{place_in_order}
 use Rattle.fort_lockstep.specs.Kept.{are_of, first_with, list_at, first_lists, AreFirst}
-use Rattle.fort_lockstep.proofs.InLaws.{In}
-use Rattle.fort_lockstep.proofs.KidMembers.{In-digit_lists}
+use Rattle.fort_entry_walk.proofs.InLaws.{In}
+use Rattle.fort_entry_walk.proofs.KidMembers.{In-digit_lists}
 use Rattle.fort_lockstep.proofs.InOrderLaws.{in_order_below}
 use Rattle.fort_lockstep.proofs.UnrankLaws.{in_order_all, HasPlaceInOrder}
 use Rattle.fort_lockstep.proofs.DueLaws.{in_order_one, due_place, place_stays}

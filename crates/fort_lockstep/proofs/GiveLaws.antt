@@ -7,8 +7,7 @@ use Rattle.fort_tables.specs.Entries.{Entry, no_entry, IsNextEntry, IsLastEntry}
 use Rattle.fort_tables.specs.Tables.{Made, IsMadeDue, IsAllowed, IsGiven}
 use Rattle.fort_tables.proofs.EqualTests.{equal_from_test}
 use Rattle.fort_tables.proofs.OrderLaws.{due_one}
-use Rattle.fort_lockstep.specs.Walks.{Place}
-use Rattle.fort_lockstep.specs.WalkFacts.{entry_at, IsStep}
+use Rattle.fort_entry_walk.specs.WalkPlaces.{Place, entry_at, IsStep}
 use Rattle.fort_lockstep.specs.Making.{made_of, IsPushed, IsMaking, IsStanding, IsUpTo, Stands}
 use Rattle.fort_lockstep.proofs.MakingLaws.{stands_next, stands_last, standing_due, making_none, up_to_none, Grown, grown}
 use Rattle.fort_lockstep.specs.GivenView.{Parts}

@@ -6,7 +6,7 @@ use Rattle.fort_tables.specs.Tuples.{TupleSymbol}
 use Rattle.fort_tables.specs.Entries.{Entry, entry, ColumnBefore, LexBefore, ComesBefore}
 use Rattle.fort_tables.proofs.OrderLaws.{before_irrefl, before_trans}
 use Rattle.fort_lockstep.specs.Transitions.{Transition, KidsBefore, Group, no_group, transition, group_transitions, transitions, in_order, entries_of, targets_of, IsAfterEntries, IsPut, IsLast}
-use Rattle.fort_lockstep.proofs.InLaws.{In, In-left, In-right, In-either}
+use Rattle.fort_entry_walk.proofs.InLaws.{In, In-left, In-right, In-either}
 use Rattle.fort_lockstep.proofs.OrderedLaws.{AllBefore, at_of, In-in_order, in_order_push}
 
 -- no symbol comes before itself

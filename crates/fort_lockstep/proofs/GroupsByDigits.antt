@@ -6,16 +6,16 @@ use Rattle.std.proofs.lemmas.List.{length-map, map-append, get_or-map, get_or_de
 use Rattle.fort_tables.specs.Tuples.{TupleSymbol}
 use Rattle.fort_tables.specs.Entries.{Entry, entry}
 use Rattle.fort_lockstep.specs.Transitions.{Transition, Group, KidsBefore, no_group, transition, group_transitions, transitions, in_order, entries_of, IsAfterEntries, IsPut}
-use Rattle.fort_lockstep.proofs.InLaws.{In}
+use Rattle.fort_entry_walk.proofs.InLaws.{In}
 use Rattle.fort_lockstep.proofs.OrderedLaws.{transition_in, from_in_order, In-in_order, at_of}
 use Rattle.fort_lockstep.proofs.GroupLaws.{kids_irrefl, push_in_group, push_group, InGroup, In-group, from_groups, kids_before}
-use Rattle.fort_lockstep.specs.Columns.{symbol_of, digit_of, digits_again}
+use Rattle.fort_tuple_symbols.specs.Columns.{symbol_of, digit_of, digits_again}
 use Rattle.fort_lockstep.specs.KidOrder.{IsGrownGroup}
 use Rattle.fort_lockstep.specs.Ranks.{AreOf, wants_at}
 use Rattle.fort_lockstep.specs.GroupFacts.{transitions_in, AreApart, IsDue, HasWants}
 use Rattle.fort_lockstep.specs.SymbolCounts.{count_with}
 use Rattle.fort_lockstep.proofs.SymbolCountLaws.{count_in_order, group_within}
-use Rattle.fort_lockstep.proofs.Bounds.{symbol_again}
+use Rattle.fort_tuple_symbols.proofs.Bounds.{symbol_again}
 
 -- a number's tuple symbol by its digits, and back
 pub symbol_at : (ss : List (List ℕ)) (i : ℕ) (f : TupleSymbol) → i < length ss → get_or ss i [] ≡ map digit_of f → get_or (map symbol_of ss) i [] ≡ f

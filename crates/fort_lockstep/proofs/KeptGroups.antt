@@ -7,7 +7,7 @@ use Rattle.std.proofs.lemmas.Grind.{get_or-set_at}
 use Rattle.std.proofs.lemmas.List.{get_or-set_other}
 use Rattle.fort_tables.specs.Tuples.{TupleSymbol}
 use Rattle.fort_tables.specs.Entries.{Entry}
-use Rattle.fort_lockstep.specs.Columns.{digit_of}
+use Rattle.fort_tuple_symbols.specs.Columns.{digit_of}
 use Rattle.fort_lockstep.specs.Transitions.{Group, no_group, KidsBefore, transition, in_order, entries_of, IsPut}
 use Rattle.fort_lockstep.specs.KidOrder.{IsGrownGroup}
 use Rattle.fort_lockstep.specs.Ranks.{AreOf, wants_at}

@@ -8,7 +8,7 @@ use Rattle.fort_tables.specs.Entries.{Entry, stage, ColumnBefore, LexBefore, Com
 use Rattle.fort_tables.specs.Tables.{target_in}
 use Rattle.fort_tables.proofs.EntryLaws.{target_found}
 use Rattle.fort_lockstep.specs.Transitions.{column_test, symbol_test, states_test, entry_test, Transition, put_in, in_order, entries_of, targets_of}
-use Rattle.fort_lockstep.proofs.InLaws.{In}
+use Rattle.fort_entry_walk.proofs.InLaws.{In}
 
 -- the tests
 column_yes : (x y : Option ℕ) → ColumnBefore x y → column_test x y ≡ true

@@ -4,10 +4,10 @@ use Rattle.std.proofs.Math.Seq.{drop-append_seam, drop-append-add, take-append_s
 use Rattle.std.proofs.lemmas.List.{length-drop, take_all, take-append-le, drop-append-le, map_push}
 use Rattle.std.proofs.lemmas.List.Elements.{All-push}
 use Rattle.fort_tables.specs.Entries.{Entry, entry}
-use Rattle.fort_lockstep.specs.Columns.{digit_of, symbol_of}
+use Rattle.fort_tuple_symbols.specs.Columns.{digit_of, symbol_of}
 use Rattle.fort_lockstep.specs.EntryListFacts.{digits_in, kids_in, entry_in, entries_in, IsSpan, AreSpans}
 use Rattle.fort_lockstep.specs.declared.entry_list.Span.{Span}
-use Rattle.fort_lockstep.proofs.Bounds.{symbol_again}
+use Rattle.fort_tuple_symbols.proofs.Bounds.{symbol_again}
 
 part_stays : (n from : ℕ) (xs ys : List ℕ) → from + n ≤ length xs → take n (drop from (xs ++ ys)) ≡ take n (drop from xs)
 part_stays n from xs ys l = ap (take n) (drop-append-le from xs ys (omega (arith, l))) ∙ take-append-le n (drop from xs) ys (omega (arith, l, length-drop from xs))

@@ -10,14 +10,14 @@ use Rattle.fort_lockstep.specs.Transitions.{Transition, transition, in_order, en
 use Rattle.fort_lockstep.specs.Ranks.{AreOf, wants_at}
 use Rattle.fort_lockstep.specs.SymbolCounts.{count_with}
 use Rattle.fort_lockstep.specs.GroupFacts.{IsFull, IsDue}
-use Rattle.fort_lockstep.specs.Columns.{symbol_of, digit_of}
-use Rattle.fort_lockstep.specs.DigitNumbers.{AreDigits}
+use Rattle.fort_tuple_symbols.specs.Columns.{symbol_of, digit_of}
+use Rattle.fort_tuple_symbols.specs.DigitNumbers.{AreDigits}
 use Rattle.fort_lockstep.specs.ConstantsView.{Constants}
 use Rattle.fort_lockstep.specs.TargetFacts.{constants_of, HaveNoKids, AreOfBase}
-use Rattle.fort_lockstep.proofs.InLaws.{In, In-left, In-right, In-either, Contains-from_In, In-from_Contains}
+use Rattle.fort_entry_walk.proofs.InLaws.{In, In-left, In-right, In-either, Contains-from_In, In-from_Contains}
 use Rattle.fort_lockstep.proofs.OrderedLaws.{transition_in, from_in_order, In-in_order, at_of}
 use Rattle.fort_lockstep.proofs.SymbolCountLaws.{count_in_order, count_both}
-use Rattle.fort_lockstep.proofs.Bounds.{symbol_again}
+use Rattle.fort_tuple_symbols.proofs.Bounds.{symbol_again}
 use Rattle.fort_lockstep.proofs.ConstantLaws.{IsTargetIn}
 
 -- an entry with a target is among the entries, and back

@@ -1,7 +1,7 @@
 -- Inside: what the fields of the targets of tuple symbols without children stand for.
 use Rattle.std.specs.Prelude.{ℕ, zero, suc, ◌<◌, ◌≤◌, ◌^◌, List, [], ◌∷◌, length, get_or}
-use Rattle.fort_lockstep.specs.Columns.{symbol_of}
-use Rattle.fort_lockstep.specs.DigitNumbers.{digits_at}
+use Rattle.fort_tuple_symbols.specs.Columns.{symbol_of}
+use Rattle.fort_tuple_symbols.specs.DigitNumbers.{digits_at}
 use Rattle.fort_lockstep.specs.Transitions.{Transition, transition}
 use Rattle.fort_lockstep.specs.ConstantsView.{Constants}
 use Rattle.fort_lockstep.specs.declared.constant_targets.ConstantTargets.TheInside.{Inside}

@@ -2,7 +2,7 @@
 use Rattle.std.specs.Prelude.{ℕ, ◌+◌, ◌<◌, ◌≤◌, List, map, take, drop, length, get_or, vec_len, vec_capacity}
 use Rattle.std.specs.List.{All}
 use Rattle.fort_tables.specs.Entries.{Entry, entry}
-use Rattle.fort_lockstep.specs.Columns.{symbol_of}
+use Rattle.fort_tuple_symbols.specs.Columns.{symbol_of}
 use Rattle.fort_lockstep.specs.declared.entry_list.Span.{Span}
 use Rattle.fort_lockstep.specs.declared.entry_list.EntryList.{EntryList}
 

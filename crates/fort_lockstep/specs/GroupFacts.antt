@@ -3,7 +3,7 @@ use Rattle.std.specs.Prelude.{◌≡◌, ℕ, ◌<◌, ◌⊎◌, List, [], map,
 use Rattle.fort_tables.specs.Tuples.{TupleSymbol}
 use Rattle.fort_tables.specs.Entries.{Entry, entry}
 use Rattle.fort_lockstep.specs.Transitions.{Transition, Group, transitions, KidsBefore, IsAfterEntries}
-use Rattle.fort_lockstep.specs.Columns.{symbol_of}
+use Rattle.fort_tuple_symbols.specs.Columns.{symbol_of}
 use Rattle.fort_lockstep.specs.Kept.{Kept, no_kept, group_in, IsKept}
 use Rattle.fort_lockstep.specs.Ranks.{AreOf, wants_at}
 use Rattle.fort_lockstep.specs.declared.groups.Groups.{Groups}

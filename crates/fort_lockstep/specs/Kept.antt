@@ -1,7 +1,7 @@
 -- Inside: the entries of one tuple symbol as they are kept, and the lists of child states that these have.
 use Rattle.std.specs.Prelude.{◌≡◌, ℕ, ◌<◌, ◌≤◌, List, [], ◌∷◌, ◌++◌, length, get_or, Bool, true, false, ◌&&◌, ◌==◌, nat_lt, if◌then◌else◌}
 use Rattle.fort_tables.specs.Tuples.{tabulate}
-use Rattle.fort_lockstep.specs.Walks.{digit_lists}
+use Rattle.fort_entry_walk.specs.Walks.{digit_lists}
 use Rattle.fort_lockstep.specs.Transitions.{Group}
 use Rattle.fort_lockstep.specs.Pieces.{IsRising}
 use Rattle.fort_lockstep.specs.Ranks.{space, AreOf, wants_at}

@@ -1,16 +1,3 @@
-pub mod Columns
-pub mod SymbolDigits
-pub mod SymbolNumbers
-pub mod RowDigits
-pub mod Walks
-pub mod Candidates
-pub mod WalkFacts
-pub mod DigitNumbers
-pub mod NumberPlaces
-pub mod SymbolSetView
-pub mod SymbolSetInside
-pub mod EntriesView
-pub mod EntriesInside
 pub mod Transitions
 pub mod ConstantsView
 pub mod ConstantsInside

@@ -1,8 +1,7 @@
 -- Inside: what the fields of a maker stand for.
 use Rattle.std.specs.Prelude.{◌≡◌, ◌+◌, ◌<◌, ◌≤◌, ◌^◌, length}
 use Rattle.fort_tables.specs.Tables.{Made}
-use Rattle.fort_lockstep.specs.Candidates.{AreArities}
-use Rattle.fort_lockstep.specs.WalkFacts.{place, entry_at, IsPlace}
+use Rattle.fort_entry_walk.specs.WalkPlaces.{AreArities, place, entry_at, IsPlace}
 use Rattle.fort_lockstep.specs.Making.{made_of, IsMaking, Stands}
 use Rattle.fort_lockstep.specs.declared.maker.Maker.TheInside.{Inside}
 

@@ -1,12 +1,11 @@
 //! Targets of tuple symbols without children, by the numbers of these.
 ghost use Rattle.std.specs.Prelude.{◌≡◌, ℕ, ◌+◌, ◌<◌, ◌≤◌, ◌^◌, [], length, slice_index, Contains, OnOk, OnErr, MatchOption};
-ghost use Rattle.fort_lockstep.specs.Columns.{symbol_of};
-ghost use Rattle.fort_lockstep.specs.DigitNumbers.{AreDigits};
+ghost use Rattle.fort_tuple_symbols.specs.Columns.{symbol_of};
+ghost use Rattle.fort_tuple_symbols.specs.DigitNumbers.{AreDigits};
 ghost use Rattle.fort_lockstep.specs.Transitions.{transition, IsPut};
 
-use crate::number_set::reach;
-use crate::symbol_set::number_of;
 use fort_terms::Memory;
+use fort_tuple_symbols::{number_of, reach};
 use std::alloc::Global;
 use std::marker::Model;
 

@@ -6,13 +6,12 @@ ghost use Rattle.fort_tables.specs.Tables.{IsTableEntry, IsListed, IsFirstWith, 
 ghost use Rattle.fort_lockstep.specs.OtherFinals.{with_finals};
 
 use crate::bisect::Uncounted;
-use crate::entries::Entries;
 use crate::given::Given;
-use crate::row::Row;
 use crate::steps::Steps;
-use crate::symbol::TupleSym;
 use crate::table::Table;
+use fort_entry_walk::Entries;
 use fort_terms::{Memory, Signature};
+use fort_tuple_symbols::{Row, TupleSym};
 use std::marker::Model;
 use std::rc::Rc;
 use std::sync::ledger::Ledger;

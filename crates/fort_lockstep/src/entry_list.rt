@@ -3,9 +3,8 @@ ghost use Rattle.std.specs.Prelude.{◌≡◌, ℕ, ◌+◌, ◌<◌, ◌≤◌,
 ghost use Rattle.fort_tables.specs.Entries.{Entry};
 ghost use Rattle.fort_lockstep.specs.EntryListFacts.{entries_in, AreSpans, HasPlace};
 
-use crate::row::Row;
-use crate::symbol::TupleSym;
 use fort_terms::Memory;
+use fort_tuple_symbols::{Row, TupleSym};
 use std::alloc::Global;
 
 /// Where the digits of an entry begin, how many they are, and how many child states follow them.

@@ -3,18 +3,17 @@ ghost use Rattle.std.specs.Prelude.{◌≡◌, ℕ, ◌+◌, ◌-◌, ◌*◌, �
 ghost use Rattle.fort_tables.specs.Entries.{Entry, entry};
 ghost use Rattle.fort_tables.specs.Tables.{target_in};
 ghost use Rattle.fort_lockstep.specs.SymbolCounts.{count_with};
-ghost use Rattle.fort_lockstep.specs.Columns.{digit_of};
-ghost use Rattle.fort_lockstep.specs.DigitNumbers.{AreDigits};
+ghost use Rattle.fort_tuple_symbols.specs.Columns.{digit_of};
+ghost use Rattle.fort_tuple_symbols.specs.DigitNumbers.{AreDigits};
 ghost use Rattle.fort_lockstep.specs.GivenView.{AreEachOnce};
 ghost use Rattle.fort_lockstep.specs.Making.{IsPushed};
 ghost use Rattle.fort_lockstep.specs.GroupFacts.{IsDue, IsFull};
 
 use crate::bisect::Comparisons;
-use crate::row::Row;
 use crate::states::States;
-use crate::symbol::TupleSym;
 use crate::targets::Targets;
 use fort_terms::Memory;
+use fort_tuple_symbols::{Row, TupleSym};
 use std::alloc::{AllocError, Global};
 use std::marker::Model;
 

@@ -1,19 +1,17 @@
 //! Entries by their tuple symbols.
 ghost use Rattle.std.specs.Prelude.{◌≡◌, ℕ, ◌+◌, ◌-◌, ◌*◌, ◌<◌, ◌≤◌, ◌^◌, List, [], map, length, slice_index_or, Contains, OnOk, OnErr};
 ghost use Rattle.fort_lockstep.specs.Transitions.{entries_of, in_order, transition, IsPut};
-ghost use Rattle.fort_lockstep.specs.Columns.{digit_of};
-ghost use Rattle.fort_lockstep.specs.DigitNumbers.{AreDigits};
+ghost use Rattle.fort_tuple_symbols.specs.Columns.{digit_of};
+ghost use Rattle.fort_tuple_symbols.specs.DigitNumbers.{AreDigits};
 ghost use Rattle.fort_lockstep.specs.SymbolCounts.{count_with};
 ghost use Rattle.fort_lockstep.specs.Tallies.{IsBefore};
 ghost use Rattle.fort_lockstep.specs.GroupFacts.{transitions_of, AreGroups, IsFull, IsDue};
 
 use crate::bisect::Comparisons;
 use crate::group::Group;
-use crate::row::Row;
 use crate::states::States;
-use crate::symbol::TupleSym;
-use crate::symbol_set::SymbolSet;
 use fort_terms::Memory;
+use fort_tuple_symbols::{Row, SymbolSet, TupleSym};
 use std::alloc::Global;
 
 /// Entries that have a target, by their tuple symbols; those without children stand elsewhere where tuple symbols have few numbers.

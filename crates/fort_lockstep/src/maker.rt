@@ -5,9 +5,9 @@ ghost use Rattle.fort_tables.specs.Tables.{IsMadeDue, IsComplete, IsAllowed, IsG
 
 use crate::dta::{Dta, Shared};
 use crate::given::Given;
-use crate::row::Row;
-use crate::walk::Walk;
+use fort_entry_walk::Walk;
 use fort_terms::{Memory, Signature};
+use fort_tuple_symbols::Row;
 use std::alloc::Global;
 use std::marker::Model;
 use std::rc::Rc;

@@ -6,8 +6,8 @@ ghost use Rattle.fort_lockstep.specs.EntryListFacts.{AreSpans};
 
 use crate::counts::Counts;
 use crate::entry_list::EntryList;
-use crate::row::Row;
 use fort_terms::Memory;
+use fort_tuple_symbols::Row;
 use std::alloc::Global;
 
 /// The presences of the states so far with their counts, and for each its first entry, with its place.

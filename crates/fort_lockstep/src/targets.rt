@@ -1,8 +1,8 @@
 //! The entries that have a target.
 ghost use Rattle.std.specs.Prelude.{◌≡◌, ℕ, ◌+◌, ◌-◌, ◌*◌, ◌<◌, ◌≤◌, ◌^◌, List, [], map, length, Contains, OnOk, OnErr, MatchOption};
 ghost use Rattle.fort_lockstep.specs.Transitions.{entries_of, in_order, transition, IsPut};
-ghost use Rattle.fort_lockstep.specs.Columns.{digit_of};
-ghost use Rattle.fort_lockstep.specs.DigitNumbers.{AreDigits};
+ghost use Rattle.fort_tuple_symbols.specs.Columns.{digit_of};
+ghost use Rattle.fort_tuple_symbols.specs.DigitNumbers.{AreDigits};
 ghost use Rattle.fort_lockstep.specs.SymbolCounts.{count_with};
 ghost use Rattle.fort_lockstep.specs.Tallies.{IsBefore};
 ghost use Rattle.fort_lockstep.specs.GroupFacts.{IsFull, IsDue};
@@ -11,11 +11,9 @@ ghost use Rattle.fort_lockstep.specs.TargetFacts.{AreOfBase, constants_of, all_t
 use crate::bisect::Comparisons;
 use crate::constant_targets::ConstantTargets;
 use crate::groups::Groups;
-use crate::row::Row;
 use crate::states::States;
-use crate::symbol::TupleSym;
-use crate::symbol_set::are_few;
 use fort_terms::Memory;
+use fort_tuple_symbols::{Row, TupleSym, are_few};
 use std::alloc::Global;
 
 /// The entries that have a target. Where tuple symbols have few numbers, those without children

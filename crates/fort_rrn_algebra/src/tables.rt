@@ -9,10 +9,9 @@ ghost use Rattle.fort_operations.specs.Products as products;
 ghost use Rattle.fort_operations.specs.OperationTruth.{TestsRelation, Cylinder, Exchange, IsOrder, accepts};
 ghost use Rattle.fort_explore.specs.Answer.{IfOver};
 
-use crate::operand::{Op, Operand};
-use crate::product::Both;
 use fort_explore::{ByRule, ExploreFault, explore};
 use fort_lockstep::{Dta, Table};
+use fort_products::{Both, Op, Operand};
 use std::alloc::Global;
 
 /// The table over `total` columns that accepts a tuple of terms where the old one accepts its columns at these places. It is over

@@ -1,6 +1,6 @@
 //! Local rules of one column.
 ghost use Rattle.std.specs.Prelude.{◌≡◌, ◌<◌, ℕ, [], map, length, slice_index_or};
-ghost use Rattle.fort_lockstep.specs.Columns.{as_column};
+ghost use Rattle.fort_tuple_symbols.specs.Columns.{as_column};
 ghost use Rattle.fort_tests_tables.specs.Rules.{is_first as is_first_lem, storeys as storeys_lem};
 
 use fort_explore::{LocalRule, Rows};

@@ -1,6 +1,6 @@
 use Rattle.std.proofs.Common.{List, ◌++◌, ℕ, Bool, map, take, subst, arith}
 use Rattle.std.proofs.lemmas.List.{take_all}
-use Rattle.fort_lockstep.specs.Columns.{as_column}
+use Rattle.fort_tuple_symbols.specs.Columns.{as_column}
 use Rattle.fort_atom_labels.specs.PatternNumbers.{PatternNumber, number_inside}
 use Rattle.fort_context_closure.specs.RowBits.{HasBits, labels_at}
 use Rattle.fort_context_closure.proofs.RowBitLaws.{HasBits-more, length-part}

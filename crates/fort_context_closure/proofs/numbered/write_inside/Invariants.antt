@@ -1,5 +1,5 @@
 use Rattle.std.proofs.Common.{◌≡◌, List, ◌++◌, Bool, length, map, take}
-use Rattle.fort_lockstep.specs.Columns.{as_column}
+use Rattle.fort_tuple_symbols.specs.Columns.{as_column}
 use Rattle.fort_atom_labels.specs.PatternNumbers.{number_inside}
 use Rattle.fort_context_closure.specs.RowBits.{HasBits, labels_at}
 use Rattle.fort_context_closure.proofs.numbered.write_inside.Given as goal

@@ -3,7 +3,7 @@ use Rattle.std.specs.List.{list_any}
 use Rattle.std.proofs.Math.Bool.{or_assoc}
 use Rattle.std.proofs.lemmas.List.{get_or_default}
 use Rattle.std.proofs.lemmas.List.Elements.{Contains-get_or}
-use Rattle.fort_lockstep.specs.Columns.{as_column}
+use Rattle.fort_tuple_symbols.specs.Columns.{as_column}
 use Rattle.fort_atom_labels.specs.PatternNumbers.{PatternNumber, number_inside}
 use Rattle.fort_context_closure.specs.RowBits.{bit_of, labels_at}
 use Rattle.fort_context_closure.specs.RootPlaces.{writes_at}

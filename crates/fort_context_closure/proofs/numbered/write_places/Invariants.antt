@@ -1,6 +1,6 @@
 use Rattle.std.proofs.Common.{◌≡◌, ℕ, ◌||◌, take}
 use Rattle.std.specs.List.{list_any}
-use Rattle.fort_lockstep.specs.Columns.{as_column}
+use Rattle.fort_tuple_symbols.specs.Columns.{as_column}
 use Rattle.fort_context_closure.specs.RowBits.{bit_of, labels_at}
 use Rattle.fort_context_closure.specs.RootPlaces.{writes_at}
 use Rattle.fort_context_closure.proofs.numbered.write_places.Given as goal

@@ -2,7 +2,7 @@ use Rattle.std.proofs.Common.{◌≡◌, ℕ, List, Option, None, Some, Bool, �
 use Rattle.std.specs.List.{list_any}
 use Rattle.std.proofs.Math.Bool.{or_assoc}
 use Rattle.std.proofs.lemmas.List.{length-map}
-use Rattle.fort_lockstep.specs.Columns.{as_column}
+use Rattle.fort_tuple_symbols.specs.Columns.{as_column}
 use Rattle.fort_context_closure.specs.RowBits.{bit_of, labels_at}
 use Rattle.fort_context_closure.specs.RootPlaces.{places_at, root_of}
 use Rattle.fort_context_closure.specs.RuleRootPlaces.{start_adds, starts_at}

@@ -1,7 +1,7 @@
 use Rattle.std.proofs.Common.{ℕ, List, Bool, ◌||◌, sym, ap, ◌∙◌}
 use Rattle.std.specs.List.{list_any}
 use Rattle.std.proofs.Math.Bool.{or_assoc}
-use Rattle.fort_lockstep.specs.Columns.{as_column}
+use Rattle.fort_tuple_symbols.specs.Columns.{as_column}
 use Rattle.fort_context_closure.specs.RowBits.{bit_of, labels_at}
 use Rattle.fort_context_closure.specs.RuleRootPlaces.{start_adds, end_adds}
 use Rattle.fort_context_closure.specs.declared.rule_places.RulePlaces.{RulePlaces}

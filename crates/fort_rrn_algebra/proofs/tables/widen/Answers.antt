@@ -4,7 +4,7 @@ use Rattle.fort_tables.specs.Tables.{listed_table}
 use Rattle.fort_operations.specs.Products as products
 use Rattle.fort_operations.specs.OperationTruth.{Cylinder, accepts}
 use Rattle.fort_operations.proofs.TableTruth.{tests_by_label, cylinder_decides}
-use Rattle.fort_rrn_algebra.specs.Operands.{operand_of, connective_of}
+use Rattle.fort_products.specs.Operands.{operand_of, connective_of}
 use Rattle.fort_rrn_algebra.proofs.TableMade.{AreParts, table_of_parts, table_by_parts}
 use Rattle.fort_rrn_algebra.proofs.tables.widen.Goals as goal
 

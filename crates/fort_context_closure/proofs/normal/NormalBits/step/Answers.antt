@@ -5,7 +5,7 @@ use Rattle.std.proofs.lemmas.Option.{get_or_from_slice_get}
 use Rattle.fort_theory.specs.Patterns.{Pattern}
 use Rattle.fort_tables.specs.Tuples.{TupleSymbol, presence}
 use Rattle.fort_tables.specs.BitRows.{words_for}
-use Rattle.fort_lockstep.specs.Columns.{as_column}
+use Rattle.fort_tuple_symbols.specs.Columns.{as_column}
 use Rattle.fort_atom_labels.specs.AtomRules.{marks_of}
 use Rattle.fort_atom_labels.specs.PatternNumbers.{PatternNumber, number_inside}
 use Rattle.fort_context_closure.specs.RowBits.{HasBits, IsRow, labels_at}

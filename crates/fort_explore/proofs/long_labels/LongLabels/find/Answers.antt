@@ -2,7 +2,7 @@ use Rattle.std.proofs.Common.{sym, refl}
 use Rattle.std.specs.Prelude.{vec_items}
 use Rattle.std.proofs.lemmas.Slice.Eq.{slice_eq-Decides}
 use Rattle.std.proofs.lemmas.Bool.Decides.{Decides-eqb}
-use Rattle.fort_lockstep.proofs.SetLaws.{IsFound-position}
+use Rattle.fort_tuple_symbols.proofs.SetLaws.{IsFound-position}
 use Rattle.fort_explore.proofs.long_labels.LongLabels.find.Goals as goal
 
 pub returns : goal.returns

@@ -2,7 +2,7 @@ use Rattle.std.proofs.Common.{sym, refl, ◌≡◌, ℕ, ◌<◌, List, [], leng
 use Rattle.std.specs.Prelude.{vec_items}
 use Rattle.std.proofs.lemmas.Slice.Eq.{slice_eq-Decides}
 use Rattle.std.proofs.lemmas.Bool.Decides.{Decides-eqb}
-use Rattle.fort_lockstep.proofs.SetLaws.{view-insert_new}
+use Rattle.fort_tuple_symbols.proofs.SetLaws.{view-insert_new}
 use Rattle.fort_explore.proofs.long_labels.LongLabels.push.Goals as goal
 
 pub returns-clause-ok : goal.returns-clause-ok

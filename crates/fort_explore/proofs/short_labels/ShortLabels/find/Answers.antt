@@ -1,4 +1,4 @@
-use Rattle.fort_lockstep.proofs.SetLaws.{IsFound-position}
+use Rattle.fort_tuple_symbols.proofs.SetLaws.{IsFound-position}
 use Rattle.fort_explore.specs.ShortLabels.{four_words}
 use Rattle.fort_explore.proofs.ShortLabelLaws.{Decides-four_words}
 use Rattle.fort_explore.proofs.short_labels.ShortLabels.find.Goals as goal

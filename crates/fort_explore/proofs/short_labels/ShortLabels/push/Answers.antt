@@ -1,5 +1,5 @@
 use Rattle.std.proofs.Common.{sym, refl, ◌≡◌, ℕ, ◌<◌, List, [], length, get_or, subst}
-use Rattle.fort_lockstep.proofs.SetLaws.{view-insert_new}
+use Rattle.fort_tuple_symbols.proofs.SetLaws.{view-insert_new}
 use Rattle.fort_explore.specs.ShortLabels.{four_words}
 use Rattle.fort_explore.proofs.ShortLabelLaws.{Decides-four_words}
 use Rattle.fort_explore.proofs.short_labels.ShortLabels.push.Goals as goal

@@ -2,8 +2,8 @@ use Rattle.std.proofs.Common.{ℕ, ◌<◌, ◌==◌, List, [], get_or, length, 
 use Rattle.std.proofs.lemmas.Option.{IfSome_then}
 use Rattle.fort_operations.specs.Projections.{absent_state, has_state, is_pure}
 use Rattle.fort_counts.proofs.ManyEntryLaws.{kid_within, kid_label, choices_count}
-use Rattle.fort_rrn_algebra.proofs.ProjectEntries.{pure_small}
-use Rattle.fort_rrn_algebra.proofs.ChoiceSearch.{IfNone_then, absent_same, set_same, pure_same, none_choice}
+use Rattle.fort_projections.proofs.ProjectEntries.{pure_small}
+use Rattle.fort_projections.proofs.ChoiceSearch.{IfNone_then, absent_same, set_same, pure_same, none_choice}
 use Rattle.fort_infinity.specs.ManyCounts.{is_many}
 use Rattle.fort_infinity.proofs.ChoiceLaws.{IfSome_both, next_choice, absent_within}
 use Rattle.fort_infinity.proofs.many_choices.ManyChoices.next_state.Goals as goal

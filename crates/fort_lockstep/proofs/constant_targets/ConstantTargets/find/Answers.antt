@@ -1,7 +1,7 @@
 use Rattle.std.proofs.Common.{ℕ, List, [], subst}
 use Rattle.std.specs.Prelude.{Contains}
-use Rattle.fort_lockstep.specs.Columns.{symbol_of}
-use Rattle.fort_lockstep.specs.DigitNumbers.{AreDigits}
+use Rattle.fort_tuple_symbols.specs.Columns.{symbol_of}
+use Rattle.fort_tuple_symbols.specs.DigitNumbers.{AreDigits}
 use Rattle.fort_lockstep.specs.Transitions.{transition}
 use Rattle.fort_lockstep.specs.ConstantsView.{Constants}
 use Rattle.fort_lockstep.proofs.ConstantLaws.{IsTargetIn, IsTargetAt, constant_digits, found_constant}

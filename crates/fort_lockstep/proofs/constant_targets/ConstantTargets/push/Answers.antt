@@ -1,11 +1,11 @@
 use Rattle.std.proofs.Common.{ℕ, ◌+◌, [], sym, arith, subst}
 use Rattle.std.specs.Prelude.{Contains, slice_set}
-use Rattle.fort_lockstep.specs.Columns.{symbol_of}
-use Rattle.fort_lockstep.specs.DigitNumbers.{AreDigits}
+use Rattle.fort_tuple_symbols.specs.Columns.{symbol_of}
+use Rattle.fort_tuple_symbols.specs.DigitNumbers.{AreDigits}
 use Rattle.fort_lockstep.specs.Transitions.{transition, IsPut}
 use Rattle.fort_lockstep.specs.ConstantsInside.{constants_from}
 use Rattle.fort_lockstep.specs.ConstantsView.{Constants}
-use Rattle.fort_lockstep.proofs.SymbolSetLaws.{number_small}
+use Rattle.fort_tuple_symbols.proofs.SymbolSetLaws.{number_small}
 use Rattle.fort_lockstep.proofs.ConstantLaws.{constant_pushed}
 use Rattle.fort_lockstep.proofs.constant_targets.ConstantTargets.push.Goals as goal
 

@@ -2,8 +2,8 @@ use Rattle.std.proofs.Common.{◌≡◌, ◌+◌, ◌∷◌, [], ◌++◌, List,
 use Rattle.fort_tables.specs.Tuples.{presence}
 use Rattle.fort_tables.specs.Entries.{Entry}
 use Rattle.fort_lockstep.specs.Transitions.{Transition, Group, transition, in_order, entries_of, IsPut, IsLast}
-use Rattle.fort_lockstep.specs.Columns.{digit_of}
-use Rattle.fort_lockstep.specs.DigitNumbers.{AreDigits}
+use Rattle.fort_tuple_symbols.specs.Columns.{digit_of}
+use Rattle.fort_tuple_symbols.specs.DigitNumbers.{AreDigits}
 use Rattle.fort_lockstep.specs.GivenView.{Parts}
 use Rattle.fort_lockstep.specs.StateFacts.{first_entries_in, IsSameStates, IsNoted, AreFirsts}
 use Rattle.fort_lockstep.specs.EntryListFacts.{entries_in}

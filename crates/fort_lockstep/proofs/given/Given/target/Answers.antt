@@ -2,7 +2,7 @@ use Rattle.std.proofs.Common.{sym, ◌∙◌, ap, arith, subst}
 use Rattle.fort_tables.specs.Entries.{entry}
 use Rattle.fort_tables.specs.Tables.{target_in}
 use Rattle.fort_lockstep.specs.Transitions.{transition}
-use Rattle.fort_lockstep.proofs.InLaws.{In-from_Contains}
+use Rattle.fort_entry_walk.proofs.InLaws.{In-from_Contains}
 use Rattle.fort_lockstep.proofs.OrderedLaws.{target_once}
 use Rattle.fort_lockstep.specs.GivenView.{Parts, AreEachOnce}
 use Rattle.fort_lockstep.specs.SymbolCounts.{count_with}

@@ -4,13 +4,13 @@ use Rattle.std.proofs.lemmas.Bool.Decides.{eqb_tells}
 use Rattle.std.proofs.lemmas.Result.{on_ok_weaker}
 use Rattle.std.proofs.lemmas.List.{length-map, set-get_or, get_or_default}
 use Rattle.fort_tables.specs.Entries.{Entry}
-use Rattle.fort_lockstep.specs.Columns.{digit_of}
+use Rattle.fort_tuple_symbols.specs.Columns.{digit_of}
 use Rattle.fort_lockstep.specs.Transitions.{in_order, entries_of}
 use Rattle.fort_lockstep.specs.Kept.{Kept, no_kept, group_in, IsGrownKept}
 use Rattle.fort_lockstep.specs.GroupFacts.{transitions_in, groups_in, AreKept, IsDue}
 use Rattle.fort_lockstep.proofs.FirstListLaws.{length-wants}
 use Rattle.fort_lockstep.proofs.KeptGroups.{GrownKept, due_wants, due_some, push_kept}
-use Rattle.fort_lockstep.proofs.SymbolSetLaws.{IsFoundIn}
+use Rattle.fort_tuple_symbols.proofs.SymbolSetLaws.{IsFoundIn}
 use Rattle.fort_lockstep.proofs.groups.Groups.push.Goals as goal
 use Rattle.fort_lockstep.proofs.groups.Groups.push.Goals.{then-is_empty, else-is_empty}
 

@@ -1,5 +1,5 @@
 use Rattle.std.proofs.Common.{◌≡◌, ℕ, List, [], ◌∷◌, ◌++◌, map, sym, ◌∙◌, ap, subst}
-use Rattle.fort_lockstep.specs.Columns.{digit_of}
+use Rattle.fort_tuple_symbols.specs.Columns.{digit_of}
 use Rattle.fort_lockstep.specs.Transitions.{transition, IsPut}
 use Rattle.fort_lockstep.specs.Kept.{Kept, IsFirstKept}
 use Rattle.fort_lockstep.specs.GroupFacts.{transitions_in, groups_in, AreKept}

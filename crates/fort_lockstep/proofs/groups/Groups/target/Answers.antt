@@ -4,7 +4,7 @@ use Rattle.fort_lockstep.specs.Transitions.{transition}
 use Rattle.fort_lockstep.specs.Ranks.{space, AreOf}
 use Rattle.fort_lockstep.specs.Kept.{no_kept, kids_in, group_in, IsKept}
 use Rattle.fort_lockstep.specs.GroupFacts.{transitions_of, groups_in}
-use Rattle.fort_lockstep.proofs.InLaws.{Contains-from_In}
+use Rattle.fort_entry_walk.proofs.InLaws.{Contains-from_In}
 use Rattle.fort_lockstep.proofs.FirstListLaws.{are_wants}
 use Rattle.fort_lockstep.proofs.FullLaws.{full_space}
 use Rattle.fort_lockstep.proofs.GroupsByDigits.{symbol_there, kids_there, beside_in, targets_within}

@@ -1,4 +1,4 @@
-use Rattle.fort_lockstep.specs.WalkFacts.{place, entry_at}
+use Rattle.fort_entry_walk.specs.WalkPlaces.{place, entry_at}
 use Rattle.fort_lockstep.specs.MakerInside.{made_in}
 use Rattle.fort_lockstep.proofs.MakingLaws.{standing_due}
 use Rattle.fort_lockstep.proofs.maker.Maker.due_row.Goals as goal

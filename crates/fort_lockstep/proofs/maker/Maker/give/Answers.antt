@@ -1,11 +1,11 @@
 use Rattle.std.proofs.Common.{ℕ, ◌+◌, map, length, sym, ◌∙◌, subst}
 use Rattle.fort_tables.specs.Entries.{Entry}
 use Rattle.fort_tables.specs.Tables.{Made, IsMadeDue, IsAllowed, IsGiven}
-use Rattle.fort_lockstep.specs.WalkFacts.{place, entry_at}
+use Rattle.fort_entry_walk.specs.WalkPlaces.{place, entry_at}
 use Rattle.fort_lockstep.specs.MakerInside.{made_in}
-use Rattle.fort_lockstep.specs.Columns.{digit_of}
-use Rattle.fort_lockstep.specs.DigitNumbers.{AreDigits}
-use Rattle.fort_lockstep.proofs.Bounds.{symbol_digits}
+use Rattle.fort_tuple_symbols.specs.Columns.{digit_of}
+use Rattle.fort_tuple_symbols.specs.DigitNumbers.{AreDigits}
+use Rattle.fort_tuple_symbols.proofs.Bounds.{symbol_digits}
 use Rattle.fort_lockstep.specs.Making.{made_of}
 use Rattle.fort_lockstep.proofs.GiveLaws.{pushed_few, at_due, given_grown, given_is, stands_after}
 use Rattle.fort_lockstep.specs.GroupFacts.{IsDue}

@@ -1,6 +1,6 @@
 use Rattle.std.proofs.Common.{◌+◌, ap, ◌∙◌, arith, length}
-use Rattle.fort_lockstep.specs.WalkFacts.{place}
-use Rattle.fort_lockstep.proofs.Bounds.{bound-up_to}
+use Rattle.fort_entry_walk.specs.WalkPlaces.{place}
+use Rattle.fort_tuple_symbols.proofs.Bounds.{bound-up_to}
 use Rattle.fort_lockstep.proofs.GiveLaws.{new_making, new_stands}
 use Rattle.fort_lockstep.proofs.maker.Maker.new.Goals as goal
 

@@ -1,7 +1,7 @@
 use Rattle.std.proofs.Common.{◌≡◌, List, ◌++◌, sym, ◌∙◌, ap, subst}
 use Rattle.std.proofs.lemmas.Result.{on_ok_weaker, on_err_weaker}
 use Rattle.fort_lockstep.specs.Transitions.{Transition, transition}
-use Rattle.fort_lockstep.specs.Columns.{symbol_of}
+use Rattle.fort_tuple_symbols.specs.Columns.{symbol_of}
 use Rattle.fort_lockstep.specs.ConstantsView.{Constants}
 use Rattle.fort_lockstep.specs.GroupFacts.{transitions_of}
 use Rattle.fort_lockstep.specs.TargetFacts.{constants_of, AreOfBase}

@@ -1,0 +1,11 @@
+pub mod InLaws
+pub mod DigitLaws
+pub mod WalkLaws
+pub mod KidLaws
+pub mod KidMembers
+pub mod AfterMembers
+pub mod CandidateLaws
+pub mod CandidateEntries
+pub mod EntryMembers
+pub mod StepLaws
+pub mod RaiseLaws

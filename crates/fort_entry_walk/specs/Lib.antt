@@ -1,0 +1,6 @@
+pub mod Walks
+pub mod WalkPlaces
+pub mod Candidates
+pub mod WalkFacts
+pub mod EntriesView
+pub mod EntriesInside

@@ -1,7 +1,0 @@
-use Rattle.std.proofs.Common.{◌≡◌, drop}
-use Rattle.fort_tables.specs.Tuples.{kid_presence}
-use Rattle.fort_lockstep.specs.Columns.{symbol_of}
-use Rattle.fort_lockstep.proofs.digits.presence_at.Given as goal
-
-abbrev pub invariant-loop-i : goal.invariant-loop-i
-invariant-loop-i l = l.presence ≡ kid_presence l.sig (symbol_of (drop l.i l.digits)) l.j

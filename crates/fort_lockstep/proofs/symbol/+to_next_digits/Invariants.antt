@@ -1,5 +1,0 @@
-use Rattle.std.proofs.Common.{length}
-use Rattle.fort_lockstep.proofs.symbol.+to_next_digits.Given as goal
-
-abbrev pub decreases-to_next_digits : goal.decreases-to_next_digits
-decreases-to_next_digits l = length l.digits.now

@@ -1,8 +1,0 @@
-use Rattle.std.proofs.Common.{ap, ◌∙◌}
-use Rattle.std.proofs.lemmas.List.{take-replicate}
-use Rattle.fort_lockstep.specs.Columns.{symbol_of}
-use Rattle.fort_lockstep.proofs.Bounds.{symbol_of-zeros}
-use Rattle.fort_lockstep.proofs.symbol.TupleSym.absent.Goals as goal
-
-pub returns : goal.returns
-returns c = ap symbol_of (take-replicate c.args.columns 16 0 c.requires) ∙ symbol_of-zeros c.args.columns

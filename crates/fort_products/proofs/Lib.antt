@@ -1,0 +1,4 @@
+pub mod HoldLaws
+mod JointLaws
+mod ListedLaws
+mod OperandEntries

@@ -1,0 +1,11 @@
+mod BitSearch
+pub mod ChoiceSearch
+mod FinalSearch
+mod FinderLaws
+mod FlatSearch
+mod ImageLaws
+mod ImagesKept
+mod LabelWritten
+pub mod ProjectEntries
+mod PureSearch
+mod ScopeLaws

@@ -1,0 +1,4 @@
+pub mod Choices
+pub mod FlatFacts
+pub mod ImageFacts
+pub mod Scopes

@@ -1,0 +1,103 @@
+//! Projections: some term in one column.
+ghost use Rattle.std.specs.Prelude.{◌≡◌, ◌<◌, ◌-◌, ◌↔◌, IfOk, IfSome, IsTrue};
+ghost use Rattle.fort_tables.specs.Tuples.{Tuple, IsTuple};
+ghost use Rattle.fort_tables.specs.LabelRules.{label_of};
+ghost use Rattle.fort_operations.specs.Projections as projections;
+ghost use Rattle.fort_operations.proofs.OperandFacts.{ArePure-prop};
+ghost use Rattle.fort_target_lists.specs.Flats.{IsFlatOf};
+ghost use Rattle.fort_projections.specs.FlatFacts.{IfFlat-prop};
+ghost use Rattle.fort_operations.specs.Agreement.{AgreeAtSome, HaveOneState};
+ghost use Rattle.fort_operations.specs.OperationTruth.{TestsRelation, SomeCompletes, accepts as accepts_lem};
+
+use crate::local::{project_accepts, project_width};
+use crate::projection::write_label;
+use crate::pure::pure_states;
+use fort_explore::{LocalRule, Rows};
+use fort_lockstep::{Row, Table};
+use fort_target_lists::{Finder, FlatTargets};
+use fort_terms::Memory;
+use std::alloc::Global;
+
+/// The labels of a projection: of a tuple of the other columns, the presence, the body's state with the column absent, and the set of
+/// states that the terms of the column give.
+#[derive(Drop)]
+pub struct Project<'a, T: Table> {
+    pub(crate) body: &'a T,
+    pub(crate) column: usize,
+    /// The body's states with this column alone present.
+    pub(crate) alone: Vec<u32>,
+    /// The body's targets in one list, where they are put into one.
+    pub(crate) flat: Option<FlatTargets>,
+    ghost within: { column < (T.table body.now).columns },
+    ghost another: { 1 < (T.table body.now).columns },
+    ghost finds: { IfSome flat (IsFlatOf (T.table body.now)) } by { IfFlat-prop (T.table body.now) flat },
+    ghost pure: { projections.ArePure (T.table body.now) column alone.items } by { ArePure-prop (T.table body.now) column alone.items },
+}
+
+impl<'a, T: Table> Project<'a, T> {
+    /// The projection of a body that has another column.
+    pub fn new(alloc: Global, body: &'a T, column: usize) -> Result<Project<'a, T>, Memory>
+        requires column { column < (T.table body.now).columns }
+        requires another { 1 < (T.table body.now).columns }
+        ensures body { IfOk result (λ p. p.body.now ≡ body.now) }
+        ensures column { IfOk result (λ p. p.column ≡ column) }
+        ensures agree { IfOk result (λ _. (t u : Tuple)
+            → IsTuple (T.table body.now).signature ((T.table body.now).columns - 1) t
+            → IsTuple (T.table body.now).signature ((T.table body.now).columns - 1) u
+            → (label_of (projections.project_rule (T.table body.now) column) t
+            ≡ label_of (projections.project_rule (T.table body.now) column) u)
+            ↔ AgreeAtSome (T.table body.now).signature column (HaveOneState (T.table body.now))
+            t u) }
+        ensures accepted { IfOk result (λ _. TestsRelation (T.table body.now).signature
+            ((T.table body.now).columns - 1)
+            (λ t. projections.project_accepts (T.table body.now) (label_of
+            (projections.project_rule (T.table body.now) column) t))
+            (SomeCompletes (T.table body.now).signature column
+            (λ t. IsTrue (accepts_lem (T.table body.now) t)))) }
+    {
+        // its clause says that the table is lawful
+        let _states = body.states();
+        let alone = pure_states(alloc, body, column)?;
+        let flat = FlatTargets::of(alloc, body)?;
+        Ok(Project {
+            body,
+            column,
+            alone,
+            flat,
+        })
+    }
+}
+
+impl<'a, T: Table> LocalRule for Project<'a, T> {
+    ghost use Rattle.std.specs.Prelude.{◌+◌, length, refl};
+    ghost use Rattle.fort_tables.specs.BitRows.{words_for};
+    ghost use Rattle.fort_operations.specs.Projections as projections;
+    ghost use Rattle.fort_operations.proofs.ProjectLabels.{length-project_rule};
+
+    ghost rule = { λ p. projections.project_rule (T.table p.body.now) p.column };
+
+    ghost word_count = { λ p. words_for (length (T.table p.body.now).presences) + 2 };
+
+    ghost accepting = { λ p. projections.project_accepts (T.table p.body.now) };
+
+    ghost tells = { λ p f ws. refl };
+
+    ghost has_words = { λ p f ws. length-project_rule (T.table p.body.now) p.column f ws };
+
+    fn columns(&self) -> usize {
+        self.body.columns() - 1
+    }
+
+    fn width(&self) -> usize {
+        project_width(self.body.states() as usize)
+    }
+
+    fn step(&self, row: &Row, rows: &Rows, out: &mut [u64]) {
+        let finder = Finder::of(self.body, self.flat.as_ref(), row, self.column);
+        write_label(self.body, &finder, self.column, &self.alone, row, rows, out)
+    }
+
+    fn accepts(&self, words: &[u64]) -> bool {
+        project_accepts(self.body, words)
+    }
+}

@@ -1,6 +1,0 @@
-use Rattle.std.proofs.Common.{◌≡◌, ◌-◌, ◌^◌, min, take}
-use Rattle.fort_rrn_algebra.specs.Places.{place_from}
-use Rattle.fort_rrn_algebra.proofs.flat.Spots.place_of.Given as goal
-
-abbrev pub invariant-loop-state : goal.invariant-loop-state
-invariant-loop-state l = l.place ≡ min (place_from l.self.ranks.items l.self.alike.items 0 (take l.state-index l.states)) (2 ^ 64 - 1)

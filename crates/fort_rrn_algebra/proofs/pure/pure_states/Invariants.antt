@@ -1,5 +1,0 @@
-use Rattle.fort_operations.specs.Projections.{ArePureBelow}
-use Rattle.fort_rrn_algebra.proofs.pure.pure_states.Given as goal
-
-abbrev pub invariant-loop-q : goal.invariant-loop-q
-invariant-loop-q g l = ArePureBelow (g.T.Table.table l.table) l.column l.q l.states.items

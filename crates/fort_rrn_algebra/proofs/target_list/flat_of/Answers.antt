@@ -1,8 +1,0 @@
-use Rattle.std.proofs.Common.{IfSome, subst}
-use Rattle.fort_rrn_algebra.specs.TargetLists.{IsLaidListOf}
-use Rattle.fort_rrn_algebra.proofs.ListLaws.{operand_list}
-use Rattle.fort_rrn_algebra.proofs.target_list.flat_of.Goals as goal
-
-pub returns-in-Some : goal.returns-in-Some
-returns-in-Some c = λ o h.
-    operand_list o c.in-Some.list.now c.list.result (λ l. l.now) c.list.ensures (subst (λ x. IfSome x (λ l. IsLaidListOf o l.now)) c.in-Some.is h)

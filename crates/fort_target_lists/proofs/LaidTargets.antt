@@ -1,0 +1,49 @@
+-- The targets laid over child states are those of the entries over them, and a tuple symbol has as many of both.
+use Rattle.std.proofs.Common.{◌≡◌, ℕ, zero, suc, List, [], ◌∷◌, ◌++◌, map, length, get_or, Bool, true, false, ◌==◌, if◌then◌else◌, refl, ap, sym, ◌∙◌, ⊎_elim, true≢false}
+use Rattle.std.proofs.lemmas.Bool.{cases_eq}
+use Rattle.std.proofs.lemmas.List.{length-map, map-append}
+use Rattle.fort_tables.specs.Tuples.{TupleSymbol, IsPresent, presence, symbol_kids, kid_presence}
+use Rattle.fort_tables.specs.Entries.{Entry}
+use Rattle.fort_tables.specs.Tables.{Table}
+use Rattle.fort_operations.specs.Selections.{is_present}
+use Rattle.fort_operations.proofs.SelectionLaws.{test_from_present}
+use Rattle.fort_laid_entries.specs.Laid.{joined_below, entries_from, entries_under}
+use Rattle.fort_laid_entries.proofs.KidLists.{present_from_presence, under_absent, under_present}
+use Rattle.fort_target_lists.specs.Flats.{laid}
+
+-- the targets laid over first child states are those of the entries
+joined_same : {A : Type 0} (n : ℕ) (g h : ℕ → List A) → ((k : ℕ) → g k ≡ h k) → joined_below n g ≡ joined_below n h
+joined_same zero g h e = refl
+joined_same (suc n) g h e = λ i. joined_same n g h e i ++ e n i
+
+map_joined : {A B : Type 0} (f : A → B) (n : ℕ) (g : ℕ → List A) → map f (joined_below n g) ≡ joined_below n (λ k. map f (g k))
+map_joined f zero g = refl
+map_joined f (suc n) g = map-append f (joined_below n g) (g n) ∙ ap (λ xs. xs ++ map f (g n)) (map_joined f n g)
+
+map_chosen : {A B : Type 0} (f : A → B) (b : Bool) (xs : List A) → map f (if b then xs else []) ≡ (if b then map f xs else [])
+map_chosen f true xs = refl
+map_chosen f false xs = refl
+
+pub laid_targets : (body : Table) (f : TupleSymbol) (ks : List ℕ) (j n : ℕ) → laid body f ks j n ≡ map body.target (entries_from body.signature body.presences f ks j n)
+laid_targets body f ks j zero = refl
+laid_targets body f ks j (suc n) =
+    let ps = body.presences in
+    let b : ℕ → Bool = λ k. get_or ps k 0 == kid_presence body.signature f j in
+    let own : ℕ → List Entry = λ k. entries_from body.signature ps f (ks ++ k ∷ []) (suc j) n in
+    joined_same (length ps) (λ k. if b k then laid body f (ks ++ k ∷ []) (suc j) n else []) (λ k. map body.target (if b k then own k else []))
+    (λ k. ap (λ qs. if b k then qs else []) (laid_targets body f (ks ++ k ∷ []) (suc j) n) ∙ sym (map_chosen body.target (b k) (own k)))
+    ∙ sym (map_joined body.target (length ps) (λ k. if b k then own k else []))
+
+-- without a present column a tuple symbol has no entries
+pub absent_presence : (f : TupleSymbol) → is_present f ≡ false → presence f ≡ 0
+absent_presence f e = ⊎_elim (λ z. z) (λ z. absurd (true≢false (sym (test_from_present f (present_from_presence f z)) ∙ e))) (cases_eq (presence f) 0)
+
+pub under_none : (body : Table) (f : TupleSymbol) → is_present f ≡ false → length (entries_under body.signature body.presences f) ≡ 0
+under_none body f absent = ap length (under_absent body.signature body.presences f (absent_presence f absent))
+
+-- with one it has as many as targets are laid for it
+pub under_laid : (body : Table) (f : TupleSymbol) → IsPresent f → length (entries_under body.signature body.presences f) ≡ length (laid body f [] 0 (symbol_kids body.signature f))
+under_laid body f there =
+    let entries = entries_from body.signature body.presences f [] 0 (symbol_kids body.signature f) in
+    ap length (under_present body.signature body.presences f there)
+    ∙ (sym (length-map entries body.target) ∙ ap length (sym (laid_targets body f [] 0 (symbol_kids body.signature f))))

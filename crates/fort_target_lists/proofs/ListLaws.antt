@@ -1,0 +1,61 @@
+-- A table's list that was laid: there is room for it, it is the table's own, and an operand's.
+use Rattle.std.proofs.Common.{◌≡◌, ℕ, suc, ◌^◌, ◌<◌, ◌≤◌, List, length, get_or, Option, None, Some, IfSome, IsTrue, ap, sym, ◌∙◌, arith, subst}
+use Rattle.fort_theory.specs.Signatures.{Signature}
+use Rattle.fort_tables.specs.Tables.{Listed, listed_table}
+use Rattle.fort_laid_entries.proofs.Counts.{symbols_few}
+use Rattle.fort_target_lists.specs.Places.{AreSpots}
+use Rattle.fort_target_lists.specs.Flats.{AreLaid, IsFlatOf}
+use Rattle.fort_target_lists.specs.TargetLists.{IsLaidListOf, IsTableWith}
+use Rattle.fort_operations.specs.Products.{Operand, OfTable, OfTruth}
+use Rattle.fort_target_lists.specs.ListedOperands.{IsListOf}
+use Rattle.fort_target_lists.specs.declared.target_list.TargetList.{TargetList}
+use Rattle.fort_target_lists.specs.declared.flat.FlatTargets.{FlatTargets}
+use Rattle.fort_target_lists.proofs.ChainLaws.{presences_below}
+use Rattle.fort_target_lists.proofs.ListingLaws.{laid_entries}
+
+-- tuple symbols are few
+pub symbols_within : (t : Listed) (sig : Signature) (columns : ℕ) (presences targets : List ℕ) → IsTableWith t sig columns presences targets → 0 < length targets
+    → suc (length sig) ^ columns ≤ suc (length targets)
+symbols_within t sig columns presences targets h l =
+    omega (
+      arith,
+      symbols_few t h.listed (omega (arith, l, ap length h.targets_are, h.listed.count)),
+      ap (λ n. suc n ^ columns) (ap length h.signature),
+      ap (λ c. suc (length t.signature) ^ c) h.columns_are,
+      ap length h.targets_are,
+      h.listed.count,
+    )
+
+pub presences_few : (t : Listed) (sig : Signature) (columns : ℕ) (presences targets : List ℕ) → IsTableWith t sig columns presences targets → (q : ℕ) → q < length presences
+    → get_or presences q 0 < 2 ^ columns
+presences_few t sig columns presences targets h q l =
+    omega (
+      arith,
+      presences_below (listed_table t) h.listed.table h.listed.reached q (omega (arith, l, ap length h.presences_are)),
+      ap (λ (ps : List ℕ). get_or ps q 0) h.presences_are,
+      ap (λ c. 2 ^ c) h.columns_are,
+    )
+
+-- Result: where all is laid, the list is the table's
+pub list_of_laid : (t : Listed) (sig : Signature) (columns : ℕ) (presences targets : List ℕ) (flat : FlatTargets) (count : ℕ) → IsTableWith t sig columns presences targets
+    → flat.base ≡ suc (length sig) → count ≡ flat.base ^ columns → count < 2 ^ 64 → AreSpots presences flat.spots.ranks.items flat.spots.alike.items
+    → AreLaid (listed_table t) flat.base count flat.listing.starts.items flat.listing.targets.items → IsFlatOf (listed_table t) flat
+list_of_laid t sig columns presences targets flat count h base all few spots laid =
+    let b : flat.base ≡ suc (length t.signature) = base ∙ ap (λ n. suc n) (ap length h.signature) in
+    let n : count ≡ flat.base ^ t.columns = all ∙ ap (λ c. flat.base ^ c) h.columns_are in
+    let own : AreSpots t.presences flat.spots.ranks.items flat.spots.alike.items =
+    subst (λ (ps : List ℕ). AreSpots ps flat.spots.ranks.items flat.spots.alike.items) h.presences_are spots in
+    record {
+      base_is = b;
+      starts_all = laid.count ∙ n;
+      few = omega (arith, n, few);
+      spots = own;
+      entries = laid_entries (listed_table t) flat.base count flat.listing.starts.items flat.listing.targets.items flat.spots.ranks.items flat.spots.alike.items b n own laid;
+    }
+
+-- an operand's list, where it was laid
+pub operand_list : {A : Type 0} (o : Operand) (l : TargetList) (r : Option A) (now : A → FlatTargets) → IfSome r (λ x. IsTrue l.is_made × (now x ≡ l.list)) → IsLaidListOf o l
+    → IfSome r (λ x. IsListOf o (now x))
+operand_list (OfTable t places) l None now h is = tt
+operand_list (OfTable t places) l (Some x) now h is = subst (IsFlatOf t) (sym h.1) (is.list_is h.0)
+operand_list (OfTruth b) l r now h is = absurd is

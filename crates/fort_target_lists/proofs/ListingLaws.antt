@@ -1,0 +1,247 @@
+-- The targets of tuple symbols, one after another: where each entry's stands.
+use Rattle.std.proofs.Common.{◌≡◌, ℕ, zero, suc, ◌+◌, ◌-◌, ◌*◌, ◌^◌, ◌<◌, ◌≤◌, List, [], ◌∷◌, ◌++◌, take, set, length, get_or, Bool, true, false, ◌==◌, if◌then◌else◌, refl, ap, sym, ◌∙◌, arith, subst, ⊎_elim, append_assoc, length-append, eq-eqb, true≢false, get_or-set_same, get_or-set_other}
+use Rattle.std.proofs.Math.Nat.{mul-le-mul_right}
+use Rattle.std.proofs.lemmas.Bool.{cases_lt}
+use Rattle.std.proofs.lemmas.List.{append-nil, get_or_append_left, get_or-append-add, take_more_set, length-take-le, get_or-take}
+use Rattle.fort_tables.specs.Tuples.{TupleSymbol, AreSymbols, IsTupleSymbol, symbol_kids, kid_presence}
+use Rattle.fort_tables.specs.Entries.{Entry, entry}
+use Rattle.fort_tables.specs.Tables.{Table, IsTableEntry}
+use Rattle.fort_tables.proofs.EqualTests.{test_from_apart}
+use Rattle.fort_lockstep.specs.Ranks.{rank_in}
+use Rattle.fort_lockstep.proofs.InOrderLaws.{rank_less}
+use Rattle.fort_operations.specs.Selections.{is_present}
+use Rattle.fort_operations.proofs.SelectionLaws.{present_from_test, test_from_present}
+use Rattle.fort_tuple_symbols.specs.SymbolNumbers.{columns_at}
+use Rattle.fort_target_lists.specs.Places.{number_of, place_from, AreSpots}
+use Rattle.fort_laid_entries.specs.Laid.{joined_below, entries_under}
+use Rattle.fort_target_lists.specs.Flats.{entries_below, laid, IsStateFor, HasFrom, AreLaid, IsTargetAt}
+use Rattle.fort_target_lists.proofs.LaidTargets.{under_none, under_laid}
+use Rattle.fort_target_lists.proofs.PlaceLaws.{rank_none, rank_more, rank_whole, room, AreKidsFrom, kids_from_index, place_first, place_below}
+use Rattle.fort_tuple_symbols.proofs.SymbolNumberLaws.{length-columns_at}
+use Rattle.fort_target_lists.proofs.SymbolNumbers.{number_below, columns_again, symbols_at}
+
+-- lists of one length, of the states of one presence
+abbrev blocks : List ℕ → ℕ → (ℕ → List ℕ) → ℕ → List ℕ
+blocks ps w h k = if get_or ps k 0 == w then h k else []
+
+block_length : (b : Bool) (xs : List ℕ) (n : ℕ) → length xs ≡ n → length (if b then xs else []) ≡ (if b then 1 else 0) * n
+block_length true xs n e = omega (arith, e)
+block_length false xs n e = omega arith
+
+pub block_there : {A : Type 0} (b : Bool) (xs : List A) → b ≡ true → (if b then xs else []) ≡ xs
+block_there true xs e = refl
+block_there false xs e = absurd cc
+
+pub block_not : {A : Type 0} (b : Bool) (xs : List A) → b ≡ false → (if b then xs else []) ≡ []
+block_not true xs e = absurd cc
+block_not false xs e = refl
+
+sum_blocks : (a b r n x y : ℕ) → x ≡ a * n → y ≡ b * n → r ≡ a + b → x + y ≡ r * n
+sum_blocks a b r n x y e h s = let m : r * n ≡ (a + b) * n = ap (λ c. c * n) s in omega (arith, m, e, h)
+
+length-blocks : (ps : List ℕ) (w : ℕ) (h : ℕ → List ℕ) (n m : ℕ) → ((k : ℕ) → length (h k) ≡ n) → m ≤ length ps → length (joined_below m (blocks ps w h)) ≡ rank_in w ps m * n
+length-blocks ps w h n zero e l = sym (omega (arith, ap (λ r. r * n) (rank_none w ps)))
+length-blocks ps w h n (suc m) e l =
+    let b = get_or ps m 0 == w in
+    length-append (joined_below m (blocks ps w h)) (blocks ps w h m)
+    ∙ sum_blocks (rank_in w ps m) (if b then 1 else 0) (rank_in w ps (suc m)) n (length (joined_below m (blocks ps w h))) (length (blocks ps w h m)) (length-blocks ps w h n m e (omega arith)) (block_length b (h m) n (e m)) (rank_more w ps m l)
+
+index_less : (a b n x : ℕ) → a < b → x < n → a * n + x < b * n
+index_less a b n x l m = let h = mul-le-mul_right {m = suc a} {n = b} n l in omega (arith, h, m)
+
+get_or-blocks : (ps : List ℕ) (w : ℕ) (h : ℕ → List ℕ) (n m q x : ℕ) → ((k : ℕ) → length (h k) ≡ n) → m ≤ length ps → q < m → get_or ps q 0 ≡ w → x < n → get_or (joined_below m (blocks ps w h)) (rank_in w ps q * n + x) 0 ≡ get_or (h q) x 0
+get_or-blocks ps w h n zero q x e l b s y = absurd (omega arith)
+get_or-blocks ps w h n (suc m) q x e l b s y =
+    let front = joined_below m (blocks ps w h) in
+    let long = length-blocks ps w h n m e (omega arith) in
+    ⊎_elim
+    (λ (o : q < m).
+    get_or_append_left front (blocks ps w h m) 0 (rank_in w ps q * n + x) (omega (arith, long, index_less (rank_in w ps q) (rank_in w ps m) n x (rank_less w ps q m (omega arith) s o) y))
+    ∙ get_or-blocks ps w h n m q x e (omega arith) o s y)
+    (λ (o : m ≤ q).
+    let same : q ≡ m = omega arith in
+    let at : rank_in w ps q * n + x ≡ length front + x = ap (λ k. rank_in w ps k * n + x) same ∙ ap (λ z. z + x) (sym long) in
+    ap (λ z. get_or (front ++ blocks ps w h m) z 0) at
+    ∙ (get_or-append-add front (blocks ps w h m) x 0
+    ∙ (ap (λ z. get_or z x 0) (block_there (get_or ps m 0 == w) (h m) (eq-eqb (get_or ps m 0) w (ap (λ k. get_or ps k 0) (sym same) ∙ s)))
+    ∙ ap (λ k. get_or (h k) x 0) (sym same))))
+    (cases_lt q m)
+
+-- how many targets there are over the children that are left
+pub length-laid : (body : Table) (f : TupleSymbol) (before : List ℕ) (j n : ℕ) → length (laid body f before j n) ≡ room body.presences (kid_presence body.signature f) j n
+length-laid body f before j zero = refl
+length-laid body f before j (suc n) =
+    let ps = body.presences in
+    let w = kid_presence body.signature f in
+    length-blocks ps (w j) (λ k. laid body f (before ++ k ∷ []) (suc j) n) (room ps w (suc j) n) (length ps) (λ k. length-laid body f (before ++ k ∷ []) (suc j) n) (omega arith)
+    ∙ ap (λ r. r * room ps w (suc j) n) (rank_whole (w j) ps)
+
+-- the target at a place
+pub laid_place : (body : Table) (f : TupleSymbol) (ranks alike : List ℕ) → AreSpots body.presences ranks alike → (before : List ℕ) (j : ℕ) (ks : List ℕ) → AreKidsFrom body.presences (kid_presence body.signature f) j ks
+    → get_or (laid body f before j (length ks)) (place_from ranks alike 0 ks) 0 ≡ body.target (entry f (before ++ ks))
+laid_place body f ranks alike s before j [] h = ap (λ ks. body.target (entry f ks)) (sym (append-nil before))
+laid_place body f ranks alike s before j (k ∷ ks) h =
+    let ps = body.presences in
+    let w = kid_presence body.signature f in
+    let n = length ks in
+    ap (λ z. get_or (laid body f before j (suc n)) z 0) (place_first ps ranks alike w s j k ks h)
+    ∙ (get_or-blocks ps (w j) (λ q. laid body f (before ++ q ∷ []) (suc j) n) (room ps w (suc j) n) (length ps) k (place_from ranks alike 0 ks) (λ q. length-laid body f (before ++ q ∷ []) (suc j) n) (omega arith) h.0 h.1 (place_below ps ranks alike w s (suc j) ks h.2)
+    ∙ (laid_place body f ranks alike s (before ++ k ∷ []) (suc j) ks h.2
+    ∙ ap (λ z. body.target (entry f z)) (append_assoc before (k ∷ []) ks)))
+
+-- the child states of an entry
+pub entry_kids : (body : Table) (e : Entry) → IsTableEntry body e → AreKidsFrom body.presences (kid_presence body.signature e.symbol) 0 e.kids
+entry_kids body e h = kids_from_index body.presences (kid_presence body.signature e.symbol) 0 e.kids h.within (λ i l. let z : i ≡ 0 + i = omega arith in h.presence i l ∙ ap (kid_presence body.signature e.symbol) z)
+
+-- Result: where all tuple symbols' targets stand, each entry's target stands at its place
+pub laid_entries : (body : Table) (base count : ℕ) (starts targets ranks alike : List ℕ) → base ≡ suc (length body.signature) → count ≡ base ^ body.columns → AreSpots body.presences ranks alike → AreLaid body base count starts targets
+    → (e : Entry) → IsTableEntry body e → IsTargetAt targets (get_or starts (number_of base e.symbol) 0 + place_from ranks alike 0 e.kids) (body.target e)
+laid_entries body base count starts targets ranks alike b c s laid_all e h =
+    let f = e.symbol in
+    let p = place_from ranks alike 0 e.kids in
+    let start = get_or starts (number_of base f) 0 in
+    let low : number_of base f < count = omega (arith, number_below body.signature base f b h.symbol.symbols, ap (λ n. base ^ n) h.symbol.width, c) in
+    let own = laid_all.laid_at f h.symbol low in
+    let kids = entry_kids body e h in
+    let all = laid body f [] 0 (symbol_kids body.signature f) in
+    let long : p < length all = omega (arith, place_below body.presences ranks alike (kid_presence body.signature f) s 0 e.kids kids, length-laid body f [] 0 (symbol_kids body.signature f), ap (room body.presences (kid_presence body.signature f) 0) h.count) in
+    record {
+      within = omega (arith, own.within, long);
+      is = own.same p long ∙ (ap (λ n. get_or (laid body f [] 0 n) p 0) (sym h.count) ∙ laid_place body f ranks alike s [] 0 e.kids kids);
+    }
+
+-- one more tuple symbol
+pub has_from-append : (xs ys more : List ℕ) (start : ℕ) → HasFrom xs start ys → HasFrom (xs ++ more) start ys
+has_from-append xs ys more start h = record {
+  within = omega (arith, h.within, length-append xs more);
+  same = λ r l. get_or_append_left xs more 0 (start + r) (omega (arith, h.within)) ∙ h.same r l;
+}
+
+pub has_from-end : (xs ys : List ℕ) → HasFrom (xs ++ ys) (length xs) ys
+has_from-end xs ys = record {
+  within = omega (arith, length-append xs ys);
+  same = λ r l. get_or-append-add xs ys r 0;
+}
+
+-- the tuple symbol with the next number is this one, or no tuple symbol has the number
+pub laid_more : (body : Table) (base n : ℕ) (starts targets more : List ℕ) → AreLaid body base n starts targets
+    → length more ≡ length (entries_under body.signature body.presences (columns_at base body.columns n))
+    → ((f : TupleSymbol) → IsTupleSymbol body.signature body.columns f → number_of base f ≡ n → more ≡ laid body f [] 0 (symbol_kids body.signature f))
+    → AreLaid body base (n + 1) (starts ++ length targets ∷ []) (targets ++ more)
+laid_more body base n starts targets more h size own = record {
+  count = omega (arith, length-append starts (length targets ∷ []), h.count);
+  size =
+      let next : suc n ≡ n + 1 = omega arith in
+      length-append targets more ∙ (ap (λ k. k + length more) h.size ∙ (ap (λ k. entries_below body base n + k) size ∙ ap (entries_below body base) next));
+  laid_at = λ f s l.
+      let m = number_of base f in
+      let ys = laid body f [] 0 (symbol_kids body.signature f) in
+      ⊎_elim
+      (λ (o : m < n).
+      subst (λ (at : ℕ). HasFrom (targets ++ more) at ys) (sym (get_or_append_left starts (length targets ∷ []) 0 m (omega (arith, h.count))))
+      (has_from-append targets ys more (get_or starts m 0) (h.laid_at f s o)))
+      (λ (o : n ≤ m).
+      let same : m ≡ n = omega arith in
+      let at : get_or (starts ++ length targets ∷ []) m 0 ≡ length targets = ap (λ z. get_or (starts ++ length targets ∷ []) z 0) (let e : m ≡ length starts + 0 = omega (arith, h.count) in e) ∙ get_or-append-add starts (length targets ∷ []) 0 0 in
+      subst (λ (z : ℕ). HasFrom (targets ++ more) z ys) (sym at)
+      (subst (λ (zs : List ℕ). HasFrom (targets ++ zs) (length targets) ys) (sym (own f s same)) (has_from-end targets ys)))
+      (cases_lt m n);
+}
+
+-- one more child state
+abbrev pub lists_behind : Table → TupleSymbol → List ℕ → ℕ → ℕ → ℕ → List ℕ
+lists_behind body f before j n k = if get_or body.presences k 0 == kid_presence body.signature f j then laid body f (before ++ k ∷ []) (suc j) n else []
+
+pub laid_turn : (body : Table) (f : TupleSymbol) (before : List ℕ) (j n : ℕ) → (n ≡ 0 → ⊥) → laid body f before j n ≡ joined_below (length body.presences) (lists_behind body f before j (n - 1))
+laid_turn body f before j zero h = absurd (h refl)
+laid_turn body f before j (suc n) h = let e : n ≡ suc n - 1 = omega arith in ap (λ m. joined_below (length body.presences) (lists_behind body f before j m)) e
+
+pub laid_end : (body : Table) (f : TupleSymbol) (before : List ℕ) (j n : ℕ) → n ≡ 0 → laid body f before j n ≡ body.target (entry f before) ∷ []
+laid_end body f before j n e = ap (laid body f before j) e
+
+pub joined_more : {A : Type 0} (q : ℕ) (g : ℕ → List A) → joined_below (q + 1) g ≡ joined_below q g ++ g q
+joined_more q g = let e : q + 1 ≡ suc q = omega arith in ap (λ n. joined_below n g) e
+
+pub lay_there : (body : Table) (f : TupleSymbol) (chosen : List ℕ) (j q n : ℕ) (old mid new : List ℕ) → j < length chosen → get_or body.presences q 0 ≡ kid_presence body.signature f j → mid ≡ old ++ joined_below q (lists_behind body f (take j chosen) j n)
+    → new ≡ mid ++ laid body f (take (j + 1) (set chosen j q)) (j + 1) n → new ≡ old ++ joined_below (q + 1) (lists_behind body f (take j chosen) j n)
+lay_there body f chosen j q n old mid new l e h m =
+    let g = lists_behind body f (take j chosen) j n in
+    let s : j + 1 ≡ suc j = omega arith in
+    let here : g q ≡ laid body f (take (j + 1) (set chosen j q)) (j + 1) n =
+    block_there (get_or body.presences q 0 == kid_presence body.signature f j) (laid body f (take j chosen ++ q ∷ []) (suc j) n) (eq-eqb (get_or body.presences q 0) (kid_presence body.signature f j) e)
+    ∙ sym (ap (λ xs. laid body f xs (j + 1) n) (take_more_set chosen j q l) ∙ ap (λ m. laid body f (take j chosen ++ q ∷ []) m n) s) in
+    m ∙ (ap (λ xs. xs ++ laid body f (take (j + 1) (set chosen j q)) (j + 1) n) h
+    ∙ (append_assoc old (joined_below q g) (laid body f (take (j + 1) (set chosen j q)) (j + 1) n)
+    ∙ ap (λ xs. old ++ xs) (ap (λ xs. joined_below q g ++ xs) (sym here) ∙ sym (joined_more q g))))
+
+-- lists between two numbers that are all empty
+pub joined_over : {A : Type 0} (g : ℕ → List A) (m d : ℕ) → ((k : ℕ) → m ≤ k → k < m + d → g k ≡ []) → joined_below (m + d) g ≡ joined_below m g
+joined_over g m zero h = let z : m + 0 ≡ m = omega arith in ap (λ n. joined_below n g) z
+joined_over g m (suc d) h =
+    let s : m + suc d ≡ suc (m + d) = omega arith in
+    ap (λ n. joined_below n g) s
+    ∙ (ap (λ xs. joined_below (m + d) g ++ xs) (h (m + d) (omega arith) (omega arith))
+    ∙ (append-nil (joined_below (m + d) g) ∙ joined_over g m d (λ k a b. h k a (omega (arith, b)))))
+
+-- states of other presences add nothing
+pub lay_to : (body : Table) (f : TupleSymbol) (before : List ℕ) (j n m q : ℕ) (old mid : List ℕ) → m ≤ q → ((k : ℕ) → m ≤ k → k < q → get_or body.presences k 0 ≡ kid_presence body.signature f j → ⊥)
+    → mid ≡ old ++ joined_below m (lists_behind body f before j n) → mid ≡ old ++ joined_below q (lists_behind body f before j n)
+lay_to body f before j n m q old mid le none h =
+    let g = lists_behind body f before j n in
+    let d : m + (q - m) ≡ q = omega (arith, le) in
+    let over = joined_over g m (q - m) (λ k a b. block_not (get_or body.presences k 0 == kid_presence body.signature f j) (laid body f (before ++ k ∷ []) (suc j) n)
+    (test_from_apart (get_or body.presences k 0) (kid_presence body.signature f j) (none k a (omega (arith, b, d))))) in
+    h ∙ ap (λ xs. old ++ xs) (sym over ∙ ap (λ z. joined_below z g) d)
+
+-- the entry of a whole choice of child states
+pub states_entry : (body : Table) (f : TupleSymbol) (chosen : List ℕ) (j : ℕ) → IsTupleSymbol body.signature body.columns f → j ≡ symbol_kids body.signature f → j ≤ length chosen → ((i : ℕ) → i < j → IsStateFor body f i (get_or chosen i 0)) → IsTableEntry body (entry f (take j chosen))
+states_entry body f chosen j s count l h =
+    let w = length-take-le j chosen l in
+    record {
+      symbol = s;
+      count = w ∙ count;
+      within = λ i a. let m : i < j = omega (arith, w) in subst (λ (k : ℕ). k < length body.presences) (sym (get_or-take j chosen i 0 m)) (h i m).0;
+      presence = λ i a. let m : i < j = omega (arith, w) in ap (λ k. get_or body.presences k 0) (get_or-take j chosen i 0 m) ∙ (h i m).1;
+    }
+
+-- the entry of a tuple symbol without children
+pub entry_alone : (body : Table) (f : TupleSymbol) → IsTupleSymbol body.signature body.columns f → symbol_kids body.signature f ≡ 0 → IsTableEntry body (entry f [])
+entry_alone body f s e = states_entry body f [] 0 s (sym e) (omega arith) (λ i l. absurd (omega (arith, l)))
+
+-- one more child has its state
+pub state_more : (body : Table) (f : TupleSymbol) (chosen : List ℕ) (j k : ℕ) → j < length chosen → ((i : ℕ) → i < j → IsStateFor body f i (get_or chosen i 0)) → IsStateFor body f j k → (i : ℕ) → i < j + 1 → IsStateFor body f i (get_or (set chosen j k) i 0)
+state_more body f chosen j k l h s i b = ⊎_elim
+    (λ (a : i < j). let ne : i ≡ j → ⊥ = λ e. omega arith in subst (IsStateFor body f i) (sym (get_or-set_other chosen j i k 0 ne)) (h i a))
+    (λ (a : j ≤ i). let e : j ≡ i = omega arith in subst (λ (x : ℕ). IsStateFor body f x (get_or (set chosen j k) x 0)) e (subst (IsStateFor body f j) (sym (get_or-set_same chosen j k 0 l)) s))
+    (cases_lt i j)
+
+-- a tuple symbol has the columns of its number
+symbol_is : (body : Table) (base n : ℕ) (f : TupleSymbol) → base ≡ suc (length body.signature) → IsTupleSymbol body.signature body.columns f → number_of base f ≡ n → f ≡ columns_at base body.columns n
+symbol_is body base n f b s e = sym (columns_again body.signature base f b s.symbols) ∙ (ap (λ w. columns_at base w (number_of base f)) s.width ∙ ap (columns_at base body.columns) e)
+
+-- the tuple symbol with a number, where a column is present
+pub tuple_symbol_at : (body : Table) (base n : ℕ) (f : TupleSymbol) → base ≡ suc (length body.signature) → f ≡ columns_at base body.columns n → is_present f ≡ true → IsTupleSymbol body.signature body.columns f
+tuple_symbol_at body base n f b is p = record {
+  width = ap length is ∙ length-columns_at base body.columns n;
+  present = present_from_test f p;
+  symbols = subst (AreSymbols body.signature) (sym is) (symbols_at body.signature base body.columns n b);
+}
+
+-- a number without a tuple symbol
+pub laid_none : (body : Table) (base n : ℕ) (f : TupleSymbol) (starts targets new : List ℕ) → base ≡ suc (length body.signature) → f ≡ columns_at base body.columns n → AreLaid body base n starts targets → is_present f ≡ false → new ≡ starts ++ length targets ∷ []
+    → AreLaid body base (n + 1) new targets
+laid_none body base n f starts targets new b is h absent e =
+    subst (λ (xs : List ℕ). AreLaid body base (n + 1) xs targets) (sym e)
+    (subst (λ (xs : List ℕ). AreLaid body base (n + 1) (starts ++ length targets ∷ []) xs) (append-nil targets)
+    (laid_more body base n starts targets [] h (sym (under_none body (columns_at base body.columns n) (ap is_present (sym is) ∙ absent)))
+    (λ g s o. absurd (true≢false (sym (test_from_present g s.present) ∙ (ap is_present (symbol_is body base n g b s o ∙ sym is) ∙ absent))))))
+
+-- a number with one
+pub laid_one : (body : Table) (base n : ℕ) (f : TupleSymbol) (starts targets new laid_new : List ℕ) → base ≡ suc (length body.signature) → f ≡ columns_at base body.columns n → is_present f ≡ true → AreLaid body base n starts targets → new ≡ starts ++ length targets ∷ []
+    → laid_new ≡ targets ++ laid body f [] 0 (symbol_kids body.signature f) → AreLaid body base (n + 1) new laid_new
+laid_one body base n f starts targets new laid_new b is present h e m =
+    subst (λ (xs : List ℕ). AreLaid body base (n + 1) xs laid_new) (sym e)
+    (subst (λ (xs : List ℕ). AreLaid body base (n + 1) (starts ++ length targets ∷ []) xs) (sym m)
+    (laid_more body base n starts targets (laid body f [] 0 (symbol_kids body.signature f)) h
+    (sym (under_laid body f (present_from_test f present)) ∙ ap (λ x. length (entries_under body.signature body.presences x)) is)
+    (λ g s o. ap (λ x. laid body x [] 0 (symbol_kids body.signature x)) (is ∙ sym (symbol_is body base n g b s o)))))

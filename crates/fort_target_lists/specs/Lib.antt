@@ -1,0 +1,9 @@
+pub mod Chains
+pub mod Flats
+pub mod LabelLists
+pub mod LayRooms
+pub mod ListedOperands
+pub mod LookUps
+pub mod Places
+pub mod TargetLists
+pub mod Walks

@@ -1,0 +1,38 @@
+-- To believe: what a list of a table's targets is, the room that it needs, and from what it is laid.
+use Rattle.std.specs.Prelude.{◌≡◌, ℕ, suc, ◌≤◌, List, Option, None, Some, IfSome, IsTrue, vec_capacity}
+use Rattle.std.proofs.Props.{props}
+use Rattle.fort_theory.specs.Signatures.{Signature}
+use Rattle.fort_tables.specs.Entries.{Entry}
+use Rattle.fort_tables.specs.Tables.{Table, IsTableEntry, Listed, IsListed}
+use Rattle.fort_operations.specs.Products.{Operand, OfTable, OfTruth}
+use Rattle.fort_target_lists.specs.Flats.{IsFlatOf}
+use Rattle.fort_target_lists.specs.declared.target_list.TargetList.{TargetList}
+
+-- the list is the table's own, and it is made where the table has an entry
+pub record IsTargetListOf (body : Table) (l : TargetList) : Type 0 where
+  pub list_is : IsTrue l.is_made → IsFlatOf body l.list
+  pub made : (e : Entry) → IsTableEntry body e → IsTrue l.is_made
+
+-- an operand's list is its table's; a truth has none
+abbrev pub IsLaidListOf : Operand → TargetList → Type 0
+IsLaidListOf (OfTable table places) list = IsTargetListOf table list
+IsLaidListOf (OfTruth b) list = ⊥
+
+-- room for the list of a table of this size, with a start for each tuple symbol: a table with entries has at most one more than entries
+pub record HasListRoom (states entries : ℕ) (l : TargetList) : Type 0 where
+  pub ranks : states ≤ vec_capacity l.list.spots.ranks
+  pub alike : states ≤ vec_capacity l.list.spots.alike
+  pub targets : entries ≤ vec_capacity l.list.listing.targets
+  pub starts : suc entries ≤ vec_capacity l.list.listing.starts
+
+-- a listed table with this signature, over so many columns, with these presences and these targets
+pub record IsTableWith (t : Listed) (sig : Signature) (columns : ℕ) (presences targets : List ℕ) : Type 0 where
+  pub listed : IsListed t
+  pub signature : sig ≡ t.signature
+  pub columns_are : columns ≡ t.columns
+  pub presences_are : presences ≡ t.presences
+  pub targets_are : targets ≡ t.targets
+
+pub IfTargetList-prop : {A : Type 0} (body : Table) (list : Option A) (now : A → TargetList) → IsProp (IfSome list (λ l. IsTargetListOf body (now l)))
+IfTargetList-prop body None now = hlevel props
+IfTargetList-prop body (Some l) now = hlevel props

@@ -1,0 +1,22 @@
+//! A table's targets in one list: made by look-ups, laid in the order of the entries, and looked up.
+#![tactic(auto)]
+
+mod chains;
+mod columns;
+mod entry_count;
+mod flat;
+mod laying;
+mod listing;
+mod look_up;
+mod states;
+mod target_list;
+mod walk;
+
+pub use chains::Chains;
+pub use columns::{is_present, kid_count, kid_presence, selected, selected_kids, selected_number};
+pub use entry_count::has_entries;
+pub use flat::{FlatTargets, Listing, Spots};
+pub use look_up::{Finder, LookUp};
+pub use states::LayRoom;
+pub use target_list::{TargetList, flat_of};
+pub use walk::Walk;

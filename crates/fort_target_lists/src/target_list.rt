@@ -1,0 +1,120 @@
+//! A table's targets in one list, laid from the targets in the order of the table's entries.
+ghost use Rattle.std.specs.Prelude.{◌≡◌, ℕ, ◌<◌, ◌^◌, length, IfOk, IfSome, IsTrue};
+ghost use Rattle.fort_tables.specs.Entries.{entry};
+ghost use Rattle.fort_tables.specs.Tables as tables;
+ghost use Rattle.fort_operations.specs.Products as products;
+ghost use Rattle.fort_target_lists.specs.LayRooms.{HasLayRoom};
+ghost use Rattle.fort_target_lists.specs.TargetLists.{IsTargetListOf, IsLaidListOf, HasListRoom, IsTableWith};
+ghost use Rattle.fort_target_lists.specs.ListedOperands.{IsListOf};
+
+use crate::chains::Chains;
+use crate::flat::{FlatTargets, Listing, Spots};
+use crate::states::LayRoom;
+use fort_lockstep::TupleSym;
+use fort_terms::{Memory, Signature};
+use std::alloc::Global;
+
+/// A table's targets in one list, and the room for them. A table without entries has none.
+#[derive(Drop)]
+pub struct TargetList {
+    pub(crate) is_made: bool,
+    pub(crate) list: FlatTargets,
+}
+
+impl TargetList {
+    /// No list, and the room for that of a table of at most so many states and entries.
+    pub fn with_room(alloc: Global, states: usize, entries: usize) -> Result<TargetList, Memory>
+        requires { entries < 2 ^ 63 }
+        ensures { IfOk result (HasListRoom states entries) }
+    {
+        Ok(TargetList {
+            is_made: false,
+            list: FlatTargets {
+                base: 0,
+                spots: Spots {
+                    ranks: Vec::with_capacity(alloc, states)?,
+                    alike: Vec::with_capacity(alloc, states)?,
+                },
+                listing: Listing {
+                    starts: Vec::with_capacity(alloc, entries + 1)?,
+                    targets: Vec::with_capacity(alloc, entries)?,
+                },
+                counts: Vec::new(alloc),
+                chains: Chains {
+                    firsts: Vec::new(alloc),
+                    nexts: Vec::new(alloc),
+                },
+            },
+        })
+    }
+
+    /// Makes this the list of the table with this signature, these presences and these targets, which stand in the order of its
+    /// entries. It takes no memory.
+    pub fn lay(
+        &mut self,
+        room: &mut LayRoom,
+        signature: &Signature,
+        columns: usize,
+        presences: &[u16],
+        targets: &[u32],
+    )
+        requires few { length presences.now < 2 ^ 32 }
+        requires few_targets { length targets.now < 2 ^ 32 }
+        requires table { (t : tables.Listed) × IsTableWith t signature.now columns presences.now
+            targets.now }
+        requires room { HasLayRoom (length presences.now) room.old }
+        requires list_room { HasListRoom (length presences.now) (length targets.now)
+            self.old }
+        ensures list { (t : tables.Listed) → IsTableWith t signature.now columns presences.now
+            targets.now → IsTargetListOf (tables.listed_table t) self.new }
+        ensures room { (n : ℕ) → HasLayRoom n room.old → HasLayRoom n room.new }
+        ensures list_room { (n k : ℕ) → HasListRoom n k self.old → HasListRoom n k self.new }
+    {
+        self.is_made = !targets.is_empty();
+        if targets.is_empty() {
+            return;
+        }
+        let base = signature.len() + 1;
+        let count = base.pow(columns as u32);
+        self.list.base = base;
+        room.take_up(columns, presences, &mut self.list.spots);
+        room.lay_targets(
+            signature,
+            columns,
+            base,
+            count,
+            targets,
+            &mut self.list.listing,
+        );
+    }
+
+    /// The list, where it is made.
+    fn list(&self) -> Option<&FlatTargets>
+        ensures { IfSome result (λ l. IsTrue self.now.is_made × (l.now ≡ self.now.list)) }
+    {
+        if self.is_made { Some(&self.list) } else { None }
+    }
+
+    /// The target of an entry of the list's table.
+    pub fn target(&self, symbol: &TupleSym, kids: &[u32]) -> u32
+        requires { (body : tables.Table) × IsTargetListOf body self.now
+            × tables.IsTableEntry body (entry symbol.now kids.now) }
+        ensures { (body : tables.Table) → IsTargetListOf body self.now
+            → tables.IsTableEntry body (entry symbol.now kids.now)
+            → result ≡ body.target (entry symbol.now kids.now) }
+    {
+        let start = self.list.start(self.list.number(symbol));
+        self.list.target(start, kids)
+    }
+}
+
+/// The list of an operand's targets, where it is there and made.
+pub fn flat_of<'a>(list: Option<&'a TargetList>) -> Option<&'a FlatTargets>
+    ensures { (o : products.Operand) → IfSome list.entry (λ l. IsLaidListOf o l.now)
+        → IfSome result (λ l. IsListOf o l.now) }
+{
+    match list {
+        Some(list) => list.list(),
+        None => None,
+    }
+}

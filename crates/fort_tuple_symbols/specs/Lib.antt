@@ -1,0 +1,9 @@
+pub mod Columns
+pub mod SymbolDigits
+pub mod SymbolNumbers
+pub mod RowDigits
+pub mod DigitNumbers
+pub mod NumberPlaces
+pub mod WiderPlaces
+pub mod SymbolSetView
+pub mod SymbolSetInside
