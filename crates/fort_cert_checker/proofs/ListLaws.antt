@@ -1,9 +1,10 @@
--- The room for the lists of operands: from what is taken before a check, and through a check.
-use Rattle.std.specs.Prelude.{◌≡◌, ℕ, ◌*◌, ◌^◌, ◌<◌, ◌≤◌, List, [], ◌∷◌, length}
+-- The room for the lists of operands: from what is taken before a check, and through a check. Laid lists.
+use Rattle.std.specs.Prelude.{◌≡◌, ℕ, ◌*◌, ◌^◌, ◌<◌, ◌≤◌, List, [], ◌∷◌, length, Option, None, Some, IfSome}
 use Rattle.std.proofs.Common.{ap, arith}
+use Rattle.fort_operations.specs.Products.{Operand, OfTable, OfTruth}
 use Rattle.fort_certificate_grammar.specs.Certificates.{Step}
 use Rattle.fort_target_lists.specs.LayRooms.{HasLayRoom}
-use Rattle.fort_target_lists.specs.TargetLists.{HasListRoom}
+use Rattle.fort_target_lists.specs.TargetLists.{HasListRoom, IsOperandList}
 use Rattle.fort_target_lists.specs.declared.states.LayRoom.{LayRoom}
 use Rattle.fort_target_lists.specs.declared.target_list.TargetList.{TargetList}
 use Rattle.fort_check_steps.specs.Room.{most_states, AreAsRoomy, HasNeeds}
@@ -11,7 +12,7 @@ use Rattle.fort_check_steps.specs.declared.room.ListRoom.{ListRoom}
 use Rattle.fort_check_steps.specs.declared.room.LabelRoom.{LabelRoom}
 use Rattle.fort_check_steps.specs.declared.room.LabelNeeds.{LabelNeeds}
 use Rattle.fort_check_steps.proofs.RoomLaws.{first_room, second_room}
-use Rattle.fort_cert_checker.specs.OperandLists.{FitsList, AreListsFor, IsNeedOf, AreNeedsOf}
+use Rattle.fort_cert_checker.specs.OperandLists.{FitsList, IsLaidListOf, AreListsFor, IsNeedOf, AreNeedsOf}
 use Rattle.fort_cert_checker.specs.declared.plan.Source.{Source}
 use Rattle.fort_cert_checker.specs.declared.plan.Work.{Work}
 use Rattle.fort_cert_checker.specs.declared.plan.Work.TheVariants.{Atom, Truth, Negation, Product, Projection, Many}
@@ -63,3 +64,10 @@ targets_needed width [] many =
     let words : width * most_states [] ≡ width * 0 = ap (λ n. width * n) none in
     absurd (omega (arith, many, words))
 targets_needed width (t ∷ ts) many = omega arith
+
+-- what is laid for an operand is the operand's list
+pub laid_operand : {A : Type 0} (o : Operand) (list : Option A) (now : A → TargetList) → IfSome list (λ l. IsLaidListOf o (now l)) → IfSome list (λ l. IsOperandList o (now l))
+laid_operand (OfTable t places) None now h = tt
+laid_operand (OfTable t places) (Some l) now h = h.list_is
+laid_operand (OfTruth b) None now h = tt
+laid_operand (OfTruth b) (Some l) now h = absurd h

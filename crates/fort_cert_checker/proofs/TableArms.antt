@@ -41,7 +41,7 @@ use Rattle.fort_check_steps.specs.Room.{HasLabelRoom, most_states}
 use Rattle.fort_check_steps.proofs.PureStates.{pure_push, pure_left}
 use Rattle.fort_check_steps.specs.Marks.{HasMarkRoom}
 use Rattle.fort_cert_checker.specs.declared.plan.Source.{Source}
-use Rattle.fort_cert_checker.specs.declared.plan.Operand.{Operand}
+use Rattle.fort_cert_checker.specs.declared.plan.OperandPlan.{OperandPlan}
 use Rattle.fort_cert_checker.specs.declared.plan.Work.{Work}
 use Rattle.fort_cert_checker.specs.declared.plan.Work.TheVariants.{Truth, Negation, Atom, Product, Projection, Many}
 use Rattle.fort_cert_checker.specs.declared.plan.Plan.{Plan}
@@ -103,7 +103,7 @@ module _ (system : PatternSystem) (parts : List Core) (past : Past) (k : ℕ) (m
   lists_for : (w : Work) → p.work ≡ w → AreListsFor (steps_of past) w scratch.lists
   lists_for w e = subst (λ (v : Work). AreListsFor (steps_of past) v scratch.lists) e due.lists_sized
 
-  pub product_lists : (op : Op) (first second : Operand) → p.work ≡ Product op first second → AreListsFor (steps_of past) (Product op first second) scratch.lists
+  pub product_lists : (op : Op) (first second : OperandPlan) → p.work ≡ Product op first second → AreListsFor (steps_of past) (Product op first second) scratch.lists
   product_lists op first second e = lists_for (Product op first second) e
 
   pub projection_list : (s : Source) (c : ℕ) → p.work ≡ Projection s c → FitsList (steps_of past) s scratch.lists.first scratch.lists.lay
@@ -154,10 +154,10 @@ module _ (system : PatternSystem) (parts : List Core) (past : Past) (k : ℕ) (m
           step = step;
         }
 
-  pub product_plan : (op : Op) (first second : Operand) → p.work ≡ Product op first second → IsProductPlan parts f op first second
+  pub product_plan : (op : Op) (first second : OperandPlan) → p.work ≡ Product op first second → IsProductPlan parts f op first second
   product_plan op first second e = at_work (Product op first second) e
 
-  pub product_room : (op : Op) (first second : Operand) → p.work ≡ Product op first second → HasLabelRoom 3 targets scratch
+  pub product_room : (op : Op) (first second : OperandPlan) → p.work ≡ Product op first second → HasLabelRoom 3 targets scratch
   product_room op first second e = sized_for 3 (width_for (Product op first second) e)
 
   pub many_plan : (s : Source) (c : ℕ) (ns : Vec Count Global) → p.work ≡ Many s c ns → (xs : List Count) → xs ≡ ns.items → IsManyPlan parts (steps_of past) k f s c xs
@@ -180,7 +180,7 @@ module _ (system : PatternSystem) (parts : List Core) (past : Past) (k : ℕ) (m
       let h : IsNegationPlan parts f s = at_work (Negation s) e in
       true≢false (sym due.columns ∙ (ap has_columns h.whole ∙ (sym (ap is_turned h.whole) ∙ due.plain)))
 
-  module _ (op : Op) (first second : Operand) (plan : IsProductPlan parts f op first second) (columns : ℕ) (count : columns ≡ p.columns) where
+  module _ (op : Op) (first second : OperandPlan) (plan : IsProductPlan parts f op first second) (columns : ℕ) (count : columns ≡ p.columns) where
     pub one : IsKnown system parts past k made due.due.known plan.one first.source
     one = known_answer system parts past k made due.due.known plan.one (operand_is plan.one (joined (connective_of op) plan.one plan.other) plan.whole (operand_first (connective_of op) plan.one plan.other)) first.source plan.one_is.source
 

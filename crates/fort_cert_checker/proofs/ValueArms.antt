@@ -34,7 +34,7 @@ use Rattle.fort_check_steps.specs.declared.marks.MarkRoom.{MarkRoom}
 use Rattle.fort_check_steps.specs.Room.{most_states}
 use Rattle.fort_check_steps.specs.Marks.{HasMarkRoom}
 use Rattle.fort_cert_checker.specs.declared.plan.Source.{Source}
-use Rattle.fort_cert_checker.specs.declared.plan.Operand.{Operand}
+use Rattle.fort_cert_checker.specs.declared.plan.OperandPlan.{OperandPlan}
 use Rattle.fort_context_closure.specs.declared.atom_labels.AtomLabels.{AtomLabels}
 use Rattle.fort_context_closure.specs.declared.atom_labels.AtomLabels.TheVariants.{Relation, Normal, Is}
 use Rattle.fort_cert_checker.specs.declared.plan.Work.{Work}
@@ -138,7 +138,7 @@ module _ (system : PatternSystem) (parts : List Core) (past : Past) (k : ℕ) (m
       let v = known_value system parts past k made due.due.known h.body (subst (IsOperandOf h.body) (sym (due.due.part ∙ h.whole)) refl) s h.source none in
       negated_value_is system parts k made f h.body v.0 value h.whole v.2 (is ∙ ap not (told v.0 v.1))
 
-  pub product_value : (op : Op) (first second : Operand) (value a b : Bool) → p.work ≡ Product op first second → ((truth : Bool) → IsTruthAt past first.source truth → a ≡ truth)
+  pub product_value : (op : Op) (first second : OperandPlan) (value a b : Bool) → p.work ≡ Product op first second → ((truth : Bool) → IsTruthAt past first.source truth → a ≡ truth)
       → ((truth : Bool) → IsTruthAt past second.source truth → b ≡ truth) → value ≡ connected (connective_of op) a b → IsValueOf parts made k f value
   product_value op first second value a b e one other is =
       let h : IsProductPlan parts f op first second = work_is (Product op first second) e in

@@ -9,5 +9,6 @@ pub mod AtomPlans
 pub mod Makings
 pub mod Values
 pub mod Fronts
+pub mod GivenSteps
 pub mod Checkers
 pub mod OutcomeView

@@ -1,5 +1,6 @@
 -- Inside: lists of operands' targets: the room for them, and that they are laid.
 use Rattle.std.specs.Prelude.{ℕ, List, length}
+use Rattle.fort_operations.specs.Products as products
 use Rattle.fort_parts.specs.PartAnswers.{Answer, OfValue, OfTable}
 use Rattle.fort_certificate_grammar.specs.Certificates.{Step, Part}
 use Rattle.fort_target_lists.specs.LayRooms.{HasLayRoom}
@@ -11,8 +12,8 @@ use Rattle.fort_check_steps.specs.Room.{most_states, IsListFor}
 use Rattle.fort_check_steps.specs.declared.room.ListRoom.{ListRoom}
 use Rattle.fort_check_steps.specs.declared.room.ListNeeds.{ListNeeds}
 use Rattle.fort_cert_checker.specs.Abouts.{IsOnlyAbout}
-use Rattle.fort_cert_checker.specs.declared.past.Answer as answers
-use Rattle.fort_cert_checker.specs.declared.past.Answer.TheVariants as variants
+use Rattle.fort_cert_checker.specs.declared.past.PastAnswer as answers
+use Rattle.fort_cert_checker.specs.declared.past.PastAnswer.TheVariants as variants
 use Rattle.fort_cert_checker.specs.declared.plan.Source.{Source}
 use Rattle.fort_cert_checker.specs.declared.plan.Work.{Work}
 use Rattle.fort_cert_checker.specs.declared.plan.Work.TheVariants.{Product, Projection, Many}
@@ -28,7 +29,7 @@ pub record HasTableRoom (t : TurnedTable) (list : TargetList) (lay : LayRoom) : 
   pub lay_room : HasLayRoom (length t.table.presences) lay
 
 -- and those of an answer, where it is a table
-abbrev pub HasRoomFor : answers.Answer → TargetList → LayRoom → Type 0
+abbrev pub HasRoomFor : answers.PastAnswer → TargetList → LayRoom → Type 0
 HasRoomFor (variants.Truth truth) list lay = Unit {0}
 HasRoomFor (variants.Auto table) list lay = HasTableRoom table list lay
 
@@ -36,6 +37,11 @@ HasRoomFor (variants.Auto table) list lay = HasTableRoom table list lay
 abbrev pub IsLaidFor : Answer → TargetList → Type 0
 IsLaidFor (OfValue truth) list = Unit {0}
 IsLaidFor (OfTable table) list = IsTargetListOf table list
+
+-- a laid list of an operand is its table's, and made where the table has an entry; a truth has none
+abbrev pub IsLaidListOf : products.Operand → TargetList → Type 0
+IsLaidListOf (products.OfTable table places) list = IsTargetListOf table list
+IsLaidListOf (products.OfTruth b) list = ⊥
 
 -- room for the lists of the operands of a part
 abbrev pub AreListsFor : List Step → Work → ListRoom → Type 0

@@ -34,8 +34,8 @@ use Rattle.fort_cert_checker.specs.declared.plan.Work.TheVariants.{Projection, M
 use Rattle.fort_cert_checker.specs.declared.plan.Source.{Source}
 use Rattle.fort_cert_checker.specs.declared.plan.Plan.{Plan}
 use Rattle.fort_cert_checker.specs.declared.past.Past.{Past}
-use Rattle.fort_cert_checker.specs.declared.past.Answer as answers
-use Rattle.fort_cert_checker.specs.declared.past.Answer.TheVariants as variants
+use Rattle.fort_cert_checker.specs.declared.past.PastAnswer as answers
+use Rattle.fort_cert_checker.specs.declared.past.PastAnswer.TheVariants as variants
 
 -- a room holds the table of a part's step, by some rule over this signature and so many columns
 pub record IsHeld (sig : Signature) (columns : ℕ) (targets : List ℕ) (room : PartRoom) (table : Table) : Type 0 where
@@ -78,7 +78,7 @@ abbrev pub IsAnswerAt : Past → Source → Answer → Type 0
 IsAnswerAt past s (OfValue truth) = IsTruthAt past s truth
 IsAnswerAt past s (OfTable table) = IsTableAt past s table
 
-abbrev pub as_answer : answers.Answer → Answer
+abbrev pub as_answer : answers.PastAnswer → Answer
 as_answer (variants.Truth truth) = OfValue truth
 as_answer (variants.Auto table) = OfTable (turned_table table)
 

@@ -28,7 +28,7 @@ use Rattle.fort_check_steps.specs.Room.{most_states}
 use Rattle.fort_cert_checker.specs.Abouts.{IsOnlyAbout}
 use Rattle.fort_cert_checker.specs.Sources.{IsSourceOf}
 use Rattle.fort_cert_checker.specs.declared.plan.Source.{Source}
-use Rattle.fort_cert_checker.specs.declared.plan.Operand.{Operand}
+use Rattle.fort_cert_checker.specs.declared.plan.OperandPlan.{OperandPlan}
 use Rattle.fort_cert_checker.specs.declared.plan.Work.{Work}
 use Rattle.fort_cert_checker.specs.declared.plan.Work.TheVariants.{Truth, Atom, Negation, Product, Projection, Many}
 use Rattle.fort_cert_checker.specs.declared.plan.Plan.{Plan}
@@ -44,7 +44,7 @@ pub record IsFitPart (system : PatternSystem) (f : Core) : Type 0 where
   pub binders : BindsFree f
   pub few : length (columns_of f) ≤ most_columns
 
-pub record IsOperandPlan (parts : List Core) (h f : Core) (o : Operand) : Type 0 where
+pub record IsOperandPlan (parts : List Core) (h f : Core) (o : OperandPlan) : Type 0 where
   pub source : IsSourceOf parts f o.source.part o.source.turns
   pub places : o.places.items ≡ places_in (columns_of h) (columns_of f)
 
@@ -87,7 +87,7 @@ pub record IsNegationPlan (parts : List Core) (f : Core) (s : Source) : Type 0 w
   pub whole : f ≡ core.Not body
   pub source : IsSourceOf parts body s.part s.turns
 
-pub record IsProductPlan (parts : List Core) (f : Core) (op : Op) (first second : Operand) : Type 0 where
+pub record IsProductPlan (parts : List Core) (f : Core) (op : Op) (first second : OperandPlan) : Type 0 where
   pub one : Core
   pub other : Core
   pub whole : f ≡ joined (connective_of op) one other

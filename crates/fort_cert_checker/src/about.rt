@@ -11,7 +11,7 @@ ghost use Rattle.fort_cert_checker.specs.Fronts.{HasFewTargets};
 
 use fort_check_steps::is_about;
 use fort_outline::DueStep;
-use fort_steps::{ClosureEntry, Step, Which, Count};
+use fort_steps::{ClosureEntry, Count, Step, Which};
 
 /// The first step about this.
 fn step_about<'a>(steps: &'a [Step], due: DueStep) -> Option<&'a Step>

@@ -5,11 +5,11 @@ ghost use Rattle.fort_operations.specs.Projections.{some_below};
 ghost use Rattle.fort_parts.specs.PartAnswers as parts;
 ghost use Rattle.fort_parts.specs.PartSteps.{operand_of};
 ghost use Rattle.fort_target_lists.specs.LayRooms.{HasLayRoom};
-ghost use Rattle.fort_target_lists.specs.TargetLists.{IsLaidListOf, HasListRoom};
+ghost use Rattle.fort_target_lists.specs.TargetLists.{HasListRoom};
 ghost use Rattle.fort_products.specs.Operands as algebra;
 ghost use Rattle.fort_check_steps.specs.Turned.{turned_table};
 ghost use Rattle.fort_cert_checker.specs.Pasts.{IsTableAt, IsTruthAt, IsAnswerAt, as_answer, steps_of};
-ghost use Rattle.fort_cert_checker.specs.OperandLists.{FitsList, HasTableRoom, HasRoomFor, IsLaidFor};
+ghost use Rattle.fort_cert_checker.specs.OperandLists.{FitsList, HasTableRoom, HasRoomFor, IsLaidFor, IsLaidListOf};
 ghost use Rattle.fort_target_lists.specs.declared.states.LayRoom.{LayRoom};
 ghost use Rattle.fort_target_lists.specs.declared.target_list.TargetList.{TargetList};
 
@@ -32,7 +32,7 @@ pub(crate) struct Past<'a> {
 
 /// The answer of an earlier part.
 #[derive(Drop)]
-pub(crate) enum Answer<'a> {
+pub(crate) enum PastAnswer<'a> {
     Truth(bool),
     Auto(PartTable<'a>),
 }
@@ -64,7 +64,7 @@ impl<'a> Past<'a> {
         value_of(self.steps, source.part)
     }
 
-    pub(crate) fn answer(&self, source: Source) -> Answer<'a>
+    pub(crate) fn answer(&self, source: Source) -> PastAnswer<'a>
         requires { (answer : parts.Answer) × IsAnswerAt self.now source answer }
         ensures is { (answer : parts.Answer) → IsAnswerAt self.now source answer
             → as_answer result ≡ answer }
@@ -74,42 +74,42 @@ impl<'a> Past<'a> {
     {
         let columns = self.plans[source.part as usize].columns;
         if columns == 0 {
-            Answer::Truth(self.truth(source))
+            PastAnswer::Truth(self.truth(source))
         } else {
-            Answer::Auto(self.table(source))
+            PastAnswer::Auto(self.table(source))
         }
     }
 }
 
 /// An answer as an operand of a product.
 pub(crate) fn factor<'b, 'a>(
-    answer: &'b Answer<'a>,
+    answer: &'b PastAnswer<'a>,
     places: &'b [usize],
 ) -> Operand<'b, PartTable<'a>>
     ensures { algebra.operand_of turned_table result ≡ operand_of (as_answer answer.now)
         places.now }
 {
     match answer {
-        Answer::Truth(truth) => Operand::Truth(*truth),
-        Answer::Auto(table) => Operand::Auto(table, places),
+        PastAnswer::Truth(truth) => Operand::Truth(*truth),
+        PastAnswer::Auto(table) => Operand::Auto(table, places),
     }
 }
 
 /// Lays an answer's targets, where it is a table, in room that is there. It takes no memory.
-pub(crate) fn lay(answer: &Answer<'_>, list: &mut TargetList, room: &mut LayRoom)
+pub(crate) fn lay(answer: &PastAnswer<'_>, list: &mut TargetList, room: &mut LayRoom)
     requires { HasRoomFor answer.now list.old room.old }
     ensures laid { IsLaidFor (as_answer answer.now) list.new }
     ensures list_room { (n k : ℕ) → HasListRoom n k list.old → HasListRoom n k list.new }
     ensures room { (n : ℕ) → HasLayRoom n room.old → HasLayRoom n room.new }
 {
     match answer {
-        Answer::Truth(_) => {}
-        Answer::Auto(table) => table.lay(list, room),
+        PastAnswer::Truth(_) => {}
+        PastAnswer::Auto(table) => table.lay(list, room),
     }
 }
 
 /// The list of an answer's targets, where it is a table.
-pub(crate) fn laid_list<'b>(answer: &Answer<'_>, list: &'b TargetList) -> Option<&'b TargetList>
+pub(crate) fn laid_list<'b>(answer: &PastAnswer<'_>, list: &'b TargetList) -> Option<&'b TargetList>
     requires { IsLaidFor (as_answer answer.now) list.now }
     ensures list { (places : List ℕ) → IfSome result (λ l.
         IsLaidListOf (operand_of (as_answer answer.now) places) l.now) }
@@ -117,8 +117,8 @@ pub(crate) fn laid_list<'b>(answer: &Answer<'_>, list: &'b TargetList) -> Option
         → as_answer answer.now ≡ parts.OfTable table → ⊥) }
 {
     match answer {
-        Answer::Truth(_) => None,
-        Answer::Auto(_) => Some(list),
+        PastAnswer::Truth(_) => None,
+        PastAnswer::Auto(_) => Some(list),
     }
 }
 

@@ -32,7 +32,7 @@ pub(crate) struct Source {
 
 /// An operand of a product, with the places of its columns among those of the product.
 #[derive(Drop)]
-pub(crate) struct Operand {
+pub(crate) struct OperandPlan {
     pub source: Source,
     pub places: Vec<usize>,
 }
@@ -44,7 +44,7 @@ pub(crate) enum Work {
     Truth,
     Atom(AtomLabels),
     Negation(Source),
-    Product(Op, Operand, Operand),
+    Product(Op, OperandPlan, OperandPlan),
     /// "Some" over the column of this place in the operand.
     Projection(Source, usize),
     /// "Infinitely many" over the column of this place, with the marks of the operand's pure states.
@@ -109,7 +109,7 @@ fn bound_column(outline: &Outline, n: u32, f: usize) -> usize
 }
 
 /// Operand `f` of part `k`, which has all its columns.
-fn operand_plan(alloc: Global, outline: &Outline, k: usize, f: usize) -> Result<Operand, Memory>
+fn operand_plan(alloc: Global, outline: &Outline, k: usize, f: usize) -> Result<OperandPlan, Memory>
     requires outline { (g : theory.Core) × IsOutlineOf g outline.now }
     requires few { length outline.now.roots.items < 2 ^ 32 }
     requires whole { k < length outline.now.roots.items }
@@ -120,7 +120,7 @@ fn operand_plan(alloc: Global, outline: &Outline, k: usize, f: usize) -> Result<
         (core_at outline.now f)) }
 {
     let places = places_among(alloc, &outline.columns[k], &outline.columns[f])?;
-    Ok(Operand {
+    Ok(OperandPlan {
         source: source_of(outline, f),
         places,
     })

@@ -19,7 +19,7 @@ ghost use Rattle.fort_cert_checker.specs.OperandLists.{FitsList};
 ghost use Rattle.fort_cert_checker.specs.Pasts.{steps_of, IsAnswerAt, IsTableAt, IsPartStep, IsTableDue, IsTableStep};
 
 use crate::past::{Past, factor, laid_list, lay};
-use crate::plan::{Operand, Plan, Source, Work};
+use crate::plan::{OperandPlan, Plan, Source, Work};
 use fort_check_steps::{Failure, LabelRoom, MarkRoom, PartRoom, Projected, check_part, put_pure};
 use fort_context_closure::{AtomLabels, SignedAtom};
 use fort_infinity::Many;
@@ -58,8 +58,8 @@ fn check_atom(
 fn check_product(
     op: Op,
     columns: usize,
-    first: &Operand,
-    second: &Operand,
+    first: &OperandPlan,
+    second: &OperandPlan,
     past: &Past<'_>,
     targets: &[u32],
     room: &mut PartRoom,
@@ -90,7 +90,7 @@ fn check_product(
     let left = factor(&one, &first.places);
     let right = factor(&other, &second.places);
     let plain = Both::new(op, left, right, columns);
-    let rule = plain.laid(first_list, second_list);
+    let rule = plain.listed(first_list, second_list);
     check_part(
         &rule,
         past.signature,

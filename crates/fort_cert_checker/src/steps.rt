@@ -12,7 +12,8 @@ ghost use Rattle.fort_check_steps.specs.Room.{IsAsRoomy};
 ghost use Rattle.fort_cert_checker.specs.Abouts.{IsOnlyAbout};
 ghost use Rattle.fort_cert_checker.specs.Pasts.{IsMarkRoomFor};
 ghost use Rattle.fort_cert_checker.specs.Makings.{IsClosureFor, IsRoomFor};
-ghost use Rattle.fort_cert_checker.specs.Fronts.{IsReady, IsLoopAt, IsStepDue, IsDueBehind, IsFineStep, part_in};
+ghost use Rattle.fort_cert_checker.specs.Fronts.{IsReady, IsFineStep, part_in};
+ghost use Rattle.fort_cert_checker.specs.GivenSteps.{IsPartDue, WherePartDue, IsLoopOf, IsDueAt, WhereDue};
 
 use crate::making::ClosurePlan;
 use crate::past::Past;
@@ -56,26 +57,23 @@ fn check_own(
     scratch: &mut LabelRoom,
     marks: &mut MarkRoom,
 ) -> Result<(), Failure>
-    requires due { (parts : List theory.Core) × (f : theory.Core) × (made : Made) × IsDueBehind
-        given.now.system.now parts (map as_step given.now.steps.now) given.now.plans.now
-        front.now made f plan.now (as_step step.now) room.old scratch.old marks.old }
-    ensures fine { OnOk result ((parts : List theory.Core) (f : theory.Core) (made : Made)
-        → IsDueBehind given.now.system.now parts (map as_step given.now.steps.now)
-        given.now.plans.now front.now made f plan.now (as_step step.now) room.old scratch.old
-        marks.old → IsFineStep given.now.system.now parts made (as_step step.now) room.new) }
-    ensures failing { IfErr result (λ e. (parts : List theory.Core) (f : theory.Core)
-        (made : Made) → IsDueBehind given.now.system.now parts (map as_step given.now.steps.now)
-        given.now.plans.now front.now made f plan.now (as_step step.now) room.old scratch.old
-        marks.old → IsFailing given.now.system.now parts made (as_step step.now) e.place
-        (as_reason e.reason)) }
+    requires due { (parts : List theory.Core) × (f : theory.Core) × (made : Made)
+        × IsPartDue given.now parts front.now made f plan.now (as_step step.now) room.old
+        scratch.old marks.old }
+    ensures fine { OnOk result (WherePartDue given.now front.now plan.now (as_step step.now)
+        room.old scratch.old marks.old (λ parts f made. IsFineStep given.now.system.now parts made
+        (as_step step.now) room.new)) }
+    ensures failing { IfErr result (λ e. WherePartDue given.now front.now plan.now
+        (as_step step.now) room.old scratch.old marks.old (λ parts f made.
+        IsFailing given.now.system.now parts made (as_step step.now) e.place
+        (as_reason e.reason))) }
     ensures room { (ss : List certificates.Step) → IsOnlyAbout ss (as_step step.now)
         → IsRoomFor ss (part_in (as_step step.now)) room.old
         → IsRoomFor ss (part_in (as_step step.now)) room.new }
     ensures scratch { IsAsRoomy scratch.old scratch.new }
-    ensures marks { (parts : List theory.Core) (f : theory.Core) (made : Made) → IsDueBehind
-        given.now.system.now parts (map as_step given.now.steps.now) given.now.plans.now
-        front.now made f plan.now (as_step step.now) room.old scratch.old marks.old
-        → IsMarkRoomFor (map as_step given.now.steps.now) plan.now.work marks.new }
+    ensures marks { WherePartDue given.now front.now plan.now (as_step step.now) room.old
+        scratch.old marks.old (λ parts f made. IsMarkRoomFor (map as_step given.now.steps.now)
+        plan.now.work marks.new) }
 {
     let past = Past {
         signature: given.system.signature(),
@@ -109,35 +107,18 @@ pub(crate) fn check_step(
     marks: &mut [MarkRoom],
 ) -> Result<(), Failure>
     requires due { (parts : List theory.Core) × (root : theory.Core)
-        × (c : certificates.Certificate) × (made : Made)
-        × (c.steps ≡ map as_step given.now.steps.now)
-        × IsLoopAt given.now.system.now root parts c given.now.plans.now closures.old rooms.old
-        scratch.old marks.old place made
-        × IsStepDue given.now.system.now parts c place }
-    ensures fine { OnOk result ((parts : List theory.Core) (root : theory.Core)
-        (c : certificates.Certificate) (made : Made)
-        → c.steps ≡ map as_step given.now.steps.now
-        → IsLoopAt given.now.system.now root parts c given.now.plans.now closures.old rooms.old
-        scratch.old marks.old place made
-        → IsStepDue given.now.system.now parts c place
-        → (next : Made) × IsLoopAt given.now.system.now root parts c given.now.plans.now
-        closures.new rooms.new scratch.new marks.new (place + 1) next) }
-    ensures failing { IfErr result (λ e. (parts : List theory.Core) (root : theory.Core)
-        (c : certificates.Certificate) (made : Made) (s : certificates.Step)
-        → c.steps ≡ map as_step given.now.steps.now
-        → IsLoopAt given.now.system.now root parts c given.now.plans.now closures.old rooms.old
-        scratch.old marks.old place made
-        → IsStepDue given.now.system.now parts c place
+        × (c : certificates.Certificate) × (made : Made) × IsDueAt given.now closures.old rooms.old
+        scratch.old marks.old place parts root c made }
+    ensures fine { OnOk result (WhereDue given.now closures.old rooms.old scratch.old marks.old
+        place (λ parts root c made. (next : Made) × IsLoopOf given.now root parts c closures.new
+        rooms.new scratch.new marks.new (place + 1) next)) }
+    ensures failing { IfErr result (λ e. WhereDue given.now closures.old rooms.old scratch.old
+        marks.old place (λ parts root c made. (s : certificates.Step)
         → IsFailing given.now.system.now parts made (slice_index_or c.steps place s) e.place
-        (as_reason e.reason)) }
-    ensures ready { (parts : List theory.Core) (root : theory.Core)
-        (c : certificates.Certificate) (made : Made)
-        → c.steps ≡ map as_step given.now.steps.now
-        → IsLoopAt given.now.system.now root parts c given.now.plans.now closures.old rooms.old
-        scratch.old marks.old place made
-        → IsStepDue given.now.system.now parts c place
-        → IsReady given.now.system.now root parts c.steps given.now.plans.now closures.new
-        rooms.new scratch.new marks.new }
+        (as_reason e.reason))) }
+    ensures ready { WhereDue given.now closures.old rooms.old scratch.old marks.old place
+        (λ parts root c made. IsReady given.now.system.now root parts c.steps given.now.plans.now
+        closures.new rooms.new scratch.new marks.new) }
 {
     let step = &given.steps[place];
     match step {

@@ -1,11 +1,13 @@
--- The transducer over the patterns of a list of rules is one of their root steps; the entries of its closure list exactly the closure over patterns.
-use Rattle.std.specs.Prelude.{◌≡◌, ℕ, List, map, get_or, Contains}
+-- The transducer over the patterns of a list of rules is one of their root steps; the entries that passes make list exactly the closure over patterns.
+use Rattle.std.specs.Prelude.{◌≡◌, ◌↔◌, ℕ, List, map, get_or, Contains}
 use Rattle.std.proofs.Common.{sym, ap, ◌∙◌, subst}
 use Rattle.std.proofs.lemmas.Simd.{map-map}
 use Rattle.std.proofs.lemmas.Option.{slice_get-get_or, get_or_from_slice_get}
 use Rattle.std.proofs.lemmas.List.Elements.{Contains-get_or}
 use Rattle.fort_theory.specs.Signatures.{Signature}
 use Rattle.fort_theory.specs.Patterns.{Pattern, Any, Pair, FitsPattern}
+use Rattle.fort_theory.specs.PatternOrder.{AreSubpatternsInOrder}
+use Rattle.fort_reachability.specs.ClosureTables.{InClosure}
 use Rattle.fort_reachability.specs.Transducers.{FitsTransducer}
 use Rattle.fort_reachability.proofs.PatternAutomata.{FitsAutomaton-from_patterns}
 use Rattle.fort_reachability.proofs.PatternTransducers.{IsPatternTransducer, InClosure-ReachesInstance}
@@ -18,6 +20,7 @@ use Rattle.fort_agtt.specs.AgttView.{NamesItsStates, transducer_of}
 use Rattle.fort_agtt.specs.RootSteps.{ArePlaces, HasRootSteps}
 use Rattle.fort_agtt.proofs.RootStepsLaws.{IsPatternTransducer-rules, NamesItsStates-rules}
 use Rattle.fort_gtt_closure.specs.declared.entry.Entry.{Entry}
+use Rattle.fort_gtt_closure.proofs.TableLaws.{listed-InClosure}
 use Rattle.fort_certificate_grammar.specs.Certificates.{Pair as Item}
 use Rattle.fort_steps.specs.declared.closure.ClosureEntry.{ClosureEntry}
 use Rattle.fort_steps.specs.StepView as steps
@@ -26,13 +29,14 @@ use Rattle.fort_alike.specs.Atoms.{Atom}
 use Rattle.fort_atom_labels.specs.ListedAtoms.{ListedAtom, listed, IsListedAtom}
 use Rattle.fort_atom_labels.specs.ClosureTests.{ListsClosure}
 use Rattle.fort_atom_labels.proofs.ClosedLists.{ArePatterns, ArePatterns-lefts, ArePatterns-rights}
-use Rattle.fort_context_closure.specs.ClosedAtoms.{numbers_of}
-use Rattle.fort_context_closure.specs.Closures.{IsClosureOf, IsTransducerOf}
+use Rattle.fort_in_order.proofs.OrderedLists.{subpatterns_one}
+use Rattle.fort_context_closure.specs.ClosedAtoms.{ArePassed, numbers_of}
+use Rattle.fort_context_closure.specs.Closures.{IsTransducerOf}
 use Rattle.fort_context_closure.specs.declared.rule_list.RuleList.{RuleList}
 use Rattle.fort_context_closure.specs.RuleLists.{ListsRules}
 
 -- written entries have the numbers of those that were found
-pub numbers_written : (es : List ClosureEntry) (found : List Entry) → map steps.as_pair es ≡ as_items found → numbers_of es ≡ map (λ (e : Entry). (e.p, e.q)) found
+numbers_written : (es : List ClosureEntry) (found : List Entry) → map steps.as_pair es ≡ as_items found → numbers_of es ≡ map (λ (e : Entry). (e.p, e.q)) found
 numbers_written es found written =
     let number : Item → ℕ × ℕ = λ (i : Item). (i.p, i.q) in
     sym (map-map number steps.as_pair es) ∙ (ap (map number) written ∙ map-map number as_item found)
@@ -58,37 +62,38 @@ module _ (pairs : List Pair) (list : RuleList) (lists : ListsRules pairs list) (
   pub NamesItsStates-list : NamesItsStates agtt
   NamesItsStates-list = NamesItsStates-rules pairs agtt root_steps_of
 
-  pub IsPatternTransducer-list : IsPatternTransducer (transducer_of agtt) (StandsAt (lefts_of list)) (StandsAt (rights_of list)) pairs
-  IsPatternTransducer-list = IsPatternTransducer-rules pairs agtt root_steps_of
-
 -- what stands in a list of fitting patterns fits
 fits-at : (sig : Signature) (ps : List Pattern) → ArePatterns sig ps → (q : ℕ) (p : Pattern) → StandsAt ps q p → FitsPattern sig p
 fits-at sig ps are q p h =
     are.fit p (subst (Contains ps) (get_or_from_slice_get ps q p Any h) (Contains-get_or ps q Any (StandsAt-below ps q p h)))
 
-pub ListsClosure-passes : (atom : Atom) (list : RuleList) (es : List ClosureEntry) → IsListedAtom (listed atom (lefts_of list) (rights_of list)) → ListsRules atom.pairs list
-    → IsClosureOf list es → ListsClosure (listed atom (lefts_of list) (rights_of list)) (numbers_of es)
-ListsClosure-passes atom list es is lists made i j l m =
-    let a : ListedAtom = listed atom (lefts_of list) (rights_of list) in
-    let steps = IsPatternTransducer-list atom.pairs list lists made.agtt made.is in
-    let fits : FitsTransducer atom.signature (transducer_of made.agtt) = record {
+-- the entries that passes make over the root steps of the atom's pairs list the closure over the patterns of its sides
+pub ListsClosure-passes : (atom : Atom) (lefts rights : List Pattern) (es : List ClosureEntry) → IsListedAtom (listed atom lefts rights)
+    → AreSubpatternsInOrder (map (λ (pair : Pair). pair.0) atom.pairs) lefts → AreSubpatternsInOrder (map (λ (pair : Pair). pair.1) atom.pairs) rights
+    → (agtt : Agtt) → HasRootSteps atom.pairs agtt → ArePassed agtt es → ListsClosure (listed atom lefts rights) (numbers_of es)
+ListsClosure-passes atom lefts rights es is left_order right_order agtt has made i j l m =
+    let a : ListedAtom = listed atom lefts rights in
+    let same_lefts : has.lefts ≡ lefts = subpatterns_one (map (λ (pair : Pair). pair.0) atom.pairs) has.lefts lefts has.left_patterns left_order in
+    let same_rights : has.rights ≡ rights = subpatterns_one (map (λ (pair : Pair). pair.1) atom.pairs) has.rights rights has.right_patterns right_order in
+    let steps : IsPatternTransducer (transducer_of agtt) (StandsAt lefts) (StandsAt rights) atom.pairs =
+    subst (λ (ps : List Pattern). IsPatternTransducer (transducer_of agtt) (StandsAt ps) (StandsAt rights) atom.pairs) same_lefts
+    (subst (λ (ps : List Pattern). IsPatternTransducer (transducer_of agtt) (StandsAt has.lefts) (StandsAt ps) atom.pairs) same_rights (IsPatternTransducer-rules atom.pairs agtt has)) in
+    let fits : FitsTransducer atom.signature (transducer_of agtt) = record {
       constant = is.constant;
-      left =
-          FitsAutomaton-from_patterns atom.signature (transducer_of made.agtt).left (StandsAt (lefts_of list)) steps.left
-          (fits-at atom.signature (lefts_of list) (ArePatterns-lefts a is));
-      right =
-          FitsAutomaton-from_patterns atom.signature (transducer_of made.agtt).right (StandsAt (rights_of list)) steps.right
-          (fits-at atom.signature (rights_of list) (ArePatterns-rights a is));
+      left = FitsAutomaton-from_patterns atom.signature (transducer_of agtt).left (StandsAt lefts) steps.left (fits-at atom.signature lefts (ArePatterns-lefts a is));
+      right = FitsAutomaton-from_patterns atom.signature (transducer_of agtt).right (StandsAt rights) steps.right (fits-at atom.signature rights (ArePatterns-rights a is));
     } in
-    let p : Pattern = get_or (rights_of list) i Any in
-    let q : Pattern = get_or (lefts_of list) j Any in
-    let right_at : StandsAt (rights_of list) i p = slice_get-get_or (rights_of list) i Any l in
-    let left_at : StandsAt (lefts_of list) j q = slice_get-get_or (lefts_of list) j Any m in
-    let instances =
-    InClosure-ReachesInstance atom.signature (transducer_of made.agtt) (StandsAt (lefts_of list)) (StandsAt (rights_of list)) atom.pairs steps fits i j p q right_at left_at in
+    let p : Pattern = get_or rights i Any in
+    let q : Pattern = get_or lefts j Any in
+    let right_at : StandsAt rights i p = slice_get-get_or rights i Any l in
+    let left_at : StandsAt lefts j q = slice_get-get_or lefts j Any m in
+    let instances = InClosure-ReachesInstance atom.signature (transducer_of agtt) (StandsAt lefts) (StandsAt rights) atom.pairs steps fits i j p q right_at left_at in
     let patterns =
-    InPatternClosure-ReachesInstance atom.signature is.constant atom.pairs is.fit p q (fits-at atom.signature (rights_of list) (ArePatterns-rights a is) i p right_at)
-    (fits-at atom.signature (lefts_of list) (ArePatterns-lefts a is) j q left_at) in (
-      (λ c. patterns.1 (instances.0 ((made.table i j).0 c))),
-      (λ h. (made.table i j).1 (instances.1 (patterns.0 h))),
+    InPatternClosure-ReachesInstance atom.signature is.constant atom.pairs is.fit p q (fits-at atom.signature rights (ArePatterns-rights a is) i p right_at)
+    (fits-at atom.signature lefts (ArePatterns-lefts a is) j q left_at) in
+    let table : Contains (numbers_of es) (i, j) ↔ InClosure (transducer_of agtt) i j =
+    subst (λ (ns : List (ℕ × ℕ)). Contains ns (i, j) ↔ InClosure (transducer_of agtt) i j) (sym (numbers_written es made.found made.written))
+    (listed-InClosure agtt made.found made.passes (NamesItsStates-rules atom.pairs agtt has) i j) in (
+      (λ c. patterns.1 (instances.0 (table.0 c))),
+      (λ h. table.1 (instances.1 (patterns.0 h))),
     )

@@ -1,5 +1,5 @@
 -- What is made of the rules of a system's index is the atom of that index.
-use Rattle.std.specs.Prelude.{◌≡◌, ℕ, List, [], map, length, Contains, true, refl}
+use Rattle.std.specs.Prelude.{◌≡◌, ℕ, List, [], map, length, Contains, refl}
 use Rattle.std.proofs.Common.{sym, subst, ◌∙◌, arith}
 use Rattle.fort_theory.specs.Patterns.{Pattern, Pair, PatternSystem, IsSystem}
 use Rattle.fort_theory.specs.PatternOrder.{AreSubpatternsInOrder}
@@ -7,23 +7,20 @@ use Rattle.fort_theory.specs.Sides.{at_index}
 use Rattle.fort_theory.proofs.ClosedPatterns.{subpatterns-self}
 use Rattle.fort_theory.proofs.Lists.{Contains-map}
 use Rattle.fort_theory.proofs.Members.{Contains-none}
-use Rattle.fort_logic.specs.Cores.{Rel, Eq, Atom as CoreAtom}
-use Rattle.fort_formulas.specs.declared.core_formula.Rel as formulas
-use Rattle.fort_formulas.specs.declared.core_formula.Rel.TheVariants as rels
-use Rattle.fort_formulas.specs.CoreView.{as_rel}
+use Rattle.fort_logic.specs.Cores.{Rel, Atom as CoreAtom}
 use Rattle.fort_terms.specs.PatternView.{as_pair, as_pattern}
 use Rattle.fort_logic.specs.Parts.{AreColumns}
 use Rattle.fort_alike.specs.Atoms.{Atom, kind_for, pairs_for, relation_atom}
-use Rattle.fort_alike.specs.Alike.{is_reaching}
 use Rattle.fort_atom_labels.specs.ListedAtoms.{ListedAtom, listed, IsListedAtom}
-use Rattle.fort_atom_labels.specs.ClosureTests.{IsClosure, ListsClosure, closure_test}
+use Rattle.fort_atom_labels.specs.ClosureTests.{IsClosure, closure_test}
 use Rattle.fort_atom_labels.proofs.ClosureTestLaws.{IsClosure-listed}
 use Rattle.fort_atom_labels.proofs.SystemAtoms.{IsListedAtom-relation}
 use Rattle.fort_steps.specs.declared.closure.ClosureEntry.{ClosureEntry}
 use Rattle.fort_context_closure.specs.PlainAtoms.{IsAtomOf, IsOfRules, IsRelationAtomOf, IsByPairs}
-use Rattle.fort_context_closure.specs.ClosedAtoms.{ClosedAtom, numbers_of}
+use Rattle.fort_context_closure.specs.ClosedAtoms.{ClosedAtom, ListsPasses, numbers_of}
 use Rattle.fort_context_closure.specs.declared.rule_list.RuleList.{RuleList}
 use Rattle.fort_context_closure.specs.RuleLists.{ListsRules}
+use Rattle.fort_context_closure.proofs.ClosureLaws.{ListsClosure-passes}
 
 -- lists in order
 pub Contains-left_side : (pairs : List Pair) (ps : List Pattern) → AreSubpatternsInOrder (map (λ (pair : Pair). pair.0) pairs) ps → (pair : Pair) → Contains pairs pair → Contains ps pair.0
@@ -64,39 +61,6 @@ relation-made system is rel index x y pairs lefts rights a e l r h columns are =
 pub ListsRules-own : (pairs : List Pair) (list : RuleList) → ListsRules pairs list → ListsRules (map as_pair list.rules.items) list
 ListsRules-own pairs list h = subst (λ (ps : List Pair). ListsRules ps list) (sym h.rules) h
 
--- with the entries of a closure
-pub relation-closed : (system : PatternSystem) → IsSystem system → (rel : Rel) (index x y : ℕ) (list : RuleList) (es : List ClosureEntry) (c : ClosedAtom)
-    → ListsRules (pairs_for rel (at_index index system.rules)) list
-    → IsOfRules rel x y (map as_pair list.rules.items) (map as_pattern list.lefts.items) (map as_pattern list.rights.items) c.atom → c.entries ≡ es
-    → ((columns : List ℕ) → AreColumns (CoreAtom rel index x y) columns → is_reaching (kind_for rel) ≡ true
-    → ListsClosure (listed (relation_atom system rel index x y columns) (map as_pattern list.lefts.items) (map as_pattern list.rights.items)) (numbers_of es))
-    → IsRelationAtomOf system rel index x y c
-relation-closed system is rel index x y list es c lists made same exact columns are =
-    let lefts : List Pattern = map as_pattern list.lefts.items in
-    let rights : List Pattern = map as_pattern list.rights.items in
-    let atom : Atom = relation_atom system rel index x y columns in
-    let left_order = subst (λ (ps : List Pair). AreSubpatternsInOrder (map (λ (pair : Pair). pair.0) ps) lefts) (sym lists.rules) lists.left_order in
-    let right_order = subst (λ (ps : List Pair). AreSubpatternsInOrder (map (λ (pair : Pair). pair.1) ps) rights) (sym lists.rules) lists.right_order in
-    let listed_are = IsListedAtom-relation system is index rel x y columns are lefts rights lists.left_order lists.right_order in
-    let closes : IsClosure (listed atom lefts rights) (closure_test rights lefts (numbers_of es)) =
-    IsClosure-listed (listed atom lefts rights) listed_are (numbers_of es) (exact columns are) in (
-      relation-made system is rel index x y (map as_pair list.rules.items) lefts rights c.atom lists.rules left_order right_order made columns are,
-      subst (λ (ls : List Pattern). IsClosure (listed atom ls c.atom.rights) (closure_test c.atom.rights ls (numbers_of c.entries))) (sym made.lefts_are)
-          (subst (λ (rs : List Pattern). IsClosure (listed atom lefts rs) (closure_test rs lefts (numbers_of c.entries))) (sym made.rights_are)
-          (subst (λ (xs : List ClosureEntry). IsClosure (listed atom lefts rights) (closure_test rights lefts (numbers_of xs))) (sym same) closes)),
-    )
-
--- of the program and of the definitions
-pub not_eq : (rel : formulas.Rel) → (rel ≡ rels.Eq → ⊥) → as_rel rel ≡ Eq → ⊥
-not_eq rels.Eq other h = other refl
-not_eq rels.Root other h = cc
-not_eq rels.Below other h = cc
-not_eq rels.Step other h = cc
-not_eq rels.Par other h = cc
-not_eq rels.Plus other h = cc
-not_eq rels.Star other h = cc
-not_eq rels.Conv other h = cc
-
 -- with pairs that are handed in
 pub relation-by_pairs : (system : PatternSystem) (rel : Rel) (index x y : ℕ) (list : RuleList) (es : List ClosureEntry) (c : ClosedAtom)
     → ListsRules (pairs_for rel (at_index index system.rules)) list
@@ -112,3 +76,17 @@ relation-by_pairs system rel index x y list es c lists made same =
       right_order = subst (AreSubpatternsInOrder (map (λ (pair : Pair). pair.1) pairs)) (sym made.rights_are) lists.right_order;
       entries_are = same;
     }
+
+-- by the entries that passes make it is the atom of the index
+pub relation-passed : (system : PatternSystem) → IsSystem system → (rel : Rel) (index x y : ℕ) (es : List ClosureEntry) (c : ClosedAtom)
+    → IsByPairs system rel index x y es c → ListsPasses rel (at_index index system.rules) es → IsRelationAtomOf system rel index x y c
+relation-passed system is rel index x y es c made passes columns are =
+    let lefts = c.atom.lefts in
+    let rights = c.atom.rights in
+    let pairs : List Pair = pairs_for rel (at_index index system.rules) in
+    let atom : Atom = relation_atom system rel index x y columns in
+    let own : IsAtomOf atom c.atom = relation-made system is rel index x y pairs lefts rights c.atom refl made.left_order made.right_order made.rules columns are in
+    let closes : IsClosure (listed atom lefts rights) (closure_test rights lefts (numbers_of es)) =
+    IsClosure-listed (listed atom lefts rights) own.is_listed (numbers_of es)
+    (λ e. let w = passes e in ListsClosure-passes atom lefts rights es own.is_listed made.left_order made.right_order w.0 w.1 w.2) in
+    (own, subst (λ (xs : List ClosureEntry). IsClosure (listed atom lefts rights) (closure_test rights lefts (numbers_of xs))) (sym made.entries_are) closes)

@@ -22,7 +22,6 @@ use Rattle.fort_atom_labels.specs.Subterms.{subterms}
 use Rattle.fort_atom_labels.specs.TermRule.{term_rule, term_accepts}
 use Rattle.fort_context_closure.specs.PlainAtoms.{no_closure, signed}
 use Rattle.fort_context_closure.specs.ClosedAtoms.{test_of}
-use Rattle.fort_steps.specs.declared.closure.ClosureEntry.{ClosureEntry}
 use Rattle.fort_context_closure.specs.declared.atom_labels.AtomLabels.{AtomLabels}
 use Rattle.fort_context_closure.specs.declared.atom_labels.AtomLabels.TheVariants.{Relation, Normal, Is}
 
@@ -49,11 +48,6 @@ abbrev pub accepted_by : Signature → AtomLabels → List ℕ → Bool
 accepted_by sig (Relation c) = atom_accepts (signed sig c.atom)
 accepted_by sig (Normal a) = atom_accepts (signed sig a)
 accepted_by sig (Is term) = term_accepts (subterms term) term
-
-abbrev pub entries_of : AtomLabels → List ClosureEntry
-entries_of (Relation c) = c.entries
-entries_of (Normal a) = []
-entries_of (Is term) = []
 
 -- two optional tuples over the signature have one label exactly where they are alike at the atom
 abbrev pub TellsAlike : Signature → Atom → AtomLabels → Type 0

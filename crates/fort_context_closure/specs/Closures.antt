@@ -1,12 +1,10 @@
 -- Inside: the transducer of a list of rules, and the entries of its closure.
-use Rattle.std.specs.Prelude.{◌↔◌, ℕ, List, map, Contains}
-use Rattle.fort_reachability.specs.ClosureTables.{InClosure}
+use Rattle.std.specs.Prelude.{List, map}
 use Rattle.fort_terms.specs.PatternView.{as_pair, as_pattern}
 use Rattle.fort_agtt.specs.declared.agtt.Agtt.{Agtt}
-use Rattle.fort_agtt.specs.AgttView.{transducer_of}
 use Rattle.fort_agtt.specs.RootSteps.{HasPatternStates, ArePlaces}
 use Rattle.fort_steps.specs.declared.closure.ClosureEntry.{ClosureEntry}
-use Rattle.fort_context_closure.specs.ClosedAtoms.{ArePassed, numbers_of}
+use Rattle.fort_context_closure.specs.ClosedAtoms.{ArePassed}
 use Rattle.fort_context_closure.specs.declared.rule_list.RuleList.{RuleList}
 
 -- its states are the places in these lists of patterns
@@ -20,4 +18,3 @@ pub record IsClosureOf (list : RuleList) (es : List ClosureEntry) : Type 0 where
   pub agtt : Agtt
   pub is : IsTransducerOf list agtt
   pub passed : ArePassed agtt es
-  pub table : (p q : ℕ) → Contains (numbers_of es) (p, q) ↔ InClosure (transducer_of agtt) p q

@@ -9,7 +9,7 @@ ghost use Rattle.fort_logic.specs.Parts as parts;
 ghost use Rattle.fort_formulas.specs.CoreView.{as_rel};
 ghost use Rattle.fort_alike.specs.Atoms.{relation_atom, normal_atom};
 ghost use Rattle.fort_atom_labels.specs.ListedAtoms.{ListedAtom};
-ghost use Rattle.fort_context_closure.specs.ClosedAtoms.{ClosedAtom, ListsNone, ListsPasses};
+ghost use Rattle.fort_context_closure.specs.ClosedAtoms.{ClosedAtom, ListsPasses};
 ghost use Rattle.fort_context_closure.specs.PlainAtoms.{IsByPairs, IsNormalAtomOf};
 
 use crate::normal::NormalBits;
@@ -32,10 +32,10 @@ pub enum AtomLabels {
 }
 
 impl AtomLabels {
-    ghost use Rattle.fort_context_closure.specs.AtomLabelsView.{column_count, word_count, entries_of, TellsAlike, AcceptsTrue, AcceptsRelated, AcceptsNormal, AcceptsMet, TellsAlikeAtTerm, AcceptsTerm};
+    ghost use Rattle.fort_context_closure.specs.AtomLabelsView.{column_count, word_count, TellsAlike, AcceptsTrue, AcceptsRelated, AcceptsNormal, AcceptsMet, TellsAlikeAtTerm, AcceptsTerm};
 
     /// The labels of "x is related to y". The columns stand in the order of the variables' numbers; there is one where both are one
-    /// variable.
+    /// variable. A reduction or a conversion is told by the closure of the index.
     pub fn atom(
         alloc: Global,
         system: &System,
@@ -43,8 +43,10 @@ impl AtomLabels {
         rel: Rel,
         x: u32,
         y: u32,
+        closure: &[ClosureEntry],
     ) -> Result<AtomLabels, Memory>
         requires index { IsIndexOf system.now.rules index }
+        requires passes { ListsPasses (as_rel rel) (at_index index system.now.rules) closure.now }
         ensures columns { IfOk result (λ l. (columns : List ℕ)
             → parts.AreColumns (cores.Atom (as_rel rel) index x y) columns
             → column_count l ≡ length columns) }
@@ -63,11 +65,10 @@ impl AtomLabels {
             → system.now ≡ pattern_system s → All (All sides.IsLinearSeparated) s.rules
             → parts.AreColumns (cores.Atom (as_rel rel) index x y) columns
             → AcceptsMet s (cores.Atom (as_rel rel) index x y) columns l) }
-        ensures closure { IfOk result (λ l. ListsPasses (as_rel rel)
-            (at_index index system.now.rules) (entries_of l)) }
-        ensures no_closure { IfOk result (λ l. ListsNone (as_rel rel) (entries_of l)) }
     {
-        Ok(AtomLabels::Relation(RelationBits::new(alloc, system, index, rel, x, y)?))
+        // Fetches the law that a system keeps to.
+        let _lawful = system.signature();
+        Ok(AtomLabels::Relation(RelationBits::by_pairs(alloc, system, index, rel, x, y, closure)?))
     }
 
     /// The labels of "x is related to y" by pairs that are handed in, whatever they are.
@@ -87,16 +88,6 @@ impl AtomLabels {
         Ok(AtomLabels::Relation(RelationBits::by_pairs(alloc, system, index, rel, x, y, pairs)?))
     }
 
-    /// The entries of the rules' closure by which a reduction or a conversion is told, in their order; none of the other labels.
-    pub fn closure(&self) -> &[ClosureEntry]
-        ensures { result.now ≡ entries_of self.now }
-    {
-        match self {
-            AtomLabels::Relation(bits) => bits.closure(),
-            AtomLabels::Normal(_) | AtomLabels::Is(_) => &[],
-        }
-    }
-
     /// The labels of "the variable is a normal form", of one column.
     pub fn nf(alloc: Global, system: &System, index: u32) -> Result<AtomLabels, Memory>
         requires { IsIndexOf system.now.rules index }
@@ -109,7 +100,6 @@ impl AtomLabels {
         ensures truth { IfOk result (λ l. (s : sides.System) (x : ℕ)
             → system.now ≡ pattern_system s → All (All sides.IsLinearSeparated) s.rules
             → AcceptsMet s (cores.Nf index x) (x ∷ []) l) }
-        ensures no_closure { IfOk result (λ l. entries_of l ≡ []) }
         ensures plain { IfOk result (λ l. (a : ListedAtom) × (l ≡ AtomLabels.Normal a)
             × IsNormalAtomOf system.now index a) }
     {
@@ -123,7 +113,6 @@ impl AtomLabels {
             → TellsAlikeAtTerm sig term.now l) }
         ensures accepted { IfOk result (λ l. (sig : theory.Signature)
             → AcceptsTerm sig term.now l) }
-        ensures no_closure { IfOk result (λ l. entries_of l ≡ []) }
         ensures term { IfOk result (λ l. l ≡ AtomLabels.Is term.now) }
     {
         Ok(AtomLabels::Is(TermLabels::new(alloc, term)?))

@@ -4,7 +4,7 @@
 mod arguments;
 mod atom_labels;
 mod bits;
-mod closure;
+mod closures;
 mod facts;
 mod nodes;
 mod normal;
@@ -21,6 +21,7 @@ mod signed;
 mod term_labels;
 
 pub use atom_labels::AtomLabels;
+pub use closures::closure;
 pub use normal::NormalBits;
 pub use numbered::{Numbered, number_patterns};
 pub use relation::RelationBits;

@@ -9,16 +9,14 @@ ghost use Rattle.fort_alike.specs.Atoms.{kind_for};
 ghost use Rattle.fort_alike.specs.Alike.{is_reaching};
 ghost use Rattle.fort_atom_labels.specs.AtomRules.{marks_of, atom_rule, atom_accepts};
 ghost use Rattle.fort_context_closure.specs.RowBits.{HasBits, labels_at};
-ghost use Rattle.fort_context_closure.specs.PlainAtoms.{IsRelationAtomOf, IsOfRules, IsByPairs};
-ghost use Rattle.fort_context_closure.specs.ClosedAtoms.{ListsNone, ListsPasses, numbers_of, pattern_bits, test_of};
-ghost use Rattle.fort_context_closure.specs.Closures.{IsClosureOf};
+ghost use Rattle.fort_context_closure.specs.PlainAtoms.{IsOfRules, IsByPairs};
+ghost use Rattle.fort_context_closure.specs.ClosedAtoms.{numbers_of, pattern_bits, test_of};
 ghost use Rattle.fort_context_closure.specs.ReachRows.{IsReach};
 ghost use Rattle.fort_context_closure.specs.RuleLists.{ListsRules};
 ghost use Rattle.fort_terms.specs.PatternView.{as_pair, as_pattern};
 
 use crate::arguments::{Arguments, arguments_of};
 use crate::bits::{clear, has_mark, put_first, same_roots};
-use crate::closure::closure_of;
 use crate::facts::{fact_count, write_facts};
 use crate::numbered::{Numbered, number_patterns, root_patterns, write_rooted};
 use crate::reach::{Reach, reach_of};
@@ -73,28 +71,6 @@ impl Model for RelationBits {
 }
 
 impl RelationBits {
-    /// By the closure that the rules have.
-    pub(crate) fn new(
-        alloc: Global,
-        system: &System,
-        index: u32,
-        rel: Rel,
-        x: u32,
-        y: u32,
-    ) -> Result<RelationBits, Memory>
-        requires { IsIndexOf system.now.rules index }
-        ensures atom { IfOk result (IsRelationAtomOf system.now (as_rel rel) index x y) }
-        ensures passes { IfOk result (λ c. ListsPasses (as_rel rel)
-            (at_index index system.now.rules) c.entries) }
-        ensures none { IfOk result (λ c. ListsNone (as_rel rel) c.entries) }
-    {
-        // Fetches the law that a system keeps to.
-        let _lawful = system.signature();
-        let list = rules_of(alloc, system, index, rel)?;
-        let entries = closure_for(alloc, rel, &list)?;
-        RelationBits::of_rules(alloc, rel, x, y, list, entries)
-    }
-
     /// By pairs that are handed in, whatever they are: each is read as the places of a right pattern and of a left one. No label reads
     /// its reason.
     pub fn by_pairs(
@@ -151,13 +127,6 @@ impl RelationBits {
             reach,
             entries,
         })
-    }
-
-    /// The entries of the closure, with their reasons.
-    pub(crate) fn closure(&self) -> &[ClosureEntry]
-        ensures { result.now ≡ self.now.entries }
-    {
-        &self.entries
     }
 
     /// How many bits the patterns and facts have.
@@ -263,23 +232,10 @@ impl RelationBits {
 }
 
 /// Whether the relation is about reductions.
-fn is_reduction(rel: Rel) -> bool
+pub(crate) fn is_reduction(rel: Rel) -> bool
     ensures { result ≡ is_reaching (kind_for (as_rel rel)) }
 {
     matches!(rel, Rel::Plus | Rel::Star | Rel::Conv)
-}
-
-/// The closure of the rules where the relation is about reductions, else an empty list.
-fn closure_for(alloc: Global, rel: Rel, list: &RuleList) -> Result<Vec<ClosureEntry>, Memory>
-    requires { ListsRules (map as_pair list.now.rules.items) list.now }
-    ensures exact { IfOk result (λ entries. is_reaching (kind_for (as_rel rel)) ≡ true
-        → IsClosureOf list.now entries.items) }
-    ensures none { IfOk result (λ entries. ListsNone (as_rel rel) entries.items) }
-{
-    if !is_reduction(rel) {
-        return Ok(Vec::new(alloc));
-    }
-    closure_of(alloc, list)
 }
 
 /// The closure's rows where the relation is about reductions.

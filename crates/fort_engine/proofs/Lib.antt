@@ -3,3 +3,4 @@ pub mod AnswerLaws
 pub mod FoundLaws
 pub mod JoinLaws
 pub mod DecideLaws
+pub mod ClosureLaws

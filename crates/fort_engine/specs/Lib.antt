@@ -2,3 +2,4 @@ pub mod AnswerView
 pub mod Kept
 pub mod Deciding
 pub mod Found
+pub mod Closures

@@ -1,8 +1,9 @@
 //! Atoms, by their labels.
 ghost use Rattle.std.specs.Prelude.{ℕ};
-ghost use Rattle.fort_theory.specs.Sides.{IsIndexOf};
+ghost use Rattle.fort_theory.specs.Sides.{IsIndexOf, at_index};
 ghost use Rattle.fort_logic.specs.Cores as theory;
 ghost use Rattle.fort_formulas.specs.CoreView.{as_rel};
+ghost use Rattle.fort_context_closure.specs.ClosedAtoms.{ListsPasses};
 ghost use Rattle.fort_context_closure.specs.AtomLabelsView.{rule_by, label_by, accepted_by};
 ghost use Rattle.fort_engine.specs.Deciding.{IsDecision, AreLabelsFor};
 
@@ -11,6 +12,7 @@ use crate::explored::explored;
 use fort_context_closure::{AtomLabels, SignedAtom};
 use fort_explore::{ByRule, ExploreFault};
 use fort_formulas::Rel;
+use fort_steps::ClosureEntry;
 use fort_terms::{System, Term};
 use std::alloc::Global;
 
@@ -32,7 +34,7 @@ fn by_labels(
     explored(alloc, system, &ByRule(&atom), cap, lists)
 }
 
-/// Decides whether two variables are related.
+/// Decides whether two variables are related; a reduction or a conversion by the closure of the index.
 pub(crate) fn related(
     alloc: Global,
     system: &System,
@@ -40,13 +42,15 @@ pub(crate) fn related(
     index: u32,
     x: u32,
     y: u32,
+    closure: &[ClosureEntry],
     cap: u32,
     lists: bool,
 ) -> Result<Decided, ExploreFault>
-    requires { IsIndexOf system.now.rules index }
+    requires index { IsIndexOf system.now.rules index }
+    requires passes { ListsPasses (as_rel rel) (at_index index system.now.rules) closure.now }
     ensures { IsDecision system.now (theory.Atom (as_rel rel) index x y) cap lists result }
 {
-    let labels = AtomLabels::atom(alloc, system, index, rel, x, y)?;
+    let labels = AtomLabels::atom(alloc, system, index, rel, x, y, closure)?;
     by_labels(alloc, system, &labels, cap, lists)
 }
 

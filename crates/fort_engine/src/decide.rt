@@ -11,9 +11,11 @@ ghost use Rattle.fort_outline.specs.Roots.{HasOperandsBelow};
 ghost use Rattle.fort_outline.specs.Outlines.{parts_in};
 ghost use Rattle.fort_engine.specs.AnswerView.{as_answer, IfOver, IsLimit};
 ghost use Rattle.fort_engine.specs.Kept.{IsSoFar};
+ghost use Rattle.fort_engine.specs.Closures.{AreClosures};
 ghost use Rattle.fort_engine.specs.Deciding.{IsPlanned};
 
 use crate::answer::{EngineFault, Last, Limit, Trace};
+use crate::closures::Closures;
 use crate::part::decide_part;
 use crate::recorder::Recorder;
 use fort_explore::ExploreFault;
@@ -57,15 +59,17 @@ fn drop_idle(kept: &mut Vec<Option<Last>>, outline: &Outline, k: usize)
     }
 }
 
-/// Decides the parts one after another and has them recorded; the answers that are needed at the end are kept.
+/// Decides the parts one after another, by the closures that they ask for, and has them recorded; the answers that are needed at the end are kept.
 pub fn decide_parts<R: Recorder>(
     alloc: Global,
     system: &System,
     outline: &Outline,
+    closures: &Closures,
     cap: u32,
     recorder: &mut R,
 ) -> Result<Vec<Option<Last>>, EngineFault>
     requires planned { (root : theory.Core) × IsPlanned system.now root outline.now }
+    requires closures { AreClosures system.now (parts_in outline.now) closures.now.list.items }
     requires begun { R.recorded recorder.old system.now outline.now 0 [] }
     ensures far { IfOk result (λ kept. IsSoFar system.now (parts_in outline.now)
         outline.now.last_uses.items cap (length outline.now.roots.items) kept.items) }
@@ -77,7 +81,8 @@ pub fn decide_parts<R: Recorder>(
     let mut kept: Vec<Option<Last>> = Vec::new(alloc);
     for k in 0..outline.roots.len() {
         let answers = kept.as_slice();
-        let decided = match decide_part(alloc, system, outline, k, answers, cap, recorder.lists()) {
+        let lists = recorder.lists();
+        let decided = match decide_part(alloc, system, outline, closures, k, answers, cap, lists) {
             Ok(decided) => decided,
             Err(ExploreFault::Memory) => return Err(EngineFault::Memory),
             Err(ExploreFault::Over(tuples)) => {
@@ -112,7 +117,8 @@ pub fn decide_core(
     ensures over { IfErr result (λ e. IfOver e (IsLimit system.now (as_core core.now) cap)) }
 {
     let outline = Outline::new(alloc, core)?;
-    let mut kept = match decide_parts(alloc, system, &outline, cap, &mut ()) {
+    let closures = Closures::new(alloc, system, &outline.roots)?;
+    let mut kept = match decide_parts(alloc, system, &outline, &closures, cap, &mut ()) {
         Ok(kept) => kept,
         Err(fault) => return Err(fault),
     };

@@ -15,7 +15,7 @@ use crate::operands::Answered;
 use fort_explore::{ByRule, ExploreFault};
 use fort_lockstep::Dta;
 use fort_outline::places_among;
-use fort_rrn_algebra::{Both, Op, Operand, ProductLists};
+use fort_rrn_algebra::{Both, Op, Operand};
 use fort_terms::System;
 use std::alloc::Global;
 
@@ -60,9 +60,9 @@ fn product_table<'a>(
         → IsDecision system.now h cap lists result }
 {
     let (one, other) = (operand(first, places), operand(second, others));
-    let mut operand_lists = ProductLists::new(alloc);
-    operand_lists.make(&one, &other)?;
-    let product = Both::new(op, one, other, columns).listed(&operand_lists);
+    let first_list = one.list(alloc)?;
+    let second_list = other.list(alloc)?;
+    let product = Both::new(op, one, other, columns).listed(Some(&first_list), Some(&second_list));
     explored(alloc, system, &ByRule(&product), cap, lists)
 }
 

@@ -3,6 +3,7 @@
 
 mod answer;
 mod atoms;
+mod closures;
 mod counted;
 mod decide;
 mod explored;
@@ -13,5 +14,6 @@ mod projected;
 mod recorder;
 
 pub use answer::{Decided, EngineFault, Last, Limit, Trace};
+pub use closures::{Closures, IndexClosure};
 pub use decide::{decide_core, decide_parts};
 pub use recorder::Recorder;

@@ -7,11 +7,13 @@ ghost use Rattle.fort_parts.specs.AlikeParts.{IsPartOver};
 ghost use Rattle.fort_parts.specs.RightAnswers.{IsRightFor};
 ghost use Rattle.fort_outline.specs.Outlines.{parts_in, core_at};
 ghost use Rattle.fort_engine.specs.AnswerView.{as_answer};
+ghost use Rattle.fort_engine.specs.Closures.{AreClosures};
 ghost use Rattle.fort_engine.specs.Deciding.{IsNextPart, IsOfTwo, IsDecision};
 ghost use Rattle.fort_engine.specs.Found.{IsTurnedOf, IsDecidedBy, IsFound};
 
 use crate::answer::{Decided, Last};
 use crate::atoms::{normal_form, related, this_term};
+use crate::closures::Closures;
 use crate::counted::count;
 use crate::joined::join;
 use crate::operands::{kept_answer, kept_operand};
@@ -68,18 +70,23 @@ pub(crate) fn decide_part(
     alloc: Global,
     system: &System,
     outline: &Outline,
+    closures: &Closures,
     k: usize,
     kept: &[Option<Last>],
     cap: u32,
     lists: bool,
 ) -> Result<Decided, ExploreFault>
-    requires { IsNextPart system.now cap outline.now k kept.now }
+    requires next { IsNextPart system.now cap outline.now k kept.now }
+    requires closures { AreClosures system.now (parts_in outline.now) closures.now.list.items }
     ensures { IsDecidedBy system.now (core_at outline.now k) cap
         (IsFound system.now (parts_in outline.now) kept.now (core_at outline.now k) lists) result }
 {
     match &outline.roots[k] {
         Root::True => Ok(Decided::truth(true)),
-        Root::Atom(rel, index, x, y) => related(alloc, system, *rel, *index, *x, *y, cap, lists),
+        Root::Atom(rel, index, x, y) => {
+            let closure = closures.read_by(*rel, *index);
+            related(alloc, system, *rel, *index, *x, *y, closure, cap, lists)
+        }
         Root::Nf(index, _) => normal_form(alloc, system, *index, cap, lists),
         Root::Is(_, term) => this_term(alloc, system, term, cap, lists),
         Root::Not(f) => complement(alloc, kept_answer(kept, *f)),

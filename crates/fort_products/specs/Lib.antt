@@ -1,6 +1,6 @@
-pub mod BothLists
 pub mod HeldTargets
 pub mod HeldWalks
 pub mod Joints
 pub mod OperandRows
 pub mod Operands
+pub mod Unlisted

@@ -4,12 +4,10 @@
 mod held;
 mod joint;
 mod listed;
-mod lists;
 pub mod local;
 mod operand;
 mod product;
 mod words;
 
-pub use lists::ProductLists;
 pub use operand::{Op, Operand};
 pub use product::Both;

@@ -1,9 +1,14 @@
-//! Operands and connectives.
-ghost use Rattle.std.specs.Prelude.{◌≡◌, length};
+//! Operands and connectives; an operand's list.
+ghost use Rattle.std.specs.Prelude.{◌≡◌, length, IfOk, OnErr, IsFalse};
 ghost use Rattle.fort_operations.specs.Products.{IsLawful, places_of};
 ghost use Rattle.fort_products.specs.Operands.{operand_of};
+ghost use Rattle.fort_products.specs.Unlisted.{IsNotListed, HasFewNumbers};
+ghost use Rattle.fort_target_lists.specs.TargetLists.{IsOperandList};
 
 use fort_lockstep::Table;
+use fort_target_lists::TargetList;
+use fort_terms::Memory;
+use std::alloc::Global;
 
 /// A connective of two relations.
 #[derive(Clone, Copy, Debug, PartialEq, Eq)]
@@ -34,5 +39,20 @@ impl<'a, T: Table> Operand<'a, T> {
             }
             Operand::Truth(_) => 0,
         }
+    }
+
+    /// The list of its targets, made by look-ups: none where it is a truth, or where `TargetList::make` makes none.
+    pub fn list(&self, alloc: Global) -> Result<TargetList, Memory>
+        ensures list { IfOk result (IsOperandList (operand_of T.table self.now)) }
+        ensures not_made { IfOk result (λ l. IsFalse l.is_made
+            → IsNotListed (operand_of T.table self.now)) }
+        ensures memory { OnErr result (HasFewNumbers (operand_of T.table self.now)) }
+    {
+        let mut list = TargetList::new(alloc);
+        match self {
+            Operand::Auto(table, _) => list.make(*table)?,
+            Operand::Truth(_) => {}
+        }
+        Ok(list)
     }
 }

@@ -9,14 +9,12 @@ ghost use Rattle.fort_operations.specs.OperationTruth.{TestsRelation, Connected,
 ghost use Rattle.fort_operations.proofs.OperandFacts.{AreOperands-prop};
 ghost use Rattle.fort_products.specs.Operands.{operand_of, connective_of};
 ghost use Rattle.fort_target_lists.specs.ListedOperands.{IsListOf, IfListOf-prop};
-ghost use Rattle.fort_products.specs.BothLists.{AreListsOf};
-ghost use Rattle.fort_target_lists.specs.TargetLists.{IsLaidListOf};
+ghost use Rattle.fort_target_lists.specs.TargetLists.{IsOperandList};
 ghost use Rattle.fort_target_lists.specs.LayRooms.{HasLayRoom};
 ghost use Rattle.fort_products.specs.HeldTargets.{AreHeldFrom};
 
 use crate::held::Holding;
 use crate::listed::write_both;
-use crate::lists::ProductLists;
 use crate::local::both_accepts;
 use crate::operand::{Op, Operand};
 use fort_explore::{LocalRule, Rows};
@@ -99,29 +97,15 @@ impl<'a, T: Table> Both<'a, T> {
         }
     }
 
-    /// The same product by lists of the operands' targets. Look-ups are quicker then.
-    pub fn listed(self, lists: &'a ProductLists) -> Both<'a, T>
-        requires { AreListsOf (operand_of T.table self.first) (operand_of T.table self.second)
-            lists.now }
-        ensures op { result.op ≡ self.entry.op }
-        ensures columns { result.columns ≡ self.entry.columns }
-        ensures first { result.first ≡ self.entry.first }
-        ensures second { result.second ≡ self.entry.second }
-    {
-        Both {
-            op: self.op,
-            columns: self.columns,
-            first: self.first,
-            second: self.second,
-            first_list: lists.first(),
-            second_list: lists.second(),
-        }
-    }
-
-    /// The same product by lists of the operands' targets that were laid, where they are.
-    pub fn laid(self, first: Option<&'a TargetList>, second: Option<&'a TargetList>) -> Both<'a, T>
-        requires first { IfSome first (λ l. IsLaidListOf (operand_of T.table self.first) l.now) }
-        requires second { IfSome second (λ l. IsLaidListOf (operand_of T.table self.second) l.now) }
+    /// The same product by lists of the operands' targets, where they are there and made. Look-ups are quicker then.
+    pub fn listed(
+        self,
+        first: Option<&'a TargetList>,
+        second: Option<&'a TargetList>,
+    ) -> Both<'a, T>
+        requires first { IfSome first (λ l. IsOperandList (operand_of T.table self.first) l.now) }
+        requires second { IfSome second (λ l. IsOperandList (operand_of T.table self.second)
+            l.now) }
         ensures op { result.op ≡ self.entry.op }
         ensures columns { result.columns ≡ self.entry.columns }
         ensures first { result.first ≡ self.entry.first }

@@ -1,11 +1,11 @@
--- A table's list that was laid: there is room for it, it is the table's own, and an operand's.
-use Rattle.std.proofs.Common.{◌≡◌, ℕ, suc, ◌^◌, ◌<◌, ◌≤◌, List, length, get_or, Option, None, Some, IfSome, IsTrue, ap, sym, ◌∙◌, arith, subst}
+-- A table's list that was laid: there is room for it, and it is the table's own. An operand's list.
+use Rattle.std.proofs.Common.{◌≡◌, ℕ, suc, ◌^◌, ◌<◌, ◌≤◌, List, length, get_or, Option, None, Some, IfSome, IsTrue, ap, sym, ◌∙◌, arith, subst, true≢false}
 use Rattle.fort_theory.specs.Signatures.{Signature}
-use Rattle.fort_tables.specs.Tables.{Listed, listed_table}
+use Rattle.fort_tables.specs.Tables.{Table, Listed, listed_table}
 use Rattle.fort_laid_entries.proofs.Counts.{symbols_few}
 use Rattle.fort_target_lists.specs.Places.{AreSpots}
 use Rattle.fort_target_lists.specs.Flats.{AreLaid, IsFlatOf}
-use Rattle.fort_target_lists.specs.TargetLists.{IsLaidListOf, IsTableWith}
+use Rattle.fort_target_lists.specs.TargetLists.{IsTargetListOf, IsOperandList, IsTableWith}
 use Rattle.fort_operations.specs.Products.{Operand, OfTable, OfTruth}
 use Rattle.fort_target_lists.specs.ListedOperands.{IsListOf}
 use Rattle.fort_target_lists.specs.declared.target_list.TargetList.{TargetList}
@@ -53,9 +53,15 @@ list_of_laid t sig columns presences targets flat count h base all few spots lai
       entries = laid_entries (listed_table t) flat.base count flat.listing.starts.items flat.listing.targets.items flat.spots.ranks.items flat.spots.alike.items b n own laid;
     }
 
--- an operand's list, where it was laid
-pub operand_list : {A : Type 0} (o : Operand) (l : TargetList) (r : Option A) (now : A → FlatTargets) → IfSome r (λ x. IsTrue l.is_made × (now x ≡ l.list)) → IsLaidListOf o l
+-- a table's list is that of any operand of the table
+pub table_operand : {A : Type 0} (t : Table) (places : List ℕ) (list : Option A) (now : A → TargetList) → IfSome list (λ l. IsTargetListOf t (now l)) → IfSome list (λ l. IsOperandList (OfTable t places) (now l))
+table_operand t places None now h = tt
+table_operand t places (Some l) now h = h.list_is
+
+-- an operand's list, where it is made
+pub operand_list : {A : Type 0} (o : Operand) (l : TargetList) (r : Option A) (now : A → FlatTargets) → IfSome r (λ x. IsTrue l.is_made × (now x ≡ l.list)) → IsOperandList o l
     → IfSome r (λ x. IsListOf o (now x))
 operand_list (OfTable t places) l None now h is = tt
-operand_list (OfTable t places) l (Some x) now h is = subst (IsFlatOf t) (sym h.1) (is.list_is h.0)
-operand_list (OfTruth b) l r now h is = absurd is
+operand_list (OfTable t places) l (Some x) now h is = subst (IsFlatOf t) (sym h.1) (is h.0)
+operand_list (OfTruth b) l None now h is = tt
+operand_list (OfTruth b) l (Some x) now h is = absurd (true≢false (sym h.0 ∙ is))

@@ -1,5 +1,5 @@
 -- To believe: what a list of a table's targets is, the room that it needs, and from what it is laid.
-use Rattle.std.specs.Prelude.{◌≡◌, ℕ, suc, ◌≤◌, List, Option, None, Some, IfSome, IsTrue, vec_capacity}
+use Rattle.std.specs.Prelude.{◌≡◌, ℕ, suc, ◌≤◌, List, Option, None, Some, IfSome, IsTrue, IsFalse, vec_capacity}
 use Rattle.std.proofs.Props.{props}
 use Rattle.fort_theory.specs.Signatures.{Signature}
 use Rattle.fort_tables.specs.Entries.{Entry}
@@ -8,15 +8,19 @@ use Rattle.fort_operations.specs.Products.{Operand, OfTable, OfTruth}
 use Rattle.fort_target_lists.specs.Flats.{IsFlatOf}
 use Rattle.fort_target_lists.specs.declared.target_list.TargetList.{TargetList}
 
--- the list is the table's own, and it is made where the table has an entry
+-- where it is made, the list is the table's own
+abbrev pub IsListOfTable : Table → TargetList → Type 0
+IsListOfTable body l = IsTrue l.is_made → IsFlatOf body l.list
+
+-- the same, and it is made where the table has an entry
 pub record IsTargetListOf (body : Table) (l : TargetList) : Type 0 where
   pub list_is : IsTrue l.is_made → IsFlatOf body l.list
   pub made : (e : Entry) → IsTableEntry body e → IsTrue l.is_made
 
--- an operand's list is its table's; a truth has none
-abbrev pub IsLaidListOf : Operand → TargetList → Type 0
-IsLaidListOf (OfTable table places) list = IsTargetListOf table list
-IsLaidListOf (OfTruth b) list = ⊥
+-- where it is made, an operand's list is its table's; a truth has none
+abbrev pub IsOperandList : Operand → TargetList → Type 0
+IsOperandList (OfTable table places) list = IsListOfTable table list
+IsOperandList (OfTruth b) list = IsFalse list.is_made
 
 -- room for the list of a table of this size, with a start for each tuple symbol: a table with entries has at most one more than entries
 pub record HasListRoom (states entries : ℕ) (l : TargetList) : Type 0 where

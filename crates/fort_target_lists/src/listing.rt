@@ -190,7 +190,10 @@ impl Listing {
 
 impl FlatTargets {
     /// No list.
-    pub fn new(alloc: Global) -> FlatTargets {
+    pub fn new(alloc: Global) -> FlatTargets
+        ensures starts { result.listing.starts.items ≡ [] }
+        ensures targets { result.listing.targets.items ≡ [] }
+    {
         FlatTargets {
             base: 0,
             spots: Spots {

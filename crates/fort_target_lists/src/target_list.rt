@@ -1,20 +1,21 @@
-//! A table's targets in one list, laid from the targets in the order of the table's entries.
-ghost use Rattle.std.specs.Prelude.{◌≡◌, ℕ, ◌<◌, ◌^◌, length, IfOk, IfSome, IsTrue};
+//! A table's targets in one list: made by look-ups, or laid from the targets in the order of the table's entries.
+ghost use Rattle.std.specs.Prelude.{◌≡◌, ℕ, ◌<◌, ◌≤◌, ◌^◌, length, IfOk, IfSome, OnOk, OnErr, IsTrue, IsFalse};
 ghost use Rattle.fort_tables.specs.Entries.{entry};
 ghost use Rattle.fort_tables.specs.Tables as tables;
 ghost use Rattle.fort_operations.specs.Products as products;
 ghost use Rattle.fort_target_lists.specs.LayRooms.{HasLayRoom};
-ghost use Rattle.fort_target_lists.specs.TargetLists.{IsTargetListOf, IsLaidListOf, HasListRoom, IsTableWith};
+ghost use Rattle.fort_target_lists.specs.TargetLists.{IsListOfTable, IsTargetListOf, IsOperandList, HasListRoom, IsTableWith};
 ghost use Rattle.fort_target_lists.specs.ListedOperands.{IsListOf};
+ghost use Rattle.fort_target_lists.specs.Flats.{base_of, IsUnlisted};
 
 use crate::chains::Chains;
 use crate::flat::{FlatTargets, Listing, Spots};
 use crate::states::LayRoom;
-use fort_lockstep::TupleSym;
+use fort_lockstep::{Table, TupleSym};
 use fort_terms::{Memory, Signature};
 use std::alloc::Global;
 
-/// A table's targets in one list, and the room for them. A table without entries has none.
+/// A table's targets in one list, where it is made, and the room for them. Where it is laid, a table without entries has none.
 #[derive(Drop)]
 pub struct TargetList {
     pub(crate) is_made: bool,
@@ -22,6 +23,30 @@ pub struct TargetList {
 }
 
 impl TargetList {
+    /// No list.
+    pub fn new(alloc: Global) -> TargetList
+        ensures { IsFalse result.is_made }
+    {
+        TargetList {
+            is_made: false,
+            list: FlatTargets::new(alloc),
+        }
+    }
+
+    /// Makes this the list of a table by look-ups: four bytes for each entry and each tuple symbol, and twelve for each state. There is
+    /// none where its tuple symbols have too many numbers, or where the targets of one would start at a place of more than 32 bits.
+    /// It takes memory only where the numbers are few.
+    pub fn make<T: Table>(&mut self, table: &T) -> Result<(), Memory>
+        ensures list { OnOk result (IsListOfTable (T.table table.now) self.new) }
+        ensures not_made { OnOk result (IsFalse self.new.is_made
+            → IsUnlisted (T.table table.now)) }
+        ensures memory { OnErr result (base_of (T.table table.now) ^ (T.table table.now).columns
+            ≤ 4194304) }
+    {
+        self.is_made = self.list.make(table)?;
+        Ok(())
+    }
+
     /// No list, and the room for that of a table of at most so many states and entries.
     pub fn with_room(alloc: Global, states: usize, entries: usize) -> Result<TargetList, Memory>
         requires { entries < 2 ^ 63 }
@@ -110,7 +135,7 @@ impl TargetList {
 
 /// The list of an operand's targets, where it is there and made.
 pub fn flat_of<'a>(list: Option<&'a TargetList>) -> Option<&'a FlatTargets>
-    ensures { (o : products.Operand) → IfSome list.entry (λ l. IsLaidListOf o l.now)
+    ensures { (o : products.Operand) → IfSome list.entry (λ l. IsOperandList o l.now)
         → IfSome result (λ l. IsListOf o l.now) }
 {
     match list {

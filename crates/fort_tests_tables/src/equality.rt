@@ -4,7 +4,7 @@ ghost use Rattle.std.specs.Prelude.{◌≡◌, IfOk};
 use super::rules::IsFirst;
 use fort_explore::{ByRule, ExploreFault, explore};
 use fort_lockstep::{Dta, Table};
-use fort_rrn_algebra::{Both, Op, Operand, ProductLists, negate, permute, pure_states, widen};
+use fort_rrn_algebra::{Both, Op, Operand, negate, permute, pure_states, widen};
 use fort_terms::Signature;
 use std::alloc::Global;
 use std::test::Fail;
@@ -23,9 +23,9 @@ fn joined(alloc: Global, signature: &Signature) -> Result<Dta, ExploreFault>
 {
     let first = first_table(alloc, signature)?;
     let (one, other) = (Operand::Auto(&first, &[0]), Operand::Auto(&first, &[1]));
-    let mut lists = ProductLists::new(alloc);
-    lists.make(&one, &other)?;
-    let listed = Both::new(Op::Iff, one, other, 2).listed(&lists);
+    let first_list = one.list(alloc)?;
+    let second_list = other.list(alloc)?;
+    let listed = Both::new(Op::Iff, one, other, 2).listed(Some(&first_list), Some(&second_list));
     explore(alloc, first.signature(), &ByRule(&listed), 3)
 }
 

@@ -14,7 +14,7 @@ ghost use Rattle.fort_trace.specs.RecordedView.{as_certificate};
 
 use crate::closures::push_closures;
 use crate::recorder::Steps;
-use fort_engine::{EngineFault, Last, decide_parts};
+use fort_engine::{Closures, EngineFault, Last, decide_parts};
 use fort_formulas::Core;
 use fort_outline::Outline;
 use fort_steps::Step;
@@ -51,10 +51,11 @@ pub fn decide_with_steps(
     if !has_numbers(outline.roots.len()) {
         return Err(EngineFault::Memory);
     }
+    let closures = Closures::new(alloc, system, &outline.roots)?;
     let mut list = Vec::new(alloc);
-    push_closures(alloc, system, &outline.roots, &mut list)?;
+    push_closures(alloc, system, &closures, &mut list)?;
     let mut recorder = Steps { list };
-    let mut kept = match decide_parts(alloc, system, &outline, cap, &mut recorder) {
+    let mut kept = match decide_parts(alloc, system, &outline, &closures, cap, &mut recorder) {
         Ok(kept) => kept,
         Err(fault) => return Err(fault),
     };

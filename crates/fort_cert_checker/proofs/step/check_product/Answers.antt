@@ -3,10 +3,10 @@ use Rattle.fort_operations.specs.Products.{Operand, AreOperands, signature_of, p
 use Rattle.fort_parts.specs.PartSteps as parts
 use Rattle.fort_products.specs.declared.operand.Op.{Op}
 use Rattle.fort_products.specs.Operands.{operand_of, connective_of}
-use Rattle.fort_target_lists.specs.TargetLists.{IsLaidListOf}
 use Rattle.fort_check_steps.specs.Turned.{turned_table}
 use Rattle.fort_cert_checker.specs.Pasts.{steps_of, IsPartStep}
-use Rattle.fort_cert_checker.proofs.ListLaws.{fits_on}
+use Rattle.fort_cert_checker.specs.OperandLists.{IsLaidListOf}
+use Rattle.fort_cert_checker.proofs.ListLaws.{fits_on, laid_operand}
 use Rattle.fort_cert_checker.proofs.step.check_product.Goals as goal
 
 pub lay-requires : goal.lay-requires
@@ -32,15 +32,17 @@ new-plain-requires-clause-operands c =
     subst (λ (u : Operand). F u (operand_of turned_table c.factor-right.result)) (sym first)
     (subst (λ (v : Operand). F (parts.operand_of r.0 c.args.first.now.places.items) v) (sym second) r.4.operands)
 
-pub laid-rule-requires-clause-first : goal.laid-rule-requires-clause-first
-laid-rule-requires-clause-first c =
-    subst (λ (o : Operand). IfSome c.laid_list-first_list.result (λ l. IsLaidListOf o l.now))
-    (sym (ap (λ o. operand_of turned_table o) c.new-plain.ensures.first ∙ c.factor-left.ensures)) (c.laid_list-first_list.ensures.list c.deref.result.now)
+pub listed-rule-requires-clause-first : goal.listed-rule-requires-clause-first
+listed-rule-requires-clause-first c =
+    laid_operand (operand_of turned_table c.new-plain.result.first) c.laid_list-first_list.result (λ l. l.now)
+    (subst (λ (o : Operand). IfSome c.laid_list-first_list.result (λ l. IsLaidListOf o l.now))
+    (sym (ap (λ o. operand_of turned_table o) c.new-plain.ensures.first ∙ c.factor-left.ensures)) (c.laid_list-first_list.ensures.list c.deref.result.now))
 
-pub laid-rule-requires-clause-second : goal.laid-rule-requires-clause-second
-laid-rule-requires-clause-second c =
-    subst (λ (o : Operand). IfSome c.laid_list-second_list.result (λ l. IsLaidListOf o l.now))
-    (sym (ap (λ o. operand_of turned_table o) c.new-plain.ensures.second ∙ c.factor-right.ensures)) (c.laid_list-second_list.ensures.list c.deref-2.result.now)
+pub listed-rule-requires-clause-second : goal.listed-rule-requires-clause-second
+listed-rule-requires-clause-second c =
+    laid_operand (operand_of turned_table c.new-plain.result.second) c.laid_list-second_list.result (λ l. l.now)
+    (subst (λ (o : Operand). IfSome c.laid_list-second_list.result (λ l. IsLaidListOf o l.now))
+    (sym (ap (λ o. operand_of turned_table o) c.new-plain.ensures.second ∙ c.factor-right.ensures)) (c.laid_list-second_list.ensures.list c.deref-2.result.now))
 
 pub check_part-requires-clause-lay : goal.check_part-requires-clause-lay
 check_part-requires-clause-lay c = c.lay-2.ensures.room _ (c.lay.ensures.room _ c.requires.scratch.lay)
@@ -58,17 +60,17 @@ returns-clause-scratch c = record {
 
 pub returns-clause-step : goal.returns-clause-step
 returns-clause-step c a b at bt =
-    let rule = c.laid-rule.result in
+    let rule = c.listed-rule.result in
     let first : operand_of turned_table rule.first ≡ parts.operand_of a c.args.first.now.places.items =
-    ap (λ o. operand_of turned_table o) (c.laid-rule.ensures.first ∙ c.new-plain.ensures.first)
+    ap (λ o. operand_of turned_table o) (c.listed-rule.ensures.first ∙ c.new-plain.ensures.first)
     ∙ (c.factor-left.ensures ∙ (λ i. parts.operand_of (c.answer-one.ensures.is a at i) (c.deref.ensures.value i))) in
     let second : operand_of turned_table rule.second ≡ parts.operand_of b c.args.second.now.places.items =
-    ap (λ o. operand_of turned_table o) (c.laid-rule.ensures.second ∙ c.new-plain.ensures.second)
+    ap (λ o. operand_of turned_table o) (c.listed-rule.ensures.second ∙ c.new-plain.ensures.second)
     ∙ (c.factor-right.ensures ∙ (λ i. parts.operand_of (c.answer-other.ensures.is b bt i) (c.deref-2.ensures.value i))) in
     let Step : Op → ℕ → Operand → Operand → Type 0 =
     λ op n u v. IsPartStep (record { rule = product_rule n u v; accepting = product_accepts (connective_of op) u v }) c.args.targets.now c.check_part.new.room c.check_part.result in
-    subst (λ (op : Op). Step op c.args.columns (parts.operand_of a c.args.first.now.places.items) (parts.operand_of b c.args.second.now.places.items)) (c.laid-rule.ensures.op ∙ c.new-plain.ensures.op)
-    (subst (λ (n : ℕ). Step rule.op n (parts.operand_of a c.args.first.now.places.items) (parts.operand_of b c.args.second.now.places.items)) (c.laid-rule.ensures.columns ∙ c.new-plain.ensures.columns)
+    subst (λ (op : Op). Step op c.args.columns (parts.operand_of a c.args.first.now.places.items) (parts.operand_of b c.args.second.now.places.items)) (c.listed-rule.ensures.op ∙ c.new-plain.ensures.op)
+    (subst (λ (n : ℕ). Step rule.op n (parts.operand_of a c.args.first.now.places.items) (parts.operand_of b c.args.second.now.places.items)) (c.listed-rule.ensures.columns ∙ c.new-plain.ensures.columns)
     (subst (λ (u : Operand). Step rule.op rule.columns u (parts.operand_of b c.args.second.now.places.items)) first
     (subst (λ (v : Operand). Step rule.op rule.columns (operand_of turned_table rule.first) v) second
     (record { outcome = c.check_part.ensures.outcome; held = c.check_part.ensures.held }))))

@@ -22,8 +22,8 @@ loop-k-init g c =
       recorded = subst (g.R.Recorder.recorded c.args.recorder.now system o 0) (sym c.new-kept.ensures.items) c.requires.begun;
     }
 
-pub decide_part-requires : goal.decide_part-requires
-decide_part-requires g c =
+pub decide_part-requires-clause-next : goal.decide_part-requires-clause-next
+decide_part-requires-clause-next g c =
     let system = c.args.system.now in
     let o = c.args.outline.now in
     let p = c.requires.planned in
@@ -46,8 +46,8 @@ returns-in-Err-Over-clause-over g c f plan =
     let own = core_at o k in
     let within : k < length o.roots.items = omega (arith, c.loop-k-test.true, c.len-k-end.ensures) in
     let low : k < length parts = omega (arith, length-cores_of o.roots.items) in
-    let decided : IsDecidedBy system own cap (IsFound system parts c.as_slice-answers.result.now own c.lists.result) (Err (Over c.in-Err-Over.tuples)) =
-    subst (IsDecidedBy system own cap (IsFound system parts c.as_slice-answers.result.now own c.lists.result)) (c.in-Err-Over.is ∙ ap Err c.in-Err-Over.field-0-is)
+    let decided : IsDecidedBy system own cap (IsFound system parts c.as_slice-answers.result.now own c.lists-lists.result) (Err (Over c.in-Err-Over.tuples)) =
+    subst (IsDecidedBy system own cap (IsFound system parts c.as_slice-answers.result.now own c.lists-lists.result)) (c.in-Err-Over.is ∙ ap Err c.in-Err-Over.field-0-is)
     c.decide_part.ensures in
     let limit : Limit = record { part = k; kind = c.kind.result; tuples = c.in-Err-Over.tuples } in
     let next = IsNextPart-at system f o plan.decided laid cap k kept far within in
@@ -72,9 +72,9 @@ note-requires-clause-found g c =
     let system = c.args.system.now in
     let o = c.args.outline.now in
     let own = core_at o c.loop-k.k in
-    let decided : IsDecidedBy system own c.args.cap (IsFound system (parts_in o) c.as_slice-answers.result.now own c.lists.result) (Ok c.in-Ok.decided) =
-    subst (IsDecidedBy system own c.args.cap (IsFound system (parts_in o) c.as_slice-answers.result.now own c.lists.result)) c.in-Ok.is c.decide_part.ensures in
-    subst (λ b. IsFound system (parts_in o) c.as_slice-answers.result.now own b c.in-Ok.decided) c.lists.ensures decided.ok
+    let decided : IsDecidedBy system own c.args.cap (IsFound system (parts_in o) c.as_slice-answers.result.now own c.lists-lists.result) (Ok c.in-Ok.decided) =
+    subst (IsDecidedBy system own c.args.cap (IsFound system (parts_in o) c.as_slice-answers.result.now own c.lists-lists.result)) c.in-Ok.is c.decide_part.ensures in
+    subst (λ b. IsFound system (parts_in o) c.as_slice-answers.result.now own b c.in-Ok.decided) c.lists-lists.ensures decided.ok
 
 pub note-requires-clause-before : goal.note-requires-clause-before
 note-requires-clause-before g c =
@@ -113,8 +113,8 @@ loop-k-preserved g c =
     let answer = c.in-Ok.decided.answer in
     let all = kept ++ Some answer ∷ [] in
     let within : k < length o.roots.items = omega (arith, c.loop-k-test.true, c.len-k-end.ensures) in
-    let decided : IsDecidedBy system own cap (IsFound system parts c.as_slice-answers.result.now own c.lists.result) (Ok c.in-Ok.decided) =
-    subst (IsDecidedBy system own cap (IsFound system parts c.as_slice-answers.result.now own c.lists.result)) c.in-Ok.is c.decide_part.ensures in
+    let decided : IsDecidedBy system own cap (IsFound system parts c.as_slice-answers.result.now own c.lists-lists.result) (Ok c.in-Ok.decided) =
+    subst (IsDecidedBy system own cap (IsFound system parts c.as_slice-answers.result.now own c.lists-lists.result)) c.in-Ok.is c.decide_part.ensures in
     let pushed : c.push.new.self.items ≡ all = c.in_ok-push.ensures.items ∙ ap (λ a. kept ++ Some a ∷ []) c.in_ok-answer.ensures.answer in
     let long : length all ≡ k + 1 = omega (arith, length-append kept (Some answer ∷ []), far.kept_are.count) in
     let recorded : g.R.Recorder.recorded c.note.new.self system o (k + 1) all =

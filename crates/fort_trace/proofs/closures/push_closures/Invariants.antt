@@ -1,8 +1,11 @@
-use Rattle.fort_in_order.specs.Dues.{closures_due}
+use Rattle.std.proofs.Common.{List, map, take}
+use Rattle.fort_logic.specs.Cores.{Core}
 use Rattle.fort_in_order.specs.Made.{Made}
-use Rattle.fort_outline.specs.Roots.{cores_of}
+use Rattle.fort_engine.specs.Closures.{due_of, AreClosures}
 use Rattle.fort_trace.specs.Recording.{AddsSteps}
 use Rattle.fort_trace.proofs.closures.push_closures.Given as goal
 
-abbrev pub invariant-loop-i : goal.invariant-loop-i
-invariant-loop-i l = (made : Made) → AddsSteps l.system (cores_of l.roots) made (closures_due (cores_of l.roots) l.i 1) l.fn.steps.items l.steps.items
+abbrev pub invariant-loop-closure : goal.invariant-loop-closure
+invariant-loop-closure l =
+    (parts : List Core) (made : Made) → AreClosures l.system parts l.closures.list.items
+    → AddsSteps l.system parts made (map due_of (take l.closure-index l.closures.list.items)) l.fn.steps.items l.steps.items

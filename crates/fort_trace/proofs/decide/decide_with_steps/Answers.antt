@@ -3,8 +3,6 @@ use Rattle.std.proofs.lemmas.List.{get_or_default}
 use Rattle.fort_formulas.specs.CoreView.{as_core}
 use Rattle.fort_in_order.specs.Dues.{closures_due}
 use Rattle.fort_in_order.specs.Made.{nothing_made}
-use Rattle.fort_outline.specs.declared.root.Root.{Root}
-use Rattle.fort_outline.specs.Roots.{cores_of}
 use Rattle.fort_outline.specs.Outlines.{parts_in}
 use Rattle.fort_engine.specs.declared.answer.Last.TheVariants.{Truth}
 use Rattle.fort_engine.specs.Deciding.{IsPlanned}
@@ -18,6 +16,9 @@ use Rattle.fort_trace.proofs.decide.decide_with_steps.Goals as goal
 pub decide_parts-requires-clause-planned : goal.decide_parts-requires-clause-planned
 decide_parts-requires-clause-planned c = (as_core c.args.core.now, record { decided = c.requires.decided; laid = c.in_ok-outline.ensures })
 
+pub decide_parts-requires-clause-closures : goal.decide_parts-requires-clause-closures
+decide_parts-requires-clause-closures c = rw c.deref.ensures.value at c.in_ok-closures.ensures
+
 pub decide_parts-requires-clause-begun : goal.decide_parts-requires-clause-begun
 decide_parts-requires-clause-begun c =
     let system = c.args.system.now in
@@ -25,9 +26,8 @@ decide_parts-requires-clause-begun c =
     let new = c.push_closures.new.steps.items in
     let few : length o.roots.items < 2 ^ 32 = omega (arith, c.len.ensures) in
     let begun : AddsSteps system (parts_in o) nothing_made (closures_due (parts_in o) (length system.rules) 1) [] new =
-    subst (λ (rs : List Root). AddsSteps system (cores_of rs) nothing_made (closures_due (cores_of rs) (length system.rules) 1) [] new) c.deref.ensures.value
-    (subst (λ (xs : List Step). AddsSteps system (cores_of c.deref.result.now) nothing_made (closures_due (cores_of c.deref.result.now) (length system.rules) 1) xs new)
-    c.new-list.ensures.items (c.in_ok-push_closures.ensures nothing_made)) in
+    subst (λ (xs : List Step). AddsSteps system (parts_in o) nothing_made (closures_due (parts_in o) (length system.rules) 1) xs new) c.new-list.ensures.items
+    (c.in_ok-push_closures.ensures (parts_in o) nothing_made (rw c.deref.ensures.value at c.in_ok-closures.ensures)) in
     record { few = few; recorded = IsRecordedTo-none system (parts_in o) o.last_uses.items new begun }
 
 pub unreachable-requires : goal.unreachable-requires

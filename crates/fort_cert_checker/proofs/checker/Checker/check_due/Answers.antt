@@ -38,10 +38,12 @@ check_step-requires c =
         f,
         certificate,
         made,
-        (steps_are system f certificate a at.checker ∙ ap (map as_step) (sym c.as_slice-steps.ensures.value)),
-        (loop_given system f certificate a at.checker c.deref.result.now c.deref.ensures.value c.deref_mut.result.now c.deref_mut-2.result.now c.deref_mut-3.result.now
-            c.args.place made c.deref_mut.ensures.value c.deref_mut-2.ensures.value c.deref_mut-3.ensures.value at.loop),
-        (due_given system f certificate a at.checker c.deref.result.now c.deref.ensures.value c.args.place (is_due system f certificate a at.checker c.args.place made at.loop c.requires.due.5 c.index.result.now c.in-Some.step.now read own)),
+        (
+          steps_are system f certificate a at.checker ∙ ap (map as_step) (sym c.as_slice-steps.ensures.value),
+          (loop_given system f certificate a at.checker c.deref.result.now c.deref.ensures.value c.deref_mut.result.now c.deref_mut-2.result.now c.deref_mut-3.result.now
+              c.args.place made c.deref_mut.ensures.value c.deref_mut-2.ensures.value c.deref_mut-3.ensures.value at.loop),
+          (due_given system f certificate a at.checker c.deref.result.now c.deref.ensures.value c.args.place (is_due system f certificate a at.checker c.args.place made at.loop c.requires.due.5 c.index.result.now c.in-Some.step.now read own)),
+        ),
       );
     }
 
@@ -71,10 +73,10 @@ returns-clause-failing c =
     (λ e own_failing system f certificate made at.
     fails system f certificate a at.checker c.args.place made at.loop c.requires.due.5 c.index.result.now c.in-Some.step.now read own e.place (as_reason e.reason)
     (λ t. failing_given system f certificate a at.checker c.deref.result.now c.deref.ensures.value made (get_or certificate.steps c.args.place t) e.place (as_reason e.reason)
-    (own_failing at.checker.parts f certificate made t (steps_are system f certificate a at.checker ∙ ap (map as_step) (sym c.as_slice-steps.ensures.value))
+    (own_failing at.checker.parts f certificate made (steps_are system f certificate a at.checker ∙ ap (map as_step) (sym c.as_slice-steps.ensures.value))
     (loop_given system f certificate a at.checker c.deref.result.now c.deref.ensures.value c.deref_mut.result.now c.deref_mut-2.result.now c.deref_mut-3.result.now
     c.args.place made c.deref_mut.ensures.value c.deref_mut-2.ensures.value c.deref_mut-3.ensures.value at.loop)
-    (due_given system f certificate a at.checker c.deref.result.now c.deref.ensures.value c.args.place (is_due system f certificate a at.checker c.args.place made at.loop c.requires.due.5 c.index.result.now c.in-Some.step.now read own)))))
+    (due_given system f certificate a at.checker c.deref.result.now c.deref.ensures.value c.args.place (is_due system f certificate a at.checker c.args.place made at.loop c.requires.due.5 c.index.result.now c.in-Some.step.now read own)) t)))
     c.check_step.ensures.failing
 
 pub returns-clause-same : goal.returns-clause-same

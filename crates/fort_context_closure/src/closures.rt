@@ -1,26 +1,50 @@
-//! The closure of some rules: which right pattern reaches which left pattern.
+//! The closure of an index's rules: which right pattern reaches which left pattern.
 ghost use Rattle.std.specs.Prelude.{◌≡◌, ◌↔◌, ◌<◌, ◌^◌, IfOk, IsTrue, Contains, length, map};
 ghost use Rattle.fort_theory.specs.Patterns as theory;
+ghost use Rattle.fort_theory.specs.Sides.{IsIndexOf, at_index};
 ghost use Rattle.fort_terms.specs.PatternView.{as_pair, as_pattern};
+ghost use Rattle.fort_formulas.specs.CoreView.{as_rel};
 ghost use Rattle.fort_tree_automata.specs.PatternMoves.{IsClosedInOrder};
 ghost use Rattle.fort_agtt.specs.AgttView.{NamesItsStates};
 ghost use Rattle.fort_agtt.specs.RootSteps.{ArePlaces};
 ghost use Rattle.fort_gtt_closure.specs.Reasons.{IsNumbered};
 ghost use Rattle.fort_steps.specs.StepView as steps;
+ghost use Rattle.fort_context_closure.specs.ClosedAtoms.{ListsNone, ListsPasses};
 ghost use Rattle.fort_context_closure.specs.ItemView.{as_items, as_why};
 ghost use Rattle.fort_context_closure.specs.RuleLists.{ListsRules};
 ghost use Rattle.fort_context_closure.specs.Closures.{IsClosureOf, IsTransducerOf};
 
-use crate::rule_list::RuleList;
+use crate::relation::is_reduction;
+use crate::rule_list::{RuleList, rules_of};
 use fort_agtt::Agtt;
+use fort_formulas::Rel;
 use fort_gtt_closure::{Entry, Why, close};
 use fort_steps::{ClosureEntry, Reason};
-use fort_terms::{Memory, Pattern, has_numbers};
+use fort_terms::{Memory, Pattern, System, has_numbers};
 use fort_tree_automata::{pattern_automaton, place};
 use std::alloc::{AllocError, Global};
 
+/// The closure of the rules of an index by which a relation about reductions is told; none for any other relation.
+pub fn closure(
+    alloc: Global,
+    system: &System,
+    index: u32,
+    rel: Rel,
+) -> Result<Vec<ClosureEntry>, Memory>
+    requires { IsIndexOf system.now.rules index }
+    ensures passes { IfOk result (λ list. ListsPasses (as_rel rel)
+        (at_index index system.now.rules) list.items) }
+    ensures none { IfOk result (λ list. ListsNone (as_rel rel) list.items) }
+{
+    if !is_reduction(rel) {
+        return Ok(Vec::new(alloc));
+    }
+    let list = rules_of(alloc, system, index, rel)?;
+    closure_of(alloc, &list)
+}
+
 /// The closure of the transducer whose states are the patterns.
-pub(crate) fn closure_of(alloc: Global, list: &RuleList) -> Result<Vec<ClosureEntry>, Memory>
+fn closure_of(alloc: Global, list: &RuleList) -> Result<Vec<ClosureEntry>, Memory>
     requires { ListsRules (map as_pair list.now.rules.items) list.now }
     ensures { IfOk result (λ entries. IsClosureOf list.now entries.items) }
 {

@@ -7,7 +7,7 @@ use Rattle.fort_theory.specs.Patterns.{Pair}
 use Rattle.fort_agtt.specs.declared.agtt.Agtt.{Agtt}
 use Rattle.fort_gtt_closure.proofs.NumberedLaws.{IsNumbered-root_steps}
 use Rattle.fort_context_closure.proofs.ClosureLaws.{root_steps_of, NamesItsStates-list}
-use Rattle.fort_context_closure.proofs.closure.transducer.Goals as goal
+use Rattle.fort_context_closure.proofs.closures.transducer.Goals as goal
 
 pub pattern_automaton-requires-clause-closed : goal.pattern_automaton-requires-clause-closed
 pattern_automaton-requires-clause-closed c = rw c.deref.ensures.value (IsClosedInOrder-subpatterns _ _ c.requires.left_order)

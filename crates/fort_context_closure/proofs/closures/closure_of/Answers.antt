@@ -1,13 +1,10 @@
-use Rattle.std.specs.Prelude.{◌≡◌, ◌↔◌, ℕ, List, map, Contains}
-use Rattle.std.proofs.Common.{sym, ap, ◌∙◌, subst}
-use Rattle.fort_reachability.specs.ClosureTables.{InClosure}
-use Rattle.fort_agtt.specs.AgttView.{transducer_of}
+use Rattle.std.specs.Prelude.{◌≡◌, List, map}
+use Rattle.std.proofs.Common.{ap, ◌∙◌}
 use Rattle.fort_gtt_closure.specs.declared.entry.Entry.{Entry}
 use Rattle.fort_steps.specs.declared.closure.ClosureEntry.{ClosureEntry}
 use Rattle.fort_steps.specs.StepView.{as_pair}
 use Rattle.fort_context_closure.specs.ItemView.{as_items}
-use Rattle.fort_context_closure.proofs.ClosureLaws.{numbers_written}
-use Rattle.fort_context_closure.proofs.closure.closure_of.Goals as goal
+use Rattle.fort_context_closure.proofs.closures.closure_of.Goals as goal
 
 pub returns : goal.returns
 returns c =
@@ -18,7 +15,4 @@ returns c =
       agtt = c.in_ok-agtt.agtt;
       is = c.in_ok-agtt.ensures.states;
       passed = record { found = found; passes = c.in_ok-closed.ensures.passes; written = written };
-      table = λ p q.
-          subst (λ (ns : List (ℕ × ℕ)). Contains ns (p, q) ↔ InClosure (transducer_of c.in_ok-agtt.agtt) p q) (sym (numbers_written es found written))
-          (c.in_ok-closed.ensures.table p q);
     }
