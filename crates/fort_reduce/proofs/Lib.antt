@@ -1,0 +1,9 @@
+pub mod SplitLaws
+pub mod StartLaws
+pub mod RenumberLaws
+pub mod PassLaws
+pub mod MergingLaws
+pub mod FirstLists
+pub mod WholeLaws
+pub mod SameTable
+pub mod TurnLaws
