@@ -94,7 +94,7 @@ module _ (system : PatternSystem) where
         law = record { some = omega (arith, some, count); narrow = omega (arith, few, count); tells = λ k ws. refl };
         signature = right.answers.over.signature;
         columns = count;
-        alike = LabelsTellAlike-projected system n f body right among;
+        alike = LabelsTellAlike-projected system n f body among right;
         right = λ t by. project_right system n f body (project_local body (place_in (columns_of f) n)) (listed_table t) among some few right.answers refl by;
       }
 
@@ -106,6 +106,6 @@ module _ (system : PatternSystem) where
         law = record { some = omega (arith, some, count); narrow = omega (arith, few, count); tells = λ k ws. refl };
         signature = right.answers.over.signature;
         columns = count;
-        alike = LabelsTellAlike-many system n f body many right among tells;
+        alike = LabelsTellAlike-many system n f body many among tells right;
         right = λ t by. many_right system n f many body (many_local body (place_in (columns_of f) n) many) (listed_table t) among some few right.answers tells refl by;
       }

@@ -1,4 +1,4 @@
--- Results for whoever decides part by part: a table by the labels of an atom is right for it.
+-- Results for whoever decides part by part: a table by the labels of an atom answers it.
 use Rattle.std.specs.Prelude.{◌≡◌, ◌↔◌, ℕ, ◌<◌, List, length, Bool, Decides, None, get_or, refl}
 use Rattle.std.proofs.Common.{ap, sym, ◌∙◌, subst, arith}
 use Rattle.fort_theory.specs.Trees.{Tree}
@@ -8,7 +8,7 @@ use Rattle.fort_logic.specs.Cores.{Rel, Core}
 use Rattle.fort_logic.specs.PatternStructures.{pattern_structure}
 use Rattle.fort_tables.specs.Tuples.{Tuple, IsTuple, IsFull}
 use Rattle.fort_tables.specs.Tables.{Table}
-use Rattle.fort_tables.specs.Labels.{Labelling, IsTableOf}
+use Rattle.fort_tables.specs.Labels.{Labelling}
 use Rattle.fort_tables.specs.LabelRules.{IsTableBy}
 use Rattle.fort_alike.specs.Atoms.{OfOne, relation_atom, normal_atom, IsTrueOf}
 use Rattle.fort_alike.specs.Alike.{Alike}
@@ -16,12 +16,10 @@ use Rattle.fort_alike.specs.AlikeAtTerm.{AlikeAtTerm}
 use Rattle.fort_atom_labels.proofs.AtomPlaces.{ArePlaces-columns}
 use Rattle.fort_operations.specs.OperationTruth.{accepts}
 use Rattle.fort_parts.specs.PartColumns.{columns_of}
-use Rattle.fort_parts.specs.PartAnswers.{OfTable, said, TellsTruth}
+use Rattle.fort_parts.specs.PartAnswers.{OfTable, said, TellsTruth, IsAnswerTo}
 use Rattle.fort_parts.specs.PartLabels.{LabelsTellAlike}
-use Rattle.fort_parts.specs.RightAnswers.{IsRightFor}
 use Rattle.fort_parts.proofs.PartColumnLaws.{AreColumns-columns_of, columns_of-Nf, columns_of-Is}
 use Rattle.fort_parts.proofs.StepTables.{IsTableOver-labels}
-use Rattle.fort_parts.proofs.StepAlike.{TellsAlike-labels}
 use Rattle.fort_parts.proofs.AtomAnswers.{AcceptsExactly, TellsTruth-Atom, TellsTruth-Nf, TellsTruth-Is}
 
 -- the labels of tuples of terms are accepted exactly where P holds of the tuple
@@ -37,45 +35,36 @@ module _ (system : PatternSystem) (label : Labelling) (accepting : List ℕ → 
       let e : accepts table t ≡ accepting (label t) = by.full t is full in
       ((λ h. d.0 (sym e ∙ h)), (λ p. e ∙ d.1 p))
 
-  right : (f : Core) → 0 < length (columns_of f) → LabelsTellAlike system f label → TellsTruth (pattern_structure system) f (said (OfTable table))
-      → IsTableOf system.signature (length (columns_of f)) label accepting table → IsTableBy system.signature (length (columns_of f)) label accepting table
-      → IsRightFor system f (OfTable table)
-  right f some tells truth of by = record {
-    answers = record {
-      over = IsTableOver-labels system.signature (columns_of f) (length (columns_of f)) table label accepting some refl by;
-      truth = truth;
-    };
-    alike = TellsAlike-labels system f label accepting table tells of;
+  answer : (f : Core) → 0 < length (columns_of f) → TellsTruth (pattern_structure system) f (said (OfTable table))
+      → IsTableBy system.signature (length (columns_of f)) label accepting table → IsAnswerTo (pattern_structure system) f (OfTable table)
+  answer f some truth by = record {
+    over = IsTableOver-labels system.signature (columns_of f) (length (columns_of f)) table label accepting some refl by;
+    truth = truth;
   }
 
-  pub IsRightFor-Atom : (rel : Rel) (index x y : ℕ) → LabelsTellAlike system (core.Atom rel index x y) label
+  pub IsAnswerTo-Atom : (rel : Rel) (index x y : ℕ)
       → AcceptsLabels system (length (columns_of (core.Atom rel index x y))) label accepting (IsTrueOf (relation_atom system rel index x y (columns_of (core.Atom rel index x y))))
-      → IsTableOf system.signature (length (columns_of (core.Atom rel index x y))) label accepting table
       → IsTableBy system.signature (length (columns_of (core.Atom rel index x y))) label accepting table
-      → IsRightFor system (core.Atom rel index x y) (OfTable table)
-  IsRightFor-Atom rel index x y tells exactly of by =
+      → IsAnswerTo (pattern_structure system) (core.Atom rel index x y) (OfTable table)
+  IsAnswerTo-Atom rel index x y exactly by =
       let f = core.Atom rel index x y in
-      right f (ArePlaces-columns rel index x y (columns_of f) (AreColumns-columns_of f)).some tells
-      (TellsTruth-Atom system table rel index x y (by_table (length (columns_of f)) _ by exactly)) of by
+      answer f (ArePlaces-columns rel index x y (columns_of f) (AreColumns-columns_of f)).some
+      (TellsTruth-Atom system table rel index x y (by_table (length (columns_of f)) _ by exactly)) by
 
   -- of one column
-  one : (f : Core) → length (columns_of f) ≡ 1 → LabelsTellAlike system f label → TellsTruth (pattern_structure system) f (said (OfTable table))
-      → IsTableOf system.signature 1 label accepting table → IsTableBy system.signature 1 label accepting table → IsRightFor system f (OfTable table)
-  one f single tells truth of by =
-      right f (omega arith) tells truth (subst (λ n. IsTableOf system.signature n label accepting table) (sym single) of)
-      (subst (λ n. IsTableBy system.signature n label accepting table) (sym single) by)
+  one : (f : Core) → length (columns_of f) ≡ 1 → TellsTruth (pattern_structure system) f (said (OfTable table)) → IsTableBy system.signature 1 label accepting table
+      → IsAnswerTo (pattern_structure system) f (OfTable table)
+  one f single truth by = answer f (omega arith) truth (subst (λ n. IsTableBy system.signature n label accepting table) (sym single) by)
 
-  pub IsRightFor-Nf : (index x : ℕ) → LabelsTellAlike system (core.Nf index x) label
-      → AcceptsLabels system 1 label accepting (IsTrueOf (normal_atom system index))
-      → IsTableOf system.signature 1 label accepting table → IsTableBy system.signature 1 label accepting table → IsRightFor system (core.Nf index x) (OfTable table)
-  IsRightFor-Nf index x tells exactly of by =
-      one (core.Nf index x) (ap length (columns_of-Nf index x)) tells (TellsTruth-Nf system table index x (by_table 1 _ by exactly)) of by
+  pub IsAnswerTo-Nf : (index x : ℕ) → AcceptsLabels system 1 label accepting (IsTrueOf (normal_atom system index))
+      → IsTableBy system.signature 1 label accepting table → IsAnswerTo (pattern_structure system) (core.Nf index x) (OfTable table)
+  IsAnswerTo-Nf index x exactly by =
+      one (core.Nf index x) (ap length (columns_of-Nf index x)) (TellsTruth-Nf system table index x (by_table 1 _ by exactly)) by
 
-  pub IsRightFor-Is : (x : ℕ) (term : Tree) → LabelsTellAlike system (core.Is x term) label
-      → AcceptsLabels system 1 label accepting (λ t. OfOne (λ s. s ≡ term) (get_or t 0 None))
-      → IsTableOf system.signature 1 label accepting table → IsTableBy system.signature 1 label accepting table → IsRightFor system (core.Is x term) (OfTable table)
-  IsRightFor-Is x term tells exactly of by =
-      one (core.Is x term) (ap length (columns_of-Is x term)) tells (TellsTruth-Is system table x term (by_table 1 _ by exactly)) of by
+  pub IsAnswerTo-Is : (x : ℕ) (term : Tree) → AcceptsLabels system 1 label accepting (λ t. OfOne (λ s. s ≡ term) (get_or t 0 None))
+      → IsTableBy system.signature 1 label accepting table → IsAnswerTo (pattern_structure system) (core.Is x term) (OfTable table)
+  IsAnswerTo-Is x term exactly by =
+      one (core.Is x term) (ap length (columns_of-Is x term)) (TellsTruth-Is system table x term (by_table 1 _ by exactly)) by
 
 -- what labels of one column tell, at a formula of one column
 module _ (system : PatternSystem) (label : Labelling) where

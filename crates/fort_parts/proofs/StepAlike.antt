@@ -1,4 +1,4 @@
--- Each step keeps likeness: two tuples have one label exactly where they are alike, by when they are alike at the operands; a part is over the cap exactly where there are more labels.
+-- Each step keeps likeness: two tuples have one label exactly where they are alike, by any likeness at the operands; a part is over the cap exactly where there are more labels.
 use Rattle.std.specs.Prelude.{◌≡◌, ◌↔◌, ℕ, ◌+◌, ◌-◌, ◌<◌, ◌||◌, List, length, Bool, refl}
 use Rattle.std.proofs.Common.{ap, sym, subst, arith}
 use Rattle.fort_theory.specs.Signatures.{Signature}
@@ -15,91 +15,87 @@ use Rattle.fort_operations.specs.Products as products
 use Rattle.fort_operations.specs.Products.{Operand, product_rule}
 use Rattle.fort_operations.specs.Projections.{project_rule}
 use Rattle.fort_operations.specs.OperationTruth.{complemented}
-use Rattle.fort_operations.specs.Agreement.{AgreeAtBoth, AgreeAtSome}
+use Rattle.fort_operations.specs.Agreement.{Agreement, TellsAgreement, AgreeAtBoth, AgreeAtSome}
 use Rattle.fort_operations.proofs.AgreementLaws.{TellsAtOperand, both_alike, project_alike}
 use Rattle.fort_counts.specs.ManyLabels.{TellsMany, many_rule}
 use Rattle.fort_counts.specs.ManyAgreement.{AgreeAtMany}
 use Rattle.fort_counts.proofs.ManyAgreementLaws.{many_alike}
 use Rattle.fort_parts.specs.PartColumns.{columns_of, place_in, places_in}
-use Rattle.fort_parts.specs.AlikeParts.{AlikeAt, IsPartOver}
+use Rattle.fort_parts.specs.AlikeParts.{IsOverBy}
 use Rattle.fort_parts.specs.PartAnswers.{Answer, OfValue, OfTable, IsTableOver, FitsColumns}
 use Rattle.fort_parts.specs.PartSteps.{operand_of}
-use Rattle.fort_parts.specs.PartLabels.{LabelsTellAlike, TellsAlike}
+use Rattle.fort_parts.specs.PartLabels.{LabelsTell, Tells}
 use Rattle.fort_parts.proofs.PartColumnLaws.{first_within, second_within}
 use Rattle.fort_parts.proofs.StepTables.{IsOperand-answer}
 
-tells-operand : (system : PatternSystem) (f : Core) (places : List ℕ) (a : Answer) → TellsAlike system f a → TellsAtOperand (operand_of a places) (AlikeAt system f)
-tells-operand system f places (OfValue b) tells = tt
-tells-operand system f places (OfTable table) tells = tells
+tells-operand : (like : Agreement) (places : List ℕ) (a : Answer) → Tells like a → TellsAtOperand (operand_of a places) like
+tells-operand like places (OfValue b) tells = tt
+tells-operand like places (OfTable table) tells = tells
 
 places_of-operand : (sig : Signature) (xs zs : List ℕ) (a : Answer) → FitsColumns sig xs a → products.places_of (operand_of a (places_in zs xs)) ≡ places_in zs xs
 places_of-operand sig xs zs (OfValue b) fits = ap (places_in zs) (sym fits)
 places_of-operand sig xs zs (OfTable table) fits = refl
 
--- a formula with two operands
-module _ (system : PatternSystem) (h f g : Core) (first second : Answer) (tells : (n : ℕ) → is_free n h ≡ (is_free n f || is_free n g))
+-- a formula with two operands, by any likeness at these
+module _ (system : PatternSystem) (h f g : Core) (like_f like_g : Agreement) (first second : Answer) (tells : (n : ℕ) → is_free n h ≡ (is_free n f || is_free n g))
     (first_fits : FitsColumns system.signature (columns_of f) first) (second_fits : FitsColumns system.signature (columns_of g) second)
-    (first_tells : TellsAlike system f first) (second_tells : TellsAlike system g second) where
-  pub product_alike : (t u : Tuple) → IsTuple system.signature (length (columns_of h)) t → IsTuple system.signature (length (columns_of h)) u
+    (first_tells : Tells like_f first) (second_tells : Tells like_g second) where
+  pub product_tells : (t u : Tuple) → IsTuple system.signature (length (columns_of h)) t → IsTuple system.signature (length (columns_of h)) u
       → (label_of (product_rule (length (columns_of h)) (operand_of first (places_in (columns_of h) (columns_of f))) (operand_of second (places_in (columns_of h) (columns_of g)))) t
       ≡ label_of (product_rule (length (columns_of h)) (operand_of first (places_in (columns_of h) (columns_of f))) (operand_of second (places_in (columns_of h) (columns_of g)))) u)
-      ↔ AgreeAtBoth (places_in (columns_of h) (columns_of f)) (AlikeAt system f) (places_in (columns_of h) (columns_of g)) (AlikeAt system g) t u
-  product_alike t u is also =
+      ↔ AgreeAtBoth (places_in (columns_of h) (columns_of f)) like_f (places_in (columns_of h) (columns_of g)) like_g t u
+  product_tells t u is also =
       let zs = columns_of h in
       let one = operand_of first (places_in zs (columns_of f)) in
       let other = operand_of second (places_in zs (columns_of g)) in
       let w =
-      both_alike system.signature (length zs) one other (AlikeAt system f) (AlikeAt system g)
+      both_alike system.signature (length zs) one other like_f like_g
       (IsOperand-answer system.signature (columns_of f) zs first (first_within h f g tells) first_fits)
       (IsOperand-answer system.signature (columns_of g) zs second (second_within h f g tells) second_fits)
-      (tells-operand system f (places_in zs (columns_of f)) first first_tells) (tells-operand system g (places_in zs (columns_of g)) second second_tells) t u is also in
+      (tells-operand like_f (places_in zs (columns_of f)) first first_tells) (tells-operand like_g (places_in zs (columns_of g)) second second_tells) t u is also in
       subst (λ ps. (label_of (product_rule (length zs) one other) t ≡ label_of (product_rule (length zs) one other) u)
-      ↔ AgreeAtBoth ps (AlikeAt system f) (places_in zs (columns_of g)) (AlikeAt system g) t u) (places_of-operand system.signature (columns_of f) zs first first_fits)
+      ↔ AgreeAtBoth ps like_f (places_in zs (columns_of g)) like_g t u) (places_of-operand system.signature (columns_of f) zs first first_fits)
       (subst (λ ps. (label_of (product_rule (length zs) one other) t ≡ label_of (product_rule (length zs) one other) u)
-      ↔ AgreeAtBoth (products.places_of one) (AlikeAt system f) ps (AlikeAt system g) t u) (places_of-operand system.signature (columns_of g) zs second second_fits) w)
+      ↔ AgreeAtBoth (products.places_of one) like_f ps like_g t u) (places_of-operand system.signature (columns_of g) zs second second_fits) w)
 
--- a complement has its body's states
-pub TellsAlike-Not : (system : PatternSystem) (f : Core) (table : Table) → TellsAlike system f (OfTable table) → TellsAlike system (core.Not f) (OfTable (complemented table))
-TellsAlike-Not system f table tells = tells
-
--- a column of the body beside others
-pub project_tells_alike : (system : PatternSystem) (n : ℕ) (f : Core) (body : Table) → IsTableOver system.signature (columns_of f) body
-    → place_in (columns_of f) n < length (columns_of f) → length (columns_of (core.Exists n f)) + 1 ≡ length (columns_of f) → TellsAlike system f (OfTable body)
-    → LabelsTellAlike system (core.Exists n f) (label_of (project_rule body (place_in (columns_of f) n)))
-project_tells_alike system n f body over low count tells t u is also =
+-- a column of the body beside others, by any likeness at the body
+pub project_tells : (system : PatternSystem) (n : ℕ) (f : Core) (like : Agreement) (body : Table) → IsTableOver system.signature (columns_of f) body
+    → place_in (columns_of f) n < length (columns_of f) → length (columns_of (core.Exists n f)) + 1 ≡ length (columns_of f) → TellsAgreement body like
+    → LabelsTell system (core.Exists n f) (AgreeAtSome system.signature (place_in (columns_of f) n) like) (label_of (project_rule body (place_in (columns_of f) n)))
+project_tells system n f like body over low count tells t u is also =
     let c = place_in (columns_of f) n in
     let own : length (columns_of (core.Exists n f)) ≡ body.columns - 1 = omega (arith, over.columns_are) in
     let moved : (s : Tuple) → IsTuple system.signature (length (columns_of (core.Exists n f))) s → IsTuple body.signature (body.columns - 1) s =
     λ s h. subst (λ z. IsTuple z (body.columns - 1) s) (sym over.signature) (subst (λ k. IsTuple system.signature k s) own h) in
-    subst (λ z. (label_of (project_rule body c) t ≡ label_of (project_rule body c) u) ↔ AgreeAtSome z c (AlikeAt system f) t u) over.signature
-    (project_alike body c (AlikeAt system f) over.lawful over.reached (omega (arith, over.columns_are)) tells t u (moved t is) (moved u also))
+    subst (λ z. (label_of (project_rule body c) t ≡ label_of (project_rule body c) u) ↔ AgreeAtSome z c like t u) over.signature
+    (project_alike body c like over.lawful over.reached (omega (arith, over.columns_are)) tells t u (moved t is) (moved u also))
 
 -- the same for "infinitely many", with what is known of the counts
-pub many_tells_alike : (system : PatternSystem) (n : ℕ) (f : Core) (body : Table) (many : ℕ → Bool) → IsTableOver system.signature (columns_of f) body
+pub many_tells : (system : PatternSystem) (n : ℕ) (f : Core) (like : Agreement) (body : Table) (many : ℕ → Bool) → IsTableOver system.signature (columns_of f) body
     → TellsMany body (place_in (columns_of f) n) many → place_in (columns_of f) n < length (columns_of f)
-    → length (columns_of (core.Infinite n f)) + 1 ≡ length (columns_of f) → TellsAlike system f (OfTable body)
-    → LabelsTellAlike system (core.Infinite n f) (label_of (many_rule body (place_in (columns_of f) n) many))
-many_tells_alike system n f body many over tells_many low count tells t u is also =
+    → length (columns_of (core.Infinite n f)) + 1 ≡ length (columns_of f) → TellsAgreement body like
+    → LabelsTell system (core.Infinite n f) (AgreeAtMany system.signature (place_in (columns_of f) n) like) (label_of (many_rule body (place_in (columns_of f) n) many))
+many_tells system n f like body many over tells_many low count tells t u is also =
     let c = place_in (columns_of f) n in
     let own : length (columns_of (core.Infinite n f)) ≡ body.columns - 1 = omega (arith, over.columns_are) in
     let moved : (s : Tuple) → IsTuple system.signature (length (columns_of (core.Infinite n f))) s → IsTuple body.signature (body.columns - 1) s =
     λ s h. subst (λ z. IsTuple z (body.columns - 1) s) (sym over.signature) (subst (λ k. IsTuple system.signature k s) own h) in
-    subst (λ z. (label_of (many_rule body c many) t ≡ label_of (many_rule body c many) u) ↔ AgreeAtMany z c (AlikeAt system f) t u) over.signature
-    (many_alike body c many (AlikeAt system f) over.lawful over.reached (omega (arith, over.columns_are)) tells_many tells t u (moved t is) (moved u also))
+    subst (λ z. (label_of (many_rule body c many) t ≡ label_of (many_rule body c many) u) ↔ AgreeAtMany z c like t u) over.signature
+    (many_alike body c many like over.lawful over.reached (omega (arith, over.columns_are)) tells_many tells t u (moved t is) (moved u also))
 
--- Result: a table of such labels tells when tuples are alike
-pub TellsAlike-labels : (system : PatternSystem) (f : Core) (label : Labelling) (accepting : List ℕ → Bool) (table : Table) → LabelsTellAlike system f label
-    → IsTableOf system.signature (length (columns_of f)) label accepting table → TellsAlike system f (OfTable table)
-TellsAlike-labels system f label accepting table tells of t u is also =
+-- Result: a table of labels that tell a likeness tells it
+pub Tells-labels : (system : PatternSystem) (f : Core) (like : Agreement) (label : Labelling) (accepting : List ℕ → Bool) (table : Table) → LabelsTell system f like label
+    → IsTableOf system.signature (length (columns_of f)) label accepting table → TellsAgreement table like
+Tells-labels system f like label accepting table tells of t u is also =
     let moved : (s : Tuple) → IsTuple table.signature table.columns s → IsTuple system.signature (length (columns_of f)) s =
     λ s h. subst (λ z. IsTuple z (length (columns_of f)) s) of.signature (subst (λ k. IsTuple table.signature k s) of.columns_are h) in
     let same = of.same t u (moved t is) (moved u also) in
-    let like = tells t u (moved t is) (moved u also) in
-    ((λ e. like.0 (same.0 e)), (λ a. same.1 (like.1 a)))
+    let both = tells t u (moved t is) (moved u also) in
+    ((λ e. both.0 (same.0 e)), (λ a. same.1 (both.1 a)))
 
--- Result: the part is over the cap exactly where there are more labels
-pub IsPartOver-labels : (system : PatternSystem) (f : Core) (label : Labelling) (cap : ℕ) → LabelsTellAlike system f label → 0 < length (columns_of f)
-    → HasMoreLabels system.signature (length (columns_of f)) label cap ↔ IsPartOver system f cap
-IsPartOver-labels system f label cap tells some =
-    let w = HasMoreLabels-IsOver system.signature (length (columns_of f)) label (AlikeAt system f) tells cap in
+-- Result: by a likeness the part is over the cap exactly where there are more labels
+pub IsOverBy-labels : (system : PatternSystem) (like : Core → Agreement) (f : Core) (label : Labelling) (cap : ℕ) → LabelsTell system f (like f) label → 0 < length (columns_of f)
+    → HasMoreLabels system.signature (length (columns_of f)) label cap ↔ IsOverBy system like f cap
+IsOverBy-labels system like f label cap tells some =
+    let w = HasMoreLabels-IsOver system.signature (length (columns_of f)) label (like f) tells cap in
     ((λ more. record { some = some; over = w.0 more }), (λ over. w.1 over.over))

@@ -1,4 +1,4 @@
--- To believe: when two optional tuples are alike at a core formula, over its columns; a part is over a cap where there are more tuples than it, no two of them alike.
+-- To believe: when two optional tuples are alike at a core formula, over its columns, also by another likeness at its operands; by a likeness a part is over a cap where there are more tuples than it, no two of them alike.
 use Rattle.std.specs.Prelude.{ℕ, ◌<◌, List, length, get_or}
 use Rattle.fort_theory.specs.Patterns.{PatternSystem}
 use Rattle.fort_logic.specs.Cores.{Core, True, Atom, Nf, Is, Not, And, Or, Iff, Exists, Infinite}
@@ -26,13 +26,33 @@ AlikeAt system (Iff f g) t u =
 AlikeAt system (Exists n f) t u = AgreeAtSome system.signature (place_in (columns_of f) n) (AlikeAt system f) t u
 AlikeAt system (Infinite n f) t u = AgreeAtMany system.signature (place_in (columns_of f) n) (AlikeAt system f) t u
 
--- a part without columns is never over a cap
-pub record IsPartOver (system : PatternSystem) (f : Core) (cap : ℕ) : Type 0 where
+-- the same with any likeness at the operands in the place of this one
+abbrev pub AlikeBy : PatternSystem → (Core → Agreement) → Core → Agreement
+AlikeBy system like True t u = Unit {0}
+AlikeBy system like (Atom rel index x y) t u = AlikeAt system (Atom rel index x y) t u
+AlikeBy system like (Nf index x) t u = AlikeAt system (Nf index x) t u
+AlikeBy system like (Is x term) t u = AlikeAt system (Is x term) t u
+AlikeBy system like (Not f) t u = like f t u
+AlikeBy system like (And f g) t u =
+    AgreeAtBoth (places_in (columns_of (And f g)) (columns_of f)) (like f) (places_in (columns_of (And f g)) (columns_of g)) (like g) t u
+AlikeBy system like (Or f g) t u =
+    AgreeAtBoth (places_in (columns_of (Or f g)) (columns_of f)) (like f) (places_in (columns_of (Or f g)) (columns_of g)) (like g) t u
+AlikeBy system like (Iff f g) t u =
+    AgreeAtBoth (places_in (columns_of (Iff f g)) (columns_of f)) (like f) (places_in (columns_of (Iff f g)) (columns_of g)) (like g) t u
+AlikeBy system like (Exists n f) t u = AgreeAtSome system.signature (place_in (columns_of f) n) (like f) t u
+AlikeBy system like (Infinite n f) t u = AgreeAtMany system.signature (place_in (columns_of f) n) (like f) t u
+
+-- by a likeness at the formula itself; without columns it is never over a cap
+pub record IsOverBy (system : PatternSystem) (like : Core → Agreement) (f : Core) (cap : ℕ) : Type 0 where
   pub some : 0 < length (columns_of f)
-  pub over : IsOver system.signature (length (columns_of f)) (AlikeAt system f) cap
+  pub over : IsOver system.signature (length (columns_of f)) (like f) cap
 
 -- part k is over the cap, and none before it is
-pub record IsFirstOver (system : PatternSystem) (parts : List Core) (cap k : ℕ) : Type 0 where
+pub record IsFirstOverBy (system : PatternSystem) (like : Core → Agreement) (parts : List Core) (cap k : ℕ) : Type 0 where
   pub within : k < length parts
-  pub over : IsPartOver system (get_or parts k True) cap
-  pub before : (j : ℕ) → j < k → IsPartOver system (get_or parts j True) cap → ⊥
+  pub over : IsOverBy system like (get_or parts k True) cap
+  pub before : (j : ℕ) → j < k → IsOverBy system like (get_or parts j True) cap → ⊥
+
+-- by when tuples are alike
+abbrev pub IsPartOver : PatternSystem → Core → ℕ → Type 0
+IsPartOver system f cap = IsOverBy system (AlikeAt system) f cap
