@@ -1,0 +1,2 @@
+pub mod ReducedParts
+pub mod ToldParts
