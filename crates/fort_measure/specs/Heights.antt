@@ -1,5 +1,5 @@
--- To believe: a label that tells the height of a tuple up to a cap.
-use Rattle.std.specs.Prelude.{◌≡◌, ℕ, ◌+◌, max, List, [], ◌∷◌, length, get_or, nat_eq, nat_lt, if◌then◌else◌}
+-- To believe: a label that tells the height of a tuple up to a cap; which heights are accepted.
+use Rattle.std.specs.Prelude.{◌≡◌, ℕ, ◌+◌, ◌%◌, Bool, true, max, List, [], ◌∷◌, length, get_or, nat_eq, nat_lt, if◌then◌else◌}
 use Rattle.fort_theory.specs.Signatures.{Signature}
 use Rattle.fort_tables.specs.Tuples.{TupleSymbol, presence}
 use Rattle.fort_tables.specs.LabelRules.{LabelRule}
@@ -22,3 +22,7 @@ height_rule sig columns cap = record {
   columns = columns;
   step = λ f ws. presence f ∷ most cap ws ∷ [];
 }
+
+-- all heights; the odd ones; the cap alone
+abbrev pub is_accepted : (mode cap height : ℕ) → Bool
+is_accepted mode cap height = if nat_eq mode 0 then true else (if nat_eq mode 1 then nat_eq (height % 2) 1 else nat_eq height cap)

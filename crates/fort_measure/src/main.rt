@@ -1,18 +1,20 @@
 //! A measure of tables: makes the table of the heights of tuples up to a cap, and looks targets of its entries up.
-//! Standard input is one line of six numbers: columns (1 to 3); the cap; the symbols beside a constant (1 for one of one argument,
+//! Standard input is one line of six to eight numbers: columns (1 to 3); the cap; the symbols beside a constant (1 for one of one argument,
 //! 2 for one of two, 0 for both); n, where each n-th entry is kept (0 where no entry is gone over); how often the kept ones are
 //! looked up; and a multiplier, which puts them in another order (1 for their own).
-//! It prints how many were kept (how many states there are where n is 0), and the sum of the targets.
+//! A seventh number says which heights are accepted (0 all, 1 the odd ones, 2 the cap alone), an eighth how often the table is reduced.
+//! It prints how many were kept (how many states there are where n is 0), and the sum of the targets; where it is reduced, the states then.
 #![tactic(auto)]
 
 ghost use Rattle.std.specs.Prelude.{◌≡◌, ◌<◌, ◌≤◌, ◌^◌, ℕ, map, length, slice_index_or, [], IfOk};
-ghost use Rattle.fort_measure.specs.Heights.{columns_for as columns_for_lem, further as further_lem, most as most_lem};
+ghost use Rattle.fort_measure.specs.Heights.{columns_for as columns_for_lem, further as further_lem, most as most_lem, is_accepted as is_accepted_lem};
 
 mod sample;
 
 use crate::sample::{look_up, mixed, sample};
 use fort_explore::{ByRule, ExploreFault, LocalRule, Rows, explore};
 use fort_lockstep::{Dta, Row, Table};
+use fort_reduce::reduce;
 use fort_terms::{AddFault, Memory, Signature};
 use std::alloc::Global;
 use std::io;
@@ -24,6 +26,18 @@ struct Heights<'a> {
     signature: &'a Signature,
     columns: u64,
     cap: u64,
+    mode: u64,
+}
+
+/// Whether a height is accepted.
+fn is_accepted(mode: u64, cap: u64, height: u64) -> bool
+    ensures { result ≡ is_accepted_lem mode cap height }
+{
+    match mode {
+        0 => true,
+        1 => height % 2 == 1,
+        _ => height == cap,
+    }
 }
 
 /// One to three columns.
@@ -73,14 +87,14 @@ fn most(cap: u64, row: &Row, rows: &Rows) -> u64
 }
 
 impl<'a> LocalRule for Heights<'a> {
-    ghost use Rattle.std.specs.Prelude.{◌≡◌, ℕ, List, true, refl};
-    ghost use Rattle.fort_measure.specs.Heights.{columns_for, height_rule};
+    ghost use Rattle.std.specs.Prelude.{◌≡◌, ℕ, List, get_or, refl};
+    ghost use Rattle.fort_measure.specs.Heights.{columns_for, height_rule, is_accepted};
 
     ghost rule = { λ s. height_rule s.signature.now (columns_for s.columns) s.cap };
 
     ghost word_count = { λ _. 2 };
 
-    ghost accepting = { λ _ _. true };
+    ghost accepting = { λ s ws. is_accepted s.mode s.cap (get_or ws 1 0) };
 
     ghost tells = { λ _ _ _. refl };
 
@@ -99,8 +113,8 @@ impl<'a> LocalRule for Heights<'a> {
         out[1] = most(self.cap, row, rows);
     }
 
-    fn accepts(&self, _words: &[u64]) -> bool {
-        true
+    fn accepts(&self, words: &[u64]) -> bool {
+        is_accepted(self.mode, self.cap, word(words))
     }
 }
 
@@ -126,6 +140,8 @@ struct Plan {
     every: u64,
     rounds: u64,
     multiplier: u64,
+    mode: u64,
+    reduces: u64,
 }
 
 /// How many entries were kept, and the sum of the targets that were looked up.
@@ -139,15 +155,31 @@ fn look_ups(alloc: Global, table: &Dta, plan: &Plan) -> Result<(usize, u64), Mem
     Ok((rows.len(), sum))
 }
 
+/// How many states there are when the table has been reduced so often, each time anew, and the sum of the classes' counts.
+fn reductions(alloc: Global, table: &Dta, rounds: u64) -> Result<(usize, u64), Memory> {
+    let mut count = 0usize;
+    let mut sum = 0u64;
+    for _ in 0..rounds {
+        let (reduced, classes) = reduce(alloc, table)?;
+        count = reduced.states() as usize;
+        sum = sum.wrapping_add(classes.len() as u64);
+    }
+    Ok((count, sum))
+}
+
 fn measured(alloc: Global, plan: &Plan) -> Result<(usize, u64), AddFault> {
     let signature = signature(alloc, plan.shape)?;
     let rule = Heights {
         signature: &signature,
         columns: plan.columns,
         cap: plan.cap,
+        mode: plan.mode,
     };
     match explore(alloc, &signature, &ByRule(&rule), 20_000_000) {
         Ok(table) => {
+            if plan.reduces > 0 {
+                return Ok(reductions(alloc, &table, plan.reduces)?);
+            }
             if plan.every == 0 {
                 return Ok((table.states() as usize, 0));
             }
@@ -159,10 +191,10 @@ fn measured(alloc: Global, plan: &Plan) -> Result<(usize, u64), AddFault> {
 }
 
 fn main(rt: HostRuntime) -> io::Result<ExitCode> {
-    let mut numbers = [0u64; 6];
+    let mut numbers = [0u64; 8];
     for line in rt.lines(rt.alloc()) {
         for (i, text) in line?.as_str().split(' ').enumerate() {
-            if i < 6 {
+            if i < 8 {
                 numbers[i] = text.parse::<u64>().unwrap_or(0);
             }
         }
@@ -174,6 +206,8 @@ fn main(rt: HostRuntime) -> io::Result<ExitCode> {
         every: numbers[3],
         rounds: numbers[4],
         multiplier: numbers[5],
+        mode: numbers[6],
+        reduces: numbers[7],
     };
     match measured(rt.alloc(), &plan) {
         Ok((count, sum)) => println!(rt; "{count}, {sum}")?,

@@ -7,3 +7,4 @@ pub mod FirstLists
 pub mod WholeLaws
 pub mod SameTable
 pub mod TurnLaws
+pub mod FrontLaws

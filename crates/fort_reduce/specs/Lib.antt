@@ -1,3 +1,5 @@
 pub mod Walks
 pub mod Merging
 pub mod MergedTables
+pub mod Finding
+pub mod Fronts

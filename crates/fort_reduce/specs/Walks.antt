@@ -1,5 +1,5 @@
 -- Inside: what a walk over entries does to classes: either it leaves them, and something holds of them, or there are more.
-use Rattle.std.specs.Prelude.{◌≡◌, ◌⊎◌, ℕ, ◌<◌, ◌≤◌, List, ◌++◌, map, length, get_or, Bool, true}
+use Rattle.std.specs.Prelude.{◌≡◌, ◌⊎◌, ℕ, ◌<◌, ◌≤◌, List, ◌++◌, map, length, get_or}
 use Rattle.fort_tables.specs.Tuples.{TupleSymbol, kid_presence}
 use Rattle.fort_tables.specs.Entries.{Entry, entry}
 use Rattle.fort_tables.specs.Tables.{Table, IsTableEntry}
@@ -36,10 +36,6 @@ pub record IsRenumberedTo (of : List ℕ) (count k : ℕ) (names new : List ℕ)
   pub known : (q : ℕ) → q < k → get_or names (get_or of q 0) 0 < next
   pub other : (c : ℕ) → c < count → (get_or names c 0 ≡ 4294967295) ⊎ (get_or names c 0 < next)
   pub only : (c d : ℕ) → c < count → d < count → get_or names c 0 ≡ get_or names d 0 → get_or names c 0 < next → c ≡ d
-
--- a target that was looked up, where it is known
-abbrev pub IsLedBy : Table → Bool → Entry → ℕ → Type 0
-IsLedBy table is_known e target = is_known ≡ true → target ≡ table.target e
 
 -- the entry over the leaders of its children's classes
 abbrev pub led_in : List ℕ → List ℕ → Entry → Entry

@@ -1,12 +1,10 @@
 //! Entries over the leaders of their children's classes.
 ghost use Rattle.std.specs.Prelude.{◌≡◌, ℕ, ◌<◌, ◌≤◌, set, length, slice_index_or, true, false};
 ghost use Rattle.fort_tables.specs.Entries.{entry};
-ghost use Rattle.fort_tables.specs.Tables.{listed_table, IsTableEntry};
 ghost use Rattle.fort_interchange.specs.Refinement.{leader_in};
-ghost use Rattle.fort_reduce.specs.Walks.{IsLedBy};
 
 use crate::classes::Classes;
-use fort_lockstep::{Dta, Row, Table, TupleSym};
+use fort_lockstep::Row;
 
 /// The leader of a state's class.
 pub fn leader_of(classes: &Classes, q: u32) -> u32
@@ -60,46 +58,4 @@ pub fn row_with(row: &Row, j: usize, q: u32) -> Row
     states[..kids.len()].copy_from_slice(kids);
     states[j] = q;
     Row::new(row.sym(), &states[..kids.len()])
-}
-
-/// The entry whose target was looked up last.
-#[derive(Drop)]
-pub struct Led {
-    pub row: Row,
-    pub target: u32,
-    pub is_known: bool,
-}
-
-impl Led {
-    /// None was.
-    pub fn none(columns: usize) -> Led
-        requires { columns ≤ 16 }
-        ensures { result.is_known ≡ false }
-    {
-        Led {
-            row: Row::new(TupleSym::absent(columns), &[]),
-            target: 0,
-            is_known: false,
-        }
-    }
-
-    /// The target of an entry, looked up where it isn't the last one's.
-    pub fn target(&mut self, table: &Dta, sym: &TupleSym, kids: &[u32]) -> u32
-        requires entry { IsTableEntry (listed_table table.now) (entry sym.now kids.now) }
-        requires few { length kids.now ≤ 8 }
-        requires led { IsLedBy (listed_table table.now) self.old.is_known self.old.row
-            self.old.target }
-        ensures target { result ≡ (listed_table table.now).target (entry sym.now kids.now) }
-        ensures led { IsLedBy (listed_table table.now) self.new.is_known self.new.row
-            self.new.target }
-    {
-        if self.is_known && self.row.is_entry(sym, kids) {
-            return self.target;
-        }
-        let target = table.target(sym, kids);
-        self.row = Row::new(*sym, kids);
-        self.target = target;
-        self.is_known = true;
-        target
-    }
 }

@@ -1,21 +1,24 @@
 //! Passes over the entries of a table, which split classes until each entry leads where it leads with its children's leaders.
-ghost use Rattle.std.specs.Prelude.{◌≡◌, ℕ, ◌+◌, ◌<◌, ◌≤◌, ◌^◌, [], take, length, OnOk, IfOk};
+ghost use Rattle.std.specs.Prelude.{◌≡◌, ℕ, ◌+◌, ◌<◌, ◌≤◌, ◌^◌, [], take, length, IfSome, OnOk, IfOk};
 ghost use Rattle.fort_tables.specs.Tuples.{IsTupleSymbol, symbol_kids};
 ghost use Rattle.fort_tables.specs.Entries.{Entry, entry};
 ghost use Rattle.fort_tables.specs.Tables.{listed_table, IsTableEntry};
 ghost use Rattle.fort_interchange.specs.Refinement.{IsRefined, PassesAt};
 ghost use Rattle.fort_interchange.specs.Merges.{IsCoarsest};
 ghost use Rattle.fort_target_lists.specs.Places.{IsNumbered};
-ghost use Rattle.fort_reduce.specs.Walks.{IsWalked, IsLedBy, IsWholeIn, AreWholeUnder, MayBegin};
+ghost use Rattle.fort_target_lists.specs.Flats.{IsFlatOf};
+ghost use Rattle.fort_reduce.specs.Walks.{IsWalked, IsWholeIn, AreWholeUnder, MayBegin};
 
 use crate::classes::Classes;
-use crate::led::{Led, is_led, leader_of, put_leaders, row_with};
+use crate::front::Front;
+use crate::led::{is_led, leader_of, put_leaders, row_with};
 use crate::renumber::renumber;
 use crate::split::{split, target_with};
 use crate::start::start;
+use crate::targets::Targets;
 use crate::walk::presences;
 use fort_lockstep::{Dta, Row, Table, TupleSym};
-use fort_target_lists::{is_present, kid_count, kid_presence};
+use fort_target_lists::{FlatTargets, is_present, kid_count, kid_presence};
 use fort_terms::Memory;
 use std::alloc::Global;
 
@@ -75,30 +78,29 @@ fn test(
 /// Tests one child after another, each with the leaders of those before it, until a class is split.
 fn chain(
     alloc: Global,
-    table: &Dta,
-    sym: &TupleSym,
+    targets: &Targets,
     kids: &[u32],
     classes: &mut Classes,
 ) -> Result<(), Memory>
-    requires entry { IsTableEntry (listed_table table.now) (entry sym.now kids.now) }
+    requires entry { IsTableEntry (listed_table targets.now.table.now) (entry targets.now.symbol
+        kids.now) }
     requires few_kids { length kids.now ≤ 8 }
-    requires few { length table.now.presences < 2 ^ 32 }
-    requires refined { IsRefined (listed_table table.now) classes.old.of.items
+    requires few { length targets.now.table.now.presences < 2 ^ 32 }
+    requires refined { IsRefined (listed_table targets.now.table.now) classes.old.of.items
         classes.old.leaders.items }
-    ensures refined { OnOk result (IsRefined (listed_table table.now) classes.new.of.items
-        classes.new.leaders.items) }
-    ensures walked { OnOk result (IsWalked
-        (IsWholeIn (listed_table table.now) classes.old.of.items classes.old.leaders.items
-        (entry sym.now kids.now))
+    ensures refined { OnOk result (IsRefined (listed_table targets.now.table.now)
+        classes.new.of.items classes.new.leaders.items) }
+    ensures walked { OnOk result (IsWalked (IsWholeIn (listed_table targets.now.table.now)
+        classes.old.of.items classes.old.leaders.items (entry targets.now.symbol kids.now))
         classes.old.of.items classes.old.leaders.items classes.new.of.items
         classes.new.leaders.items) }
 {
-    let _lawful = table.states();
-    let mut row = Row::new(*sym, kids);
+    let _lawful = targets.table.states();
+    let mut row = Row::new(targets.symbol, kids);
     for j in 0..kids.len() {
-        let target = table.target(sym, row.kids());
+        let target = targets.target(row.kids());
         let count = classes.leaders.len();
-        test(alloc, table, &row, target, j, classes)?;
+        test(alloc, targets.table, &row, target, j, classes)?;
         if classes.leaders.len() != count {
             return Ok(());
         }
@@ -111,95 +113,117 @@ fn chain(
 /// Compares where an entry leads with where its children's leaders do, and splits a class where the classes differ.
 fn visit(
     alloc: Global,
-    table: &Dta,
-    sym: &TupleSym,
+    targets: &Targets,
     kids: &[u32],
-    led: &mut Led,
     classes: &mut Classes,
 ) -> Result<(), Memory>
-    requires entry { IsTableEntry (listed_table table.now) (entry sym.now kids.now) }
+    requires entry { IsTableEntry (listed_table targets.now.table.now) (entry targets.now.symbol
+        kids.now) }
     requires few_kids { length kids.now ≤ 8 }
-    requires led { IsLedBy (listed_table table.now) led.old.is_known led.old.row led.old.target }
-    requires few { length table.now.presences < 2 ^ 32 }
-    requires refined { IsRefined (listed_table table.now) classes.old.of.items
+    requires few { length targets.now.table.now.presences < 2 ^ 32 }
+    requires refined { IsRefined (listed_table targets.now.table.now) classes.old.of.items
         classes.old.leaders.items }
-    ensures refined { OnOk result (IsRefined (listed_table table.now) classes.new.of.items
-        classes.new.leaders.items) }
-    ensures led { OnOk result (IsLedBy (listed_table table.now) led.new.is_known led.new.row
-        led.new.target) }
-    ensures walked { OnOk result (IsWalked
-        (IsWholeIn (listed_table table.now) classes.old.of.items classes.old.leaders.items
-        (entry sym.now kids.now))
+    ensures refined { OnOk result (IsRefined (listed_table targets.now.table.now)
+        classes.new.of.items classes.new.leaders.items) }
+    ensures walked { OnOk result (IsWalked (IsWholeIn (listed_table targets.now.table.now)
+        classes.old.of.items classes.old.leaders.items (entry targets.now.symbol kids.now))
         classes.old.of.items classes.old.leaders.items classes.new.of.items
         classes.new.leaders.items) }
 {
-    let _lawful = table.states();
+    let _lawful = targets.table.states();
     if is_led(kids, classes) {
         return Ok(());
     }
     let mut states = [0u32; 8];
     put_leaders(kids, classes, states.as_mut_slice());
-    let there = led.target(table, sym, &states[..kids.len()]);
-    let target = table.target(sym, kids);
+    let there = targets.target(&states[..kids.len()]);
+    let target = targets.target(kids);
     if classes.of[target as usize] == classes.of[there as usize] {
         return Ok(());
     }
-    chain(alloc, table, sym, kids, classes)
+    chain(alloc, targets, kids, classes)
+}
+
+/// Visits the entries of a tuple symbol over first child states, `j` of them, and one other.
+fn visit_last(
+    alloc: Global,
+    targets: &Targets,
+    presences: &[u16],
+    kids: &mut [u32],
+    j: usize,
+    classes: &mut Classes,
+) -> Result<(), Memory>
+    requires presences { presences.now ≡ targets.now.table.now.presences }
+    requires symbol { IsTupleSymbol targets.now.table.now.signature targets.now.table.now.columns
+        targets.now.symbol }
+    requires count { symbol_kids targets.now.table.now.signature targets.now.symbol ≡ j + 1 }
+    requires few_kids { j < 8 }
+    requires room { length kids.old ≡ 8 }
+    requires before { MayBegin (listed_table targets.now.table.now) targets.now.symbol (take j
+        kids.old) }
+    requires few { length targets.now.table.now.presences < 2 ^ 32 }
+    requires refined { IsRefined (listed_table targets.now.table.now) classes.old.of.items
+        classes.old.leaders.items }
+    ensures refined { OnOk result (IsRefined (listed_table targets.now.table.now)
+        classes.new.of.items classes.new.leaders.items) }
+    ensures walked { OnOk result (IsWalked (AreWholeUnder (listed_table targets.now.table.now)
+        classes.old.of.items classes.old.leaders.items targets.now.symbol (take j kids.old) 1)
+        classes.old.of.items classes.old.leaders.items classes.new.of.items
+        classes.new.leaders.items) }
+    ensures kept { OnOk result (take j kids.new ≡ take j kids.old) }
+{
+    let want = kid_presence(targets.table.signature(), &targets.symbol, j);
+    let mut front = Front::of(targets, &kids[..j], classes);
+    for q in 0..presences.len() {
+        if presences[q] == want {
+            kids[j] = q as u32;
+            if !front.is_whole(targets, &kids[..j + 1], classes) {
+                chain(alloc, targets, &kids[..j + 1], classes)?;
+                front = Front::of(targets, &kids[..j], classes);
+            }
+        }
+    }
+    Ok(())
 }
 
 /// Visits the entries of a tuple symbol over first child states, `j` of them, and `rest` others.
 fn visit_kids(
     alloc: Global,
-    table: &Dta,
+    targets: &Targets,
     presences: &[u16],
-    sym: &TupleSym,
     kids: &mut [u32],
     j: usize,
     rest: usize,
-    led: &mut Led,
     classes: &mut Classes,
 ) -> Result<(), Memory>
-    requires presences { presences.now ≡ table.now.presences }
-    requires symbol { IsTupleSymbol table.now.signature table.now.columns sym.now }
-    requires count { symbol_kids table.now.signature sym.now ≡ j + rest }
+    requires presences { presences.now ≡ targets.now.table.now.presences }
+    requires symbol { IsTupleSymbol targets.now.table.now.signature targets.now.table.now.columns
+        targets.now.symbol }
+    requires count { symbol_kids targets.now.table.now.signature targets.now.symbol ≡ j + rest }
     requires few_kids { j + rest ≤ 8 }
     requires some { 0 < rest }
     requires room { length kids.old ≡ 8 }
-    requires before { MayBegin (listed_table table.now) sym.now (take j kids.old) }
-    requires led { IsLedBy (listed_table table.now) led.old.is_known led.old.row led.old.target }
-    requires few { length table.now.presences < 2 ^ 32 }
-    requires refined { IsRefined (listed_table table.now) classes.old.of.items
+    requires before { MayBegin (listed_table targets.now.table.now) targets.now.symbol (take j
+        kids.old) }
+    requires few { length targets.now.table.now.presences < 2 ^ 32 }
+    requires refined { IsRefined (listed_table targets.now.table.now) classes.old.of.items
         classes.old.leaders.items }
-    ensures refined { OnOk result (IsRefined (listed_table table.now) classes.new.of.items
-        classes.new.leaders.items) }
-    ensures led { OnOk result (IsLedBy (listed_table table.now) led.new.is_known led.new.row
-        led.new.target) }
-    ensures walked { OnOk result (IsWalked
-        (AreWholeUnder (listed_table table.now) classes.old.of.items classes.old.leaders.items
-        sym.now (take j kids.old) rest)
+    ensures refined { OnOk result (IsRefined (listed_table targets.now.table.now)
+        classes.new.of.items classes.new.leaders.items) }
+    ensures walked { OnOk result (IsWalked (AreWholeUnder (listed_table targets.now.table.now)
+        classes.old.of.items classes.old.leaders.items targets.now.symbol (take j kids.old) rest)
         classes.old.of.items classes.old.leaders.items classes.new.of.items
         classes.new.leaders.items) }
     ensures kept { OnOk result (take j kids.new ≡ take j kids.old) }
 {
-    let want = kid_presence(table.signature(), sym, j);
+    if rest == 1 {
+        return visit_last(alloc, targets, presences, kids, j, classes);
+    }
+    let want = kid_presence(targets.table.signature(), &targets.symbol, j);
     for q in 0..presences.len() {
         if presences[q] == want {
             kids[j] = q as u32;
-            if rest == 1 {
-                visit(alloc, table, sym, &kids[..j + 1], led, classes)?;
-            } else {
-                visit_kids(
-                    alloc,
-                    table,
-                    presences,
-                    sym,
-                    kids,
-                    j + 1,
-                    rest - 1,
-                    led,
-                    classes,
-                )?;
-            }
+            visit_kids(alloc, targets, presences, kids, j + 1, rest - 1, classes)?;
         }
     }
     Ok(())
@@ -208,44 +232,45 @@ fn visit_kids(
 /// Visits the entries of a tuple symbol.
 fn visit_symbol(
     alloc: Global,
-    table: &Dta,
+    targets: &Targets,
     presences: &[u16],
-    sym: &TupleSym,
-    led: &mut Led,
     classes: &mut Classes,
 ) -> Result<(), Memory>
-    requires presences { presences.now ≡ table.now.presences }
-    requires symbol { (n : ℕ) × IsNumbered (length table.now.signature + 1) table.now.columns n
-        sym.now }
-    requires led { IsLedBy (listed_table table.now) led.old.is_known led.old.row led.old.target }
-    requires few { length table.now.presences < 2 ^ 32 }
-    requires refined { IsRefined (listed_table table.now) classes.old.of.items
+    requires presences { presences.now ≡ targets.now.table.now.presences }
+    requires symbol { (n : ℕ) × IsNumbered (length targets.now.table.now.signature + 1)
+        targets.now.table.now.columns n targets.now.symbol }
+    requires few { length targets.now.table.now.presences < 2 ^ 32 }
+    requires refined { IsRefined (listed_table targets.now.table.now) classes.old.of.items
         classes.old.leaders.items }
-    ensures refined { OnOk result (IsRefined (listed_table table.now) classes.new.of.items
-        classes.new.leaders.items) }
-    ensures led { OnOk result (IsLedBy (listed_table table.now) led.new.is_known led.new.row
-        led.new.target) }
-    ensures walked { OnOk result (IsWalked
-        (AreWholeUnder (listed_table table.now) classes.old.of.items classes.old.leaders.items
-        sym.now [] (symbol_kids table.now.signature sym.now))
-        classes.old.of.items classes.old.leaders.items classes.new.of.items
-        classes.new.leaders.items) }
+    ensures refined { OnOk result (IsRefined (listed_table targets.now.table.now)
+        classes.new.of.items classes.new.leaders.items) }
+    ensures walked { OnOk result (IsWalked (AreWholeUnder (listed_table targets.now.table.now)
+        classes.old.of.items classes.old.leaders.items targets.now.symbol [] (symbol_kids
+        targets.now.table.now.signature targets.now.symbol)) classes.old.of.items
+        classes.old.leaders.items classes.new.of.items classes.new.leaders.items) }
 {
-    if !is_present(sym) {
+    if !is_present(&targets.symbol) {
         return Ok(());
     }
-    let count = kid_count(table.signature(), sym);
+    let count = kid_count(targets.table.signature(), &targets.symbol);
     let mut states = [0u32; 8];
     if count == 0 {
-        visit(alloc, table, sym, &states[..0], led, classes)
+        visit(alloc, targets, &states[..0], classes)
     } else {
         let kids = states.as_mut_slice();
-        visit_kids(alloc, table, presences, sym, kids, 0, count, led, classes)
+        visit_kids(alloc, targets, presences, kids, 0, count, classes)
     }
 }
 
 /// Visits each entry once, tuple symbol by tuple symbol.
-fn pass(alloc: Global, table: &Dta, presences: &[u16], classes: &mut Classes) -> Result<(), Memory>
+fn pass(
+    alloc: Global,
+    table: &Dta,
+    list: Option<&FlatTargets>,
+    presences: &[u16],
+    classes: &mut Classes,
+) -> Result<(), Memory>
+    requires list { IfSome list (λ l. IsFlatOf (listed_table table.now) l.now) }
     requires presences { presences.now ≡ table.now.presences }
     requires few { length table.now.presences < 2 ^ 32 }
     requires refined { IsRefined (listed_table table.now) classes.old.of.items
@@ -260,14 +285,17 @@ fn pass(alloc: Global, table: &Dta, presences: &[u16], classes: &mut Classes) ->
 {
     let columns = table.columns();
     let base = table.signature().len() + 1;
-    let mut led = Led::none(columns);
     let mut symbol = TupleSym::absent(columns);
+    let mut number = 0usize;
     'symbols: loop {
-        visit_symbol(alloc, table, presences, &symbol, &mut led, classes)?;
+        let targets = Targets::of(table, list, number, &symbol);
+        visit_symbol(alloc, &targets, presences, classes)?;
         symbol.to_next(base);
         if !is_present(&symbol) {
             return Ok(());
         }
+        // without a list there may be more tuple symbols than a word counts
+        number = number.saturating_add(1);
     }
 }
 
@@ -283,25 +311,33 @@ fn sweep(alloc: Global, table: &Dta, classes: &mut Classes) -> Result<(), Memory
 {
     let _lawful = table.entries();
     let states = table.states();
-    let mut led = Led::none(table.columns());
     for i in 0..states {
         let row = table.first(states - 1 - i);
-        visit(alloc, table, &row.sym(), row.kids(), &mut led, classes)?;
+        let targets = Targets {
+            table,
+            symbol: row.sym(),
+            list: None,
+            start: 0,
+        };
+        visit(alloc, &targets, row.kids(), classes)?;
     }
     Ok(())
 }
 
 /// The class of each state, numbered by first state: two tuples of states have one class exactly where they are interchangeable.
+/// Meanwhile the targets stand in one list, where one is made of them: four bytes for each entry and each tuple symbol.
 pub fn classes_of(alloc: Global, table: &Dta) -> Result<Vec<u32>, Memory>
     ensures { IfOk result (λ new. IsCoarsest (listed_table table.now) new.items) }
 {
     let _lawful = table.states();
     let presences = presences(alloc, table)?;
+    let made = FlatTargets::of(alloc, table)?;
+    let list = made.as_ref();
     let mut classes = start(alloc, table)?;
     'passes: loop {
         sweep(alloc, table, &mut classes)?;
         let count = classes.leaders.len();
-        pass(alloc, table, presences.as_slice(), &mut classes)?;
+        pass(alloc, table, list, presences.as_slice(), &mut classes)?;
         if classes.leaders.len() == count {
             return renumber(alloc, classes.of.as_slice(), count);
         }

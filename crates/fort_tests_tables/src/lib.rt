@@ -4,6 +4,12 @@
 #[cfg(test)]
 mod equality;
 #[cfg(test)]
+mod plain_classes;
+#[cfg(test)]
+mod reductions;
+#[cfg(test)]
 mod rules;
+#[cfg(test)]
+mod small_tables;
 #[cfg(test)]
 mod witness;

@@ -9,28 +9,28 @@ use Rattle.fort_reduce.proofs.passes.visit_symbol.Goals as goal
 
 pub kid_count-count-requires : goal.kid_count-count-requires
 kid_count-count-requires c =
-    let t = c.args.table.now in
+    let t = c.args.targets.now.table.now in
     let n = c.requires.symbol.1 in
-    subst (λ s. AreSymbols s c.args.sym.now) (sym c.signature.ensures)
+    subst (λ s. AreSymbols s c.args.targets.now.symbol) (sym c.signature.ensures)
     (subst (AreSymbols t.signature) (sym n.is) (symbols_at t.signature (length t.signature + 1) t.columns c.requires.symbol.0 (omega arith)))
 
 pub returns-then-not-is_present-clause-walked : goal.returns-then-not-is_present-clause-walked
 returns-then-not-is_present-clause-walked c =
-    let t = listed_table c.args.table.now in
+    let t = listed_table c.args.targets.now.table.now in
     Kept refl refl
-    (whole_under_absent t c.args.classes.now.of.items c.args.classes.now.leaders.items c.args.sym.now (symbol_kids t.signature c.args.sym.now) (sym c.is_present.ensures ∙ c.if-not-is_present.true))
+    (whole_under_absent t c.args.classes.now.of.items c.args.classes.now.leaders.items c.args.targets.now.symbol (symbol_kids t.signature c.args.targets.now.symbol) (sym c.is_present.ensures ∙ c.if-not-is_present.true))
 
 pub visit-requires-clause-entry : goal.visit-requires-clause-entry
 visit-requires-clause-entry c =
-    let t = listed_table c.args.table.now in
+    let t = listed_table c.args.targets.now.table.now in
     let n = c.requires.symbol.1 in
-    let symbol : IsTupleSymbol t.signature t.columns c.args.sym.now =
-    tuple_symbol_at t (length t.signature + 1) c.requires.symbol.0 c.args.sym.now (omega arith) n.is (sym c.is_present.ensures ∙ c.if-not-is_present.false) in
-    let none : 0 ≡ symbol_kids t.signature c.args.sym.now = omega (arith, c.if-count-eq0.true, c.kid_count-count.ensures.count, ap (λ s. symbol_kids s c.args.sym.now) c.signature.ensures) in
-    entry_begun t c.args.sym.now [] symbol none (λ i b. absurd (omega arith))
+    let symbol : IsTupleSymbol t.signature t.columns c.args.targets.now.symbol =
+    tuple_symbol_at t (length t.signature + 1) c.requires.symbol.0 c.args.targets.now.symbol (omega arith) n.is (sym c.is_present.ensures ∙ c.if-not-is_present.false) in
+    let none : 0 ≡ symbol_kids t.signature c.args.targets.now.symbol = omega (arith, c.if-count-eq0.true, c.kid_count-count.ensures.count, ap (λ s. symbol_kids s c.args.targets.now.symbol) c.signature.ensures) in
+    entry_begun t c.args.targets.now.symbol [] symbol none (λ i b. absurd (omega arith))
 
 pub visit_kids-requires-clause-symbol : goal.visit_kids-requires-clause-symbol
 visit_kids-requires-clause-symbol c =
-    let t = listed_table c.args.table.now in
+    let t = listed_table c.args.targets.now.table.now in
     let n = c.requires.symbol.1 in
-    tuple_symbol_at t (length t.signature + 1) c.requires.symbol.0 c.args.sym.now (omega arith) n.is (sym c.is_present.ensures ∙ c.if-not-is_present.false)
+    tuple_symbol_at t (length t.signature + 1) c.requires.symbol.0 c.args.targets.now.symbol (omega arith) n.is (sym c.is_present.ensures ∙ c.if-not-is_present.false)
