@@ -7,4 +7,4 @@ pub mod OneFit
 pub mod OneCap
 pub mod MadeLaws
 pub mod OneSample
-pub mod SampleSizes
+pub mod PossibleRequests

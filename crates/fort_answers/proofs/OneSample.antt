@@ -12,7 +12,7 @@ use Rattle.fort_answers.specs.Requests.{Text}
 use Rattle.fort_answers.specs.Lines.{positive}
 use Rattle.fort_answers.specs.SystemAnswer.{Are}
 use Rattle.fort_answers.specs.MadeProblem.{made_system}
-use Rattle.fort_answers.specs.SampleAnswer.{sample_cap, sample_line, sample_properties, PropertyVerdict, Over, Yes, No, IsPropertyLine, ArePropertyLines, SampleAnswer}
+use Rattle.fort_answers.specs.SampleAnswer.{sample_options, sample_line, sample_properties, PropertyVerdict, Over, Yes, No, IsPropertyLine, ArePropertyLines, SampleAnswer}
 use Rattle.fort_answers.proofs.MadeLaws.{made_system-constant}
 use Rattle.fort_answers.proofs.OneCap.{PassesCap-unique, PassesCap-not_kept}
 use Rattle.fort_answers.proofs.OneRequest.{Are-unique}
@@ -23,17 +23,17 @@ module _ (system : System) (constant : HasConstant system.signature) where
 
   PropertyVerdict-unique : (p : Property) (v w : Text) → PropertyVerdict system p v → PropertyVerdict system p w → v ≡ w
   PropertyVerdict-unique p v w (Over k kind over says) (Over j kind' over' says') =
-      says ∙ (PassesCap-unique system [] (Has p 1) sample_cap k j kind kind' over over' ∙ sym says')
+      says ∙ (PassesCap-unique system [] (Has p 1) sample_options k j kind kind' over over' ∙ sym says')
   PropertyVerdict-unique p v w (Over k kind over says) (Yes keeps holds says') =
-      absurd (PassesCap-not_kept system [] (Has p 1) sample_cap k kind over keeps)
+      absurd (PassesCap-not_kept system [] (Has p 1) sample_options k kind over keeps)
   PropertyVerdict-unique p v w (Over k kind over says) (No keeps fails says') =
-      absurd (PassesCap-not_kept system [] (Has p 1) sample_cap k kind over keeps)
+      absurd (PassesCap-not_kept system [] (Has p 1) sample_options k kind over keeps)
   PropertyVerdict-unique p v w (Yes keeps holds says) (Over k kind over says') =
-      absurd (PassesCap-not_kept system [] (Has p 1) sample_cap k kind over keeps)
+      absurd (PassesCap-not_kept system [] (Has p 1) sample_options k kind over keeps)
   PropertyVerdict-unique p v w (Yes keeps holds says) (Yes keeps' holds' says') = says ∙ sym says'
   PropertyVerdict-unique p v w (Yes keeps holds says) (No keeps' fails says') = absurd (not_both p holds fails)
   PropertyVerdict-unique p v w (No keeps fails says) (Over k kind over says') =
-      absurd (PassesCap-not_kept system [] (Has p 1) sample_cap k kind over keeps)
+      absurd (PassesCap-not_kept system [] (Has p 1) sample_options k kind over keeps)
   PropertyVerdict-unique p v w (No keeps fails says) (Yes keeps' holds says') = absurd (not_both p holds fails)
   PropertyVerdict-unique p v w (No keeps fails says) (No keeps' fails' says') = says ∙ sym says'
 

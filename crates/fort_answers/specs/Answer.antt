@@ -1,7 +1,7 @@
 -- To believe: the one status and text that the program owes to words and bytes: the usage text where the words ask nothing, else what the request owes.
 use Rattle.std.specs.Prelude.{◌≡◌, ℕ, List, Option, Some, None}
 use Rattle.fort_logic.specs.Formulas.{Formula}
-use Rattle.fort_answers.specs.Requests.{Text, Request, Decide, Witness, Check, Sample}
+use Rattle.fort_answers.specs.Requests.{Text, Options, Request, Decide, Witness, Check, Sample}
 use Rattle.fort_answers.specs.CommandGrammar.{request_of}
 use Rattle.fort_answers.specs.Lines.{usage, usage_text}
 use Rattle.fort_answers.specs.FormulaAnswer.{IsAccepted, IsAcceptedClosed}
@@ -17,35 +17,35 @@ OwesUsage status text = Are status text usage usage_text
 
 -- what a request owes before anything is read; a sample needs no bytes
 abbrev pub OwesEarly : Request → ℕ → Text → Type 0
-OwesEarly (Decide states certificate formula) status text = DecideEarly formula status text
-OwesEarly (Witness states formula) status text = WitnessEarly formula status text
+OwesEarly (Decide options certificate formula) status text = DecideEarly formula status text
+OwesEarly (Witness options formula) status text = WitnessEarly formula status text
 OwesEarly (Check formula) status text = DecideEarly formula status text
 OwesEarly (Sample n) status text = SampleAnswer n status text
 
 -- what a request owes for these bytes
 abbrev pub Owes : Request → Text → ℕ → Text → Type 0
-Owes (Decide states certificate formula) bytes status text = DecideAnswer states certificate formula bytes status text
-Owes (Witness states formula) bytes status text = WitnessAnswer states formula bytes status text
+Owes (Decide options certificate formula) bytes status text = DecideAnswer options certificate formula bytes status text
+Owes (Witness options formula) bytes status text = WitnessAnswer options formula bytes status text
 Owes (Check formula) bytes status text = CheckAnswer formula bytes status text
 Owes (Sample n) bytes status text = SampleAnswer n status text
 
 -- a request for which the input is read
 abbrev pub NeedsInput : Request → Type 0
-NeedsInput (Decide states certificate formula) = (f : Formula) × IsAcceptedClosed formula f
-NeedsInput (Witness states formula) = (f : Formula) × IsAccepted formula f
+NeedsInput (Decide options certificate formula) = (f : Formula) × IsAcceptedClosed formula f
+NeedsInput (Witness options formula) = (f : Formula) × IsAccepted formula f
 NeedsInput (Check formula) = (f : Formula) × IsAcceptedClosed formula f
 NeedsInput (Sample n) = ⊥
 
--- a request to decide about this formula, that this text is, with this cap
-abbrev pub AsksAbout : Request → ℕ → Text → Formula → Type 0
-AsksAbout (Decide states certificate formula) cap text f = (cap ≡ states) × (text ≡ formula) × IsAcceptedClosed formula f
-AsksAbout (Witness states formula) cap text f = (cap ≡ states) × (text ≡ formula) × IsAccepted formula f
-AsksAbout (Check formula) cap text f = ⊥
-AsksAbout (Sample n) cap text f = ⊥
+-- a request to decide about this formula, that this text is, with these options
+abbrev pub AsksAbout : Request → Options → Text → Formula → Type 0
+AsksAbout (Decide options certificate formula) asked text f = (asked ≡ options) × (text ≡ formula) × IsAcceptedClosed formula f
+AsksAbout (Witness options formula) asked text f = (asked ≡ options) × (text ≡ formula) × IsAccepted formula f
+AsksAbout (Check formula) asked text f = ⊥
+AsksAbout (Sample n) asked text f = ⊥
 
-abbrev pub IsAbout : Option Request → ℕ → Text → Formula → Type 0
-IsAbout None cap text f = ⊥
-IsAbout (Some request) cap text f = AsksAbout request cap text f
+abbrev pub IsAbout : Option Request → Options → Text → Formula → Type 0
+IsAbout None asked text f = ⊥
+IsAbout (Some request) asked text f = AsksAbout request asked text f
 
 -- what the words owe; by the request that they are, if they are one
 

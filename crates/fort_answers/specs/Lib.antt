@@ -8,7 +8,7 @@ pub mod SystemAnswer
 pub mod DecideAnswer
 pub mod WitnessAnswer
 pub mod MadeProblem
-pub mod SampleSizes
+pub mod PossibleRequests
 pub mod SampleAnswer
 pub mod CertificateAnswer
 pub mod CheckAnswer

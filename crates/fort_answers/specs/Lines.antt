@@ -13,8 +13,8 @@ abbrev pub line : List ℕ → List ℕ
 line text = text ++ 10 ∷ []
 
 abbrev pub usage_text : List ℕ
-usage_text = line (codes "usage: fort decide [--states N] [--certificate] FORMULA")
-    ++ (line (codes "       fort witness [--states N] FORMULA")
+usage_text = line (codes "usage: fort decide [--states N] [--reduce] [--certificate] FORMULA")
+    ++ (line (codes "       fort witness [--states N] [--reduce] FORMULA")
     ++ (line (codes "       fort check FORMULA")
     ++ line (codes "       fort sample N")))
 

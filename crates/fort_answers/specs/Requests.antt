@@ -1,4 +1,4 @@
--- To believe: what a command line can ask: to decide a formula, to find terms for one, to check a certificate, to decide properties of a made problem; and which text writes which number of a range.
+-- To believe: what a command line can ask: to decide a formula, to find terms for one, each with options, to check a certificate, to decide properties of a made problem; and which text writes which number of a range.
 use Rattle.std.specs.Prelude.{◌&&◌, ℕ, Bool, List, Option, Some, None, if◌then◌else◌, nat_le}
 use Rattle.std.specs.Fmt.{decimal}
 use Rattle.std.specs.Str.{bytes_eq}
@@ -7,10 +7,15 @@ use Rattle.std.specs.Str.Parse.{digits_value}
 abbrev pub Text : Type 0
 Text = List ℕ
 
--- the most states, whether the certificate is to be written, the formula's text; for a sample its size
+-- the cap on each part, and whether the table of each part is reduced
+pub record Options : Type 0 where
+  pub states : ℕ
+  pub reduces : Bool
+
+-- options, whether the certificate is to be written, the formula's text; for a sample its size
 pub data Request : Type 0 where
-  Decide : (states : ℕ) → (certificate : Bool) → (formula : Text) → Request
-  Witness : (states : ℕ) → (formula : Text) → Request
+  Decide : (options : Options) → (certificate : Bool) → (formula : Text) → Request
+  Witness : (options : Options) → (formula : Text) → Request
   Check : (formula : Text) → Request
   Sample : (n : ℕ) → Request
 

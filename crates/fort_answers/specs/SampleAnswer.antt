@@ -1,11 +1,11 @@
 -- To believe: what `sample` owes for a size: for each of seven properties whether the made problem of this size has it, where no part of what the property says is over the cap, else the first part that is.
-use Rattle.std.specs.Prelude.{◌≡◌, ℕ, List, [], ◌∷◌, ◌++◌, codes, decimal}
+use Rattle.std.specs.Prelude.{◌≡◌, ℕ, false, List, [], ◌∷◌, ◌++◌, codes, decimal}
 use Rattle.fort_theory.specs.Sides.{System}
 use Rattle.fort_logic.specs.Formulas.{Property, Cr, Wcr, Scr, Wn, Unr, Unc, Nfp, Has}
 use Rattle.fort_logic.specs.Kinds.{Kind}
 use Rattle.fort_logic.specs.Truth.{IsTrueOf, IsFalseOf}
 use Rattle.fort_formula_grammar.specs.Tokens.{property_text}
-use Rattle.fort_answers.specs.Requests.{Text}
+use Rattle.fort_answers.specs.Requests.{Text, Options}
 use Rattle.fort_answers.specs.Lines.{positive, line, yes_line, no_line, limit_line}
 use Rattle.fort_answers.specs.SystemAnswer.{Are, PassesCap, KeepsCap}
 use Rattle.fort_answers.specs.MadeProblem.{made_system}
@@ -14,17 +14,21 @@ use Rattle.fort_answers.specs.MadeProblem.{made_system}
 abbrev pub sample_cap : ℕ
 sample_cap = 10000
 
+-- no table is reduced
+abbrev pub sample_options : Options
+sample_options = record { states = sample_cap; reduces = false }
+
 -- in the order of their lines
 abbrev pub sample_properties : List Property
 sample_properties = Cr ∷ Wcr ∷ Scr ∷ Wn ∷ Unr ∷ Unc ∷ Nfp ∷ []
 
 -- what is said of one property of a system with one index
 pub data PropertyVerdict (system : System) (property : Property) (verdict : Text) : Type 0 where
-  Over : (k : ℕ) (kind : Kind) → PassesCap system [] (Has property 1) sample_cap k kind → verdict ≡ limit_line k kind sample_cap
+  Over : (k : ℕ) (kind : Kind) → PassesCap system [] (Has property 1) sample_options k kind → verdict ≡ limit_line k kind sample_cap
       → PropertyVerdict system property verdict
-  Yes : KeepsCap system [] (Has property 1) sample_cap → IsTrueOf system [] (Has property 1) → verdict ≡ yes_line
+  Yes : KeepsCap system [] (Has property 1) sample_options → IsTrueOf system [] (Has property 1) → verdict ≡ yes_line
       → PropertyVerdict system property verdict
-  No : KeepsCap system [] (Has property 1) sample_cap → IsFalseOf system [] (Has property 1) → verdict ≡ no_line
+  No : KeepsCap system [] (Has property 1) sample_options → IsFalseOf system [] (Has property 1) → verdict ≡ no_line
       → PropertyVerdict system property verdict
 
 -- the property's name and what is said of it

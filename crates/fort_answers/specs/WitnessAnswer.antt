@@ -8,7 +8,7 @@ use Rattle.fort_logic.specs.FreeNames.{free_names}
 use Rattle.fort_logic.specs.Truth.{Assignment, IsGroundAssignment, GivesTerms, Holds, structure_of, IsFalseOf}
 use Rattle.fort_order.specs.TupleOrder.{NotAfter}
 use Rattle.fort_order.specs.TermText.{term_text}
-use Rattle.fort_answers.specs.Requests.{Text}
+use Rattle.fort_answers.specs.Requests.{Text, Options}
 use Rattle.fort_answers.specs.Lines.{positive, negative, refused, line, witness_line, none_line}
 use Rattle.fort_answers.specs.FormulaAnswer.{IsAccepted, IsRefused}
 use Rattle.fort_answers.specs.SystemAnswer.{Are, IsAnswerable, IsUnanswerable}
@@ -49,8 +49,8 @@ pub record WitnessEarly (formula : Text) (status : ℕ) (text : Text) : Type 0 w
   pub are : Are status text refused refusal
 
 -- what is owed for these bytes
-pub data WitnessAnswer (states : ℕ) (formula bytes : Text) (status : ℕ) (text : Text) : Type 0 where
-  Early : WitnessEarly formula status text → WitnessAnswer states formula bytes status text
-  Unanswerable : (f : Formula) → IsAccepted formula f → IsUnanswerable states formula f bytes status text → WitnessAnswer states formula bytes status text
-  Answered : (f : Formula) → IsAccepted formula f → (system : System) (terms : List Tree) → IsAnswerable states formula f bytes system terms
-      → WitnessVerdict system terms f status text → WitnessAnswer states formula bytes status text
+pub data WitnessAnswer (options : Options) (formula bytes : Text) (status : ℕ) (text : Text) : Type 0 where
+  Early : WitnessEarly formula status text → WitnessAnswer options formula bytes status text
+  Unanswerable : (f : Formula) → IsAccepted formula f → IsUnanswerable options formula f bytes status text → WitnessAnswer options formula bytes status text
+  Answered : (f : Formula) → IsAccepted formula f → (system : System) (terms : List Tree) → IsAnswerable options formula f bytes system terms
+      → WitnessVerdict system terms f status text → WitnessAnswer options formula bytes status text

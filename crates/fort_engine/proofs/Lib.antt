@@ -4,3 +4,4 @@ pub mod FoundLaws
 pub mod JoinLaws
 pub mod DecideLaws
 pub mod ClosureLaws
+pub mod ReducedTables

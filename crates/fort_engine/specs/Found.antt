@@ -13,21 +13,24 @@ use Rattle.fort_counts.specs.Counts.{AreCounts}
 use Rattle.fort_steps.specs.declared.count.Count.{Count}
 use Rattle.fort_steps.specs.StepView.{as_count}
 use Rattle.fort_parts.specs.PartColumns.{columns_of, place_in}
-use Rattle.fort_parts.specs.AlikeParts.{IsPartOver}
 use Rattle.fort_parts.specs.PartAnswers.{OfTable}
-use Rattle.fort_parts.specs.RightAnswers.{IsRightFor, HasTooMany}
+use Rattle.fort_parts.specs.RightAnswers.{HasTooManyBy}
+use Rattle.fort_reduced_parts.specs.ReducedParts.{AlikeWith}
 use Rattle.fort_explore.specs.declared.table.ExploreFault.{ExploreFault}
 use Rattle.fort_explore.specs.Answer.{IfOver}
 use Rattle.fort_engine.specs.declared.answer.Last.{Last}
 use Rattle.fort_engine.specs.declared.answer.Last.TheVariants.{Truth, Auto}
 use Rattle.fort_engine.specs.declared.answer.Decided.{Decided}
+use Rattle.fort_engine.specs.declared.options.Options.{Options}
 use Rattle.fort_engine.specs.AnswerView.{as_answer}
+use Rattle.fort_engine.specs.Kept.{IsRight, IsOverCap, IsKeptOverCap}
 
--- what is decided has the property, and then the formula is not over the cap; or tuples that show that it is
-pub record IsDecidedBy (system : PatternSystem) (f : core.Core) (cap : ℕ) (P : Decided → Type 0) (result : Result Decided ExploreFault) : Type 0 where
+-- what is decided has the property, and then the formula is not over the cap, nor told apart at more tuples by what is kept; or tuples that show that it is
+pub record IsDecidedBy (system : PatternSystem) (options : Options) (f : core.Core) (P : Decided → Type 0) (result : Result Decided ExploreFault) : Type 0 where
   pub ok : IfOk result P
-  pub within : OnOk result (IsPartOver system f cap → ⊥)
-  pub over : IfErr result (λ e. IfOver e (HasTooMany system f cap))
+  pub within : OnOk result (IsOverCap system options f → ⊥)
+  pub kept_within : OnOk result (IsKeptOverCap system options f → ⊥)
+  pub over : IfErr result (λ e. IfOver e (HasTooManyBy system (AlikeWith options.reduces system) f options.cap))
 
 abbrev pub counted_with : Vec Count Global → Result Decided ExploreFault → Result Decided ExploreFault
 counted_with counts (Ok d) = Ok (record { answer = d.answer; counts = Some counts; targets = d.targets })
@@ -60,9 +63,9 @@ pub record IsNegation (parts : List core.Core) (kept : List (Option Last)) (g : 
 -- infinitely many
 
 -- a right table of f with its counts, by which "for infinitely many values of n" is decided
-pub record IsCounted (system : PatternSystem) (n : ℕ) (f : core.Core) (table : Table) (column : ℕ) (alone : List ℕ) (marks : List counts.Count) : Type 0 where
+pub record IsCounted (system : PatternSystem) (options : Options) (n : ℕ) (f : core.Core) (table : Table) (column : ℕ) (alone : List ℕ) (marks : List counts.Count) : Type 0 where
   pub among : is_free n f ≡ true
-  pub right : IsRightFor system f (OfTable table)
+  pub right : IsRight system options f (OfTable table)
   pub column_is : column ≡ place_in (columns_of f) n
   pub pure : ArePure table column alone
   pub marks_are : AreCounts table column alone marks
@@ -74,17 +77,17 @@ pub record AreMarks (n : ℕ) (g : core.Core) (table : Table) (marks : List coun
   pub counts : AreCounts table (place_in (columns_of g) n) states marks
 
 -- a right answer to "for infinitely many values of n" of f, with the counts of the table of f
-pub record IsMany (system : PatternSystem) (n : ℕ) (f : core.Core) (table : Listed) (lists : Bool) (d : Decided) : Type 0 where
-  pub right : IsRightFor system (core.Infinite n f) (as_answer d.answer)
+pub record IsMany (system : PatternSystem) (options : Options) (n : ℕ) (f : core.Core) (table : Listed) (d : Decided) : Type 0 where
+  pub right : IsRight system options (core.Infinite n f) (as_answer d.answer)
   pub list : Vec Count Global
   pub list_is : d.counts ≡ Some list
   pub marks : AreMarks n f (listed_table table) (map as_count list.items)
-  pub listed : lists ≡ true → ListsTargets d.answer d.targets
+  pub listed : options.lists ≡ true → options.reduces ≡ false → ListsTargets d.answer d.targets
 
-pub record IsManyOf (system : PatternSystem) (n : ℕ) (f : core.Core) (body : Last) (lists : Bool) (d : Decided) : Type 0 where
+pub record IsManyOf (system : PatternSystem) (options : Options) (n : ℕ) (f : core.Core) (body : Last) (d : Decided) : Type 0 where
   pub table : Listed
   pub body_is : body ≡ Auto table
-  pub many : IsMany system n f table lists d
+  pub many : IsMany system options n f table d
 
 pub record HasCounts (parts : List core.Core) (kept : List (Option Last)) (n : ℕ) (g : core.Core) (own : Option (Vec Count Global)) : Type 0 where
   pub table : Listed
@@ -112,9 +115,9 @@ abbrev pub AreItsTargets : core.Core → Last → Option (Vec ℕ Global) → Ty
 AreItsTargets f answer own = is_negation f ≡ false → ListsTargets answer own
 
 -- a right answer to f; that of a negation is its body's, turned; "infinitely many" has its counts, and no other formula has any; the targets of other tables than a negation's are there where
--- they are asked for
-pub record IsFound (system : PatternSystem) (parts : List core.Core) (kept : List (Option Last)) (f : core.Core) (lists : Bool) (d : Decided) : Type 0 where
-  pub right : IsRightFor system f (as_answer d.answer)
+-- they are asked for and no table is reduced
+pub record IsFound (system : PatternSystem) (options : Options) (parts : List core.Core) (kept : List (Option Last)) (f : core.Core) (d : Decided) : Type 0 where
+  pub right : IsRight system options f (as_answer d.answer)
   pub turned : IsItsTurned parts kept f d.answer
   pub counted : AreItsCounts parts kept f d.counts
-  pub listed : lists ≡ true → AreItsTargets f d.answer d.targets
+  pub listed : options.lists ≡ true → options.reduces ≡ false → AreItsTargets f d.answer d.targets

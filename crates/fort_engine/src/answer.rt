@@ -40,7 +40,7 @@ impl Decided {
     }
 }
 
-/// How a formula was decided.
+/// The answer to a formula.
 #[derive(Drop)]
 pub struct Trace {
     pub last: Last,

@@ -9,6 +9,7 @@ ghost use Rattle.fort_engine.specs.Deciding.{IsDecision, AreLabelsFor};
 
 use crate::answer::Decided;
 use crate::explored::explored;
+use crate::options::Options;
 use fort_context_closure::{AtomLabels, SignedAtom};
 use fort_explore::{ByRule, ExploreFault};
 use fort_formulas::Rel;
@@ -21,17 +22,16 @@ fn by_labels(
     alloc: Global,
     system: &System,
     labels: &AtomLabels,
-    cap: u32,
-    lists: bool,
+    options: &Options,
 ) -> Result<Decided, ExploreFault>
     ensures { (f : theory.Core) → let sig = system.now.signature in
-        AreLabelsFor system.now f (rule_by sig labels.now).columns
+        AreLabelsFor system.now options.now.reduces f (rule_by sig labels.now).columns
         (label_by sig labels.now) (accepted_by sig labels.now)
-        → IsDecision system.now f cap lists result }
+        → IsDecision system.now options.now f result }
 {
     let signature = system.signature();
     let atom = SignedAtom { signature, labels };
-    explored(alloc, system, &ByRule(&atom), cap, lists)
+    explored(alloc, system, &ByRule(&atom), options)
 }
 
 /// Decides whether two variables are related; a reduction or a conversion by the closure of the index.
@@ -43,15 +43,14 @@ pub(crate) fn related(
     x: u32,
     y: u32,
     closure: &[ClosureEntry],
-    cap: u32,
-    lists: bool,
+    options: &Options,
 ) -> Result<Decided, ExploreFault>
     requires index { IsIndexOf system.now.rules index }
     requires passes { ListsPasses (as_rel rel) (at_index index system.now.rules) closure.now }
-    ensures { IsDecision system.now (theory.Atom (as_rel rel) index x y) cap lists result }
+    ensures { IsDecision system.now options.now (theory.Atom (as_rel rel) index x y) result }
 {
     let labels = AtomLabels::atom(alloc, system, index, rel, x, y, closure)?;
-    by_labels(alloc, system, &labels, cap, lists)
+    by_labels(alloc, system, &labels, options)
 }
 
 /// Decides whether a variable is a normal form.
@@ -59,14 +58,13 @@ pub(crate) fn normal_form(
     alloc: Global,
     system: &System,
     index: u32,
-    cap: u32,
-    lists: bool,
+    options: &Options,
 ) -> Result<Decided, ExploreFault>
     requires { IsIndexOf system.now.rules index }
-    ensures { (x : ℕ) → IsDecision system.now (theory.Nf index x) cap lists result }
+    ensures { (x : ℕ) → IsDecision system.now options.now (theory.Nf index x) result }
 {
     let labels = AtomLabels::nf(alloc, system, index)?;
-    by_labels(alloc, system, &labels, cap, lists)
+    by_labels(alloc, system, &labels, options)
 }
 
 /// Decides whether a variable is this term.
@@ -74,11 +72,10 @@ pub(crate) fn this_term(
     alloc: Global,
     system: &System,
     term: &Term,
-    cap: u32,
-    lists: bool,
+    options: &Options,
 ) -> Result<Decided, ExploreFault>
-    ensures { (x : ℕ) → IsDecision system.now (theory.Is x term.now) cap lists result }
+    ensures { (x : ℕ) → IsDecision system.now options.now (theory.Is x term.now) result }
 {
     let labels = AtomLabels::is(alloc, term)?;
-    by_labels(alloc, system, &labels, cap, lists)
+    by_labels(alloc, system, &labels, options)
 }

@@ -11,6 +11,7 @@ ghost use Rattle.fort_engine.specs.Found.{counted_with, IsCounted, IsDecidedBy, 
 use crate::answer::{Decided, Last};
 use crate::explored::explored;
 use crate::operands::Answered;
+use crate::options::Options;
 use fort_explore::{ByRule, ExploreFault};
 use fort_infinity::local::many_value;
 use fort_infinity::{Count, Many, pure_counts};
@@ -52,20 +53,19 @@ fn by_counts(
     column: usize,
     alone: &[u32],
     counts: &[Count],
-    cap: u32,
-    lists: bool,
+    options: &Options,
 ) -> Result<Decided, ExploreFault>
-    requires { (n : ℕ) × (f : theory.Core) × IsCounted system.now n f (listed_table table.now)
-        column alone.now (map as_count counts.now) }
-    ensures { (n : ℕ) (f : theory.Core) → IsCounted system.now n f (listed_table table.now)
-        column alone.now (map as_count counts.now)
-        → IsDecision system.now (theory.Infinite n f) cap lists result }
+    requires { (n : ℕ) × (f : theory.Core) × IsCounted system.now options.now n f
+        (listed_table table.now) column alone.now (map as_count counts.now) }
+    ensures { (n : ℕ) (f : theory.Core) → IsCounted system.now options.now n f
+        (listed_table table.now) column alone.now (map as_count counts.now)
+        → IsDecision system.now options.now (theory.Infinite n f) result }
 {
     if table.columns() == 1 {
         return Ok(Decided::truth(many_value(table, column, alone, counts)));
     }
     let many = Many::new(table, column, alone, counts);
-    explored(alloc, system, &ByRule(&many), cap, lists)
+    explored(alloc, system, &ByRule(&many), options)
 }
 
 /// Decides "for infinitely many values of this variable" of a formula with this table.
@@ -75,20 +75,19 @@ fn count_table(
     number: u32,
     columns: &[u32],
     table: &Dta,
-    cap: u32,
-    lists: bool,
+    options: &Options,
 ) -> Result<Decided, ExploreFault>
-    requires { (f : theory.Core) × IsBody system.now number f columns.now
+    requires { (f : theory.Core) × IsBody system.now options.now number f columns.now
         (OfTable (listed_table table.now)) }
-    ensures { (f : theory.Core) → IsBody system.now number f columns.now
+    ensures { (f : theory.Core) → IsBody system.now options.now number f columns.now
         (OfTable (listed_table table.now))
-        → IsDecidedBy system.now (theory.Infinite number f) cap
-        (IsMany system.now number f table.now lists) result }
+        → IsDecidedBy system.now options.now (theory.Infinite number f)
+        (IsMany system.now options.now number f table.now) result }
 {
     let column = column_of(columns, number);
     let alone = pure_states(alloc, table, column)?;
     let counts = pure_counts(alloc, table, column, &alone)?;
-    let decided = by_counts(alloc, system, table, column, &alone, &counts, cap, lists);
+    let decided = by_counts(alloc, system, table, column, &alone, &counts, options);
     with_counts(decided, counts)
 }
 
@@ -98,18 +97,17 @@ pub(crate) fn count(
     system: &System,
     number: u32,
     body: &Answered<'_>,
-    cap: u32,
-    lists: bool,
+    options: &Options,
 ) -> Result<Decided, ExploreFault>
-    requires { (f : theory.Core) × IsBody system.now number f body.now.columns.now
+    requires { (f : theory.Core) × IsBody system.now options.now number f body.now.columns.now
         (as_answer body.now.answer.now) }
-    ensures { (f : theory.Core) → IsBody system.now number f body.now.columns.now
+    ensures { (f : theory.Core) → IsBody system.now options.now number f body.now.columns.now
         (as_answer body.now.answer.now)
-        → IsDecidedBy system.now (theory.Infinite number f) cap
-        (IsManyOf system.now number f body.now.answer.now lists) result }
+        → IsDecidedBy system.now options.now (theory.Infinite number f)
+        (IsManyOf system.now options.now number f body.now.answer.now) result }
 {
     match body.answer {
         Last::Truth(_) => unreachable!(),
-        Last::Auto(table) => count_table(alloc, system, number, body.columns, table, cap, lists),
+        Last::Auto(table) => count_table(alloc, system, number, body.columns, table, options),
     }
 }

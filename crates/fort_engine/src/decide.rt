@@ -1,21 +1,20 @@
 //! Decides a formula, each of its parts in turn.
-ghost use Rattle.std.specs.Prelude.{◌≡◌, ℕ, ◌<◌, ◌≤◌, List, [], length, slice_index_or, None, IfOk, IfErr, OnOk};
+ghost use Rattle.std.specs.Prelude.{◌≡◌, ℕ, ◌<◌, ◌≤◌, [], length, slice_index_or, false, true, None, IfOk, IfErr, OnOk};
 ghost use Rattle.fort_logic.specs.Cores as theory;
-ghost use Rattle.fort_logic.specs.PartLists.{AreParts};
 ghost use Rattle.fort_logic.specs.PatternStructures.{pattern_structure};
 ghost use Rattle.fort_formulas.specs.CoreView.{as_core};
-ghost use Rattle.fort_parts.specs.AlikeParts.{IsPartOver};
 ghost use Rattle.fort_parts.specs.DecidedCores.{IsDecided};
 ghost use Rattle.fort_parts.specs.PartAnswers.{IsAnswerTo};
 ghost use Rattle.fort_outline.specs.Roots.{HasOperandsBelow};
 ghost use Rattle.fort_outline.specs.Outlines.{parts_in};
-ghost use Rattle.fort_engine.specs.AnswerView.{as_answer, IfOver, IsLimit};
+ghost use Rattle.fort_engine.specs.AnswerView.{as_answer, IfOver, KeepsCapAt, IsLimit};
 ghost use Rattle.fort_engine.specs.Kept.{IsSoFar};
 ghost use Rattle.fort_engine.specs.Closures.{AreClosures};
 ghost use Rattle.fort_engine.specs.Deciding.{IsPlanned};
 
 use crate::answer::{EngineFault, Last, Limit, Trace};
 use crate::closures::Closures;
+use crate::options::Options;
 use crate::part::decide_part;
 use crate::recorder::Recorder;
 use fort_explore::ExploreFault;
@@ -65,24 +64,25 @@ pub fn decide_parts<R: Recorder>(
     system: &System,
     outline: &Outline,
     closures: &Closures,
-    cap: u32,
+    options: &Options,
     recorder: &mut R,
 ) -> Result<Vec<Option<Last>>, EngineFault>
     requires planned { (root : theory.Core) × IsPlanned system.now root outline.now }
     requires closures { AreClosures system.now (parts_in outline.now) closures.now.list.items }
+    requires taken { R.takes options.now }
     requires begun { R.recorded recorder.old system.now outline.now 0 [] }
-    ensures far { IfOk result (λ kept. IsSoFar system.now (parts_in outline.now)
-        outline.now.last_uses.items cap (length outline.now.roots.items) kept.items) }
+    ensures far { IfOk result (λ kept. IsSoFar system.now options.now (parts_in outline.now)
+        outline.now.last_uses.items (length outline.now.roots.items) kept.items) }
     ensures recorded { IfOk result (λ kept. R.recorded recorder.new system.now outline.now
         (length outline.now.roots.items) kept.items) }
     ensures over { IfErr result (λ e. (root : theory.Core)
-        → IsPlanned system.now root outline.now → IfOver e (IsLimit system.now root cap)) }
+        → IsPlanned system.now root outline.now
+        → IfOver e (IsLimit system.now options.now.reduces root options.now.cap)) }
 {
     let mut kept: Vec<Option<Last>> = Vec::new(alloc);
     for k in 0..outline.roots.len() {
         let answers = kept.as_slice();
-        let lists = recorder.lists();
-        let decided = match decide_part(alloc, system, outline, closures, k, answers, cap, lists) {
+        let decided = match decide_part(alloc, system, outline, closures, k, answers, options) {
             Ok(decided) => decided,
             Err(ExploreFault::Memory) => return Err(EngineFault::Memory),
             Err(ExploreFault::Over(tuples)) => {
@@ -93,7 +93,7 @@ pub fn decide_parts<R: Recorder>(
                 }));
             }
         };
-        let answer = recorder.note(alloc, system, outline, k, answers, decided)?;
+        let answer = recorder.note(alloc, system, options, outline, k, answers, decided)?;
         kept.push(Some(answer))?;
         drop_idle(&mut kept, outline, k);
     }
@@ -101,7 +101,35 @@ pub fn decide_parts<R: Recorder>(
 }
 
 /// Decides a core formula over a system: its truth where it is closed, else a table that accepts exactly the tuples that meet it.
-/// It is over the cap where some part has more labels than the cap; the first such part is told.
+/// It is over the cap where some part has more labels than the cap, by its operands' tables as they are kept; the first such part
+/// is told.
+pub fn decide_with(
+    alloc: Global,
+    system: &System,
+    core: &Core,
+    options: &Options,
+) -> Result<Trace, EngineFault>
+    requires { IsDecided system.now (as_core core.now) }
+    ensures truth { IfOk result (λ t. IsAnswerTo (pattern_structure system.now)
+        (as_core core.now) (as_answer t.last)) }
+    ensures within { OnOk result (KeepsCapAt system.now options.now.reduces (as_core core.now)
+        options.now.cap) }
+    ensures over { IfErr result (λ e. IfOver e
+        (IsLimit system.now options.now.reduces (as_core core.now) options.now.cap)) }
+{
+    let outline = Outline::new(alloc, core)?;
+    let closures = Closures::new(alloc, system, &outline.roots)?;
+    let mut kept = match decide_parts(alloc, system, &outline, &closures, options, &mut ()) {
+        Ok(kept) => kept,
+        Err(fault) => return Err(fault),
+    };
+    match kept.swap_remove(outline.whole) {
+        Some(last) => Ok(Trace { last }),
+        None => unreachable!(),
+    }
+}
+
+/// `decide_with`, with tables as they are.
 pub fn decide_core(
     alloc: Global,
     system: &System,
@@ -111,19 +139,26 @@ pub fn decide_core(
     requires { IsDecided system.now (as_core core.now) }
     ensures truth { IfOk result (λ t. IsAnswerTo (pattern_structure system.now)
         (as_core core.now) (as_answer t.last)) }
-    ensures within { OnOk result ((ps : List theory.Core) (k : ℕ)
-        → AreParts (as_core core.now) ps → k < length ps
-        → IsPartOver system.now (slice_index_or ps k theory.True) cap → ⊥) }
-    ensures over { IfErr result (λ e. IfOver e (IsLimit system.now (as_core core.now) cap)) }
+    ensures within { OnOk result (KeepsCapAt system.now false (as_core core.now) cap) }
+    ensures over { IfErr result (λ e. IfOver e
+        (IsLimit system.now false (as_core core.now) cap)) }
 {
-    let outline = Outline::new(alloc, core)?;
-    let closures = Closures::new(alloc, system, &outline.roots)?;
-    let mut kept = match decide_parts(alloc, system, &outline, &closures, cap, &mut ()) {
-        Ok(kept) => kept,
-        Err(fault) => return Err(fault),
-    };
-    match kept.swap_remove(outline.whole) {
-        Some(last) => Ok(Trace { last }),
-        None => unreachable!(),
-    }
+    decide_with(alloc, system, core, &Options::with(cap, false))
+}
+
+/// `decide_with`, with reduced tables.
+pub fn decide_reduced(
+    alloc: Global,
+    system: &System,
+    core: &Core,
+    cap: u32,
+) -> Result<Trace, EngineFault>
+    requires { IsDecided system.now (as_core core.now) }
+    ensures truth { IfOk result (λ t. IsAnswerTo (pattern_structure system.now)
+        (as_core core.now) (as_answer t.last)) }
+    ensures within { OnOk result (KeepsCapAt system.now true (as_core core.now) cap) }
+    ensures over { IfErr result (λ e. IfOver e
+        (IsLimit system.now true (as_core core.now) cap)) }
+{
+    decide_with(alloc, system, core, &Options::with(cap, true))
 }

@@ -1,28 +1,60 @@
-//! Tables by a formula's labels.
+//! Tables by a formula's labels, reduced where tables are.
+ghost use Rattle.std.specs.Prelude.{◌≡◌, false, IfOk};
+ghost use Rattle.fort_theory.specs.Patterns.{PatternSystem};
 ghost use Rattle.fort_logic.specs.Cores as theory;
+ghost use Rattle.fort_tables.specs.Tables.{IsListed, listed_table};
+ghost use Rattle.fort_parts.specs.PartAnswers.{OfTable};
+ghost use Rattle.fort_parts.specs.RightAnswers.{IsRightBy};
+ghost use Rattle.fort_reduced_parts.specs.ReducedParts.{AlikeWith};
+ghost use Rattle.fort_engine.specs.Kept.{IsRight};
 ghost use Rattle.fort_engine.specs.Deciding.{IsDecision, AreLabelsFor};
 
 use crate::answer::{Decided, Last};
+use crate::options::Options;
 use fort_explore::{ExploreFault, Explored, Labeller, explore_listed};
-use fort_terms::System;
+use fort_lockstep::Dta;
+use fort_reduce::reduce;
+use fort_terms::{Memory, System};
 use std::alloc::Global;
+
+/// The table as it is kept.
+fn kept_table(alloc: Global, options: &Options, table: Dta) -> Result<Dta, Memory>
+    requires { IsListed table }
+    ensures right { IfOk result (λ t. (system : PatternSystem) (f : theory.Core)
+        → IsRightBy system (AlikeWith options.now.reduces system) f (OfTable (listed_table table))
+        → IsRight system options.now f (OfTable (listed_table t))) }
+    ensures same { IfOk result (λ t. options.now.reduces ≡ false → t ≡ table) }
+{
+    if !options.reduces {
+        return Ok(table);
+    }
+    let (reduced, _classes) = reduce(alloc, &table)?;
+    Ok(reduced)
+}
 
 /// Decides the formula that has these labels.
 pub(crate) fn explored<L: Labeller>(
     alloc: Global,
     system: &System,
     labels: &L,
-    cap: u32,
-    lists: bool,
+    options: &Options,
 ) -> Result<Decided, ExploreFault>
     requires { L.serves labels.now system.now.signature }
-    ensures { (f : theory.Core) → AreLabelsFor system.now f (L.column_count labels.now)
-        (L.label labels.now) (L.accepting labels.now) → IsDecision system.now f cap lists result }
+    ensures { (f : theory.Core) → AreLabelsFor system.now options.now.reduces f
+        (L.column_count labels.now) (L.label labels.now) (L.accepting labels.now)
+        → IsDecision system.now options.now f result }
 {
-    let found = explore_listed(alloc, system.signature(), labels, cap, lists)?;
+    let found = explore_listed(
+        alloc,
+        system.signature(),
+        labels,
+        options.cap,
+        options.lists,
+    )?;
     let Explored { table, targets } = found;
+    let kept = kept_table(alloc, options, table)?;
     Ok(Decided {
-        answer: Last::Auto(table),
+        answer: Last::Auto(kept),
         counts: None,
         targets,
     })

@@ -12,6 +12,7 @@ ghost use Rattle.fort_engine.specs.Deciding.{AreJoined, IsDecision, IsJoining};
 use crate::answer::{Decided, Last};
 use crate::explored::explored;
 use crate::operands::Answered;
+use crate::options::Options;
 use fort_explore::{ByRule, ExploreFault};
 use fort_lockstep::Dta;
 use fort_outline::places_among;
@@ -50,20 +51,19 @@ fn product_table<'a>(
     second: &'a Last,
     others: &'a [usize],
     columns: usize,
-    cap: u32,
-    lists: bool,
+    options: &Options,
 ) -> Result<Decided, ExploreFault>
-    requires { (h f g : theory.Core) × IsJoining system.now (connective_of op) h f g
+    requires { (h f g : theory.Core) × IsJoining system.now options.now (connective_of op) h f g
         (as_answer first.now) places.now (as_answer second.now) others.now columns }
-    ensures { (h f g : theory.Core) → IsJoining system.now (connective_of op) h f g
+    ensures { (h f g : theory.Core) → IsJoining system.now options.now (connective_of op) h f g
         (as_answer first.now) places.now (as_answer second.now) others.now columns
-        → IsDecision system.now h cap lists result }
+        → IsDecision system.now options.now h result }
 {
     let (one, other) = (operand(first, places), operand(second, others));
     let first_list = one.list(alloc)?;
     let second_list = other.list(alloc)?;
     let product = Both::new(op, one, other, columns).listed(Some(&first_list), Some(&second_list));
-    explored(alloc, system, &ByRule(&product), cap, lists)
+    explored(alloc, system, &ByRule(&product), options)
 }
 
 /// Decides a formula with these columns, of two operands, by their product.
@@ -74,16 +74,15 @@ fn join_tables(
     columns: &[u32],
     first: &Answered<'_>,
     second: &Answered<'_>,
-    cap: u32,
-    lists: bool,
+    options: &Options,
 ) -> Result<Decided, ExploreFault>
-    requires two { (h f g : theory.Core) × AreJoined system.now (connective_of op) h f g
+    requires two { (h f g : theory.Core) × AreJoined system.now options.now (connective_of op) h f g
         columns.now first.now.columns.now second.now.columns.now (as_answer first.now.answer.now)
         (as_answer second.now.answer.now) }
     requires some { 0 < length columns.now }
-    ensures { (h f g : theory.Core) → AreJoined system.now (connective_of op) h f g
+    ensures { (h f g : theory.Core) → AreJoined system.now options.now (connective_of op) h f g
         columns.now first.now.columns.now second.now.columns.now (as_answer first.now.answer.now)
-        (as_answer second.now.answer.now) → IsDecision system.now h cap lists result }
+        (as_answer second.now.answer.now) → IsDecision system.now options.now h result }
 {
     let places = places_among(alloc, columns, first.columns)?;
     let others = places_among(alloc, columns, second.columns)?;
@@ -96,8 +95,7 @@ fn join_tables(
         second.answer,
         &others,
         columns.len(),
-        cap,
-        lists,
+        options,
     )
 }
 
@@ -109,21 +107,20 @@ pub(crate) fn join(
     columns: &[u32],
     first: &Answered<'_>,
     second: &Answered<'_>,
-    cap: u32,
-    lists: bool,
+    options: &Options,
 ) -> Result<Decided, ExploreFault>
-    requires { (h f g : theory.Core) × AreJoined system.now (connective_of op) h f g
+    requires { (h f g : theory.Core) × AreJoined system.now options.now (connective_of op) h f g
         columns.now first.now.columns.now second.now.columns.now (as_answer first.now.answer.now)
         (as_answer second.now.answer.now) }
-    ensures { (h f g : theory.Core) → AreJoined system.now (connective_of op) h f g
+    ensures { (h f g : theory.Core) → AreJoined system.now options.now (connective_of op) h f g
         columns.now first.now.columns.now second.now.columns.now (as_answer first.now.answer.now)
-        (as_answer second.now.answer.now) → IsDecision system.now h cap lists result }
+        (as_answer second.now.answer.now) → IsDecision system.now options.now h result }
 {
     match first.answer {
         Last::Truth(a) => match second.answer {
             Last::Truth(b) => Ok(Decided::truth(connect(op, *a, *b))),
-            Last::Auto(_) => join_tables(alloc, system, op, columns, first, second, cap, lists),
+            Last::Auto(_) => join_tables(alloc, system, op, columns, first, second, options),
         },
-        Last::Auto(_) => join_tables(alloc, system, op, columns, first, second, cap, lists),
+        Last::Auto(_) => join_tables(alloc, system, op, columns, first, second, options),
     }
 }

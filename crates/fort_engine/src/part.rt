@@ -1,13 +1,13 @@
 //! Decides one part from the answers to its operands.
-ghost use Rattle.std.specs.Prelude.{◌≡◌, ℕ, false, IfOk};
+ghost use Rattle.std.specs.Prelude.{◌≡◌, None, IfOk};
 ghost use Rattle.fort_theory.specs.Patterns.{PatternSystem};
 ghost use Rattle.fort_logic.specs.Cores as theory;
 ghost use Rattle.fort_products.specs.Operands.{connective_of};
-ghost use Rattle.fort_parts.specs.AlikeParts.{IsPartOver};
-ghost use Rattle.fort_parts.specs.RightAnswers.{IsRightFor};
 ghost use Rattle.fort_outline.specs.Outlines.{parts_in, core_at};
+ghost use Rattle.fort_engine.specs.declared.options.Options as asked;
 ghost use Rattle.fort_engine.specs.AnswerView.{as_answer};
 ghost use Rattle.fort_engine.specs.Closures.{AreClosures};
+ghost use Rattle.fort_engine.specs.Kept.{IsRight, IsKeptOverCap};
 ghost use Rattle.fort_engine.specs.Deciding.{IsNextPart, IsOfTwo, IsDecision};
 ghost use Rattle.fort_engine.specs.Found.{IsTurnedOf, IsDecidedBy, IsFound};
 
@@ -17,6 +17,7 @@ use crate::closures::Closures;
 use crate::counted::count;
 use crate::joined::join;
 use crate::operands::{kept_answer, kept_operand};
+use crate::options::Options;
 use crate::projected::project;
 use fort_explore::ExploreFault;
 use fort_outline::{Outline, Root};
@@ -26,11 +27,13 @@ use std::alloc::Global;
 
 /// Decides the negation of a formula with this answer. No targets are listed, since its table has its body's.
 fn complement(alloc: Global, body: &Last) -> Result<Decided, ExploreFault>
-    ensures decided { (system : PatternSystem) (cap : ℕ) (f : theory.Core)
-        → IsRightFor system f (as_answer body.now)
-        → (IsPartOver system f cap → ⊥)
-        → IsDecision system (theory.Not f) cap false result }
+    ensures decided { (system : PatternSystem) (options : asked.Options) (f : theory.Core)
+        → IsRight system options f (as_answer body.now)
+        → (IsKeptOverCap system options f → ⊥)
+        → IsDecidedBy system options (theory.Not f)
+        (λ d. IsRight system options (theory.Not f) (as_answer d.answer)) result }
     ensures turned { IfOk result (λ d. IsTurnedOf body.now d.answer) }
+    ensures plain { IfOk result (λ d. d.counts ≡ None) }
 {
     match body {
         Last::Truth(truth) => Ok(Decided::truth(!*truth)),
@@ -52,17 +55,16 @@ fn join_parts(
     f: usize,
     g: usize,
     kept: &[Option<Last>],
-    cap: u32,
-    lists: bool,
+    options: &Options,
 ) -> Result<Decided, ExploreFault>
-    requires next { IsNextPart system.now cap outline.now k kept.now }
+    requires next { IsNextPart system.now options.now outline.now k kept.now }
     requires two { IsOfTwo (connective_of op) (parts_in outline.now) k f g }
-    ensures { IsDecision system.now (core_at outline.now k) cap lists result }
+    ensures { IsDecision system.now options.now (core_at outline.now k) result }
 {
     let first = kept_operand(outline, kept, f);
     let second = kept_operand(outline, kept, g);
     let columns = outline.columns[k].as_slice();
-    join(alloc, system, op, columns, &first, &second, cap, lists)
+    join(alloc, system, op, columns, &first, &second, options)
 }
 
 /// Decides part k from the answers to the parts before it.
@@ -73,33 +75,33 @@ pub(crate) fn decide_part(
     closures: &Closures,
     k: usize,
     kept: &[Option<Last>],
-    cap: u32,
-    lists: bool,
+    options: &Options,
 ) -> Result<Decided, ExploreFault>
-    requires next { IsNextPart system.now cap outline.now k kept.now }
+    requires next { IsNextPart system.now options.now outline.now k kept.now }
     requires closures { AreClosures system.now (parts_in outline.now) closures.now.list.items }
-    ensures { IsDecidedBy system.now (core_at outline.now k) cap
-        (IsFound system.now (parts_in outline.now) kept.now (core_at outline.now k) lists) result }
+    ensures { IsDecidedBy system.now options.now (core_at outline.now k)
+        (IsFound system.now options.now (parts_in outline.now) kept.now (core_at outline.now k))
+        result }
 {
     match &outline.roots[k] {
         Root::True => Ok(Decided::truth(true)),
         Root::Atom(rel, index, x, y) => {
             let closure = closures.read_by(*rel, *index);
-            related(alloc, system, *rel, *index, *x, *y, closure, cap, lists)
+            related(alloc, system, *rel, *index, *x, *y, closure, options)
         }
-        Root::Nf(index, _) => normal_form(alloc, system, *index, cap, lists),
-        Root::Is(_, term) => this_term(alloc, system, term, cap, lists),
+        Root::Nf(index, _) => normal_form(alloc, system, *index, options),
+        Root::Is(_, term) => this_term(alloc, system, term, options),
         Root::Not(f) => complement(alloc, kept_answer(kept, *f)),
-        Root::And(f, g) => join_parts(alloc, system, outline, k, Op::And, *f, *g, kept, cap, lists),
-        Root::Or(f, g) => join_parts(alloc, system, outline, k, Op::Or, *f, *g, kept, cap, lists),
-        Root::Iff(f, g) => join_parts(alloc, system, outline, k, Op::Iff, *f, *g, kept, cap, lists),
+        Root::And(f, g) => join_parts(alloc, system, outline, k, Op::And, *f, *g, kept, options),
+        Root::Or(f, g) => join_parts(alloc, system, outline, k, Op::Or, *f, *g, kept, options),
+        Root::Iff(f, g) => join_parts(alloc, system, outline, k, Op::Iff, *f, *g, kept, options),
         Root::Exists(n, f) => {
             let body = kept_operand(outline, kept, *f);
-            project(alloc, system, *n, &body, cap, lists)
+            project(alloc, system, *n, &body, options)
         }
         Root::Infinite(n, f) => {
             let body = kept_operand(outline, kept, *f);
-            count(alloc, system, *n, &body, cap, lists)
+            count(alloc, system, *n, &body, options)
         }
     }
 }

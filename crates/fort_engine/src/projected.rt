@@ -10,6 +10,7 @@ ghost use Rattle.fort_engine.specs.Deciding.{IsBody, IsDecision};
 use crate::answer::{Decided, Last};
 use crate::explored::explored;
 use crate::operands::Answered;
+use crate::options::Options;
 use fort_explore::ExploreFault;
 use fort_lockstep::{Dta, Table};
 use fort_outline::column_of;
@@ -36,18 +37,17 @@ fn project_table(
     number: u32,
     columns: &[u32],
     table: &Dta,
-    cap: u32,
-    lists: bool,
+    options: &Options,
 ) -> Result<Decided, ExploreFault>
-    requires body { (f : theory.Core) × IsBody system.now number f columns.now
+    requires body { (f : theory.Core) × IsBody system.now options.now number f columns.now
         (OfTable (listed_table table.now)) }
     requires others { 1 < table.now.columns }
-    ensures { (f : theory.Core) → IsBody system.now number f columns.now
+    ensures { (f : theory.Core) → IsBody system.now options.now number f columns.now
         (OfTable (listed_table table.now))
-        → IsDecision system.now (theory.Exists number f) cap lists result }
+        → IsDecision system.now options.now (theory.Exists number f) result }
 {
     let projection = Project::new(alloc, table, column_of(columns, number))?;
-    explored(alloc, system, &Projecting(&projection), cap, lists)
+    explored(alloc, system, &Projecting(&projection), options)
 }
 
 /// Decides "for some value of this variable" of a formula.
@@ -56,14 +56,13 @@ pub(crate) fn project(
     system: &System,
     number: u32,
     body: &Answered<'_>,
-    cap: u32,
-    lists: bool,
+    options: &Options,
 ) -> Result<Decided, ExploreFault>
-    requires { (f : theory.Core) × IsBody system.now number f body.now.columns.now
+    requires { (f : theory.Core) × IsBody system.now options.now number f body.now.columns.now
         (as_answer body.now.answer.now) }
-    ensures { (f : theory.Core) → IsBody system.now number f body.now.columns.now
+    ensures { (f : theory.Core) → IsBody system.now options.now number f body.now.columns.now
         (as_answer body.now.answer.now)
-        → IsDecision system.now (theory.Exists number f) cap lists result }
+        → IsDecision system.now options.now (theory.Exists number f) result }
 {
     match body.answer {
         Last::Truth(_) => unreachable!(),
@@ -71,7 +70,7 @@ pub(crate) fn project(
             if table.columns() == 1 {
                 Ok(Decided::truth(accepts_some(table)))
             } else {
-                project_table(alloc, system, number, body.columns, table, cap, lists)
+                project_table(alloc, system, number, body.columns, table, options)
             }
         }
     }

@@ -1,13 +1,15 @@
 //! What is recorded while a formula is decided.
-ghost use Rattle.std.specs.Prelude.{◌≡◌, ℕ, ◌+◌, ◌<◌, ◌≤◌, List, [], ◌∷◌, ◌++◌, slice_index_or, Bool, false, Option, None, Some, IfOk, OnOk};
+ghost use Rattle.std.specs.Prelude.{◌≡◌, ℕ, ◌+◌, ◌<◌, ◌≤◌, List, [], ◌∷◌, ◌++◌, slice_index_or, Option, None, Some, IfOk, OnOk};
 ghost use Rattle.fort_theory.specs.Patterns.{PatternSystem};
 ghost use Rattle.fort_outline.specs.declared.outline.Outline as outlines;
 ghost use Rattle.fort_outline.specs.Outlines.{parts_in, core_at};
 ghost use Rattle.fort_engine.specs.declared.answer.Last as answers;
+ghost use Rattle.fort_engine.specs.declared.options.Options as asked;
 ghost use Rattle.fort_engine.specs.Deciding.{IsNextPart};
 ghost use Rattle.fort_engine.specs.Found.{IsFound};
 
 use crate::answer::{Decided, Last};
+use crate::options::Options;
 use fort_outline::Outline;
 use fort_terms::{Memory, System};
 use std::alloc::Global;
@@ -18,25 +20,24 @@ pub trait Recorder {
     ghost recorded: { Self → PatternSystem → outlines.Outline → ℕ → List (Option answers.Last)
         → Type 0 };
 
-    /// Whether it is told the targets of tables.
-    ghost listing: { Self → Bool };
-
-    fn lists(&self) -> bool
-        ensures { result ≡ listing self.now };
+    /// The options with which it can be told of parts.
+    ghost takes: { asked.Options → Type 0 };
 
     /// Records part k, which was decided from the answers that are kept, and hands on its answer.
     fn note(
         &mut self,
         alloc: Global,
         system: &System,
+        options: &Options,
         outline: &Outline,
         k: usize,
         kept: &[Option<Last>],
         decided: Decided,
     ) -> Result<Last, Memory>
-        requires next { (cap : ℕ) × IsNextPart system.now cap outline.now k kept.now }
-        requires found { IsFound system.now (parts_in outline.now) kept.now
-            (core_at outline.now k) (listing self.old) decided }
+        requires taken { takes options.now }
+        requires next { IsNextPart system.now options.now outline.now k kept.now }
+        requires found { IsFound system.now options.now (parts_in outline.now) kept.now
+            (core_at outline.now k) decided }
         requires before { recorded self.old system.now outline.now k kept.now }
         ensures recorded { OnOk result (recorded self.new system.now outline.now (k + 1)
             (kept.now ++ Some decided.answer ∷ [])) }
@@ -54,18 +55,15 @@ pub trait Recorder {
 impl Recorder for () {
     ghost recorded = { λ _ _ _ _ _. Unit {0} };
 
-    ghost listing = { λ _. false };
+    ghost takes = { λ _. Unit {0} };
 
     ghost lets_go = { λ _ _ _ _ _ _ _ _. tt };
-
-    fn lists(&self) -> bool {
-        false
-    }
 
     fn note(
         &mut self,
         _alloc: Global,
         _system: &System,
+        _options: &Options,
         _outline: &Outline,
         _k: usize,
         _kept: &[Option<Last>],

@@ -72,3 +72,25 @@ pub fn run_command(
         is_whole: taken.is_some(),
     }))
 }
+
+/// The same question with reduced tables, where the command is one of `decide` or `witness` without `--reduce` and `--certificate`, and its
+/// status says that no part is over the cap: then the answer may not differ.
+pub fn reduced_command(
+    alloc: Global,
+    line: &str,
+    status: &str,
+) -> Result<Option<String>, AllocError> {
+    let Some((command, rest)) = line.split_once(' ') else {
+        return Ok(None);
+    };
+    let asks = command == "decide" || command == "witness";
+    let has_flag = rest.contains("--reduce") || rest.contains("--certificate");
+    let is_answer = status == "0" || status == "1" || status == "3";
+    if !asks || has_flag || !is_answer {
+        return Ok(None);
+    }
+    let mut reduced = String::from_str(alloc, command)?;
+    reduced.push_str(" --reduce ")?;
+    reduced.push_str(rest)?;
+    Ok(Some(reduced))
+}

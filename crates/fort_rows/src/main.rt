@@ -8,6 +8,9 @@
 //! at the end of a problem's line takes away the line's end. A line that begins with `#` is a comment, wherever it stands.
 //! Between rows there are blank lines.
 //!
+//! A row of `decide` or `witness` with neither `--reduce` nor `--certificate`, of status 0, 1 or 3, is run a second time with
+//! `--reduce`, and has to print the same; it then counts twice.
+//!
 //! All else fails as a wrong answer does: a row without its status, a problem without a row, a backslash that begins no
 //! escape, a `+` with another status, more text than a row may have.
 #![tactic(auto)]

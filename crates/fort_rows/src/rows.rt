@@ -1,9 +1,9 @@
 //! The rows, line by line.
-use crate::command::{Answer, run_command};
+use crate::command::{Answer, reduced_command, run_command};
 use crate::escape::push_text;
 use std::alloc::{AllocError, Global};
 use std::rt::Files;
-use std::{fs, io};
+use std::{fs, io, mem};
 
 /// The most bytes that the answer of a row may have.
 const ROW_ROOM: usize = 65_536;
@@ -197,31 +197,45 @@ impl Rows {
             return self.fail(rt, "a status without a row");
         }
         self.part = Part::Nothing;
-        let answer = run_command(
-            self.alloc,
-            self.command.as_str(),
-            self.problem.as_slice(),
-            ROW_ROOM,
-        )?;
+        let command = mem::replace(&mut self.command, String::new(self.alloc));
+        self.run_row(rt, command.as_str(), status)?;
+        if let Some(reduced) = reduced_command(self.alloc, command.as_str(), status)? {
+            self.run_row(rt, reduced.as_str(), status)?;
+        }
         if let Some(length) = self.behind {
             self.problem.truncate(length);
             self.behind = None;
         }
-        match answer {
+        Ok(())
+    }
+
+    /// Runs a command, which has to print the wanted text.
+    fn run_row<R: Print + AllocGlobal>(
+        &mut self,
+        rt: &R,
+        command: &str,
+        status: &str,
+    ) -> io::Result<()> {
+        match run_command(self.alloc, command, self.problem.as_slice(), ROW_ROOM)? {
             None => self.fail(rt, "a quoted word that isn't one"),
             Some(got) if self.is_wanted(&got, status) => {
                 self.passed = self.passed.saturating_add(1);
                 Ok(())
             }
-            Some(got) => self.differs(rt, &got, status),
+            Some(got) => self.differs(rt, command, &got, status),
         }
     }
 
     /// A row whose answer isn't the wanted one.
-    fn differs<R: Print>(&mut self, rt: &R, got: &Answer, status: &str) -> io::Result<()> {
+    fn differs<R: Print>(
+        &mut self,
+        rt: &R,
+        command: &str,
+        got: &Answer,
+        status: &str,
+    ) -> io::Result<()> {
         self.failed = self.failed.saturating_add(1);
         let line = self.lines;
-        let command = self.command.as_str();
         let printed = got.status;
         let text = std::str::from_utf8(got.text.as_slice()).unwrap_or("(not UTF-8)\n");
         println!(rt;

@@ -30,6 +30,7 @@ use Rattle.fort_engine.specs.declared.answer.Last.TheVariants.{Truth as Value, A
 use Rattle.fort_engine.specs.AnswerView.{as_answer, IsLimit}
 use Rattle.fort_lockstep.specs.declared.dta.Dta.{Dta}
 use Rattle.fort_tables.specs.Tables.{listed_table}
+use Rattle.fort_answers.specs.Requests.{Options}
 use Rattle.fort_run.specs.Certified.{IsTruth}
 use Rattle.fort_run.specs.Ready.{IsLawful, IsReady, IsDecidedBy}
 use Rattle.fort_run.proofs.SomeParts.{some_parts}
@@ -52,9 +53,9 @@ decided_core f system terms core lawful ready well is =
 
 -- ---- from the core formula to the formula
 
-pub passes : (system : System) (terms : List Tree) (f : Formula) (cap : ℕ) (limit : Limit) → IsLimit (pattern_system system) (core_of terms f) cap limit
-    → PassesCap system terms f cap limit.part (as_kind limit.kind)
-passes system terms f cap limit is =
+pub passes : (system : System) (terms : List Tree) (f : Formula) (options : Options) (limit : Limit) → IsLimit (pattern_system system) options.reduces (core_of terms f) options.states limit
+    → PassesCap system terms f options limit.part (as_kind limit.kind)
+passes system terms f options limit is =
     let parts = some_parts (core_of terms f) in
     record {
       parts = parts.0;

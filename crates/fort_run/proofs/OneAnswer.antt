@@ -15,7 +15,7 @@ use Rattle.fort_certificate_grammar.specs.CertificateText.{certificate_text}
 use Rattle.fort_in_order.proofs.WrittenLaws.{IsWritten-one}
 use Rattle.fort_io.specs.Devices.{Takes}
 use Rattle.fort_order.proofs.TupleOrderLaws.{not_after_none}
-use Rattle.fort_answers.specs.Requests.{Text, Request, Decide, Witness, Check, Sample}
+use Rattle.fort_answers.specs.Requests.{Text, Request, Decide, Witness, Check, Sample, Options}
 use Rattle.fort_answers.specs.CommandGrammar.{request_of}
 use Rattle.fort_answers.specs.Lines.{positive, negative, usage, refused, limited, usage_text, yes_line, no_line, witness_line, none_line, limit_line}
 use Rattle.fort_answers.specs.SystemAnswer.{Are, PassesCap, KeepsCap, IsAnswerable, IsUnanswerable, InputRefused, FormulaUnfit, Limited}
@@ -31,9 +31,9 @@ use Rattle.fort_answers.specs.InputAnswer.{IsInput}
 use Rattle.fort_answers.specs.Answer.{OwesTold, owed_early, owed, Answer, AnswerFor, IsAbout}
 use Rattle.fort_answers.proofs.OneFit.{IsUnfit-unique, FitsSystem-not_unfit, FitsSystem-unique, FitsSystem-ground}
 use Rattle.fort_answers.proofs.OneRequest.{Are-unique, IsAccepted-unique, IsAcceptedClosed-unique, DecideEarly-unique, early-without_input, WitnessEarly-unique, witness_early-without_input}
-use Rattle.fort_answers.specs.SampleSizes.{KeepsSampleSize}
+use Rattle.fort_answers.specs.PossibleRequests.{IsPossible}
 use Rattle.fort_answers.proofs.OneSample.{SampleAnswer-unique}
-use Rattle.fort_answers.proofs.SampleSizes.{sample_sizes}
+use Rattle.fort_answers.proofs.PossibleRequests.{words_possible}
 use Rattle.fort_answers.proofs.OneCap.{PassesCap-unique, PassesCap-not_kept}
 use Rattle.fort_run.specs.Answered.{Answers, OwesOnly, OwesOnlyEarly, IsDecidable, IsDecidableWithin}
 use Rattle.fort_run.specs.Certified.{IsCheckable}
@@ -102,7 +102,7 @@ WitnessVerdict-low system terms f s t (NotFound none are) = let e = are.same_sta
 
 -- ---- what withholds a verdict
 
-module _ (states : ℕ) (formula : Text) (f : Formula) (bytes : Text) where
+module _ (options : Options) (formula : Text) (f : Formula) (bytes : Text) where
   -- two systems with their terms are one
   module _ (system system' : System) (terms terms' : List Tree) (is : IsInput bytes system) (is' : IsInput bytes system')
       (fits : FitsSystem formula f system terms) (fits' : FitsSystem formula f system' terms') where
@@ -120,7 +120,7 @@ module _ (states : ℕ) (formula : Text) (f : Formula) (bytes : Text) where
   not_both system system' terms line is is' fits says =
       FitsSystem-not_unfit formula f system terms line fits (subst (λ x. IsUnfit formula f x line) (IsInput-unique bytes system' system is' is) says)
 
-  IsUnanswerable-unique : (s s' : ℕ) (t t' : Text) → IsUnanswerable states formula f bytes s t → IsUnanswerable states formula f bytes s' t' → Are s t s' t'
+  IsUnanswerable-unique : (s s' : ℕ) (t t' : Text) → IsUnanswerable options formula f bytes s t → IsUnanswerable options formula f bytes s' t' → Are s t s' t'
   IsUnanswerable-unique s s' t t' (InputRefused line says are) (InputRefused line' says' are') =
       Are-unique refused line s s' t t' are (subst (Are s' t' refused) (IsInputRefused-unique bytes line' line says' says) are')
   IsUnanswerable-unique s s' t t' (InputRefused line says are) (FormulaUnfit system is line' says' are') = absurd (IsInput-not_refused bytes system line is says)
@@ -135,126 +135,126 @@ module _ (states : ℕ) (formula : Text) (f : Formula) (bytes : Text) where
   IsUnanswerable-unique s s' t t' (Limited system is terms fits k kind over are) (FormulaUnfit system' is' line says are') =
       absurd (not_both system system' terms line is is' fits says)
   IsUnanswerable-unique s s' t t' (Limited system is terms fits k kind over are) (Limited system' is' terms' fits' k' kind' over' are') =
-      let there = over_both system system' terms terms' is is' fits fits' (λ x xs. PassesCap x xs f states k' kind') over' in
-      Are-unique limited (limit_line k kind states) s s' t t' are
-      (subst (Are s' t' limited) (PassesCap-unique system terms f states k' k kind' kind there over) are')
+      let there = over_both system system' terms terms' is is' fits fits' (λ x xs. PassesCap x xs f options k' kind') over' in
+      Are-unique limited (limit_line k kind options.states) s s' t t' are
+      (subst (Are s' t' limited) (PassesCap-unique system terms f options k' k kind' kind there over) are')
 
   -- nothing withholds the verdict on an input over which it is given
-  IsUnanswerable-answerable : (system : System) (terms : List Tree) (s : ℕ) (t : Text) → IsAnswerable states formula f bytes system terms
-      → IsUnanswerable states formula f bytes s t → ⊥
+  IsUnanswerable-answerable : (system : System) (terms : List Tree) (s : ℕ) (t : Text) → IsAnswerable options formula f bytes system terms
+      → IsUnanswerable options formula f bytes s t → ⊥
   IsUnanswerable-answerable system terms s t is (InputRefused line says are) = IsInput-not_refused bytes system line is.input says
   IsUnanswerable-answerable system terms s t is (FormulaUnfit system' is' line says are) = not_both system system' terms line is.input is' is.fits says
   IsUnanswerable-answerable system terms s t is (Limited system' is' terms' fits' k kind over are) =
-      PassesCap-not_kept system terms f states k kind
-      (over_both system system' terms terms' is.input is' is.fits fits' (λ x xs. PassesCap x xs f states k kind) over) is.keeps
+      PassesCap-not_kept system terms f options k kind
+      (over_both system system' terms terms' is.input is' is.fits fits' (λ x xs. PassesCap x xs f options k kind) over) is.keeps
 
   -- a verdict that is withheld over a system with all that the formula speaks of is withheld by the cap
   IsUnanswerable-limited : (system : System) (terms : List Tree) (s : ℕ) (t : Text) → IsInput bytes system → FitsSystem formula f system terms
-      → IsUnanswerable states formula f bytes s t → (s ≡ limited) × (KeepsCap system terms f states → ⊥)
+      → IsUnanswerable options formula f bytes s t → (s ≡ limited) × (KeepsCap system terms f options → ⊥)
   IsUnanswerable-limited system terms s t is fits (InputRefused line says are) = absurd (IsInput-not_refused bytes system line is says)
   IsUnanswerable-limited system terms s t is fits (FormulaUnfit system' is' line says are) = absurd (not_both system system' terms line is is' fits says)
   IsUnanswerable-limited system terms s t is fits (Limited system' is' terms' fits' k kind over are) = (
     are.same_status,
-    PassesCap-not_kept system terms f states k kind (over_both system system' terms terms' is is' fits fits' (λ x xs. PassesCap x xs f states k kind) over),
+    PassesCap-not_kept system terms f options k kind (over_both system system' terms terms' is is' fits fits' (λ x xs. PassesCap x xs f options k kind) over),
   )
 
 -- ---- answers
 
-module _ (states : ℕ) (certificate : Bool) (formula bytes : Text) where
-  pub DecideAnswer-unique : (s s' : ℕ) (t t' : Text) → DecideAnswer states certificate formula bytes s t → DecideAnswer states certificate formula bytes s' t' → Are s t s' t'
+module _ (options : Options) (certificate : Bool) (formula bytes : Text) where
+  pub DecideAnswer-unique : (s s' : ℕ) (t t' : Text) → DecideAnswer options certificate formula bytes s t → DecideAnswer options certificate formula bytes s' t' → Are s t s' t'
   DecideAnswer-unique s s' t t' (decide.Early early) (decide.Early early') = DecideEarly-unique formula s s' t t' early early'
   DecideAnswer-unique s s' t t' (decide.Early early) (decide.Unanswerable f accepted held) = absurd (early-without_input formula s t early f accepted)
   DecideAnswer-unique s s' t t' (decide.Early early) (decide.Decided f accepted system terms is verdict) =
       absurd (early-without_input formula s t early f accepted)
   DecideAnswer-unique s s' t t' (decide.Unanswerable f accepted held) (decide.Early early) = absurd (early-without_input formula s' t' early f accepted)
   DecideAnswer-unique s s' t t' (decide.Unanswerable f accepted held) (decide.Unanswerable g accepted' held') =
-      IsUnanswerable-unique states formula f bytes s s' t t' held
-      (subst (λ h. IsUnanswerable states formula h bytes s' t') (IsAcceptedClosed-unique formula g f accepted' accepted) held')
+      IsUnanswerable-unique options formula f bytes s s' t t' held
+      (subst (λ h. IsUnanswerable options formula h bytes s' t') (IsAcceptedClosed-unique formula g f accepted' accepted) held')
   DecideAnswer-unique s s' t t' (decide.Unanswerable f accepted held) (decide.Decided g accepted' system terms is verdict) =
-      absurd (IsUnanswerable-answerable states formula g bytes system terms s t is
-      (subst (λ h. IsUnanswerable states formula h bytes s t) (IsAcceptedClosed-unique formula f g accepted accepted') held))
+      absurd (IsUnanswerable-answerable options formula g bytes system terms s t is
+      (subst (λ h. IsUnanswerable options formula h bytes s t) (IsAcceptedClosed-unique formula f g accepted accepted') held))
   DecideAnswer-unique s s' t t' (decide.Decided f accepted system terms is verdict) (decide.Early early) =
       absurd (early-without_input formula s' t' early f accepted)
   DecideAnswer-unique s s' t t' (decide.Decided f accepted system terms is verdict) (decide.Unanswerable g accepted' held') =
-      absurd (IsUnanswerable-answerable states formula f bytes system terms s' t' is
-      (subst (λ h. IsUnanswerable states formula h bytes s' t') (IsAcceptedClosed-unique formula g f accepted' accepted) held'))
+      absurd (IsUnanswerable-answerable options formula f bytes system terms s' t' is
+      (subst (λ h. IsUnanswerable options formula h bytes s' t') (IsAcceptedClosed-unique formula g f accepted' accepted) held'))
   DecideAnswer-unique s s' t t' (decide.Decided f accepted system terms is verdict) (decide.Decided g accepted' system' terms' is' verdict') =
       let one = IsAcceptedClosed-unique formula g f accepted' accepted in
       let their = subst (λ h. FitsSystem formula h system' terms') one is'.fits in
       let says = subst (λ h. DecideVerdict certificate system' terms' h s' t') one verdict' in
       DecideVerdict-unique certificate system terms f s s' t t' is.input.problem.problem.constant (FitsSystem-ground formula f system terms is.fits) verdict
-      (over_both states formula f bytes system system' terms terms' is.input is'.input is.fits their (λ x xs. DecideVerdict certificate x xs f s' t') says)
+      (over_both options formula f bytes system system' terms terms' is.input is'.input is.fits their (λ x xs. DecideVerdict certificate x xs f s' t') says)
 
   -- over a system with all that the formula speaks of, the answer is YES, NO or a certificate, or the part of it that is over the cap
   decide_low : (f : Formula) (system : System) (terms : List Tree) (s : ℕ) (t : Text) → IsAcceptedClosed formula f → IsInput bytes system
-      → FitsSystem formula f system terms → DecideAnswer states certificate formula bytes s t → (s ≤ negative) ⊎ ((s ≡ limited) × (KeepsCap system terms f states → ⊥))
+      → FitsSystem formula f system terms → DecideAnswer options certificate formula bytes s t → (s ≤ negative) ⊎ ((s ≡ limited) × (KeepsCap system terms f options → ⊥))
   decide_low f system terms s t accepted is fits (decide.Early early) = absurd (early-without_input formula s t early f accepted)
   decide_low f system terms s t accepted is fits (decide.Unanswerable g accepted' held) =
-      inr (IsUnanswerable-limited states formula f bytes system terms s t is fits
-      (subst (λ h. IsUnanswerable states formula h bytes s t) (IsAcceptedClosed-unique formula g f accepted' accepted) held))
+      inr (IsUnanswerable-limited options formula f bytes system terms s t is fits
+      (subst (λ h. IsUnanswerable options formula h bytes s t) (IsAcceptedClosed-unique formula g f accepted' accepted) held))
   decide_low f system terms s t accepted is fits (decide.Decided g accepted' system' terms' is' verdict) = inl (DecideVerdict-low certificate system' terms' g s t verdict)
 
-module _ (states : ℕ) (formula bytes : Text) where
-  pub WitnessAnswer-unique : (s s' : ℕ) (t t' : Text) → WitnessAnswer states formula bytes s t → WitnessAnswer states formula bytes s' t' → Are s t s' t'
+module _ (options : Options) (formula bytes : Text) where
+  pub WitnessAnswer-unique : (s s' : ℕ) (t t' : Text) → WitnessAnswer options formula bytes s t → WitnessAnswer options formula bytes s' t' → Are s t s' t'
   WitnessAnswer-unique s s' t t' (witness.Early early) (witness.Early early') = WitnessEarly-unique formula s s' t t' early early'
   WitnessAnswer-unique s s' t t' (witness.Early early) (witness.Unanswerable f accepted held) = absurd (witness_early-without_input formula s t early f accepted)
   WitnessAnswer-unique s s' t t' (witness.Early early) (witness.Answered f accepted system terms is verdict) =
       absurd (witness_early-without_input formula s t early f accepted)
   WitnessAnswer-unique s s' t t' (witness.Unanswerable f accepted held) (witness.Early early) = absurd (witness_early-without_input formula s' t' early f accepted)
   WitnessAnswer-unique s s' t t' (witness.Unanswerable f accepted held) (witness.Unanswerable g accepted' held') =
-      IsUnanswerable-unique states formula f bytes s s' t t' held
-      (subst (λ h. IsUnanswerable states formula h bytes s' t') (IsAccepted-unique formula g f accepted' accepted) held')
+      IsUnanswerable-unique options formula f bytes s s' t t' held
+      (subst (λ h. IsUnanswerable options formula h bytes s' t') (IsAccepted-unique formula g f accepted' accepted) held')
   WitnessAnswer-unique s s' t t' (witness.Unanswerable f accepted held) (witness.Answered g accepted' system terms is verdict) =
-      absurd (IsUnanswerable-answerable states formula g bytes system terms s t is
-      (subst (λ h. IsUnanswerable states formula h bytes s t) (IsAccepted-unique formula f g accepted accepted') held))
+      absurd (IsUnanswerable-answerable options formula g bytes system terms s t is
+      (subst (λ h. IsUnanswerable options formula h bytes s t) (IsAccepted-unique formula f g accepted accepted') held))
   WitnessAnswer-unique s s' t t' (witness.Answered f accepted system terms is verdict) (witness.Early early) =
       absurd (witness_early-without_input formula s' t' early f accepted)
   WitnessAnswer-unique s s' t t' (witness.Answered f accepted system terms is verdict) (witness.Unanswerable g accepted' held') =
-      absurd (IsUnanswerable-answerable states formula f bytes system terms s' t' is
-      (subst (λ h. IsUnanswerable states formula h bytes s' t') (IsAccepted-unique formula g f accepted' accepted) held'))
+      absurd (IsUnanswerable-answerable options formula f bytes system terms s' t' is
+      (subst (λ h. IsUnanswerable options formula h bytes s' t') (IsAccepted-unique formula g f accepted' accepted) held'))
   WitnessAnswer-unique s s' t t' (witness.Answered f accepted system terms is verdict) (witness.Answered g accepted' system' terms' is' verdict') =
       let one = IsAccepted-unique formula g f accepted' accepted in
       let their = subst (λ h. FitsSystem formula h system' terms') one is'.fits in
       let says = subst (λ h. WitnessVerdict system' terms' h s' t') one verdict' in
       WitnessVerdict-unique system terms f s s' t t' verdict
-      (over_both states formula f bytes system system' terms terms' is.input is'.input is.fits their (λ x xs. WitnessVerdict x xs f s' t') says)
+      (over_both options formula f bytes system system' terms terms' is.input is'.input is.fits their (λ x xs. WitnessVerdict x xs f s' t') says)
 
   -- over a system with all that the formula speaks of, the answer is the least terms or NONE, or the part of it that is over the cap
   witness_low : (f : Formula) (system : System) (terms : List Tree) (s : ℕ) (t : Text) → IsAccepted formula f → IsInput bytes system
-      → FitsSystem formula f system terms → WitnessAnswer states formula bytes s t → (s ≤ negative) ⊎ ((s ≡ limited) × (KeepsCap system terms f states → ⊥))
+      → FitsSystem formula f system terms → WitnessAnswer options formula bytes s t → (s ≤ negative) ⊎ ((s ≡ limited) × (KeepsCap system terms f options → ⊥))
   witness_low f system terms s t accepted is fits (witness.Early early) = absurd (witness_early-without_input formula s t early f accepted)
   witness_low f system terms s t accepted is fits (witness.Unanswerable g accepted' held) =
-      inr (IsUnanswerable-limited states formula f bytes system terms s t is fits
-      (subst (λ h. IsUnanswerable states formula h bytes s t) (IsAccepted-unique formula g f accepted' accepted) held))
+      inr (IsUnanswerable-limited options formula f bytes system terms s t is fits
+      (subst (λ h. IsUnanswerable options formula h bytes s t) (IsAccepted-unique formula g f accepted' accepted) held))
   witness_low f system terms s t accepted is fits (witness.Answered g accepted' system' terms' is' verdict) = inl (WitnessVerdict-low system' terms' g s t verdict)
 
 -- Result: a request about a formula, over a system with all that it speaks of, is answered so
-pub answered_low : (request : Option Request) (cap : ℕ) (formula : Text) (f : Formula) (bytes : Text) (system : System) (terms : List Tree) (s : ℕ) (t : Text)
-    → IsAbout request cap formula f → IsInput bytes system → FitsSystem formula f system terms → owed request bytes s t
-    → (s ≤ negative) ⊎ ((s ≡ limited) × (KeepsCap system terms f cap → ⊥))
-answered_low None cap formula f bytes system terms s t about is fits answer = absurd about
-answered_low (Some (Decide states certificate text)) cap formula f bytes system terms s t about is fits answer =
+pub answered_low : (request : Option Request) (asked : Options) (formula : Text) (f : Formula) (bytes : Text) (system : System) (terms : List Tree) (s : ℕ) (t : Text)
+    → IsAbout request asked formula f → IsInput bytes system → FitsSystem formula f system terms → owed request bytes s t
+    → (s ≤ negative) ⊎ ((s ≡ limited) × (KeepsCap system terms f asked → ⊥))
+answered_low None asked formula f bytes system terms s t about is fits answer = absurd about
+answered_low (Some (Decide options certificate text)) asked formula f bytes system terms s t about is fits answer =
     subst (λ n. (s ≤ negative) ⊎ ((s ≡ limited) × (KeepsCap system terms f n → ⊥))) (sym about.0)
-    (decide_low states certificate text bytes f system terms s t about.2 is (subst (λ x. FitsSystem x f system terms) about.1 fits) answer)
-answered_low (Some (Witness states text)) cap formula f bytes system terms s t about is fits answer =
+    (decide_low options certificate text bytes f system terms s t about.2 is (subst (λ x. FitsSystem x f system terms) about.1 fits) answer)
+answered_low (Some (Witness options text)) asked formula f bytes system terms s t about is fits answer =
     subst (λ n. (s ≤ negative) ⊎ ((s ≡ limited) × (KeepsCap system terms f n → ⊥))) (sym about.0)
-    (witness_low states text bytes f system terms s t about.2 is (subst (λ x. FitsSystem x f system terms) about.1 fits) answer)
-answered_low (Some (Check text)) cap formula f bytes system terms s t about is fits answer = absurd about
-answered_low (Some (Sample n)) cap formula f bytes system terms s t about is fits answer = absurd about
+    (witness_low options text bytes f system terms s t about.2 is (subst (λ x. FitsSystem x f system terms) about.1 fits) answer)
+answered_low (Some (Check text)) asked formula f bytes system terms s t about is fits answer = absurd about
+answered_low (Some (Sample n)) asked formula f bytes system terms s t about is fits answer = absurd about
 
-pub owed-unique : (request : Option Request) (bytes : Text) (s s' : ℕ) (t t' : Text) → KeepsSampleSize request → owed request bytes s t
+pub owed-unique : (request : Option Request) (bytes : Text) (s s' : ℕ) (t t' : Text) → IsPossible request → owed request bytes s t
     → owed request bytes s' t' → Are s t s' t'
 owed-unique None bytes s s' t t' size one other = Are-unique usage usage_text s s' t t' one other
-owed-unique (Some (Decide states certificate formula)) bytes s s' t t' size one other = DecideAnswer-unique states certificate formula bytes s s' t t' one other
-owed-unique (Some (Witness states formula)) bytes s s' t t' size one other = WitnessAnswer-unique states formula bytes s s' t t' one other
+owed-unique (Some (Decide options certificate formula)) bytes s s' t t' size one other = DecideAnswer-unique options certificate formula bytes s s' t t' one other
+owed-unique (Some (Witness options formula)) bytes s s' t t' size one other = WitnessAnswer-unique options formula bytes s s' t t' one other
 owed-unique (Some (Check formula)) bytes s s' t t' size one other = CheckAnswer-unique formula bytes s s' t t' one other
 owed-unique (Some (Sample n)) bytes s s' t t' size one other = SampleAnswer-unique n s s' t t' size.low one other
 
 -- what is owed before anything is read is owed for any bytes
 pub owed_from_early : (request : Option Request) (bytes : Text) (s : ℕ) (t : Text) → owed_early request s t → owed request bytes s t
 owed_from_early None bytes s t owes = owes
-owed_from_early (Some (Decide states certificate formula)) bytes s t owes = decide.Early owes
-owed_from_early (Some (Witness states formula)) bytes s t owes = witness.Early owes
+owed_from_early (Some (Decide options certificate formula)) bytes s t owes = decide.Early owes
+owed_from_early (Some (Witness options formula)) bytes s t owes = witness.Early owes
 owed_from_early (Some (Check formula)) bytes s t owes = check.Early owes
 owed_from_early (Some (Sample n)) bytes s t owes = owes
 
@@ -276,7 +276,7 @@ answers words told old new text line status s owed same_text same_status taken =
 pub Answers-only : (words : List Text) (bytes : Text) (old new : Option Text) (status : ℕ) → Answers words (Some bytes) old new status
     → (s : ℕ) (t : Text) → Answer words bytes s t → (s ≡ status) × Takes old new t
 Answers-only words bytes old new status given s t answer =
-    let same = owed-unique (request_of words) bytes s status t given.text (sample_sizes words) answer given.owed in
+    let same = owed-unique (request_of words) bytes s status t given.text (words_possible words) answer given.owed in
     (same.same_status, subst (Takes old new) (sym same.same_text) given.taken)
 
 pub Answers-told : (words : List Text) (told old new : Option Text) (status : ℕ) → Answers words told old new status → IfSome told (OwesOnly words old new status)
@@ -286,15 +286,15 @@ Answers-told words (Some bytes) old new status answers = Answers-only words byte
 pub Answers-early : (words : List Text) (told old new : Option Text) (status : ℕ) → Answers words told old new status → OwesOnlyEarly words old new status
 Answers-early words told old new status given s t early =
     let some = bytes_told (request_of words) told status given.text given.owed in
-    let same = owed-unique (request_of words) some.0 s status t given.text (sample_sizes words) (owed_from_early (request_of words) some.0 s t early) some.1 in
+    let same = owed-unique (request_of words) some.0 s status t given.text (words_possible words) (owed_from_early (request_of words) some.0 s t early) some.1 in
     (same.same_status, subst (Takes old new) (sym same.same_text) given.taken)
 
 module _ (words : List Text) (told old new : Option Text) (status : ℕ) (given : Answers words told old new status) where
-  decided_or_over : (is : IsDecidable words told) → (status ≤ negative) ⊎ ((status ≡ limited) × (KeepsCap is.system is.terms is.f is.states → ⊥))
+  decided_or_over : (is : IsDecidable words told) → (status ≤ negative) ⊎ ((status ≡ limited) × (KeepsCap is.system is.terms is.f is.options → ⊥))
   decided_or_over is =
       let at_bytes : OwesTold (request_of words) (Some is.bytes) status given.text =
       subst (λ o. OwesTold (request_of words) o status given.text) is.told_are given.owed in
-      answered_low (request_of words) is.states is.formula is.f is.bytes is.system is.terms status given.text is.about is.input is.fits at_bytes
+      answered_low (request_of words) is.options is.formula is.f is.bytes is.system is.terms status given.text is.about is.input is.fits at_bytes
 
   pub Answers-decided : IsDecidable words told → (status ≤ negative) ⊎ (status ≡ limited)
   Answers-decided is = elim (decided_or_over is) [ inl low ↦ inl low | inr over ↦ inr over.0 ]

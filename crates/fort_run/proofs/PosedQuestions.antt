@@ -22,21 +22,21 @@ use Rattle.fort_in_order.specs.Written.{IsWritten}
 use Rattle.fort_steps.specs.StepView.{as_step}
 use Rattle.fort_trace.specs.declared.decide.Recorded.{Recorded}
 use Rattle.fort_trace.specs.RecordedView.{as_certificate}
-use Rattle.fort_answers.specs.Requests.{Text}
+use Rattle.fort_answers.specs.Requests.{Text, Options}
 use Rattle.fort_answers.specs.Lines.{positive}
 use Rattle.fort_answers.specs.CertificateAnswer.{CertificateVerdict}
 use Rattle.fort_engine.specs.declared.answer.EngineFault.{EngineFault}
 use Rattle.fort_engine.specs.declared.answer.EngineFault.TheVariants.{Memory, Over}
 use Rattle.fort_engine.specs.declared.answer.Last.{Last}
 use Rattle.fort_engine.specs.declared.answer.Last.TheVariants.{Truth as Value}
-use Rattle.fort_engine.specs.AnswerView.{as_answer, IfOver, IsLimit}
+use Rattle.fort_engine.specs.AnswerView.{as_answer, IfOver, KeepsCapAt, IsLimit}
 use Rattle.fort_run.specs.declared.question.Question.{Question}
 use Rattle.fort_run.specs.declared.question.Question.TheVariants.{Certificate}
 use Rattle.fort_run.specs.declared.reply.Reply.{Reply}
 use Rattle.fort_run.specs.Asked.{IsTrueCertificate, IsVerdict, Limits, Says}
 use Rattle.fort_run.specs.Certified.{IsTruth}
 use Rattle.fort_run.specs.Posed.{IsPosed, SaysOn, TellsLimit}
-use Rattle.fort_run.specs.Ready.{IsLawful, IsDecidedBy, KeepsCapAt, ShowsLimit}
+use Rattle.fort_run.specs.Ready.{IsLawful, IsDecidedBy, ShowsLimit}
 use Rattle.fort_run.specs.ReplyView.{status_of, text_of, limit_of}
 use Rattle.fort_run.proofs.Deciding.{passes, is_truth}
 use Rattle.fort_run.proofs.Fitting.{number_is}
@@ -100,25 +100,25 @@ true_certificate f p system terms c r number text lawful same posed answer writt
 -- ---- verdicts
 
 -- no part is over the cap
-pub verdict_says : (question : Question) (f : Formula) (p : System) (system : PatternSystem) (terms : List Tree) (c : Core) (states : ℕ) (reply : Reply) → IsLawful p
-    → system ≡ pattern_system p → IsPosed question f system terms c → KeepsCapAt system c states → SaysOn question f system c reply
-    → IsVerdict question p terms f states (status_of reply) (text_of reply)
-verdict_says question f p system terms c states reply lawful same posed keeps says =
-    Says (subst (λ s. KeepsCapAt s (core_of terms f) states) same (subst (λ k. KeepsCapAt system k states) posed.is keeps)) (says p terms lawful same posed)
+pub verdict_says : (question : Question) (f : Formula) (p : System) (system : PatternSystem) (terms : List Tree) (c : Core) (options : Options) (reply : Reply) → IsLawful p
+    → system ≡ pattern_system p → IsPosed question f system terms c → KeepsCapAt system options.reduces c options.states → SaysOn question f system c reply
+    → IsVerdict question p terms f options (status_of reply) (text_of reply)
+verdict_says question f p system terms c options reply lawful same posed keeps says =
+    Says (subst (λ s. KeepsCapAt s options.reduces (core_of terms f) options.states) same (subst (λ k. KeepsCapAt system options.reduces k options.states) posed.is keeps)) (says p terms lawful same posed)
 
 -- some part is
-pub limit_says : (question : Question) (f : Formula) (p : System) (system : PatternSystem) (terms : List Tree) (c : Core) (states : ℕ) (fault : EngineFault)
-    (reply : Reply) → system ≡ pattern_system p → c ≡ core_of terms f → IfOver fault (IsLimit system c states) → TellsLimit fault states reply
-    → IsVerdict question p terms f states (status_of reply) (text_of reply)
-limit_says question f p system terms c states Memory reply same is over tells = absurd tells
-limit_says question f p system terms c states (Over limit) reply same is over tells =
-    let own = subst (λ k. IsLimit system k states limit) is over in
-    Limits limit.part (as_kind limit.kind) (passes p terms f states limit (subst (λ s. IsLimit s (core_of terms f) states limit) same own))
+pub limit_says : (question : Question) (f : Formula) (p : System) (system : PatternSystem) (terms : List Tree) (c : Core) (options : Options) (fault : EngineFault)
+    (reply : Reply) → system ≡ pattern_system p → c ≡ core_of terms f → IfOver fault (IsLimit system options.reduces c options.states) → TellsLimit fault options.states reply
+    → IsVerdict question p terms f options (status_of reply) (text_of reply)
+limit_says question f p system terms c options Memory reply same is over tells = absurd tells
+limit_says question f p system terms c options (Over limit) reply same is over tells =
+    let own = subst (λ k. IsLimit system options.reduces k options.states limit) is over in
+    Limits limit.part (as_kind limit.kind) (passes p terms f options limit (subst (λ s. IsLimit s options.reduces (core_of terms f) options.states limit) same own))
     (record { same_status = tells.1; same_text = tells.2 })
 
-pub limit_shows : (system : PatternSystem) (c k : Core) (states : ℕ) (fault : EngineFault) (reply : Reply) → c ≡ k → IfOver fault (IsLimit system c states)
-    → TellsLimit fault states reply → IfSome (limit_of reply) (ShowsLimit system k states (text_of reply))
-limit_shows system c k states Memory reply is over tells = absurd tells
-limit_shows system c k states (Over limit) reply is over tells =
-    subst (λ o. IfSome o (ShowsLimit system k states (text_of reply))) (sym tells.0)
-    (record { is = subst (λ x. IsLimit system x states limit) is over; line_is = tells.2 })
+pub limit_shows : (system : PatternSystem) (c k : Core) (options : Options) (fault : EngineFault) (reply : Reply) → c ≡ k → IfOver fault (IsLimit system options.reduces c options.states)
+    → TellsLimit fault options.states reply → IfSome (limit_of reply) (ShowsLimit system k options (text_of reply))
+limit_shows system c k options Memory reply is over tells = absurd tells
+limit_shows system c k options (Over limit) reply is over tells =
+    subst (λ o. IfSome o (ShowsLimit system k options (text_of reply))) (sym tells.0)
+    (record { is = subst (λ x. IsLimit system options.reduces x options.states limit) is over; line_is = tells.2 })

@@ -2,7 +2,7 @@
 use Rattle.std.proofs.Common.{◌≡◌, ℕ, List, length, true, refl, subst, arith}
 use Rattle.std.specs.Prelude.{Some}
 use Rattle.fort_logic.specs.Formulas.{Formula}
-use Rattle.fort_answers.specs.Requests.{Text, Decide}
+use Rattle.fort_answers.specs.Requests.{Text, Decide, Options}
 use Rattle.fort_answers.specs.CommandGrammar.{request_of}
 use Rattle.fort_answers.specs.Lines.{positive}
 use Rattle.fort_answers.specs.SystemAnswer.{IsUnanswerable, InputRefused, FormulaUnfit, Limited}
@@ -11,13 +11,13 @@ use Rattle.fort_answers.specs.Answer.{owed, Answer}
 use Rattle.fort_answers.proofs.CertificateAccepted.{written_accepted}
 use Rattle.fort_run.specs.Certified.{IsAcceptedBehind}
 
-module _ (states : ℕ) (formula bytes text : Text) where
-  withheld : (f : Formula) (status : ℕ) → IsUnanswerable states formula f bytes status text → status ≡ positive → ⊥
+module _ (options : Options) (formula bytes text : Text) where
+  withheld : (f : Formula) (status : ℕ) → IsUnanswerable options formula f bytes status text → status ≡ positive → ⊥
   withheld f status (InputRefused line says are) e = let other = are.same_status in omega arith
   withheld f status (FormulaUnfit system is line says are) e = let other = are.same_status in omega arith
   withheld f status (Limited system is terms fits k kind over are) e = let other = are.same_status in omega arith
 
-  accepted : (status : ℕ) → DecideAnswer states true formula bytes status text → status ≡ positive → IsAcceptedBehind formula bytes text
+  accepted : (status : ℕ) → DecideAnswer options true formula bytes status text → status ≡ positive → IsAcceptedBehind formula bytes text
   accepted status (Early early) e = let other = early.are.same_status in absurd (omega arith)
   accepted status (Unanswerable f taken held) e = absurd (withheld f status held e)
   accepted status (Decided f taken system terms is verdict) e = record {
@@ -29,7 +29,7 @@ module _ (states : ℕ) (formula bytes text : Text) where
   }
 
 -- result
-pub printed_accepted : (words : List Text) (states : ℕ) (formula bytes text : Text) → request_of words ≡ Some (Decide states true formula)
+pub printed_accepted : (words : List Text) (options : Options) (formula bytes text : Text) → request_of words ≡ Some (Decide options true formula)
     → Answer words bytes positive text → IsAcceptedBehind formula bytes text
-printed_accepted words states formula bytes text asked answer =
-    accepted states formula bytes text positive (subst (λ r. owed r bytes positive text) asked answer) refl
+printed_accepted words options formula bytes text asked answer =
+    accepted options formula bytes text positive (subst (λ r. owed r bytes positive text) asked answer) refl

@@ -19,7 +19,7 @@ use Rattle.fort_ari.specs.declared.fault.ProblemFault.{ProblemFault as ariFault}
 use Rattle.fort_ari.specs.Faults.{as_fault}
 use Rattle.fort_io.specs.Devices.{Takes}
 use Rattle.fort_answers.specs.CommandGrammar.{request_of}
-use Rattle.fort_answers.specs.Requests.{Text, Request}
+use Rattle.fort_answers.specs.Requests.{Text, Request, Options}
 use Rattle.fort_answers.specs.Lines.{positive, input_too_long, problem_fault_line, refused}
 use Rattle.fort_answers.specs.SystemAnswer.{Are, IsAnswerable, IsUnanswerable, InputRefused, FormulaUnfit, Limited}
 use Rattle.fort_answers.specs.DecideAnswer.{Decided}
@@ -148,50 +148,50 @@ refused_needs_nothing Truth text line says (f, accepted) = closed-not_refused te
 refused_needs_nothing Terms text line says (f, accepted) = accepted-not_refused text f line accepted says
 refused_needs_nothing Certificate text line says (f, accepted) = closed-not_refused text f line accepted says
 
-refused_early : (question : Question) (states : ℕ) (text line bytes : Text) → IsRefusedBy question text line → AnswersQuestion question states text bytes refused line
-refused_early Truth states text line bytes says = decide.Early (record { refusal = line; refused_both = says; are = are refused line })
-refused_early Terms states text line bytes says = witness.Early (record { refusal = line; refused_both = says; are = are refused line })
-refused_early Certificate states text line bytes says = decide.Early (record { refusal = line; refused_both = says; are = are refused line })
+refused_early : (question : Question) (options : Options) (text line bytes : Text) → IsRefusedBy question text line → AnswersQuestion question options text bytes refused line
+refused_early Truth options text line bytes says = decide.Early (record { refusal = line; refused_both = says; are = are refused line })
+refused_early Terms options text line bytes says = witness.Early (record { refusal = line; refused_both = says; are = are refused line })
+refused_early Certificate options text line bytes says = decide.Early (record { refusal = line; refused_both = says; are = are refused line })
 
-about : (question : Question) (states : ℕ) (text : Text) (f : Formula) → IsAskable question text f → IsAbout (Some (request_for question states text)) states text f
-about Truth states text f askable = (refl, refl, askable)
-about Terms states text f askable = (refl, refl, askable)
-about Certificate states text f askable = (refl, refl, askable)
+about : (question : Question) (options : Options) (text : Text) (f : Formula) → IsAskable question text f → IsAbout (Some (request_for question options text)) options text f
+about Truth options text f askable = (refl, refl, askable)
+about Terms options text f askable = (refl, refl, askable)
+about Certificate options text f askable = (refl, refl, askable)
 
-module _ (question : Question) (states : ℕ) (text : Text) where
-  pub owes_refusal : (line : Text) (told : Option Text) → IsRefusedBy question text line → OwesToQuestion question states text told refused line
-  owes_refusal line None says = ([], refused_early question states text line [] says)
-  owes_refusal line (Some bytes) says = refused_early question states text line bytes says
+module _ (question : Question) (options : Options) (text : Text) where
+  pub owes_refusal : (line : Text) (told : Option Text) → IsRefusedBy question text line → OwesToQuestion question options text told refused line
+  owes_refusal line None says = ([], refused_early question options text line [] says)
+  owes_refusal line (Some bytes) says = refused_early question options text line bytes says
 
-  withheld : (f : Formula) (bytes : Text) (status : ℕ) (line : Text) → IsAskable question text f → IsUnanswerable states text f bytes status line
-      → AnswersQuestion question states text bytes status line
+  withheld : (f : Formula) (bytes : Text) (status : ℕ) (line : Text) → IsAskable question text f → IsUnanswerable options text f bytes status line
+      → AnswersQuestion question options text bytes status line
   withheld f bytes status line = by question
     where
-      by : (q : Question) → IsAskable q text f → IsUnanswerable states text f bytes status line → AnswersQuestion q states text bytes status line
+      by : (q : Question) → IsAskable q text f → IsUnanswerable options text f bytes status line → AnswersQuestion q options text bytes status line
       by Truth askable held = decide.Unanswerable f askable held
       by Terms askable held = witness.Unanswerable f askable held
       by Certificate askable held = decide.Unanswerable f askable held
 
   answered : (f : Formula) (bytes : Text) (p : System) (terms : List Tree) (status : ℕ) (line : Text) → IsAskable question text f
-      → IsAnswerable states text f bytes p terms → VerdictOn question p terms f status line → AnswersQuestion question states text bytes status line
+      → IsAnswerable options text f bytes p terms → VerdictOn question p terms f status line → AnswersQuestion question options text bytes status line
   answered f bytes p terms status line = by question
     where
-      by : (q : Question) → IsAskable q text f → IsAnswerable states text f bytes p terms → VerdictOn q p terms f status line
-          → AnswersQuestion q states text bytes status line
+      by : (q : Question) → IsAskable q text f → IsAnswerable options text f bytes p terms → VerdictOn q p terms f status line
+          → AnswersQuestion q options text bytes status line
       by Truth askable is verdict = Decided f askable p terms is verdict
       by Terms askable is verdict = Answered f askable p terms is verdict
       by Certificate askable is verdict = Decided f askable p terms is verdict.written
 
-  pub input_refused : (f : Formula) (bytes line : Text) → IsAskable question text f → IsInputRefused bytes line → AnswersQuestion question states text bytes refused line
+  pub input_refused : (f : Formula) (bytes line : Text) → IsAskable question text f → IsInputRefused bytes line → AnswersQuestion question options text bytes refused line
   input_refused f bytes line askable says = withheld f bytes refused line askable (InputRefused line says (are refused line))
 
   -- a formula that speaks of more than the system of the input has
   pub unfit : (f : Formula) (bytes line : Text) (p : System) → IsAskable question text f → IsInput bytes p → IsUnfit text f p line
-      → AnswersQuestion question states text bytes refused line
+      → AnswersQuestion question options text bytes refused line
   unfit f bytes line p askable input says = withheld f bytes refused line askable (FormulaUnfit p input line says (are refused line))
 
   pub fit : (f : Formula) (bytes : Text) (p : System) (terms : List Tree) (status : ℕ) (line : Text) → IsAskable question text f → IsInput bytes p
-      → FitsSystem text f p terms → IsVerdict question p terms f states status line → AnswersQuestion question states text bytes status line
+      → FitsSystem text f p terms → IsVerdict question p terms f options status line → AnswersQuestion question options text bytes status line
   fit f bytes p terms status line askable input fits (Limits k kind over are) =
       withheld f bytes status line askable (Limited p input terms fits k kind over are)
   fit f bytes p terms status line askable input fits (Says keeps verdict) =
@@ -200,42 +200,42 @@ module _ (question : Question) (states : ℕ) (text : Text) where
   -- a limit of the core formula over the system of the input
   pub fit_limit : (f : Formula) (bytes : Text) (p : System) (system : PatternSystem) (terms : List Tree) (line : Text) (limit : Option Limit)
       → IsAskable question text f → IsInput bytes p → FitsSystem text f p terms → system ≡ pattern_system p
-      → IfSome limit (ShowsLimit system (core_of terms f) states line) → IfSome limit (QuestionLimit question states text bytes line)
+      → IfSome limit (ShowsLimit system (core_of terms f) options line) → IfSome limit (QuestionLimit question options text bytes line)
   fit_limit f bytes p system terms line None askable input fits same is = tt
   fit_limit f bytes p system terms line (Some limit) askable input fits same is = record {
-    states = states;
+    options = options;
     formula = text;
     f = f;
-    about = about question states text f askable;
+    about = about question options text f askable;
     system = p;
     input = input;
     terms = terms;
     fits = fits;
-    is = subst (λ s. IsLimit s (core_of terms f) states limit) same is.is;
+    is = subst (λ s. IsLimit s options.reduces (core_of terms f) options.states limit) same is.is;
     line_is = is.line_is;
   }
 
   -- the answer for the bytes that were read, all of them
   pub answer_told : (old new : Option Text) (bytes : Text) (status : ℕ) (line : Text) → Consumes old new bytes → IsAtEnd new
-      → AnswersQuestion question states text bytes status line → OwesToQuestion question states text old status line
+      → AnswersQuestion question options text bytes status line → OwesToQuestion question options text old status line
   answer_told old new bytes status line taken end answer =
-      owes_told (Some (request_for question states text)) old bytes status line (told_are old new bytes taken end) answer
+      owes_told (Some (request_for question options text)) old bytes status line (told_are old new bytes taken end) answer
 
   -- the same of a limit
   pub limit_told : (old new : Option Text) (bytes line : Text) (limit : Option Limit) → Consumes old new bytes → IsAtEnd new
-      → IfSome limit (QuestionLimit question states text bytes line) → IfSome limit (QuestionLimitTold question states text old line)
+      → IfSome limit (QuestionLimit question options text bytes line) → IfSome limit (QuestionLimitTold question options text old line)
   limit_told old new bytes line None taken end has = tt
   limit_told old new bytes line (Some limit) taken end has = record { bytes = bytes; told_are = told_are old new bytes taken end; has = has }
 
   pub too_long_told : (f : Formula) (told : Option Text) → IsAskable question text f → IfSome told (λ bytes. input_limit < length bytes)
-      → OwesToQuestion question states text told refused input_too_long
+      → OwesToQuestion question options text told refused input_too_long
   too_long_told f told askable long =
-      long_told (Some (request_for question states text)) told refused input_too_long
+      long_told (Some (request_for question options text)) told refused input_too_long
       (λ bytes over. input_refused f bytes input_too_long askable (TooLong over refl)) long
 
 -- ---- certificates that are printed
 
-module _ (states : ℕ) (text : Text) where
+module _ (options : Options) (text : Text) where
   -- a line with another status is none
   pub refused_not_printed : (question : Question) (bytes line : Text) → IsPrintedFor question text bytes refused line
   refused_not_printed Truth bytes line = tt
@@ -248,7 +248,7 @@ module _ (states : ℕ) (text : Text) where
   refused_not_printed_told Certificate told line = λ e. absurd (omega arith)
 
   printed : (f : Formula) (bytes : Text) (p : System) (terms : List Tree) (status : ℕ) (line : Text) → IsAskable Certificate text f → IsInput bytes p
-      → FitsSystem text f p terms → IsVerdict Certificate p terms f states status line → status ≡ positive → IsPrinted text bytes line
+      → FitsSystem text f p terms → IsVerdict Certificate p terms f options status line → status ≡ positive → IsPrinted text bytes line
   printed f bytes p terms status line askable input fits (Limits k kind over are) e = let other = are.same_status in absurd (omega arith)
   printed f bytes p terms status line askable input fits (Says keeps verdict) e = record {
     f = f;
@@ -266,7 +266,7 @@ module _ (states : ℕ) (text : Text) where
 
   -- what was found for a system that has all that the formula speaks of
   pub fit_printed : (question : Question) (f : Formula) (bytes : Text) (p : System) (terms : List Tree) (status : ℕ) (line : Text) → IsAskable question text f
-      → IsInput bytes p → FitsSystem text f p terms → IsVerdict question p terms f states status line → IsPrintedFor question text bytes status line
+      → IsInput bytes p → FitsSystem text f p terms → IsVerdict question p terms f options status line → IsPrintedFor question text bytes status line
   fit_printed Truth f bytes p terms status line askable input fits is = tt
   fit_printed Terms f bytes p terms status line askable input fits is = tt
   fit_printed Certificate f bytes p terms status line askable input fits is = printed f bytes p terms status line askable input fits is

@@ -9,8 +9,8 @@ use Rattle.fort_answers.specs.Requests.{Text}
 use Rattle.fort_answers.specs.Lines.{positive}
 use Rattle.fort_answers.specs.DecideAnswer as decide
 use Rattle.fort_answers.specs.MadeProblem.{made_system}
-use Rattle.fort_answers.specs.SampleAnswer.{sample_cap, sample_line, sample_properties, PropertyVerdict, Over, Yes, No, IsPropertyLine, ArePropertyLines, SampleAnswer}
-use Rattle.fort_answers.specs.SampleSizes.{IsSampleSize}
+use Rattle.fort_answers.specs.SampleAnswer.{sample_options, sample_line, sample_properties, PropertyVerdict, Over, Yes, No, IsPropertyLine, ArePropertyLines, SampleAnswer}
+use Rattle.fort_answers.specs.PossibleRequests.{IsSampleSize}
 use Rattle.fort_answers.proofs.MadeLaws.{made_system-constant, made_system-separated}
 use Rattle.fort_run.specs.declared.question.Question.TheVariants.{Truth}
 use Rattle.fort_run.specs.Asked.{IsVerdict, Limits, Says}
@@ -18,14 +18,14 @@ use Rattle.fort_run.specs.Ready.{IsLawful}
 use Rattle.fort_run.specs.Samples.{AddsLine, AddsLines}
 
 -- whether a property holds is what its line says
-property_says : (p : System) (q : Property) (status : ℕ) (text : Text) → IsVerdict Truth p [] (Has q 1) sample_cap status text → PropertyVerdict p q text
+property_says : (p : System) (q : Property) (status : ℕ) (text : Text) → IsVerdict Truth p [] (Has q 1) sample_options status text → PropertyVerdict p q text
 property_says p q status text (Limits k kind over are) = Over k kind over are.same_text
 property_says p q status text (Says keeps (decide.Yes holds are)) = Yes keeps holds are.same_text
 property_says p q status text (Says keeps (decide.No fails are)) = No keeps fails are.same_text
 
 -- the name, a blank and the answer are a line
 pub line_added : (system : PatternSystem) (q : Property) (status : ℕ) (answer t0 t1 t2 t3 name : Text)
-    → ((p : System) → IsLawful p → system ≡ pattern_system p → IsVerdict Truth p [] (Has q 1) sample_cap status answer)
+    → ((p : System) → IsLawful p → system ≡ pattern_system p → IsVerdict Truth p [] (Has q 1) sample_options status answer)
     → name ≡ property_text q → t1 ≡ t0 ++ name → t2 ≡ t1 ++ codes " " → t3 ≡ t2 ++ answer → AddsLine system q t0 t3
 line_added system q status answer t0 t1 t2 t3 name says named first second third = λ p lawful same. (
   property_text q ++ (codes " " ++ answer),

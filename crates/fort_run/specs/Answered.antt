@@ -5,7 +5,7 @@ use Rattle.fort_theory.specs.Trees.{Tree}
 use Rattle.fort_theory.specs.Sides.{System}
 use Rattle.fort_logic.specs.Formulas.{Formula}
 use Rattle.fort_io.specs.Devices.{Takes}
-use Rattle.fort_answers.specs.Requests.{Text}
+use Rattle.fort_answers.specs.Requests.{Text, Options}
 use Rattle.fort_answers.specs.CommandGrammar.{request_of}
 use Rattle.fort_answers.specs.SystemAnswer.{KeepsCap}
 use Rattle.fort_answers.specs.InputAnswer.{IsInput, input_limit}
@@ -40,10 +40,10 @@ ReadsWhole old new = IsAtEnd new ⊎ IfSome old (λ bytes. input_limit < length 
 
 -- the words ask to decide a formula or to find terms for it, and the bytes are a system with all that the formula speaks of
 pub record IsDecidable (words : List Text) (told : Option Text) : Type 0 where
-  pub states : ℕ
+  pub options : Options
   pub formula : Text
   pub f : Formula
-  pub about : IsAbout (request_of words) states formula f
+  pub about : IsAbout (request_of words) options formula f
   pub bytes : Text
   pub told_are : told ≡ Some bytes
   pub system : System
@@ -54,4 +54,4 @@ pub record IsDecidable (words : List Text) (told : Option Text) : Type 0 where
 -- and each part of the formula keeps the cap
 pub record IsDecidableWithin (words : List Text) (told : Option Text) : Type 0 where
   pub decidable : IsDecidable words told
-  pub keeps : KeepsCap decidable.system decidable.terms decidable.f decidable.states
+  pub keeps : KeepsCap decidable.system decidable.terms decidable.f decidable.options

@@ -6,7 +6,7 @@ use Rattle.fort_theory.specs.Patterns.{PatternSystem, pattern_system}
 use Rattle.fort_logic.specs.Formulas.{Formula}
 use Rattle.fort_logic.specs.FreeNames.{free_names}
 use Rattle.fort_logic.specs.Kinds.{Kind}
-use Rattle.fort_answers.specs.Requests.{Text, Request, Decide, Witness}
+use Rattle.fort_answers.specs.Requests.{Text, Options, Request, Decide, Witness}
 use Rattle.fort_answers.specs.Lines.{positive, limited, limit_line}
 use Rattle.fort_answers.specs.FormulaAnswer.{IsAccepted, IsRefused, IsAcceptedClosed, IsRefusedClosed}
 use Rattle.fort_answers.specs.InputAnswer.{IsInput}
@@ -21,10 +21,10 @@ use Rattle.fort_run.specs.declared.question.Question.TheVariants.{Truth, Terms, 
 use Rattle.fort_run.specs.Limits.{HasLimit, HasLimitTold}
 use Rattle.fort_run.specs.Certified.{IsTruth, IsPrinted, IsPrintedTold}
 
-abbrev pub request_for : Question → ℕ → Text → Request
-request_for Truth states formula = Decide states false formula
-request_for Terms states formula = Witness states formula
-request_for Certificate states formula = Decide states true formula
+abbrev pub request_for : Question → Options → Text → Request
+request_for Truth options formula = Decide options false formula
+request_for Terms options formula = Witness options formula
+request_for Certificate options formula = Decide options true formula
 
 -- the text is a formula of which this may be asked
 abbrev pub IsAskable : Question → Text → Formula → Type 0
@@ -43,21 +43,27 @@ IsClosedFor Truth f = free_names f ≡ []
 IsClosedFor Terms f = Unit {0}
 IsClosedFor Certificate f = free_names f ≡ []
 
--- whatever the cap is
+-- no certificate of reduced tables is asked for
+abbrev pub SuitsQuestion : Question → Options → Type 0
+SuitsQuestion Truth options = Unit {0}
+SuitsQuestion Terms options = Unit {0}
+SuitsQuestion Certificate options = options.reduces ≡ false
+
+-- whatever the options are
 abbrev pub QuestionNeedsInput : Question → Text → Type 0
-QuestionNeedsInput question formula = NeedsInput (request_for question 1 formula)
+QuestionNeedsInput question formula = NeedsInput (request_for question (record { states = 1; reduces = false }) formula)
 
-abbrev pub OwesToQuestion : Question → ℕ → Text → Option Text → ℕ → Text → Type 0
-OwesToQuestion question states formula told status text = OwesTold (Some (request_for question states formula)) told status text
+abbrev pub OwesToQuestion : Question → Options → Text → Option Text → ℕ → Text → Type 0
+OwesToQuestion question options formula told status text = OwesTold (Some (request_for question options formula)) told status text
 
-abbrev pub AnswersQuestion : Question → ℕ → Text → Text → ℕ → Text → Type 0
-AnswersQuestion question states formula bytes status text = Owes (request_for question states formula) bytes status text
+abbrev pub AnswersQuestion : Question → Options → Text → Text → ℕ → Text → Type 0
+AnswersQuestion question options formula bytes status text = Owes (request_for question options formula) bytes status text
 
-abbrev pub QuestionLimit : Question → ℕ → Text → (bytes line : Text) → Limit → Type 0
-QuestionLimit question states formula bytes line limit = HasLimit (Some (request_for question states formula)) bytes line limit
+abbrev pub QuestionLimit : Question → Options → Text → (bytes line : Text) → Limit → Type 0
+QuestionLimit question options formula bytes line limit = HasLimit (Some (request_for question options formula)) bytes line limit
 
-abbrev pub QuestionLimitTold : Question → ℕ → Text → Option Text → (line : Text) → Limit → Type 0
-QuestionLimitTold question states formula told line limit = HasLimitTold (Some (request_for question states formula)) told line limit
+abbrev pub QuestionLimitTold : Question → Options → Text → Option Text → (line : Text) → Limit → Type 0
+QuestionLimitTold question options formula told line limit = HasLimitTold (Some (request_for question options formula)) told line limit
 
 -- what a certificate says that was asked for
 abbrev pub IsPrintedFor : Question → (formula bytes : Text) → ℕ → Text → Type 0
@@ -85,7 +91,7 @@ VerdictOn Terms system terms f status text = WitnessVerdict system terms f statu
 VerdictOn Certificate system terms f status text = IsTrueCertificate system terms f status text
 
 -- the answer to a question about a formula over a system, with these ground terms in it
-pub data IsVerdict (question : Question) (system : theory.System) (terms : List Tree) (f : Formula) (states status : ℕ) (text : Text) : Type 0 where
-  Limits : (k : ℕ) (kind : Kind) → PassesCap system terms f states k kind → Are status text limited (limit_line k kind states)
-      → IsVerdict question system terms f states status text
-  Says : KeepsCap system terms f states → VerdictOn question system terms f status text → IsVerdict question system terms f states status text
+pub data IsVerdict (question : Question) (system : theory.System) (terms : List Tree) (f : Formula) (options : Options) (status : ℕ) (text : Text) : Type 0 where
+  Limits : (k : ℕ) (kind : Kind) → PassesCap system terms f options k kind → Are status text limited (limit_line k kind options.states)
+      → IsVerdict question system terms f options status text
+  Says : KeepsCap system terms f options → VerdictOn question system terms f status text → IsVerdict question system terms f options status text

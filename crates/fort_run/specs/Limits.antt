@@ -1,4 +1,4 @@
--- To believe: what the limit of a run shows: the first part over the cap of the core formula that the words ask about, its kind, and one more tuple than the cap, no two of them alike; the line that is written tells of this limit.
+-- To believe: what the limit of a run shows: the first part over the cap of the core formula that the words ask about, its kind, and one more tuple than the cap, no two of them alike, as the options say; the line that is written tells of this limit.
 use Rattle.std.specs.Prelude.{◌≡◌, ℕ, List, Option, IfSome}
 use Rattle.fort_theory.specs.Trees.{Tree}
 use Rattle.fort_theory.specs.Sides.{System}
@@ -7,7 +7,7 @@ use Rattle.fort_logic.specs.Formulas.{Formula}
 use Rattle.fort_logic.specs.Translation.{core_of}
 use Rattle.fort_formulas.specs.KindView.{as_kind}
 use Rattle.fort_io.specs.Devices.{Takes}
-use Rattle.fort_answers.specs.Requests.{Text, Request}
+use Rattle.fort_answers.specs.Requests.{Text, Options, Request}
 use Rattle.fort_answers.specs.Lines.{limit_line}
 use Rattle.fort_answers.specs.CommandGrammar.{request_of}
 use Rattle.fort_answers.specs.InputAnswer.{IsInput}
@@ -22,16 +22,16 @@ IsLineOf states limit line = line ≡ limit_line limit.part (as_kind limit.kind)
 
 -- the request is about a formula whose core formula over the system of these bytes has this limit, of which the line tells
 pub record HasLimit (request : Option Request) (bytes line : Text) (limit : Limit) : Type 0 where
-  pub states : ℕ
+  pub options : Options
   pub formula : Text
   pub f : Formula
-  pub about : IsAbout request states formula f
+  pub about : IsAbout request options formula f
   pub system : System
   pub input : IsInput bytes system
   pub terms : List Tree
   pub fits : FitsSystem formula f system terms
-  pub is : IsLimit (pattern_system system) (core_of terms f) states limit
-  pub line_is : IsLineOf states limit line
+  pub is : IsLimit (pattern_system system) options.reduces (core_of terms f) options.states limit
+  pub line_is : IsLineOf options.states limit line
 
 -- for the bytes that a source tells; for one that tells none, for some bytes
 pub record HasLimitTold (request : Option Request) (told : Option Text) (line : Text) (limit : Limit) : Type 0 where

@@ -3,9 +3,10 @@ ghost use Rattle.std.specs.Prelude.{◌≡◌, ◌<◌, ◌≤◌, length, IfOk,
 ghost use Rattle.fort_io.specs.Devices.{FaultCounted};
 ghost use Rattle.fort_answers.specs.InputAnswer.{input_limit};
 ghost use Rattle.fort_answers.specs.Requests.{Text};
+ghost use Rattle.fort_words.specs.RequestView.{as_options};
 ghost use Rattle.fort_run.specs.Accepted.{IsAskedAs, IsRead};
 ghost use Rattle.fort_run.specs.Answered.{ReadsWhole};
-ghost use Rattle.fort_run.specs.Asked.{QuestionNeedsInput, OwesToQuestion, AnswersQuestion, QuestionLimit, QuestionLimitTold, IsPrintedFor, IsPrintedToldFor};
+ghost use Rattle.fort_run.specs.Asked.{SuitsQuestion, QuestionNeedsInput, OwesToQuestion, AnswersQuestion, QuestionLimit, QuestionLimitTold, IsPrintedFor, IsPrintedToldFor};
 ghost use Rattle.fort_run.specs.ReplyView.{status_of, text_of, limit_of};
 
 use crate::accepted::accepted_formula;
@@ -17,6 +18,7 @@ use crate::reply::Reply;
 use crate::verdict::verdict;
 use fort_formula_parser::Parsed;
 use fort_io::{ReadAll, Source, read_all};
+use fort_words::Options;
 use std::alloc::{AllocError, Global};
 
 /// The most bytes of an input.
@@ -35,16 +37,17 @@ pub enum Stop {
 fn reply_to_bytes(
     alloc: Global,
     question: Question,
-    states: u32,
+    options: Options,
     parsed: &Parsed,
     bytes: Vec<u8>,
 ) -> Result<Reply, AllocError>
     requires limit { length bytes.items ≤ input_limit }
     requires read { IsRead question parsed.now }
+    requires suits { SuitsQuestion question (as_options options) }
     ensures ok { IfOk result (λ r. (text : Text) → IsAskedAs question text parsed.now
-        → AnswersQuestion question states text bytes.items (status_of r) (text_of r)) }
+        → AnswersQuestion question (as_options options) text bytes.items (status_of r) (text_of r)) }
     ensures limit { IfOk result (λ r. (text : Text) → IsAskedAs question text parsed.now
-        → IfSome (limit_of r) (QuestionLimit question states text bytes.items (text_of r))) }
+        → IfSome (limit_of r) (QuestionLimit question (as_options options) text bytes.items (text_of r))) }
     ensures printed { IfOk result (λ r. (text : Text) → IsAskedAs question text parsed.now
         → IsPrintedFor question text bytes.items (status_of r) (text_of r)) }
 {
@@ -54,7 +57,7 @@ fn reply_to_bytes(
         Err(Refusal::Memory) => return Err(AllocError),
     };
     match terms_of(alloc, parsed, &system) {
-        Ok(terms) => verdict(alloc, question, &system, &parsed.formula, &terms, states),
+        Ok(terms) => verdict(alloc, question, &system, &parsed.formula, &terms, options),
         Err(Refusal::Line(line)) => Ok(Reply::Refused(line)),
         Err(Refusal::Memory) => Err(AllocError),
     }
@@ -64,16 +67,17 @@ fn reply_to_bytes(
 fn reply_to_formula<S: Source>(
     alloc: Global,
     question: Question,
-    states: u32,
+    options: Options,
     parsed: &Parsed,
     input: &mut S,
 ) -> Result<Reply, Stop>
-    requires { IsRead question parsed.now }
+    requires read { IsRead question parsed.now }
+    requires suits { SuitsQuestion question (as_options options) }
     ensures ok { IfOk result (λ r. (text : Text) → IsAskedAs question text parsed.now
-        → OwesToQuestion question states text (S.rest input.old) (status_of r) (text_of r)) }
+        → OwesToQuestion question (as_options options) text (S.rest input.old) (status_of r) (text_of r)) }
     ensures limit { IfOk result (λ r. (text : Text) → IsAskedAs question text parsed.now
         → IfSome (limit_of r)
-        (QuestionLimitTold question states text (S.rest input.old) (text_of r))) }
+        (QuestionLimitTold question (as_options options) text (S.rest input.old) (text_of r))) }
     ensures printed { IfOk result (λ r. (text : Text) → IsAskedAs question text parsed.now
         → IsPrintedToldFor question text (S.rest input.old) (status_of r) (text_of r)) }
     ensures whole { OnOk result (ReadsWhole (S.rest input.old) (S.rest input.new)) }
@@ -88,24 +92,25 @@ fn reply_to_formula<S: Source>(
         Err(ReadAll::Fault) => return Err(Stop::Fault),
         Err(ReadAll::Memory) => return Err(Stop::Memory),
     };
-    match reply_to_bytes(alloc, question, states, parsed, bytes) {
+    match reply_to_bytes(alloc, question, options, parsed, bytes) {
         Ok(reply) => Ok(reply),
         Err(AllocError) => Err(Stop::Memory),
     }
 }
 
-/// The reply to a question about the formula of a text, with this cap. Where the formula is refused, nothing is read.
+/// The reply to a question about the formula of a text, with these options. Where the formula is refused, nothing is read.
 pub fn ask<S: Source>(
     alloc: Global,
     question: Question,
-    states: u32,
+    options: Options,
     text: &str,
     input: &mut S,
 ) -> Result<Reply, Stop>
-    ensures ok { IfOk result (λ r. OwesToQuestion question states text.now
+    requires { SuitsQuestion question (as_options options) }
+    ensures ok { IfOk result (λ r. OwesToQuestion question (as_options options) text.now
         (S.rest input.old) (status_of r) (text_of r)) }
     ensures limit { IfOk result (λ r. IfSome (limit_of r)
-        (QuestionLimitTold question states text.now (S.rest input.old) (text_of r))) }
+        (QuestionLimitTold question (as_options options) text.now (S.rest input.old) (text_of r))) }
     ensures printed { IfOk result (λ r. IsPrintedToldFor question text.now
         (S.rest input.old) (status_of r) (text_of r)) }
     ensures whole { OnOk result (QuestionNeedsInput question text.now →
@@ -122,5 +127,5 @@ pub fn ask<S: Source>(
         Err(Refusal::Line(line)) => return Ok(Reply::Refused(line)),
         Err(Refusal::Memory) => return Err(Stop::Memory),
     };
-    reply_to_formula(alloc, question, states, &parsed, input)
+    reply_to_formula(alloc, question, options, &parsed, input)
 }

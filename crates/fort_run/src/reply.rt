@@ -30,8 +30,8 @@ pub enum Reply {
     Rejected(Vec<u8>),
 }
 
-const USAGE: &str = "usage: fort decide [--states N] [--certificate] FORMULA
-       fort witness [--states N] FORMULA
+const USAGE: &str = "usage: fort decide [--states N] [--reduce] [--certificate] FORMULA
+       fort witness [--states N] [--reduce] FORMULA
        fort check FORMULA
        fort sample N
 ";

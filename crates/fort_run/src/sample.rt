@@ -4,7 +4,7 @@ ghost use Rattle.fort_formula_grammar.specs.Tokens.{property_text};
 ghost use Rattle.fort_formulas.specs.FormulaView.{as_property};
 ghost use Rattle.fort_answers.specs.Lines.{positive};
 ghost use Rattle.fort_answers.specs.SampleAnswer.{SampleAnswer};
-ghost use Rattle.fort_answers.specs.SampleSizes.{IsSampleSize};
+ghost use Rattle.fort_answers.specs.PossibleRequests.{IsSampleSize};
 ghost use Rattle.fort_run.specs.ReplyView.{status_of, text_of, limit_of};
 ghost use Rattle.fort_run.specs.Samples.{AddsLine, AddsLines};
 
@@ -15,10 +15,14 @@ use crate::verdict::verdict;
 use fort_formulas::{Formula, Macro};
 use fort_sample::made_system;
 use fort_terms::System;
+use fort_words::Options;
 use std::alloc::{AllocError, Global};
 
-/// The most states of a part of a property.
-const STATES: u32 = 10_000;
+/// How each property is decided.
+const OPTIONS: Options = Options {
+    states: 10_000,
+    reduces: false,
+};
 
 /// In the order of their lines.
 const PROPERTIES: [Macro; 7] = [
@@ -59,7 +63,7 @@ fn push_property(
     // Each system has an index 1.
     let _number = system.number();
     let formula = Formula::Macro(property, 1);
-    let reply = verdict(alloc, Question::Truth, system, &formula, &[], STATES)?;
+    let reply = verdict(alloc, Question::Truth, system, &formula, &[], OPTIONS)?;
     text.extend_from_slice(property_word(property))?;
     text.push(b' ')?;
     text.extend_from_slice(reply.text())?;

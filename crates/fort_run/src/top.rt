@@ -2,8 +2,8 @@
 ghost use Rattle.std.specs.Prelude.{◌≡◌, ◌<◌, ◌≤◌, ◌⊎◌, ◌↔◌, ℕ, true, map, string_bytes, IfOk, IfSome, IsSome, OnOk, IsErrOf};
 ghost use Rattle.fort_io.specs.Devices.{FaultCounted};
 ghost use Rattle.fort_words.specs.RequestView.{as_request};
-ghost use Rattle.fort_answers.specs.SampleSizes.{HasSampleSize};
-ghost use Rattle.fort_answers.specs.Requests.{Text, Decide, Check as CheckOf};
+ghost use Rattle.fort_answers.specs.PossibleRequests.{CanBeAsked};
+ghost use Rattle.fort_answers.specs.Requests.{Text, Options, Decide, Check as CheckOf};
 ghost use Rattle.fort_answers.specs.Answer.{Answer, AnswerFor, AsksNothing, AsksSomething, NeedsInput, OwesTold};
 ghost use Rattle.fort_answers.specs.Lines.{last_answer, limited, negative, positive, out_of_memory, read_failed, write_failed};
 ghost use Rattle.fort_run.specs.Answered.{Answers, CutsShort, IsDecidable, IsDecidableWithin, OwesOnly, OwesOnlyEarly, ReadsWhole};
@@ -29,14 +29,14 @@ fn reply_to_request<S: Source>(
     request: &Request<'_>,
     input: &mut S,
 ) -> Result<Reply, Stop>
-    requires { HasSampleSize (as_request request.now) }
+    requires { CanBeAsked (as_request request.now) }
     ensures ok { IfOk result (λ r.
         OwesTold (Some (as_request request.now)) (S.rest input.old) (status_of r) (text_of r)) }
     ensures certified { IfOk result (λ r. (formula : Text)
         → as_request request.now ≡ CheckOf formula → status_of r ≡ positive
         → IsCertifiedTold formula (S.rest input.old) (text_of r)) }
-    ensures printed { IfOk result (λ r. (states : ℕ) (formula : Text)
-        → as_request request.now ≡ Decide states true formula → status_of r ≡ positive
+    ensures printed { IfOk result (λ r. (options : Options) (formula : Text)
+        → as_request request.now ≡ Decide options true formula → status_of r ≡ positive
         → IsPrintedTold formula (S.rest input.old) (text_of r)) }
     ensures limit { IfOk result (λ r. IfSome (limit_of r)
         (HasLimitTold (Some (as_request request.now)) (S.rest input.old) (text_of r))) }
@@ -51,17 +51,17 @@ fn reply_to_request<S: Source>(
 {
     match *request {
         Request::Decide {
-            states,
+            options,
             certificate: false,
             formula,
-        } => ask(alloc, Question::Truth, states, formula, input),
+        } => ask(alloc, Question::Truth, options, formula, input),
         Request::Decide {
-            states,
+            options,
             certificate: true,
             formula,
-        } => ask(alloc, Question::Certificate, states, formula, input),
-        Request::Witness { states, formula } => {
-            ask(alloc, Question::Terms, states, formula, input)
+        } => ask(alloc, Question::Certificate, options, formula, input),
+        Request::Witness { options, formula } => {
+            ask(alloc, Question::Terms, options, formula, input)
         }
         Request::Sample { n } => match sample(alloc, n) {
             Ok(reply) => Ok(reply),
@@ -78,8 +78,8 @@ fn reply_to<S: Source>(alloc: Global, words: &[String], input: &mut S) -> Result
     ensures certified { IfOk result (λ r. (formula : Text)
         → request_of (map string_bytes words.now) ≡ Some (CheckOf formula)
         → status_of r ≡ positive → IsCertifiedTold formula (S.rest input.old) (text_of r)) }
-    ensures printed { IfOk result (λ r. (states : ℕ) (formula : Text)
-        → request_of (map string_bytes words.now) ≡ Some (Decide states true formula)
+    ensures printed { IfOk result (λ r. (options : Options) (formula : Text)
+        → request_of (map string_bytes words.now) ≡ Some (Decide options true formula)
         → status_of r ≡ positive → IsPrintedTold formula (S.rest input.old) (text_of r)) }
     ensures limit { IfOk result (λ r. IfSome (limit_of r)
         (HasLimitTold (request_of (map string_bytes words.now)) (S.rest input.old) (text_of r))) }
@@ -124,12 +124,12 @@ pub fn run<S: Source, K: Sink>(
         → request_of (map string_bytes words.now) ≡ Some (CheckOf formula)
         → result.status ≡ positive → CertifiesTruth formula
         (S.rest input.old) (K.taken output.old) (K.taken output.new) }
-    ensures printed { (states : ℕ) (formula : Text)
-        → request_of (map string_bytes words.now) ≡ Some (Decide states true formula)
+    ensures printed { (options : Options) (formula : Text)
+        → request_of (map string_bytes words.now) ≡ Some (Decide options true formula)
         → result.status ≡ positive → PrintsTruth formula
         (S.rest input.old) (K.taken output.old) (K.taken output.new) }
-    ensures accepted { (states : ℕ) (formula bytes text : Text)
-        → request_of (map string_bytes words.now) ≡ Some (Decide states true formula)
+    ensures accepted { (options : Options) (formula bytes text : Text)
+        → request_of (map string_bytes words.now) ≡ Some (Decide options true formula)
         → Answer (map string_bytes words.now) bytes positive text
         → IsAcceptedBehind formula bytes text }
 

@@ -16,7 +16,6 @@ use Rattle.fort_parts.specs.PartColumns.{columns_of}
 use Rattle.fort_parts.specs.PartAnswers.{Answer, OfTable, IsAnswerTo}
 use Rattle.fort_parts.specs.DecidedCores.{IsDecided, IsOperandOf}
 use Rattle.fort_parts.specs.RightAnswers.{IsRightFor}
-use Rattle.fort_parts.specs.AlikeParts.{IsPartOver}
 use Rattle.fort_parts.proofs.PartFacts.{BindsFree-part, columns_of-few}
 use Rattle.fort_certificate_grammar.specs.Certificates as certificates
 use Rattle.fort_in_order.specs.Dues.{DueStep, has_columns, is_turned, closures_due, counts_due, answer_due, parts_due, dues}
@@ -34,7 +33,7 @@ use Rattle.fort_outline.specs.Outlines.{AreLastUses, parts_in, core_at}
 use Rattle.fort_engine.specs.declared.answer.Last.{Last}
 use Rattle.fort_engine.specs.declared.answer.Last.TheVariants.{Truth, Auto}
 use Rattle.fort_engine.specs.declared.answer.Decided.{Decided}
-use Rattle.fort_engine.specs.AnswerView.{as_answer}
+use Rattle.fort_engine.specs.AnswerView.{as_answer, KeepsCapAt}
 use Rattle.fort_engine.specs.Kept.{HasRightAnswer, IsSoFar}
 use Rattle.fort_engine.specs.Deciding.{HasOperands, IsPlanned, IsNextPart}
 use Rattle.fort_engine.specs.Found.{is_negation, IsFound}
@@ -42,13 +41,13 @@ use Rattle.fort_outline.proofs.RootLaws.{length-cores_of}
 use Rattle.fort_engine.proofs.DecideLaws.{HasRightAnswer-root, none_over}
 use Rattle.fort_steps.specs.declared.step.Step.{Step}
 use Rattle.fort_steps.specs.StepView.{as_step}
-use Rattle.fort_trace.specs.Recording.{AddsSteps, AreOperandsMade, CountsPushed, CountsAdded, AnswerAdded, HasRightSteps, IsPartRecorded, IsRecordedTo, AreRecordedTo}
+use Rattle.fort_trace.specs.Recording.{recorded_with, AddsSteps, AreOperandsMade, CountsPushed, CountsAdded, AnswerAdded, HasRightSteps, IsPartRecorded, IsRecordedTo, AreRecordedTo}
 use Rattle.fort_trace.proofs.AnswerLaws.{turned_answer}
 use Rattle.fort_trace.proofs.CountLaws.{counts_added}
 
 -- ---- one part
 
-operands_right : (system : PatternSystem) (cap : ℕ) (parts : List Core) (made : Made) (kept : List (Option Last)) (f : Core) → HasOperands system cap parts kept f → AreOperandsMade parts made kept f
+operands_right : (system : PatternSystem) (cap : ℕ) (parts : List Core) (made : Made) (kept : List (Option Last)) (f : Core) → HasOperands system (recorded_with cap) parts kept f → AreOperandsMade parts made kept f
     → AreOperandsRight system parts made f
 operands_right system cap parts made kept f operands made_are g o =
     let h = operands g o in
@@ -163,7 +162,7 @@ module _ (system : PatternSystem) (is : IsSystem system) (root : Core) (decided 
       ]
 
   -- Result
-  pub part_recorded : (cap : ℕ) (kept : List (Option Last)) (made : Made) (answer : Last) (old mid new : List Step) → HasOperands system cap parts kept own → HasClosures system parts (1 + length system.rules) made
+  pub part_recorded : (cap : ℕ) (kept : List (Option Last)) (made : Made) (answer : Last) (old mid new : List Step) → HasOperands system (recorded_with cap) parts kept own → HasClosures system parts (1 + length system.rules) made
       → AreOperandsMade parts made kept own → CountsAdded parts made k own old mid → IsRightFor system own (as_answer answer) → (is_turned own ≡ true → IsAnswerOf parts made own (as_answer answer))
       → AnswerAdded k own answer mid new → IsPartRecorded system parts k made answer old new
   part_recorded cap kept made answer old mid new operands closures made_are counts right turned added =
@@ -290,8 +289,8 @@ module _ (system : PatternSystem) (root : Core) (decided : IsDecided system root
 
 -- ---- with what the engine knows
 
-pub AreRecordedTo-more : (system : PatternSystem) → IsSystem system → (cap : ℕ) (o : Outline) (k : ℕ) (kept : List (Option Last)) → IsNextPart system cap o k kept → (d : Decided)
-    → IsFound system (parts_in o) kept (core_at o k) true d → (old mid new : List Step) → AreRecordedTo system o k kept old → CountsPushed k d.counts old mid
+pub AreRecordedTo-more : (system : PatternSystem) → IsSystem system → (cap : ℕ) (o : Outline) (k : ℕ) (kept : List (Option Last)) → IsNextPart system (recorded_with cap) o k kept → (d : Decided)
+    → IsFound system (recorded_with cap) (parts_in o) kept (core_at o k) d → (old mid new : List Step) → AreRecordedTo system o k kept old → CountsPushed k d.counts old mid
     → AnswerAdded k (core_at o k) d.answer mid new → AreRecordedTo system o (k + 1) (kept ++ Some d.answer ∷ []) new
 AreRecordedTo-more system is cap o k kept next d found old mid new h pushed added =
     let parts = parts_in o in
@@ -311,7 +310,7 @@ AreRecordedTo-more system is cap o k kept next d found old mid new h pushed adde
           IsRecordedTo-more system next.formula next.decided parts laid.parts o.whole uses laid.uses k kept old next.count far within d.answer found.right new part;
     }
 
-module _ (system : PatternSystem) (root : Core) (o : Outline) (plan : IsPlanned system root o) (cap k : ℕ) (kept : List (Option Last)) (far : IsSoFar system (parts_in o) o.last_uses.items cap k kept) where
+module _ (system : PatternSystem) (root : Core) (o : Outline) (plan : IsPlanned system root o) (cap k : ℕ) (kept : List (Option Last)) (far : IsSoFar system (recorded_with cap) (parts_in o) o.last_uses.items k kept) where
   module _ (all : k ≡ length o.roots.items) where
     end : k ≡ length (parts_in o)
     end = all ∙ sym (length-cores_of o.roots.items)
@@ -319,11 +318,11 @@ module _ (system : PatternSystem) (root : Core) (o : Outline) (plan : IsPlanned 
     low : o.whole < length (parts_in o)
     low = omega (arith, plan.laid.within, length-cores_of o.roots.items)
 
-    pub taken_right : HasRightAnswer system root (get_or kept o.whole None)
-    taken_right = HasRightAnswer-root system root (parts_in o) plan.laid.parts o.whole o.last_uses.items plan.laid.uses cap k kept far end low plan.laid.whole_is
+    pub taken_right : HasRightAnswer system (recorded_with cap) root (get_or kept o.whole None)
+    taken_right = HasRightAnswer-root system (recorded_with cap) root (parts_in o) plan.laid.parts o.whole o.last_uses.items plan.laid.uses k kept far end low plan.laid.whole_is
 
-    pub none_over_end : (ps : List Core) (j : ℕ) → AreParts root ps → j < length ps → IsPartOver system (get_or ps j core.True) cap → ⊥
-    none_over_end ps j also l over = none_over system root (parts_in o) plan.laid.parts o.whole o.last_uses.items plan.laid.uses cap k kept far end ps j also l over
+    pub none_over_end : KeepsCapAt system false root cap
+    none_over_end ps j also l over = none_over system (recorded_with cap) root (parts_in o) plan.laid.parts o.whole o.last_uses.items plan.laid.uses k kept far end ps j also l over
 
     -- the root is the last part
     root_last : (n : ℕ) → length (parts_in o) ≡ suc n → o.whole ≡ n
@@ -343,8 +342,8 @@ module _ (system : PatternSystem) (root : Core) (o : Outline) (plan : IsPlanned 
         by (suc n) e = let at = root_last n e in omega (arith, end)
 
 -- a closed formula has a truth
-pub no_table : (system : PatternSystem) (f : Core) (taken : Option Last) (table : Listed) → IsClosed f → HasRightAnswer system f taken → taken ≡ Some (Auto table) → ⊥
-no_table system f taken table closed has e =
+pub no_table : (system : PatternSystem) (cap : ℕ) (f : Core) (taken : Option Last) (table : Listed) → IsClosed f → HasRightAnswer system (recorded_with cap) f taken → taken ≡ Some (Auto table) → ⊥
+no_table system cap f taken table closed has e =
     let same : has.answer ≡ Auto table = some_same has.answer (Auto table) (sym has.is ∙ e) in
     let right : IsRightFor system f (OfTable (listed_table table)) = subst (λ a. IsRightFor system f (as_answer a)) same has.right in
     let some : has_columns f ≡ true = lt-ltb 0 (length (columns_of f)) right.answers.over.some in

@@ -21,11 +21,16 @@ use Rattle.fort_outline.specs.declared.outline.Outline.{Outline}
 use Rattle.fort_outline.specs.Outlines.{parts_in}
 use Rattle.fort_engine.specs.declared.answer.Last.{Last}
 use Rattle.fort_engine.specs.declared.answer.Last.TheVariants.{Truth, Auto}
+use Rattle.fort_engine.specs.declared.options.Options.{Options}
 use Rattle.fort_engine.specs.AnswerView.{as_answer}
 use Rattle.fort_engine.specs.Found.{AreMarks, is_negation}
 use Rattle.fort_steps.specs.declared.count.Count.{Count}
 use Rattle.fort_steps.specs.declared.step.Step.{Step}
 use Rattle.fort_steps.specs.StepView.{as_count, as_step}
+
+-- how a formula is decided whose steps are recorded: tables as they are, with their targets
+abbrev pub recorded_with : (cap : ℕ) → Options
+recorded_with cap = record { cap = cap; reduces = false; lists = true }
 
 -- the steps behind the old ones are those due, each as it is written, and make the last
 pub record AddsSteps (system : PatternSystem) (parts : List Core) (made : Made) (due : List DueStep) (old new : List Step) : Type 0 where

@@ -1,20 +1,17 @@
 //! Decides a formula, each of its parts in turn, and records the steps.
-ghost use Rattle.std.specs.Prelude.{ℕ, ◌<◌, List, length, slice_index_or, IfOk, IfErr, OnOk};
-ghost use Rattle.fort_logic.specs.Cores as theory;
+ghost use Rattle.std.specs.Prelude.{ℕ, false, IfOk, IfErr, OnOk};
 ghost use Rattle.fort_logic.specs.Parts as logic;
-ghost use Rattle.fort_logic.specs.PartLists.{AreParts};
 ghost use Rattle.fort_logic.specs.PatternStructures.{pattern_structure};
 ghost use Rattle.fort_formulas.specs.CoreView.{as_core};
-ghost use Rattle.fort_parts.specs.AlikeParts.{IsPartOver};
 ghost use Rattle.fort_parts.specs.DecidedCores.{IsDecided};
 ghost use Rattle.fort_parts.specs.PartAnswers.{OfValue, IsAnswerTo};
 ghost use Rattle.fort_in_order.specs.Written.{IsWritten};
-ghost use Rattle.fort_engine.specs.AnswerView.{IfOver, IsLimit};
+ghost use Rattle.fort_engine.specs.AnswerView.{IfOver, KeepsCapAt, IsLimit};
 ghost use Rattle.fort_trace.specs.RecordedView.{as_certificate};
 
 use crate::closures::push_closures;
 use crate::recorder::Steps;
-use fort_engine::{Closures, EngineFault, Last, decide_parts};
+use fort_engine::{Closures, EngineFault, Last, Options, decide_parts};
 use fort_formulas::Core;
 use fort_outline::Outline;
 use fort_steps::Step;
@@ -42,10 +39,9 @@ pub fn decide_with_steps(
         (as_core core.now) (OfValue r.verdict)) }
     ensures written { IfOk result (λ r. (first : ℕ)
         → IsWritten system.now (as_core core.now) (as_certificate first r)) }
-    ensures within { OnOk result ((ps : List theory.Core) (k : ℕ)
-        → AreParts (as_core core.now) ps → k < length ps
-        → IsPartOver system.now (slice_index_or ps k theory.True) cap → ⊥) }
-    ensures over { IfErr result (λ e. IfOver e (IsLimit system.now (as_core core.now) cap)) }
+    ensures within { OnOk result (KeepsCapAt system.now false (as_core core.now) cap) }
+    ensures over { IfErr result (λ e. IfOver e
+        (IsLimit system.now false (as_core core.now) cap)) }
 {
     let outline = Outline::new(alloc, core)?;
     if !has_numbers(outline.roots.len()) {
@@ -55,7 +51,12 @@ pub fn decide_with_steps(
     let mut list = Vec::new(alloc);
     push_closures(alloc, system, &closures, &mut list)?;
     let mut recorder = Steps { list };
-    let mut kept = match decide_parts(alloc, system, &outline, &closures, cap, &mut recorder) {
+    let options = Options {
+        cap,
+        reduces: false,
+        lists: true,
+    };
+    let mut kept = match decide_parts(alloc, system, &outline, &closures, &options, &mut recorder) {
         Ok(kept) => kept,
         Err(fault) => return Err(fault),
     };

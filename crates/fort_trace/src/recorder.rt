@@ -1,7 +1,7 @@
 //! The steps of a certificate are recorded part by part.
 use crate::answers::push_answer;
 use crate::counts::push_counts;
-use fort_engine::{Decided, Last, Recorder};
+use fort_engine::{Decided, Last, Options, Recorder};
 use fort_outline::Outline;
 use fort_steps::Step;
 use fort_terms::{Memory, System};
@@ -14,24 +14,21 @@ pub(crate) struct Steps {
 }
 
 impl Recorder for Steps {
-    ghost use Rattle.std.specs.Prelude.{true};
-    ghost use Rattle.fort_trace.specs.Recording.{AreRecordedTo, AreRecordedTo-less};
+    ghost use Rattle.std.specs.Prelude.{◌≡◌};
+    ghost use Rattle.fort_trace.specs.Recording.{recorded_with, AreRecordedTo, AreRecordedTo-less};
 
     ghost recorded = { λ s system o k kept. AreRecordedTo system o k kept s.list.items };
 
-    ghost listing = { λ _. true };
+    ghost takes = { λ options. options ≡ recorded_with options.cap };
 
     ghost lets_go = { λ s system o k kept less h same.
         AreRecordedTo-less system o k kept less s.list.items h same };
-
-    fn lists(&self) -> bool {
-        true
-    }
 
     fn note(
         &mut self,
         _alloc: Global,
         system: &System,
+        _options: &Options,
         outline: &Outline,
         k: usize,
         _kept: &[Option<Last>],

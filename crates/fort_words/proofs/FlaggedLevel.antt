@@ -23,6 +23,16 @@ pub data Flagged : Type 0 where
   Decide : Flagged
   Witness : Flagged
 
+-- the two flags without a value
+pub data Flag : Type 0 where
+  Reduce : Flag
+  Certificate : Flag
+
+abbrev pub takes : Flagged → Flag → Bool
+takes Decide flag = true
+takes Witness Reduce = true
+takes Witness Certificate = false
+
 abbrev pub as_subcommand : Flagged → Subcommand
 as_subcommand Decide = level.Decide
 as_subcommand Witness = level.Witness
@@ -166,8 +176,12 @@ value_walked Witness rows had w t = let d = t.not_dashes in let l = t.not_long i
 abbrev pub states_rule : Rule
 states_rule = filled app.states
 
-abbrev pub certificate_rule : Rule
-certificate_rule = filled app.certificate
+abbrev pub flag_id : Flag → Text
+flag_id Reduce = codes "reduce"
+flag_id Certificate = codes "certificate"
+
+abbrev pub flag_rule : Flag → Rule
+flag_rule flag = filled (app.flag (flag_id flag))
 
 -- `--states`
 pub states_turn : (sub : Flagged) (rows : List Row) (pend : Pending) (had : Bool) (z : ℕ) (zs : Text) → bytes_eq (codes "states") (name_of z zs) ≡ true
@@ -216,33 +230,50 @@ states_loud Decide rows pend had z zs n q = let e = (first_kind (settles Decide 
 states_loud Witness rows pend had z zs n q = let e = (first_kind (settles Witness rows pend) q).2 in
     elim (cases_of (has_byte 61 (z ∷ zs))) [ inl v ↦ simp (n, v, e) refl | inr v ↦ simp (n, v, e) refl ]
 
--- `--certificate`
-pub certificate_turn : (rows : List Row) (pend : Pending) (next : List Row) (had : Bool) (z : ℕ) (zs : Text) → bytes_eq (codes "states") (name_of z zs) ≡ false
-    → bytes_eq (codes "certificate") (name_of z zs) ≡ true → has_byte 61 (z ∷ zs) ≡ false
-    → settles Decide rows pend ≡ [] → settled_rows (leaf Decide).rules pend rows ≡ next → has_row (codes "certificate") next ≡ false
-    → turn_fault (leaf Decide) [] (at_word rows pend had) (long_word z zs) ≡ []
-unfolding clap_on_literals
-certificate_turn rows pend next had z zs n m v e r f = simp (n, m, v, e, r, f) refl
+-- `--reduce` or `--certificate`: the tests of its name, in the order of the rules
+abbrev pub IsNamed : Flag → Text → Type 0
+IsNamed Reduce name = (bytes_eq (codes "states") name ≡ false) × (bytes_eq (codes "reduce") name ≡ true)
+IsNamed Certificate name = (bytes_eq (codes "states") name ≡ false) × (bytes_eq (codes "reduce") name ≡ false) × (bytes_eq (codes "certificate") name ≡ true)
 
-pub certificate_walked : (rows : List Row) (pend : Pending) (next : List Row) (had : Bool) (z : ℕ) (zs : Text)
-    → bytes_eq (codes "states") (name_of z zs) ≡ false
-    → bytes_eq (codes "certificate") (name_of z zs) ≡ true → has_byte 61 (z ∷ zs) ≡ false
-    → settled_rows (leaf Decide).rules pend rows ≡ next → walked (leaf Decide).rules [] (at_word rows pend had) (long_word z zs) ≡ at_word (used certificate_rule [] next) None had
+pub flag_turn : (sub : Flagged) (flag : Flag) → takes sub flag ≡ true → (rows : List Row) (pend : Pending) (next : List Row) (had : Bool) (z : ℕ) (zs : Text)
+    → IsNamed flag (name_of z zs) → has_byte 61 (z ∷ zs) ≡ false
+    → settles sub rows pend ≡ [] → settled_rows (leaf sub).rules pend rows ≡ next → has_row (flag_id flag) next ≡ false
+    → turn_fault (leaf sub) [] (at_word rows pend had) (long_word z zs) ≡ []
 unfolding clap_on_literals
-certificate_walked rows pend next had z zs n m v r = simp (n, m, v, r) refl
+flag_turn Decide Reduce t rows pend next had z zs i v e r f = let n = i.0 in let m = i.1 in simp (n, m, v, e, r, f) refl
+flag_turn Decide Certificate t rows pend next had z zs i v e r f = let n = i.0 in let k = i.1 in let m = i.2 in simp (n, k, m, v, e, r, f) refl
+flag_turn Witness Reduce t rows pend next had z zs i v e r f = let n = i.0 in let m = i.1 in simp (n, m, v, e, r, f) refl
+flag_turn Witness Certificate t rows pend next had z zs i v e r f = absurd (cc)
 
-pub certificate_again : (rows : List Row) (pend : Pending) (next : List Row) (had : Bool) (z : ℕ) (zs : Text) → bytes_eq (codes "states") (name_of z zs) ≡ false
-    → bytes_eq (codes "certificate") (name_of z zs) ≡ true → has_byte 61 (z ∷ zs) ≡ false
-    → settles Decide rows pend ≡ [] → settled_rows (leaf Decide).rules pend rows ≡ next → has_row (codes "certificate") next ≡ true
-    → some_kinds (turn_fault (leaf Decide) [] (at_word rows pend had) (long_word z zs)) ≡ true
+pub flag_walked : (sub : Flagged) (flag : Flag) → takes sub flag ≡ true → (rows : List Row) (pend : Pending) (next : List Row) (had : Bool) (z : ℕ) (zs : Text)
+    → IsNamed flag (name_of z zs) → has_byte 61 (z ∷ zs) ≡ false
+    → settled_rows (leaf sub).rules pend rows ≡ next
+    → walked (leaf sub).rules [] (at_word rows pend had) (long_word z zs) ≡ at_word (used (flag_rule flag) [] next) None had
 unfolding clap_on_literals
-certificate_again rows pend next had z zs n m v e r f = simp (n, m, v, e, r, f) refl
+flag_walked Decide Reduce t rows pend next had z zs i v r = let n = i.0 in let m = i.1 in simp (n, m, v, r) refl
+flag_walked Decide Certificate t rows pend next had z zs i v r = let n = i.0 in let k = i.1 in let m = i.2 in simp (n, k, m, v, r) refl
+flag_walked Witness Reduce t rows pend next had z zs i v r = let n = i.0 in let m = i.1 in simp (n, m, v, r) refl
+flag_walked Witness Certificate t rows pend next had z zs i v r = absurd (cc)
 
-pub certificate_loud : (rows : List Row) (pend : Pending) (had : Bool) (z : ℕ) (zs : Text) → bytes_eq (codes "states") (name_of z zs) ≡ false
-    → bytes_eq (codes "certificate") (name_of z zs) ≡ true → has_byte 61 (z ∷ zs) ≡ false
-    → IsLoud Decide rows pend → some_kinds (turn_fault (leaf Decide) [] (at_word rows pend had) (long_word z zs)) ≡ true
+pub flag_again : (sub : Flagged) (flag : Flag) → takes sub flag ≡ true → (rows : List Row) (pend : Pending) (next : List Row) (had : Bool) (z : ℕ) (zs : Text)
+    → IsNamed flag (name_of z zs) → has_byte 61 (z ∷ zs) ≡ false
+    → settles sub rows pend ≡ [] → settled_rows (leaf sub).rules pend rows ≡ next → has_row (flag_id flag) next ≡ true
+    → some_kinds (turn_fault (leaf sub) [] (at_word rows pend had) (long_word z zs)) ≡ true
 unfolding clap_on_literals
-certificate_loud rows pend had z zs n m v q = let e = (first_kind (settles Decide rows pend) q).2 in simp (n, m, v, e) refl
+flag_again Decide Reduce t rows pend next had z zs i v e r f = let n = i.0 in let m = i.1 in simp (n, m, v, e, r, f) refl
+flag_again Decide Certificate t rows pend next had z zs i v e r f = let n = i.0 in let k = i.1 in let m = i.2 in simp (n, k, m, v, e, r, f) refl
+flag_again Witness Reduce t rows pend next had z zs i v e r f = let n = i.0 in let m = i.1 in simp (n, m, v, e, r, f) refl
+flag_again Witness Certificate t rows pend next had z zs i v e r f = absurd (cc)
+
+pub flag_loud : (sub : Flagged) (flag : Flag) → takes sub flag ≡ true → (rows : List Row) (pend : Pending) (had : Bool) (z : ℕ) (zs : Text)
+    → IsNamed flag (name_of z zs) → has_byte 61 (z ∷ zs) ≡ false
+    → IsLoud sub rows pend
+    → some_kinds (turn_fault (leaf sub) [] (at_word rows pend had) (long_word z zs)) ≡ true
+unfolding clap_on_literals
+flag_loud Decide Reduce t rows pend had z zs i v q = let n = i.0 in let m = i.1 in let e = (first_kind (settles Decide rows pend) q).2 in simp (n, m, v, e) refl
+flag_loud Decide Certificate t rows pend had z zs i v q = let n = i.0 in let k = i.1 in let m = i.2 in let e = (first_kind (settles Decide rows pend) q).2 in simp (n, k, m, v, e) refl
+flag_loud Witness Reduce t rows pend had z zs i v q = let n = i.0 in let m = i.1 in let e = (first_kind (settles Witness rows pend) q).2 in simp (n, m, v, e) refl
+flag_loud Witness Certificate t rows pend had z zs i v q = absurd (cc)
 
 -- any other long flag
 abbrev pub IsSettled : Kinds → Type 0
@@ -254,41 +285,43 @@ settled_or (k ∷ ks) = inr refl
 
 -- `witness` takes no other flag
 pub other_flag : (rows : List Row) (pend : Pending) (had : Bool) (z : ℕ) (zs : Text) → bytes_eq (codes "states") (name_of z zs) ≡ false
-    → some_kinds (turn_fault (leaf Witness) [] (at_word rows pend had) (long_word z zs)) ≡ true
+    → bytes_eq (codes "reduce") (name_of z zs) ≡ false → some_kinds (turn_fault (leaf Witness) [] (at_word rows pend had) (long_word z zs)) ≡ true
 unfolding clap_on_literals
-other_flag rows pend had z zs n = elim (cases_of (bytes_eq (codes "help") (name_of z zs))) [
+other_flag rows pend had z zs n k = elim (cases_of (bytes_eq (codes "help") (name_of z zs))) [
   | inl h ↦ elim (cases_of (has_byte 61 (z ∷ zs))) [
-    | inl v ↦ simp (n, h, v) refl
+    | inl v ↦ simp (n, k, h, v) refl
     | inr v ↦ elim (settled_or (settles Witness rows pend)) [
-      | inl e ↦ simp (n, h, v, e) refl
-      | inr q ↦ let e = (first_kind (settles Witness rows pend) q).2 in simp (n, h, v, e) refl
+      | inl e ↦ simp (n, k, h, v, e) refl
+      | inr q ↦ let e = (first_kind (settles Witness rows pend) q).2 in simp (n, k, h, v, e) refl
     ]
   ]
-  | inr h ↦ simp (n, h) refl
+  | inr h ↦ simp (n, k, h) refl
 ]
 
--- `--certificate=VALUE`
-pub certificate_value : (sub : Flagged) (rows : List Row) (pend : Pending) (had : Bool) (z : ℕ) (zs : Text) → bytes_eq (codes "states") (name_of z zs) ≡ false
-    → bytes_eq (codes "certificate") (name_of z zs) ≡ true → has_byte 61 (z ∷ zs) ≡ true
-    → some_kinds (turn_fault (leaf sub) [] (at_word rows pend had) (long_word z zs)) ≡ true
+-- `--reduce=VALUE` and `--certificate=VALUE`
+pub flag_value : (sub : Flagged) (flag : Flag) (rows : List Row) (pend : Pending) (had : Bool) (z : ℕ) (zs : Text) → IsNamed flag (name_of z zs)
+    → has_byte 61 (z ∷ zs) ≡ true → some_kinds (turn_fault (leaf sub) [] (at_word rows pend had) (long_word z zs)) ≡ true
 unfolding clap_on_literals
-certificate_value Decide rows pend had z zs n m v = simp (n, m, v) refl
-certificate_value Witness rows pend had z zs n m v = other_flag rows pend had z zs n
+flag_value Decide Reduce rows pend had z zs i v = let n = i.0 in let m = i.1 in simp (n, m, v) refl
+flag_value Decide Certificate rows pend had z zs i v = let n = i.0 in let k = i.1 in let m = i.2 in simp (n, k, m, v) refl
+flag_value Witness Reduce rows pend had z zs i v = let n = i.0 in let m = i.1 in simp (n, m, v) refl
+flag_value Witness Certificate rows pend had z zs i v = other_flag rows pend had z zs i.0 i.1
 
 pub other_long : (sub : Flagged) (rows : List Row) (pend : Pending) (had : Bool) (z : ℕ) (zs : Text) → bytes_eq (codes "states") (name_of z zs) ≡ false
-    → bytes_eq (codes "certificate") (name_of z zs) ≡ false → some_kinds (turn_fault (leaf sub) [] (at_word rows pend had) (long_word z zs)) ≡ true
+    → bytes_eq (codes "reduce") (name_of z zs) ≡ false → bytes_eq (codes "certificate") (name_of z zs) ≡ false
+    → some_kinds (turn_fault (leaf sub) [] (at_word rows pend had) (long_word z zs)) ≡ true
 unfolding clap_on_literals
-other_long Decide rows pend had z zs n m = elim (cases_of (bytes_eq (codes "help") (name_of z zs))) [
+other_long Decide rows pend had z zs n k m = elim (cases_of (bytes_eq (codes "help") (name_of z zs))) [
   | inl h ↦ elim (cases_of (has_byte 61 (z ∷ zs))) [
-    | inl v ↦ simp (n, m, h, v) refl
+    | inl v ↦ simp (n, k, m, h, v) refl
     | inr v ↦ elim (settled_or (settles Decide rows pend)) [
-      | inl e ↦ simp (n, m, h, v, e) refl
-      | inr q ↦ let e = (first_kind (settles Decide rows pend) q).2 in simp (n, m, h, v, e) refl
+      | inl e ↦ simp (n, k, m, h, v, e) refl
+      | inr q ↦ let e = (first_kind (settles Decide rows pend) q).2 in simp (n, k, m, h, v, e) refl
     ]
   ]
-  | inr h ↦ simp (n, m, h) refl
+  | inr h ↦ simp (n, k, m, h) refl
 ]
-other_long Witness rows pend had z zs n m = other_flag rows pend had z zs n
+other_long Witness rows pend had z zs n k m = other_flag rows pend had z zs n k
 
 -- a short flag
 pub short_word : (sub : Flagged) (rows : List Row) (pend : Pending) (had : Bool) (y : ℕ) (rest : Text) (c : ℕ) → (y == 45) ≡ false
@@ -316,19 +349,25 @@ pub value_long : (sub : Flagged) (rows : List Row) (had : Bool) (z : ℕ) (zs : 
 unfolding clap_on_literals
 value_long Decide rows had z zs = elim (cases_of (bytes_eq (codes "states") (name_of z zs))) [
   | inl n ↦ elim (cases_of (has_byte 61 (z ∷ zs))) [ inl v ↦ simp (n, v) refl | inr v ↦ simp (n, v) refl ]
-  | inr n ↦ elim (cases_of (bytes_eq (codes "certificate") (name_of z zs))) [
-    | inl m ↦ elim (cases_of (has_byte 61 (z ∷ zs))) [ inl v ↦ simp (n, m, v) refl | inr v ↦ simp (n, m, v) refl ]
-    | inr m ↦ elim (cases_of (bytes_eq (codes "help") (name_of z zs))) [
-      | inl h ↦ elim (cases_of (has_byte 61 (z ∷ zs))) [ inl v ↦ simp (n, m, h, v) refl | inr v ↦ simp (n, m, h, v) refl ]
-      | inr h ↦ simp (n, m, h) refl
+  | inr n ↦ elim (cases_of (bytes_eq (codes "reduce") (name_of z zs))) [
+    | inl k ↦ elim (cases_of (has_byte 61 (z ∷ zs))) [ inl v ↦ simp (n, k, v) refl | inr v ↦ simp (n, k, v) refl ]
+    | inr k ↦ elim (cases_of (bytes_eq (codes "certificate") (name_of z zs))) [
+      | inl m ↦ elim (cases_of (has_byte 61 (z ∷ zs))) [ inl v ↦ simp (n, k, m, v) refl | inr v ↦ simp (n, k, m, v) refl ]
+      | inr m ↦ elim (cases_of (bytes_eq (codes "help") (name_of z zs))) [
+        | inl h ↦ elim (cases_of (has_byte 61 (z ∷ zs))) [ inl v ↦ simp (n, k, m, h, v) refl | inr v ↦ simp (n, k, m, h, v) refl ]
+        | inr h ↦ simp (n, k, m, h) refl
+      ]
     ]
   ]
 ]
 value_long Witness rows had z zs = elim (cases_of (bytes_eq (codes "states") (name_of z zs))) [
   | inl n ↦ elim (cases_of (has_byte 61 (z ∷ zs))) [ inl v ↦ simp (n, v) refl | inr v ↦ simp (n, v) refl ]
-  | inr n ↦ elim (cases_of (bytes_eq (codes "help") (name_of z zs))) [
-    | inl h ↦ elim (cases_of (has_byte 61 (z ∷ zs))) [ inl v ↦ simp (n, h, v) refl | inr v ↦ simp (n, h, v) refl ]
-    | inr h ↦ simp (n, h) refl
+  | inr n ↦ elim (cases_of (bytes_eq (codes "reduce") (name_of z zs))) [
+    | inl k ↦ elim (cases_of (has_byte 61 (z ∷ zs))) [ inl v ↦ simp (n, k, v) refl | inr v ↦ simp (n, k, v) refl ]
+    | inr k ↦ elim (cases_of (bytes_eq (codes "help") (name_of z zs))) [
+      | inl h ↦ elim (cases_of (has_byte 61 (z ∷ zs))) [ inl v ↦ simp (n, k, h, v) refl | inr v ↦ simp (n, k, h, v) refl ]
+      | inr h ↦ simp (n, k, h) refl
+    ]
   ]
 ]
 

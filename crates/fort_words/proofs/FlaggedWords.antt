@@ -7,10 +7,10 @@ use Rattle.clap.specs.Words.{Row, Text}
 use Rattle.clap.specs.Walk.{has_row, settled_rows, used}
 use Rattle.clap.specs.Lexer.{has_byte}
 use Rattle.fort_words.specs.Matches.{request_in}
-use Rattle.fort_answers.specs.CommandGrammar.{Item, Certificate, certificates_among, dashes, decide_words, Formula, formulas_among, is_plain, items_of, States, states_among, witness_words, with_item}
+use Rattle.fort_answers.specs.CommandGrammar.{Item, dashes, decide_words, Formula, formulas_among, is_plain, items_of, States, states_among, witness_words, with_item}
 use Rattle.fort_words.proofs.FlaggedEnd.{end_is}
-use Rattle.fort_words.proofs.FlaggedItems.{IsDead, IsSingle, after, after_dead, after_more, asked_by, certificate_used, dead_certificate, dead_formula, dead_more, dead_states, dead_witness, formula_rule, formula_used, has_certificate, has_formula, has_formula_more, has_formula_same, has_some, has_states, has_uses, map_more, row, single_certificate, single_formula, single_states, states_used}
-use Rattle.fort_words.proofs.FlaggedLevel.{Flagged, Decide, Pending, Witness, at_value, at_word, behind, behind_value, formula_pending, leaf, read_from, settles, step, stop}
+use Rattle.fort_words.proofs.FlaggedItems.{IsDead, IsSingle, after, after_dead, after_more, asked_by, dead_flag, dead_formula, dead_more, dead_states, dead_witness, few_uses, flag_used, formula_rule, formula_used, has_flag, has_formula, has_formula_flag, has_formula_more, has_formula_same, has_some, has_states, has_uses, item, map_more, row, single_flag, single_formula, single_states, states_used, uses}
+use Rattle.fort_words.proofs.FlaggedLevel.{Flag, Flagged, Certificate, Decide, IsNamed, Pending, Reduce, Witness, at_value, at_word, behind, behind_value, flag_rule, formula_pending, leaf, read_from, settles, step, stop, takes}
 use Rattle.fort_words.proofs.FlaggedLevel as level
 use Rattle.fort_words.proofs.Levels.{level_is}
 use Rattle.fort_words.proofs.Levels as subcommand
@@ -40,6 +40,9 @@ states_clash : (sub : Flagged) (rows : List Row) (t : Text) → has_row (codes "
     → some_kinds (settles sub rows (Some (codes "states", t ∷ []))) ≡ true
 states_clash Decide rows t e = simp e refl
 states_clash Witness rows t e = simp e refl
+
+nothing_settles : (sub : Flagged) (rows : List Row) → settles sub rows None ≡ []
+nothing_settles sub rows = refl
 
 formula_settled : (sub : Flagged) (rows : List Row) (t : Text) → settled_rows (leaf sub).rules (formula_pending t) rows ≡ used formula_rule (t ∷ []) rows
 formula_settled Decide rows t = refl
@@ -88,22 +91,22 @@ items_states : (z : ℕ) (zs : Text) (ws : List Text) → bytes_eq (codes "state
 unfolding items_of
 items_states z zs ws n v = simp (n, v) refl
 
-items_certificate : (z : ℕ) (zs : Text) (ws : List Text) → bytes_eq (codes "states") (name_of z zs) ≡ false
-    → bytes_eq (codes "certificate") (name_of z zs) ≡ true
-    → has_byte 61 (z ∷ zs) ≡ false → items_of false (long_word z zs ∷ ws) ≡ with_item Certificate (items_of false ws)
+items_flag : (flag : Flag) (z : ℕ) (zs : Text) (ws : List Text) → IsNamed flag (name_of z zs) → has_byte 61 (z ∷ zs) ≡ false
+    → items_of false (long_word z zs ∷ ws) ≡ with_item (item flag) (items_of false ws)
 unfolding items_of
-items_certificate z zs ws n m v = simp (n, m, v) refl
+items_flag Reduce z zs ws i v = let n = i.0 in let m = i.1 in simp (n, m, v) refl
+items_flag Certificate z zs ws i v = let n = i.0 in let k = i.1 in let m = i.2 in simp (n, k, m, v) refl
 
-items_certificate_value : (z : ℕ) (zs : Text) (ws : List Text) → bytes_eq (codes "states") (name_of z zs) ≡ false
-    → bytes_eq (codes "certificate") (name_of z zs) ≡ true
-    → has_byte 61 (z ∷ zs) ≡ true → items_of false (long_word z zs ∷ ws) ≡ None
-unfolding items_of
-items_certificate_value z zs ws n m v = simp (n, m, v) refl
-
-items_other : (z : ℕ) (zs : Text) (ws : List Text) → bytes_eq (codes "states") (name_of z zs) ≡ false → bytes_eq (codes "certificate") (name_of z zs) ≡ false
+items_flag_value : (flag : Flag) (z : ℕ) (zs : Text) (ws : List Text) → IsNamed flag (name_of z zs) → has_byte 61 (z ∷ zs) ≡ true
     → items_of false (long_word z zs ∷ ws) ≡ None
 unfolding items_of
-items_other z zs ws n m = simp (n, m) refl
+items_flag_value Reduce z zs ws i v = let n = i.0 in let m = i.1 in simp (n, m, v) refl
+items_flag_value Certificate z zs ws i v = let n = i.0 in let k = i.1 in let m = i.2 in simp (n, k, m, v) refl
+
+items_other : (z : ℕ) (zs : Text) (ws : List Text) → bytes_eq (codes "states") (name_of z zs) ≡ false → bytes_eq (codes "reduce") (name_of z zs) ≡ false
+    → bytes_eq (codes "certificate") (name_of z zs) ≡ false → items_of false (long_word z zs ∷ ws) ≡ None
+unfolding items_of
+items_other z zs ws n k m = simp (n, k, m) refl
 
 items_short : (y : ℕ) (rest : Text) (ws : List Text) → (y == 45) ≡ false → items_of false ((45 ∷ y ∷ rest) ∷ ws) ≡ None
 unfolding items_of
@@ -211,35 +214,46 @@ word_states_eq sub z zs ws n v r rows pend all had (inl q) e = elim (cases_of (h
 word_states_eq sub z zs ws n v r rows pend all had (inr l) e =
     stop sub (at_word rows pend had) (long_word z zs) ws (level.states_loud sub rows pend had z zs n l.0) ∙ sym (after_dead sub all (items_of false (long_word z zs ∷ ws)) l.1)
 
-word_certificate : (sub : Flagged) (z : ℕ) (zs : Text) (ws : List Text) → bytes_eq (codes "states") (name_of z zs) ≡ false
-    → bytes_eq (codes "certificate") (name_of z zs) ≡ true → has_byte 61 (z ∷ zs) ≡ false
+word_taken : (sub : Flagged) (flag : Flag) (z : ℕ) (zs : Text) (ws : List Text) → takes sub flag ≡ true → IsNamed flag (name_of z zs) → has_byte 61 (z ∷ zs) ≡ false
     → Reads sub ws → Word sub (long_word z zs) ws
-word_certificate Decide z zs ws n m v r rows pend all had (inl q) e = elim (cases_of (has_uses (certificates_among all))) [
-  | inl g ↦ stop Decide (at_word rows pend had) (long_word z zs) ws (level.certificate_again rows pend (map row all) had z zs n m v q.0 q.1 (has_certificate all ∙ g))
-      ∙ dead_more Decide all Certificate (items_of false ws) (dead_certificate all g) ∙ sym (ap (after Decide all) (items_certificate z zs ws n m v))
-  | inr g ↦ let none = has_certificate all ∙ g in
-      let rows_are : used level.certificate_rule [] (map row all) ≡ map row (all ++ Certificate ∷ []) = certificate_used (map row all) none ∙ sym (map_more all Certificate) in
-      step Decide (at_word rows pend had) (at_word (used level.certificate_rule [] (map row all)) None had) (long_word z zs) ws
-      (level.certificate_turn rows pend (map row all) had z zs n m v q.0 q.1 none) (level.certificate_walked rows pend (map row all) had z zs n m v q.1)
-      ∙ r.word (used level.certificate_rule [] (map row all)) None (all ++ Certificate ∷ []) had
-      (inl (refl, rows_are, single_certificate all q.2 g)) (e ∙ has_formula_same all Certificate refl)
-      ∙ after_more Decide all Certificate (items_of false ws) ∙ sym (ap (after Decide all) (items_certificate z zs ws n m v))
+word_taken sub flag z zs ws t i v r rows pend all had (inl q) e = elim (cases_of (has_uses (uses flag all))) [
+  | inl g ↦ stop sub (at_word rows pend had) (long_word z zs) ws (level.flag_again sub flag t rows pend (map row all) had z zs i v q.0 q.1 (has_flag flag all ∙ g))
+      ∙ dead_more sub all (item flag) (items_of false ws) (dead_flag sub flag all g) ∙ sym (ap (after sub all) (items_flag flag z zs ws i v))
+  | inr g ↦ let none = has_flag flag all ∙ g in
+      let rows_are : used (flag_rule flag) [] (map row all) ≡ map row (all ++ item flag ∷ []) = flag_used flag (map row all) none ∙ sym (map_more all (item flag)) in
+      step sub (at_word rows pend had) (at_word (used (flag_rule flag) [] (map row all)) None had) (long_word z zs) ws
+      (level.flag_turn sub flag t rows pend (map row all) had z zs i v q.0 q.1 none) (level.flag_walked sub flag t rows pend (map row all) had z zs i v q.1)
+      ∙ r.word (used (flag_rule flag) [] (map row all)) None (all ++ item flag ∷ []) had
+      (inl (nothing_settles sub (used (flag_rule flag) [] (map row all)), rows_are, single_flag sub flag all t q.2 g)) (e ∙ has_formula_flag flag all)
+      ∙ after_more sub all (item flag) (items_of false ws) ∙ sym (ap (after sub all) (items_flag flag z zs ws i v))
 ]
-word_certificate Decide z zs ws n m v r rows pend all had (inr l) e =
-    stop Decide (at_word rows pend had) (long_word z zs) ws (level.certificate_loud rows pend had z zs n m v l.0) ∙ sym (after_dead Decide all (items_of false (long_word z zs ∷ ws)) l.1)
-word_certificate Witness z zs ws n m v r rows pend all had st e =
-    stop Witness (at_word rows pend had) (long_word z zs) ws (level.other_flag rows pend had z zs n)
-    ∙ dead_more Witness all Certificate (items_of false ws) (dead_witness all) ∙ sym (ap (after Witness all) (items_certificate z zs ws n m v))
+word_taken sub flag z zs ws t i v r rows pend all had (inr l) e =
+    stop sub (at_word rows pend had) (long_word z zs) ws (level.flag_loud sub flag t rows pend had z zs i v l.0) ∙ sym (after_dead sub all (items_of false (long_word z zs ∷ ws)) l.1)
+
+-- `witness` has no `--certificate`
+word_flag : (sub : Flagged) (flag : Flag) (z : ℕ) (zs : Text) (ws : List Text) → IsNamed flag (name_of z zs) → has_byte 61 (z ∷ zs) ≡ false
+    → Reads sub ws → Word sub (long_word z zs) ws
+word_flag Decide flag z zs ws i v r rows pend all had st e = word_taken Decide flag z zs ws refl i v r rows pend all had st e
+word_flag Witness Reduce z zs ws i v r rows pend all had st e = word_taken Witness Reduce z zs ws refl i v r rows pend all had st e
+word_flag Witness Certificate z zs ws i v r rows pend all had st e =
+    stop Witness (at_word rows pend had) (long_word z zs) ws (level.other_flag rows pend had z zs i.0 i.1)
+    ∙ dead_more Witness all (item Certificate) (items_of false ws) (dead_witness all) ∙ sym (ap (after Witness all) (items_flag Certificate z zs ws i v))
+
+word_named : (sub : Flagged) (flag : Flag) (z : ℕ) (zs : Text) (ws : List Text) → IsNamed flag (name_of z zs) → Reads sub ws → Word sub (long_word z zs) ws
+word_named sub flag z zs ws i r = elim (cases_of (has_byte 61 (z ∷ zs))) [
+  | inl v ↦ λ rows pend all had st e. stop sub (at_word rows pend had) (long_word z zs) ws (level.flag_value sub flag rows pend had z zs i v) ∙ sym (ap (after sub all) (items_flag_value flag z zs ws i v))
+  | inr v ↦ word_flag sub flag z zs ws i v r
+]
 
 word_long : (sub : Flagged) (z : ℕ) (zs : Text) (ws : List Text) → Reads sub ws → Word sub (long_word z zs) ws
 word_long sub z zs ws r = elim (cases_of (bytes_eq (codes "states") (name_of z zs))) [
   | inl n ↦ elim (cases_of (has_byte 61 (z ∷ zs))) [ inl v ↦ word_states_eq sub z zs ws n v r | inr v ↦ word_states sub z zs ws n v r ]
-  | inr n ↦ elim (cases_of (bytes_eq (codes "certificate") (name_of z zs))) [
-    | inl m ↦ elim (cases_of (has_byte 61 (z ∷ zs))) [
-      | inl v ↦ λ rows pend all had st e. stop sub (at_word rows pend had) (long_word z zs) ws (level.certificate_value sub rows pend had z zs n m v) ∙ sym (ap (after sub all) (items_certificate_value z zs ws n m v))
-      | inr v ↦ word_certificate sub z zs ws n m v r
+  | inr n ↦ elim (cases_of (bytes_eq (codes "reduce") (name_of z zs))) [
+    | inl k ↦ word_named sub Reduce z zs ws (n, k) r
+    | inr k ↦ elim (cases_of (bytes_eq (codes "certificate") (name_of z zs))) [
+      | inl m ↦ word_named sub Certificate z zs ws (n, k, m) r
+      | inr m ↦ λ rows pend all had st e. stop sub (at_word rows pend had) (long_word z zs) ws (level.other_long sub rows pend had z zs n k m) ∙ sym (ap (after sub all) (items_other z zs ws n k m))
     ]
-    | inr m ↦ λ rows pend all had st e. stop sub (at_word rows pend had) (long_word z zs) ws (level.other_long sub rows pend had z zs n m) ∙ sym (ap (after sub all) (items_other z zs ws n m))
   ]
 ]
 
@@ -303,12 +317,15 @@ reads : (sub : Flagged) (ws : List Text) → AreWords ws → Reads sub ws
 reads sub [] all = reads_none sub
 reads sub (w ∷ ws) all = let b = both sub w ws all.0 (reads sub ws all.1) in record { word = b.0; value = b.1 }
 
+none_used : (sub : Flagged) (flag : Flag) → few_uses sub flag (uses flag []) ≡ true
+none_used sub Reduce = refl
+none_used sub Certificate = refl
+
 abbrev at_start : Flagged → Type 0
 at_start sub = Stands sub [] None []
 
 starts : (sub : Flagged) → at_start sub
-starts Decide = inl (refl, refl, record { states = refl; certificates = refl; formulas = refl })
-starts Witness = inl (refl, refl, record { states = refl; certificates = refl; formulas = refl })
+starts sub = inl (refl, refl, record { states = refl; flags = λ flag. none_used sub flag; formulas = refl })
 
 pub decide_is : (name : Text) (ws : List Text) → AreWords ws → request_in (name ∷ codes "decide" ∷ ws) ≡ decide_words ws
 decide_is name ws all = level_is subcommand.Decide name ws ∙ (reads Decide ws all).word [] None [] false (starts Decide) refl

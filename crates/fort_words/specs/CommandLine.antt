@@ -1,6 +1,6 @@
 -- To believe: the program's command line, in the words of clap's own specs.
 use Rattle.std.specs.Prelude.{[], ◌∷◌, true, Some, codes}
-use Rattle.clap.specs.Words.{App, Rule, new_app, new_rule, with_rule, with_subcommand}
+use Rattle.clap.specs.Words.{App, Rule, Text, new_app, new_rule, with_rule, with_subcommand}
 use Rattle.clap.specs.Simple.{on_top}
 use Rattle.clap.specs.declared.builder.ArgAction.TheVariants.{SetTrue}
 
@@ -8,9 +8,15 @@ use Rattle.clap.specs.declared.builder.ArgAction.TheVariants.{SetTrue}
 abbrev pub states : Rule
 states = record (new_rule (codes "states")) { long = Some (codes "states"); defaults = codes "10000" ∷ [] }
 
--- `--certificate`
+-- `--NAME`, which has no value
+abbrev pub flag : Text → Rule
+flag name = record (new_rule name) { long = Some name; action = Some SetTrue }
+
+abbrev pub reduce : Rule
+reduce = flag (codes "reduce")
+
 abbrev pub certificate : Rule
-certificate = record (new_rule (codes "certificate")) { long = Some (codes "certificate"); action = Some SetTrue }
+certificate = flag (codes "certificate")
 
 -- `FORMULA`, which is required
 abbrev pub formula : Rule
@@ -20,13 +26,13 @@ formula = record (new_rule (codes "formula")) { required = true }
 abbrev pub count : Rule
 count = record (new_rule (codes "count")) { required = true }
 
--- `decide [--states N] [--certificate] FORMULA`
+-- `decide [--states N] [--reduce] [--certificate] FORMULA`
 abbrev pub decide : App
-decide = with_rule (with_rule (with_rule (new_app (codes "decide")) states) certificate) formula
+decide = with_rule (with_rule (with_rule (with_rule (new_app (codes "decide")) states) reduce) certificate) formula
 
--- `witness [--states N] FORMULA`
+-- `witness [--states N] [--reduce] FORMULA`
 abbrev pub witness : App
-witness = with_rule (with_rule (new_app (codes "witness")) states) formula
+witness = with_rule (with_rule (with_rule (new_app (codes "witness")) states) reduce) formula
 
 -- `check FORMULA`
 abbrev pub check : App

@@ -1,9 +1,10 @@
 -- Public: what the matches that clap states of the words ask. That they ask what the words' own grammar says is proved; nobody needs to read this for the answers.
-use Rattle.std.specs.Prelude.{Bool, false, List, [], ◌∷◌, Option, Some, None, codes, ℕ, option_and_then, option_map, if◌then◌else◌}
+use Rattle.std.specs.Prelude.{Bool, false, List, [], ◌∷◌, Option, None, codes, ℕ, option_and_then, option_map, if◌then◌else◌}
 use Rattle.std.specs.Option.{option_map_or}
 use Rattle.std.specs.Str.{bytes_eq}
 use Rattle.clap.specs.Words.{App, Kinds, Row, fault_of, first_of, subcommand_of}
-use Rattle.fort_answers.specs.Requests.{number_in, Text, Request, Decide, Witness, Check, Sample}
+use Rattle.fort_answers.specs.Requests.{number_in, Text, Options, Request, Witness, Check, Sample}
+use Rattle.fort_answers.specs.CommandGrammar.{to_decide}
 use Rattle.fort_words.specs.CommandLine.{fort}
 
 -- what the rows of a subcommand's matches ask, numbers by this project's own rule
@@ -14,14 +15,18 @@ states_in rows = option_and_then (number_in 1 1000000) (first_of (codes "states"
 abbrev pub formula_in : List Row → Option Text
 formula_in rows = first_of (codes "formula") rows
 
-abbrev pub certificate_in : List Row → Bool
-certificate_in rows = option_map_or (λ text. bytes_eq text (codes "true")) (first_of (codes "certificate") rows) false
+-- whether the flag of this id is set
+abbrev pub is_set_in : Text → List Row → Bool
+is_set_in id rows = option_map_or (λ text. bytes_eq text (codes "true")) (first_of id rows) false
+
+abbrev pub options_in : List Row → Option Options
+options_in rows = option_map (λ n. record { states = n; reduces = is_set_in (codes "reduce") rows }) (states_in rows)
 
 abbrev pub decide_in : List Row → Option Request
-decide_in rows = option_and_then (λ states. option_map (Decide states (certificate_in rows)) (formula_in rows)) (states_in rows)
+decide_in rows = option_and_then (λ o. option_and_then (to_decide o (is_set_in (codes "certificate") rows)) (formula_in rows)) (options_in rows)
 
 abbrev pub witness_in : List Row → Option Request
-witness_in rows = option_and_then (λ states. option_map (Witness states) (formula_in rows)) (states_in rows)
+witness_in rows = option_and_then (λ o. option_map (Witness o) (formula_in rows)) (options_in rows)
 
 abbrev pub check_in : List Row → Option Request
 check_in rows = option_map Check (formula_in rows)

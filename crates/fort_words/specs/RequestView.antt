@@ -1,10 +1,14 @@
 -- To believe: which request each value of the program's type is.
-use Rattle.fort_answers.specs.Requests.{Request, Decide, Witness, Check, Sample}
+use Rattle.fort_answers.specs.Requests.{Options, Request, Decide, Witness, Check, Sample}
+use Rattle.fort_words.specs.declared.request.Options.{Options as OwnOptions}
 use Rattle.fort_words.specs.declared.request.Request.{Request as OwnRequest}
 use Rattle.fort_words.specs.declared.request.Request.TheVariants as own
 
+abbrev pub as_options : OwnOptions → Options
+as_options o = record { states = o.states; reduces = o.reduces }
+
 abbrev pub as_request : OwnRequest → Request
-as_request (own.Decide states certificate formula) = Decide states certificate formula.now
-as_request (own.Witness states formula) = Witness states formula.now
+as_request (own.Decide options certificate formula) = Decide (as_options options) certificate formula.now
+as_request (own.Witness options formula) = Witness (as_options options) formula.now
 as_request (own.Check formula) = Check formula.now
 as_request (own.Sample n) = Sample n

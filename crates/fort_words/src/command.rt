@@ -2,7 +2,7 @@
 ghost use Rattle.std.specs.Prelude.{◌≡◌, IfOk, false};
 ghost use Rattle.clap.specs.Words.{app_of, rule_of};
 ghost use Rattle.clap.specs.declared.builder.command.Command.TheViews.{out-Command as fields_of};
-ghost use Rattle.fort_words.specs.CommandLine.{bare, certificate, check, count, decide, formula, fort, sample, states, witness};
+ghost use Rattle.fort_words.specs.CommandLine.{bare, check, count, decide, flag, formula, fort, sample, states, witness};
 
 use clap::{Arg, ArgAction, Command};
 use std::alloc::{AllocError, Global};
@@ -15,12 +15,11 @@ fn states_arg<'a>(alloc: Global) -> Arg<'a>
         .default_value("10000")
 }
 
-fn certificate_arg<'a>(alloc: Global) -> Arg<'a>
-    ensures { (rule_of result ≡ certificate) × (result.global ≡ false) }
+/// `--NAME`, which has no value.
+fn flag_arg<'a>(alloc: Global, name: &'a str) -> Arg<'a>
+    ensures { (rule_of result ≡ flag name.now) × (result.global ≡ false) }
 {
-    Arg::new(alloc, "certificate")
-        .long("certificate")
-        .action(ArgAction::SetTrue)
+    Arg::new(alloc, name).long(name).action(ArgAction::SetTrue)
 }
 
 fn formula_arg<'a>(alloc: Global) -> Arg<'a>
@@ -40,7 +39,8 @@ fn decide_command<'a>(alloc: Global) -> Result<Command<'a>, AllocError>
 {
     Command::new(alloc, "decide")
         .arg(states_arg(alloc))?
-        .arg(certificate_arg(alloc))?
+        .arg(flag_arg(alloc, "reduce"))?
+        .arg(flag_arg(alloc, "certificate"))?
         .arg(formula_arg(alloc))
 }
 
@@ -49,6 +49,7 @@ fn witness_command<'a>(alloc: Global) -> Result<Command<'a>, AllocError>
 {
     Command::new(alloc, "witness")
         .arg(states_arg(alloc))?
+        .arg(flag_arg(alloc, "reduce"))?
         .arg(formula_arg(alloc))
 }
 

@@ -5,4 +5,4 @@ mod command;
 mod number;
 mod request;
 
-pub use request::{Request, read_request};
+pub use request::{Options, Request, read_request};

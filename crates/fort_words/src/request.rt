@@ -1,9 +1,9 @@
 //! Requests, from `clap`'s matches.
 ghost use Rattle.std.specs.Prelude.{◌≡◌, IfOk, map, option_and_then, option_map, string_bytes};
 ghost use Rattle.clap.specs.Words.{first_of, found_of, rows_of, subcommand_rows_of};
-ghost use Rattle.fort_words.specs.Matches.{asked_in, certificate_in, check_in, decide_in, request_in, sample_in, states_in, witness_in};
+ghost use Rattle.fort_words.specs.Matches.{asked_in, check_in, decide_in, is_set_in, options_in, request_in, sample_in, states_in, witness_in};
 ghost use Rattle.fort_answers.specs.CommandGrammar.{request_of};
-ghost use Rattle.fort_words.specs.RequestView.{as_request};
+ghost use Rattle.fort_words.specs.RequestView.{as_options, as_request};
 
 use crate::command::fort_command;
 use crate::number::number_of;
@@ -11,18 +11,27 @@ use clap::ArgMatches;
 use clap::error::ErrorKind;
 use std::alloc::{AllocError, Global};
 
+/// How the parts of a formula are decided.
+#[derive(Clone, Copy, Debug, PartialEq, Eq)]
+pub struct Options {
+    /// The most states of a part.
+    pub states: u32,
+    /// Whether the table of each part is reduced.
+    pub reduces: bool,
+}
+
 /// What a command line asks.
 #[derive(Clone, Copy, Debug, PartialEq, Eq)]
 pub enum Request<'a> {
-    /// Whether the formula is true, by parts of at most so many states.
+    /// Whether the formula is true.
     Decide {
-        states: u32,
+        options: Options,
         certificate: bool,
         formula: &'a str,
     },
     /// The least terms for its free variables that make the formula true.
     Witness {
-        states: u32,
+        options: Options,
         formula: &'a str,
     },
     /// Whether the certificate behind the problem proves the formula or its negation.
@@ -49,23 +58,35 @@ fn states_of(matches: &ArgMatches<'_>) -> Option<u32>
     number_of(value_of(matches, "states")?, 1, 1_000_000)
 }
 
-fn has_certificate(matches: &ArgMatches<'_>) -> bool
-    ensures { result ≡ certificate_in (rows_of (found_of matches.now)) }
+fn is_set(matches: &ArgMatches<'_>, id: &str) -> bool
+    ensures { result ≡ is_set_in id.now (rows_of (found_of matches.now)) }
 {
-    match value_of(matches, "certificate") {
+    match value_of(matches, id) {
         Some(text) => text == "true",
         None => false,
     }
 }
 
+fn options_of(matches: &ArgMatches<'_>) -> Option<Options>
+    ensures { option_map as_options result ≡ options_in (rows_of (found_of matches.now)) }
+{
+    let states = states_of(matches)?;
+    let reduces = is_set(matches, "reduce");
+    Some(Options { states, reduces })
+}
+
 fn asked_to_decide<'a>(matches: &ArgMatches<'a>) -> Option<Request<'a>>
     ensures { option_map as_request result ≡ decide_in (rows_of (found_of matches.now)) }
 {
-    let states = states_of(matches)?;
+    let options = options_of(matches)?;
     let formula = value_of(matches, "formula")?;
-    let certificate = has_certificate(matches);
+    let certificate = is_set(matches, "certificate");
+    // No certificate of reduced tables is written.
+    if certificate && options.reduces {
+        return None;
+    }
     Some(Request::Decide {
-        states,
+        options,
         certificate,
         formula,
     })
@@ -74,9 +95,9 @@ fn asked_to_decide<'a>(matches: &ArgMatches<'a>) -> Option<Request<'a>>
 fn asked_for_witness<'a>(matches: &ArgMatches<'a>) -> Option<Request<'a>>
     ensures { option_map as_request result ≡ witness_in (rows_of (found_of matches.now)) }
 {
-    let states = states_of(matches)?;
+    let options = options_of(matches)?;
     let formula = value_of(matches, "formula")?;
-    Some(Request::Witness { states, formula })
+    Some(Request::Witness { options, formula })
 }
 
 fn asked_to_check<'a>(matches: &ArgMatches<'a>) -> Option<Request<'a>>

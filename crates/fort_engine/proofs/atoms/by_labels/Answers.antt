@@ -12,4 +12,4 @@ pub returns : goal.returns
 returns c f are =
     let l = c.args.labels.now in
     c.explored.ensures f
-    (subst (λ (s : Signature). AreLabelsFor c.args.system.now f (rule_by s l).columns (label_by s l) (accepted_by s l)) (sym c.signature-signature.ensures.same) are)
+    (subst (λ (s : Signature). AreLabelsFor c.args.system.now c.args.options.now.reduces f (rule_by s l).columns (label_by s l) (accepted_by s l)) (sym c.signature-signature.ensures.same) are)

@@ -5,4 +5,4 @@ use Rattle.fort_engine.proofs.atoms.normal_form.Goals as goal
 pub returns : goal.returns
 returns c x =
     let l = c.in_ok-labels.ensures in
-    c.by_labels.ensures (core.Nf c.args.index x) (AreLabelsFor-Nf c.args.system.now c.args.index x c.in_ok-labels.labels l.columns l.alike l.accepted)
+    c.by_labels.ensures (core.Nf c.args.index x) (AreLabelsFor-Nf c.args.system.now c.args.options.now.reduces c.args.index x c.in_ok-labels.labels l.columns l.alike l.accepted)

@@ -8,4 +8,4 @@ returns c =
     let l = c.in_ok-labels.ensures in
     let rel = as_rel c.args.rel in
     c.by_labels.ensures (core.Atom rel c.args.index c.args.x c.args.y)
-    (AreLabelsFor-Atom c.args.system.now rel c.args.index c.args.x c.args.y c.in_ok-labels.labels l.columns l.alike l.accepted)
+    (AreLabelsFor-Atom c.args.system.now c.args.options.now.reduces rel c.args.index c.args.x c.args.y c.in_ok-labels.labels l.columns l.alike l.accepted)

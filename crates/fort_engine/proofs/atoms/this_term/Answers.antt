@@ -7,4 +7,4 @@ returns c x =
     let l = c.in_ok-labels.ensures in
     let sig = c.args.system.now.signature in
     c.by_labels.ensures (core.Is x c.args.term.now)
-    (AreLabelsFor-Is c.args.system.now x c.args.term.now c.in_ok-labels.labels l.columns (l.alike sig) (l.accepted sig))
+    (AreLabelsFor-Is c.args.system.now c.args.options.now.reduces x c.args.term.now c.in_ok-labels.labels l.columns (l.alike sig) (l.accepted sig))

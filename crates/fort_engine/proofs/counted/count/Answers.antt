@@ -8,10 +8,10 @@ use Rattle.fort_engine.proofs.counted.count.Goals as goal
 pub unreachable-requires : goal.unreachable-requires
 unreachable-requires c =
     let b = c.requires.1 in
-    bound_has_column c.args.system.now c.args.number c.requires.0 c.args.body.now.answer.now c.in-Truth.field-0 c.in-Truth.is b.right b.among
+    bound_has_column c.args.system.now c.args.options.now c.args.number c.requires.0 c.args.body.now.answer.now c.in-Truth.field-0 c.in-Truth.is b.right b.among
 
 pub returns : goal.returns
 returns c f b =
-    let own = subst (λ a. IsBody c.args.system.now c.args.number f c.args.body.now.columns.now (as_answer a)) c.in-Auto.is b in
-    IsDecidedBy-many_of c.args.system.now c.args.cap c.args.number f c.args.body.now.answer.now c.in-Auto.table c.args.lists c.count_table.result c.in-Auto.is
+    let own = subst (λ a. IsBody c.args.system.now c.args.options.now c.args.number f c.args.body.now.columns.now (as_answer a)) c.in-Auto.is b in
+    IsDecidedBy-many_of c.args.system.now c.args.options.now c.args.number f c.args.body.now.answer.now c.in-Auto.table c.count_table.result c.in-Auto.is
     (c.count_table.ensures f own)

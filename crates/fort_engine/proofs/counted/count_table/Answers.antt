@@ -14,27 +14,27 @@ pure_states-requires c =
     let table = c.args.table.now in
     let b = c.requires.1 in
     subst (λ k. k < table.columns) (sym c.column_of-column.ensures)
-    (bound_within c.args.system.now c.args.number c.requires.0 (listed_table table) c.args.columns.now b.columns_are b.right b.among)
+    (bound_within c.args.system.now c.args.options.now c.args.number c.requires.0 (listed_table table) c.args.columns.now b.columns_are b.right b.among)
 
 pub pure_counts-requires-clause-column : goal.pure_counts-requires-clause-column
 pure_counts-requires-clause-column c =
     let table = c.args.table.now in
     let b = c.requires.1 in
     subst (λ k. k < table.columns) (sym c.column_of-column.ensures)
-    (bound_within c.args.system.now c.args.number c.requires.0 (listed_table table) c.args.columns.now b.columns_are b.right b.among)
+    (bound_within c.args.system.now c.args.options.now c.args.number c.requires.0 (listed_table table) c.args.columns.now b.columns_are b.right b.among)
 
 pub by_counts-decided-requires : goal.by_counts-decided-requires
 by_counts-decided-requires c =
     let table = listed_table c.args.table.now in
     let alone : c.deref.result.now ≡ c.deref-2.result.now = cc in
     let counts : c.in_ok-counts.counts.items ≡ c.deref-3.result.now = cc in
-    let is : IsCounted c.args.system.now c.args.number c.requires.0 table c.column_of-column.result c.deref.result.now (map as_count c.in_ok-counts.counts.items) =
-    IsCounted-body c.args.system.now c.args.number c.requires.0 table c.args.columns.now c.column_of-column.result c.in_ok-alone.alone.items c.deref.result.now
+    let is : IsCounted c.args.system.now c.args.options.now c.args.number c.requires.0 table c.column_of-column.result c.deref.result.now (map as_count c.in_ok-counts.counts.items) =
+    IsCounted-body c.args.system.now c.args.options.now c.args.number c.requires.0 table c.args.columns.now c.column_of-column.result c.in_ok-alone.alone.items c.deref.result.now
     (map as_count c.in_ok-counts.counts.items) c.requires.1 c.column_of-column.ensures c.in_ok-alone.ensures (sym c.deref.ensures.value) c.in_ok-counts.ensures in (
       c.args.number,
       c.requires.0,
-      subst (λ ks. IsCounted c.args.system.now c.args.number c.requires.0 table c.column_of-column.result ks (map as_count c.deref-3.result.now)) alone
-          (subst (λ ns. IsCounted c.args.system.now c.args.number c.requires.0 table c.column_of-column.result c.deref.result.now (map as_count ns)) counts is),
+      subst (λ ks. IsCounted c.args.system.now c.args.options.now c.args.number c.requires.0 table c.column_of-column.result ks (map as_count c.deref-3.result.now)) alone
+          (subst (λ ns. IsCounted c.args.system.now c.args.options.now c.args.number c.requires.0 table c.column_of-column.result c.deref.result.now (map as_count ns)) counts is),
     )
 
 pub returns : goal.returns
@@ -46,11 +46,11 @@ returns c f b =
     let list = c.in_ok-counts.counts in
     let alone : c.deref.result.now ≡ c.deref-2.result.now = cc in
     let counts : list.items ≡ c.deref-3.result.now = cc in
-    let is : IsCounted system n f table at c.deref.result.now (map as_count list.items) =
-    IsCounted-body system n f table c.args.columns.now at c.in_ok-alone.alone.items c.deref.result.now (map as_count list.items) b c.column_of-column.ensures
+    let is : IsCounted system c.args.options.now n f table at c.deref.result.now (map as_count list.items) =
+    IsCounted-body system c.args.options.now n f table c.args.columns.now at c.in_ok-alone.alone.items c.deref.result.now (map as_count list.items) b c.column_of-column.ensures
     c.in_ok-alone.ensures (sym c.deref.ensures.value) c.in_ok-counts.ensures in
-    let there : IsCounted system n f table at c.deref-2.result.now (map as_count c.deref-3.result.now) =
-    subst (λ ks. IsCounted system n f table at ks (map as_count c.deref-3.result.now)) alone
-    (subst (λ ns. IsCounted system n f table at c.deref.result.now (map as_count ns)) counts is) in
-    IsDecidedBy-many system c.args.cap n f c.args.table.now list at c.deref.result.now is c.args.lists c.by_counts-decided.result c.with_counts.result
+    let there : IsCounted system c.args.options.now n f table at c.deref-2.result.now (map as_count c.deref-3.result.now) =
+    subst (λ ks. IsCounted system c.args.options.now n f table at ks (map as_count c.deref-3.result.now)) alone
+    (subst (λ ns. IsCounted system c.args.options.now n f table at c.deref.result.now (map as_count ns)) counts is) in
+    IsDecidedBy-many system c.args.options.now n f c.args.table.now list at c.deref.result.now is c.by_counts-decided.result c.with_counts.result
     (c.by_counts-decided.ensures n f there) c.with_counts.ensures

@@ -17,8 +17,8 @@ loop-k-init g c =
     let system = c.args.system.now in
     let o = c.args.outline.now in
     record {
-      far = subst (IsSoFar system (parts_in o) o.last_uses.items c.args.cap 0) (sym c.new-kept.ensures.items)
-          (IsSoFar-none system (parts_in o) o.last_uses.items c.args.cap);
+      far = subst (IsSoFar system c.args.options.now (parts_in o) o.last_uses.items 0) (sym c.new-kept.ensures.items)
+          (IsSoFar-none system c.args.options.now (parts_in o) o.last_uses.items);
       recorded = subst (g.R.Recorder.recorded c.args.recorder.now system o 0) (sym c.new-kept.ensures.items) c.requires.begun;
     }
 
@@ -29,8 +29,8 @@ decide_part-requires-clause-next g c =
     let p = c.requires.planned in
     let k = c.loop-k.k in
     let within : k < length o.roots.items = omega (arith, c.loop-k-test.true, c.len-k-end.ensures) in
-    subst (IsNextPart system c.args.cap o k) (sym c.as_slice-answers.ensures.value)
-    (IsNextPart-at system p.0 o p.1.decided p.1.laid c.args.cap k c.loop-k.kept.items c.loop-k.invariant.far within)
+    subst (IsNextPart system c.args.options.now o k) (sym c.as_slice-answers.ensures.value)
+    (IsNextPart-at system p.0 o p.1.decided p.1.laid c.args.options.now k c.loop-k.kept.items c.loop-k.invariant.far within)
 
 pub returns-in-Err-Over-clause-over : goal.returns-in-Err-Over-clause-over
 returns-in-Err-Over-clause-over g c f plan =
@@ -39,21 +39,21 @@ returns-in-Err-Over-clause-over g c f plan =
     let laid = plan.laid in
     let parts = parts_in o in
     let uses = o.last_uses.items in
-    let cap = c.args.cap in
+    let options = c.args.options.now in
     let k = c.loop-k.k in
     let kept = c.loop-k.kept.items in
     let far = c.loop-k.invariant.far in
     let own = core_at o k in
     let within : k < length o.roots.items = omega (arith, c.loop-k-test.true, c.len-k-end.ensures) in
     let low : k < length parts = omega (arith, length-cores_of o.roots.items) in
-    let decided : IsDecidedBy system own cap (IsFound system parts c.as_slice-answers.result.now own c.lists-lists.result) (Err (Over c.in-Err-Over.tuples)) =
-    subst (IsDecidedBy system own cap (IsFound system parts c.as_slice-answers.result.now own c.lists-lists.result)) (c.in-Err-Over.is ∙ ap Err c.in-Err-Over.field-0-is)
+    let decided : IsDecidedBy system options own (IsFound system options parts c.as_slice-answers.result.now own) (Err (Over c.in-Err-Over.tuples)) =
+    subst (IsDecidedBy system options own (IsFound system options parts c.as_slice-answers.result.now own)) (c.in-Err-Over.is ∙ ap Err c.in-Err-Over.field-0-is)
     c.decide_part.ensures in
     let limit : Limit = record { part = k; kind = c.kind.result; tuples = c.in-Err-Over.tuples } in
-    let next = IsNextPart-at system f o plan.decided laid cap k kept far within in
+    let next = IsNextPart-at system f o plan.decided laid options k kept far within in
     let same = next_is (has_root {r = c.index.result.now} next c.index.ensures refl) in
     rw c.in-Err-Over.field-0-is
-    (IsLimit-part system f parts laid.parts o.whole uses laid.uses cap k kept far limit low refl (c.kind.ensures parts ∙ ap kind_of (sym same)) decided.over)
+    (IsLimit-part system options f parts laid.parts o.whole uses laid.uses k kept far limit low refl (c.kind.ensures parts ∙ ap kind_of (sym same)) decided.over)
 
 pub note-requires-clause-next : goal.note-requires-clause-next
 note-requires-clause-next g c =
@@ -61,20 +61,19 @@ note-requires-clause-next g c =
     let o = c.args.outline.now in
     let p = c.requires.planned in
     let k = c.loop-k.k in
-    let within : k < length o.roots.items = omega (arith, c.loop-k-test.true, c.len-k-end.ensures) in (
-      c.args.cap,
-      subst (IsNextPart system c.args.cap o k) (sym c.as_slice-answers.ensures.value)
-          (IsNextPart-at system p.0 o p.1.decided p.1.laid c.args.cap k c.loop-k.kept.items c.loop-k.invariant.far within),
-    )
+    let within : k < length o.roots.items = omega (arith, c.loop-k-test.true, c.len-k-end.ensures) in
+    subst (IsNextPart system c.args.options.now o k) (sym c.as_slice-answers.ensures.value)
+    (IsNextPart-at system p.0 o p.1.decided p.1.laid c.args.options.now k c.loop-k.kept.items c.loop-k.invariant.far within)
 
 pub note-requires-clause-found : goal.note-requires-clause-found
 note-requires-clause-found g c =
     let system = c.args.system.now in
     let o = c.args.outline.now in
     let own = core_at o c.loop-k.k in
-    let decided : IsDecidedBy system own c.args.cap (IsFound system (parts_in o) c.as_slice-answers.result.now own c.lists-lists.result) (Ok c.in-Ok.decided) =
-    subst (IsDecidedBy system own c.args.cap (IsFound system (parts_in o) c.as_slice-answers.result.now own c.lists-lists.result)) c.in-Ok.is c.decide_part.ensures in
-    subst (λ b. IsFound system (parts_in o) c.as_slice-answers.result.now own b c.in-Ok.decided) c.lists-lists.ensures decided.ok
+    let options = c.args.options.now in
+    let decided : IsDecidedBy system options own (IsFound system options (parts_in o) c.as_slice-answers.result.now own) (Ok c.in-Ok.decided) =
+    subst (IsDecidedBy system options own (IsFound system options (parts_in o) c.as_slice-answers.result.now own)) c.in-Ok.is c.decide_part.ensures in
+    decided.ok
 
 pub note-requires-clause-before : goal.note-requires-clause-before
 note-requires-clause-before g c =
@@ -105,7 +104,7 @@ loop-k-preserved g c =
     let laid = p.1.laid in
     let parts = parts_in o in
     let uses = o.last_uses.items in
-    let cap = c.args.cap in
+    let options = c.args.options.now in
     let k = c.loop-k.k in
     let kept = c.loop-k.kept.items in
     let far = c.loop-k.invariant.far in
@@ -113,14 +112,14 @@ loop-k-preserved g c =
     let answer = c.in-Ok.decided.answer in
     let all = kept ++ Some answer ∷ [] in
     let within : k < length o.roots.items = omega (arith, c.loop-k-test.true, c.len-k-end.ensures) in
-    let decided : IsDecidedBy system own cap (IsFound system parts c.as_slice-answers.result.now own c.lists-lists.result) (Ok c.in-Ok.decided) =
-    subst (IsDecidedBy system own cap (IsFound system parts c.as_slice-answers.result.now own c.lists-lists.result)) c.in-Ok.is c.decide_part.ensures in
+    let decided : IsDecidedBy system options own (IsFound system options parts c.as_slice-answers.result.now own) (Ok c.in-Ok.decided) =
+    subst (IsDecidedBy system options own (IsFound system options parts c.as_slice-answers.result.now own)) c.in-Ok.is c.decide_part.ensures in
     let pushed : c.push.new.self.items ≡ all = c.in_ok-push.ensures.items ∙ ap (λ a. kept ++ Some a ∷ []) c.in_ok-answer.ensures.answer in
     let long : length all ≡ k + 1 = omega (arith, length-append kept (Some answer ∷ []), far.kept_are.count) in
     let recorded : g.R.Recorder.recorded c.note.new.self system o (k + 1) all =
     subst (λ xs. g.R.Recorder.recorded c.note.new.self system o (k + 1) (xs ++ Some answer ∷ [])) c.as_slice-answers.ensures.value c.in_ok-answer.ensures.recorded in
     record {
-      far = IsSoFar-more system f parts laid.parts o.whole uses laid.uses cap k kept far answer c.drop_idle.new.kept.items decided.ok.right decided.within
+      far = IsSoFar-more system options f parts laid.parts o.whole uses laid.uses k kept far answer c.drop_idle.new.kept.items decided.ok.right decided.within decided.kept_within
           (c.drop_idle.ensures.count ∙ ap length pushed)
           (λ j l m. c.drop_idle.ensures.needed j (subst (λ n. j < n) (sym (ap length pushed)) l) m ∙ ap (λ xs. get_or xs j None) pushed);
       recorded = g.met.R.Recorder.lets_go c.note.new.self system o (k + 1) all c.drop_idle.new.kept.items recorded
@@ -133,7 +132,7 @@ pub returns-clause-far : goal.returns-clause-far
 returns-clause-far g c =
     let o = c.args.outline.now in
     let all : c.loop-k.k ≡ length o.roots.items = omega (arith, c.loop-k-test.false, c.loop-k.auto.k-end, c.len-k-end.ensures) in
-    subst (λ n. IsSoFar c.args.system.now (parts_in o) o.last_uses.items c.args.cap n c.loop-k.kept.items) all c.loop-k.invariant.far
+    subst (λ n. IsSoFar c.args.system.now c.args.options.now (parts_in o) o.last_uses.items n c.loop-k.kept.items) all c.loop-k.invariant.far
 
 pub returns-clause-recorded : goal.returns-clause-recorded
 returns-clause-recorded g c =

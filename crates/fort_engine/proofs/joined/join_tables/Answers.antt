@@ -8,14 +8,14 @@ pub places_among-requires : goal.places_among-requires
 places_among-requires c =
     let a = c.args in
     let t = c.requires.two in
-    first_among a.system.now (connective_of a.op) t.0 t.1 t.2 a.columns.now a.first.now.columns.now a.second.now.columns.now (as_answer a.first.now.answer.now)
+    first_among a.system.now a.options.now (connective_of a.op) t.0 t.1 t.2 a.columns.now a.first.now.columns.now a.second.now.columns.now (as_answer a.first.now.answer.now)
     (as_answer a.second.now.answer.now) t.3
 
 pub places_among-requires-2 : goal.places_among-requires-2
 places_among-requires-2 c =
     let a = c.args in
     let t = c.requires.two in
-    second_among a.system.now (connective_of a.op) t.0 t.1 t.2 a.columns.now a.first.now.columns.now a.second.now.columns.now (as_answer a.first.now.answer.now)
+    second_among a.system.now a.options.now (connective_of a.op) t.0 t.1 t.2 a.columns.now a.first.now.columns.now a.second.now.columns.now (as_answer a.first.now.answer.now)
     (as_answer a.second.now.answer.now) t.3
 
 pub product_table-requires : goal.product_table-requires
@@ -25,7 +25,7 @@ product_table-requires c =
     let first : c.in_ok-places.places.items ≡ c.deref.result.now = cc in
     let second : c.in_ok-others.others.items ≡ c.deref-2.result.now = cc in
     let join =
-    IsJoining-places a.system.now (connective_of a.op) t.0 t.1 t.2 a.columns.now a.first.now.columns.now a.second.now.columns.now (as_answer a.first.now.answer.now)
+    IsJoining-places a.system.now a.options.now (connective_of a.op) t.0 t.1 t.2 a.columns.now a.first.now.columns.now a.second.now.columns.now (as_answer a.first.now.answer.now)
     (as_answer a.second.now.answer.now) c.deref.result.now c.deref-2.result.now (length a.columns.now) t.3 c.requires.some refl (sym first ∙ c.in_ok-places.ensures)
     (sym second ∙ c.in_ok-others.ensures) in
     (t.0, t.1, t.2, join)
@@ -36,7 +36,7 @@ returns c h f g joined =
     let first : c.in_ok-places.places.items ≡ c.deref.result.now = cc in
     let second : c.in_ok-others.others.items ≡ c.deref-2.result.now = cc in
     let join =
-    IsJoining-places a.system.now (connective_of a.op) h f g a.columns.now a.first.now.columns.now a.second.now.columns.now (as_answer a.first.now.answer.now)
+    IsJoining-places a.system.now a.options.now (connective_of a.op) h f g a.columns.now a.first.now.columns.now a.second.now.columns.now (as_answer a.first.now.answer.now)
     (as_answer a.second.now.answer.now) c.deref.result.now c.deref-2.result.now (length a.columns.now) joined c.requires.some refl (sym first ∙ c.in_ok-places.ensures)
     (sym second ∙ c.in_ok-others.ensures) in
     c.product_table.ensures h f g join

@@ -9,7 +9,7 @@ use Rattle.fort_engine.proofs.joined.product_table.Goals as goal
 pub new-requires-clause-operands : goal.new-requires-clause-operands
 new-requires-clause-operands c =
     let a = c.args in
-    AreOperands-product a.system.now (connective_of a.op) c.requires.0 c.requires.1 c.requires.2 (as_answer a.first.now) a.places.now (as_answer a.second.now)
+    AreOperands-product a.system.now a.options.now (connective_of a.op) c.requires.0 c.requires.1 c.requires.2 (as_answer a.first.now) a.places.now (as_answer a.second.now)
     a.others.now a.columns c.requires.3 (algebra.operand_of listed_table c.operand-one.result) (algebra.operand_of listed_table c.operand-other.result) c.operand-one.ensures
     c.operand-other.ensures
 
@@ -18,7 +18,7 @@ explored-requires c =
     let a = c.args in
     let made = c.new.ensures in
     let listed = c.listed-product.ensures in
-    sym (signature-product a.system.now (connective_of a.op) c.requires.0 c.requires.1 c.requires.2 (as_answer a.first.now) a.places.now (as_answer a.second.now)
+    sym (signature-product a.system.now a.options.now (connective_of a.op) c.requires.0 c.requires.1 c.requires.2 (as_answer a.first.now) a.places.now (as_answer a.second.now)
     a.others.now a.columns c.requires.3 (algebra.operand_of listed_table c.listed-product.result.first) (algebra.operand_of listed_table c.listed-product.result.second)
     (ap (algebra.operand_of listed_table) (listed.first ∙ made.first) ∙ c.operand-one.ensures) (ap (algebra.operand_of listed_table) (listed.second ∙ made.second) ∙ c.operand-other.ensures))
 
@@ -28,7 +28,7 @@ returns c h f g join =
     let made = c.new.ensures in
     let listed = c.listed-product.ensures in
     c.explored.ensures h
-    (AreLabelsFor-product a.system.now (connective_of a.op) h f g (as_answer a.first.now) a.places.now (as_answer a.second.now) a.others.now a.columns join
+    (AreLabelsFor-product a.system.now a.options.now (connective_of a.op) h f g (as_answer a.first.now) a.places.now (as_answer a.second.now) a.others.now a.columns join
     (algebra.operand_of listed_table c.listed-product.result.first) (algebra.operand_of listed_table c.listed-product.result.second)
     (ap (algebra.operand_of listed_table) (listed.first ∙ made.first) ∙ c.operand-one.ensures) (ap (algebra.operand_of listed_table) (listed.second ∙ made.second) ∙ c.operand-other.ensures)
     c.listed-product.result.columns (connective_of c.listed-product.result.op) (listed.columns ∙ made.columns) (ap connective_of (listed.op ∙ made.op)))

@@ -7,14 +7,14 @@ use Rattle.fort_parts.specs.DecidedCores.{IsOverSystem}
 use Rattle.fort_outline.specs.Outlines.{parts_in}
 use Rattle.fort_outline.proofs.RootLaws.{length-cores_of}
 use Rattle.fort_engine.specs.Deciding.{IsDecision}
-use Rattle.fort_engine.proofs.OperandLaws.{has_root, next_is, next_over, operand_of_root, kept_below, columns_below, operand_there, operand_taken, operand_within, IsBody-operand, IsDecision-True}
+use Rattle.fort_engine.proofs.OperandLaws.{has_root, next_is, next_over, operand_of_root, kept_below, columns_below, operand_there, operand_taken, operand_told, IsBody-operand, IsDecision-True}
 use Rattle.fort_engine.proofs.FoundLaws.{plain_found, negation_found, many_found}
 use Rattle.fort_engine.proofs.part.decide_part.Goals as goal
 
 pub returns-in-True : goal.returns-in-True
 returns-in-True c =
-    plain_found (has_root c.requires.next c.index.ensures c.in-True.is) tt c.args.lists (Ok c.truth.result)
-    (IsDecision-True c.args.system.now core.True c.args.cap c.args.lists c.truth.result refl c.truth.ensures.answer c.truth.ensures.counts)
+    plain_found (has_root c.requires.next c.index.ensures c.in-True.is) tt (Ok c.truth.result)
+    (IsDecision-True c.args.system.now c.args.options.now core.True c.truth.result refl c.truth.ensures.answer c.truth.ensures.counts)
 
 pub related-requires-clause-index : goal.related-requires-clause-index
 related-requires-clause-index c = subst (IsOverSystem c.args.system.now) (next_is (has_root c.requires.next c.index.ensures c.in-Atom.is)) c.requires.next.fit.over
@@ -32,15 +32,15 @@ normal_form-requires c = subst (IsOverSystem c.args.system.now) (next_is (has_ro
 
 pub returns-in-Atom : goal.returns-in-Atom
 returns-in-Atom c =
-    plain_found (has_root c.requires.next c.index.ensures c.in-Atom.is) tt c.args.lists c.related.result c.related.ensures
+    plain_found (has_root c.requires.next c.index.ensures c.in-Atom.is) tt c.related.result c.related.ensures
 
 pub returns-in-Nf : goal.returns-in-Nf
 returns-in-Nf c =
-    plain_found (has_root c.requires.next c.index.ensures c.in-Nf.is) tt c.args.lists c.normal_form.result (c.normal_form.ensures c.in-Nf.field-1)
+    plain_found (has_root c.requires.next c.index.ensures c.in-Nf.is) tt c.normal_form.result (c.normal_form.ensures c.in-Nf.field-1)
 
 pub returns-in-Is : goal.returns-in-Is
 returns-in-Is c =
-    plain_found (has_root c.requires.next c.index.ensures c.in-Is.is) tt c.args.lists c.this_term.result (c.this_term.ensures c.in-Is.field-0)
+    plain_found (has_root c.requires.next c.index.ensures c.in-Is.is) tt c.this_term.result (c.this_term.ensures c.in-Is.field-0)
 
 pub kept_answer-requires-clause-within : goal.kept_answer-requires-clause-within
 kept_answer-requires-clause-within c = let h = has_root c.requires.next c.index.ensures c.in-Not.is in kept_below (operand_of_root c.in-Not.f h (next_over h) refl)
@@ -80,24 +80,24 @@ returns-in-Not c =
     let a = c.args in
     let h = has_root c.requires.next c.index.ensures c.in-Not.is in
     let o = operand_of_root c.in-Not.f h (next_over h) refl in
-    negation_found c.in-Not.f c.kept_answer.result.now h c.kept_answer.ensures a.lists c.complement.result
-    (c.complement.ensures.decided a.system.now a.cap (get_or (parts_in a.outline.now) c.in-Not.f core.True) (operand_taken o c.kept_answer.ensures) (operand_within o))
-    c.complement.ensures.turned
+    negation_found c.in-Not.f c.kept_answer.result.now h c.kept_answer.ensures c.complement.result
+    (c.complement.ensures.decided a.system.now a.options.now (get_or (parts_in a.outline.now) c.in-Not.f core.True) (operand_taken o c.kept_answer.ensures) (operand_told o))
+    c.complement.ensures.turned c.complement.ensures.plain
 
 pub returns-in-And : goal.returns-in-And
 returns-in-And c =
     let h = has_root c.requires.next c.index.ensures c.in-And.is in
-    plain_found h tt c.args.lists c.join_parts.result (subst (λ z. IsDecision c.args.system.now z c.args.cap c.args.lists c.join_parts.result) (next_is h) c.join_parts.ensures)
+    plain_found h tt c.join_parts.result (subst (λ z. IsDecision c.args.system.now c.args.options.now z c.join_parts.result) (next_is h) c.join_parts.ensures)
 
 pub returns-in-Or : goal.returns-in-Or
 returns-in-Or c =
     let h = has_root c.requires.next c.index.ensures c.in-Or.is in
-    plain_found h tt c.args.lists c.join_parts-in-Or.result (subst (λ z. IsDecision c.args.system.now z c.args.cap c.args.lists c.join_parts-in-Or.result) (next_is h) c.join_parts-in-Or.ensures)
+    plain_found h tt c.join_parts-in-Or.result (subst (λ z. IsDecision c.args.system.now c.args.options.now z c.join_parts-in-Or.result) (next_is h) c.join_parts-in-Or.ensures)
 
 pub returns-in-Iff : goal.returns-in-Iff
 returns-in-Iff c =
     let h = has_root c.requires.next c.index.ensures c.in-Iff.is in
-    plain_found h tt c.args.lists c.join_parts-in-Iff.result (subst (λ z. IsDecision c.args.system.now z c.args.cap c.args.lists c.join_parts-in-Iff.result) (next_is h) c.join_parts-in-Iff.ensures)
+    plain_found h tt c.join_parts-in-Iff.result (subst (λ z. IsDecision c.args.system.now c.args.options.now z c.join_parts-in-Iff.result) (next_is h) c.join_parts-in-Iff.ensures)
 
 pub project-requires : goal.project-requires
 project-requires c =
@@ -117,7 +117,7 @@ returns-in-Exists c =
     let g = get_or (parts_in a.outline.now) c.in-Exists.f core.True in
     let binds : BindsFree (core.Exists c.in-Exists.n g) = subst BindsFree (next_is h) c.requires.next.fit.binders in
     let body = IsBody-operand c.in-Exists.n c.kept_operand-body.result.columns.now o binds.0 c.kept_operand-body.ensures.answer c.kept_operand-body.ensures.columns in
-    plain_found h tt a.lists c.project.result (c.project.ensures g body)
+    plain_found h tt c.project.result (c.project.ensures g body)
 
 pub count-requires : goal.count-requires
 count-requires c =
@@ -137,5 +137,5 @@ returns-in-Infinite c =
     let g = get_or (parts_in a.outline.now) c.in-Infinite.f core.True in
     let binds : BindsFree (core.Infinite c.in-Infinite.n g) = subst BindsFree (next_is h) c.requires.next.fit.binders in
     let body = IsBody-operand c.in-Infinite.n c.kept_operand-body-in-Infinite.result.columns.now o binds.0 c.kept_operand-body-in-Infinite.ensures.answer c.kept_operand-body-in-Infinite.ensures.columns in
-    many_found c.in-Infinite.n c.in-Infinite.f c.kept_operand-body-in-Infinite.result.answer.now h c.kept_operand-body-in-Infinite.ensures.answer a.lists c.count.result
+    many_found c.in-Infinite.n c.in-Infinite.f c.kept_operand-body-in-Infinite.result.answer.now h c.kept_operand-body-in-Infinite.ensures.answer c.count.result
     (c.count.ensures g body)

@@ -12,7 +12,7 @@ new-requires-clause-column c =
     let table = c.args.table.now in
     let b = c.requires.body in
     subst (λ k. k < table.columns) (sym c.column_of.ensures)
-    (bound_within c.args.system.now c.args.number b.0 (listed_table table) c.args.columns.now b.1.columns_are b.1.right b.1.among)
+    (bound_within c.args.system.now c.args.options.now c.args.number b.0 (listed_table table) c.args.columns.now b.1.columns_are b.1.right b.1.among)
 
 pub returns : goal.returns
 returns c f b =
@@ -20,5 +20,5 @@ returns c f b =
     let own = listed_table c.in_ok-projection.projection.body.now in
     let made = c.in_ok-projection.ensures in
     c.explored.ensures (core.Exists c.args.number f)
-    (AreLabelsFor-Exists c.args.system.now c.args.number f table own c.args.columns.now c.in_ok-projection.projection.column (ap listed_table made.body)
+    (AreLabelsFor-Exists c.args.system.now c.args.options.now c.args.number f table own c.args.columns.now c.in_ok-projection.projection.column (ap listed_table made.body)
     b.columns_are (made.column ∙ c.column_of.ensures) b.right b.among c.requires.others)

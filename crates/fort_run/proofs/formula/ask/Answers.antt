@@ -1,5 +1,6 @@
 use Rattle.std.proofs.Common.{subst}
 use Rattle.std.proofs.lemmas.Result.{IfOk-weaker}
+use Rattle.fort_words.specs.RequestView.{as_options}
 use Rattle.fort_run.specs.Accepted.{IsAskedAs}
 use Rattle.fort_formulas.specs.FormulaView.{as_formula}
 use Rattle.fort_run.specs.Asked.{IsRefusedBy, QuestionNeedsInput}
@@ -10,7 +11,7 @@ use Rattle.fort_run.proofs.formula.ask.Goals as goal
 pub returns-in-Err-Line-clause-ok : goal.returns-in-Err-Line-clause-ok
 returns-in-Err-Line-clause-ok g c =
     let refused = refused_by_line (IsRefusedBy c.args.question c.as_bytes.result.now) c.in-Err-Line.field-0 c.in-Err-Line.line c.in-Err-Line.field-0-is c.in-Err-Line.ensures.refused in
-    rw c.in-Err-Line.field-0-is (owes_refusal c.args.question c.args.states c.args.text.now c.in-Err-Line.line.items _ (subst (λ t. IsRefusedBy c.args.question t c.in-Err-Line.line.items) c.as_bytes.ensures.value refused))
+    rw c.in-Err-Line.field-0-is (owes_refusal c.args.question (as_options c.args.options) c.args.text.now c.in-Err-Line.line.items _ (subst (λ t. IsRefusedBy c.args.question t c.in-Err-Line.line.items) c.as_bytes.ensures.value refused))
 
 pub returns-in-Err-Line-clause-whole : goal.returns-in-Err-Line-clause-whole
 returns-in-Err-Line-clause-whole g c = λ needs.
@@ -24,7 +25,7 @@ returns-clause-unread g c = λ none.
 
 pub returns-in-Err-Line-clause-printed : goal.returns-in-Err-Line-clause-printed
 returns-in-Err-Line-clause-printed g c =
-    rw c.in-Err-Line.field-0-is (refused_not_printed_told c.args.states c.args.text.now c.args.question _ c.in-Err-Line.line.items)
+    rw c.in-Err-Line.field-0-is (refused_not_printed_told (as_options c.args.options) c.args.text.now c.args.question _ c.in-Err-Line.line.items)
 
 pub returns-clause-printed : goal.returns-clause-printed
 returns-clause-printed g c =

@@ -1,6 +1,6 @@
 use Rattle.std.proofs.Common.{◌≡◌, subst}
 use Rattle.std.proofs.lemmas.Result.{on_ok_weaker}
-use Rattle.fort_words.specs.RequestView.{as_request}
+use Rattle.fort_words.specs.RequestView.{as_options, as_request}
 use Rattle.fort_answers.specs.Requests.{Witness}
 use Rattle.fort_answers.specs.Answer.{NeedsInput}
 use Rattle.fort_run.proofs.top.reply_to_request.Goals as goal
@@ -22,6 +22,6 @@ returns-in-Decide-default-true-default-clause-whole g c =
 pub returns-in-Witness-clause-whole : goal.returns-in-Witness-clause-whole
 returns-in-Witness-clause-whole g c =
     on_ok_weaker c.ask-in-Witness.result (λ whole needs.
-    let e : as_request c.args.request.now ≡ Witness c.in-Witness.states c.in-Witness.formula.now = cc in
+    let e : as_request c.args.request.now ≡ Witness (as_options c.in-Witness.options) c.in-Witness.formula.now = cc in
     whole (subst NeedsInput e needs))
     c.ask-in-Witness.ensures.whole

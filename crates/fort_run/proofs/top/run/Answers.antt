@@ -66,6 +66,6 @@ pub returns-in-Err-clause-accepted : goal.returns-in-Err-clause-accepted
 returns-in-Err-clause-accepted g c = printed_accepted (map string_bytes c.args.words.now)
 
 pub returns-in-Ok-write_all-clause-printed : goal.returns-in-Ok-write_all-clause-printed
-returns-in-Ok-write_all-clause-printed g c = λ states formula asked e.
-    prints_truth formula _ _ _ c.text.result.now _ (c.in-Ok.ensures.printed states formula asked (sym c.of_reply.ensures.status ∙ e)) c.text.ensures
+returns-in-Ok-write_all-clause-printed g c = λ options formula asked e.
+    prints_truth formula _ _ _ c.text.result.now _ (c.in-Ok.ensures.printed options formula asked (sym c.of_reply.ensures.status ∙ e)) c.text.ensures
     c.in-Ok-write_all.ensures.all

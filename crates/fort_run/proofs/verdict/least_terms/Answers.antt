@@ -7,8 +7,8 @@ use Rattle.fort_run.specs.declared.question.Question.TheVariants.{Terms}
 use Rattle.fort_run.proofs.PosedQuestions.{decided_by}
 use Rattle.fort_run.proofs.verdict.least_terms.Goals as goal
 
-pub decide_core-requires : goal.decide_core-requires
-decide_core-requires c = c.requires.1.decided
+pub answer_to-requires : goal.answer_to-requires
+answer_to-requires c = c.requires.1.decided
 
 pub witness-requires : goal.witness-requires
 witness-requires c =
@@ -17,12 +17,12 @@ witness-requires c =
       system,
       c.requires.0,
       c.signature.ensures.same,
-      decided_by Terms f system c.requires.0 (as_core c.args.core.now) c.in-Ok.trace.last c.requires.1 c.in-Ok.ensures.truth,
+      decided_by Terms f system c.requires.0 (as_core c.args.core.now) c.in-Ok.last c.requires.1 c.in-Ok.ensures.truth,
     )
 
 pub returns-in-Ok-witness-clause-says : goal.returns-in-Ok-witness-clause-says
 returns-in-Ok-witness-clause-says c = λ p terms lawful same posed.
     let f = as_formula c.args.formula.now in
     c.in-Ok-witness.ensures.says p terms lawful (c.signature.ensures.same ∙ ap (λ (s : PatternSystem). s.signature) same)
-    (subst (λ s. IsDecidedBy f s terms c.in-Ok.trace.last) same
-    (decided_by Terms f c.args.system.now terms (as_core c.args.core.now) c.in-Ok.trace.last posed c.in-Ok.ensures.truth))
+    (subst (λ s. IsDecidedBy f s terms c.in-Ok.last) same
+    (decided_by Terms f c.args.system.now terms (as_core c.args.core.now) c.in-Ok.last posed c.in-Ok.ensures.truth))

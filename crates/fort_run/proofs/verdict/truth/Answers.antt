@@ -5,8 +5,8 @@ use Rattle.fort_run.specs.declared.question.Question.TheVariants.{Truth}
 use Rattle.fort_run.proofs.PosedQuestions.{decided_by}
 use Rattle.fort_run.proofs.verdict.truth.Goals as goal
 
-pub decide_core-requires : goal.decide_core-requires
-decide_core-requires c = c.requires.2.decided
+pub answer_to-requires : goal.answer_to-requires
+answer_to-requires c = c.requires.2.decided
 
 pub truth_of-requires : goal.truth_of-requires
 truth_of-requires c =
@@ -15,11 +15,11 @@ truth_of-requires c =
       system,
       c.requires.1,
       c.requires.2.closed,
-      decided_by Truth c.requires.0 system c.requires.1 (as_core c.args.core.now) c.in-Ok.trace.last c.requires.2 c.in-Ok.ensures.truth,
+      decided_by Truth c.requires.0 system c.requires.1 (as_core c.args.core.now) c.in-Ok.last c.requires.2 c.in-Ok.ensures.truth,
     )
 
 pub returns-in-Ok-clause-says : goal.returns-in-Ok-clause-says
 returns-in-Ok-clause-says c = λ f p terms lawful same posed.
     c.truth_of.ensures.says f p terms lawful posed.closed
-    (subst (λ s. IsDecidedBy f s terms c.in-Ok.trace.last) same
-    (decided_by Truth f c.args.system.now terms (as_core c.args.core.now) c.in-Ok.trace.last posed c.in-Ok.ensures.truth))
+    (subst (λ s. IsDecidedBy f s terms c.in-Ok.last) same
+    (decided_by Truth f c.args.system.now terms (as_core c.args.core.now) c.in-Ok.last posed c.in-Ok.ensures.truth))

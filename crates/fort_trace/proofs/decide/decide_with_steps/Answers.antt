@@ -9,7 +9,7 @@ use Rattle.fort_engine.specs.Deciding.{IsPlanned}
 use Rattle.fort_engine.proofs.OperandLaws.{none_taken}
 use Rattle.fort_engine.proofs.DecideLaws.{IsAnswerTo-taken}
 use Rattle.fort_steps.specs.declared.step.Step.{Step}
-use Rattle.fort_trace.specs.Recording.{AddsSteps}
+use Rattle.fort_trace.specs.Recording.{recorded_with, AddsSteps}
 use Rattle.fort_trace.proofs.RecordLaws.{IsRecordedTo-none, taken_right, none_over_end, IsWritten-root, no_table}
 use Rattle.fort_trace.proofs.decide.decide_with_steps.Goals as goal
 
@@ -43,7 +43,7 @@ unreachable-requires c =
     let taken : get_or kept o.whole None ≡ c.swap_remove.result =
     get_or_default kept o.whole None c.swap_remove.result (omega (arith, plan.laid.within, far.kept_are.count)) ∙ sym c.swap_remove.ensures.value in
     let has = taken_right system f o plan a.cap n kept far refl in
-    no_table system f (get_or kept o.whole None) c.in-Some-Auto.field-0-0 c.requires.closed has (taken ∙ (c.in-Some-Auto.is ∙ ap Some c.in-Some-Auto.field-0-is))
+    no_table system a.cap f (get_or kept o.whole None) c.in-Some-Auto.field-0-0 c.requires.closed has (taken ∙ (c.in-Some-Auto.is ∙ ap Some c.in-Some-Auto.field-0-is))
 
 pub unreachable-requires-in-None : goal.unreachable-requires-in-None
 unreachable-requires-in-None c =
@@ -58,7 +58,7 @@ unreachable-requires-in-None c =
     let taken : get_or kept o.whole None ≡ c.swap_remove.result =
     get_or_default kept o.whole None c.swap_remove.result (omega (arith, plan.laid.within, far.kept_are.count)) ∙ sym c.swap_remove.ensures.value in
     let has = taken_right system f o plan a.cap n kept far refl in
-    none_taken system f (get_or kept o.whole None) has (taken ∙ c.in-None.is)
+    none_taken system (recorded_with a.cap) f (get_or kept o.whole None) has (taken ∙ c.in-None.is)
 
 pub returns-clause-truth : goal.returns-clause-truth
 returns-clause-truth c =
@@ -74,7 +74,7 @@ returns-clause-truth c =
     get_or_default kept o.whole None c.swap_remove.result (omega (arith, plan.laid.within, far.kept_are.count)) ∙ sym c.swap_remove.ensures.value in
     let has = taken_right system f o plan a.cap n kept far refl in
     let truth : get_or kept o.whole None ≡ Some (Truth c.in-Some-Truth.verdict) = taken ∙ (c.in-Some-Truth.is ∙ ap Some c.in-Some-Truth.field-0-is) in
-    IsAnswerTo-taken system f (get_or kept o.whole None) (Truth c.in-Some-Truth.verdict) has truth
+    IsAnswerTo-taken system (recorded_with a.cap) f (get_or kept o.whole None) (Truth c.in-Some-Truth.verdict) has truth
 
 pub returns-clause-written : goal.returns-clause-written
 returns-clause-written c first =

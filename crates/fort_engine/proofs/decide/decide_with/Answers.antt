@@ -5,7 +5,7 @@ use Rattle.fort_outline.specs.Outlines.{parts_in}
 use Rattle.fort_outline.proofs.RootLaws.{length-cores_of}
 use Rattle.fort_engine.proofs.OperandLaws.{none_taken}
 use Rattle.fort_engine.proofs.DecideLaws.{HasRightAnswer-root, none_over, IsAnswerTo-taken}
-use Rattle.fort_engine.proofs.decide.decide_core.Goals as goal
+use Rattle.fort_engine.proofs.decide.decide_with.Goals as goal
 
 pub decide_parts-requires-clause-planned : goal.decide_parts-requires-clause-planned
 decide_parts-requires-clause-planned c = (as_core c.args.core.now, record { decided = c.requires; laid = c.in_ok-outline.ensures })
@@ -21,10 +21,10 @@ unreachable-requires c =
     let end : length o.roots.items ≡ length (parts_in o) = sym (length-cores_of o.roots.items) in
     let before : o.whole < length (parts_in o) = omega (arith, laid.within, end) in
     let has =
-    HasRightAnswer-root system f (parts_in o) laid.parts o.whole o.last_uses.items laid.uses c.args.cap (length o.roots.items) kept far end before laid.whole_is in
+    HasRightAnswer-root system c.args.options.now f (parts_in o) laid.parts o.whole o.last_uses.items laid.uses (length o.roots.items) kept far end before laid.whole_is in
     let taken : get_or kept o.whole None ≡ c.swap_remove.result =
     get_or_default kept o.whole None c.swap_remove.result (omega (arith, laid.within, far.kept_are.count)) ∙ sym c.swap_remove.ensures.value in
-    none_taken system f (get_or kept o.whole None) has (taken ∙ c.in-None.is)
+    none_taken system c.args.options.now f (get_or kept o.whole None) has (taken ∙ c.in-None.is)
 
 pub returns-clause-truth : goal.returns-clause-truth
 returns-clause-truth c =
@@ -37,10 +37,10 @@ returns-clause-truth c =
     let end : length o.roots.items ≡ length (parts_in o) = sym (length-cores_of o.roots.items) in
     let before : o.whole < length (parts_in o) = omega (arith, laid.within, end) in
     let has =
-    HasRightAnswer-root system f (parts_in o) laid.parts o.whole o.last_uses.items laid.uses c.args.cap (length o.roots.items) kept far end before laid.whole_is in
+    HasRightAnswer-root system c.args.options.now f (parts_in o) laid.parts o.whole o.last_uses.items laid.uses (length o.roots.items) kept far end before laid.whole_is in
     let taken : get_or kept o.whole None ≡ c.swap_remove.result =
     get_or_default kept o.whole None c.swap_remove.result (omega (arith, laid.within, far.kept_are.count)) ∙ sym c.swap_remove.ensures.value in
-    IsAnswerTo-taken system f (get_or kept o.whole None) c.in-Some.last has (taken ∙ c.in-Some.is)
+    IsAnswerTo-taken system c.args.options.now f (get_or kept o.whole None) c.in-Some.last has (taken ∙ c.in-Some.is)
 
 pub returns-clause-within : goal.returns-clause-within
 returns-clause-within c =
@@ -51,4 +51,4 @@ returns-clause-within c =
     let kept = c.in-Ok.kept.items in
     let far = c.in-Ok.ensures.far in
     let end : length o.roots.items ≡ length (parts_in o) = sym (length-cores_of o.roots.items) in
-    none_over system f (parts_in o) laid.parts o.whole o.last_uses.items laid.uses c.args.cap (length o.roots.items) kept far end
+    none_over system c.args.options.now f (parts_in o) laid.parts o.whole o.last_uses.items laid.uses (length o.roots.items) kept far end
