@@ -12,10 +12,11 @@ use std::test::Fail;
 
 /// The arities of two symbols beside a constant, the second of which may be missing; columns; the presence of all of them; how many
 /// states at most; and how many tables that are.
-const CASES: [(u8, Option<u8>, usize, u16, usize, u32); 4] = [
+const CASES: [(u8, Option<u8>, usize, u16, usize, u32); 5] = [
     (0, Some(1), 1, 1, 5, 3_210),
     (1, Some(1), 1, 1, 3, 1_778),
     (2, None, 1, 1, 2, 34),
+    (1, None, 1, 1, 6, 642),
     (1, None, 2, 3, 5, 1_166),
 ];
 
