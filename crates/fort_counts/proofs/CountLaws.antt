@@ -4,7 +4,7 @@ use Rattle.std.specs.Prelude.{Contains}
 use Rattle.std.proofs.lemmas.Bool.{cases_Bool, eqb-true, eq-eqb}
 use Rattle.std.proofs.lemmas.List.{length-map, get_or-map}
 use Rattle.fort_theory.specs.Trees.{Tree, height}
-use Rattle.fort_logic.specs.Logic.{HasInfinitelyMany}
+use Rattle.fort_theory.specs.Logic.{HasInfinitelyMany}
 use Rattle.fort_theory.proofs.Members.{Contains-cons_cases, Contains-none, Contains-Decides}
 use Rattle.fort_tables.specs.Tables.{Table, IsTable, IsReached}
 use Rattle.fort_operations.specs.Projections.{ArePure}

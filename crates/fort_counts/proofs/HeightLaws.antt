@@ -3,7 +3,7 @@ use Rattle.std.proofs.Common.{◌≡◌, ℕ, zero, suc, ◌<◌, ◌≤◌, max
 use Rattle.std.specs.Prelude.{Contains}
 use Rattle.std.proofs.lemmas.Bool.{cases_lt}
 use Rattle.std.proofs.lemmas.List.Elements.{Contains-append_left, Contains-append_right}
-use Rattle.fort_logic.specs.Logic.{HasInfinitelyMany}
+use Rattle.fort_theory.specs.Logic.{HasInfinitelyMany}
 use Rattle.fort_theory.specs.Trees.{Tree, Trees, Node, Nil, More, tree_count, height, heights}
 use Rattle.fort_theory.specs.Signatures.{Signature, IsGround, AreGround}
 use Rattle.fort_theory.proofs.Members.{Contains-head, Contains-behind, Contains-cons_cases, Contains-none}

@@ -3,7 +3,7 @@ use Rattle.std.proofs.Common.{◌≡◌, ℕ, ◌+◌, ◌-◌, ◌*◌, ◌<◌
 use Rattle.std.specs.List.{insert}
 use Rattle.std.proofs.lemmas.Bool.{cases_Bool, lt-ltb, le-ltb}
 use Rattle.std.proofs.lemmas.List.{length-map, get_or-map, ext_get_or}
-use Rattle.fort_logic.specs.Logic.{HasInfinitelyMany}
+use Rattle.fort_theory.specs.Logic.{HasInfinitelyMany}
 use Rattle.fort_tables.specs.Tuples.{Tuple, TupleSymbol, tabulate, root, kid, kid_count, presence, IsTuple}
 use Rattle.fort_tables.specs.Entries.{entry}
 use Rattle.fort_tables.specs.Tables.{Table, IsTable, IsReached, state_of}

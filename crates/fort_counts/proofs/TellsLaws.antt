@@ -1,6 +1,6 @@
 -- What tells whether infinitely many terms give a pure state also finds terms of every height, or a bound.
 use Rattle.std.proofs.Common.{◌≡◌, ℕ, ◌<◌, Bool, true, false, refl, sym, ◌∙◌}
-use Rattle.fort_logic.specs.Logic.{HasInfinitelyMany}
+use Rattle.fort_theory.specs.Logic.{HasInfinitelyMany}
 use Rattle.fort_tables.specs.Tables.{Table, IsTable, IsReached}
 use Rattle.fort_counts.specs.PureStates.{GivesAlone, IsPureState}
 use Rattle.fort_counts.specs.Heights.{HasEveryHeight, HasHeightsTo}

@@ -1,6 +1,6 @@
 -- To believe: the count of a state is the greatest height of its terms, or where infinitely many terms give it, its least child of which that is so; marks whose rules hold look only at a state's children.
 use Rattle.std.specs.Prelude.{◌≡◌, ℕ, ◌<◌, ◌≤◌, List, [], ◌∷◌, length, get_or, ◌==◌, Bool, true, false, if◌then◌else◌}
-use Rattle.fort_logic.specs.Logic.{HasInfinitelyMany}
+use Rattle.fort_theory.specs.Logic.{HasInfinitelyMany}
 use Rattle.fort_theory.specs.Trees.{Tree, height}
 use Rattle.fort_tables.specs.Tables.{Table}
 use Rattle.fort_counts.specs.PureStates.{GivesAlone, IsPureState, IsPureChild}

@@ -1,7 +1,7 @@
 -- To believe: when two optional tuples agree at "infinitely many terms in column c", by when tuples agree at its body.
 use Rattle.std.specs.Prelude.{◌↔◌, ℕ, Some}
 use Rattle.std.specs.List.{insert}
-use Rattle.fort_logic.specs.Logic.{HasInfinitelyMany}
+use Rattle.fort_theory.specs.Logic.{HasInfinitelyMany}
 use Rattle.fort_theory.specs.Trees.{Tree}
 use Rattle.fort_theory.specs.Signatures.{Signature, IsGround}
 use Rattle.fort_tables.specs.Tuples.{Tuple}

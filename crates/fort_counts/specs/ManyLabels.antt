@@ -1,7 +1,7 @@
 -- To believe: the label of a tuple for "infinitely many terms in one column": that of the projection, and behind its bits one more for each state of the body, set where infinitely many terms in the column give it; which labels are accepted.
 use Rattle.std.specs.Prelude.{◌≡◌, ◌↔◌, ℕ, ◌+◌, ◌-◌, ◌*◌, ◌<◌, max, List, [], ◌∷◌, map, length, None, Some, get_or, nat_lt, Bool, true, ◌&&◌, ◌==◌, if◌then◌else◌}
 use Rattle.std.specs.List.{insert}
-use Rattle.fort_logic.specs.Logic.{HasInfinitelyMany}
+use Rattle.fort_theory.specs.Logic.{HasInfinitelyMany}
 use Rattle.fort_theory.specs.Trees.{Tree}
 use Rattle.fort_theory.specs.Signatures.{Signature, IsGround}
 use Rattle.fort_tables.specs.Tuples.{Tuple, TupleSymbol, presence, arity}

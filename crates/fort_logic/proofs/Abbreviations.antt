@@ -1,17 +1,19 @@
 -- What the abbreviated relations and properties are turned into says of terms what they say.
 use Rattle.std.specs.Prelude.{◌≡◌, ◌↔◌, ◌⊎◌, ℕ, ◌+◌}
 use Rattle.std.proofs.Common.{sym, subst, ◌∙◌, inl, inr, arith}
-use Rattle.fort_logic.specs.Logic.{Surely, OneOf, HasSome}
+use Rattle.fort_theory.specs.Logic.{Surely, OneOf, HasSome}
 use Rattle.fort_theory.specs.Trees.{Tree}
 use Rattle.fort_theory.specs.Signatures.{IsGround, HasConstant}
-use Rattle.fort_theory.specs.Rewriting.{Relation, Rewrites, RewritesAtMostOnce, Reduces, IsNormalForm}
-use Rattle.fort_logic.specs.Truth.{Structure, Relates, AreJoinable}
+use Rattle.fort_theory.specs.Rewriting.{Relation, Rewrites, RewritesAtMostOnce, Reduces, ReducesStrictly, IsNormalForm}
+use Rattle.fort_cores.specs.Structures.{Structure}
+use Rattle.fort_logic.specs.Truth.{Relates, AreJoinable}
 use Rattle.fort_logic.specs.Formulas as surface
 use Rattle.fort_logic.specs.Formulas.{SurfaceRel, Property}
-use Rattle.fort_logic.specs.Cores.{Core, Atom, And, Star, Step}
-use Rattle.fort_logic.specs.CoreTruth.{Places, with_number}
-use Rattle.fort_logic.specs.Translation.{some, every, implies, related, joins, normalises, at_most_one_step}
-use Rattle.fort_logic.proofs.CorePlaces.{with_number-same, with_number-other}
+use Rattle.fort_cores.specs.Cores.{Core, Binary, Star, Step}
+use Rattle.fort_theory.specs.Logic.{And}
+use Rattle.fort_cores.specs.CoreTruth.{Places, with_number}
+use Rattle.fort_logic.specs.Translation.{atom, some, every, implies, related, joins, normalises, at_most_one_step}
+use Rattle.fort_cores.proofs.CorePlaces.{with_number-same, with_number-other}
 use Rattle.fort_logic.proofs.Binders.{Met, Met-some, Met-every, Met-implies}
 
 -- a relation of the same trees
@@ -30,7 +32,7 @@ either_surely P Q = (
 
 -- some term is related to those of n and of n + 1
 abbrev pub forked : (rel rel' : ℕ → ℕ → Core) → (n : ℕ) → Core
-forked rel rel' n = some (n + 2) (And (rel (n + 2) n) (rel' (n + 2) (n + 1)))
+forked rel rel' n = some (n + 2) (Binary And (rel (n + 2) n) (rel' (n + 2) (n + 1)))
 
 module _ (structure : Structure) (index : ℕ) where
   abbrev pub root : Relation
@@ -43,13 +45,16 @@ module _ (structure : Structure) (index : ℕ) where
   abbrev pub SurelyReduces : Relation
   SurelyReduces s t = Surely (Reduces root s t)
 
+  abbrev pub SurelyReducesStrictly : Relation
+  SurelyReducesStrictly s t = Surely (ReducesStrictly root s t)
+
   abbrev pub SurelySteps : Relation
   SurelySteps s t = Surely (Rewrites root s t)
 
   abbrev pub SurelyNormalises : Relation
   SurelyNormalises s t = Surely (Reduces root s t) × IsNormalForm root t
 
-  pub means_star : Means (Atom Star index) SurelyReduces
+  pub means_star : Means (atom Star index) SurelyReduces
   means_star v x y = ((λ h. h), (λ h. h))
 
   abbrev pub SurelyAtMostOnce : Relation
@@ -58,7 +63,7 @@ module _ (structure : Structure) (index : ℕ) where
   pub means_at_most_one : Means (at_most_one_step index) SurelyAtMostOnce
   means_at_most_one v x y = ((λ h. h), (λ h. h))
 
-  pub means_step : Means (Atom Step index) SurelySteps
+  pub means_step : Means (atom Step index) SurelySteps
   means_step v x y = ((λ h. h), (λ h. h))
 
   pub means_normalises : Means (normalises index) SurelyNormalises
@@ -91,16 +96,16 @@ module _ (structure : Structure) (index : ℕ) where
     -- some term to which both are related
     pub Met-meets : (rel rel' : ℕ → ℕ → Core) (R R' : Relation) → Means rel R → Means rel' R' → (n x y : ℕ) (v : Places) (s t : Tree)
         → (x ≡ n → ⊥) → (y ≡ n → ⊥) → v x ≡ s → v y ≡ t
-        → Met structure (some n (And (rel x n) (rel' y n))) v ↔ HasSome (λ u. IsGround structure.signature u × (R s u × R' t u))
+        → Met structure (some n (Binary And (rel x n) (rel' y n))) v ↔ HasSome (λ u. IsGround structure.signature u × (R s u × R' t u))
     Met-meets rel rel' R R' means means' n x y v s t other_x other_y is_s is_t = (
-      (λ h none. (Met-some structure constant n (And (rel x n) (rel' y n)) v).0 h (λ u k. none u (
+      (λ h none. (Met-some structure constant n (Binary And (rel x n) (rel' y n)) v).0 h (λ u k. none u (
         k.0,
         (
           moved R (with_number v n u x) (with_number v n u n) s u (at_x u) (with_number-same v n u) ((means (with_number v n u) x n).0 k.1.0),
           moved R' (with_number v n u y) (with_number v n u n) t u (at_y u) (with_number-same v n u) ((means' (with_number v n u) y n).0 k.1.1),
         ),
       ))),
-      (λ h. (Met-some structure constant n (And (rel x n) (rel' y n)) v).1 (λ none. h (λ u k. none u (
+      (λ h. (Met-some structure constant n (Binary And (rel x n) (rel' y n)) v).1 (λ none. h (λ u k. none u (
         k.0,
         (
           (means (with_number v n u) x n).1 (moved R s u (with_number v n u x) (with_number v n u n) (sym (at_x u)) (sym (with_number-same v n u)) k.1.0),
@@ -119,7 +124,7 @@ module _ (structure : Structure) (index : ℕ) where
     pub Met-joins : (n x y : ℕ) (v : Places) (s t : Tree) → (x ≡ n → ⊥) → (y ≡ n → ⊥) → v x ≡ s → v y ≡ t
         → Met structure (joins index n x y) v ↔ AreJoinable structure index s t
     Met-joins n x y v s t other_x other_y is_s is_t =
-        let meets = Met-meets (Atom Star index) (Atom Star index) SurelyReduces SurelyReduces means_star means_star n x y v s t other_x other_y is_s is_t in (
+        let meets = Met-meets (atom Star index) (atom Star index) SurelyReduces SurelyReduces means_star means_star n x y v s t other_x other_y is_s is_t in (
           (λ h none. meets.0 h (λ u k. k.1.0 (λ first. k.1.1 (λ second. none u (k.0, first, second))))),
           (λ h. meets.1 (λ none. h (λ u k. none u (k.0, ((λ no. no k.1), (λ no. no k.2)))))),
         )
@@ -127,16 +132,16 @@ module _ (structure : Structure) (index : ℕ) where
     -- some term is related to both
     pub Met-forks : (rel rel' : ℕ → ℕ → Core) (R R' : Relation) → Means rel R → Means rel' R' → (x y z : ℕ) (v : Places) (s t : Tree)
         → (y ≡ x → ⊥) → (z ≡ x → ⊥) → v y ≡ s → v z ≡ t
-        → Met structure (some x (And (rel x y) (rel' x z))) v ↔ HasSome (λ u. IsGround structure.signature u × (R u s × R' u t))
+        → Met structure (some x (Binary And (rel x y) (rel' x z))) v ↔ HasSome (λ u. IsGround structure.signature u × (R u s × R' u t))
     Met-forks rel rel' R R' means means' x y z v s t other_y other_z is_s is_t = (
-      (λ h none. (Met-some structure constant x (And (rel x y) (rel' x z)) v).0 h (λ u k. none u (
+      (λ h none. (Met-some structure constant x (Binary And (rel x y) (rel' x z)) v).0 h (λ u k. none u (
         k.0,
         (
           moved R (with_number v x u x) (with_number v x u y) u s (with_number-same v x u) (at_y u) ((means (with_number v x u) x y).0 k.1.0),
           moved R' (with_number v x u x) (with_number v x u z) u t (with_number-same v x u) (at_z u) ((means' (with_number v x u) x z).0 k.1.1),
         ),
       ))),
-      (λ h. (Met-some structure constant x (And (rel x y) (rel' x z)) v).1 (λ none. h (λ u k. none u (
+      (λ h. (Met-some structure constant x (Binary And (rel x y) (rel' x z)) v).1 (λ none. h (λ u k. none u (
         k.0,
         (
           (means (with_number v x u) x y).1 (moved R u s (with_number v x u x) (with_number v x u y) (sym (with_number-same v x u)) (sym (at_y u)) k.1.0),

@@ -4,11 +4,12 @@ use Rattle.std.proofs.Common.{◌∙◌, sym, arith, subst}
 use Rattle.fort_theory.specs.Trees.{Tree}
 use Rattle.fort_theory.specs.Signatures.{IsGround}
 use Rattle.fort_logic.specs.Formulas.{Name, Argument, Var, Ground}
-use Rattle.fort_logic.specs.Truth.{Structure}
-use Rattle.fort_logic.specs.Cores.{Core, Is, And, Exists}
-use Rattle.fort_logic.specs.CoreTruth.{Places, with_number}
+use Rattle.fort_cores.specs.Structures.{Structure}
+use Rattle.fort_cores.specs.Cores.{Core, Leaf, IsTerm, Binary, Exists}
+use Rattle.fort_theory.specs.Logic.{And}
+use Rattle.fort_cores.specs.CoreTruth.{Places, with_number}
 use Rattle.fort_logic.specs.Translation.{number_in, term_at, about, about_both}
-use Rattle.fort_logic.proofs.CorePlaces.{with_number-same, with_number-other, IsMetBy-stable}
+use Rattle.fort_cores.proofs.CorePlaces.{with_number-same, with_number-other, IsMetBy-stable}
 use Rattle.fort_logic.proofs.Binders.{Met}
 
 -- these places have the same trees for all numbers below n
@@ -29,7 +30,7 @@ module _ (structure : Structure) (terms : List Tree) (scope : List Name) where
 
   -- some tree that is this one
   Met-is : (n : ℕ) (t : Tree) (c : Core) (v : Places) → IsGround structure.signature t
-      → Met structure (Exists n (And (Is n t) c)) v ↔ Met structure c (with_number v n t)
+      → Met structure (Exists n (Binary And (Leaf (IsTerm n t)) c)) v ↔ Met structure c (with_number v n t)
   Met-is n t c v is_ground = (
     (λ h. IsMetBy-stable structure c (with_number v n t) (λ no. h (λ s k. k.1.0 (λ e.
         no (subst (λ u. Met structure c (with_number v n u)) (sym (with_number-same v n s) ∙ e) k.1.1))))),

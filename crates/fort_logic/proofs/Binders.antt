@@ -1,15 +1,16 @@
 -- The binders of the translation say what they are called, bound or left out: "some", "every", "infinitely many".
 use Rattle.std.specs.Prelude.{◌≡◌, ◌↔◌, ℕ, Bool, true, false, if◌then◌else◌, [], refl}
 use Rattle.std.proofs.Common.{sym, ap, ◌∙◌}
-use Rattle.fort_logic.specs.Logic.{HasSome, HasInfinitelyMany}
+use Rattle.fort_theory.specs.Logic.{HasSome, HasInfinitelyMany}
 use Rattle.fort_theory.specs.Trees.{Tree, Node, Nil}
 use Rattle.fort_theory.specs.Signatures.{IsGround, HasConstant}
-use Rattle.fort_logic.specs.Truth.{Structure}
-use Rattle.fort_logic.specs.Cores.{Core, Not, And, Exists, Infinite}
-use Rattle.fort_logic.specs.CoreTruth.{Places, with_number, IsMetBy}
-use Rattle.fort_logic.specs.Parts.{is_free}
+use Rattle.fort_cores.specs.Structures.{Structure}
+use Rattle.fort_cores.specs.Cores.{Core, Not, Binary, Exists, Infinite}
+use Rattle.fort_theory.specs.Logic.{And}
+use Rattle.fort_cores.specs.CoreTruth.{Places, with_number, IsMetBy}
+use Rattle.fort_cores.specs.Parts.{is_free}
 use Rattle.fort_logic.specs.Translation.{some, every, equal, infinitely_many, implies}
-use Rattle.fort_logic.proofs.CorePlaces.{IsMetBy-stable, IsMetBy-agree, with_number-other}
+use Rattle.fort_cores.proofs.CorePlaces.{IsMetBy-stable, IsMetBy-agree, with_number-other}
 
 free_elsewhere : (n k : ℕ) (c : Core) → is_free n c ≡ false → is_free k c ≡ true → k ≡ n → ⊥
 free_elsewhere n k c bound free same = let said : is_free n c ≡ true = ap (λ i. is_free i c) (sym same) ∙ free in cc
@@ -48,7 +49,7 @@ module _ (structure : Structure) where
   Met-infinitely_many n c v = by (is_free n c) refl
     where
       by : (b : Bool) → is_free n c ≡ b
-          → Met (if b then Infinite n c else And c (Infinite n (equal n n))) v ↔ HasInfinitelyMany (λ t. IsGround structure.signature t × Met c (with_number v n t))
+          → Met (if b then Infinite n c else Binary And c (Infinite n (equal n n))) v ↔ HasInfinitelyMany (λ t. IsGround structure.signature t × Met c (with_number v n t))
       by true is = ((λ h. h), (λ h. h))
       by false is = (
         (λ h ts none. h.1 ts (λ t k. none t (k.0, (k.1.0, (Met-unbound n c v t is).0 h.0)))),

@@ -10,9 +10,10 @@ use Rattle.fort_theory.proofs.Members.{Contains-head}
 use Rattle.fort_logic.specs.Formulas as surface
 use Rattle.fort_logic.specs.Formulas.{Name, Argument, Formula, SurfaceRel, Property}
 use Rattle.fort_logic.specs.FreeNames.{without, names_in, occurrences, free_names}
-use Rattle.fort_logic.specs.Cores.{Core, Atom, Nf, Is, Not, And, Exists, Infinite, Star, Step, Conv}
-use Rattle.fort_logic.specs.Parts.{is_free, BindsFree, IsClosed}
-use Rattle.fort_logic.specs.Translation.{number_in, some, every, equal, infinitely_many, implies, joins, forks, normalises, at_most_one_step, related, property_core, commutes, term_at, about, about_both, core_in, core_of}
+use Rattle.fort_cores.specs.Cores.{Core, Leaf, InContext, Normal, IsTerm, Not, Binary, Exists, Infinite, Star, Plus, Step, Conv}
+use Rattle.fort_theory.specs.Logic.{And}
+use Rattle.fort_cores.specs.Parts.{is_free, BindsFree, IsClosed}
+use Rattle.fort_logic.specs.Translation.{atom, number_in, some, every, equal, infinitely_many, implies, joins, forks, normalises, at_most_one_step, terminates, all_terminate, related, property_core, commutes, term_at, about, about_both, core_in, core_of}
 use Rattle.fort_logic.proofs.ScopeNumbers.{Contains-without, Contains-once, Contains-reverse, number_in-below}
 
 same : (n k : ℕ) → (n == k) ≡ true → n ≡ k
@@ -33,7 +34,7 @@ BindsFree-some n c h = by (is_free n c) refl
 pub BindsFree-infinitely_many : (n : ℕ) (c : Core) → BindsFree c → BindsFree (infinitely_many n c)
 BindsFree-infinitely_many n c h = by (is_free n c) refl
   where
-    by : (b : Bool) → is_free n c ≡ b → BindsFree (if b then Infinite n c else And c (Infinite n (equal n n)))
+    by : (b : Bool) → is_free n c ≡ b → BindsFree (if b then Infinite n c else Binary And c (Infinite n (equal n n)))
     by true is = (is, h)
     by false is = (h, (ap (λ b. b || b) (itself n), tt))
 
@@ -54,33 +55,42 @@ two_binders : (n : ℕ) (c : Core) → BindsFree c → BindsFree (every n (every
 two_binders n c h = BindsFree-some n (Not (every (n + 1) c)) (BindsFree-some (n + 1) (Not c) h)
 
 BindsFree-joins : (index n x y : ℕ) → BindsFree (joins index n x y)
-BindsFree-joins index n x y = BindsFree-some n (And (Atom Star index x n) (Atom Star index y n)) (tt, tt)
+BindsFree-joins index n x y = BindsFree-some n (Binary And (atom Star index x n) (atom Star index y n)) (tt, tt)
+
+BindsFree-terminates : (index n x : ℕ) → BindsFree (terminates index n x)
+BindsFree-terminates index n x = (
+  BindsFree-infinitely_many n (atom Star index x n) tt,
+  BindsFree-some n (Binary And (atom Star index x n) (atom Plus index n n)) (tt, tt),
+)
 
 BindsFree-property : (p : Property) (index n : ℕ) → BindsFree (property_core p index n)
 BindsFree-property surface.Cr index n =
-    two_binders n (implies (forks (Atom Star index) (n + 2) n (n + 1)) (joins index (n + 2) n (n + 1)))
-    (BindsFree-some (n + 2) (And (Atom Star index (n + 2) n) (Atom Star index (n + 2) (n + 1))) (tt, tt), BindsFree-joins index (n + 2) n (n + 1))
+    two_binders n (implies (forks (atom Star index) (n + 2) n (n + 1)) (joins index (n + 2) n (n + 1)))
+    (BindsFree-some (n + 2) (Binary And (atom Star index (n + 2) n) (atom Star index (n + 2) (n + 1))) (tt, tt), BindsFree-joins index (n + 2) n (n + 1))
 BindsFree-property surface.Wcr index n =
-    two_binders n (implies (forks (Atom Step index) (n + 2) n (n + 1)) (joins index (n + 2) n (n + 1)))
-    (BindsFree-some (n + 2) (And (Atom Step index (n + 2) n) (Atom Step index (n + 2) (n + 1))) (tt, tt), BindsFree-joins index (n + 2) n (n + 1))
+    two_binders n (implies (forks (atom Step index) (n + 2) n (n + 1)) (joins index (n + 2) n (n + 1)))
+    (BindsFree-some (n + 2) (Binary And (atom Step index (n + 2) n) (atom Step index (n + 2) (n + 1))) (tt, tt), BindsFree-joins index (n + 2) n (n + 1))
 BindsFree-property surface.Scr index n =
-    let met = And (at_most_one_step index n (n + 2)) (Atom Star index (n + 1) (n + 2)) in
-    two_binders n (implies (forks (Atom Step index) (n + 2) n (n + 1)) (some (n + 2) met))
-    (BindsFree-some (n + 2) (And (Atom Step index (n + 2) n) (Atom Step index (n + 2) (n + 1))) (tt, tt), BindsFree-some (n + 2) met ((tt, tt), tt))
+    let met = Binary And (at_most_one_step index n (n + 2)) (atom Star index (n + 1) (n + 2)) in
+    two_binders n (implies (forks (atom Step index) (n + 2) n (n + 1)) (some (n + 2) met))
+    (BindsFree-some (n + 2) (Binary And (atom Step index (n + 2) n) (atom Step index (n + 2) (n + 1))) (tt, tt), BindsFree-some (n + 2) met ((tt, tt), tt))
 BindsFree-property surface.Wn index n =
     BindsFree-some n (Not (some (n + 1) (normalises index n (n + 1)))) (BindsFree-some (n + 1) (normalises index n (n + 1)) (tt, tt))
 BindsFree-property surface.Unr index n =
     two_binders n (implies (forks (normalises index) (n + 2) n (n + 1)) (equal n (n + 1)))
-    (BindsFree-some (n + 2) (And (normalises index (n + 2) n) (normalises index (n + 2) (n + 1))) ((tt, tt), (tt, tt)), tt)
+    (BindsFree-some (n + 2) (Binary And (normalises index (n + 2) n) (normalises index (n + 2) (n + 1))) ((tt, tt), (tt, tt)), tt)
 BindsFree-property surface.Unc index n =
-    two_binders n (implies (And (And (Atom Conv index n (n + 1)) (Nf index n)) (Nf index (n + 1))) (equal n (n + 1))) (((tt, tt), tt), tt)
+    two_binders n (implies (Binary And (Binary And (atom Conv index n (n + 1)) (Leaf (Normal index n))) (Leaf (Normal index (n + 1)))) (equal n (n + 1))) (((tt, tt), tt), tt)
 BindsFree-property surface.Nfp index n =
-    two_binders n (implies (And (Atom Conv index n (n + 1)) (Nf index (n + 1))) (Atom Star index n (n + 1))) ((tt, tt), tt)
+    two_binders n (implies (Binary And (atom Conv index n (n + 1)) (Leaf (Normal index (n + 1)))) (atom Star index n (n + 1))) ((tt, tt), tt)
+
+BindsFree-all_terminate : (index n : ℕ) → BindsFree (all_terminate index n)
+BindsFree-all_terminate index n = BindsFree-some n (Not (terminates index (n + 1) n)) (BindsFree-terminates index (n + 1) n)
 
 BindsFree-commutes : (n : ℕ) → BindsFree (commutes n)
 BindsFree-commutes n =
-    let from = And (Atom Star 1 (n + 2) n) (Atom Star 2 (n + 2) (n + 1)) in
-    let to = And (Atom Star 2 n (n + 2)) (Atom Star 1 (n + 1) (n + 2)) in
+    let from = Binary And (atom Star 1 (n + 2) n) (atom Star 2 (n + 2) (n + 1)) in
+    let to = Binary And (atom Star 2 n (n + 2)) (atom Star 1 (n + 1) (n + 2)) in
     two_binders n (implies (some (n + 2) from) (some (n + 2) to)) (BindsFree-some (n + 2) from (tt, tt), BindsFree-some (n + 2) to (tt, tt))
 
 module _ (terms : List Tree) (scope : List Name) where
@@ -100,9 +110,14 @@ BindsFree-core_in terms scope surface.True = tt
 BindsFree-core_in terms scope surface.False = tt
 BindsFree-core_in terms scope (surface.Related rel a b index) =
     BindsFree-about_both terms scope (length scope) a b (λ n x y. related rel index x y) (λ n x y. BindsFree-related rel index x y)
-BindsFree-core_in terms scope (surface.Nf a index) = BindsFree-about terms scope (length scope) a (λ n x. Nf index x) (λ n x. tt)
+BindsFree-core_in terms scope (surface.InContext e number place a b) =
+    BindsFree-about_both terms scope (length scope) a b (λ n x y. Leaf (InContext e number place x y)) (λ n x y. tt)
+BindsFree-core_in terms scope (surface.Nf a index) = BindsFree-about terms scope (length scope) a (λ n x. Leaf (Normal index x)) (λ n x. tt)
 BindsFree-core_in terms scope (surface.Join a b index) =
     BindsFree-about_both terms scope (length scope) a b (λ n x y. joins index n x y) (λ n x y. BindsFree-joins index n x y)
+BindsFree-core_in terms scope (surface.AllSn index) = BindsFree-all_terminate index (length scope)
+BindsFree-core_in terms scope (surface.Sn a index) =
+    BindsFree-about terms scope (length scope) a (λ n x. terminates index n x) (λ n x. BindsFree-terminates index n x)
 BindsFree-core_in terms scope (surface.Has p index) = BindsFree-property p index (length scope)
 BindsFree-core_in terms scope surface.Com = BindsFree-commutes (length scope)
 BindsFree-core_in terms scope (surface.Not f) = BindsFree-core_in terms scope f
@@ -170,7 +185,7 @@ AllFree-some P n c h = by (is_free n c) refl
 AllFree-infinitely_many : (P : ℕ → Type 0) (n : ℕ) (c : Core) → AllFree (Below P n) c → AllFree P (infinitely_many n c)
 AllFree-infinitely_many P n c h = by (is_free n c) refl
   where
-    by : (b : Bool) → is_free n c ≡ b → AllFree P (if b then Infinite n c else And c (Infinite n (equal n n)))
+    by : (b : Bool) → is_free n c ≡ b → AllFree P (if b then Infinite n c else Binary And c (Infinite n (equal n n)))
     by true is = AllFree-bound P n c h
     by false is =
         AllFree-two P c (Infinite n (equal n n)) (AllFree-unbound P n c is h)
@@ -182,33 +197,41 @@ AllFree-related P surface.Step index x y a b = AllFree-Atom P x y a b
 AllFree-related P surface.Star index x y a b = AllFree-Atom P x y a b
 AllFree-related P surface.Plus index x y a b = AllFree-Atom P x y a b
 AllFree-related P surface.Reflexive index x y a b =
-    AllFree-two P (equal x y) (Atom Step index x y) (AllFree-Atom P x y a b) (AllFree-Atom P x y a b)
+    AllFree-two P (equal x y) (atom Step index x y) (AllFree-Atom P x y a b) (AllFree-Atom P x y a b)
 AllFree-related P surface.Normal index x y a b =
-    AllFree-two P (Atom Star index x y) (Nf index y) (AllFree-Atom P x y a b) (AllFree-Nf P y b)
+    AllFree-two P (atom Star index x y) (Leaf (Normal index y)) (AllFree-Atom P x y a b) (AllFree-Nf P y b)
 AllFree-related P surface.Root index x y a b = AllFree-Atom P x y a b
 AllFree-related P surface.Below index x y a b = AllFree-Atom P x y a b
 AllFree-related P surface.Par index x y a b = AllFree-Atom P x y a b
 AllFree-related P surface.Either index x y a b =
-    AllFree-two P (Atom Step index x y) (Atom Step index y x) (AllFree-Atom P x y a b) (AllFree-Atom P y x b a)
+    AllFree-two P (atom Step index x y) (atom Step index y x) (AllFree-Atom P x y a b) (AllFree-Atom P y x b a)
 AllFree-related P surface.Conv index x y a b = AllFree-Atom P x y a b
 
-AllFree-meets : (P : ℕ → Type 0) (i j n x y : ℕ) → P x → P y → AllFree P (some n (And (Atom Star i x n) (Atom Star j y n)))
+AllFree-meets : (P : ℕ → Type 0) (i j n x y : ℕ) → P x → P y → AllFree P (some n (Binary And (atom Star i x n) (atom Star j y n)))
 AllFree-meets P i j n x y a b =
-    AllFree-some P n (And (Atom Star i x n) (Atom Star j y n))
-    (AllFree-two (Below P n) (Atom Star i x n) (Atom Star j y n)
+    AllFree-some P n (Binary And (atom Star i x n) (atom Star j y n))
+    (AllFree-two (Below P n) (atom Star i x n) (atom Star j y n)
     (AllFree-Atom (Below P n) x n (inr a) (inl refl)) (AllFree-Atom (Below P n) y n (inr b) (inl refl)))
 
 AllFree-joins : (P : ℕ → Type 0) (index n x y : ℕ) → P x → P y → AllFree P (joins index n x y)
 AllFree-joins P index n x y a b = AllFree-meets P index index n x y a b
+
+AllFree-terminates : (P : ℕ → Type 0) (index n x : ℕ) → P x → AllFree P (terminates index n x)
+AllFree-terminates P index n x a =
+    let reached = AllFree-Atom (Below P n) x n (inr a) (inl refl) in
+    AllFree-two P (Not (infinitely_many n (atom Star index x n))) (Not (some n (Binary And (atom Star index x n) (atom Plus index n n))))
+    (AllFree-infinitely_many P n (atom Star index x n) reached)
+    (AllFree-some P n (Binary And (atom Star index x n) (atom Plus index n n))
+    (AllFree-two (Below P n) (atom Star index x n) (atom Plus index n n) reached (AllFree-Atom (Below P n) n n (inl refl) (inl refl))))
 
 -- a relation with two numbers has no other
 abbrev pub OnlyThese : (ℕ → ℕ → Core) → Type 1
 OnlyThese rel = (P : ℕ → Type 0) (x y : ℕ) → P x → P y → AllFree P (rel x y)
 
 AllFree-forks : (P : ℕ → Type 0) (rel rel' : ℕ → ℕ → Core) → OnlyThese rel → OnlyThese rel' → (x y z : ℕ) → P y → P z
-    → AllFree P (some x (And (rel x y) (rel' x z)))
+    → AllFree P (some x (Binary And (rel x y) (rel' x z)))
 AllFree-forks P rel rel' only only' x y z b c =
-    AllFree-some P x (And (rel x y) (rel' x z))
+    AllFree-some P x (Binary And (rel x y) (rel' x z))
     (AllFree-two (Below P x) (rel x y) (rel' x z) (only (Below P x) x y (inl refl) (inr b)) (only' (Below P x) x z (inl refl) (inr c)))
 
 -- the two numbers that a property binds
@@ -226,22 +249,22 @@ no_others n c h = AllFree-some (λ k. ⊥) n (Not (every (n + 1) c)) (AllFree-so
 
 AllFree-property : (p : Property) (index n : ℕ) → IsClosed (property_core p index n)
 AllFree-property surface.Cr index n = no_others n
-    (implies (forks (Atom Star index) (n + 2) n (n + 1)) (joins index (n + 2) n (n + 1)))
-    (AllFree-two (Bound n) (Not (forks (Atom Star index) (n + 2) n (n + 1))) (joins index (n + 2) n (n + 1))
-    (AllFree-forks (Bound n) (Atom Star index) (Atom Star index) AllFree-Atom AllFree-Atom (n + 2) n (n + 1) (first_bound n) (second_bound n))
+    (implies (forks (atom Star index) (n + 2) n (n + 1)) (joins index (n + 2) n (n + 1)))
+    (AllFree-two (Bound n) (Not (forks (atom Star index) (n + 2) n (n + 1))) (joins index (n + 2) n (n + 1))
+    (AllFree-forks (Bound n) (atom Star index) (atom Star index) AllFree-Atom AllFree-Atom (n + 2) n (n + 1) (first_bound n) (second_bound n))
     (AllFree-joins (Bound n) index (n + 2) n (n + 1) (first_bound n) (second_bound n)))
 AllFree-property surface.Wcr index n = no_others n
-    (implies (forks (Atom Step index) (n + 2) n (n + 1)) (joins index (n + 2) n (n + 1)))
-    (AllFree-two (Bound n) (Not (forks (Atom Step index) (n + 2) n (n + 1))) (joins index (n + 2) n (n + 1))
-    (AllFree-forks (Bound n) (Atom Step index) (Atom Step index) AllFree-Atom AllFree-Atom (n + 2) n (n + 1) (first_bound n) (second_bound n))
+    (implies (forks (atom Step index) (n + 2) n (n + 1)) (joins index (n + 2) n (n + 1)))
+    (AllFree-two (Bound n) (Not (forks (atom Step index) (n + 2) n (n + 1))) (joins index (n + 2) n (n + 1))
+    (AllFree-forks (Bound n) (atom Step index) (atom Step index) AllFree-Atom AllFree-Atom (n + 2) n (n + 1) (first_bound n) (second_bound n))
     (AllFree-joins (Bound n) index (n + 2) n (n + 1) (first_bound n) (second_bound n)))
 AllFree-property surface.Scr index n = no_others n
-    (implies (forks (Atom Step index) (n + 2) n (n + 1)) (some (n + 2) (And (at_most_one_step index n (n + 2)) (Atom Star index (n + 1) (n + 2)))))
-    (AllFree-two (Bound n) (Not (forks (Atom Step index) (n + 2) n (n + 1)))
-    (some (n + 2) (And (at_most_one_step index n (n + 2)) (Atom Star index (n + 1) (n + 2))))
-    (AllFree-forks (Bound n) (Atom Step index) (Atom Step index) AllFree-Atom AllFree-Atom (n + 2) n (n + 1) (first_bound n) (second_bound n))
-    (AllFree-some (Bound n) (n + 2) (And (at_most_one_step index n (n + 2)) (Atom Star index (n + 1) (n + 2)))
-    (AllFree-two (Below (Bound n) (n + 2)) (at_most_one_step index n (n + 2)) (Atom Star index (n + 1) (n + 2))
+    (implies (forks (atom Step index) (n + 2) n (n + 1)) (some (n + 2) (Binary And (at_most_one_step index n (n + 2)) (atom Star index (n + 1) (n + 2)))))
+    (AllFree-two (Bound n) (Not (forks (atom Step index) (n + 2) n (n + 1)))
+    (some (n + 2) (Binary And (at_most_one_step index n (n + 2)) (atom Star index (n + 1) (n + 2))))
+    (AllFree-forks (Bound n) (atom Step index) (atom Step index) AllFree-Atom AllFree-Atom (n + 2) n (n + 1) (first_bound n) (second_bound n))
+    (AllFree-some (Bound n) (n + 2) (Binary And (at_most_one_step index n (n + 2)) (atom Star index (n + 1) (n + 2)))
+    (AllFree-two (Below (Bound n) (n + 2)) (at_most_one_step index n (n + 2)) (atom Star index (n + 1) (n + 2))
     (AllFree-related (Below (Bound n) (n + 2)) surface.Reflexive index n (n + 2) (inr (first_bound n)) (inl refl))
     (AllFree-Atom (Below (Bound n) (n + 2)) (n + 1) (n + 2) (inr (second_bound n)) (inl refl)))))
 AllFree-property surface.Wn index n =
@@ -255,26 +278,30 @@ AllFree-property surface.Unr index n =
     (AllFree-forks (Bound n) (normalises index) (normalises index) only_normalises only_normalises (n + 2) n (n + 1) (first_bound n) (second_bound n))
     (AllFree-Atom (Bound n) n (n + 1) (first_bound n) (second_bound n)))
 AllFree-property surface.Unc index n = no_others n
-    (implies (And (And (Atom Conv index n (n + 1)) (Nf index n)) (Nf index (n + 1))) (equal n (n + 1)))
-    (AllFree-two (Bound n) (Not (And (And (Atom Conv index n (n + 1)) (Nf index n)) (Nf index (n + 1)))) (equal n (n + 1))
-    (AllFree-two (Bound n) (And (Atom Conv index n (n + 1)) (Nf index n)) (Nf index (n + 1))
-    (AllFree-two (Bound n) (Atom Conv index n (n + 1)) (Nf index n)
+    (implies (Binary And (Binary And (atom Conv index n (n + 1)) (Leaf (Normal index n))) (Leaf (Normal index (n + 1)))) (equal n (n + 1)))
+    (AllFree-two (Bound n) (Not (Binary And (Binary And (atom Conv index n (n + 1)) (Leaf (Normal index n))) (Leaf (Normal index (n + 1))))) (equal n (n + 1))
+    (AllFree-two (Bound n) (Binary And (atom Conv index n (n + 1)) (Leaf (Normal index n))) (Leaf (Normal index (n + 1)))
+    (AllFree-two (Bound n) (atom Conv index n (n + 1)) (Leaf (Normal index n))
     (AllFree-Atom (Bound n) n (n + 1) (first_bound n) (second_bound n)) (AllFree-Nf (Bound n) n (first_bound n)))
     (AllFree-Nf (Bound n) (n + 1) (second_bound n)))
     (AllFree-Atom (Bound n) n (n + 1) (first_bound n) (second_bound n)))
 AllFree-property surface.Nfp index n = no_others n
-    (implies (And (Atom Conv index n (n + 1)) (Nf index (n + 1))) (Atom Star index n (n + 1)))
-    (AllFree-two (Bound n) (Not (And (Atom Conv index n (n + 1)) (Nf index (n + 1)))) (Atom Star index n (n + 1))
-    (AllFree-two (Bound n) (Atom Conv index n (n + 1)) (Nf index (n + 1))
+    (implies (Binary And (atom Conv index n (n + 1)) (Leaf (Normal index (n + 1)))) (atom Star index n (n + 1)))
+    (AllFree-two (Bound n) (Not (Binary And (atom Conv index n (n + 1)) (Leaf (Normal index (n + 1))))) (atom Star index n (n + 1))
+    (AllFree-two (Bound n) (atom Conv index n (n + 1)) (Leaf (Normal index (n + 1)))
     (AllFree-Atom (Bound n) n (n + 1) (first_bound n) (second_bound n)) (AllFree-Nf (Bound n) (n + 1) (second_bound n)))
     (AllFree-Atom (Bound n) n (n + 1) (first_bound n) (second_bound n)))
 
+AllFree-all_terminate : (index n : ℕ) → IsClosed (all_terminate index n)
+AllFree-all_terminate index n =
+    AllFree-some (λ k. ⊥) n (Not (terminates index (n + 1) n)) (AllFree-terminates (Below (λ k. ⊥) n) index (n + 1) n (inl refl))
+
 AllFree-commutes : (n : ℕ) → IsClosed (commutes n)
 AllFree-commutes n =
-    let from = some (n + 2) (And (Atom Star 1 (n + 2) n) (Atom Star 2 (n + 2) (n + 1))) in
-    let to = some (n + 2) (And (Atom Star 2 n (n + 2)) (Atom Star 1 (n + 1) (n + 2))) in
+    let from = some (n + 2) (Binary And (atom Star 1 (n + 2) n) (atom Star 2 (n + 2) (n + 1))) in
+    let to = some (n + 2) (Binary And (atom Star 2 n (n + 2)) (atom Star 1 (n + 1) (n + 2))) in
     no_others n (implies from to) (AllFree-two (Bound n) (Not from) to
-    (AllFree-forks (Bound n) (Atom Star 1) (Atom Star 2) AllFree-Atom AllFree-Atom (n + 2) n (n + 1) (first_bound n) (second_bound n))
+    (AllFree-forks (Bound n) (atom Star 1) (atom Star 2) AllFree-Atom AllFree-Atom (n + 2) n (n + 1) (first_bound n) (second_bound n))
     (AllFree-meets (Bound n) 2 1 (n + 2) n (n + 1) (first_bound n) (second_bound n)))
 
 module _ (terms : List Tree) (scope : List Name) where
@@ -287,8 +314,8 @@ module _ (terms : List Tree) (scope : List Name) where
       → ((Q : ℕ → Type 0) (m x : ℕ) → ((k : ℕ) → P k → Q k) → Q x → AllFree Q (make m x)) → AllFree P (about terms scope n a make)
   AllFree-about P n (surface.Var x) make among only = only P n (number_in scope x) (λ k p. p) (among x (Contains-head x []))
   AllFree-about P n (surface.Ground k) make among only =
-      AllFree-bound P n (And (Is n (term_at terms k)) (make (n + 1) n))
-      (AllFree-two (Below P n) (Is n (term_at terms k)) (make (n + 1) n)
+      AllFree-bound P n (Binary And (Leaf (IsTerm n (term_at terms k))) (make (n + 1) n))
+      (AllFree-two (Below P n) (Leaf (IsTerm n (term_at terms k))) (make (n + 1) n)
       (AllFree-Nf (Below P n) n (inl refl)) (only (Below P n) (n + 1) n (λ i p. inr p) (inl refl)))
 
   AllFree-about_both : (P : ℕ → Type 0) (n : ℕ) (a b : Argument) (make : ℕ → ℕ → ℕ → Core) → Among P a → Among P b
@@ -339,12 +366,19 @@ module _ (terms : List Tree) where
   AllFree-core_in (surface.Related rel a b index) scope =
       AllFree-about_both terms scope (IsNumberOf scope (names_in a ++ names_in b)) (length scope) a b (λ n x y. related rel index x y)
       (first_names scope a b) (second_names scope a b) (λ Q n x y at_x at_y. AllFree-related Q rel index x y at_x at_y)
+  AllFree-core_in (surface.InContext e number place a b) scope =
+      AllFree-about_both terms scope (IsNumberOf scope (names_in a ++ names_in b)) (length scope) a b (λ n x y. Leaf (InContext e number place x y))
+      (first_names scope a b) (second_names scope a b) (λ Q n x y at_x at_y. AllFree-Atom Q x y at_x at_y)
   AllFree-core_in (surface.Nf a index) scope =
-      AllFree-about terms scope (IsNumberOf scope (names_in a)) (length scope) a (λ n x. Nf index x)
+      AllFree-about terms scope (IsNumberOf scope (names_in a)) (length scope) a (λ n x. Leaf (Normal index x))
       (λ x among. (x, among, refl)) (λ Q n x kept at_x. AllFree-Nf Q x at_x)
   AllFree-core_in (surface.Join a b index) scope =
       AllFree-about_both terms scope (IsNumberOf scope (names_in a ++ names_in b)) (length scope) a b (λ n x y. joins index n x y)
       (first_names scope a b) (second_names scope a b) (λ Q n x y at_x at_y. AllFree-joins Q index n x y at_x at_y)
+  AllFree-core_in (surface.AllSn index) scope = λ k free. absurd (AllFree-all_terminate index (length scope) k free)
+  AllFree-core_in (surface.Sn a index) scope =
+      AllFree-about terms scope (IsNumberOf scope (names_in a)) (length scope) a (λ n x. terminates index n x)
+      (λ x among. (x, among, refl)) (λ Q n x kept at_x. AllFree-terminates Q index n x at_x)
   AllFree-core_in (surface.Has p index) scope = λ k free. absurd (AllFree-property p index (length scope) k free)
   AllFree-core_in surface.Com scope = λ k free. absurd (AllFree-commutes (length scope) k free)
   AllFree-core_in (surface.Not f) scope = AllFree-core_in f scope

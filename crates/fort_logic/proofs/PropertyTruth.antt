@@ -1,16 +1,18 @@
 -- Each named property is true exactly where the core formula that stands for it is.
 use Rattle.std.specs.Prelude.{◌≡◌, ◌↔◌, ℕ, ◌+◌}
 use Rattle.std.proofs.Common.{sym, arith}
-use Rattle.fort_logic.specs.Logic.{Surely, HasSome}
+use Rattle.fort_theory.specs.Logic.{Surely, HasSome}
 use Rattle.fort_theory.specs.Trees.{Tree}
 use Rattle.fort_theory.specs.Signatures.{Signature, IsGround, HasConstant}
 use Rattle.fort_theory.specs.Rewriting.{Relation, Rewrites, RewritesAtMostOnce, Reduces, Converts, IsNormalForm}
-use Rattle.fort_logic.specs.Truth.{Structure, AreJoinable, HasProperty}
+use Rattle.fort_cores.specs.Structures.{Structure}
+use Rattle.fort_logic.specs.Truth.{AreJoinable, HasProperty}
 use Rattle.fort_logic.specs.Formulas.{Property, Cr, Wcr, Scr, Wn, Unr, Unc, Nfp}
-use Rattle.fort_logic.specs.Cores as core
-use Rattle.fort_logic.specs.Cores.{Core}
-use Rattle.fort_logic.specs.CoreTruth.{Places, with_number}
-use Rattle.fort_logic.specs.Translation.{some, equal as equals, implies, joins, normalises, at_most_one_step, property_core}
+use Rattle.fort_cores.specs.Cores as core
+use Rattle.fort_theory.specs.Logic as logic
+use Rattle.fort_cores.specs.Cores.{Core}
+use Rattle.fort_cores.specs.CoreTruth.{Places, with_number}
+use Rattle.fort_logic.specs.Translation.{atom, some, equal as equals, implies, joins, normalises, at_most_one_step, property_core}
 use Rattle.fort_logic.proofs.Binders.{Met, Met-some, Met-every, Met-implies}
 use Rattle.fort_logic.proofs.Abbreviations.{moved, Met-meets, Met-joins, Met-fork_property, Met-every_two, first_of_two, second_of_two, SurelyReduces, SurelySteps, SurelyNormalises, SurelyAtMostOnce, means_star, means_step, means_normalises, means_at_most_one, surely_at_most_once}
 
@@ -38,10 +40,10 @@ module _ (structure : Structure) (index : ℕ) (constant : HasConstant structure
   ToNormal s t = Surely (Converts root s t) × IsNormalForm root t
 
   abbrev normals : ℕ → Core
-  normals n = core.And (core.And (core.Atom core.Conv index n (n + 1)) (core.Nf index n)) (core.Nf index (n + 1))
+  normals n = core.Binary logic.And (core.Binary logic.And (atom core.Conv index n (n + 1)) (core.Leaf (core.Normal index n))) (core.Leaf (core.Normal index (n + 1)))
 
   abbrev half_normal : ℕ → Core
-  half_normal n = core.And (core.Atom core.Conv index n (n + 1)) (core.Nf index (n + 1))
+  half_normal n = core.Binary logic.And (atom core.Conv index n (n + 1)) (core.Leaf (core.Normal index (n + 1)))
 
   -- one step at most from the first, a reduction from the second
   abbrev Meets : Relation
@@ -57,9 +59,9 @@ module _ (structure : Structure) (index : ℕ) (constant : HasConstant structure
   joined n w s t e f = Met-joins structure index constant (n + 2) n (n + 1) w s t (not_next n) (not_after n) e f
 
   met : (n : ℕ) (w : Places) (s t : Tree) → w n ≡ s → w (n + 1) ≡ t
-      → Met structure (some (n + 2) (core.And (at_most_one_step index n (n + 2)) (core.Atom core.Star index (n + 1) (n + 2)))) w ↔ Meets s t
+      → Met structure (some (n + 2) (core.Binary logic.And (at_most_one_step index n (n + 2)) (atom core.Star index (n + 1) (n + 2)))) w ↔ Meets s t
   met n w s t e f =
-      let meets = Met-meets structure index constant (at_most_one_step index) (core.Atom core.Star index) (SurelyAtMostOnce structure index) (SurelyReduces structure index) (means_at_most_one structure index) (means_star structure index)
+      let meets = Met-meets structure index constant (at_most_one_step index) (atom core.Star index) (SurelyAtMostOnce structure index) (SurelyReduces structure index) (means_at_most_one structure index) (means_star structure index)
       (n + 2) n (n + 1) w s t (not_next n) (not_after n) e f in (
         (λ h none. meets.0 h (λ u k. (surely_at_most_once structure index s u).1 k.1.0 (λ a. k.1.1 (λ b. none u (k.0, a, b))))),
         (λ h. meets.1 (λ none. h (λ u k. none u (k.0, ((surely_at_most_once structure index s u).0 (λ no. no k.1), (λ no. no k.2)))))),
@@ -79,24 +81,24 @@ module _ (structure : Structure) (index : ℕ) (constant : HasConstant structure
 
   pub Met-property : (p : Property) (n : ℕ) (v : Places) → Met structure (property_core p index n) v ↔ HasProperty structure index p
   Met-property Cr n v =
-      let fork = Met-fork_property structure index constant (core.Atom core.Star index) (core.Atom core.Star index)
+      let fork = Met-fork_property structure index constant (atom core.Star index) (atom core.Star index)
       (SurelyReduces structure index) (SurelyReduces structure index)
       (means_star structure index) (means_star structure index) n
       (joins index (n + 2) n (n + 1)) (AreJoinable structure index) (joined n) v in
       let law = fork_law signature (Reduces root) (Reduces root) (AreJoinable structure index) joinable_stable in
       ((λ h. law.0 (fork.0 h)), (λ p. fork.1 (law.1 p)))
   Met-property Wcr n v =
-      let fork = Met-fork_property structure index constant (core.Atom core.Step index) (core.Atom core.Step index)
+      let fork = Met-fork_property structure index constant (atom core.Step index) (atom core.Step index)
       (SurelySteps structure index) (SurelySteps structure index)
       (means_step structure index) (means_step structure index) n
       (joins index (n + 2) n (n + 1)) (AreJoinable structure index) (joined n) v in
       let law = fork_law signature (Rewrites root) (Rewrites root) (AreJoinable structure index) joinable_stable in
       ((λ h. law.0 (fork.0 h)), (λ p. fork.1 (law.1 p)))
   Met-property Scr n v =
-      let fork = Met-fork_property structure index constant (core.Atom core.Step index) (core.Atom core.Step index)
+      let fork = Met-fork_property structure index constant (atom core.Step index) (atom core.Step index)
       (SurelySteps structure index) (SurelySteps structure index)
       (means_step structure index) (means_step structure index) n
-      (some (n + 2) (core.And (at_most_one_step index n (n + 2)) (core.Atom core.Star index (n + 1) (n + 2)))) Meets (met n) v in
+      (some (n + 2) (core.Binary logic.And (at_most_one_step index n (n + 2)) (atom core.Star index (n + 1) (n + 2)))) Meets (met n) v in
       let law = fork_law signature (Rewrites root) (Rewrites root) Meets meets_stable in
       ((λ h. law.0 (fork.0 h)), (λ p. fork.1 (law.1 p)))
   Met-property Wn n v = (
@@ -145,12 +147,12 @@ module _ (structure : Structure) (index : ℕ) (constant : HasConstant structure
     (λ h s t gs gt st nt.
         let w = with_number (with_number v n s) (n + 1) t in
         moved (SurelyReduces structure index) (w n) (w (n + 1)) s t (first_of_two structure index constant n v s t) (second_of_two structure index constant n v s t)
-        ((Met-implies structure (half_normal n) (core.Atom core.Star index n (n + 1)) w).0
-        ((Met-every_two structure index constant n (implies (half_normal n) (core.Atom core.Star index n (n + 1))) v).0 h s t gs gt)
+        ((Met-implies structure (half_normal n) (atom core.Star index n (n + 1)) w).0
+        ((Met-every_two structure index constant n (implies (half_normal n) (atom core.Star index n (n + 1))) v).0 h s t gs gt)
         (moved ToNormal s t (w n) (w (n + 1)) (sym (first_of_two structure index constant n v s t)) (sym (second_of_two structure index constant n v s t)) ((λ no. no st), nt)))),
-    (λ p. (Met-every_two structure index constant n (implies (half_normal n) (core.Atom core.Star index n (n + 1))) v).1 (λ s t gs gt.
+    (λ p. (Met-every_two structure index constant n (implies (half_normal n) (atom core.Star index n (n + 1))) v).1 (λ s t gs gt.
         let w = with_number (with_number v n s) (n + 1) t in
-        (Met-implies structure (half_normal n) (core.Atom core.Star index n (n + 1)) w).1 (λ h.
+        (Met-implies structure (half_normal n) (atom core.Star index n (n + 1)) w).1 (λ h.
         let k = moved ToNormal (w n) (w (n + 1)) s t (first_of_two structure index constant n v s t) (second_of_two structure index constant n v s t) h in
         moved (SurelyReduces structure index) s t (w n) (w (n + 1)) (sym (first_of_two structure index constant n v s t)) (sym (second_of_two structure index constant n v s t))
         (λ no. k.0 (λ st. p s t gs gt st k.1 no))))),

@@ -1,4 +1,4 @@
--- Structures over one signature whose root steps relate the same trees have the same formulas and core formulas true.
+-- Structures over one signature whose root steps relate the same trees have the same formulas true.
 use Rattle.std.specs.Prelude.{◌↔◌, ℕ, All}
 use Rattle.fort_theory.specs.Trees.{Tree}
 use Rattle.fort_theory.specs.Signatures.{Signature, HasConstant}
@@ -10,9 +10,13 @@ use Rattle.fort_theory.specs.PatternSteps.{PatternStepAt}
 use Rattle.fort_theory.proofs.IndexLaws.{at_index-map, All-at_index}
 use Rattle.fort_theory.proofs.WithinRoots.{Within, Rewrites-within, RewritesBelow-within, RewritesAtMostOnce-within, RewritesEitherWay-within, Reduces-within, ReducesStrictly-within, Converts-within, RewritesInParallel-within, IsNormalForm-within}
 use Rattle.fort_theory.proofs.PatternSteps.{PatternStep-from_RootStep, RootStep-from_PatternStep}
-use Rattle.fort_logic.specs.Formulas.{SurfaceRel, Eq, Step, Star, Plus, Reflexive, Normal, Root, Below, Par, Either, Conv, Property, Cr, Wcr, Scr, Wn, Unr, Unc, Nfp, Formula, True, False, Related, Nf, Join, Has, Com, Not, And, Or, Imp, Iff, Exists, Forall, Infinite}
-use Rattle.fort_logic.specs.PatternStructures.{pattern_structure}
-use Rattle.fort_logic.specs.Truth.{Structure, structure_of, Assignment, with_name, Relates, AreJoinable, HasProperty, Commute, Holds}
+use Rattle.fort_termination.proofs.TerminationWithin.{IsTerminating-within}
+use Rattle.fort_expressions.specs.Expressions.{Means}
+use Rattle.fort_expressions.proofs.MeaningLaws.{Means-within, HoldsInContext-within}
+use Rattle.fort_cores.proofs.SameCoreRoots.{over}
+use Rattle.fort_logic.specs.Formulas.{SurfaceRel, Eq, Step, Star, Plus, Reflexive, Normal, Root, Below, Par, Either, Conv, Property, Cr, Wcr, Scr, Wn, Unr, Unc, Nfp, Formula, True, False, Related, InContext, Nf, Join, Sn, AllSn, Has, Com, Not, And, Or, Imp, Iff, Exists, Forall, Infinite}
+use Rattle.fort_cores.specs.Structures.{pattern_structure, structure_of}
+use Rattle.fort_logic.specs.Truth.{Assignment, with_name, Relates, AreJoinable, HasProperty, Commute, Holds}
 
 module _ (r q : Relation) (w : Within r q) (back : Within q r) where
   pub Relates-same_root : (rel : SurfaceRel) → Within (Relates r rel) (Relates q rel)
@@ -27,10 +31,6 @@ module _ (r q : Relation) (w : Within r q) (back : Within q r) where
   Relates-same_root Par s t h = RewritesInParallel-within r q w s t h
   Relates-same_root Either s t h = RewritesEitherWay-within r q w s t h
   Relates-same_root Conv s t h = Converts-within r q w s t h
-
--- a signature with root steps
-abbrev pub over : Signature → (ℕ → Relation) → Structure
-over signature root = record { signature = signature; root = root }
 
 module _ (signature : Signature) (r q : ℕ → Relation) (w : (i : ℕ) → Within (r i) (q i)) (back : (i : ℕ) → Within (q i) (r i)) where
   pub AreJoinable-same_root : (i : ℕ) (s t : Tree) → AreJoinable (over signature r) i s t → AreJoinable (over signature q) i s t
@@ -67,9 +67,18 @@ Holds-same_root signature r q w back (Related rel a b i) m = (
   (λ h no. h (λ k. no (Relates-same_root (r i) (q i) (w i) (back i) rel (m a) (m b) k))),
   (λ h no. h (λ k. no (Relates-same_root (q i) (r i) (back i) (w i) rel (m a) (m b) k))),
 )
+Holds-same_root signature r q w back (InContext e number place a b) m = (
+  (λ h no. h (λ k. no (HoldsInContext-within (Means r e) (Means q e) (Means-within r q w e) number place (m a) (m b) k))),
+  (λ h no. h (λ k. no (HoldsInContext-within (Means q e) (Means r e) (Means-within q r back e) number place (m a) (m b) k))),
+)
 Holds-same_root signature r q w back (Nf a i) m = (IsNormalForm-within (q i) (r i) (back i) (m a), IsNormalForm-within (r i) (q i) (w i) (m a))
 Holds-same_root signature r q w back (Join a b i) m =
     (AreJoinable-same_root signature r q w back i (m a) (m b), AreJoinable-same_root signature q r back w i (m a) (m b))
+Holds-same_root signature r q w back (Sn a i) m = (IsTerminating-within (q i) (r i) (back i) (m a), IsTerminating-within (r i) (q i) (w i) (m a))
+Holds-same_root signature r q w back (AllSn i) m = (
+  (λ all s gs. IsTerminating-within (q i) (r i) (back i) s (all s gs)),
+  (λ all s gs. IsTerminating-within (r i) (q i) (w i) s (all s gs)),
+)
 Holds-same_root signature r q w back (Has p i) m =
     (HasProperty-same_root signature r q w back i p, HasProperty-same_root signature q r back w i p)
 Holds-same_root signature r q w back Com m = (Commute-same_root signature r q w back, Commute-same_root signature q r back w)

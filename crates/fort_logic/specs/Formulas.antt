@@ -1,5 +1,7 @@
--- To believe: the formulas that a user can write, as trees with names for variables; relations, NF, JOIN and properties have the index of the rules that they are about.
+-- To believe: the formulas that a user can write, as trees with names for variables; relations, NF, JOIN, SN and properties have the index of the rules that they are about, an expression those of its root steps.
 use Rattle.std.specs.Prelude.{ℕ, List}
+use Rattle.fort_expressions.specs.Expressions.{Expression}
+use Rattle.fort_expressions.specs.Contexts.{HoleNumber, HolePlace}
 
 -- a variable's name, as bytes
 abbrev pub Name : Type 0
@@ -36,13 +38,17 @@ pub data Argument : Type 0 where
   Var : Name → Argument
   Ground : (place : ℕ) → Argument
 
--- Com says that the rules of index 1 and those of index 2 commute
+-- InContext: by an expression, in a context with so many holes at such places. Sn says that the argument terminates, AllSn
+-- that every ground term does, and Com that the rules of index 1 and those of index 2 commute
 pub data Formula : Type 0 where
   True : Formula
   False : Formula
   Related : SurfaceRel → Argument → Argument → (index : ℕ) → Formula
+  InContext : Expression → HoleNumber → HolePlace → Argument → Argument → Formula
   Nf : Argument → (index : ℕ) → Formula
   Join : Argument → Argument → (index : ℕ) → Formula
+  Sn : Argument → (index : ℕ) → Formula
+  AllSn : (index : ℕ) → Formula
   Has : Property → (index : ℕ) → Formula
   Com : Formula
   Not : Formula → Formula

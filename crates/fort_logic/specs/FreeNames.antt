@@ -1,6 +1,6 @@
 -- To believe: which variables are free in a formula, in the order of their first free occurrences.
 use Rattle.std.specs.Prelude.{not, List, [], ◌∷◌, ◌++◌, filter, bytes_eq}
-use Rattle.fort_logic.specs.Formulas.{Name, Argument, Var, Ground, Formula, True, False, Related, Nf, Join, Has, Com, Not, And, Or, Imp, Iff, Exists, Forall, Infinite}
+use Rattle.fort_logic.specs.Formulas.{Name, Argument, Var, Ground, Formula, True, False, Related, InContext, Nf, Join, Sn, AllSn, Has, Com, Not, And, Or, Imp, Iff, Exists, Forall, Infinite}
 
 -- the names other than x
 abbrev pub without : Name → List Name → List Name
@@ -16,8 +16,11 @@ abbrev pub occurrences : Formula → List Name
 occurrences True = []
 occurrences False = []
 occurrences (Related rel a b index) = names_in a ++ names_in b
+occurrences (InContext e number place a b) = names_in a ++ names_in b
 occurrences (Nf a index) = names_in a
 occurrences (Join a b index) = names_in a ++ names_in b
+occurrences (Sn a index) = names_in a
+occurrences (AllSn index) = []
 occurrences (Has property index) = []
 occurrences Com = []
 occurrences (Not f) = occurrences f

@@ -1,14 +1,7 @@
-pub mod Logic
 pub mod Formulas
 pub mod Truth
-pub mod Cores
-pub mod CoreTruth
-pub mod EachOnce
 pub mod FreeNames
 pub mod Mentions
-pub mod Parts
-pub mod PartLists
-pub mod Kinds
+pub mod Terminations
 pub mod Translation
 pub mod KeepsTruth
-pub mod PatternStructures

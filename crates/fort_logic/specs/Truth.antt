@@ -1,21 +1,15 @@
 -- To believe: when a formula is true, its variables ranging over all ground terms of a signature, for any relations between trees as the root steps.
 use Rattle.std.specs.Prelude.{◌≡◌, ℕ, if◌then◌else◌, bytes_eq, List, Some, slice_get}
-use Rattle.fort_logic.specs.Logic.{Surely, OneOf, HasSome, HasInfinitelyMany}
+use Rattle.fort_theory.specs.Logic.{Surely, OneOf, HasSome, HasInfinitelyMany}
 use Rattle.fort_theory.specs.Trees.{Tree}
-use Rattle.fort_theory.specs.Signatures.{Signature, IsGround}
+use Rattle.fort_theory.specs.Signatures.{IsGround}
 use Rattle.fort_theory.specs.Sides.{System}
 use Rattle.fort_theory.specs.Rewriting.{Relation, Rewrites, RewritesBelow, RewritesAtMostOnce, Reduces, ReducesStrictly, RewritesEitherWay, Converts, RewritesInParallel, IsNormalForm}
-use Rattle.fort_theory.specs.RootSteps.{RootStepAt}
-use Rattle.fort_logic.specs.Formulas.{Name, Argument, Var, Ground, SurfaceRel, Eq, Step, Star, Plus, Reflexive, Normal, Root, Below, Par, Either, Conv, Property, Cr, Wcr, Scr, Wn, Unr, Unc, Nfp, Formula, True, False, Related, Nf, Join, Has, Com, Not, And, Or, Imp, Iff, Exists, Forall, Infinite}
-
--- what truth speaks of: a signature, and for each index the root steps
-pub record Structure : Type 1 where
-  pub signature : Signature
-  pub root : ℕ → Relation
-
--- a system with the root steps by its rules
-abbrev pub structure_of : System → Structure
-structure_of system = record { signature = system.signature; root = RootStepAt system }
+use Rattle.fort_expressions.specs.Expressions.{Means}
+use Rattle.fort_expressions.specs.Contexts.{HoldsInContext}
+use Rattle.fort_cores.specs.Structures.{Structure, structure_of}
+use Rattle.fort_termination.specs.Termination.{IsTerminating, AllTerminate}
+use Rattle.fort_logic.specs.Formulas.{Name, Argument, Var, Ground, SurfaceRel, Eq, Step, Star, Plus, Reflexive, Normal, Root, Below, Par, Either, Conv, Property, Cr, Wcr, Scr, Wn, Unr, Unc, Nfp, Formula, True, False, Related, InContext, Nf, Join, Sn, AllSn, Has, Com, Not, And, Or, Imp, Iff, Exists, Forall, Infinite}
 
 -- a tree for each variable, and for each ground term that is written in a formula
 abbrev pub Assignment : Type 0
@@ -82,8 +76,11 @@ abbrev pub Holds : Structure → Formula → Assignment → Type 0
 Holds structure True m = Unit {0}
 Holds structure False m = ⊥
 Holds structure (Related rel a b index) m = Surely (Relates (structure.root index) rel (m a) (m b))
+Holds structure (InContext e number place a b) m = Surely (HoldsInContext (Means structure.root e) number place (m a) (m b))
 Holds structure (Nf a index) m = IsNormalForm (structure.root index) (m a)
 Holds structure (Join a b index) m = AreJoinable structure index (m a) (m b)
+Holds structure (Sn a index) m = IsTerminating (structure.root index) (m a)
+Holds structure (AllSn index) m = AllTerminate structure.signature (structure.root index)
 Holds structure (Has property index) m = HasProperty structure index property
 Holds structure Com m = Commute structure
 Holds structure (Not f) m = Holds structure f m → ⊥

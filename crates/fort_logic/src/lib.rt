@@ -1,2 +1,2 @@
-//! Definitions of formulas, core formulas and their truth, with the lemmas about them. It has no code.
+//! Definitions of formulas, their truth, and the core formulas that they are turned into, with the lemmas about them. It has no code.
 #![tactic(auto)]

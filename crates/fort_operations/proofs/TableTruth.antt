@@ -10,7 +10,8 @@ use Rattle.fort_tables.proofs.EqualTests.{equal_from_if}
 use Rattle.fort_tables.proofs.PresenceLaws.{presence_from_full}
 use Rattle.fort_tables.proofs.TableLaws.{table_state}
 use Rattle.fort_operations.specs.Selections.{selected, ArePlaces}
-use Rattle.fort_operations.specs.Products.{OfTable, OfTruth, And, IsOperand, product_rule, product_accepts}
+use Rattle.fort_theory.specs.Logic.{And}
+use Rattle.fort_operations.specs.Products.{OfTable, OfTruth, IsOperand, product_rule, product_accepts}
 use Rattle.fort_operations.specs.OperationTruth.{TupleRelation, TestsRelation, accepts, complemented, Complement, Cylinder, Exchange, UndoesOrder, IsOrder}
 use Rattle.fort_operations.proofs.SelectionLaws.{IsTuple-selected, IsFull-selected, present_from_full}
 use Rattle.fort_operations.proofs.TruthLaws.{not_decides, both_and, truth_says}

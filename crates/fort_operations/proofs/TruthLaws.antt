@@ -7,9 +7,10 @@ use Rattle.fort_tables.specs.Tables.{Table, IsTable, IsReached, state_of}
 use Rattle.fort_tables.specs.LabelRules.{label_of}
 use Rattle.fort_tables.proofs.InsertLaws.{IsFull-insert}
 use Rattle.fort_operations.specs.Selections.{selected}
-use Rattle.fort_operations.specs.Products.{Operand, OfTable, OfTruth, Connective, And, Or, Iff, IsOperand, IsLawful, operand_word, connected, operand_accepts, product_rule, product_accepts, state_at}
+use Rattle.fort_theory.specs.Logic.{Connective, And, Or, Iff, Connected}
+use Rattle.fort_operations.specs.Products.{Operand, OfTable, OfTruth, IsOperand, IsLawful, operand_word, connected, operand_accepts, product_rule, product_accepts, state_at}
 use Rattle.fort_operations.specs.Projections.{has_state, project_rule, project_accepts}
-use Rattle.fort_operations.specs.OperationTruth.{TupleRelation, TestsRelation, accepts, Connected, Cylinder, said_by, SomeCompletes}
+use Rattle.fort_operations.specs.OperationTruth.{TupleRelation, TestsRelation, accepts, Cylinder, said_by, SomeCompletes}
 use Rattle.fort_operations.proofs.SearchLaws.{found_below, below_found, both, left, right}
 use Rattle.fort_operations.proofs.CompletedTuples.{IsTuple-completed, completed_small}
 use Rattle.fort_operations.proofs.ProjectLabels.{label_exact}

@@ -1,12 +1,12 @@
 -- To believe: what tables of tuples of terms say as relations: complement, conjunction, disjunction, equivalence, "some term completes the tuple", cylinder and exchange.
-use Rattle.std.specs.Prelude.{◌≡◌, ◌↔◌, ◌<◌, ◌==◌, ℕ, List, Some, get_or, length, Bool, false, not, Decides, if◌then◌else◌}
+use Rattle.std.specs.Prelude.{◌≡◌, ◌<◌, ◌==◌, ℕ, List, Some, get_or, length, Bool, false, not, Decides, if◌then◌else◌}
 use Rattle.std.specs.List.{insert}
 use Rattle.fort_theory.specs.Trees.{Tree}
 use Rattle.fort_theory.specs.Signatures.{Signature, IsGround}
 use Rattle.fort_tables.specs.Tuples.{Tuple, IsTuple, IsFull}
 use Rattle.fort_tables.specs.Tables.{Table, full_presence, state_of}
 use Rattle.fort_operations.specs.Selections.{selected}
-use Rattle.fort_operations.specs.Products.{Operand, OfTable, OfTruth, Connective, And, Or, Iff}
+use Rattle.fort_operations.specs.Products.{Operand, OfTable, OfTruth}
 
 -- a relation between so many terms, each tuple having a term in every column
 abbrev pub TupleRelation : Type 1
@@ -32,12 +32,6 @@ complemented table = record {
 
 abbrev pub Complement : TupleRelation → TupleRelation
 Complement R t = R t → ⊥
-
--- a disjunction: not both are false
-abbrev pub Connected : Connective → Type 0 → Type 0 → Type 0
-Connected And A B = A × B
-Connected Or A B = (A → ⊥) → (B → ⊥) → ⊥
-Connected Iff A B = A ↔ B
 
 -- on its own columns; for any values of the others it is the relation's cylinder
 abbrev pub Cylinder : List ℕ → TupleRelation → TupleRelation

@@ -1,5 +1,6 @@
 -- To believe: the label of a product: the presence, and for each of two operands its state, counted from 1, on its own columns, or 0 where none of these is present or it is a truth; which labels a connective accepts.
 use Rattle.std.specs.Prelude.{◌≡◌, ℕ, suc, ◌-◌, List, [], ◌∷◌, map, take, length, get_or, Bool, not, ◌&&◌, ◌||◌, if◌then◌else◌}
+use Rattle.fort_theory.specs.Logic.{Connective, And, Or, Iff}
 use Rattle.fort_theory.specs.Signatures.{Signature}
 use Rattle.fort_tables.specs.Tuples.{Tuple, TupleSymbol, presence, symbol_kids}
 use Rattle.fort_tables.specs.Entries.{entry}
@@ -11,11 +12,6 @@ use Rattle.fort_operations.specs.Selections.{selected, is_present, ArePlaces}
 pub data Operand : Type 0 where
   OfTable : (table : Table) (places : List ℕ) → Operand
   OfTruth : Bool → Operand
-
-pub data Connective : Type 0 where
-  And : Connective
-  Or : Connective
-  Iff : Connective
 
 -- a truth has no columns
 abbrev pub places_of : Operand → List ℕ

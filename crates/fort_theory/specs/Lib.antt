@@ -1,3 +1,4 @@
+pub mod Logic
 pub mod Trees
 pub mod Signatures
 pub mod Sides

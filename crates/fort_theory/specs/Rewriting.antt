@@ -34,6 +34,10 @@ RewritesAtMostOnce root s t = (s ≡ t) ⊎ Rewrites root s t
 abbrev pub Reduces : Relation → Relation
 Reduces root s t = (us : List Tree) × Path (Rewrites root) s us t
 
+-- a reduction, a step at the root, a reduction
+abbrev pub ReducesThroughRoot : Relation → Relation
+ReducesThroughRoot root s t = (u v : Tree) × Reduces root s u × root u v × Reduces root v t
+
 -- at least one step
 abbrev pub ReducesStrictly : Relation → Relation
 ReducesStrictly root s t = (u : Tree) × (us : List Tree) × Path (Rewrites root) s (u ∷ us) t

@@ -1,7 +1,7 @@
--- To believe: the words below are the classical "or", "some" and "infinitely many".
+-- To believe: the words below are the classical "or", "some" and "infinitely many", and the connectives of two facts.
 -- A fact here is the type of its proofs, and that logic is constructive: a proof of "P or Q" names which. Truth asks
 -- for less, that not both fail, so these words say what they rule out, and no case has to be chosen.
-use Rattle.std.specs.Prelude.{List, Contains}
+use Rattle.std.specs.Prelude.{◌↔◌, List, Contains}
 
 -- P doesn't fail
 abbrev pub Surely : Type 0 → Type 0
@@ -18,3 +18,13 @@ HasSome {A} P = ((x : A) → P x → ⊥) → ⊥
 -- no finite list holds all that has P
 abbrev pub HasInfinitelyMany : {A : Type 0} → (A → Type 0) → Type 0
 HasInfinitelyMany {A} P = (xs : List A) → HasSome (λ (x : A). (Contains xs x → ⊥) × P x)
+
+pub data Connective : Type 0 where
+  And : Connective
+  Or : Connective
+  Iff : Connective
+
+abbrev pub Connected : Connective → Type 0 → Type 0 → Type 0
+Connected And P Q = P × Q
+Connected Or P Q = OneOf P Q
+Connected Iff P Q = P ↔ Q

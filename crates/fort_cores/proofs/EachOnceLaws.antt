@@ -2,7 +2,7 @@
 use Rattle.std.specs.Prelude.{◌≡◌, List, [], ◌∷◌, ◌++◌, ◌⊎◌, Contains}
 use Rattle.std.proofs.Common.{ap, sym, ◌∙◌, inl, inr, append_assoc, subst}
 use Rattle.std.proofs.lemmas.List.Elements.{Contains-append_left, Contains-append_right, Contains-push, Contains-push_cases}
-use Rattle.fort_logic.specs.EachOnce.{StandsBefore, StandsBeforeAll, AreEachOnce}
+use Rattle.fort_cores.specs.EachOnce.{StandsBefore, StandsBeforeAll, AreEachOnce}
 use Rattle.fort_theory.proofs.Members.{Contains-head, Contains-none, Contains-cons_cases}
 
 pub AreEachOnce-nil : {A : Type 0} → AreEachOnce {A = A} [] []

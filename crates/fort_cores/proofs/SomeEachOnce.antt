@@ -3,8 +3,8 @@ use Rattle.std.specs.Prelude.{◌≡◌, ◌⊎◌, Bool, true, Decides, List, [
 use Rattle.std.proofs.Common.{sym, subst, inl, inr, append_assoc, append-nil}
 use Rattle.std.proofs.lemmas.Bool.{cases_Bool}
 use Rattle.fort_theory.proofs.Members.{Contains-head, Contains-behind, Contains-cons_cases, Contains-none}
-use Rattle.fort_logic.specs.EachOnce.{AreEachOnce}
-use Rattle.fort_logic.proofs.EachOnceLaws.{AreEachOnce-nil, AreEachOnce-there, AreEachOnce-new}
+use Rattle.fort_cores.specs.EachOnce.{AreEachOnce}
+use Rattle.fort_cores.proofs.EachOnceLaws.{AreEachOnce-nil, AreEachOnce-there, AreEachOnce-new}
 
 module _ {A : Type 0} (equal : A → A → Bool) (decides : (x y : A) → Decides (equal x y) (x ≡ y)) where
   stands : (xs : List A) (z : A) → Contains xs z ⊎ (Contains xs z → ⊥)

@@ -1,5 +1,6 @@
 -- To believe: the kind of a core formula, by its root.
-use Rattle.fort_logic.specs.Cores as core
+use Rattle.fort_cores.specs.Cores as core
+use Rattle.fort_theory.specs.Logic as logic
 
 pub data Kind : Type 0 where
   True : Kind
@@ -11,6 +12,7 @@ pub data Kind : Type 0 where
   Plus : Kind
   Star : Kind
   Conv : Kind
+  Rex : Kind
   Nf : Kind
   Is : Kind
   Not : Kind
@@ -30,14 +32,21 @@ kind_of_relation core.Plus = Plus
 kind_of_relation core.Star = Star
 kind_of_relation core.Conv = Conv
 
+abbrev pub kind_of_atom : core.Atom → Kind
+kind_of_atom (core.Related rel index x y) = kind_of_relation rel
+kind_of_atom (core.InContext e number place x y) = Rex
+kind_of_atom (core.Normal index x) = Nf
+kind_of_atom (core.IsTerm x t) = Is
+
+abbrev pub kind_of_connective : logic.Connective → Kind
+kind_of_connective logic.And = And
+kind_of_connective logic.Or = Or
+kind_of_connective logic.Iff = Iff
+
 abbrev pub kind_of : core.Core → Kind
 kind_of core.True = True
-kind_of (core.Atom rel index x y) = kind_of_relation rel
-kind_of (core.Nf index x) = Nf
-kind_of (core.Is x t) = Is
+kind_of (core.Leaf a) = kind_of_atom a
 kind_of (core.Not f) = Not
-kind_of (core.And f g) = And
-kind_of (core.Or f g) = Or
-kind_of (core.Iff f g) = Iff
+kind_of (core.Binary op f g) = kind_of_connective op
 kind_of (core.Exists n f) = Exists
 kind_of (core.Infinite n f) = Infinite

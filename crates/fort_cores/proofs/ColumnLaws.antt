@@ -10,10 +10,12 @@ use Rattle.std.proofs.lemmas.Bool.Decides.{nat_tests}
 use Rattle.std.proofs.lemmas.List.Elements.{All-from_recursion, All-contains, Contains-append_left, Contains-append_right, Contains-append_cases, Contains-push, Contains-push_cases}
 use Rattle.std.proofs.lemmas.List.Kept.{IsStrictlyIncreasing-filter}
 use Rattle.std.proofs.lemmas.Map.Keys.{sorted_from_strictly_increasing, sorted_head, sorted_tail}
-use Rattle.fort_logic.specs.Cores.{Rel, Core, True, Atom, Nf, Is, Not, And, Or, Iff, Exists, Infinite}
+use Rattle.fort_cores.specs.Cores.{Rel, Atom, Related, InContext, Normal, IsTerm, Core, True, Leaf, Not, Binary, Exists, Infinite}
 use Rattle.fort_theory.specs.Trees.{Tree}
+use Rattle.fort_expressions.specs.Expressions.{Expression}
+use Rattle.fort_expressions.specs.Contexts.{HoleNumber, HolePlace}
 use Rattle.fort_theory.specs.Signatures.{most_columns}
-use Rattle.fort_logic.specs.Parts.{postorder, is_free, AreColumns, IsTooWide}
+use Rattle.fort_cores.specs.Parts.{postorder, stands_in, is_free, AreColumns, HasManyColumns, HasManyRootsAt, IsTooWide}
 use Rattle.fort_theory.proofs.Members.{Contains-head, Contains-behind, Contains-cons_cases, Contains-none, Contains-filter, Contains-from_filter, Contains-Decides}
 
 -- ---- from the operands
@@ -25,10 +27,10 @@ or-false : (b : Bool) → (b || false) ≡ b
 or-false true = refl
 or-false false = refl
 
--- the numbers of a formula without operands, each once and ascending
-AreColumns-leaf : (f : Core) (numbers columns : List ℕ) → ((n : ℕ) → list_any (λ x. x == n) numbers ≡ is_free n f)
-    → IsStrictlyIncreasing columns → ((n : ℕ) → Contains columns n ↔ Contains numbers n) → AreColumns f columns
-AreColumns-leaf f numbers columns tells ascending same =
+-- the numbers of an atom, each once and ascending
+AreColumns-leaf : (a : Atom) (numbers columns : List ℕ) → ((n : ℕ) → list_any (λ x. x == n) numbers ≡ stands_in n a)
+    → IsStrictlyIncreasing columns → ((n : ℕ) → Contains columns n ↔ Contains numbers n) → AreColumns (Leaf a) columns
+AreColumns-leaf a numbers columns tells ascending same =
     record {
       ascending = ascending;
       free =
@@ -37,16 +39,27 @@ AreColumns-leaf f numbers columns tells ascending same =
           (λ c. sym (tells n) ∙ test.1 ((same n).0 c), λ e. (same n).1 (test.0 (tells n ∙ e)));
     }
 
-pub AreColumns-Nf : (index x : ℕ) → AreColumns (Nf index x) (x ∷ [])
-AreColumns-Nf index x = AreColumns-leaf (Nf index x) (x ∷ []) (x ∷ []) (λ n. or-false (x == n)) (λ k l. absurd (omega arith)) (λ n. (λ c. c, λ c. c))
+pub AreColumns-Normal : (index x : ℕ) → AreColumns (Leaf (Normal index x)) (x ∷ [])
+AreColumns-Normal index x =
+    AreColumns-leaf (Normal index x) (x ∷ []) (x ∷ []) (λ n. or-false (x == n)) (λ k l. absurd (omega arith)) (λ n. (λ c. c, λ c. c))
 
-pub AreColumns-Is : (x : ℕ) (t : Tree) → AreColumns (Is x t) (x ∷ [])
-AreColumns-Is x t = AreColumns-leaf (Is x t) (x ∷ []) (x ∷ []) (λ n. or-false (x == n)) (λ k l. absurd (omega arith)) (λ n. (λ c. c, λ c. c))
+pub AreColumns-IsTerm : (x : ℕ) (t : Tree) → AreColumns (Leaf (IsTerm x t)) (x ∷ [])
+AreColumns-IsTerm x t =
+    AreColumns-leaf (IsTerm x t) (x ∷ []) (x ∷ []) (λ n. or-false (x == n)) (λ k l. absurd (omega arith)) (λ n. (λ c. c, λ c. c))
 
-pub AreColumns-Atom : (rel : Rel) (index x y : ℕ) (columns : List ℕ) → IsStrictlyIncreasing columns
-    → ((n : ℕ) → Contains columns n ↔ Contains (x ∷ y ∷ []) n) → AreColumns (Atom rel index x y) columns
-AreColumns-Atom rel index x y columns ascending same =
-    AreColumns-leaf (Atom rel index x y) (x ∷ y ∷ []) columns (λ n. ap (λ b. (x == n) || b) (or-false (y == n))) ascending same
+-- an atom of two numbers
+pub AreColumns-pair : (a : Atom) (x y : ℕ) → ((n : ℕ) → stands_in n a ≡ ((x == n) || (y == n))) → (columns : List ℕ) → IsStrictlyIncreasing columns
+    → ((n : ℕ) → Contains columns n ↔ Contains (x ∷ y ∷ []) n) → AreColumns (Leaf a) columns
+AreColumns-pair a x y of columns ascending same =
+    AreColumns-leaf a (x ∷ y ∷ []) columns (λ n. ap (λ b. (x == n) || b) (or-false (y == n)) ∙ sym (of n)) ascending same
+
+pub AreColumns-Related : (rel : Rel) (index x y : ℕ) (columns : List ℕ) → IsStrictlyIncreasing columns
+    → ((n : ℕ) → Contains columns n ↔ Contains (x ∷ y ∷ []) n) → AreColumns (Leaf (Related rel index x y)) columns
+AreColumns-Related rel index x y columns ascending same = AreColumns-pair (Related rel index x y) x y (λ n. refl) columns ascending same
+
+pub AreColumns-InContext : (e : Expression) (number : HoleNumber) (place : HolePlace) (x y : ℕ) (columns : List ℕ) → IsStrictlyIncreasing columns
+    → ((n : ℕ) → Contains columns n ↔ Contains (x ∷ y ∷ []) n) → AreColumns (Leaf (InContext e number place x y)) columns
+AreColumns-InContext e number place x y columns ascending same = AreColumns-pair (InContext e number place x y) x y (λ n. refl) columns ascending same
 
 -- an operand has the same columns
 pub AreColumns-same : (h f : Core) (columns : List ℕ) → ((n : ℕ) → is_free n h ≡ is_free n f) → AreColumns f columns → AreColumns h columns
@@ -134,63 +147,72 @@ AreColumns-one f xs ys first second =
 
 -- ---- too wide
 
-pub IsTooWide-here : (f : Core) (columns : List ℕ) → AreColumns f columns → most_columns < length columns → IsTooWide f
-IsTooWide-here f columns are wide = record { part = f; among = root f; columns = columns; are_columns = are; wide = wide }
-  where
-    root : (h : Core) → Contains (postorder h) h
-    root True = Contains-head True []
-    root (Atom rel index x y) = Contains-head (Atom rel index x y) []
-    root (Nf index x) = Contains-head (Nf index x) []
-    root (Is x t) = Contains-head (Is x t) []
-    root (Not h) = Contains-push (postorder h) (Not h)
-    root (And h k) = Contains-append_right (postorder h) (postorder k ++ And h k ∷ []) (And h k) (Contains-push (postorder k) (And h k))
-    root (Or h k) = Contains-append_right (postorder h) (postorder k ++ Or h k ∷ []) (Or h k) (Contains-push (postorder k) (Or h k))
-    root (Iff h k) = Contains-append_right (postorder h) (postorder k ++ Iff h k ∷ []) (Iff h k) (Contains-push (postorder k) (Iff h k))
-    root (Exists n h) = Contains-push (postorder h) (Exists n h)
-    root (Infinite n h) = Contains-push (postorder h) (Infinite n h)
+-- more columns than a tuple may have
+abbrev pub AreTooMany : List ℕ → Type 0
+AreTooMany columns = most_columns < length columns
+
+postorder-root : (h : Core) → Contains (postorder h) h
+postorder-root True = Contains-head True []
+postorder-root (Leaf a) = Contains-head (Leaf a) []
+postorder-root (Not h) = Contains-push (postorder h) (Not h)
+postorder-root (Binary op h k) =
+    Contains-append_right (postorder h) (postorder k ++ Binary op h k ∷ []) (Binary op h k) (Contains-push (postorder k) (Binary op h k))
+postorder-root (Exists n h) = Contains-push (postorder h) (Exists n h)
+postorder-root (Infinite n h) = Contains-push (postorder h) (Infinite n h)
+
+pub IsTooWide-here : (f : Core) (columns : List ℕ) → AreColumns f columns → AreTooMany columns → IsTooWide f
+IsTooWide-here f columns are wide =
+    record { part = f; among = postorder-root f; wide = inl (record { columns = columns; are_columns = are; many = wide }) }
+
+pub IsTooWide-long : (f : Core) → HasManyRootsAt f → IsTooWide f
+IsTooWide-long f long = record { part = f; among = postorder-root f; wide = inr long }
 
 pub IsTooWide-first : (h f : Core) (rest : List Core) → postorder h ≡ postorder f ++ rest → IsTooWide f → IsTooWide h
 IsTooWide-first h f rest is w =
     let among : Contains (postorder h) w.part = rw is (Contains-append_left (postorder f) rest w.part w.among) in
-    record { part = w.part; among = among; columns = w.columns; are_columns = w.are_columns; wide = w.wide }
+    record { part = w.part; among = among; wide = w.wide }
 
 pub IsTooWide-second : (h f g : Core) → postorder h ≡ postorder f ++ (postorder g ++ h ∷ []) → IsTooWide g → IsTooWide h
 IsTooWide-second h f g is w =
     let among : Contains (postorder h) w.part =
     rw is (Contains-append_right (postorder f) (postorder g ++ h ∷ []) w.part (Contains-append_left (postorder g) (h ∷ []) w.part w.among)) in
-    record { part = w.part; among = among; columns = w.columns; are_columns = w.are_columns; wide = w.wide }
+    record { part = w.part; among = among; wide = w.wide }
 
--- a formula that isn't too wide by its own columns is so by those of another part
-by_others : (h : Core) (columns : List ℕ) (others : List Core) → AreColumns h columns → length columns ≤ most_columns
+-- a formula that isn't too wide by itself is so by another part
+by_others : (h : Core) (others : List Core) → (HasManyColumns h ⊎ HasManyRootsAt h → ⊥)
     → (w : IsTooWide h) → Contains (others ++ h ∷ []) w.part → Contains others w.part
-by_others h columns others are narrow w c =
+by_others h others not w c =
     elim (Contains-push_cases others h w.part c) [
       | inl d ↦ d
-      | inr e ↦
-          let same : columns ≡ w.columns = AreColumns-one h columns w.columns are (subst (λ (p : Core). AreColumns p w.columns) (sym e) w.are_columns) in
-          let wide : most_columns < length columns = rw same w.wide in
-          absurd (omega arith)
+      | inr e ↦ absurd (not (subst (λ (p : Core). HasManyColumns p ⊎ HasManyRootsAt p) (sym e) w.wide))
     ]
 
+-- by its only list of columns
+pub itself_not : (h : Core) (columns : List ℕ) → AreColumns h columns → length columns ≤ most_columns → (HasManyRootsAt h → ⊥) → HasManyColumns h ⊎ HasManyRootsAt h → ⊥
+itself_not h columns are narrow short (inl many) =
+    let same : columns ≡ many.columns = AreColumns-one h columns many.columns are many.are_columns in
+    let wide : most_columns < length columns = rw same many.many in
+    absurd (omega arith)
+itself_not h columns are narrow short (inr long) = short long
+
 again : (f h : Core) (w : IsTooWide h) → Contains (postorder f) w.part → IsTooWide f
-again f h w c = record { part = w.part; among = c; columns = w.columns; are_columns = w.are_columns; wide = w.wide }
+again f h w c = record { part = w.part; among = c; wide = w.wide }
 
-pub IsTooWide-leaf : (h : Core) (columns : List ℕ) → postorder h ≡ h ∷ [] → AreColumns h columns → length columns ≤ most_columns → IsTooWide h → ⊥
-IsTooWide-leaf h columns is are narrow w =
+pub IsTooWide-leaf : (h : Core) → postorder h ≡ h ∷ [] → (HasManyColumns h ⊎ HasManyRootsAt h → ⊥) → IsTooWide h → ⊥
+IsTooWide-leaf h is not w =
     let among : Contains ([] ++ h ∷ []) w.part = rw is at w.among in
-    Contains-none w.part (by_others h columns [] are narrow w among)
+    Contains-none w.part (by_others h [] not w among)
 
-pub IsTooWide-one : (h f : Core) (columns : List ℕ) → postorder h ≡ postorder f ++ h ∷ [] → AreColumns h columns → length columns ≤ most_columns
-    → IsTooWide h → IsTooWide f
-IsTooWide-one h f columns is are narrow w =
+pub IsTooWide-one : (h f : Core) → postorder h ≡ postorder f ++ h ∷ [] → (HasManyColumns h ⊎ HasManyRootsAt h → ⊥) → IsTooWide h → IsTooWide f
+IsTooWide-one h f is not w =
     let among : Contains (postorder f ++ h ∷ []) w.part = rw is at w.among in
-    again f h w (by_others h columns (postorder f) are narrow w among)
+    again f h w (by_others h (postorder f) not w among)
 
-pub IsTooWide-two : (h f g : Core) (columns : List ℕ) → postorder h ≡ postorder f ++ (postorder g ++ h ∷ []) → AreColumns h columns
-    → length columns ≤ most_columns → IsTooWide h → IsTooWide f ⊎ IsTooWide g
-IsTooWide-two h f g columns is are narrow w =
+pub IsTooWide-two : (h f g : Core) → postorder h ≡ postorder f ++ (postorder g ++ h ∷ []) → (HasManyColumns h ⊎ HasManyRootsAt h → ⊥)
+    → IsTooWide h → IsTooWide f ⊎ IsTooWide g
+IsTooWide-two h f g is not w =
     let among : Contains ((postorder f ++ postorder g) ++ h ∷ []) w.part = rw (append_assoc (postorder f) (postorder g) (h ∷ []), ← is) w.among in
-    elim (Contains-append_cases (postorder f) (postorder g) w.part (by_others h columns (postorder f ++ postorder g) are narrow w among)) [
+    elim (Contains-append_cases (postorder f) (postorder g) w.part (by_others h (postorder f ++ postorder g) not w among)) [
       | inl c ↦ inl (again f h w c)
       | inr c ↦ inr (again g h w c)
     ]

@@ -1,0 +1,7 @@
+pub mod Structures
+pub mod Cores
+pub mod CoreTruth
+pub mod EachOnce
+pub mod Parts
+pub mod PartLists
+pub mod Kinds
