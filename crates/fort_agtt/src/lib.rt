@@ -1,12 +1,7 @@
-//! Anchored ground tree transducers: the root steps of a system, the inverse of a transducer, and the union of two.
+//! Anchored ground tree transducers: the root steps of a system, the inverse, the union and the composition.
 #![tactic(auto)]
 
-mod agtt;
-mod exchange;
-mod rules;
-mod unions;
+mod composing;
 
-pub use agtt::Agtt;
-pub use exchange::inverse;
-pub use rules::root_steps;
-pub use unions::union;
+pub use composing::compose;
+pub use fort_transducers::{Agtt, inverse, root_steps, union};

@@ -1,12 +1,11 @@
 -- Each pair that is due waits: after a pair was visited, and after one was listed.
-use Rattle.std.proofs.Common.{◌≡◌, ◌≢◌, ℕ, ◌+◌, ◌*◌, ◌<◌, ◌↔◌, List, [], ◌∷◌, ◌++◌, Bool, true, ap, sym, ◌∙◌, refl, subst, arith, Some, inl, inr, ◌⊎◌, nat_eq, eqb-true, eq-eqb}
-use Rattle.std.specs.Prelude.{Contains, slice_get, map, filter}
+use Rattle.std.proofs.Common.{◌≡◌, ◌≢◌, ℕ, ◌+◌, ◌*◌, ◌<◌, ◌↔◌, List, [], ◌∷◌, ◌++◌, Bool, ap, sym, ◌∙◌, refl, subst, Some, inl, inr, ◌⊎◌, nat_eq, eqb-true, eq-eqb}
+use Rattle.std.specs.Prelude.{Contains, slice_get}
 use Rattle.std.proofs.lemmas.Nat.{same_from_place}
 use Rattle.fort_theory.proofs.Members.{Contains-head, Contains-behind, Contains-filter, Contains-from_filter}
-use Rattle.fort_tree_automata.specs.declared.nta.Move.{Move}
 use Rattle.fort_tree_automata.specs.NtaView.{MoveParts, as_move}
-use Rattle.fort_agtt.specs.AgttView.{NamesItsStates}
-use Rattle.fort_agtt.specs.declared.agtt.Agtt.{Agtt}
+use Rattle.fort_transducers.specs.AgttView.{NamesItsStates}
+use Rattle.fort_transducers.specs.declared.agtt.Agtt.{Agtt}
 use Rattle.fort_gtt_closure.specs.declared.agenda.Agenda.{Agenda}
 use Rattle.fort_gtt_closure.specs.declared.entry.Entry.{Entry}
 use Rattle.fort_gtt_closure.specs.declared.entry.Why.{Why}

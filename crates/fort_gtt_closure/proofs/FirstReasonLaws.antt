@@ -6,7 +6,7 @@ use Rattle.fort_theory.proofs.Lists.{none-some, some-injective}
 use Rattle.fort_tree_automata.specs.declared.nta.Move.{Move}
 use Rattle.fort_tree_automata.specs.NtaView.{MoveParts, as_move}
 use Rattle.fort_tree_automata.proofs.Truths.{and_left, and_right, and_both, not_both}
-use Rattle.fort_agtt.specs.declared.agtt.Agtt.{Agtt}
+use Rattle.fort_transducers.specs.declared.agtt.Agtt.{Agtt}
 use Rattle.fort_gtt_closure.specs.declared.entry.Entry.{Entry}
 use Rattle.fort_gtt_closure.specs.declared.entry.Why.{Why}
 use Rattle.fort_gtt_closure.specs.declared.entry.Why.TheVariants.{Any, Kids, SilentRight, SilentLeft, Pair}

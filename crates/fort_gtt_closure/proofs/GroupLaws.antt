@@ -1,5 +1,5 @@
 -- A group after a pair was pushed: under its number it stands at the end, the others are as they were.
-use Rattle.std.proofs.Common.{◌≡◌, ◌≢◌, ℕ, zero, suc, ◌+◌, ◌<◌, ◌≤◌, List, [], ◌∷◌, ◌++◌, Bool, true, false, cond, ap, sym, ◌∙◌, refl, subst, arith, length, get_or, inl, inr, ◌⊎◌, nat_eq, eqb-true, eq-eqb, add-one}
+use Rattle.std.proofs.Common.{◌≡◌, ◌≢◌, ℕ, zero, suc, ◌+◌, ◌<◌, ◌≤◌, List, [], ◌∷◌, ◌++◌, Bool, true, false, cond, ap, sym, ◌∙◌, refl, subst, arith, length, get_or, inl, inr, nat_eq, eqb-true, add-one}
 use Rattle.std.specs.Prelude.{Contains, filter, map, vec_items, Vec, slice_set}
 use Rattle.std.specs.declared.alloc.Global.{Global}
 use Rattle.std.proofs.Math.Seq.{map-set_same}
@@ -7,7 +7,7 @@ use Rattle.fort_theory.proofs.IndexPlaces.{map-set_more}
 use Rattle.std.proofs.lemmas.Bool.{cases_Bool, eqb-false, cases_lt}
 use Rattle.std.proofs.lemmas.List.{append-nil}
 use Rattle.std.proofs.lemmas.List.Elements.{filter-append, Contains-append_left, Contains-push}
-use Rattle.fort_theory.specs.Sides.{at_index, pushed_at, empty_lists, IsIndexOf}
+use Rattle.fort_theory.specs.Sides.{pushed_at, empty_lists}
 use Rattle.fort_theory.proofs.IndexLaws.{at_index-get, at_index-pushed_same, at_index-pushed_other, length-pushed_at, length-empty_lists}
 use Rattle.fort_gtt_closure.specs.declared.groups.Groups.{Groups}
 use Rattle.fort_gtt_closure.specs.Groups.{lists, group, AreByFirst}

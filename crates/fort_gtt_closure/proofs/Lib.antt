@@ -9,6 +9,7 @@ pub mod AddedLaws
 pub mod OnceLaws
 pub mod NumberedLaws
 pub mod AwakeLaws
+pub mod ThroughLaws
 pub mod ElementLaws
 pub mod GroupLaws
 pub mod WakeLaws

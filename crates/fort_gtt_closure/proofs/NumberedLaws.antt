@@ -4,8 +4,8 @@ use Rattle.std.proofs.lemmas.List.{length-map}
 use Rattle.fort_theory.specs.Patterns.{Pattern, Any, At, Pair}
 use Rattle.fort_tree_automata.specs.NtaView.{MoveParts, as_move, moves_of}
 use Rattle.fort_tree_automata.specs.PatternMoves.{AreMovesFor}
-use Rattle.fort_agtt.specs.declared.agtt.Agtt.{Agtt}
-use Rattle.fort_agtt.specs.RootSteps.{ArePlaces, HasRootSteps}
+use Rattle.fort_transducers.specs.declared.agtt.Agtt.{Agtt}
+use Rattle.fort_transducers.specs.RootSteps.{ArePlaces, HasRootSteps}
 use Rattle.fort_gtt_closure.specs.Reasons.{IsNumbered}
 
 few_moves : (ps : List Pattern) (n : ℕ) (qs : List Pattern) (ms : List MoveParts) → AreMovesFor ps n qs ms → length ms ≤ length qs

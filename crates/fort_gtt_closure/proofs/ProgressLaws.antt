@@ -7,7 +7,7 @@ use Rattle.std.proofs.lemmas.Bool.{cases_lt}
 use Rattle.std.proofs.lemmas.List.{take-append-le}
 use Rattle.std.proofs.lemmas.Nat.{same_from_place, mul-add-lt}
 use Rattle.fort_theory.proofs.Lists.{none-some}
-use Rattle.fort_agtt.specs.declared.agtt.Agtt.{Agtt}
+use Rattle.fort_transducers.specs.declared.agtt.Agtt.{Agtt}
 use Rattle.fort_gtt_closure.specs.declared.entry.Entry.{Entry}
 use Rattle.fort_gtt_closure.specs.declared.entry.Why.{Why}
 use Rattle.fort_gtt_closure.specs.Reasons.{IsListed, IsFirstReason}

@@ -1,5 +1,5 @@
 -- Where nothing is listed yet, what is due follows by a state that takes every term, or by two moves from no states.
-use Rattle.std.proofs.Common.{◌≡◌, ℕ, zero, suc, ◌+◌, ◌*◌, ◌<◌, List, [], ◌∷◌, Bool, true, false, ap, sym, ◌∙◌, refl, subst, length, Some, inl, inr, ◌⊎◌, get_or}
+use Rattle.std.proofs.Common.{◌≡◌, ℕ, zero, suc, ◌+◌, ◌*◌, List, [], ◌∷◌, Bool, false, ap, sym, ◌∙◌, refl, subst, length, Some, inl, inr, get_or}
 use Rattle.std.specs.Prelude.{Contains, replicate}
 use Rattle.fort_theory.proofs.Members.{Contains-none}
 use Rattle.fort_theory.proofs.IndexLaws.{length-empty_lists}
@@ -7,8 +7,7 @@ use Rattle.fort_theory.specs.Sides.{empty_lists}
 use Rattle.fort_tree_automata.specs.declared.nta.Move.{Move}
 use Rattle.fort_tree_automata.specs.NtaView.{MoveParts, as_move}
 use Rattle.fort_tree_automata.proofs.Truths.{not_both}
-use Rattle.fort_agtt.specs.declared.agtt.Agtt.{Agtt}
-use Rattle.fort_gtt_closure.specs.declared.entry.Entry.{Entry}
+use Rattle.fort_transducers.specs.declared.agtt.Agtt.{Agtt}
 use Rattle.fort_gtt_closure.specs.declared.entry.Why.{Why}
 use Rattle.fort_gtt_closure.specs.declared.entry.Why.TheVariants.{Any, Kids, SilentRight, SilentLeft, Pair}
 use Rattle.fort_gtt_closure.specs.declared.groups.Groups.{Groups}

@@ -15,8 +15,8 @@ use Rattle.fort_tree_automata.specs.declared.nta.Nta.{Nta}
 use Rattle.fort_tree_automata.specs.NtaView as automata
 use Rattle.fort_tree_automata.specs.NtaView.{MoveParts, moves_of, automaton_of}
 use Rattle.fort_tree_automata.proofs.Truths.{not_both}
-use Rattle.fort_agtt.specs.declared.agtt.Agtt.{Agtt}
-use Rattle.fort_agtt.specs.AgttView.{NamesItsStates, transducer_of}
+use Rattle.fort_transducers.specs.declared.agtt.Agtt.{Agtt}
+use Rattle.fort_transducers.specs.AgttView.{NamesItsStates, transducer_of}
 use Rattle.fort_gtt_closure.specs.declared.entry.Entry.{Entry}
 use Rattle.fort_gtt_closure.specs.declared.entry.Why.{Why}
 use Rattle.fort_gtt_closure.specs.declared.entry.Why.TheVariants.{Any, Kids, SilentRight, SilentLeft, Pair}

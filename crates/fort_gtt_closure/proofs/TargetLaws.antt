@@ -1,5 +1,5 @@
 -- The first moves that meet, found among the places of the moves to p and to q.
-use Rattle.std.proofs.Common.{◌≡◌, ℕ, zero, suc, ◌+◌, ◌<◌, List, [], ◌∷◌, ◌++◌, Bool, true, false, cond, ltb, length, ap, sym, ◌∙◌, refl, subst, arith, Option, Some, None, inl, inr, nat_eq, get_or, drop, add-one}
+use Rattle.std.proofs.Common.{◌≡◌, ℕ, suc, ◌+◌, ◌<◌, List, [], ◌∷◌, ◌++◌, Bool, true, false, cond, ltb, length, ap, sym, ◌∙◌, refl, subst, arith, Option, Some, None, inl, inr, nat_eq, get_or, drop, add-one}
 use Rattle.std.specs.Prelude.{Contains, slice_get, position, filter, ◌&&◌, not}
 use Rattle.std.specs.List.{position_or_len}
 use Rattle.std.proofs.Math.Seq.{drop-cons}

@@ -1,21 +1,12 @@
--- Inside: the silent moves of the closed automata.
-use Rattle.std.specs.Prelude.{ℕ, List, [], ◌∷◌, Bool, true, false, flat_map, nat_eq}
+-- To believe: which silent moves a list of entries adds for the pairs of a transducer.
+use Rattle.std.specs.Prelude.{◌↔◌, ℕ, List, Contains}
 use Rattle.fort_gtt_closure.specs.declared.entry.Entry.{Entry}
-
-abbrev pub step_if : Bool → ℕ × ℕ → List (ℕ × ℕ)
-step_if true step = step ∷ []
-step_if false step = []
+use Rattle.fort_gtt_closure.specs.Reasons.{IsListed}
 
 -- for a pair of a and b, from a to each state that b reaches
-abbrev pub left_steps_at : List Entry → ℕ × ℕ → List (ℕ × ℕ)
-left_steps_at es pair = flat_map (λ e. step_if (nat_eq e.p pair.1) (pair.0, e.q)) es
+abbrev pub AreOnward : List Entry → List (ℕ × ℕ) → List (ℕ × ℕ) → Type 0
+AreOnward es pairs moves = (a q : ℕ) → Contains moves (a, q) ↔ ((b : ℕ) × Contains pairs (a, b) × IsListed es b q)
 
 -- for a pair of a and b, from b to each state that reaches a
-abbrev pub right_steps_at : List Entry → ℕ × ℕ → List (ℕ × ℕ)
-right_steps_at es pair = flat_map (λ e. step_if (nat_eq e.q pair.0) (pair.1, e.p)) es
-
-abbrev pub left_steps : List Entry → List (ℕ × ℕ) → List (ℕ × ℕ)
-left_steps es pairs = flat_map (left_steps_at es) pairs
-
-abbrev pub right_steps : List Entry → List (ℕ × ℕ) → List (ℕ × ℕ)
-right_steps es pairs = flat_map (right_steps_at es) pairs
+abbrev pub AreBackward : List Entry → List (ℕ × ℕ) → List (ℕ × ℕ) → Type 0
+AreBackward es pairs moves = (b p : ℕ) → Contains moves (b, p) ↔ ((a : ℕ) × Contains pairs (a, b) × IsListed es p a)

@@ -4,6 +4,7 @@ pub mod Grids
 pub mod Scans
 pub mod Progress
 pub mod Added
+pub mod ClosedStates
 pub mod Groups
 pub mod Links
 pub mod Marks

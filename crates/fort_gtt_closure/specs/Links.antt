@@ -1,7 +1,7 @@
 -- Inside: the moves, silent moves and pairs by the states that they lead from.
 use Rattle.std.specs.Prelude.{◌≡◌, ℕ, ◌<◌, List, length, Contains}
 use Rattle.fort_tree_automata.specs.declared.nta.Move.{Move}
-use Rattle.fort_agtt.specs.declared.agtt.Agtt.{Agtt}
+use Rattle.fort_transducers.specs.declared.agtt.Agtt.{Agtt}
 use Rattle.fort_gtt_closure.specs.declared.groups.Groups.{Groups}
 use Rattle.fort_gtt_closure.specs.declared.links.Links.{Links}
 use Rattle.fort_gtt_closure.specs.Groups.{lists, group, AreByFirst}

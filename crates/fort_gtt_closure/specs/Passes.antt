@@ -1,7 +1,7 @@
 -- To believe: the list that passes over all pairs make: going over the pairs row by row, round and round, each entry is the first pair that follows and isn't listed, with its first reason, and at the end there is none.
 use Rattle.std.specs.Prelude.{◌≡◌, ◌⊎◌, ℕ, ◌+◌, ◌*◌, ◌<◌, ◌≤◌, List, map, take, Option, Some, None, slice_get}
 use Rattle.std.specs.List.{last_or}
-use Rattle.fort_agtt.specs.declared.agtt.Agtt.{Agtt}
+use Rattle.fort_transducers.specs.declared.agtt.Agtt.{Agtt}
 use Rattle.fort_gtt_closure.specs.declared.entry.Entry.{Entry}
 use Rattle.fort_gtt_closure.specs.declared.entry.Why.{Why}
 use Rattle.fort_gtt_closure.specs.Reasons.{IsListed, Follows, IsFirstReason}

@@ -1,7 +1,7 @@
 -- Inside: each pair that is due waits for its visit.
 use Rattle.std.specs.Prelude.{◌≡◌, ◌↔◌, ◌⊎◌, ℕ, ◌+◌, ◌*◌, ◌<◌, List, Contains, true}
-use Rattle.fort_agtt.specs.AgttView.{NamesItsStates}
-use Rattle.fort_agtt.specs.declared.agtt.Agtt.{Agtt}
+use Rattle.fort_transducers.specs.AgttView.{NamesItsStates}
+use Rattle.fort_transducers.specs.declared.agtt.Agtt.{Agtt}
 use Rattle.fort_gtt_closure.specs.declared.agenda.Agenda.{Agenda}
 use Rattle.fort_gtt_closure.specs.declared.entry.Entry.{Entry}
 use Rattle.fort_gtt_closure.specs.declared.links.Links.{Links}

@@ -2,7 +2,7 @@
 use Rattle.std.specs.Prelude.{◌≡◌, ◌⊎◌, ℕ, ◌<◌, ◌^◌, List, [], ◌∷◌, length, map, Contains, Some, slice_get}
 use Rattle.fort_reachability.specs.TreeAutomata.{IsInhabited}
 use Rattle.fort_tree_automata.specs.NtaView.{moves_of, automaton_of}
-use Rattle.fort_agtt.specs.declared.agtt.Agtt.{Agtt}
+use Rattle.fort_transducers.specs.declared.agtt.Agtt.{Agtt}
 use Rattle.fort_gtt_closure.specs.declared.entry.Entry.{Entry}
 use Rattle.fort_gtt_closure.specs.declared.entry.Why.{Why}
 use Rattle.fort_gtt_closure.specs.declared.entry.Why.TheVariants.{Any, Kids, SilentRight, SilentLeft, Pair}

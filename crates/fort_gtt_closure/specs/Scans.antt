@@ -1,7 +1,7 @@
 -- Inside: the first reason for a pair, by tests.
 use Rattle.std.specs.Prelude.{ℕ, ◌+◌, List, [], ◌∷◌, Bool, true, false, slice_index_or, nat_eq, ◌&&◌, ◌||◌, Option, Some, None, position, slice_get}
 use Rattle.fort_tree_automata.specs.declared.nta.Move.{Move}
-use Rattle.fort_agtt.specs.declared.agtt.Agtt.{Agtt}
+use Rattle.fort_transducers.specs.declared.agtt.Agtt.{Agtt}
 use Rattle.fort_gtt_closure.specs.declared.entry.Entry.{Entry}
 use Rattle.fort_gtt_closure.specs.declared.entry.Why.{Why}
 use Rattle.fort_gtt_closure.specs.declared.entry.Why.TheVariants.{Any, Kids, SilentRight, SilentLeft, Pair}

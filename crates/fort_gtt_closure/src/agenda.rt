@@ -7,7 +7,7 @@ use crate::grid::Grid;
 use crate::groups::Groups;
 use crate::links::{Links, leaves};
 use crate::marks::{Shape, mark_any, mark_lefts, mark_meeting, mark_rights, mark_row};
-use fort_agtt::Agtt;
+use fort_transducers::Agtt;
 use std::alloc::{AllocError, Global};
 
 /// Which pairs wait, and which right states lead through a pair of the transducer to which.

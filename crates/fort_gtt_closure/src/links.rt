@@ -8,7 +8,7 @@ ghost use Rattle.fort_gtt_closure.specs.Reasons.{IsNumbered};
 ghost use Rattle.fort_gtt_closure.specs.Scans.{targets};
 
 use crate::groups::{Groups, grouped};
-use fort_agtt::Agtt;
+use fort_transducers::Agtt;
 use fort_tree_automata::Move;
 use std::alloc::{AllocError, Global};
 

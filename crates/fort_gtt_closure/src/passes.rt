@@ -4,7 +4,7 @@ ghost use Rattle.fort_theory.specs.Signatures.{Signature};
 ghost use Rattle.fort_reachability.specs.Transducers.{FitsTransducer};
 ghost use Rattle.fort_reachability.specs.ClosureTables.{InClosure};
 ghost use Rattle.fort_reachability.specs.Reachability.{Reaches};
-ghost use Rattle.fort_agtt.specs.AgttView.{NamesItsStates, transducer_of};
+ghost use Rattle.fort_transducers.specs.AgttView.{NamesItsStates, transducer_of};
 ghost use Rattle.fort_gtt_closure.specs.declared.entry.Entry.{Entry};
 ghost use Rattle.fort_gtt_closure.specs.Reasons.{IsListed, IsNumbered};
 ghost use Rattle.fort_gtt_closure.specs.Passes.{IsListOfPasses, ListsEachOnce};
@@ -16,7 +16,7 @@ use crate::entry::{Closed, Entry};
 use crate::grid::Grid;
 use crate::links::Links;
 use crate::reasons::{Inhabited, first_reason};
-use fort_agtt::Agtt;
+use fort_transducers::Agtt;
 use std::alloc::{AllocError, Global};
 
 /// The pairs listed so far, and those that wait for their visit.

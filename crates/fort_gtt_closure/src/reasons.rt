@@ -7,7 +7,7 @@ ghost use Rattle.fort_gtt_closure.specs.Reasons.{IsNumbered};
 use crate::entry::Why;
 use crate::grid::Grid;
 use crate::links::Links;
-use fort_agtt::Agtt;
+use fort_transducers::Agtt;
 use fort_tree_automata::{Move, Nta};
 
 /// For each state of the two automata whether it takes some term.

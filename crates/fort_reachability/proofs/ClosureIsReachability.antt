@@ -2,10 +2,10 @@
 use Rattle.std.specs.Prelude.{◌↔◌}
 use Rattle.fort_theory.specs.Trees.{Tree, Trees, Node}
 use Rattle.fort_theory.specs.Signatures.{Signature, IsGround}
-use Rattle.fort_theory.specs.Rewriting.{Reduces, RewritesInParallel, AllRewriteInParallel, AtRoot, Inside, End, Both}
+use Rattle.fort_theory.specs.Rewriting.{Reduces, ReducesThroughRoot, RewritesInParallel, AllRewriteInParallel, AtRoot, Inside, End, Both}
 use Rattle.fort_reachability.specs.Transducers.{Transducer, Transduces, FitsTransducer}
 use Rattle.fort_reachability.specs.ClosedTransducers.{closed}
-use Rattle.fort_reachability.specs.Reachability.{ReducesThroughRoot, ClosureIsReachability}
+use Rattle.fort_reachability.specs.Reachability.{ClosureIsReachability}
 use Rattle.fort_reachability.proofs.TransducersLaws.{Reduces-to_ground, Reduces-from_ground}
 use Rattle.fort_reachability.proofs.Reductions.{Reduction, Below, ByRoot, Reductions, NoReduction, MoreReductions, Reduces-through_root, Reduces-from_Reduction, Reduction-from_Reduces}
 use Rattle.fort_reachability.proofs.ClosureTableExact.{InClosure-Reaches}

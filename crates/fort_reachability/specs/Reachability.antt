@@ -2,7 +2,7 @@
 use Rattle.std.specs.Prelude.{◌↔◌}
 use Rattle.fort_theory.specs.Trees.{Tree}
 use Rattle.fort_theory.specs.Signatures.{Signature, IsGround}
-use Rattle.fort_theory.specs.Rewriting.{Relation, Reduces, RewritesInParallel}
+use Rattle.fort_theory.specs.Rewriting.{Relation, Reduces, ReducesThroughRoot, RewritesInParallel}
 use Rattle.fort_reachability.specs.TreeAutomata.{Automaton, Takes}
 use Rattle.fort_reachability.specs.Transducers.{Transducer, Transduces}
 use Rattle.fort_reachability.specs.ClosureTables.{InClosure}
@@ -25,10 +25,6 @@ ReducesInto root automaton s q = (u : Tree) × Reduces root s u × Takes automat
 -- some term of the state reduces to the term
 abbrev pub ReducesFrom : {State : Type 0} → Relation → Automaton State → State → Tree → Type 0
 ReducesFrom root automaton p t = (u : Tree) × Takes automaton u p × Reduces root u t
-
--- a reduction, a step at the root, a reduction
-abbrev pub ReducesThroughRoot : Relation → Relation
-ReducesThroughRoot root s t = (u v : Tree) × Reduces root s u × root u v × Reduces root v t
 
 pub record ClosureIsReachability {Left Right : Type 0} (signature : Signature) (transducer : Transducer Left Right) : Type 0 where
   -- the table has the pairs of which the first reaches the second

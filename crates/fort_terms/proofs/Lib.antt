@@ -7,3 +7,4 @@ pub mod OverlapsLaws
 pub mod RuleStepsLaws
 pub mod BothWaysLaws
 pub mod Instances
+pub mod GroundPatterns

@@ -2,6 +2,7 @@
 ghost use Rattle.std.specs.Prelude.{◌≡◌, ◌↔◌, IfOk, IsTrue, OnOk, map};
 ghost use Rattle.fort_theory.specs.Patterns.{IsInstance};
 ghost use Rattle.fort_theory.specs.PatternOrder.{subpatterns};
+ghost use Rattle.fort_termination.specs.RightGround.{IsGroundPattern};
 ghost use Rattle.fort_terms.specs.PatternView.{as_pattern, as_patterns};
 ghost use Rattle.fort_terms.specs.Subpatterns.{HasMore};
 
@@ -79,6 +80,23 @@ impl Pattern {
                 }
                 for (arg, kid) in args.items.iter().zip(&term.kids) {
                     if !arg.is_instance(kid) {
+                        return false;
+                    }
+                }
+                true
+            }
+        }
+    }
+
+    /// Whether it has no variable's place. It takes no memory.
+    pub fn is_ground(&self) -> bool
+        ensures { IsTrue result ↔ IsGroundPattern (as_pattern self.now) }
+    {
+        match self {
+            Pattern::Any => false,
+            Pattern::App(_, args) => {
+                for arg in &args.items {
+                    if !arg.is_ground() {
                         return false;
                     }
                 }

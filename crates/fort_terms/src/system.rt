@@ -1,11 +1,12 @@
 //! Systems of rules, each rule under an index, as pairs of patterns.
-ghost use Rattle.std.specs.Prelude.{◌≡◌, ℕ, ◌<◌, ◌≤◌, ◌*◌, ◌++◌, length, map, OnOk, OnErr, IfOk, IsErrOf};
+ghost use Rattle.std.specs.Prelude.{◌≡◌, ◌↔◌, ℕ, ◌<◌, ◌≤◌, ◌*◌, ◌++◌, length, map, OnOk, OnErr, IfOk, IsErrOf, IsTrue};
 ghost use Rattle.std.specs.List.Sorted.{IsStrictlySortedBy};
 ghost use Rattle.std.specs.Ordering.{on};
 ghost use Rattle.fort_theory.specs.Signatures.{most_indices, HasConstant};
 ghost use Rattle.fort_theory.specs.Sides.{at_index, pushed_at, empty_lists, count_all, IsIndexOf, FitsSide, IsLinear, IsLinearSeparated, variables};
 ghost use Rattle.fort_theory.specs.Patterns.{pattern_of, IsSystem};
 ghost use Rattle.fort_theory.specs.PatternOrder.{AreSubpatternsInOrder};
+ghost use Rattle.fort_termination.specs.RightGround.{HasRightGroundPairsAt};
 ghost use Rattle.fort_terms.specs.BothWays.{both_ways, exchanged};
 ghost use Rattle.fort_terms.specs.Limits.{most_system_rules};
 ghost use Rattle.fort_terms.specs.PatternKeys.{pattern_order};
@@ -155,6 +156,19 @@ impl System {
         ensures lawful { IsSystem self.now }
     {
         &self.rules[index as usize - 1]
+    }
+
+    /// Whether no rule of an index has a variable on its right side. It takes no memory.
+    pub fn right_ground(&self, index: u32) -> bool
+        requires { IsIndexOf self.now.rules index }
+        ensures { IsTrue result ↔ HasRightGroundPairsAt self.now index }
+    {
+        for rule in self.rules(index) {
+            if !rule.1.is_ground() {
+                return false;
+            }
+        }
+        true
     }
 
     /// The patterns that stand within the left sides of an index's rules.

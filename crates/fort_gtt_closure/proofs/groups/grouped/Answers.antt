@@ -1,4 +1,4 @@
-use Rattle.std.proofs.Common.{sym, subst, take, get_or, ◌+◌}
+use Rattle.std.proofs.Common.{sym, subst, take, get_or}
 use Rattle.std.proofs.lemmas.List.{take_more}
 use Rattle.fort_gtt_closure.specs.Groups.{AreByFirst}
 use Rattle.fort_gtt_closure.proofs.GroupLaws.{AreByFirst-none, AreByFirst-more}

@@ -1,5 +1,4 @@
-use Rattle.std.proofs.Common.{◌≡◌, ℕ, ◌<◌, take, length}
-use Rattle.std.specs.Prelude.{filter, nat_eq}
+use Rattle.std.proofs.Common.{take}
 use Rattle.fort_gtt_closure.specs.Groups.{AreByFirst}
 use Rattle.fort_gtt_closure.proofs.groups.grouped.Given as goal
 

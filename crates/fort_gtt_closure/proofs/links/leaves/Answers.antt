@@ -1,4 +1,4 @@
-use Rattle.std.proofs.Common.{◌≡◌, ℕ, ◌<◌, ◌∙◌, [], List, ap, sym, subst, length, take, arith, eq-eqb, vec_len}
+use Rattle.std.proofs.Common.{◌≡◌, ℕ, ◌∙◌, [], List, ap, sym, subst, length, take, arith, eq-eqb, vec_len}
 use Rattle.std.specs.Prelude.{Contains}
 use Rattle.std.proofs.lemmas.List.{take_all}
 use Rattle.std.proofs.lemmas.List.Elements.{Contains-append_left, Contains-push}

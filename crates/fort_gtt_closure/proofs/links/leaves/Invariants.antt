@@ -1,4 +1,4 @@
-use Rattle.std.proofs.Common.{◌≡◌, ℕ, [], take}
+use Rattle.std.proofs.Common.{◌≡◌, [], take}
 use Rattle.std.specs.Prelude.{Contains}
 use Rattle.fort_tree_automata.specs.declared.nta.Move.{Move}
 use Rattle.fort_gtt_closure.proofs.links.leaves.Given as goal

@@ -1,9 +1,9 @@
-use Rattle.std.proofs.Common.{◌≡◌, ℕ, ◌<◌, ◌∙◌, ap, sym, subst, length, List}
+use Rattle.std.proofs.Common.{ℕ, ◌<◌, ◌∙◌, ap, sym, subst, length, List}
 use Rattle.std.specs.Prelude.{Contains}
 use Rattle.fort_theory.proofs.IndexLaws.{length-empty_lists}
 use Rattle.fort_theory.proofs.Members.{Contains-none}
 use Rattle.fort_tree_automata.specs.declared.nta.Move.{Move}
-use Rattle.fort_gtt_closure.specs.Groups.{lists, group}
+use Rattle.fort_gtt_closure.specs.Groups.{group}
 use Rattle.fort_gtt_closure.proofs.ElementLaws.{each_more}
 use Rattle.fort_gtt_closure.proofs.links.uses.Goals as goal
 

@@ -1,4 +1,4 @@
-use Rattle.std.proofs.Common.{◌≡◌, ℕ, ◌<◌, take}
+use Rattle.std.proofs.Common.{take}
 use Rattle.fort_gtt_closure.specs.Links.{AreUses}
 use Rattle.fort_gtt_closure.proofs.links.uses.Given as goal
 

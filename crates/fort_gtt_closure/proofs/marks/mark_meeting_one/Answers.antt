@@ -1,4 +1,4 @@
-use Rattle.std.proofs.Common.{◌≡◌, ℕ, ◌<◌, List, Bool, get_or, sym, subst}
+use Rattle.std.proofs.Common.{◌≡◌, ℕ, List, Bool, get_or, sym, subst}
 use Rattle.fort_gtt_closure.specs.Marks.{IsMarked, KeepsSet}
 use Rattle.fort_gtt_closure.proofs.ElementLaws.{each_more}
 use Rattle.fort_gtt_closure.proofs.marks.mark_meeting_one.Goals as goal

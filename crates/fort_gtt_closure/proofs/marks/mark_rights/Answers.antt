@@ -1,5 +1,4 @@
-use Rattle.std.proofs.Common.{◌≡◌, ℕ, ◌<◌}
-use Rattle.std.specs.Prelude.{Contains}
+use Rattle.std.proofs.Common.{ℕ}
 use Rattle.fort_gtt_closure.specs.Marks.{IsMarked}
 use Rattle.fort_gtt_closure.proofs.ElementLaws.{each_more}
 use Rattle.fort_gtt_closure.proofs.marks.mark_rights.Goals as goal

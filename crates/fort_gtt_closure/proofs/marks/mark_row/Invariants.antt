@@ -1,6 +1,4 @@
-use Rattle.std.proofs.Common.{◌≡◌, ℕ, ◌<◌, [], take, true}
-use Rattle.std.specs.Prelude.{Contains}
-use Rattle.fort_tree_automata.specs.declared.nta.Move.{Move}
+use Rattle.std.proofs.Common.{◌≡◌, ℕ, ◌<◌, true}
 use Rattle.fort_gtt_closure.specs.Grids.{is_listed}
 use Rattle.fort_gtt_closure.specs.Marks.{IsMarked, KeepsSet}
 use Rattle.fort_gtt_closure.proofs.marks.mark_row.Given as goal

@@ -1,4 +1,4 @@
-use Rattle.std.proofs.Common.{◌≡◌, ◌*◌, ◌-◌, vec_len}
+use Rattle.std.proofs.Common.{◌*◌, ◌-◌, vec_len}
 use Rattle.fort_gtt_closure.specs.Progress.{Progress}
 use Rattle.fort_gtt_closure.specs.Ready.{IsReady}
 use Rattle.fort_gtt_closure.proofs.passes.close.Given as goal

@@ -1,4 +1,4 @@
-use Rattle.std.proofs.Common.{◌≡◌, List, [], ◌∷◌, ◌++◌, ◌∙◌, sym, refl, subst, inl, inr}
+use Rattle.std.proofs.Common.{List, [], ◌∷◌, ◌++◌, ◌∙◌, sym, refl, subst, inl, inr}
 use Rattle.fort_tree_automata.proofs.Truths.{not_both}
 use Rattle.fort_gtt_closure.specs.declared.entry.Entry.{Entry}
 use Rattle.fort_gtt_closure.specs.Ready.{IsAwake, Wakes}

@@ -1,4 +1,4 @@
-use Rattle.std.proofs.Common.{◌≡◌, ◌*◌, List}
+use Rattle.std.proofs.Common.{◌*◌, List}
 use Rattle.fort_gtt_closure.specs.declared.entry.Entry.{Entry}
 use Rattle.fort_gtt_closure.specs.Progress.{Progress}
 use Rattle.fort_gtt_closure.specs.Ready.{IsReady}

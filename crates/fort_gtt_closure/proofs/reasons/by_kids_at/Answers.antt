@@ -1,4 +1,4 @@
-use Rattle.std.proofs.Common.{◌≡◌, ℕ, ◌<◌, ◌∙◌, sym, ap, get_or, length, Option, Some, None}
+use Rattle.std.proofs.Common.{ℕ, ◌∙◌, sym, ap, get_or, Option, Some, None}
 use Rattle.std.proofs.lemmas.List.Elements.{Contains-get_or}
 use Rattle.fort_tree_automata.specs.declared.nta.Move.{Move}
 use Rattle.fort_gtt_closure.specs.Scans.{by_left_place, if_move}

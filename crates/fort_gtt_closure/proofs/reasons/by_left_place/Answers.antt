@@ -1,4 +1,4 @@
-use Rattle.std.proofs.Common.{◌≡◌, ℕ, ◌<◌, ◌∙◌, sym, ap, get_or, length, true, false, Bool}
+use Rattle.std.proofs.Common.{ℕ, ◌∙◌, sym, ap, get_or, true, false, Bool}
 use Rattle.std.specs.Prelude.{slice_get}
 use Rattle.std.proofs.lemmas.List.Elements.{Contains-get_or}
 use Rattle.fort_gtt_closure.specs.Scans.{meets}

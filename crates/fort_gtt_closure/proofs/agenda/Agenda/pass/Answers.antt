@@ -1,5 +1,4 @@
-use Rattle.std.proofs.Common.{◌≡◌, ℕ, ◌+◌, ◌*◌, ◌<◌, ◌∙◌, sym, arith}
-use Rattle.std.proofs.lemmas.Nat.{mul-add-lt}
+use Rattle.std.proofs.Common.{arith}
 use Rattle.fort_gtt_closure.proofs.SourceLaws.{through_set, AreSources-more}
 use Rattle.fort_gtt_closure.proofs.agenda.Agenda.pass.Goals as goal
 

@@ -1,6 +1,5 @@
-use Rattle.std.proofs.Common.{◌≡◌, ℕ, ◌<◌, List, take, sym, subst, arith, refl}
+use Rattle.std.proofs.Common.{◌≡◌, ℕ, List, take, subst, arith, refl}
 use Rattle.std.proofs.lemmas.List.{take_all}
-use Rattle.fort_gtt_closure.specs.declared.marks.Shape.{Shape}
 use Rattle.fort_gtt_closure.specs.Ready.{Passed}
 use Rattle.fort_gtt_closure.proofs.WakeLaws.{Passed-none, Passed-more}
 use Rattle.fort_gtt_closure.proofs.agenda.Agenda.wait_by_pairs.Goals as goal

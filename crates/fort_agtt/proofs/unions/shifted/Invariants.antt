@@ -1,5 +1,0 @@
-use Rattle.std.proofs.Common.{◌≡◌, ◌+◌, map, take}
-use Rattle.fort_agtt.proofs.unions.shifted.Given as goal
-
-abbrev pub invariant-loop-state : goal.invariant-loop-state
-invariant-loop-state l = l.moved.items ≡ map (λ q. q + l.by) (take l.state-index l.states)

@@ -1,0 +1,3 @@
+pub mod ParallelSteps
+pub mod JoinedAutomata
+pub mod ComposedTransducers

@@ -1,0 +1,2 @@
+pub mod TransducerParts
+pub mod Compositions
