@@ -1,10 +1,12 @@
 -- What depends on the first token alone, as whether tokens go on with a formula, or begin no argument.
-use Rattle.std.proofs.Common.{◌≡◌, ℕ, true, false, List, [], ◌∷◌, ◌++◌, refl, ◌∙◌}
-use Rattle.fort_formula_grammar.specs.Tokens.{Token, And, Or, Imp, Iff, Index}
-use Rattle.fort_formula_grammar.specs.FormulaGrammar.{begins_with_index, IsIndex, Given, LeftOut, WithoutIndex, WithIndex, AVariable, AGround}
-use Rattle.fort_formula_grammar.specs.Continuations.{continues_formula, HasNoNext, HasNoVariable, HasNoArgument, HasNoRelation}
+use Rattle.std.proofs.Common.{◌≡◌, true, false, List, [], ◌∷◌, ◌++◌, refl, ◌∙◌}
+use Rattle.fort_logic.specs.Formulas.{Name}
+use Rattle.fort_formula_grammar.specs.Tokens.{Token, And, Or, Imp, Iff, Related, Begin}
+use Rattle.fort_formula_grammar.specs.IndexGrammar.{begins_with_index}
+use Rattle.fort_formula_grammar.specs.FormulaGrammar.{begins_with_open, AVariable, AGround}
+use Rattle.fort_formula_grammar.specs.Continuations.{continues_formula, begins_relation, HasNoNext, HasNoVariable, HasNoArgument, HasNoWord}
 use Rattle.fort_formula_grammar.specs.Stuck.{starts_unary}
-use Rattle.fort_formula_grammar.proofs.LocalReadings.{index_first}
+use Rattle.fort_formula_grammar.proofs.LocalParts.{index_first, open_first, GoesOnLess}
 
 -- two lists begin with the same token, or both are empty
 pub data SameFirst : List Token → List Token → Type 0 where
@@ -18,6 +20,13 @@ SameFirst-append (t ∷ read) us vs h = BothBegin
 pub index_same : {us vs : List Token} → SameFirst us vs → begins_with_index vs ≡ true → begins_with_index us ≡ true
 index_same BothEmpty h = h
 index_same (BothBegin {t = t} {us = us} {vs = vs}) h = index_first t vs us h
+
+pub open_same : {us vs : List Token} → SameFirst us vs → begins_with_open vs ≡ true → begins_with_open us ≡ true
+open_same BothEmpty h = h
+open_same (BothBegin {t = t} {us = us} {vs = vs}) h = open_first t vs us h
+
+pub less_same : {us vs : List Token} → SameFirst us vs → GoesOnLess vs us
+less_same h = (index_same h, open_same h)
 
 continues_first : (t : Token) (us vs : List Token) → continues_formula (t ∷ us) ≡ continues_formula (t ∷ vs)
 continues_first And us vs = refl
@@ -47,18 +56,15 @@ argument_same BothEmpty none a rest p = none a rest p
 argument_same BothBegin none a rest AVariable = none _ _ AVariable
 argument_same BothBegin none a rest AGround = none _ _ AGround
 
--- an index can always be read, given or left out
-record IndexRead (ts : List Token) : Type 0 where
-  index : ℕ
-  behind : List Token
-  is : IsIndex ts index behind
+begins_relation_first : (t : Token) (us vs : List Token) → begins_relation (t ∷ us) ≡ begins_relation (t ∷ vs)
+begins_relation_first (Related rel) us vs = refl
+begins_relation_first Begin us vs = refl
+begins_relation_first t us vs = refl
 
-index_read : (ts : List Token) → IndexRead ts
-index_read [] = record { index = 1; behind = []; is = LeftOut refl }
-index_read (Index n ∷ ts) = record { index = n; behind = ts; is = Given }
-index_read (t ∷ ts) = record { index = 1; behind = t ∷ ts; is = LeftOut refl }
+pub unrelated_same : {us vs : List Token} → SameFirst us vs → begins_relation us ≡ false → begins_relation vs ≡ false
+unrelated_same BothEmpty h = h
+unrelated_same (BothBegin {t = t} {us = us} {vs = vs}) h = begins_relation_first t vs us ∙ h
 
-pub relation_same : {us vs : List Token} → SameFirst us vs → HasNoRelation us → HasNoRelation vs
-relation_same BothEmpty none r n rest p = none r n rest p
-relation_same BothBegin none r n rest (WithoutIndex e) = none _ _ _ (WithoutIndex e)
-relation_same (BothBegin {us = us}) none r n rest (WithIndex e i) = let p = index_read us in none _ _ _ (WithIndex e p.is)
+pub word_same : {us vs : List Token} (words : List Name) → SameFirst us vs → HasNoWord words us → HasNoWord words vs
+word_same words BothEmpty none x rest among e = none x rest among e
+word_same words (BothBegin {us = us}) none x rest among e = none x us among cc

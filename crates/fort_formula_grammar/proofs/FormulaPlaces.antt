@@ -1,14 +1,15 @@
 -- Each place that a formula mentions is the place of a ground term among its tokens.
-use Rattle.std.proofs.Common.{◌≡◌, ℕ, List, [], ◌∷◌, inl, inr, refl, sym, subst}
+use Rattle.std.proofs.Common.{◌≡◌, ℕ, List, [], ◌∷◌, ◌++◌, inl, inr, refl, sym, subst}
 use Rattle.std.specs.Prelude.{Contains}
 use Rattle.std.proofs.lemmas.List.Elements.{Contains-append_right, Contains-append_cases}
 use Rattle.fort_theory.proofs.Members.{Contains-head, Contains-behind, Contains-cons_cases, Contains-none}
 use Rattle.fort_logic.specs.Formulas.{Name, Argument, Formula}
 use Rattle.fort_logic.specs.Mentions.{places_in, places}
-use Rattle.fort_formula_grammar.specs.Tokens.{Token, Open, Comma, Not, Exists, Forall, Infinite, Nf, Join, Variable, Ground}
+use Rattle.fort_formula_grammar.specs.Tokens.{Token, Open, Comma, Not, Exists, Forall, Infinite, Nf, Join, Sn, Variable, Ground}
 use Rattle.fort_formula_grammar.specs.FormulaGrammar as grammar
-use Rattle.fort_formula_grammar.specs.FormulaGrammar.{Quantifier, quantified, IsArgument, AVariable, AGround, IsFormula, IsImplication, IsDisjunction, IsConjunction, IsUnary, IsBound, OneSide, BothSides, Conclusion, Premise, FirstOr, MoreOr, FirstAnd, MoreAnd, Negated, ForSome, ForEvery, Infinitely, Enclosed, Truth, Falsity, Named, Commuting, NormalForm, Joinable, Compared, LastBinder, MoreBinders}
-use Rattle.fort_formula_grammar.proofs.LocalReadings.{Local, index-local, argument-local, relation-local, implication-local, disjunction-local, conjunction-local}
+use Rattle.fort_formula_grammar.specs.FormulaGrammar.{Quantifier, quantified, Comparison, compared, IsArgument, AVariable, AGround, IsFormula, IsImplication, IsDisjunction, IsConjunction, IsUnary, IsBound, OneSide, BothSides, Conclusion, Premise, FirstOr, MoreOr, FirstAnd, MoreAnd, Negated, ForSome, ForEvery, Infinitely, Enclosed, Truth, Falsity, Named, Commuting, AllTerminating, Terminating, NormalForm, Joinable, Compared, LastBinder, MoreBinders}
+use Rattle.fort_formula_grammar.proofs.LocalParts.{Local, index-local}
+use Rattle.fort_formula_grammar.proofs.LocalReadings.{argument-local, relation-local, implication-local, disjunction-local, conjunction-local}
 
 -- a ground term among the tokens has this place
 pub record IsPlaceAmong (ts : List Token) (k : ℕ) : Type 0 where
@@ -37,6 +38,10 @@ argument_places (AGround {place = n} {text = text} {us = us}) k c =
 quantified_places : (q : Quantifier) (x : Name) (f : Formula) → places (quantified q x f) ≡ places f
 quantified_places grammar.Some x f = refl
 quantified_places grammar.Every x f = refl
+
+compared_places : (r : Comparison) (a b : Argument) → places (compared r a b) ≡ places_in a ++ places_in b
+compared_places (grammar.ByRules rel index) a b = refl
+compared_places (grammar.ByExpression e number place) a b = refl
 
 mutual
   pub formula_places : {ts us : List Token} {f : Formula} → IsFormula ts f us → (k : ℕ) → Contains (places f) k → IsPlaceAmong ts k
@@ -81,14 +86,16 @@ mutual
   unary_places Falsity k c = absurd (Contains-none k c)
   unary_places (Named i) k c = absurd (Contains-none k c)
   unary_places Commuting k c = absurd (Contains-none k c)
+  unary_places (AllTerminating i none) k c = absurd (Contains-none k c)
+  unary_places (Terminating i a) k c = next_place Sn (place_behind (index-local i) (next_place Open (argument_places a k c)))
   unary_places (NormalForm i a) k c = next_place Nf (place_behind (index-local i) (next_place Open (argument_places a k c)))
   unary_places (Joinable {a = a} {b = b} i p q) k c =
       next_place Join (place_behind (index-local i) (next_place Open (elim (Contains-append_cases (places_in a) (places_in b) k c) [
         | inl d ↦ argument_places p k d
         | inr d ↦ place_behind (argument-local p) (next_place Comma (argument_places q k d))
       ])))
-  unary_places (Compared {a = a} {b = b} p r q) k c =
-      elim (Contains-append_cases (places_in a) (places_in b) k c) [
+  unary_places (Compared {a = a} {b = b} {r = s} p r q) k c =
+      elim (Contains-append_cases (places_in a) (places_in b) k (subst (λ w. Contains w k) (compared_places s a b) c)) [
         | inl d ↦ argument_places p k d
         | inr d ↦ place_behind (argument-local p) (place_behind (relation-local r) (argument_places q k d))
       ]

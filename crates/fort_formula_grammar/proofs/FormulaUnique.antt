@@ -1,19 +1,17 @@
 -- Tokens begin with one formula of each kind at most, and what follows it is determined, where the reading can't go on.
-use Rattle.std.proofs.Common.{◌≡◌, ℕ, false, List, [], ◌∷◌, refl, sym, ap, ◌∙◌, subst, inl, inr}
+use Rattle.std.proofs.Common.{◌≡◌, false, List, [], ◌∷◌, refl, sym, ap, ◌∙◌, subst, inl, inr}
 use Rattle.std.proofs.lemmas.Bool.{true≢false}
 use Rattle.fort_logic.specs.Formulas as theory
-use Rattle.fort_logic.specs.Formulas.{Argument, Formula, SurfaceRel}
+use Rattle.fort_logic.specs.Formulas.{Argument, Formula}
 use Rattle.fort_formula_grammar.specs.Tokens.{Token, And, Or}
-use Rattle.fort_formula_grammar.specs.FormulaGrammar.{Quantifier, quantified, IsFormula, IsImplication, IsDisjunction, IsConjunction, IsUnary, IsBound, IsArgument, IsRelation, OneSide, BothSides, Conclusion, Premise, FirstOr, MoreOr, FirstAnd, MoreAnd, Negated, ForSome, ForEvery, Infinitely, Enclosed, Truth, Falsity, Named, Commuting, NormalForm, Joinable, Compared, LastBinder, MoreBinders, AVariable, AGround}
+use Rattle.fort_formula_grammar.specs.FormulaGrammar.{Quantifier, quantified, begins_with_open, Comparison, compared, IsFormula, IsImplication, IsDisjunction, IsConjunction, IsUnary, IsBound, IsArgument, IsRelation, OneSide, BothSides, Conclusion, Premise, FirstOr, MoreOr, FirstAnd, MoreAnd, Negated, ForSome, ForEvery, Infinitely, Enclosed, Truth, Falsity, Named, Commuting, AllTerminating, Terminating, NormalForm, Joinable, Compared, LastBinder, MoreBinders, AVariable, AGround}
 use Rattle.fort_formula_grammar.specs.Continuations.{continues_conjunction, continues_disjunction, continues_implication, continues_formula}
-use Rattle.fort_formula_grammar.proofs.IndexUnique.{IsIndex-unique, IsRelation-unique, argument_behind}
+use Rattle.fort_formula_grammar.proofs.IndexUnique.{same_behind, IsIndex-unique, argument_behind}
+use Rattle.fort_formula_grammar.proofs.RelationUnique.{IsRelation-unique}
 use Rattle.fort_formula_grammar.proofs.FormulaTails.{AndTail, NoAnd, OneAnd, AndTail-push, and_parts, AreAndFronts, AreAndFronts-ended, OrTail, NoOr, OneOr, OrTail-push, OrTail-begin, or_parts, AreOrFronts, AreOrFronts-ended, disjunction-not_conjunction, implication-not_disjunction, formula-not_implication}
 
 low : (ts : List Token) → continues_implication ts ≡ false → continues_conjunction ts ≡ false
 low ts h = disjunction-not_conjunction ts (implication-not_disjunction ts h)
-
-pub same_behind : {t : Token} {us vs : List Token} → t ∷ us ≡ t ∷ vs → us ≡ vs
-same_behind e = cc
 
 OrTail-same : {ts us vs : List Token} {f g h : Formula} → f ≡ g → ts ≡ us → OrTail f ts h vs → OrTail g us h vs
 OrTail-same {ts} {us} {vs} {f} {g} {h} e r t = subst (λ x. OrTail g x h vs) r (subst (λ x. OrTail x ts h vs) e t)
@@ -37,16 +35,19 @@ OrTail-step {f = f} q c unique (OneOr d t) =
     let same = unique _ _ d (OrTail-begin t q) in
     inl (OrTail-same (sym (ap (theory.Or f) same.0)) (sym same.1) t)
 
-compared-unique : {ts us vs ws xs : List Token} {a b : Argument} {rel : SurfaceRel} {index : ℕ} {f : Formula} → IsArgument ts a us
-    → IsRelation us rel index vs → IsArgument vs b ws → IsUnary ts f xs → (theory.Related rel a b index ≡ f) × (ws ≡ xs)
-compared-unique AVariable r b (Compared AVariable s c) =
+compared_same : {r s : Comparison} {b c : Argument} (a : Argument) → r ≡ s → b ≡ c → compared r a b ≡ compared s a c
+compared_same {s = s} {b = b} a e h = ap (λ r. compared r a b) e ∙ ap (compared s a) h
+
+compared-unique : {ts us vs ws xs : List Token} {a b : Argument} {r : Comparison} {f : Formula} → IsArgument ts a us
+    → IsRelation us r vs → IsArgument vs b ws → IsUnary ts f xs → (compared r a b ≡ f) × (ws ≡ xs)
+compared-unique (AVariable {x = x}) r b (Compared AVariable s c) =
     let relations = IsRelation-unique r s in
-    let same = argument_behind relations.2 b c in
-    (cc, same.1)
-compared-unique AGround r b (Compared AGround s c) =
+    let same = argument_behind relations.1 b c in
+    (compared_same (theory.Var x) relations.0 same.0, same.1)
+compared-unique (AGround {place = k}) r b (Compared AGround s c) =
     let relations = IsRelation-unique r s in
-    let same = argument_behind relations.2 b c in
-    (cc, same.1)
+    let same = argument_behind relations.1 b c in
+    (compared_same (theory.Ground k) relations.0 same.0, same.1)
 
 -- of two conjunctions or disjunctions that begin at one place, one is a front of the other
 mutual
@@ -110,6 +111,13 @@ mutual
   unary-unique Falsity Falsity = (refl, refl)
   unary-unique (Named {p = p} i) (Named j) = let same = IsIndex-unique i j in (ap (theory.Has p) same.0, same.1)
   unary-unique Commuting Commuting = (refl, refl)
+  unary-unique (AllTerminating i none) (AllTerminating j none') = let same = IsIndex-unique i j in (ap theory.AllSn same.0, same.1)
+  unary-unique (AllTerminating i none) (Terminating j b) = absurd (true≢false (sym (ap begins_with_open (IsIndex-unique i j).1) ∙ none))
+  unary-unique (Terminating i a) (AllTerminating j none) = absurd (true≢false (ap begins_with_open (IsIndex-unique i j).1 ∙ none))
+  unary-unique (Terminating i a) (Terminating j b) =
+      let indices = IsIndex-unique i j in
+      let same = argument_behind (same_behind indices.1) a b in
+      (cc, same_behind same.1)
   unary-unique (NormalForm i a) (NormalForm j b) =
       let indices = IsIndex-unique i j in
       let same = argument_behind (same_behind indices.1) a b in

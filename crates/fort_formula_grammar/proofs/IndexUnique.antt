@@ -1,9 +1,13 @@
--- Tokens begin with one index, one argument and one relation at most, and what follows it is determined.
-use Rattle.std.proofs.Common.{◌≡◌, ℕ, List, refl, sym, ◌∙◌, subst}
+-- Tokens begin with one index and one argument at most, and what follows it is determined.
+use Rattle.std.proofs.Common.{◌≡◌, ℕ, List, ◌∷◌, refl, sym, subst}
 use Rattle.std.proofs.lemmas.Bool.{true≢false}
-use Rattle.fort_logic.specs.Formulas.{Argument, SurfaceRel}
+use Rattle.fort_logic.specs.Formulas.{Argument}
 use Rattle.fort_formula_grammar.specs.Tokens.{Token}
-use Rattle.fort_formula_grammar.specs.FormulaGrammar.{IsIndex, Given, LeftOut, IsRelation, WithoutIndex, WithIndex, IsArgument, AVariable, AGround}
+use Rattle.fort_formula_grammar.specs.IndexGrammar.{IsIndex, Given, LeftOut}
+use Rattle.fort_formula_grammar.specs.FormulaGrammar.{IsArgument, AVariable, AGround}
+
+pub same_behind : {t : Token} {us vs : List Token} → t ∷ us ≡ t ∷ vs → us ≡ vs
+same_behind e = cc
 
 pub IsIndex-unique : {ts us vs : List Token} {m n : ℕ} → IsIndex ts m us → IsIndex ts n vs → (m ≡ n) × (us ≡ vs)
 IsIndex-unique Given Given = (refl, refl)
@@ -14,13 +18,6 @@ IsIndex-unique (LeftOut e) (LeftOut h) = (refl, refl)
 pub IsArgument-unique : {ts us vs : List Token} {a b : Argument} → IsArgument ts a us → IsArgument ts b vs → (a ≡ b) × (us ≡ vs)
 IsArgument-unique AVariable AVariable = (refl, refl)
 IsArgument-unique AGround AGround = (refl, refl)
-
-pub IsRelation-unique : {ts us vs : List Token} {r s : SurfaceRel} {m n : ℕ} → IsRelation ts r m us → IsRelation ts s n vs
-    → (r ≡ s) × (m ≡ n) × (us ≡ vs)
-IsRelation-unique (WithoutIndex e) (WithoutIndex h) = (refl, refl, refl)
-IsRelation-unique (WithoutIndex e) (WithIndex h i) = absurd (true≢false (sym h ∙ e))
-IsRelation-unique (WithIndex e i) (WithoutIndex h) = absurd (true≢false (sym e ∙ h))
-IsRelation-unique (WithIndex e i) (WithIndex h j) = let same = IsIndex-unique i j in (refl, same.0, same.1)
 
 -- the same of arguments at places that were found to be one
 pub argument_behind : {ts us vs ws : List Token} {a b : Argument} → ts ≡ us → IsArgument ts a vs → IsArgument us b ws → (a ≡ b) × (vs ≡ ws)

@@ -1,10 +1,16 @@
 pub mod FormulaTails
 pub mod IndexUnique
+pub mod ExpressionWords
+pub mod ExpressionUnique
+pub mod RelationUnique
 pub mod FormulaUnique
 pub mod NextTokens
+pub mod LocalParts
+pub mod ExpressionLocal
 pub mod LocalReadings
 pub mod FirstTokens
 pub mod StuckReadings
+pub mod StuckExpressionLaws
 pub mod StuckLocal
 pub mod StuckLevels
 pub mod StuckNothing

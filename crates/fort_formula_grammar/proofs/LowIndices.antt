@@ -3,14 +3,19 @@ use Rattle.std.proofs.Common.{◌≡◌, ℕ, ◌≤◌, List, [], ◌∷◌, �
 use Rattle.std.specs.Prelude.{Contains}
 use Rattle.std.proofs.lemmas.List.Elements.{Contains-append_right, Contains-append_cases}
 use Rattle.fort_theory.proofs.Members.{Contains-head, Contains-behind, Contains-cons_cases, Contains-none}
-use Rattle.fort_logic.specs.Formulas.{Name, Formula, SurfaceRel, Com}
+use Rattle.fort_expressions.specs.Expressions.{Expression, root_indices}
+use Rattle.fort_logic.specs.Formulas.{Name, Argument, Formula, Com}
 use Rattle.fort_logic.specs.Mentions.{indices}
 use Rattle.fort_formula_grammar.specs.Tokens.{Token, Index, IsToken}
 use Rattle.fort_formula_grammar.specs.TokenText.{Reads, Nothing, Blank, Next}
+use Rattle.fort_formula_grammar.specs.IndexGrammar.{IsIndex, Given, LeftOut}
+use Rattle.fort_formula_grammar.specs.ExpressionGrammar.{OneOperand, Inv, Clos, TwoOperands, Uni, Comp, of_one, of_two, IsExpression, OfRoot, OfOne, OfTwo, Between}
 use Rattle.fort_formula_grammar.specs.FormulaGrammar as grammar
-use Rattle.fort_formula_grammar.specs.FormulaGrammar.{Quantifier, quantified, IsIndex, Given, LeftOut, IsRelation, WithoutIndex, WithIndex, IsFormula, IsImplication, IsDisjunction, IsConjunction, IsUnary, IsBound, OneSide, BothSides, Conclusion, Premise, FirstOr, MoreOr, FirstAnd, MoreAnd, Negated, ForSome, ForEvery, Infinitely, Enclosed, Truth, Falsity, Named, Commuting, NormalForm, Joinable, Compared, LastBinder, MoreBinders}
+use Rattle.fort_formula_grammar.specs.FormulaGrammar.{Quantifier, quantified, Comparison, compared, IsRelation, WithoutIndex, WithIndex, OfExpression, IsFormula, IsImplication, IsDisjunction, IsConjunction, IsUnary, IsBound, OneSide, BothSides, Conclusion, Premise, FirstOr, MoreOr, FirstAnd, MoreAnd, Negated, ForSome, ForEvery, Infinitely, Enclosed, Truth, Falsity, Named, Commuting, AllTerminating, Terminating, NormalForm, Joinable, Compared, LastBinder, MoreBinders}
 use Rattle.fort_formula_grammar.specs.FormulaText.{IsFormulaText}
-use Rattle.fort_formula_grammar.proofs.LocalReadings.{Local, argument-local, implication-local, disjunction-local, conjunction-local}
+use Rattle.fort_formula_grammar.proofs.LocalParts.{Local}
+use Rattle.fort_formula_grammar.proofs.ExpressionLocal.{expression-local}
+use Rattle.fort_formula_grammar.proofs.LocalReadings.{argument-local, implication-local, disjunction-local, conjunction-local}
 
 -- each index that is written among the tokens is at least 1
 pub record Low (ts : List Token) : Type 0 where
@@ -19,6 +24,10 @@ pub record Low (ts : List Token) : Type 0 where
 -- each index that a formula mentions is
 abbrev Mentioned : Formula → Type 0
 Mentioned f = (k : ℕ) → Contains (indices f) k → 1 ≤ k
+
+-- each index that an expression mentions is
+abbrev RootsLow : Expression → Type 0
+RootsLow e = (k : ℕ) → Contains (root_indices e) k → 1 ≤ k
 
 later : {ts : List Token} (t : Token) → Low (t ∷ ts) → Low ts
 later {ts} t low = record { each = λ k c. low.each k (Contains-behind t ts (Index k) c) }
@@ -33,9 +42,25 @@ index_low : {ts us : List Token} {n : ℕ} → IsIndex ts n us → Low ts → 1 
 index_low (Given {n = n} {us = us}) low = low.each n (Contains-head (Index n) us)
 index_low (LeftOut none) low = omega arith
 
-relation_low : {ts us : List Token} {rel : SurfaceRel} {n : ℕ} → IsRelation ts rel n us → Low ts → 1 ≤ n
-relation_low (WithoutIndex none) low = omega arith
-relation_low (WithIndex takes i) low = index_low i (later _ low)
+both_roots_low : (op : TwoOperands) (a b : Expression) → RootsLow a → RootsLow b → RootsLow (of_two op a b)
+both_roots_low Uni a b p q k c = elim (Contains-append_cases (root_indices a) (root_indices b) k c) [ inl d ↦ p k d | inr d ↦ q k d ]
+both_roots_low Comp a b p q k c = elim (Contains-append_cases (root_indices a) (root_indices b) k c) [ inl d ↦ p k d | inr d ↦ q k d ]
+
+one_roots_low : (op : OneOperand) (e : Expression) → RootsLow e → RootsLow (of_one op e)
+one_roots_low Inv e p k c = p k c
+one_roots_low Clos e p k c = p k c
+
+expression_low : {ts us : List Token} {e : Expression} → IsExpression ts e us → Low ts → RootsLow e
+expression_low (OfRoot {index = n} w i) low = one_low n (index_low i (later _ low))
+expression_low (OfOne op {e = e} w p) low = one_roots_low op e (expression_low p (later _ (later _ low)))
+expression_low (OfTwo op {a = a} {b = b} w p q) low =
+    let inside = later _ (later _ low) in
+    both_roots_low op a b (expression_low p inside) (expression_low q (later _ (behind (expression-local p) inside)))
+
+relation_low : {ts us : List Token} {r : Comparison} → IsRelation ts r us → Low ts → (a b : Argument) → Mentioned (compared r a b)
+relation_low (WithoutIndex none) low a b = one_low 1 (omega arith)
+relation_low (WithIndex {index = n} takes i) low a b = one_low n (index_low i (later _ low))
+relation_low (OfExpression (Between h k e)) low a b = expression_low e (later _ low)
 
 both_low : (f g : Formula) (k : ℕ) → Mentioned f → Mentioned g → Contains (indices f ++ indices g) k → 1 ≤ k
 both_low f g k p q c = elim (Contains-append_cases (indices f) (indices g) k c) [ inl a ↦ p k a | inr b ↦ q k b ]
@@ -81,9 +106,11 @@ mutual
   unary_low Falsity low = λ k c. absurd (Contains-none k c)
   unary_low (Named {index = n} i) low = one_low n (index_low i (later _ low))
   unary_low Commuting low = com_low
+  unary_low (AllTerminating {index = n} i none) low = one_low n (index_low i (later _ low))
+  unary_low (Terminating {index = n} i a) low = one_low n (index_low i (later _ low))
   unary_low (NormalForm {index = n} i a) low = one_low n (index_low i (later _ low))
   unary_low (Joinable {index = n} i p q) low = one_low n (index_low i (later _ low))
-  unary_low (Compared {index = n} p r q) low = one_low n (relation_low r (behind (argument-local p) low))
+  unary_low (Compared {a = a} {b = b} p r q) low = relation_low r (behind (argument-local p) low) a b
 
   binders_low : {q : Quantifier} {ts us : List Token} {f : Formula} → IsBound q ts f us → Low ts → Mentioned f
   binders_low (LastBinder {q = q} {x = x} {f = f} d) low = bound_low q x f (formula_low d (later _ (later _ low)))

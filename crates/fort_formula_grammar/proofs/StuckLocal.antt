@@ -1,15 +1,18 @@
 -- Where a reading is stuck it is so before any tokens that begin alike, and what was read can be completed.
-use Rattle.std.proofs.Common.{◌≡◌, ℕ, false, List, [], ◌∷◌, ◌++◌, append_assoc, codes, refl, sym, ap, subst}
+use Rattle.std.proofs.Common.{◌≡◌, false, List, [], ◌∷◌, ◌++◌, codes, refl, sym, ap, subst}
 use Rattle.fort_logic.specs.Formulas as theory
-use Rattle.fort_logic.specs.Formulas.{Name, Argument, Formula, SurfaceRel}
-use Rattle.fort_formula_grammar.specs.Tokens.{Token, Open, Close, Comma, Not, Iff, Related, Exists, Forall, Infinite, True, Nf, Join, Variable, Ground}
+use Rattle.fort_logic.specs.Formulas.{Name, Argument, Formula}
+use Rattle.fort_formula_grammar.specs.Tokens.{Token, Open, Close, Comma, Not, Iff, Related, Exists, Forall, Infinite, True, Nf, Join, Sn, Variable, Ground}
 use Rattle.fort_formula_grammar.specs.FormulaGrammar as grammar
-use Rattle.fort_formula_grammar.specs.FormulaGrammar.{Quantifier, quantified, begins_with_index, IsIndex, Given, LeftOut, IsRelation, WithoutIndex, WithIndex, IsArgument, AVariable, AGround, IsFormula, IsImplication, IsDisjunction, IsConjunction, IsUnary, IsBound, OneSide, BothSides, Conclusion, Premise, FirstOr, MoreOr, FirstAnd, MoreAnd, Negated, ForSome, ForEvery, Infinitely, Enclosed, Truth, NormalForm, Joinable, Compared, LastBinder, MoreBinders}
+use Rattle.fort_formula_grammar.specs.FormulaGrammar.{Quantifier, quantified, Comparison, IsRelation, WithoutIndex, OfExpression, IsArgument, AVariable, AGround, IsFormula, IsImplication, IsDisjunction, IsConjunction, IsUnary, IsBound, OneSide, BothSides, Conclusion, Premise, FirstOr, MoreOr, FirstAnd, MoreAnd, Negated, ForSome, ForEvery, Infinitely, Enclosed, Truth, Terminating, NormalForm, Joinable, Compared, LastBinder, MoreBinders}
 use Rattle.fort_formula_grammar.specs.Continuations.{continues_formula, HasNoNext, HasNoArgument}
-use Rattle.fort_formula_grammar.specs.Stuck.{StuckFormula, StuckImplication, StuckDisjunction, StuckConjunction, StuckUnary, StuckBinders, StuckBody, StuckWhole, OnTheLeft, OnTheRight, SecondIff, InPremise, InConclusion, InFirstOr, InMoreOr, InFirstAnd, InMoreAnd, NoUnary, UnderNot, UnderExists, UnderForall, NoInfiniteVariable, UnderInfinite, Within, NfUnopened, NfWithoutArgument, NfUnclosed, JoinUnopened, JoinWithoutArgument, JoinOfOne, JoinHalf, JoinUnclosed, Unrelated, RelatedToNothing, NoBinder, InMoreBinders, BehindBinders, Unopened, Inside, Unclosed, InFormula, BehindFormula}
-use Rattle.fort_formula_grammar.proofs.LocalReadings.{Local-back, Local-then, index-local, argument-local, relation-local, formula-local, implication-local, disjunction-local, conjunction-local}
-use Rattle.fort_formula_grammar.proofs.FirstTokens.{SameFirst, BothBegin, SameFirst-append, ended_same, unstarted_same, next_same, variable_same, argument_same, relation_same}
-use Rattle.fort_formula_grammar.proofs.StuckReadings.{IsStuck, IsStuck-map, IsStuck-front, IsStuck-then, IsStuck-here, IsStuck-behind}
+use Rattle.fort_formula_grammar.specs.StuckExpressions.{StuckEnclosed}
+use Rattle.fort_formula_grammar.specs.Stuck.{StuckFormula, StuckImplication, StuckDisjunction, StuckConjunction, StuckUnary, StuckBinders, StuckBody, StuckWhole, OnTheLeft, OnTheRight, SecondIff, InPremise, InConclusion, InFirstOr, InMoreOr, InFirstAnd, InMoreAnd, NoUnary, UnderNot, UnderExists, UnderForall, NoInfiniteVariable, UnderInfinite, Within, NfUnopened, NfWithoutArgument, NfUnclosed, SnWithoutArgument, SnUnclosed, JoinUnopened, JoinWithoutArgument, JoinOfOne, JoinHalf, JoinUnclosed, Unrelated, InRelation, RelatedToNothing, NoBinder, InMoreBinders, BehindBinders, Unopened, Inside, Unclosed, InFormula, BehindFormula}
+use Rattle.fort_formula_grammar.proofs.LocalParts.{Local-back, Local-then, index-again, index-local}
+use Rattle.fort_formula_grammar.proofs.LocalReadings.{argument-local, relation-local, formula-local, implication-local, disjunction-local, conjunction-local}
+use Rattle.fort_formula_grammar.proofs.FirstTokens.{SameFirst, BothBegin, SameFirst-append, ended_same, unstarted_same, next_same, variable_same, argument_same, unrelated_same}
+use Rattle.fort_formula_grammar.proofs.StuckReadings.{IsStuck, IsStuck-map, IsStuck-front, IsStuck-then, IsStuck-here, IsStuck-behind, IsStuck-closed, IsStuck-unopened}
+use Rattle.fort_formula_grammar.proofs.StuckExpressionLaws.{AnEnclosed, StuckEnclosed-local}
 
 -- a formula in parentheses
 pub data IsBody : List Token → Formula → List Token → Type 0 where
@@ -70,16 +73,6 @@ same_front : {K X : List Token → List Token → Type 0} {ts us vs : List Token
     → SameFirst ts (s.read ++ vs)
 same_front {us = us} {vs = vs} s h = subst (λ w. SameFirst w (s.read ++ vs)) (sym s.is) (SameFirst-append s.read us vs h)
 
-inside : {ts us : List Token} → IsStuck StuckFormula AFormula ts us → IsStuck StuckBody ABody (Open ∷ ts) us
-inside s = record {
-  read = Open ∷ s.read;
-  is = ap (λ w. Open ∷ w) s.is;
-  again = λ vs h. Inside (s.again vs h);
-  more = s.more ++ Close ∷ [];
-  whole = λ vs h. let d = s.whole (Close ∷ vs) refl in
-      (d.0, subst (λ w. IsBody (Open ∷ (s.read ++ w)) d.0 vs) (sym (append_assoc s.more (Close ∷ []) vs)) (Parenthesized d.1));
-}
-
 within : {ts us : List Token} → IsStuck StuckBody ABody (Open ∷ ts) us → IsStuck StuckUnary AUnary (Open ∷ ts) us
 within s = record {
   read = s.read;
@@ -99,8 +92,7 @@ behind_binders {x} none s = record {
   whole = λ vs h q. let d = s.whole vs h in (quantified q x d.0, bound_body d.1);
 }
 
-related_to_nothing : {a : Argument} {rel : SurfaceRel} {n : ℕ} {ts us vs : List Token} → IsArgument ts a us
-    → IsRelation us rel n vs → HasNoArgument vs
+related_to_nothing : {a : Argument} {r : Comparison} {ts us vs : List Token} → IsArgument ts a us → IsRelation us r vs → HasNoArgument vs
     → IsStuck StuckUnary AUnary ts vs
 related_to_nothing (AVariable {x = x}) r none =
     IsStuck-behind (Variable x ∷ []) (relation-local r) (λ y vs h p. RelatedToNothing AVariable p (argument_same h none))
@@ -108,6 +100,15 @@ related_to_nothing (AVariable {x = x}) r none =
 related_to_nothing (AGround {place = k} {text = text}) r none =
     IsStuck-behind (Ground k text ∷ []) (relation-local r) (λ y vs h p. RelatedToNothing AGround p (argument_same h none))
     (Variable some_name ∷ []) refl (λ y z p. (_, Compared AGround p AVariable))
+
+compared_in : {a : Argument} {x : Name} {ts us vs : List Token} → IsArgument ts a us → AnEnclosed us (Variable x ∷ vs) → AUnary ts vs
+compared_in p e = (_, Compared p (OfExpression e.1.1.1) AVariable)
+
+in_relation : {a : Argument} {ts us vs : List Token} → IsArgument ts a us → IsStuck StuckEnclosed AnEnclosed us vs → IsStuck StuckUnary AUnary ts vs
+in_relation (AVariable {x = x}) s =
+    IsStuck-closed (Variable x ∷ []) s (λ y z p. InRelation AVariable p) (Variable some_name ∷ []) refl (λ y z p. compared_in AVariable p)
+in_relation (AGround {place = k} {text = text}) s =
+    IsStuck-closed (Ground k text ∷ []) s (λ y z p. InRelation AGround p) (Variable some_name ∷ []) refl (λ y z p. compared_in AGround p)
 
 mutual
   StuckFormula-local : {ts us : List Token} → StuckFormula ts us → IsStuck StuckFormula AFormula ts us
@@ -151,7 +152,7 @@ mutual
       IsStuck-front (Infinite ∷ Variable x ∷ []) (StuckBody-local s) (λ y z p. UnderInfinite p) (λ y z p. (theory.Infinite x p.0, infinite_body p.1))
   StuckUnary-local (Within s) = within (StuckBody-local s)
   StuckUnary-local (NfUnopened i none) =
-      IsStuck-behind (Nf ∷ []) (index-local i) (λ x vs h p. NfUnopened p (next_same h none)) (Open ∷ Variable some_name ∷ Close ∷ []) refl
+      IsStuck-unopened (Nf ∷ []) (index-again i) (λ x vs h p. NfUnopened p (next_same h none)) (Variable some_name ∷ Close ∷ [])
       (λ x z p. (_, NormalForm p AVariable))
   StuckUnary-local (NfWithoutArgument i none) =
       IsStuck-behind (Nf ∷ []) (Local-back (index-local i)) (λ x vs h p. NfWithoutArgument p (argument_same h none)) (Variable some_name ∷ Close ∷ []) refl
@@ -159,9 +160,15 @@ mutual
   StuckUnary-local (NfUnclosed i a none) =
       IsStuck-behind (Nf ∷ []) (Local-then (index-local i) (argument-local a)) (λ x vs h p. NfUnclosed p.1.0 p.1.1 (next_same h none))
       (Close ∷ []) refl (λ x z p. (_, NormalForm p.1.0 p.1.1))
+  StuckUnary-local (SnWithoutArgument i none) =
+      IsStuck-behind (Sn ∷ []) (Local-back (index-local i)) (λ x vs h p. SnWithoutArgument p (argument_same h none)) (Variable some_name ∷ Close ∷ []) refl
+      (λ x z p. (_, Terminating p AVariable))
+  StuckUnary-local (SnUnclosed i a none) =
+      IsStuck-behind (Sn ∷ []) (Local-then (index-local i) (argument-local a)) (λ x vs h p. SnUnclosed p.1.0 p.1.1 (next_same h none))
+      (Close ∷ []) refl (λ x z p. (_, Terminating p.1.0 p.1.1))
   StuckUnary-local (JoinUnopened i none) =
-      IsStuck-behind (Join ∷ []) (index-local i) (λ x vs h p. JoinUnopened p (next_same h none))
-      (Open ∷ Variable some_name ∷ Comma ∷ Variable some_name ∷ Close ∷ []) refl (λ x z p. (_, Joinable p AVariable AVariable))
+      IsStuck-unopened (Join ∷ []) (index-again i) (λ x vs h p. JoinUnopened p (next_same h none))
+      (Variable some_name ∷ Comma ∷ Variable some_name ∷ Close ∷ []) (λ x z p. (_, Joinable p AVariable AVariable))
   StuckUnary-local (JoinWithoutArgument i none) =
       IsStuck-behind (Join ∷ []) (Local-back (index-local i)) (λ x vs h p. JoinWithoutArgument p (argument_same h none))
       (Variable some_name ∷ Comma ∷ Variable some_name ∷ Close ∷ []) refl (λ x z p. (_, Joinable p AVariable AVariable))
@@ -177,8 +184,9 @@ mutual
       (λ x vs h p. JoinUnclosed p.1.0 p.1.1.1.0 p.1.1.1.1 (next_same h none)) (Close ∷ []) refl
       (λ x z p. (_, Joinable p.1.0 p.1.1.1.0 p.1.1.1.1))
   StuckUnary-local (Unrelated a none) =
-      IsStuck-behind [] (argument-local a) (λ x vs h p. Unrelated p (relation_same h none)) (Related theory.Eq ∷ Variable some_name ∷ []) refl
+      IsStuck-behind [] (argument-local a) (λ x vs h p. Unrelated p (unrelated_same h none)) (Related theory.Eq ∷ Variable some_name ∷ []) refl
       (λ x z p. (_, Compared p (WithoutIndex refl) AVariable))
+  StuckUnary-local (InRelation a s) = in_relation a (StuckEnclosed-local s)
   StuckUnary-local (RelatedToNothing a r none) = related_to_nothing a r none
 
   StuckBinders-local : {ts us : List Token} → StuckBinders ts us → IsStuck StuckBinders ABound ts us
@@ -193,7 +201,8 @@ mutual
   StuckBody-local : {ts us : List Token} → StuckBody ts us → IsStuck StuckBody ABody ts us
   StuckBody-local (Unopened none) =
       IsStuck-here [] (λ vs h. Unopened (next_same h none)) (Open ∷ True ∷ Close ∷ []) (λ z. (_, Parenthesized (truth (Close ∷ z))))
-  StuckBody-local (Inside s) = inside (StuckFormula-local s)
+  StuckBody-local (Inside s) =
+      IsStuck-closed (Open ∷ []) (StuckFormula-local s) (λ x z p. Inside p) (Close ∷ []) refl (λ x z p. (p.0, Parenthesized p.1))
   StuckBody-local (Unclosed d e none) =
       IsStuck-behind (Open ∷ []) (formula-local d) (λ x vs h p. Unclosed p (ended_same h e) (next_same h none)) (Close ∷ []) refl
       (λ x z p. (_, Parenthesized p))

@@ -1,14 +1,19 @@
 -- Where a reading is stuck, no formula of the kind begins the tokens.
-use Rattle.std.proofs.Common.{◌≡◌, ℕ, true, false, List, [], ◌∷◌, refl, sym, ◌∙◌, subst}
+use Rattle.std.proofs.Common.{◌≡◌, ℕ, true, false, List, [], ◌∷◌, refl, sym, ap, ◌∙◌, subst}
 use Rattle.std.proofs.lemmas.Bool.{true≢false}
-use Rattle.fort_logic.specs.Formulas.{Name, Argument, Formula, SurfaceRel}
-use Rattle.fort_formula_grammar.specs.Tokens.{Token, Open, Close, Comma, Not, Exists, Forall, Infinite, Nf, Join, Variable}
+use Rattle.fort_logic.specs.Formulas.{Name, Argument, Formula}
+use Rattle.fort_formula_grammar.specs.Tokens.{Token, Open, Close, Comma, Not, Exists, Forall, Infinite, Nf, Join, Sn, Variable}
+use Rattle.fort_formula_grammar.specs.IndexGrammar.{IsIndex}
+use Rattle.fort_formula_grammar.specs.ExpressionGrammar.{Between}
 use Rattle.fort_formula_grammar.specs.FormulaGrammar as grammar
-use Rattle.fort_formula_grammar.specs.FormulaGrammar.{Quantifier, IsIndex, IsArgument, IsRelation, AVariable, AGround, IsFormula, IsUnary, IsBound, Negated, ForSome, ForEvery, Infinitely, Enclosed, Truth, Falsity, Named, Commuting, NormalForm, Joinable, Compared, LastBinder, MoreBinders}
-use Rattle.fort_formula_grammar.specs.Continuations.{continues_formula, HasNoNext, HasNoVariable, HasNoArgument, HasNoRelation, HasNoUnary, HasNoBound, HasNoConjunction, HasNoDisjunction, HasNoImplication, HasNoFormula}
-use Rattle.fort_formula_grammar.specs.Stuck.{starts_unary, StuckFormula, StuckImplication, StuckDisjunction, StuckConjunction, StuckUnary, StuckBinders, StuckBody, StuckWhole, OnTheLeft, OnTheRight, SecondIff, InPremise, InConclusion, InFirstOr, InMoreOr, InFirstAnd, InMoreAnd, NoUnary, UnderNot, UnderExists, UnderForall, NoInfiniteVariable, UnderInfinite, Within, NfUnopened, NfWithoutArgument, NfUnclosed, JoinUnopened, JoinWithoutArgument, JoinOfOne, JoinHalf, JoinUnclosed, Unrelated, RelatedToNothing, NoBinder, InMoreBinders, BehindBinders, Unopened, Inside, Unclosed, InFormula, BehindFormula}
-use Rattle.fort_formula_grammar.proofs.IndexUnique.{IsIndex-unique, IsRelation-unique, argument_behind}
-use Rattle.fort_formula_grammar.proofs.FormulaUnique.{same_behind, formula-unique}
+use Rattle.fort_formula_grammar.specs.FormulaGrammar.{Quantifier, begins_with_open, Comparison, IsArgument, IsRelation, WithoutIndex, WithIndex, OfExpression, AVariable, AGround, IsFormula, IsUnary, IsBound, Negated, ForSome, ForEvery, Infinitely, Enclosed, Truth, Falsity, Named, Commuting, AllTerminating, Terminating, NormalForm, Joinable, Compared, LastBinder, MoreBinders}
+use Rattle.fort_formula_grammar.specs.Continuations.{continues_formula, begins_relation, HasNoNext, HasNoVariable, HasNoArgument, HasNoUnary, HasNoBound, HasNoConjunction, HasNoDisjunction, HasNoImplication, HasNoFormula}
+use Rattle.fort_formula_grammar.specs.StuckExpressions.{StuckEnclosed}
+use Rattle.fort_formula_grammar.specs.Stuck.{starts_unary, StuckFormula, StuckImplication, StuckDisjunction, StuckConjunction, StuckUnary, StuckBinders, StuckBody, StuckWhole, OnTheLeft, OnTheRight, SecondIff, InPremise, InConclusion, InFirstOr, InMoreOr, InFirstAnd, InMoreAnd, NoUnary, UnderNot, UnderExists, UnderForall, NoInfiniteVariable, UnderInfinite, Within, NfUnopened, NfWithoutArgument, NfUnclosed, SnWithoutArgument, SnUnclosed, JoinUnopened, JoinWithoutArgument, JoinOfOne, JoinHalf, JoinUnclosed, Unrelated, InRelation, RelatedToNothing, NoBinder, InMoreBinders, BehindBinders, Unopened, Inside, Unclosed, InFormula, BehindFormula}
+use Rattle.fort_formula_grammar.proofs.IndexUnique.{same_behind, IsIndex-unique, argument_behind}
+use Rattle.fort_formula_grammar.proofs.RelationUnique.{IsRelation-unique}
+use Rattle.fort_formula_grammar.proofs.StuckExpressionLaws.{StuckEnclosed-nothing}
+use Rattle.fort_formula_grammar.proofs.FormulaUnique.{formula-unique}
 use Rattle.fort_formula_grammar.proofs.StuckLocal.{IsBody, Parenthesized}
 use Rattle.fort_formula_grammar.proofs.StuckLevels.{conjunction-none, conjunction-stuck, disjunction-none, disjunction-stuck, implication-none, implication-stuck, formula-none, formula-stuck, formula-over}
 
@@ -30,6 +35,8 @@ unary_started Truth = refl
 unary_started Falsity = refl
 unary_started (Named i) = refl
 unary_started Commuting = refl
+unary_started (AllTerminating i none) = refl
+unary_started (Terminating i a) = refl
 unary_started (NormalForm i a) = refl
 unary_started (Joinable i a b) = refl
 unary_started (Compared a r b) = argument_started a
@@ -64,6 +71,13 @@ nf_rest : {ts us vs : List Token} {f : Formula} {n : ℕ} → IsIndex ts n us
 nf_rest i none (NormalForm j a) = none _ _ _ (IsIndex-unique i j).1 a
 nf_rest i none (Compared a r b) = elim a [ ]
 
+-- behind SN, its index and a (
+sn_rest : {ts us vs : List Token} {f : Formula} {n : ℕ} → IsIndex ts n (Open ∷ us)
+    → ((a : Argument) (xs zs : List Token) → us ≡ xs → IsArgument xs a (Close ∷ zs) → ⊥) → IsUnary (Sn ∷ ts) f vs → ⊥
+sn_rest i none (AllTerminating j unopened) = true≢false (ap begins_with_open (IsIndex-unique i j).1 ∙ unopened)
+sn_rest i none (Terminating j a) = none _ _ _ (same_behind (IsIndex-unique i j).1) a
+sn_rest i none (Compared a r b) = elim a [ ]
+
 -- behind JOIN and its index
 join_rest : {ts us vs : List Token} {f : Formula} {n : ℕ} → IsIndex ts n us
     → ((a b : Argument) (xs ys zs : List Token) → us ≡ Open ∷ xs → IsArgument xs a (Comma ∷ ys) → IsArgument ys b (Close ∷ zs) → ⊥)
@@ -74,15 +88,26 @@ join_rest i none (Compared a r b) = elim a [ ]
 no_argument : {us vs ws : List Token} {a : Argument} → HasNoArgument us → us ≡ vs → IsArgument vs a ws → ⊥
 no_argument {ws = ws} {a = a} none e p = none a ws (subst (λ w. IsArgument w a ws) (sym e) p)
 
-unrelated : {ts us vs : List Token} {f : Formula} {a : Argument} → IsArgument ts a us → HasNoRelation us → IsUnary ts f vs → ⊥
-unrelated AVariable none (Compared AVariable r b) = none _ _ _ r
-unrelated AGround none (Compared AGround r b) = none _ _ _ r
+relation_begun : {us vs : List Token} {r : Comparison} → IsRelation us r vs → begins_relation us ≡ true
+relation_begun (WithoutIndex e) = refl
+relation_begun (WithIndex e i) = refl
+relation_begun (OfExpression (Between h k e)) = refl
 
-related_to_nothing : {ts us vs ws : List Token} {f : Formula} {a : Argument} {rel : SurfaceRel} {n : ℕ}
-    → IsArgument ts a us → IsRelation us rel n vs
+-- an argument, and behind it no relation, one that is stuck, and one with no argument behind it
+unrelated : {ts us vs : List Token} {f : Formula} {a : Argument} → IsArgument ts a us → ((r : Comparison) (ws : List Token) → IsRelation us r ws → ⊥)
+    → IsUnary ts f vs → ⊥
+unrelated AVariable none (Compared AVariable r b) = none _ _ r
+unrelated AGround none (Compared AGround r b) = none _ _ r
+
+stuck_relation : {us vs ws : List Token} {r : Comparison} → StuckEnclosed us vs → IsRelation us r ws → ⊥
+stuck_relation s (WithoutIndex e) = elim s [ ]
+stuck_relation s (WithIndex e i) = elim s [ ]
+stuck_relation s (OfExpression e) = StuckEnclosed-nothing s _ _ _ _ e
+
+related_to_nothing : {ts us vs ws : List Token} {f : Formula} {a : Argument} {r : Comparison} → IsArgument ts a us → IsRelation us r vs
     → HasNoArgument vs → IsUnary ts f ws → ⊥
-related_to_nothing AVariable r none (Compared AVariable s b) = no_argument none (IsRelation-unique r s).2 b
-related_to_nothing AGround r none (Compared AGround s b) = no_argument none (IsRelation-unique r s).2 b
+related_to_nothing AVariable r none (Compared AVariable s b) = no_argument none (IsRelation-unique r s).1 b
+related_to_nothing AGround r none (Compared AGround s b) = no_argument none (IsRelation-unique r s).1 b
 
 no_binder : {q : Quantifier} {us vs : List Token} {f : Formula} → HasNoVariable us → IsBound q us f vs → ⊥
 no_binder none (LastBinder d) = none _ _ refl
@@ -135,6 +160,8 @@ mutual
   StuckUnary-nothing (NfUnopened i none) f vs u = nf_rest i (λ a xs zs e b. none xs e) u
   StuckUnary-nothing (NfWithoutArgument i none) f vs u = nf_rest i (λ a xs zs e b. no_argument none (same_behind e) b) u
   StuckUnary-nothing (NfUnclosed i a none) f vs u = nf_rest i (λ b xs zs e c. none zs (argument_behind (same_behind e) a c).1) u
+  StuckUnary-nothing (SnWithoutArgument i none) f vs u = sn_rest i (λ a xs zs e b. no_argument none e b) u
+  StuckUnary-nothing (SnUnclosed i a none) f vs u = sn_rest i (λ b xs zs e c. none zs (argument_behind e a c).1) u
   StuckUnary-nothing (JoinUnopened i none) f vs u = join_rest i (λ a b xs ys zs e c d. none xs e) u
   StuckUnary-nothing (JoinWithoutArgument i none) f vs u = join_rest i (λ a b xs ys zs e c d. no_argument none (same_behind e) c) u
   StuckUnary-nothing (JoinOfOne i a none) f vs u =
@@ -143,7 +170,8 @@ mutual
       join_rest i (λ b c xs ys zs e p q. no_argument none (same_behind (argument_behind (same_behind e) a p).1) q) u
   StuckUnary-nothing (JoinUnclosed i a b none) f vs u =
       join_rest i (λ c d xs ys zs e p q. none zs (argument_behind (same_behind (argument_behind (same_behind e) a p).1) b q).1) u
-  StuckUnary-nothing (Unrelated a none) f vs u = unrelated a none u
+  StuckUnary-nothing (Unrelated a none) f vs u = unrelated a (λ r ws p. true≢false (sym (relation_begun p) ∙ none)) u
+  StuckUnary-nothing (InRelation a s) f vs u = unrelated a (λ r ws p. stuck_relation s p) u
   StuckUnary-nothing (RelatedToNothing a r none) f vs u = related_to_nothing a r none u
 
   StuckBinders-nothing : {ts us : List Token} → StuckBinders ts us → (q : Quantifier) → HasNoBound q ts

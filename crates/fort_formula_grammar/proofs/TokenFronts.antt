@@ -9,7 +9,7 @@ use Rattle.std.proofs.lemmas.List.{take-append-drop, length-take-le, get_or_defa
 use Rattle.std.proofs.lemmas.List.Prefix.{front_fits, front_reads}
 use Rattle.fort_logic.specs.Formulas as theory
 use Rattle.fort_logic.specs.Formulas.{SurfaceRel, Property}
-use Rattle.fort_formula_grammar.specs.Tokens.{IsVariable, begins_with_letter, is_name_byte, is_ground_byte, reserved, Token, Open, Close, Comma, Not, And, Or, Imp, Iff, Related, Index, Exists, Forall, Infinite, True, False, Nf, Join, Has, Com, Sn, Variable, Ground, relation_text, property_text, token_text, IsToken}
+use Rattle.fort_formula_grammar.specs.Tokens.{IsVariable, begins_with_letter, is_name_byte, is_ground_byte, reserved, Token, Open, Close, Comma, Not, And, Or, Imp, Iff, Related, Begin, End, Index, Exists, Forall, Infinite, True, False, Nf, Join, Has, Com, Sn, Variable, Ground, relation_text, property_text, token_text, IsToken}
 use Rattle.fort_formula_grammar.specs.TokenText.{BeginsWithToken, BeginsWithNoToken}
 use Rattle.fort_formula_grammar.specs.TokenForms.{symbol_texts, begins_with_brace, NoneBegins, IsRun, IsBraced}
 
@@ -20,7 +20,7 @@ pub data IsWritten (text : List ℕ) : Type 0 where
   Braced : (inner : List ℕ) → IsBraced text inner [] → IsWritten text
 
 relation_written : (rel : SurfaceRel) → IsWritten (relation_text rel)
-relation_written theory.Eq = Symbol (21, lit< tt, refl)
+relation_written theory.Eq = Symbol (23, lit< tt, refl)
 relation_written theory.Step = Symbol (20, lit< tt, refl)
 relation_written theory.Star = Symbol (4, lit< tt, refl)
 relation_written theory.Plus = Symbol (5, lit< tt, refl)
@@ -55,15 +55,17 @@ index_written (suc (suc (suc (suc (suc (suc (suc (suc (suc zero))))))))) h l = S
 index_written (suc (suc (suc (suc (suc (suc (suc (suc (suc (suc n)))))))))) h l = absurd (omega arith)
 
 pub token_written : (t : Token) → IsToken t → IsWritten (token_text t)
-token_written Open h = Symbol (22, lit< tt, refl)
-token_written Close h = Symbol (23, lit< tt, refl)
-token_written Comma h = Symbol (24, lit< tt, refl)
-token_written Not h = Symbol (25, lit< tt, refl)
-token_written And h = Symbol (26, lit< tt, refl)
-token_written Or h = Symbol (27, lit< tt, refl)
+token_written Open h = Symbol (24, lit< tt, refl)
+token_written Close h = Symbol (25, lit< tt, refl)
+token_written Comma h = Symbol (26, lit< tt, refl)
+token_written Not h = Symbol (27, lit< tt, refl)
+token_written And h = Symbol (28, lit< tt, refl)
+token_written Or h = Symbol (29, lit< tt, refl)
 token_written Imp h = Symbol (19, lit< tt, refl)
 token_written Iff h = Symbol (2, lit< tt, refl)
 token_written (Related rel) h = relation_written rel
+token_written Begin h = Symbol (21, lit< tt, refl)
+token_written End h = Symbol (22, lit< tt, refl)
 token_written (Index n) h = index_written n h.0 h.1
 token_written Exists h = Word refl (refl, (refl, (refl, (refl, (refl, (refl, tt))))))
 token_written Forall h = Word refl (refl, (refl, (refl, (refl, (refl, (refl, tt))))))
@@ -96,7 +98,7 @@ falls_between n (w ∷ ws) (suc i) zero h le lt = absurd (omega arith)
 falls_between n (w ∷ ws) (suc i) (suc j) h le lt = falls_between (length w) ws i j h.1 (omega arith) (omega arith)
 
 symbols_fall : Fall 5 symbol_texts
-symbols_fall = (lit≤ tt, (lit≤ tt, (lit≤ tt, (lit≤ tt, (lit≤ tt, (lit≤ tt, (lit≤ tt, (lit≤ tt, (lit≤ tt, (lit≤ tt, (lit≤ tt, (lit≤ tt, (lit≤ tt, (lit≤ tt, (lit≤ tt, (lit≤ tt, (lit≤ tt, (lit≤ tt, (lit≤ tt, (lit≤ tt, (lit≤ tt, (lit≤ tt, (lit≤ tt, (lit≤ tt, (lit≤ tt, (lit≤ tt, (lit≤ tt, (lit≤ tt, tt))))))))))))))))))))))))))))
+symbols_fall = (lit≤ tt, (lit≤ tt, (lit≤ tt, (lit≤ tt, (lit≤ tt, (lit≤ tt, (lit≤ tt, (lit≤ tt, (lit≤ tt, (lit≤ tt, (lit≤ tt, (lit≤ tt, (lit≤ tt, (lit≤ tt, (lit≤ tt, (lit≤ tt, (lit≤ tt, (lit≤ tt, (lit≤ tt, (lit≤ tt, (lit≤ tt, (lit≤ tt, (lit≤ tt, (lit≤ tt, (lit≤ tt, (lit≤ tt, (lit≤ tt, (lit≤ tt, (lit≤ tt, (lit≤ tt, tt))))))))))))))))))))))))))))))
 
 -- no symbol begins with a letter
 abbrev BeginWithNoLetter : List (List ℕ) → Type 0
@@ -109,7 +111,7 @@ no_letter_at (w ∷ ws) zero rest h lt = h.0 rest
 no_letter_at (w ∷ ws) (suc k) rest h lt = no_letter_at ws k rest h.1 (omega arith)
 
 symbols_begin : BeginWithNoLetter symbol_texts
-symbols_begin = (λ r. refl, (λ r. refl, (λ r. refl, (λ r. refl, (λ r. refl, (λ r. refl, (λ r. refl, (λ r. refl, (λ r. refl, (λ r. refl, (λ r. refl, (λ r. refl, (λ r. refl, (λ r. refl, (λ r. refl, (λ r. refl, (λ r. refl, (λ r. refl, (λ r. refl, (λ r. refl, (λ r. refl, (λ r. refl, (λ r. refl, (λ r. refl, (λ r. refl, (λ r. refl, (λ r. refl, (λ r. refl, tt))))))))))))))))))))))))))))
+symbols_begin = (λ r. refl, (λ r. refl, (λ r. refl, (λ r. refl, (λ r. refl, (λ r. refl, (λ r. refl, (λ r. refl, (λ r. refl, (λ r. refl, (λ r. refl, (λ r. refl, (λ r. refl, (λ r. refl, (λ r. refl, (λ r. refl, (λ r. refl, (λ r. refl, (λ r. refl, (λ r. refl, (λ r. refl, (λ r. refl, (λ r. refl, (λ r. refl, (λ r. refl, (λ r. refl, (λ r. refl, (λ r. refl, (λ r. refl, (λ r. refl, tt))))))))))))))))))))))))))))))
 
 -- no symbol begins with a brace
 abbrev BeginWithNoBrace : List (List ℕ) → Type 0
@@ -122,7 +124,7 @@ no_brace_at (w ∷ ws) zero rest h lt = h.0 rest
 no_brace_at (w ∷ ws) (suc k) rest h lt = no_brace_at ws k rest h.1 (omega arith)
 
 symbols_unbraced : BeginWithNoBrace symbol_texts
-symbols_unbraced = (λ r. refl, (λ r. refl, (λ r. refl, (λ r. refl, (λ r. refl, (λ r. refl, (λ r. refl, (λ r. refl, (λ r. refl, (λ r. refl, (λ r. refl, (λ r. refl, (λ r. refl, (λ r. refl, (λ r. refl, (λ r. refl, (λ r. refl, (λ r. refl, (λ r. refl, (λ r. refl, (λ r. refl, (λ r. refl, (λ r. refl, (λ r. refl, (λ r. refl, (λ r. refl, (λ r. refl, (λ r. refl, tt))))))))))))))))))))))))))))
+symbols_unbraced = (λ r. refl, (λ r. refl, (λ r. refl, (λ r. refl, (λ r. refl, (λ r. refl, (λ r. refl, (λ r. refl, (λ r. refl, (λ r. refl, (λ r. refl, (λ r. refl, (λ r. refl, (λ r. refl, (λ r. refl, (λ r. refl, (λ r. refl, (λ r. refl, (λ r. refl, (λ r. refl, (λ r. refl, (λ r. refl, (λ r. refl, (λ r. refl, (λ r. refl, (λ r. refl, (λ r. refl, (λ r. refl, (λ r. refl, (λ r. refl, tt))))))))))))))))))))))))))))))
 
 no_brace_letter : (word rest : List ℕ) → begins_with_letter word ≡ true → begins_with_brace (word ++ rest) ≡ false
 no_brace_letter [] rest h = absurd (true≢false (sym h))
@@ -165,8 +167,8 @@ letter_some [] h = absurd (true≢false (sym h))
 letter_some (b ∷ bs) h = omega arith
 
 symbols_some : (k : ℕ) → k < length symbol_texts → 0 < length (get_or symbol_texts k [])
-symbols_some k lt = let last : length (get_or symbol_texts 27 []) ≡ 1 = refl in
-    let falls = falls_between 5 symbol_texts k 27 symbols_fall (omega arith) (lit< tt) in omega (arith, last, falls)
+symbols_some k lt = let last : length (get_or symbol_texts 29 []) ≡ 1 = refl in
+    let falls = falls_between 5 symbol_texts k 29 symbols_fall (omega arith) (lit< tt) in omega (arith, last, falls)
 
 pub all_name_bytes : (name : List ℕ) → ((k : ℕ) → k < length name → is_name_byte (get_or name k 0) ≡ true) → AllByRecursion (λ b. IsTrue (is_name_byte b)) name
 all_name_bytes [] h = tt

@@ -11,7 +11,7 @@ use Rattle.fort_logic.specs.Formulas.{Name, SurfaceRel, Property}
 use Rattle.fort_grammar.specs.Text.{is_blank}
 use Rattle.fort_formula_grammar.specs.TokenText.{HasPlace}
 use Rattle.fort_formula_grammar.specs.TokenForms.{begins_with_brace}
-use Rattle.fort_formula_grammar.specs.Tokens.{IsVariable, begins_with_letter, Token, Open, Close, Comma, Not, And, Or, Imp, Iff, Related, Index, Exists, Forall, Infinite, True, False, Nf, Join, Has, Com, Sn, Variable, Ground, IsToken, token_text, relation_text, property_text}
+use Rattle.fort_formula_grammar.specs.Tokens.{IsVariable, begins_with_letter, Token, Open, Close, Comma, Not, And, Or, Imp, Iff, Related, Begin, End, Index, Exists, Forall, Infinite, True, False, Nf, Join, Has, Com, Sn, Variable, Ground, IsToken, token_text, relation_text, property_text}
 
 -- the token that a text writes, by a table of the others than variables
 abbrev find_token : List (Name × Token) → Name → Token
@@ -24,6 +24,7 @@ signs = (codes "(", Open) ∷ (codes ")", Close) ∷ (codes ",", Comma) ∷ (cod
     ∷ (codes "->+", Related theory.Plus) ∷ (codes "->=", Related theory.Reflexive) ∷ (codes "->!", Related theory.Normal)
     ∷ (codes "->^", Related theory.Root) ∷ (codes "->_", Related theory.Below) ∷ (codes "-||->", Related theory.Par)
     ∷ (codes "<->", Related theory.Either) ∷ (codes "<->*", Related theory.Conv)
+    ∷ (codes "<<", Begin) ∷ (codes ">>", End)
     ∷ (codes "[1]", Index 1) ∷ (codes "[2]", Index 2) ∷ (codes "[3]", Index 3) ∷ (codes "[4]", Index 4) ∷ (codes "[5]", Index 5)
     ∷ (codes "[6]", Index 6) ∷ (codes "[7]", Index 7) ∷ (codes "[8]", Index 8) ∷ (codes "[9]", Index 9) ∷ []
 
@@ -122,6 +123,8 @@ back-token_text n (Related rel) p q = relation rel
     relation theory.Par = refl
     relation theory.Either = refl
     relation theory.Conv = refl
+back-token_text n Begin p q = refl
+back-token_text n End p q = refl
 back-token_text n Exists p q = refl
 back-token_text n Forall p q = refl
 back-token_text n Infinite p q = refl

@@ -1,8 +1,10 @@
 -- Nothing to believe: which tokens go on with a reading that could end before them, and that no reading of a kind begins some tokens.
-use Rattle.std.specs.Prelude.{◌≡◌, ℕ, Bool, true, false, List, [], ◌∷◌}
-use Rattle.fort_logic.specs.Formulas.{Name, Argument, Formula, SurfaceRel}
-use Rattle.fort_formula_grammar.specs.Tokens.{Token, Close, Comma, And, Or, Imp, Iff, Related, Index, Sn, Variable}
-use Rattle.fort_formula_grammar.specs.FormulaGrammar.{Quantifier, IsArgument, IsRelation, IsFormula, IsImplication, IsDisjunction, IsConjunction, IsUnary, IsBound}
+use Rattle.std.specs.Prelude.{◌≡◌, Bool, true, false, List, [], ◌∷◌, Contains}
+use Rattle.fort_expressions.specs.Expressions.{Expression}
+use Rattle.fort_logic.specs.Formulas.{Name, Argument, Formula}
+use Rattle.fort_formula_grammar.specs.Tokens.{Token, Close, Comma, And, Or, Imp, Iff, Related, Begin, End, Index, Variable}
+use Rattle.fort_formula_grammar.specs.ExpressionGrammar.{IsExpression}
+use Rattle.fort_formula_grammar.specs.FormulaGrammar.{Quantifier, IsArgument, IsFormula, IsImplication, IsDisjunction, IsConjunction, IsUnary, IsBound}
 
 -- a conjunction that ends before these tokens can be read further
 abbrev pub continues_conjunction : List Token → Bool
@@ -40,9 +42,17 @@ begins_unary Or = false
 begins_unary Imp = false
 begins_unary Iff = false
 begins_unary (Related rel) = false
+begins_unary Begin = false
+begins_unary End = false
 begins_unary (Index n) = false
-begins_unary Sn = false
 begins_unary t = true
+
+-- a relation can begin with the next token
+abbrev pub begins_relation : List Token → Bool
+begins_relation [] = false
+begins_relation (Related rel ∷ ts) = true
+begins_relation (Begin ∷ ts) = true
+begins_relation (t ∷ ts) = false
 
 -- the next token isn't this one
 abbrev pub HasNoNext : Token → List Token → Type 0
@@ -56,9 +66,13 @@ HasNoVariable ts = (x : Name) (rest : List Token) → ts ≡ Variable x ∷ rest
 abbrev pub HasNoArgument : List Token → Type 0
 HasNoArgument ts = (a : Argument) (us : List Token) → IsArgument ts a us → ⊥
 
--- no relation begins them
-abbrev pub HasNoRelation : List Token → Type 0
-HasNoRelation ts = (rel : SurfaceRel) (index : ℕ) (us : List Token) → IsRelation ts rel index us → ⊥
+-- no expression begins the tokens
+abbrev pub HasNoExpression : List Token → Type 0
+HasNoExpression ts = (e : Expression) (us : List Token) → IsExpression ts e us → ⊥
+
+-- the next token isn't one of these words
+abbrev pub HasNoWord : List Name → List Token → Type 0
+HasNoWord words ts = (x : Name) (rest : List Token) → Contains words x → ts ≡ Variable x ∷ rest → ⊥
 
 abbrev pub HasNoUnary : List Token → Type 0
 HasNoUnary ts = (f : Formula) (us : List Token) → IsUnary ts f us → ⊥

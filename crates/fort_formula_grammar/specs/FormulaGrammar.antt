@@ -3,7 +3,11 @@
 use Rattle.std.specs.Prelude.{◌≡◌, ℕ, Bool, true, false, List, [], ◌∷◌}
 use Rattle.fort_logic.specs.Formulas as theory
 use Rattle.fort_logic.specs.Formulas.{Name, Argument, Formula, Property, SurfaceRel}
-use Rattle.fort_formula_grammar.specs.Tokens.{Token, Open, Close, Comma, Not, And, Or, Imp, Iff, Related, Index, Exists, Forall, Infinite, True, False, Nf, Join, Has, Com, Variable, Ground}
+use Rattle.fort_expressions.specs.Expressions.{Expression}
+use Rattle.fort_expressions.specs.Contexts.{HoleNumber, HolePlace}
+use Rattle.fort_formula_grammar.specs.IndexGrammar.{IsIndex}
+use Rattle.fort_formula_grammar.specs.ExpressionGrammar.{IsEnclosed}
+use Rattle.fort_formula_grammar.specs.Tokens.{Token, Open, Close, Comma, Not, And, Or, Imp, Iff, Related, Exists, Forall, Infinite, True, False, Nf, Join, Has, Com, Sn, Variable, Ground}
 
 -- "exists" and "forall"
 pub data Quantifier : Type 0 where
@@ -14,28 +18,33 @@ abbrev pub quantified : Quantifier → Name → Formula → Formula
 quantified Some x f = theory.Exists x f
 quantified Every x f = theory.Forall x f
 
--- an index is the next token
-abbrev pub begins_with_index : List Token → Bool
-begins_with_index [] = false
-begins_with_index (Index n ∷ ts) = true
-begins_with_index (t ∷ ts) = false
-
--- index := "[1]" | .. | "[9]"; where it may be left out and is, it is 1. That none stands there makes readings from the left
--- unique; which tokens are a whole formula doesn't rest on it.
-pub data IsIndex : List Token → ℕ → List Token → Type 0 where
-  Given : {n : ℕ} {us : List Token} → IsIndex (Index n ∷ us) n us
-  LeftOut : {us : List Token} → begins_with_index us ≡ false → IsIndex us 1 us
+-- a ( is the next token
+abbrev pub begins_with_open : List Token → Bool
+begins_with_open [] = false
+begins_with_open (Open ∷ ts) = true
+begins_with_open (t ∷ ts) = false
 
 -- equality isn't about rules
 abbrev pub takes_index : SurfaceRel → Bool
 takes_index theory.Eq = false
 takes_index rel = true
 
--- rel := "=" | one of the other relations [index]
-pub data IsRelation : List Token → SurfaceRel → ℕ → List Token → Type 0 where
-  WithoutIndex : {rel : SurfaceRel} {us : List Token} → takes_index rel ≡ false → IsRelation (Related rel ∷ us) rel 1 us
+-- how two arguments are related: by the rules of an index, or by an expression in a context
+pub data Comparison : Type 0 where
+  ByRules : SurfaceRel → (index : ℕ) → Comparison
+  ByExpression : Expression → HoleNumber → HolePlace → Comparison
+
+abbrev pub compared : Comparison → Argument → Argument → Formula
+compared (ByRules rel index) a b = theory.Related rel a b index
+compared (ByExpression e number place) a b = theory.InContext e number place a b
+
+-- rel := "=" | one of the other relations [index] | "<<" .. ">>"
+pub data IsRelation : List Token → Comparison → List Token → Type 0 where
+  WithoutIndex : {rel : SurfaceRel} {us : List Token} → takes_index rel ≡ false → IsRelation (Related rel ∷ us) (ByRules rel 1) us
   WithIndex : {rel : SurfaceRel} {index : ℕ} {ts us : List Token} → takes_index rel ≡ true → IsIndex ts index us
-      → IsRelation (Related rel ∷ ts) rel index us
+      → IsRelation (Related rel ∷ ts) (ByRules rel index) us
+  OfExpression : {e : Expression} {number : HoleNumber} {place : HolePlace} {ts us : List Token} → IsEnclosed ts e number place us
+      → IsRelation ts (ByExpression e number place) us
 
 -- arg := var | a ground term
 pub data IsArgument : List Token → Argument → List Token → Type 0 where
@@ -68,7 +77,8 @@ mutual
         → IsConjunction ts (theory.And f g) vs
 
   -- unary := "~" unary | ("exists" | "forall") binders | "infinite" var "(" formula ")" | "(" formula ")" | "true" | "false"
-  --   | a property [index] | "COM" | "NF" [index] "(" arg ")" | "JOIN" [index] "(" arg "," arg ")" | arg rel arg
+  --   | a property [index] | "COM" | "SN" [index] | "SN" [index] "(" arg ")" | "NF" [index] "(" arg ")"
+  --   | "JOIN" [index] "(" arg "," arg ")" | arg rel arg
   pub data IsUnary : List Token → Formula → List Token → Type 0 where
     Negated : {ts us : List Token} {f : Formula} → IsUnary ts f us → IsUnary (Not ∷ ts) (theory.Not f) us
     ForSome : {ts us : List Token} {f : Formula} → IsBound Some ts f us → IsUnary (Exists ∷ ts) f us
@@ -80,12 +90,16 @@ mutual
     Falsity : {us : List Token} → IsUnary (False ∷ us) theory.False us
     Named : {p : Property} {index : ℕ} {ts us : List Token} → IsIndex ts index us → IsUnary (Has p ∷ ts) (theory.Has p index) us
     Commuting : {us : List Token} → IsUnary (Com ∷ us) theory.Com us
+    -- that no ( stands there makes readings from the left unique; which tokens are a whole formula doesn't rest on it
+    AllTerminating : {index : ℕ} {ts us : List Token} → IsIndex ts index us → begins_with_open us ≡ false → IsUnary (Sn ∷ ts) (theory.AllSn index) us
+    Terminating : {a : Argument} {index : ℕ} {ts us vs : List Token} → IsIndex ts index (Open ∷ us) → IsArgument us a (Close ∷ vs)
+        → IsUnary (Sn ∷ ts) (theory.Sn a index) vs
     NormalForm : {a : Argument} {index : ℕ} {ts us vs : List Token} → IsIndex ts index (Open ∷ us) → IsArgument us a (Close ∷ vs)
         → IsUnary (Nf ∷ ts) (theory.Nf a index) vs
     Joinable : {a b : Argument} {index : ℕ} {ts us vs ws : List Token} → IsIndex ts index (Open ∷ us) → IsArgument us a (Comma ∷ vs)
         → IsArgument vs b (Close ∷ ws) → IsUnary (Join ∷ ts) (theory.Join a b index) ws
-    Compared : {a b : Argument} {rel : SurfaceRel} {index : ℕ} {ts us vs ws : List Token} → IsArgument ts a us → IsRelation us rel index vs
-        → IsArgument vs b ws → IsUnary ts (theory.Related rel a b index) ws
+    Compared : {a b : Argument} {r : Comparison} {ts us vs ws : List Token} → IsArgument ts a us → IsRelation us r vs → IsArgument vs b ws
+        → IsUnary ts (compared r a b) ws
 
   -- binders := var "(" formula ")" | var "," binders
   pub data IsBound : Quantifier → List Token → Formula → List Token → Type 0 where

@@ -1,7 +1,10 @@
 pub mod Tokens
 pub mod TokenText
 pub mod TokenForms
+pub mod IndexGrammar
+pub mod ExpressionGrammar
 pub mod FormulaGrammar
 pub mod Continuations
+pub mod StuckExpressions
 pub mod Stuck
 pub mod FormulaText

@@ -2,10 +2,12 @@
 -- says that tokens are read as a formula of its kind up to the tokens that follow, with the first of which, or with whose lack,
 -- no reading goes on. That this is the first place with which no formula goes on is proved.
 use Rattle.std.specs.Prelude.{◌≡◌, ℕ, Bool, false, List, [], ◌∷◌}
-use Rattle.fort_logic.specs.Formulas.{Name, Argument, Formula, SurfaceRel}
-use Rattle.fort_formula_grammar.specs.Tokens.{Token, Open, Close, Comma, Not, And, Or, Imp, Iff, Exists, Forall, Infinite, Nf, Join, Variable}
-use Rattle.fort_formula_grammar.specs.FormulaGrammar.{IsIndex, IsArgument, IsRelation, IsFormula, IsImplication, IsDisjunction, IsConjunction}
-use Rattle.fort_formula_grammar.specs.Continuations.{continues_formula, begins_unary, HasNoNext, HasNoVariable, HasNoArgument, HasNoRelation}
+use Rattle.fort_logic.specs.Formulas.{Name, Argument, Formula}
+use Rattle.fort_formula_grammar.specs.Tokens.{Token, Open, Close, Comma, Not, And, Or, Imp, Iff, Exists, Forall, Infinite, Nf, Join, Sn, Variable}
+use Rattle.fort_formula_grammar.specs.IndexGrammar.{IsIndex}
+use Rattle.fort_formula_grammar.specs.FormulaGrammar.{Comparison, IsArgument, IsRelation, IsFormula, IsImplication, IsDisjunction, IsConjunction}
+use Rattle.fort_formula_grammar.specs.Continuations.{continues_formula, begins_unary, begins_relation, HasNoNext, HasNoVariable, HasNoArgument}
+use Rattle.fort_formula_grammar.specs.StuckExpressions.{StuckEnclosed}
 
 -- a unary formula can begin with the first token
 abbrev pub starts_unary : List Token → Bool
@@ -43,6 +45,9 @@ mutual
     NfWithoutArgument : {index : ℕ} {ts us : List Token} → IsIndex ts index (Open ∷ us) → HasNoArgument us → StuckUnary (Nf ∷ ts) us
     NfUnclosed : {a : Argument} {index : ℕ} {ts us vs : List Token} → IsIndex ts index (Open ∷ us) → IsArgument us a vs
         → HasNoNext Close vs → StuckUnary (Nf ∷ ts) vs
+    SnWithoutArgument : {index : ℕ} {ts us : List Token} → IsIndex ts index (Open ∷ us) → HasNoArgument us → StuckUnary (Sn ∷ ts) us
+    SnUnclosed : {a : Argument} {index : ℕ} {ts us vs : List Token} → IsIndex ts index (Open ∷ us) → IsArgument us a vs
+        → HasNoNext Close vs → StuckUnary (Sn ∷ ts) vs
     JoinUnopened : {index : ℕ} {ts us : List Token} → IsIndex ts index us → HasNoNext Open us → StuckUnary (Join ∷ ts) us
     JoinWithoutArgument : {index : ℕ} {ts us : List Token} → IsIndex ts index (Open ∷ us) → HasNoArgument us → StuckUnary (Join ∷ ts) us
     JoinOfOne : {a : Argument} {index : ℕ} {ts us vs : List Token} → IsIndex ts index (Open ∷ us) → IsArgument us a vs
@@ -51,9 +56,10 @@ mutual
         → HasNoArgument vs → StuckUnary (Join ∷ ts) vs
     JoinUnclosed : {a b : Argument} {index : ℕ} {ts us vs ws : List Token} → IsIndex ts index (Open ∷ us) → IsArgument us a (Comma ∷ vs)
         → IsArgument vs b ws → HasNoNext Close ws → StuckUnary (Join ∷ ts) ws
-    Unrelated : {a : Argument} {ts us : List Token} → IsArgument ts a us → HasNoRelation us → StuckUnary ts us
-    RelatedToNothing : {a : Argument} {rel : SurfaceRel} {index : ℕ} {ts us vs : List Token} → IsArgument ts a us → IsRelation us rel index vs
-        → HasNoArgument vs → StuckUnary ts vs
+    Unrelated : {a : Argument} {ts us : List Token} → IsArgument ts a us → begins_relation us ≡ false → StuckUnary ts us
+    InRelation : {a : Argument} {ts us vs : List Token} → IsArgument ts a us → StuckEnclosed us vs → StuckUnary ts vs
+    RelatedToNothing : {a : Argument} {r : Comparison} {ts us vs : List Token} → IsArgument ts a us → IsRelation us r vs → HasNoArgument vs
+        → StuckUnary ts vs
 
   pub data StuckBinders : List Token → List Token → Type 0 where
     NoBinder : {us : List Token} → HasNoVariable us → StuckBinders us us

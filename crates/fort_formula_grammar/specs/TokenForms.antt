@@ -7,7 +7,7 @@ abbrev pub symbol_texts : List (List ℕ)
 symbol_texts =
     codes "-||->" ∷ codes "<->*" ∷ codes "<=>" ∷ codes "<->" ∷ codes "->*" ∷ codes "->+" ∷ codes "->=" ∷ codes "->!" ∷ codes "->^" ∷ codes "->_"
     ∷ codes "[1]" ∷ codes "[2]" ∷ codes "[3]" ∷ codes "[4]" ∷ codes "[5]" ∷ codes "[6]" ∷ codes "[7]" ∷ codes "[8]" ∷ codes "[9]"
-    ∷ codes "=>" ∷ codes "->" ∷ codes "=" ∷ codes "(" ∷ codes ")" ∷ codes "," ∷ codes "~" ∷ codes "&" ∷ codes "|" ∷ []
+    ∷ codes "=>" ∷ codes "->" ∷ codes "<<" ∷ codes ">>" ∷ codes "=" ∷ codes "(" ∷ codes ")" ∷ codes "," ∷ codes "~" ∷ codes "&" ∷ codes "|" ∷ []
 
 -- none of the first k texts of the list begins this text
 abbrev pub NoneBegins : List ℕ → List (List ℕ) → ℕ → Type 0

@@ -38,8 +38,8 @@ ground_limit = 4294967296
 abbrev pub IsBetweenBraces : List ℕ → Type 0
 IsBetweenBraces text = AllByRecursion (λ b. IsTrue (is_ground_byte b)) text × (length text < ground_limit)
 
--- Index is the index of rules. A ground term has its place, counted from 0, among all that are written in the text, and what stands
--- between its braces.
+-- Begin and End enclose an expression with its holes and their place. Index is the index of rules. A ground term has its place, counted from 0, among all
+-- that are written in the text, and what stands between its braces.
 pub data Token : Type 0 where
   Open : Token
   Close : Token
@@ -50,6 +50,8 @@ pub data Token : Type 0 where
   Imp : Token
   Iff : Token
   Related : SurfaceRel → Token
+  Begin : Token
+  End : Token
   Index : ℕ → Token
   Exists : Token
   Forall : Token
@@ -100,6 +102,8 @@ token_text Or = codes "|"
 token_text Imp = codes "=>"
 token_text Iff = codes "<=>"
 token_text (Related rel) = relation_text rel
+token_text Begin = codes "<<"
+token_text End = codes ">>"
 token_text (Index n) = codes "[" ++ (digit n ∷ codes "]")
 token_text Exists = codes "exists"
 token_text Forall = codes "forall"

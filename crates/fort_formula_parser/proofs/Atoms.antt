@@ -1,17 +1,23 @@
 -- The tokens of an atom, one after another, are that atom; and where reading them is stuck.
-use Rattle.std.proofs.Common.{◌≡◌, ℕ, ◌+◌, ◌<◌, ◌≤◌, List, ◌∷◌, length, sym, ap, ◌∙◌, subst, arith}
+use Rattle.std.proofs.Common.{◌≡◌, ℕ, ◌+◌, ◌<◌, ◌≤◌, false, List, [], ◌∷◌, length, refl, sym, ap, ◌∙◌, subst, arith}
+use Rattle.fort_expressions.specs.Expressions.{Expression}
 use Rattle.fort_logic.specs.Formulas as theory
 use Rattle.fort_logic.specs.Formulas.{Argument, Property}
-use Rattle.fort_formula_grammar.specs.Tokens.{Token, Open, Close, Comma, Nf, Join, Has}
-use Rattle.fort_formula_grammar.specs.FormulaGrammar.{IsIndex, IsArgument, IsUnary, Named, NormalForm, Joinable, Compared}
-use Rattle.fort_formula_grammar.specs.Continuations.{HasNoNext, HasNoArgument, HasNoRelation}
-use Rattle.fort_formula_grammar.specs.Stuck.{StuckUnary, NfUnopened, NfWithoutArgument, NfUnclosed, JoinUnopened, JoinWithoutArgument, JoinOfOne, JoinHalf, JoinUnclosed, Unrelated, RelatedToNothing}
+use Rattle.fort_formula_grammar.specs.Tokens.{Token, Open, Close, Comma, Related, Begin, Nf, Join, Sn, Has}
+use Rattle.fort_formula_grammar.specs.IndexGrammar.{IsIndex}
+use Rattle.fort_formula_grammar.specs.FormulaGrammar.{begins_with_open, IsArgument, IsUnary, OfExpression, Named, AllTerminating, Terminating, NormalForm, Joinable, Compared}
+use Rattle.fort_formula_grammar.specs.Continuations.{begins_relation, HasNoNext, HasNoArgument}
+use Rattle.fort_formula_grammar.specs.StuckExpressions.{StuckEnclosed}
+use Rattle.fort_formula_grammar.specs.Stuck.{StuckUnary, NfUnopened, NfWithoutArgument, NfUnclosed, SnWithoutArgument, SnUnclosed, JoinUnopened, JoinWithoutArgument, JoinOfOne, JoinHalf, JoinUnclosed, Unrelated, InRelation, RelatedToNothing}
+use Rattle.fort_relations.specs.HolesView.{as_hole_number, as_hole_place}
 use Rattle.fort_formulas.specs.FormulaView.{as_surface_rel}
 use Rattle.fort_formula_parser.specs.declared.token.Lexeme.{Lexeme}
 use Rattle.fort_formula_parser.specs.declared.cursor.Indexed.{Indexed}
 use Rattle.fort_formula_parser.specs.declared.cursor.Relation.{Relation}
+use Rattle.fort_formula_parser.specs.declared.expression.EnclosedReading.{EnclosedReading}
 use Rattle.fort_formula_parser.specs.declared.reading.Reading.{Reading}
-use Rattle.fort_formula_parser.specs.Parsing.{rest_of, IsTokenAt, IsArgumentAt, IsIndexAt, IsRelationAt, IsMade, IsParsed}
+use Rattle.fort_formula_parser.specs.Parsing.{rest_of, IsTokenAt, IsArgumentAt, IsIndexAt, HasNoRelated, IsRelationAt, IsMade, IsParsed}
+use Rattle.fort_formula_parser.specs.ExpressionParsing.{IsRexMade, IsEnclosedAt}
 
 -- the token at a place, before what stands at the next
 pub rest_of-next : (lexemes : List Lexeme) (n m : ℕ) (t : Token) → IsTokenAt lexemes n t → n + 1 ≡ m → rest_of lexemes n ≡ t ∷ rest_of lexemes m
@@ -54,6 +60,11 @@ IsParsed-property lexemes at p found parsed h i e is =
     IsParsed-unary lexemes at _ (theory.Has p found.index) parsed (omega arith) (omega arith) h.next is
     (subst (λ n. IsUnary (Has p ∷ rest_of lexemes (at + 1)) (theory.Has p found.index) (rest_of lexemes n)) (sym e) (Named i.reads))
 
+unopened : (us : List Token) → HasNoNext Open us → begins_with_open us ≡ false
+unopened [] none = refl
+unopened (Open ∷ us) none = absurd (none us refl)
+unopened (t ∷ us) none = refl
+
 module _ (lexemes : List Lexeme) (at : ℕ) (found : Indexed) (i : IsIndexAt lexemes (at + 1) found) where
   further : at + 1 ≤ found.next
   further = i.further
@@ -65,6 +76,23 @@ module _ (lexemes : List Lexeme) (at : ℕ) (found : Indexed) (i : IsIndexAt lex
       let last : found.next + 2 < length lexemes = closes.within in
       IsParsed-unary lexemes at _ (theory.Nf a found.index) parsed (omega (arith, further)) (omega arith) n.next is
       (NormalForm (index_then lexemes (at + 1) (found.next + 1) found Open i opens (omega arith))
+      (argument_then lexemes (found.next + 1) (found.next + 2) parsed.next a Close x (omega arith) closes (omega arith)))
+
+  pub IsParsed-all_terminating : (parsed : Reading) → IsTokenAt lexemes at Sn → HasNoNext Open (rest_of lexemes found.next) → parsed.next ≡ found.next
+      → IsMade parsed.made (theory.AllSn found.index) → IsParsed IsUnary lexemes at parsed
+  IsParsed-all_terminating parsed n none e is =
+      let last : found.next ≤ length lexemes = i.within in
+      IsParsed-unary lexemes at _ (theory.AllSn found.index) parsed (omega (arith, further)) (omega arith) n.next is
+      (subst (λ k. IsUnary (Sn ∷ rest_of lexemes (at + 1)) (theory.AllSn found.index) (rest_of lexemes k)) (sym e)
+      (AllTerminating i.reads (unopened (rest_of lexemes found.next) none)))
+
+  pub IsParsed-terminating : (a : Argument) (parsed : Reading) → IsTokenAt lexemes at Sn → IsTokenAt lexemes found.next Open
+      → IsArgumentAt lexemes (found.next + 1) a → IsTokenAt lexemes (found.next + 2) Close → parsed.next ≡ found.next + 3
+      → IsMade parsed.made (theory.Sn a found.index) → IsParsed IsUnary lexemes at parsed
+  IsParsed-terminating a parsed n opens x closes e is =
+      let last : found.next + 2 < length lexemes = closes.within in
+      IsParsed-unary lexemes at _ (theory.Sn a found.index) parsed (omega (arith, further)) (omega arith) n.next is
+      (Terminating (index_then lexemes (at + 1) (found.next + 1) found Open i opens (omega arith))
       (argument_then lexemes (found.next + 1) (found.next + 2) parsed.next a Close x (omega arith) closes (omega arith)))
 
   pub IsParsed-joinable : (a b : Argument) (parsed : Reading) → IsTokenAt lexemes at Join → IsTokenAt lexemes found.next Open
@@ -91,6 +119,22 @@ module _ (lexemes : List Lexeme) (at : ℕ) (found : Indexed) (i : IsIndexAt lex
       let last : found.next < length lexemes = opens.within in
       stuck_behind StuckUnary lexemes at (found.next + 1) Nf n (omega arith)
       (NfWithoutArgument (index_then lexemes (at + 1) (found.next + 1) found Open i opens (omega arith)) none)
+
+  pub stuck_sn_empty : IsTokenAt lexemes at Sn → IsTokenAt lexemes found.next Open → HasNoArgument (rest_of lexemes (found.next + 1))
+      → (found.next + 1 ≤ length lexemes) × StuckUnary (rest_of lexemes at) (rest_of lexemes (found.next + 1))
+  stuck_sn_empty n opens none =
+      let last : found.next < length lexemes = opens.within in
+      stuck_behind StuckUnary lexemes at (found.next + 1) Sn n (omega arith)
+      (SnWithoutArgument (index_then lexemes (at + 1) (found.next + 1) found Open i opens (omega arith)) none)
+
+  pub stuck_sn_unclosed : (a : Argument) → IsTokenAt lexemes at Sn → IsTokenAt lexemes found.next Open → IsArgumentAt lexemes (found.next + 1) a
+      → HasNoNext Close (rest_of lexemes (found.next + 2))
+      → (found.next + 2 ≤ length lexemes) × StuckUnary (rest_of lexemes at) (rest_of lexemes (found.next + 2))
+  stuck_sn_unclosed a n opens x none =
+      let last : found.next + 1 < length lexemes = x.within in
+      stuck_behind StuckUnary lexemes at (found.next + 2) Sn n (omega arith)
+      (SnUnclosed (index_then lexemes (at + 1) (found.next + 1) found Open i opens (omega arith))
+      (argument_to lexemes (found.next + 1) (found.next + 2) a x (omega arith)) none)
 
   pub stuck_join_empty : IsTokenAt lexemes at Join → IsTokenAt lexemes found.next Open → HasNoArgument (rest_of lexemes (found.next + 1))
       → (found.next + 1 ≤ length lexemes) × StuckUnary (rest_of lexemes at) (rest_of lexemes (found.next + 1))
@@ -150,10 +194,41 @@ IsParsed-compared lexemes at found a b parsed x r y e is =
       is_made = is;
     }
 
-pub stuck_unrelated : (lexemes : List Lexeme) (at : ℕ) (a : Argument) → IsArgumentAt lexemes at a → HasNoRelation (rest_of lexemes (at + 1))
-    → (at + 1 ≤ length lexemes) × StuckUnary (rest_of lexemes at) (rest_of lexemes (at + 1))
-stuck_unrelated lexemes at a x none = let last : at < length lexemes = x.within in (omega arith, Unrelated x.reads none)
+no_relation : (us : List Token) → HasNoNext Begin us → HasNoRelated us → begins_relation us ≡ false
+no_relation [] begins none = refl
+no_relation (Related rel ∷ us) begins none = absurd (none rel us refl)
+no_relation (Begin ∷ us) begins none = absurd (begins us refl)
+no_relation (t ∷ us) begins none = refl
+
+pub stuck_unrelated : (lexemes : List Lexeme) (at : ℕ) (a : Argument) → IsArgumentAt lexemes at a → HasNoNext Begin (rest_of lexemes (at + 1))
+    → HasNoRelated (rest_of lexemes (at + 1)) → (at + 1 ≤ length lexemes) × StuckUnary (rest_of lexemes at) (rest_of lexemes (at + 1))
+stuck_unrelated lexemes at a x begins none =
+    let last : at < length lexemes = x.within in (omega arith, Unrelated x.reads (no_relation (rest_of lexemes (at + 1)) begins none))
 
 pub stuck_related : (lexemes : List Lexeme) (at : ℕ) (found : Relation) (a : Argument) → IsArgumentAt lexemes at a → IsRelationAt lexemes (at + 1) found
     → HasNoArgument (rest_of lexemes found.next) → (found.next ≤ length lexemes) × StuckUnary (rest_of lexemes at) (rest_of lexemes found.next)
 stuck_related lexemes at found a x r none = (r.within, RelatedToNothing x.reads r.reads none)
+
+-- an expression between the arguments
+pub IsParsed-in_context : (lexemes : List Lexeme) (at : ℕ) (found : EnclosedReading) (a b : Argument) (parsed : Reading) → IsArgumentAt lexemes at a
+    → IsEnclosedAt lexemes (at + 1) found → IsArgumentAt lexemes found.next b → parsed.next ≡ found.next + 1
+    → ((e : Expression) → IsRexMade found.made e → IsMade parsed.made (theory.InContext e (as_hole_number found.holes) (as_hole_place found.place) a b))
+    → IsParsed IsUnary lexemes at parsed
+IsParsed-in_context lexemes at found a b parsed x r y e is =
+    let further : at + 1 < found.next = r.further in
+    let last : found.next < length lexemes = y.within in
+    record {
+      further = omega arith;
+      within = omega arith;
+      formula = theory.InContext r.expression (as_hole_number found.holes) (as_hole_place found.place) a b;
+      reads = Compared x.reads (OfExpression r.reads) (argument_to lexemes found.next parsed.next b y (sym e));
+      is_made = is r.expression r.is_made;
+    }
+
+pub stuck_in_relation : (lexemes : List Lexeme) (at : ℕ) (a : Argument) → IsArgumentAt lexemes at a → (us : List Token)
+    → StuckEnclosed (rest_of lexemes (at + 1)) us → StuckUnary (rest_of lexemes at) us
+stuck_in_relation lexemes at a x us stuck = InRelation x.reads stuck
+
+pub stuck_in_context : (lexemes : List Lexeme) (at : ℕ) (found : EnclosedReading) (a : Argument) → IsArgumentAt lexemes at a → IsEnclosedAt lexemes (at + 1) found
+    → HasNoArgument (rest_of lexemes found.next) → (found.next ≤ length lexemes) × StuckUnary (rest_of lexemes at) (rest_of lexemes found.next)
+stuck_in_context lexemes at found a x r none = (r.within, RelatedToNothing x.reads (OfExpression r.reads) none)

@@ -5,8 +5,9 @@ use Rattle.fort_logic.specs.Formulas as theory
 use Rattle.fort_logic.specs.Formulas.{Name}
 use Rattle.fort_formula_grammar.specs.Tokens as grammar
 use Rattle.fort_formula_grammar.specs.Tokens.{Token}
-use Rattle.fort_formula_grammar.specs.FormulaGrammar.{begins_with_index, takes_index, IsIndex, Given, LeftOut, IsArgument, IsRelation, WithoutIndex, WithIndex}
-use Rattle.fort_formula_grammar.specs.Continuations.{HasNoNext, HasNoArgument, HasNoRelation}
+use Rattle.fort_formula_grammar.specs.IndexGrammar.{begins_with_index, IsIndex, Given, LeftOut}
+use Rattle.fort_formula_grammar.specs.FormulaGrammar.{takes_index, ByRules, IsArgument, IsRelation, WithoutIndex, WithIndex}
+use Rattle.fort_formula_grammar.specs.Continuations.{HasNoNext, HasNoArgument}
 use Rattle.fort_formulas.specs.declared.surface.SurfaceRel as rels
 use Rattle.fort_formulas.specs.declared.surface.SurfaceRel.TheVariants as rel_variants
 use Rattle.fort_formulas.specs.FormulaView.{as_surface_rel}
@@ -15,7 +16,7 @@ use Rattle.fort_formula_parser.specs.declared.token.Token.TheVariants as variant
 use Rattle.fort_formula_parser.specs.declared.token.Lexeme.{Lexeme}
 use Rattle.fort_formula_parser.specs.declared.cursor.Indexed.{Indexed}
 use Rattle.fort_formula_parser.specs.TokenView.{as_token, tokens_of}
-use Rattle.fort_formula_parser.specs.Parsing.{rest_of, IsTokenAt, IsArgumentAt, IsIndexAt, IsRelationAt}
+use Rattle.fort_formula_parser.specs.Parsing.{rest_of, IsTokenAt, IsArgumentAt, IsIndexAt, HasNoRelated, IsRelationAt}
 use Rattle.fort_formula_parser.proofs.PlacesLaws.{tokens_of-at}
 
 pub rest_of-at : (lexemes : List Lexeme) (at : ℕ) (lexeme : Lexeme) → at < length lexemes → ((d : Lexeme) → lexeme ≡ get_or lexemes at d)
@@ -106,7 +107,7 @@ pub relation_alone : (lexemes : List Lexeme) (at : ℕ) (rel : rels.SurfaceRel) 
 relation_alone lexemes at rel h plain = record {
   further = omega arith;
   within = omega (arith, h.within);
-  reads = subst (λ ts. IsRelation ts (as_surface_rel rel) 1 (rest_of lexemes (at + 1))) (sym h.next) (WithoutIndex plain);
+  reads = subst (λ ts. IsRelation ts (ByRules (as_surface_rel rel) 1) (rest_of lexemes (at + 1))) (sym h.next) (WithoutIndex plain);
 }
 
 pub relation_with_index : (lexemes : List Lexeme) (at : ℕ) (rel : rels.SurfaceRel) (found : Indexed) → IsTokenAt lexemes at (grammar.Related (as_surface_rel rel))
@@ -116,24 +117,21 @@ relation_with_index lexemes at rel found h takes i =
     let further : at + 1 ≤ found.next = i.further in record {
       further = omega arith;
       within = i.within;
-      reads = subst (λ ts. IsRelation ts (as_surface_rel rel) found.index (rest_of lexemes found.next)) (sym h.next) (WithIndex takes i.reads);
+      reads = subst (λ ts. IsRelation ts (ByRules (as_surface_rel rel) found.index) (rest_of lexemes found.next)) (sym h.next) (WithIndex takes i.reads);
     }
 
 pub takes_index-other : (rel : rels.SurfaceRel) → (rel ≡ rel_variants.Eq → ⊥) → takes_index (as_surface_rel rel) ≡ true
 takes_index-other rel_variants.Eq h = absurd (h refl)
 takes_index-other rel h = refl
 
-pub no_relation_end : {ts : List Token} → ts ≡ [] → HasNoRelation ts
-no_relation_end {ts} e rel index us h = ended (subst (λ ts. IsRelation ts rel index us) e h)
-  where
-    ended : IsRelation [] rel index us → ⊥
-    ended u = elim u [ ]
+pub no_relation_end : {ts : List Token} → ts ≡ [] → HasNoRelated ts
+no_relation_end e rel rest h = cc
 
-other_relation : (t : code.Token) (us : List Token) → ((r : _) → t ≡ variants.Related r → ⊥) → HasNoRelation (as_token t ∷ us)
-other_relation (variants.Related r) us other rel index vs h = other r refl
-other_relation t us other rel index vs h = elim h [ ]
+other_relation : (t : code.Token) (rel : theory.SurfaceRel) → ((r : _) → t ≡ variants.Related r → ⊥) → as_token t ≡ grammar.Related rel → ⊥
+other_relation (variants.Related r) rel other h = other r refl
+other_relation t rel other h = cc
 
 pub no_relation_at : (lexemes : List Lexeme) (at : ℕ) (lexeme : Lexeme) → at < length lexemes → ((d : Lexeme) → lexeme ≡ get_or lexemes at d)
-    → ((r : _) → lexeme.token ≡ variants.Related r → ⊥) → HasNoRelation (rest_of lexemes at)
-no_relation_at lexemes at lexeme lt here other =
-    subst (λ ts. HasNoRelation ts) (sym (rest_of-at lexemes at lexeme lt here)) (other_relation lexeme.token (rest_of lexemes (at + 1)) other)
+    → ((r : _) → lexeme.token ≡ variants.Related r → ⊥) → HasNoRelated (rest_of lexemes at)
+no_relation_at lexemes at lexeme lt here other rel rest h =
+    HasNoNext-at lexemes at lexeme (grammar.Related rel) lt here (other_relation lexeme.token rel other) rest h

@@ -4,11 +4,14 @@ use Rattle.std.specs.Prelude.{max}
 use Rattle.std.proofs.Math.Nat.{max-le}
 use Rattle.std.proofs.lemmas.List.{length-append}
 use Rattle.std.proofs.lemmas.List.Filters.{length-filter_both}
+use Rattle.fort_expressions.specs.Expressions.{Expression}
 use Rattle.fort_logic.specs.Formulas as theory
-use Rattle.fort_logic.specs.Formulas.{Name, Argument, Var, Ground, SurfaceRel, Formula}
+use Rattle.fort_logic.specs.Formulas.{Name, Argument, Var, Ground, Formula}
 use Rattle.fort_logic.specs.FreeNames.{without, names_in, occurrences, once}
 use Rattle.fort_formula_grammar.specs.Tokens.{Token, And, Or, Imp, Iff}
-use Rattle.fort_formula_grammar.specs.FormulaGrammar.{Quantifier, Some, Every, quantified, IsIndex, Given, LeftOut, IsArgument, AVariable, AGround, IsRelation, WithoutIndex, WithIndex, IsFormula, OneSide, BothSides, IsImplication, Conclusion, Premise, IsDisjunction, FirstOr, MoreOr, IsConjunction, FirstAnd, MoreAnd, IsUnary, Negated, ForSome, ForEvery, Infinitely, Enclosed, Truth, Falsity, Named, Commuting, NormalForm, Joinable, Compared, IsBound, LastBinder, MoreBinders}
+use Rattle.fort_formula_grammar.specs.IndexGrammar.{IsIndex, Given, LeftOut}
+use Rattle.fort_formula_grammar.specs.ExpressionGrammar.{IsExpression, OfRoot, OfOne, OfTwo, Between}
+use Rattle.fort_formula_grammar.specs.FormulaGrammar.{Quantifier, Some, Every, quantified, Comparison, ByRules, ByExpression, compared, IsArgument, AVariable, AGround, IsRelation, WithoutIndex, WithIndex, OfExpression, IsFormula, OneSide, BothSides, IsImplication, Conclusion, Premise, IsDisjunction, FirstOr, MoreOr, IsConjunction, FirstAnd, MoreAnd, IsUnary, Negated, ForSome, ForEvery, Infinitely, Enclosed, Truth, Falsity, Named, Commuting, AllTerminating, Terminating, NormalForm, Joinable, Compared, IsBound, LastBinder, MoreBinders}
 use Rattle.fort_formula_grammar.specs.FormulaText.{most_tokens}
 use Rattle.fort_formulas.specs.NumbersNeeded.{argument_numbers, binder_numbers, numbers_needed}
 
@@ -51,13 +54,23 @@ argument_short : {ts us : List Token} {a : Argument} → IsArgument ts a us → 
 argument_short AVariable = omega arith
 argument_short AGround = omega arith
 
-relation_short : {ts us : List Token} {rel : SurfaceRel} {index : ℕ} → IsRelation ts rel index us → length us + 1 ≤ length ts
+expression_short : {ts us : List Token} {e : Expression} → IsExpression ts e us → length us + 1 ≤ length ts
+expression_short (OfRoot w i) = omega (arith, index_short i)
+expression_short (OfOne op w e) = omega (arith, expression_short e)
+expression_short (OfTwo op w a b) = omega (arith, expression_short a, expression_short b)
+
+relation_short : {ts us : List Token} {r : Comparison} → IsRelation ts r us → length us + 1 ≤ length ts
 relation_short (WithoutIndex plain) = omega arith
 relation_short (WithIndex takes i) = omega (arith, index_short i)
+relation_short (OfExpression (Between h k e)) = omega (arith, expression_short e)
 
 weight-argument : (a : Argument) → length (names_in a) + argument_numbers a ≤ 1
 weight-argument (Var x) = omega arith
 weight-argument (Ground k) = omega arith
+
+weight-compared : (r : Comparison) (a b : Argument) → weight (compared r a b) ≤ 2
+weight-compared (ByRules rel index) a b = omega (arith, weight-argument a, weight-argument b, length-append (names_in a) (names_in b))
+weight-compared (ByExpression e number place) a b = omega (arith, weight-argument a, weight-argument b, length-append (names_in a) (names_in b))
 
 mutual
   Suffice-formula : {ts us : List Token} {f : Formula} → IsFormula ts f us → Suffice ts f us
@@ -90,11 +103,13 @@ mutual
   Suffice-unary Falsity = omega arith
   Suffice-unary (Named i) = omega (arith, index_short i)
   Suffice-unary Commuting = omega arith
+  Suffice-unary (AllTerminating i none) = omega (arith, index_short i)
+  Suffice-unary (Terminating {a = a} i x) = omega (arith, index_short i, argument_short x, weight-argument a)
   Suffice-unary (NormalForm {a = a} i x) = omega (arith, index_short i, argument_short x, weight-argument a)
   Suffice-unary (Joinable {a = a} {b = b} i x y) =
       omega (arith, index_short i, argument_short x, argument_short y, weight-argument a, weight-argument b, length-append (names_in a) (names_in b))
-  Suffice-unary (Compared {a = a} {b = b} x r y) =
-      omega (arith, relation_short r, argument_short x, argument_short y, weight-argument a, weight-argument b, length-append (names_in a) (names_in b))
+  Suffice-unary (Compared {a = a} {b = b} {r = s} x r y) =
+      omega (arith, relation_short r, argument_short x, argument_short y, weight-compared s a b)
 
   Suffice-bound : {q : Quantifier} {ts us : List Token} {f : Formula} → IsBound q ts f us → Suffice ts f us
   Suffice-bound (LastBinder {q = q} {x = x} {f = f} d) = let inner = Suffice-formula d in omega (arith, weight-quantified q x f)

@@ -3,6 +3,7 @@ pub mod PlacesLaws
 pub mod Cursors
 pub mod Levels
 pub mod Atoms
+pub mod Expressions
 pub mod Bodies
 pub mod Wholes
 pub mod FewNumbers

@@ -4,3 +4,4 @@ pub mod TokenView
 pub mod Spellings
 pub mod Places
 pub mod Parsing
+pub mod ExpressionParsing

@@ -2,10 +2,11 @@
 use Rattle.std.specs.Prelude.{◌≡◌, ℕ, ◌+◌, ◌^◌, ◌<◌, ◌≤◌, false, List, [], ◌∷◌, length, drop, slice_index_or, Result, IfOk}
 use Rattle.std.specs.declared.alloc.AllocError.{AllocError}
 use Rattle.fort_logic.specs.Formulas as theory
-use Rattle.fort_logic.specs.Formulas.{Formula}
-use Rattle.fort_formula_grammar.specs.Tokens.{Token, Open, Close, Ground}
+use Rattle.fort_logic.specs.Formulas.{SurfaceRel, Formula}
+use Rattle.fort_formula_grammar.specs.Tokens.{Token, Open, Close, Related, Ground}
+use Rattle.fort_formula_grammar.specs.IndexGrammar.{IsIndex}
 use Rattle.fort_formula_grammar.specs.FormulaGrammar as grammar
-use Rattle.fort_formula_grammar.specs.FormulaGrammar.{IsIndex, IsArgument, IsRelation, IsFormula, IsImplication, IsDisjunction, IsConjunction}
+use Rattle.fort_formula_grammar.specs.FormulaGrammar.{ByRules, IsArgument, IsRelation, IsFormula, IsImplication, IsDisjunction, IsConjunction}
 use Rattle.fort_formula_grammar.specs.Continuations.{continues_formula, continues_implication, continues_disjunction, continues_conjunction}
 use Rattle.fort_formulas.specs.declared.surface.Formula as code
 use Rattle.fort_formulas.specs.FormulaView.{as_surface_rel, as_formula}
@@ -84,7 +85,11 @@ pub record IsIndexAt (lexemes : List Lexeme) (at : ℕ) (found : Indexed) : Type
 pub record IsRelationAt (lexemes : List Lexeme) (at : ℕ) (found : Relation) : Type 0 where
   pub further : at < found.next
   pub within : found.next ≤ length lexemes
-  pub reads : IsRelation (rest_of lexemes at) (as_surface_rel found.rel) found.index (rest_of lexemes found.next)
+  pub reads : IsRelation (rest_of lexemes at) (ByRules (as_surface_rel found.rel) found.index) (rest_of lexemes found.next)
+
+-- the next token is no relation by rules
+abbrev pub HasNoRelated : List Token → Type 0
+HasNoRelated ts = (rel : SurfaceRel) (rest : List Token) → ts ≡ Related rel ∷ rest → ⊥
 
 -- the place of a ground term is a number of 32 bits
 abbrev pub HasSmallPlace : Token → Type 0

@@ -3,7 +3,7 @@ use Rattle.std.specs.Prelude.{List, map}
 use Rattle.fort_formula_grammar.specs.Tokens as grammar
 use Rattle.fort_formulas.specs.FormulaView.{as_surface_rel, as_property}
 use Rattle.fort_formula_parser.specs.declared.token.Token.{Token}
-use Rattle.fort_formula_parser.specs.declared.token.Token.TheVariants.{Open, Close, Comma, Not, And, Or, Imp, Iff, Related, Index, Exists, Forall, Infinite, True, False, Nf, Join, Has, Com, Sn, Variable, Ground}
+use Rattle.fort_formula_parser.specs.declared.token.Token.TheVariants.{Open, Close, Comma, Not, And, Or, Imp, Iff, Related, Begin, End, Index, Exists, Forall, Infinite, True, False, Nf, Join, Has, Com, Sn, Variable, Ground}
 use Rattle.fort_formula_parser.specs.declared.token.Lexeme.{Lexeme}
 use Rattle.fort_formula_parser.specs.declared.cursor.Mark.{Mark}
 use Rattle.fort_formula_parser.specs.declared.cursor.Mark.TheVariants as marks
@@ -18,6 +18,8 @@ as_token Or = grammar.Or
 as_token Imp = grammar.Imp
 as_token Iff = grammar.Iff
 as_token (Related rel) = grammar.Related (as_surface_rel rel)
+as_token Begin = grammar.Begin
+as_token End = grammar.End
 as_token (Index n) = grammar.Index n
 as_token Exists = grammar.Exists
 as_token Forall = grammar.Forall
@@ -43,3 +45,5 @@ as_mark marks.And = grammar.And
 as_mark marks.Or = grammar.Or
 as_mark marks.Imp = grammar.Imp
 as_mark marks.Iff = grammar.Iff
+as_mark marks.Begin = grammar.Begin
+as_mark marks.End = grammar.End

@@ -1,16 +1,20 @@
 //! Formulas without operands.
 
-ghost use Rattle.std.specs.Prelude.{◌≡◌, ◌<◌, length, IfOk, IfErr};
+ghost use Rattle.std.specs.Prelude.{◌≡◌, ◌+◌, ◌<◌, length, IfOk, IfErr};
 ghost use Rattle.fort_formula_grammar.specs.Tokens as grammar;
 ghost use Rattle.fort_formula_grammar.specs.FormulaGrammar.{IsUnary};
 ghost use Rattle.fort_logic.specs.Formulas as theory;
 ghost use Rattle.fort_formulas.specs.FormulaView.{as_property, as_surface_rel};
 ghost use Rattle.fort_formula_grammar.specs.Stuck.{StuckUnary};
+ghost use Rattle.fort_expressions.specs.Expressions.{Expression};
+ghost use Rattle.fort_relations.specs.HolesView.{as_hole_number, as_hole_place};
+ghost use Rattle.fort_formula_parser.specs.ExpressionParsing.{IsRexMade};
 ghost use Rattle.fort_formula_parser.specs.Parsing.{AreFewGrounds, IsTokenAt, IsParsed, IsStuckAt, IsMade, IsArgumentAt, argument_of};
 
 use crate::cursor::{
     Argument, Indexed, Mark, Relation, argument_at, index_at, is_next, relation_at,
 };
+use crate::expression::{EnclosedReading, enclosed};
 use crate::reading::{Reading, arg_of};
 use crate::stuck::Stuck;
 use crate::token::Lexeme;
@@ -54,6 +58,38 @@ pub(crate) fn normal_form(alloc: Global, lexemes: &[Lexeme], at: usize) -> Resul
     }
     Ok(Reading {
         made: nf(alloc, x, index),
+        next: next + 3,
+    })
+}
+
+fn sn(alloc: Global, x: Argument, index: u32) -> Result<Formula, AllocError>
+    ensures { IsMade result (theory.Sn (argument_of x.entry) index) }
+{
+    Ok(Formula::Sn(arg_of(alloc, x)?, index))
+}
+
+/// `SN` or `SN ( x )`, at whose first token it is.
+pub(crate) fn terminating(alloc: Global, lexemes: &[Lexeme], at: usize) -> Result<Reading, Stuck>
+    requires here { IsTokenAt lexemes.now at grammar.Sn }
+    requires few { AreFewGrounds lexemes.now }
+    ensures ok { IfOk result (IsParsed IsUnary lexemes.now at) }
+    ensures err { IfErr result (IsStuckAt StuckUnary lexemes.now at) }
+{
+    let Indexed { index, next } = index_at(lexemes, at + 1);
+    if !is_next(lexemes, next, Mark::Open) {
+        return Ok(Reading {
+            made: Ok(Formula::AllSn(index)),
+            next,
+        });
+    }
+    let Some(x) = argument_at(lexemes, next + 1) else {
+        return Err(Stuck(next + 1));
+    };
+    if !is_next(lexemes, next + 2, Mark::Close) {
+        return Err(Stuck(next + 2));
+    }
+    Ok(Reading {
+        made: sn(alloc, x, index),
         next: next + 3,
     })
 }
@@ -106,6 +142,45 @@ fn related(
     Ok(Formula::Rel(rel, arg_of(alloc, x)?, arg_of(alloc, y)?, index))
 }
 
+fn in_context(
+    alloc: Global,
+    found: EnclosedReading,
+    x: Argument,
+    y: Argument,
+) -> Result<Formula, AllocError>
+    ensures { (e : Expression) → IsRexMade found.made e → IsMade result (theory.InContext e
+        (as_hole_number found.holes) (as_hole_place found.place)
+        (argument_of x.entry) (argument_of y.entry)) }
+{
+    let rex = found.made?;
+    let (x, y) = (arg_of(alloc, x)?, arg_of(alloc, y)?);
+    Ok(Formula::Rex(rex, found.holes, found.place, x, y))
+}
+
+/// `x << e , n , p >> y`, at whose first argument it is.
+fn compared_in_context(
+    alloc: Global,
+    lexemes: &[Lexeme],
+    at: usize,
+    x: Argument,
+) -> Result<Reading, Stuck>
+    requires here { IsArgumentAt lexemes.now at (argument_of x) }
+    requires begins { IsTokenAt lexemes.now (at + 1) grammar.Begin }
+    requires few { AreFewGrounds lexemes.now }
+    ensures ok { IfOk result (IsParsed IsUnary lexemes.now at) }
+    ensures err { IfErr result (IsStuckAt StuckUnary lexemes.now at) }
+{
+    let found = enclosed(alloc, lexemes, at + 1)?;
+    let next = found.next;
+    let Some(y) = argument_at(lexemes, next) else {
+        return Err(Stuck(next));
+    };
+    Ok(Reading {
+        made: in_context(alloc, found, x, y),
+        next: next + 1,
+    })
+}
+
 /// `x -> y` with any relation, at whose first argument it is.
 pub(crate) fn compared(
     alloc: Global,
@@ -118,6 +193,9 @@ pub(crate) fn compared(
     ensures ok { IfOk result (IsParsed IsUnary lexemes.now at) }
     ensures err { IfErr result (IsStuckAt StuckUnary lexemes.now at) }
 {
+    if is_next(lexemes, at + 1, Mark::Begin) {
+        return compared_in_context(alloc, lexemes, at, x);
+    }
     let Some(Relation { rel, index, next }) = relation_at(lexemes, at + 1) else {
         return Err(Stuck(at + 1));
     };

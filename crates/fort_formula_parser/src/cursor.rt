@@ -2,14 +2,14 @@
 
 ghost use Rattle.std.specs.Prelude.{◌≡◌, ◌≤◌, length, MatchBool, MatchOption};
 ghost use Rattle.fort_formula_grammar.specs.Tokens as grammar;
-ghost use Rattle.fort_formula_grammar.specs.Continuations.{HasNoNext, HasNoVariable, HasNoArgument, HasNoRelation};
+ghost use Rattle.fort_formula_grammar.specs.Continuations.{HasNoNext, HasNoVariable, HasNoArgument};
 ghost use Rattle.fort_formula_parser.specs.TokenView.{as_token, as_mark};
-ghost use Rattle.fort_formula_parser.specs.Parsing.{rest_of, IsTokenAt, AreFewGrounds, IsArgumentAt, IsIndexAt, IsRelationAt, argument_of};
+ghost use Rattle.fort_formula_parser.specs.Parsing.{rest_of, IsTokenAt, AreFewGrounds, IsArgumentAt, IsIndexAt, HasNoRelated, IsRelationAt, argument_of};
 
 use crate::token::{Lexeme, Token};
 use fort_formulas::SurfaceRel;
 
-/// A token that separates formulas.
+/// A token that separates formulas, or encloses an expression.
 #[derive(Clone, Copy)]
 pub(crate) enum Mark {
     Open,
@@ -19,6 +19,8 @@ pub(crate) enum Mark {
     Or,
     Imp,
     Iff,
+    Begin,
+    End,
 }
 
 /// Whether a token is this mark.
@@ -34,6 +36,8 @@ fn is_mark(token: Token, mark: Mark) -> bool
         Mark::Or => matches!(token, Token::Or),
         Mark::Imp => matches!(token, Token::Imp),
         Mark::Iff => matches!(token, Token::Iff),
+        Mark::Begin => matches!(token, Token::Begin),
+        Mark::End => matches!(token, Token::End),
     }
 }
 
@@ -107,7 +111,7 @@ pub(crate) fn index_at(lexemes: &[Lexeme], at: usize) -> Indexed
     }
 }
 
-/// A relation that was read, with its index, and the place of the first token behind it.
+/// A relation by rules that was read, with their index, and the place of the first token behind it.
 #[derive(Clone, Copy)]
 pub(crate) struct Relation {
     pub rel: SurfaceRel,
@@ -115,9 +119,9 @@ pub(crate) struct Relation {
     pub next: usize,
 }
 
-/// The relation at a place, where one is.
+/// The relation by rules at a place, where one is.
 pub(crate) fn relation_at(lexemes: &[Lexeme], at: usize) -> Option<Relation>
-    ensures { MatchOption result (HasNoRelation (rest_of lexemes.now at))
+    ensures { MatchOption result (HasNoRelated (rest_of lexemes.now at))
         (IsRelationAt lexemes.now at) }
 {
     let Some(lexeme) = lexemes.get(at) else {

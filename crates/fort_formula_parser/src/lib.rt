@@ -3,6 +3,8 @@
 
 mod atom;
 mod cursor;
+mod expression;
+mod expression_word;
 mod fault;
 mod ground;
 mod lexer;

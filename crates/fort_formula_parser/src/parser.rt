@@ -6,7 +6,7 @@ ghost use Rattle.fort_formula_grammar.specs.Stuck.{StuckUnary, StuckBinders, Stu
 ghost use Rattle.fort_formulas.specs.FormulaView.{as_formula};
 ghost use Rattle.fort_formula_parser.specs.Parsing.{AreFewGrounds, IsMade, IsParsed, IsStuckAt, IsWholeFormula, IsWholeImplication, IsWholeDisjunction, IsWholeConjunction, IsBody, as_quantifier};
 
-use crate::atom::{compared, joinable, normal_form, property_formula};
+use crate::atom::{compared, joinable, normal_form, property_formula, terminating};
 use crate::cursor::{Mark, argument_at, is_next, variable_at};
 use crate::reading::{Connective, Quantifier, Reading, bound, infinite, joined, negated};
 use crate::stuck::Stuck;
@@ -108,6 +108,7 @@ fn unary(alloc: Global, lexemes: &[Lexeme], at: usize) -> Result<Reading, Stuck>
         Token::Com => Ok(constant(Formula::Com, at)),
         Token::Has(property) => Ok(property_formula(lexemes, at, property)),
         Token::Nf => normal_form(alloc, lexemes, at),
+        Token::Sn => terminating(alloc, lexemes, at),
         Token::Join => joinable(alloc, lexemes, at),
         _ => {
             let Some(x) = argument_at(lexemes, at) else {

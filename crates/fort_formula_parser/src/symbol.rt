@@ -12,7 +12,7 @@ use crate::token::{Spelling, Spotted, Token};
 use fort_formulas::SurfaceRel;
 
 /// These tokens, none behind a shorter one: so the first that begins a text is the longest.
-const SYMBOLS: [Spelling; 28] = [
+const SYMBOLS: [Spelling; 30] = [
     Spelling {
         text: b"-||->",
         token: Token::Related(SurfaceRel::Par),
@@ -96,6 +96,14 @@ const SYMBOLS: [Spelling; 28] = [
     Spelling {
         text: b"->",
         token: Token::Related(SurfaceRel::Step),
+    },
+    Spelling {
+        text: b"<<",
+        token: Token::Begin,
+    },
+    Spelling {
+        text: b">>",
+        token: Token::End,
     },
     Spelling {
         text: b"=",

@@ -14,6 +14,8 @@ pub(crate) enum Token<'a> {
     Imp,
     Iff,
     Related(SurfaceRel),
+    Begin,
+    End,
     Index(u32),
     Exists,
     Forall,

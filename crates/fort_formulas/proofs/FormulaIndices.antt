@@ -1,24 +1,30 @@
--- The indices of a formula of the program, by its shape, and a search for the first one over two operands.
-use Rattle.std.proofs.Common.{◌≡◌, ℕ, List, ◌∷◌, [], ◌++◌, ◌⊎◌, inl, inr, refl, Option, None, Some, IfSome, IfNone}
+-- The indices of a formula of the program, by its shape, and a search for the first one over two operands or a list.
+use Rattle.std.proofs.Common.{◌≡◌, ℕ, Bool, true, false, sym, List, ◌∷◌, [], ◌++◌, ◌⊎◌, inl, inr, refl, Option, None, Some, IfSome, IfNone}
+use Rattle.std.specs.Prelude.{ltb, if◌then◌else◌}
+use Rattle.std.proofs.lemmas.Bool.{ltb-true, ltb-false}
 use Rattle.std.proofs.lemmas.Option.{IfSome_then}
+use Rattle.fort_relations.specs.FirstAbove.{first_above}
 use Rattle.fort_logic.specs.Formulas as theory
 use Rattle.fort_logic.specs.Mentions.{indices, AreWithin, IsFirstAbove}
-use Rattle.fort_logic.proofs.MentionLaws.{AreWithin-append, IsFirstAbove-left, IsFirstAbove-right}
+use Rattle.fort_logic.proofs.MentionLaws.{AreWithin-nil, AreWithin-one, AreWithin-append, IsFirstAbove-left, IsFirstAbove-right}
 use Rattle.fort_formulas.specs.declared.surface.SurfaceRel.{SurfaceRel}
 use Rattle.fort_formulas.specs.declared.surface.Macro as property
 use Rattle.fort_formulas.specs.declared.surface.Arg.{Arg}
 use Rattle.fort_formulas.specs.declared.surface.Formula.{Formula}
-use Rattle.fort_formulas.specs.declared.surface.Formula.TheVariants.{Rel, Nf, Join, Macro, Not, And, Or, Imp, Iff, Exists, Forall, Infinite}
+use Rattle.fort_formulas.specs.declared.surface.Formula.TheVariants.{Rel, Nf, Join, Sn, AllSn, Macro, Not, And, Or, Imp, Iff, Exists, Forall, Infinite}
 use Rattle.fort_formulas.specs.FormulaView.{as_formula}
 
 pub indices-atom : (c : Formula) (index : ℕ)
     → ((rel : SurfaceRel) × (a : Arg) × (b : Arg) × (c ≡ Rel rel a b index))
-    ⊎ (((a : Arg) × (c ≡ Nf a index)) ⊎ (((a : Arg) × (b : Arg) × (c ≡ Join a b index)) ⊎ ((m : property.Macro) × (c ≡ Macro m index))))
+    ⊎ (((a : Arg) × (c ≡ Nf a index)) ⊎ (((a : Arg) × (b : Arg) × (c ≡ Join a b index))
+    ⊎ (((a : Arg) × (c ≡ Sn a index)) ⊎ ((c ≡ AllSn index) ⊎ ((m : property.Macro) × (c ≡ Macro m index))))))
     → indices (as_formula c) ≡ index ∷ []
 indices-atom c index (inl (rel, a, b, e)) = rw e refl
 indices-atom c index (inr (inl (a, e))) = rw e refl
 indices-atom c index (inr (inr (inl (a, b, e)))) = rw e refl
-indices-atom c index (inr (inr (inr (m, e)))) = rw e refl
+indices-atom c index (inr (inr (inr (inl (a, e))))) = rw e refl
+indices-atom c index (inr (inr (inr (inr (inl e))))) = rw e refl
+indices-atom c index (inr (inr (inr (inr (inr (m, e)))))) = rw e refl
 
 pub indices-one : (c : Formula) (f : theory.Formula)
     → (c ≡ Not f) ⊎ (((x : theory.Name) × (c ≡ Exists x f)) ⊎ (((x : theory.Name) × (c ≡ Forall x f)) ⊎ ((x : theory.Name) × (c ≡ Infinite x f))))
@@ -46,3 +52,22 @@ pub within-both : (bound : ℕ) (xs ys : List ℕ) (found : Option ℕ) → AreW
     → IfNone found (AreWithin bound (xs ++ ys))
 within-both bound xs ys None none h = AreWithin-append bound xs ys none h
 within-both bound xs ys (Some x) none h = h
+
+-- what is first above a bound in a list
+pub first_above-is : (bound : ℕ) (xs : List ℕ) → IfSome (first_above bound xs) (IsFirstAbove bound xs)
+first_above-is bound [] = tt
+first_above-is bound (x ∷ xs) = by (ltb bound x) refl (first_above-is bound xs)
+  where
+    by : (above : Bool) → above ≡ ltb bound x → IfSome (first_above bound xs) (IsFirstAbove bound xs)
+        → IfSome (if above then Some x else first_above bound xs) (IsFirstAbove bound (x ∷ xs))
+    by true e rest = record { front = []; back = xs; split = refl; within = AreWithin-nil bound; above = ltb-true bound x (sym e) }
+    by false e rest = first-right bound (x ∷ []) xs (first_above bound xs) (AreWithin-one bound x (ltb-false bound x (sym e))) rest
+
+pub first_above-within : (bound : ℕ) (xs : List ℕ) → IfNone (first_above bound xs) (AreWithin bound xs)
+first_above-within bound [] = AreWithin-nil bound
+first_above-within bound (x ∷ xs) = by (ltb bound x) refl (first_above-within bound xs)
+  where
+    by : (above : Bool) → above ≡ ltb bound x → IfNone (first_above bound xs) (AreWithin bound xs)
+        → IfNone (if above then Some x else first_above bound xs) (AreWithin bound (x ∷ xs))
+    by true e rest = tt
+    by false e rest = within-both bound (x ∷ []) xs (first_above bound xs) (AreWithin-one bound x (ltb-false bound x (sym e))) rest

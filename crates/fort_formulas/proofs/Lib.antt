@@ -2,3 +2,4 @@ pub mod CoreShapes
 pub mod CoreMembers
 pub mod ArgumentLaws
 pub mod FormulaIndices
+pub mod FormulaTerminations

@@ -2,7 +2,8 @@
 use Rattle.std.specs.Prelude.{ℕ, List}
 use Rattle.fort_theory.specs.Trees.{Tree}
 use Rattle.fort_logic.specs.Formulas.{Name, Argument, Var, Ground}
-use Rattle.fort_logic.specs.Cores.{Core, Is, And, Exists}
+use Rattle.fort_cores.specs.Cores.{Core, Leaf, IsTerm, Binary, Exists}
+use Rattle.fort_theory.specs.Logic.{And}
 use Rattle.fort_logic.specs.Translation.{number_in, term_at}
 
 -- the number of an argument, where this is the first number that is not in use
@@ -13,4 +14,4 @@ number_of scope n (Ground k) = n
 -- the formula below the binder of an argument with this number
 abbrev pub bound : List Tree → ℕ → Argument → Core → Core
 bound terms n (Var x) f = f
-bound terms n (Ground k) f = Exists n (And (Is n (term_at terms k)) f)
+bound terms n (Ground k) f = Exists n (Binary And (Leaf (IsTerm n (term_at terms k))) f)

@@ -1,11 +1,13 @@
--- To believe: a core formula is spelled in prefix form, by one mark for each node: the place of its connective in the list
--- of the connectives, and its numbers from left to right, that of its relation before its index, and those of its term last.
-use Rattle.std.specs.Prelude.{◌≡◌, ℕ, List, [], ◌∷◌, ◌++◌, slice_index_or, refl}
+-- To believe: a core formula is spelled in prefix form, by one mark for each node: its place in the list of the nodes, and its numbers
+-- from left to right, that of its relation before its index, those of its context before its variables, those of its term or its expression last.
+use Rattle.std.specs.Prelude.{◌≡◌, ℕ, List, [], ◌∷◌, ◌++◌, drop, slice_index_or, refl}
 use Rattle.std.proofs.Common.{ap, sym, ◌∙◌, append_assoc, append-nil}
 use Rattle.std.specs.Coded.{Coded, code_by, coded_list, coded_ℕ}
-use Rattle.fort_theory.specs.Trees.{Tree}
 use Rattle.fort_theory.specs.TreeCode as tree
-use Rattle.fort_logic.specs.Cores.{Rel, Eq, Root, Below, Step, Par, Plus, Star, Conv, Core, True, Atom, Nf, Is, Not, And, Or, Iff, Exists, Infinite}
+use Rattle.fort_theory.specs.Logic.{Connective, And, Or, Iff}
+use Rattle.fort_cores.specs.Cores.{Rel, Eq, Root, Below, Step, Par, Plus, Star, Conv, Atom, Related, InContext, Normal, IsTerm, Core, True, Leaf, Not, Binary, Exists, Infinite}
+use Rattle.fort_relations.specs.ExpressionCode as expression
+use Rattle.fort_relations.specs.HolesCode.{hole_number_code, hole_place_code, hole_number_at, hole_place_at, hole_number_again, hole_place_again}
 
 abbrev pub rel_place : Rel → ℕ
 rel_place Eq = 0
@@ -17,20 +19,27 @@ rel_place Plus = 5
 rel_place Star = 6
 rel_place Conv = 7
 
+abbrev pub connective_place : Connective → ℕ
+connective_place And = 6
+connective_place Or = 7
+connective_place Iff = 8
+
 abbrev pub Mark : Type 0
 Mark = List ℕ
 
+abbrev pub atom_spelled : Atom → Mark
+atom_spelled (Related rel index x y) = 1 ∷ rel_place rel ∷ index ∷ x ∷ y ∷ []
+atom_spelled (InContext e number place x y) = 2 ∷ hole_number_code number ∷ hole_place_code place ∷ x ∷ y ∷ expression.spelled e
+atom_spelled (Normal index x) = 3 ∷ index ∷ x ∷ []
+atom_spelled (IsTerm x t) = 4 ∷ x ∷ tree.spelled t
+
 abbrev pub spelled : Core → List Mark
 spelled True = (0 ∷ []) ∷ []
-spelled (Atom rel index x y) = (1 ∷ rel_place rel ∷ index ∷ x ∷ y ∷ []) ∷ []
-spelled (Nf index x) = (2 ∷ index ∷ x ∷ []) ∷ []
-spelled (Is x t) = (3 ∷ x ∷ tree.spelled t) ∷ []
-spelled (Not f) = (4 ∷ []) ∷ spelled f
-spelled (And f g) = (5 ∷ []) ∷ (spelled f ++ spelled g)
-spelled (Or f g) = (6 ∷ []) ∷ (spelled f ++ spelled g)
-spelled (Iff f g) = (7 ∷ []) ∷ (spelled f ++ spelled g)
-spelled (Exists n f) = (8 ∷ n ∷ []) ∷ spelled f
-spelled (Infinite n f) = (9 ∷ n ∷ []) ∷ spelled f
+spelled (Leaf a) = atom_spelled a ∷ []
+spelled (Not f) = (5 ∷ []) ∷ spelled f
+spelled (Binary op f g) = (connective_place op ∷ []) ∷ (spelled f ++ spelled g)
+spelled (Exists n f) = (9 ∷ n ∷ []) ∷ spelled f
+spelled (Infinite n f) = (10 ∷ n ∷ []) ∷ spelled f
 
 -- ---- a spelling is read from its end to its front, over a stack
 
@@ -47,14 +56,9 @@ rel_again Plus = refl
 rel_again Star = refl
 rel_again Conv = refl
 
--- a number of a mark, counted from 0 behind the connective's place
+-- a number of a mark, counted from 0 behind the node's place
 abbrev pub number_at : List ℕ → ℕ → ℕ
 number_at ns k = slice_index_or ns k 0
-
--- the term of a mark behind one number
-abbrev pub term_behind : List ℕ → Tree
-term_behind [] = tree.tree_of_code []
-term_behind (n ∷ ns) = tree.tree_of_code ns
 
 abbrev pub one_read : (Core → Core) → List Core → List Core
 one_read make [] = []
@@ -68,17 +72,23 @@ two_read make other = other
 abbrev pub Reader : Type 0
 Reader = List ℕ → List Core → List Core
 
--- by the place of the connective
+-- the context of a mark, and the expression behind its four numbers
+abbrev pub context_read : List ℕ → Atom
+context_read ns =
+    InContext (expression.expression_of_code (drop 4 ns)) (hole_number_at (number_at ns 0)) (hole_place_at (number_at ns 1)) (number_at ns 2) (number_at ns 3)
+
+-- by the place of the node
 abbrev pub readers : List Reader
 readers =
     (λ ns fs. True ∷ fs)
-    ∷ (λ ns fs. Atom (rel_at (number_at ns 0)) (number_at ns 1) (number_at ns 2) (number_at ns 3) ∷ fs)
-    ∷ (λ ns fs. Nf (number_at ns 0) (number_at ns 1) ∷ fs)
-    ∷ (λ ns fs. Is (number_at ns 0) (term_behind ns) ∷ fs)
+    ∷ (λ ns fs. Leaf (Related (rel_at (number_at ns 0)) (number_at ns 1) (number_at ns 2) (number_at ns 3)) ∷ fs)
+    ∷ (λ ns fs. Leaf (context_read ns) ∷ fs)
+    ∷ (λ ns fs. Leaf (Normal (number_at ns 0) (number_at ns 1)) ∷ fs)
+    ∷ (λ ns fs. Leaf (IsTerm (number_at ns 0) (tree.tree_of_code (drop 1 ns))) ∷ fs)
     ∷ (λ ns fs. one_read Not fs)
-    ∷ (λ ns fs. two_read And fs)
-    ∷ (λ ns fs. two_read Or fs)
-    ∷ (λ ns fs. two_read Iff fs)
+    ∷ (λ ns fs. two_read (Binary And) fs)
+    ∷ (λ ns fs. two_read (Binary Or) fs)
+    ∷ (λ ns fs. two_read (Binary Iff) fs)
     ∷ (λ ns fs. one_read (Exists (number_at ns 0)) fs)
     ∷ (λ ns fs. one_read (Infinite (number_at ns 0)) fs)
     ∷ []
@@ -95,6 +105,20 @@ abbrev pub first_formula : List Core → Core
 first_formula [] = True
 first_formula (f ∷ rest) = f
 
+atom_read : (a : Atom) (fs : List Core) → mark_read (atom_spelled a) fs ≡ Leaf a ∷ fs
+atom_read (Related rel index x y) fs = ap (λ r. Leaf (Related r index x y) ∷ fs) (rel_again rel)
+atom_read (InContext e number place x y) fs =
+    ap (λ d. Leaf (InContext d (hole_number_at (hole_number_code number)) (hole_place_at (hole_place_code place)) x y) ∷ fs) (expression.expression_again e)
+    ∙ (ap (λ m. Leaf (InContext e m (hole_place_at (hole_place_code place)) x y) ∷ fs) (hole_number_again number)
+    ∙ ap (λ p. Leaf (InContext e number p x y) ∷ fs) (hole_place_again place))
+atom_read (Normal index x) fs = refl
+atom_read (IsTerm x t) fs = ap (λ u. Leaf (IsTerm x u) ∷ fs) (tree.tree_again t)
+
+connective_read : (op : Connective) (fs : List Core) → mark_read (connective_place op ∷ []) fs ≡ two_read (Binary op) fs
+connective_read And fs = refl
+connective_read Or fs = refl
+connective_read Iff fs = refl
+
 -- two formulas are read one after the other
 pub read_back-two : (make : Core → Core → Core) (f g : Core) (ms : List Mark)
     → ((ns : List Mark) → read_back (spelled f ++ ns) ≡ f ∷ read_back ns)
@@ -106,13 +130,11 @@ read_back-two make f g ms h k =
 
 pub read_back-spelled : (f : Core) (ms : List Mark) → read_back (spelled f ++ ms) ≡ f ∷ read_back ms
 read_back-spelled True ms = refl
-read_back-spelled (Atom rel index x y) ms = ap (λ r. Atom r index x y ∷ read_back ms) (rel_again rel)
-read_back-spelled (Nf index x) ms = refl
-read_back-spelled (Is x t) ms = ap (λ u. Is x u ∷ read_back ms) (tree.tree_again t)
+read_back-spelled (Leaf a) ms = atom_read a (read_back ms)
 read_back-spelled (Not f) ms = ap (one_read Not) (read_back-spelled f ms)
-read_back-spelled (And f g) ms = read_back-two And f g ms (λ ns. read_back-spelled f ns) (λ ns. read_back-spelled g ns)
-read_back-spelled (Or f g) ms = read_back-two Or f g ms (λ ns. read_back-spelled f ns) (λ ns. read_back-spelled g ns)
-read_back-spelled (Iff f g) ms = read_back-two Iff f g ms (λ ns. read_back-spelled f ns) (λ ns. read_back-spelled g ns)
+read_back-spelled (Binary op f g) ms =
+    connective_read op (read_back ((spelled f ++ spelled g) ++ ms))
+    ∙ read_back-two (Binary op) f g ms (λ ns. read_back-spelled f ns) (λ ns. read_back-spelled g ns)
 read_back-spelled (Exists n f) ms = ap (one_read (Exists n)) (read_back-spelled f ms)
 read_back-spelled (Infinite n f) ms = ap (one_read (Infinite n)) (read_back-spelled f ms)
 

@@ -10,12 +10,19 @@ use Rattle.fort_theory.specs.Trees.{Tree}
 use Rattle.fort_theory.specs.TreeCode as tree
 use Rattle.fort_terms.specs.TermKeys.{tree_eq}
 use Rattle.fort_terms.specs.TermKeyLaws.{tree_eq-ties, tree_order-spelled}
-use Rattle.fort_logic.specs.Cores as theory
-use Rattle.fort_formulas.specs.declared.core_formula.Rel.{Rel}
-use Rattle.fort_formulas.specs.declared.core_formula.Rel.TheVariants.{Eq, Root, Below, Step, Par, Plus, Star, Conv}
+use Rattle.fort_cores.specs.Cores as theory
+use Rattle.fort_theory.specs.Logic as logic
+use Rattle.fort_relations.specs.declared.relation.Rel as relation
+use Rattle.fort_relations.specs.declared.relation.Rel.TheVariants.{Eq, Root, Below, Step, Par, Plus, Star, Conv}
+use Rattle.fort_relations.specs.declared.rex.Rex.{Rex}
+use Rattle.fort_relations.specs.declared.holes.Holes.{Holes}
+use Rattle.fort_relations.specs.declared.holes.Place.{Place}
 use Rattle.fort_formulas.specs.declared.core_formula.Core.{Core}
-use Rattle.fort_formulas.specs.declared.core_formula.Core.TheVariants.{True, Atom, Nf, Is, Not, And, Or, Iff, Exists, Infinite}
-use Rattle.fort_formulas.specs.CoreView.{as_rel, as_core}
+use Rattle.fort_formulas.specs.declared.core_formula.Core.TheVariants.{True, Atom, Rel, Nf, Is, Not, And, Or, Iff, Exists, Infinite}
+use Rattle.fort_relations.specs.RelView.{as_rel}
+use Rattle.fort_relations.specs.HolesView.{as_hole_number, as_hole_place, from_hole_number, from_hole_place, from_hole_number-again, from_hole_place-again}
+use Rattle.fort_relations.specs.RexKeyLaws.{from_expression, from_expression-again}
+use Rattle.fort_formulas.specs.CoreView.{as_core}
 use Rattle.fort_formulas.specs.CoreCode.{Mark, spelled, read_back, first_formula, read_back-spelled, core_again}
 use Rattle.fort_formulas.specs.CoreKeys.{core_spelled, same_marks}
 
@@ -38,7 +45,7 @@ arm_eq-partial_equiv = partial_equiv_from_equiv arm_eq-equiv
 
 -- ---- the program's formulas
 
-abbrev from_rel : theory.Rel → Rel
+abbrev from_rel : theory.Rel → relation.Rel
 from_rel theory.Eq = Eq
 from_rel theory.Root = Root
 from_rel theory.Below = Below
@@ -50,17 +57,18 @@ from_rel theory.Conv = Conv
 
 abbrev from_core : theory.Core → Core
 from_core theory.True = True
-from_core (theory.Atom rel index x y) = Atom (from_rel rel) index x y
-from_core (theory.Nf index x) = Nf index x
-from_core (theory.Is x t) = Is x t
+from_core (theory.Leaf (theory.Related rel index x y)) = Atom (from_rel rel) index x y
+from_core (theory.Leaf (theory.InContext e number place x y)) = Rel (from_expression e) (from_hole_number number) (from_hole_place place) x y
+from_core (theory.Leaf (theory.Normal index x)) = Nf index x
+from_core (theory.Leaf (theory.IsTerm x t)) = Is x t
 from_core (theory.Not f) = Not f
-from_core (theory.And f g) = And f g
-from_core (theory.Or f g) = Or f g
-from_core (theory.Iff f g) = Iff f g
+from_core (theory.Binary logic.And f g) = And f g
+from_core (theory.Binary logic.Or f g) = Or f g
+from_core (theory.Binary logic.Iff f g) = Iff f g
 from_core (theory.Exists n f) = Exists n f
 from_core (theory.Infinite n f) = Infinite n f
 
-from_rel-again : (rel : Rel) → from_rel (as_rel rel) ≡ rel
+from_rel-again : (rel : relation.Rel) → from_rel (as_rel rel) ≡ rel
 from_rel-again Eq = refl
 from_rel-again Root = refl
 from_rel-again Below = refl
@@ -72,7 +80,11 @@ from_rel-again Conv = refl
 
 from_core-again : (c : Core) → from_core (as_core c) ≡ c
 from_core-again True = refl
-from_core-again (Atom rel index x y) = ap (λ (r : Rel). Atom r index x y) (from_rel-again rel)
+from_core-again (Atom rel index x y) = ap (λ (r : relation.Rel). Atom r index x y) (from_rel-again rel)
+from_core-again (Rel e holes place x y) =
+    ap (λ (d : Rex). Rel d (from_hole_number (as_hole_number holes)) (from_hole_place (as_hole_place place)) x y) (from_expression-again e)
+    ∙ (ap (λ (n : Holes). Rel e n (from_hole_place (as_hole_place place)) x y) (from_hole_number-again holes)
+    ∙ ap (λ (p : Place). Rel e holes p x y) (from_hole_place-again place))
 from_core-again (Nf index x) = refl
 from_core-again (Is x t) = refl
 from_core-again (Not f) = refl
@@ -106,7 +118,7 @@ and-true true = refl
 and-true false = refl
 
 -- where the variables are equal, the terms decide
-pub Is_eq-terms : (x y : ℕ) (s t : Tree) → x ≡ y → tree_eq s t ≡ same_marks (spelled (theory.Is x s)) (spelled (theory.Is y t))
+pub Is_eq-terms : (x y : ℕ) (s t : Tree) → x ≡ y → tree_eq s t ≡ same_marks (spelled (theory.Leaf (theory.IsTerm x s))) (spelled (theory.Leaf (theory.IsTerm y t)))
 Is_eq-terms x y s t e = rw (eq-eqb x y e) (tree_eq-spelled s t ∙ and-true (pointwise nat_eq (tree.spelled s) (tree.spelled t)))
 
 -- ---- two operands

@@ -11,7 +11,7 @@ use lib.Pointwise.{bytes_decides}
 use Rattle.fort_theory.specs.Trees.{Tree}
 use Rattle.fort_terms.specs.TermKeys.{tree_order}
 use Rattle.fort_terms.specs.TermKeyLaws.{tree_order-spelled}
-use Rattle.fort_logic.specs.Cores as theory
+use Rattle.fort_cores.specs.Cores as theory
 use Rattle.fort_formulas.specs.declared.core_formula.Core.{Core}
 use Rattle.fort_formulas.specs.CoreCode.{Mark, spelled}
 use Rattle.fort_formulas.specs.CoreKeys.{core_spelled, same_marks, marks_order}
@@ -50,7 +50,7 @@ then-Equal Equal = refl
 then-Equal Greater = refl
 
 pub Is_order-terms : (x y : ℕ) (s t : Tree)
-    → ordering_then (nat_cmp x y) (tree_order s t) ≡ marks_order (spelled (theory.Is x s)) (spelled (theory.Is y t))
+    → ordering_then (nat_cmp x y) (tree_order s t) ≡ marks_order (spelled (theory.Leaf (theory.IsTerm x s))) (spelled (theory.Leaf (theory.IsTerm y t)))
 Is_order-terms x y s t = ap (ordering_then (nat_cmp x y)) (tree_order-spelled s t) ∙ then-Equal (ordering_then (nat_cmp x y) _)
 
 -- ---- two operands

@@ -1,8 +1,10 @@
 -- Inside: a formula as a list of marks, from which it is read again.
-use Rattle.std.specs.Prelude.{◌≡◌, ℕ, zero, suc, List, [], ◌∷◌, ◌++◌, slice_index_or, refl}
+use Rattle.std.specs.Prelude.{◌≡◌, ℕ, zero, suc, List, [], ◌∷◌, ◌++◌, drop, slice_index_or, refl}
 use Rattle.std.proofs.Common.{ap, sym, ◌∙◌, append_assoc, append-nil}
+use Rattle.fort_relations.specs.ExpressionCode as expression
+use Rattle.fort_relations.specs.HolesCode.{hole_number_code, hole_place_code, hole_number_at, hole_place_at, hole_number_again, hole_place_again}
 use Rattle.std.specs.Coded.{Coded, code_by, coded_list, coded_ℕ, coded×}
-use Rattle.fort_logic.specs.Formulas.{Name, Argument, Var, Ground, SurfaceRel, Eq, Step, Star, Plus, Reflexive, Normal, Root, Below, Par, Either, Conv, Property, Cr, Wcr, Scr, Wn, Unr, Unc, Nfp, Formula, True, False, Related, Nf, Join, Has, Com, Not, And, Or, Imp, Iff, Exists, Forall, Infinite}
+use Rattle.fort_logic.specs.Formulas.{Name, Argument, Var, Ground, SurfaceRel, Eq, Step, Star, Plus, Reflexive, Normal, Root, Below, Par, Either, Conv, Property, Cr, Wcr, Scr, Wn, Unr, Unc, Nfp, Formula, True, False, Related, InContext, Nf, Join, Sn, AllSn, Has, Com, Not, And, Or, Imp, Iff, Exists, Forall, Infinite}
 
 abbrev pub surface_rel_place : SurfaceRel → ℕ
 surface_rel_place Eq = 0
@@ -73,7 +75,7 @@ argument_again (Var x) = refl
 argument_again (Ground k) = refl
 
 -- one node: the place of its connective in the list of the connectives; the place of its relation or property, its index,
--- and the numbers of its arguments; its names
+-- and the numbers of its arguments, or what its context is and its expression's spelling; its names
 abbrev pub Mark : Type 0
 Mark = ℕ × (List ℕ × List Name)
 
@@ -97,6 +99,11 @@ spelled (Iff f g) = mark 11 [] [] ∷ (spelled f ++ spelled g)
 spelled (Exists x f) = mark 12 [] (x ∷ []) ∷ spelled f
 spelled (Forall x f) = mark 13 [] (x ∷ []) ∷ spelled f
 spelled (Infinite x f) = mark 14 [] (x ∷ []) ∷ spelled f
+spelled (Sn a index) = mark 15 (index ∷ argument_number a ∷ []) (argument_name a ∷ []) ∷ []
+spelled (AllSn index) = mark 16 (index ∷ []) [] ∷ []
+spelled (InContext e number place a b) =
+    mark 17 (hole_number_code number ∷ hole_place_code place ∷ argument_number a ∷ argument_number b ∷ expression.spelled e)
+    (argument_name a ∷ argument_name b ∷ []) ∷ []
 
 -- ---- a spelling is read from its end to its front, over a stack
 
@@ -137,6 +144,11 @@ readers =
     ∷ (λ ns xs fs. one_read (Exists (name_at xs 0)) fs)
     ∷ (λ ns xs fs. one_read (Forall (name_at xs 0)) fs)
     ∷ (λ ns xs fs. one_read (Infinite (name_at xs 0)) fs)
+    ∷ (λ ns xs fs. Sn (argument_at (number_at ns 1) (name_at xs 0)) (number_at ns 0) ∷ fs)
+    ∷ (λ ns xs fs. AllSn (number_at ns 0) ∷ fs)
+    ∷ (λ ns xs fs.
+    InContext (expression.expression_of_code (drop 4 ns)) (hole_number_at (number_at ns 0)) (hole_place_at (number_at ns 1))
+    (argument_at (number_at ns 2) (name_at xs 0)) (argument_at (number_at ns 3) (name_at xs 1)) ∷ fs)
     ∷ []
 
 abbrev pub read_back : List Mark → List Formula
@@ -178,6 +190,17 @@ read_back-spelled (Iff f g) ms = read_back-two Iff f g ms (λ ns. read_back-spel
 read_back-spelled (Exists x f) ms = ap (one_read (Exists x)) (read_back-spelled f ms)
 read_back-spelled (Forall x f) ms = ap (one_read (Forall x)) (read_back-spelled f ms)
 read_back-spelled (Infinite x f) ms = ap (one_read (Infinite x)) (read_back-spelled f ms)
+read_back-spelled (Sn a index) ms = ap (λ c. Sn c index ∷ read_back ms) (argument_again a)
+read_back-spelled (AllSn index) ms = refl
+read_back-spelled (InContext e number place a b) ms =
+    let first = argument_at (argument_number a) (argument_name a) in
+    let second = argument_at (argument_number b) (argument_name b) in
+    ap (λ d. InContext d (hole_number_at (hole_number_code number)) (hole_place_at (hole_place_code place)) first second ∷ read_back ms)
+    (expression.expression_again e)
+    ∙ (ap (λ m. InContext e m (hole_place_at (hole_place_code place)) first second ∷ read_back ms) (hole_number_again number)
+    ∙ (ap (λ p. InContext e number p first second ∷ read_back ms) (hole_place_again place)
+    ∙ (ap (λ c. InContext e number place c second ∷ read_back ms) (argument_again a)
+    ∙ ap (λ c. InContext e number place a c ∷ read_back ms) (argument_again b))))
 
 pub formula_again : (f : Formula) → first_formula (read_back (spelled f)) ≡ f
 formula_again f = ap (λ ns. first_formula (read_back ns)) (sym (append-nil (spelled f))) ∙ ap first_formula (read_back-spelled f [])

@@ -1,7 +1,7 @@
 -- To believe: which kind of the definitions a kind of the program is.
-use Rattle.fort_logic.specs.Kinds as theory
+use Rattle.fort_cores.specs.Kinds as theory
 use Rattle.fort_formulas.specs.declared.kinds.Kind.{Kind}
-use Rattle.fort_formulas.specs.declared.kinds.Kind.TheVariants.{True, Eq, Root, Below, Step, Par, Plus, Star, Conv, Nf, Is, Not, And, Or, Iff, Exists, Infinite}
+use Rattle.fort_formulas.specs.declared.kinds.Kind.TheVariants.{True, Eq, Root, Below, Step, Par, Plus, Star, Conv, Rex, Nf, Is, Not, And, Or, Iff, Exists, Infinite}
 
 abbrev pub as_kind : Kind → theory.Kind
 as_kind True = theory.True
@@ -13,6 +13,7 @@ as_kind Par = theory.Par
 as_kind Plus = theory.Plus
 as_kind Star = theory.Star
 as_kind Conv = theory.Conv
+as_kind Rex = theory.Rex
 as_kind Nf = theory.Nf
 as_kind Is = theory.Is
 as_kind Not = theory.Not

@@ -1,6 +1,6 @@
--- To believe: how many numbers the translation of a formula sets aside: those of the free names, and of binders, ground terms, JOIN, COM and properties.
+-- To believe: how many numbers the translation of a formula sets aside: those of the free names, and of binders, ground terms, JOIN, SN, COM and properties.
 use Rattle.std.specs.Prelude.{ℕ, ◌+◌, max, length}
-use Rattle.fort_logic.specs.Formulas.{Argument, Var, Ground, Formula, True, False, Related, Nf, Join, Has, Com, Not, And, Or, Imp, Iff, Exists, Forall, Infinite}
+use Rattle.fort_logic.specs.Formulas.{Argument, Var, Ground, Formula, True, False, Related, InContext, Nf, Join, Sn, AllSn, Has, Com, Not, And, Or, Imp, Iff, Exists, Forall, Infinite}
 use Rattle.fort_logic.specs.FreeNames.{free_names}
 
 -- one for a ground term
@@ -8,14 +8,17 @@ abbrev pub argument_numbers : Argument → ℕ
 argument_numbers (Var x) = 0
 argument_numbers (Ground k) = 1
 
--- the most that are set aside at once below the free names: one for each binder, one for JOIN, and three for COM and for a
--- property, though some properties use two of them
+-- the most that are set aside at once below the free names: one for each binder, one for JOIN and for SN of an argument,
+-- two for SN, and three for COM and for a property, though some properties use two of them
 abbrev pub binder_numbers : Formula → ℕ
 binder_numbers True = 0
 binder_numbers False = 0
 binder_numbers (Related rel a b index) = argument_numbers a + argument_numbers b
+binder_numbers (InContext e number place a b) = argument_numbers a + argument_numbers b
 binder_numbers (Nf a index) = argument_numbers a
 binder_numbers (Join a b index) = argument_numbers a + argument_numbers b + 1
+binder_numbers (Sn a index) = argument_numbers a + 1
+binder_numbers (AllSn index) = 2
 binder_numbers (Has property index) = 3
 binder_numbers Com = 3
 binder_numbers (Not f) = binder_numbers f

@@ -1,14 +1,16 @@
 //! Core formulas for the words that core formulas lack.
 
 ghost use Rattle.std.specs.Prelude.{◌≡◌, ℕ, ◌+◌, ◌^◌, ◌<◌, IfOk};
-ghost use Rattle.fort_logic.specs.Cores as theory;
-ghost use Rattle.fort_logic.specs.Translation.{some, every, equal, infinitely_many, implies, at_most_one_step, normalises, joins, related, forks, property_core, commutes};
+ghost use Rattle.fort_cores.specs.Cores as theory;
+ghost use Rattle.fort_theory.specs.Logic as logic;
+ghost use Rattle.fort_logic.specs.Translation.{some, every, equal, infinitely_many, implies, at_most_one_step, normalises, joins, related, forks, property_core, terminates, all_terminate, commutes};
 ghost use Rattle.fort_formulas.specs.CoreView.{as_core};
 ghost use Rattle.fort_formulas.specs.FormulaView.{as_surface_rel, as_property};
 
 use crate::columns::is_free;
-use crate::core_formula::{Arm, Core, Rel};
+use crate::core_formula::{Arm, Core};
 use crate::surface::{Macro, SurfaceRel};
+use fort_relations::Rel;
 use std::alloc::{AllocError, Global};
 
 pub fn not(alloc: Global, f: Core) -> Result<Core, AllocError>
@@ -18,19 +20,19 @@ pub fn not(alloc: Global, f: Core) -> Result<Core, AllocError>
 }
 
 pub fn and(alloc: Global, f: Core, g: Core) -> Result<Core, AllocError>
-    ensures { IfOk result (λ c. as_core c ≡ theory.And (as_core f) (as_core g)) }
+    ensures { IfOk result (λ c. as_core c ≡ theory.Binary logic.And (as_core f) (as_core g)) }
 {
     Ok(Core::And(Arm::new(alloc, f)?, Arm::new(alloc, g)?))
 }
 
 pub fn or(alloc: Global, f: Core, g: Core) -> Result<Core, AllocError>
-    ensures { IfOk result (λ c. as_core c ≡ theory.Or (as_core f) (as_core g)) }
+    ensures { IfOk result (λ c. as_core c ≡ theory.Binary logic.Or (as_core f) (as_core g)) }
 {
     Ok(Core::Or(Arm::new(alloc, f)?, Arm::new(alloc, g)?))
 }
 
 pub fn iff(alloc: Global, f: Core, g: Core) -> Result<Core, AllocError>
-    ensures { IfOk result (λ c. as_core c ≡ theory.Iff (as_core f) (as_core g)) }
+    ensures { IfOk result (λ c. as_core c ≡ theory.Binary logic.Iff (as_core f) (as_core g)) }
 {
     Ok(Core::Iff(Arm::new(alloc, f)?, Arm::new(alloc, g)?))
 }
@@ -103,6 +105,29 @@ pub fn joins(alloc: Global, index: u32, n: u32, x: u32, y: u32) -> Result<Core, 
         Core::Atom(Rel::Star, index, y, n),
     )?;
     some(alloc, n, both)
+}
+
+/// That no infinitely many terms are reached from `x`, and none that is reached from itself by
+/// steps. What is reached has the number `n`.
+pub fn terminates(alloc: Global, index: u32, n: u32, x: u32) -> Result<Core, AllocError>
+    ensures { IfOk result (λ c. as_core c ≡ terminates index n x) }
+{
+    let many = infinitely_many(alloc, n, Core::Atom(Rel::Star, index, x, n))?;
+    let on_cycle = and(
+        alloc,
+        Core::Atom(Rel::Star, index, x, n),
+        Core::Atom(Rel::Plus, index, n, n),
+    )?;
+    let few = not(alloc, many)?;
+    and(alloc, few, not(alloc, some(alloc, n, on_cycle)?)?)
+}
+
+/// That every ground term terminates, with numbers from `n` on.
+pub fn all_terminate(alloc: Global, index: u32, n: u32) -> Result<Core, AllocError>
+    requires { n + 1 < 2 ^ 32 }
+    ensures { IfOk result (λ c. as_core c ≡ all_terminate index n) }
+{
+    every(alloc, n, terminates(alloc, index, n + 1, n)?)
 }
 
 pub fn related(

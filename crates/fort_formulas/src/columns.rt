@@ -2,7 +2,7 @@
 
 ghost use Rattle.std.specs.Prelude.{◌≡◌, ℕ, ◌↔◌, ◌<◌, ◌⊎◌, IsTrue, IfOk, OnOk, Contains, length};
 ghost use Rattle.std.specs.List.Sorted.{IsStrictlyIncreasing};
-ghost use Rattle.fort_logic.specs.Parts.{is_free, AreColumns, IsTooWide};
+ghost use Rattle.fort_cores.specs.Parts.{is_free, AreColumns, IsTooWide};
 ghost use Rattle.fort_theory.specs.Signatures.{most_columns};
 ghost use Rattle.fort_formulas.specs.CoreView.{as_core};
 ghost use Rattle.fort_formulas.specs.Surveys.{IsSurveyOf};
@@ -19,7 +19,7 @@ pub fn is_free(n: u32, core: &Core) -> bool
 {
     match core {
         Core::True => false,
-        Core::Atom(_, _, x, y) => *x == n || *y == n,
+        Core::Atom(_, _, x, y) | Core::Rel(_, _, _, x, y) => *x == n || *y == n,
         Core::Nf(_, x) | Core::Is(x, _) => *x == n,
         Core::Not(f) => is_free(n, f.as_core()),
         Core::And(f, g) | Core::Or(f, g) | Core::Iff(f, g) => {
@@ -36,14 +36,14 @@ pub fn free(alloc: Global, core: &Core) -> Result<Vec<u32>, AllocError>
     Ok(walk(alloc, core)?.columns)
 }
 
-/// Whether some part has more columns than a part may have.
+/// Whether some part has more columns than a part may have, or an expression too many root steps.
 pub fn is_too_wide(alloc: Global, core: &Core) -> Result<bool, AllocError>
     ensures { IfOk result (λ wide. IsTrue wide ↔ IsTooWide (as_core core.now)) }
 {
     Ok(walk(alloc, core)?.too_wide)
 }
 
-/// What one walk over a formula finds: its columns, and whether some part of it has too many.
+/// What one walk over a formula finds: its columns, and whether it is too wide.
 #[derive(Drop)]
 struct Survey {
     columns: Vec<u32>,
@@ -60,6 +60,11 @@ fn walk(alloc: Global, core: &Core) -> Result<Survey, AllocError>
             let mut columns = vec![in alloc; *x, *y]?;
             put_in_order(&mut columns)?;
             Ok(surveyed(columns, false))
+        }
+        Core::Rel(rex, _, _, x, y) => {
+            let mut columns = vec![in alloc; *x, *y]?;
+            put_in_order(&mut columns)?;
+            Ok(surveyed(columns, rex.has_many_roots()))
         }
         Core::Not(f) => walk(alloc, f.as_core()),
         Core::And(f, g) | Core::Or(f, g) | Core::Iff(f, g) => {
@@ -81,13 +86,13 @@ fn walk(alloc: Global, core: &Core) -> Result<Survey, AllocError>
     }
 }
 
-/// What is found of a formula with these columns, whose operands are too wide or not.
-fn surveyed(columns: Vec<u32>, operands_too_wide: bool) -> Survey
+/// What is found of a formula with these columns, which is too wide by something else or not.
+fn surveyed(columns: Vec<u32>, wide_otherwise: bool) -> Survey
     ensures columns { result.columns ≡ columns }
     ensures wide { IsTrue result.too_wide
-        ↔ (IsTrue operands_too_wide ⊎ (most_columns < length columns.items)) }
+        ↔ (IsTrue wide_otherwise ⊎ (most_columns < length columns.items)) }
 {
-    let too_wide = operands_too_wide || columns.len() > MOST_COLUMNS;
+    let too_wide = wide_otherwise || columns.len() > MOST_COLUMNS;
     Survey { columns, too_wide }
 }
 

@@ -3,43 +3,38 @@
 ghost use Rattle.std.specs.Prelude.{◌≡◌, IfOk};
 ghost use Rattle.std.specs.Ordering.{nat_cmp};
 ghost use Rattle.fort_formulas.specs.CoreCode.{rel_place};
-ghost use Rattle.fort_formulas.specs.CoreView.{as_rel, as_core};
+ghost use Rattle.fort_relations.specs.HolesCode.{hole_number_code, hole_place_code};
+ghost use Rattle.fort_relations.specs.HolesView.{as_hole_number, as_hole_place};
+ghost use Rattle.fort_relations.specs.RelView.{as_rel};
+ghost use Rattle.fort_formulas.specs.CoreView.{as_core};
 ghost use Rattle.fort_formulas.specs.CoreKeys.{core_place};
 
+use fort_relations::{Holes, Place, Rel, Rex};
 use fort_terms::Term;
 use std::alloc::{AllocError, Global};
 use std::cmp::Ordering;
 use std::hash::{Hash, Hasher};
 use std::marker::Model;
 
-/// A relation between two terms.
-#[derive(Clone, Copy, Debug, PartialEq, Eq, PartialOrd, Ord, Hash)]
-pub enum Rel {
-    /// They are equal.
-    Eq,
-    /// A step at the root.
-    Root,
-    /// A step below the root.
-    Below,
-    /// A step.
-    Step,
-    /// A parallel step.
-    Par,
-    /// At least one step.
-    Plus,
-    /// Any number of steps.
-    Star,
-    /// A conversion.
-    Conv,
+/// The order of relations, by their places in the list of the variants.
+fn rel_order(first: Rel, second: Rel) -> Ordering
+    ensures { result ≡ nat_cmp (rel_place (as_rel first)) (rel_place (as_rel second)) }
+{
+    first.cmp(&second)
 }
 
-impl Rel {
-    /// Their order, by their places in the list of the variants.
-    fn order(self, other: Rel) -> Ordering
-        ensures { result ≡ nat_cmp (rel_place (as_rel self)) (rel_place (as_rel other)) }
-    {
-        self.cmp(&other)
-    }
+fn holes_order(first: Holes, second: Holes) -> Ordering
+    ensures { result ≡ nat_cmp (hole_number_code (as_hole_number first))
+        (hole_number_code (as_hole_number second)) }
+{
+    first.cmp(&second)
+}
+
+fn place_order(first: Place, second: Place) -> Ordering
+    ensures { result ≡ nat_cmp (hole_place_code (as_hole_place first))
+        (hole_place_code (as_hole_place second)) }
+{
+    first.cmp(&second)
 }
 
 /// A formula with numbers for variables, and few connectives.
@@ -49,6 +44,9 @@ pub enum Core {
     True,
     /// By the rules of this index, these two variables are related. The index is 1 for `Rel::Eq`.
     Atom(Rel, u32, u32, u32),
+    /// These two variables are one context with pairs of this relation in its holes, of which there
+    /// are so many at such places.
+    Rel(Rex, Holes, Place, u32, u32),
     /// By the rules of this index, this variable is a normal form.
     Nf(u32, u32),
     /// This variable is this term.
@@ -71,7 +69,7 @@ pub struct Arm {
 }
 
 impl Model for Arm {
-    ghost use Rattle.fort_logic.specs.Cores as theory;
+    ghost use Rattle.fort_cores.specs.Cores as theory;
     ghost use Rattle.fort_formulas.specs.CoreCode.{core_code};
 
     ghost Value = { theory.Core };
@@ -128,6 +126,9 @@ impl Core {
         match self {
             Core::True => Ok(Core::True),
             Core::Atom(rel, index, x, y) => Ok(Core::Atom(*rel, *index, *x, *y)),
+            Core::Rel(rex, holes, place, x, y) => {
+                Ok(Core::Rel(rex.copy(alloc)?, *holes, *place, *x, *y))
+            }
             Core::Nf(index, x) => Ok(Core::Nf(*index, *x)),
             Core::Is(x, term) => Ok(Core::Is(*x, term.copy(alloc)?)),
             Core::Not(f) => Ok(Core::Not(f.copy(alloc)?)),
@@ -154,6 +155,9 @@ impl PartialEq for Core {
             (Core::True, Core::True) => true,
             (Core::Atom(rel, i, x, y), Core::Atom(other_rel, j, u, v)) => {
                 rel == other_rel && i == j && x == u && y == v
+            }
+            (Core::Rel(e, m, p, x, y), Core::Rel(d, n, q, u, v)) => {
+                m == n && p == q && x == u && y == v && e == d
             }
             (Core::Nf(i, x), Core::Nf(j, y)) => i == j && x == y,
             (Core::Is(x, s), Core::Is(y, t)) => x == y && s == t,
@@ -199,21 +203,22 @@ impl Eq for Arm {
 }
 
 impl Core {
-    /// The place of the connective in the list of the variants.
+    /// The place of the node in the list of the variants.
     fn place(&self) -> u8
         ensures { result ≡ core_place (as_core self.now) }
     {
         match self {
             Core::True => 0,
             Core::Atom(_, _, _, _) => 1,
-            Core::Nf(_, _) => 2,
-            Core::Is(_, _) => 3,
-            Core::Not(_) => 4,
-            Core::And(_, _) => 5,
-            Core::Or(_, _) => 6,
-            Core::Iff(_, _) => 7,
-            Core::Exists(_, _) => 8,
-            Core::Infinite(_, _) => 9,
+            Core::Rel(_, _, _, _, _) => 2,
+            Core::Nf(_, _) => 3,
+            Core::Is(_, _) => 4,
+            Core::Not(_) => 5,
+            Core::And(_, _) => 6,
+            Core::Or(_, _) => 7,
+            Core::Iff(_, _) => 8,
+            Core::Exists(_, _) => 9,
+            Core::Infinite(_, _) => 10,
         }
     }
 }
@@ -264,11 +269,16 @@ impl Ord for Core {
     fn cmp(&self, other: &Core) -> Ordering {
         match (self, other) {
             (Core::True, Core::True) => Ordering::Equal,
-            (Core::Atom(rel, i, x, y), Core::Atom(other_rel, j, u, v)) => rel
-                .order(*other_rel)
-                .then(i.cmp(j))
+            (Core::Atom(rel, i, x, y), Core::Atom(other_rel, j, u, v)) => rel_order(
+                *rel, *other_rel,
+            ).then(i.cmp(j))
                 .then(x.cmp(u))
                 .then(y.cmp(v)),
+            (Core::Rel(e, m, p, x, y), Core::Rel(d, n, q, u, v)) => holes_order(*m, *n)
+                .then(place_order(*p, *q))
+                .then(x.cmp(u))
+                .then(y.cmp(v))
+                .then(e.cmp(d)),
             (Core::Nf(i, x), Core::Nf(j, y)) => i.cmp(j).then(x.cmp(y)),
             (Core::Is(x, s), Core::Is(y, t)) => x.cmp(y).then(s.cmp(t)),
             (Core::Not(f), Core::Not(g)) => f.as_core().cmp(g.as_core()),
@@ -336,6 +346,13 @@ impl Hash for Core {
                 x.hash(state);
                 y.hash(state);
             }
+            Core::Rel(rex, holes, place, x, y) => {
+                holes.hash(state);
+                place.hash(state);
+                x.hash(state);
+                y.hash(state);
+                rex.hash(state);
+            }
             Core::Nf(index, x) => {
                 index.hash(state);
                 x.hash(state);
@@ -345,23 +362,11 @@ impl Hash for Core {
                 term.hash(state);
             }
             Core::Not(f) => f.as_core().hash(state),
-            Core::And(f, g) => {
+            Core::And(f, g) | Core::Or(f, g) | Core::Iff(f, g) => {
                 f.as_core().hash(state);
                 g.as_core().hash(state);
             }
-            Core::Or(f, g) => {
-                f.as_core().hash(state);
-                g.as_core().hash(state);
-            }
-            Core::Iff(f, g) => {
-                f.as_core().hash(state);
-                g.as_core().hash(state);
-            }
-            Core::Exists(n, f) => {
-                n.hash(state);
-                f.as_core().hash(state);
-            }
-            Core::Infinite(n, f) => {
+            Core::Exists(n, f) | Core::Infinite(n, f) => {
                 n.hash(state);
                 f.as_core().hash(state);
             }

@@ -13,7 +13,7 @@ pub enum CoreFault {
     /// It sets aside more than 2^32 numbers; a property sets aside three, though some use two, and
     /// a ground term one.
     TooManyNumbers,
-    /// Some part has more than 16 free variables.
+    /// Some part has more than 16 free variables, or an expression more than 32 root steps.
     TooWide,
 }
 

@@ -17,7 +17,10 @@ pub fn index_above(formula: &Formula, number: u32) -> Option<u32>
         Formula::Rel(_, _, _, index)
         | Formula::Nf(_, index)
         | Formula::Join(_, _, index)
+        | Formula::Sn(_, index)
+        | Formula::AllSn(index)
         | Formula::Macro(_, index) => above(*index, number),
+        Formula::Rex(rex, _, _, _, _) => rex.index_above(number),
         Formula::Com => match above(1, number) {
             None => above(2, number),
             first => first,

@@ -12,6 +12,7 @@ pub enum Kind {
     Plus,
     Star,
     Conv,
+    Rex,
     Nf,
     Is,
     Not,

@@ -13,13 +13,14 @@ pub fn free_names(alloc: Global, formula: &Formula) -> Result<Vec<Name>, AllocEr
     ensures { IfOk result (λ names. names.items ≡ free_names (as_formula formula.now)) }
 {
     match formula {
-        Formula::True | Formula::False | Formula::Macro(_, _) | Formula::Com => Ok(Vec::new(alloc)),
-        Formula::Nf(a, _) => {
+        Formula::True | Formula::False | Formula::AllSn(_) | Formula::Macro(_, _) | Formula::Com =>
+            Ok(Vec::new(alloc)),
+        Formula::Nf(a, _) | Formula::Sn(a, _) => {
             let mut names = Vec::new(alloc);
             push_variable(alloc, &mut names, a)?;
             Ok(names)
         }
-        Formula::Rel(_, a, b, _) | Formula::Join(a, b, _) => {
+        Formula::Rel(_, a, b, _) | Formula::Rex(_, _, _, a, b) | Formula::Join(a, b, _) => {
             let mut names = Vec::new(alloc);
             push_variable(alloc, &mut names, a)?;
             push_variable(alloc, &mut names, b)?;

@@ -34,9 +34,12 @@ pub fn fits(formula: &Formula, used: usize) -> bool
 {
     match formula {
         Formula::True | Formula::False => used <= NUMBERS,
-        Formula::Rel(_, a, b, _) => used <= NUMBERS - both_numbers(a, b),
+        Formula::Rel(_, a, b, _) | Formula::Rex(_, _, _, a, b) => used
+            <= NUMBERS - both_numbers(a, b),
         Formula::Nf(a, _) => used <= NUMBERS - argument_numbers(a) as usize,
         Formula::Join(a, b, _) => used < NUMBERS - both_numbers(a, b),
+        Formula::Sn(a, _) => used < NUMBERS - argument_numbers(a) as usize,
+        Formula::AllSn(_) => used <= NUMBERS - 2,
         Formula::Macro(_, _) | Formula::Com => used <= NUMBERS - 3,
         Formula::Not(f) => fits(f.as_formula(), used),
         Formula::And(f, g) | Formula::Or(f, g) | Formula::Imp(f, g) | Formula::Iff(f, g) => {

@@ -1,12 +1,13 @@
 //! The kind of a core formula.
 
 ghost use Rattle.std.specs.Prelude.{◌≡◌};
-ghost use Rattle.fort_logic.specs.Kinds.{kind_of};
+ghost use Rattle.fort_cores.specs.Kinds.{kind_of};
 ghost use Rattle.fort_formulas.specs.CoreView.{as_core};
 ghost use Rattle.fort_formulas.specs.KindView.{as_kind};
 
-use crate::core_formula::{Core, Rel};
+use crate::core_formula::Core;
 use crate::kinds::Kind;
+use fort_relations::Rel;
 
 /// The kind of a formula, by its root.
 pub fn kind(core: &Core) -> Kind
@@ -24,6 +25,7 @@ pub fn kind(core: &Core) -> Kind
             Rel::Star => Kind::Star,
             Rel::Conv => Kind::Conv,
         },
+        Core::Rel(_, _, _, _, _) => Kind::Rex,
         Core::Nf(_, _) => Kind::Nf,
         Core::Is(_, _) => Kind::Is,
         Core::Not(_) => Kind::Not,

@@ -1,10 +1,10 @@
 //! The parts of a core formula.
 
 ghost use Rattle.std.specs.Prelude.{◌≡◌, List, [], ◌∷◌, ◌++◌, map, IfOk, OnOk};
-ghost use Rattle.fort_logic.specs.Cores as theory;
-ghost use Rattle.fort_logic.specs.EachOnce.{AreEachOnce};
-ghost use Rattle.fort_logic.specs.Parts.{postorder};
-ghost use Rattle.fort_logic.specs.PartLists.{AreParts};
+ghost use Rattle.fort_cores.specs.Cores as theory;
+ghost use Rattle.fort_cores.specs.EachOnce.{AreEachOnce};
+ghost use Rattle.fort_cores.specs.Parts.{postorder};
+ghost use Rattle.fort_cores.specs.PartLists.{AreParts};
 ghost use Rattle.fort_formulas.specs.CoreView.{as_core};
 
 use crate::core_formula::Core;
@@ -26,9 +26,11 @@ fn push_parts(alloc: Global, core: &Core, found: &mut Vec<Core>) -> Result<(), A
         → AreEachOnce (before ++ postorder (as_core core.now)) (map as_core found.new.items)) }
 {
     match core {
-        Core::True | Core::Atom(_, _, _, _) | Core::Nf(_, _) | Core::Is(_, _) => {
-            push_new(alloc, core, found)
-        }
+        Core::True
+        | Core::Atom(_, _, _, _)
+        | Core::Rel(_, _, _, _, _)
+        | Core::Nf(_, _)
+        | Core::Is(_, _) => push_new(alloc, core, found),
         Core::Not(f) | Core::Exists(_, f) | Core::Infinite(_, f) => {
             push_parts(alloc, f.as_core(), found)?;
             push_new(alloc, core, found)

@@ -3,6 +3,7 @@
 ghost use Rattle.std.specs.Prelude.{◌≡◌, IfOk};
 ghost use Rattle.fort_formulas.specs.FormulaView.{as_formula};
 
+use fort_relations::{Holes, Place, Rex};
 use std::alloc::{AllocError, Global};
 use std::marker::Model;
 
@@ -109,10 +110,17 @@ pub enum Formula {
     False,
     /// These two are related, by the rules of this index.
     Rel(SurfaceRel, Arg, Arg, u32),
+    /// These two are one context with pairs of this relation in its holes, of which there are so
+    /// many at such places.
+    Rex(Rex, Holes, Place, Arg, Arg),
     /// This is a normal form of the rules of this index.
     Nf(Arg, u32),
     /// These two have a common reduct by the rules of this index.
     Join(Arg, Arg, u32),
+    /// This terminates by the rules of this index.
+    Sn(Arg, u32),
+    /// Every ground term terminates by the rules of this index.
+    AllSn(u32),
     /// The rules of this index have this property.
     Macro(Macro, u32),
     /// The rules of index 1 and those of index 2 commute.

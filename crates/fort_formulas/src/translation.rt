@@ -3,7 +3,7 @@
 ghost use Rattle.std.specs.Prelude.{◌≡◌, ℕ, ◌+◌, ◌^◌, ◌<◌, ◌≤◌, ◌↔◌, true, length, IsTrue, IfOk, IsErrOf};
 ghost use Rattle.fort_logic.specs.FreeNames.{free_names};
 ghost use Rattle.fort_logic.specs.Mentions.{HasTermsFor};
-ghost use Rattle.fort_logic.specs.Parts.{is_free, IsWellFormed};
+ghost use Rattle.fort_cores.specs.Parts.{is_free, IsWellFormed};
 ghost use Rattle.fort_logic.specs.Translation.{core_in, core_of, IsFormulaTooWide};
 ghost use Rattle.fort_logic.specs.KeepsTruth.{KeepsTruth};
 ghost use Rattle.fort_formulas.specs.CoreView.{as_core};
@@ -12,9 +12,10 @@ ghost use Rattle.fort_formulas.specs.NumbersNeeded.{binder_numbers, numbers_need
 ghost use Rattle.fort_formulas.specs.ScopeView.{as_scope};
 
 use crate::abbreviations::{
-    and, commutes, every, iff, implies, infinitely_many, not, or, property_core, some,
+    all_terminate, and, commutes, every, iff, implies, infinitely_many, not, or, property_core,
+    some,
 };
-use crate::arguments::{joins_in, normal_in, related_in};
+use crate::arguments::{joins_in, normal_in, related_in, related_in_context, terminates_in};
 use crate::columns::is_too_wide;
 use crate::core_formula::Core;
 use crate::fault::CoreFault;
@@ -92,8 +93,13 @@ fn core_in(
         Formula::True => Ok(Core::True),
         Formula::False => not(alloc, Core::True),
         Formula::Rel(rel, a, b, index) => related_in(alloc, terms, scope, *rel, *index, a, b),
+        Formula::Rex(rex, holes, place, a, b) => {
+            related_in_context(alloc, terms, scope, rex, (*holes, *place), a, b)
+        }
         Formula::Nf(a, index) => normal_in(alloc, terms, scope, *index, a),
         Formula::Join(a, b, index) => joins_in(alloc, terms, scope, *index, a, b),
+        Formula::Sn(a, index) => terminates_in(alloc, terms, scope, *index, a),
+        Formula::AllSn(index) => all_terminate(alloc, *index, scope.depth()),
         Formula::Macro(property, index) => {
             property_core(alloc, *property, *index, scope.depth())
         }

@@ -4,7 +4,7 @@ use Rattle.fort_formula_parser.proofs.Atoms.{IsParsed-compared, stuck_unrelated,
 use Rattle.fort_formula_parser.proofs.atom.compared.Goals as goal
 
 pub returns-in_default-clause-err : goal.returns-in_default-clause-err
-returns-in_default-clause-err c = stuck_unrelated c.args.lexemes.now c.args.at (argument_of c.args.x) c.requires.here c.in_default.ensures
+returns-in_default-clause-err c = stuck_unrelated c.args.lexemes.now c.args.at (argument_of c.args.x) c.requires.here c.if-is_next.ensures c.in_default.ensures
 
 pub returns-in_default-argument_at-clause-err : goal.returns-in_default-argument_at-clause-err
 returns-in_default-argument_at-clause-err c =

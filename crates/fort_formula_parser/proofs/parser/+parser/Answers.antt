@@ -1,7 +1,7 @@
 use Rattle.std.proofs.Common.{◌≡◌, ◌+◌, ◌<◌, ◌≤◌, length, refl, ap, subst, ◌∙◌, arith}
 use Rattle.std.proofs.lemmas.Result.{err_from_is_err_and, IfOk-weaker, IfErr-weaker}
 use Rattle.fort_logic.specs.Formulas as theory
-use Rattle.fort_formula_grammar.specs.Tokens.{Open, Not, Exists, Forall, Infinite, True, False, Nf, Join, Has, Com}
+use Rattle.fort_formula_grammar.specs.Tokens.{Open, Not, Exists, Forall, Infinite, True, False, Nf, Join, Sn, Has, Com}
 use Rattle.fort_formula_grammar.specs.FormulaGrammar.{Truth, Falsity, Commuting}
 use Rattle.fort_formula_grammar.specs.Continuations.{HasNoArgument}
 use Rattle.fort_formula_grammar.specs.Stuck.{starts_unary, StuckFormula, OnTheLeft, StuckImplication, InPremise, StuckDisjunction, InFirstOr, StuckConjunction, InFirstAnd, StuckUnary, StuckBinders, StuckBody}
@@ -129,7 +129,7 @@ unary-returns-in_default-argument_at-clause-err t c =
     let here = rest_of-at c.args.lexemes.now c.args.at c.in-Some.lexeme.now at.0 at.1 in
     stuck_no_unary c.args.lexemes.now c.args.at c.requires.within
     (ap starts_unary here ∙ begins_unary-other c.in-Some.lexeme.now.token _ other.not-Open other.not-Not other.not-Exists other.not-Forall other.not-Infinite
-    other.not-True other.not-False other.not-Com other.not-Nf other.not-Join other.not-Has (subst (λ ts. HasNoArgument ts) here c.in_default-argument_at.ensures))
+    other.not-True other.not-False other.not-Com other.not-Nf other.not-Join other.not-Sn other.not-Has (subst (λ ts. HasNoArgument ts) here c.in_default-argument_at.ensures))
 
 pub unary-returns-in_err-unary-in-Not-clause-err : goal.unary-returns-in_err-unary-in-Not-clause-err
 unary-returns-in_err-unary-in-Not-clause-err t c =
@@ -225,6 +225,11 @@ pub unary-normal_form-requires : goal.unary-normal_form-requires
 unary-normal_form-requires t c =
     let at = c.in-Some.ensures.lookup.3 in
     record { here = IsTokenAt-lexeme c.args.lexemes.now c.args.at c.in-Some.lexeme.now Nf at.0 at.1 (ap as_token c.in-Nf.is); few = c.requires.few }
+
+pub unary-terminating-requires : goal.unary-terminating-requires
+unary-terminating-requires t c =
+    let at = c.in-Some.ensures.lookup.3 in
+    record { here = IsTokenAt-lexeme c.args.lexemes.now c.args.at c.in-Some.lexeme.now Sn at.0 at.1 (ap as_token c.in-Sn.is); few = c.requires.few }
 
 pub unary-joinable-requires : goal.unary-joinable-requires
 unary-joinable-requires t c =

@@ -3,7 +3,7 @@ use Rattle.fort_formula_parser.proofs.SpellingsLaws.{IsSpotted-symbols, BeginsWi
 use Rattle.fort_formula_parser.proofs.symbol.symbol_at.Goals as goal
 
 pub first_among-requires : goal.first_among-requires
-first_among-requires c = (record { proper = tt; written = refl }, (record { proper = tt; written = refl }, (record { proper = tt; written = refl }, (record { proper = tt; written = refl }, (record { proper = tt; written = refl }, (record { proper = tt; written = refl }, (record { proper = tt; written = refl }, (record { proper = tt; written = refl }, (record { proper = tt; written = refl }, (record { proper = tt; written = refl }, (record { proper = (lit≤ tt, lit≤ tt); written = refl }, (record { proper = (lit≤ tt, lit≤ tt); written = refl }, (record { proper = (lit≤ tt, lit≤ tt); written = refl }, (record { proper = (lit≤ tt, lit≤ tt); written = refl }, (record { proper = (lit≤ tt, lit≤ tt); written = refl }, (record { proper = (lit≤ tt, lit≤ tt); written = refl }, (record { proper = (lit≤ tt, lit≤ tt); written = refl }, (record { proper = (lit≤ tt, lit≤ tt); written = refl }, (record { proper = (lit≤ tt, lit≤ tt); written = refl }, (record { proper = tt; written = refl }, (record { proper = tt; written = refl }, (record { proper = tt; written = refl }, (record { proper = tt; written = refl }, (record { proper = tt; written = refl }, (record { proper = tt; written = refl }, (record { proper = tt; written = refl }, (record { proper = tt; written = refl }, (record { proper = tt; written = refl }, tt))))))))))))))))))))))))))))
+first_among-requires c = (record { proper = tt; written = refl }, (record { proper = tt; written = refl }, (record { proper = tt; written = refl }, (record { proper = tt; written = refl }, (record { proper = tt; written = refl }, (record { proper = tt; written = refl }, (record { proper = tt; written = refl }, (record { proper = tt; written = refl }, (record { proper = tt; written = refl }, (record { proper = tt; written = refl }, (record { proper = (lit≤ tt, lit≤ tt); written = refl }, (record { proper = (lit≤ tt, lit≤ tt); written = refl }, (record { proper = (lit≤ tt, lit≤ tt); written = refl }, (record { proper = (lit≤ tt, lit≤ tt); written = refl }, (record { proper = (lit≤ tt, lit≤ tt); written = refl }, (record { proper = (lit≤ tt, lit≤ tt); written = refl }, (record { proper = (lit≤ tt, lit≤ tt); written = refl }, (record { proper = (lit≤ tt, lit≤ tt); written = refl }, (record { proper = (lit≤ tt, lit≤ tt); written = refl }, (record { proper = tt; written = refl }, (record { proper = tt; written = refl }, (record { proper = tt; written = refl }, (record { proper = tt; written = refl }, (record { proper = tt; written = refl }, (record { proper = tt; written = refl }, (record { proper = tt; written = refl }, (record { proper = tt; written = refl }, (record { proper = tt; written = refl }, (record { proper = tt; written = refl }, (record { proper = tt; written = refl }, tt))))))))))))))))))))))))))))))
 
 pub returns-clause-some : goal.returns-clause-some
 returns-clause-some c =

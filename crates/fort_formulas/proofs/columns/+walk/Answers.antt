@@ -1,13 +1,16 @@
-use Rattle.std.proofs.Common.{◌≡◌, ◌++◌, ◌==◌, not, filter, rules, inl, inr, refl, ap, ◌∙◌}
+use Rattle.std.proofs.Common.{◌≡◌, ◌↔◌, IsTrue, false, ◌++◌, ◌==◌, not, filter, rules, inl, inr, refl, ap, ◌∙◌}
 use Rattle.std.proofs.lemmas.Fn.{filter_same}
 use Rattle.std.proofs.lemmas.Result.{IfOk-weaker}
-use Rattle.fort_logic.specs.Cores as theory
-use Rattle.fort_logic.specs.Parts.{AreColumns}
-use Rattle.fort_logic.proofs.ColumnLaws.{AreColumns-True, AreColumns-Nf, AreColumns-Is, AreColumns-Atom, AreColumns-same, AreColumns-two, AreColumns-bound}
-use Rattle.fort_logic.proofs.TooWideLaws.{IsTooWide-same_iff, tells-leaf, tells-one, tells-two}
-use Rattle.fort_formulas.specs.CoreView.{as_rel, as_core}
+use Rattle.fort_cores.specs.Cores as theory
+use Rattle.fort_cores.specs.Parts.{AreColumns, HasManyRootsAt}
+use Rattle.fort_cores.proofs.ColumnLaws.{AreColumns-True, AreColumns-Normal, AreColumns-IsTerm, AreColumns-Related, AreColumns-InContext, AreColumns-same, AreColumns-two, AreColumns-bound}
+use Rattle.fort_cores.proofs.TooWideLaws.{IsTooWide-same_iff, tells-leaf, tells-one, tells-two}
+use Rattle.fort_relations.specs.RelView.{as_rel}
+use Rattle.fort_relations.specs.HolesView.{as_hole_number, as_hole_place}
+use Rattle.fort_relations.specs.RexView.{as_expression}
+use Rattle.fort_formulas.specs.CoreView.{as_core}
 use Rattle.fort_formulas.specs.Surveys.{IsSurveyOf}
-use Rattle.fort_formulas.proofs.CoreShapes.{postorder-leaf, postorder-variable, postorder-one, postorder-two, postorder-bound}
+use Rattle.fort_formulas.proofs.CoreShapes.{binary, postorder-leaf, postorder-variable, postorder-one, postorder-two, postorder-bound, short-leaf, short-variable, short-one, short-two, short-bound, told-short}
 use Rattle.fort_formulas.proofs.columns.+walk.Goals as goal
 
 pub returns-in-True : goal.returns-in-True
@@ -18,8 +21,8 @@ returns-in-True t c =
     record {
       columns = are;
       wide =
-          tells-leaf (as_core core) made c.surveyed.result.too_wide (postorder-leaf core (inl c.in-True.is)) are
-          (rw (← c.surveyed.ensures.columns) at c.surveyed.ensures.wide);
+          tells-leaf (as_core core) made c.surveyed.result.too_wide false (postorder-leaf core (inl c.in-True.is)) are
+          (rw (← c.surveyed.ensures.columns) at c.surveyed.ensures.wide) (told-short (as_core core) (short-leaf core (inl c.in-True.is)));
     }
 
 pub returns-in_ok-vec-in-Nf : goal.returns-in_ok-vec-in-Nf
@@ -29,14 +32,14 @@ returns-in_ok-vec-in-Nf t c =
     let made = c.surveyed-in-Nf.result.columns.items in
     let are : AreColumns (as_core core) made =
     elim arm.is [
-      | inl nf ↦ rw (nf.1, c.surveyed-in-Nf.ensures.columns, c.in_ok-vec-in-Nf.ensures.items) (AreColumns-Nf nf.0 arm.x)
-      | inr is ↦ rw (is.1, c.surveyed-in-Nf.ensures.columns, c.in_ok-vec-in-Nf.ensures.items) (AreColumns-Is arm.x is.0)
+      | inl nf ↦ rw (nf.1, c.surveyed-in-Nf.ensures.columns, c.in_ok-vec-in-Nf.ensures.items) (AreColumns-Normal nf.0 arm.x)
+      | inr is ↦ rw (is.1, c.surveyed-in-Nf.ensures.columns, c.in_ok-vec-in-Nf.ensures.items) (AreColumns-IsTerm arm.x is.0)
     ] in
     record {
       columns = are;
       wide =
-          tells-leaf (as_core core) made c.surveyed-in-Nf.result.too_wide (postorder-variable core arm.x arm.is) are
-          (rw (← c.surveyed-in-Nf.ensures.columns) at c.surveyed-in-Nf.ensures.wide);
+          tells-leaf (as_core core) made c.surveyed-in-Nf.result.too_wide false (postorder-variable core arm.x arm.is) are
+          (rw (← c.surveyed-in-Nf.ensures.columns) at c.surveyed-in-Nf.ensures.wide) (told-short (as_core core) (short-variable core arm.x arm.is));
     }
 
 pub returns-in_ok-put_in_order-in-Atom : goal.returns-in_ok-put_in_order-in-Atom
@@ -47,13 +50,33 @@ returns-in_ok-put_in_order-in-Atom t c =
     let made = c.surveyed-in-Atom.result.columns.items in
     let are : AreColumns (as_core core) made =
     rw (arm.is, c.surveyed-in-Atom.ensures.columns)
-    (AreColumns-Atom (as_rel arm.field-0) arm.field-1 arm.x arm.y _ put.rise (rw c.in_ok-columns-in-Atom.ensures.items at put.same)) in
+    (AreColumns-Related (as_rel arm.field-0) arm.field-1 arm.x arm.y _ put.rise (rw c.in_ok-columns-in-Atom.ensures.items at put.same)) in
     record {
       columns = are;
       wide =
-          tells-leaf (as_core core) made c.surveyed-in-Atom.result.too_wide
-          (postorder-leaf core (inr (arm.field-0, arm.field-1, arm.x, arm.y, arm.is))) are
-          (rw (← c.surveyed-in-Atom.ensures.columns) at c.surveyed-in-Atom.ensures.wide);
+          tells-leaf (as_core core) made c.surveyed-in-Atom.result.too_wide false
+          (postorder-leaf core (inr (inl (arm.field-0, arm.field-1, arm.x, arm.y, arm.is)))) are
+          (rw (← c.surveyed-in-Atom.ensures.columns) at c.surveyed-in-Atom.ensures.wide)
+          (told-short (as_core core) (short-leaf core (inr (arm.field-0, arm.field-1, arm.x, arm.y, arm.is))));
+    }
+
+pub returns-in_ok-put_in_order-in-Rel : goal.returns-in_ok-put_in_order-in-Rel
+returns-in_ok-put_in_order-in-Rel t c =
+    let core = c.args.core.now in
+    let arm = c.in-Rel in
+    let put = c.in_ok-put_in_order-in-Rel.ensures in
+    let made = c.surveyed-in-Rel.result.columns.items in
+    let are : AreColumns (as_core core) made =
+    rw (arm.is, c.surveyed-in-Rel.ensures.columns)
+    (AreColumns-InContext (as_expression arm.rex) (as_hole_number arm.field-1) (as_hole_place arm.field-2) arm.x arm.y _ put.rise
+    (rw c.in_ok-columns-in-Rel.ensures.items at put.same)) in
+    let own : IsTrue c.has_many_roots.result ↔ HasManyRootsAt (as_core core) = rw arm.is c.has_many_roots.ensures in
+    record {
+      columns = are;
+      wide =
+          tells-leaf (as_core core) made c.surveyed-in-Rel.result.too_wide c.has_many_roots.result
+          (postorder-leaf core (inr (inr (arm.rex, arm.field-1, arm.field-2, arm.x, arm.y, arm.is)))) are
+          (rw (← c.surveyed-in-Rel.ensures.columns) at c.surveyed-in-Rel.ensures.wide) own;
     }
 
 pub returns-in-Not : goal.returns-in-Not
@@ -65,7 +88,7 @@ returns-in-Not t c =
     (λ s found.
     let operand = rw c.as_core.ensures at found in
     let are : AreColumns (as_core core) s.columns.items = rw arm.is (AreColumns-same (theory.Not arm.f) arm.f s.columns.items (λ n. refl) operand.columns) in
-    let same = IsTooWide-same_iff (as_core core) arm.f s.columns.items one are operand.columns in
+    let same = IsTooWide-same_iff (as_core core) arm.f s.columns.items one are operand.columns (short-one core arm.f (inl arm.is)) in
     record { columns = are; wide = ((λ e. same.0 (operand.wide.0 e)), (λ w. operand.wide.1 (same.1 w))) })
     c.walk.ensures
 
@@ -87,7 +110,7 @@ returns-in_ok-columns-in-Exists t c =
       columns = are;
       wide =
           tells-one (as_core core) arm.f made c.surveyed-in-Exists.result.too_wide c.in_ok-columns-in-Exists.field-0.too_wide
-          (postorder-bound core arm.n arm.f arm.is) are (rw (← c.surveyed-in-Exists.ensures.columns) at c.surveyed-in-Exists.ensures.wide) operand.wide;
+          (postorder-bound core arm.n arm.f arm.is) are (short-bound core arm.n arm.f arm.is) (rw (← c.surveyed-in-Exists.ensures.columns) at c.surveyed-in-Exists.ensures.wide) operand.wide;
     }
 
 pub returns-in_ok-put_in_order-in-And : goal.returns-in_ok-put_in_order-in-And
@@ -103,21 +126,14 @@ returns-in_ok-put_in_order-in-And t c =
     c.in_ok-extend_from_slice-in-And.ensures.items ∙ ap (λ zs. xs ++ zs) c.deref.ensures.value in
     let put = c.in_ok-put_in_order-in-And.ensures in
     let both = rw whole at put.same in
+    let two = binary core arm.f arm.g arm.is in
     let are : AreColumns (as_core core) made =
-    elim arm.is [
-      | inl e ↦ rw (e, c.surveyed-in-And.ensures.columns)
-          (AreColumns-two (theory.And arm.f arm.g) arm.f arm.g xs ys _ (λ n. refl) first.columns second.columns put.rise both)
-      | inr other ↦ elim other [
-        | inl e ↦ rw (e, c.surveyed-in-And.ensures.columns)
-            (AreColumns-two (theory.Or arm.f arm.g) arm.f arm.g xs ys _ (λ n. refl) first.columns second.columns put.rise both)
-        | inr e ↦ rw (e, c.surveyed-in-And.ensures.columns)
-            (AreColumns-two (theory.Iff arm.f arm.g) arm.f arm.g xs ys _ (λ n. refl) first.columns second.columns put.rise both)
-      ]
-    ] in
+    rw (two.1, c.surveyed-in-And.ensures.columns)
+    (AreColumns-two (theory.Binary two.0 arm.f arm.g) arm.f arm.g xs ys _ (λ n. refl) first.columns second.columns put.rise both) in
     record {
       columns = are;
       wide =
           tells-two (as_core core) arm.f arm.g made c.surveyed-in-And.result.too_wide c.in_ok-first-in-And.first.too_wide
-          c.in_ok-second-in-And.second.too_wide (postorder-two core arm.f arm.g arm.is) are
+          c.in_ok-second-in-And.second.too_wide (postorder-two core arm.f arm.g arm.is) are (short-two core arm.f arm.g arm.is)
           (rw (← c.surveyed-in-And.ensures.columns) at c.surveyed-in-And.ensures.wide) first.wide second.wide;
     }

@@ -1,9 +1,19 @@
 use Rattle.std.proofs.Common.{[], ◌∷◌}
-use Rattle.fort_formulas.proofs.FormulaIndices.{indices-atom, indices-one, indices-two, first-left, first-right, within-both}
+use Rattle.fort_expressions.specs.Expressions.{root_indices}
+use Rattle.fort_relations.specs.RexView.{as_expression}
+use Rattle.fort_formulas.proofs.FormulaIndices.{first_above-is, first_above-within, indices-atom, indices-one, indices-two, first-left, first-right, within-both}
 use Rattle.fort_formulas.proofs.indices.+index_above.Goals as goal
 
 pub returns-in-Rel-clause-within : goal.returns-in-Rel-clause-within
 returns-in-Rel-clause-within t c = rw (indices-atom c.args.formula.now c.in-Rel.index c.in-Rel.is) c.above-in-Rel.ensures.within
+
+pub returns-in-Rex-clause-first : goal.returns-in-Rex-clause-first
+returns-in-Rex-clause-first t c =
+    rw (c.in-Rex.is, c.index_above.ensures) (first_above-is c.args.number (root_indices (as_expression c.in-Rex.rex)))
+
+pub returns-in-Rex-clause-within : goal.returns-in-Rex-clause-within
+returns-in-Rex-clause-within t c =
+    rw (c.in-Rex.is, c.index_above.ensures) (first_above-within c.args.number (root_indices (as_expression c.in-Rex.rex)))
 
 pub returns-in-None-clause-first : goal.returns-in-None-clause-first
 returns-in-None-clause-first t c = rw c.in-Com.is (first-right c.args.number (1 ∷ []) (2 ∷ []) c.above-in-None.result c.in-None.ensures.within c.above-in-None.ensures.first)

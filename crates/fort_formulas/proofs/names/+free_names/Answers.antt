@@ -15,11 +15,16 @@ returns-in_ok-names-in-Exists t c =
     ]
 
 pub returns-in_ok-push_variable-in-Nf : goal.returns-in_ok-push_variable-in-Nf
-returns-in_ok-push_variable-in-Nf t c = rw c.in-Nf.is (c.in_ok-push_variable-in-Nf.ensures [] c.new-names.ensures.items)
+returns-in_ok-push_variable-in-Nf t c =
+    let whole = c.in_ok-push_variable-in-Nf.ensures [] c.new-names-in-Nf.ensures.items in
+    elim c.in-Nf.is [ inl nf ↦ rw nf.1 whole | inr sn ↦ rw sn.1 whole ]
 
 pub returns-in_ok-push_variable-in-Rel-2 : goal.returns-in_ok-push_variable-in-Rel-2
 returns-in_ok-push_variable-in-Rel-2 t c =
     let arm = c.in-Rel in
-    let first = c.in_ok-push_variable-in-Rel.ensures [] c.new-names-in-Rel.ensures.items in
+    let first = c.in_ok-push_variable-in-Rel.ensures [] c.new-names.ensures.items in
     let whole = c.in_ok-push_variable-in-Rel-2.ensures (names_in (as_argument arm.a)) first in
-    elim arm.is [ inl rel ↦ rw rel.2 whole | inr join ↦ rw join.1 whole ]
+    elim arm.is [
+      | inl rel ↦ rw rel.2 whole
+      | inr other ↦ elim other [ inl rex ↦ rw rex.3 whole | inr join ↦ rw join.1 whole ]
+    ]

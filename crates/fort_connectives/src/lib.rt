@@ -1,0 +1,6 @@
+//! The connectives of two truths.
+#![tactic(auto)]
+
+mod connective;
+
+pub use connective::Op;

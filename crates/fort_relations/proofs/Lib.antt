@@ -1,0 +1,2 @@
+pub mod FirstAboveLaws
+pub mod RexShapes

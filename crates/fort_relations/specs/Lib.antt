@@ -1,0 +1,12 @@
+pub mod RelView
+pub mod HolesView
+pub mod HolesCode
+pub mod ExpressionCode
+pub mod RexView
+pub mod RexFalls
+pub mod RexKeys
+pub mod RexKeyLaws
+pub mod RexOrderLaws
+pub mod RexHash
+pub mod RexHashLaws
+pub mod FirstAbove
