@@ -7,7 +7,7 @@ use Rattle.fort_theory.specs.Sides.{at_index}
 use Rattle.fort_theory.specs.Patterns.{Pair, PatternSystem}
 use Rattle.fort_theory.specs.PatternSteps.{PatternStep}
 use Rattle.fort_theory.specs.Rewriting.{Relation, Rewrites, RewritesBelow, Reduces, ReducesStrictly, RewritesInParallel, IsNormalForm}
-use Rattle.fort_logic.specs.Cores.{Rel, Eq, Root, Below, Step, Par, Plus, Star, Conv}
+use Rattle.fort_cores.specs.Cores.{Rel, Eq, Root, Below, Step, Par, Plus, Star, Conv}
 use Rattle.fort_tables.specs.Tuples.{Tuple}
 
 -- a conversion is a reduction by the rules both ways, and has no kind of its own

@@ -2,3 +2,5 @@ pub mod Atoms
 pub mod Alike
 pub mod AlikeAtTerm
 pub mod UnlikeTuples
+pub mod ExpressionAlike
+pub mod AlikeAtAtom

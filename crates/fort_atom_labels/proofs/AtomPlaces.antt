@@ -6,9 +6,9 @@ use Rattle.std.proofs.Common.{subst, sym, ◌∙◌, ap, arith, inl, inr, eq-eqb
 use Rattle.std.proofs.lemmas.Bool.{cases_lt}
 use Rattle.std.proofs.lemmas.List.Sums.{position_or_len_is}
 use Rattle.fort_theory.proofs.Members.{Contains-head, Contains-behind, Contains-cons_cases, Contains-none}
-use Rattle.fort_logic.specs.Cores.{Rel, Atom as CoreAtom}
-use Rattle.fort_logic.specs.Parts as parts
-use Rattle.fort_logic.proofs.ColumnLaws.{AreColumns-Atom, AreColumns-one}
+use Rattle.fort_cores.specs.Cores.{Rel, Leaf, Related}
+use Rattle.fort_cores.specs.Parts as parts
+use Rattle.fort_cores.proofs.ColumnLaws.{AreColumns-Related, AreColumns-one}
 use Rattle.fort_tables.proofs.EqualTests.{test_from_apart}
 use Rattle.fort_atom_labels.specs.ListedAtoms.{AreArguments}
 
@@ -99,9 +99,9 @@ pub IsStrictlyIncreasing-two : (x y : ℕ) → x < y → IsStrictlyIncreasing (x
 IsStrictlyIncreasing-two x y h zero l = h
 IsStrictlyIncreasing-two x y h (suc k) l = absurd (omega arith)
 
-module _ (rel : Rel) (index x y : ℕ) (columns : List ℕ) (are : parts.AreColumns (CoreAtom rel index x y) columns) where
+module _ (rel : Rel) (index x y : ℕ) (columns : List ℕ) (are : parts.AreColumns (Leaf (Related rel index x y)) columns) where
   columns-are : (xs : List ℕ) → IsStrictlyIncreasing xs → ((n : ℕ) → Contains xs n ↔ Contains (x ∷ y ∷ []) n) → xs ≡ columns
-  columns-are xs ascending same = AreColumns-one (CoreAtom rel index x y) xs columns (AreColumns-Atom rel index x y xs ascending same) are
+  columns-are xs ascending same = AreColumns-one (Leaf (Related rel index x y)) xs columns (AreColumns-Related rel index x y xs ascending same) are
 
   pub ArePlaces-columns : ArePlaces columns x y
   ArePlaces-columns = elim (cases_lt x y) [

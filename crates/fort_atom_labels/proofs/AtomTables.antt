@@ -4,10 +4,10 @@ use Rattle.std.proofs.Common.{sym, ◌∙◌}
 use Rattle.fort_theory.specs.Signatures.{IsGround, HasConstant}
 use Rattle.fort_theory.specs.Sides.{System, IsLinearSeparated}
 use Rattle.fort_theory.specs.Patterns.{Pattern, pattern_system}
-use Rattle.fort_logic.specs.Truth.{structure_of}
-use Rattle.fort_logic.specs.Cores.{Rel, Atom as CoreAtom, Nf as CoreNf}
-use Rattle.fort_logic.specs.CoreTruth.{Places, IsMetBy}
-use Rattle.fort_logic.specs.Parts as parts
+use Rattle.fort_cores.specs.Structures.{structure_of}
+use Rattle.fort_cores.specs.Cores.{Rel, Leaf, Related, Normal}
+use Rattle.fort_cores.specs.CoreTruth.{Places, IsMetBy}
+use Rattle.fort_cores.specs.Parts as parts
 use Rattle.fort_tables.specs.Tuples.{Tuple, IsTuple, IsFull}
 use Rattle.fort_tables.specs.Tables.{Table, state_of}
 use Rattle.fort_tables.specs.Labels.{HasMoreLabels}
@@ -42,25 +42,25 @@ AcceptsByLabels a closure table =
 -- any such table, explored or checked, accepts the tuple of an assignment exactly where the atom is true
 module _ (system : System) (constant : HasConstant system.signature) (apart : All (All IsLinearSeparated) system.rules) (index : ℕ)
     (closure : Pattern → Pattern → Bool) (table : Table) (v : Places) where
-  pub table_truth : (lefts rights : List Pattern) (rel : Rel) (x y : ℕ) (columns : List ℕ) → parts.AreColumns (CoreAtom rel index x y) columns
+  pub table_truth : (lefts rights : List Pattern) (rel : Rel) (x y : ℕ) (columns : List ℕ) → parts.AreColumns (Leaf (Related rel index x y)) columns
       → IsListedAtom (listed (relation_atom (pattern_system system) rel index x y columns) lefts rights)
       → IsClosure (listed (relation_atom (pattern_system system) rel index x y columns) lefts rights) closure
       → AcceptsByLabels (listed (relation_atom (pattern_system system) rel index x y columns) lefts rights) closure table
       → ((n : ℕ) → Contains columns n → IsGround system.signature (v n))
-      → (table.accepting (state_of table (tuple_of v columns)) ≡ true) ↔ IsMetBy (structure_of system) (CoreAtom rel index x y) v
+      → (table.accepting (state_of table (tuple_of v columns)) ≡ true) ↔ IsMetBy (structure_of system) (Leaf (Related rel index x y)) v
   table_truth lefts rights rel x y columns are is closes full g =
       let a : ListedAtom = listed (relation_atom (pattern_system system) rel index x y columns) lefts rights in
       let tuple = IsTuple-tuple_of system.signature v columns (ArePlaces-columns rel index x y columns are).some g in
       moved (table.accepting (state_of table (tuple_of v columns))) (atom_accepts a (label_of (atom_rule a closure) (tuple_of v columns)))
-      (IsMetBy (structure_of system) (CoreAtom rel index x y) v) (full (tuple_of v columns) tuple (IsFull-tuple_of v columns))
+      (IsMetBy (structure_of system) (Leaf (Related rel index x y)) v) (full (tuple_of v columns) tuple (IsFull-tuple_of v columns))
       (accepts_truth system constant apart index lefts rights closure rel x y columns are is closes v g)
 
   pub table_normal_truth : (lefts : List Pattern) (x : ℕ) → IsListedAtom (listed (normal_atom (pattern_system system) index) lefts [])
       → AcceptsByLabels (listed (normal_atom (pattern_system system) index) lefts []) closure table → IsGround system.signature (v x)
-      → (table.accepting (state_of table (tuple_of v (x ∷ []))) ≡ true) ↔ IsMetBy (structure_of system) (CoreNf index x) v
+      → (table.accepting (state_of table (tuple_of v (x ∷ []))) ≡ true) ↔ IsMetBy (structure_of system) (Leaf (Normal index x)) v
   table_normal_truth lefts x is full g =
       let a : ListedAtom = listed (normal_atom (pattern_system system) index) lefts [] in
       moved (table.accepting (state_of table (tuple_of v (x ∷ [])))) (atom_accepts a (label_of (atom_rule a closure) (tuple_of v (x ∷ []))))
-      (IsMetBy (structure_of system) (CoreNf index x) v)
+      (IsMetBy (structure_of system) (Leaf (Normal index x)) v)
       (full (tuple_of v (x ∷ [])) (record { width = refl; present = tt; grounded = (g, tt) }) tt)
       (accepts_normal_truth system constant apart index lefts closure is x v g)

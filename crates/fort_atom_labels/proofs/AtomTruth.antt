@@ -12,11 +12,11 @@ use Rattle.fort_theory.specs.RootSteps.{RootStepAt}
 use Rattle.fort_theory.proofs.IndexLaws.{at_index-map, All-at_index}
 use Rattle.fort_theory.proofs.PatternSteps.{PatternStep-from_RootStep, RootStep-from_PatternStep}
 use Rattle.fort_theory.proofs.WithinRoots.{Within, Rewrites-within, RewritesBelow-within, Reduces-within, ReducesStrictly-within, Converts-within, RewritesInParallel-within, IsNormalForm-within}
-use Rattle.fort_logic.specs.Logic.{Surely}
-use Rattle.fort_logic.specs.Truth.{structure_of}
-use Rattle.fort_logic.specs.Cores.{Rel, Eq, Root, Below, Step, Par, Plus, Star, Conv, Atom as CoreAtom, Nf as CoreNf}
-use Rattle.fort_logic.specs.CoreTruth.{Places, RelatesBy, IsMetBy}
-use Rattle.fort_logic.specs.Parts as parts
+use Rattle.fort_theory.specs.Logic.{Surely}
+use Rattle.fort_cores.specs.Structures.{structure_of}
+use Rattle.fort_cores.specs.Cores.{Rel, Eq, Root, Below, Step, Par, Plus, Star, Conv, Leaf, Related, Normal}
+use Rattle.fort_cores.specs.CoreTruth.{Places, RelatesBy, IsMetBy}
+use Rattle.fort_cores.specs.Parts as parts
 use Rattle.fort_tables.specs.Tuples.{IsPresent, IsTuple, IsFull, AreGroundColumns}
 use Rattle.fort_tables.specs.LabelRules.{label_of}
 use Rattle.fort_alike.specs.Atoms.{OfTwo, Says, kind_for, pairs_for, relation_atom, normal_atom}
@@ -83,7 +83,7 @@ Decides-Surely false d = ((λ e. absurd (true≢false (sym e))), (λ h. absurd (
 
 -- by the pairs of a system of patterns
 module _ (system : PatternSystem) (index : ℕ) (lefts rights : List Pattern) (closure : Pattern → Pattern → Bool) where
-  pub Decides-relation : (rel : Rel) (x y : ℕ) (columns : List ℕ) → parts.AreColumns (CoreAtom rel index x y) columns
+  pub Decides-relation : (rel : Rel) (x y : ℕ) (columns : List ℕ) → parts.AreColumns (Leaf (Related rel index x y)) columns
       → IsListedAtom (listed (relation_atom system rel index x y columns) lefts rights)
       → IsClosure (listed (relation_atom system rel index x y columns) lefts rights) closure
       → (v : Places) → ((n : ℕ) → Contains columns n → IsGround system.signature (v n))
@@ -120,13 +120,13 @@ module _ (system : System) (constant : HasConstant system.signature) (apart : Al
       (rw at_index-map at h)
 
   pub accepts_truth : (lefts rights : List Pattern) (closure : Pattern → Pattern → Bool) (rel : Rel) (x y : ℕ) (columns : List ℕ)
-      → parts.AreColumns (CoreAtom rel index x y) columns
+      → parts.AreColumns (Leaf (Related rel index x y)) columns
       → IsListedAtom (listed (relation_atom (pattern_system system) rel index x y columns) lefts rights)
       → IsClosure (listed (relation_atom (pattern_system system) rel index x y columns) lefts rights) closure
       → (v : Places) → ((n : ℕ) → Contains columns n → IsGround system.signature (v n))
       → (atom_accepts (listed (relation_atom (pattern_system system) rel index x y columns) lefts rights)
       (label_of (atom_rule (listed (relation_atom (pattern_system system) rel index x y columns) lefts rights) closure) (tuple_of v columns)) ≡ true)
-      ↔ IsMetBy (structure_of system) (CoreAtom rel index x y) v
+      ↔ IsMetBy (structure_of system) (Leaf (Related rel index x y)) v
   accepts_truth lefts rights closure rel x y columns are is closes v g =
       let a : ListedAtom = listed (relation_atom (pattern_system system) rel index x y columns) lefts rights in
       let b = atom_accepts a (label_of (atom_rule a closure) (tuple_of v columns)) in
@@ -139,7 +139,7 @@ module _ (system : System) (constant : HasConstant system.signature) (apart : Al
       → (x : ℕ) (v : Places) → IsGround system.signature (v x)
       → (atom_accepts (listed (normal_atom (pattern_system system) index) lefts [])
       (label_of (atom_rule (listed (normal_atom (pattern_system system) index) lefts []) closure) (tuple_of v (x ∷ []))) ≡ true)
-      ↔ IsMetBy (structure_of system) (CoreNf index x) v
+      ↔ IsMetBy (structure_of system) (Leaf (Normal index x)) v
   accepts_normal_truth lefts closure is x v g =
       let d = Decides-normal (pattern_system system) index lefts closure is x v g in (
         (λ e. IsNormalForm-within (RootStepAt system index) (PatternStepAt (pattern_system system) index) to_patterns (v x) (d.0 e)),

@@ -1,13 +1,13 @@
 -- The two lists of a listed atom have the arguments of each pattern of theirs, fit the signature, and have the sides of the pairs.
-use Rattle.std.specs.Prelude.{◌≡◌, ◌≢◌, ◌⊎◌, ℕ, List, [], ◌∷◌, ◌++◌, map, Contains, refl}
+use Rattle.std.specs.Prelude.{◌≡◌, ◌≢◌, ◌⊎◌, List, [], map, Contains, refl}
 use Rattle.std.proofs.Common.{subst, inl, inr}
-use Rattle.std.proofs.lemmas.List.Elements.{All-contains, Contains-append_left, Contains-append_right, Contains-append_cases}
+use Rattle.std.proofs.lemmas.List.Elements.{All-contains, Contains-append_cases}
 use Rattle.fort_theory.specs.Signatures.{Signature}
 use Rattle.fort_theory.specs.Patterns.{Pattern, Patterns, Any, At, NoPattern, MorePatterns, FitsPattern, FitPatterns, Pair, FitsPair}
 use Rattle.fort_theory.specs.PatternOrder.{subpatterns, all_subpatterns, StandsWithin, HaveArguments}
 use Rattle.fort_theory.proofs.ClosedPatterns.{subpatterns-self, HaveArguments-within}
 use Rattle.fort_theory.proofs.Lists.{Contains-map, Contains-map_from}
-use Rattle.fort_theory.proofs.Members.{Contains-head, Contains-behind, Contains-cons_cases, Contains-none}
+use Rattle.fort_theory.proofs.Members.{Contains-cons_cases, Contains-none}
 use Rattle.fort_alike.specs.Atoms.{AtomKind, EqKind, RootKind, StepKind, BelowKind, ParKind, NfKind, StarKind, PlusKind}
 use Rattle.fort_atom_labels.specs.ListedAtoms.{ListedAtom, IsListedAtom}
 

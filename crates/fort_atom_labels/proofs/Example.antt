@@ -2,7 +2,7 @@
 use Rattle.std.specs.Prelude.{◌≡◌, ℕ, List, [], ◌∷◌, None, Some, Bool, refl}
 use Rattle.fort_theory.specs.Signatures.{symbol}
 use Rattle.fort_theory.specs.Patterns.{Pattern, At, NoPattern, MorePatterns, PatternSystem}
-use Rattle.fort_logic.specs.Cores.{Star}
+use Rattle.fort_cores.specs.Cores.{Star}
 use Rattle.fort_alike.specs.Atoms.{relation_atom}
 use Rattle.fort_atom_labels.specs.ListedAtoms.{ListedAtom, listed}
 use Rattle.fort_atom_labels.specs.AtomRules.{atom_rule}

@@ -6,9 +6,9 @@ use Rattle.fort_theory.specs.Patterns.{Pattern, Any, Pair, FitsPair, IsSystem}
 use Rattle.fort_theory.specs.PatternOrder.{PatternBefore, AreSubpatternsInOrder}
 use Rattle.fort_theory.proofs.Members.{Contains-head, Contains-cons_cases, Contains-none}
 use Rattle.fort_theory.proofs.PatternOrderLaws.{Contains-flat_map_subpatterns}
-use Rattle.fort_logic.specs.Cores.{Star, Atom as CoreAtom}
-use Rattle.fort_logic.specs.Parts as parts
-use Rattle.fort_logic.proofs.ColumnLaws.{AreColumns-Atom}
+use Rattle.fort_cores.specs.Cores.{Star, Leaf, Related}
+use Rattle.fort_cores.specs.Parts as parts
+use Rattle.fort_cores.proofs.ColumnLaws.{AreColumns-Related}
 use Rattle.fort_reachability.specs.PatternClosures.{InPatternClosure, AnyRight, AnyLeft, ByArguments, ThroughPair, NoneIn}
 use Rattle.fort_atom_labels.specs.ListedAtoms.{IsListedAtom}
 use Rattle.fort_atom_labels.specs.ClosureTests.{IsClosure, ListsClosure}
@@ -31,8 +31,8 @@ system_is = record {
       (All-nil (All (FitsPair system.signature)));
 }
 
-columns_are : parts.AreColumns (CoreAtom Star 1 0 1) (0 ∷ 1 ∷ [])
-columns_are = AreColumns-Atom Star 1 0 1 (0 ∷ 1 ∷ []) (IsStrictlyIncreasing-two 0 1 (omega arith)) (λ n. ((λ c. c), (λ c. c)))
+columns_are : parts.AreColumns (Leaf (Related Star 1 0 1)) (0 ∷ 1 ∷ [])
+columns_are = AreColumns-Related Star 1 0 1 (0 ∷ 1 ∷ []) (IsStrictlyIncreasing-two 0 1 (omega arith)) (λ n. ((λ c. c), (λ c. c)))
 
 lefts_are : AreSubpatternsInOrder (a ∷ []) (a ∷ [])
 lefts_are = record { same = λ p. Contains-flat_map_subpatterns (a ∷ []) p; ordered = λ i j l m. absurd (omega arith) }

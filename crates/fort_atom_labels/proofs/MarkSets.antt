@@ -3,7 +3,7 @@ use Rattle.std.specs.Prelude.{◌≡◌, ℕ, zero, suc, ◌<◌, List, [], ◌�
 use Rattle.std.proofs.Common.{sym, subst, ◌∙◌, arith, inl, inr}
 use Rattle.std.proofs.lemmas.List.{get_or_default}
 use Rattle.std.proofs.lemmas.List.Elements.{Contains-append_cases, Contains-get_or}
-use Rattle.fort_theory.specs.Patterns.{Pattern, Patterns, Any, At, NoPattern, MorePatterns}
+use Rattle.fort_theory.specs.Patterns.{Pattern, Any}
 use Rattle.fort_theory.specs.PatternOrder.{PatternBefore}
 use Rattle.fort_theory.proofs.ClosedPatterns.{PatternBefore-irreflexive}
 use Rattle.fort_theory.proofs.Lists.{Contains-map_from}

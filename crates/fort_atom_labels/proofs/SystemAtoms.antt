@@ -8,8 +8,8 @@ use Rattle.fort_theory.specs.Patterns.{Pattern, Pair, FitsPair, PatternSystem, I
 use Rattle.fort_theory.specs.PatternOrder.{AreSubpatternsInOrder}
 use Rattle.fort_theory.proofs.IndexLaws.{All-at_index}
 use Rattle.fort_theory.proofs.Members.{Contains-none}
-use Rattle.fort_logic.specs.Cores.{Rel, Eq, Root, Below, Step, Par, Plus, Star, Conv, Atom as CoreAtom}
-use Rattle.fort_logic.specs.Parts as parts
+use Rattle.fort_cores.specs.Cores.{Rel, Eq, Root, Below, Step, Par, Plus, Star, Conv, Leaf, Related}
+use Rattle.fort_cores.specs.Parts as parts
 use Rattle.fort_alike.specs.Atoms.{NfKind, both_ways, kind_for, pairs_for, relation_atom, normal_atom}
 use Rattle.fort_atom_labels.specs.ListedAtoms.{listed, IsListedAtom}
 use Rattle.fort_atom_labels.proofs.AtomPlaces.{ArePlaces-columns}
@@ -42,7 +42,7 @@ kind_for-other Conv e = cc
 
 module _ (system : PatternSystem) (is : IsSystem system) (index : ℕ) where
   -- for an equation there are no pairs, and the lists are empty
-  pub IsListedAtom-relation : (rel : Rel) (x y : ℕ) (columns : List ℕ) → parts.AreColumns (CoreAtom rel index x y) columns → (lefts rights : List Pattern)
+  pub IsListedAtom-relation : (rel : Rel) (x y : ℕ) (columns : List ℕ) → parts.AreColumns (Leaf (Related rel index x y)) columns → (lefts rights : List Pattern)
       → AreSubpatternsInOrder (map (λ (pair : Pair). pair.0) (pairs_for rel (at_index index system.rules))) lefts
       → AreSubpatternsInOrder (map (λ (pair : Pair). pair.1) (pairs_for rel (at_index index system.rules))) rights
       → IsListedAtom (listed (relation_atom system rel index x y columns) lefts rights)

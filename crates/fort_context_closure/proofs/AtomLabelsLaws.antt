@@ -6,10 +6,10 @@ use Rattle.fort_theory.specs.Patterns.{PatternSystem, pattern_system}
 use Rattle.fort_theory.proofs.Members.{Contains-head}
 use Rattle.fort_theory.specs.PatternSteps.{PatternStepAt}
 use Rattle.fort_theory.specs.Rewriting.{IsNormalForm}
-use Rattle.fort_logic.specs.CoreTruth.{RelatesBy, IsMetBy}
-use Rattle.fort_logic.specs.Truth.{structure_of}
-use Rattle.fort_logic.specs.Cores.{Rel, Atom as CoreAtom, Nf as CoreNf}
-use Rattle.fort_logic.specs.Parts.{AreColumns}
+use Rattle.fort_cores.specs.CoreTruth.{RelatesBy, IsMetBy}
+use Rattle.fort_cores.specs.Structures.{structure_of}
+use Rattle.fort_cores.specs.Cores.{Rel, Leaf, Related, Normal}
+use Rattle.fort_cores.specs.Parts.{AreColumns}
 use Rattle.fort_tables.specs.Tuples.{Tuple}
 use Rattle.fort_tables.specs.LabelRules.{label_of}
 use Rattle.fort_alike.specs.Atoms.{Atom, IsTrueOf, relation_atom, normal_atom}
@@ -48,7 +48,7 @@ module _ (atom : Atom) (c : ClosedAtom) (h : IsAtomOf atom c.atom) (closes : IsC
   AcceptsTrue-relation t ti =
       subst (λ b. Decides b (IsTrueOf atom t)) (sym (accepts-same t)) (Decides-atom_accepts whole (test_of c) h.is_listed closes t ti)
 
-pub AcceptsRelated-relation : (system : PatternSystem) (rel : Rel) (index x y : ℕ) (columns : List ℕ) → AreColumns (CoreAtom rel index x y) columns
+pub AcceptsRelated-relation : (system : PatternSystem) (rel : Rel) (index x y : ℕ) (columns : List ℕ) → AreColumns (Leaf (Related rel index x y)) columns
     → (c : ClosedAtom) → IsRelationAtomOf system rel index x y c → AcceptsRelated system rel index x y columns (Relation c)
 AcceptsRelated-relation system rel index x y columns are c made v g =
     let atom = relation_atom system rel index x y columns in
@@ -58,14 +58,14 @@ AcceptsRelated-relation system rel index x y columns are c made v g =
     (Decides-relation system index c.atom.lefts c.atom.rights (test_of c) rel x y columns are h.is_listed closes v g)
 
 pub AcceptsMet-relation : (s : System) → All (All IsLinearSeparated) s.rules → (system : PatternSystem) → system ≡ pattern_system s
-    → (rel : Rel) (index x y : ℕ) (columns : List ℕ) → AreColumns (CoreAtom rel index x y) columns
-    → (c : ClosedAtom) → IsRelationAtomOf system rel index x y c → AcceptsMet s (CoreAtom rel index x y) columns (Relation c)
+    → (rel : Rel) (index x y : ℕ) (columns : List ℕ) → AreColumns (Leaf (Related rel index x y)) columns
+    → (c : ClosedAtom) → IsRelationAtomOf system rel index x y c → AcceptsMet s (Leaf (Related rel index x y)) columns (Relation c)
 AcceptsMet-relation s apart system same rel index x y columns are c made v g =
     let atom = relation_atom (pattern_system s) rel index x y columns in
     let whole : IsRelationAtomOf (pattern_system s) rel index x y c = subst (λ (p : PatternSystem). IsRelationAtomOf p rel index x y c) same made in
     let h = (whole columns are).0 in
     let closes = (whole columns are).1 in
-    subst (λ b. (b ≡ true) ↔ IsMetBy (structure_of s) (CoreAtom rel index x y) v) (sym (accepts-same atom c h closes (tuple_of v columns)))
+    subst (λ b. (b ≡ true) ↔ IsMetBy (structure_of s) (Leaf (Related rel index x y)) v) (sym (accepts-same atom c h closes (tuple_of v columns)))
     (accepts_truth s h.is_listed.constant apart index c.atom.lefts c.atom.rights (test_of c) rel x y columns are h.is_listed closes v g)
 
 -- normal forms
@@ -98,8 +98,8 @@ module _ (system : PatternSystem) (index : ℕ) (a : ListedAtom) (h : IsNormalAt
       subst (λ b. Decides b (IsNormalForm (PatternStepAt system index) (v x))) (sym (normal-accepts (tuple_of v (x ∷ [])))) (Decides-normal system index a.lefts no_closure h.is_listed x v g)
 
 pub AcceptsMet-normal : (s : System) → All (All IsLinearSeparated) s.rules → (system : PatternSystem) → system ≡ pattern_system s
-    → (index : ℕ) (a : ListedAtom) → IsNormalAtomOf system index a → (x : ℕ) → AcceptsMet s (CoreNf index x) (x ∷ []) (Normal a)
+    → (index : ℕ) (a : ListedAtom) → IsNormalAtomOf system index a → (x : ℕ) → AcceptsMet s (Leaf (Normal index x)) (x ∷ []) (Normal a)
 AcceptsMet-normal s apart system same index a made x v g =
     let h : IsNormalAtomOf (pattern_system s) index a = subst (λ (p : PatternSystem). IsNormalAtomOf p index a) same made in
-    subst (λ b. (b ≡ true) ↔ IsMetBy (structure_of s) (CoreNf index x) v) (sym (normal-accepts (pattern_system s) index a h (tuple_of v (x ∷ []))))
+    subst (λ b. (b ≡ true) ↔ IsMetBy (structure_of s) (Leaf (Normal index x)) v) (sym (normal-accepts (pattern_system s) index a h (tuple_of v (x ∷ []))))
     (accepts_normal_truth s h.is_listed.constant apart index a.lefts no_closure h.is_listed x v (g x (Contains-head x [])))

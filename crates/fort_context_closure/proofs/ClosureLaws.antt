@@ -15,10 +15,10 @@ use Rattle.fort_reachability.proofs.PatternClosureExact.{InPatternClosure-Reache
 use Rattle.fort_terms.specs.PatternView.{as_pattern}
 use Rattle.fort_tree_automata.specs.PatternMoves.{StandsAt}
 use Rattle.fort_tree_automata.proofs.PatternMovesLaws.{StandsAt-below}
-use Rattle.fort_agtt.specs.declared.agtt.Agtt.{Agtt}
-use Rattle.fort_agtt.specs.AgttView.{NamesItsStates, transducer_of}
-use Rattle.fort_agtt.specs.RootSteps.{ArePlaces, HasRootSteps}
-use Rattle.fort_agtt.proofs.RootStepsLaws.{IsPatternTransducer-rules, NamesItsStates-rules}
+use Rattle.fort_transducers.specs.declared.agtt.Agtt.{Agtt}
+use Rattle.fort_transducers.specs.AgttView.{NamesItsStates, transducer_of}
+use Rattle.fort_transducers.specs.RootSteps.{ArePlaces, HasRootSteps}
+use Rattle.fort_transducers.proofs.RootStepsLaws.{IsPatternTransducer-rules, NamesItsStates-rules}
 use Rattle.fort_gtt_closure.specs.declared.entry.Entry.{Entry}
 use Rattle.fort_gtt_closure.proofs.TableLaws.{listed-InClosure}
 use Rattle.fort_certificate_grammar.specs.Certificates.{Pair as Item}

@@ -7,9 +7,9 @@ use Rattle.fort_theory.specs.Sides.{at_index}
 use Rattle.fort_theory.proofs.ClosedPatterns.{subpatterns-self}
 use Rattle.fort_theory.proofs.Lists.{Contains-map}
 use Rattle.fort_theory.proofs.Members.{Contains-none}
-use Rattle.fort_logic.specs.Cores.{Rel, Atom as CoreAtom}
+use Rattle.fort_cores.specs.Cores.{Rel, Leaf, Related}
 use Rattle.fort_terms.specs.PatternView.{as_pair, as_pattern}
-use Rattle.fort_logic.specs.Parts.{AreColumns}
+use Rattle.fort_cores.specs.Parts.{AreColumns}
 use Rattle.fort_alike.specs.Atoms.{Atom, kind_for, pairs_for, relation_atom}
 use Rattle.fort_atom_labels.specs.ListedAtoms.{ListedAtom, listed, IsListedAtom}
 use Rattle.fort_atom_labels.specs.ClosureTests.{IsClosure, closure_test}
@@ -38,7 +38,7 @@ AreSubpatternsInOrder-none = record {
 pub relation-made : (system : PatternSystem) → IsSystem system → (rel : Rel) (index x y : ℕ) (pairs : List Pair) (lefts rights : List Pattern) (a : ListedAtom)
     → pairs ≡ pairs_for rel (at_index index system.rules)
     → AreSubpatternsInOrder (map (λ (pair : Pair). pair.0) pairs) lefts → AreSubpatternsInOrder (map (λ (pair : Pair). pair.1) pairs) rights
-    → IsOfRules rel x y pairs lefts rights a → (columns : List ℕ) → AreColumns (CoreAtom rel index x y) columns
+    → IsOfRules rel x y pairs lefts rights a → (columns : List ℕ) → AreColumns (Leaf (Related rel index x y)) columns
     → IsAtomOf (relation_atom system rel index x y columns) a
 relation-made system is rel index x y pairs lefts rights a e l r h columns are = record {
   same = h.same index columns are ∙ (λ i. record {

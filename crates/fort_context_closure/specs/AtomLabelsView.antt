@@ -6,9 +6,9 @@ use Rattle.fort_theory.specs.Patterns.{PatternSystem}
 use Rattle.fort_theory.specs.PatternSteps.{PatternStepAt}
 use Rattle.fort_theory.specs.Rewriting.{IsNormalForm}
 use Rattle.fort_theory.specs.Sides.{System}
-use Rattle.fort_logic.specs.Cores.{Rel, Core}
-use Rattle.fort_logic.specs.CoreTruth.{Places, RelatesBy, IsMetBy}
-use Rattle.fort_logic.specs.Truth.{structure_of}
+use Rattle.fort_cores.specs.Cores.{Rel, Core}
+use Rattle.fort_cores.specs.CoreTruth.{Places, RelatesBy, IsMetBy}
+use Rattle.fort_cores.specs.Structures.{structure_of}
 use Rattle.fort_tables.specs.Tuples.{Tuple, IsTuple}
 use Rattle.fort_tables.specs.BitRows.{words_for}
 use Rattle.fort_tables.specs.Labels.{Labelling}

@@ -1,8 +1,8 @@
 -- Inside: the transducer of a list of rules, and the entries of its closure.
 use Rattle.std.specs.Prelude.{List, map}
 use Rattle.fort_terms.specs.PatternView.{as_pair, as_pattern}
-use Rattle.fort_agtt.specs.declared.agtt.Agtt.{Agtt}
-use Rattle.fort_agtt.specs.RootSteps.{HasPatternStates, ArePlaces}
+use Rattle.fort_transducers.specs.declared.agtt.Agtt.{Agtt}
+use Rattle.fort_transducers.specs.RootSteps.{HasPatternStates, ArePlaces}
 use Rattle.fort_steps.specs.declared.closure.ClosureEntry.{ClosureEntry}
 use Rattle.fort_context_closure.specs.ClosedAtoms.{ArePassed}
 use Rattle.fort_context_closure.specs.declared.rule_list.RuleList.{RuleList}

@@ -5,8 +5,8 @@ use Rattle.fort_theory.specs.Signatures.{Signature}
 use Rattle.fort_theory.specs.Patterns.{Pattern, Pair, PatternSystem}
 use Rattle.fort_theory.specs.PatternOrder.{AreSubpatternsInOrder}
 use Rattle.fort_theory.specs.Sides.{at_index}
-use Rattle.fort_logic.specs.Cores.{Rel, Atom as CoreAtom}
-use Rattle.fort_logic.specs.Parts.{AreColumns}
+use Rattle.fort_cores.specs.Cores.{Rel, Leaf, Related}
+use Rattle.fort_cores.specs.Parts.{AreColumns}
 use Rattle.fort_alike.specs.Atoms.{Atom, NfKind, kind_for, pairs_for, relation_atom, normal_atom}
 use Rattle.fort_atom_labels.specs.ListedAtoms.{ListedAtom, listed, IsListedAtom}
 use Rattle.fort_atom_labels.specs.ClosureTests.{IsClosure}
@@ -53,13 +53,13 @@ pub record IsNormalAtomOf (system : PatternSystem) (index : ℕ) (a : ListedAtom
 -- the atom x REL y for the rules of an index, whichever list is that of its columns, and a test of its closure
 abbrev pub IsRelationAtomOf : PatternSystem → Rel → (index x y : ℕ) → ClosedAtom → Type 0
 IsRelationAtomOf system rel index x y c =
-    (columns : List ℕ) → AreColumns (CoreAtom rel index x y) columns
+    (columns : List ℕ) → AreColumns (Leaf (Related rel index x y)) columns
     → IsAtomOf (relation_atom system rel index x y columns) c.atom
     × IsClosure (listed (relation_atom system rel index x y columns) c.atom.lefts c.atom.rights) (test_of c)
 
 -- a listed atom of these rules and patterns, whichever list is that of its columns
 pub record IsOfRules (rel : Rel) (x y : ℕ) (pairs : List Pair) (lefts rights : List Pattern) (a : ListedAtom) : Type 0 where
-  pub same : (index : ℕ) (columns : List ℕ) → AreColumns (CoreAtom rel index x y) columns
+  pub same : (index : ℕ) (columns : List ℕ) → AreColumns (Leaf (Related rel index x y)) columns
       → a.atom ≡ record {
         signature = [];
         columns = length columns;

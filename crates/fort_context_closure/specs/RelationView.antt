@@ -2,7 +2,7 @@
 use Rattle.std.specs.Prelude.{◌≡◌, ◌<◌, ◌^◌, List, [], map, length, true, vec_items}
 use Rattle.fort_theory.specs.Patterns.{Pattern}
 use Rattle.fort_terms.specs.PatternView.{as_pattern}
-use Rattle.fort_formulas.specs.CoreView.{as_rel}
+use Rattle.fort_relations.specs.RelView.{as_rel}
 use Rattle.fort_alike.specs.Atoms.{kind_for}
 use Rattle.fort_alike.specs.Alike.{is_reaching}
 use Rattle.fort_atom_labels.specs.ListedAtoms.{ListedAtom, listed, AreArguments}

@@ -1,8 +1,8 @@
 //! The columns of an atom's arguments.
 ghost use Rattle.std.specs.Prelude.{◌≡◌, ◌==◌, ℕ, List, length};
 ghost use Rattle.std.specs.List.{position_or_len};
-ghost use Rattle.fort_logic.specs.Cores as cores;
-ghost use Rattle.fort_logic.specs.Parts as parts;
+ghost use Rattle.fort_cores.specs.Cores as cores;
+ghost use Rattle.fort_cores.specs.Parts as parts;
 ghost use Rattle.fort_atom_labels.specs.ListedAtoms.{AreArguments};
 
 /// How many columns there are, and which of them the arguments are.
@@ -16,13 +16,13 @@ pub(crate) struct Arguments {
 /// The columns stand in the order of the variables' numbers; there is one where both are one variable.
 pub(crate) fn arguments_of(x: u32, y: u32) -> Arguments
     ensures columns { (rel : cores.Rel) (index : ℕ) (columns : List ℕ)
-        → parts.AreColumns (cores.Atom rel index x y) columns
+        → parts.AreColumns (cores.Leaf (cores.Related rel index x y)) columns
         → result.columns ≡ length columns }
     ensures first { (rel : cores.Rel) (index : ℕ) (columns : List ℕ)
-        → parts.AreColumns (cores.Atom rel index x y) columns
+        → parts.AreColumns (cores.Leaf (cores.Related rel index x y)) columns
         → result.first ≡ position_or_len (λ n. n == x) columns }
     ensures second { (rel : cores.Rel) (index : ℕ) (columns : List ℕ)
-        → parts.AreColumns (cores.Atom rel index x y) columns
+        → parts.AreColumns (cores.Leaf (cores.Related rel index x y)) columns
         → result.second ≡ position_or_len (λ n. n == y) columns }
     ensures arguments { AreArguments result.columns result.first result.second }
 {

@@ -4,9 +4,9 @@ ghost use Rattle.fort_theory.specs.Sides.{IsIndexOf, at_index};
 ghost use Rattle.fort_theory.specs.Sides as sides;
 ghost use Rattle.fort_theory.specs.Patterns.{pattern_system};
 ghost use Rattle.fort_theory.specs.Signatures as theory;
-ghost use Rattle.fort_logic.specs.Cores as cores;
-ghost use Rattle.fort_logic.specs.Parts as parts;
-ghost use Rattle.fort_formulas.specs.CoreView.{as_rel};
+ghost use Rattle.fort_cores.specs.Cores as cores;
+ghost use Rattle.fort_cores.specs.Parts as parts;
+ghost use Rattle.fort_relations.specs.RelView.{as_rel};
 ghost use Rattle.fort_alike.specs.Atoms.{relation_atom, normal_atom};
 ghost use Rattle.fort_atom_labels.specs.ListedAtoms.{ListedAtom};
 ghost use Rattle.fort_context_closure.specs.ClosedAtoms.{ClosedAtom, ListsPasses};
@@ -15,7 +15,7 @@ ghost use Rattle.fort_context_closure.specs.PlainAtoms.{IsByPairs, IsNormalAtomO
 use crate::normal::NormalBits;
 use crate::relation::RelationBits;
 use crate::term_labels::TermLabels;
-use fort_formulas::Rel;
+use fort_relations::Rel;
 use fort_steps::ClosureEntry;
 use fort_terms::{Memory, System, Term};
 use std::alloc::Global;
@@ -48,23 +48,23 @@ impl AtomLabels {
         requires index { IsIndexOf system.now.rules index }
         requires passes { ListsPasses (as_rel rel) (at_index index system.now.rules) closure.now }
         ensures columns { IfOk result (λ l. (columns : List ℕ)
-            → parts.AreColumns (cores.Atom (as_rel rel) index x y) columns
+            → parts.AreColumns (cores.Leaf (cores.Related (as_rel rel) index x y)) columns
             → column_count l ≡ length columns) }
         ensures alike { IfOk result (λ l. (columns : List ℕ)
-            → parts.AreColumns (cores.Atom (as_rel rel) index x y) columns
+            → parts.AreColumns (cores.Leaf (cores.Related (as_rel rel) index x y)) columns
             → TellsAlike system.now.signature
             (relation_atom system.now (as_rel rel) index x y columns) l) }
         ensures accepted { IfOk result (λ l. (columns : List ℕ)
-            → parts.AreColumns (cores.Atom (as_rel rel) index x y) columns
+            → parts.AreColumns (cores.Leaf (cores.Related (as_rel rel) index x y)) columns
             → AcceptsTrue system.now.signature
             (relation_atom system.now (as_rel rel) index x y columns) l) }
         ensures related { IfOk result (λ l. (columns : List ℕ)
-            → parts.AreColumns (cores.Atom (as_rel rel) index x y) columns
+            → parts.AreColumns (cores.Leaf (cores.Related (as_rel rel) index x y)) columns
             → AcceptsRelated system.now (as_rel rel) index x y columns l) }
         ensures truth { IfOk result (λ l. (s : sides.System) (columns : List ℕ)
             → system.now ≡ pattern_system s → All (All sides.IsLinearSeparated) s.rules
-            → parts.AreColumns (cores.Atom (as_rel rel) index x y) columns
-            → AcceptsMet s (cores.Atom (as_rel rel) index x y) columns l) }
+            → parts.AreColumns (cores.Leaf (cores.Related (as_rel rel) index x y)) columns
+            → AcceptsMet s (cores.Leaf (cores.Related (as_rel rel) index x y)) columns l) }
     {
         // Fetches the law that a system keeps to.
         let _lawful = system.signature();
@@ -99,7 +99,7 @@ impl AtomLabels {
         ensures normal { IfOk result (λ l. (x : ℕ) → AcceptsNormal system.now index x l) }
         ensures truth { IfOk result (λ l. (s : sides.System) (x : ℕ)
             → system.now ≡ pattern_system s → All (All sides.IsLinearSeparated) s.rules
-            → AcceptsMet s (cores.Nf index x) (x ∷ []) l) }
+            → AcceptsMet s (cores.Leaf (cores.Normal index x)) (x ∷ []) l) }
         ensures plain { IfOk result (λ l. (a : ListedAtom) × (l ≡ AtomLabels.Normal a)
             × IsNormalAtomOf system.now index a) }
     {

@@ -3,10 +3,10 @@ ghost use Rattle.std.specs.Prelude.{◌≡◌, ◌↔◌, ◌<◌, ◌^◌, IfOk
 ghost use Rattle.fort_theory.specs.Patterns as theory;
 ghost use Rattle.fort_theory.specs.Sides.{IsIndexOf, at_index};
 ghost use Rattle.fort_terms.specs.PatternView.{as_pair, as_pattern};
-ghost use Rattle.fort_formulas.specs.CoreView.{as_rel};
+ghost use Rattle.fort_relations.specs.RelView.{as_rel};
 ghost use Rattle.fort_tree_automata.specs.PatternMoves.{IsClosedInOrder};
-ghost use Rattle.fort_agtt.specs.AgttView.{NamesItsStates};
-ghost use Rattle.fort_agtt.specs.RootSteps.{ArePlaces};
+ghost use Rattle.fort_transducers.specs.AgttView.{NamesItsStates};
+ghost use Rattle.fort_transducers.specs.RootSteps.{ArePlaces};
 ghost use Rattle.fort_gtt_closure.specs.Reasons.{IsNumbered};
 ghost use Rattle.fort_steps.specs.StepView as steps;
 ghost use Rattle.fort_context_closure.specs.ClosedAtoms.{ListsNone, ListsPasses};
@@ -16,11 +16,11 @@ ghost use Rattle.fort_context_closure.specs.Closures.{IsClosureOf, IsTransducerO
 
 use crate::relation::is_reduction;
 use crate::rule_list::{RuleList, rules_of};
-use fort_agtt::Agtt;
-use fort_formulas::Rel;
 use fort_gtt_closure::{Entry, Why, close};
+use fort_relations::Rel;
 use fort_steps::{ClosureEntry, Reason};
 use fort_terms::{Memory, Pattern, System, has_numbers};
+use fort_transducers::Agtt;
 use fort_tree_automata::{pattern_automaton, place};
 use std::alloc::{AllocError, Global};
 

@@ -3,14 +3,14 @@ ghost use Rattle.std.specs.Prelude.{◌≡◌, ℕ, ◌+◌, ◌*◌, ◌-◌, �
 ghost use Rattle.fort_atom_labels.specs.AtomRules.{all_kids, one_kid, some_kid};
 ghost use Rattle.fort_alike.specs.Atoms.{kind_for};
 ghost use Rattle.fort_alike.specs.Alike.{facts_of};
-ghost use Rattle.fort_formulas.specs.CoreView.{as_rel};
+ghost use Rattle.fort_relations.specs.RelView.{as_rel};
 ghost use Rattle.fort_context_closure.specs.RowBits.{HasBits, bit_of, labels_at};
 ghost use Rattle.fort_context_closure.specs.FactTests.{fact_bit, fact_test};
 
 use crate::bits::{all_have, one_has, put_mark, some_has};
 use fort_explore::Rows;
-use fort_formulas::Rel;
 use fort_lockstep::Row;
+use fort_relations::Rel;
 
 /// How many facts the labels of a relation tell.
 pub(crate) fn fact_count(rel: Rel) -> usize

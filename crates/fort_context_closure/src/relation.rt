@@ -1,7 +1,7 @@
 //! The labels of an atom that relates two terms, by bits.
 ghost use Rattle.std.specs.Prelude.{◌≡◌, ℕ, ◌+◌, ◌-◌, ◌<◌, ◌≤◌, ◌^◌, suc, map, true, length, slice_index_or, IfOk};
 ghost use Rattle.fort_theory.specs.Sides.{IsIndexOf, at_index};
-ghost use Rattle.fort_formulas.specs.CoreView.{as_rel};
+ghost use Rattle.fort_relations.specs.RelView.{as_rel};
 ghost use Rattle.fort_tables.specs.BitRows.{words_for};
 ghost use Rattle.fort_tables.specs.LabelRules.{entry_label};
 ghost use Rattle.fort_tuple_symbols.specs.Columns.{as_column};
@@ -26,8 +26,8 @@ use crate::rooted::Rooted;
 use crate::rule_list::{RuleList, rules_of};
 use crate::rule_places::{RulePlaces, places_of_rules, some_rule};
 use fort_explore::Rows;
-use fort_formulas::Rel;
 use fort_lockstep::Row;
+use fort_relations::Rel;
 use fort_steps::ClosureEntry;
 use fort_terms::{Memory, Pattern, Sym, System};
 use std::alloc::Global;

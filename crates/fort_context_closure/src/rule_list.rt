@@ -8,11 +8,11 @@ ghost use Rattle.fort_terms.specs.BothWays.{exchanged};
 ghost use Rattle.fort_terms.specs.PatternKeys.{pattern_order};
 ghost use Rattle.fort_terms.specs.PatternView.{as_pair, as_pattern};
 ghost use Rattle.fort_terms.specs.Subpatterns.{HasMore};
-ghost use Rattle.fort_formulas.specs.CoreView.{as_rel};
+ghost use Rattle.fort_relations.specs.RelView.{as_rel};
 ghost use Rattle.fort_alike.specs.Atoms.{both_ways as both_ways_lem, pairs_for};
 ghost use Rattle.fort_context_closure.specs.RuleLists.{ListsRules};
 
-use fort_formulas::Rel;
+use fort_relations::Rel;
 use fort_terms::{Memory, Pattern, System};
 use std::alloc::Global;
 use std::collections::BTreeSet;

@@ -3,13 +3,13 @@ use Rattle.std.specs.Prelude.{◌≡◌, ℕ, ◌<◌, Bool, true, false, ◌||�
 use Rattle.std.specs.List.{list_any}
 use Rattle.std.proofs.Common.{ap, sym, ◌∙◌, subst, arith, Vec, Global}
 use Rattle.std.proofs.lemmas.List.{get_or_default}
-use Rattle.fort_logic.specs.Cores as core
-use Rattle.fort_logic.specs.Cores.{Core, Rel}
+use Rattle.fort_cores.specs.Cores as core
+use Rattle.fort_cores.specs.Cores.{Core, Rel}
 use Rattle.fort_parts.specs.PartColumns.{columns_of}
 use Rattle.fort_certificate_grammar.specs.Certificates.{Which}
 use Rattle.fort_in_order.specs.Dues.{reads, asks, is_turned}
 use Rattle.fort_outline.specs.declared.root.Root.{Root}
-use Rattle.fort_outline.specs.declared.root.Root.TheVariants.{True, Atom, Nf, Is, Not, And, Or, Iff, Exists, Infinite}
+use Rattle.fort_outline.specs.declared.root.Root.TheVariants.{True, Leaf, Not, Binary, Exists, Infinite}
 use Rattle.fort_outline.specs.declared.outline.Outline.{Outline}
 use Rattle.fort_outline.specs.Roots.{root_core, cores_behind, cores_of, HasOperandsBelow, AreInOrder}
 use Rattle.fort_outline.specs.Outlines.{IsOutlineOf, parts_in}
@@ -39,13 +39,9 @@ root_asks which index r = asks which index (root_core [] r)
 
 pub asks_over : (which : Which) (index : ℕ) (parts : List Core) (r : Root) → asks which index (root_core parts r) ≡ root_asks which index r
 asks_over which index parts True = refl
-asks_over which index parts (Atom rel i x y) = refl
-asks_over which index parts (Nf i x) = refl
-asks_over which index parts (Is x t) = refl
+asks_over which index parts (Leaf a) = refl
 asks_over which index parts (Not f) = refl
-asks_over which index parts (And f g) = refl
-asks_over which index parts (Or f g) = refl
-asks_over which index parts (Iff f g) = refl
+asks_over which index parts (Binary op f g) = refl
 asks_over which index parts (Exists n f) = refl
 asks_over which index parts (Infinite n f) = refl
 
@@ -77,21 +73,17 @@ some_part_asks which index rs = any_behind which index [] rs
 -- a root that is no negation isn't turned
 pub plain_root : (parts : List Core) (r : Root) → ((f : ℕ) → r ≡ Not f → ⊥) → is_turned (root_core parts r) ≡ false
 plain_root parts True other = refl
-plain_root parts (Atom rel index x y) other = refl
-plain_root parts (Nf index x) other = refl
-plain_root parts (Is x t) other = refl
+plain_root parts (Leaf a) other = refl
 plain_root parts (Not f) other = absurd (other f refl)
-plain_root parts (And f g) other = refl
-plain_root parts (Or f g) other = refl
-plain_root parts (Iff f g) other = refl
+plain_root parts (Binary op f g) other = refl
 plain_root parts (Exists n f) other = refl
 plain_root parts (Infinite n f) other = refl
 
 -- what an atom asks for, and what another formula does
 
-pub asks_atom : (which : Which) (index : ℕ) (f : Core) (rel : Rel) (own x y : ℕ) → f ≡ core.Atom rel own x y → asks which index f ≡ reads which rel && (own == index)
+pub asks_atom : (which : Which) (index : ℕ) (f : Core) (rel : Rel) (own x y : ℕ) → f ≡ core.Leaf (core.Related rel own x y) → asks which index f ≡ reads which rel && (own == index)
 asks_atom which index f rel own x y is = ap (asks which index) is
 
-pub asks_none : (which : Which) (index : ℕ) (f : Core) → ((rel : Rel) (own x y : ℕ) → f ≡ core.Atom rel own x y → ⊥) → asks which index f ≡ false
-asks_none which index (core.Atom rel own x y) none = absurd (none rel own x y refl)
+pub asks_none : (which : Which) (index : ℕ) (f : Core) → ((rel : Rel) (own x y : ℕ) → f ≡ core.Leaf (core.Related rel own x y) → ⊥) → asks which index f ≡ false
+asks_none which index (core.Leaf (core.Related rel own x y)) none = absurd (none rel own x y refl)
 asks_none which index other none = refl

@@ -2,14 +2,22 @@
 use Rattle.std.specs.Prelude.{◌≡◌, ℕ, Bool, true, false, zero, suc, ◌+◌, ◌<◌, ◌≤◌, List, [], ◌∷◌, ◌++◌, length, get_or, refl}
 use Rattle.std.proofs.Common.{ap, sym, ◌∙◌, arith, true≢false, append_assoc, append-nil, length-append}
 use Rattle.std.proofs.lemmas.List.{get_or_push, get_or_append_left}
-use Rattle.fort_logic.specs.Cores as core
-use Rattle.fort_logic.specs.Cores.{Core}
-use Rattle.fort_formulas.specs.declared.core_formula.Rel.{Rel}
+use Rattle.fort_cores.specs.Cores as core
+use Rattle.fort_theory.specs.Logic as logic
+use Rattle.fort_cores.specs.Cores.{Core}
+use Rattle.fort_relations.specs.declared.relation.Rel.{Rel}
 use Rattle.fort_formulas.specs.declared.core_formula.Core.TheVariants as program_variants
-use Rattle.fort_formulas.specs.CoreView.{as_rel}
+use Rattle.fort_formulas.specs.declared.core_formula.Core as program
+use Rattle.fort_formulas.specs.CoreView.{as_core}
 use Rattle.fort_formulas.specs.CoreKeyLaws.{as_core-injective}
+use Rattle.fort_connectives.specs.declared.connective.Op.{Op}
+use Rattle.fort_connectives.specs.declared.connective.Op.TheVariants as ops
+use Rattle.fort_connectives.specs.ConnectiveView.{connective_of}
+use Rattle.fort_outline.specs.declared.leaf.Leaf.{Leaf as Atom}
+use Rattle.fort_outline.specs.declared.leaf.Leaf.TheVariants as atoms
+use Rattle.fort_outline.specs.LeafView.{as_atom}
 use Rattle.fort_outline.specs.declared.root.Root.{Root}
-use Rattle.fort_outline.specs.declared.root.Root.TheVariants.{True, Atom, Nf, Is, Not, And, Or, Iff, Exists, Infinite}
+use Rattle.fort_outline.specs.declared.root.Root.TheVariants.{True, Leaf, Not, Binary, Exists, Infinite}
 use Rattle.fort_outline.specs.Roots.{root_core, cores_behind, cores_of, HasOperandsBelow, AreInOrder}
 use Rattle.fort_outline.specs.Numbered.{AreDistinct}
 
@@ -51,13 +59,9 @@ part_kept rs qs k l =
 
 pub HasOperandsBelow-more : (j k : ℕ) (r : Root) → j ≤ k → HasOperandsBelow j r → HasOperandsBelow k r
 HasOperandsBelow-more j k True l o = tt
-HasOperandsBelow-more j k (Atom rel index x y) l o = tt
-HasOperandsBelow-more j k (Nf index x) l o = tt
-HasOperandsBelow-more j k (Is x t) l o = tt
+HasOperandsBelow-more j k (Leaf a) l o = tt
 HasOperandsBelow-more j k (Not f) l o = omega arith
-HasOperandsBelow-more j k (And f g) l o = (omega (arith, o.0), omega (arith, o.1))
-HasOperandsBelow-more j k (Or f g) l o = (omega (arith, o.0), omega (arith, o.1))
-HasOperandsBelow-more j k (Iff f g) l o = (omega (arith, o.0), omega (arith, o.1))
+HasOperandsBelow-more j k (Binary op f g) l o = (omega (arith, o.0), omega (arith, o.1))
 HasOperandsBelow-more j k (Exists n f) l o = omega arith
 HasOperandsBelow-more j k (Infinite n f) l o = omega arith
 
@@ -65,13 +69,9 @@ HasOperandsBelow-more j k (Infinite n f) l o = omega arith
 root_core-same : (k : ℕ) (ps qs : List Core) (r : Root) → HasOperandsBelow k r → ((a : ℕ) → a < k → get_or ps a core.True ≡ get_or qs a core.True)
     → root_core ps r ≡ root_core qs r
 root_core-same k ps qs True o same = refl
-root_core-same k ps qs (Atom rel index x y) o same = refl
-root_core-same k ps qs (Nf index x) o same = refl
-root_core-same k ps qs (Is x t) o same = refl
+root_core-same k ps qs (Leaf a) o same = refl
 root_core-same k ps qs (Not f) o same = ap (λ z. core.Not z) (same f o)
-root_core-same k ps qs (And f g) o same = λ i. core.And (same f o.0 i) (same g o.1 i)
-root_core-same k ps qs (Or f g) o same = λ i. core.Or (same f o.0 i) (same g o.1 i)
-root_core-same k ps qs (Iff f g) o same = λ i. core.Iff (same f o.0 i) (same g o.1 i)
+root_core-same k ps qs (Binary op f g) o same = λ i. core.Binary (connective_of op) (same f o.0 i) (same g o.1 i)
 root_core-same k ps qs (Exists n f) o same = ap (λ z. core.Exists n z) (same f o)
 root_core-same k ps qs (Infinite n f) o same = ap (λ z. core.Infinite n z) (same f o)
 
@@ -102,50 +102,73 @@ part_at rs order k l =
 
 -- parts of one formula have one root
 
-as_rel-injective : (a b : Rel) → as_rel a ≡ as_rel b → a ≡ b
-as_rel-injective a b e =
-    let one = program_variants.Atom a 0 0 0 in
-    let other = program_variants.Atom b 0 0 0 in
-    let same : one ≡ other = as_core-injective one other (ap (λ r. core.Atom r 0 0 0) e) in
-    cc
+-- an atom as a formula of the program, and back
+abbrev formula_of : Atom → program.Core
+formula_of (atoms.Related rel index x y) = program_variants.Atom rel index x y
+formula_of (atoms.InContext e holes place x y) = program_variants.Rel e holes place x y
+formula_of (atoms.Normal index x) = program_variants.Nf index x
+formula_of (atoms.IsTerm x t) = program_variants.Is x t
+
+abbrev leaf_of : program.Core → Atom
+leaf_of (program_variants.Atom rel index x y) = atoms.Related rel index x y
+leaf_of (program_variants.Rel e holes place x y) = atoms.InContext e holes place x y
+leaf_of (program_variants.Nf index x) = atoms.Normal index x
+leaf_of (program_variants.Is x t) = atoms.IsTerm x t
+leaf_of other = atoms.Normal 0 0
+
+leaf_again : (a : Atom) → leaf_of (formula_of a) ≡ a
+leaf_again (atoms.Related rel index x y) = refl
+leaf_again (atoms.InContext e holes place x y) = refl
+leaf_again (atoms.Normal index x) = refl
+leaf_again (atoms.IsTerm x t) = refl
+
+as_core-leaf : (a : Atom) → as_core (formula_of a) ≡ core.Leaf (as_atom a)
+as_core-leaf (atoms.Related rel index x y) = refl
+as_core-leaf (atoms.InContext e holes place x y) = refl
+as_core-leaf (atoms.Normal index x) = refl
+as_core-leaf (atoms.IsTerm x t) = refl
+
+as_atom-injective : (a b : Atom) → as_atom a ≡ as_atom b → a ≡ b
+as_atom-injective a b e =
+    let same = as_core-injective (formula_of a) (formula_of b) (as_core-leaf a ∙ (ap (λ c. core.Leaf c) e ∙ sym (as_core-leaf b))) in
+    sym (leaf_again a) ∙ (ap leaf_of same ∙ leaf_again b)
+
+abbrev op_of : logic.Connective → Op
+op_of logic.And = ops.And
+op_of logic.Or = ops.Or
+op_of logic.Iff = ops.Iff
+
+op_again : (op : Op) → op_of (connective_of op) ≡ op
+op_again ops.And = refl
+op_again ops.Or = refl
+op_again ops.Iff = refl
+
+connective_of-injective : (a b : Op) → connective_of a ≡ connective_of b → a ≡ b
+connective_of-injective a b e = sym (op_again a) ∙ (ap op_of e ∙ op_again b)
 
 -- two formulas of one kind
 abbrev same_shape : Core → Core → Bool
 same_shape core.True core.True = true
-same_shape (core.Atom a i x y) (core.Atom b j u v) = true
-same_shape (core.Nf i x) (core.Nf j y) = true
-same_shape (core.Is x t) (core.Is y u) = true
+same_shape (core.Leaf a) (core.Leaf b) = true
 same_shape (core.Not f) (core.Not g) = true
-same_shape (core.And f g) (core.And h k) = true
-same_shape (core.Or f g) (core.Or h k) = true
-same_shape (core.Iff f g) (core.Iff h k) = true
+same_shape (core.Binary op f g) (core.Binary other h k) = true
 same_shape (core.Exists n f) (core.Exists m g) = true
 same_shape (core.Infinite n f) (core.Infinite m g) = true
 same_shape f g = false
 
 pub same_root : (parts : List Core) → AreDistinct parts → (r s : Root) → HasOperandsBelow (length parts) r → HasOperandsBelow (length parts) s → root_core parts r ≡ root_core parts s → r ≡ s
 same_root parts apart True True o p e = refl
-same_root parts apart (Atom a i x y) (Atom b j u v) o p e =
-    let rel : as_rel a ≡ as_rel b = cc in
-    let same = as_rel-injective a b rel in
-    cc
-same_root parts apart (Nf i x) (Nf j y) o p e = cc
-same_root parts apart (Is x t) (Is y u) o p e = cc
+same_root parts apart (Leaf a) (Leaf b) o p e =
+    let same : as_atom a ≡ as_atom b = cc in
+    ap (λ c. Leaf c) (as_atom-injective a b same)
 same_root parts apart (Not f) (Not g) o p e =
     let body : get_or parts f core.True ≡ get_or parts g core.True = cc in
     ap (λ k. Not k) (apart f g o p body)
-same_root parts apart (And f g) (And h k) o p e =
+same_root parts apart (Binary a f g) (Binary b h k) o p e =
+    let op : connective_of a ≡ connective_of b = cc in
     let first : get_or parts f core.True ≡ get_or parts h core.True = cc in
     let second : get_or parts g core.True ≡ get_or parts k core.True = cc in
-    λ i. And (apart f h o.0 p.0 first i) (apart g k o.1 p.1 second i)
-same_root parts apart (Or f g) (Or h k) o p e =
-    let first : get_or parts f core.True ≡ get_or parts h core.True = cc in
-    let second : get_or parts g core.True ≡ get_or parts k core.True = cc in
-    λ i. Or (apart f h o.0 p.0 first i) (apart g k o.1 p.1 second i)
-same_root parts apart (Iff f g) (Iff h k) o p e =
-    let first : get_or parts f core.True ≡ get_or parts h core.True = cc in
-    let second : get_or parts g core.True ≡ get_or parts k core.True = cc in
-    λ i. Iff (apart f h o.0 p.0 first i) (apart g k o.1 p.1 second i)
+    λ i. Binary (connective_of-injective a b op i) (apart f h o.0 p.0 first i) (apart g k o.1 p.1 second i)
 same_root parts apart (Exists n f) (Exists m g) o p e =
     let number : n ≡ m = cc in
     let body : get_or parts f core.True ≡ get_or parts g core.True = cc in
@@ -156,7 +179,20 @@ same_root parts apart (Infinite n f) (Infinite m g) o p e =
     λ i. Infinite (number i) (apart f g o p body i)
 same_root parts apart r s o p e = absurd (true≢false (ap (same_shape (root_core parts r)) e))
 
--- a part with another root is no atom
-pub no_atom : (parts : List Core) (r : Root) → ((rel : Rel) (index x y : ℕ) → r ≡ Atom rel index x y → ⊥) → (rel : core.Rel) (index x y : ℕ) → root_core parts r ≡ core.Atom rel index x y → ⊥
-no_atom parts (Atom own i u v) other rel index x y e = other own i u v refl
-no_atom parts r other rel index x y e = true≢false (ap (same_shape (core.Atom rel index x y)) (sym e))
+-- another atom has no relation, nor has a part with another root
+
+pub no_relation : (a : Atom) → ((rel : Rel) (index x y : ℕ) → a ≡ atoms.Related rel index x y → ⊥)
+    → (rel : core.Rel) (index x y : ℕ) → as_atom a ≡ core.Related rel index x y → ⊥
+no_relation (atoms.Related own i u v) other rel index x y e = other own i u v refl
+no_relation (atoms.InContext r holes place u v) other rel index x y e = absurd cc
+no_relation (atoms.Normal i u) other rel index x y e = absurd cc
+no_relation (atoms.IsTerm u t) other rel index x y e = absurd cc
+
+pub no_atom : (parts : List Core) (r : Root) → ((a : Atom) → r ≡ Leaf a → ⊥)
+    → (rel : core.Rel) (index x y : ℕ) → root_core parts r ≡ core.Leaf (core.Related rel index x y) → ⊥
+no_atom parts (Leaf a) other rel index x y e = other a refl
+no_atom parts r other rel index x y e = true≢false (ap (same_shape (core.Leaf (core.Related rel index x y))) (sym e))
+
+pub atom_is : (parts : List Core) (r : Root) (a : Atom) → r ≡ Leaf a → (rel : core.Rel) (index x y : ℕ)
+    → root_core parts r ≡ core.Leaf (core.Related rel index x y) → as_atom a ≡ core.Related rel index x y
+atom_is parts r a is rel index x y e = let leaf : core.Leaf (as_atom a) ≡ core.Leaf (core.Related rel index x y) = sym (ap (root_core parts) is) ∙ e in cc

@@ -3,11 +3,11 @@ use Rattle.std.specs.Prelude.{◌≡◌, ◌+◌, ◌<◌, ◌≤◌, ◌⊎◌,
 use Rattle.std.proofs.Common.{ap, sym, ◌∙◌, subst, arith, ⊎_elim, inl, inr, true≢false, eq-eqb}
 use Rattle.std.proofs.lemmas.Bool.{cases_eq, eqb-true}
 use Rattle.std.proofs.lemmas.List.{get_or-set_same, get_or-set_other, length-set, take-append-le, take_all}
-use Rattle.fort_logic.specs.Cores as core
-use Rattle.fort_logic.specs.Cores.{Core}
+use Rattle.fort_cores.specs.Cores as core
+use Rattle.fort_cores.specs.Cores.{Core}
 use Rattle.fort_parts.specs.DecidedCores.{IsOperandOf}
 use Rattle.fort_outline.specs.declared.root.Root.{Root}
-use Rattle.fort_outline.specs.declared.root.Root.TheVariants.{True, Atom, Nf, Is, Not, And, Or, Iff, Exists, Infinite}
+use Rattle.fort_outline.specs.declared.root.Root.TheVariants.{True, Leaf, Not, Binary, Exists, Infinite}
 use Rattle.fort_outline.specs.Roots.{root_core, cores_of, HasOperandsBelow, AreInOrder, is_operand}
 use Rattle.fort_outline.specs.Numbered.{AreDistinct}
 use Rattle.fort_outline.specs.Outlines.{IsLastUse, IsUseOf, AreLastUses}
@@ -30,13 +30,9 @@ second f g = by (f == g) (own g)
 pub operand_number : (parts : List Core) (k : ℕ) (root : Root) (g : Core) → HasOperandsBelow k root → IsOperandOf g (root_core parts root)
     → (f : ℕ) × (f < k) × (is_operand f root ≡ true) × (g ≡ get_or parts f core.True)
 operand_number parts k True g over o = absurd o
-operand_number parts k (Atom rel index x y) g over o = absurd o
-operand_number parts k (Nf index x) g over o = absurd o
-operand_number parts k (Is x t) g over o = absurd o
+operand_number parts k (Leaf a) g over o = absurd o
 operand_number parts k (Not f) g over o = (f, over, own f, o)
-operand_number parts k (And f h) g over o = ⊎_elim (λ e. (f, over.0, first f h, e)) (λ e. (h, over.1, second f h, e)) o
-operand_number parts k (Or f h) g over o = ⊎_elim (λ e. (f, over.0, first f h, e)) (λ e. (h, over.1, second f h, e)) o
-operand_number parts k (Iff f h) g over o = ⊎_elim (λ e. (f, over.0, first f h, e)) (λ e. (h, over.1, second f h, e)) o
+operand_number parts k (Binary op f h) g over o = ⊎_elim (λ e. (f, over.0, first f h, e)) (λ e. (h, over.1, second f h, e)) o
 operand_number parts k (Exists n f) g over o = (f, over, own f, o)
 operand_number parts k (Infinite n f) g over o = (f, over, own f, o)
 
@@ -55,13 +51,9 @@ two_of parts j f g e = by (f == j) refl e
 
 operand_there : (parts : List Core) (j : ℕ) (root : Root) → is_operand j root ≡ true → IsOperandOf (get_or parts j core.True) (root_core parts root)
 operand_there parts j True e = absurd (true≢false (sym e))
-operand_there parts j (Atom rel index x y) e = absurd (true≢false (sym e))
-operand_there parts j (Nf index x) e = absurd (true≢false (sym e))
-operand_there parts j (Is x t) e = absurd (true≢false (sym e))
+operand_there parts j (Leaf a) e = absurd (true≢false (sym e))
 operand_there parts j (Not f) e = one_of parts j f e
-operand_there parts j (And f g) e = two_of parts j f g e
-operand_there parts j (Or f g) e = two_of parts j f g e
-operand_there parts j (Iff f g) e = two_of parts j f g e
+operand_there parts j (Binary op f g) e = two_of parts j f g e
 operand_there parts j (Exists n f) e = one_of parts j f e
 operand_there parts j (Infinite n f) e = one_of parts j f e
 

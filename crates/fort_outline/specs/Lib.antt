@@ -1,3 +1,4 @@
+pub mod LeafView
 pub mod Roots
 pub mod Numbered
 pub mod Outlines

@@ -1,11 +1,13 @@
 //! The columns of parts.
 ghost use Rattle.std.specs.Prelude.{◌≡◌, ℕ, ◌↔◌, ◌<◌, List, ◌++◌, ◌==◌, not, filter, length, IfOk, OnOk, Contains};
 ghost use Rattle.std.specs.List.Sorted.{IsStrictlyIncreasing};
-ghost use Rattle.fort_logic.specs.Cores as theory;
+ghost use Rattle.fort_cores.specs.Cores as theory;
 ghost use Rattle.fort_parts.specs.PartColumns.{columns_of};
+ghost use Rattle.fort_outline.specs.LeafView.{as_atom};
 ghost use Rattle.fort_outline.specs.Roots.{root_core, cores_of, HasOperandsBelow, AreInOrder};
 ghost use Rattle.fort_outline.specs.Outlines.{AreColumnsOf};
 
+use crate::leaf::Leaf;
 use crate::root::Root;
 use std::alloc::{AllocError, Global};
 
@@ -41,6 +43,16 @@ fn without(alloc: Global, numbers: &[u32], number: u32) -> Result<Vec<u32>, Allo
     Ok(others)
 }
 
+/// The columns of an atom.
+fn leaf_columns(alloc: Global, leaf: &Leaf) -> Result<Vec<u32>, AllocError>
+    ensures { IfOk result (λ ns. ns.items ≡ columns_of (theory.Leaf (as_atom leaf.now))) }
+{
+    match leaf {
+        Leaf::Related(_, _, x, y) | Leaf::InContext(_, _, _, x, y) => of_both(alloc, &[*x], &[*y]),
+        Leaf::Normal(_, x) | Leaf::IsTerm(x, _) => Ok(vec![in alloc; *x]?),
+    }
+}
+
 /// The columns of a part with this root, by those of the parts before it.
 fn root_columns(alloc: Global, root: &Root, before: &[Vec<u32>]) -> Result<Vec<u32>, AllocError>
     requires { HasOperandsBelow (length before.now) root.now }
@@ -49,12 +61,9 @@ fn root_columns(alloc: Global, root: &Root, before: &[Vec<u32>]) -> Result<Vec<u
 {
     match root {
         Root::True => Ok(Vec::new(alloc)),
-        Root::Atom(_, _, x, y) => of_both(alloc, &[*x], &[*y]),
-        Root::Nf(_, x) | Root::Is(x, _) => Ok(vec![in alloc; *x]?),
+        Root::Leaf(leaf) => leaf_columns(alloc, leaf),
         Root::Not(f) => Vec::from_slice(alloc, &before[*f]),
-        Root::And(f, g) | Root::Or(f, g) | Root::Iff(f, g) => {
-            of_both(alloc, &before[*f], &before[*g])
-        }
+        Root::Binary(_, f, g) => of_both(alloc, &before[*f], &before[*g]),
         Root::Exists(n, f) | Root::Infinite(n, f) => without(alloc, &before[*f], *n),
     }
 }

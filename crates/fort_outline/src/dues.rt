@@ -1,9 +1,9 @@
 //! The steps that are due for a formula, by its outline.
 ghost use Rattle.std.specs.Prelude.{◌≡◌, ◌<◌, ◌^◌, ◌++◌, List, map, length, IfOk, OnOk};
 ghost use Rattle.std.specs.List.{list_any};
-ghost use Rattle.fort_logic.specs.Cores as theory;
+ghost use Rattle.fort_cores.specs.Cores as theory;
 ghost use Rattle.fort_parts.specs.PartColumns.{columns_of};
-ghost use Rattle.fort_formulas.specs.CoreView.{as_rel};
+ghost use Rattle.fort_relations.specs.RelView.{as_rel};
 ghost use Rattle.fort_outline.specs.Roots.{root_core, cores_of};
 ghost use Rattle.fort_outline.specs.Outlines.{IsOutlineOf, parts_in};
 ghost use Rattle.fort_in_order.specs.Dues as definitions;
@@ -13,7 +13,7 @@ ghost use Rattle.fort_outline.specs.DueView.{as_due};
 
 use crate::outline::Outline;
 use crate::root::Root;
-use fort_formulas::Rel;
+use fort_relations::Rel;
 use fort_steps::Which;
 use fort_terms::Memory;
 use std::alloc::Global;

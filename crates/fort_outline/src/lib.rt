@@ -4,6 +4,7 @@
 
 mod columns;
 mod dues;
+mod leaf;
 mod numbers;
 mod outline;
 mod places;
@@ -11,6 +12,7 @@ mod root;
 mod uses;
 
 pub use dues::{DueStep, is_closure_due, steps_due};
+pub use leaf::Leaf;
 pub use outline::Outline;
 pub use places::{column_of, places_among};
 pub use root::Root;

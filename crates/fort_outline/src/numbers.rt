@@ -1,12 +1,15 @@
 //! The numbers of parts.
 ghost use Rattle.std.specs.Prelude.{◌<◌, ◌≤◌, List, [], ◌∷◌, ◌++◌, length, IfOk, OnOk};
-ghost use Rattle.fort_logic.specs.Cores as theory;
-ghost use Rattle.fort_logic.specs.Parts.{postorder};
+ghost use Rattle.fort_cores.specs.Cores as theory;
+ghost use Rattle.fort_cores.specs.Parts.{postorder};
 ghost use Rattle.fort_formulas.specs.CoreView.{as_core};
+ghost use Rattle.fort_outline.specs.LeafView.{as_atom};
 ghost use Rattle.fort_outline.specs.Roots.{root_core, cores_of, HasOperandsBelow};
 ghost use Rattle.fort_outline.specs.Numbered.{AreNumbered, IsNumbered};
 
+use crate::leaf::Leaf;
 use crate::root::Root;
+use fort_connectives::Op;
 use fort_formulas::Core;
 use indexmap::IndexSet;
 use std::alloc::{AllocError, Global};
@@ -25,6 +28,18 @@ fn number_of(roots: &mut IndexSet<Root>, root: Root) -> Result<usize, AllocError
     Ok(number)
 }
 
+/// The number of an atom.
+fn number_leaf(roots: &mut IndexSet<Root>, leaf: Leaf) -> Result<usize, AllocError>
+    ensures within { IfOk result (λ n. n < length roots.new.keys) }
+    ensures grows { OnOk result (length roots.old.keys ≤ length roots.new.keys) }
+    ensures numbered { IfOk result (λ n. (before : List theory.Core)
+        → AreNumbered before roots.old.keys
+        → IsNumbered (before ++ theory.Leaf (as_atom leaf) ∷ []) roots.old.keys roots.new.keys
+        (theory.Leaf (as_atom leaf)) n) }
+{
+    number_of(roots, Root::Leaf(leaf))
+}
+
 /// The number of a formula, whose subformulas are numbered before it.
 pub(crate) fn number_core(
     alloc: Global,
@@ -40,9 +55,13 @@ pub(crate) fn number_core(
 {
     match core {
         Core::True => number_of(roots, Root::True),
-        Core::Atom(rel, index, x, y) => number_of(roots, Root::Atom(*rel, *index, *x, *y)),
-        Core::Nf(index, x) => number_of(roots, Root::Nf(*index, *x)),
-        Core::Is(x, term) => number_of(roots, Root::Is(*x, term.copy(alloc)?)),
+        Core::Atom(rel, index, x, y) => number_leaf(roots, Leaf::Related(*rel, *index, *x, *y)),
+        Core::Rel(rex, holes, place, x, y) => {
+            let rex = rex.copy(alloc)?;
+            number_leaf(roots, Leaf::InContext(rex, *holes, *place, *x, *y))
+        }
+        Core::Nf(index, x) => number_leaf(roots, Leaf::Normal(*index, *x)),
+        Core::Is(x, term) => number_leaf(roots, Leaf::IsTerm(*x, term.copy(alloc)?)),
         Core::Not(f) => {
             let f = number_core(alloc, f.as_core(), roots)?;
             number_of(roots, Root::Not(f))
@@ -50,17 +69,17 @@ pub(crate) fn number_core(
         Core::And(f, g) => {
             let f = number_core(alloc, f.as_core(), roots)?;
             let g = number_core(alloc, g.as_core(), roots)?;
-            number_of(roots, Root::And(f, g))
+            number_of(roots, Root::Binary(Op::And, f, g))
         }
         Core::Or(f, g) => {
             let f = number_core(alloc, f.as_core(), roots)?;
             let g = number_core(alloc, g.as_core(), roots)?;
-            number_of(roots, Root::Or(f, g))
+            number_of(roots, Root::Binary(Op::Or, f, g))
         }
         Core::Iff(f, g) => {
             let f = number_core(alloc, f.as_core(), roots)?;
             let g = number_core(alloc, g.as_core(), roots)?;
-            number_of(roots, Root::Iff(f, g))
+            number_of(roots, Root::Binary(Op::Iff, f, g))
         }
         Core::Exists(x, f) => {
             let f = number_core(alloc, f.as_core(), roots)?;

@@ -14,9 +14,9 @@ fn note_operands(root: &Root, k: usize, uses: &mut [usize])
         ≡ (if is_operand j root.now then k else slice_index uses.old j) }
 {
     match root {
-        Root::True | Root::Atom(_, _, _, _) | Root::Nf(_, _) | Root::Is(_, _) => {}
+        Root::True | Root::Leaf(_) => {}
         Root::Not(f) | Root::Exists(_, f) | Root::Infinite(_, f) => uses[*f] = k,
-        Root::And(f, g) | Root::Or(f, g) | Root::Iff(f, g) => {
+        Root::Binary(_, f, g) => {
             uses[*f] = k;
             uses[*g] = k;
         }

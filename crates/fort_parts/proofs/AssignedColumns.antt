@@ -7,7 +7,7 @@ use Rattle.std.proofs.lemmas.Bool.{cases_eq}
 use Rattle.fort_theory.specs.Trees.{Tree}
 use Rattle.fort_theory.specs.Signatures.{Signature, IsGround}
 use Rattle.fort_theory.proofs.Members.{Contains-head, Contains-behind}
-use Rattle.fort_logic.specs.CoreTruth.{Places, with_number}
+use Rattle.fort_cores.specs.CoreTruth.{Places, with_number}
 use Rattle.fort_tables.specs.Tuples.{IsFull, AreGroundColumns}
 use Rattle.fort_tables.proofs.EqualTests.{test_from_apart}
 use Rattle.fort_atom_labels.specs.AssignedTuples.{tuple_of}

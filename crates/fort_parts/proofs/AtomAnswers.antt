@@ -7,11 +7,11 @@ use Rattle.fort_theory.specs.Sides.{at_index}
 use Rattle.fort_theory.specs.Patterns.{PatternSystem}
 use Rattle.fort_theory.specs.PatternSteps.{PatternStep, PatternStepAt}
 use Rattle.fort_theory.specs.Rewriting.{Relation}
-use Rattle.fort_logic.specs.Logic.{Surely}
-use Rattle.fort_logic.specs.Cores as core
-use Rattle.fort_logic.specs.Cores.{Rel, Core}
-use Rattle.fort_logic.specs.CoreTruth.{Places, RelatesBy, IsMetBy}
-use Rattle.fort_logic.specs.PatternStructures.{pattern_structure}
+use Rattle.fort_theory.specs.Logic.{Surely}
+use Rattle.fort_cores.specs.Cores as core
+use Rattle.fort_cores.specs.Cores.{Rel, Core}
+use Rattle.fort_cores.specs.CoreTruth.{Places, RelatesBy, IsMetBy}
+use Rattle.fort_cores.specs.Structures.{pattern_structure}
 use Rattle.fort_tables.specs.Tuples.{Tuple, IsTuple, IsFull}
 use Rattle.fort_tables.specs.Tables.{Table}
 use Rattle.fort_alike.specs.Atoms.{OfOne, OfTwo, Says, kind_for, pairs_for, relation_atom, normal_atom, IsTrueOf}
@@ -21,7 +21,7 @@ use Rattle.fort_atom_labels.proofs.AtomTruth.{Says-RelatesBy, get_or-tuple_of, D
 use Rattle.fort_operations.specs.OperationTruth.{accepts}
 use Rattle.fort_parts.specs.PartColumns.{columns_of}
 use Rattle.fort_parts.specs.PartAnswers.{OfTable, said, AreGround, TellsTruth}
-use Rattle.fort_parts.proofs.PartColumnLaws.{AreColumns-columns_of, columns_of-Nf, columns_of-Is}
+use Rattle.fort_parts.proofs.PartColumnLaws.{AreColumns-columns_of, columns_of-Normal, columns_of-IsTerm}
 use Rattle.fort_parts.proofs.AssignedColumns.{AreTerms-tuple_of}
 use Rattle.fort_parts.proofs.StepTables.{IsTuple-terms}
 
@@ -32,11 +32,11 @@ AcceptsExactly sig columns table P = (t : Tuple) → IsTuple sig columns t → I
 module _ (system : PatternSystem) (table : Table) where
   -- the relation of an atom
   IsTrueOf-relation : (rel : Rel) (index x y : ℕ) (v : Places)
-      → IsTrueOf (relation_atom system rel index x y (columns_of (core.Atom rel index x y))) (tuple_of v (columns_of (core.Atom rel index x y)))
+      → IsTrueOf (relation_atom system rel index x y (columns_of (core.Leaf (core.Related rel index x y)))) (tuple_of v (columns_of (core.Leaf (core.Related rel index x y))))
       ↔ RelatesBy (PatternStepAt system index) rel (v x) (v y)
   IsTrueOf-relation rel index x y v =
-      let columns = columns_of (core.Atom rel index x y) in
-      let places = ArePlaces-columns rel index x y columns (AreColumns-columns_of (core.Atom rel index x y)) in
+      let columns = columns_of (core.Leaf (core.Related rel index x y)) in
+      let places = ArePlaces-columns rel index x y columns (AreColumns-columns_of (core.Leaf (core.Related rel index x y))) in
       let R : Relation = Says (PatternStep system.signature (pairs_for rel (at_index index system.rules))) (kind_for rel) in
       subst (λ z. OfTwo R z (get_or (tuple_of v columns) (place_of y columns) None) ↔ RelatesBy (PatternStepAt system index) rel (v x) (v y))
       (sym (get_or-tuple_of v columns (place_of x columns) x places.first_within places.first_is))
@@ -48,11 +48,11 @@ module _ (system : PatternSystem) (table : Table) where
   surely b P Q w d = Decides-Surely b ((λ e. w.0 (d.0 e)), (λ q. d.1 (w.1 q)))
 
   pub TellsTruth-Atom : (rel : Rel) (index x y : ℕ)
-      → AcceptsExactly system.signature (length (columns_of (core.Atom rel index x y))) table (IsTrueOf (relation_atom system rel index x y (columns_of (core.Atom rel index x y))))
-      → TellsTruth (pattern_structure system) (core.Atom rel index x y) (said (OfTable table))
+      → AcceptsExactly system.signature (length (columns_of (core.Leaf (core.Related rel index x y)))) table (IsTrueOf (relation_atom system rel index x y (columns_of (core.Leaf (core.Related rel index x y)))))
+      → TellsTruth (pattern_structure system) (core.Leaf (core.Related rel index x y)) (said (OfTable table))
   TellsTruth-Atom rel index x y exactly v grounded =
-      let columns = columns_of (core.Atom rel index x y) in
-      let places = ArePlaces-columns rel index x y columns (AreColumns-columns_of (core.Atom rel index x y)) in
+      let columns = columns_of (core.Leaf (core.Related rel index x y)) in
+      let places = ArePlaces-columns rel index x y columns (AreColumns-columns_of (core.Leaf (core.Related rel index x y))) in
       let terms = AreTerms-tuple_of system.signature v columns grounded in
       surely (accepts table (tuple_of v columns)) _ _ (IsTrueOf-relation rel index x y v)
       (exactly (tuple_of v columns) (IsTuple-terms system.signature (length columns) (tuple_of v columns) places.some terms) terms.full)
@@ -61,13 +61,13 @@ module _ (system : PatternSystem) (table : Table) where
   one_term x v grounded = record { width = refl; present = tt; grounded = (grounded x, tt) }
 
   pub TellsTruth-Nf : (index x : ℕ) → AcceptsExactly system.signature 1 table (IsTrueOf (normal_atom system index))
-      → TellsTruth (pattern_structure system) (core.Nf index x) (said (OfTable table))
+      → TellsTruth (pattern_structure system) (core.Leaf (core.Normal index x)) (said (OfTable table))
   TellsTruth-Nf index x exactly v grounded =
-      subst (λ ns. Decides (accepts table (tuple_of v ns)) (IsMetBy (pattern_structure system) (core.Nf index x) v)) (sym (columns_of-Nf index x))
+      subst (λ ns. Decides (accepts table (tuple_of v ns)) (IsMetBy (pattern_structure system) (core.Leaf (core.Normal index x)) v)) (sym (columns_of-Normal index x))
       (exactly (Some (v x) ∷ []) (one_term x v grounded) tt)
 
   pub TellsTruth-Is : (x : ℕ) (term : Tree) → AcceptsExactly system.signature 1 table (λ t. OfOne (λ s. s ≡ term) (get_or t 0 None))
-      → TellsTruth (pattern_structure system) (core.Is x term) (said (OfTable table))
+      → TellsTruth (pattern_structure system) (core.Leaf (core.IsTerm x term)) (said (OfTable table))
   TellsTruth-Is x term exactly v grounded =
-      subst (λ ns. Decides (accepts table (tuple_of v ns)) (IsMetBy (pattern_structure system) (core.Is x term) v)) (sym (columns_of-Is x term))
+      subst (λ ns. Decides (accepts table (tuple_of v ns)) (IsMetBy (pattern_structure system) (core.Leaf (core.IsTerm x term)) v)) (sym (columns_of-IsTerm x term))
       (surely (accepts table (Some (v x) ∷ [])) _ _ ((λ e. e), (λ e. e)) (exactly (Some (v x) ∷ []) (one_term x v grounded) tt))

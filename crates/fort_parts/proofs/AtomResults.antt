@@ -3,9 +3,9 @@ use Rattle.std.specs.Prelude.{◌≡◌, ◌↔◌, ℕ, ◌<◌, List, length, 
 use Rattle.std.proofs.Common.{ap, sym, ◌∙◌, subst, arith}
 use Rattle.fort_theory.specs.Trees.{Tree}
 use Rattle.fort_theory.specs.Patterns.{PatternSystem}
-use Rattle.fort_logic.specs.Cores as core
-use Rattle.fort_logic.specs.Cores.{Rel, Core}
-use Rattle.fort_logic.specs.PatternStructures.{pattern_structure}
+use Rattle.fort_cores.specs.Cores as core
+use Rattle.fort_cores.specs.Cores.{Rel, Core}
+use Rattle.fort_cores.specs.Structures.{pattern_structure}
 use Rattle.fort_tables.specs.Tuples.{Tuple, IsTuple, IsFull}
 use Rattle.fort_tables.specs.Tables.{Table}
 use Rattle.fort_tables.specs.Labels.{Labelling}
@@ -18,7 +18,7 @@ use Rattle.fort_operations.specs.OperationTruth.{accepts}
 use Rattle.fort_parts.specs.PartColumns.{columns_of}
 use Rattle.fort_parts.specs.PartAnswers.{OfTable, said, TellsTruth, IsAnswerTo}
 use Rattle.fort_parts.specs.PartLabels.{LabelsTellAlike}
-use Rattle.fort_parts.proofs.PartColumnLaws.{AreColumns-columns_of, columns_of-Nf, columns_of-Is}
+use Rattle.fort_parts.proofs.PartColumnLaws.{AreColumns-columns_of, columns_of-Normal, columns_of-IsTerm}
 use Rattle.fort_parts.proofs.StepTables.{IsTableOver-labels}
 use Rattle.fort_parts.proofs.AtomAnswers.{AcceptsExactly, TellsTruth-Atom, TellsTruth-Nf, TellsTruth-Is}
 
@@ -43,11 +43,11 @@ module _ (system : PatternSystem) (label : Labelling) (accepting : List ℕ → 
   }
 
   pub IsAnswerTo-Atom : (rel : Rel) (index x y : ℕ)
-      → AcceptsLabels system (length (columns_of (core.Atom rel index x y))) label accepting (IsTrueOf (relation_atom system rel index x y (columns_of (core.Atom rel index x y))))
-      → IsTableBy system.signature (length (columns_of (core.Atom rel index x y))) label accepting table
-      → IsAnswerTo (pattern_structure system) (core.Atom rel index x y) (OfTable table)
+      → AcceptsLabels system (length (columns_of (core.Leaf (core.Related rel index x y)))) label accepting (IsTrueOf (relation_atom system rel index x y (columns_of (core.Leaf (core.Related rel index x y)))))
+      → IsTableBy system.signature (length (columns_of (core.Leaf (core.Related rel index x y)))) label accepting table
+      → IsAnswerTo (pattern_structure system) (core.Leaf (core.Related rel index x y)) (OfTable table)
   IsAnswerTo-Atom rel index x y exactly by =
-      let f = core.Atom rel index x y in
+      let f = core.Leaf (core.Related rel index x y) in
       answer f (ArePlaces-columns rel index x y (columns_of f) (AreColumns-columns_of f)).some
       (TellsTruth-Atom system table rel index x y (by_table (length (columns_of f)) _ by exactly)) by
 
@@ -57,25 +57,25 @@ module _ (system : PatternSystem) (label : Labelling) (accepting : List ℕ → 
   one f single truth by = answer f (omega arith) truth (subst (λ n. IsTableBy system.signature n label accepting table) (sym single) by)
 
   pub IsAnswerTo-Nf : (index x : ℕ) → AcceptsLabels system 1 label accepting (IsTrueOf (normal_atom system index))
-      → IsTableBy system.signature 1 label accepting table → IsAnswerTo (pattern_structure system) (core.Nf index x) (OfTable table)
+      → IsTableBy system.signature 1 label accepting table → IsAnswerTo (pattern_structure system) (core.Leaf (core.Normal index x)) (OfTable table)
   IsAnswerTo-Nf index x exactly by =
-      one (core.Nf index x) (ap length (columns_of-Nf index x)) (TellsTruth-Nf system table index x (by_table 1 _ by exactly)) by
+      one (core.Leaf (core.Normal index x)) (ap length (columns_of-Normal index x)) (TellsTruth-Nf system table index x (by_table 1 _ by exactly)) by
 
   pub IsAnswerTo-Is : (x : ℕ) (term : Tree) → AcceptsLabels system 1 label accepting (λ t. OfOne (λ s. s ≡ term) (get_or t 0 None))
-      → IsTableBy system.signature 1 label accepting table → IsAnswerTo (pattern_structure system) (core.Is x term) (OfTable table)
+      → IsTableBy system.signature 1 label accepting table → IsAnswerTo (pattern_structure system) (core.Leaf (core.IsTerm x term)) (OfTable table)
   IsAnswerTo-Is x term exactly by =
-      one (core.Is x term) (ap length (columns_of-Is x term)) (TellsTruth-Is system table x term (by_table 1 _ by exactly)) by
+      one (core.Leaf (core.IsTerm x term)) (ap length (columns_of-IsTerm x term)) (TellsTruth-Is system table x term (by_table 1 _ by exactly)) by
 
 -- what labels of one column tell, at a formula of one column
 module _ (system : PatternSystem) (label : Labelling) where
   pub LabelsTellAlike-Nf : (index x : ℕ)
       → ((t u : Tuple) → IsTuple system.signature 1 t → IsTuple system.signature 1 u → (label t ≡ label u) ↔ Alike (normal_atom system index) t u)
-      → LabelsTellAlike system (core.Nf index x) label
+      → LabelsTellAlike system (core.Leaf (core.Normal index x)) label
   LabelsTellAlike-Nf index x tells = subst (λ ns. (t u : Tuple) → IsTuple system.signature (length ns) t → IsTuple system.signature (length ns) u
-      → (label t ≡ label u) ↔ Alike (normal_atom system index) t u) (sym (columns_of-Nf index x)) tells
+      → (label t ≡ label u) ↔ Alike (normal_atom system index) t u) (sym (columns_of-Normal index x)) tells
 
   pub LabelsTellAlike-Is : (x : ℕ) (term : Tree)
       → ((t u : Tuple) → IsTuple system.signature 1 t → IsTuple system.signature 1 u → (label t ≡ label u) ↔ AlikeAtTerm term t u)
-      → LabelsTellAlike system (core.Is x term) label
+      → LabelsTellAlike system (core.Leaf (core.IsTerm x term)) label
   LabelsTellAlike-Is x term tells = subst (λ ns. (t u : Tuple) → IsTuple system.signature (length ns) t → IsTuple system.signature (length ns) u
-      → (label t ≡ label u) ↔ AlikeAtTerm term t u) (sym (columns_of-Is x term)) tells
+      → (label t ≡ label u) ↔ AlikeAtTerm term t u) (sym (columns_of-IsTerm x term)) tells

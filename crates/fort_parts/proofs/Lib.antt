@@ -8,6 +8,3 @@ pub mod PartOrder
 pub mod PartFacts
 pub mod StepAnswers
 pub mod AtomResults
-pub mod TranslatedCores
-pub mod SameCoreRoots
-pub mod NamedColumns

@@ -1,5 +1,5 @@
 -- The columns of a core formula are its free numbers; where its operands' columns stand among them, and what a binder takes away.
-use Rattle.std.specs.Prelude.{◌≡◌, ℕ, suc, ◌+◌, ◌<◌, ◌==◌, ◌&&◌, ◌||◌, not, true, List, [], ◌∷◌, length, get_or, filter, Contains, refl}
+use Rattle.std.specs.Prelude.{◌≡◌, ℕ, suc, max, ◌+◌, ◌<◌, ◌==◌, ◌&&◌, ◌||◌, ◌⊎◌, not, true, List, [], ◌∷◌, length, get_or, filter, Contains, refl}
 use Rattle.std.specs.List.{range_with_len, insert}
 use Rattle.std.specs.List.Sorted.{IsStrictlyIncreasing}
 use Rattle.std.proofs.Common.{ap, sym, ◌∙◌, subst, arith, inl, inr, eq-eqb}
@@ -10,27 +10,27 @@ use Rattle.std.proofs.lemmas.List.{get_or_default}
 use Rattle.std.proofs.lemmas.List.Kept.{IsStrictlyIncreasing-filter, AllPairs-from_increasing}
 use Rattle.fort_theory.specs.Trees.{Tree}
 use Rattle.fort_theory.proofs.Members.{Contains-head, Contains-behind, Contains-cons_cases, Contains-none, Contains-filter, Contains-from_filter}
-use Rattle.fort_logic.specs.Cores.{Core, True, Atom, Nf, Is, Not, And, Or, Iff, Exists, Infinite}
-use Rattle.fort_logic.specs.Parts.{is_free, AreColumns}
-use Rattle.fort_logic.proofs.ColumnLaws.{AreColumns-one, AreColumns-bound, AreColumns-Nf, AreColumns-Is}
+use Rattle.fort_cores.specs.Cores.{Atom, Related, InContext, Normal, IsTerm, Core, True, Leaf, Not, Binary, Exists, Infinite}
+use Rattle.fort_cores.specs.Parts.{stands_in, is_free, AreColumns}
+use Rattle.fort_cores.proofs.ColumnLaws.{AreColumns-one, AreColumns-bound, AreColumns-Normal, AreColumns-IsTerm}
 use Rattle.fort_tables.proofs.EqualTests.{equal_from_test, test_from_apart}
-use Rattle.fort_parts.specs.PartColumns.{numbers_below, columns_of, place_in}
+use Rattle.fort_parts.specs.PartColumns.{numbers_in, numbers_below, columns_of, place_in}
+
+below_two : (n x y : ℕ) → ((x == n) ≡ true) ⊎ ((y == n) ≡ true) → n < max (suc x) (suc y)
+below_two n x y (inl e) = let same = equal_from_test x n e in omega arith
+below_two n x y (inr e) = let same = equal_from_test y n e in omega arith
+
+below_in : (n : ℕ) (a : Atom) → stands_in n a ≡ true → n < numbers_in a
+below_in n (Related rel index x y) h = below_two n x y (or_cases (x == n) (y == n) h)
+below_in n (InContext e number place x y) h = below_two n x y (or_cases (x == n) (y == n) h)
+below_in n (Normal index x) h = let same = equal_from_test x n h in omega arith
+below_in n (IsTerm x t) h = let same = equal_from_test x n h in omega arith
 
 below : (n : ℕ) (f : Core) → is_free n f ≡ true → n < numbers_below f
 below n True h = absurd cc
-below n (Atom rel index x y) h =
-    elim (or_cases (x == n) (y == n) h) [
-      | inl e ↦ let same = equal_from_test x n e in omega arith
-      | inr e ↦ let same = equal_from_test y n e in omega arith
-    ]
-below n (Nf index x) h = let same = equal_from_test x n h in omega arith
-below n (Is x t) h = let same = equal_from_test x n h in omega arith
+below n (Leaf a) h = below_in n a h
 below n (Not f) h = below n f h
-below n (And f g) h =
-    elim (or_cases (is_free n f) (is_free n g) h) [ inl e ↦ omega (arith, below n f e) | inr e ↦ omega (arith, below n g e) ]
-below n (Or f g) h =
-    elim (or_cases (is_free n f) (is_free n g) h) [ inl e ↦ omega (arith, below n f e) | inr e ↦ omega (arith, below n g e) ]
-below n (Iff f g) h =
+below n (Binary op f g) h =
     elim (or_cases (is_free n f) (is_free n g) h) [ inl e ↦ omega (arith, below n f e) | inr e ↦ omega (arith, below n g e) ]
 below n (Exists x f) h = below n f (and_parts (not (x == n)) (is_free n f) h).1
 below n (Infinite x f) h = below n f (and_parts (not (x == n)) (is_free n f) h).1
@@ -67,11 +67,11 @@ AreColumns-columns_of f = record {
 pub columns_of-unique : (f : Core) (columns : List ℕ) → AreColumns f columns → columns ≡ columns_of f
 columns_of-unique f columns are = AreColumns-one f columns (columns_of f) are (AreColumns-columns_of f)
 
-pub columns_of-Nf : (index x : ℕ) → columns_of (Nf index x) ≡ x ∷ []
-columns_of-Nf index x = sym (columns_of-unique (Nf index x) (x ∷ []) (AreColumns-Nf index x))
+pub columns_of-Normal : (index x : ℕ) → columns_of (Leaf (Normal index x)) ≡ x ∷ []
+columns_of-Normal index x = sym (columns_of-unique (Leaf (Normal index x)) (x ∷ []) (AreColumns-Normal index x))
 
-pub columns_of-Is : (x : ℕ) (t : Tree) → columns_of (Is x t) ≡ x ∷ []
-columns_of-Is x t = sym (columns_of-unique (Is x t) (x ∷ []) (AreColumns-Is x t))
+pub columns_of-IsTerm : (x : ℕ) (t : Tree) → columns_of (Leaf (IsTerm x t)) ≡ x ∷ []
+columns_of-IsTerm x t = sym (columns_of-unique (Leaf (IsTerm x t)) (x ∷ []) (AreColumns-IsTerm x t))
 
 pub is_free-from_column : (f : Core) (n : ℕ) → Contains (columns_of f) n → is_free n f ≡ true
 is_free-from_column f n c = ((AreColumns-columns_of f).free n).0 c

@@ -5,34 +5,26 @@ use Rattle.std.proofs.lemmas.Bool.{cases_eq, cases_lt}
 use Rattle.std.proofs.lemmas.List.{get_or_default}
 use Rattle.std.proofs.lemmas.List.Elements.{Contains-append_left, Contains-append_right, Contains-push, Contains-get_or}
 use Rattle.fort_theory.proofs.Members.{Contains-head}
-use Rattle.fort_logic.specs.Cores.{Core, True, Atom, Nf, Is, Not, And, Or, Iff, Exists, Infinite}
-use Rattle.fort_logic.specs.EachOnce.{StandsBefore}
-use Rattle.fort_logic.specs.PartLists.{AreParts}
-use Rattle.fort_logic.specs.Parts.{postorder}
+use Rattle.fort_cores.specs.Cores.{Core, True, Leaf, Not, Binary, Exists, Infinite}
+use Rattle.fort_cores.specs.EachOnce.{StandsBefore}
+use Rattle.fort_cores.specs.PartLists.{AreParts}
+use Rattle.fort_cores.specs.Parts.{postorder}
 use Rattle.fort_parts.specs.DecidedCores.{IsOperandOf}
 
 -- a formula is no operand of its own
 abbrev size : Core → ℕ
 size True = 0
-size (Atom rel index x y) = 0
-size (Nf index x) = 0
-size (Is x term) = 0
+size (Leaf a) = 0
 size (Not f) = suc (size f)
-size (And f g) = suc (size f + size g)
-size (Or f g) = suc (size f + size g)
-size (Iff f g) = suc (size f + size g)
+size (Binary op f g) = suc (size f + size g)
 size (Exists n f) = suc (size f)
 size (Infinite n f) = suc (size f)
 
 smaller : (g h : Core) → IsOperandOf g h → size g < size h
 smaller g True o = absurd o
-smaller g (Atom rel index x y) o = absurd o
-smaller g (Nf index x) o = absurd o
-smaller g (Is x term) o = absurd o
+smaller g (Leaf a) o = absurd o
 smaller g (Not f) o = let e = ap size o in omega arith
-smaller g (And f h) o = ⊎_elim (λ s. let e = ap size s in omega arith) (λ s. let e = ap size s in omega arith) o
-smaller g (Or f h) o = ⊎_elim (λ s. let e = ap size s in omega arith) (λ s. let e = ap size s in omega arith) o
-smaller g (Iff f h) o = ⊎_elim (λ s. let e = ap size s in omega arith) (λ s. let e = ap size s in omega arith) o
+smaller g (Binary op f h) o = ⊎_elim (λ s. let e = ap size s in omega arith) (λ s. let e = ap size s in omega arith) o
 smaller g (Exists n f) o = let e = ap size o in omega arith
 smaller g (Infinite n f) o = let e = ap size o in omega arith
 
@@ -65,13 +57,9 @@ only_cut z h (y ∷ x ∷ front) back e = absurd cc
 -- the root is in its postorder
 pub Contains-postorder : (f : Core) → Contains (postorder f) f
 Contains-postorder True = Contains-head True []
-Contains-postorder (Atom rel index x y) = Contains-head (Atom rel index x y) []
-Contains-postorder (Nf index x) = Contains-head (Nf index x) []
-Contains-postorder (Is x t) = Contains-head (Is x t) []
+Contains-postorder (Leaf a) = Contains-head (Leaf a) []
 Contains-postorder (Not h) = Contains-push (postorder h) (Not h)
-Contains-postorder (And h k) = Contains-append_right (postorder h) (postorder k ++ And h k ∷ []) (And h k) (Contains-push (postorder k) (And h k))
-Contains-postorder (Or h k) = Contains-append_right (postorder h) (postorder k ++ Or h k ∷ []) (Or h k) (Contains-push (postorder k) (Or h k))
-Contains-postorder (Iff h k) = Contains-append_right (postorder h) (postorder k ++ Iff h k ∷ []) (Iff h k) (Contains-push (postorder k) (Iff h k))
+Contains-postorder (Binary op h k) = Contains-append_right (postorder h) (postorder k ++ Binary op h k ∷ []) (Binary op h k) (Contains-push (postorder k) (Binary op h k))
 Contains-postorder (Exists n h) = Contains-push (postorder h) (Exists n h)
 Contains-postorder (Infinite n h) = Contains-push (postorder h) (Infinite n h)
 
@@ -115,13 +103,9 @@ closed-two z f k either first second front back g h o e =
 
 closed : (f : Core) → IsClosed (postorder f)
 closed True = closed-leaf True (λ g o. o)
-closed (Atom rel index x y) = closed-leaf (Atom rel index x y) (λ g o. o)
-closed (Nf index x) = closed-leaf (Nf index x) (λ g o. o)
-closed (Is x t) = closed-leaf (Is x t) (λ g o. o)
+closed (Leaf a) = closed-leaf (Leaf a) (λ g o. o)
 closed (Not f) = closed-one (Not f) f (λ g o. o) (closed f)
-closed (And f g) = closed-two (And f g) f g (λ h o. o) (closed f) (closed g)
-closed (Or f g) = closed-two (Or f g) f g (λ h o. o) (closed f) (closed g)
-closed (Iff f g) = closed-two (Iff f g) f g (λ h o. o) (closed f) (closed g)
+closed (Binary op f g) = closed-two (Binary op f g) f g (λ h o. o) (closed f) (closed g)
 closed (Exists n f) = closed-one (Exists n f) f (λ g o. o) (closed f)
 closed (Infinite n f) = closed-one (Infinite n f) f (λ g o. o) (closed f)
 

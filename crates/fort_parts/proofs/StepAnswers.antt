@@ -6,28 +6,29 @@ use Rattle.std.proofs.lemmas.Bool.{cases_lt, or_cases}
 use Rattle.std.proofs.lemmas.List.Edits.{length-insert}
 use Rattle.fort_theory.specs.Patterns.{PatternSystem}
 use Rattle.fort_theory.proofs.Members.{Contains-none, Contains-head}
-use Rattle.fort_logic.specs.Cores as core
-use Rattle.fort_logic.specs.Cores.{Core}
-use Rattle.fort_logic.specs.Parts.{is_free}
-use Rattle.fort_logic.specs.PatternStructures.{pattern_structure}
-use Rattle.fort_tables.specs.Tuples.{Tuple, IsTuple}
+use Rattle.fort_cores.specs.Cores as core
+use Rattle.fort_cores.specs.Cores.{Core, Binary}
+use Rattle.fort_cores.specs.Parts.{is_free}
+use Rattle.fort_cores.specs.Structures.{pattern_structure}
+use Rattle.fort_tables.specs.Tuples.{Tuple}
 use Rattle.fort_tables.specs.Entries.{Entry, AreNodes, tuples_of}
 use Rattle.fort_tables.specs.Tables.{Table}
 use Rattle.fort_tables.specs.Labels.{Labelling, HaveLabels, HasMoreLabels, IsTableOf}
 use Rattle.fort_tables.specs.LabelRules.{label_of, IsTableBy}
-use Rattle.fort_operations.specs.Products.{Connective, And, Or, Iff, connected, product_rule, product_accepts}
+use Rattle.fort_theory.specs.Logic.{Connective}
+use Rattle.fort_operations.specs.Products.{connected, product_rule, product_accepts}
 use Rattle.fort_operations.specs.Projections.{some_below, project_rule, project_accepts}
 use Rattle.fort_operations.specs.OperationTruth.{complemented}
-use Rattle.fort_operations.specs.Agreement.{Agreement, AgreeAtBoth}
+use Rattle.fort_operations.specs.Agreement.{Agreement}
 use Rattle.fort_counts.specs.ManyLabels.{TellsMany, many_rule, many_accepts, many_value}
 use Rattle.fort_parts.specs.PartColumns.{columns_of, place_in, places_in}
 use Rattle.fort_parts.specs.AlikeParts.{AlikeAt, AlikeBy, IsOverBy}
-use Rattle.fort_parts.specs.PartAnswers.{Answer, OfValue, OfTable, said, TellsTruth, IsAnswerTo}
-use Rattle.fort_parts.specs.PartSteps.{SaysBoth, SaysSome, SaysMany, operand_of}
+use Rattle.fort_parts.specs.PartAnswers.{Answer, OfValue, OfTable, IsAnswerTo}
+use Rattle.fort_parts.specs.PartSteps.{SaysSome, SaysMany, operand_of}
 use Rattle.fort_parts.specs.PartLabels.{LabelsTell, LabelsTellAlike}
-use Rattle.fort_parts.specs.RightAnswers.{IsRightBy, IsRightFor, HasTooManyBy, joined}
+use Rattle.fort_parts.specs.RightAnswers.{IsRightBy, IsRightFor, HasTooManyBy}
 use Rattle.fort_parts.proofs.PartColumnLaws.{columns_of-bound, first_within, second_within, is_free-from_column, column-from_free, place_of-member}
-use Rattle.fort_parts.proofs.StepTruth.{TellsTruth-True, TellsTruth-Not, TellsTruth-And, TellsTruth-Or, TellsTruth-Iff, TellsTruth-Exists, TellsTruth-Infinite}
+use Rattle.fort_parts.proofs.StepTruth.{TellsTruth-True, TellsTruth-Not, TellsTruth-Binary, TellsTruth-Exists, TellsTruth-Infinite}
 use Rattle.fort_parts.proofs.StepTables.{IsTableOver-labels, SaysNot-values, IsTableOver-complemented, SaysNot-tables, SaysBoth-values, SaysBoth-tables, SaysSome-tables, SaysSome-value, SaysMany-tables, SaysMany-value}
 use Rattle.fort_parts.proofs.StepAlike.{product_tells, project_tells, many_tells, Tells-labels, IsOverBy-labels}
 
@@ -67,13 +68,9 @@ IsRightBy-labels system like f label accepting table tells of answers = record {
 -- likeness by when tuples are alike at the operands is when they are alike
 pub AlikeBy-alike : (system : PatternSystem) (f : Core) (t u : Tuple) → AlikeBy system (AlikeAt system) f t u ↔ AlikeAt system f t u
 AlikeBy-alike system core.True t u = ((λ h. h), (λ h. h))
-AlikeBy-alike system (core.Atom rel index x y) t u = ((λ h. h), (λ h. h))
-AlikeBy-alike system (core.Nf index x) t u = ((λ h. h), (λ h. h))
-AlikeBy-alike system (core.Is x term) t u = ((λ h. h), (λ h. h))
+AlikeBy-alike system (core.Leaf a) t u = ((λ h. h), (λ h. h))
 AlikeBy-alike system (core.Not f) t u = ((λ h. h), (λ h. h))
-AlikeBy-alike system (core.And f g) t u = ((λ h. h), (λ h. h))
-AlikeBy-alike system (core.Or f g) t u = ((λ h. h), (λ h. h))
-AlikeBy-alike system (core.Iff f g) t u = ((λ h. h), (λ h. h))
+AlikeBy-alike system (core.Binary op f g) t u = ((λ h. h), (λ h. h))
 AlikeBy-alike system (core.Exists n f) t u = ((λ h. h), (λ h. h))
 AlikeBy-alike system (core.Infinite n f) t u = ((λ h. h), (λ h. h))
 
@@ -109,81 +106,62 @@ IsOverBy-closed system like f cap none over = let e = ap length none in omega (a
 
 -- ---- connectives
 
-pub is_free-joined : (op : Connective) (f g : Core) (n : ℕ) → is_free n (joined op f g) ≡ (is_free n f || is_free n g)
-is_free-joined And f g n = refl
-is_free-joined Or f g n = refl
-is_free-joined Iff f g n = refl
+pub is_free-joined : (op : Connective) (f g : Core) (n : ℕ) → is_free n (Binary op f g) ≡ (is_free n f || is_free n g)
+is_free-joined op f g n = refl
 
-truth-joined : (system : PatternSystem) (op : Connective) (f g : Core) (first second answer : Answer)
-    → SaysBoth system.signature (length (columns_of (joined op f g))) op (places_in (columns_of (joined op f g)) (columns_of f)) first
-    (places_in (columns_of (joined op f g)) (columns_of g)) second answer
-    → TellsTruth (pattern_structure system) f (said first) → TellsTruth (pattern_structure system) g (said second)
-    → TellsTruth (pattern_structure system) (joined op f g) (said answer)
-truth-joined system And f g first second answer says one other = TellsTruth-And (pattern_structure system) f g first second answer says one other
-truth-joined system Or f g first second answer says one other = TellsTruth-Or (pattern_structure system) f g first second answer says one other
-truth-joined system Iff f g first second answer says one other = TellsTruth-Iff (pattern_structure system) f g first second answer says one other
-
-alike-joined : (system : PatternSystem) (like : Core → Agreement) (op : Connective) (f g : Core) (label : Labelling)
-    → LabelsTell system (joined op f g) (AgreeAtBoth (places_in (columns_of (joined op f g)) (columns_of f)) (like f) (places_in (columns_of (joined op f g)) (columns_of g)) (like g)) label
-    → LabelsTell system (joined op f g) (AlikeBy system like (joined op f g)) label
-alike-joined system like And f g label h = h
-alike-joined system like Or f g label h = h
-alike-joined system like Iff f g label h = h
-
-columns-joined : (op : Connective) (f g : Core) → columns_of f ≡ [] → columns_of g ≡ [] → columns_of (joined op f g) ≡ []
+columns-joined : (op : Connective) (f g : Core) → columns_of f ≡ [] → columns_of g ≡ [] → columns_of (Binary op f g) ≡ []
 columns-joined op f g one other =
-    no_columns (joined op f g)
+    no_columns (Binary op f g)
     (λ n e. ⊎_elim (λ h. not_free f one n h) (λ h. not_free g other n h) (or_cases (is_free n f) (is_free n g) (sym (is_free-joined op f g n) ∙ e)))
 
 module _ (system : PatternSystem) (op : Connective) (f g : Core) where
-  pub closed-values : (a b : Bool) → IsAnswerTo (pattern_structure system) f (OfValue a) → IsAnswerTo (pattern_structure system) g (OfValue b) → columns_of (joined op f g) ≡ []
+  pub closed-values : (a b : Bool) → IsAnswerTo (pattern_structure system) f (OfValue a) → IsAnswerTo (pattern_structure system) g (OfValue b) → columns_of (Binary op f g) ≡ []
   closed-values a b one other = columns-joined op f g one.over other.over
 
   pub IsAnswerTo-values : (a b : Bool) → IsAnswerTo (pattern_structure system) f (OfValue a) → IsAnswerTo (pattern_structure system) g (OfValue b)
-      → IsAnswerTo (pattern_structure system) (joined op f g) (OfValue (connected op a b))
+      → IsAnswerTo (pattern_structure system) (Binary op f g) (OfValue (connected op a b))
   IsAnswerTo-values a b one other = record {
     over = closed-values a b one other;
     truth =
-        truth-joined system op f g (OfValue a) (OfValue b) (OfValue (connected op a b))
-        (SaysBoth-values system.signature (length (columns_of (joined op f g))) op (places_in (columns_of (joined op f g)) (columns_of f))
-        (places_in (columns_of (joined op f g)) (columns_of g)) a b) one.truth other.truth;
+        TellsTruth-Binary (pattern_structure system) op f g (OfValue a) (OfValue b) (OfValue (connected op a b))
+        (SaysBoth-values system.signature (length (columns_of (Binary op f g))) op (places_in (columns_of (Binary op f g)) (columns_of f))
+        (places_in (columns_of (Binary op f g)) (columns_of g)) a b) one.truth other.truth;
   }
 
-  pub some-first : (table : Table) → IsAnswerTo (pattern_structure system) f (OfTable table) → 0 < length (columns_of (joined op f g))
-  some-first table answers = some_column f (joined op f g) (first_within (joined op f g) f g (is_free-joined op f g)) answers.over.some
+  pub some-first : (table : Table) → IsAnswerTo (pattern_structure system) f (OfTable table) → 0 < length (columns_of (Binary op f g))
+  some-first table answers = some_column f (Binary op f g) (first_within (Binary op f g) f g (is_free-joined op f g)) answers.over.some
 
-  pub some-second : (table : Table) → IsAnswerTo (pattern_structure system) g (OfTable table) → 0 < length (columns_of (joined op f g))
-  some-second table answers = some_column g (joined op f g) (second_within (joined op f g) f g (is_free-joined op f g)) answers.over.some
+  pub some-second : (table : Table) → IsAnswerTo (pattern_structure system) g (OfTable table) → 0 < length (columns_of (Binary op f g))
+  some-second table answers = some_column g (Binary op f g) (second_within (Binary op f g) f g (is_free-joined op f g)) answers.over.some
 
   -- the label of the product, on the columns of both
   abbrev pub joined_label : Answer → Answer → Labelling
   joined_label first second =
-      label_of (product_rule (length (columns_of (joined op f g))) (operand_of first (places_in (columns_of (joined op f g)) (columns_of f)))
-      (operand_of second (places_in (columns_of (joined op f g)) (columns_of g))))
+      label_of (product_rule (length (columns_of (Binary op f g))) (operand_of first (places_in (columns_of (Binary op f g)) (columns_of f)))
+      (operand_of second (places_in (columns_of (Binary op f g)) (columns_of g))))
 
   -- Result: the product's labels tell the likeness by what the operands' states tell
   pub LabelsTell-joined : (like : Core → Agreement) (first second : Answer) → IsRightBy system like f first → IsRightBy system like g second
-      → LabelsTell system (joined op f g) (AlikeBy system like (joined op f g)) (joined_label first second)
+      → LabelsTell system (Binary op f g) (AlikeBy system like (Binary op f g)) (joined_label first second)
   LabelsTell-joined like first second one other =
-      alike-joined system like op f g (joined_label first second)
-      (product_tells system (joined op f g) f g (like f) (like g) first second (is_free-joined op f g) one.answers.over other.answers.over one.alike other.alike)
+      product_tells system (Binary op f g) f g (like f) (like g) first second (is_free-joined op f g) one.answers.over other.answers.over one.alike other.alike
 
   pub LabelsTellAlike-joined : (first second : Answer) → IsRightFor system f first → IsRightFor system g second
-      → LabelsTellAlike system (joined op f g) (joined_label first second)
-  LabelsTellAlike-joined first second one other = LabelsTell-alike system (joined op f g) (joined_label first second) (LabelsTell-joined (AlikeAt system) first second one other)
+      → LabelsTellAlike system (Binary op f g) (joined_label first second)
+  LabelsTellAlike-joined first second one other = LabelsTell-alike system (Binary op f g) (joined_label first second) (LabelsTell-joined (AlikeAt system) first second one other)
 
   -- Result: the product's table answers, whatever its states tell
-  pub IsAnswerTo-joined : (first second : Answer) (table : Table) → IsAnswerTo (pattern_structure system) f first → IsAnswerTo (pattern_structure system) g second → 0 < length (columns_of (joined op f g))
-      → IsTableBy system.signature (length (columns_of (joined op f g))) (joined_label first second)
-      (product_accepts op (operand_of first (places_in (columns_of (joined op f g)) (columns_of f))) (operand_of second (places_in (columns_of (joined op f g)) (columns_of g)))) table
-      → IsAnswerTo (pattern_structure system) (joined op f g) (OfTable table)
+  pub IsAnswerTo-joined : (first second : Answer) (table : Table) → IsAnswerTo (pattern_structure system) f first → IsAnswerTo (pattern_structure system) g second → 0 < length (columns_of (Binary op f g))
+      → IsTableBy system.signature (length (columns_of (Binary op f g))) (joined_label first second)
+      (product_accepts op (operand_of first (places_in (columns_of (Binary op f g)) (columns_of f))) (operand_of second (places_in (columns_of (Binary op f g)) (columns_of g)))) table
+      → IsAnswerTo (pattern_structure system) (Binary op f g) (OfTable table)
   IsAnswerTo-joined first second table one other some by =
-      let h = joined op f g in
+      let h = Binary op f g in
       let accepting = product_accepts op (operand_of first (places_in (columns_of h) (columns_of f))) (operand_of second (places_in (columns_of h) (columns_of g))) in
       record {
         over = IsTableOver-labels system.signature (columns_of h) (length (columns_of h)) table (joined_label first second) accepting some refl by;
         truth =
-            truth-joined system op f g first second (OfTable table)
+            TellsTruth-Binary (pattern_structure system) op f g first second (OfTable table)
             (SaysBoth-tables system.signature (columns_of f) (columns_of g) (columns_of h) first second op (first_within h f g (is_free-joined op f g))
             (second_within h f g (is_free-joined op f g)) one.over other.over some table by) one.truth other.truth;
       }

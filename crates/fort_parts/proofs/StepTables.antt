@@ -4,7 +4,7 @@ use Rattle.std.specs.List.{insert}
 use Rattle.std.proofs.Common.{ap, sym, ◌∙◌, subst, arith}
 use Rattle.std.proofs.lemmas.List.{length-map, get_or-map}
 use Rattle.std.proofs.lemmas.List.Elements.{Contains-get_or}
-use Rattle.fort_logic.specs.Logic.{HasInfinitelyMany}
+use Rattle.fort_theory.specs.Logic.{HasInfinitelyMany, Connective}
 use Rattle.fort_theory.specs.Trees.{Tree}
 use Rattle.fort_theory.specs.Signatures.{Signature, IsGround}
 use Rattle.fort_tables.specs.Tuples.{Tuple, IsTuple}
@@ -12,7 +12,7 @@ use Rattle.fort_tables.specs.Tables.{Table, state_of}
 use Rattle.fort_tables.specs.LabelRules.{label_of, IsTableBy}
 use Rattle.fort_tables.proofs.TableLaws.{table_state}
 use Rattle.fort_operations.specs.Selections.{selected}
-use Rattle.fort_operations.specs.Products.{Connective, IsOperand, IsLawful, connected, product_rule, product_accepts}
+use Rattle.fort_operations.specs.Products.{IsOperand, IsLawful, connected, product_rule, product_accepts}
 use Rattle.fort_operations.specs.Projections.{some_below, project_rule, project_accepts}
 use Rattle.fort_operations.specs.OperationTruth.{accepts, said_by, complemented}
 use Rattle.fort_operations.proofs.SearchLaws.{found_below, below_found}

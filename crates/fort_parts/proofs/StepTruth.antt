@@ -5,16 +5,15 @@ use Rattle.std.proofs.Common.{ap, sym, ◌∙◌, true≢false}
 use Rattle.std.proofs.lemmas.Bool.{and_parts}
 use Rattle.fort_theory.specs.Trees.{Tree}
 use Rattle.fort_theory.specs.Signatures.{IsGround}
-use Rattle.fort_logic.specs.Logic.{HasSome}
-use Rattle.fort_logic.specs.Truth.{Structure}
-use Rattle.fort_logic.specs.Cores as core
-use Rattle.fort_logic.specs.Cores.{Core}
-use Rattle.fort_logic.specs.CoreTruth.{Places, IsMetBy, with_number}
-use Rattle.fort_logic.specs.Parts.{is_free}
+use Rattle.fort_theory.specs.Logic.{HasSome, Connective, Connected}
+use Rattle.fort_cores.specs.Structures.{Structure}
+use Rattle.fort_cores.specs.Cores as core
+use Rattle.fort_cores.specs.Cores.{Core}
+use Rattle.fort_cores.specs.CoreTruth.{Places, IsMetBy, with_number}
+use Rattle.fort_cores.specs.Parts.{is_free}
 use Rattle.fort_tables.proofs.EqualTests.{apart_from_test}
 use Rattle.fort_atom_labels.specs.AssignedTuples.{tuple_of}
-use Rattle.fort_operations.specs.Products.{Connective, And, Or, Iff, connected}
-use Rattle.fort_operations.specs.OperationTruth.{Connected}
+use Rattle.fort_operations.specs.Products.{connected}
 use Rattle.fort_operations.proofs.TruthLaws.{not_decides, connected_decides}
 use Rattle.fort_counts.proofs.ManyTruth.{many_weaker}
 use Rattle.fort_parts.specs.PartColumns.{columns_of, place_in, places_in}
@@ -53,23 +52,11 @@ module _ (structure : Structure) where
       (connected_decides op (said first (tuple_of v (columns_of f))) (said second (tuple_of v (columns_of g))) (IsMetBy structure f v) (IsMetBy structure g v)
       (one v grounded) (other v grounded))
 
-  pub TellsTruth-And : (f g : Core) (first second answer : Answer)
-      → SaysBoth structure.signature (length (columns_of (core.And f g))) And (places_in (columns_of (core.And f g)) (columns_of f)) first
-      (places_in (columns_of (core.And f g)) (columns_of g)) second answer
-      → TellsTruth structure f (said first) → TellsTruth structure g (said second) → TellsTruth structure (core.And f g) (said answer)
-  TellsTruth-And f g first second answer says one other v grounded = both (core.And f g) f g And first second answer (λ n. refl) says one other v grounded
-
-  pub TellsTruth-Or : (f g : Core) (first second answer : Answer)
-      → SaysBoth structure.signature (length (columns_of (core.Or f g))) Or (places_in (columns_of (core.Or f g)) (columns_of f)) first
-      (places_in (columns_of (core.Or f g)) (columns_of g)) second answer
-      → TellsTruth structure f (said first) → TellsTruth structure g (said second) → TellsTruth structure (core.Or f g) (said answer)
-  TellsTruth-Or f g first second answer says one other v grounded = both (core.Or f g) f g Or first second answer (λ n. refl) says one other v grounded
-
-  pub TellsTruth-Iff : (f g : Core) (first second answer : Answer)
-      → SaysBoth structure.signature (length (columns_of (core.Iff f g))) Iff (places_in (columns_of (core.Iff f g)) (columns_of f)) first
-      (places_in (columns_of (core.Iff f g)) (columns_of g)) second answer
-      → TellsTruth structure f (said first) → TellsTruth structure g (said second) → TellsTruth structure (core.Iff f g) (said answer)
-  TellsTruth-Iff f g first second answer says one other v grounded = both (core.Iff f g) f g Iff first second answer (λ n. refl) says one other v grounded
+  pub TellsTruth-Binary : (op : Connective) (f g : Core) (first second answer : Answer)
+      → SaysBoth structure.signature (length (columns_of (core.Binary op f g))) op (places_in (columns_of (core.Binary op f g)) (columns_of f)) first
+      (places_in (columns_of (core.Binary op f g)) (columns_of g)) second answer
+      → TellsTruth structure f (said first) → TellsTruth structure g (said second) → TellsTruth structure (core.Binary op f g) (said answer)
+  TellsTruth-Binary op f g first second answer says one other v grounded = both (core.Binary op f g) f g op first second answer (λ n. refl) says one other v grounded
 
   -- the binder's number is free in the body
   module _ (n : ℕ) (f : Core) (body : Answer) (among : is_free n f ≡ true) (tells : TellsTruth structure f (said body)) (v : Places)

@@ -1,10 +1,8 @@
 -- To believe: when two optional tuples are alike at a core formula, over its columns, also by another likeness at its operands; by a likeness a part is over a cap where there are more tuples than it, no two of them alike.
 use Rattle.std.specs.Prelude.{ℕ, ◌<◌, List, length, get_or}
 use Rattle.fort_theory.specs.Patterns.{PatternSystem}
-use Rattle.fort_logic.specs.Cores.{Core, True, Atom, Nf, Is, Not, And, Or, Iff, Exists, Infinite}
-use Rattle.fort_alike.specs.Atoms.{relation_atom, normal_atom}
-use Rattle.fort_alike.specs.Alike.{Alike}
-use Rattle.fort_alike.specs.AlikeAtTerm.{AlikeAtTerm}
+use Rattle.fort_cores.specs.Cores.{Core, True, Leaf, Not, Binary, Exists, Infinite}
+use Rattle.fort_alike.specs.AlikeAtAtom.{AlikeAtAtom}
 use Rattle.fort_alike.specs.UnlikeTuples.{IsOver}
 use Rattle.fort_operations.specs.Agreement.{Agreement, AgreeAtBoth, AgreeAtSome}
 use Rattle.fort_counts.specs.ManyAgreement.{AgreeAtMany}
@@ -13,32 +11,20 @@ use Rattle.fort_parts.specs.PartColumns.{columns_of, place_in, places_in}
 -- a formula without columns has no tuples
 abbrev pub AlikeAt : PatternSystem → Core → Agreement
 AlikeAt system True t u = Unit {0}
-AlikeAt system (Atom rel index x y) t u = Alike (relation_atom system rel index x y (columns_of (Atom rel index x y))) t u
-AlikeAt system (Nf index x) t u = Alike (normal_atom system index) t u
-AlikeAt system (Is x term) t u = AlikeAtTerm term t u
+AlikeAt system (Leaf a) t u = AlikeAtAtom system a (columns_of (Leaf a)) t u
 AlikeAt system (Not f) t u = AlikeAt system f t u
-AlikeAt system (And f g) t u =
-    AgreeAtBoth (places_in (columns_of (And f g)) (columns_of f)) (AlikeAt system f) (places_in (columns_of (And f g)) (columns_of g)) (AlikeAt system g) t u
-AlikeAt system (Or f g) t u =
-    AgreeAtBoth (places_in (columns_of (Or f g)) (columns_of f)) (AlikeAt system f) (places_in (columns_of (Or f g)) (columns_of g)) (AlikeAt system g) t u
-AlikeAt system (Iff f g) t u =
-    AgreeAtBoth (places_in (columns_of (Iff f g)) (columns_of f)) (AlikeAt system f) (places_in (columns_of (Iff f g)) (columns_of g)) (AlikeAt system g) t u
+AlikeAt system (Binary op f g) t u =
+    AgreeAtBoth (places_in (columns_of (Binary op f g)) (columns_of f)) (AlikeAt system f) (places_in (columns_of (Binary op f g)) (columns_of g)) (AlikeAt system g) t u
 AlikeAt system (Exists n f) t u = AgreeAtSome system.signature (place_in (columns_of f) n) (AlikeAt system f) t u
 AlikeAt system (Infinite n f) t u = AgreeAtMany system.signature (place_in (columns_of f) n) (AlikeAt system f) t u
 
 -- the same with any likeness at the operands in the place of this one
 abbrev pub AlikeBy : PatternSystem → (Core → Agreement) → Core → Agreement
 AlikeBy system like True t u = Unit {0}
-AlikeBy system like (Atom rel index x y) t u = AlikeAt system (Atom rel index x y) t u
-AlikeBy system like (Nf index x) t u = AlikeAt system (Nf index x) t u
-AlikeBy system like (Is x term) t u = AlikeAt system (Is x term) t u
+AlikeBy system like (Leaf a) t u = AlikeAt system (Leaf a) t u
 AlikeBy system like (Not f) t u = like f t u
-AlikeBy system like (And f g) t u =
-    AgreeAtBoth (places_in (columns_of (And f g)) (columns_of f)) (like f) (places_in (columns_of (And f g)) (columns_of g)) (like g) t u
-AlikeBy system like (Or f g) t u =
-    AgreeAtBoth (places_in (columns_of (Or f g)) (columns_of f)) (like f) (places_in (columns_of (Or f g)) (columns_of g)) (like g) t u
-AlikeBy system like (Iff f g) t u =
-    AgreeAtBoth (places_in (columns_of (Iff f g)) (columns_of f)) (like f) (places_in (columns_of (Iff f g)) (columns_of g)) (like g) t u
+AlikeBy system like (Binary op f g) t u =
+    AgreeAtBoth (places_in (columns_of (Binary op f g)) (columns_of f)) (like f) (places_in (columns_of (Binary op f g)) (columns_of g)) (like g) t u
 AlikeBy system like (Exists n f) t u = AgreeAtSome system.signature (place_in (columns_of f) n) (like f) t u
 AlikeBy system like (Infinite n f) t u = AgreeAtMany system.signature (place_in (columns_of f) n) (like f) t u
 

@@ -1,19 +1,22 @@
 -- To believe: the columns of a core formula are its free numbers, ascending; a number's place is its first place among them.
 use Rattle.std.specs.Prelude.{ℕ, suc, max, ◌==◌, List, map, filter}
 use Rattle.std.specs.List.{range_with_len, position_or_len}
-use Rattle.fort_logic.specs.Cores.{Core, True, Atom, Nf, Is, Not, And, Or, Iff, Exists, Infinite}
-use Rattle.fort_logic.specs.Parts.{is_free}
+use Rattle.fort_cores.specs.Cores.{Atom, Related, InContext, Normal, IsTerm, Core, True, Leaf, Not, Binary, Exists, Infinite}
+use Rattle.fort_cores.specs.Parts.{is_free}
+
+-- one more than the atom's greatest number
+abbrev pub numbers_in : Atom → ℕ
+numbers_in (Related rel index x y) = max (suc x) (suc y)
+numbers_in (InContext e number place x y) = max (suc x) (suc y)
+numbers_in (Normal index x) = suc x
+numbers_in (IsTerm x t) = suc x
 
 -- one more than the greatest number of an atom, free or not, and so above each free number
 abbrev pub numbers_below : Core → ℕ
 numbers_below True = 0
-numbers_below (Atom rel index x y) = max (suc x) (suc y)
-numbers_below (Nf index x) = suc x
-numbers_below (Is x t) = suc x
+numbers_below (Leaf a) = numbers_in a
 numbers_below (Not f) = numbers_below f
-numbers_below (And f g) = max (numbers_below f) (numbers_below g)
-numbers_below (Or f g) = max (numbers_below f) (numbers_below g)
-numbers_below (Iff f g) = max (numbers_below f) (numbers_below g)
+numbers_below (Binary op f g) = max (numbers_below f) (numbers_below g)
 numbers_below (Exists n f) = numbers_below f
 numbers_below (Infinite n f) = numbers_below f
 

@@ -1,13 +1,13 @@
 -- To believe: how the answer of a formula comes from those of its operands, on tuples of terms over its columns: the complement, a connective of what the operands say of their own columns, and whether some term, or infinitely many terms, in one column are accepted.
 use Rattle.std.specs.Prelude.{◌≡◌, ℕ, List, length, true, not, Decides, Some}
 use Rattle.std.specs.List.{insert}
-use Rattle.fort_logic.specs.Logic.{HasInfinitelyMany}
+use Rattle.fort_theory.specs.Logic.{HasInfinitelyMany, Connective}
 use Rattle.fort_theory.specs.Trees.{Tree}
 use Rattle.fort_theory.specs.Signatures.{Signature, IsGround}
 use Rattle.fort_tables.specs.Tuples.{Tuple, IsFull, AreGroundColumns}
 use Rattle.fort_operations.specs.Selections.{selected}
 use Rattle.fort_operations.specs.Products as products
-use Rattle.fort_operations.specs.Products.{Connective, Operand, OfTruth, connected}
+use Rattle.fort_operations.specs.Products.{Operand, OfTruth, connected}
 use Rattle.fort_parts.specs.PartAnswers.{Answer, OfValue, OfTable, said}
 
 -- so many ground terms; without columns the empty tuple

@@ -1,12 +1,10 @@
 -- To believe: an answer is right for a formula over a system by a likeness where it tells the formula's truth, and its states tell when tuples are alike; more tuples than a cap, no two of them alike, show that a formula is over it.
 use Rattle.std.specs.Prelude.{◌+◌, ℕ, List, length}
 use Rattle.fort_theory.specs.Patterns.{PatternSystem}
-use Rattle.fort_logic.specs.Cores as core
-use Rattle.fort_logic.specs.Cores.{Core}
-use Rattle.fort_logic.specs.PatternStructures.{pattern_structure}
+use Rattle.fort_cores.specs.Cores.{Core}
+use Rattle.fort_cores.specs.Structures.{pattern_structure}
 use Rattle.fort_tables.specs.Entries.{Entry, AreNodes, tuples_of}
 use Rattle.fort_alike.specs.UnlikeTuples.{AreUnlike}
-use Rattle.fort_operations.specs.Products.{Connective, And, Or, Iff}
 use Rattle.fort_parts.specs.PartColumns.{columns_of}
 use Rattle.fort_operations.specs.Agreement.{Agreement}
 use Rattle.fort_parts.specs.AlikeParts.{AlikeAt}
@@ -25,9 +23,3 @@ pub record HasTooManyBy (system : PatternSystem) (like : Core → Agreement) (f 
 -- by when tuples are alike
 abbrev pub IsRightFor : PatternSystem → Core → Answer → Type 0
 IsRightFor system f answer = IsRightBy system (AlikeAt system) f answer
-
--- two formulas joined by a connective
-abbrev pub joined : Connective → Core → Core → Core
-joined And f g = core.And f g
-joined Or f g = core.Or f g
-joined Iff f g = core.Iff f g

@@ -9,5 +9,5 @@ mod operand;
 mod product;
 mod words;
 
-pub use operand::{Op, Operand};
+pub use operand::Operand;
 pub use product::Both;

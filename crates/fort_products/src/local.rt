@@ -3,11 +3,13 @@ ghost use Rattle.std.specs.Prelude.{◌≡◌, ℕ, length};
 ghost use Rattle.fort_tables.specs.Labels.{IsOverLabels, IsFullLabel};
 ghost use Rattle.fort_tables.specs.LabelRules.{label_of, entry_label};
 ghost use Rattle.fort_operations.specs.Products.{AreOperands, signature_of, product_rule, product_accepts};
-ghost use Rattle.fort_products.specs.Operands.{operand_of, connective_of};
+ghost use Rattle.fort_connectives.specs.ConnectiveView.{connective_of};
+ghost use Rattle.fort_products.specs.Operands.{operand_of};
 
 use crate::listed::write_both;
-use crate::operand::{Op, Operand};
+use crate::operand::Operand;
 use crate::words::operand_accepts;
+use fort_connectives::Op;
 use fort_explore::Rows;
 use fort_lockstep::{Row, Table};
 
@@ -50,9 +52,5 @@ pub fn both_accepts<T: Table>(
 {
     let first_accepts = operand_accepts(first, 1, label);
     let second_accepts = operand_accepts(second, 2, label);
-    match op {
-        Op::And => first_accepts && second_accepts,
-        Op::Or => first_accepts || second_accepts,
-        Op::Iff => first_accepts == second_accepts,
-    }
+    op.connect(first_accepts, second_accepts)
 }

@@ -1,4 +1,4 @@
-//! Operands and connectives; an operand's list.
+//! Operands, and their lists.
 ghost use Rattle.std.specs.Prelude.{◌≡◌, length, IfOk, OnErr, IsFalse};
 ghost use Rattle.fort_operations.specs.Products.{IsLawful, places_of};
 ghost use Rattle.fort_products.specs.Operands.{operand_of};
@@ -9,14 +9,6 @@ use fort_lockstep::Table;
 use fort_target_lists::TargetList;
 use fort_terms::Memory;
 use std::alloc::Global;
-
-/// A connective of two relations.
-#[derive(Clone, Copy, Debug, PartialEq, Eq)]
-pub enum Op {
-    And,
-    Or,
-    Iff,
-}
 
 /// A table with the places of its columns among those of the product, or a truth.
 #[derive(Clone, Copy)]

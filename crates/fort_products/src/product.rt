@@ -5,9 +5,11 @@ ghost use Rattle.fort_tables.specs.Labels.{first_word, AreLabels};
 ghost use Rattle.fort_tables.specs.LabelRules.{label_of};
 ghost use Rattle.fort_operations.specs.Products as products;
 ghost use Rattle.fort_operations.specs.Agreement.{AgreeAtBoth, OperandAgreement};
-ghost use Rattle.fort_operations.specs.OperationTruth.{TestsRelation, Connected, said_by};
+ghost use Rattle.fort_theory.specs.Logic.{Connected};
+ghost use Rattle.fort_operations.specs.OperationTruth.{TestsRelation, said_by};
 ghost use Rattle.fort_operations.proofs.OperandFacts.{AreOperands-prop};
-ghost use Rattle.fort_products.specs.Operands.{operand_of, connective_of};
+ghost use Rattle.fort_connectives.specs.ConnectiveView.{connective_of};
+ghost use Rattle.fort_products.specs.Operands.{operand_of};
 ghost use Rattle.fort_target_lists.specs.ListedOperands.{IsListOf, IfListOf-prop};
 ghost use Rattle.fort_target_lists.specs.TargetLists.{IsOperandList};
 ghost use Rattle.fort_target_lists.specs.LayRooms.{HasLayRoom};
@@ -16,7 +18,8 @@ ghost use Rattle.fort_products.specs.HeldTargets.{AreHeldFrom};
 use crate::held::Holding;
 use crate::listed::write_both;
 use crate::local::both_accepts;
-use crate::operand::{Op, Operand};
+use crate::operand::Operand;
+use fort_connectives::Op;
 use fort_explore::{LocalRule, Rows};
 use fort_lockstep::{Row, Table};
 use fort_target_lists::{FlatTargets, LayRoom, TargetList, Walk, flat_of, has_entries};
@@ -177,7 +180,8 @@ impl<'a, T: Table> Both<'a, T> {
 impl<'a, T: Table> LocalRule for Both<'a, T> {
     ghost use Rattle.std.specs.Prelude.{refl};
     ghost use Rattle.fort_operations.specs.Products.{product_rule, product_accepts};
-    ghost use Rattle.fort_products.specs.Operands.{operand_of, connective_of};
+    ghost use Rattle.fort_connectives.specs.ConnectiveView.{connective_of};
+    ghost use Rattle.fort_products.specs.Operands.{operand_of};
 
     ghost rule = { λ b. product_rule b.columns (operand_of T.table b.first)
         (operand_of T.table b.second) };

@@ -6,9 +6,9 @@ use Rattle.std.proofs.lemmas.List.{length-map}
 use Rattle.fort_theory.specs.Trees.{Tree}
 use Rattle.fort_theory.specs.Signatures.{Signature, IsGround}
 use Rattle.fort_theory.specs.Patterns.{PatternSystem}
-use Rattle.fort_logic.specs.Cores as core
-use Rattle.fort_logic.specs.Cores.{Core, True, Atom, Nf, Is, Not, And, Or, Iff, Exists, Infinite}
-use Rattle.fort_logic.specs.Parts.{is_free, BindsFree}
+use Rattle.fort_cores.specs.Cores as core
+use Rattle.fort_cores.specs.Cores.{Core, True, Leaf, Related, Normal, IsTerm, Not, Binary, Exists, Infinite}
+use Rattle.fort_cores.specs.Parts.{is_free, BindsFree}
 use Rattle.fort_tables.specs.Tuples.{Tuple, presence, IsTuple, IsPresent}
 use Rattle.fort_tables.specs.Tables.{Table, state_of}
 use Rattle.fort_tables.proofs.TableLaws.{table_state}
@@ -36,13 +36,9 @@ pub record HasAnswer (system : PatternSystem) (f : Core) : Type 0 where
 -- of each operand
 abbrev pub OperandsAnswered : PatternSystem → Core → Type 0
 OperandsAnswered system True = Unit {0}
-OperandsAnswered system (Atom rel index x y) = Unit {0}
-OperandsAnswered system (Nf index x) = Unit {0}
-OperandsAnswered system (Is x term) = Unit {0}
+OperandsAnswered system (Leaf a) = Unit {0}
 OperandsAnswered system (Not f) = HasAnswer system f
-OperandsAnswered system (And f g) = HasAnswer system f × HasAnswer system g
-OperandsAnswered system (Or f g) = HasAnswer system f × HasAnswer system g
-OperandsAnswered system (Iff f g) = HasAnswer system f × HasAnswer system g
+OperandsAnswered system (Binary op f g) = HasAnswer system f × HasAnswer system g
 OperandsAnswered system (Exists n f) = HasAnswer system f
 OperandsAnswered system (Infinite n f) = HasAnswer system f
 
@@ -185,13 +181,9 @@ module _ (system : PatternSystem) where
   pub reduced_from_alike : (f : Core) → BindsFree f → OperandsAnswered system f → (t u : Tuple) → IsTuple system.signature (length (columns_of f)) t → IsTuple system.signature (length (columns_of f)) u
       → AlikeAt system f t u → AlikeReduced system f t u
   reduced_from_alike True binds a t u ht hu h = h
-  reduced_from_alike (Atom rel index x y) binds a t u ht hu h = h
-  reduced_from_alike (Nf index x) binds a t u ht hu h = h
-  reduced_from_alike (Is x term) binds a t u ht hu h = h
+  reduced_from_alike (Leaf atom) binds a t u ht hu h = h
   reduced_from_alike (Not f) binds a t u ht hu h = lift f a t u ht hu h
-  reduced_from_alike (And f g) binds a t u ht hu h = lift_both f g (columns_of (core.And f g)) a.0 a.1 t u ht hu h
-  reduced_from_alike (Or f g) binds a t u ht hu h = lift_both f g (columns_of (core.Or f g)) a.0 a.1 t u ht hu h
-  reduced_from_alike (Iff f g) binds a t u ht hu h = lift_both f g (columns_of (core.Iff f g)) a.0 a.1 t u ht hu h
+  reduced_from_alike (Binary op f g) binds a t u ht hu h = lift_both f g (columns_of (core.Binary op f g)) a.0 a.1 t u ht hu h
   reduced_from_alike (Exists n f) binds a t u ht hu h =
       let w = body_of system n f binds.0 a in lift_some n f w.0 w.1 binds.0 t u ht hu h
   reduced_from_alike (Infinite n f) binds a t u ht hu h =

@@ -1,23 +1,22 @@
 -- Labels over operands that are kept tell when tuples are alike; a part that more tuples are told apart at than a cap is over it.
-use Rattle.std.specs.Prelude.{◌≡◌, ◌↔◌, ℕ, Bool, true, false, not, List, [], length, get_or}
+use Rattle.std.specs.Prelude.{◌↔◌, ℕ, Bool, true, false, not, [], length, get_or}
 use Rattle.std.proofs.Common.{sym, subst}
 use Rattle.fort_theory.specs.Patterns.{PatternSystem}
-use Rattle.fort_theory.specs.Trees.{Tree}
 use Rattle.fort_theory.specs.Signatures.{Signature}
-use Rattle.fort_logic.specs.Cores as core
-use Rattle.fort_logic.specs.Cores.{Core, Rel}
+use Rattle.fort_cores.specs.Cores as core
+use Rattle.fort_cores.specs.Cores.{Core, Rel, Atom}
 use Rattle.fort_tables.specs.Tuples.{Tuple, IsTuple}
 use Rattle.fort_tables.specs.Tables.{Table}
 use Rattle.fort_tables.specs.Labels.{Labelling}
 use Rattle.fort_operations.specs.OperationTruth.{complemented}
-use Rattle.fort_logic.specs.PatternStructures.{pattern_structure}
+use Rattle.fort_cores.specs.Structures.{pattern_structure}
 use Rattle.fort_parts.specs.PartColumns.{columns_of}
-use Rattle.fort_parts.specs.AlikeParts.{AlikeAt, AlikeBy, IsOverBy}
+use Rattle.fort_parts.specs.AlikeParts.{AlikeBy, IsOverBy}
 use Rattle.fort_parts.specs.PartAnswers.{Answer, OfValue, OfTable, IsAnswerTo}
 use Rattle.fort_parts.specs.PartLabels.{LabelsTell, LabelsTellAlike}
 use Rattle.fort_parts.specs.RightAnswers.{IsRightBy}
 use Rattle.fort_parts.proofs.StepAnswers.{LabelsTell-alike, IsAnswerTo-Not-value, IsAnswerTo-Not-table, IsOverBy-closed}
-use Rattle.fort_reduced_parts.specs.ReducedParts.{InterchangeableAt, AlikeReduced, AlikeWith}
+use Rattle.fort_reduced_parts.specs.ReducedParts.{InterchangeableAt, AlikeWith}
 use Rattle.fort_reduced_parts.specs.ToldParts.{ToldWith}
 use Rattle.fort_reduced_parts.proofs.MergedAnswers.{interchangeable_in_state}
 use Rattle.fort_reduced_parts.proofs.NegatedParts.{interchangeable_not}
@@ -29,20 +28,10 @@ LabelsTell-with true system f label tells = tells
 LabelsTell-with false system f label tells = LabelsTell-alike system f label tells
 
 -- Result: labels of atoms, which have no operands
-pub LabelsTell-Atom : (reduces : Bool) (system : PatternSystem) (rel : Rel) (index x y : ℕ) (label : Labelling) → LabelsTellAlike system (core.Atom rel index x y) label
-    → LabelsTell system (core.Atom rel index x y) (AlikeWith reduces system (core.Atom rel index x y)) label
-LabelsTell-Atom true system rel index x y label tells = tells
-LabelsTell-Atom false system rel index x y label tells = tells
-
-pub LabelsTell-Nf : (reduces : Bool) (system : PatternSystem) (index x : ℕ) (label : Labelling) → LabelsTellAlike system (core.Nf index x) label
-    → LabelsTell system (core.Nf index x) (AlikeWith reduces system (core.Nf index x)) label
-LabelsTell-Nf true system index x label tells = tells
-LabelsTell-Nf false system index x label tells = tells
-
-pub LabelsTell-Is : (reduces : Bool) (system : PatternSystem) (x : ℕ) (term : Tree) (label : Labelling) → LabelsTellAlike system (core.Is x term) label
-    → LabelsTell system (core.Is x term) (AlikeWith reduces system (core.Is x term)) label
-LabelsTell-Is true system x term label tells = tells
-LabelsTell-Is false system x term label tells = tells
+pub LabelsTell-Leaf : (reduces : Bool) (system : PatternSystem) (a : Atom) (label : Labelling) → LabelsTellAlike system (core.Leaf a) label
+    → LabelsTell system (core.Leaf a) (AlikeWith reduces system (core.Leaf a)) label
+LabelsTell-Leaf true system a label tells = tells
+LabelsTell-Leaf false system a label tells = tells
 
 -- Result: more tuples than a cap that are told apart show that the part is over it, where its table is right as it was made
 pub IsOverBy-told : (reduces : Bool) (system : PatternSystem) (f : Core) (answer : Answer) (cap : ℕ) → IsRightBy system (AlikeWith reduces system) f answer

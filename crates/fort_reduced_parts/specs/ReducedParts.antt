@@ -1,9 +1,9 @@
 -- To believe: when two optional tuples are alike at a core formula whose operands' tables are reduced: at atoms as ever, else by when tuples are interchangeable at the operands; and when they are alike with reduced tables or without.
 use Rattle.std.specs.Prelude.{◌≡◌, Bool, true, false, length}
 use Rattle.fort_theory.specs.Patterns.{PatternSystem}
-use Rattle.fort_logic.specs.Cores.{Core}
-use Rattle.fort_logic.specs.CoreTruth.{Places, IsMetBy}
-use Rattle.fort_logic.specs.PatternStructures.{pattern_structure}
+use Rattle.fort_cores.specs.Cores.{Core}
+use Rattle.fort_cores.specs.CoreTruth.{Places, IsMetBy}
+use Rattle.fort_cores.specs.Structures.{pattern_structure}
 use Rattle.fort_tables.specs.Tuples.{Tuple}
 use Rattle.fort_interchange.specs.Interchange.{Interchangeable}
 use Rattle.fort_atom_labels.specs.AssignedTuples.{tuple_of}

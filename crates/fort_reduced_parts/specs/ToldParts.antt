@@ -1,7 +1,7 @@
 -- Inside: what the states of a part's table tell, once it is reduced, or as it is.
 use Rattle.std.specs.Prelude.{Bool, true, false}
 use Rattle.fort_theory.specs.Patterns.{PatternSystem}
-use Rattle.fort_logic.specs.Cores.{Core}
+use Rattle.fort_cores.specs.Cores.{Core}
 use Rattle.fort_operations.specs.Agreement.{Agreement}
 use Rattle.fort_parts.specs.AlikeParts.{AlikeAt}
 use Rattle.fort_reduced_parts.specs.ReducedParts.{InterchangeableAt}

@@ -2,14 +2,15 @@
 use Rattle.std.proofs.Common.{◌≡◌, ℕ, ◌-◌, ◌<◌, ◌≤◌, List, [], map, length, Bool, true, not, refl, ap, sym, arith, subst, inl, inr, ⊎_elim}
 use Rattle.std.specs.Prelude.{Contains}
 use Rattle.std.proofs.lemmas.Bool.{cases_lt}
+use Rattle.fort_parts.specs.DecidedCores.{IsOverSystem, IsDecided}
 use Rattle.fort_theory.specs.Trees.{Tree}
 use Rattle.fort_theory.specs.Signatures.{most_columns}
 use Rattle.fort_theory.specs.Sides.{at_index}
 use Rattle.fort_theory.specs.Patterns.{Pair, PatternSystem, IsSystem}
-use Rattle.fort_logic.specs.Cores as core
-use Rattle.fort_logic.specs.Cores.{Core, Rel}
-use Rattle.fort_logic.specs.Parts.{is_free, postorder, IsWellFormed}
-use Rattle.fort_logic.specs.PatternStructures.{pattern_structure}
+use Rattle.fort_cores.specs.Cores as core
+use Rattle.fort_cores.specs.Cores.{Core, Rel, Binary}
+use Rattle.fort_cores.specs.Parts.{is_free, postorder, IsWellFormed}
+use Rattle.fort_cores.specs.Structures.{pattern_structure}
 use Rattle.fort_tables.specs.Tables.{Table}
 use Rattle.fort_tables.specs.Labels.{Labelling}
 use Rattle.fort_tables.specs.LabelRules.{LabelRule, IsLabelRule, label_of, IsTableBy}
@@ -24,7 +25,8 @@ use Rattle.fort_atom_labels.proofs.SubtermLaws.{ListsSubterms-subterms}
 use Rattle.fort_atom_labels.proofs.SystemAtoms.{IsListedAtom-relation, IsListedAtom-normal}
 use Rattle.fort_atom_labels.proofs.TermLabels.{IsLabelRule-term, labels-AlikeAtTerm, accepts-term}
 use Rattle.fort_operations.specs.OperationTruth.{complemented}
-use Rattle.fort_operations.specs.Products.{Connective, And, Or, Iff, connected, signature_of, IsOperand, product_rule, product_accepts}
+use Rattle.fort_theory.specs.Logic.{Connective}
+use Rattle.fort_operations.specs.Products.{connected, signature_of, IsOperand, product_rule, product_accepts}
 use Rattle.fort_operations.specs.Projections.{some_below, project_rule, project_accepts}
 use Rattle.fort_counts.specs.Counts.{is_infinite}
 use Rattle.fort_counts.specs.ManyLabels.{TellsMany, many_rule, many_accepts, many_value}
@@ -35,10 +37,10 @@ use Rattle.fort_parts.specs.AlikeParts.{AlikeAt, IsOverBy, IsPartOver}
 use Rattle.fort_parts.specs.PartAnswers.{Answer, OfValue, OfTable, IsAnswerTo}
 use Rattle.fort_parts.specs.PartLabels.{LabelsTellAlike}
 use Rattle.fort_parts.specs.PartSteps.{operand_of}
-use Rattle.fort_parts.specs.RightAnswers.{IsRightFor, joined}
+use Rattle.fort_parts.specs.RightAnswers.{IsRightFor}
 use Rattle.fort_parts.proofs.AtomResults.{IsAnswerTo-Atom, IsAnswerTo-Nf, IsAnswerTo-Is, LabelsTellAlike-Nf, LabelsTellAlike-Is}
-use Rattle.fort_parts.proofs.PartColumnLaws.{AreColumns-columns_of, columns_of-Nf, columns_of-Is, first_within, second_within}
-use Rattle.fort_parts.proofs.PartFacts.{columns_of-few}
+use Rattle.fort_parts.proofs.PartColumnLaws.{AreColumns-columns_of, columns_of-Normal, columns_of-IsTerm, first_within, second_within}
+use Rattle.fort_parts.proofs.PartFacts.{columns_of-few, IsOverSystem-part}
 use Rattle.fort_parts.proofs.PartOrder.{Contains-postorder}
 use Rattle.fort_parts.proofs.StepTables.{IsOperand-answer, IsLawful-answer}
 use Rattle.fort_parts.proofs.StepAnswers.{IsRightBy-value, IsRightBy-labels, IsAnswerTo-True, IsAnswerTo-Not-value, IsAnswerTo-Not-table, is_free-joined, IsAnswerTo-values, some-first, some-second, joined_label, LabelsTellAlike-joined, IsAnswerTo-joined, place_bound, count_bound, IsAnswerTo-projected, IsAnswerTo-closed, LabelsTellAlike-projected, IsAnswerTo-many, IsAnswerTo-many_closed, LabelsTellAlike-many}
@@ -80,9 +82,9 @@ module _ (system : PatternSystem) where
   -- ---- atoms
 
   module _ (is : IsSystem system) where
-    HasAnswer-Atom : (rel : Rel) (index x y : ℕ) → HasAnswer system (core.Atom rel index x y)
-    HasAnswer-Atom rel index x y =
-        let f = core.Atom rel index x y in
+    HasAnswer-Related : (rel : Rel) (index x y : ℕ) → HasAnswer system (core.Leaf (core.Related rel index x y))
+    HasAnswer-Related rel index x y =
+        let f = core.Leaf (core.Related rel index x y) in
         let sides = side_patterns (pairs_for rel (at_index index system.rules)) in
         let a = listed (relation_atom system rel index x y (columns_of f)) sides.0 sides.1 in
         let atom = IsListedAtom-relation system is index rel x y (columns_of f) (AreColumns-columns_of f) sides.0 sides.1 sides.2.left sides.2.right in
@@ -93,10 +95,10 @@ module _ (system : PatternSystem) where
         (labels_alike a test atom closes)
         (λ table by. IsAnswerTo-Atom system label (atom_accepts a) table rel index x y (λ t h full. Decides-atom_accepts a test atom closes t h) by)
 
-    HasAnswer-Nf : (index x : ℕ) → HasAnswer system (core.Nf index x)
-    HasAnswer-Nf index x =
-        let f = core.Nf index x in
-        let one : 1 ≡ length (columns_of f) = sym (ap length (columns_of-Nf index x)) in
+    HasAnswer-Normal : (index x : ℕ) → HasAnswer system (core.Leaf (core.Normal index x))
+    HasAnswer-Normal index x =
+        let f = core.Leaf (core.Normal index x) in
+        let one : 1 ≡ length (columns_of f) = sym (ap length (columns_of-Normal index x)) in
         let sides = patterns_in_order (map (λ (pair : Pair). pair.0) (at_index index system.rules)) in
         let a = listed (normal_atom system index) sides.0 [] in
         let atom = IsListedAtom-normal system is index sides.0 sides.1 in
@@ -110,11 +112,11 @@ module _ (system : PatternSystem) where
         IsAnswerTo-Nf system label (atom_accepts a) table index x (λ t h full. Decides-atom_accepts a test atom closes t h)
         (subst (λ n. IsTableBy system.signature n label (atom_accepts a) table) (sym one) by))
 
-  HasAnswer-Is : (x : ℕ) (term : Tree) → HasAnswer system (core.Is x term)
-  HasAnswer-Is x term =
-      let f = core.Is x term in
+  HasAnswer-IsTerm : (x : ℕ) (term : Tree) → HasAnswer system (core.Leaf (core.IsTerm x term))
+  HasAnswer-IsTerm x term =
+      let f = core.Leaf (core.IsTerm x term) in
       let sig = system.signature in
-      let one : 1 ≡ length (columns_of f) = sym (ap length (columns_of-Is x term)) in
+      let one : 1 ≡ length (columns_of f) = sym (ap length (columns_of-IsTerm x term)) in
       let listed = subterms term in
       let lists = ListsSubterms-subterms term in
       let r = term_rule sig listed in
@@ -134,10 +136,10 @@ module _ (system : PatternSystem) where
       by (OfValue b) right = by_value (core.Not f) (not b) (IsAnswerTo-Not-value system f b right.answers)
       by (OfTable table) right = record { answer = OfTable (complemented table); right = record { answers = IsAnswerTo-Not-table system f table right.answers; alike = right.alike } }
 
-  module _ (op : Connective) (f g : Core) (few : length (columns_of (joined op f g)) ≤ most_columns) where
-    joined_table : (first second : Answer) → IsRightFor system f first → IsRightFor system g second → 0 < length (columns_of (joined op f g)) → HasAnswer system (joined op f g)
+  module _ (op : Connective) (f g : Core) (few : length (columns_of (Binary op f g)) ≤ most_columns) where
+    joined_table : (first second : Answer) → IsRightFor system f first → IsRightFor system g second → 0 < length (columns_of (Binary op f g)) → HasAnswer system (Binary op f g)
     joined_table first second one other some =
-        let h = joined op f g in
+        let h = Binary op f g in
         let n = length (columns_of h) in
         let sig = system.signature in
         let a = operand_of first (places_in (columns_of h) (columns_of f)) in
@@ -155,11 +157,11 @@ module _ (system : PatternSystem) where
         (LabelsTellAlike-joined system op f g first second one other)
         (λ table by. IsAnswerTo-joined system op f g first second table one.answers other.answers some by)
 
-    HasAnswer-joined : HasAnswer system f → HasAnswer system g → HasAnswer system (joined op f g)
+    HasAnswer-joined : HasAnswer system f → HasAnswer system g → HasAnswer system (Binary op f g)
     HasAnswer-joined one other = by one.answer other.answer one.right other.right
       where
-        by : (first second : Answer) → IsRightFor system f first → IsRightFor system g second → HasAnswer system (joined op f g)
-        by (OfValue a) (OfValue b) p q = by_value (joined op f g) (connected op a b) (IsAnswerTo-values system op f g a b p.answers q.answers)
+        by : (first second : Answer) → IsRightFor system f first → IsRightFor system g second → HasAnswer system (Binary op f g)
+        by (OfValue a) (OfValue b) p q = by_value (Binary op f g) (connected op a b) (IsAnswerTo-values system op f g a b p.answers q.answers)
         by (OfValue a) (OfTable v) p q = joined_table (OfValue a) (OfTable v) p q (some-second system op f g v q.answers)
         by (OfTable u) second p q = joined_table (OfTable u) second p q (some-first system op f g u p.answers)
 
@@ -224,58 +226,43 @@ few_columns : (f : Core) → IsWellFormed f → length (columns_of f) ≤ most_c
 few_columns f well = columns_of-few f f well (Contains-postorder f)
 
 -- operands are well-formed
-well_first : (op : Connective) (f g : Core) → IsWellFormed (joined op f g) → IsWellFormed f
-well_first And f g well = IsWellFormed-operand f (core.And f g) (inl refl) well
-well_first Or f g well = IsWellFormed-operand f (core.Or f g) (inl refl) well
-well_first Iff f g well = IsWellFormed-operand f (core.Iff f g) (inl refl) well
+well_first : (op : Connective) (f g : Core) → IsWellFormed (Binary op f g) → IsWellFormed f
+well_first op f g well = IsWellFormed-operand f (core.Binary op f g) (inl refl) well
 
-well_second : (op : Connective) (f g : Core) → IsWellFormed (joined op f g) → IsWellFormed g
-well_second And f g well = IsWellFormed-operand g (core.And f g) (inr refl) well
-well_second Or f g well = IsWellFormed-operand g (core.Or f g) (inr refl) well
-well_second Iff f g well = IsWellFormed-operand g (core.Iff f g) (inr refl) well
+well_second : (op : Connective) (f g : Core) → IsWellFormed (Binary op f g) → IsWellFormed g
+well_second op f g well = IsWellFormed-operand g (core.Binary op f g) (inr refl) well
 
 module _ (system : PatternSystem) (is : IsSystem system) where
-  -- Result: each well-formed formula has a right answer
-  pub HasAnswer-decided : (f : Core) → IsWellFormed f → HasAnswer system f
-  HasAnswer-decided core.True well = by_value system core.True true (IsAnswerTo-True system)
-  HasAnswer-decided (core.Atom rel index x y) well = HasAnswer-Atom system is rel index x y
-  HasAnswer-decided (core.Nf index x) well = HasAnswer-Nf system is index x
-  HasAnswer-decided (core.Is x term) well = HasAnswer-Is system x term
-  HasAnswer-decided (core.Not f) well = HasAnswer-Not system f (HasAnswer-decided f (IsWellFormed-operand f (core.Not f) refl well))
-  HasAnswer-decided (core.And f g) well =
-      HasAnswer-joined system And f g (few_columns (core.And f g) well) (HasAnswer-decided f (well_first And f g well))
-      (HasAnswer-decided g (well_second And f g well))
-  HasAnswer-decided (core.Or f g) well =
-      HasAnswer-joined system Or f g (few_columns (core.Or f g) well) (HasAnswer-decided f (well_first Or f g well))
-      (HasAnswer-decided g (well_second Or f g well))
-  HasAnswer-decided (core.Iff f g) well =
-      HasAnswer-joined system Iff f g (few_columns (core.Iff f g) well) (HasAnswer-decided f (well_first Iff f g well))
-      (HasAnswer-decided g (well_second Iff f g well))
-  HasAnswer-decided (core.Exists n f) well =
-      let w = body_of system n f well.binders.0 (HasAnswer-decided f (IsWellFormed-operand f (core.Exists n f) refl well)) in
+  -- Result: each well-formed formula over the system has a right answer
+  pub HasAnswer-decided : (f : Core) → IsWellFormed f → IsOverSystem system f → HasAnswer system f
+  HasAnswer-decided core.True well over = by_value system core.True true (IsAnswerTo-True system)
+  HasAnswer-decided (core.Leaf (core.Related rel index x y)) well over = HasAnswer-Related system is rel index x y
+  HasAnswer-decided (core.Leaf (core.InContext e number place x y)) well over = absurd over
+  HasAnswer-decided (core.Leaf (core.Normal index x)) well over = HasAnswer-Normal system is index x
+  HasAnswer-decided (core.Leaf (core.IsTerm x term)) well over = HasAnswer-IsTerm system x term
+  HasAnswer-decided (core.Not f) well over = HasAnswer-Not system f (HasAnswer-decided f (IsWellFormed-operand f (core.Not f) refl well) over)
+  HasAnswer-decided (core.Binary op f g) well over =
+      HasAnswer-joined system op f g (few_columns (core.Binary op f g) well) (HasAnswer-decided f (well_first op f g well) over.0)
+      (HasAnswer-decided g (well_second op f g well) over.1)
+  HasAnswer-decided (core.Exists n f) well over =
+      let w = body_of system n f well.binders.0 (HasAnswer-decided f (IsWellFormed-operand f (core.Exists n f) refl well) over) in
       HasAnswer-Exists system n f well.binders.0 w.0 w.1 (few_columns (core.Exists n f) well)
-  HasAnswer-decided (core.Infinite n f) well =
-      let w = body_of system n f well.binders.0 (HasAnswer-decided f (IsWellFormed-operand f (core.Infinite n f) refl well)) in
+  HasAnswer-decided (core.Infinite n f) well over =
+      let w = body_of system n f well.binders.0 (HasAnswer-decided f (IsWellFormed-operand f (core.Infinite n f) refl well) over) in
       HasAnswer-Infinite system n f well.binders.0 w.0 w.1 (few_columns (core.Infinite n f) well)
 
   -- so has each of its operands
-  pub OperandsAnswered-decided : (f : Core) → IsWellFormed f → OperandsAnswered system f
-  OperandsAnswered-decided core.True well = tt
-  OperandsAnswered-decided (core.Atom rel index x y) well = tt
-  OperandsAnswered-decided (core.Nf index x) well = tt
-  OperandsAnswered-decided (core.Is x term) well = tt
-  OperandsAnswered-decided (core.Not f) well = HasAnswer-decided f (IsWellFormed-operand f (core.Not f) refl well)
-  OperandsAnswered-decided (core.And f g) well =
-      (HasAnswer-decided f (well_first And f g well), HasAnswer-decided g (well_second And f g well))
-  OperandsAnswered-decided (core.Or f g) well =
-      (HasAnswer-decided f (well_first Or f g well), HasAnswer-decided g (well_second Or f g well))
-  OperandsAnswered-decided (core.Iff f g) well =
-      (HasAnswer-decided f (well_first Iff f g well), HasAnswer-decided g (well_second Iff f g well))
-  OperandsAnswered-decided (core.Exists n f) well = HasAnswer-decided f (IsWellFormed-operand f (core.Exists n f) refl well)
-  OperandsAnswered-decided (core.Infinite n f) well = HasAnswer-decided f (IsWellFormed-operand f (core.Infinite n f) refl well)
+  pub OperandsAnswered-decided : (f : Core) → IsWellFormed f → IsOverSystem system f → OperandsAnswered system f
+  OperandsAnswered-decided core.True well over = tt
+  OperandsAnswered-decided (core.Leaf a) well over = tt
+  OperandsAnswered-decided (core.Not f) well over = HasAnswer-decided f (IsWellFormed-operand f (core.Not f) refl well) over
+  OperandsAnswered-decided (core.Binary op f g) well over =
+      (HasAnswer-decided f (well_first op f g well) over.0, HasAnswer-decided g (well_second op f g well) over.1)
+  OperandsAnswered-decided (core.Exists n f) well over = HasAnswer-decided f (IsWellFormed-operand f (core.Exists n f) refl well) over
+  OperandsAnswered-decided (core.Infinite n f) well over = HasAnswer-decided f (IsWellFormed-operand f (core.Infinite n f) refl well) over
 
   -- Result: a part that is over the cap with reduced tables is over it without
-  pub over_with_reduced : (root f : Core) (cap : ℕ) → IsWellFormed root → Contains (postorder root) f → IsOverBy system (AlikeReduced system) f cap → IsPartOver system f cap
-  over_with_reduced root f cap well among over =
-      let part = IsWellFormed-part root f well among in
-      over_from_reduced system f cap part.binders (OperandsAnswered-decided f part) over
+  pub over_with_reduced : (root f : Core) (cap : ℕ) → IsDecided system root → Contains (postorder root) f → IsOverBy system (AlikeReduced system) f cap → IsPartOver system f cap
+  over_with_reduced root f cap decided among over =
+      let part = IsWellFormed-part root f decided.well_formed among in
+      over_from_reduced system f cap part.binders (OperandsAnswered-decided f part (IsOverSystem-part system root f decided.over among)) over

@@ -2,8 +2,8 @@
 use Rattle.std.proofs.Common.{◌≡◌, ◌⊎◌, [], ◌∷◌, ◌++◌, subst, ⊎_elim}
 use Rattle.std.specs.Prelude.{Contains}
 use Rattle.std.proofs.lemmas.List.Elements.{Contains-append_left, Contains-append_right}
-use Rattle.fort_logic.specs.Cores.{Core, True, Atom, Nf, Is, Not, And, Or, Iff, Exists, Infinite}
-use Rattle.fort_logic.specs.Parts.{postorder, IsWellFormed}
+use Rattle.fort_cores.specs.Cores.{Core, True, Leaf, Not, Binary, Exists, Infinite}
+use Rattle.fort_cores.specs.Parts.{postorder, IsWellFormed}
 use Rattle.fort_parts.specs.DecidedCores.{IsOperandOf}
 use Rattle.fort_parts.proofs.PartFacts.{each_part, BindsFree-part}
 use Rattle.fort_parts.proofs.PartOrder.{Contains-postorder}
@@ -27,13 +27,9 @@ in_only f h o x e c = Contains-append_left (postorder f) (h ∷ []) x (subst (λ
 
 operand_within : (o h x : Core) → IsOperandOf o h → Contains (postorder o) x → Contains (postorder h) x
 operand_within o True x is c = absurd is
-operand_within o (Atom rel index y z) x is c = absurd is
-operand_within o (Nf index y) x is c = absurd is
-operand_within o (Is y term) x is c = absurd is
+operand_within o (Leaf a) x is c = absurd is
 operand_within o (Not f) x is c = in_only f (Not f) o x is c
-operand_within o (And f g) x is c = in_either f g (And f g) o x is c
-operand_within o (Or f g) x is c = in_either f g (Or f g) o x is c
-operand_within o (Iff f g) x is c = in_either f g (Iff f g) o x is c
+operand_within o (Binary op f g) x is c = in_either f g (Binary op f g) o x is c
 operand_within o (Exists n f) x is c = in_only f (Exists n f) o x is c
 operand_within o (Infinite n f) x is c = in_only f (Infinite n f) o x is c
 
@@ -41,7 +37,7 @@ pub IsWellFormed-operand : (o h : Core) → IsOperandOf o h → IsWellFormed h �
 IsWellFormed-operand o h is well = record {
   binders = BindsFree-part h o well.binders (operand_within o h o is (Contains-postorder o));
   narrow =
-      λ wide. well.narrow (record { part = wide.part; among = operand_within o h wide.part is wide.among; columns = wide.columns; are_columns = wide.are_columns; wide = wide.wide });
+      λ wide. well.narrow (record { part = wide.part; among = operand_within o h wide.part is wide.among; wide = wide.wide });
 }
 
 -- Result: so is each part

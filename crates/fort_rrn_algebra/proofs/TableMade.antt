@@ -5,7 +5,8 @@ use Rattle.fort_tables.specs.Tables.{Table}
 use Rattle.fort_tables.specs.Labels.{IsTableOf}
 use Rattle.fort_tables.specs.LabelRules.{label_of, IsTableBy}
 use Rattle.fort_operations.specs.Selections.{ArePlaces}
-use Rattle.fort_operations.specs.Products.{Operand, Connective, IsOperand, OfTable, product_rule, product_accepts}
+use Rattle.fort_theory.specs.Logic.{Connective}
+use Rattle.fort_operations.specs.Products.{Operand, IsOperand, OfTable, product_rule, product_accepts}
 use Rattle.fort_operations.specs.OperationTruth.{IsOrder}
 
 -- the same parts

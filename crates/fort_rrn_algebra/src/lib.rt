@@ -6,7 +6,7 @@ pub mod local;
 mod negation;
 mod tables;
 
-pub use fort_products::{Both, Op, Operand};
+pub use fort_products::{Both, Operand};
 pub use fort_projections::{Project, Projecting, next_absent, next_in_set, next_pure, pure_states};
 pub use fort_target_lists::{LayRoom, TargetList};
 pub use negation::negate;

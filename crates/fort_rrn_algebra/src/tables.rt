@@ -5,13 +5,14 @@ ghost use Rattle.fort_tables.specs.Tables.{IsListed, listed_table};
 ghost use Rattle.fort_tables.specs.Labels.{IsTableOf, HaveLabels};
 ghost use Rattle.fort_tables.specs.LabelRules.{label_of};
 ghost use Rattle.fort_operations.specs.Products.{OfTable, OfTruth, IsOperand, product_rule, product_accepts};
-ghost use Rattle.fort_operations.specs.Products as products;
+ghost use Rattle.fort_theory.specs.Logic as logic;
 ghost use Rattle.fort_operations.specs.OperationTruth.{TestsRelation, Cylinder, Exchange, IsOrder, accepts};
 ghost use Rattle.fort_explore.specs.Answer.{IfOver};
 
+use fort_connectives::Op;
 use fort_explore::{ByRule, ExploreFault, explore};
 use fort_lockstep::{Dta, Table};
-use fort_products::{Both, Op, Operand};
+use fort_products::{Both, Operand};
 use std::alloc::Global;
 
 /// The table over `total` columns that accepts a tuple of terms where the old one accepts its columns at these places. It is over
@@ -28,7 +29,7 @@ pub fn widen<T: Table>(
         (OfTable (T.table old.now) places.now) }
     ensures table { IfOk result (λ t. IsTableOf (T.table old.now).signature total
         (label_of (product_rule total (OfTable (T.table old.now) places.now) (OfTruth true)))
-        (product_accepts products.And (OfTable (T.table old.now) places.now) (OfTruth true))
+        (product_accepts logic.And (OfTable (T.table old.now) places.now) (OfTruth true))
         (listed_table t)) }
     ensures accepted { IfOk result (λ t. TestsRelation (T.table old.now).signature total
         (accepts (listed_table t)) (Cylinder places.now
@@ -69,7 +70,7 @@ pub fn permute<T: Table>(alloc: Global, old: &T, order: &[usize]) -> Result<Dta,
         (T.table old.now).signature (T.table old.now).columns
         (label_of (product_rule (T.table old.now).columns (OfTable (T.table old.now) o.back)
         (OfTruth true)))
-        (product_accepts products.And (OfTable (T.table old.now) o.back) (OfTruth true))
+        (product_accepts logic.And (OfTable (T.table old.now) o.back) (OfTruth true))
         (listed_table t)) }
     ensures accepted { IfOk result (λ t. TestsRelation (T.table old.now).signature
         (T.table old.now).columns (accepts (listed_table t)) (Exchange

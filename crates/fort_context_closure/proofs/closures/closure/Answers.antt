@@ -1,7 +1,7 @@
 use Rattle.std.proofs.Common.{sym, ◌∙◌, true≢false}
 use Rattle.std.proofs.lemmas.Result.{IfOk-weaker}
 use Rattle.fort_theory.specs.Sides.{at_index}
-use Rattle.fort_formulas.specs.CoreView.{as_rel}
+use Rattle.fort_relations.specs.RelView.{as_rel}
 use Rattle.fort_alike.specs.Atoms.{pairs_for}
 use Rattle.fort_context_closure.proofs.MakerLaws.{ListsRules-own}
 use Rattle.fort_context_closure.proofs.ClosureLaws.{root_steps_of}

@@ -1,6 +1,6 @@
 use Rattle.std.proofs.Common.{map}
 use Rattle.fort_terms.specs.PatternView.{as_pair, as_pattern}
-use Rattle.fort_agtt.proofs.RootStepsLaws.{ArePlaces-more, rule-among}
+use Rattle.fort_transducers.proofs.RootStepsLaws.{ArePlaces-more, rule-among}
 use Rattle.fort_context_closure.proofs.closures.places.Goals as goal
 
 pub place-requires-clause-among : goal.place-requires-clause-among

@@ -1,6 +1,6 @@
 use Rattle.std.proofs.Common.{map, take}
 use Rattle.fort_terms.specs.PatternView.{as_pair, as_pattern}
-use Rattle.fort_agtt.specs.RootSteps.{ArePlaces}
+use Rattle.fort_transducers.specs.RootSteps.{ArePlaces}
 use Rattle.fort_context_closure.proofs.closures.places.Given as goal
 
 abbrev pub invariant-loop-rule : goal.invariant-loop-rule

@@ -2,9 +2,9 @@ use Rattle.std.proofs.Common.{List, map, sym, ◌∙◌, arith}
 use Rattle.std.proofs.lemmas.List.{length-map}
 use Rattle.fort_terms.specs.PatternView.{as_pair, as_pattern}
 use Rattle.fort_tree_automata.proofs.SubpatternsClosed.{IsClosedInOrder-subpatterns}
-use Rattle.fort_agtt.proofs.RootStepsLaws.{sides_among}
+use Rattle.fort_transducers.proofs.RootStepsLaws.{sides_among}
 use Rattle.fort_theory.specs.Patterns.{Pair}
-use Rattle.fort_agtt.specs.declared.agtt.Agtt.{Agtt}
+use Rattle.fort_transducers.specs.declared.agtt.Agtt.{Agtt}
 use Rattle.fort_gtt_closure.proofs.NumberedLaws.{IsNumbered-root_steps}
 use Rattle.fort_context_closure.proofs.ClosureLaws.{root_steps_of, NamesItsStates-list}
 use Rattle.fort_context_closure.proofs.closures.transducer.Goals as goal

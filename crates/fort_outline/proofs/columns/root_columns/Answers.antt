@@ -1,30 +1,28 @@
-use Rattle.std.proofs.Common.{◌∙◌}
+use Rattle.std.proofs.Common.{ap, sym, ◌∙◌, subst}
 use Rattle.std.proofs.lemmas.Result.{IfOk-weaker}
-use Rattle.fort_outline.proofs.ColumnLaws.{both_ok, columns_atom, columns_variable, operand_columns, over_one, over_two, columns_two, columns_bound}
+use Rattle.fort_parts.specs.PartColumns.{columns_of}
+use Rattle.fort_outline.specs.Roots.{root_core, HasOperandsBelow}
+use Rattle.fort_outline.proofs.ColumnLaws.{both_ok, operand_columns, over_one, columns_two, columns_bound}
 use Rattle.fort_outline.proofs.columns.root_columns.Goals as goal
 
-pub returns-in-Atom : goal.returns-in-Atom
-returns-in-Atom c =
-    let arm = c.in-Atom in
+pub returns-in-Leaf : goal.returns-in-Leaf
+returns-in-Leaf c =
+    IfOk-weaker c.leaf_columns.result _ _
+    (λ ns is parts are. is ∙ sym (ap (λ r. columns_of (root_core parts r)) c.in-Leaf.is))
+    c.leaf_columns.ensures
+
+pub returns-in-Binary : goal.returns-in-Binary
+returns-in-Binary c =
+    let arm = c.in-Binary in
+    let over = subst (HasOperandsBelow _) arm.is c.requires in
     both_ok c.of_both.result _ _ _
-    (λ ns rise same parts are. columns_atom parts c.args.root.now arm.field-0 arm.field-1 arm.x arm.y ns.items arm.is rise same)
-    c.of_both.ensures.rise c.of_both.ensures.same
-
-pub returns-in_ok-vec-in-Nf : goal.returns-in_ok-vec-in-Nf
-returns-in_ok-vec-in-Nf c =
-    λ parts are. c.in_ok-vec-in-Nf.ensures.items ∙ columns_variable parts c.args.root.now c.in-Nf.x c.in-Nf.is
-
-pub returns-in-And : goal.returns-in-And
-returns-in-And c =
-    let arm = c.in-And in
-    let over = over_two _ c.args.root.now arm.f arm.g arm.is c.requires in
-    both_ok c.of_both-in-And.result _ _ _
     (λ ns rise same parts are.
-    columns_two parts c.args.root.now arm.f arm.g c.deref-in-And.result.now c.deref-in-And-2.result.now ns.items arm.is
-    (operand_columns parts c.args.before.now arm.f c.index-before-f-in-And.result c.deref-in-And.result.now are over.0 c.index-before-f-in-And.is c.deref-in-And.ensures.value)
-    (operand_columns parts c.args.before.now arm.g c.index-before-g.result c.deref-in-And-2.result.now are over.1 c.index-before-g.is c.deref-in-And-2.ensures.value)
-    rise same)
-    c.of_both-in-And.ensures.rise c.of_both-in-And.ensures.same
+    columns_two parts arm.field-0 arm.f arm.g c.deref-in-Binary.result.now c.deref-in-Binary-2.result.now ns.items
+    (operand_columns parts c.args.before.now arm.f c.index-before-f-in-Binary.result c.deref-in-Binary.result.now are over.0 c.index-before-f-in-Binary.is c.deref-in-Binary.ensures.value)
+    (operand_columns parts c.args.before.now arm.g c.index-before-g.result c.deref-in-Binary-2.result.now are over.1 c.index-before-g.is c.deref-in-Binary-2.ensures.value)
+    rise same
+    ∙ sym (ap (λ r. columns_of (root_core parts r)) arm.is))
+    c.of_both.ensures.rise c.of_both.ensures.same
 
 pub returns-in-Exists : goal.returns-in-Exists
 returns-in-Exists c =

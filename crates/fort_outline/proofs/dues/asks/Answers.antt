@@ -1,5 +1,5 @@
 use Rattle.std.proofs.Common.{◌&&◌, ◌==◌, ap, sym, ◌∙◌}
-use Rattle.fort_formulas.specs.CoreView.{as_rel}
+use Rattle.fort_relations.specs.RelView.{as_rel}
 use Rattle.fort_steps.specs.StepView.{as_which}
 use Rattle.fort_outline.specs.Roots.{root_core}
 use Rattle.fort_outline.proofs.OutlineLaws.{asks_atom, asks_none}

@@ -1,6 +1,6 @@
 use Rattle.std.proofs.Common.{ap, sym, ◌∙◌, get_or}
 use Rattle.std.specs.Prelude.{not}
-use Rattle.fort_logic.specs.Cores as core
+use Rattle.fort_cores.specs.Cores as core
 use Rattle.fort_outline.specs.Roots.{root_core}
 use Rattle.fort_outline.proofs.OutlineLaws.{plain_root}
 use Rattle.fort_outline.proofs.DueLists.{columns_there, answer_value, answer_turned, answer_part, due_put, none_put}

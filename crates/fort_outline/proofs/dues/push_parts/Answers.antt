@@ -1,6 +1,6 @@
 use Rattle.std.proofs.Common.{◌≡◌, ◌<◌, ◌++◌, length, take, map, arith, ap, ◌∙◌}
 use Rattle.std.proofs.lemmas.List.{get_or_default, take_all}
-use Rattle.fort_logic.specs.Cores as core
+use Rattle.fort_cores.specs.Cores as core
 use Rattle.fort_parts.specs.PartColumns.{columns_of}
 use Rattle.fort_in_order.specs.Dues.{parts_due}
 use Rattle.fort_outline.specs.Roots.{root_core}

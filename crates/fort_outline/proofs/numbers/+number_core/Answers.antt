@@ -1,10 +1,12 @@
 use Rattle.std.proofs.Common.{◌++◌, ◌∙◌, ap, sym, inl, inr}
 use Rattle.std.proofs.lemmas.Result.{IfOk-weaker}
-use Rattle.fort_logic.specs.Cores as theory
-use Rattle.fort_logic.specs.Parts.{postorder}
+use Rattle.fort_cores.specs.Cores as theory
+use Rattle.fort_theory.specs.Logic as logic
+use Rattle.fort_cores.specs.Parts.{postorder}
 use Rattle.fort_formulas.specs.CoreView.{as_core}
 use Rattle.fort_formulas.proofs.CoreShapes.{postorder-one, postorder-two}
-use Rattle.fort_outline.specs.declared.root.Root.TheVariants.{Not, And, Or, Iff, Exists, Infinite}
+use Rattle.fort_connectives.specs.declared.connective.Op.TheVariants.{And, Or, Iff}
+use Rattle.fort_outline.specs.declared.root.Root.TheVariants.{Not, Binary, Exists, Infinite}
 use Rattle.fort_outline.proofs.NumberLaws.{numbered_one, numbered_two}
 use Rattle.fort_outline.proofs.numbers.+number_core.Goals as goal
 
@@ -32,8 +34,8 @@ returns-in_ok-g-in-And-clause-numbered t c =
     (λ n last before so_far.
     let one = first before so_far in
     numbered_two before c.args.roots.now.keys c.number_core-in-And.new.roots.keys c.number_core-in-And-2.new.roots.keys c.number_of-in-And.new.roots.keys arm.f arm.g
-    (as_core whole) (And a b) a b n one (second (before ++ postorder arm.f) one.numbered) last (postorder-two whole arm.f arm.g (inl arm.is))
-    (λ e d. (λ i. theory.And (e i) (d i)) ∙ sym (ap as_core arm.is)))
+    (as_core whole) (Binary And a b) a b n one (second (before ++ postorder arm.f) one.numbered) last (postorder-two whole arm.f arm.g (inl arm.is))
+    (λ e d. (λ i. theory.Binary logic.And (e i) (d i)) ∙ sym (ap as_core arm.is)))
     c.number_of-in-And.ensures.numbered
 
 pub returns-in_ok-g-in-Or-clause-numbered : goal.returns-in_ok-g-in-Or-clause-numbered
@@ -48,8 +50,8 @@ returns-in_ok-g-in-Or-clause-numbered t c =
     (λ n last before so_far.
     let one = first before so_far in
     numbered_two before c.args.roots.now.keys c.number_core-in-Or.new.roots.keys c.number_core-in-Or-2.new.roots.keys c.number_of-in-Or.new.roots.keys arm.f arm.g
-    (as_core whole) (Or a b) a b n one (second (before ++ postorder arm.f) one.numbered) last (postorder-two whole arm.f arm.g (inr (inl arm.is)))
-    (λ e d. (λ i. theory.Or (e i) (d i)) ∙ sym (ap as_core arm.is)))
+    (as_core whole) (Binary Or a b) a b n one (second (before ++ postorder arm.f) one.numbered) last (postorder-two whole arm.f arm.g (inr (inl arm.is)))
+    (λ e d. (λ i. theory.Binary logic.Or (e i) (d i)) ∙ sym (ap as_core arm.is)))
     c.number_of-in-Or.ensures.numbered
 
 pub returns-in_ok-g-in-Iff-clause-numbered : goal.returns-in_ok-g-in-Iff-clause-numbered
@@ -64,8 +66,8 @@ returns-in_ok-g-in-Iff-clause-numbered t c =
     (λ n last before so_far.
     let one = first before so_far in
     numbered_two before c.args.roots.now.keys c.number_core-in-Iff.new.roots.keys c.number_core-in-Iff-2.new.roots.keys c.number_of-in-Iff.new.roots.keys arm.f arm.g
-    (as_core whole) (Iff a b) a b n one (second (before ++ postorder arm.f) one.numbered) last (postorder-two whole arm.f arm.g (inr (inr arm.is)))
-    (λ e d. (λ i. theory.Iff (e i) (d i)) ∙ sym (ap as_core arm.is)))
+    (as_core whole) (Binary Iff a b) a b n one (second (before ++ postorder arm.f) one.numbered) last (postorder-two whole arm.f arm.g (inr (inr arm.is)))
+    (λ e d. (λ i. theory.Binary logic.Iff (e i) (d i)) ∙ sym (ap as_core arm.is)))
     c.number_of-in-Iff.ensures.numbered
 
 pub returns-in_ok-f-in-Exists-clause-numbered : goal.returns-in_ok-f-in-Exists-clause-numbered

@@ -5,7 +5,7 @@ use Rattle.fort_tables.specs.Tables.{listed_table}
 use Rattle.fort_tables.specs.Labels.{IsTableOf, HaveLabels}
 use Rattle.fort_tables.specs.LabelRules.{label_of}
 use Rattle.fort_operations.specs.Products.{OfTable, OfTruth, IsOperand, product_rule, product_accepts}
-use Rattle.fort_operations.specs.Products as products
+use Rattle.fort_theory.specs.Logic as logic
 use Rattle.fort_operations.specs.OperationTruth.{TestsRelation, Cylinder, accepts}
 use Rattle.fort_operations.proofs.TableTruth.{exchange_decides}
 use Rattle.fort_explore.specs.Answer.{IfOver}
@@ -44,5 +44,5 @@ returns-clause-table g c = λ o.
     let table = g.T.Table.table c.args.old.now in
     let count = c.columns-columns.ensures.count in
     let back = ap (λ n. take n c.undone-places.result) count ∙ c.undone-places.ensures table.columns o in
-    let F : ℕ → List ℕ → Type 0 = λ n ps. IfOk c.widen.result (λ t. IsTableOf table.signature n (label_of (product_rule n (OfTable table ps) (OfTruth true))) (product_accepts products.And (OfTable table ps) (OfTruth true)) (listed_table t)) in
+    let F : ℕ → List ℕ → Type 0 = λ n ps. IfOk c.widen.result (λ t. IsTableOf table.signature n (label_of (product_rule n (OfTable table ps) (OfTruth true))) (product_accepts logic.And (OfTable table ps) (OfTruth true)) (listed_table t)) in
     subst (F table.columns) back (subst (λ (n : ℕ). F n (take c.columns-columns.result c.undone-places.result)) count c.widen.ensures.table)

@@ -1,10 +1,12 @@
 use Rattle.std.proofs.Common.{IsTrue, true, ap}
 use Rattle.std.proofs.lemmas.Result.{IfOk-weaker}
 use Rattle.fort_tables.specs.Tables.{listed_table}
+use Rattle.fort_theory.specs.Logic as logic
 use Rattle.fort_operations.specs.Products as products
 use Rattle.fort_operations.specs.OperationTruth.{Cylinder, accepts}
 use Rattle.fort_operations.proofs.TableTruth.{tests_by_label, cylinder_decides}
-use Rattle.fort_products.specs.Operands.{operand_of, connective_of}
+use Rattle.fort_connectives.specs.ConnectiveView.{connective_of}
+use Rattle.fort_products.specs.Operands.{operand_of}
 use Rattle.fort_rrn_algebra.proofs.TableMade.{AreParts, table_of_parts, table_by_parts}
 use Rattle.fort_rrn_algebra.proofs.tables.widen.Goals as goal
 
@@ -13,7 +15,7 @@ returns-clause-table g c =
     let table = g.T.Table.table c.args.old.now in
     let both = c.new-both.result in
     let e = c.new-both.ensures in
-    let parts : AreParts c.signature.result.now table.signature both.columns c.args.total (connective_of both.op) products.And (operand_of g.T.Table.table both.first) (products.OfTable table c.args.places.now) (operand_of g.T.Table.table both.second) (products.OfTruth true) = record {
+    let parts : AreParts c.signature.result.now table.signature both.columns c.args.total (connective_of both.op) logic.And (operand_of g.T.Table.table both.first) (products.OfTable table c.args.places.now) (operand_of g.T.Table.table both.second) (products.OfTruth true) = record {
       signature_is = c.signature.ensures;
       columns_are = e.columns;
       connective = ap connective_of e.op;
@@ -27,7 +29,7 @@ returns-clause-accepted g c =
     let table = g.T.Table.table c.args.old.now in
     let both = c.new-both.result in
     let e = c.new-both.ensures in
-    let parts : AreParts c.signature.result.now table.signature both.columns c.args.total (connective_of both.op) products.And (operand_of g.T.Table.table both.first) (products.OfTable table c.args.places.now) (operand_of g.T.Table.table both.second) (products.OfTruth true) = record {
+    let parts : AreParts c.signature.result.now table.signature both.columns c.args.total (connective_of both.op) logic.And (operand_of g.T.Table.table both.first) (products.OfTable table c.args.places.now) (operand_of g.T.Table.table both.second) (products.OfTruth true) = record {
       signature_is = c.signature.ensures;
       columns_are = e.columns;
       connective = ap connective_of e.op;

@@ -1,4 +1,4 @@
-use Rattle.fort_formulas.specs.CoreView.{as_rel}
+use Rattle.fort_relations.specs.RelView.{as_rel}
 use Rattle.std.proofs.Common.{ap}
 use Rattle.fort_alike.specs.Atoms.{Atom, relation_atom}
 use Rattle.fort_context_closure.proofs.MakerLaws.{relation-passed}

@@ -1,6 +1,6 @@
 use Rattle.std.proofs.Common.{◌≡◌, ◌+◌, length, ap, sym, ◌∙◌, arith, map, refl, inl, inr}
-use Rattle.fort_formulas.specs.CoreView.{as_rel}
-use Rattle.fort_formulas.specs.declared.core_formula.Rel.{Rel}
+use Rattle.fort_relations.specs.RelView.{as_rel}
+use Rattle.fort_relations.specs.declared.relation.Rel.{Rel}
 use Rattle.fort_alike.specs.Atoms.{EqKind, StepKind, BelowKind, ParKind, StarKind, PlusKind, kind_for}
 use Rattle.fort_alike.specs.Alike.{Same, Steps, StepsBelow, StepsInParallel, Goes, GoesStrictly}
 use Rattle.fort_context_closure.specs.RulePlaces.{pair_at}

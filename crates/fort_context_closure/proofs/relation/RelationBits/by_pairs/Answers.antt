@@ -1,6 +1,6 @@
 use Rattle.std.proofs.Common.{◌∙◌}
 use Rattle.std.proofs.lemmas.Result.{IfOk-weaker}
-use Rattle.fort_formulas.specs.CoreView.{as_rel}
+use Rattle.fort_relations.specs.RelView.{as_rel}
 use Rattle.fort_context_closure.proofs.MakerLaws.{ListsRules-own, relation-by_pairs}
 use Rattle.fort_context_closure.proofs.relation.RelationBits.by_pairs.Goals as goal
 

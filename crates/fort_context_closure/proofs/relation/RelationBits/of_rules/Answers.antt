@@ -2,7 +2,7 @@ use Rattle.std.proofs.Common.{◌≡◌, List, [], map, length, refl, subst, ari
 use Rattle.std.proofs.lemmas.List.{length-map}
 use Rattle.fort_theory.specs.Patterns.{Pattern}
 use Rattle.fort_terms.specs.PatternView.{as_pair, as_pattern}
-use Rattle.fort_formulas.specs.CoreView.{as_rel}
+use Rattle.fort_relations.specs.RelView.{as_rel}
 use Rattle.fort_alike.specs.Atoms.{kind_for}
 use Rattle.fort_tree_automata.proofs.SubpatternsClosed.{IsClosedInOrder-subpatterns}
 use Rattle.fort_atom_labels.proofs.MarkSets.{NoneTwice-ordered}

@@ -4,7 +4,7 @@ use Rattle.std.proofs.lemmas.Option.{get_or_from_slice_get}
 use Rattle.fort_theory.specs.Patterns.{Pattern}
 use Rattle.fort_tables.specs.Tuples.{presence}
 use Rattle.fort_tuple_symbols.specs.Columns.{as_column}
-use Rattle.fort_formulas.specs.CoreView.{as_rel}
+use Rattle.fort_relations.specs.RelView.{as_rel}
 use Rattle.fort_context_closure.specs.RowBits.{HasBits, IsRow, labels_at}
 use Rattle.fort_context_closure.specs.RulePlaces.{pair_at}
 use Rattle.fort_context_closure.specs.ClosedAtoms.{test_of}

@@ -1,6 +1,6 @@
 use Rattle.std.proofs.Common.{◌≡◌, ℕ, suc, ◌+◌, ◌≤◌, List, [], ◌++◌, Bool, true, map, length, refl, sym, subst, arith}
 use Rattle.std.proofs.lemmas.List.{length-map}
-use Rattle.fort_formulas.specs.CoreView.{as_rel}
+use Rattle.fort_relations.specs.RelView.{as_rel}
 use Rattle.fort_tuple_symbols.specs.Columns.{as_column}
 use Rattle.fort_tables.specs.BitRows.{words_for}
 use Rattle.fort_alike.specs.Atoms.{kind_for}

@@ -3,7 +3,8 @@ use Rattle.fort_operations.specs.Products.{signature_of}
 use Rattle.fort_operations.specs.OperationTruth.{said_by}
 use Rattle.fort_operations.proofs.AgreementLaws.{both_by_states}
 use Rattle.fort_operations.proofs.TruthLaws.{both_decides}
-use Rattle.fort_products.specs.Operands.{operand_of, connective_of}
+use Rattle.fort_connectives.specs.ConnectiveView.{connective_of}
+use Rattle.fort_products.specs.Operands.{operand_of}
 use Rattle.fort_products.proofs.product.Both.new.Goals as goal
 
 pub returns-clause-agree : goal.returns-clause-agree
