@@ -3,4 +3,3 @@ pub mod Again
 pub mod Faults
 pub mod ReadView
 pub mod Checking
-pub mod CertificateView

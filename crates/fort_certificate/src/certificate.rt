@@ -4,25 +4,16 @@ ghost use Rattle.fort_grammar.specs.Declarations.{as_list};
 ghost use Rattle.fort_certificate_grammar.specs.Certificates as certificates;
 ghost use Rattle.fort_certificate_grammar.specs.CertificateForms.{IsCertificate};
 ghost use Rattle.fort_certificate_grammar.specs.CertificateFaults.{IsFirstCertificateFault};
+ghost use Rattle.fort_steps.specs.CertificateView.{as_certificate};
 ghost use Rattle.fort_certificate.specs.declared.fault.CertificateFault.TheVariants.{Memory};
-ghost use Rattle.fort_certificate.specs.CertificateView.{as_certificate};
 ghost use Rattle.fort_certificate.specs.Faults.{as_fault};
 
 use crate::build::steps;
 use crate::check::{check_header, check_steps};
 use crate::fault::CertificateFault;
 use fort_sexpr::Forms;
-use fort_steps::Step;
+use fort_steps::Certificate;
 use std::alloc::Global;
-
-/// A verdict, and the steps that are to show it.
-#[derive(Debug, PartialEq, Eq, Drop)]
-pub struct Certificate {
-    /// The number of the header's form.
-    pub first: u32,
-    pub verdict: bool,
-    pub steps: Vec<Step>,
-}
 
 /// Reads the certificate that the forms from a number on are, of a problem of so many systems, or finds their first fault.
 pub fn read(

@@ -11,6 +11,6 @@ mod word;
 mod words;
 mod write;
 
-pub use certificate::{Certificate, read};
+pub use certificate::read;
 pub use fault::CertificateFault;
 pub use write::text;

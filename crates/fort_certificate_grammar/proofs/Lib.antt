@@ -4,8 +4,3 @@ pub mod Slots
 pub mod StepSlots
 pub mod OneFault
 pub mod Spelled
-pub mod TextWords
-pub mod TextLines
-pub mod WrittenWords
-pub mod Fronts
-pub mod Again

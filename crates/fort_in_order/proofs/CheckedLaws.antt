@@ -2,11 +2,11 @@
 use Rattle.std.proofs.Common.{◌≡◌, ℕ, suc, ◌+◌, Bool, List, [], ◌∷◌, ◌++◌, map, length, get_or, Some, refl, ap, sym, ◌∙◌, arith, subst, append-nil}
 use Rattle.fort_theory.specs.Patterns.{Pair, PatternSystem}
 use Rattle.fort_theory.specs.PatternOrder.{AreSubpatternsInOrder}
-use Rattle.fort_logic.specs.Cores as core
-use Rattle.fort_logic.specs.Cores.{Core}
-use Rattle.fort_logic.specs.PartLists.{AreParts}
-use Rattle.fort_logic.proofs.EachOnceUnique.{AreEachOnce-unique}
-use Rattle.fort_logic.specs.Parts.{postorder}
+use Rattle.fort_cores.specs.Cores as core
+use Rattle.fort_cores.specs.Cores.{Core}
+use Rattle.fort_cores.specs.PartLists.{AreParts}
+use Rattle.fort_cores.proofs.EachOnceUnique.{AreEachOnce-unique}
+use Rattle.fort_cores.specs.Parts.{postorder}
 use Rattle.fort_tables.specs.Entries.{Entry}
 use Rattle.fort_tables.specs.Tables.{Table, listed_table}
 use Rattle.fort_counts.specs.Counts as counts

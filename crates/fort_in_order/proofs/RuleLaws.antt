@@ -5,20 +5,21 @@ use Rattle.std.proofs.lemmas.Bool.{cases_lt}
 use Rattle.std.proofs.lemmas.List.Elements.{Contains-get_or}
 use Rattle.fort_theory.specs.Sides.{at_index}
 use Rattle.fort_theory.specs.Patterns.{Pair, PatternSystem}
-use Rattle.fort_logic.specs.Cores as core
-use Rattle.fort_logic.specs.Cores.{Core, Rel}
-use Rattle.fort_logic.specs.EachOnce.{StandsBefore}
-use Rattle.fort_logic.specs.PartLists.{AreParts}
+use Rattle.fort_cores.specs.Cores as core
+use Rattle.fort_cores.specs.Cores.{Core, Rel, Atom}
+use Rattle.fort_cores.specs.EachOnce.{StandsBefore}
+use Rattle.fort_cores.specs.PartLists.{AreParts}
 use Rattle.fort_tables.specs.Tables.{Table}
 use Rattle.fort_alike.specs.Atoms.{pairs_for}
 use Rattle.fort_operations.specs.OperationTruth.{complemented}
-use Rattle.fort_operations.specs.Products.{Connective, And, Or, Iff, connected}
+use Rattle.fort_theory.specs.Logic.{Connective}
+use Rattle.fort_operations.specs.Products.{connected}
 use Rattle.fort_operations.specs.Projections.{ArePure, some_below}
 use Rattle.fort_counts.specs.ManyLabels.{many_value}
 use Rattle.fort_parts.specs.PartColumns.{columns_of, place_in}
 use Rattle.fort_parts.specs.PartAnswers.{Answer, OfValue, OfTable}
 use Rattle.fort_in_order.specs.Made.{Made, IsPartAt, IsAnswerOf, OfStep, Turned}
-use Rattle.fort_in_order.specs.PartRules.{Local, closure_for, relation_local, normal_local, product_local, project_local, many_local, IsRelationLocal, IsNormalLocal, IsProductLocal, IsProjectLocal, IsCounted, is_many, IsManyLocal, IsLocalOf, IsConnectedValue, IsManyValue, IsValueOf}
+use Rattle.fort_in_order.specs.PartRules.{Local, closure_for, relation_local, normal_local, product_local, project_local, many_local, IsRelationLocal, IsNormalLocal, IsProductLocal, IsProjectLocal, IsCounted, is_many, IsManyLocal, IsLocalOf, IsConnectedValue, IsManyValue, IsValueOf, IsAtomLocal}
 use Rattle.fort_in_order.proofs.OrderedLists.{subpatterns_one, pure_one}
 
 stands_before : {A : Type 0} (xs : List A) (j k : ℕ) (d x y : A) → j < k → k < length xs → get_or xs j d ≡ x → get_or xs k d ≡ y → StandsBefore xs x y
@@ -122,26 +123,24 @@ module _ (root : Core) (parts : List Core) (are : AreParts root parts) (made : M
       ∙ (ap (λ xs. many_value k.body c (is_many xs (made.counts i))) one.states
       ∙ sym k.is))
 
+  atom_one : (system : PatternSystem) (c : Atom) (a b : Local) → IsAtomLocal system made c a → IsAtomLocal system made c b → a ≡ b
+  atom_one system (core.Related rel index x y) a b h k = relation_one system rel index x y a b h k
+  atom_one system (core.InContext e number place x y) a b h k = absurd h
+  atom_one system (core.Normal index x) a b h k = normal_one system index a b h k
+  atom_one system (core.IsTerm x term) a b h k = h ∙ sym k
+
   pub local_one : (system : PatternSystem) (i : ℕ) (f : Core) (a b : Local) → IsLocalOf system parts made i f a → IsLocalOf system parts made i f b → a ≡ b
   local_one system i core.True a b h k = absurd h
-  local_one system i (core.Atom rel index x y) a b h k = relation_one system rel index x y a b h k
-  local_one system i (core.Nf index x) a b h k = normal_one system index a b h k
-  local_one system i (core.Is x term) a b h k = h ∙ sym k
+  local_one system i (core.Leaf c) a b h k = atom_one system c a b h k
   local_one system i (core.Not f) a b h k = absurd h
-  local_one system i (core.And f g) a b h k = product_one And (core.And f g) f g a b h k
-  local_one system i (core.Or f g) a b h k = product_one Or (core.Or f g) f g a b h k
-  local_one system i (core.Iff f g) a b h k = product_one Iff (core.Iff f g) f g a b h k
+  local_one system i (core.Binary op f g) a b h k = product_one op (core.Binary op f g) f g a b h k
   local_one system i (core.Exists n f) a b h k = project_one n f a b h k
   local_one system i (core.Infinite n f) a b h k = many_one i n f a b h k
 
   pub value_one : (i : ℕ) (f : Core) (a b : Bool) → IsValueOf parts made i f a → IsValueOf parts made i f b → a ≡ b
   value_one i core.True a b h k = h ∙ sym k
-  value_one i (core.Atom rel index x y) a b h k = absurd h
-  value_one i (core.Nf index x) a b h k = absurd h
-  value_one i (core.Is x term) a b h k = absurd h
+  value_one i (core.Leaf c) a b h k = absurd h
   value_one i (core.Not f) a b h k = h.2 ∙ (ap not (truth_one f h.0 k.0 h.1 k.1) ∙ sym k.2)
-  value_one i (core.And f g) a b h k = connected_one And f g a b h k
-  value_one i (core.Or f g) a b h k = connected_one Or f g a b h k
-  value_one i (core.Iff f g) a b h k = connected_one Iff f g a b h k
+  value_one i (core.Binary op f g) a b h k = connected_one op f g a b h k
   value_one i (core.Exists n f) a b h k = h.2 ∙ (ap (λ (t : Table). some_below (length t.presences) t.accepting) (body_one f h.0 k.0 h.1 k.1) ∙ sym k.2)
   value_one i (core.Infinite n f) a b h k = many_value_one i n f a b h k

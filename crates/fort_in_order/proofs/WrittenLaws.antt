@@ -2,11 +2,11 @@
 use Rattle.std.proofs.Common.{◌≡◌, ℕ, Bool, List, ◌∷◌, length, get_or, Some, refl, ap, sym, ◌∙◌, arith, subst}
 use Rattle.std.proofs.lemmas.List.{ext_get_or}
 use Rattle.fort_theory.specs.Patterns.{PatternSystem}
-use Rattle.fort_logic.specs.Cores as core
-use Rattle.fort_logic.specs.Cores.{Core}
-use Rattle.fort_logic.specs.Parts.{postorder}
-use Rattle.fort_logic.specs.PartLists.{AreParts}
-use Rattle.fort_logic.proofs.EachOnceUnique.{AreEachOnce-unique}
+use Rattle.fort_cores.specs.Cores as core
+use Rattle.fort_cores.specs.Cores.{Core}
+use Rattle.fort_cores.specs.Parts.{postorder}
+use Rattle.fort_cores.specs.PartLists.{AreParts}
+use Rattle.fort_cores.proofs.EachOnceUnique.{AreEachOnce-unique}
 use Rattle.fort_tables.specs.Tables.{Table}
 use Rattle.fort_counts.specs.Counts as counts
 use Rattle.fort_counts.specs.Counts.{Finite, Infinite, IsCountOf}

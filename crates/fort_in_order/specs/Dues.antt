@@ -1,8 +1,8 @@
 -- To believe: which steps a certificate of a closed formula has to have, and in which order.
 use Rattle.std.specs.Prelude.{ℕ, zero, suc, Bool, true, false, ◌&&◌, ◌==◌, nat_lt, List, [], ◌∷◌, ◌++◌, length, if◌then◌else◌}
 use Rattle.std.specs.List.{list_any}
-use Rattle.fort_logic.specs.Cores as core
-use Rattle.fort_logic.specs.Cores.{Core}
+use Rattle.fort_cores.specs.Cores as core
+use Rattle.fort_cores.specs.Cores.{Atom, Core}
 use Rattle.fort_parts.specs.PartColumns.{columns_of}
 use Rattle.fort_certificate_grammar.specs.Certificates.{Which, Star, Conv, Step, Closure, Part, Counts, Value}
 
@@ -26,9 +26,16 @@ reads Star core.Plus = true
 reads Conv core.Conv = true
 reads which other = false
 
--- whether a formula asks for the closure of this index
+-- whether an atom asks for the closure of this index
+abbrev pub atom_asks : Which → ℕ → Atom → Bool
+atom_asks which i (core.Related rel index x y) = reads which rel && (index == i)
+atom_asks which i (core.InContext e number place x y) = false
+atom_asks which i (core.Normal index x) = false
+atom_asks which i (core.IsTerm x t) = false
+
+-- whether a formula does
 abbrev pub asks : Which → ℕ → Core → Bool
-asks which i (core.Atom rel index x y) = reads which rel && (index == i)
+asks which i (core.Leaf a) = atom_asks which i a
 asks which i other = false
 
 abbrev pub closure_due : List Core → ℕ → Which → List DueStep

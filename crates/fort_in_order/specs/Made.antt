@@ -1,7 +1,7 @@
 -- To believe: what the steps of a certificate make, one after another; and the answer of a formula by what is made.
 use Rattle.std.specs.Prelude.{◌≡◌, ℕ, ◌<◌, Bool, true, false, ◌&&◌, ◌==◌, if◌then◌else◌, List, [], length, get_or}
-use Rattle.fort_logic.specs.Cores as core
-use Rattle.fort_logic.specs.Cores.{Core}
+use Rattle.fort_cores.specs.Cores as core
+use Rattle.fort_cores.specs.Cores.{Core}
 use Rattle.fort_tables.specs.Tables.{Table}
 use Rattle.fort_operations.specs.OperationTruth.{complemented}
 use Rattle.fort_counts.specs.Counts.{Count}

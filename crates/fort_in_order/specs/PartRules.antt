@@ -5,8 +5,8 @@ use Rattle.fort_theory.specs.Signatures.{Signature}
 use Rattle.fort_theory.specs.Sides.{at_index}
 use Rattle.fort_theory.specs.Patterns.{Pattern, Pair, PatternSystem}
 use Rattle.fort_theory.specs.PatternOrder.{AreSubpatternsInOrder}
-use Rattle.fort_logic.specs.Cores as core
-use Rattle.fort_logic.specs.Cores.{Core, Rel}
+use Rattle.fort_cores.specs.Cores as core
+use Rattle.fort_cores.specs.Cores.{Atom, Core, Rel}
 use Rattle.fort_tables.specs.Tables.{Table}
 use Rattle.fort_tables.specs.LabelRules.{LabelRule}
 use Rattle.fort_alike.specs.Atoms.{pairs_for, relation_atom, normal_atom}
@@ -15,7 +15,8 @@ use Rattle.fort_atom_labels.specs.AtomRules.{atom_rule, atom_accepts}
 use Rattle.fort_atom_labels.specs.ClosureTests.{closure_test}
 use Rattle.fort_atom_labels.specs.Subterms.{subterms}
 use Rattle.fort_atom_labels.specs.TermRule.{term_rule, term_accepts}
-use Rattle.fort_operations.specs.Products.{Connective, And, Or, Iff, connected, product_rule, product_accepts}
+use Rattle.fort_theory.specs.Logic.{Connective}
+use Rattle.fort_operations.specs.Products.{connected, product_rule, product_accepts}
 use Rattle.fort_operations.specs.Projections.{ArePure, some_below, project_rule, project_accepts}
 use Rattle.fort_counts.specs.Counts.{Count, is_infinite, count_at}
 use Rattle.fort_counts.specs.ManyLabels.{many_rule, many_accepts, many_value}
@@ -40,7 +41,7 @@ closure_for made other index = []
 
 abbrev pub relation_local : PatternSystem → Rel → (index x y : ℕ) → (lefts rights : List Pattern) → List Item → Local
 relation_local system rel index x y lefts rights items =
-    let a = listed (relation_atom system rel index x y (columns_of (core.Atom rel index x y))) lefts rights in
+    let a = listed (relation_atom system rel index x y (columns_of (core.Leaf (core.Related rel index x y)))) lefts rights in
     record { rule = atom_rule a (closure_test rights lefts (numbers_of items)); accepting = atom_accepts a }
 
 abbrev pub normal_local : PatternSystem → (index : ℕ) → (lefts : List Pattern) → Local
@@ -102,16 +103,19 @@ pub record IsManyLocal (parts : List Core) (made : Made) (k n : ℕ) (f : Core) 
   pub counted : IsCounted parts made n f body states
   pub is : local ≡ many_local body (place_in (columns_of f) n) (is_many states (made.counts k))
 
+-- of an atom; those of an expression aren't made yet
+abbrev pub IsAtomLocal : PatternSystem → Made → Atom → Local → Type 0
+IsAtomLocal system made (core.Related rel index x y) local = IsRelationLocal system made rel index x y local
+IsAtomLocal system made (core.InContext e number place x y) local = ⊥
+IsAtomLocal system made (core.Normal index x) local = IsNormalLocal system index local
+IsAtomLocal system made (core.IsTerm x term) local = local ≡ term_local system.signature term
+
 -- of part k, which is a formula with columns
 abbrev pub IsLocalOf : PatternSystem → List Core → Made → ℕ → Core → Local → Type 0
 IsLocalOf system parts made k core.True local = ⊥
-IsLocalOf system parts made k (core.Atom rel index x y) local = IsRelationLocal system made rel index x y local
-IsLocalOf system parts made k (core.Nf index x) local = IsNormalLocal system index local
-IsLocalOf system parts made k (core.Is x term) local = local ≡ term_local system.signature term
+IsLocalOf system parts made k (core.Leaf a) local = IsAtomLocal system made a local
 IsLocalOf system parts made k (core.Not f) local = ⊥
-IsLocalOf system parts made k (core.And f g) local = IsProductLocal parts made And (core.And f g) f g local
-IsLocalOf system parts made k (core.Or f g) local = IsProductLocal parts made Or (core.Or f g) f g local
-IsLocalOf system parts made k (core.Iff f g) local = IsProductLocal parts made Iff (core.Iff f g) f g local
+IsLocalOf system parts made k (core.Binary op f g) local = IsProductLocal parts made op (core.Binary op f g) f g local
 IsLocalOf system parts made k (core.Exists n f) local = IsProjectLocal parts made n f local
 IsLocalOf system parts made k (core.Infinite n f) local = IsManyLocal parts made k n f local
 
@@ -131,13 +135,9 @@ pub record IsManyValue (parts : List Core) (made : Made) (k n : ℕ) (f : Core) 
 -- of part k, which is a formula without columns
 abbrev pub IsValueOf : List Core → Made → ℕ → Core → Bool → Type 0
 IsValueOf parts made k core.True value = value ≡ true
-IsValueOf parts made k (core.Atom rel index x y) value = ⊥
-IsValueOf parts made k (core.Nf index x) value = ⊥
-IsValueOf parts made k (core.Is x term) value = ⊥
+IsValueOf parts made k (core.Leaf a) value = ⊥
 IsValueOf parts made k (core.Not f) value = (b : Bool) × IsAnswerOf parts made f (OfValue b) × (value ≡ not b)
-IsValueOf parts made k (core.And f g) value = IsConnectedValue parts made And f g value
-IsValueOf parts made k (core.Or f g) value = IsConnectedValue parts made Or f g value
-IsValueOf parts made k (core.Iff f g) value = IsConnectedValue parts made Iff f g value
+IsValueOf parts made k (core.Binary op f g) value = IsConnectedValue parts made op f g value
 IsValueOf parts made k (core.Exists n f) value =
     (body : Table) × IsAnswerOf parts made f (OfTable body) × (value ≡ some_below (length body.presences) body.accepting)
 IsValueOf parts made k (core.Infinite n f) value = IsManyValue parts made k n f value

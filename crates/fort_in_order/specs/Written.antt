@@ -1,9 +1,9 @@
 -- To believe: the certificate that is written: it is in order, with one state for each label, closures by passes, the greatest heights, and of the children that show infinitely many the least.
 use Rattle.std.specs.Prelude.{◌≡◌, ℕ, ◌<◌, List, [], length, get_or, Some}
 use Rattle.fort_theory.specs.Patterns.{PatternSystem}
-use Rattle.fort_logic.specs.Cores as core
-use Rattle.fort_logic.specs.Cores.{Core}
-use Rattle.fort_logic.specs.PartLists.{AreParts}
+use Rattle.fort_cores.specs.Cores as core
+use Rattle.fort_cores.specs.Cores.{Core}
+use Rattle.fort_cores.specs.PartLists.{AreParts}
 use Rattle.fort_tables.specs.Entries.{Entry}
 use Rattle.fort_tables.specs.Tables.{Table}
 use Rattle.fort_counts.specs.Counts as counts

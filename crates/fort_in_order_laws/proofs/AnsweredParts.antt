@@ -7,22 +7,23 @@ use Rattle.fort_theory.specs.Trees.{Node, Nil}
 use Rattle.fort_theory.specs.Sides.{at_index}
 use Rattle.fort_theory.specs.Signatures.{HasConstant, most_columns}
 use Rattle.fort_theory.specs.Patterns.{Pair, PatternSystem, IsSystem}
-use Rattle.fort_logic.specs.Cores as core
-use Rattle.fort_logic.specs.Cores.{Core}
-use Rattle.fort_logic.specs.CoreTruth.{Places, IsMetBy}
-use Rattle.fort_logic.specs.Parts.{is_free, BindsFree}
-use Rattle.fort_logic.specs.PatternStructures.{pattern_structure}
+use Rattle.fort_cores.specs.Cores as core
+use Rattle.fort_cores.specs.Cores.{Core, Binary, Atom}
+use Rattle.fort_cores.specs.CoreTruth.{Places, IsMetBy}
+use Rattle.fort_cores.specs.Parts.{is_free, BindsFree}
+use Rattle.fort_cores.specs.Structures.{pattern_structure}
 use Rattle.fort_tables.specs.Tables.{Table}
 use Rattle.fort_alike.specs.Atoms.{pairs_for}
-use Rattle.fort_operations.specs.Products.{Connective, And, Or, Iff, connected}
+use Rattle.fort_theory.specs.Logic.{Connective}
+use Rattle.fort_operations.specs.Products.{connected}
 use Rattle.fort_operations.specs.Projections.{some_below}
 use Rattle.fort_counts.specs.Counts.{KeepRules, count_at}
 use Rattle.fort_counts.specs.ManyLabels.{TellsMany, many_value}
 use Rattle.fort_counts.proofs.TellsLaws.{TellsMany-marks}
 use Rattle.fort_parts.specs.PartColumns.{columns_of, place_in}
 use Rattle.fort_parts.specs.PartAnswers.{Answer, OfValue, OfTable, AreGround, IsAnswerTo}
-use Rattle.fort_parts.specs.DecidedCores.{IsOperandOf}
-use Rattle.fort_parts.specs.RightAnswers.{IsRightFor, joined}
+use Rattle.fort_parts.specs.DecidedCores.{IsOperandOf, IsAtomOver, IsOverSystem}
+use Rattle.fort_parts.specs.RightAnswers.{IsRightFor}
 use Rattle.fort_parts.proofs.PartColumnLaws.{column-from_free, first_within, second_within}
 use Rattle.fort_parts.proofs.StepAnswers.{is_free-joined}
 use Rattle.fort_in_order.specs.Dues.{has_columns, is_turned}
@@ -115,55 +116,44 @@ counts_tell system parts made k n g among h =
 -- ---- labels
 
 module _ (system : PatternSystem) (is : IsSystem system) (parts : List Core) (made : Made) (k : ℕ) where
-  -- Result
-  pub labels_of : (f : Core) → has_columns f ≡ true → is_turned f ≡ false → length (columns_of f) ≤ most_columns → BindsFree f → HasClosuresFor system made f
-      → AreOperandsRight system parts made f → AreCountsRight system parts made k f → HasLabels system parts made k f
-  labels_of core.True columns turned few binds closures operands counts = absurd (true≢false (sym columns))
-  labels_of (core.Atom rel index x y) columns turned few binds closures operands counts =
+  atom_labels_of : (a : Atom) → length (columns_of (core.Leaf a)) ≤ most_columns → IsAtomOver system a → HasClosuresFor system made (core.Leaf a)
+      → HasLabels system parts made k (core.Leaf a)
+  atom_labels_of (core.Related rel index x y) few over closures =
       let s = side_patterns (pairs_for rel (at_index index system.rules)) in
       let local : Local = relation_local system rel index x y s.0 s.1 (closure_for made rel index) in
       let h : IsRelationLocal system made rel index x y local = record { lefts = s.0; rights = s.1; patterns = s.2; is = refl } in
       record { local = local; is = h; labels = labels_relation system is made rel index x y local few closures h }
-  labels_of (core.Nf index x) columns turned few binds closures operands counts =
+  atom_labels_of (core.InContext e number place x y) few over closures = absurd over
+  atom_labels_of (core.Normal index x) few over closures =
       let p = patterns_in_order (map (λ (pair : Pair). pair.0) (at_index index system.rules)) in
       let local : Local = normal_local system index p.0 in
       let h : IsNormalLocal system index local = record { lefts = p.0; patterns = p.1; is = refl } in
       record { local = local; is = h; labels = labels_normal system is index x local h }
-  labels_of (core.Is x term) columns turned few binds closures operands counts =
+  atom_labels_of (core.IsTerm x term) few over closures =
       record { local = term_local system.signature term; is = refl; labels = labels_term system is x term }
-  labels_of (core.Not f) columns turned few binds closures operands counts = absurd (true≢false (sym columns ∙ turned))
-  labels_of (core.And f g) columns turned few binds closures operands counts =
+
+  -- Result
+  pub labels_of : (f : Core) → has_columns f ≡ true → is_turned f ≡ false → length (columns_of f) ≤ most_columns → BindsFree f → IsOverSystem system f
+      → HasClosuresFor system made f → AreOperandsRight system parts made f → AreCountsRight system parts made k f → HasLabels system parts made k f
+  labels_of core.True columns turned few binds over closures operands counts = absurd (true≢false (sym columns))
+  labels_of (core.Leaf a) columns turned few binds over closures operands counts = atom_labels_of a few over closures
+  labels_of (core.Not f) columns turned few binds over closures operands counts = absurd (true≢false (sym columns ∙ turned))
+  labels_of (core.Binary op f g) columns turned few binds over closures operands counts =
       let a = operands f (inl refl) in
       let b = operands g (inr refl) in
       record {
-        local = product_local And (core.And f g) f g a.answer b.answer;
+        local = product_local op (core.Binary op f g) f g a.answer b.answer;
         is = record { first = a.answer; second = b.answer; first_is = a.made_is; second_is = b.made_is; is = refl };
-        labels = labels_joined system And f g a.answer b.answer (some_columns (core.And f g) columns) few a.right b.right;
+        labels = labels_joined system op f g a.answer b.answer (some_columns (core.Binary op f g) columns) few a.right b.right;
       }
-  labels_of (core.Or f g) columns turned few binds closures operands counts =
-      let a = operands f (inl refl) in
-      let b = operands g (inr refl) in
-      record {
-        local = product_local Or (core.Or f g) f g a.answer b.answer;
-        is = record { first = a.answer; second = b.answer; first_is = a.made_is; second_is = b.made_is; is = refl };
-        labels = labels_joined system Or f g a.answer b.answer (some_columns (core.Or f g) columns) few a.right b.right;
-      }
-  labels_of (core.Iff f g) columns turned few binds closures operands counts =
-      let a = operands f (inl refl) in
-      let b = operands g (inr refl) in
-      record {
-        local = product_local Iff (core.Iff f g) f g a.answer b.answer;
-        is = record { first = a.answer; second = b.answer; first_is = a.made_is; second_is = b.made_is; is = refl };
-        labels = labels_joined system Iff f g a.answer b.answer (some_columns (core.Iff f g) columns) few a.right b.right;
-      }
-  labels_of (core.Exists n f) columns turned few binds closures operands counts =
+  labels_of (core.Exists n f) columns turned few binds over closures operands counts =
       let t = table_right system parts made f (operands f refl) (free_some f n binds.0) in
       record {
         local = project_local t.table (place_in (columns_of f) n);
         is = record { body = t.table; body_is = t.made_is; is = refl };
         labels = labels_projected system n f t.table binds.0 (some_columns (core.Exists n f) columns) few t.right;
       }
-  labels_of (core.Infinite n f) columns turned few binds closures operands counts =
+  labels_of (core.Infinite n f) columns turned few binds over closures operands counts =
       let many = is_many counts.states (made.counts k) in
       record {
         local = many_local counts.table (place_in (columns_of f) n) many;
@@ -188,32 +178,31 @@ module _ (system : PatternSystem) (is : IsSystem system) (parts : List Core) (ma
     second : IsValueRight system parts made g
     says : value ≡ connected op first.value second.value
 
-  values_of : (op : Connective) (f g : Core) (value : Bool) → IsMadeRight system parts made f → IsMadeRight system parts made g → IsAnswerTo (pattern_structure system) (joined op f g) (OfValue value)
+  values_of : (op : Connective) (f g : Core) (value : Bool) → IsMadeRight system parts made f → IsMadeRight system parts made g → IsAnswerTo (pattern_structure system) (Binary op f g) (OfValue value)
       → AreValuesRight op f g value
   values_of op f g value one other right =
-      let none : length (columns_of (joined op f g)) ≡ 0 = ap length right.over in
-      let a = own_value system parts made f one (none_within (joined op f g) f none (first_within (joined op f g) f g (is_free-joined op f g))) in
-      let b = own_value system parts made g other (none_within (joined op f g) g none (second_within (joined op f g) f g (is_free-joined op f g))) in
-      record { first = a; second = b; says = one_truth (joined op f g) value (connected op a.value b.value) right (values_right system op f g a.value b.value right.over a.right.answers b.right.answers) }
+      let none : length (columns_of (Binary op f g)) ≡ 0 = ap length right.over in
+      let a = own_value system parts made f one (none_within (Binary op f g) f none (first_within (Binary op f g) f g (is_free-joined op f g))) in
+      let b = own_value system parts made g other (none_within (Binary op f g) g none (second_within (Binary op f g) f g (is_free-joined op f g))) in
+      record { first = a; second = b; says = one_truth (Binary op f g) value (connected op a.value b.value) right (values_right system op f g a.value b.value right.over a.right.answers b.right.answers) }
+
+  has_number : (a : Atom) → has_columns (core.Leaf a) ≡ false → ⊥
+  has_number (core.Related rel index x y) none = has_one (core.Leaf (core.Related rel index x y)) x (ap (λ b. b || (y == x)) (eq-eqb x x refl)) none
+  has_number (core.InContext e number place x y) none =
+      has_one (core.Leaf (core.InContext e number place x y)) x (ap (λ b. b || (y == x)) (eq-eqb x x refl)) none
+  has_number (core.Normal index x) none = has_one (core.Leaf (core.Normal index x)) x (eq-eqb x x refl) none
+  has_number (core.IsTerm x term) none = has_one (core.Leaf (core.IsTerm x term)) x (eq-eqb x x refl) none
 
   -- Result
   pub value_of : (f : Core) (value : Bool) → has_columns f ≡ false → BindsFree f → AreOperandsRight system parts made f → AreCountsRight system parts made k f
       → IsAnswerTo (pattern_structure system) f (OfValue value) → IsValueOf parts made k f value
   value_of core.True value none binds operands counts right = one_truth core.True value true right (true_right system)
-  value_of (core.Atom rel index x y) value none binds operands counts right = has_one (core.Atom rel index x y) x (ap (λ b. b || (y == x)) (eq-eqb x x refl)) none
-  value_of (core.Nf index x) value none binds operands counts right = has_one (core.Nf index x) x (eq-eqb x x refl) none
-  value_of (core.Is x term) value none binds operands counts right = has_one (core.Is x term) x (eq-eqb x x refl) none
+  value_of (core.Leaf a) value none binds operands counts right = absurd (has_number a none)
   value_of (core.Not f) value none binds operands counts right =
       let b = own_value system parts made f (operands f refl) (none_columns f none) in
       (b.value, b.made_is, one_truth (core.Not f) value (not b.value) right (not_value_right system f b.value b.right.answers))
-  value_of (core.And f g) value none binds operands counts right =
-      let v = values_of And f g value (operands f (inl refl)) (operands g (inr refl)) right in
-      record { first = v.first.value; second = v.second.value; first_is = v.first.made_is; second_is = v.second.made_is; is = v.says }
-  value_of (core.Or f g) value none binds operands counts right =
-      let v = values_of Or f g value (operands f (inl refl)) (operands g (inr refl)) right in
-      record { first = v.first.value; second = v.second.value; first_is = v.first.made_is; second_is = v.second.made_is; is = v.says }
-  value_of (core.Iff f g) value none binds operands counts right =
-      let v = values_of Iff f g value (operands f (inl refl)) (operands g (inr refl)) right in
+  value_of (core.Binary op f g) value none binds operands counts right =
+      let v = values_of op f g value (operands f (inl refl)) (operands g (inr refl)) right in
       record { first = v.first.value; second = v.second.value; first_is = v.first.made_is; second_is = v.second.made_is; is = v.says }
   value_of (core.Exists n f) value none binds operands counts right =
       let t = table_right system parts made f (operands f refl) (free_some f n binds.0) in

@@ -4,9 +4,9 @@ use Rattle.fort_theory.specs.Trees.{Tree}
 use Rattle.fort_theory.specs.Sides.{at_index}
 use Rattle.fort_theory.specs.Signatures.{most_columns}
 use Rattle.fort_theory.specs.Patterns.{Pattern, Pair, PatternSystem, IsSystem}
-use Rattle.fort_logic.specs.Cores as core
-use Rattle.fort_logic.specs.Cores.{Core, Rel}
-use Rattle.fort_logic.specs.PatternStructures.{pattern_structure}
+use Rattle.fort_cores.specs.Cores as core
+use Rattle.fort_cores.specs.Cores.{Core, Rel}
+use Rattle.fort_cores.specs.Structures.{pattern_structure}
 use Rattle.fort_tables.specs.Tables.{Table}
 use Rattle.fort_tables.specs.LabelRules.{label_of}
 use Rattle.fort_alike.specs.Atoms.{kind_for, pairs_for, relation_atom, normal_atom}
@@ -23,7 +23,7 @@ use Rattle.fort_atom_labels.proofs.SystemAtoms.{IsListedAtom-relation, IsListedA
 use Rattle.fort_atom_labels.proofs.TermLabels.{IsLabelRule-term, accepts-term}
 use Rattle.fort_parts.specs.PartColumns.{columns_of}
 use Rattle.fort_parts.specs.PartAnswers.{OfTable, IsAnswerTo}
-use Rattle.fort_parts.proofs.PartColumnLaws.{AreColumns-columns_of, columns_of-Nf, columns_of-Is}
+use Rattle.fort_parts.proofs.PartColumnLaws.{AreColumns-columns_of, columns_of-Normal, columns_of-IsTerm}
 use Rattle.fort_parts.proofs.StepTables.{IsTableOver-labels}
 use Rattle.fort_parts.proofs.AtomAnswers.{TellsTruth-Atom, TellsTruth-Nf, TellsTruth-Is}
 use Rattle.fort_certificate_grammar.specs.Certificates.{Which, Star, Conv, Pair as Item}
@@ -73,8 +73,8 @@ module _ (system : PatternSystem) (is : IsSystem system) where
 
   -- of the relations that read a closure
   lists_closure : (made : Made) (rel : Rel) (index x y : ℕ) (lefts rights : List Pattern) → AreSidePatterns (pairs_for rel (at_index index system.rules)) lefts rights
-      → HasClosuresFor system made (core.Atom rel index x y) → is_reaching (kind_for rel) ≡ true
-      → ListsClosure (listed (relation_atom system rel index x y (columns_of (core.Atom rel index x y))) lefts rights) (numbers_of (closure_for made rel index))
+      → HasClosuresFor system made (core.Leaf (core.Related rel index x y)) → is_reaching (kind_for rel) ≡ true
+      → ListsClosure (listed (relation_atom system rel index x y (columns_of (core.Leaf (core.Related rel index x y)))) lefts rights) (numbers_of (closure_for made rel index))
   lists_closure made core.Eq index x y lefts rights patterns right h = absurd cc
   lists_closure made core.Root index x y lefts rights patterns right h = absurd cc
   lists_closure made core.Below index x y lefts rights patterns right h = absurd cc
@@ -82,33 +82,33 @@ module _ (system : PatternSystem) (is : IsSystem system) where
   lists_closure made core.Par index x y lefts rights patterns right h = absurd cc
   lists_closure made core.Plus index x y lefts rights patterns right h =
       listed_exactly Star index (made.closures Star index) lefts rights (right Star index (test_itself index)) patterns
-      (listed (relation_atom system core.Plus index x y (columns_of (core.Atom core.Plus index x y))) lefts rights) refl refl refl
+      (listed (relation_atom system core.Plus index x y (columns_of (core.Leaf (core.Related core.Plus index x y)))) lefts rights) refl refl refl
   lists_closure made core.Star index x y lefts rights patterns right h =
       listed_exactly Star index (made.closures Star index) lefts rights (right Star index (test_itself index)) patterns
-      (listed (relation_atom system core.Star index x y (columns_of (core.Atom core.Star index x y))) lefts rights) refl refl refl
+      (listed (relation_atom system core.Star index x y (columns_of (core.Leaf (core.Related core.Star index x y)))) lefts rights) refl refl refl
   lists_closure made core.Conv index x y lefts rights patterns right h =
       listed_exactly Conv index (made.closures Conv index) lefts rights (right Conv index (test_itself index)) patterns
-      (listed (relation_atom system core.Conv index x y (columns_of (core.Atom core.Conv index x y))) lefts rights) refl refl refl
+      (listed (relation_atom system core.Conv index x y (columns_of (core.Leaf (core.Related core.Conv index x y)))) lefts rights) refl refl refl
 
   abbrev pub atom_over : Rel → (index x y : ℕ) → (lefts rights : List Pattern) → ListedAtom
-  atom_over rel index x y lefts rights = listed (relation_atom system rel index x y (columns_of (core.Atom rel index x y))) lefts rights
+  atom_over rel index x y lefts rights = listed (relation_atom system rel index x y (columns_of (core.Leaf (core.Related rel index x y)))) lefts rights
 
   pub relation_listed : (rel : Rel) (index x y : ℕ) (lefts rights : List Pattern) → AreSidePatterns (pairs_for rel (at_index index system.rules)) lefts rights → IsListedAtom (atom_over rel index x y lefts rights)
   relation_listed rel index x y lefts rights patterns =
-      IsListedAtom-relation system is index rel x y (columns_of (core.Atom rel index x y)) (AreColumns-columns_of (core.Atom rel index x y)) lefts rights patterns.left patterns.right
+      IsListedAtom-relation system is index rel x y (columns_of (core.Leaf (core.Related rel index x y))) (AreColumns-columns_of (core.Leaf (core.Related rel index x y))) lefts rights patterns.left patterns.right
 
   pub relation_closes : (made : Made) (rel : Rel) (index x y : ℕ) (lefts rights : List Pattern) → AreSidePatterns (pairs_for rel (at_index index system.rules)) lefts rights
-      → HasClosuresFor system made (core.Atom rel index x y) → IsClosure (atom_over rel index x y lefts rights) (closure_test rights lefts (numbers_of (closure_for made rel index)))
+      → HasClosuresFor system made (core.Leaf (core.Related rel index x y)) → IsClosure (atom_over rel index x y lefts rights) (closure_test rights lefts (numbers_of (closure_for made rel index)))
   relation_closes made rel index x y lefts rights patterns right =
       IsClosure-listed (atom_over rel index x y lefts rights) (relation_listed rel index x y lefts rights patterns) (numbers_of (closure_for made rel index))
       (lists_closure made rel index x y lefts rights patterns right)
 
   -- Results: the three kinds of atoms
-  pub relation_right : (made : Made) (rel : Rel) (index x y : ℕ) (local : Local) (table : Table) → length (columns_of (core.Atom rel index x y)) ≤ most_columns
-      → HasClosuresFor system made (core.Atom rel index x y) → IsRelationLocal system made rel index x y local → IsMadeBy local table
-      → IsAnswerTo (pattern_structure system) (core.Atom rel index x y) (OfTable table)
+  pub relation_right : (made : Made) (rel : Rel) (index x y : ℕ) (local : Local) (table : Table) → length (columns_of (core.Leaf (core.Related rel index x y))) ≤ most_columns
+      → HasClosuresFor system made (core.Leaf (core.Related rel index x y)) → IsRelationLocal system made rel index x y local → IsMadeBy local table
+      → IsAnswerTo (pattern_structure system) (core.Leaf (core.Related rel index x y)) (OfTable table)
   relation_right made rel index x y local table few right h by =
-      let f = core.Atom rel index x y in
+      let f = core.Leaf (core.Related rel index x y) in
       let a = atom_over rel index x y h.lefts h.rights in
       let items = closure_for made rel index in
       let test = closure_test h.rights h.lefts (numbers_of items) in
@@ -124,26 +124,26 @@ module _ (system : PatternSystem) (is : IsSystem system) where
       }
 
   pub normal_right : (index x : ℕ) (local : Local) (table : Table) → IsNormalLocal system index local → IsMadeBy local table
-      → IsAnswerTo (pattern_structure system) (core.Nf index x) (OfTable table)
+      → IsAnswerTo (pattern_structure system) (core.Leaf (core.Normal index x)) (OfTable table)
   normal_right index x local table h by =
-      let f = core.Nf index x in
+      let f = core.Leaf (core.Normal index x) in
       let a = listed (normal_atom system index) h.lefts [] in
       let test : Pattern → Pattern → Bool = λ p q. false in
       let own = normal_local system index h.lefts in
       let atom = IsListedAtom-normal system is index h.lefts h.patterns in
       let closes : IsClosure a test = IsClosure-unread a test refl in
-      let one : length (columns_of f) ≡ 1 = ap length (columns_of-Nf index x) in
+      let one : length (columns_of f) ≡ 1 = ap length (columns_of-Normal index x) in
       let table_by : IsTableByLocal system.signature 1 own table = IsTableBy-made own table (IsLabelRule-atom a test atom) (subst (λ (l : Local). IsMadeBy l table) h.is by) in
       record {
         over = IsTableOver-labels system.signature (columns_of f) 1 table (label_of own.rule) own.accepting (omega arith) (sym one) table_by;
         truth = TellsTruth-Nf system table index x (AcceptsExactly-by system.signature 1 own table _ table_by (λ t k full. Decides-atom_accepts a test atom closes t k));
       }
 
-  pub term_right : (x : ℕ) (term : Tree) (table : Table) → IsMadeBy (term_local system.signature term) table → IsAnswerTo (pattern_structure system) (core.Is x term) (OfTable table)
+  pub term_right : (x : ℕ) (term : Tree) (table : Table) → IsMadeBy (term_local system.signature term) table → IsAnswerTo (pattern_structure system) (core.Leaf (core.IsTerm x term)) (OfTable table)
   term_right x term table by =
-      let f = core.Is x term in
+      let f = core.Leaf (core.IsTerm x term) in
       let own = term_local system.signature term in
-      let one : length (columns_of f) ≡ 1 = ap length (columns_of-Is x term) in
+      let one : length (columns_of f) ≡ 1 = ap length (columns_of-IsTerm x term) in
       let table_by : IsTableByLocal system.signature 1 own table = IsTableBy-made own table (IsLabelRule-term system.signature (subterms term)) by in
       record {
         over = IsTableOver-labels system.signature (columns_of f) 1 table (label_of own.rule) own.accepting (omega arith) (sym one) table_by;

@@ -7,25 +7,25 @@ use Rattle.std.proofs.lemmas.List.Elements.{Contains-get_or, Contains-push_cases
 use Rattle.std.proofs.lemmas.List.{get_or_default}
 use Rattle.fort_theory.proofs.Members.{Contains-cons_cases, Contains-none}
 use Rattle.fort_theory.specs.Patterns.{PatternSystem, IsSystem}
-use Rattle.fort_logic.specs.Cores as core
-use Rattle.fort_logic.specs.Cores.{Core, Rel}
-use Rattle.fort_logic.specs.Parts.{IsClosed, postorder}
-use Rattle.fort_logic.specs.PartLists.{AreParts}
-use Rattle.fort_logic.specs.PatternStructures.{pattern_structure}
+use Rattle.fort_cores.specs.Cores as core
+use Rattle.fort_cores.specs.Cores.{Core, Rel, Atom}
+use Rattle.fort_cores.specs.Parts.{IsClosed, postorder}
+use Rattle.fort_cores.specs.PartLists.{AreParts}
+use Rattle.fort_cores.specs.Structures.{pattern_structure}
 use Rattle.fort_tables.specs.Tables.{Table}
 use Rattle.fort_tables.proofs.EqualTests.{test_from_apart, equal_from_test}
 use Rattle.fort_counts.specs.Counts.{Count, KeepRules, count_at}
 use Rattle.fort_parts.specs.PartColumns.{columns_of, place_in}
 use Rattle.fort_parts.specs.PartAnswers.{Answer, OfTable, IsAnswerTo}
 use Rattle.fort_parts.specs.PartAnswers as answers
-use Rattle.fort_parts.specs.DecidedCores.{IsDecided, IsOverSystem, IsOperandOf}
+use Rattle.fort_parts.specs.DecidedCores.{IsDecided, IsOverSystem, IsOperandOf, IsAtomOver}
 use Rattle.fort_parts.proofs.PartColumnLaws.{is_free-from_column}
 use Rattle.fort_parts.proofs.PartFacts.{IsOverSystem-part}
 use Rattle.fort_parts.proofs.PartOrder.{Contains-postorder, operand_earlier}
 use Rattle.fort_certificate_grammar.specs.Certificates as certificates
 use Rattle.fort_certificate_grammar.specs.Certificates.{Which, Star, Conv, Step, Closure, Part, Counts, Certificate}
 use Rattle.fort_in_order.specs.Outcomes.{Fine}
-use Rattle.fort_in_order.specs.Dues.{DueStep, OfPart, OfCounts, OfValue, due_of, reads, asks, closures_due, has_columns, is_turned, counts_due, answer_due, parts_due, dues}
+use Rattle.fort_in_order.specs.Dues.{DueStep, OfPart, OfCounts, OfValue, due_of, reads, asks, closures_due, has_columns, is_turned, counts_due, answer_due, parts_due, dues, atom_asks}
 use Rattle.fort_in_order.specs.Made.{Made, nothing_made, with_counts, with_answer, IsAnswerOf, OfStep, Turned}
 use Rattle.fort_in_order.specs.PartRules.{IsCounted, IsLocalOf, IsValueOf}
 use Rattle.fort_in_order.specs.Checked.{IsClosureJudged, IsFine, FineValue, AreSteps, NoSteps, MoreSteps, last_value, IsChecked, InOrder, OtherVerdict, Failing, NotDue, OneTooMany, Missing, Outcome, Certified, IsInOrder}
@@ -50,15 +50,18 @@ and_second : (a b : Bool) → (a && b) ≡ true → b ≡ true
 and_second true b h = h
 and_second false b h = absurd cc
 
+asked_by : (system : PatternSystem) (which : Which) (i : ℕ) (a : Atom) → atom_asks which i a ≡ true → IsAtomOver system a → (1 ≤ i) × (i ≤ length system.rules)
+asked_by system which i (core.Related rel index x y) h o =
+    let e = equal_from_test index i (and_second (reads which rel) (index == i) h) in (omega (arith, o.low), omega (arith, o.high))
+asked_by system which i (core.InContext e number place x y) h o = absurd cc
+asked_by system which i (core.Normal index x) h o = absurd cc
+asked_by system which i (core.IsTerm x term) h o = absurd cc
+
 asked_index : (system : PatternSystem) (which : Which) (i : ℕ) (f : Core) → asks which i f ≡ true → IsOverSystem system f → (1 ≤ i) × (i ≤ length system.rules)
 asked_index system which i core.True h o = absurd cc
-asked_index system which i (core.Atom rel index x y) h o = let e = equal_from_test index i (and_second (reads which rel) (index == i) h) in (omega (arith, o.low), omega (arith, o.high))
-asked_index system which i (core.Nf index x) h o = absurd cc
-asked_index system which i (core.Is x term) h o = absurd cc
+asked_index system which i (core.Leaf a) h o = asked_by system which i a h o
 asked_index system which i (core.Not f) h o = absurd cc
-asked_index system which i (core.And f g) h o = absurd cc
-asked_index system which i (core.Or f g) h o = absurd cc
-asked_index system which i (core.Iff f g) h o = absurd cc
+asked_index system which i (core.Binary op f g) h o = absurd cc
 asked_index system which i (core.Exists n f) h o = absurd cc
 asked_index system which i (core.Infinite n f) h o = absurd cc
 
@@ -113,13 +116,9 @@ module _ (system : PatternSystem) (root : Core) (parts : List Core) (are : ArePa
 
   counts_done : (k : ℕ) (f : Core) (made next : Made) (ss : List Step) → get_or parts k core.True ≡ f → AreSteps (IsFine system parts) made (counts_due k f) ss next → IsCountsDone k f made next
   counts_done k core.True made next ss e h = no_counts k core.True made next ss (λ n g d. cc) h
-  counts_done k (core.Atom rel index x y) made next ss e h = no_counts k (core.Atom rel index x y) made next ss (λ n g d. cc) h
-  counts_done k (core.Nf index x) made next ss e h = no_counts k (core.Nf index x) made next ss (λ n g d. cc) h
-  counts_done k (core.Is x term) made next ss e h = no_counts k (core.Is x term) made next ss (λ n g d. cc) h
+  counts_done k (core.Leaf a) made next ss e h = no_counts k (core.Leaf a) made next ss (λ n g d. cc) h
   counts_done k (core.Not f) made next ss e h = no_counts k (core.Not f) made next ss (λ n g d. cc) h
-  counts_done k (core.And f g) made next ss e h = no_counts k (core.And f g) made next ss (λ n i d. cc) h
-  counts_done k (core.Or f g) made next ss e h = no_counts k (core.Or f g) made next ss (λ n i d. cc) h
-  counts_done k (core.Iff f g) made next ss e h = no_counts k (core.Iff f g) made next ss (λ n i d. cc) h
+  counts_done k (core.Binary op f g) made next ss e h = no_counts k (core.Binary op f g) made next ss (λ n i d. cc) h
   counts_done k (core.Exists n f) made next ss e h = no_counts k (core.Exists n f) made next ss (λ i g d. cc) h
   counts_done k (core.Infinite n f) made next ss e h = some_counts k n f made next ss e h
 
@@ -303,13 +302,9 @@ only_one h g c = ⊎_elim (λ e. inl (sym e)) (λ n. absurd (Contains-none g n))
 
 under : (h g : Core) → Contains (postorder h) g → (g ≡ h) ⊎ IsUnder h g
 under core.True g c = only_one core.True g c
-under (core.Atom rel index x y) g c = only_one (core.Atom rel index x y) g c
-under (core.Nf index x) g c = only_one (core.Nf index x) g c
-under (core.Is x term) g c = only_one (core.Is x term) g c
+under (core.Leaf a) g c = only_one (core.Leaf a) g c
 under (core.Not f) g c = under_one f (core.Not f) g refl refl (λ x d. under f x d) c
-under (core.And f k) g c = under_two f k (core.And f k) g refl (inl refl) (inr refl) (λ x d. under f x d) (λ x d. under k x d) c
-under (core.Or f k) g c = under_two f k (core.Or f k) g refl (inl refl) (inr refl) (λ x d. under f x d) (λ x d. under k x d) c
-under (core.Iff f k) g c = under_two f k (core.Iff f k) g refl (inl refl) (inr refl) (λ x d. under f x d) (λ x d. under k x d) c
+under (core.Binary op f k) g c = under_two f k (core.Binary op f k) g refl (inl refl) (inr refl) (λ x d. under f x d) (λ x d. under k x d) c
 under (core.Exists n f) g c = under_one f (core.Exists n f) g refl refl (λ x d. under f x d) c
 under (core.Infinite n f) g c = under_one f (core.Infinite n f) g refl refl (λ x d. under f x d) c
 
@@ -337,13 +332,9 @@ no_columns_closed f closed = by (has_columns f) refl
 
 pub turned_closed : (f : Core) → has_columns f ≡ false → is_turned f ≡ false
 turned_closed core.True h = refl
-turned_closed (core.Atom rel index x y) h = refl
-turned_closed (core.Nf index x) h = refl
-turned_closed (core.Is x term) h = refl
+turned_closed (core.Leaf a) h = refl
 turned_closed (core.Not f) h = h
-turned_closed (core.And f g) h = refl
-turned_closed (core.Or f g) h = refl
-turned_closed (core.Iff f g) h = refl
+turned_closed (core.Binary op f g) h = refl
 turned_closed (core.Exists n f) h = refl
 turned_closed (core.Infinite n f) h = refl
 

@@ -5,10 +5,10 @@ use Rattle.fort_theory.specs.Signatures.{Signature, symbol}
 use Rattle.fort_theory.specs.Patterns.{Pattern, Any, At, NoPattern, MorePatterns, PatternSystem}
 use Rattle.fort_theory.specs.PatternOrder.{AreSubpatternsInOrder}
 use Rattle.fort_theory.proofs.Members.{Contains-head, Contains-cons_cases, Contains-none}
-use Rattle.fort_logic.specs.Cores as core
-use Rattle.fort_logic.specs.Cores.{Core}
-use Rattle.fort_logic.specs.PartLists.{AreParts}
-use Rattle.fort_logic.proofs.EachOnceLaws.{AreEachOnce-nil, AreEachOnce-new}
+use Rattle.fort_cores.specs.Cores as core
+use Rattle.fort_cores.specs.Cores.{Core}
+use Rattle.fort_cores.specs.PartLists.{AreParts}
+use Rattle.fort_cores.proofs.EachOnceLaws.{AreEachOnce-nil, AreEachOnce-new}
 use Rattle.fort_tables.specs.Tuples.{TupleSymbol}
 use Rattle.fort_tables.specs.Entries.{Entry, entry, IsEntry}
 use Rattle.fort_tables.specs.Tables.{Table, listed_table}
@@ -31,7 +31,7 @@ abbrev system : PatternSystem
 system = record { signature = constants; rules = [] ∷ [] }
 
 abbrev normal : Core
-normal = core.Nf 1 0
+normal = core.Leaf (core.Normal 1 0)
 
 abbrev formula : Core
 formula = core.Not (core.Exists 0 (core.Not normal))
@@ -134,7 +134,7 @@ example_rejected = record { parts = parts; parts_are = are_parts; checked = Othe
 
 -- "from each term infinitely many are reached"
 abbrev reached : Core
-reached = core.Atom core.Star 1 0 1
+reached = core.Leaf (core.Related core.Star 1 0 1)
 
 abbrev many_parts : List Core
 many_parts =
@@ -149,7 +149,7 @@ many_due : dues 1 many_parts ≡ (OfClosure Star 1 ∷ OfPart 0 ∷ OfCounts 1 �
 many_due = refl
 
 -- of two indices, each with a conversion, one with a strict reduction
-two_due : dues 2 (core.Atom core.Conv 1 0 1 ∷ core.Atom core.Conv 2 0 1 ∷ core.Atom core.Plus 2 0 1 ∷ [])
+two_due : dues 2 (core.Leaf (core.Related core.Conv 1 0 1) ∷ core.Leaf (core.Related core.Conv 2 0 1) ∷ core.Leaf (core.Related core.Plus 2 0 1) ∷ [])
     ≡ (OfClosure Conv 1 ∷ OfClosure Star 2 ∷ OfClosure Conv 2 ∷ OfPart 0 ∷ OfPart 1 ∷ OfPart 2 ∷ [])
 two_due = refl
 

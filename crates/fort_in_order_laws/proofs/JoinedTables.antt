@@ -7,23 +7,23 @@ use Rattle.std.proofs.lemmas.List.Edits.{length-insert}
 use Rattle.fort_theory.specs.Signatures.{Signature, most_columns}
 use Rattle.fort_theory.specs.Patterns.{PatternSystem}
 use Rattle.fort_theory.proofs.Members.{Contains-none, Contains-head}
-use Rattle.fort_logic.specs.Cores as core
-use Rattle.fort_logic.specs.Cores.{Core}
-use Rattle.fort_logic.specs.Parts.{is_free}
-use Rattle.fort_logic.specs.PatternStructures.{pattern_structure}
+use Rattle.fort_cores.specs.Cores as core
+use Rattle.fort_cores.specs.Cores.{Core, Binary}
+use Rattle.fort_cores.specs.Parts.{is_free}
+use Rattle.fort_cores.specs.Structures.{pattern_structure}
 use Rattle.fort_tables.specs.Tables.{Table}
 use Rattle.fort_tables.specs.LabelRules.{IsLabelRule, label_of}
 use Rattle.fort_operations.specs.OperationTruth.{complemented}
-use Rattle.fort_operations.specs.Products.{Connective, And, Or, Iff, connected, signature_of}
+use Rattle.fort_theory.specs.Logic.{Connective}
+use Rattle.fort_operations.specs.Products.{connected, signature_of}
 use Rattle.fort_operations.specs.Projections.{some_below}
 use Rattle.fort_counts.specs.ManyLabels.{TellsMany, many_value}
 use Rattle.fort_parts.specs.PartColumns.{columns_of, place_in, places_in}
-use Rattle.fort_parts.specs.PartAnswers.{Answer, OfValue, OfTable, said, TellsTruth, FitsColumns, IsAnswerTo}
-use Rattle.fort_parts.specs.PartSteps.{SaysBoth, SaysSome, SaysMany, operand_of}
-use Rattle.fort_parts.specs.RightAnswers.{joined}
+use Rattle.fort_parts.specs.PartAnswers.{Answer, OfValue, OfTable, FitsColumns, IsAnswerTo}
+use Rattle.fort_parts.specs.PartSteps.{SaysSome, SaysMany, operand_of}
 use Rattle.fort_parts.proofs.PartColumnLaws.{columns_of-bound, first_within, second_within, is_free-from_column, column-from_free, place_of-member}
 use Rattle.fort_parts.proofs.StepAnswers.{is_free-joined}
-use Rattle.fort_parts.proofs.StepTruth.{TellsTruth-True, TellsTruth-Not, TellsTruth-And, TellsTruth-Or, TellsTruth-Iff, TellsTruth-Exists, TellsTruth-Infinite}
+use Rattle.fort_parts.proofs.StepTruth.{TellsTruth-True, TellsTruth-Not, TellsTruth-Binary, TellsTruth-Exists, TellsTruth-Infinite}
 use Rattle.fort_parts.proofs.StepTables.{IsTableOver-labels, SaysNot-values, IsTableOver-complemented, SaysNot-tables, SaysBoth-values, SaysBoth-tables, SaysSome-tables, SaysSome-value, SaysMany-tables, SaysMany-value}
 use Rattle.fort_in_order.specs.PartRules.{Local, product_local, project_local, many_local}
 use Rattle.fort_in_order_laws.proofs.MadeTables.{IsMadeBy, IsTableByLocal, IsTableBy-made}
@@ -33,19 +33,19 @@ no_column [] e = refl
 no_column (x ∷ xs) e = absurd (omega arith)
 
 -- a formula of two closed ones is closed
-no_columns_joined : (op : Connective) (f g : Core) → columns_of f ≡ [] → columns_of g ≡ [] → columns_of (joined op f g) ≡ []
-no_columns_joined op f g one other = by (columns_of (joined op f g)) refl
+no_columns_joined : (op : Connective) (f g : Core) → columns_of f ≡ [] → columns_of g ≡ [] → columns_of (Binary op f g) ≡ []
+no_columns_joined op f g one other = by (columns_of (Binary op f g)) refl
   where
-    free : (n : ℕ) → is_free n (joined op f g) ≡ true → ⊥
+    free : (n : ℕ) → is_free n (Binary op f g) ≡ true → ⊥
     free n e =
         ⊎_elim
         (λ h. Contains-none n (subst (λ (ys : List ℕ). Contains ys n) one (column-from_free f n h)))
         (λ h. Contains-none n (subst (λ (ys : List ℕ). Contains ys n) other (column-from_free g n h)))
         (or_cases (is_free n f) (is_free n g) (sym (is_free-joined op f g n) ∙ e))
 
-    by : (xs : List ℕ) → columns_of (joined op f g) ≡ xs → columns_of (joined op f g) ≡ []
+    by : (xs : List ℕ) → columns_of (Binary op f g) ≡ xs → columns_of (Binary op f g) ≡ []
     by [] e = e
-    by (x ∷ xs) e = absurd (free x (is_free-from_column (joined op f g) x (subst (λ (ys : List ℕ). Contains ys x) (sym e) (Contains-head x xs))))
+    by (x ∷ xs) e = absurd (free x (is_free-from_column (Binary op f g) x (subst (λ (ys : List ℕ). Contains ys x) (sym e) (Contains-head x xs))))
 
 -- the column that a binder takes away
 past_end : (xs : List ℕ) (c x : ℕ) → length xs < c → length (insert xs c x) ≡ length xs + 1
@@ -83,38 +83,29 @@ module _ (system : PatternSystem) where
     truth = TellsTruth-Not (pattern_structure system) f (OfTable table) (OfTable (complemented table)) (SaysNot-tables system.signature (columns_of f) table right.over) right.truth;
   }
 
-  truth_joined : (op : Connective) (f g : Core) (first second answer : Answer)
-      → SaysBoth system.signature (length (columns_of (joined op f g))) op (places_in (columns_of (joined op f g)) (columns_of f)) first
-      (places_in (columns_of (joined op f g)) (columns_of g)) second answer
-      → TellsTruth (pattern_structure system) f (said first) → TellsTruth (pattern_structure system) g (said second)
-      → TellsTruth (pattern_structure system) (joined op f g) (said answer)
-  truth_joined And f g first second answer says one other = TellsTruth-And (pattern_structure system) f g first second answer says one other
-  truth_joined Or f g first second answer says one other = TellsTruth-Or (pattern_structure system) f g first second answer says one other
-  truth_joined Iff f g first second answer says one other = TellsTruth-Iff (pattern_structure system) f g first second answer says one other
-
-  pub values_right : (op : Connective) (f g : Core) (a b : Bool) → columns_of (joined op f g) ≡ [] → IsAnswerTo (pattern_structure system) f (OfValue a)
-      → IsAnswerTo (pattern_structure system) g (OfValue b) → IsAnswerTo (pattern_structure system) (joined op f g) (OfValue (connected op a b))
+  pub values_right : (op : Connective) (f g : Core) (a b : Bool) → columns_of (Binary op f g) ≡ [] → IsAnswerTo (pattern_structure system) f (OfValue a)
+      → IsAnswerTo (pattern_structure system) g (OfValue b) → IsAnswerTo (pattern_structure system) (Binary op f g) (OfValue (connected op a b))
   values_right op f g a b none one other = record {
     over = none;
     truth =
-        truth_joined op f g (OfValue a) (OfValue b) (OfValue (connected op a b))
-        (SaysBoth-values system.signature (length (columns_of (joined op f g))) op (places_in (columns_of (joined op f g)) (columns_of f))
-        (places_in (columns_of (joined op f g)) (columns_of g)) a b) one.truth other.truth;
+        TellsTruth-Binary (pattern_structure system) op f g (OfValue a) (OfValue b) (OfValue (connected op a b))
+        (SaysBoth-values system.signature (length (columns_of (Binary op f g))) op (places_in (columns_of (Binary op f g)) (columns_of f))
+        (places_in (columns_of (Binary op f g)) (columns_of g)) a b) one.truth other.truth;
   }
 
   -- one of the operands has columns
-  pub joined_signature : (op : Connective) (f g : Core) (first second : Answer) (places others : List ℕ) → 0 < length (columns_of (joined op f g))
+  pub joined_signature : (op : Connective) (f g : Core) (first second : Answer) (places others : List ℕ) → 0 < length (columns_of (Binary op f g))
       → FitsColumns system.signature (columns_of f) first → FitsColumns system.signature (columns_of g) second
       → signature_of (operand_of first places) (operand_of second others) ≡ system.signature
   joined_signature op f g (OfTable a) second places others some one other = one.signature
   joined_signature op f g (OfValue a) (OfTable b) places others some one other = other.signature
   joined_signature op f g (OfValue a) (OfValue b) places others some one other = absurd (let e = ap length (no_columns_joined op f g one other) in omega arith)
 
-  pub product_right : (op : Connective) (f g : Core) (first second : Answer) (local : Local) (table : Table) → 0 < length (columns_of (joined op f g)) → length (columns_of (joined op f g)) ≤ most_columns
-      → IsAnswerTo (pattern_structure system) f first → IsAnswerTo (pattern_structure system) g second → local ≡ product_local op (joined op f g) f g first second → IsMadeBy local table
-      → IsAnswerTo (pattern_structure system) (joined op f g) (OfTable table)
+  pub product_right : (op : Connective) (f g : Core) (first second : Answer) (local : Local) (table : Table) → 0 < length (columns_of (Binary op f g)) → length (columns_of (Binary op f g)) ≤ most_columns
+      → IsAnswerTo (pattern_structure system) f first → IsAnswerTo (pattern_structure system) g second → local ≡ product_local op (Binary op f g) f g first second → IsMadeBy local table
+      → IsAnswerTo (pattern_structure system) (Binary op f g) (OfTable table)
   product_right op f g first second local table some few one other is by =
-      let h = joined op f g in
+      let h = Binary op f g in
       let own = product_local op h f g first second in
       let law : IsLabelRule own.rule = record { some = some; narrow = few; tells = λ k ws. refl } in
       let sig = joined_signature op f g first second (places_in (columns_of h) (columns_of f)) (places_in (columns_of h) (columns_of g)) some one.over other.over in
@@ -123,7 +114,7 @@ module _ (system : PatternSystem) where
       record {
         over = IsTableOver-labels system.signature (columns_of h) (length (columns_of h)) table (label_of own.rule) own.accepting some refl table_by;
         truth =
-            truth_joined op f g first second (OfTable table)
+            TellsTruth-Binary (pattern_structure system) op f g first second (OfTable table)
             (SaysBoth-tables system.signature (columns_of f) (columns_of g) (columns_of h) first second op (first_within h f g (is_free-joined op f g))
             (second_within h f g (is_free-joined op f g)) one.over other.over some table table_by) one.truth other.truth;
       }

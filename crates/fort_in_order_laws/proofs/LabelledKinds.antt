@@ -3,9 +3,9 @@ use Rattle.std.proofs.Common.{◌≡◌, ℕ, ◌-◌, ◌<◌, ◌≤◌, [], l
 use Rattle.fort_theory.specs.Trees.{Tree}
 use Rattle.fort_theory.specs.Signatures.{most_columns}
 use Rattle.fort_theory.specs.Patterns.{Pattern, PatternSystem, IsSystem}
-use Rattle.fort_logic.specs.Cores as core
-use Rattle.fort_logic.specs.Cores.{Core, Rel}
-use Rattle.fort_logic.specs.Parts.{is_free}
+use Rattle.fort_cores.specs.Cores as core
+use Rattle.fort_cores.specs.Cores.{Core, Rel, Binary}
+use Rattle.fort_cores.specs.Parts.{is_free}
 use Rattle.fort_tables.specs.Tables.{Table, listed_table}
 use Rattle.fort_tables.specs.LabelRules.{label_of}
 use Rattle.fort_alike.specs.Atoms.{normal_atom}
@@ -19,12 +19,12 @@ use Rattle.fort_atom_labels.proofs.RuleLaws.{IsLabelRule-atom}
 use Rattle.fort_atom_labels.proofs.SubtermLaws.{ListsSubterms-subterms}
 use Rattle.fort_atom_labels.proofs.SystemAtoms.{IsListedAtom-normal}
 use Rattle.fort_atom_labels.proofs.TermLabels.{IsLabelRule-term, labels-AlikeAtTerm}
-use Rattle.fort_operations.specs.Products.{Connective}
+use Rattle.fort_theory.specs.Logic.{Connective}
 use Rattle.fort_counts.specs.ManyLabels.{TellsMany}
 use Rattle.fort_parts.specs.PartColumns.{columns_of, place_in, places_in}
 use Rattle.fort_parts.specs.PartAnswers.{Answer, OfTable}
-use Rattle.fort_parts.specs.RightAnswers.{IsRightFor, joined}
-use Rattle.fort_parts.proofs.PartColumnLaws.{columns_of-Nf, columns_of-Is}
+use Rattle.fort_parts.specs.RightAnswers.{IsRightFor}
+use Rattle.fort_parts.proofs.PartColumnLaws.{columns_of-Normal, columns_of-IsTerm}
 use Rattle.fort_parts.proofs.AtomResults.{LabelsTellAlike-Nf, LabelsTellAlike-Is}
 use Rattle.fort_parts.proofs.StepAnswers.{LabelsTellAlike-joined, LabelsTellAlike-projected, LabelsTellAlike-many}
 use Rattle.fort_in_order.specs.ClosureSteps.{numbers_of}
@@ -35,14 +35,14 @@ use Rattle.fort_in_order_laws.proofs.JoinedTables.{bound_many, joined_signature,
 use Rattle.fort_in_order_laws.proofs.LabelledParts.{AreLabelsOf}
 
 module _ (system : PatternSystem) (is : IsSystem system) where
-  pub labels_relation : (made : Made) (rel : Rel) (index x y : ℕ) (local : Local) → length (columns_of (core.Atom rel index x y)) ≤ most_columns → HasClosuresFor system made (core.Atom rel index x y)
-      → IsRelationLocal system made rel index x y local → AreLabelsOf system (core.Atom rel index x y) local
+  pub labels_relation : (made : Made) (rel : Rel) (index x y : ℕ) (local : Local) → length (columns_of (core.Leaf (core.Related rel index x y))) ≤ most_columns → HasClosuresFor system made (core.Leaf (core.Related rel index x y))
+      → IsRelationLocal system made rel index x y local → AreLabelsOf system (core.Leaf (core.Related rel index x y)) local
   labels_relation made rel index x y local few right h =
       let a = atom_over system is rel index x y h.lefts h.rights in
       let atom = relation_listed system is rel index x y h.lefts h.rights h.patterns in
       let test = closure_test h.rights h.lefts (numbers_of (closure_for made rel index)) in
       let own = relation_local system rel index x y h.lefts h.rights (closure_for made rel index) in
-      subst (AreLabelsOf system (core.Atom rel index x y)) (sym h.is) (record {
+      subst (AreLabelsOf system (core.Leaf (core.Related rel index x y))) (sym h.is) (record {
         law = IsLabelRule-atom a test atom;
         signature = refl;
         columns = refl;
@@ -50,34 +50,34 @@ module _ (system : PatternSystem) (is : IsSystem system) where
         right = λ t by. relation_right system is made rel index x y own (listed_table t) few right (record { lefts = h.lefts; rights = h.rights; patterns = h.patterns; is = refl }) by;
       })
 
-  pub labels_normal : (index x : ℕ) (local : Local) → IsNormalLocal system index local → AreLabelsOf system (core.Nf index x) local
+  pub labels_normal : (index x : ℕ) (local : Local) → IsNormalLocal system index local → AreLabelsOf system (core.Leaf (core.Normal index x)) local
   labels_normal index x local h =
       let a = listed (normal_atom system index) h.lefts [] in
       let atom = IsListedAtom-normal system is index h.lefts h.patterns in
       let test : Pattern → Pattern → Bool = λ p q. false in
       let own = normal_local system index h.lefts in
-      subst (AreLabelsOf system (core.Nf index x)) (sym h.is) (record {
+      subst (AreLabelsOf system (core.Leaf (core.Normal index x))) (sym h.is) (record {
         law = IsLabelRule-atom a test atom;
         signature = refl;
-        columns = sym (ap length (columns_of-Nf index x));
+        columns = sym (ap length (columns_of-Normal index x));
         alike = LabelsTellAlike-Nf system (label_of (atom_rule a test)) index x (labels_alike a test atom (IsClosure-unread a test refl));
         right = λ t by. normal_right system is index x own (listed_table t) (record { lefts = h.lefts; patterns = h.patterns; is = refl }) by;
       })
 
-  pub labels_term : (x : ℕ) (term : Tree) → AreLabelsOf system (core.Is x term) (term_local system.signature term)
+  pub labels_term : (x : ℕ) (term : Tree) → AreLabelsOf system (core.Leaf (core.IsTerm x term)) (term_local system.signature term)
   labels_term x term = record {
     law = IsLabelRule-term system.signature (subterms term);
     signature = refl;
-    columns = sym (ap length (columns_of-Is x term));
+    columns = sym (ap length (columns_of-IsTerm x term));
     alike = LabelsTellAlike-Is system (label_of (term_local system.signature term).rule) x term (labels-AlikeAtTerm system.signature term (subterms term) (ListsSubterms-subterms term));
     right = λ t by. term_right system is x term (listed_table t) by;
   }
 
 module _ (system : PatternSystem) where
-  pub labels_joined : (op : Connective) (f g : Core) (first second : Answer) → 0 < length (columns_of (joined op f g)) → length (columns_of (joined op f g)) ≤ most_columns
-      → IsRightFor system f first → IsRightFor system g second → AreLabelsOf system (joined op f g) (product_local op (joined op f g) f g first second)
+  pub labels_joined : (op : Connective) (f g : Core) (first second : Answer) → 0 < length (columns_of (Binary op f g)) → length (columns_of (Binary op f g)) ≤ most_columns
+      → IsRightFor system f first → IsRightFor system g second → AreLabelsOf system (Binary op f g) (product_local op (Binary op f g) f g first second)
   labels_joined op f g first second some few one other =
-      let h = joined op f g in
+      let h = Binary op f g in
       record {
         law = record { some = some; narrow = few; tells = λ k ws. refl };
         signature = joined_signature system op f g first second (places_in (columns_of h) (columns_of f)) (places_in (columns_of h) (columns_of g)) some one.answers.over other.answers.over;

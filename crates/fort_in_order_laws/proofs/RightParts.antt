@@ -5,25 +5,24 @@ use Rattle.std.proofs.lemmas.Bool.{cases_lt, ltb-true, lt-ltb}
 use Rattle.std.proofs.lemmas.List.Elements.{Contains-get_or}
 use Rattle.fort_theory.specs.Signatures.{most_columns}
 use Rattle.fort_theory.specs.Patterns.{PatternSystem, IsSystem}
-use Rattle.fort_logic.specs.Cores as core
-use Rattle.fort_logic.specs.Cores.{Core}
-use Rattle.fort_logic.specs.Parts.{postorder, BindsFree}
-use Rattle.fort_logic.specs.PartLists.{AreParts}
-use Rattle.fort_logic.specs.PatternStructures.{pattern_structure}
+use Rattle.fort_cores.specs.Cores as core
+use Rattle.fort_cores.specs.Cores.{Core, Binary, Atom}
+use Rattle.fort_cores.specs.Parts.{postorder, BindsFree}
+use Rattle.fort_cores.specs.PartLists.{AreParts}
+use Rattle.fort_cores.specs.Structures.{pattern_structure}
 use Rattle.fort_tables.specs.Tables.{Table}
-use Rattle.fort_operations.specs.Products.{Connective, And, Or, Iff}
+use Rattle.fort_theory.specs.Logic.{Connective}
 use Rattle.fort_counts.specs.Counts.{KeepRules, count_at}
 use Rattle.fort_counts.specs.ManyLabels.{TellsMany}
 use Rattle.fort_counts.proofs.TellsLaws.{TellsMany-marks}
 use Rattle.fort_parts.specs.PartColumns.{columns_of, place_in}
 use Rattle.fort_parts.specs.PartAnswers.{Answer, OfValue, OfTable, IsAnswerTo}
-use Rattle.fort_parts.specs.RightAnswers.{joined}
 use Rattle.fort_parts.specs.DecidedCores.{IsDecided, IsOperandOf}
 use Rattle.fort_parts.proofs.PartFacts.{BindsFree-part, columns_of-few}
 use Rattle.fort_parts.proofs.PartOrder.{operand_earlier}
 use Rattle.fort_in_order.specs.Dues.{has_columns, is_turned}
 use Rattle.fort_in_order.specs.Made.{Made, IsAnswerOf, OfStep, Turned}
-use Rattle.fort_in_order.specs.PartRules.{Local, is_many, IsCounted, IsProductLocal, IsConnectedValue, IsLocalOf, IsValueOf}
+use Rattle.fort_in_order.specs.PartRules.{Local, is_many, IsCounted, IsProductLocal, IsConnectedValue, IsLocalOf, IsValueOf, IsAtomLocal}
 use Rattle.fort_in_order.proofs.RuleLaws.{part_one}
 use Rattle.fort_in_order_laws.proofs.MadeTables.{IsMadeBy}
 use Rattle.fort_in_order_laws.proofs.AtomTables.{HasClosuresFor, relation_right, normal_right, term_right}
@@ -91,25 +90,23 @@ module _ (system : PatternSystem) (is : IsSystem system) (root : Core) (decided 
         let before = operand_earlier root parts are k within g (subst (IsOperandOf g) (sym e) o) in
         earlier_right k made g answer has before.place before.before (omega (arith, before.before)) before.is a
 
-    joined_operands : (op : Connective) (f g : Core) → IsOperandOf f (joined op f g) × IsOperandOf g (joined op f g)
-    joined_operands And f g = (inl refl, inr refl)
-    joined_operands Or f g = (inl refl, inr refl)
-    joined_operands Iff f g = (inl refl, inr refl)
+    joined_operands : (op : Connective) (f g : Core) → IsOperandOf f (Binary op f g) × IsOperandOf g (Binary op f g)
+    joined_operands op f g = (inl refl, inr refl)
 
-    product_made : (op : Connective) (f g : Core) (local : Local) (table : Table) → own ≡ joined op f g → has_columns (joined op f g) ≡ true
-        → IsProductLocal parts made op (joined op f g) f g local → IsMadeBy local table → IsRight (joined op f g) (OfTable table)
+    product_made : (op : Connective) (f g : Core) (local : Local) (table : Table) → own ≡ Binary op f g → has_columns (Binary op f g) ≡ true
+        → IsProductLocal parts made op (Binary op f g) f g local → IsMadeBy local table → IsRight (Binary op f g) (OfTable table)
     product_made op f g local table e columns h by =
         let o = joined_operands op f g in
-        product_right system op f g h.first h.second local table (some_columns (joined op f g) columns) (subst (λ (z : Core). length (columns_of z) ≤ most_columns) e few)
-        (operand_right (joined op f g) f h.first e o.0 h.first_is) (operand_right (joined op f g) g h.second e o.1 h.second_is) h.is by
+        product_right system op f g h.first h.second local table (some_columns (Binary op f g) columns) (subst (λ (z : Core). length (columns_of z) ≤ most_columns) e few)
+        (operand_right (Binary op f g) f h.first e o.0 h.first_is) (operand_right (Binary op f g) g h.second e o.1 h.second_is) h.is by
 
-    values_made : (op : Connective) (f g : Core) (value : Bool) → own ≡ joined op f g → has_columns (joined op f g) ≡ false
-        → IsConnectedValue parts made op f g value → IsRight (joined op f g) (OfValue value)
+    values_made : (op : Connective) (f g : Core) (value : Bool) → own ≡ Binary op f g → has_columns (Binary op f g) ≡ false
+        → IsConnectedValue parts made op f g value → IsRight (Binary op f g) (OfValue value)
     values_made op f g value e columns h =
         let o = joined_operands op f g in
-        subst (λ (b : Bool). IsRight (joined op f g) (OfValue b)) (sym h.is)
-        (values_right system op f g h.first h.second (empty_columns (joined op f g) (none_columns (joined op f g) columns))
-        (operand_right (joined op f g) f (OfValue h.first) e o.0 h.first_is) (operand_right (joined op f g) g (OfValue h.second) e o.1 h.second_is))
+        subst (λ (b : Bool). IsRight (Binary op f g) (OfValue b)) (sym h.is)
+        (values_right system op f g h.first h.second (empty_columns (Binary op f g) (none_columns (Binary op f g) columns))
+        (operand_right (Binary op f g) f (OfValue h.first) e o.0 h.first_is) (operand_right (Binary op f g) g (OfValue h.second) e o.1 h.second_is))
 
     -- what the counts tell of the body
     body_tells : (n : ℕ) (g : Core) (body : Table) (states : List ℕ) → own ≡ core.Infinite n g → HasCountsFor parts made k own → IsCounted parts made n g body states
@@ -120,18 +117,21 @@ module _ (system : PatternSystem) (is : IsSystem system) (root : Core) (decided 
         TellsMany-marks body (place_in (columns_of g) n) (count_at states (made.counts k)) right.over.lawful right.over.reached
         (omega (arith, bound_within n g b.0, right.over.columns_are)) (counts n g body states e h)
 
+    atom_right : (a : Atom) (local : Local) (table : Table) → own ≡ core.Leaf a → HasClosuresFor system made (core.Leaf a)
+        → IsAtomLocal system made a local → IsMadeBy local table → IsRight (core.Leaf a) (OfTable table)
+    atom_right (core.Related rel index x y) local table e closures h by =
+        relation_right system is made rel index x y local table (subst (λ (z : Core). length (columns_of z) ≤ most_columns) e few) closures h by
+    atom_right (core.InContext d number place x y) local table e closures h by = absurd h
+    atom_right (core.Normal index x) local table e closures h by = normal_right system is index x local table h by
+    atom_right (core.IsTerm x term) local table e closures h by = term_right system is x term table (subst (λ (l : Local). IsMadeBy l table) h by)
+
     -- Result: by kind, of a part with columns
     pub local_right : (f : Core) (local : Local) (table : Table) → own ≡ f → has_columns f ≡ true → HasClosuresFor system made f → HasCountsFor parts made k own
         → IsLocalOf system parts made k f local → IsMadeBy local table → IsRight f (OfTable table)
     local_right core.True local table e columns closures counts h by = absurd h
-    local_right (core.Atom rel index x y) local table e columns closures counts h by =
-        relation_right system is made rel index x y local table (subst (λ (z : Core). length (columns_of z) ≤ most_columns) e few) closures h by
-    local_right (core.Nf index x) local table e columns closures counts h by = normal_right system is index x local table h by
-    local_right (core.Is x term) local table e columns closures counts h by = term_right system is x term table (subst (λ (l : Local). IsMadeBy l table) h by)
+    local_right (core.Leaf a) local table e columns closures counts h by = atom_right a local table e closures h by
     local_right (core.Not f) local table e columns closures counts h by = absurd h
-    local_right (core.And f g) local table e columns closures counts h by = product_made And f g local table e columns h by
-    local_right (core.Or f g) local table e columns closures counts h by = product_made Or f g local table e columns h by
-    local_right (core.Iff f g) local table e columns closures counts h by = product_made Iff f g local table e columns h by
+    local_right (core.Binary op f g) local table e columns closures counts h by = product_made op f g local table e columns h by
     local_right (core.Exists n f) local table e columns closures counts h by =
         let b : BindsFree (core.Exists n f) = subst BindsFree e binds in
         project_right system n f h.body local table b.0 (some_columns (core.Exists n f) columns) (subst (λ (z : Core). length (columns_of z) ≤ most_columns) e few)
@@ -145,14 +145,10 @@ module _ (system : PatternSystem) (is : IsSystem system) (root : Core) (decided 
     -- and of one without
     pub value_right : (f : Core) (value : Bool) → own ≡ f → has_columns f ≡ false → HasCountsFor parts made k own → IsValueOf parts made k f value → IsRight f (OfValue value)
     value_right core.True value e columns counts h = subst (λ (b : Bool). IsRight core.True (OfValue b)) (sym h) (true_right system)
-    value_right (core.Atom rel index x y) value e columns counts h = absurd h
-    value_right (core.Nf index x) value e columns counts h = absurd h
-    value_right (core.Is x term) value e columns counts h = absurd h
+    value_right (core.Leaf a) value e columns counts h = absurd h
     value_right (core.Not f) value e columns counts h =
         subst (λ (b : Bool). IsRight (core.Not f) (OfValue b)) (sym h.2) (not_value_right system f h.0 (operand_right (core.Not f) f (OfValue h.0) e refl h.1))
-    value_right (core.And f g) value e columns counts h = values_made And f g value e columns h
-    value_right (core.Or f g) value e columns counts h = values_made Or f g value e columns h
-    value_right (core.Iff f g) value e columns counts h = values_made Iff f g value e columns h
+    value_right (core.Binary op f g) value e columns counts h = values_made op f g value e columns h
     value_right (core.Exists n f) value e columns counts h =
         let b : BindsFree (core.Exists n f) = subst BindsFree e binds in
         subst (λ (z : Bool). IsRight (core.Exists n f) (OfValue z)) (sym h.2)

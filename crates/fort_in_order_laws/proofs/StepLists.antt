@@ -1,7 +1,7 @@
 -- Steps done one by one: another step behind them, and what is due for one more index or part.
 use Rattle.std.proofs.Common.{◌≡◌, ℕ, zero, suc, ◌+◌, List, [], ◌∷◌, ◌++◌, length, refl, ap, sym, ◌∙◌, arith, subst, append_assoc, append-nil}
 use Rattle.fort_theory.specs.Patterns.{PatternSystem}
-use Rattle.fort_logic.specs.Cores.{Core}
+use Rattle.fort_cores.specs.Cores.{Core}
 use Rattle.fort_certificate_grammar.specs.Certificates.{Star, Conv, Step, Certificate}
 use Rattle.fort_in_order.specs.Dues.{DueStep, due_of, closure_due, closures_due, counts_due, answer_due, parts_due, dues}
 use Rattle.fort_in_order.specs.Made.{Made, nothing_made}

@@ -1,9 +1,9 @@
 -- The steps of one part behind those before it: its counts, and its answer; what was made before stays.
 use Rattle.std.proofs.Common.{◌≡◌, ℕ, ◌+◌, ◌<◌, List, [], ◌∷◌, ◌++◌, length, get_or, Bool, true, false, ◌==◌, if◌then◌else◌, Some, refl, sym, ◌∙◌, arith, subst}
 use Rattle.fort_theory.specs.Patterns.{PatternSystem, IsSystem}
-use Rattle.fort_logic.specs.Cores as core
-use Rattle.fort_logic.specs.Cores.{Core}
-use Rattle.fort_logic.specs.PartLists.{AreParts}
+use Rattle.fort_cores.specs.Cores as core
+use Rattle.fort_cores.specs.Cores.{Core}
+use Rattle.fort_cores.specs.PartLists.{AreParts}
 use Rattle.fort_tables.specs.Tables.{Table, Listed, listed_table, IsListed}
 use Rattle.fort_tables.proofs.EqualTests.{test_from_apart}
 use Rattle.fort_operations.specs.Projections.{ArePure}

@@ -1,8 +1,8 @@
 -- Steps as they are written: closures by passes, tables with one state for each label, counts of states, values.
 use Rattle.std.proofs.Common.{◌≡◌, ℕ, List, Bool, get_or, subst}
 use Rattle.fort_theory.specs.Patterns.{PatternSystem}
-use Rattle.fort_logic.specs.Cores as core
-use Rattle.fort_logic.specs.Cores.{Core}
+use Rattle.fort_cores.specs.Cores as core
+use Rattle.fort_cores.specs.Cores.{Core}
 use Rattle.fort_tables.specs.Tables.{Table, Listed, listed_table}
 use Rattle.fort_counts.specs.Counts as counts
 use Rattle.fort_counts.specs.Counts.{AreCounts}

@@ -1,1 +1,2 @@
 pub mod StepView
+pub mod CertificateView

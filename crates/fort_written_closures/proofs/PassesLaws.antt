@@ -10,7 +10,7 @@ use Rattle.fort_theory.specs.Sides.{at_index}
 use Rattle.fort_theory.specs.Patterns.{Pattern, Patterns, Any, At, FitsPattern, Pair, PatternSystem, IsSystem}
 use Rattle.fort_theory.specs.PatternOrder.{PatternBefore, AreSubpatternsInOrder}
 use Rattle.fort_theory.proofs.Lists.{none-some, some-injective}
-use Rattle.fort_logic.specs.Cores as core
+use Rattle.fort_cores.specs.Cores as core
 use Rattle.fort_alike.specs.Atoms.{pairs_for, relation_atom}
 use Rattle.fort_atom_labels.specs.ListedAtoms.{listed}
 use Rattle.fort_atom_labels.proofs.ClosedLists.{ArePatterns-lefts, ArePatterns-rights}
@@ -23,9 +23,9 @@ use Rattle.fort_reachability.proofs.PatternInstances.{some-instance}
 use Rattle.fort_reachability.proofs.PatternTransducers.{StandForPair}
 use Rattle.fort_tree_automata.specs.NtaView.{moves_of, automaton_of}
 use Rattle.fort_tree_automata.specs.PatternMoves.{StandsAt}
-use Rattle.fort_agtt.specs.declared.agtt.Agtt.{Agtt}
-use Rattle.fort_agtt.specs.RootSteps.{HasRootSteps, ArePlaces}
-use Rattle.fort_agtt.proofs.RootStepsLaws.{IsPatternTransducer-rules}
+use Rattle.fort_transducers.specs.declared.agtt.Agtt.{Agtt}
+use Rattle.fort_transducers.specs.RootSteps.{HasRootSteps, ArePlaces}
+use Rattle.fort_transducers.proofs.RootStepsLaws.{IsPatternTransducer-rules}
 use Rattle.fort_gtt_closure.specs.declared.entry.Entry.{Entry}
 use Rattle.fort_gtt_closure.specs.declared.entry.Why as reasons
 use Rattle.fort_gtt_closure.specs.declared.entry.Why.TheVariants as variants
@@ -342,8 +342,8 @@ pub closure_items : (system : PatternSystem) → IsSystem system → (which : Wh
     → passes.IsListOfPasses agtt es → IsWrittenClosure system which index (as_items es)
 closure_items system is which index agtt has es h =
     let pairs = pairs_for (relation_of which) (at_index index system.rules) in
-    let own = listed (relation_atom system (relation_of which) index 0 0 (columns_of (core.Atom (relation_of which) index 0 0))) has.lefts has.rights in
-    let atom = IsListedAtom-relation system is index (relation_of which) 0 0 (columns_of (core.Atom (relation_of which) index 0 0)) (AreColumns-columns_of (core.Atom (relation_of which) index 0 0))
+    let own = listed (relation_atom system (relation_of which) index 0 0 (columns_of (core.Leaf (core.Related (relation_of which) index 0 0)))) has.lefts has.rights in
+    let atom = IsListedAtom-relation system is index (relation_of which) 0 0 (columns_of (core.Leaf (core.Related (relation_of which) index 0 0))) (AreColumns-columns_of (core.Leaf (core.Related (relation_of which) index 0 0)))
     has.lefts has.rights has.left_patterns has.right_patterns in
     record {
       rules = own_rules pairs agtt has system.signature is.constant (ArePatterns-lefts own atom).fit (ArePatterns-rights own atom).fit;

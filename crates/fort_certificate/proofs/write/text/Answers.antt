@@ -4,7 +4,7 @@ use Rattle.std.proofs.lemmas.List.{take_all}
 use Rattle.fort_certificate_grammar.specs.CertificateForms.{version_for}
 use Rattle.fort_certificate_grammar.specs.CertificateText.{line_of, step_elements, certificate_text}
 use Rattle.fort_steps.specs.StepView.{as_step}
-use Rattle.fort_certificate_grammar.proofs.Again.{behind_again}
+use Rattle.fort_certificate_texts.proofs.Again.{behind_again}
 use Rattle.fort_certificate.specs.Again.{IsReadBehind, HasSmallNumbers}
 use Rattle.fort_certificate.proofs.SmallLaws.{small_more}
 use Rattle.fort_certificate.proofs.LineLaws.{steps_more}

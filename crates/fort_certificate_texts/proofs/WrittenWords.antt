@@ -6,8 +6,8 @@ use Rattle.fort_counts.specs.Counts.{Count, Finite, Infinite}
 use Rattle.fort_certificate_grammar.specs.Certificates.{Which, Star, Conv, Why, Any, Kids, Rule, Pair, Step, Closure, Part, Counts, Value}
 use Rattle.fort_certificate_grammar.specs.CertificateForms.{Version, OfOne, OfSeveral, version_word, verdict_word, which_word}
 use Rattle.fort_certificate_grammar.specs.CertificateText.{number_element, why_word, pair_element, count_element, index_elements, step_elements, header_elements, IsSmall, IsSmallWhy, IsSmallPair, IsSmallCount, IsIndex, CanBeWritten}
-use Rattle.fort_certificate_grammar.proofs.TextWords.{IsWritten, written_number}
-use Rattle.fort_certificate_grammar.proofs.TextLines.{IsWrittenElement}
+use Rattle.fort_certificate_texts.proofs.TextWords.{IsWritten, written_number}
+use Rattle.fort_certificate_texts.proofs.TextLines.{IsWrittenElement}
 
 both_true : (a b : Bool) → (a && b) ≡ true → (a ≡ true) × (b ≡ true)
 both_true true b h = (refl, h)

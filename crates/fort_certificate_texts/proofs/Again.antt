@@ -12,11 +12,11 @@ use Rattle.fort_certificate_grammar.specs.Certificates.{Step, Certificate}
 use Rattle.fort_certificate_grammar.specs.CertificateForms.{Version, version_for}
 use Rattle.fort_certificate_grammar.specs.CertificateText.{line_of, step_elements, header_elements, steps_text, certificate_text, CanBeWritten}
 use Rattle.fort_certificate_grammar.specs.CertificateAgain.{IsReadAgain}
-use Rattle.fort_certificate_grammar.proofs.TextWords.{IsAt, at_length, at_past}
-use Rattle.fort_certificate_grammar.proofs.TextLines.{joined-one, line_at}
-use Rattle.fort_certificate_grammar.proofs.WrittenWords.{step_written, header_written}
+use Rattle.fort_certificate_texts.proofs.TextWords.{IsAt, at_length, at_past}
+use Rattle.fort_certificate_texts.proofs.TextLines.{joined-one, line_at}
+use Rattle.fort_certificate_texts.proofs.WrittenWords.{step_written, header_written}
 use Rattle.fort_certificate_grammar.proofs.Spelled.{SpellSteps, certificate_again}
-use Rattle.fort_certificate_grammar.proofs.Fronts.{front_read}
+use Rattle.fort_certificate_texts.proofs.Fronts.{front_read}
 
 list-joined : (fs gs : Forms) → as_list (joined fs gs) ≡ as_list fs ++ as_list gs
 list-joined NoForm gs = λ i. as_list gs
