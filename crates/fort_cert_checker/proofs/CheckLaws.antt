@@ -4,7 +4,7 @@ use Rattle.std.proofs.Common.{sym, ap, ◌∙◌, subst, arith}
 use Rattle.std.proofs.lemmas.List.{length-map, get_or-map, get_or_default}
 use Rattle.fort_theory.specs.Patterns.{PatternSystem}
 use Rattle.fort_theory.proofs.Members.{Contains-none}
-use Rattle.fort_logic.specs.Cores.{Core}
+use Rattle.fort_cores.specs.Cores.{Core}
 use Rattle.fort_certificate_grammar.specs.Certificates.{Part, Certificate}
 use Rattle.fort_certificate_grammar.specs.Certificates as certificates
 use Rattle.fort_in_order.specs.Outcomes.{Reason, Due, Verdict}
@@ -27,7 +27,7 @@ use Rattle.fort_cert_checker.specs.declared.checker.Checker.{Checker}
 use Rattle.fort_cert_checker.specs.declared.checker.Rejected as program
 use Rattle.fort_cert_checker.specs.OutcomeView.{as_outcome}
 use Rattle.fort_parts.specs.PartAnswers.{OfValue, IsAnswerTo}
-use Rattle.fort_logic.specs.PatternStructures.{pattern_structure}
+use Rattle.fort_cores.specs.Structures.{pattern_structure}
 use Rattle.fort_in_order_laws.proofs.CertifiedTruth.{certified_truth}
 use Rattle.fort_check_steps.specs.declared.room.PartRoom.{PartRoom}
 use Rattle.fort_check_steps.specs.declared.room.LabelRoom.{LabelRoom}

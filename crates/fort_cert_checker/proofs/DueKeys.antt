@@ -5,8 +5,9 @@ use Rattle.std.proofs.Common.{sym, ap, subst, arith, ⊎_elim}
 use Rattle.std.proofs.lemmas.Bool.{cases_lt}
 use Rattle.std.proofs.lemmas.List.Elements.{Contains-append_cases, Contains-append_left, Contains-append_right}
 use Rattle.fort_theory.proofs.Members.{Contains-cons_cases, Contains-none, Contains-head}
-use Rattle.fort_logic.specs.Cores as core
-use Rattle.fort_logic.specs.Cores.{Core}
+use Rattle.fort_cores.specs.Cores as core
+use Rattle.fort_theory.specs.Logic as logic
+use Rattle.fort_cores.specs.Cores.{Core}
 use Rattle.fort_certificate_grammar.specs.Certificates.{Which, Star, Conv}
 use Rattle.fort_in_order.specs.Dues.{DueStep, OfClosure, OfPart, OfCounts, OfValue, asks, closure_due, closures_due, has_columns, is_turned, counts_due, answer_due, parts_due, dues}
 
@@ -49,13 +50,9 @@ closures_up n parts (suc m) i hi l =
 
 counts_up : (n k : ℕ) (f : Core) → GoesUp n (2 * (n + k) + 2) (2 * (n + k) + 3) (counts_due k f)
 counts_up n k core.True = omega arith
-counts_up n k (core.Atom rel index x y) = omega arith
-counts_up n k (core.Nf index x) = omega arith
-counts_up n k (core.Is x term) = omega arith
+counts_up n k (core.Leaf a) = omega arith
 counts_up n k (core.Not f) = omega arith
-counts_up n k (core.And f g) = omega arith
-counts_up n k (core.Or f g) = omega arith
-counts_up n k (core.Iff f g) = omega arith
+counts_up n k (core.Binary op f g) = omega arith
 counts_up n k (core.Exists m f) = omega arith
 counts_up n k (core.Infinite m f) = up_one n (2 * (n + k) + 2) (2 * (n + k) + 3) (OfCounts k) (omega arith) (omega arith)
 
@@ -169,13 +166,9 @@ for_later j f fs (OfValue k) h = (suc h.0, omega (arith, h.1), omega (arith, h.2
 
 counts_for : (j : ℕ) (f : Core) (fs : List Core) (d : DueStep) → Contains (counts_due j f) d → IsDueFor j (f ∷ fs) d
 counts_for j core.True fs d c = absurd (Contains-none d c)
-counts_for j (core.Atom rel index x y) fs d c = absurd (Contains-none d c)
-counts_for j (core.Nf index x) fs d c = absurd (Contains-none d c)
-counts_for j (core.Is x term) fs d c = absurd (Contains-none d c)
+counts_for j (core.Leaf a) fs d c = absurd (Contains-none d c)
 counts_for j (core.Not f) fs d c = absurd (Contains-none d c)
-counts_for j (core.And f g) fs d c = absurd (Contains-none d c)
-counts_for j (core.Or f g) fs d c = absurd (Contains-none d c)
-counts_for j (core.Iff f g) fs d c = absurd (Contains-none d c)
+counts_for j (core.Binary op f g) fs d c = absurd (Contains-none d c)
 counts_for j (core.Exists m f) fs d c = absurd (Contains-none d c)
 counts_for j (core.Infinite m f) fs d c =
     ⊎_elim

@@ -5,8 +5,8 @@ use Rattle.std.proofs.Common.{sym, ap, ◌∙◌, subst, arith, eq-eqb, true≢f
 use Rattle.std.proofs.lemmas.List.Elements.{Contains-append_left, Contains-append_right, Contains-get_or}
 use Rattle.fort_theory.specs.Patterns.{PatternSystem}
 use Rattle.fort_theory.proofs.Members.{Contains-cons_cases, Contains-none}
-use Rattle.fort_logic.specs.Cores as core
-use Rattle.fort_logic.specs.Cores.{Core, Rel}
+use Rattle.fort_cores.specs.Cores as core
+use Rattle.fort_cores.specs.Cores.{Core, Rel}
 use Rattle.fort_counts.specs.Counts.{Count}
 use Rattle.fort_certificate_grammar.specs.Certificates as certificates
 use Rattle.fort_certificate_grammar.specs.Certificates.{Which, Pair as Item, Step, Closure, Part, Counts, Value, Certificate}
@@ -94,11 +94,11 @@ module _ (system : PatternSystem) (parts : List Core) (c : Certificate) (front r
         let w = front_step (OfCounts k) (of_parts (OfCounts k) h) low in
         (marks_in w.0, subst (Contains front) (counts_of w.0 k w.2) w.1)
 
-    pub closure_step : (w : Which) (rel : Rel) (index x y : ℕ) → k < length parts → get_or parts k core.True ≡ core.Atom rel index x y → reads w rel ≡ true → 1 ≤ index → index ≤ length system.rules
+    pub closure_step : (w : Which) (rel : Rel) (index x y : ℕ) → k < length parts → get_or parts k core.True ≡ core.Leaf (core.Related rel index x y) → reads w rel ≡ true → 1 ≤ index → index ≤ length system.rules
         → (items : List Item) × Contains front (Closure w index items)
     closure_step w rel index x y l e r low high =
-        let among : Contains parts (core.Atom rel index x y) = subst (Contains parts) e (Contains-get_or parts k core.True l) in
-        let asked : list_any (asks w index) parts ≡ true = any_from (asks w index) parts (core.Atom rel index x y) among (both_true (reads w rel) (index == index) r (eq-eqb index index refl)) in
+        let among : Contains parts (core.Leaf (core.Related rel index x y)) = subst (Contains parts) e (Contains-get_or parts k core.True l) in
+        let asked : list_any (asks w index) parts ≡ true = any_from (asks w index) parts (core.Leaf (core.Related rel index x y)) among (both_true (reads w rel) (index == index) r (eq-eqb index index refl)) in
         let there : Contains (dues (length system.rules) parts) (OfClosure w index) =
         Contains-append_left (closures_due parts (length system.rules) 1) (parts_due 0 parts) (OfClosure w index) (closure_due_at parts w (length system.rules) 1 index low (omega arith) asked) in
         let small : key (length system.rules) (OfClosure w index) < key (length system.rules) d = small_key w in

@@ -4,9 +4,9 @@ use Rattle.std.proofs.Common.{sym, ap, ◌∙◌, subst, arith, eq-eqb, ⊎_elim
 use Rattle.std.proofs.lemmas.List.Elements.{Contains-push_cases}
 use Rattle.fort_theory.specs.Patterns.{PatternSystem}
 use Rattle.fort_theory.proofs.Members.{Contains-none}
-use Rattle.fort_logic.specs.Cores as core
-use Rattle.fort_logic.specs.Cores.{Core}
-use Rattle.fort_logic.specs.PartLists.{AreParts}
+use Rattle.fort_cores.specs.Cores as core
+use Rattle.fort_cores.specs.Cores.{Core}
+use Rattle.fort_cores.specs.PartLists.{AreParts}
 use Rattle.fort_tables.specs.Tables.{Table}
 use Rattle.fort_tables.proofs.EqualTests.{test_from_apart}
 use Rattle.fort_counts.specs.Counts.{Count, KeepRules, count_at}

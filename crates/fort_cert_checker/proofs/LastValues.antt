@@ -2,10 +2,10 @@
 use Rattle.std.specs.Prelude.{◌≡◌, ℕ, zero, suc, ◌+◌, ◌<◌, List, [], ◌∷◌, ◌++◌, take, length, get_or, Bool, Some, refl}
 use Rattle.std.proofs.Common.{sym, ap, ◌∙◌, subst, arith, append_assoc}
 use Rattle.std.proofs.lemmas.List.{take_more, take_all, length-take-le}
-use Rattle.fort_logic.specs.Cores as core
-use Rattle.fort_logic.specs.Cores.{Core}
-use Rattle.fort_logic.specs.Parts.{IsClosed}
-use Rattle.fort_logic.specs.PartLists.{AreParts}
+use Rattle.fort_cores.specs.Cores as core
+use Rattle.fort_cores.specs.Cores.{Core}
+use Rattle.fort_cores.specs.Parts.{IsClosed}
+use Rattle.fort_cores.specs.PartLists.{AreParts}
 use Rattle.fort_parts.proofs.PartOrder.{Contains-postorder}
 use Rattle.fort_certificate_grammar.specs.Certificates.{Step, Value}
 use Rattle.fort_in_order.specs.Dues.{DueStep, OfValue, due_of, closures_due, has_columns, counts_due, answer_due, parts_due, dues}

@@ -5,7 +5,7 @@ use Rattle.std.proofs.lemmas.Simd.{map-map}
 use Rattle.fort_theory.specs.Signatures.{Signature}
 use Rattle.fort_theory.specs.Sides.{at_index}
 use Rattle.fort_theory.specs.Patterns.{Pattern, Pair, PatternSystem}
-use Rattle.fort_logic.specs.Cores.{Rel, Atom}
+use Rattle.fort_cores.specs.Cores.{Rel, Leaf, Related}
 use Rattle.fort_alike.specs.Atoms as kinds
 use Rattle.fort_alike.specs.Atoms.{relation_atom}
 use Rattle.fort_atom_labels.specs.ListedAtoms.{ListedAtom, listed}
@@ -34,7 +34,7 @@ pub relation_local_is : (system : PatternSystem) (rel : Rel) (index x y : ℕ) (
     → own.atom_local system (Relation c) ≡ relation_local system rel index x y c.atom.lefts c.atom.rights items
 relation_local_is system rel index x y pairs items c h e =
     let sig = system.signature in
-    let f = Atom rel index x y in
+    let f = Leaf (Related rel index x y) in
     let lefts = c.atom.lefts in
     let rights = c.atom.rights in
     let here : signed sig c.atom ≡ listed (relation_atom system rel index x y (columns_of f)) lefts rights =

@@ -6,9 +6,9 @@ use Rattle.std.proofs.lemmas.List.Elements.{Contains-append_cases, Contains-appe
 use Rattle.fort_theory.specs.Patterns.{PatternSystem}
 use Rattle.fort_theory.specs.Sides.{IsIndexOf}
 use Rattle.fort_theory.proofs.Members.{Contains-head, Contains-none, Contains-cons_cases}
-use Rattle.fort_logic.specs.Cores as core
-use Rattle.fort_logic.specs.Cores.{Core}
-use Rattle.fort_logic.specs.PartLists.{AreParts}
+use Rattle.fort_cores.specs.Cores as core
+use Rattle.fort_cores.specs.Cores.{Core}
+use Rattle.fort_cores.specs.PartLists.{AreParts}
 use Rattle.fort_parts.specs.PartColumns.{columns_of}
 use Rattle.fort_parts.specs.DecidedCores.{IsDecided, IsOverSystem}
 use Rattle.fort_parts.proofs.PartFacts.{IsOverSystem-part, BindsFree-part, columns_of-few}
@@ -109,25 +109,25 @@ module _ (system : PatternSystem) (root : Core) (parts : List Core) (c : Certifi
     fit : IsFitPart system (get_or parts k core.True)
     fit = fit_part system root parts are decided (get_or parts k core.True) (Contains-get_or parts k core.True within)
 
-    closure_for : (rel : core.Rel) (index x y : ℕ) → get_or parts k core.True ≡ core.Atom rel index x y → IsClosureKnown (steps_of past) made rel index
+    closure_for : (rel : core.Rel) (index x y : ℕ) → get_or parts k core.True ≡ core.Leaf (core.Related rel index x y) → IsClosureKnown (steps_of past) made rel index
     closure_for rel index x y e = by rel e
       where
-        index_of : (r : core.Rel) → get_or parts k core.True ≡ core.Atom r index x y → IsIndexOf system.rules index
+        index_of : (r : core.Rel) → get_or parts k core.True ≡ core.Leaf (core.Related r index x y) → IsIndexOf system.rules index
         index_of r f = subst (IsOverSystem system) f fit.over
 
-        star_of : (r : core.Rel) → get_or parts k core.True ≡ core.Atom r index x y → reads Star r ≡ true → (items : List Item) × IsOnlyAbout (steps_of past) (Closure Star index items) × (made.closures Star index ≡ items)
+        star_of : (r : core.Rel) → get_or parts k core.True ≡ core.Leaf (core.Related r index x y) → reads Star r ≡ true → (items : List Item) × IsOnlyAbout (steps_of past) (Closure Star index items) × (made.closures Star index ≡ items)
         star_of r f e =
             let o = index_of r f in
             let t = closure_step system parts c front rest s d wanted made up k own Star r index x y within f e o.low o.high in
             (t.0, only (Closure Star index t.0) t.1, tells.closures Star index t.0 t.1)
 
-        conv_of : get_or parts k core.True ≡ core.Atom core.Conv index x y → (items : List Item) × IsOnlyAbout (steps_of past) (Closure Conv index items) × (made.closures Conv index ≡ items)
+        conv_of : get_or parts k core.True ≡ core.Leaf (core.Related core.Conv index x y) → (items : List Item) × IsOnlyAbout (steps_of past) (Closure Conv index items) × (made.closures Conv index ≡ items)
         conv_of f =
             let o = index_of core.Conv f in
             let t = closure_step system parts c front rest s d wanted made up k own Conv core.Conv index x y within f refl o.low o.high in
             (t.0, only (Closure Conv index t.0) t.1, tells.closures Conv index t.0 t.1)
 
-        by : (r : core.Rel) → get_or parts k core.True ≡ core.Atom r index x y → IsClosureKnown (steps_of past) made r index
+        by : (r : core.Rel) → get_or parts k core.True ≡ core.Leaf (core.Related r index x y) → IsClosureKnown (steps_of past) made r index
         by core.Eq f = tt
         by core.Root f = tt
         by core.Below f = tt

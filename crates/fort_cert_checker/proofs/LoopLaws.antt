@@ -4,8 +4,8 @@ use Rattle.std.proofs.Common.{sym, ap, ◌∙◌, subst, arith}
 use Rattle.std.proofs.lemmas.List.{take_more, length-take-le, drop_all}
 use Rattle.std.proofs.Math.Seq.{drop-cons}
 use Rattle.fort_theory.specs.Patterns.{PatternSystem}
-use Rattle.fort_logic.specs.Cores.{Core}
-use Rattle.fort_logic.specs.PartLists.{AreParts}
+use Rattle.fort_cores.specs.Cores.{Core}
+use Rattle.fort_cores.specs.PartLists.{AreParts}
 use Rattle.fort_certificate_grammar.specs.Certificates.{Step, Certificate}
 use Rattle.fort_in_order.specs.Outcomes.{Reason, Due, Verdict}
 use Rattle.fort_in_order.specs.Dues.{DueStep, due_of, dues}

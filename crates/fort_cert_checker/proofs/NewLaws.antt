@@ -5,7 +5,7 @@ use Rattle.std.specs.List.{list_any}
 use Rattle.std.proofs.lemmas.List.Elements.{Contains-append_cases}
 use Rattle.fort_theory.specs.Sides.{IsIndexOf}
 use Rattle.fort_theory.proofs.Members.{Contains-none, Contains-cons_cases}
-use Rattle.fort_logic.specs.Cores.{Core}
+use Rattle.fort_cores.specs.Cores.{Core}
 use Rattle.fort_certificate_grammar.specs.Certificates.{Which, Star, Conv}
 use Rattle.fort_in_order.specs.Dues.{OfClosure, asks, closure_due, closures_due, parts_due, dues}
 use Rattle.fort_cert_checker.proofs.DueKeys.{parts_for}

@@ -2,9 +2,10 @@
 use Rattle.std.specs.Prelude.{◌≡◌, ℕ, zero, suc, ◌<◌, List, length, get_or, Bool, nat_lt, true, false, refl}
 use Rattle.std.proofs.Common.{sym, ap, ◌∙◌, subst, arith, true≢false}
 use Rattle.fort_theory.specs.Signatures.{Signature}
-use Rattle.fort_logic.specs.Cores as core
-use Rattle.fort_logic.specs.Cores.{Core}
-use Rattle.fort_logic.specs.PartLists.{AreParts}
+use Rattle.fort_cores.specs.Cores as core
+use Rattle.fort_theory.specs.Logic as logic
+use Rattle.fort_cores.specs.Cores.{Core}
+use Rattle.fort_cores.specs.PartLists.{AreParts}
 use Rattle.fort_tables.specs.Tables.{Table}
 use Rattle.fort_operations.specs.OperationTruth.{complemented}
 use Rattle.fort_parts.specs.PartColumns.{columns_of}
@@ -19,13 +20,9 @@ use Rattle.fort_in_order.proofs.RuleLaws.{part_one}
 
 under : (parts : List Core) (f : Core) (k n : ℕ) → IsSourceOf parts f k (suc n) → (g : Core) × (f ≡ core.Not g) × (has_columns g ≡ true) × IsSourceOf parts g k n
 under parts core.True k n h = absurd h
-under parts (core.Atom rel index x y) k n h = absurd h
-under parts (core.Nf index x) k n h = absurd h
-under parts (core.Is x term) k n h = absurd h
+under parts (core.Leaf a) k n h = absurd h
 under parts (core.Not f) k n h = (f, refl, h.0, h.1)
-under parts (core.And f g) k n h = absurd h
-under parts (core.Or f g) k n h = absurd h
-under parts (core.Iff f g) k n h = absurd h
+under parts (core.Binary op f g) k n h = absurd h
 under parts (core.Exists m f) k n h = absurd h
 under parts (core.Infinite m f) k n h = absurd h
 

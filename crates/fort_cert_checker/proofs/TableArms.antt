@@ -5,9 +5,9 @@ use Rattle.std.proofs.lemmas.Bool.{lt-ltb}
 use Rattle.std.proofs.lemmas.List.{length-map}
 use Rattle.fort_theory.specs.Signatures.{Signature}
 use Rattle.fort_theory.specs.Patterns.{PatternSystem}
-use Rattle.fort_logic.specs.Cores as core
-use Rattle.fort_logic.specs.Cores.{Core}
-use Rattle.fort_logic.specs.Parts.{is_free, BindsFree}
+use Rattle.fort_cores.specs.Cores as core
+use Rattle.fort_cores.specs.Cores.{Core, Binary}
+use Rattle.fort_cores.specs.Parts.{is_free, BindsFree}
 use Rattle.fort_tables.specs.BitRows.{words_for}
 use Rattle.fort_tables.specs.Tables.{Table}
 use Rattle.fort_operations.specs.Projections.{ArePure, ArePureBelow, is_pure}
@@ -20,16 +20,15 @@ use Rattle.fort_context_closure.specs.SignedAtoms.{signature_by}
 use Rattle.fort_parts.specs.PartColumns.{columns_of, place_in}
 use Rattle.fort_parts.specs.PartAnswers.{Answer}
 use Rattle.fort_parts.specs.DecidedCores.{IsOperandOf}
-use Rattle.fort_parts.specs.RightAnswers.{joined}
-use Rattle.fort_parts.proofs.PartColumnLaws.{columns_of-Nf, columns_of-Is}
+use Rattle.fort_parts.proofs.PartColumnLaws.{columns_of-Normal, columns_of-IsTerm}
 use Rattle.fort_certificate_grammar.specs.Certificates.{Step, Part, Counts}
 use Rattle.fort_in_order.specs.Dues.{has_columns, is_turned}
 use Rattle.fort_in_order.specs.Made.{Made}
 use Rattle.fort_in_order.specs.PartRules.{Local, closure_for, IsLocalOf, project_local, many_local, is_many, IsCounted}
 use Rattle.fort_in_order_laws.proofs.RightParts.{some_columns}
 use Rattle.fort_in_order_laws.proofs.JoinedTables.{bound_within, bound_many}
-use Rattle.fort_products.specs.declared.operand.Op.{Op}
-use Rattle.fort_products.specs.Operands.{connective_of}
+use Rattle.fort_connectives.specs.declared.connective.Op.{Op}
+use Rattle.fort_connectives.specs.ConnectiveView.{connective_of}
 use Rattle.fort_steps.specs.declared.closure.ClosureEntry.{ClosureEntry}
 use Rattle.fort_steps.specs.declared.count.Count.{Count}
 use Rattle.fort_steps.specs.StepView.{as_count, as_pair}
@@ -132,11 +131,11 @@ module _ (system : PatternSystem) (parts : List Core) (past : Past) (k : ℕ) (m
   atom_right (Normal a) h =
       let same = normal_local_is system h.index a h.labels in (
         subst (λ (g : Core). IsLocalOf system parts made k g (own.atom_local system (Normal a))) (sym h.whole) (record { lefts = a.lefts; patterns = h.labels.left_order; is = same }),
-        ap (λ (l : Local). l.rule.columns) same ∙ sym (ap (λ (g : Core). length (columns_of g)) h.whole ∙ ap length (columns_of-Nf h.index h.number)),
+        ap (λ (l : Local). l.rule.columns) same ∙ sym (ap (λ (g : Core). length (columns_of g)) h.whole ∙ ap length (columns_of-Normal h.index h.number)),
       )
   atom_right (Is term) h = (
     subst (λ (g : Core). IsLocalOf system parts made k g (own.atom_local system (Is term))) (sym h.whole) refl,
-    sym (ap (λ (g : Core). length (columns_of g)) h.whole ∙ ap length (columns_of-Is h.number term)),
+    sym (ap (λ (g : Core). length (columns_of g)) h.whole ∙ ap length (columns_of-IsTerm h.number term)),
   )
 
   module _ (labels : AtomLabels) (is : p.work ≡ Atom labels) where
@@ -182,10 +181,10 @@ module _ (system : PatternSystem) (parts : List Core) (past : Past) (k : ℕ) (m
 
   module _ (op : Op) (first second : OperandPlan) (plan : IsProductPlan parts f op first second) (columns : ℕ) (count : columns ≡ p.columns) where
     pub one : IsKnown system parts past k made due.due.known plan.one first.source
-    one = known_answer system parts past k made due.due.known plan.one (operand_is plan.one (joined (connective_of op) plan.one plan.other) plan.whole (operand_first (connective_of op) plan.one plan.other)) first.source plan.one_is.source
+    one = known_answer system parts past k made due.due.known plan.one (operand_is plan.one (Binary (connective_of op) plan.one plan.other) plan.whole (operand_first (connective_of op) plan.one plan.other)) first.source plan.one_is.source
 
     pub other : IsKnown system parts past k made due.due.known plan.other second.source
-    other = known_answer system parts past k made due.due.known plan.other (operand_is plan.other (joined (connective_of op) plan.one plan.other) plan.whole (operand_second (connective_of op) plan.one plan.other)) second.source plan.other_is.source
+    other = known_answer system parts past k made due.due.known plan.other (operand_is plan.other (Binary (connective_of op) plan.one plan.other) plan.whole (operand_second (connective_of op) plan.one plan.other)) second.source plan.other_is.source
 
     count_is : columns ≡ length (columns_of f)
     count_is = count ∙ due.due.plan.columns

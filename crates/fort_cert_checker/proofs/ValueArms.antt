@@ -5,18 +5,18 @@ use Rattle.std.proofs.lemmas.Bool.{lt-ltb}
 use Rattle.std.proofs.lemmas.List.{length-map}
 use Rattle.std.proofs.lemmas.List.Elements.{Contains-get_or}
 use Rattle.fort_theory.specs.Patterns.{PatternSystem}
-use Rattle.fort_logic.specs.Cores as core
-use Rattle.fort_logic.specs.Cores.{Core}
-use Rattle.fort_logic.specs.Parts.{is_free, BindsFree}
+use Rattle.fort_cores.specs.Cores as core
+use Rattle.fort_cores.specs.Cores.{Core, Binary}
+use Rattle.fort_cores.specs.Parts.{is_free, BindsFree}
 use Rattle.fort_tables.specs.Tables.{Table}
-use Rattle.fort_operations.specs.Products.{Connective, And, Or, Iff, connected}
+use Rattle.fort_theory.specs.Logic.{Connective, And, Or, Iff}
+use Rattle.fort_operations.specs.Products.{connected}
 use Rattle.fort_operations.specs.Projections.{ArePure, some_below}
 use Rattle.fort_counts.specs.Counts as counts
 use Rattle.fort_counts.specs.ManyLabels.{many_value}
 use Rattle.fort_parts.specs.PartColumns.{columns_of, place_in}
 use Rattle.fort_parts.specs.DecidedCores.{IsOperandOf}
-use Rattle.fort_parts.specs.RightAnswers.{joined}
-use Rattle.fort_parts.proofs.PartColumnLaws.{columns_of-Nf, columns_of-Is, column-from_free}
+use Rattle.fort_parts.proofs.PartColumnLaws.{columns_of-Normal, columns_of-IsTerm, column-from_free}
 use Rattle.fort_certificate_grammar.specs.Certificates.{Part}
 use Rattle.fort_in_order.specs.CountSteps.{IsCountOutcome}
 use Rattle.fort_in_order.specs.Dues.{has_columns}
@@ -26,8 +26,8 @@ use Rattle.fort_in_order.specs.PartRules.{IsValueOf, IsCounted, is_many}
 use Rattle.fort_in_order.specs.Checked.{IsCountJudged}
 use Rattle.fort_in_order_laws.proofs.RightParts.{some_columns, none_columns}
 use Rattle.fort_in_order_laws.proofs.JoinedTables.{bound_within}
-use Rattle.fort_products.specs.declared.operand.Op.{Op}
-use Rattle.fort_products.specs.Operands.{connective_of}
+use Rattle.fort_connectives.specs.declared.connective.Op.{Op}
+use Rattle.fort_connectives.specs.ConnectiveView.{connective_of}
 use Rattle.fort_steps.specs.declared.count.Count.{Count}
 use Rattle.fort_steps.specs.StepView.{as_count}
 use Rattle.fort_check_steps.specs.declared.marks.MarkRoom.{MarkRoom}
@@ -143,11 +143,11 @@ module _ (system : PatternSystem) (parts : List Core) (past : Past) (k : ℕ) (m
   product_value op first second value a b e one other is =
       let h : IsProductPlan parts f op first second = work_is (Product op first second) e in
       let o = connective_of op in
-      let whole_none : has_columns (joined o h.one h.other) ≡ false = sym (ap has_columns h.whole) ∙ due.columns in
+      let whole_none : has_columns (Binary o h.one h.other) ≡ false = sym (ap has_columns h.whole) ∙ due.columns in
       let u = known_value system parts past k made due.due.known h.one (subst (IsOperandOf h.one) (sym (due.due.part ∙ h.whole)) (operand_first o h.one h.other)) first.source h.one_is.source
-      (none_within (joined o h.one h.other) h.one (joined_first o h.one h.other) whole_none) in
+      (none_within (Binary o h.one h.other) h.one (joined_first o h.one h.other) whole_none) in
       let v = known_value system parts past k made due.due.known h.other (subst (IsOperandOf h.other) (sym (due.due.part ∙ h.whole)) (operand_second o h.one h.other)) second.source h.other_is.source
-      (none_within (joined o h.one h.other) h.other (joined_second o h.one h.other) whole_none) in
+      (none_within (Binary o h.one h.other) h.other (joined_second o h.one h.other) whole_none) in
       joined_value_is system parts k made f o h.one h.other u.0 v.0 value h.whole u.2 v.2 (is ∙ (λ i. connected o (one u.0 u.1 i) (other v.0 v.1 i)))
 
   projection_table : (s : Source) (c : ℕ) → p.work ≡ Projection s c → (n : ℕ) × (g : Core) × (f ≡ core.Exists n g) × IsKnownTable system parts past k made due.due.known g s
@@ -202,35 +202,33 @@ module _ (system : PatternSystem) (parts : List Core) (past : Past) (k : ℕ) (m
     where
       by : (l : AtomLabels) → IsAtomPlan system (steps_of past) f l → ⊥
       by (Relation c) h =
-          let g = core.Atom h.rel h.index h.first h.second in
+          let g = core.Leaf (core.Related h.rel h.index h.first h.second) in
           let free : is_free h.first g ≡ true = ap (λ (b : Bool). b || (h.second == h.first)) (eq-eqb h.first h.first refl) in
           let at = column-from_free g h.first free in
           let none = none_columns f due.columns in
           omega (arith, none, ap (λ (x : Core). length (columns_of x)) h.whole, at.1)
       by (Normal a) h =
           let none = none_columns f due.columns in
-          let one = ap length (columns_of-Nf h.index h.number) in
+          let one = ap length (columns_of-Normal h.index h.number) in
           omega (arith, none, ap (λ (g : Core). length (columns_of g)) h.whole, one)
       by (Is term) h =
           let none = none_columns f due.columns in
-          let one = ap length (columns_of-Is h.number term) in
+          let one = ap length (columns_of-IsTerm h.number term) in
           omega (arith, none, ap (λ (g : Core). length (columns_of g)) h.whole, one)
 
 -- ---- the marks that are due
 
-joined_apart : (op : Connective) (g h : Core) (n : ℕ) (b : Core) → core.Infinite n b ≡ joined op g h → ⊥
-joined_apart And g h n b e = cc
-joined_apart Or g h n b e = cc
-joined_apart Iff g h n b e = cc
+joined_apart : (op : Connective) (g h : Core) (n : ℕ) (b : Core) → core.Infinite n b ≡ Binary op g h → ⊥
+joined_apart op g h n b e = cc
 
 module _ (system : PatternSystem) (parts : List Core) (past : Past) (k : ℕ) (made : Made) (f : Core) (p : Plan) (own_marks : List counts.Count) (room : MarkRoom) (due : AreCountsDue system parts past k made f p own_marks room) where
   pub only_many : ((s : Source) (c : ℕ) (ns : Vec Count Global) → p.work ≡ Many s c ns → ⊥) → ⊥
   only_many other = by p.work refl due.due.plan.work
     where
       by_atom : (l : AtomLabels) → IsAtomPlan system (steps_of past) f l → ⊥
-      by_atom (Relation c) h = let z : core.Infinite due.number due.body ≡ core.Atom h.rel h.index h.first h.second = sym due.whole ∙ h.whole in cc
-      by_atom (Normal a) h = let z : core.Infinite due.number due.body ≡ core.Nf h.index h.number = sym due.whole ∙ h.whole in cc
-      by_atom (Is term) h = let z : core.Infinite due.number due.body ≡ core.Is h.number term = sym due.whole ∙ h.whole in cc
+      by_atom (Relation c) h = let z : core.Infinite due.number due.body ≡ core.Leaf (core.Related h.rel h.index h.first h.second) = sym due.whole ∙ h.whole in cc
+      by_atom (Normal a) h = let z : core.Infinite due.number due.body ≡ core.Leaf (core.Normal h.index h.number) = sym due.whole ∙ h.whole in cc
+      by_atom (Is term) h = let z : core.Infinite due.number due.body ≡ core.Leaf (core.IsTerm h.number term) = sym due.whole ∙ h.whole in cc
 
       by : (w : Work) → p.work ≡ w → IsWorkOf system parts (steps_of past) k f w → ⊥
       by Truth e h = let z : core.Infinite due.number due.body ≡ core.True = sym due.whole ∙ h in cc

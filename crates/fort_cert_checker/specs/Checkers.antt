@@ -1,13 +1,13 @@
 -- Inside: what a checker has, and what is known of it.
 use Rattle.std.specs.Prelude.{◌≡◌, ℕ, ◌+◌, ◌^◌, ◌<◌, List, map, length}
 use Rattle.fort_theory.specs.Patterns.{PatternSystem, IsSystem}
-use Rattle.fort_logic.specs.Cores.{Core}
-use Rattle.fort_logic.specs.Parts.{IsClosed}
+use Rattle.fort_cores.specs.Cores.{Core}
+use Rattle.fort_cores.specs.Parts.{IsClosed}
 use Rattle.fort_certificate_grammar.specs.Certificates.{Step, Certificate}
 use Rattle.fort_in_order.specs.Made.{Made}
 use Rattle.fort_in_order.specs.Dues.{dues}
 use Rattle.fort_steps.specs.StepView.{as_step}
-use Rattle.fort_certificate.specs.CertificateView.{as_certificate}
+use Rattle.fort_steps.specs.CertificateView.{as_certificate}
 use Rattle.fort_outline.specs.DueView.{as_due}
 use Rattle.fort_cert_checker.specs.Fronts.{IsReady, IsLoopAt}
 use Rattle.fort_cert_checker.specs.declared.checker.Checker.{Checker}

@@ -1,9 +1,9 @@
 -- Inside: where a check stands: the first steps are fine, and the rooms hold their tables; what comes of the step behind them.
 use Rattle.std.specs.Prelude.{◌≡◌, ℕ, ◌^◌, ◌<◌, ◌≤◌, List, length, take, drop, get_or, Contains, Bool, Option}
 use Rattle.fort_theory.specs.Patterns.{PatternSystem}
-use Rattle.fort_logic.specs.Cores as core
-use Rattle.fort_logic.specs.Cores.{Core}
-use Rattle.fort_logic.specs.PartLists.{AreParts}
+use Rattle.fort_cores.specs.Cores as core
+use Rattle.fort_cores.specs.Cores.{Core}
+use Rattle.fort_cores.specs.PartLists.{AreParts}
 use Rattle.fort_tables.specs.Tables.{Table}
 use Rattle.fort_counts.specs.Counts.{Count}
 use Rattle.fort_parts.specs.PartColumns.{columns_of}

@@ -1,6 +1,6 @@
 -- Inside: where a step is due, by what a check reads; what holds wherever it is.
 use Rattle.std.specs.Prelude.{◌≡◌, ℕ, List, map, Option}
-use Rattle.fort_logic.specs.Cores.{Core}
+use Rattle.fort_cores.specs.Cores.{Core}
 use Rattle.fort_certificate_grammar.specs.Certificates.{Step, Certificate}
 use Rattle.fort_in_order.specs.Made.{Made}
 use Rattle.fort_steps.specs.StepView.{as_step}

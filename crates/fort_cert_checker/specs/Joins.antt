@@ -1,7 +1,8 @@
 -- Inside: the rule of a product of two answers, and when they are operands of one.
 use Rattle.std.specs.Prelude.{◌≡◌, ℕ, ◌<◌, ◌≤◌, List}
 use Rattle.fort_theory.specs.Signatures.{Signature}
-use Rattle.fort_operations.specs.Products.{Connective, AreOperands, signature_of, product_rule, product_accepts}
+use Rattle.fort_theory.specs.Logic.{Connective}
+use Rattle.fort_operations.specs.Products.{AreOperands, signature_of, product_rule, product_accepts}
 use Rattle.fort_parts.specs.PartAnswers.{Answer}
 use Rattle.fort_parts.specs.PartSteps.{operand_of}
 use Rattle.fort_in_order.specs.PartRules.{Local}

@@ -1,7 +1,7 @@
 -- Inside: the marks of an "infinitely many" that were made hold by their rules, and there is one for each pure state.
 use Rattle.std.specs.Prelude.{◌≡◌, ℕ, List, length}
-use Rattle.fort_logic.specs.Cores as core
-use Rattle.fort_logic.specs.Cores.{Core}
+use Rattle.fort_cores.specs.Cores as core
+use Rattle.fort_cores.specs.Cores.{Core}
 use Rattle.fort_tables.specs.Tables.{Table}
 use Rattle.fort_counts.specs.Counts.{KeepRules, count_at}
 use Rattle.fort_parts.specs.PartColumns.{columns_of, place_in}

@@ -1,8 +1,8 @@
 -- Inside: what is made before a check, for each step that is due and for each part.
 use Rattle.std.specs.Prelude.{◌≡◌, ℕ, ◌*◌, ◌^◌, ◌<◌, ◌≤◌, List, length, get_or, Option, None, Some}
 use Rattle.fort_theory.specs.Patterns.{PatternSystem}
-use Rattle.fort_logic.specs.Cores as core
-use Rattle.fort_logic.specs.Cores.{Core}
+use Rattle.fort_cores.specs.Cores as core
+use Rattle.fort_cores.specs.Cores.{Core}
 use Rattle.fort_certificate_grammar.specs.Certificates.{Which, Step, Part}
 use Rattle.fort_in_order.specs.Dues.{DueStep, OfClosure, OfPart, OfCounts, OfValue}
 use Rattle.fort_check_steps.specs.PairSteps.{HasClosureRules}

@@ -2,8 +2,8 @@
 use Rattle.std.specs.Prelude.{◌≡◌, ℕ, ◌^◌, ◌<◌, List, map, length, get_or, Bool, true, false, Result, OnOk}
 use Rattle.fort_theory.specs.Patterns.{PatternSystem}
 use Rattle.fort_theory.specs.Signatures.{Signature}
-use Rattle.fort_logic.specs.Cores as core
-use Rattle.fort_logic.specs.Cores.{Core}
+use Rattle.fort_cores.specs.Cores as core
+use Rattle.fort_cores.specs.Cores.{Core}
 use Rattle.fort_tables.specs.Tables.{Table, listed_table}
 use Rattle.fort_tables.specs.LabelRules.{LabelRule}
 use Rattle.fort_counts.specs.Counts.{Count}
@@ -123,7 +123,7 @@ pub record KnowsPast (system : PatternSystem) (parts : List Core) (past : Past) 
   pub plans : (j : ℕ) → j < length parts → (p : Plan) × IsElement past.plans.now j p × (p.columns ≡ length (columns_of (get_or parts j core.True)))
   pub tables : (j : ℕ) → j < k → has_columns (get_or parts j core.True) ≡ true → is_turned (get_or parts j core.True) ≡ false → IsTableKnown system.signature parts past made j
   pub values : (j : ℕ) → j < k → has_columns (get_or parts j core.True) ≡ false → is_turned (get_or parts j core.True) ≡ false → IsValueKnown past made j
-  pub closures : (rel : core.Rel) (index x y : ℕ) → get_or parts k core.True ≡ core.Atom rel index x y → IsClosureKnown (steps_of past) made rel index
+  pub closures : (rel : core.Rel) (index x y : ℕ) → get_or parts k core.True ≡ core.Leaf (core.Related rel index x y) → IsClosureKnown (steps_of past) made rel index
 
 -- part k is this formula, which may be checked by this plan
 pub record IsPartDue (system : PatternSystem) (parts : List Core) (past : Past) (k : ℕ) (made : Made) (f : Core) (p : Plan) : Type 0 where

@@ -3,10 +3,10 @@ use Rattle.std.specs.Prelude.{◌≡◌, ℕ, ◌+◌, ◌*◌, ◌≤◌, List,
 use Rattle.fort_theory.specs.Trees.{Tree}
 use Rattle.fort_theory.specs.Signatures.{most_columns}
 use Rattle.fort_theory.specs.Patterns.{PatternSystem}
-use Rattle.fort_logic.specs.Cores as core
-use Rattle.fort_logic.specs.Cores.{Core}
-use Rattle.fort_logic.specs.Parts.{BindsFree}
-use Rattle.fort_logic.specs.PartLists.{AreParts}
+use Rattle.fort_cores.specs.Cores as core
+use Rattle.fort_cores.specs.Cores.{Core, Binary}
+use Rattle.fort_cores.specs.Parts.{BindsFree}
+use Rattle.fort_cores.specs.PartLists.{AreParts}
 use Rattle.fort_tables.specs.BitRows.{words_for}
 use Rattle.fort_counts.specs.Counts as counts
 use Rattle.fort_atom_labels.specs.ListedAtoms.{ListedAtom}
@@ -17,13 +17,12 @@ use Rattle.fort_context_closure.specs.AtomLabelsView.{word_count}
 use Rattle.fort_context_closure.specs.PlainAtoms.{IsByPairs, IsNormalAtomOf}
 use Rattle.fort_parts.specs.PartColumns.{columns_of, place_in, places_in}
 use Rattle.fort_parts.specs.DecidedCores.{IsOverSystem}
-use Rattle.fort_parts.specs.RightAnswers.{joined}
 use Rattle.fort_certificate_grammar.specs.Certificates.{Star, Conv, Pair as Item, Step, Closure, Part, Counts}
 use Rattle.fort_steps.specs.declared.closure.ClosureEntry.{ClosureEntry}
 use Rattle.fort_steps.specs.declared.count.Count.{Count}
 use Rattle.fort_steps.specs.StepView.{as_count, as_pair}
-use Rattle.fort_products.specs.declared.operand.Op.{Op}
-use Rattle.fort_products.specs.Operands.{connective_of}
+use Rattle.fort_connectives.specs.declared.connective.Op.{Op}
+use Rattle.fort_connectives.specs.ConnectiveView.{connective_of}
 use Rattle.fort_check_steps.specs.Room.{most_states}
 use Rattle.fort_cert_checker.specs.Abouts.{IsOnlyAbout}
 use Rattle.fort_cert_checker.specs.Sources.{IsSourceOf}
@@ -62,19 +61,19 @@ pub record IsRelationPlan (system : PatternSystem) (ss : List Step) (f : Core) (
   pub first : ℕ
   pub second : ℕ
   pub pairs : List ClosureEntry
-  pub whole : f ≡ core.Atom rel index first second
+  pub whole : f ≡ core.Leaf (core.Related rel index first second)
   pub closure : IsClosureRead ss rel index pairs
   pub labels : IsByPairs system rel index first second pairs c
 
 pub record IsNormalPlan (system : PatternSystem) (f : Core) (a : ListedAtom) : Type 0 where
   pub index : ℕ
   pub number : ℕ
-  pub whole : f ≡ core.Nf index number
+  pub whole : f ≡ core.Leaf (core.Normal index number)
   pub labels : IsNormalAtomOf system index a
 
 pub record IsTermPlan (f : Core) (term : Tree) : Type 0 where
   pub number : ℕ
-  pub whole : f ≡ core.Is number term
+  pub whole : f ≡ core.Leaf (core.IsTerm number term)
 
 -- the labels are those of the atom that it is
 abbrev pub IsAtomPlan : PatternSystem → List Step → Core → AtomLabels → Type 0
@@ -90,7 +89,7 @@ pub record IsNegationPlan (parts : List Core) (f : Core) (s : Source) : Type 0 w
 pub record IsProductPlan (parts : List Core) (f : Core) (op : Op) (first second : OperandPlan) : Type 0 where
   pub one : Core
   pub other : Core
-  pub whole : f ≡ joined (connective_of op) one other
+  pub whole : f ≡ Binary (connective_of op) one other
   pub one_is : IsOperandPlan parts f one first
   pub other_is : IsOperandPlan parts f other second
 

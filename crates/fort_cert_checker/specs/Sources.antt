@@ -1,7 +1,7 @@
 -- Inside: the part whose answer a formula has, under negations with columns, each of which turns the table.
 use Rattle.std.specs.Prelude.{◌≡◌, ℕ, zero, suc, ◌<◌, List, get_or, true, false}
-use Rattle.fort_logic.specs.Cores as core
-use Rattle.fort_logic.specs.Cores.{Core}
+use Rattle.fort_cores.specs.Cores as core
+use Rattle.fort_cores.specs.Cores.{Core}
 use Rattle.fort_tables.specs.Tables.{Table}
 use Rattle.fort_operations.specs.OperationTruth.{complemented}
 use Rattle.fort_in_order.specs.Dues.{has_columns, is_turned}

@@ -1,8 +1,8 @@
 -- Inside: what a value and marks are checked by.
 use Rattle.std.specs.Prelude.{◌≡◌, ℕ, List, Bool, false}
 use Rattle.fort_theory.specs.Patterns.{PatternSystem}
-use Rattle.fort_logic.specs.Cores as core
-use Rattle.fort_logic.specs.Cores.{Core}
+use Rattle.fort_cores.specs.Cores as core
+use Rattle.fort_cores.specs.Cores.{Core}
 use Rattle.fort_counts.specs.Counts.{Count}
 use Rattle.fort_certificate_grammar.specs.Certificates.{Counts}
 use Rattle.fort_in_order.specs.Dues.{has_columns}

@@ -1,12 +1,11 @@
 //! The check of a certificate.
 ghost use Rattle.std.specs.Prelude.{◌≡◌, ◌↔◌, ℕ, ◌+◌, ◌<◌, ◌^◌, Bool, List, map, length, Some, Err, IfOk, OnOk, IfErr, IsTrue};
 ghost use Rattle.fort_theory.specs.Patterns.{PatternSystem};
-ghost use Rattle.fort_logic.specs.Cores as theory;
-ghost use Rattle.fort_logic.specs.Parts as logic;
-ghost use Rattle.fort_logic.specs.PatternStructures.{pattern_structure};
+ghost use Rattle.fort_cores.specs.Cores as theory;
+ghost use Rattle.fort_cores.specs.Parts as logic;
+ghost use Rattle.fort_cores.specs.Structures.{pattern_structure};
 ghost use Rattle.fort_certificate_grammar.specs.Certificates as certificates;
 ghost use Rattle.fort_certificate_grammar.specs.Certificates.{Part};
-ghost use Rattle.fort_certificate.specs.CertificateView.{as_certificate};
 ghost use Rattle.fort_formulas.specs.CoreView.{as_core};
 ghost use Rattle.fort_parts.specs.DecidedCores.{IsDecided};
 ghost use Rattle.fort_parts.specs.PartAnswers.{OfValue, IsAnswerTo};
@@ -14,6 +13,7 @@ ghost use Rattle.fort_in_order.specs.Made.{Made};
 ghost use Rattle.fort_in_order.specs.Outcomes.{Verdict};
 ghost use Rattle.fort_in_order.specs.Checked as outcomes;
 ghost use Rattle.fort_in_order.specs.Checked.{HasOutcome, last_value};
+ghost use Rattle.fort_steps.specs.CertificateView.{as_certificate};
 ghost use Rattle.fort_steps.specs.StepView.{as_step};
 ghost use Rattle.fort_cert_checker.specs.Fronts.{HasFewTargets};
 ghost use Rattle.fort_cert_checker.specs.OutcomeView.{as_reason, as_outcome};
@@ -23,11 +23,10 @@ use crate::about::value_in;
 use crate::making::{ClosurePlan, closure_plans, mark_rooms, plans_of, rooms_of, scratch_for};
 use crate::plan::Plan;
 use crate::steps::{Given, check_step};
-use fort_certificate::Certificate;
 use fort_check_steps::{Failure, LabelRoom, MarkRoom, PartRoom, Reason, failed, is_about};
 use fort_formulas::Core;
 use fort_outline::{DueStep, Outline, steps_due};
-use fort_steps::Step;
+use fort_steps::{Certificate, Step};
 use fort_terms::{Memory, System, has_numbers};
 use std::alloc::{AllocError, Global};
 

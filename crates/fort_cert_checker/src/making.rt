@@ -1,7 +1,7 @@
 //! What a check needs, taken before it: the rules of closures, the plans of parts, and room.
 ghost use Rattle.std.specs.Prelude.{◌≡◌, ℕ, ◌<◌, ◌^◌, List, map, length, Contains, Option, IfOk, IfSome, IfNone};
 ghost use Rattle.fort_theory.specs.Sides.{IsIndexOf};
-ghost use Rattle.fort_logic.specs.Cores as theory;
+ghost use Rattle.fort_cores.specs.Cores as theory;
 ghost use Rattle.fort_certificate_grammar.specs.Certificates as theory_steps;
 ghost use Rattle.fort_certificate_grammar.specs.Certificates.{Part};
 ghost use Rattle.fort_in_order.specs.Dues as definitions;

@@ -1,24 +1,26 @@
 //! What each part is checked by, taken from the formula and the certificate before the check.
 ghost use Rattle.std.specs.Prelude.{◌≡◌, ℕ, ◌<◌, ◌^◌, false, List, map, length, Contains, IfOk, IfSome, IfNone};
+ghost use Rattle.fort_cores.specs.Cores.{Binary};
 ghost use Rattle.fort_theory.specs.Patterns.{PatternSystem};
 ghost use Rattle.fort_theory.specs.Sides.{IsIndexOf};
 ghost use Rattle.fort_certificate_grammar.specs.Certificates as theory_steps;
-ghost use Rattle.fort_logic.specs.Cores as theory;
-ghost use Rattle.fort_formulas.specs.CoreView.{as_rel};
+ghost use Rattle.fort_cores.specs.Cores as theory;
+ghost use Rattle.fort_relations.specs.RelView.{as_rel};
+ghost use Rattle.fort_outline.specs.LeafView.{as_atom};
+ghost use Rattle.fort_parts.specs.DecidedCores.{IsAtomOver};
 ghost use Rattle.fort_outline.specs.Outlines.{IsOutlineOf, parts_in, core_at};
 ghost use Rattle.fort_parts.specs.PartColumns.{columns_of, place_in};
-ghost use Rattle.fort_parts.specs.RightAnswers.{joined};
 ghost use Rattle.fort_steps.specs.StepView.{as_step};
-ghost use Rattle.fort_products.specs.Operands.{connective_of};
+ghost use Rattle.fort_connectives.specs.ConnectiveView.{connective_of};
 ghost use Rattle.fort_in_order.specs.Dues as definitions;
 ghost use Rattle.fort_cert_checker.specs.Sources.{IsSourceOf, IsTurnedBody};
 ghost use Rattle.fort_cert_checker.specs.Plans.{IsFitPart, IsOperandPlan, IsClosureRead, IsAtomPlan, IsWorkOf, IsPlanOf};
 
 use crate::about::{closure_pairs, marks_of};
+use fort_connectives::Op;
 use fort_context_closure::AtomLabels;
-use fort_formulas::Rel;
-use fort_outline::{Outline, Root, column_of, places_among};
-use fort_rrn_algebra::Op;
+use fort_outline::{Leaf, Outline, Root, column_of, places_among};
+use fort_relations::Rel;
 use fort_steps::{ClosureEntry, Count, Step, Which};
 use fort_terms::{Memory, System};
 use std::alloc::Global;
@@ -140,7 +142,7 @@ fn product_work(
     requires within { k < length outline.now.roots.items }
     requires first { first < length outline.now.roots.items }
     requires second { second < length outline.now.roots.items }
-    requires whole { core_at outline.now k ≡ joined (connective_of op)
+    requires whole { core_at outline.now k ≡ Binary (connective_of op)
         (core_at outline.now first) (core_at outline.now second) }
     ensures { IfOk result (λ w. (system : PatternSystem) (ss : List theory_steps.Step) (i : ℕ)
         → IsWorkOf system (parts_in outline.now) ss i (core_at outline.now k) w) }
@@ -173,10 +175,31 @@ fn relation_labels(
 ) -> Result<AtomLabels, Memory>
     requires { IsIndexOf system.now.rules index }
     ensures { IfOk result (IsAtomPlan system.now (map as_step steps.now)
-        (theory.Atom (as_rel rel) index x y)) }
+        (theory.Leaf (theory.Related (as_rel rel) index x y))) }
 {
     let pairs = pairs_read(steps, rel, index);
     AtomLabels::by_pairs(alloc, system, index, rel, x, y, pairs)
+}
+
+/// The labels of an atom; that of an expression isn't over the system.
+fn atom_labels(
+    alloc: Global,
+    system: &System,
+    steps: &[Step],
+    leaf: &Leaf,
+) -> Result<AtomLabels, Memory>
+    requires { IsAtomOver system.now (as_atom leaf.now) }
+    ensures { IfOk result (IsAtomPlan system.now (map as_step steps.now)
+        (theory.Leaf (as_atom leaf.now))) }
+{
+    match leaf {
+        Leaf::Related(rel, index, x, y) => {
+            relation_labels(alloc, system, steps, *rel, *index, *x, *y)
+        }
+        Leaf::InContext(_, _, _, _, _) => unreachable!(),
+        Leaf::Normal(index, _) => AtomLabels::nf(alloc, system, *index),
+        Leaf::IsTerm(_, term) => AtomLabels::is(alloc, term),
+    }
 }
 
 /// How the answer of part `k` is found.
@@ -196,16 +219,9 @@ fn work_of(
 {
     match &outline.roots[k] {
         Root::True => Ok(Work::Truth),
-        Root::Atom(rel, index, x, y) => {
-            let labels = relation_labels(alloc, system, steps, *rel, *index, *x, *y)?;
-            Ok(Work::Atom(labels))
-        }
-        Root::Nf(index, _) => Ok(Work::Atom(AtomLabels::nf(alloc, system, *index)?)),
-        Root::Is(_, term) => Ok(Work::Atom(AtomLabels::is(alloc, term)?)),
+        Root::Leaf(leaf) => Ok(Work::Atom(atom_labels(alloc, system, steps, leaf)?)),
         Root::Not(f) => Ok(Work::Negation(source_of(outline, *f))),
-        Root::And(f, g) => product_work(alloc, outline, k, Op::And, *f, *g),
-        Root::Or(f, g) => product_work(alloc, outline, k, Op::Or, *f, *g),
-        Root::Iff(f, g) => product_work(alloc, outline, k, Op::Iff, *f, *g),
+        Root::Binary(op, f, g) => product_work(alloc, outline, k, *op, *f, *g),
         Root::Exists(n, f) => {
             let column = bound_column(outline, *n, *f);
             Ok(Work::Projection(source_of(outline, *f), column))

@@ -1,12 +1,12 @@
 //! The checks of a part's steps.
 ghost use Rattle.std.specs.Prelude.{◌≡◌, ℕ, ◌+◌, ◌*◌, ◌<◌, ◌^◌, List, map, length};
-ghost use Rattle.fort_logic.specs.Cores as theory;
+ghost use Rattle.fort_cores.specs.Cores as theory;
 ghost use Rattle.fort_tables.specs.BitRows.{words_for};
 ghost use Rattle.fort_tables.specs.Tables as tables;
 ghost use Rattle.fort_counts.specs.Counts.{KeepRules, count_at, is_infinite};
 ghost use Rattle.fort_operations.specs.Projections.{ArePure};
 ghost use Rattle.fort_parts.specs.PartAnswers as answers;
-ghost use Rattle.fort_products.specs.Operands.{connective_of};
+ghost use Rattle.fort_connectives.specs.ConnectiveView.{connective_of};
 ghost use Rattle.fort_steps.specs.StepView.{as_count};
 ghost use Rattle.fort_in_order.specs.PartRules.{project_local, many_local};
 ghost use Rattle.fort_context_closure.specs.AtomLabelsView.{word_count};
@@ -21,9 +21,10 @@ ghost use Rattle.fort_cert_checker.specs.Pasts.{steps_of, IsAnswerAt, IsTableAt,
 use crate::past::{Past, factor, laid_list, lay};
 use crate::plan::{OperandPlan, Plan, Source, Work};
 use fort_check_steps::{Failure, LabelRoom, MarkRoom, PartRoom, Projected, check_part, put_pure};
+use fort_connectives::Op;
 use fort_context_closure::{AtomLabels, SignedAtom};
 use fort_infinity::Many;
-use fort_rrn_algebra::{Both, Op};
+use fort_rrn_algebra::Both;
 use fort_steps::Count;
 use fort_terms::System;
 

@@ -1,7 +1,7 @@
 //! The check of one step, which is the one due at its place.
 ghost use Rattle.std.specs.Prelude.{◌≡◌, ℕ, ◌+◌, List, map, slice_index_or, OnOk, IfErr};
 ghost use Rattle.fort_theory.specs.Patterns.{PatternSystem};
-ghost use Rattle.fort_logic.specs.Cores as theory;
+ghost use Rattle.fort_cores.specs.Cores as theory;
 ghost use Rattle.fort_certificate_grammar.specs.Certificates as certificates;
 ghost use Rattle.fort_steps.specs.StepView.{as_step, as_pair};
 ghost use Rattle.fort_in_order.specs.Dues as definitions;

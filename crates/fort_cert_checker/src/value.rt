@@ -1,13 +1,11 @@
 //! The checks of a part's value and of its marks.
 ghost use Rattle.std.specs.Prelude.{◌≡◌, ℕ, ◌<◌, List, map, length, OnOk, IfErr};
 ghost use Rattle.fort_theory.specs.Patterns.{PatternSystem};
-ghost use Rattle.fort_logic.specs.Cores as theory;
+ghost use Rattle.fort_cores.specs.Cores as theory;
 ghost use Rattle.fort_tables.specs.Tables as tables;
 ghost use Rattle.fort_counts.specs.Counts.{count_at, is_infinite};
 ghost use Rattle.fort_counts.specs.ManyLabels.{many_value as many_value_lem};
-ghost use Rattle.fort_operations.specs.Products.{connected};
 ghost use Rattle.fort_operations.specs.Projections.{ArePure};
-ghost use Rattle.fort_products.specs.Operands.{connective_of};
 ghost use Rattle.fort_steps.specs.StepView.{as_count};
 ghost use Rattle.fort_in_order.specs.Made.{Made};
 ghost use Rattle.fort_in_order.specs.PartRules.{IsValueOf};
@@ -21,18 +19,7 @@ use crate::past::{Past, accepts_some};
 use crate::plan::{Plan, Source, Work};
 use fort_check_steps::{Failure, MarkRoom, Reason, check_marks, failed, put_pure};
 use fort_infinity::local::many_value;
-use fort_rrn_algebra::Op;
 use fort_steps::Count;
-
-fn connect(op: Op, first: bool, second: bool) -> bool
-    ensures { result ≡ connected (connective_of op) first second }
-{
-    match op {
-        Op::And => first && second,
-        Op::Or => first || second,
-        Op::Iff => first == second,
-    }
-}
 
 /// Whether infinitely many values of its only column are accepted.
 fn accepts_many(
@@ -75,7 +62,7 @@ fn own_value(plan: &Plan, past: &Past<'_>, marks: &mut MarkRoom) -> bool
         Work::Product(op, first, second) => {
             let one = past.truth(first.source);
             let other = past.truth(second.source);
-            connect(*op, one, other)
+            op.connect(one, other)
         }
         Work::Projection(source, _) => {
             let body = past.table(*source);

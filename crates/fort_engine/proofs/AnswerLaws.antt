@@ -7,9 +7,9 @@ use Rattle.fort_theory.specs.Trees.{Tree}
 use Rattle.fort_theory.specs.Signatures.{Signature}
 use Rattle.fort_theory.specs.Patterns.{PatternSystem}
 use Rattle.fort_theory.proofs.Members.{Contains-none}
-use Rattle.fort_logic.specs.Cores as core
-use Rattle.fort_logic.specs.Parts.{is_free, AreColumns}
-use Rattle.fort_logic.specs.PatternStructures.{pattern_structure}
+use Rattle.fort_cores.specs.Cores as core
+use Rattle.fort_cores.specs.Parts.{is_free, AreColumns}
+use Rattle.fort_cores.specs.Structures.{pattern_structure}
 use Rattle.fort_tables.specs.Tables.{Table, listed_table}
 use Rattle.fort_tables.specs.Labels.{Labelling, HasMoreLabels, IsTableOf}
 use Rattle.fort_tables.specs.LabelRules.{label_of, IsTableBy}
@@ -26,12 +26,12 @@ use Rattle.fort_explore.specs.ListedTargets.{AreListedTargets}
 use Rattle.fort_parts.specs.PartColumns.{columns_of, place_in}
 use Rattle.fort_parts.specs.PartAnswers.{OfValue, OfTable, IsAnswerTo}
 use Rattle.fort_parts.specs.RightAnswers.{IsRightBy}
-use Rattle.fort_parts.proofs.PartColumnLaws.{AreColumns-columns_of, columns_of-Nf, columns_of-Is, column-from_free}
+use Rattle.fort_parts.proofs.PartColumnLaws.{AreColumns-columns_of, columns_of-Normal, columns_of-IsTerm, column-from_free}
 use Rattle.fort_parts.proofs.StepAnswers.{IsRightBy-value, IsRightBy-labels, IsOverBy-closed, IsOverBy-few, place_bound, count_bound, LabelsTell-projected, IsAnswerTo-projected, IsAnswerTo-closed, LabelsTell-many, IsAnswerTo-many, IsAnswerTo-many_closed}
 use Rattle.fort_parts.proofs.AtomResults.{IsAnswerTo-Atom, IsAnswerTo-Nf, IsAnswerTo-Is, LabelsTellAlike-Nf, LabelsTellAlike-Is}
 use Rattle.fort_reduced_parts.specs.ReducedParts.{AlikeWith}
 use Rattle.fort_reduced_parts.specs.ToldParts.{ToldWith}
-use Rattle.fort_reduced_parts.proofs.ToldLaws.{LabelsTell-with, LabelsTell-Atom, LabelsTell-Nf, LabelsTell-Is, IsOverBy-told, IsRightBy-Not-value, IsRightBy-Not-table, IsOverBy-Not, IsOverBy-Not-told}
+use Rattle.fort_reduced_parts.proofs.ToldLaws.{LabelsTell-with, LabelsTell-Leaf, IsOverBy-told, IsRightBy-Not-value, IsRightBy-Not-table, IsOverBy-Not, IsOverBy-Not-told}
 use Rattle.fort_engine.specs.declared.answer.Last.{Last}
 use Rattle.fort_engine.specs.declared.answer.Last.TheVariants.{Truth, Auto}
 use Rattle.fort_engine.specs.declared.answer.Decided.{Decided}
@@ -94,13 +94,13 @@ abbrev pub IsOfLabels : PatternSystem → Bool → core.Core → AtomLabels → 
 IsOfLabels system reduces f l = AreLabelsFor system reduces f (rule_by system.signature l).columns (label_by system.signature l) (accepted_by system.signature l)
 
 pub AreLabelsFor-Nf : (system : PatternSystem) (reduces : Bool) (index x : ℕ) (l : AtomLabels) → column_count l ≡ 1 → TellsAlike system.signature (normal_atom system index) l
-    → AcceptsTrue system.signature (normal_atom system index) l → IsOfLabels system reduces (core.Nf index x) l
+    → AcceptsTrue system.signature (normal_atom system index) l → IsOfLabels system reduces (core.Leaf (core.Normal index x)) l
 AreLabelsFor-Nf system reduces index x l count tells accepts =
     let one = columns_by system.signature l ∙ count in
     let label = label_by system.signature l in
     record {
-      count = one ∙ sym (ap length (columns_of-Nf index x));
-      alike = LabelsTell-Nf reduces system index x label (LabelsTellAlike-Nf system label index x tells);
+      count = one ∙ sym (ap length (columns_of-Normal index x));
+      alike = LabelsTell-Leaf reduces system (core.Normal index x) label (LabelsTellAlike-Nf system label index x tells);
       answers =
           λ table by.
           IsAnswerTo-Nf system label (accepted_by system.signature l) table index x (λ t is full. accepts t is)
@@ -108,13 +108,13 @@ AreLabelsFor-Nf system reduces index x l count tells accepts =
     }
 
 pub AreLabelsFor-Is : (system : PatternSystem) (reduces : Bool) (x : ℕ) (term : Tree) (l : AtomLabels) → column_count l ≡ 1 → TellsAlikeAtTerm system.signature term l
-    → AcceptsTerm system.signature term l → IsOfLabels system reduces (core.Is x term) l
+    → AcceptsTerm system.signature term l → IsOfLabels system reduces (core.Leaf (core.IsTerm x term)) l
 AreLabelsFor-Is system reduces x term l count tells accepts =
     let one = columns_by system.signature l ∙ count in
     let label = label_by system.signature l in
     record {
-      count = one ∙ sym (ap length (columns_of-Is x term));
-      alike = LabelsTell-Is reduces system x term label (LabelsTellAlike-Is system label x term tells);
+      count = one ∙ sym (ap length (columns_of-IsTerm x term));
+      alike = LabelsTell-Leaf reduces system (core.IsTerm x term) label (LabelsTellAlike-Is system label x term tells);
       answers =
           λ table by.
           IsAnswerTo-Is system label (accepted_by system.signature l) table x term (λ t is full. accepts t is)
@@ -122,17 +122,17 @@ AreLabelsFor-Is system reduces x term l count tells accepts =
     }
 
 pub AreLabelsFor-Atom : (system : PatternSystem) (reduces : Bool) (rel : core.Rel) (index x y : ℕ) (l : AtomLabels)
-    → ((columns : List ℕ) → AreColumns (core.Atom rel index x y) columns → column_count l ≡ length columns)
-    → ((columns : List ℕ) → AreColumns (core.Atom rel index x y) columns → TellsAlike system.signature (relation_atom system rel index x y columns) l)
-    → ((columns : List ℕ) → AreColumns (core.Atom rel index x y) columns → AcceptsTrue system.signature (relation_atom system rel index x y columns) l)
-    → IsOfLabels system reduces (core.Atom rel index x y) l
+    → ((columns : List ℕ) → AreColumns (core.Leaf (core.Related rel index x y)) columns → column_count l ≡ length columns)
+    → ((columns : List ℕ) → AreColumns (core.Leaf (core.Related rel index x y)) columns → TellsAlike system.signature (relation_atom system rel index x y columns) l)
+    → ((columns : List ℕ) → AreColumns (core.Leaf (core.Related rel index x y)) columns → AcceptsTrue system.signature (relation_atom system rel index x y columns) l)
+    → IsOfLabels system reduces (core.Leaf (core.Related rel index x y)) l
 AreLabelsFor-Atom system reduces rel index x y l count tells accepts =
-    let f = core.Atom rel index x y in
+    let f = core.Leaf (core.Related rel index x y) in
     let are = AreColumns-columns_of f in
     let same = columns_by system.signature l ∙ count (columns_of f) are in
     record {
       count = same;
-      alike = LabelsTell-Atom reduces system rel index x y (label_by system.signature l) (tells (columns_of f) are);
+      alike = LabelsTell-Leaf reduces system (core.Related rel index x y) (label_by system.signature l) (tells (columns_of f) are);
       answers =
           λ table by.
           IsAnswerTo-Atom system (label_by system.signature l) (accepted_by system.signature l) table rel index x y (λ t is full. accepts (columns_of f) are t is)

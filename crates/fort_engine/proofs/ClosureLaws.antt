@@ -10,11 +10,11 @@ use Rattle.std.proofs.lemmas.List.Elements.{All-push, Contains-append_left, Cont
 use Rattle.fort_theory.specs.Patterns.{PatternSystem, Pair}
 use Rattle.fort_theory.specs.Sides.{IsIndexOf, at_index}
 use Rattle.fort_theory.proofs.Members.{Contains-head}
-use Rattle.fort_logic.specs.Cores as core
-use Rattle.fort_logic.specs.Cores.{Core}
-use Rattle.fort_formulas.specs.declared.core_formula.Rel as formulas
-use Rattle.fort_formulas.specs.declared.core_formula.Rel.TheVariants as rels
-use Rattle.fort_formulas.specs.CoreView.{as_rel}
+use Rattle.fort_cores.specs.Cores as core
+use Rattle.fort_cores.specs.Cores.{Core}
+use Rattle.fort_relations.specs.declared.relation.Rel as formulas
+use Rattle.fort_relations.specs.declared.relation.Rel.TheVariants as rels
+use Rattle.fort_relations.specs.RelView.{as_rel}
 use Rattle.fort_certificate_grammar.specs.Certificates.{Which, Star, Conv}
 use Rattle.fort_in_order.specs.ClosureSteps.{relation_of}
 use Rattle.fort_in_order.specs.Dues.{DueStep, OfClosure, reads, asks, closure_due, closures_due}
@@ -95,22 +95,22 @@ module _ (system : PatternSystem) (parts : List Core) where
           (Contains-append_left (closure_due parts lo Conv) (closures_due parts n (suc lo)) (OfClosure Conv i) k)
 
   pub closure_there : (w : Which) (rel : core.Rel) (index x y : ℕ) (cs : List IndexClosure) → reads w rel ≡ true → AreClosures system parts cs → IsIndexOf system.rules index
-      → Contains parts (core.Atom rel index x y) → Contains (map due_of cs) (OfClosure w index)
+      → Contains parts (core.Leaf (core.Related rel index x y)) → Contains (map due_of cs) (OfClosure w index)
   closure_there w rel index x y cs read are own among =
-      let asked : list_any (asks w index) parts ≡ true = list_any-from_Any (asks w index) parts (among.0, core.Atom rel index x y, among.1, among.2, both_true read (eq-eqb index index refl)) in
+      let asked : list_any (asks w index) parts ≡ true = list_any-from_Any (asks w index) parts (among.0, core.Leaf (core.Related rel index x y), among.1, among.2, both_true read (eq-eqb index index refl)) in
       subst (λ (ds : List DueStep). Contains ds (OfClosure w index)) (sym are.due_are) (closure_due_at w (length system.rules) 1 index own.low (omega (arith, own.high)) asked)
 
   -- a closure of the rules as they are tells both
   pub star_read : (rel : formulas.Rel) (index x y : ℕ) (cs : List IndexClosure) (es : List ClosureEntry) → (rel ≡ rels.Star) ⊎ (rel ≡ rels.Plus)
       → (All (ListsItsPasses system) cs → Contains (map due_of cs) (OfClosure Star index) → ListsPasses core.Star (at_index index system.rules) es)
-      → AreClosures system parts cs → IsIndexOf system.rules index → Contains parts (core.Atom (as_rel rel) index x y) → ListsPasses (as_rel rel) (at_index index system.rules) es
+      → AreClosures system parts cs → IsIndexOf system.rules index → Contains parts (core.Leaf (core.Related (as_rel rel) index x y)) → ListsPasses (as_rel rel) (at_index index system.rules) es
   star_read rel index x y cs es either found are own among = ⊎_elim
       (λ (e : rel ≡ rels.Star).
-      let asked = subst (λ (r : formulas.Rel). Contains parts (core.Atom (as_rel r) index x y)) e among in
+      let asked = subst (λ (r : formulas.Rel). Contains parts (core.Leaf (core.Related (as_rel r) index x y))) e among in
       subst (λ (r : formulas.Rel). ListsPasses (as_rel r) (at_index index system.rules) es) (sym e)
       (found are.passed (closure_there Star core.Star index x y cs refl are own asked)))
       (λ (e : rel ≡ rels.Plus).
-      let asked = subst (λ (r : formulas.Rel). Contains parts (core.Atom (as_rel r) index x y)) e among in
+      let asked = subst (λ (r : formulas.Rel). Contains parts (core.Leaf (core.Related (as_rel r) index x y))) e among in
       subst (λ (r : formulas.Rel). ListsPasses (as_rel r) (at_index index system.rules) es) (sym e)
       (ListsPasses-Plus (at_index index system.rules) es (found are.passed (closure_there Star core.Plus index x y cs refl are own asked))))
       either

@@ -6,13 +6,13 @@ use Rattle.std.proofs.lemmas.List.{get_or_push, get_or_append_left}
 use Rattle.std.proofs.lemmas.List.Elements.{Contains-get_or}
 use Rattle.fort_theory.specs.Signatures.{Signature}
 use Rattle.fort_theory.specs.Patterns.{PatternSystem}
-use Rattle.fort_logic.specs.Cores as core
-use Rattle.fort_logic.specs.Cores.{Core}
-use Rattle.fort_logic.specs.PartLists.{AreParts}
-use Rattle.fort_logic.specs.Parts.{postorder}
-use Rattle.fort_logic.specs.Kinds.{kind_of}
-use Rattle.fort_logic.specs.PatternStructures.{pattern_structure}
-use Rattle.fort_logic.proofs.EachOnceUnique.{AreEachOnce-unique}
+use Rattle.fort_cores.specs.Cores as core
+use Rattle.fort_cores.specs.Cores.{Core}
+use Rattle.fort_cores.specs.PartLists.{AreParts}
+use Rattle.fort_cores.specs.Parts.{postorder}
+use Rattle.fort_cores.specs.Kinds.{kind_of}
+use Rattle.fort_cores.specs.Structures.{pattern_structure}
+use Rattle.fort_cores.proofs.EachOnceUnique.{AreEachOnce-unique}
 use Rattle.fort_tables.specs.Tuples.{Tuple, IsTuple}
 use Rattle.fort_tables.specs.Entries.{Entry, tuples_of}
 use Rattle.fort_formulas.specs.KindView.{as_kind}

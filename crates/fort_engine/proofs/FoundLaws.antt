@@ -4,7 +4,7 @@ use Rattle.std.specs.declared.alloc.Global.{Global}
 use Rattle.std.specs.declared.vec.Vec.{Vec}
 use Rattle.std.proofs.Common.{true≢false, ap, sym, ◌∙◌, subst}
 use Rattle.fort_theory.specs.Patterns.{PatternSystem}
-use Rattle.fort_logic.specs.Cores as core
+use Rattle.fort_cores.specs.Cores as core
 use Rattle.fort_tables.specs.Tables.{Table, Listed, listed_table}
 use Rattle.fort_operations.specs.Projections.{ArePure}
 use Rattle.fort_counts.specs.Counts as counts
@@ -16,7 +16,7 @@ use Rattle.fort_parts.specs.PartAnswers.{OfTable}
 use Rattle.fort_parts.specs.PartColumns.{place_in}
 use Rattle.fort_explore.specs.declared.table.ExploreFault.{ExploreFault}
 use Rattle.fort_outline.specs.declared.root.Root.{Root}
-use Rattle.fort_outline.specs.declared.root.Root.TheVariants.{True, Atom, Nf, Is, Not, And, Or, Iff, Exists, Infinite}
+use Rattle.fort_outline.specs.declared.root.Root.TheVariants.{True, Leaf, Not, Binary, Exists, Infinite}
 use Rattle.fort_outline.specs.declared.outline.Outline.{Outline}
 use Rattle.fort_outline.specs.Roots.{root_core}
 use Rattle.fort_outline.specs.Outlines.{parts_in, core_at}
@@ -45,13 +45,9 @@ plain_one : (system : PatternSystem) (options : Options) (parts : List core.Core
     → IsRight system options (root_core parts r) (as_answer d.answer) → d.counts ≡ None → (options.lists ≡ true → options.reduces ≡ false → ListsTargets d.answer d.targets)
     → IsFound system options parts kept (root_core parts r) d
 plain_one system options parts kept True p d right none listed = record { right = right; turned = tt; counted = none; listed = λ asked as_is _. listed asked as_is }
-plain_one system options parts kept (Atom rel index x y) p d right none listed = record { right = right; turned = tt; counted = none; listed = λ asked as_is _. listed asked as_is }
-plain_one system options parts kept (Nf index x) p d right none listed = record { right = right; turned = tt; counted = none; listed = λ asked as_is _. listed asked as_is }
-plain_one system options parts kept (Is x t) p d right none listed = record { right = right; turned = tt; counted = none; listed = λ asked as_is _. listed asked as_is }
+plain_one system options parts kept (Leaf a) p d right none listed = record { right = right; turned = tt; counted = none; listed = λ asked as_is _. listed asked as_is }
 plain_one system options parts kept (Not f) p d right none listed = absurd p
-plain_one system options parts kept (And f g) p d right none listed = record { right = right; turned = tt; counted = none; listed = λ asked as_is _. listed asked as_is }
-plain_one system options parts kept (Or f g) p d right none listed = record { right = right; turned = tt; counted = none; listed = λ asked as_is _. listed asked as_is }
-plain_one system options parts kept (Iff f g) p d right none listed = record { right = right; turned = tt; counted = none; listed = λ asked as_is _. listed asked as_is }
+plain_one system options parts kept (Binary op f g) p d right none listed = record { right = right; turned = tt; counted = none; listed = λ asked as_is _. listed asked as_is }
 plain_one system options parts kept (Exists n f) p d right none listed = record { right = right; turned = tt; counted = none; listed = λ asked as_is _. listed asked as_is }
 plain_one system options parts kept (Infinite n f) p d right none listed = absurd p
 

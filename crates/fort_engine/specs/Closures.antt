@@ -3,7 +3,7 @@ use Rattle.std.specs.Prelude.{◌≡◌, List, map, length}
 use Rattle.std.specs.List.{All}
 use Rattle.fort_theory.specs.Patterns.{PatternSystem}
 use Rattle.fort_theory.specs.Sides.{at_index}
-use Rattle.fort_logic.specs.Cores.{Core}
+use Rattle.fort_cores.specs.Cores.{Core}
 use Rattle.fort_in_order.specs.ClosureSteps.{relation_of}
 use Rattle.fort_in_order.specs.Dues.{DueStep, OfClosure, closures_due}
 use Rattle.fort_steps.specs.StepView.{as_which}

@@ -1,19 +1,20 @@
 -- To believe: what a part meets that is decided, what is known of its operands, what a decision of it is, and which labels are a formula's.
 use Rattle.std.specs.Prelude.{◌≡◌, ℕ, ◌<◌, ◌≤◌, List, length, get_or, Bool, true, false, Option, None, Result, IfOk, IfErr, OnOk}
+use Rattle.fort_cores.specs.Cores.{Binary}
 use Rattle.fort_theory.specs.Signatures.{most_columns}
 use Rattle.fort_theory.specs.Patterns.{PatternSystem}
-use Rattle.fort_logic.specs.Cores as core
-use Rattle.fort_logic.specs.Parts.{BindsFree, is_free}
-use Rattle.fort_logic.specs.PatternStructures.{pattern_structure}
+use Rattle.fort_cores.specs.Cores as core
+use Rattle.fort_cores.specs.Parts.{BindsFree, is_free}
+use Rattle.fort_cores.specs.Structures.{pattern_structure}
 use Rattle.fort_tables.specs.Tables.{Table}
 use Rattle.fort_tables.specs.Labels.{Labelling}
 use Rattle.fort_tables.specs.LabelRules.{IsTableBy}
-use Rattle.fort_operations.specs.Products.{Connective}
+use Rattle.fort_theory.specs.Logic.{Connective}
 use Rattle.fort_parts.specs.PartColumns.{columns_of, places_in}
 use Rattle.fort_parts.specs.PartAnswers.{Answer, OfTable, IsAnswerTo}
 use Rattle.fort_parts.specs.PartLabels.{LabelsTell}
 use Rattle.fort_parts.specs.DecidedCores.{IsDecided, IsOverSystem, IsOperandOf}
-use Rattle.fort_parts.specs.RightAnswers.{HasTooManyBy, joined}
+use Rattle.fort_parts.specs.RightAnswers.{HasTooManyBy}
 use Rattle.fort_reduced_parts.specs.ReducedParts.{AlikeWith}
 use Rattle.fort_parts.proofs.PartOrder.{IsEarlier}
 use Rattle.fort_outline.specs.declared.outline.Outline.{Outline}
@@ -61,7 +62,7 @@ pub record IsNextPart (system : PatternSystem) (options : Options) (outline : Ou
 pub record IsOfTwo (op : Connective) (parts : List core.Core) (k f g : ℕ) : Type 0 where
   pub first : f < k
   pub second : g < k
-  pub is : get_or parts k core.True ≡ joined op (get_or parts f core.True) (get_or parts g core.True)
+  pub is : get_or parts k core.True ≡ Binary op (get_or parts f core.True) (get_or parts g core.True)
 
 -- a right answer without counts, with its table's targets where they are asked for and no table is reduced, and then the formula is not over the cap, nor told apart at more tuples by what is
 -- kept; or tuples that show that it is
@@ -87,7 +88,7 @@ pub record IsBody (system : PatternSystem) (options : Options) (n : ℕ) (f : co
 
 -- h is f and g joined, no wider than a tuple, each with its columns, and there are right answers to both
 pub record AreJoined (system : PatternSystem) (options : Options) (op : Connective) (h f g : core.Core) (columns ones others : List ℕ) (first second : Answer) : Type 0 where
-  pub whole : h ≡ joined op f g
+  pub whole : h ≡ Binary op f g
   pub few : length (columns_of h) ≤ most_columns
   pub columns_are : columns ≡ columns_of h
   pub ones_are : ones ≡ columns_of f
@@ -97,7 +98,7 @@ pub record AreJoined (system : PatternSystem) (options : Options) (op : Connecti
 
 -- h is f and g joined, with right answers to both and the places of their columns among those of h
 pub record IsJoining (system : PatternSystem) (options : Options) (op : Connective) (h f g : core.Core) (first : Answer) (places : List ℕ) (second : Answer) (others : List ℕ) (columns : ℕ) : Type 0 where
-  pub whole : h ≡ joined op f g
+  pub whole : h ≡ Binary op f g
   pub count : columns ≡ length (columns_of h)
   pub some : 0 < columns
   pub few : columns ≤ most_columns

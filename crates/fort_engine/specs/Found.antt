@@ -3,8 +3,8 @@ use Rattle.std.specs.Prelude.{◌≡◌, ℕ, ◌<◌, List, length, map, get_or
 use Rattle.std.specs.declared.alloc.Global.{Global}
 use Rattle.std.specs.declared.vec.Vec.{Vec}
 use Rattle.fort_theory.specs.Patterns.{PatternSystem}
-use Rattle.fort_logic.specs.Cores as core
-use Rattle.fort_logic.specs.Parts.{is_free}
+use Rattle.fort_cores.specs.Cores as core
+use Rattle.fort_cores.specs.Parts.{is_free}
 use Rattle.fort_tables.specs.Tables.{Table, Listed, listed_table}
 use Rattle.fort_operations.specs.Projections.{ArePure}
 use Rattle.fort_operations.specs.OperationTruth.{complemented}

@@ -1,7 +1,7 @@
 -- To believe: what is kept of the answers: right ones, whose states tell when tuples are alike, or interchangeable where tables are reduced.
 use Rattle.std.specs.Prelude.{◌≡◌, ℕ, ◌<◌, ◌≤◌, List, length, get_or, Option, None, Some}
 use Rattle.fort_theory.specs.Patterns.{PatternSystem}
-use Rattle.fort_logic.specs.Cores as core
+use Rattle.fort_cores.specs.Cores as core
 use Rattle.fort_parts.specs.AlikeParts.{IsOverBy}
 use Rattle.fort_parts.specs.PartAnswers.{Answer}
 use Rattle.fort_parts.specs.RightAnswers.{IsRightBy}

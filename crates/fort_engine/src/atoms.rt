@@ -1,18 +1,23 @@
 //! Atoms, by their labels.
-ghost use Rattle.std.specs.Prelude.{ℕ};
+ghost use Rattle.std.specs.Prelude.{ℕ, List, Contains};
 ghost use Rattle.fort_theory.specs.Sides.{IsIndexOf, at_index};
-ghost use Rattle.fort_logic.specs.Cores as theory;
-ghost use Rattle.fort_formulas.specs.CoreView.{as_rel};
+ghost use Rattle.fort_cores.specs.Cores as theory;
+ghost use Rattle.fort_parts.specs.DecidedCores.{IsAtomOver};
+ghost use Rattle.fort_relations.specs.RelView.{as_rel};
+ghost use Rattle.fort_outline.specs.LeafView.{as_atom};
 ghost use Rattle.fort_context_closure.specs.ClosedAtoms.{ListsPasses};
 ghost use Rattle.fort_context_closure.specs.AtomLabelsView.{rule_by, label_by, accepted_by};
+ghost use Rattle.fort_engine.specs.Closures.{AreClosures};
 ghost use Rattle.fort_engine.specs.Deciding.{IsDecision, AreLabelsFor};
 
 use crate::answer::Decided;
+use crate::closures::Closures;
 use crate::explored::explored;
 use crate::options::Options;
 use fort_context_closure::{AtomLabels, SignedAtom};
 use fort_explore::{ByRule, ExploreFault};
-use fort_formulas::Rel;
+use fort_outline::Leaf;
+use fort_relations::Rel;
 use fort_steps::ClosureEntry;
 use fort_terms::{System, Term};
 use std::alloc::Global;
@@ -35,7 +40,7 @@ fn by_labels(
 }
 
 /// Decides whether two variables are related; a reduction or a conversion by the closure of the index.
-pub(crate) fn related(
+fn related(
     alloc: Global,
     system: &System,
     rel: Rel,
@@ -47,35 +52,63 @@ pub(crate) fn related(
 ) -> Result<Decided, ExploreFault>
     requires index { IsIndexOf system.now.rules index }
     requires passes { ListsPasses (as_rel rel) (at_index index system.now.rules) closure.now }
-    ensures { IsDecision system.now options.now (theory.Atom (as_rel rel) index x y) result }
+    ensures { IsDecision system.now options.now
+        (theory.Leaf (theory.Related (as_rel rel) index x y)) result }
 {
     let labels = AtomLabels::atom(alloc, system, index, rel, x, y, closure)?;
     by_labels(alloc, system, &labels, options)
 }
 
 /// Decides whether a variable is a normal form.
-pub(crate) fn normal_form(
+fn normal_form(
     alloc: Global,
     system: &System,
     index: u32,
     options: &Options,
 ) -> Result<Decided, ExploreFault>
     requires { IsIndexOf system.now.rules index }
-    ensures { (x : ℕ) → IsDecision system.now options.now (theory.Nf index x) result }
+    ensures { (x : ℕ) → IsDecision system.now options.now
+        (theory.Leaf (theory.Normal index x)) result }
 {
     let labels = AtomLabels::nf(alloc, system, index)?;
     by_labels(alloc, system, &labels, options)
 }
 
 /// Decides whether a variable is this term.
-pub(crate) fn this_term(
+fn this_term(
     alloc: Global,
     system: &System,
     term: &Term,
     options: &Options,
 ) -> Result<Decided, ExploreFault>
-    ensures { (x : ℕ) → IsDecision system.now options.now (theory.Is x term.now) result }
+    ensures { (x : ℕ) → IsDecision system.now options.now
+        (theory.Leaf (theory.IsTerm x term.now)) result }
 {
     let labels = AtomLabels::is(alloc, term)?;
     by_labels(alloc, system, &labels, options)
+}
+
+/// Decides an atom of a formula, to whose parts these closures belong.
+pub(crate) fn decide_leaf(
+    alloc: Global,
+    system: &System,
+    leaf: &Leaf,
+    closures: &Closures,
+    options: &Options,
+) -> Result<Decided, ExploreFault>
+    requires over { IsAtomOver system.now (as_atom leaf.now) }
+    requires closures { (parts : List theory.Core)
+        × Contains parts (theory.Leaf (as_atom leaf.now))
+        × AreClosures system.now parts closures.now.list.items }
+    ensures { IsDecision system.now options.now (theory.Leaf (as_atom leaf.now)) result }
+{
+    match leaf {
+        Leaf::Related(rel, index, x, y) => {
+            let closure = closures.read_by(*rel, *index);
+            related(alloc, system, *rel, *index, *x, *y, closure, options)
+        }
+        Leaf::InContext(_, _, _, _, _) => unreachable!(),
+        Leaf::Normal(index, _) => normal_form(alloc, system, *index, options),
+        Leaf::IsTerm(_, term) => this_term(alloc, system, term, options),
+    }
 }

@@ -3,8 +3,8 @@ ghost use Rattle.std.specs.Prelude.{◌≡◌, ◌++◌, ◌↔◌, ℕ, List, m
 ghost use Rattle.std.specs.List.{All};
 ghost use Rattle.fort_theory.specs.Patterns.{PatternSystem};
 ghost use Rattle.fort_theory.specs.Sides.{IsIndexOf, at_index};
-ghost use Rattle.fort_logic.specs.Cores as theory;
-ghost use Rattle.fort_formulas.specs.CoreView.{as_rel};
+ghost use Rattle.fort_cores.specs.Cores as theory;
+ghost use Rattle.fort_relations.specs.RelView.{as_rel};
 ghost use Rattle.fort_certificate_grammar.specs.Certificates as certificates;
 ghost use Rattle.fort_in_order.specs.ClosureSteps.{relation_of};
 ghost use Rattle.fort_in_order.specs.Dues as dues;
@@ -15,8 +15,8 @@ ghost use Rattle.fort_context_closure.specs.ClosedAtoms.{ListsNone, ListsPasses}
 ghost use Rattle.fort_engine.specs.Closures.{due_of, ListsItsPasses, AreClosuresOf, AreClosures};
 
 use fort_context_closure::closure;
-use fort_formulas::Rel;
 use fort_outline::{Root, is_closure_due};
+use fort_relations::Rel;
 use fort_steps::{ClosureEntry, Which};
 use fort_terms::{Memory, System};
 use std::alloc::Global;
@@ -131,7 +131,7 @@ impl Closures {
     pub fn read_by(&self, rel: Rel, index: u32) -> &[ClosureEntry]
         ensures passes { (system : PatternSystem) (parts : List theory.Core) (x y : ℕ)
             → AreClosures system parts self.now.list.items → IsIndexOf system.rules index
-            → Contains parts (theory.Atom (as_rel rel) index x y)
+            → Contains parts (theory.Leaf (theory.Related (as_rel rel) index x y))
             → ListsPasses (as_rel rel) (at_index index system.rules) result.now }
         ensures none { ListsNone (as_rel rel) result.now }
     {

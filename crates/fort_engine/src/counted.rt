@@ -1,6 +1,6 @@
 //! "Infinitely many" of answers.
 ghost use Rattle.std.specs.Prelude.{◌≡◌, ℕ, map};
-ghost use Rattle.fort_logic.specs.Cores as theory;
+ghost use Rattle.fort_cores.specs.Cores as theory;
 ghost use Rattle.fort_tables.specs.Tables.{listed_table};
 ghost use Rattle.fort_steps.specs.StepView.{as_count};
 ghost use Rattle.fort_parts.specs.PartAnswers.{OfTable};

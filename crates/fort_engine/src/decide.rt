@@ -1,7 +1,7 @@
 //! Decides a formula, each of its parts in turn.
 ghost use Rattle.std.specs.Prelude.{◌≡◌, ℕ, ◌<◌, ◌≤◌, [], length, slice_index_or, false, true, None, IfOk, IfErr, OnOk};
-ghost use Rattle.fort_logic.specs.Cores as theory;
-ghost use Rattle.fort_logic.specs.PatternStructures.{pattern_structure};
+ghost use Rattle.fort_cores.specs.Cores as theory;
+ghost use Rattle.fort_cores.specs.Structures.{pattern_structure};
 ghost use Rattle.fort_formulas.specs.CoreView.{as_core};
 ghost use Rattle.fort_parts.specs.DecidedCores.{IsDecided};
 ghost use Rattle.fort_parts.specs.PartAnswers.{IsAnswerTo};
@@ -49,9 +49,9 @@ fn drop_idle(kept: &mut Vec<Option<Last>>, outline: &Outline, k: usize)
 {
     let uses = outline.last_uses.as_slice();
     match &outline.roots[k] {
-        Root::True | Root::Atom(_, _, _, _) | Root::Nf(_, _) | Root::Is(_, _) => {}
+        Root::True | Root::Leaf(_) => {}
         Root::Not(f) | Root::Exists(_, f) | Root::Infinite(_, f) => let_go(kept, uses, *f, k),
-        Root::And(f, g) | Root::Or(f, g) | Root::Iff(f, g) => {
+        Root::Binary(_, f, g) => {
             let_go(kept, uses, *f, k);
             let_go(kept, uses, *g, k);
         }

@@ -1,7 +1,7 @@
 //! Tables by a formula's labels, reduced where tables are.
 ghost use Rattle.std.specs.Prelude.{◌≡◌, false, IfOk};
 ghost use Rattle.fort_theory.specs.Patterns.{PatternSystem};
-ghost use Rattle.fort_logic.specs.Cores as theory;
+ghost use Rattle.fort_cores.specs.Cores as theory;
 ghost use Rattle.fort_tables.specs.Tables.{IsListed, listed_table};
 ghost use Rattle.fort_parts.specs.PartAnswers.{OfTable};
 ghost use Rattle.fort_parts.specs.RightAnswers.{IsRightBy};

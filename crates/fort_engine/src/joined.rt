@@ -1,10 +1,9 @@
 //! Connectives of answers.
 ghost use Rattle.std.specs.Prelude.{◌≡◌, ◌<◌, length};
-ghost use Rattle.fort_logic.specs.Cores as theory;
+ghost use Rattle.fort_cores.specs.Cores as theory;
 ghost use Rattle.fort_tables.specs.Tables.{listed_table};
-ghost use Rattle.fort_operations.specs.Products.{connected};
 ghost use Rattle.fort_products.specs.Operands as algebra;
-ghost use Rattle.fort_products.specs.Operands.{connective_of};
+ghost use Rattle.fort_connectives.specs.ConnectiveView.{connective_of};
 ghost use Rattle.fort_parts.specs.PartSteps.{operand_of};
 ghost use Rattle.fort_engine.specs.AnswerView.{as_answer};
 ghost use Rattle.fort_engine.specs.Deciding.{AreJoined, IsDecision, IsJoining};
@@ -13,22 +12,13 @@ use crate::answer::{Decided, Last};
 use crate::explored::explored;
 use crate::operands::Answered;
 use crate::options::Options;
+use fort_connectives::Op;
 use fort_explore::{ByRule, ExploreFault};
 use fort_lockstep::Dta;
 use fort_outline::places_among;
-use fort_rrn_algebra::{Both, Op, Operand};
+use fort_rrn_algebra::{Both, Operand};
 use fort_terms::System;
 use std::alloc::Global;
-
-fn connect(op: Op, first: bool, second: bool) -> bool
-    ensures { result ≡ connected (connective_of op) first second }
-{
-    match op {
-        Op::And => first && second,
-        Op::Or => first || second,
-        Op::Iff => first == second,
-    }
-}
 
 /// An answer as an operand of a product.
 fn operand<'a>(answer: &'a Last, places: &'a [usize]) -> Operand<'a, Dta>
@@ -118,7 +108,7 @@ pub(crate) fn join(
 {
     match first.answer {
         Last::Truth(a) => match second.answer {
-            Last::Truth(b) => Ok(Decided::truth(connect(op, *a, *b))),
+            Last::Truth(b) => Ok(Decided::truth(op.connect(*a, *b))),
             Last::Auto(_) => join_tables(alloc, system, op, columns, first, second, options),
         },
         Last::Auto(_) => join_tables(alloc, system, op, columns, first, second, options),

@@ -1,8 +1,8 @@
 //! Decides one part from the answers to its operands.
 ghost use Rattle.std.specs.Prelude.{◌≡◌, None, IfOk};
 ghost use Rattle.fort_theory.specs.Patterns.{PatternSystem};
-ghost use Rattle.fort_logic.specs.Cores as theory;
-ghost use Rattle.fort_products.specs.Operands.{connective_of};
+ghost use Rattle.fort_cores.specs.Cores as theory;
+ghost use Rattle.fort_connectives.specs.ConnectiveView.{connective_of};
 ghost use Rattle.fort_outline.specs.Outlines.{parts_in, core_at};
 ghost use Rattle.fort_engine.specs.declared.options.Options as asked;
 ghost use Rattle.fort_engine.specs.AnswerView.{as_answer};
@@ -12,16 +12,17 @@ ghost use Rattle.fort_engine.specs.Deciding.{IsNextPart, IsOfTwo, IsDecision};
 ghost use Rattle.fort_engine.specs.Found.{IsTurnedOf, IsDecidedBy, IsFound};
 
 use crate::answer::{Decided, Last};
-use crate::atoms::{normal_form, related, this_term};
+use crate::atoms::decide_leaf;
 use crate::closures::Closures;
 use crate::counted::count;
 use crate::joined::join;
 use crate::operands::{kept_answer, kept_operand};
 use crate::options::Options;
 use crate::projected::project;
+use fort_connectives::Op;
 use fort_explore::ExploreFault;
 use fort_outline::{Outline, Root};
-use fort_rrn_algebra::{Op, negate};
+use fort_rrn_algebra::negate;
 use fort_terms::System;
 use std::alloc::Global;
 
@@ -85,16 +86,9 @@ pub(crate) fn decide_part(
 {
     match &outline.roots[k] {
         Root::True => Ok(Decided::truth(true)),
-        Root::Atom(rel, index, x, y) => {
-            let closure = closures.read_by(*rel, *index);
-            related(alloc, system, *rel, *index, *x, *y, closure, options)
-        }
-        Root::Nf(index, _) => normal_form(alloc, system, *index, options),
-        Root::Is(_, term) => this_term(alloc, system, term, options),
+        Root::Leaf(leaf) => decide_leaf(alloc, system, leaf, closures, options),
         Root::Not(f) => complement(alloc, kept_answer(kept, *f)),
-        Root::And(f, g) => join_parts(alloc, system, outline, k, Op::And, *f, *g, kept, options),
-        Root::Or(f, g) => join_parts(alloc, system, outline, k, Op::Or, *f, *g, kept, options),
-        Root::Iff(f, g) => join_parts(alloc, system, outline, k, Op::Iff, *f, *g, kept, options),
+        Root::Binary(op, f, g) => join_parts(alloc, system, outline, k, *op, *f, *g, kept, options),
         Root::Exists(n, f) => {
             let body = kept_operand(outline, kept, *f);
             project(alloc, system, *n, &body, options)

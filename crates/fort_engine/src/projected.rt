@@ -1,6 +1,6 @@
 //! Projections of answers.
 ghost use Rattle.std.specs.Prelude.{◌≡◌, ◌<◌, length};
-ghost use Rattle.fort_logic.specs.Cores as theory;
+ghost use Rattle.fort_cores.specs.Cores as theory;
 ghost use Rattle.fort_tables.specs.Tables.{listed_table};
 ghost use Rattle.fort_operations.specs.Projections.{some_below};
 ghost use Rattle.fort_parts.specs.PartAnswers.{OfTable};

@@ -1,8 +1,8 @@
 -- The answer of a negation: its body's, turned.
 use Rattle.std.proofs.Common.{◌≡◌, ℕ, true, false, nat_lt, List, length, get_or, Option, None, true≢false, refl, ap, sym, ◌∙◌, subst}
 use Rattle.fort_theory.specs.Patterns.{PatternSystem}
-use Rattle.fort_logic.specs.Cores as core
-use Rattle.fort_logic.specs.Cores.{Core}
+use Rattle.fort_cores.specs.Cores as core
+use Rattle.fort_cores.specs.Cores.{Core}
 use Rattle.fort_tables.specs.Tables.{listed_table}
 use Rattle.fort_parts.specs.PartAnswers.{OfValue}
 use Rattle.fort_parts.specs.RightAnswers.{IsRightFor}
@@ -33,12 +33,8 @@ module _ (system : PatternSystem) (cap : ℕ) (parts : List Core) (made : Made) 
   pub turned_answer : (f : Core) (answer : Last) → HasOperands system (recorded_with cap) parts kept f → AreOperandsMade parts made kept f → IsItsTurned parts kept f answer
       → is_turned f ≡ true → IsAnswerOf parts made f (as_answer answer)
   turned_answer core.True answer operands made_are its e = absurd (true≢false (sym e))
-  turned_answer (core.Atom rel index x y) answer operands made_are its e = absurd (true≢false (sym e))
-  turned_answer (core.Nf index x) answer operands made_are its e = absurd (true≢false (sym e))
-  turned_answer (core.Is x t) answer operands made_are its e = absurd (true≢false (sym e))
+  turned_answer (core.Leaf a) answer operands made_are its e = absurd (true≢false (sym e))
   turned_answer (core.Not g) answer operands made_are its e = turned_body g answer its.body operands made_are e its.kept_is its.turned
-  turned_answer (core.And f g) answer operands made_are its e = absurd (true≢false (sym e))
-  turned_answer (core.Or f g) answer operands made_are its e = absurd (true≢false (sym e))
-  turned_answer (core.Iff f g) answer operands made_are its e = absurd (true≢false (sym e))
+  turned_answer (core.Binary op f g) answer operands made_are its e = absurd (true≢false (sym e))
   turned_answer (core.Exists n f) answer operands made_are its e = absurd (true≢false (sym e))
   turned_answer (core.Infinite n f) answer operands made_are its e = absurd (true≢false (sym e))

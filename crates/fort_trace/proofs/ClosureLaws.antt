@@ -4,7 +4,7 @@ use Rattle.std.specs.declared.alloc.Global.{Global}
 use Rattle.std.specs.declared.vec.Vec.{Vec}
 use Rattle.std.proofs.lemmas.List.{map-append, take_more}
 use Rattle.fort_theory.specs.Patterns.{PatternSystem, IsSystem}
-use Rattle.fort_logic.specs.Cores.{Core}
+use Rattle.fort_cores.specs.Cores.{Core}
 use Rattle.fort_alike.specs.Atoms.{kind_for}
 use Rattle.fort_alike.specs.Alike.{is_reaching}
 use Rattle.fort_certificate_grammar.specs.Certificates as certificates

@@ -2,8 +2,8 @@
 use Rattle.std.proofs.Common.{◌≡◌, ℕ, List, map, Option, None, Some, refl, subst}
 use Rattle.std.specs.declared.alloc.Global.{Global}
 use Rattle.std.specs.declared.vec.Vec.{Vec}
-use Rattle.fort_logic.specs.Cores as core
-use Rattle.fort_logic.specs.Cores.{Core}
+use Rattle.fort_cores.specs.Cores as core
+use Rattle.fort_cores.specs.Cores.{Core}
 use Rattle.fort_tables.specs.Tables.{listed_table}
 use Rattle.fort_in_order.specs.Made.{Made}
 use Rattle.fort_engine.specs.declared.answer.Last.{Last}
@@ -24,13 +24,9 @@ module _ (parts : List Core) (made : Made) (kept : List (Option Last)) (k : ℕ)
 
   pub counts_added : (f : Core) → AreOperandsMade parts made kept f → AreItsCounts parts kept f own → CountsPushed k own old new → CountsAdded parts made k f old new
   counts_added core.True made_are its h = none_pushed its h
-  counts_added (core.Atom rel index x y) made_are its h = none_pushed its h
-  counts_added (core.Nf index x) made_are its h = none_pushed its h
-  counts_added (core.Is x t) made_are its h = none_pushed its h
+  counts_added (core.Leaf a) made_are its h = none_pushed its h
   counts_added (core.Not f) made_are its h = none_pushed its h
-  counts_added (core.And f g) made_are its h = none_pushed its h
-  counts_added (core.Or f g) made_are its h = none_pushed its h
-  counts_added (core.Iff f g) made_are its h = none_pushed its h
+  counts_added (core.Binary op f g) made_are its h = none_pushed its h
   counts_added (core.Exists n f) made_are its h = none_pushed its h
   counts_added (core.Infinite n g) made_are its h =
       let is = its.kept_is in

@@ -6,17 +6,17 @@ use Rattle.std.proofs.Math.Seq.{take-suc}
 use Rattle.std.proofs.lemmas.List.Elements.{Contains-get_or}
 use Rattle.fort_theory.specs.Signatures.{most_columns}
 use Rattle.fort_theory.specs.Patterns.{PatternSystem, IsSystem}
-use Rattle.fort_logic.specs.Cores as core
-use Rattle.fort_logic.specs.Cores.{Core}
-use Rattle.fort_logic.specs.Parts.{BindsFree, IsClosed}
-use Rattle.fort_logic.specs.PartLists.{AreParts}
-use Rattle.fort_logic.specs.PatternStructures.{pattern_structure}
+use Rattle.fort_cores.specs.Cores as core
+use Rattle.fort_cores.specs.Cores.{Core}
+use Rattle.fort_cores.specs.Parts.{BindsFree, IsClosed}
+use Rattle.fort_cores.specs.PartLists.{AreParts}
+use Rattle.fort_cores.specs.Structures.{pattern_structure}
 use Rattle.fort_tables.specs.Tables.{Listed, listed_table}
 use Rattle.fort_parts.specs.PartColumns.{columns_of}
 use Rattle.fort_parts.specs.PartAnswers.{Answer, OfTable, IsAnswerTo}
-use Rattle.fort_parts.specs.DecidedCores.{IsDecided, IsOperandOf}
+use Rattle.fort_parts.specs.DecidedCores.{IsDecided, IsOverSystem, IsOperandOf}
 use Rattle.fort_parts.specs.RightAnswers.{IsRightFor}
-use Rattle.fort_parts.proofs.PartFacts.{BindsFree-part, columns_of-few}
+use Rattle.fort_parts.proofs.PartFacts.{IsOverSystem-part, BindsFree-part, columns_of-few}
 use Rattle.fort_certificate_grammar.specs.Certificates as certificates
 use Rattle.fort_in_order.specs.Dues.{DueStep, has_columns, is_turned, closures_due, counts_due, answer_due, parts_due, dues}
 use Rattle.fort_in_order.specs.Made.{Made, nothing_made, IsPartAt, IsAnswerOf, OfStep, Turned}
@@ -72,13 +72,9 @@ module _ (system : PatternSystem) (root : Core) (parts : List Core) (are : ArePa
 
   counts_recorded : (f : Core) (old new : List Step) → get_or parts k core.True ≡ f → AreOperandsRight system parts made f → CountsAdded parts made k f old new → HasCountsDone system parts k made f old new
   counts_recorded core.True old new e operands h = no_counts core.True old new refl tt h
-  counts_recorded (core.Atom rel index x y) old new e operands h = no_counts (core.Atom rel index x y) old new refl tt h
-  counts_recorded (core.Nf index x) old new e operands h = no_counts (core.Nf index x) old new refl tt h
-  counts_recorded (core.Is x term) old new e operands h = no_counts (core.Is x term) old new refl tt h
+  counts_recorded (core.Leaf a) old new e operands h = no_counts (core.Leaf a) old new refl tt h
   counts_recorded (core.Not f) old new e operands h = no_counts (core.Not f) old new refl tt h
-  counts_recorded (core.And f g) old new e operands h = no_counts (core.And f g) old new refl tt h
-  counts_recorded (core.Or f g) old new e operands h = no_counts (core.Or f g) old new refl tt h
-  counts_recorded (core.Iff f g) old new e operands h = no_counts (core.Iff f g) old new refl tt h
+  counts_recorded (core.Binary op f g) old new e operands h = no_counts (core.Binary op f g) old new refl tt h
   counts_recorded (core.Exists n f) old new e operands h = no_counts (core.Exists n f) old new refl tt h
   counts_recorded (core.Infinite n f) old new e operands h =
       let r = operands f refl in
@@ -94,13 +90,9 @@ module _ (system : PatternSystem) (root : Core) (parts : List Core) (are : ArePa
 -- with columns a negation is turned
 turned_negation : (f : Core) → has_columns f ≡ true → is_turned f ≡ is_negation f
 turned_negation core.True h = refl
-turned_negation (core.Atom rel index x y) h = refl
-turned_negation (core.Nf index x) h = refl
-turned_negation (core.Is x term) h = refl
+turned_negation (core.Leaf a) h = refl
 turned_negation (core.Not f) h = h
-turned_negation (core.And f g) h = refl
-turned_negation (core.Or f g) h = refl
-turned_negation (core.Iff f g) h = refl
+turned_negation (core.Binary op f g) h = refl
 turned_negation (core.Exists n f) h = refl
 turned_negation (core.Infinite n f) h = refl
 
@@ -124,6 +116,9 @@ module _ (system : PatternSystem) (is : IsSystem system) (root : Core) (decided 
 
   few : length (columns_of own) ≤ most_columns
   few = columns_of-few root own decided.well_formed ((are.same own).1 (Contains-get_or parts k core.True within))
+
+  over : IsOverSystem system own
+  over = IsOverSystem-part system root own decided.over ((are.same own).1 (Contains-get_or parts k core.True within))
 
   answer_recorded : (made : Made) (answer : Last) (old new : List Step) → HasClosures system parts (1 + length system.rules) made → AreOperandsRight system parts made own → AreCountsRight system parts made k own
       → IsRightFor system own (as_answer answer) → (is_turned own ≡ true → IsAnswerOf parts made own (as_answer answer)) → AnswerAdded k own answer old new → HasAnswerDone system parts k made answer old new
@@ -151,7 +146,7 @@ module _ (system : PatternSystem) (is : IsSystem system) (root : Core) (decided 
         | inr other ↦
             let t = h.targets other in
             let asked = asked_closures system root parts are is decided k made within closures in
-            let labels = labels_of system is parts made k own some (same ∙ other) few binds asked operands counts in
+            let labels = labels_of system is parts made k own some (same ∙ other) few binds over asked operands counts in
             record {
               added = certificates.Part k table.targets ∷ [];
               last = _;

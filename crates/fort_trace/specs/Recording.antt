@@ -4,9 +4,9 @@ use Rattle.std.specs.declared.alloc.Global.{Global}
 use Rattle.std.specs.declared.vec.Vec.{Vec}
 use Rattle.std.proofs.Common.{sym, ◌∙◌, arith}
 use Rattle.fort_theory.specs.Patterns.{PatternSystem}
-use Rattle.fort_logic.specs.Cores as core
-use Rattle.fort_logic.specs.Cores.{Core}
-use Rattle.fort_logic.specs.PatternStructures.{pattern_structure}
+use Rattle.fort_cores.specs.Cores as core
+use Rattle.fort_cores.specs.Cores.{Core}
+use Rattle.fort_cores.specs.Structures.{pattern_structure}
 use Rattle.fort_tables.specs.Tables.{Table, Listed, IsListed}
 use Rattle.fort_counts.specs.Counts as counts
 use Rattle.fort_parts.specs.PartAnswers.{OfTable, IsAnswerTo}

@@ -1,6 +1,6 @@
 //! The answers of parts, as steps.
 ghost use Rattle.std.specs.Prelude.{◌≡◌, List, OnOk};
-ghost use Rattle.fort_logic.specs.Cores as theory;
+ghost use Rattle.fort_cores.specs.Cores as theory;
 ghost use Rattle.fort_outline.specs.Roots.{root_core};
 ghost use Rattle.fort_engine.specs.Found as found;
 ghost use Rattle.fort_engine.specs.Found.{AreItsTargets};

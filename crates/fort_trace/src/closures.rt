@@ -1,6 +1,6 @@
 //! The closures that the parts of a formula ask for, as steps.
 ghost use Rattle.std.specs.Prelude.{List, length, OnOk};
-ghost use Rattle.fort_logic.specs.Cores as theory;
+ghost use Rattle.fort_cores.specs.Cores as theory;
 ghost use Rattle.fort_in_order.specs.Dues.{closures_due};
 ghost use Rattle.fort_in_order.specs.Made.{Made};
 ghost use Rattle.fort_engine.specs.Closures.{AreClosures};

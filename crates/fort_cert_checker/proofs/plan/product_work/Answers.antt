@@ -1,8 +1,8 @@
 use Rattle.std.proofs.Common.{sym, subst}
 use Rattle.std.specs.Prelude.{Contains}
-use Rattle.fort_logic.specs.Cores.{Core}
+use Rattle.fort_cores.specs.Cores.{Core}
 use Rattle.fort_parts.specs.PartColumns.{columns_of}
-use Rattle.fort_products.specs.Operands.{connective_of}
+use Rattle.fort_connectives.specs.ConnectiveView.{connective_of}
 use Rattle.fort_outline.specs.Outlines.{core_at}
 use Rattle.fort_cert_checker.proofs.JoinFits.{joined_first, joined_second}
 use Rattle.fort_cert_checker.proofs.plan.product_work.Goals as goal

@@ -1,7 +1,7 @@
 use Rattle.std.proofs.Common.{map, sym, subst, refl}
 use Rattle.std.proofs.lemmas.Result.{IfOk-weaker}
-use Rattle.fort_logic.specs.Cores.{Atom}
-use Rattle.fort_formulas.specs.CoreView.{as_rel}
+use Rattle.fort_cores.specs.Cores.{Leaf, Related}
+use Rattle.fort_relations.specs.RelView.{as_rel}
 use Rattle.fort_steps.specs.StepView.{as_step}
 use Rattle.fort_cert_checker.specs.Plans.{IsAtomPlan}
 use Rattle.fort_cert_checker.proofs.plan.relation_labels.Goals as goal
@@ -10,7 +10,7 @@ pub returns : goal.returns
 returns c =
     let rel = as_rel c.args.rel in
     IfOk-weaker c.by_pairs.result _ _ (λ labels made.
-    subst (IsAtomPlan c.args.system.now (map as_step c.args.steps.now) (Atom rel c.args.index c.args.x c.args.y)) (sym made.1) (record {
+    subst (IsAtomPlan c.args.system.now (map as_step c.args.steps.now) (Leaf (Related rel c.args.index c.args.x c.args.y))) (sym made.1) (record {
       rel = rel;
       index = c.args.index;
       first = c.args.x;

@@ -1,7 +1,7 @@
 use Rattle.std.proofs.Common.{map, sym, ap, ◌∙◌, subst, arith}
 use Rattle.std.proofs.lemmas.Result.{IfOk-weaker}
-use Rattle.fort_logic.specs.Cores.{Core}
-use Rattle.fort_logic.specs.Parts.{BindsFree}
+use Rattle.fort_cores.specs.Cores.{Core}
+use Rattle.fort_cores.specs.Parts.{BindsFree}
 use Rattle.fort_parts.specs.DecidedCores.{IsOverSystem}
 use Rattle.fort_parts.proofs.PartColumnLaws.{column-from_free}
 use Rattle.fort_outline.specs.Outlines.{core_at}
@@ -16,37 +16,13 @@ index-requires c = omega (arith, c.requires.within, c.args.outline.now.roots.ok.
 pub returns-in-True : goal.returns-in-True
 returns-in-True c = part_is c.args.outline.now.roots.items c.requires.outline.1.in_order c.args.k c.index.result.now _ c.requires.within c.index.ensures c.in-True.is
 
-pub relation_labels-requires : goal.relation_labels-requires
-relation_labels-requires c =
-    let part = part_is c.args.outline.now.roots.items c.requires.outline.1.in_order c.args.k c.index.result.now _ c.requires.within c.index.ensures c.in-Atom.is in
-    subst (λ (f : Core). IsOverSystem c.args.system.now f) part c.requires.fit.over
+pub atom_labels-requires : goal.atom_labels-requires
+atom_labels-requires c = subst (λ (f : Core). IsOverSystem c.args.system.now f) (part_is c.args.outline.now.roots.items c.requires.outline.1.in_order c.args.k c.index.result.now _ c.requires.within c.index.ensures c.in-Leaf.is) c.requires.fit.over
 
-pub returns-in_ok-labels-in-Atom : goal.returns-in_ok-labels-in-Atom
-returns-in_ok-labels-in-Atom c =
-    let part = part_is c.args.outline.now.roots.items c.requires.outline.1.in_order c.args.k c.index.result.now _ c.requires.within c.index.ensures c.in-Atom.is in
-    subst (λ (f : Core). IsAtomPlan c.args.system.now (map as_step c.args.steps.now) f c.in_ok-labels-in-Atom.labels) (sym part) c.in_ok-labels-in-Atom.ensures
-
-pub nf-requires : goal.nf-requires
-nf-requires c =
-    let part = part_is c.args.outline.now.roots.items c.requires.outline.1.in_order c.args.k c.index.result.now _ c.requires.within c.index.ensures c.in-Nf.is in
-    subst (λ (f : Core). IsOverSystem c.args.system.now f) part c.requires.fit.over
-
-pub returns-in_ok-nf-in-Nf : goal.returns-in_ok-nf-in-Nf
-returns-in_ok-nf-in-Nf c =
-    let made = c.in_ok-nf-in-Nf.ensures.plain in
-    subst (IsAtomPlan c.args.system.now (map as_step c.args.steps.now) (core_at c.args.outline.now c.args.k)) (sym made.1) (record {
-      index = c.in-Nf.index;
-      number = c.in-Nf.field-1;
-      whole = part_is c.args.outline.now.roots.items c.requires.outline.1.in_order c.args.k c.index.result.now _ c.requires.within c.index.ensures c.in-Nf.is;
-      labels = made.2;
-    })
-
-pub returns-in_ok-is-in-Is : goal.returns-in_ok-is-in-Is
-returns-in_ok-is-in-Is c =
-    subst (IsAtomPlan c.args.system.now (map as_step c.args.steps.now) (core_at c.args.outline.now c.args.k)) (sym c.in_ok-is-in-Is.ensures.term) (record {
-      number = c.in-Is.field-0;
-      whole = part_is c.args.outline.now.roots.items c.requires.outline.1.in_order c.args.k c.index.result.now _ c.requires.within c.index.ensures c.in-Is.is;
-    })
+pub returns-in_ok-atom_labels-in-Leaf : goal.returns-in_ok-atom_labels-in-Leaf
+returns-in_ok-atom_labels-in-Leaf c =
+    subst (λ (f : Core). IsAtomPlan c.args.system.now (map as_step c.args.steps.now) f c.in_ok-atom_labels-in-Leaf.field-0)
+    (sym (part_is c.args.outline.now.roots.items c.requires.outline.1.in_order c.args.k c.index.result.now _ c.requires.within c.index.ensures c.in-Leaf.is)) c.in_ok-atom_labels-in-Leaf.ensures
 
 pub source_of-requires-clause-within : goal.source_of-requires-clause-within
 source_of-requires-clause-within c =
@@ -62,51 +38,19 @@ returns-in-Not c = record {
 
 pub product_work-requires-clause-first : goal.product_work-requires-clause-first
 product_work-requires-clause-first c =
-    let before = over_is c.args.outline.now.roots.items c.requires.outline.1.in_order c.args.k c.index.result.now _ c.requires.within c.index.ensures c.in-And.is in
+    let before = over_is c.args.outline.now.roots.items c.requires.outline.1.in_order c.args.k c.index.result.now _ c.requires.within c.index.ensures c.in-Binary.is in
     omega (arith, before.0, c.requires.within)
 
 pub product_work-requires-clause-second : goal.product_work-requires-clause-second
 product_work-requires-clause-second c =
-    let before = over_is c.args.outline.now.roots.items c.requires.outline.1.in_order c.args.k c.index.result.now _ c.requires.within c.index.ensures c.in-And.is in
+    let before = over_is c.args.outline.now.roots.items c.requires.outline.1.in_order c.args.k c.index.result.now _ c.requires.within c.index.ensures c.in-Binary.is in
     omega (arith, before.1, c.requires.within)
 
 pub product_work-requires-clause-whole : goal.product_work-requires-clause-whole
-product_work-requires-clause-whole c = part_is c.args.outline.now.roots.items c.requires.outline.1.in_order c.args.k c.index.result.now _ c.requires.within c.index.ensures c.in-And.is
+product_work-requires-clause-whole c = part_is c.args.outline.now.roots.items c.requires.outline.1.in_order c.args.k c.index.result.now _ c.requires.within c.index.ensures c.in-Binary.is
 
-pub returns-in-And : goal.returns-in-And
-returns-in-And c = IfOk-weaker c.product_work.result _ _ (λ w made. made c.args.system.now (map as_step c.args.steps.now) c.args.k) c.product_work.ensures
-
-pub product_work-requires-in-Or-clause-first : goal.product_work-requires-in-Or-clause-first
-product_work-requires-in-Or-clause-first c =
-    let before = over_is c.args.outline.now.roots.items c.requires.outline.1.in_order c.args.k c.index.result.now _ c.requires.within c.index.ensures c.in-Or.is in
-    omega (arith, before.0, c.requires.within)
-
-pub product_work-requires-in-Or-clause-second : goal.product_work-requires-in-Or-clause-second
-product_work-requires-in-Or-clause-second c =
-    let before = over_is c.args.outline.now.roots.items c.requires.outline.1.in_order c.args.k c.index.result.now _ c.requires.within c.index.ensures c.in-Or.is in
-    omega (arith, before.1, c.requires.within)
-
-pub product_work-requires-in-Or-clause-whole : goal.product_work-requires-in-Or-clause-whole
-product_work-requires-in-Or-clause-whole c = part_is c.args.outline.now.roots.items c.requires.outline.1.in_order c.args.k c.index.result.now _ c.requires.within c.index.ensures c.in-Or.is
-
-pub returns-in-Or : goal.returns-in-Or
-returns-in-Or c = IfOk-weaker c.product_work-in-Or.result _ _ (λ w made. made c.args.system.now (map as_step c.args.steps.now) c.args.k) c.product_work-in-Or.ensures
-
-pub product_work-requires-in-Iff-clause-first : goal.product_work-requires-in-Iff-clause-first
-product_work-requires-in-Iff-clause-first c =
-    let before = over_is c.args.outline.now.roots.items c.requires.outline.1.in_order c.args.k c.index.result.now _ c.requires.within c.index.ensures c.in-Iff.is in
-    omega (arith, before.0, c.requires.within)
-
-pub product_work-requires-in-Iff-clause-second : goal.product_work-requires-in-Iff-clause-second
-product_work-requires-in-Iff-clause-second c =
-    let before = over_is c.args.outline.now.roots.items c.requires.outline.1.in_order c.args.k c.index.result.now _ c.requires.within c.index.ensures c.in-Iff.is in
-    omega (arith, before.1, c.requires.within)
-
-pub product_work-requires-in-Iff-clause-whole : goal.product_work-requires-in-Iff-clause-whole
-product_work-requires-in-Iff-clause-whole c = part_is c.args.outline.now.roots.items c.requires.outline.1.in_order c.args.k c.index.result.now _ c.requires.within c.index.ensures c.in-Iff.is
-
-pub returns-in-Iff : goal.returns-in-Iff
-returns-in-Iff c = IfOk-weaker c.product_work-in-Iff.result _ _ (λ w made. made c.args.system.now (map as_step c.args.steps.now) c.args.k) c.product_work-in-Iff.ensures
+pub returns-in-Binary : goal.returns-in-Binary
+returns-in-Binary c = IfOk-weaker c.product_work.result _ _ (λ w made. made c.args.system.now (map as_step c.args.steps.now) c.args.k) c.product_work.ensures
 
 pub bound_column-column-requires-clause-within : goal.bound_column-column-requires-clause-within
 bound_column-column-requires-clause-within c =

@@ -1,8 +1,9 @@
 use Rattle.std.proofs.Common.{◌≡◌, ℕ, IfSome, sym, ap, ◌∙◌, subst}
 use Rattle.fort_operations.specs.Products.{Operand, AreOperands, signature_of, product_rule, product_accepts}
 use Rattle.fort_parts.specs.PartSteps as parts
-use Rattle.fort_products.specs.declared.operand.Op.{Op}
-use Rattle.fort_products.specs.Operands.{operand_of, connective_of}
+use Rattle.fort_connectives.specs.declared.connective.Op.{Op}
+use Rattle.fort_connectives.specs.ConnectiveView.{connective_of}
+use Rattle.fort_products.specs.Operands.{operand_of}
 use Rattle.fort_check_steps.specs.Turned.{turned_table}
 use Rattle.fort_cert_checker.specs.Pasts.{steps_of, IsPartStep}
 use Rattle.fort_cert_checker.specs.OperandLists.{IsLaidListOf}

@@ -1,5 +1,5 @@
 use Rattle.std.proofs.Common.{List, set, map, get_or, sym, ap, ◌∙◌, subst, arith, ◌+◌, refl}
-use Rattle.fort_logic.specs.Cores as core
+use Rattle.fort_cores.specs.Cores as core
 use Rattle.fort_certificate_grammar.specs.Certificates as certificates
 use Rattle.fort_certificate_grammar.specs.Certificates.{Step}
 use Rattle.fort_in_order.specs.Made.{Made}

@@ -1,5 +1,5 @@
 use Rattle.std.proofs.Common.{◌≡◌, ◌<◌, map, subst, sym, ap, ◌∙◌, arith, refl}
-use Rattle.fort_logic.specs.Cores as core
+use Rattle.fort_cores.specs.Cores as core
 use Rattle.fort_tables.specs.Tables.{listed_table}
 use Rattle.fort_counts.specs.Counts.{count_at}
 use Rattle.fort_counts.proofs.TellsLaws.{TellsMany-marks}

@@ -1,4 +1,4 @@
-use Rattle.fort_products.specs.Operands.{connective_of}
+use Rattle.fort_connectives.specs.ConnectiveView.{connective_of}
 use Rattle.fort_engine.proofs.JoinLaws.{IsDecision-truths, some_of_first, some_of_second}
 use Rattle.fort_engine.proofs.joined.join.Goals as goal
 

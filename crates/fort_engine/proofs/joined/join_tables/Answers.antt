@@ -1,5 +1,5 @@
 use Rattle.std.proofs.Common.{◌≡◌, refl, sym, ◌∙◌, length}
-use Rattle.fort_products.specs.Operands.{connective_of}
+use Rattle.fort_connectives.specs.ConnectiveView.{connective_of}
 use Rattle.fort_engine.specs.AnswerView.{as_answer}
 use Rattle.fort_engine.proofs.JoinLaws.{first_among, second_among, IsJoining-places}
 use Rattle.fort_engine.proofs.joined.join_tables.Goals as goal

@@ -1,7 +1,7 @@
 use Rattle.std.proofs.Common.{sym, ap, ◌∙◌}
 use Rattle.fort_tables.specs.Tables.{listed_table}
 use Rattle.fort_products.specs.Operands as algebra
-use Rattle.fort_products.specs.Operands.{connective_of}
+use Rattle.fort_connectives.specs.ConnectiveView.{connective_of}
 use Rattle.fort_engine.specs.AnswerView.{as_answer}
 use Rattle.fort_engine.proofs.JoinLaws.{AreOperands-product, signature-product, AreLabelsFor-product}
 use Rattle.fort_engine.proofs.joined.product_table.Goals as goal

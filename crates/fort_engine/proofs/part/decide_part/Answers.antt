@@ -1,8 +1,8 @@
 use Rattle.std.proofs.Common.{Ok, refl, subst, get_or, arith}
 use Rattle.std.specs.Prelude.{Contains}
 use Rattle.std.proofs.lemmas.List.Elements.{Contains-get_or}
-use Rattle.fort_logic.specs.Cores as core
-use Rattle.fort_logic.specs.Parts.{BindsFree}
+use Rattle.fort_cores.specs.Cores as core
+use Rattle.fort_cores.specs.Parts.{BindsFree}
 use Rattle.fort_parts.specs.DecidedCores.{IsOverSystem}
 use Rattle.fort_outline.specs.Outlines.{parts_in}
 use Rattle.fort_outline.proofs.RootLaws.{length-cores_of}
@@ -16,31 +16,21 @@ returns-in-True c =
     plain_found (has_root c.requires.next c.index.ensures c.in-True.is) tt (Ok c.truth.result)
     (IsDecision-True c.args.system.now c.args.options.now core.True c.truth.result refl c.truth.ensures.answer c.truth.ensures.counts)
 
-pub related-requires-clause-index : goal.related-requires-clause-index
-related-requires-clause-index c = subst (IsOverSystem c.args.system.now) (next_is (has_root c.requires.next c.index.ensures c.in-Atom.is)) c.requires.next.fit.over
+pub decide_leaf-requires-clause-over : goal.decide_leaf-requires-clause-over
+decide_leaf-requires-clause-over c = subst (IsOverSystem c.args.system.now) (next_is (has_root c.requires.next c.index.ensures c.in-Leaf.is)) c.requires.next.fit.over
 
-pub related-requires-clause-passes : goal.related-requires-clause-passes
-related-requires-clause-passes c =
+pub decide_leaf-requires-clause-closures : goal.decide_leaf-requires-clause-closures
+decide_leaf-requires-clause-closures c =
     let a = c.args in
     let parts = parts_in a.outline.now in
-    let root = next_is (has_root c.requires.next c.index.ensures c.in-Atom.is) in
-    c.read_by-closure.ensures.passes a.system.now parts c.in-Atom.x c.in-Atom.y c.requires.closures (subst (IsOverSystem a.system.now) root c.requires.next.fit.over)
-    (subst (Contains parts) root (Contains-get_or parts a.k core.True (omega (arith, c.requires.next.within, length-cores_of a.outline.now.roots.items))))
+    let root = next_is (has_root c.requires.next c.index.ensures c.in-Leaf.is) in (
+      parts,
+      subst (Contains parts) root (Contains-get_or parts a.k core.True (omega (arith, c.requires.next.within, length-cores_of a.outline.now.roots.items))),
+      c.requires.closures,
+    )
 
-pub normal_form-requires : goal.normal_form-requires
-normal_form-requires c = subst (IsOverSystem c.args.system.now) (next_is (has_root c.requires.next c.index.ensures c.in-Nf.is)) c.requires.next.fit.over
-
-pub returns-in-Atom : goal.returns-in-Atom
-returns-in-Atom c =
-    plain_found (has_root c.requires.next c.index.ensures c.in-Atom.is) tt c.related.result c.related.ensures
-
-pub returns-in-Nf : goal.returns-in-Nf
-returns-in-Nf c =
-    plain_found (has_root c.requires.next c.index.ensures c.in-Nf.is) tt c.normal_form.result (c.normal_form.ensures c.in-Nf.field-1)
-
-pub returns-in-Is : goal.returns-in-Is
-returns-in-Is c =
-    plain_found (has_root c.requires.next c.index.ensures c.in-Is.is) tt c.this_term.result (c.this_term.ensures c.in-Is.field-0)
+pub returns-in-Leaf : goal.returns-in-Leaf
+returns-in-Leaf c = plain_found (has_root c.requires.next c.index.ensures c.in-Leaf.is) tt c.decide_leaf.result c.decide_leaf.ensures
 
 pub kept_answer-requires-clause-within : goal.kept_answer-requires-clause-within
 kept_answer-requires-clause-within c = let h = has_root c.requires.next c.index.ensures c.in-Not.is in kept_below (operand_of_root c.in-Not.f h (next_over h) refl)
@@ -67,13 +57,7 @@ pub kept_operand-body-requires-in-Infinite-clause-listed : goal.kept_operand-bod
 kept_operand-body-requires-in-Infinite-clause-listed c = let h = has_root c.requires.next c.index.ensures c.in-Infinite.is in columns_below (operand_of_root c.in-Infinite.f h (next_over h) refl)
 
 pub join_parts-requires-clause-two : goal.join_parts-requires-clause-two
-join_parts-requires-clause-two c = let h = has_root c.requires.next c.index.ensures c.in-And.is in let over = next_over h in record { first = over.0; second = over.1; is = next_is h }
-
-pub join_parts-requires-in-Or-clause-two : goal.join_parts-requires-in-Or-clause-two
-join_parts-requires-in-Or-clause-two c = let h = has_root c.requires.next c.index.ensures c.in-Or.is in let over = next_over h in record { first = over.0; second = over.1; is = next_is h }
-
-pub join_parts-requires-in-Iff-clause-two : goal.join_parts-requires-in-Iff-clause-two
-join_parts-requires-in-Iff-clause-two c = let h = has_root c.requires.next c.index.ensures c.in-Iff.is in let over = next_over h in record { first = over.0; second = over.1; is = next_is h }
+join_parts-requires-clause-two c = let h = has_root c.requires.next c.index.ensures c.in-Binary.is in let over = next_over h in record { first = over.0; second = over.1; is = next_is h }
 
 pub returns-in-Not : goal.returns-in-Not
 returns-in-Not c =
@@ -84,20 +68,10 @@ returns-in-Not c =
     (c.complement.ensures.decided a.system.now a.options.now (get_or (parts_in a.outline.now) c.in-Not.f core.True) (operand_taken o c.kept_answer.ensures) (operand_told o))
     c.complement.ensures.turned c.complement.ensures.plain
 
-pub returns-in-And : goal.returns-in-And
-returns-in-And c =
-    let h = has_root c.requires.next c.index.ensures c.in-And.is in
+pub returns-in-Binary : goal.returns-in-Binary
+returns-in-Binary c =
+    let h = has_root c.requires.next c.index.ensures c.in-Binary.is in
     plain_found h tt c.join_parts.result (subst (λ z. IsDecision c.args.system.now c.args.options.now z c.join_parts.result) (next_is h) c.join_parts.ensures)
-
-pub returns-in-Or : goal.returns-in-Or
-returns-in-Or c =
-    let h = has_root c.requires.next c.index.ensures c.in-Or.is in
-    plain_found h tt c.join_parts-in-Or.result (subst (λ z. IsDecision c.args.system.now c.args.options.now z c.join_parts-in-Or.result) (next_is h) c.join_parts-in-Or.ensures)
-
-pub returns-in-Iff : goal.returns-in-Iff
-returns-in-Iff c =
-    let h = has_root c.requires.next c.index.ensures c.in-Iff.is in
-    plain_found h tt c.join_parts-in-Iff.result (subst (λ z. IsDecision c.args.system.now c.args.options.now z c.join_parts-in-Iff.result) (next_is h) c.join_parts-in-Iff.ensures)
 
 pub project-requires : goal.project-requires
 project-requires c =

@@ -1,5 +1,5 @@
 use Rattle.std.proofs.Common.{List, map, take}
-use Rattle.fort_logic.specs.Cores.{Core}
+use Rattle.fort_cores.specs.Cores.{Core}
 use Rattle.fort_in_order.specs.Made.{Made}
 use Rattle.fort_engine.specs.Closures.{due_of, AreClosures}
 use Rattle.fort_trace.specs.Recording.{AddsSteps}

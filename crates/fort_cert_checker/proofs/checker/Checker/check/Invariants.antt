@@ -1,6 +1,6 @@
 use Rattle.std.proofs.Common.{◌≡◌, ℕ}
 use Rattle.fort_theory.specs.Patterns.{PatternSystem}
-use Rattle.fort_logic.specs.Cores.{Core}
+use Rattle.fort_cores.specs.Cores.{Core}
 use Rattle.fort_certificate_grammar.specs.Certificates.{Certificate}
 use Rattle.fort_in_order.specs.Made.{Made}
 use Rattle.fort_cert_checker.specs.Checkers.{IsCheckerOf, IsCheckAt}
