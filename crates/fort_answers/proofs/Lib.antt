@@ -1,8 +1,6 @@
 pub mod OneVerdict
 pub mod OneRefusal
 pub mod OneRequest
-pub mod LongerTexts
-pub mod CertificateAccepted
 pub mod OneFit
 pub mod OneCap
 pub mod MadeLaws

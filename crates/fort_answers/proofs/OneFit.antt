@@ -9,14 +9,17 @@ use Rattle.fort_theory.specs.Sides.{System}
 use Rattle.fort_logic.specs.Formulas.{Formula}
 use Rattle.fort_logic.specs.Mentions.{indices}
 use Rattle.fort_logic.proofs.MentionLaws.{IsFirstAbove-unique, IsFirstAbove-not_within}
+use Rattle.fort_termination.specs.RightGround.{IsRightGroundAt}
+use Rattle.fort_logic.specs.Terminations.{terminations}
+use Rattle.fort_logic.proofs.TerminationMentions.{IsFirstWithout-unique, IsFirstWithout-not_all}
 use Rattle.fort_grammar.specs.GroundForms.{IsGroundText}
 use Rattle.fort_grammar.proofs.GroundTexts.{IsGroundText-unique, IsGroundText-ground}
-use Rattle.fort_formula_grammar.specs.FormulaText.{Ground}
+use Rattle.fort_formula_grammar.specs.FormulaText.{Ground, AreGroundsOf}
 use Rattle.fort_formula_grammar.proofs.OneFormula.{AreGroundsOf-unique}
 use Rattle.fort_answers.specs.Requests.{Text}
-use Rattle.fort_answers.specs.Lines.{formula_index, formula_term}
+use Rattle.fort_answers.specs.Lines.{formula_index, formula_term, formula_sn}
 use Rattle.fort_answers.specs.InputAnswer.{IsInput}
-use Rattle.fort_answers.specs.FitAnswer.{AreTermsOf, IsFirstWithoutTerm, FitsSystem, IsUnfit, NoIndex, NoTerm}
+use Rattle.fort_answers.specs.FitAnswer.{AreTermsOf, IsFirstWithoutTerm, FitsSystem, IsUnfit, NoIndex, NoTerm, NotRightGround}
 
 -- one by one these texts are one list of terms
 AreTermsOf-unique : (signature : Signature) (gs : List Ground) (ts us : List Tree) → IsDistinct bytes_eq (names_of signature) → AreTermsOf signature gs ts
@@ -65,6 +68,13 @@ IsFirstWithoutTerm-unique signature gs g g' x y =
     same_unread signature x.front y.front x.back y.back g g' x.terms y.terms (sym x.split ∙ y.split) x.read y.read x.no_term y.no_term
 
 module _ (text : Text) (f : Formula) (system : System) where
+  -- all are ground terms, and one is none
+  term_there : (gs hs : List Ground) (g : Ground) (terms : List Tree) → AreGroundsOf text gs → AreTermsOf system.signature gs terms
+      → AreGroundsOf text hs → IsFirstWithoutTerm system.signature hs g → ⊥
+  term_there gs hs g terms are read are' first =
+      let same = AreGroundsOf-unique text gs hs are are' ∙ first.split in
+      all_read system.signature first.front first.back g terms (subst (λ xs. AreTermsOf system.signature xs terms) same read) first.no_term
+
   pub IsUnfit-unique : (line line' : Text) → IsUnfit text f system line → IsUnfit text f system line' → line ≡ line'
   IsUnfit-unique line line' (NoIndex i first e) (NoIndex j first' e') = e ∙ (ap formula_index (IsFirstAbove-unique _ (indices f) i j first first') ∙ sym e')
   IsUnfit-unique line line' (NoIndex i first e) (NoTerm within gs are g no_term e') = absurd (IsFirstAbove-not_within _ (indices f) i first within)
@@ -72,12 +82,23 @@ module _ (text : Text) (f : Formula) (system : System) where
   IsUnfit-unique line line' (NoTerm within gs are g no_term e) (NoTerm within' hs are' h no_term' e') =
       let there = subst (λ xs. IsFirstWithoutTerm system.signature xs h) (AreGroundsOf-unique text hs gs are' are) no_term' in
       e ∙ (ap (λ (x : Ground). formula_term x.at) (IsFirstWithoutTerm-unique system.signature gs g h no_term there) ∙ sym e')
+  IsUnfit-unique line line' (NoIndex i first e) (NotRightGround within gs are ts read j not_right e') =
+      absurd (IsFirstAbove-not_within _ (indices f) i first within)
+  IsUnfit-unique line line' (NotRightGround within gs are ts read j not_right e) (NoIndex i first e') =
+      absurd (IsFirstAbove-not_within _ (indices f) i first within)
+  IsUnfit-unique line line' (NoTerm within gs are g no_term e) (NotRightGround within' hs are' ts read j not_right e') =
+      absurd (term_there hs gs g ts are' read are no_term)
+  IsUnfit-unique line line' (NotRightGround within hs are ts read j not_right e) (NoTerm within' gs are' g no_term e') =
+      absurd (term_there hs gs g ts are read are' no_term)
+  IsUnfit-unique line line' (NotRightGround within gs are ts read i not_right e) (NotRightGround within' hs are' us read' j not_right' e') =
+      e ∙ (ap formula_sn (IsFirstWithout-unique (IsRightGroundAt system) (terminations f) i j not_right not_right') ∙ sym e')
 
   pub FitsSystem-not_unfit : (terms : List Tree) (line : Text) → FitsSystem text f system terms → IsUnfit text f system line → ⊥
   FitsSystem-not_unfit terms line fits (NoIndex i first e) = IsFirstAbove-not_within _ (indices f) i first fits.within
   FitsSystem-not_unfit terms line fits (NoTerm within gs are g no_term e) =
-      let same = AreGroundsOf-unique text fits.grounds gs fits.are_grounds are ∙ no_term.split in
-      all_read system.signature no_term.front no_term.back g terms (subst (λ xs. AreTermsOf system.signature xs terms) same fits.are_terms) no_term.no_term
+      term_there fits.grounds gs g terms fits.are_grounds fits.are_terms are no_term
+  FitsSystem-not_unfit terms line fits (NotRightGround within gs are ts read i not_right e) =
+      IsFirstWithout-not_all (IsRightGroundAt system) (terminations f) i not_right fits.right_ground
 
   pub FitsSystem-one : (terms terms' : List Tree) → IsDistinct bytes_eq (names_of system.signature) → FitsSystem text f system terms
       → FitsSystem text f system terms' → terms ≡ terms'

@@ -1,8 +1,8 @@
 -- To believe: the texts that the program prints, and the statuses with which it ends.
 use Rattle.std.specs.Prelude.{ℕ, List, [], ◌∷◌, ◌++◌, codes, decimal}
 use Rattle.fort_logic.specs.Formulas.{Name}
-use Rattle.fort_logic.specs.Kinds as kinds
-use Rattle.fort_logic.specs.Kinds.{Kind}
+use Rattle.fort_cores.specs.Kinds as kinds
+use Rattle.fort_cores.specs.Kinds.{Kind}
 use Rattle.fort_formula_grammar.specs.FormulaText as formula
 use Rattle.fort_formula_grammar.specs.FormulaText.{FormulaFault}
 use Rattle.fort_grammar.specs.Text.{TextFault, BadByte, ExtraClose, Unclosed, TooDeep}
@@ -45,6 +45,7 @@ kind_word kinds.Par = codes "par"
 kind_word kinds.Plus = codes "plus"
 kind_word kinds.Star = codes "star"
 kind_word kinds.Conv = codes "conv"
+kind_word kinds.Rex = codes "rex"
 kind_word kinds.Nf = codes "nf"
 kind_word kinds.Is = codes "is"
 kind_word kinds.Not = codes "not"
@@ -71,6 +72,10 @@ formula_fault_line (formula.Syntax i) = numbered (codes "REFUSED formula syntax 
 abbrev pub formula_too_wide : List ℕ
 formula_too_wide = line (codes "REFUSED formula too wide")
 
+-- the formula has an expression, which isn't decided yet
+abbrev pub formula_expression : List ℕ
+formula_expression = line (codes "REFUSED formula expression")
+
 -- the variable is free
 abbrev pub formula_open : Name → List ℕ
 formula_open x = line (codes "REFUSED formula open " ++ x)
@@ -82,6 +87,10 @@ formula_index i = numbered (codes "REFUSED formula index ") i
 -- what stands in braces at this offset of the formula's text is no ground term of the problem
 abbrev pub formula_term : ℕ → List ℕ
 formula_term i = numbered (codes "REFUSED formula term at ") i
+
+-- the formula says SN of rules of this index, one of which has a variable on its right side
+abbrev pub formula_sn : ℕ → List ℕ
+formula_sn i = numbered (codes "REFUSED formula sn ") i
 
 abbrev pub text_fault_line : TextFault → List ℕ
 text_fault_line (BadByte i) = numbered (codes "REFUSED text bad byte at ") i

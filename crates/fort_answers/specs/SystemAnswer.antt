@@ -4,10 +4,10 @@ use Rattle.fort_theory.specs.Trees.{Tree}
 use Rattle.fort_theory.specs.Sides.{System}
 use Rattle.fort_theory.specs.Patterns.{pattern_system}
 use Rattle.fort_logic.specs.Formulas.{Formula}
-use Rattle.fort_logic.specs.Cores as core
-use Rattle.fort_logic.specs.Cores.{Core}
-use Rattle.fort_logic.specs.Kinds.{Kind, kind_of}
-use Rattle.fort_logic.specs.PartLists.{AreParts}
+use Rattle.fort_cores.specs.Cores as core
+use Rattle.fort_cores.specs.Cores.{Core}
+use Rattle.fort_cores.specs.Kinds.{Kind, kind_of}
+use Rattle.fort_cores.specs.PartLists.{AreParts}
 use Rattle.fort_logic.specs.Translation.{core_of}
 use Rattle.fort_operations.specs.Agreement.{Agreement}
 use Rattle.fort_parts.specs.AlikeParts.{IsOverBy, IsFirstOverBy}

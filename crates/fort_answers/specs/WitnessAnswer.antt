@@ -5,7 +5,8 @@ use Rattle.fort_theory.specs.Signatures.{Signature}
 use Rattle.fort_theory.specs.Sides.{System}
 use Rattle.fort_logic.specs.Formulas.{Name, Formula, Var}
 use Rattle.fort_logic.specs.FreeNames.{free_names}
-use Rattle.fort_logic.specs.Truth.{Assignment, IsGroundAssignment, GivesTerms, Holds, structure_of, IsFalseOf}
+use Rattle.fort_cores.specs.Structures.{structure_of}
+use Rattle.fort_logic.specs.Truth.{Assignment, IsGroundAssignment, GivesTerms, Holds, IsFalseOf}
 use Rattle.fort_order.specs.TupleOrder.{NotAfter}
 use Rattle.fort_order.specs.TermText.{term_text}
 use Rattle.fort_answers.specs.Requests.{Text, Options}

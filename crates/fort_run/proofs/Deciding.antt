@@ -7,20 +7,21 @@ use Rattle.fort_theory.specs.Sides.{System, IsIndexOf}
 use Rattle.fort_theory.specs.Patterns.{PatternSystem, pattern_system, IsSystem}
 use Rattle.fort_logic.specs.Formulas.{Formula, Var, Name}
 use Rattle.fort_logic.specs.FreeNames.{free_names}
-use Rattle.fort_logic.specs.Cores.{Core}
-use Rattle.fort_logic.specs.CoreTruth.{Places, IsMetBy}
-use Rattle.fort_logic.specs.KeepsTruth.{AreTheirPlaces}
-use Rattle.fort_logic.specs.Parts.{IsWellFormed}
+use Rattle.fort_cores.specs.Cores.{Core}
+use Rattle.fort_cores.specs.CoreTruth.{Places, IsMetBy}
+use Rattle.fort_logic.specs.KeepsTruth.{AreTheirPlaces, SuitsTerminations}
+use Rattle.fort_termination.proofs.RightGroundTargets.{IsRightGroundAt-patterns}
+use Rattle.fort_cores.specs.Parts.{IsWellFormed}
 use Rattle.fort_logic.specs.Translation.{core_of}
-use Rattle.fort_logic.specs.Truth.{Assignment, IsGroundAssignment, structure_of, GivesTerms, Holds}
-use Rattle.fort_logic.specs.PatternStructures.{pattern_structure}
+use Rattle.fort_cores.specs.Structures.{structure_of, pattern_structure}
+use Rattle.fort_logic.specs.Truth.{Assignment, IsGroundAssignment, GivesTerms, Holds}
 use Rattle.fort_formulas.specs.KindView.{as_kind}
 use Rattle.fort_parts.specs.DecidedCores.{IsOverSystem, IsDecided}
 use Rattle.fort_parts.specs.PartColumns.{columns_of}
 use Rattle.fort_parts.specs.PartAnswers.{OfValue, OfTable, IsAnswerTo}
-use Rattle.fort_parts.proofs.NamedColumns.{columns_of-core_of}
-use Rattle.fort_parts.proofs.SameCoreRoots.{IsMetBy-by_patterns}
-use Rattle.fort_parts.proofs.TranslatedCores.{IsOverSystem-core_of}
+use Rattle.fort_run.proofs.NamedColumns.{columns_of-core_of}
+use Rattle.fort_cores.proofs.SameCoreRoots.{IsMetBy-by_patterns}
+use Rattle.fort_run.proofs.TranslatedCores.{IsOverSystem-core_of}
 use Rattle.fort_answers.specs.Lines.{positive, negative, yes_line, no_line}
 use Rattle.fort_answers.specs.SystemAnswer.{PassesCap}
 use Rattle.fort_answers.specs.DecideAnswer.{TruthVerdict, Yes, No}
@@ -48,7 +49,7 @@ decided_core f system terms core lawful ready well is =
     let first : IsIndexOf system.rules 1 = record { low = omega arith; high = lawful.some } in
     record {
       well_formed = well;
-      over = subst (IsOverSystem system) (sym is) (IsOverSystem-core_of system first terms ready.grounded f ready.within ready.has_terms);
+      over = subst (IsOverSystem system) (sym is) (IsOverSystem-core_of system first terms ready.grounded f ready.within ready.has_terms ready.plain);
     }
 
 -- ---- from the core formula to the formula
@@ -67,10 +68,11 @@ passes system terms f options limit is =
 module _ (p : System) (lawful : IsLawful p) (f : Formula) (terms : List Tree) (last : Last)
     (decided : IsDecidedBy f (pattern_system p) terms last) where
   -- the formula of names is true of the trees of which the core formula is
-  pub same_truth : (m : Assignment) (v : Places) → GivesTerms terms m → AreTheirPlaces f m v
+  pub same_truth : (m : Assignment) (v : Places) → IsGroundAssignment (structure_of p) m → GivesTerms terms m → AreTheirPlaces f m v
       → Holds (structure_of p) f m ↔ IsMetBy (pattern_structure (pattern_system p)) (core_of terms f) v
-  same_truth m v given places =
-      let one = decided.keeps p lawful.constant decided.ready.grounded m v given places in
+  same_truth m v ground given places =
+      let suits : SuitsTerminations p f m = λ index c. ((IsRightGroundAt-patterns p index).1 (decided.ready.right_ground index c), ground) in
+      let one = decided.keeps p lawful.constant decided.ready.grounded m v suits given places in
       let two = IsMetBy-by_patterns p lawful.constant lawful.separated (core_of terms f) v in
       ((λ h. two.0 (one.0 h)), (λ h. one.1 (two.1 h)))
 
@@ -85,7 +87,7 @@ module _ (p : System) (lawful : IsLawful p) (f : Formula) (terms : List Tree) (l
         let own : IsAnswerTo (pattern_structure (pattern_system p)) (core_of terms f) (OfValue b) =
         subst (λ a. IsAnswerTo (pattern_structure (pattern_system p)) (core_of terms f) (as_answer a)) is decided.answer in
         let d = own.truth v (λ n. ground (Var [])) in
-        let t = same_truth m v given (their_places m) in
+        let t = same_truth m v ground given (their_places m) in
         ((λ e. t.1 (d.0 e)), (λ h. d.1 (t.0 h)))
 
     pub true_verdict : b ≡ true → TruthVerdict p terms f positive yes_line

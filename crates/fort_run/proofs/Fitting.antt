@@ -5,8 +5,12 @@ use Rattle.fort_theory.specs.Trees.{Tree}
 use Rattle.fort_theory.specs.Signatures.{Signature}
 use Rattle.fort_theory.specs.Sides.{System}
 use Rattle.fort_theory.specs.Patterns.{PatternSystem, pattern_system, pattern_pair}
+use Rattle.fort_termination.specs.RightGround.{IsRightGroundAt, HasRightGroundPairsAt}
+use Rattle.fort_termination.proofs.RightGroundTargets.{IsRightGroundAt-patterns}
 use Rattle.fort_logic.specs.Formulas.{Formula}
 use Rattle.fort_logic.specs.Mentions.{indices, AreWithin}
+use Rattle.fort_logic.specs.Terminations.{terminations, AreAll, IsFirstWithout, IsRightGroundFor, IsFirstNotRightGround}
+use Rattle.fort_logic.proofs.TerminationMentions.{AreAll-same, IsFirstWithout-same}
 use Rattle.fort_grammar.specs.GroundForms.{IsGroundText}
 use Rattle.fort_formula_grammar.specs.FormulaText.{Ground, AreGroundsOf}
 use Rattle.fort_answers.specs.FitAnswer.{AreTermsOf, IsFirstWithoutTerm, IsUnfit, NoTerm}
@@ -64,3 +68,15 @@ pub term_refused : (text : List ℕ) (f : Formula) (p : System) (grounds : List 
     → AreGroundsOf text grounds → Refuses (NamesTerm p.signature grounds) r → Refuses (IsUnfit text f p) r
 term_refused text f p grounds refusal.Memory within are h = h
 term_refused text f p grounds (refusal.Line line) within are h = NoTerm within grounds are h.braces h.first h.says
+
+-- the rules of a system are right-ground at an index exactly where the pairs of patterns are that it has
+module _ (system : PatternSystem) (p : System) (f : Formula) (is : system ≡ pattern_system p) where
+  pub right_ground_of : AreAll (HasRightGroundPairsAt system) (terminations f) → IsRightGroundFor p f
+  right_ground_of all =
+      AreAll-same (HasRightGroundPairsAt (pattern_system p)) (IsRightGroundAt p) (λ i. ((IsRightGroundAt-patterns p i).1, (IsRightGroundAt-patterns p i).0))
+      (terminations f) (subst (λ (s : PatternSystem). AreAll (HasRightGroundPairsAt s) (terminations f)) is all)
+
+  pub not_right_ground_of : (i : ℕ) → IsFirstWithout (HasRightGroundPairsAt system) (terminations f) i → IsFirstNotRightGround p f i
+  not_right_ground_of i first =
+      IsFirstWithout-same (HasRightGroundPairsAt (pattern_system p)) (IsRightGroundAt p) (λ i. ((IsRightGroundAt-patterns p i).1, (IsRightGroundAt-patterns p i).0))
+      (terminations f) i (subst (λ (s : PatternSystem). IsFirstWithout (HasRightGroundPairsAt s) (terminations f) i) is first)

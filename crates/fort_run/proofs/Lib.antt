@@ -4,6 +4,8 @@ pub mod OneInput
 pub mod OneCheck
 pub mod CheckReplies
 pub mod OneAnswer
+pub mod LongerTexts
+pub mod CertificateAccepted
 pub mod PrintedCertificates
 pub mod Replies
 pub mod Fitting
@@ -18,3 +20,5 @@ pub mod WitnessVerdicts
 pub mod Properties
 pub mod SampleLines
 pub mod WrittenNumbers
+pub mod NamedColumns
+pub mod TranslatedCores

@@ -7,10 +7,10 @@ use Rattle.fort_theory.specs.Sides.{System}
 use Rattle.fort_theory.specs.Patterns.{PatternSystem, pattern_system}
 use Rattle.fort_logic.specs.Formulas.{Formula}
 use Rattle.fort_logic.specs.FreeNames.{free_names}
-use Rattle.fort_logic.specs.Cores.{Core}
+use Rattle.fort_cores.specs.Cores.{Core}
 use Rattle.fort_logic.specs.KeepsTruth.{KeepsTruth}
-use Rattle.fort_logic.specs.Parts.{IsClosed}
-use Rattle.fort_logic.specs.PatternStructures.{pattern_structure}
+use Rattle.fort_cores.specs.Parts.{IsClosed}
+use Rattle.fort_cores.specs.Structures.{pattern_structure}
 use Rattle.fort_logic.specs.Translation.{core_of}
 use Rattle.fort_logic.proofs.FreeNumbers.{core_of-free}
 use Rattle.fort_parts.specs.PartAnswers.{OfValue, IsAnswerTo}

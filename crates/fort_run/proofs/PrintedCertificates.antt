@@ -8,7 +8,7 @@ use Rattle.fort_answers.specs.Lines.{positive}
 use Rattle.fort_answers.specs.SystemAnswer.{IsUnanswerable, InputRefused, FormulaUnfit, Limited}
 use Rattle.fort_answers.specs.DecideAnswer.{DecideAnswer, Early, Unanswerable, Decided}
 use Rattle.fort_answers.specs.Answer.{owed, Answer}
-use Rattle.fort_answers.proofs.CertificateAccepted.{written_accepted}
+use Rattle.fort_run.proofs.CertificateAccepted.{written_accepted}
 use Rattle.fort_run.specs.Certified.{IsAcceptedBehind}
 
 module _ (options : Options) (formula bytes text : Text) where

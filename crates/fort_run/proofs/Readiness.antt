@@ -7,7 +7,11 @@ use Rattle.fort_theory.specs.Signatures.{Signature, IsGround}
 use Rattle.fort_theory.specs.Sides.{System}
 use Rattle.fort_theory.specs.Patterns.{PatternSystem, pattern_system}
 use Rattle.fort_logic.specs.Formulas.{Formula}
+use Rattle.fort_termination.specs.RightGround.{IsRightGroundAt, HasRightGroundPairsAt}
+use Rattle.fort_termination.proofs.RightGroundTargets.{IsRightGroundAt-patterns}
 use Rattle.fort_logic.specs.Mentions.{HasPlacesBelow}
+use Rattle.fort_logic.specs.Terminations.{terminations, AreAll}
+use Rattle.fort_logic.proofs.TerminationMentions.{AreAll-same}
 use Rattle.fort_formula_grammar.specs.FormulaText.{Ground}
 use Rattle.fort_formula_grammar.proofs.LowIndices.{indices-low}
 use Rattle.fort_formula_grammar.proofs.OneFormula.{AreGroundsOf-unique}
@@ -59,6 +63,7 @@ module _ (question : Question) (parsed : Parsed) (read : IsRead question parsed)
   ready = record {
     small = read.small;
     narrow = accepted.narrow;
+    plain = accepted.plain;
     has_terms = subst (λ n. HasPlacesBelow n (as_formula parsed.formula)) count read.places;
     grounded = subst (λ s. All (IsGround s) terms) (sym (signature_is system.signature system p refl same)) (FitsSystem-ground read.text (as_formula parsed.formula) p terms fits);
     within =
@@ -66,4 +71,7 @@ module _ (question : Question) (parsed : Parsed) (read : IsRead question parsed)
           low = indices-low accepted.read index c;
           high = (let below = fits.within index c in let number = number_is (length system.rules) system p refl same in omega arith);
         };
+    right_ground =
+        subst (λ (s : PatternSystem). AreAll (HasRightGroundPairsAt s) (terminations (as_formula parsed.formula))) (sym same)
+        (AreAll-same (IsRightGroundAt p) (HasRightGroundPairsAt (pattern_system p)) (IsRightGroundAt-patterns p) (terminations (as_formula parsed.formula)) fits.right_ground);
   }

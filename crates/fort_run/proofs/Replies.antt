@@ -29,7 +29,7 @@ use Rattle.fort_answers.specs.WitnessAnswer as witness
 use Rattle.fort_answers.specs.Answer.{IsAbout, owed, OwesTold}
 use Rattle.fort_answers.specs.FitAnswer.{FitsSystem, IsUnfit}
 use Rattle.fort_answers.specs.InputAnswer.{IsInput, IsInputRefused, TooLong, NoForms, NoProblem, FormBehind, input_limit}
-use Rattle.fort_answers.proofs.CertificateAccepted.{written_accepted}
+use Rattle.fort_run.proofs.CertificateAccepted.{written_accepted}
 use Rattle.fort_answers.proofs.OneVerdict.{accepted-not_refused, closed-not_refused}
 use Rattle.fort_run.specs.Refusals.{SaysProblemFault, SaysTextFault, IsTextRefused, IsProblemRefused, Refuses, RefusesInput}
 use Rattle.fort_run.specs.declared.refusal.Refusal.{Refusal}

@@ -12,17 +12,17 @@ use Rattle.fort_theory.specs.Sides.{System}
 use Rattle.fort_theory.specs.Patterns.{pattern_system}
 use Rattle.fort_logic.specs.Formulas.{Name, Formula, Var, Ground}
 use Rattle.fort_logic.specs.FreeNames.{free_names}
-use Rattle.fort_logic.specs.CoreTruth.{Places, IsMetBy}
+use Rattle.fort_cores.specs.CoreTruth.{Places, IsMetBy}
 use Rattle.fort_logic.specs.KeepsTruth.{AreTheirPlaces}
-use Rattle.fort_logic.specs.PatternStructures.{pattern_structure}
+use Rattle.fort_cores.specs.Structures.{pattern_structure, structure_of}
 use Rattle.fort_logic.specs.Translation.{number_in, core_of}
-use Rattle.fort_logic.specs.Truth.{Assignment, IsGroundAssignment, structure_of, GivesTerms}
+use Rattle.fort_logic.specs.Truth.{Assignment, IsGroundAssignment, GivesTerms}
 use Rattle.fort_tables.specs.Tuples.{Tuple, IsTuple, IsFull, AreGroundColumns}
 use Rattle.fort_atom_labels.specs.AssignedTuples.{tuple_of}
 use Rattle.fort_operations.proofs.SelectionLaws.{present_from_full}
 use Rattle.fort_parts.specs.PartColumns.{columns_of}
 use Rattle.fort_parts.specs.PartAnswers.{said, AreGround}
-use Rattle.fort_parts.proofs.NamedColumns.{columns_of-core_of, number_of_name}
+use Rattle.fort_run.proofs.NamedColumns.{columns_of-core_of, number_of_name}
 use Rattle.fort_answers.specs.WitnessAnswer.{AreWitnesses}
 use Rattle.fort_engine.specs.declared.answer.Last.{Last}
 use Rattle.fort_engine.specs.AnswerView.{as_answer}
@@ -126,7 +126,7 @@ module _ (p : System) (lawful : IsLawful p) (f : Formula) (terms : List Tree) (l
       ap (λ us. get_or us n d) are.are
       ∙ (get_or-map (λ y. m (Var y)) (free_names f) n [] d l ∙ ap (λ y. m (Var y)) (get_or_from_slice_get (free_names f) n x [] at)) in
       (decides ts (witnesses-count ts are) (witnesses-ground ts are)).1
-      ((same_truth p lawful f terms last decided m (place ts) are.given places).0 are.holds)
+      ((same_truth p lawful f terms last decided m (place ts) are.grounded are.given places).0 are.holds)
 
   -- Result
   pub witnesses-said : (ts : List Tree) → length ts ≡ length (free_names f) → All (IsGround p.signature) ts → said (as_answer last) (map Some ts) ≡ true
@@ -139,7 +139,7 @@ module _ (p : System) (lawful : IsLawful p) (f : Formula) (terms : List Tree) (l
         assignment = m;
         grounded = assigned-ground ts all;
         given = given;
-        holds = (same_truth p lawful f terms last decided m (place ts) given places).1 ((decides ts len all).0 e);
+        holds = (same_truth p lawful f terms last decided m (place ts) (assigned-ground ts all) given places).1 ((decides ts len all).0 e);
         are =
             ext_get_or d ts (map (λ x. m (Var x)) (free_names f)) (len ∙ sym (length-map (free_names f) (λ x. m (Var x))))
             (λ k l.

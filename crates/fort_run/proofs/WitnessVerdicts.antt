@@ -11,7 +11,7 @@ use Rattle.fort_theory.specs.Sides.{System}
 use Rattle.fort_theory.specs.Patterns.{PatternSystem, pattern_system}
 use Rattle.fort_logic.specs.Formulas.{Name, Formula}
 use Rattle.fort_logic.specs.FreeNames.{free_names}
-use Rattle.fort_logic.specs.PatternStructures.{pattern_structure}
+use Rattle.fort_cores.specs.Structures.{pattern_structure}
 use Rattle.fort_logic.specs.Translation.{core_of}
 use Rattle.fort_tables.specs.Tuples.{IsTuple}
 use Rattle.fort_tables.specs.Entries.{Entry, AreNodes}
@@ -26,7 +26,7 @@ use Rattle.fort_witness.specs.Answers.{last_tuple, IsWitness}
 use Rattle.fort_witness.specs.Texts.{term_at, column_text, text_at}
 use Rattle.fort_parts.specs.PartColumns.{columns_of}
 use Rattle.fort_parts.specs.PartAnswers.{OfValue, OfTable, IsAnswerTo, said}
-use Rattle.fort_parts.proofs.NamedColumns.{columns_of-core_of}
+use Rattle.fort_run.proofs.NamedColumns.{columns_of-core_of}
 use Rattle.fort_answers.specs.Lines.{line, positive, negative, witness_line, none_line}
 use Rattle.fort_answers.specs.Requests.{Text}
 use Rattle.fort_answers.specs.WitnessAnswer.{free_trees, AreWitnesses, bindings, WitnessVerdict, Found, NotFound}

@@ -4,8 +4,9 @@ use Rattle.std.proofs.lemmas.Bool.{eqb-true}
 use Rattle.std.specs.Prelude.{if◌then◌else◌, ◌==◌}
 use Rattle.std.specs.List.{AllByRecursion, list_any}
 use Rattle.fort_theory.specs.Patterns.{PatternSystem}
-use Rattle.fort_logic.specs.Cores as core
-use Rattle.fort_logic.specs.Cores.{Core}
+use Rattle.fort_cores.specs.Cores as core
+use Rattle.fort_theory.specs.Logic as logic
+use Rattle.fort_cores.specs.Cores.{Core}
 use Rattle.fort_certificate_grammar.specs.Certificates.{Which, Star, Conv, Step, Closure, Part, Counts, Value, Certificate}
 use Rattle.fort_certificate_grammar.specs.CertificateForms.{Version, OfOne, OfSeveral, version_for}
 use Rattle.fort_certificate_grammar.specs.CertificateText.{IsIndex, CanBeWritten}
@@ -52,13 +53,9 @@ closures_of parts (suc n) i =
 
 counts_of : (i n k : ℕ) (f : Core) → AreOfIndices i n (counts_due k f)
 counts_of i n k core.True = tt
-counts_of i n k (core.Atom rel index x y) = tt
-counts_of i n k (core.Nf index x) = tt
-counts_of i n k (core.Is x term) = tt
+counts_of i n k (core.Leaf a) = tt
 counts_of i n k (core.Not f) = tt
-counts_of i n k (core.And f g) = tt
-counts_of i n k (core.Or f g) = tt
-counts_of i n k (core.Iff f g) = tt
+counts_of i n k (core.Binary op f g) = tt
 counts_of i n k (core.Exists x f) = tt
 counts_of i n k (core.Infinite x f) = (tt, tt)
 

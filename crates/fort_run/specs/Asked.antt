@@ -5,7 +5,7 @@ use Rattle.fort_theory.specs.Sides as theory
 use Rattle.fort_theory.specs.Patterns.{PatternSystem, pattern_system}
 use Rattle.fort_logic.specs.Formulas.{Formula}
 use Rattle.fort_logic.specs.FreeNames.{free_names}
-use Rattle.fort_logic.specs.Kinds.{Kind}
+use Rattle.fort_cores.specs.Kinds.{Kind}
 use Rattle.fort_answers.specs.Requests.{Text, Options, Request, Decide, Witness}
 use Rattle.fort_answers.specs.Lines.{positive, limited, limit_line}
 use Rattle.fort_answers.specs.FormulaAnswer.{IsAccepted, IsRefused, IsAcceptedClosed, IsRefusedClosed}

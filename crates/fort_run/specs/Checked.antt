@@ -6,7 +6,7 @@ use Rattle.fort_theory.specs.Patterns.{PatternSystem, pattern_system}
 use Rattle.fort_logic.specs.Formulas.{Formula}
 use Rattle.fort_logic.specs.Translation.{core_of}
 use Rattle.fort_certificate_grammar.specs.Certificates as certificates
-use Rattle.fort_certificate.specs.CertificateView.{as_certificate}
+use Rattle.fort_steps.specs.CertificateView.{as_certificate}
 use Rattle.fort_in_order.specs.Checked.{Outcome, Certified, HasOutcome}
 use Rattle.fort_answers.specs.Requests.{Text}
 use Rattle.fort_answers.specs.Lines.{positive}

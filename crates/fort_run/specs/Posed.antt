@@ -4,7 +4,7 @@ use Rattle.fort_theory.specs.Trees.{Tree}
 use Rattle.fort_theory.specs.Sides as theory
 use Rattle.fort_theory.specs.Patterns.{PatternSystem, pattern_system}
 use Rattle.fort_logic.specs.Formulas.{Formula}
-use Rattle.fort_logic.specs.Cores.{Core}
+use Rattle.fort_cores.specs.Cores.{Core}
 use Rattle.fort_logic.specs.Translation.{core_of}
 use Rattle.fort_logic.specs.KeepsTruth.{KeepsTruth}
 use Rattle.fort_parts.specs.DecidedCores.{IsDecided}

@@ -1,15 +1,17 @@
 -- Inside: a formula that was accepted, over a system that has all that it speaks of, and what deciding its core formula shows.
-use Rattle.std.specs.Prelude.{ℕ, ◌<◌, ◌^◌, List, Contains, All}
+use Rattle.std.specs.Prelude.{◌≡◌, false, ℕ, ◌<◌, ◌^◌, List, Contains, All}
 use Rattle.fort_theory.specs.Trees.{Tree}
 use Rattle.fort_theory.specs.Signatures.{IsGround, HasConstant}
 use Rattle.fort_theory.specs.Sides.{System, IsLinearSeparated, IsIndexOf}
 use Rattle.fort_theory.specs.Patterns.{PatternSystem}
 use Rattle.fort_logic.specs.Formulas.{Formula}
-use Rattle.fort_logic.specs.Mentions.{indices, HasTermsFor}
-use Rattle.fort_logic.specs.Cores.{Core}
+use Rattle.fort_termination.specs.RightGround.{HasRightGroundPairsAt}
+use Rattle.fort_logic.specs.Mentions.{indices, HasTermsFor, has_expression}
+use Rattle.fort_logic.specs.Terminations.{terminations, AreAll}
+use Rattle.fort_cores.specs.Cores.{Core}
 use Rattle.fort_logic.specs.Translation.{IsFormulaTooWide, core_of}
 use Rattle.fort_logic.specs.KeepsTruth.{KeepsTruth}
-use Rattle.fort_logic.specs.PatternStructures.{pattern_structure}
+use Rattle.fort_cores.specs.Structures.{pattern_structure}
 use Rattle.fort_formulas.specs.NumbersNeeded.{numbers_needed}
 use Rattle.fort_parts.specs.PartAnswers.{IsAnswerTo}
 use Rattle.fort_engine.specs.AnswerView.{as_answer, IsLimit}
@@ -23,13 +25,16 @@ pub record IsLawful (system : System) : Type 0 where
   pub constant : HasConstant system.signature
   pub separated : All (All IsLinearSeparated) system.rules
 
--- not too wide, with a ground term for each that is written in it, and with indices of the system alone
+-- not too wide, without expressions, with a ground term for each that is written in it, with indices of the system alone, and with
+-- right-ground rules at each index of an SN
 pub record IsReady (f : Formula) (system : PatternSystem) (terms : List Tree) : Type 0 where
   pub small : numbers_needed f < 2 ^ 32
   pub narrow : IsFormulaTooWide f → ⊥
+  pub plain : has_expression f ≡ false
   pub has_terms : HasTermsFor f terms
   pub grounded : All (IsGround system.signature) terms
   pub within : (index : ℕ) → Contains (indices f) index → IsIndexOf system.rules index
+  pub right_ground : AreAll (HasRightGroundPairsAt system) (terminations f)
 
 -- a limit of a core formula, of which the line tells
 pub record ShowsLimit (system : PatternSystem) (f : Core) (options : Options) (line : List ℕ) (limit : Limit) : Type 0 where

@@ -6,7 +6,7 @@ ghost use Rattle.fort_run.specs.Refusals.{RefusesCertified};
 
 use crate::input::{forms_of, problem_of};
 use crate::refusal::{Refusal, certificate_line};
-use fort_certificate::Certificate;
+use fort_steps::Certificate;
 use fort_terms::System;
 use std::alloc::Global;
 

@@ -10,7 +10,7 @@ ghost use Rattle.fort_run.specs.Refusals.{Refuses, NamesTerm};
 use crate::refusal::{Refusal, numbered};
 use fort_ari::read_ground;
 use fort_formula_parser::{Ground, Parsed};
-use fort_formulas::index_above;
+use fort_formulas::{index_above, not_right_ground};
 use fort_terms::{Signature, System, Term};
 use std::alloc::Global;
 
@@ -39,7 +39,8 @@ fn read_terms(
     Ok(terms)
 }
 
-/// The ground terms that are written in a formula's text, where they and the formula's indices are the system's.
+/// The ground terms that are written in a formula's text, where they and the formula's indices are the system's, and the rules of each
+/// index of an SN are right-ground.
 pub fn terms_of(alloc: Global, parsed: &Parsed, system: &System) -> Result<Vec<Term>, Refusal>
     requires { AreShort parsed.now.grounds.items }
     ensures ok { IfOk result (λ terms. Beside parsed.now system.now (λ text p.
@@ -51,5 +52,10 @@ pub fn terms_of(alloc: Global, parsed: &Parsed, system: &System) -> Result<Vec<T
         let line = numbered(alloc, b"REFUSED formula index ", index as usize)?;
         return Err(Refusal::Line(line));
     }
-    read_terms(alloc, system.signature(), &parsed.grounds)
+    let terms = read_terms(alloc, system.signature(), &parsed.grounds)?;
+    if let Some(index) = not_right_ground(&parsed.formula, system) {
+        let line = numbered(alloc, b"REFUSED formula sn ", index as usize)?;
+        return Err(Refusal::Line(line));
+    }
+    Ok(terms)
 }

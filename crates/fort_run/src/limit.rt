@@ -24,6 +24,7 @@ fn kind_word(kind: Kind) -> &'static [u8]
         Kind::Plus => b"plus",
         Kind::Star => b"star",
         Kind::Conv => b"conv",
+        Kind::Rex => b"rex",
         Kind::Nf => b"nf",
         Kind::Is => b"is",
         Kind::Not => b"not",

@@ -5,7 +5,7 @@ ghost use Rattle.fort_theory.specs.Patterns.{PatternSystem, pattern_system};
 ghost use Rattle.fort_theory.specs.Trees.{Tree};
 ghost use Rattle.fort_logic.specs.Formulas as logic;
 ghost use Rattle.fort_logic.specs.KeepsTruth.{KeepsTruth};
-ghost use Rattle.fort_logic.specs.PatternStructures.{pattern_structure};
+ghost use Rattle.fort_cores.specs.Structures.{pattern_structure};
 ghost use Rattle.fort_logic.specs.Translation.{core_of};
 ghost use Rattle.fort_formulas.specs.CoreView.{as_core};
 ghost use Rattle.fort_formulas.specs.FormulaView.{as_formula};

@@ -2,8 +2,8 @@
 use Rattle.std.specs.Prelude.{◌≡◌, length, Bool, true, false, not, ◌&&◌, ◌||◌, ◌==◌, refl}
 use Rattle.std.proofs.Common.{sym, subst, arith}
 use Rattle.fort_theory.specs.Patterns.{PatternSystem}
-use Rattle.fort_logic.specs.Cores.{Core}
-use Rattle.fort_logic.specs.Parts.{IsClosed}
+use Rattle.fort_cores.specs.Cores.{Core}
+use Rattle.fort_cores.specs.Parts.{IsClosed}
 use Rattle.fort_parts.specs.DecidedCores.{IsDecided}
 use Rattle.fort_parts.proofs.PartFacts.{IsWellFormed-few}
 use Rattle.fort_tests_checks.specs.CheckedFormulas.{many_reduced}
@@ -11,7 +11,7 @@ use Rattle.fort_tests_checks.specs.CheckedFormulas.{many_reduced}
 pub IsDecided-many_reduced : (system : PatternSystem) → length system.rules ≡ 1 → (f : Core) → f ≡ many_reduced → IsDecided system f
 IsDecided-many_reduced system one f e =
     subst (IsDecided system) (sym e)
-    (record { well_formed = IsWellFormed-few many_reduced (refl, (refl, tt)) (omega arith); over = record { low = omega arith; high = omega arith } })
+    (record { well_formed = IsWellFormed-few many_reduced (refl, (refl, tt)) (λ l. l) (omega arith); over = record { low = omega arith; high = omega arith } })
 
 neither : (a b : Bool) → (not a && (not b && (a || b))) ≡ true → ⊥
 neither true b e = cc

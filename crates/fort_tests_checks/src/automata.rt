@@ -1,12 +1,12 @@
 //! Tests of tree automata, transducers and their closures.
 ghost use Rattle.std.specs.Prelude.{◌≡◌, ◌≤◌, [], ◌∷◌, IfOk, codes, length};
 ghost use Rattle.fort_theory.specs.Signatures.{symbol};
-ghost use Rattle.fort_agtt.specs.AgttView.{NamesItsStates};
+ghost use Rattle.fort_transducers.specs.AgttView.{NamesItsStates};
 ghost use Rattle.fort_gtt_closure.specs.Reasons.{IsNumbered};
 
-use fort_agtt::{Agtt, inverse, root_steps, union};
 use fort_gtt_closure::{Why, close, closed_agtt};
 use fort_terms::{AddFault, Memory, Side, Sides, Signature, Sym, System, Term};
+use fort_transducers::{Agtt, inverse, root_steps, union};
 use std::alloc::{AllocError, Global};
 use std::process::Abort;
 use std::test::Fail;

@@ -2,9 +2,10 @@
 ghost use Rattle.std.specs.Prelude.{◌≡◌, IfOk};
 
 use super::rules::IsFirst;
+use fort_connectives::Op;
 use fort_explore::{ByRule, ExploreFault, explore};
 use fort_lockstep::{Dta, Table};
-use fort_rrn_algebra::{Both, Op, Operand, negate, permute, pure_states, widen};
+use fort_rrn_algebra::{Both, Operand, negate, permute, pure_states, widen};
 use fort_terms::Signature;
 use std::alloc::Global;
 use std::test::Fail;

@@ -1,4 +1,4 @@
-//! Tests of terms and formulas as keys, and of devices.
+//! Tests of terms and formulas as keys, of core formulas, and of devices.
 #![tactic(auto)]
 
 #[cfg(test)]
@@ -9,3 +9,5 @@ mod formulas;
 mod keys;
 #[cfg(test)]
 mod terms;
+#[cfg(test)]
+mod translations;

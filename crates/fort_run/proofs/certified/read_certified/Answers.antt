@@ -5,7 +5,7 @@ use Rattle.fort_grammar.specs.Declarations.{as_list}
 use Rattle.fort_grammar.specs.ProblemForms.{IsProblem}
 use Rattle.fort_certificate_grammar.specs.CertificateForms.{IsCertificate}
 use Rattle.fort_certificate_grammar.specs.CertificateFaults.{IsFirstCertificateFault}
-use Rattle.fort_certificate.specs.CertificateView.{as_certificate}
+use Rattle.fort_steps.specs.CertificateView.{as_certificate}
 use Rattle.fort_certificate.specs.Faults.{as_fault}
 use Rattle.fort_run.specs.Refusals.{Refuses, IsProblemRefused}
 use Rattle.fort_run.proofs.CheckReplies.{certified_text_refused, certified_problem_refused, certificate_refused, is_certified_input}

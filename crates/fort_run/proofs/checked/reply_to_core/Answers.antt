@@ -1,5 +1,5 @@
 use Rattle.fort_formulas.specs.CoreView.{as_core}
-use Rattle.fort_certificate.specs.CertificateView.{as_certificate}
+use Rattle.fort_steps.specs.CertificateView.{as_certificate}
 use Rattle.fort_cert_checker.specs.OutcomeView.{as_reason}
 use Rattle.fort_run.proofs.CheckReplies.{certified_tells, rejected_tells}
 use Rattle.fort_run.proofs.PosedQuestions.{closed_core}

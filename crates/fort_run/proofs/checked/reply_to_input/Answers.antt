@@ -1,7 +1,7 @@
 use Rattle.std.proofs.Common.{sym, subst}
 use Rattle.std.proofs.lemmas.Result.{IfOk-weaker}
 use Rattle.fort_formulas.specs.FormulaView.{as_formula}
-use Rattle.fort_certificate.specs.CertificateView.{as_certificate}
+use Rattle.fort_steps.specs.CertificateView.{as_certificate}
 use Rattle.fort_answers.specs.CheckAnswer.{IsCertifiedInputRefused}
 use Rattle.fort_answers.specs.FitAnswer.{IsUnfit}
 use Rattle.fort_run.specs.Checked.{TellsOutcome}

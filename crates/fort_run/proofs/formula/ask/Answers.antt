@@ -32,3 +32,8 @@ returns-clause-printed g c =
     IfOk-weaker c.reply_to_formula.result _ _ (λ r printed.
     printed c.args.text.now (subst (λ t. IsAskedAs c.args.question t c.in-Ok.parsed) c.as_bytes.ensures.value c.in-Ok.ensures.ok))
     c.reply_to_formula.ensures.printed
+
+pub returns-clause-asked : goal.returns-clause-asked
+returns-clause-asked g c = λ fault.
+    subst (QuestionNeedsInput c.args.question) c.as_bytes.ensures.value
+    (needs c.args.question c.as_bytes.result.now (as_formula c.in-Ok.parsed.formula) c.in-Ok.ensures.ok.askable)

@@ -1,7 +1,7 @@
 use Rattle.std.proofs.Common.{◌≡◌, subst}
 use Rattle.std.proofs.lemmas.Result.{on_ok_weaker}
 use Rattle.fort_words.specs.RequestView.{as_options, as_request}
-use Rattle.fort_answers.specs.Requests.{Witness}
+use Rattle.fort_answers.specs.Requests.{Witness, Check as CheckOf}
 use Rattle.fort_answers.specs.Answer.{NeedsInput}
 use Rattle.fort_run.proofs.top.reply_to_request.Goals as goal
 
@@ -25,3 +25,10 @@ returns-in-Witness-clause-whole g c =
     let e : as_request c.args.request.now ≡ Witness (as_options c.in-Witness.options) c.in-Witness.formula.now = cc in
     whole (subst NeedsInput e needs))
     c.ask-in-Witness.ensures.whole
+
+pub returns-in-Check-clause-whole : goal.returns-in-Check-clause-whole
+returns-in-Check-clause-whole g c =
+    on_ok_weaker c.check.result (λ whole needs.
+    let e : as_request c.args.request.now ≡ CheckOf c.in-Check.formula.now = cc in
+    whole (subst NeedsInput e needs))
+    c.check.ensures.whole

@@ -13,7 +13,7 @@ use Rattle.fort_grammar.specs.ProblemForms.{BeginsOtherwise, IsProblem}
 use Rattle.fort_certificate_grammar.specs.Certificates.{Certificate}
 use Rattle.fort_certificate_grammar.specs.CertificateForms.{IsCertificate}
 use Rattle.fort_certificate_grammar.specs.CertificateAgain.{IsReadAgain}
-use Rattle.fort_certificate_grammar.proofs.Again.{behind_again}
+use Rattle.fort_certificate_texts.proofs.Again.{behind_again}
 use Rattle.fort_in_order.specs.Checked.{Certified}
 use Rattle.fort_in_order.specs.Written.{IsWritten}
 use Rattle.fort_in_order.proofs.WrittenLaws.{IsInOrder-written}
@@ -24,7 +24,7 @@ use Rattle.fort_answers.specs.InputAnswer.{IsInput, input_limit}
 use Rattle.fort_answers.specs.FitAnswer.{FitsSystem}
 use Rattle.fort_answers.specs.CertificateAnswer.{CertificateVerdict}
 use Rattle.fort_answers.specs.CheckAnswer.{IsCertifiedInput, CheckAnswer, Checked, certified_line}
-use Rattle.fort_answers.proofs.LongerTexts.{problem_too}
+use Rattle.fort_run.proofs.LongerTexts.{problem_too}
 
 first_word : (bytes : List ℕ) (f : Form) (fs : List Form) (word : List ℕ) (words : List (List ℕ)) → AreWords bytes (f ∷ fs) (word ∷ words)
     → word_of bytes f ≡ Some word
