@@ -14,8 +14,8 @@ use Rattle.fort_certificate_grammar.specs.Certificates as certificates
 use Rattle.fort_certificate_grammar.specs.Certificates.{Why, Pair as Item}
 use Rattle.fort_in_order.specs.ClosureSteps.{ClosureRules, IsPatternAt, IsListed, AreListed, AllListed, Follows, AnyRight, AnyLeft, ByArguments, ByRule, FollowsBy, FollowsAt}
 use Rattle.fort_in_order.proofs.OrderedLists.{before_asymmetric}
-use Rattle.fort_context_closure.specs.declared.rule_places.RulePlaces.{RulePlaces}
-use Rattle.fort_context_closure.specs.RulePlaces.{pair_at, no_rule}
+use Rattle.fort_label_bits.specs.declared.rule_places.RulePlaces.{RulePlaces}
+use Rattle.fort_label_bits.specs.RulePlaces.{pair_at, no_rule}
 use Rattle.fort_check_steps.specs.declared.pairs.PairRules.{PairRules}
 use Rattle.fort_check_steps.specs.PairTests.{all_pairs, by_any, by_kids, by_rule, by_reason, follows}
 use Rattle.fort_check_steps.specs.PairSteps.{IsPairRules}

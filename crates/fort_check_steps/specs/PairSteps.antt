@@ -2,8 +2,8 @@
 use Rattle.std.specs.Prelude.{◌≡◌, ℕ, ◌+◌, ◌*◌, ◌^◌, ◌<◌, List, length, take, get_or, None, nat_lt, Bool, true, false, not, ◌==◌, ◌&&◌, ◌||◌, Decides, Result, Ok, Err}
 use Rattle.fort_theory.specs.Patterns.{Pair, PatternSystem}
 use Rattle.fort_tables.specs.BitRows.{has_bit}
-use Rattle.fort_context_closure.specs.NumberedView.{AreNumbersOf}
-use Rattle.fort_context_closure.specs.RulePlaces.{ArePlacesOf}
+use Rattle.fort_label_bits.specs.NumberedView.{AreNumbersOf}
+use Rattle.fort_label_bits.specs.RulePlaces.{ArePlacesOf}
 use Rattle.fort_certificate_grammar.specs.Certificates as certificates
 use Rattle.fort_certificate_grammar.specs.Certificates.{Which, Why, Pair as Item}
 use Rattle.fort_in_order.specs.Outcomes.{Fails}

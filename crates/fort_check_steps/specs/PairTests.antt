@@ -3,8 +3,8 @@ use Rattle.std.specs.Prelude.{ℕ, ◌+◌, ◌*◌, List, [], ◌∷◌, length
 use Rattle.std.specs.List.{list_any}
 use Rattle.fort_tables.specs.BitRows.{has_bit}
 use Rattle.fort_atom_labels.specs.PatternNumbers.{PatternNumber}
-use Rattle.fort_context_closure.specs.declared.rule_places.RulePlaces.{RulePlaces}
-use Rattle.fort_context_closure.specs.RulePlaces.{no_rule}
+use Rattle.fort_label_bits.specs.declared.rule_places.RulePlaces.{RulePlaces}
+use Rattle.fort_label_bits.specs.RulePlaces.{no_rule}
 use Rattle.fort_certificate_grammar.specs.Certificates.{Why, Any, Kids, Rule}
 
 -- whether the bit of the pair is set, among pairs with so many left patterns

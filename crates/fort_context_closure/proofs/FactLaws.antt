@@ -7,7 +7,7 @@ use Rattle.fort_alike.specs.Atoms.{EqKind, StepKind, BelowKind, ParKind, StarKin
 use Rattle.fort_alike.specs.Alike.{Fact, facts_of, is_reaching}
 use Rattle.fort_atom_labels.specs.ListedAtoms.{Mark, OfBoth}
 use Rattle.fort_atom_labels.specs.AtomRules.{all_kids, one_kid, some_kid, same_roots, root_test, fact_step}
-use Rattle.fort_context_closure.specs.RowBits.{bit_of}
+use Rattle.fort_label_bits.specs.RowBits.{bit_of}
 use Rattle.fort_context_closure.specs.FactTests.{fact_bit, fact_test}
 
 module _ (base : ℕ) (equal root : Bool) (ws : List (List ℕ)) where

@@ -1,9 +1,6 @@
 pub mod NodeLaws
 pub mod ListingLaws
-pub mod NumberedLaws
-pub mod RowBitLaws
 pub mod FactLaws
-pub mod RulePlaceLaws
 pub mod NodeRowLaws
 pub mod RelationLaws
 pub mod SidePlaceLaws
@@ -13,10 +10,7 @@ pub mod NormalMakerLaws
 pub mod AtomLabelsLaws
 pub mod MarkCounts
 pub mod ReachLaws
-pub mod RootPlaceLaws
 pub mod RuleRootLaws
 pub mod ClosureLaws
 pub mod ReachRowLaws
 pub mod RuleListLaws
-pub mod RuleLeftLaws
-pub mod SkippedBits

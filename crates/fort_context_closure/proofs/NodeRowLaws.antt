@@ -15,12 +15,12 @@ use Rattle.fort_atom_labels.specs.PatternNumbers.{PatternNumber, number_inside}
 use Rattle.fort_atom_labels.proofs.BitPlaces.{NoneTwice}
 use Rattle.fort_atom_labels.proofs.PatternNumberLaws.{first_bit, second_bit, fact_bit, first_row, second_row}
 use Rattle.fort_atom_labels.proofs.RuleLaws.{row_is}
-use Rattle.fort_context_closure.specs.declared.rule_places.RulePlaces.{RulePlaces}
-use Rattle.fort_context_closure.specs.NumberedView.{AreNumbersOf}
-use Rattle.fort_context_closure.specs.RowBits.{labels_at, bit_of, HasBits, IsRow}
-use Rattle.fort_context_closure.specs.RulePlaces.{pair_at, AreWithin}
-use Rattle.fort_context_closure.specs.RuleLefts.{some_rule}
-use Rattle.fort_context_closure.proofs.RulePlaceLaws.{some_rule-any_pair}
+use Rattle.fort_label_bits.specs.declared.rule_places.RulePlaces.{RulePlaces}
+use Rattle.fort_label_bits.specs.NumberedView.{AreNumbersOf}
+use Rattle.fort_label_bits.specs.RowBits.{labels_at, bit_of, HasBits, IsRow}
+use Rattle.fort_label_bits.specs.RulePlaces.{pair_at, AreWithin}
+use Rattle.fort_label_bits.specs.RuleLefts.{some_rule}
+use Rattle.fort_label_bits.proofs.RulePlaceLaws.{some_rule-any_pair}
 
 map-numbers : (f : PatternNumber → Bool) (g : Pattern → Bool) (listed : List Pattern) (rows : List PatternNumber) → length rows ≡ length listed
     → ((k : ℕ) → k < length listed → f (get_or rows k None) ≡ g (get_or listed k Any)) → map f rows ≡ map g listed

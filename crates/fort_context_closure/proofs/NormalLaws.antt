@@ -13,7 +13,7 @@ use Rattle.fort_atom_labels.specs.ListedAtoms.{OfFirst, OfBoth, ListedAtom, list
 use Rattle.fort_atom_labels.specs.AtomRules.{marks_of, atom_rule, inside, fact_step, bit_in, any_pair, all_kids, is_there}
 use Rattle.fort_atom_labels.proofs.PatternNumberLaws.{fact_bit}
 use Rattle.fort_tables.specs.BitRows.{bit_row}
-use Rattle.fort_context_closure.specs.RowBits.{bit_of, HasBits}
+use Rattle.fort_label_bits.specs.RowBits.{bit_of, HasBits}
 use Rattle.fort_context_closure.specs.SidePlaces.{side_at, AreSidesWithin, some_side}
 use Rattle.fort_context_closure.specs.PlainAtoms.{no_closure}
 use Rattle.fort_context_closure.proofs.SidePlaceLaws.{some_side-any_pair}

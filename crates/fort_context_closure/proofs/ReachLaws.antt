@@ -18,15 +18,16 @@ use Rattle.fort_atom_labels.specs.PatternNumbers.{PatternNumber, number_inside}
 use Rattle.fort_atom_labels.proofs.BitPlaces.{NoneTwice}
 use Rattle.fort_atom_labels.proofs.Bits.{Decides-false, Decides-same_pattern, same_from_iff}
 use Rattle.fort_atom_labels.proofs.PatternNumberLaws.{first_row, second_row}
-use Rattle.fort_context_closure.specs.NumberedView.{AreNumbersOf}
-use Rattle.fort_context_closure.specs.RowBits.{bit_of, HasBits}
-use Rattle.fort_context_closure.specs.declared.rule_places.RulePlaces.{RulePlaces}
-use Rattle.fort_context_closure.specs.RulePlaces.{pair_at, AreWithin}
+use Rattle.fort_label_bits.specs.NumberedView.{AreNumbersOf}
+use Rattle.fort_label_bits.specs.RowBits.{bit_of, HasBits}
+use Rattle.fort_label_bits.specs.declared.rule_places.RulePlaces.{RulePlaces}
+use Rattle.fort_label_bits.specs.RulePlaces.{pair_at, AreWithin}
 use Rattle.fort_context_closure.specs.ClosedAtoms.{ClosedAtom, numbers_of, test_of, pattern_bits}
 use Rattle.fort_context_closure.specs.declared.reach.Reach.{Reach}
-use Rattle.fort_context_closure.specs.ReachRows.{row_in, firsts_of, seconds_of, IsReach, NoPatternTwice, rule_adds}
+use Rattle.fort_context_closure.specs.ReachRows.{firsts_of, seconds_of, IsReach, NoPatternTwice, rule_adds}
+use Rattle.fort_label_bits.specs.BitRowLists.{row_in}
 use Rattle.fort_context_closure.proofs.NodeRowLaws.{firsts-are, seconds-are}
-use Rattle.fort_context_closure.proofs.RulePlaceLaws.{list_any-any_pair}
+use Rattle.fort_label_bits.proofs.RulePlaceLaws.{list_any-any_pair}
 
 -- the list of numbers
 

@@ -6,13 +6,13 @@ use Rattle.std.proofs.lemmas.List.{get_or-map, get_or_default, length-map}
 use Rattle.std.proofs.lemmas.List.Elements.{Contains-get_or}
 use Rattle.fort_atom_labels.specs.PatternNumbers.{PatternNumber, number_inside}
 use Rattle.fort_atom_labels.proofs.Bits.{same_from_iff}
-use Rattle.fort_context_closure.specs.RootPlaces.{IsRooted, places_at, root_of}
-use Rattle.fort_context_closure.specs.RulePlaces.{no_rule}
+use Rattle.fort_label_bits.specs.RootPlaces.{IsRooted, places_at, root_of}
+use Rattle.fort_label_bits.specs.RulePlaces.{no_rule}
 use Rattle.fort_context_closure.specs.RuleRootPlaces.{left_roots, right_roots, start_adds, end_adds, starts_at, ends_at}
 use Rattle.fort_context_closure.specs.declared.reach.Reach.{Reach}
-use Rattle.fort_context_closure.specs.declared.rooted.Rooted.{Rooted}
-use Rattle.fort_context_closure.specs.declared.rule_places.RulePlaces.{RulePlaces}
-use Rattle.fort_context_closure.proofs.RootPlaceLaws.{any_false, Decides-any, Decides-rooted, root-fits}
+use Rattle.fort_label_bits.specs.declared.rooted.Rooted.{Rooted}
+use Rattle.fort_label_bits.specs.declared.rule_places.RulePlaces.{RulePlaces}
+use Rattle.fort_label_bits.proofs.RootPlaceLaws.{any_false, Decides-any, Decides-rooted, root-fits}
 
 and-first : (a b : Bool) → (a && b) ≡ true → a ≡ true
 and-first true b h = refl

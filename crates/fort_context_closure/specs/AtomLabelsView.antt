@@ -23,21 +23,27 @@ use Rattle.fort_atom_labels.specs.TermRule.{term_rule, term_accepts}
 use Rattle.fort_context_closure.specs.PlainAtoms.{no_closure, signed}
 use Rattle.fort_context_closure.specs.ClosedAtoms.{test_of}
 use Rattle.fort_context_closure.specs.declared.atom_labels.AtomLabels.{AtomLabels}
-use Rattle.fort_context_closure.specs.declared.atom_labels.AtomLabels.TheVariants.{Relation, Normal, Is}
+use Rattle.fort_context_closure.specs.declared.atom_labels.AtomLabels.TheVariants.{Relation, Expression, Normal, Is}
+use Rattle.fort_alike.specs.ExpressionAlike as expressions
+use Rattle.fort_alike.specs.ExpressionAlike.{ExpressionAtom, AlikeAtExpression}
+use Rattle.fort_relation_exprs.specs.RexView.{rex_rule, rex_accepts, rex_words}
 
 abbrev pub column_count : AtomLabels → ℕ
 column_count (Relation c) = c.atom.atom.columns
+column_count (Expression l) = l.shape.columns
 column_count (Normal a) = a.atom.columns
 column_count (Is term) = 1
 
 abbrev pub word_count : AtomLabels → ℕ
 word_count (Relation c) = suc (words_for (length (marks_of c.atom)))
+word_count (Expression l) = rex_words l
 word_count (Normal a) = suc (words_for (length (marks_of a)))
 word_count (Is term) = 2
 
 -- the rule of the labels over a signature
 abbrev pub rule_by : Signature → AtomLabels → LabelRule
 rule_by sig (Relation c) = atom_rule (signed sig c.atom) (test_of c)
+rule_by sig (Expression l) = rex_rule sig l
 rule_by sig (Normal a) = atom_rule (signed sig a) no_closure
 rule_by sig (Is term) = term_rule sig (subterms term)
 
@@ -46,6 +52,7 @@ label_by sig l = label_of (rule_by sig l)
 
 abbrev pub accepted_by : Signature → AtomLabels → List ℕ → Bool
 accepted_by sig (Relation c) = atom_accepts (signed sig c.atom)
+accepted_by sig (Expression l) = rex_accepts l
 accepted_by sig (Normal a) = atom_accepts (signed sig a)
 accepted_by sig (Is term) = term_accepts (subterms term) term
 
@@ -80,3 +87,12 @@ TellsAlikeAtTerm sig term l = (t u : Tuple) → IsTuple sig 1 t → IsTuple sig 
 
 abbrev pub AcceptsTerm : Signature → Tree → AtomLabels → Type 0
 AcceptsTerm sig term l = (t : Tuple) → IsTuple sig 1 t → Decides (accepted_by sig l (label_by sig l t)) (OfOne (λ s. s ≡ term) (get_or t 0 None))
+
+-- the same for an atom of an expression
+abbrev pub TellsAlikeAtExpression : ExpressionAtom → AtomLabels → Type 0
+TellsAlikeAtExpression a l = (t u : Tuple) → IsTuple a.system.signature a.columns t → IsTuple a.system.signature a.columns u
+    → (label_by a.system.signature l t ≡ label_by a.system.signature l u) ↔ AlikeAtExpression a t u
+
+abbrev pub AcceptsExpression : ExpressionAtom → AtomLabels → Type 0
+AcceptsExpression a l = (t : Tuple) → IsTuple a.system.signature a.columns t
+    → Decides (accepted_by a.system.signature l (label_by a.system.signature l t)) (expressions.IsTrueOf a t)

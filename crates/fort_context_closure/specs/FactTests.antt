@@ -4,7 +4,7 @@ use Rattle.fort_alike.specs.Atoms.{AtomKind}
 use Rattle.fort_alike.specs.Alike.{Fact, Same, Steps, StepsBelow, StepsInParallel, IsNormal, Goes, GoesStrictly, facts_of}
 use Rattle.fort_atom_labels.specs.ListedAtoms.{OfBoth}
 use Rattle.fort_atom_labels.specs.AtomRules.{place, all_kids, one_kid, some_kid}
-use Rattle.fort_context_closure.specs.RowBits.{bit_of}
+use Rattle.fort_label_bits.specs.RowBits.{bit_of}
 
 -- the facts of a kind have the bits from this one on, in their order
 abbrev pub fact_bit : AtomKind → ℕ → Fact → List ℕ → Bool

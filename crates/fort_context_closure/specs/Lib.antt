@@ -1,10 +1,6 @@
 pub mod TermNodes
 pub mod TermListing
-pub mod NumberedView
-pub mod RowBits
 pub mod FactTests
-pub mod RulePlaces
-pub mod RootPlaces
 pub mod PlainAtoms
 pub mod AtomCode
 pub mod RelationView
@@ -16,6 +12,5 @@ pub mod ItemView
 pub mod ClosedAtoms
 pub mod ReachRows
 pub mod RuleRootPlaces
-pub mod RuleLefts
 pub mod RuleLists
 pub mod Closures

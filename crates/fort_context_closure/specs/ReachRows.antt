@@ -3,31 +3,17 @@ use Rattle.std.specs.Prelude.{◌≡◌, ℕ, ◌+◌, ◌<◌, suc, List, [], m
 use Rattle.fort_theory.specs.Patterns.{Pattern, Any}
 use Rattle.fort_tables.specs.BitRows.{words_for}
 use Rattle.fort_atom_labels.specs.PatternNumbers.{PatternNumber, number_inside}
-use Rattle.fort_context_closure.specs.RowBits.{bit_of}
+use Rattle.fort_label_bits.specs.RowBits.{bit_of}
+use Rattle.fort_label_bits.specs.BitRowLists.{row_in}
 use Rattle.fort_steps.specs.declared.closure.ClosureEntry.{ClosureEntry}
 use Rattle.fort_context_closure.specs.declared.reach.Reach.{Reach}
-use Rattle.fort_context_closure.specs.declared.rule_places.RulePlaces.{RulePlaces}
-
-abbrev pub row_in : List (List ℕ) → ℕ → List ℕ
-row_in rows k = get_or rows k []
-
--- this bit of this row is on too
-pub record SetsBit (old : List (List ℕ)) (row bit : ℕ) (new : List (List ℕ)) : Type 0 where
-  pub count : length new ≡ length old
-  pub widths : (k : ℕ) → length (row_in new k) ≡ length (row_in old k)
-  pub bits : (k q : ℕ) → bit_of q (row_in new k) ≡ (((row == k) && (bit == q)) || bit_of q (row_in old k))
+use Rattle.fort_label_bits.specs.declared.rule_places.RulePlaces.{RulePlaces}
 
 abbrev pub firsts_of : Reach → List (List ℕ)
 firsts_of reach = map vec_items reach.firsts.items
 
 abbrev pub seconds_of : Reach → List (List ℕ)
 seconds_of reach = map vec_items reach.seconds.items
-
--- so many rows of this width, with no bit on
-pub record AreClear (count width : ℕ) (rows : List (List ℕ)) : Type 0 where
-  pub many : length rows ≡ count
-  pub widths : (k : ℕ) → k < count → length (row_in rows k) ≡ width
-  pub bits : (k q : ℕ) → bit_of q (row_in rows k) ≡ false
 
 -- the entry is about these patterns
 abbrev pub is_within : ℕ → Reach → ClosureEntry → Bool

@@ -8,13 +8,13 @@ use Rattle.fort_alike.specs.Alike.{is_reaching}
 use Rattle.fort_atom_labels.specs.ListedAtoms.{ListedAtom, listed, AreArguments}
 use Rattle.fort_atom_labels.specs.AtomRules.{marks_of}
 use Rattle.fort_atom_labels.proofs.BitPlaces.{NoneTwice}
-use Rattle.fort_context_closure.specs.NumberedView.{AreNumbersOf}
-use Rattle.fort_context_closure.specs.RulePlaces.{pair_at, AreWithin}
+use Rattle.fort_label_bits.specs.NumberedView.{AreNumbersOf}
+use Rattle.fort_label_bits.specs.RulePlaces.{pair_at, AreWithin}
 use Rattle.fort_context_closure.specs.ClosedAtoms.{ClosedAtom, numbers_of}
 use Rattle.fort_context_closure.specs.ReachRows.{IsReach, NoPatternTwice}
-use Rattle.fort_context_closure.specs.RootPlaces.{IsRooted, root_of}
+use Rattle.fort_label_bits.specs.RootPlaces.{IsRooted, root_of}
 use Rattle.fort_context_closure.specs.RuleRootPlaces.{AreRuleRoots}
-use Rattle.fort_context_closure.specs.RuleLefts.{AreUnderLefts}
+use Rattle.fort_label_bits.specs.RuleLefts.{AreUnderLefts}
 use Rattle.fort_context_closure.specs.declared.relation.RelationBits.TheInside.{Inside}
 
 abbrev pub left_patterns : Inside → List Pattern

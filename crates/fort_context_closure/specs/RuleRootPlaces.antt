@@ -1,13 +1,14 @@
 -- Inside: rules by the symbols at the roots of their sides, and what those of one root add to a label.
 use Rattle.std.specs.Prelude.{ℕ, List, map, length, get_or, Option, None, Bool, ◌&&◌}
 use Rattle.fort_atom_labels.specs.PatternNumbers.{PatternNumber, number_inside}
-use Rattle.fort_context_closure.specs.RowBits.{bit_of}
-use Rattle.fort_context_closure.specs.RootPlaces.{IsRooted, root_of}
-use Rattle.fort_context_closure.specs.ReachRows.{row_in, firsts_of, seconds_of}
+use Rattle.fort_label_bits.specs.RowBits.{bit_of}
+use Rattle.fort_label_bits.specs.RootPlaces.{IsRooted, root_of}
+use Rattle.fort_context_closure.specs.ReachRows.{firsts_of, seconds_of}
+use Rattle.fort_label_bits.specs.BitRowLists.{row_in}
 use Rattle.fort_context_closure.specs.declared.reach.Reach.{Reach}
 use Rattle.fort_context_closure.specs.declared.reached.RuleRoots.{RuleRoots}
-use Rattle.fort_context_closure.specs.RulePlaces.{no_rule}
-use Rattle.fort_context_closure.specs.declared.rule_places.RulePlaces.{RulePlaces}
+use Rattle.fort_label_bits.specs.RulePlaces.{no_rule}
+use Rattle.fort_label_bits.specs.declared.rule_places.RulePlaces.{RulePlaces}
 
 abbrev pub left_roots : List PatternNumber → List RulePlaces → List (Option ℕ)
 left_roots lefts rules = map (λ (r : RulePlaces). root_of (get_or lefts r.left None)) rules

@@ -2,7 +2,7 @@
 use Rattle.std.specs.Prelude.{◌≡◌, ◌<◌, ℕ, List, map, length, get_or, Contains, Bool}
 use Rattle.std.specs.List.{list_any}
 use Rattle.fort_theory.specs.Patterns.{Pattern, Any, Pair}
-use Rattle.fort_context_closure.specs.RowBits.{bit_of}
+use Rattle.fort_label_bits.specs.RowBits.{bit_of}
 
 -- a rule by the place of its left side; no label of normal forms reads the right side
 abbrev pub side_at : List Pattern → ℕ → Pair

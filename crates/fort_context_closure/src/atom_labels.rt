@@ -7,7 +7,14 @@ ghost use Rattle.fort_theory.specs.Signatures as theory;
 ghost use Rattle.fort_cores.specs.Cores as cores;
 ghost use Rattle.fort_cores.specs.Parts as parts;
 ghost use Rattle.fort_relations.specs.RelView.{as_rel};
+ghost use Rattle.fort_relations.specs.RexView.{as_expression};
+ghost use Rattle.fort_relations.specs.HolesView.{as_hole_number, as_hole_place};
+ghost use Rattle.fort_expressions.specs.Expressions.{HasManyRoots};
+ghost use Rattle.fort_parts.specs.DecidedCores.{IsExpressionOver};
 ghost use Rattle.fort_alike.specs.Atoms.{relation_atom, normal_atom};
+ghost use Rattle.fort_alike.specs.ExpressionAlike.{expression_atom};
+ghost use Rattle.fort_relation_exprs.specs.RexSeen.{RexSeen};
+ghost use Rattle.fort_relation_exprs.specs.RexView.{AreRexLabels};
 ghost use Rattle.fort_atom_labels.specs.ListedAtoms.{ListedAtom};
 ghost use Rattle.fort_context_closure.specs.ClosedAtoms.{ClosedAtom, ListsPasses};
 ghost use Rattle.fort_context_closure.specs.PlainAtoms.{IsByPairs, IsNormalAtomOf};
@@ -15,7 +22,8 @@ ghost use Rattle.fort_context_closure.specs.PlainAtoms.{IsByPairs, IsNormalAtomO
 use crate::normal::NormalBits;
 use crate::relation::RelationBits;
 use crate::term_labels::TermLabels;
-use fort_relations::Rel;
+use fort_relation_exprs::RexLabels;
+use fort_relations::{Holes, Place, Rel, Rex};
 use fort_steps::ClosureEntry;
 use fort_terms::{Memory, System, Term};
 use std::alloc::Global;
@@ -25,6 +33,8 @@ use std::alloc::Global;
 pub enum AtomLabels {
     /// Two variables are related.
     Relation(RelationBits),
+    /// Two variables are one context with pairs of an expression's relation in its holes.
+    Expression(RexLabels),
     /// A variable is a normal form.
     Normal(NormalBits),
     /// A variable is a term.
@@ -32,7 +42,7 @@ pub enum AtomLabels {
 }
 
 impl AtomLabels {
-    ghost use Rattle.fort_context_closure.specs.AtomLabelsView.{column_count, word_count, TellsAlike, AcceptsTrue, AcceptsRelated, AcceptsNormal, AcceptsMet, TellsAlikeAtTerm, AcceptsTerm};
+    ghost use Rattle.fort_context_closure.specs.AtomLabelsView.{column_count, word_count, TellsAlike, AcceptsTrue, AcceptsRelated, AcceptsNormal, AcceptsMet, TellsAlikeAtTerm, AcceptsTerm, TellsAlikeAtExpression, AcceptsExpression};
 
     /// The labels of "x is related to y". The columns stand in the order of the variables' numbers; there is one where both are one
     /// variable. A reduction or a conversion is told by the closure of the index.
@@ -88,6 +98,42 @@ impl AtomLabels {
         Ok(AtomLabels::Relation(RelationBits::by_pairs(alloc, system, index, rel, x, y, pairs)?))
     }
 
+    /// The labels of "x and y are one context with pairs of the expression's relation in its holes",
+    /// of so many holes at such places. The columns stand in the order of the variables' numbers;
+    /// there is one where both are one variable.
+    pub fn expression(
+        alloc: Global,
+        system: &System,
+        rex: &Rex,
+        holes: Holes,
+        place: Place,
+        x: u32,
+        y: u32,
+    ) -> Result<AtomLabels, Memory>
+        requires over { IsExpressionOver system.now (as_expression rex.now) }
+        requires narrow { HasManyRoots (as_expression rex.now) → ⊥ }
+        ensures columns { IfOk result (λ l. (columns : List ℕ)
+            → parts.AreColumns (cores.Leaf (cores.InContext (as_expression rex.now)
+            (as_hole_number holes) (as_hole_place place) x y)) columns
+            → column_count l ≡ length columns) }
+        ensures alike { IfOk result (λ l. (columns : List ℕ)
+            → parts.AreColumns (cores.Leaf (cores.InContext (as_expression rex.now)
+            (as_hole_number holes) (as_hole_place place) x y)) columns
+            → TellsAlikeAtExpression (expression_atom system.now (as_expression rex.now)
+            (as_hole_number holes) (as_hole_place place) x y columns) l) }
+        ensures accepted { IfOk result (λ l. (columns : List ℕ)
+            → parts.AreColumns (cores.Leaf (cores.InContext (as_expression rex.now)
+            (as_hole_number holes) (as_hole_place place) x y)) columns
+            → AcceptsExpression (expression_atom system.now (as_expression rex.now)
+            (as_hole_number holes) (as_hole_place place) x y columns) l) }
+        ensures labels { IfOk result (λ l. (r : RexSeen) × (l ≡ AtomLabels.Expression r)
+            × AreRexLabels system.now (as_expression rex.now) (as_hole_number holes)
+            (as_hole_place place) x y r) }
+    {
+        let labels = RexLabels::new(alloc, system, rex, holes, place, x, y)?;
+        Ok(AtomLabels::Expression(labels))
+    }
+
     /// The labels of "the variable is a normal form", of one column.
     pub fn nf(alloc: Global, system: &System, index: u32) -> Result<AtomLabels, Memory>
         requires { IsIndexOf system.now.rules index }
@@ -125,6 +171,7 @@ impl AtomLabels {
     {
         match self {
             AtomLabels::Relation(bits) => bits.columns(),
+            AtomLabels::Expression(labels) => labels.columns(),
             AtomLabels::Normal(bits) => bits.columns(),
             AtomLabels::Is(_) => 1,
         }
@@ -136,6 +183,7 @@ impl AtomLabels {
     {
         match self {
             AtomLabels::Relation(bits) => bits.width(),
+            AtomLabels::Expression(labels) => labels.width(),
             AtomLabels::Normal(bits) => bits.width(),
             AtomLabels::Is(_) => 2,
         }

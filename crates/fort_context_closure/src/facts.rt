@@ -1,14 +1,13 @@
 //! The facts of an atom on its two arguments, at a node.
 ghost use Rattle.std.specs.Prelude.{◌≡◌, ℕ, ◌+◌, ◌*◌, ◌-◌, ◌<◌, ◌≤◌, ◌^◌, List, ◌++◌, map, Bool, ◌&&◌, length, slice_index_or};
-ghost use Rattle.fort_atom_labels.specs.AtomRules.{all_kids, one_kid, some_kid};
 ghost use Rattle.fort_alike.specs.Atoms.{kind_for};
 ghost use Rattle.fort_alike.specs.Alike.{facts_of};
 ghost use Rattle.fort_relations.specs.RelView.{as_rel};
-ghost use Rattle.fort_context_closure.specs.RowBits.{HasBits, bit_of, labels_at};
+ghost use Rattle.fort_label_bits.specs.RowBits.{HasBits, bit_of, labels_at};
 ghost use Rattle.fort_context_closure.specs.FactTests.{fact_bit, fact_test};
 
-use crate::bits::{all_have, one_has, put_mark, some_has};
 use fort_explore::Rows;
+use fort_label_bits::{all_under, one_under, put_mark, some_under};
 use fort_lockstep::Row;
 use fort_relations::Rel;
 
@@ -22,41 +21,6 @@ pub(crate) fn fact_count(rel: Rel) -> usize
         Rel::Step | Rel::Plus => 2,
         Rel::Below => 3,
     }
-}
-
-/// Whether the roots are one symbol and all children have the bit.
-fn all_under(equal: bool, bit: usize, row: &Row, rows: &Rows) -> bool
-    requires bit { bit < 2 ^ 63 }
-    requires within { (j : ℕ) → j < length row.now.kids
-        → slice_index_or row.now.kids j 0 < length rows.now.labels }
-    ensures { result ≡ (equal
-        && all_kids (bit_of bit) (labels_at rows.now.labels row.now.kids)) }
-{
-    equal && all_have(bit, row, rows)
-}
-
-/// Whether the roots are one symbol, some child has the first bit, and all others have the other one.
-fn one_under(equal: bool, bit: usize, other: usize, row: &Row, rows: &Rows) -> bool
-    requires bit { bit < 2 ^ 63 }
-    requires other { other < 2 ^ 63 }
-    requires within { (j : ℕ) → j < length row.now.kids
-        → slice_index_or row.now.kids j 0 < length rows.now.labels }
-    ensures { result ≡ (equal && one_kid (bit_of bit) (bit_of other)
-        (labels_at rows.now.labels row.now.kids)) }
-{
-    equal && one_has(bit, other, row, rows)
-}
-
-/// Whether the roots are one symbol, all children have the first bit, and some child has the other one.
-fn some_under(equal: bool, bit: usize, other: usize, row: &Row, rows: &Rows) -> bool
-    requires bit { bit < 2 ^ 63 }
-    requires other { other < 2 ^ 63 }
-    requires within { (j : ℕ) → j < length row.now.kids
-        → slice_index_or row.now.kids j 0 < length rows.now.labels }
-    ensures { result ≡ (equal && (all_kids (bit_of bit) (labels_at rows.now.labels row.now.kids)
-        && some_kid (bit_of other) (labels_at rows.now.labels row.now.kids))) }
-{
-    equal && (all_have(bit, row, rows) && some_has(other, row, rows))
 }
 
 /// Writes the facts at a node, from bit `base` on: `equal` tells whether the roots are one symbol, `root` whether there is a root

@@ -6,10 +6,12 @@ ghost use Rattle.fort_tables.specs.LabelRules.{entry_label};
 ghost use Rattle.fort_atom_labels.specs.AtomRules.{marks_of, atom_rule, atom_accepts};
 ghost use Rattle.fort_context_closure.specs.PlainAtoms.{no_closure, IsNormalAtomOf};
 
-use crate::bits::{all_have, clear, has_mark, is_there, put_first, put_mark};
-use crate::numbered::{Numbered, number_patterns, write_inside};
 use crate::side_places::{places_of_sides, some_side};
 use fort_explore::Rows;
+use fort_label_bits::{
+    Numbered, all_have, clear, has_mark, is_there, number_patterns, put_first, put_mark,
+    write_inside,
+};
 use fort_lockstep::Row;
 use fort_terms::{Memory, Pattern, System};
 use std::alloc::Global;

@@ -3,17 +3,17 @@ ghost use Rattle.std.specs.Prelude.{◌≡◌, ℕ, ◌+◌, ◌*◌, ◌<◌, �
 ghost use Rattle.std.specs.List.{list_any};
 ghost use Rattle.fort_tables.specs.BitRows.{words_for};
 ghost use Rattle.fort_tuple_symbols.specs.Columns.{as_column};
-ghost use Rattle.fort_context_closure.specs.RowBits.{bit_of, labels_at};
+ghost use Rattle.fort_label_bits.specs.RowBits.{bit_of, labels_at};
 ghost use Rattle.fort_context_closure.specs.ReachRows.{HasRows, rule_adds};
-ghost use Rattle.fort_context_closure.specs.RulePlaces.{no_rule};
+ghost use Rattle.fort_label_bits.specs.RulePlaces.{no_rule};
 ghost use Rattle.fort_context_closure.specs.RuleRootPlaces.{AreRuleRoots, start_adds, end_adds, starts_at, ends_at};
-ghost use Rattle.fort_context_closure.specs.declared.rule_places.RulePlaces as places;
+ghost use Rattle.fort_label_bits.specs.declared.rule_places.RulePlaces as places;
 
-use crate::numbered::{Numbered, is_inside, pattern_at};
-use crate::reach::{Reach, add_row, row_at};
-use crate::rooted::Rooted;
-use crate::rule_places::RulePlaces;
+use crate::reach::Reach;
 use fort_explore::Rows;
+use fort_label_bits::{
+    Numbered, Rooted, RulePlaces, add_row, is_inside, pattern_at, row_at, rule_at,
+};
 use fort_lockstep::Row;
 use fort_terms::{Memory, Sym};
 use std::alloc::Global;
@@ -153,14 +153,6 @@ fn add_seconds(
             add_ends(any, lefts, rights, reach, rules, node, row, rows, out);
         }
     }
-}
-
-/// The rule at a place.
-pub(crate) fn rule_at(rules: &[RulePlaces], place: usize) -> RulePlaces
-    requires { place < length rules.now }
-    ensures { result ≡ get_or rules.now place no_rule }
-{
-    rules[place]
 }
 
 /// Of the rules at these places: where the left side is at the first root, what the right side reaches.

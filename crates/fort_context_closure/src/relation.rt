@@ -8,24 +8,23 @@ ghost use Rattle.fort_tuple_symbols.specs.Columns.{as_column};
 ghost use Rattle.fort_alike.specs.Atoms.{kind_for};
 ghost use Rattle.fort_alike.specs.Alike.{is_reaching};
 ghost use Rattle.fort_atom_labels.specs.AtomRules.{marks_of, atom_rule, atom_accepts};
-ghost use Rattle.fort_context_closure.specs.RowBits.{HasBits, labels_at};
+ghost use Rattle.fort_label_bits.specs.RowBits.{HasBits, labels_at};
 ghost use Rattle.fort_context_closure.specs.PlainAtoms.{IsOfRules, IsByPairs};
 ghost use Rattle.fort_context_closure.specs.ClosedAtoms.{numbers_of, pattern_bits, test_of};
 ghost use Rattle.fort_context_closure.specs.ReachRows.{IsReach};
 ghost use Rattle.fort_context_closure.specs.RuleLists.{ListsRules};
 ghost use Rattle.fort_terms.specs.PatternView.{as_pair, as_pattern};
 
-use crate::arguments::{Arguments, arguments_of};
-use crate::bits::{clear, has_mark, put_first, same_roots};
 use crate::facts::{fact_count, write_facts};
-use crate::numbered::{Numbered, number_patterns, root_patterns, write_rooted};
 use crate::reach::{Reach, reach_of};
 use crate::reached::{Node, RuleRoots, add_reached, root_rules};
-use crate::root_steps::{rules_under, some_marked};
-use crate::rooted::Rooted;
 use crate::rule_list::{RuleList, rules_of};
-use crate::rule_places::{RulePlaces, places_of_rules, some_rule};
 use fort_explore::Rows;
+use fort_label_bits::{
+    Arguments, Numbered, Rooted, RulePlaces, arguments_of, clear, has_mark, number_patterns,
+    places_of_rules, put_first, root_patterns, rules_under, same_roots, some_marked, some_rule,
+    write_rooted,
+};
 use fort_lockstep::Row;
 use fort_relations::Rel;
 use fort_steps::ClosureEntry;

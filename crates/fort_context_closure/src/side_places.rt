@@ -5,8 +5,7 @@ ghost use Rattle.fort_terms.specs.PatternView.{as_pair, as_pattern};
 ghost use Rattle.fort_tree_automata.specs.PatternMoves.{IsClosedInOrder};
 ghost use Rattle.fort_context_closure.specs.SidePlaces.{AreSidesOf, some_side as some_side_lem};
 
-use crate::bits::has_mark;
-use crate::numbered::place_of;
+use fort_label_bits::{has_mark, place_of};
 use fort_terms::{Memory, Pattern};
 use std::alloc::Global;
 

@@ -36,6 +36,7 @@ impl<'a> LocalRule for SignedAtom<'a> {
     fn step(&self, row: &Row, rows: &Rows, out: &mut [u64]) {
         match self.labels {
             AtomLabels::Relation(bits) => bits.step(row, rows, out),
+            AtomLabels::Expression(labels) => labels.step(row, rows, out),
             AtomLabels::Normal(bits) => bits.step(row, rows, out),
             AtomLabels::Is(labels) => labels.step(row, rows, out),
         }
@@ -44,6 +45,7 @@ impl<'a> LocalRule for SignedAtom<'a> {
     fn accepts(&self, words: &[u64]) -> bool {
         match self.labels {
             AtomLabels::Relation(bits) => bits.accepts(words),
+            AtomLabels::Expression(labels) => labels.accepts(words),
             AtomLabels::Normal(bits) => bits.accepts(words),
             AtomLabels::Is(labels) => labels.accepts(words),
         }

@@ -15,6 +15,10 @@ use Rattle.fort_cores.specs.Structures.{pattern_structure}
 use Rattle.fort_tables.specs.Tuples.{Tuple, IsTuple, IsFull}
 use Rattle.fort_tables.specs.Tables.{Table}
 use Rattle.fort_alike.specs.Atoms.{OfOne, OfTwo, Says, kind_for, pairs_for, relation_atom, normal_atom, IsTrueOf}
+use Rattle.fort_alike.specs.ExpressionAlike as expressions
+use Rattle.fort_alike.specs.ExpressionAlike.{expression_atom}
+use Rattle.fort_expressions.specs.Expressions.{Expression, Means}
+use Rattle.fort_expressions.specs.Contexts.{HoleNumber, HolePlace, HoldsInContext}
 use Rattle.fort_atom_labels.specs.AssignedTuples.{tuple_of}
 use Rattle.fort_atom_labels.proofs.AtomPlaces.{place_of, ArePlaces-columns}
 use Rattle.fort_atom_labels.proofs.AtomTruth.{Says-RelatesBy, get_or-tuple_of, Decides-Surely}
@@ -56,6 +60,34 @@ module _ (system : PatternSystem) (table : Table) where
       let terms = AreTerms-tuple_of system.signature v columns grounded in
       surely (accepts table (tuple_of v columns)) _ _ (IsTrueOf-relation rel index x y v)
       (exactly (tuple_of v columns) (IsTuple-terms system.signature (length columns) (tuple_of v columns) places.some terms) terms.full)
+
+  -- the relation of an expression
+  pub IsTrueOf-expression : (e : Expression) (number : HoleNumber) (place : HolePlace) (x y : ℕ) (v : Places)
+      → expressions.IsTrueOf (expression_atom system e number place x y (columns_of (core.Leaf (core.InContext e number place x y))))
+      (tuple_of v (columns_of (core.Leaf (core.InContext e number place x y))))
+      ↔ HoldsInContext (Means (PatternStepAt system) e) number place (v x) (v y)
+  IsTrueOf-expression e number place x y v =
+      let columns = columns_of (core.Leaf (core.InContext e number place x y)) in
+      let places = ArePlaces-columns core.Eq 1 x y columns (AreColumns-columns_of (core.Leaf (core.Related core.Eq 1 x y))) in
+      let R : Relation = HoldsInContext (Means (PatternStepAt system) e) number place in
+      subst (λ z. OfTwo R z (get_or (tuple_of v columns) (place_of y columns) None) ↔ R (v x) (v y))
+      (sym (get_or-tuple_of v columns (place_of x columns) x places.first_within places.first_is))
+      (subst (λ z. OfTwo R (Some (v x)) z ↔ R (v x) (v y))
+      (sym (get_or-tuple_of v columns (place_of y columns) y places.second_within places.second_is))
+      ((λ h. h), (λ h. h)))
+
+  -- accepted where the atom doesn't fail
+  pub TellsTruth-Expression : (e : Expression) (number : HoleNumber) (place : HolePlace) (x y : ℕ)
+      → AcceptsExactly system.signature (length (columns_of (core.Leaf (core.InContext e number place x y)))) table
+      (λ t. Surely (expressions.IsTrueOf (expression_atom system e number place x y (columns_of (core.Leaf (core.InContext e number place x y)))) t))
+      → TellsTruth (pattern_structure system) (core.Leaf (core.InContext e number place x y)) (said (OfTable table))
+  TellsTruth-Expression e number place x y exactly v grounded =
+      let columns = columns_of (core.Leaf (core.InContext e number place x y)) in
+      let places = ArePlaces-columns core.Eq 1 x y columns (AreColumns-columns_of (core.Leaf (core.Related core.Eq 1 x y))) in
+      let terms = AreTerms-tuple_of system.signature v columns grounded in
+      let d = exactly (tuple_of v columns) (IsTuple-terms system.signature (length columns) (tuple_of v columns) places.some terms) terms.full in
+      let w = IsTrueOf-expression e number place x y v in
+      ((λ h not. d.0 h (λ p. not (w.0 p))), (λ p. d.1 (λ not. p (λ q. not (w.1 q)))))
 
   one_term : (x : ℕ) (v : Places) → AreGround system.signature v → IsTuple system.signature 1 (Some (v x) ∷ [])
   one_term x v grounded = record { width = refl; present = tt; grounded = (grounded x, tt) }

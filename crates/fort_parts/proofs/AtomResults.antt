@@ -1,6 +1,7 @@
 -- Results for whoever decides part by part: a table by the labels of an atom answers it.
 use Rattle.std.specs.Prelude.{◌≡◌, ◌↔◌, ℕ, ◌<◌, List, length, Bool, Decides, None, get_or, refl}
 use Rattle.std.proofs.Common.{ap, sym, ◌∙◌, subst, arith}
+use Rattle.fort_theory.specs.Logic.{Surely}
 use Rattle.fort_theory.specs.Trees.{Tree}
 use Rattle.fort_theory.specs.Patterns.{PatternSystem}
 use Rattle.fort_cores.specs.Cores as core
@@ -12,15 +13,20 @@ use Rattle.fort_tables.specs.Labels.{Labelling}
 use Rattle.fort_tables.specs.LabelRules.{IsTableBy}
 use Rattle.fort_alike.specs.Atoms.{OfOne, relation_atom, normal_atom, IsTrueOf}
 use Rattle.fort_alike.specs.Alike.{Alike}
+use Rattle.fort_alike.specs.ExpressionAlike as expressions
+use Rattle.fort_alike.specs.ExpressionAlike.{expression_atom}
 use Rattle.fort_alike.specs.AlikeAtTerm.{AlikeAtTerm}
 use Rattle.fort_atom_labels.proofs.AtomPlaces.{ArePlaces-columns}
+use Rattle.fort_atom_labels.proofs.AtomTruth.{Decides-Surely}
+use Rattle.fort_expressions.specs.Expressions.{Expression}
+use Rattle.fort_expressions.specs.Contexts.{HoleNumber, HolePlace}
 use Rattle.fort_operations.specs.OperationTruth.{accepts}
 use Rattle.fort_parts.specs.PartColumns.{columns_of}
 use Rattle.fort_parts.specs.PartAnswers.{OfTable, said, TellsTruth, IsAnswerTo}
 use Rattle.fort_parts.specs.PartLabels.{LabelsTellAlike}
 use Rattle.fort_parts.proofs.PartColumnLaws.{AreColumns-columns_of, columns_of-Normal, columns_of-IsTerm}
 use Rattle.fort_parts.proofs.StepTables.{IsTableOver-labels}
-use Rattle.fort_parts.proofs.AtomAnswers.{AcceptsExactly, TellsTruth-Atom, TellsTruth-Nf, TellsTruth-Is}
+use Rattle.fort_parts.proofs.AtomAnswers.{AcceptsExactly, TellsTruth-Atom, TellsTruth-Expression, TellsTruth-Nf, TellsTruth-Is}
 
 -- the labels of tuples of terms are accepted exactly where P holds of the tuple
 abbrev pub AcceptsLabels : PatternSystem → ℕ → Labelling → (List ℕ → Bool) → (Tuple → Type 0) → Type 0
@@ -50,6 +56,25 @@ module _ (system : PatternSystem) (label : Labelling) (accepting : List ℕ → 
       let f = core.Leaf (core.Related rel index x y) in
       answer f (ArePlaces-columns rel index x y (columns_of f) (AreColumns-columns_of f)).some
       (TellsTruth-Atom system table rel index x y (by_table (length (columns_of f)) _ by exactly)) by
+
+  -- accepted where the atom doesn't fail
+  pub IsAnswerTo-Expression_surely : (e : Expression) (number : HoleNumber) (place : HolePlace) (x y : ℕ)
+      → AcceptsLabels system (length (columns_of (core.Leaf (core.InContext e number place x y)))) label accepting
+      (λ t. Surely (expressions.IsTrueOf (expression_atom system e number place x y (columns_of (core.Leaf (core.InContext e number place x y)))) t))
+      → IsTableBy system.signature (length (columns_of (core.Leaf (core.InContext e number place x y)))) label accepting table
+      → IsAnswerTo (pattern_structure system) (core.Leaf (core.InContext e number place x y)) (OfTable table)
+  IsAnswerTo-Expression_surely e number place x y exactly by =
+      let f = core.Leaf (core.InContext e number place x y) in
+      answer f (ArePlaces-columns core.Eq 1 x y (columns_of f) (AreColumns-columns_of (core.Leaf (core.Related core.Eq 1 x y)))).some
+      (TellsTruth-Expression system table e number place x y (by_table (length (columns_of f)) _ by exactly)) by
+
+  pub IsAnswerTo-Expression : (e : Expression) (number : HoleNumber) (place : HolePlace) (x y : ℕ)
+      → AcceptsLabels system (length (columns_of (core.Leaf (core.InContext e number place x y)))) label accepting
+      (expressions.IsTrueOf (expression_atom system e number place x y (columns_of (core.Leaf (core.InContext e number place x y)))))
+      → IsTableBy system.signature (length (columns_of (core.Leaf (core.InContext e number place x y)))) label accepting table
+      → IsAnswerTo (pattern_structure system) (core.Leaf (core.InContext e number place x y)) (OfTable table)
+  IsAnswerTo-Expression e number place x y exactly by =
+      IsAnswerTo-Expression_surely e number place x y (λ t is full. Decides-Surely (accepting (label t)) (exactly t is full)) by
 
   -- of one column
   one : (f : Core) → length (columns_of f) ≡ 1 → TellsTruth (pattern_structure system) f (said (OfTable table)) → IsTableBy system.signature 1 label accepting table

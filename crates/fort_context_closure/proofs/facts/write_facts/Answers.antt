@@ -1,6 +1,6 @@
 use Rattle.std.proofs.Common.{List, ◌++◌, Bool, subst, arith, inl, inr, ◌+◌, ◌||◌, [], ◌∷◌}
-use Rattle.fort_context_closure.specs.RowBits.{HasBits, labels_at}
-use Rattle.fort_context_closure.proofs.RowBitLaws.{HasBits-two, HasBits-three, length-pushed}
+use Rattle.fort_label_bits.specs.RowBits.{HasBits, labels_at}
+use Rattle.fort_label_bits.proofs.RowBitLaws.{HasBits-two, HasBits-three, length-pushed}
 use Rattle.fort_context_closure.proofs.FactLaws.{facts-Step, facts-Below, facts-Par, facts-Star, facts-Plus}
 use Rattle.fort_context_closure.proofs.facts.write_facts.Goals as goal
 

@@ -6,12 +6,13 @@ use Rattle.std.proofs.lemmas.List.{get_or_default, length-map}
 use Rattle.std.proofs.lemmas.List.Elements.{Contains-get_or}
 use Rattle.fort_tuple_symbols.specs.Columns.{as_column}
 use Rattle.fort_atom_labels.specs.PatternNumbers.{PatternNumber, number_inside}
-use Rattle.fort_context_closure.specs.RowBits.{bit_of, labels_at}
-use Rattle.fort_context_closure.specs.ReachRows.{row_in, seconds_of}
-use Rattle.fort_context_closure.specs.RulePlaces.{no_rule}
+use Rattle.fort_label_bits.specs.RowBits.{bit_of, labels_at}
+use Rattle.fort_context_closure.specs.ReachRows.{seconds_of}
+use Rattle.fort_label_bits.specs.BitRowLists.{row_in}
+use Rattle.fort_label_bits.specs.RulePlaces.{no_rule}
 use Rattle.fort_context_closure.specs.RuleRootPlaces.{ends_at}
-use Rattle.fort_context_closure.specs.declared.rule_places.RulePlaces.{RulePlaces}
-use Rattle.fort_context_closure.proofs.ReachRowLaws.{list_any-more}
+use Rattle.fort_label_bits.specs.declared.rule_places.RulePlaces.{RulePlaces}
+use Rattle.fort_label_bits.proofs.BitRowListLaws.{list_any-more}
 use Rattle.fort_context_closure.proofs.reached.add_ends.Goals as goal
 
 pub rule_at-rule-requires : goal.rule_at-rule-requires

@@ -1,7 +1,7 @@
 use Rattle.std.proofs.Common.{◌≡◌, ℕ, ◌||◌, take}
 use Rattle.std.specs.List.{list_any}
 use Rattle.fort_tuple_symbols.specs.Columns.{as_column}
-use Rattle.fort_context_closure.specs.RowBits.{bit_of, labels_at}
+use Rattle.fort_label_bits.specs.RowBits.{bit_of, labels_at}
 use Rattle.fort_context_closure.specs.RuleRootPlaces.{ends_at}
 use Rattle.fort_context_closure.proofs.reached.add_ends.Given as goal
 

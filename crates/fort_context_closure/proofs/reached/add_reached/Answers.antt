@@ -2,10 +2,10 @@ use Rattle.std.proofs.Common.{ℕ, List, Bool, ◌||◌, sym, ap, ◌∙◌}
 use Rattle.std.specs.List.{list_any}
 use Rattle.std.proofs.Math.Bool.{or_assoc}
 use Rattle.fort_tuple_symbols.specs.Columns.{as_column}
-use Rattle.fort_context_closure.specs.RowBits.{bit_of, labels_at}
+use Rattle.fort_label_bits.specs.RowBits.{bit_of, labels_at}
 use Rattle.fort_context_closure.specs.RuleRootPlaces.{start_adds, end_adds}
-use Rattle.fort_context_closure.specs.declared.rule_places.RulePlaces.{RulePlaces}
-use Rattle.fort_context_closure.proofs.RootPlaceLaws.{any_or}
+use Rattle.fort_label_bits.specs.declared.rule_places.RulePlaces.{RulePlaces}
+use Rattle.fort_label_bits.proofs.RootPlaceLaws.{any_or}
 use Rattle.fort_context_closure.proofs.reached.add_reached.Goals as goal
 
 pub returns : goal.returns

@@ -3,10 +3,10 @@ use Rattle.std.specs.List.{list_any}
 use Rattle.std.proofs.Math.Bool.{or_assoc}
 use Rattle.std.proofs.lemmas.List.{length-map}
 use Rattle.fort_tuple_symbols.specs.Columns.{as_column}
-use Rattle.fort_context_closure.specs.RowBits.{bit_of, labels_at}
-use Rattle.fort_context_closure.specs.RootPlaces.{places_at, root_of}
+use Rattle.fort_label_bits.specs.RowBits.{bit_of, labels_at}
+use Rattle.fort_label_bits.specs.RootPlaces.{places_at, root_of}
 use Rattle.fort_context_closure.specs.RuleRootPlaces.{end_adds, ends_at}
-use Rattle.fort_context_closure.specs.declared.rule_places.RulePlaces.{RulePlaces}
+use Rattle.fort_label_bits.specs.declared.rule_places.RulePlaces.{RulePlaces}
 use Rattle.fort_context_closure.proofs.RuleRootLaws.{ends_rooted, ends_nowhere, or-nothing}
 use Rattle.fort_context_closure.proofs.reached.add_seconds.Goals as goal
 

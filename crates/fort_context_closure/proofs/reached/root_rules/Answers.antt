@@ -1,10 +1,10 @@
 use Rattle.std.proofs.Common.{◌≡◌, None, get_or, ap, ◌∙◌}
 use Rattle.std.proofs.lemmas.List.{get_or_default}
 use Rattle.std.proofs.lemmas.List.Elements.{Contains-get_or}
-use Rattle.fort_context_closure.specs.RootPlaces.{root_of}
-use Rattle.fort_context_closure.specs.RulePlaces.{no_rule}
-use Rattle.fort_context_closure.specs.declared.rule_places.RulePlaces.{RulePlaces}
-use Rattle.fort_context_closure.proofs.RootPlaceLaws.{rooted_next}
+use Rattle.fort_label_bits.specs.RootPlaces.{root_of}
+use Rattle.fort_label_bits.specs.RulePlaces.{no_rule}
+use Rattle.fort_label_bits.specs.declared.rule_places.RulePlaces.{RulePlaces}
+use Rattle.fort_label_bits.proofs.RootPlaceLaws.{rooted_next}
 use Rattle.fort_context_closure.proofs.reached.root_rules.Goals as goal
 
 pub pattern_at-requires : goal.pattern_at-requires

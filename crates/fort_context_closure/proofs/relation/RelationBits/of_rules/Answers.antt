@@ -8,10 +8,10 @@ use Rattle.fort_tree_automata.proofs.SubpatternsClosed.{IsClosedInOrder-subpatte
 use Rattle.fort_atom_labels.proofs.MarkSets.{NoneTwice-ordered}
 use Rattle.fort_context_closure.specs.declared.relation.RelationBits.TheInside.{Inside}
 use Rattle.fort_context_closure.specs.ClosedAtoms.{numbers_of}
-use Rattle.fort_context_closure.specs.NumberedView.{AreNumbersOf}
+use Rattle.fort_label_bits.specs.NumberedView.{AreNumbersOf}
 use Rattle.fort_context_closure.specs.ReachRows.{IsReach}
 use Rattle.fort_context_closure.specs.RelationView.{listed_seen}
-use Rattle.fort_context_closure.specs.RulePlaces.{ArePlacesOf}
+use Rattle.fort_label_bits.specs.RulePlaces.{ArePlacesOf}
 use Rattle.fort_context_closure.proofs.MakerLaws.{Contains-left_side, Contains-right_side}
 use Rattle.fort_context_closure.proofs.ReachLaws.{NoPatternTwice-ordered}
 use Rattle.fort_context_closure.proofs.relation.RelationBits.of_rules.Goals as goal

@@ -5,8 +5,8 @@ use Rattle.fort_theory.specs.Patterns.{Pattern}
 use Rattle.fort_tables.specs.Tuples.{presence}
 use Rattle.fort_tuple_symbols.specs.Columns.{as_column}
 use Rattle.fort_relations.specs.RelView.{as_rel}
-use Rattle.fort_context_closure.specs.RowBits.{HasBits, IsRow, labels_at}
-use Rattle.fort_context_closure.specs.RulePlaces.{pair_at}
+use Rattle.fort_label_bits.specs.RowBits.{HasBits, IsRow, labels_at}
+use Rattle.fort_label_bits.specs.RulePlaces.{pair_at}
 use Rattle.fort_context_closure.specs.ClosedAtoms.{test_of}
 use Rattle.fort_atom_labels.specs.AtomRules.{root_test, bit_in, marks_of, first_step, second_step}
 use Rattle.fort_tables.specs.BitRows.{words_for}

@@ -1,0 +1,2 @@
+pub mod SidePatterns
+pub mod CompiledNumbersLaws

@@ -1,6 +1,0 @@
-use Rattle.fort_context_closure.specs.RootPlaces.{root_of}
-use Rattle.fort_context_closure.proofs.RootPlaceLaws.{rooted_next}
-use Rattle.fort_context_closure.proofs.numbered.root_patterns.Goals as goal
-
-pub loop-k-preserved : goal.loop-k-preserved
-loop-k-preserved c = rooted_next root_of c.args.patterns.now c.loop-k.k c.index-patterns-k.result _ _ _ c.loop-k-test.true c.index-patterns-k.is c.root.ensures c.loop-k.invariant c.in_ok-push.ensures

@@ -1,7 +1,0 @@
-use Rattle.std.proofs.Common.{◌≤◌, map, take, length}
-use Rattle.std.specs.Prelude.{vec_items}
-use Rattle.fort_context_closure.specs.RuleLefts.{AreUnderLefts}
-use Rattle.fort_context_closure.proofs.root_steps.rules_under.Given as goal
-
-abbrev pub invariant-loop-k : goal.invariant-loop-k
-invariant-loop-k l = record { listed : AreUnderLefts (take l.k l.rules) (map vec_items l.under.items); room : l.lefts ≤ length l.under.items }

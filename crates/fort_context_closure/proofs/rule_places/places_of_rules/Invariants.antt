@@ -1,7 +1,0 @@
-use Rattle.std.proofs.Common.{map, take}
-use Rattle.fort_terms.specs.PatternView.{as_pair, as_pattern}
-use Rattle.fort_context_closure.specs.RulePlaces.{ArePlacesOf}
-use Rattle.fort_context_closure.proofs.rule_places.places_of_rules.Given as goal
-
-abbrev pub invariant-loop-rule : goal.invariant-loop-rule
-invariant-loop-rule l = ArePlacesOf (map as_pattern l.lefts) (map as_pattern l.rights) (map as_pair (take l.rule-index l.rules)) l.places.items

@@ -1,0 +1,7 @@
+pub mod NumberedLaws
+pub mod RowBitLaws
+pub mod SkippedBits
+pub mod RootPlaceLaws
+pub mod BitRowListLaws
+pub mod RulePlaceLaws
+pub mod RuleLeftLaws

@@ -1,0 +1,16 @@
+use Rattle.std.proofs.Common.{true, false, ◌<◌, length, sym, ap, ◌∙◌, arith}
+use Rattle.fort_label_bits.specs.RowBits.{bit_of}
+use Rattle.fort_label_bits.proofs.RowBitLaws.{some_kid-child}
+use Rattle.fort_label_bits.proofs.bits.some_has.Goals as goal
+
+pub returns-then-has_mark : goal.returns-then-has_mark
+returns-then-has_mark c =
+    let child : c.loop-j.j < length c.args.row.now.kids = omega (arith, c.loop-j-test.true, ap length c.kids-kids.ensures.states) in
+    let bit = rw (c.label.ensures, c.kids-kids.ensures.states) at (c.if-has_mark.ensures) in
+    sym (c.loop-j.invariant ∙ some_kid-child (bit_of c.args.bit) c.args.rows.now.labels c.args.row.now.kids c.loop-j.j true child bit)
+
+pub loop-j-preserved : goal.loop-j-preserved
+loop-j-preserved c =
+    let child : c.loop-j.j < length c.args.row.now.kids = omega (arith, c.loop-j-test.true, ap length c.kids-kids.ensures.states) in
+    let bit = rw (c.label.ensures, c.kids-kids.ensures.states) at (c.if-has_mark.ensures) in
+    c.loop-j.invariant ∙ some_kid-child (bit_of c.args.bit) c.args.rows.now.labels c.args.row.now.kids c.loop-j.j false child bit

@@ -1,0 +1,9 @@
+pub mod CompiledAgttLaws
+pub mod FewStatesLaws
+pub mod OperandLaws
+pub mod CompiledWithinLaws
+pub mod LeadRowLaws
+pub mod SideLaws
+pub mod RowLaws
+pub mod FactLaws
+pub mod RexLaws

@@ -1,0 +1,9 @@
+pub mod CompiledAgtt
+pub mod CompiledWithin
+pub mod LeadRows
+pub mod Sides
+pub mod RexSeen
+pub mod RexInside
+pub mod FactRows
+pub mod RexView
+pub mod RexWords
