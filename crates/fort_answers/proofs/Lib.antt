@@ -6,3 +6,4 @@ pub mod OneCap
 pub mod MadeLaws
 pub mod OneSample
 pub mod PossibleRequests
+pub mod FewPatterns

@@ -1,12 +1,11 @@
 -- The text of a formula has one line that refuses it.
-use Rattle.std.proofs.Common.{◌≡◌, List, ℕ, ◌∷◌, ap, sym, subst, ◌∙◌}
+use Rattle.std.proofs.Common.{◌≡◌, List, ℕ, ◌∷◌, ap, sym, ◌∙◌}
 use Rattle.fort_logic.specs.Formulas.{Formula, Name}
 use Rattle.fort_logic.specs.FreeNames.{free_names}
-use Rattle.fort_logic.specs.Translation.{IsFormulaTooWide}
 use Rattle.fort_formula_grammar.specs.FormulaText.{IsFormulaText}
 use Rattle.fort_formula_grammar.proofs.OneFormula.{IsFormulaText-unique, IsFirstFormulaFault-unique, no_formula_fault}
 use Rattle.fort_answers.specs.Lines.{formula_fault_line, formula_open}
-use Rattle.fort_answers.specs.FormulaAnswer.{IsRefused, Faulty, Wide, Undecided, IsRefusedClosed, Refused, Open}
+use Rattle.fort_answers.specs.FormulaAnswer.{IsRefused, Faulty, Wide, IsRefusedClosed, Refused, Open}
 use Rattle.fort_answers.proofs.OneVerdict.{accepted-not_refused}
 
 module _ (text : List ℕ) (f g : Formula) (left : IsFormulaText text f) (right : IsFormulaText text g) where
@@ -21,13 +20,6 @@ IsRefused-unique text line line' (Faulty x first e) (Faulty y first' e') = e ∙
 IsRefused-unique text line line' (Faulty x first e) (Wide g read wide e') = absurd (no_formula_fault read first)
 IsRefused-unique text line line' (Wide f read wide e) (Faulty y first e') = absurd (no_formula_fault read first)
 IsRefused-unique text line line' (Wide f read wide e) (Wide g read' wide' e') = e ∙ sym e'
-IsRefused-unique text line line' (Faulty x first e) (Undecided g read narrow has e') = absurd (no_formula_fault read first)
-IsRefused-unique text line line' (Undecided f read narrow has e) (Faulty y first e') = absurd (no_formula_fault read first)
-IsRefused-unique text line line' (Wide f read wide e) (Undecided g read' narrow has e') =
-    absurd (narrow (subst IsFormulaTooWide (IsFormulaText-unique read read') wide))
-IsRefused-unique text line line' (Undecided f read narrow has e) (Wide g read' wide e') =
-    absurd (narrow (subst IsFormulaTooWide (IsFormulaText-unique read' read) wide))
-IsRefused-unique text line line' (Undecided f read narrow has e) (Undecided g read' narrow' has' e') = e ∙ sym e'
 
 pub IsRefusedClosed-unique : (text line line' : List ℕ) → IsRefusedClosed text line → IsRefusedClosed text line' → line ≡ line'
 IsRefusedClosed-unique text line line' (Refused faulty) (Refused faulty') = IsRefused-unique text line line' faulty faulty'

@@ -1,18 +1,15 @@
 -- The text of a formula that is accepted isn't refused.
 use Rattle.std.specs.Prelude.{◌≡◌, ℕ, List, [], ◌∷◌}
-use Rattle.std.proofs.Common.{sym, ap, subst, ◌∙◌, true≢false}
+use Rattle.std.proofs.Common.{sym, ap, subst, ◌∙◌}
 use Rattle.fort_logic.specs.Formulas.{Formula}
 use Rattle.fort_logic.specs.FreeNames.{free_names}
-use Rattle.fort_logic.specs.Mentions.{has_expression}
 use Rattle.fort_logic.specs.Translation.{IsFormulaTooWide}
 use Rattle.fort_formula_grammar.proofs.OneFormula.{IsFormulaText-unique, no_formula_fault}
-use Rattle.fort_answers.specs.FormulaAnswer.{IsAccepted, IsRefused, Faulty, Wide, Undecided, IsAcceptedClosed, IsRefusedClosed, Refused, Open}
+use Rattle.fort_answers.specs.FormulaAnswer.{IsAccepted, IsRefused, Faulty, Wide, IsAcceptedClosed, IsRefusedClosed, Refused, Open}
 
 pub accepted-not_refused : (text : List ℕ) (f : Formula) (line : List ℕ) → IsAccepted text f → IsRefused text line → ⊥
 accepted-not_refused text f line is (Faulty fault first says) = no_formula_fault is.read first
 accepted-not_refused text f line is (Wide g read wide says) = is.narrow (subst IsFormulaTooWide (IsFormulaText-unique read is.read) wide)
-accepted-not_refused text f line is (Undecided g read narrow has says) =
-    let same = ap has_expression (IsFormulaText-unique read is.read) in true≢false (sym has ∙ (same ∙ is.plain))
 
 pub closed-not_refused : (text : List ℕ) (f : Formula) (line : List ℕ) → IsAcceptedClosed text f → IsRefusedClosed text line → ⊥
 closed-not_refused text f line is (Refused faulty) = accepted-not_refused text f line is.accepted faulty

@@ -1,24 +1,20 @@
 -- To believe: when the text of a formula, or of a closed one, is accepted before anything is read, and which line refuses one.
-use Rattle.std.specs.Prelude.{◌≡◌, true, false, ℕ, List, [], ◌∷◌}
+use Rattle.std.specs.Prelude.{◌≡◌, ℕ, List, [], ◌∷◌}
 use Rattle.fort_logic.specs.Formulas.{Name, Formula}
 use Rattle.fort_logic.specs.FreeNames.{free_names}
-use Rattle.fort_logic.specs.Mentions.{has_expression}
 use Rattle.fort_logic.specs.Translation.{IsFormulaTooWide}
 use Rattle.fort_formula_grammar.specs.FormulaText.{IsFormulaText, FormulaFault, IsFirstFormulaFault}
-use Rattle.fort_answers.specs.Lines.{formula_fault_line, formula_too_wide, formula_expression, formula_open}
+use Rattle.fort_answers.specs.Lines.{formula_fault_line, formula_too_wide, formula_open}
 
--- the text is the formula, no part of it is too wide, and it has no expression: these aren't decided yet
+-- the text is the formula, and no part of it is too wide
 pub record IsAccepted (text : List ℕ) (f : Formula) : Type 0 where
   pub read : IsFormulaText text f
   pub narrow : IsFormulaTooWide f → ⊥
-  pub plain : has_expression f ≡ false
 
 -- the cases in their order, each with what the earlier one leaves
 pub data IsRefused (text line : List ℕ) : Type 0 where
   Faulty : (fault : FormulaFault) → IsFirstFormulaFault text fault → line ≡ formula_fault_line fault → IsRefused text line
   Wide : (f : Formula) → IsFormulaText text f → IsFormulaTooWide f → line ≡ formula_too_wide → IsRefused text line
-  Undecided : (f : Formula) → IsFormulaText text f → (IsFormulaTooWide f → ⊥) → has_expression f ≡ true → line ≡ formula_expression
-      → IsRefused text line
 
 -- the same of a closed formula: no variable is free in it
 pub record IsAcceptedClosed (text : List ℕ) (f : Formula) : Type 0 where

@@ -72,10 +72,6 @@ formula_fault_line (formula.Syntax i) = numbered (codes "REFUSED formula syntax 
 abbrev pub formula_too_wide : List ℕ
 formula_too_wide = line (codes "REFUSED formula too wide")
 
--- the formula has an expression, which isn't decided yet
-abbrev pub formula_expression : List ℕ
-formula_expression = line (codes "REFUSED formula expression")
-
 -- the variable is free
 abbrev pub formula_open : Name → List ℕ
 formula_open x = line (codes "REFUSED formula open " ++ x)

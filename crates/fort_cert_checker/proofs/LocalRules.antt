@@ -1,20 +1,26 @@
--- The rules by the labels that the program makes are those that a part is to have.
-use Rattle.std.specs.Prelude.{◌≡◌, ℕ, List, map}
+-- The rules by the labels that the program makes are those that a part is to have, and those of an expression tell what it is to tell.
+use Rattle.std.specs.Prelude.{◌≡◌, ℕ, List, map, refl}
 use Rattle.std.proofs.Common.{sym, ap, ◌∙◌}
 use Rattle.std.proofs.lemmas.Simd.{map-map}
 use Rattle.fort_theory.specs.Signatures.{Signature}
 use Rattle.fort_theory.specs.Sides.{at_index}
 use Rattle.fort_theory.specs.Patterns.{Pattern, Pair, PatternSystem}
-use Rattle.fort_cores.specs.Cores.{Rel, Leaf, Related}
+use Rattle.fort_expressions.specs.Expressions as expressions
+use Rattle.fort_expressions.specs.Contexts.{HoleNumber, HolePlace}
+use Rattle.fort_cores.specs.Cores.{Rel, Leaf, Related, InContext}
 use Rattle.fort_alike.specs.Atoms as kinds
 use Rattle.fort_alike.specs.Atoms.{relation_atom}
+use Rattle.fort_alike.specs.ExpressionAlike.{expression_atom}
 use Rattle.fort_atom_labels.specs.ListedAtoms.{ListedAtom, listed}
 use Rattle.fort_atom_labels.specs.AtomRules.{atom_rule, atom_accepts}
 use Rattle.fort_atom_labels.specs.ClosureTests.{closure_test}
+use Rattle.fort_expression_labels.proofs.LabelMeans.{IsLabelRule-expression}
+use Rattle.fort_relation_exprs.specs.RexSeen.{RexSeen, states_of}
+use Rattle.fort_relation_exprs.specs.RexView.{AreRexLabels}
 use Rattle.fort_context_closure.specs.ClosedAtoms as closures
 use Rattle.fort_context_closure.specs.ClosedAtoms.{ClosedAtom}
 use Rattle.fort_context_closure.specs.PlainAtoms.{no_closure, signed, IsByPairs, IsNormalAtomOf}
-use Rattle.fort_context_closure.specs.declared.atom_labels.AtomLabels.TheVariants.{Relation, Normal}
+use Rattle.fort_context_closure.specs.declared.atom_labels.AtomLabels.TheVariants.{Relation, Expression, Normal}
 use Rattle.fort_context_closure.proofs.NormalLaws.{normal, normal-step}
 use Rattle.fort_parts.specs.PartColumns.{columns_of}
 use Rattle.fort_parts.proofs.PartColumnLaws.{AreColumns-columns_of}
@@ -22,7 +28,8 @@ use Rattle.fort_certificate_grammar.specs.Certificates.{Pair as Item}
 use Rattle.fort_steps.specs.declared.closure.ClosureEntry.{ClosureEntry}
 use Rattle.fort_steps.specs.StepView.{as_pair}
 use Rattle.fort_in_order.specs.ClosureSteps.{numbers_of}
-use Rattle.fort_in_order.specs.PartRules.{Local, relation_local, normal_local}
+use Rattle.fort_in_order.specs.PartRules.{Local, relation_local, normal_local, IsExpressionLocal}
+use Rattle.fort_in_order.proofs.RuleLaws.{IsExpressionLocal-decided}
 use Rattle.fort_cert_checker.specs.AtomPlans as own
 
 abbrev normal_by : Signature → List Pair → List Pattern → Local
@@ -42,6 +49,16 @@ relation_local_is system rel index x y pairs items c h e =
     let numbers : closures.numbers_of c.entries ≡ numbers_of items =
     ap closures.numbers_of h.entries_are ∙ (sym (map-map (λ (i : Item). (i.p, i.q)) as_pair pairs) ∙ ap numbers_of e) in
     λ i. record { rule = atom_rule (here i) (closure_test rights lefts (numbers i)); accepting = atom_accepts (here i) }
+
+-- Result: what the labels of an expression's atom tell
+pub expression_local_is : (system : PatternSystem) (e : expressions.Expression) (number : HoleNumber) (place : HolePlace) (x y : ℕ) (l : RexSeen)
+    → AreRexLabels system e number place x y l
+    → IsExpressionLocal (expression_atom system e number place x y (columns_of (Leaf (InContext e number place x y)))) (own.atom_local system (Expression l))
+expression_local_is system e number place x y l h =
+    let f = Leaf (InContext e number place x y) in
+    let over = h.over (columns_of f) (AreColumns-columns_of f) in
+    IsExpressionLocal-decided (expression_atom system e number place x y (columns_of f)) (own.atom_local system (Expression l))
+    (IsLabelRule-expression system.signature l.shape (states_of l) h.arguments) refl over.count over.alike over.accepted
 
 -- Result
 pub normal_local_is : (system : PatternSystem) (index : ℕ) (a : ListedAtom) → IsNormalAtomOf system index a

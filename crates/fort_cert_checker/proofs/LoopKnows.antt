@@ -1,7 +1,7 @@
 -- What is known at a place of a certificate behind fine steps: the step of a part that is due there may be checked, and the rooms hold the tables behind it.
 use Rattle.std.specs.List.{list_any}
 use Rattle.std.specs.Prelude.{◌≡◌, ℕ, zero, suc, ◌+◌, ◌*◌, ◌<◌, ◌≤◌, List, [], ◌∷◌, ◌++◌, length, get_or, Contains, Bool, true, false, if◌then◌else◌, refl}
-use Rattle.std.proofs.Common.{sym, ap, ◌∙◌, subst, arith, ⊎_elim}
+use Rattle.std.proofs.Common.{sym, ap, ◌∙◌, subst, arith, inr, ⊎_elim}
 use Rattle.std.proofs.lemmas.List.Elements.{Contains-append_cases, Contains-append_left, Contains-append_right, Contains-get_or}
 use Rattle.fort_theory.specs.Patterns.{PatternSystem}
 use Rattle.fort_theory.specs.Sides.{IsIndexOf}
@@ -44,6 +44,7 @@ fit_part system root parts are decided g c =
       over = IsOverSystem-part system root g decided.over p;
       binders = BindsFree-part root g decided.well_formed.binders p;
       few = columns_of-few root g decided.well_formed p;
+      roots = λ many. decided.well_formed.narrow (record { part = g; among = p; wide = inr many });
     }
 
 -- ---- what a due tells of its part

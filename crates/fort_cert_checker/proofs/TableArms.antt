@@ -14,7 +14,7 @@ use Rattle.fort_operations.specs.Projections.{ArePure, ArePureBelow, is_pure}
 use Rattle.fort_counts.specs.Counts as counts
 use Rattle.fort_counts.specs.Counts.{KeepRules, count_at}
 use Rattle.fort_context_closure.specs.declared.atom_labels.AtomLabels.{AtomLabels}
-use Rattle.fort_context_closure.specs.declared.atom_labels.AtomLabels.TheVariants.{Relation, Normal, Is}
+use Rattle.fort_context_closure.specs.declared.atom_labels.AtomLabels.TheVariants.{Relation, Expression, Normal, Is}
 use Rattle.fort_context_closure.specs.AtomLabelsView.{word_count}
 use Rattle.fort_context_closure.specs.SignedAtoms.{signature_by}
 use Rattle.fort_parts.specs.PartColumns.{columns_of, place_in}
@@ -54,7 +54,7 @@ use Rattle.fort_cert_checker.specs.OperandLists.{FitsList, AreListsFor}
 use Rattle.fort_cert_checker.specs.Pasts.{steps_of, IsTableAt, IsAnswerAt, IsPartStep, IsClosureKnown, IsMarkRoomFor, AreCountsKnown, IsTableDue, IsTableStep}
 use Rattle.fort_outline.proofs.JoinedOperands.{operand_first, operand_second}
 use Rattle.fort_cert_checker.proofs.KnownAnswers.{IsKnown, IsKnownTable, known_answer, known_table}
-use Rattle.fort_cert_checker.proofs.LocalRules.{relation_local_is, normal_local_is}
+use Rattle.fort_cert_checker.proofs.LocalRules.{relation_local_is, expression_local_is, normal_local_is}
 use Rattle.fort_cert_checker.proofs.PartLocals.{joined_local_is, joined_fit, projected_local_is, many_local_is}
 
 has_some : (n : ℕ) → 0 < n → nat_lt 0 n ≡ true
@@ -127,6 +127,11 @@ module _ (system : PatternSystem) (parts : List Core) (past : Past) (k : ℕ) (m
           is = same;
         }),
         ap (λ (l : Local). l.rule.columns) same ∙ ap (λ (g : Core). length (columns_of g)) (sym h.whole),
+      )
+  atom_right (Expression l) h =
+      let local = expression_local_is system h.expression h.number h.place h.first h.second l h.labels in (
+        subst (λ (g : Core). IsLocalOf system parts made k g (own.atom_local system (Expression l))) (sym h.whole) local,
+        local.columns ∙ ap (λ (g : Core). length (columns_of g)) (sym h.whole),
       )
   atom_right (Normal a) h =
       let same = normal_local_is system h.index a h.labels in (

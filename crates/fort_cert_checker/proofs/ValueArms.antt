@@ -36,7 +36,7 @@ use Rattle.fort_check_steps.specs.Marks.{HasMarkRoom}
 use Rattle.fort_cert_checker.specs.declared.plan.Source.{Source}
 use Rattle.fort_cert_checker.specs.declared.plan.OperandPlan.{OperandPlan}
 use Rattle.fort_context_closure.specs.declared.atom_labels.AtomLabels.{AtomLabels}
-use Rattle.fort_context_closure.specs.declared.atom_labels.AtomLabels.TheVariants.{Relation, Normal, Is}
+use Rattle.fort_context_closure.specs.declared.atom_labels.AtomLabels.TheVariants.{Relation, Expression, Normal, Is}
 use Rattle.fort_cert_checker.specs.declared.plan.Work.{Work}
 use Rattle.fort_cert_checker.specs.declared.plan.Work.TheVariants.{Truth, Negation, Atom, Product, Projection, Many}
 use Rattle.fort_cert_checker.specs.declared.plan.Plan.{Plan}
@@ -207,6 +207,12 @@ module _ (system : PatternSystem) (parts : List Core) (past : Past) (k : ℕ) (m
           let at = column-from_free g h.first free in
           let none = none_columns f due.columns in
           omega (arith, none, ap (λ (x : Core). length (columns_of x)) h.whole, at.1)
+      by (Expression l) h =
+          let g = core.Leaf (core.InContext h.expression h.number h.place h.first h.second) in
+          let free : is_free h.first g ≡ true = ap (λ (b : Bool). b || (h.second == h.first)) (eq-eqb h.first h.first refl) in
+          let at = column-from_free g h.first free in
+          let none = none_columns f due.columns in
+          omega (arith, none, ap (λ (x : Core). length (columns_of x)) h.whole, at.1)
       by (Normal a) h =
           let none = none_columns f due.columns in
           let one = ap length (columns_of-Normal h.index h.number) in
@@ -227,6 +233,8 @@ module _ (system : PatternSystem) (parts : List Core) (past : Past) (k : ℕ) (m
     where
       by_atom : (l : AtomLabels) → IsAtomPlan system (steps_of past) f l → ⊥
       by_atom (Relation c) h = let z : core.Infinite due.number due.body ≡ core.Leaf (core.Related h.rel h.index h.first h.second) = sym due.whole ∙ h.whole in cc
+      by_atom (Expression l) h =
+          let z : core.Infinite due.number due.body ≡ core.Leaf (core.InContext h.expression h.number h.place h.first h.second) = sym due.whole ∙ h.whole in cc
       by_atom (Normal a) h = let z : core.Infinite due.number due.body ≡ core.Leaf (core.Normal h.index h.number) = sym due.whole ∙ h.whole in cc
       by_atom (Is term) h = let z : core.Infinite due.number due.body ≡ core.Leaf (core.IsTerm h.number term) = sym due.whole ∙ h.whole in cc
 

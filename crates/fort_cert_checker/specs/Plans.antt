@@ -5,16 +5,20 @@ use Rattle.fort_theory.specs.Signatures.{most_columns}
 use Rattle.fort_theory.specs.Patterns.{PatternSystem}
 use Rattle.fort_cores.specs.Cores as core
 use Rattle.fort_cores.specs.Cores.{Core, Binary}
-use Rattle.fort_cores.specs.Parts.{BindsFree}
+use Rattle.fort_expressions.specs.Expressions as expressions
+use Rattle.fort_expressions.specs.Contexts.{HoleNumber, HolePlace}
+use Rattle.fort_cores.specs.Parts.{BindsFree, HasManyRootsAt}
 use Rattle.fort_cores.specs.PartLists.{AreParts}
 use Rattle.fort_tables.specs.BitRows.{words_for}
 use Rattle.fort_counts.specs.Counts as counts
 use Rattle.fort_atom_labels.specs.ListedAtoms.{ListedAtom}
 use Rattle.fort_context_closure.specs.ClosedAtoms.{ClosedAtom}
 use Rattle.fort_context_closure.specs.declared.atom_labels.AtomLabels.{AtomLabels}
-use Rattle.fort_context_closure.specs.declared.atom_labels.AtomLabels.TheVariants.{Relation, Normal, Is}
+use Rattle.fort_context_closure.specs.declared.atom_labels.AtomLabels.TheVariants.{Relation, Expression, Normal, Is}
 use Rattle.fort_context_closure.specs.AtomLabelsView.{word_count}
 use Rattle.fort_context_closure.specs.PlainAtoms.{IsByPairs, IsNormalAtomOf}
+use Rattle.fort_relation_exprs.specs.RexSeen.{RexSeen}
+use Rattle.fort_relation_exprs.specs.RexView.{AreRexLabels}
 use Rattle.fort_parts.specs.PartColumns.{columns_of, place_in, places_in}
 use Rattle.fort_parts.specs.DecidedCores.{IsOverSystem}
 use Rattle.fort_certificate_grammar.specs.Certificates.{Star, Conv, Pair as Item, Step, Closure, Part, Counts}
@@ -37,11 +41,12 @@ pub record AreParted (parts : List Core) : Type 0 where
   pub root : Core
   pub are : AreParts root parts
 
--- its indices and terms are the system's, and it is no wider than a tuple
+-- its indices and terms are the system's, it is no wider than a tuple, and it has not too many root steps
 pub record IsFitPart (system : PatternSystem) (f : Core) : Type 0 where
   pub over : IsOverSystem system f
   pub binders : BindsFree f
   pub few : length (columns_of f) ≤ most_columns
+  pub roots : HasManyRootsAt f → ⊥
 
 pub record IsOperandPlan (parts : List Core) (h f : Core) (o : OperandPlan) : Type 0 where
   pub source : IsSourceOf parts f o.source.part o.source.turns
@@ -65,6 +70,16 @@ pub record IsRelationPlan (system : PatternSystem) (ss : List Step) (f : Core) (
   pub closure : IsClosureRead ss rel index pairs
   pub labels : IsByPairs system rel index first second pairs c
 
+-- the labels are those of the expression in the context that it is
+pub record IsExpressionPlan (system : PatternSystem) (f : Core) (l : RexSeen) : Type 0 where
+  pub expression : expressions.Expression
+  pub number : HoleNumber
+  pub place : HolePlace
+  pub first : ℕ
+  pub second : ℕ
+  pub whole : f ≡ core.Leaf (core.InContext expression number place first second)
+  pub labels : AreRexLabels system expression number place first second l
+
 pub record IsNormalPlan (system : PatternSystem) (f : Core) (a : ListedAtom) : Type 0 where
   pub index : ℕ
   pub number : ℕ
@@ -78,6 +93,7 @@ pub record IsTermPlan (f : Core) (term : Tree) : Type 0 where
 -- the labels are those of the atom that it is
 abbrev pub IsAtomPlan : PatternSystem → List Step → Core → AtomLabels → Type 0
 IsAtomPlan system ss f (Relation c) = IsRelationPlan system ss f c
+IsAtomPlan system ss f (Expression l) = IsExpressionPlan system f l
 IsAtomPlan system ss f (Normal a) = IsNormalPlan system f a
 IsAtomPlan system ss f (Is term) = IsTermPlan f term
 

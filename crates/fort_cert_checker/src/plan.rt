@@ -7,6 +7,7 @@ ghost use Rattle.fort_certificate_grammar.specs.Certificates as theory_steps;
 ghost use Rattle.fort_cores.specs.Cores as theory;
 ghost use Rattle.fort_relations.specs.RelView.{as_rel};
 ghost use Rattle.fort_outline.specs.LeafView.{as_atom};
+ghost use Rattle.fort_cores.specs.Parts.{HasManyRootsIn};
 ghost use Rattle.fort_parts.specs.DecidedCores.{IsAtomOver};
 ghost use Rattle.fort_outline.specs.Outlines.{IsOutlineOf, parts_in, core_at};
 ghost use Rattle.fort_parts.specs.PartColumns.{columns_of, place_in};
@@ -181,14 +182,15 @@ fn relation_labels(
     AtomLabels::by_pairs(alloc, system, index, rel, x, y, pairs)
 }
 
-/// The labels of an atom; that of an expression isn't over the system.
+/// The labels of an atom.
 fn atom_labels(
     alloc: Global,
     system: &System,
     steps: &[Step],
     leaf: &Leaf,
 ) -> Result<AtomLabels, Memory>
-    requires { IsAtomOver system.now (as_atom leaf.now) }
+    requires over { IsAtomOver system.now (as_atom leaf.now) }
+    requires narrow { HasManyRootsIn (as_atom leaf.now) → ⊥ }
     ensures { IfOk result (IsAtomPlan system.now (map as_step steps.now)
         (theory.Leaf (as_atom leaf.now))) }
 {
@@ -196,7 +198,9 @@ fn atom_labels(
         Leaf::Related(rel, index, x, y) => {
             relation_labels(alloc, system, steps, *rel, *index, *x, *y)
         }
-        Leaf::InContext(_, _, _, _, _) => unreachable!(),
+        Leaf::InContext(rex, holes, place, x, y) => {
+            AtomLabels::expression(alloc, system, rex, *holes, *place, *x, *y)
+        }
         Leaf::Normal(index, _) => AtomLabels::nf(alloc, system, *index),
         Leaf::IsTerm(_, term) => AtomLabels::is(alloc, term),
     }

@@ -7,6 +7,8 @@ use Rattle.fort_theory.specs.Trees.{Tree}
 use Rattle.fort_theory.specs.Signatures.{Signature}
 use Rattle.fort_theory.specs.Patterns.{PatternSystem}
 use Rattle.fort_theory.proofs.Members.{Contains-none}
+use Rattle.fort_expressions.specs.Expressions.{Expression}
+use Rattle.fort_expressions.specs.Contexts.{HoleNumber, HolePlace}
 use Rattle.fort_cores.specs.Cores as core
 use Rattle.fort_cores.specs.Parts.{is_free, AreColumns}
 use Rattle.fort_cores.specs.Structures.{pattern_structure}
@@ -14,11 +16,12 @@ use Rattle.fort_tables.specs.Tables.{Table, listed_table}
 use Rattle.fort_tables.specs.Labels.{Labelling, HasMoreLabels, IsTableOf}
 use Rattle.fort_tables.specs.LabelRules.{label_of, IsTableBy}
 use Rattle.fort_alike.specs.Atoms.{relation_atom, normal_atom}
+use Rattle.fort_alike.specs.ExpressionAlike.{expression_atom}
 use Rattle.fort_operations.specs.Projections.{some_below, project_rule, project_accepts}
 use Rattle.fort_operations.specs.OperationTruth.{complemented}
 use Rattle.fort_counts.specs.ManyLabels.{TellsMany, many_rule, many_accepts, many_value}
 use Rattle.fort_context_closure.specs.declared.atom_labels.AtomLabels.{AtomLabels}
-use Rattle.fort_context_closure.specs.AtomLabelsView.{column_count, rule_by, label_by, accepted_by, TellsAlike, AcceptsTrue, TellsAlikeAtTerm, AcceptsTerm}
+use Rattle.fort_context_closure.specs.AtomLabelsView.{column_count, rule_by, label_by, accepted_by, TellsAlike, AcceptsTrue, TellsAlikeAtTerm, AcceptsTerm, TellsAlikeAtExpression, AcceptsExpression}
 use Rattle.fort_context_closure.specs.SignedAtoms.{columns_by}
 use Rattle.fort_lockstep.specs.declared.dta.Dta.{Dta}
 use Rattle.fort_explore.specs.declared.table.Explored.{Explored}
@@ -28,7 +31,7 @@ use Rattle.fort_parts.specs.PartAnswers.{OfValue, OfTable, IsAnswerTo}
 use Rattle.fort_parts.specs.RightAnswers.{IsRightBy}
 use Rattle.fort_parts.proofs.PartColumnLaws.{AreColumns-columns_of, columns_of-Normal, columns_of-IsTerm, column-from_free}
 use Rattle.fort_parts.proofs.StepAnswers.{IsRightBy-value, IsRightBy-labels, IsOverBy-closed, IsOverBy-few, place_bound, count_bound, LabelsTell-projected, IsAnswerTo-projected, IsAnswerTo-closed, LabelsTell-many, IsAnswerTo-many, IsAnswerTo-many_closed}
-use Rattle.fort_parts.proofs.AtomResults.{IsAnswerTo-Atom, IsAnswerTo-Nf, IsAnswerTo-Is, LabelsTellAlike-Nf, LabelsTellAlike-Is}
+use Rattle.fort_parts.proofs.AtomResults.{IsAnswerTo-Atom, IsAnswerTo-Expression, IsAnswerTo-Nf, IsAnswerTo-Is, LabelsTellAlike-Nf, LabelsTellAlike-Is}
 use Rattle.fort_reduced_parts.specs.ReducedParts.{AlikeWith}
 use Rattle.fort_reduced_parts.specs.ToldParts.{ToldWith}
 use Rattle.fort_reduced_parts.proofs.ToldLaws.{LabelsTell-with, LabelsTell-Leaf, IsOverBy-told, IsRightBy-Not-value, IsRightBy-Not-table, IsOverBy-Not, IsOverBy-Not-told}
@@ -136,6 +139,24 @@ AreLabelsFor-Atom system reduces rel index x y l count tells accepts =
       answers =
           λ table by.
           IsAnswerTo-Atom system (label_by system.signature l) (accepted_by system.signature l) table rel index x y (λ t is full. accepts (columns_of f) are t is)
+          (subst (λ n. IsTableBy system.signature n (label_by system.signature l) (accepted_by system.signature l) table) same by);
+    }
+
+pub AreLabelsFor-Expression : (system : PatternSystem) (reduces : Bool) (e : Expression) (number : HoleNumber) (place : HolePlace) (x y : ℕ) (l : AtomLabels)
+    → ((columns : List ℕ) → AreColumns (core.Leaf (core.InContext e number place x y)) columns → column_count l ≡ length columns)
+    → ((columns : List ℕ) → AreColumns (core.Leaf (core.InContext e number place x y)) columns → TellsAlikeAtExpression (expression_atom system e number place x y columns) l)
+    → ((columns : List ℕ) → AreColumns (core.Leaf (core.InContext e number place x y)) columns → AcceptsExpression (expression_atom system e number place x y columns) l)
+    → IsOfLabels system reduces (core.Leaf (core.InContext e number place x y)) l
+AreLabelsFor-Expression system reduces e number place x y l count tells accepts =
+    let f = core.Leaf (core.InContext e number place x y) in
+    let are = AreColumns-columns_of f in
+    let same = columns_by system.signature l ∙ count (columns_of f) are in
+    record {
+      count = same;
+      alike = LabelsTell-Leaf reduces system (core.InContext e number place x y) (label_by system.signature l) (tells (columns_of f) are);
+      answers =
+          λ table by.
+          IsAnswerTo-Expression system (label_by system.signature l) (accepted_by system.signature l) table e number place x y (λ t is full. accepts (columns_of f) are t is)
           (subst (λ n. IsTableBy system.signature n (label_by system.signature l) (accepted_by system.signature l) table) same by);
     }
 

@@ -1,6 +1,6 @@
 -- How far deciding has come: the answers that are needed are kept, and no part so far is over the cap.
 use Rattle.std.specs.Prelude.{◌≡◌, ◌<◌, ◌≤◌, ◌+◌, ℕ, List, [], ◌∷◌, ◌++◌, length, get_or, Option, None, Some, refl}
-use Rattle.std.proofs.Common.{ap, sym, ◌∙◌, subst, arith, ⊎_elim, length-append}
+use Rattle.std.proofs.Common.{ap, sym, ◌∙◌, subst, arith, inr, ⊎_elim, length-append}
 use Rattle.std.proofs.lemmas.Bool.{cases_eq}
 use Rattle.std.proofs.lemmas.List.{get_or_push, get_or_append_left}
 use Rattle.std.proofs.lemmas.List.Elements.{Contains-get_or}
@@ -45,6 +45,7 @@ IsFit-part system f parts k d are l =
       over = IsOverSystem-part system f h d.over among;
       binders = BindsFree-part f h d.well_formed.binders among;
       few = columns_of-few f h d.well_formed among;
+      roots = λ many. d.well_formed.narrow (record { part = h; among = among; wide = inr many });
     }
 
 pub IsSoFar-none : (system : PatternSystem) (options : Options) (parts : List Core) (uses : List ℕ) → IsSoFar system options parts uses 0 []

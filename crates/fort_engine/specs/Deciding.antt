@@ -4,7 +4,7 @@ use Rattle.fort_cores.specs.Cores.{Binary}
 use Rattle.fort_theory.specs.Signatures.{most_columns}
 use Rattle.fort_theory.specs.Patterns.{PatternSystem}
 use Rattle.fort_cores.specs.Cores as core
-use Rattle.fort_cores.specs.Parts.{BindsFree, is_free}
+use Rattle.fort_cores.specs.Parts.{BindsFree, HasManyRootsAt, is_free}
 use Rattle.fort_cores.specs.Structures.{pattern_structure}
 use Rattle.fort_tables.specs.Tables.{Table}
 use Rattle.fort_tables.specs.Labels.{Labelling}
@@ -28,11 +28,12 @@ use Rattle.fort_engine.specs.AnswerView.{as_answer}
 use Rattle.fort_engine.specs.Found.{ListsTargets}
 use Rattle.fort_engine.specs.Kept.{IsRight, IsOverCap, IsKeptOverCap, HasRightAnswer}
 
--- its indices and terms are the system's, and it is no wider than a tuple
+-- its indices and terms are the system's, it is no wider than a tuple, and it has not too many root steps
 pub record IsFit (system : PatternSystem) (f : core.Core) : Type 0 where
   pub over : IsOverSystem system f
   pub binders : BindsFree f
   pub few : length (columns_of f) ≤ most_columns
+  pub roots : HasManyRootsAt f → ⊥
 
 -- the formula is an earlier part, its right answer is kept, and at most as many tuples as the cap are told apart at it
 pub record IsAnswered (system : PatternSystem) (options : Options) (parts : List core.Core) (kept : List (Option Last)) (g : core.Core) : Type 0 where

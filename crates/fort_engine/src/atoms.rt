@@ -1,9 +1,13 @@
 //! Atoms, by their labels.
 ghost use Rattle.std.specs.Prelude.{ℕ, List, Contains};
 ghost use Rattle.fort_theory.specs.Sides.{IsIndexOf, at_index};
+ghost use Rattle.fort_expressions.specs.Expressions.{HasManyRoots};
 ghost use Rattle.fort_cores.specs.Cores as theory;
-ghost use Rattle.fort_parts.specs.DecidedCores.{IsAtomOver};
+ghost use Rattle.fort_cores.specs.Parts.{HasManyRootsIn};
+ghost use Rattle.fort_parts.specs.DecidedCores.{IsAtomOver, IsExpressionOver};
+ghost use Rattle.fort_relations.specs.HolesView.{as_hole_number, as_hole_place};
 ghost use Rattle.fort_relations.specs.RelView.{as_rel};
+ghost use Rattle.fort_relations.specs.RexView.{as_expression};
 ghost use Rattle.fort_outline.specs.LeafView.{as_atom};
 ghost use Rattle.fort_context_closure.specs.ClosedAtoms.{ListsPasses};
 ghost use Rattle.fort_context_closure.specs.AtomLabelsView.{rule_by, label_by, accepted_by};
@@ -17,7 +21,7 @@ use crate::options::Options;
 use fort_context_closure::{AtomLabels, SignedAtom};
 use fort_explore::{ByRule, ExploreFault};
 use fort_outline::Leaf;
-use fort_relations::Rel;
+use fort_relations::{Holes, Place, Rel, Rex};
 use fort_steps::ClosureEntry;
 use fort_terms::{System, Term};
 use std::alloc::Global;
@@ -59,6 +63,28 @@ fn related(
     by_labels(alloc, system, &labels, options)
 }
 
+/// Decides whether two variables are one context, of so many holes at such places, with pairs of the
+/// expression's relation in its holes.
+fn in_context(
+    alloc: Global,
+    system: &System,
+    rex: &Rex,
+    holes: Holes,
+    place: Place,
+    x: u32,
+    y: u32,
+    options: &Options,
+) -> Result<Decided, ExploreFault>
+    requires over { IsExpressionOver system.now (as_expression rex.now) }
+    requires narrow { HasManyRoots (as_expression rex.now) → ⊥ }
+    ensures { IsDecision system.now options.now
+        (theory.Leaf (theory.InContext (as_expression rex.now) (as_hole_number holes)
+        (as_hole_place place) x y)) result }
+{
+    let labels = AtomLabels::expression(alloc, system, rex, holes, place, x, y)?;
+    by_labels(alloc, system, &labels, options)
+}
+
 /// Decides whether a variable is a normal form.
 fn normal_form(
     alloc: Global,
@@ -97,6 +123,7 @@ pub(crate) fn decide_leaf(
     options: &Options,
 ) -> Result<Decided, ExploreFault>
     requires over { IsAtomOver system.now (as_atom leaf.now) }
+    requires narrow { HasManyRootsIn (as_atom leaf.now) → ⊥ }
     requires closures { (parts : List theory.Core)
         × Contains parts (theory.Leaf (as_atom leaf.now))
         × AreClosures system.now parts closures.now.list.items }
@@ -107,7 +134,9 @@ pub(crate) fn decide_leaf(
             let closure = closures.read_by(*rel, *index);
             related(alloc, system, *rel, *index, *x, *y, closure, options)
         }
-        Leaf::InContext(_, _, _, _, _) => unreachable!(),
+        Leaf::InContext(rex, holes, place, x, y) => {
+            in_context(alloc, system, rex, *holes, *place, *x, *y, options)
+        }
         Leaf::Normal(index, _) => normal_form(alloc, system, *index, options),
         Leaf::IsTerm(_, term) => this_term(alloc, system, term, options),
     }

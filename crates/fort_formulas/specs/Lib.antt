@@ -9,6 +9,7 @@ pub mod CoreHashLaws
 pub mod FormulaCode
 pub mod FormulaView
 pub mod FormulaFalls
+pub mod Atoms
 pub mod NumbersNeeded
 pub mod ArgumentNumbers
 pub mod Surveys

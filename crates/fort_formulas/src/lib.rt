@@ -6,7 +6,6 @@ mod abbreviations;
 mod arguments;
 mod columns;
 pub mod core_formula;
-mod expressions;
 mod fault;
 mod indices;
 mod kinds;
@@ -21,7 +20,6 @@ mod translation;
 
 pub use columns::free;
 pub use core_formula::{Arm, Core};
-pub use expressions::has_expression;
 pub use fault::CoreFault;
 pub use fort_relations::{Holes, Place, Rel, Rex, RexArm};
 pub use indices::index_above;

@@ -6,6 +6,7 @@ ghost use Rattle.fort_logic.specs.Mentions.{HasTermsFor};
 ghost use Rattle.fort_cores.specs.Parts.{is_free, IsWellFormed};
 ghost use Rattle.fort_logic.specs.Translation.{core_in, core_of, IsFormulaTooWide};
 ghost use Rattle.fort_logic.specs.KeepsTruth.{KeepsTruth};
+ghost use Rattle.fort_formulas.specs.Atoms.{IsAtom};
 ghost use Rattle.fort_formulas.specs.CoreView.{as_core};
 ghost use Rattle.fort_formulas.specs.FormulaView.{as_formula};
 ghost use Rattle.fort_formulas.specs.NumbersNeeded.{binder_numbers, numbers_needed};
@@ -90,6 +91,47 @@ fn core_in(
         ≡ core_in terms.now (as_scope scope.now) (as_formula formula.now)) }
 {
     match formula {
+        Formula::Not(f) => not(alloc, core_in(alloc, terms, scope, f.as_formula())?),
+        Formula::And(f, g) | Formula::Or(f, g) | Formula::Imp(f, g) | Formula::Iff(f, g) => {
+            let f = core_in(alloc, terms, scope, f.as_formula())?;
+            let g = core_in(alloc, terms, scope, g.as_formula())?;
+            match formula {
+                Formula::And(_, _) => and(alloc, f, g),
+                Formula::Or(_, _) => or(alloc, f, g),
+                Formula::Imp(_, _) => implies(alloc, f, g),
+                _ => iff(alloc, f, g),
+            }
+        }
+        Formula::Exists(x, f) => {
+            let f = core_in(alloc, terms, &Scope::Bound(x, scope), f.as_formula())?;
+            some(alloc, scope.depth(), f)
+        }
+        Formula::Forall(x, f) => {
+            let f = core_in(alloc, terms, &Scope::Bound(x, scope), f.as_formula())?;
+            every(alloc, scope.depth(), f)
+        }
+        Formula::Infinite(x, f) => {
+            let f = core_in(alloc, terms, &Scope::Bound(x, scope), f.as_formula())?;
+            infinitely_many(alloc, scope.depth(), f)
+        }
+        _ => atom_in(alloc, terms, scope, formula),
+    }
+}
+
+/// The core formula of a formula without operands.
+fn atom_in(
+    alloc: Global,
+    terms: &[Term],
+    scope: &Scope,
+    formula: &Formula,
+) -> Result<Core, AllocError>
+    requires atom { IsAtom (as_formula formula.now) }
+    requires numbers { length (as_scope scope.now) + binder_numbers (as_formula formula.now)
+        ≤ 2 ^ 32 }
+    ensures { IfOk result (λ c. as_core c
+        ≡ core_in terms.now (as_scope scope.now) (as_formula formula.now)) }
+{
+    match formula {
         Formula::True => Ok(Core::True),
         Formula::False => not(alloc, Core::True),
         Formula::Rel(rel, a, b, index) => related_in(alloc, terms, scope, *rel, *index, a, b),
@@ -104,34 +146,6 @@ fn core_in(
             property_core(alloc, *property, *index, scope.depth())
         }
         Formula::Com => commutes(alloc, scope.depth()),
-        Formula::Not(f) => not(alloc, core_in(alloc, terms, scope, f.as_formula())?),
-        Formula::And(f, g) => {
-            let f = core_in(alloc, terms, scope, f.as_formula())?;
-            and(alloc, f, core_in(alloc, terms, scope, g.as_formula())?)
-        }
-        Formula::Or(f, g) => {
-            let f = core_in(alloc, terms, scope, f.as_formula())?;
-            or(alloc, f, core_in(alloc, terms, scope, g.as_formula())?)
-        }
-        Formula::Imp(f, g) => {
-            let f = core_in(alloc, terms, scope, f.as_formula())?;
-            implies(alloc, f, core_in(alloc, terms, scope, g.as_formula())?)
-        }
-        Formula::Iff(f, g) => {
-            let f = core_in(alloc, terms, scope, f.as_formula())?;
-            iff(alloc, f, core_in(alloc, terms, scope, g.as_formula())?)
-        }
-        Formula::Exists(x, f) => {
-            let f = core_in(alloc, terms, &Scope::Bound(x, scope), f.as_formula())?;
-            some(alloc, scope.depth(), f)
-        }
-        Formula::Forall(x, f) => {
-            let f = core_in(alloc, terms, &Scope::Bound(x, scope), f.as_formula())?;
-            every(alloc, scope.depth(), f)
-        }
-        Formula::Infinite(x, f) => {
-            let f = core_in(alloc, terms, &Scope::Bound(x, scope), f.as_formula())?;
-            infinitely_many(alloc, scope.depth(), f)
-        }
+        _ => unreachable!(),
     }
 }

@@ -15,7 +15,7 @@ use Rattle.fort_parts.specs.PartAnswers.{OfTable}
 use Rattle.fort_certificate_grammar.specs.Certificates.{Which, Pair as Item, Step, Certificate}
 use Rattle.fort_in_order.specs.Outcomes.{Reason, Due, Verdict, StepOutcome, Fine, Fails}
 use Rattle.fort_in_order.specs.PartSteps as part
-use Rattle.fort_in_order.specs.PartSteps.{IsRightPart, IsPartFailure, part_table}
+use Rattle.fort_in_order.specs.PartSteps.{IsRightPart, part_table}
 use Rattle.fort_in_order.specs.ClosureSteps.{ClosureRules, AreClosureRules, IsClosureOutcome}
 use Rattle.fort_in_order.specs.CountSteps.{IsCountOutcome}
 use Rattle.fort_in_order.specs.Dues.{DueStep, due_of, dues}
@@ -27,6 +27,7 @@ use Rattle.fort_in_order.proofs.PartOutcomes.{outcome_one}
 use Rattle.fort_in_order.proofs.ClosureOutcomes.{closure_one}
 use Rattle.fort_in_order.proofs.CountOutcomes.{counts_one}
 use Rattle.fort_in_order.proofs.OrderedLists.{subpatterns_one}
+use Rattle.fort_in_order.proofs.SameLabels.{AreOneOrSame, part_moved, failure_moved}
 use Rattle.fort_in_order.proofs.RuleLaws.{counted_one, local_one, value_one}
 
 pub closure_rules_one : (system : PatternSystem) (which : Which) (index : ℕ) (a b : ClosureRules) → AreClosureRules system which index a → AreClosureRules system which index b → a ≡ b
@@ -83,13 +84,14 @@ module _ (system : PatternSystem) (root : Core) (parts : List Core) (are : ArePa
       (subst (λ (t : Table). IsCountOutcome t (place_in (columns_of l.body) l.number) h.states marks a) one.table o)) l.is
 
   -- the table of a part
-  part_made_one : (made : Made) (k : ℕ) (targets : List ℕ) (a b : Local) (es fs : List Entry) (ws us : List (List ℕ)) → a ≡ b → IsRightPart a.rule targets es ws → IsRightPart b.rule targets fs us
+  part_made_one : (made : Made) (k : ℕ) (targets : List ℕ) (a b : Local) (es fs : List Entry) (ws us : List (List ℕ)) → AreOneOrSame a b
+      → IsRightPart a.rule targets es ws → IsRightPart b.rule targets fs us
       → with_answer made k (OfTable (listed_table (part_table a.rule a.accepting es targets ws))) ≡ with_answer made k (OfTable (listed_table (part_table b.rule b.accepting fs targets us)))
-  part_made_one made k targets a b es fs ws us e h l =
-      let here : IsRightPart b.rule targets es ws = subst (λ (x : Local). IsRightPart x.rule targets es ws) e h in
-      let same = right_same b.rule targets (length targets) es fs ws us here.right l.right in
-      ap (λ (x : Local). with_answer made k (OfTable (listed_table (part_table x.rule x.accepting es targets ws)))) e
-      ∙ (ap (λ xs. with_answer made k (OfTable (listed_table (part_table b.rule b.accepting xs targets ws)))) same.entries_same
+  part_made_one made k targets a b es fs ws us either h l =
+      let there = part_moved a b either targets es ws h in
+      let same = right_same b.rule targets (length targets) es fs there.labels us there.right.right l.right in
+      ap (λ t. with_answer made k (OfTable (listed_table t))) there.table
+      ∙ (ap (λ xs. with_answer made k (OfTable (listed_table (part_table b.rule b.accepting xs targets there.labels)))) same.entries_same
       ∙ ap (λ xs. with_answer made k (OfTable (listed_table (part_table b.rule b.accepting fs targets xs)))) same.labels_same)
 
   pub fine_one : (made : Made) (s : Step) (x y : Made) → IsFine system parts made s x → IsFine system parts made s y → x ≡ y
@@ -102,17 +104,15 @@ module _ (system : PatternSystem) (root : Core) (parts : List Core) (are : ArePa
   pub fine_not_failing : (made : Made) (s : Step) (x : Made) (n : ℕ) (a : Reason) → IsFine system parts made s x → IsFailing system parts made s n a → ⊥
   fine_not_failing made s x n a (FineClosure {which = w} {index = i} {items = es} h) (FailingClosure k) = fine_or_fails n a (closure_judged_one system w i es Fine (Fails n a) h k)
   fine_not_failing made s x n a (FinePart {k = k} {targets = targets} l es ws is h) (FailingPart m js f) =
-      let e = local_one root parts are made system k (get_or parts k core.True) l m is js in
-      let here : IsRightPart m.rule targets es ws = subst (λ (z : Local). IsRightPart z.rule targets es ws) e h in
-      fine_or_fails n a (outcome_one m.rule targets Fine (Fails n a) (part.IsRight es ws here) (part.IsFailed n a f))
+      let there = part_moved l m (local_one root parts are made system k (get_or parts k core.True) l m is js) targets es ws h in
+      fine_or_fails n a (outcome_one m.rule targets Fine (Fails n a) (part.IsRight es there.labels there.right) (part.IsFailed n a f))
   fine_not_failing made s x n a (FineCounts {k = k} {marks = cs} h) (FailingCounts l) = fine_or_fails n a (count_judged_one made k cs Fine (Fails n a) h l)
   fine_not_failing made s x n a (FineValue {k = k} {value = v} h) (FailingValue own l other) = other (value_one root parts are made k (get_or parts k core.True) v own h l)
 
   pub failing_one : (made : Made) (s : Step) (n m : ℕ) (a b : Reason) → IsFailing system parts made s n a → IsFailing system parts made s m b → IsOneFailure n m a b
   failing_one made s n m a b (FailingClosure {which = w} {index = i} {items = es} h) (FailingClosure k) = one_from_fails n m a b (closure_judged_one system w i es (Fails n a) (Fails m b) h k)
   failing_one made s n m a b (FailingPart {k = k} {targets = targets} l is f) (FailingPart z js g) =
-      let e = local_one root parts are made system k (get_or parts k core.True) l z is js in
-      let here : IsPartFailure z.rule targets n a = subst (λ (x : Local). IsPartFailure x.rule targets n a) e f in
+      let here = failure_moved l z (local_one root parts are made system k (get_or parts k core.True) l z is js) targets n a f in
       one_from_fails n m a b (outcome_one z.rule targets (Fails n a) (Fails m b) (part.IsFailed n a here) (part.IsFailed m b g))
   failing_one made s n m a b (FailingCounts {k = k} {marks = cs} h) (FailingCounts l) = one_from_fails n m a b (count_judged_one made k cs (Fails n a) (Fails m b) h l)
   failing_one made s n m a b (FailingValue own h l) (FailingValue other k g) = record { place = refl; reason = refl }

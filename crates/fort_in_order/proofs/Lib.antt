@@ -7,6 +7,7 @@ pub mod ClosureOutcomes
 pub mod ClosureExact
 pub mod OrderedLists
 pub mod CountOutcomes
+pub mod SameLabels
 pub mod RuleLaws
 pub mod CheckedLaws
 pub mod WrittenParts

@@ -107,14 +107,14 @@ pub record AreSame (entries entries' : List Entry) (ws ws' : List (List ℕ)) : 
   pub labels_same : ws ≡ ws'
 
 -- what was right up to a place has its states, and then its last one
-states_split : (r : LabelRule) (qs : List ℕ) (n : ℕ) (entries : List Entry) (ws : List (List ℕ)) (d : Entry) → AreRightTo r qs (suc n) entries ws → get_or qs n 0 ≡ states_before qs n → ws ≡ take (states_before qs n) ws ++ entry_label r (take (states_before qs n) ws) (get_or entries n d) ∷ []
+pub states_split : (r : LabelRule) (qs : List ℕ) (n : ℕ) (entries : List Entry) (ws : List (List ℕ)) (d : Entry) → AreRightTo r qs (suc n) entries ws → get_or qs n 0 ≡ states_before qs n → ws ≡ take (states_before qs n) ws ++ entry_label r (take (states_before qs n) ws) (get_or entries n d) ∷ []
 states_split r qs n entries ws d h new =
     let s = states_before qs n in
     let at = h.right n d (omega arith) in
     let count : length ws ≡ suc s = omega (arith, h.states, states_more qs n (omega (arith, h.within))) in
     sym (take_all (suc s) ws (omega arith)) ∙ (take-suc ws s [] (omega arith) ∙ ap (λ w. take s ws ++ w ∷ []) (ap (λ i. get_or ws i []) (sym new) ∙ at.label))
 
-states_stay : (r : LabelRule) (qs : List ℕ) (n : ℕ) (entries : List Entry) (ws : List (List ℕ)) → AreRightTo r qs (suc n) entries ws → get_or qs n 0 < states_before qs n → ws ≡ take (states_before qs n) ws
+pub states_stay : (r : LabelRule) (qs : List ℕ) (n : ℕ) (entries : List Entry) (ws : List (List ℕ)) → AreRightTo r qs (suc n) entries ws → get_or qs n 0 < states_before qs n → ws ≡ take (states_before qs n) ws
 states_stay r qs n entries ws h old = sym (take_all (states_before qs n) ws (omega (arith, h.states, states_more qs n (omega (arith, h.within)))))
 
 -- the targets before a place tell the entries and the labels

@@ -1,16 +1,22 @@
--- What was made tells one answer of each formula, one rule of each part, and one value.
-use Rattle.std.proofs.Common.{◌≡◌, ℕ, zero, suc, ◌<◌, List, [], ◌∷◌, map, length, get_or, Bool, not, true≢false, ap, sym, ◌∙◌, arith, subst, ⊎_elim}
-use Rattle.std.specs.Prelude.{Contains}
+-- What was made tells one answer of each formula, one value, and one rule of each part, or for an expression rules that tell the same.
+use Rattle.std.proofs.Common.{◌≡◌, ℕ, zero, suc, ◌<◌, List, [], ◌∷◌, map, length, get_or, Bool, not, true≢false, ap, sym, ◌∙◌, arith, subst, inl, inr, ⊎_elim}
+use Rattle.std.specs.Prelude.{◌↔◌, Contains, Decides}
 use Rattle.std.proofs.lemmas.Bool.{cases_lt}
+use Rattle.std.proofs.lemmas.Bool.Decides.{same_from_decides}
 use Rattle.std.proofs.lemmas.List.Elements.{Contains-get_or}
+use Rattle.fort_theory.specs.Signatures.{Signature}
 use Rattle.fort_theory.specs.Sides.{at_index}
 use Rattle.fort_theory.specs.Patterns.{Pair, PatternSystem}
 use Rattle.fort_cores.specs.Cores as core
 use Rattle.fort_cores.specs.Cores.{Core, Rel, Atom}
 use Rattle.fort_cores.specs.EachOnce.{StandsBefore}
 use Rattle.fort_cores.specs.PartLists.{AreParts}
+use Rattle.fort_tables.specs.Tuples.{Tuple, IsTuple}
 use Rattle.fort_tables.specs.Tables.{Table}
+use Rattle.fort_tables.specs.LabelRules.{IsLabelRule, label_of}
 use Rattle.fort_alike.specs.Atoms.{pairs_for}
+use Rattle.fort_alike.specs.ExpressionAlike.{ExpressionAtom, expression_atom, IsTrueOf, AlikeAtExpression}
+use Rattle.fort_atom_labels.proofs.AtomTruth.{Decides-Surely}
 use Rattle.fort_operations.specs.OperationTruth.{complemented}
 use Rattle.fort_theory.specs.Logic.{Connective}
 use Rattle.fort_operations.specs.Products.{connected}
@@ -19,8 +25,9 @@ use Rattle.fort_counts.specs.ManyLabels.{many_value}
 use Rattle.fort_parts.specs.PartColumns.{columns_of, place_in}
 use Rattle.fort_parts.specs.PartAnswers.{Answer, OfValue, OfTable}
 use Rattle.fort_in_order.specs.Made.{Made, IsPartAt, IsAnswerOf, OfStep, Turned}
-use Rattle.fort_in_order.specs.PartRules.{Local, closure_for, relation_local, normal_local, product_local, project_local, many_local, IsRelationLocal, IsNormalLocal, IsProductLocal, IsProjectLocal, IsCounted, is_many, IsManyLocal, IsLocalOf, IsConnectedValue, IsManyValue, IsValueOf, IsAtomLocal}
+use Rattle.fort_in_order.specs.PartRules.{Local, closure_for, relation_local, normal_local, product_local, project_local, many_local, IsRelationLocal, IsNormalLocal, IsProductLocal, IsProjectLocal, IsCounted, is_many, IsManyLocal, IsLocalOf, IsConnectedValue, IsManyValue, IsValueOf, IsAtomLocal, IsExpressionLocal}
 use Rattle.fort_in_order.proofs.OrderedLists.{subpatterns_one, pure_one}
+use Rattle.fort_in_order.proofs.SameLabels.{TellTheSame, AreOneOrSame}
 
 stands_before : {A : Type 0} (xs : List A) (j k : ℕ) (d x y : A) → j < k → k < length xs → get_or xs j d ≡ x → get_or xs k d ≡ y → StandsBefore xs x y
 stands_before [] j k d x y l m p q = absurd (omega arith)
@@ -47,6 +54,35 @@ table_same a b h = cc
 
 value_same : (a b : Bool) → OfValue a ≡ OfValue b → a ≡ b
 value_same a b h = cc
+
+-- Result: by labels that accept exactly the tuples of which the expression holds
+pub IsExpressionLocal-decided : (atom : ExpressionAtom) (local : Local) → IsLabelRule local.rule → local.rule.signature ≡ atom.system.signature → local.rule.columns ≡ atom.columns
+    → ((t u : Tuple) → IsTuple atom.system.signature atom.columns t → IsTuple atom.system.signature atom.columns u → (label_of local.rule t ≡ label_of local.rule u) ↔ AlikeAtExpression atom t u)
+    → ((t : Tuple) → IsTuple atom.system.signature atom.columns t → Decides (local.accepting (label_of local.rule t)) (IsTrueOf atom t)) → IsExpressionLocal atom local
+IsExpressionLocal-decided atom local law sig columns alike accepted = record {
+  rule = law;
+  signature = sig;
+  columns = columns;
+  alike = alike;
+  accepted = λ t is. Decides-Surely (local.accepting (label_of local.rule t)) (accepted t is);
+}
+
+-- two rules by which tuples are alike at one expression
+expressions_same : (atom : ExpressionAtom) (a b : Local) → IsExpressionLocal atom a → IsExpressionLocal atom b → TellTheSame a b
+expressions_same atom a b h k =
+    let at : (t : Tuple) → IsTuple a.rule.signature a.rule.columns t → IsTuple atom.system.signature atom.columns t =
+    λ t is. subst (λ (s : Signature). IsTuple s atom.columns t) h.signature (subst (λ (n : ℕ). IsTuple a.rule.signature n t) h.columns is) in
+    record {
+      signature = h.signature ∙ sym k.signature;
+      columns = h.columns ∙ sym k.columns;
+      law = h.rule;
+      other_law = k.rule;
+      labels = λ t u l m.
+          let one = h.alike t u (at t l) (at u m) in
+          let two = k.alike t u (at t l) (at u m) in
+          ((λ e. two.1 (one.0 e)), (λ e. one.1 (two.0 e)));
+      accepted = λ t l. same_from_decides (a.accepting (label_of a.rule t)) (b.accepting (label_of b.rule t)) (h.accepted t (at t l)) (k.accepted t (at t l));
+    }
 
 module _ (root : Core) (parts : List Core) (are : AreParts root parts) (made : Made) where
   pub answer_one : (f : Core) (a b : Answer) → IsAnswerOf parts made f a → IsAnswerOf parts made f b → a ≡ b
@@ -123,19 +159,20 @@ module _ (root : Core) (parts : List Core) (are : AreParts root parts) (made : M
       ∙ (ap (λ xs. many_value k.body c (is_many xs (made.counts i))) one.states
       ∙ sym k.is))
 
-  atom_one : (system : PatternSystem) (c : Atom) (a b : Local) → IsAtomLocal system made c a → IsAtomLocal system made c b → a ≡ b
-  atom_one system (core.Related rel index x y) a b h k = relation_one system rel index x y a b h k
-  atom_one system (core.InContext e number place x y) a b h k = absurd h
-  atom_one system (core.Normal index x) a b h k = normal_one system index a b h k
-  atom_one system (core.IsTerm x term) a b h k = h ∙ sym k
+  atom_one : (system : PatternSystem) (c : Atom) (a b : Local) → IsAtomLocal system made c a → IsAtomLocal system made c b → AreOneOrSame a b
+  atom_one system (core.Related rel index x y) a b h k = inl (relation_one system rel index x y a b h k)
+  atom_one system (core.InContext e number place x y) a b h k =
+      inr (expressions_same (expression_atom system e number place x y (columns_of (core.Leaf (core.InContext e number place x y)))) a b h k)
+  atom_one system (core.Normal index x) a b h k = inl (normal_one system index a b h k)
+  atom_one system (core.IsTerm x term) a b h k = inl (h ∙ sym k)
 
-  pub local_one : (system : PatternSystem) (i : ℕ) (f : Core) (a b : Local) → IsLocalOf system parts made i f a → IsLocalOf system parts made i f b → a ≡ b
+  pub local_one : (system : PatternSystem) (i : ℕ) (f : Core) (a b : Local) → IsLocalOf system parts made i f a → IsLocalOf system parts made i f b → AreOneOrSame a b
   local_one system i core.True a b h k = absurd h
   local_one system i (core.Leaf c) a b h k = atom_one system c a b h k
   local_one system i (core.Not f) a b h k = absurd h
-  local_one system i (core.Binary op f g) a b h k = product_one op (core.Binary op f g) f g a b h k
-  local_one system i (core.Exists n f) a b h k = project_one n f a b h k
-  local_one system i (core.Infinite n f) a b h k = many_one i n f a b h k
+  local_one system i (core.Binary op f g) a b h k = inl (product_one op (core.Binary op f g) f g a b h k)
+  local_one system i (core.Exists n f) a b h k = inl (project_one n f a b h k)
+  local_one system i (core.Infinite n f) a b h k = inl (many_one i n f a b h k)
 
   pub value_one : (i : ℕ) (f : Core) (a b : Bool) → IsValueOf parts made i f a → IsValueOf parts made i f b → a ≡ b
   value_one i core.True a b h k = h ∙ sym k

@@ -14,16 +14,16 @@ use Rattle.fort_counts.specs.PureStates.{GivesAlone}
 use Rattle.fort_counts.proofs.HeightLaws.{not_many_from_heights}
 use Rattle.fort_parts.specs.PartColumns.{columns_of, place_in}
 use Rattle.fort_certificate_grammar.specs.Certificates.{Which, Pair as Item, Step, Closure, Part, Counts, Value, Certificate}
-use Rattle.fort_in_order.specs.PartSteps.{IsRightPart}
 use Rattle.fort_in_order.specs.ClosureSteps.{ClosureRules}
 use Rattle.fort_in_order.specs.Dues.{DueStep, OfClosure, OfPart, OfCounts, OfValue, due_of, dues}
 use Rattle.fort_in_order.specs.Made.{Made, nothing_made}
-use Rattle.fort_in_order.specs.PartRules.{Local, IsCounted}
+use Rattle.fort_in_order.specs.PartRules.{IsCounted}
 use Rattle.fort_in_order.specs.Checked.{IsFine, FineValue, AreSteps, NoSteps, MoreSteps, last_value, InOrder, IsInOrder}
 use Rattle.fort_in_order.specs.Passes.{IsListOfPasses}
 use Rattle.fort_in_order.specs.Written.{IsWrittenClosure, IsWrittenPart, IsWrittenCounts, IsWrittenStep, IsWritten}
 use Rattle.fort_in_order.proofs.WrittenParts.{targets_one}
 use Rattle.fort_in_order.proofs.WrittenClosures.{passes_one}
+use Rattle.fort_in_order.proofs.SameLabels.{part_moved}
 use Rattle.fort_in_order.proofs.RuleLaws.{counted_one, local_one, value_one}
 use Rattle.fort_in_order.proofs.CheckedLaws.{closure_rules_one, number_same, under_same, fine_one}
 
@@ -60,8 +60,9 @@ value_number i j h = cc
 module _ (system : PatternSystem) (root : Core) (parts : List Core) (are : AreParts root parts) where
   part_written_one : (made : Made) (k : ℕ) (qs ps : List ℕ) → IsWrittenPart system parts made k qs → IsWrittenPart system parts made k ps → qs ≡ ps
   part_written_one made k qs ps h l =
-      let e = local_one root parts are made system k (get_or parts k core.True) h.local l.local h.local_is l.local_is in
-      targets_one l.local.rule qs ps h.entries l.entries h.labels l.labels (subst (λ (x : Local). IsRightPart x.rule qs h.entries h.labels) e h.right) l.right h.once l.once
+      let either = local_one root parts are made system k (get_or parts k core.True) h.local l.local h.local_is l.local_is in
+      let there = part_moved h.local l.local either qs h.entries h.labels h.right in
+      targets_one l.local.rule qs ps h.entries l.entries there.labels l.labels there.right l.right (there.once h.once) l.once
 
   counts_written_one : (made : Made) (k : ℕ) (ms ns : List counts.Count) → IsWrittenCounts parts made k ms → IsWrittenCounts parts made k ns → ms ≡ ns
   counts_written_one made k ms ns h l =

@@ -1,5 +1,5 @@
--- To believe: the labels by which the table of a part is made, from the system and from what was made for earlier parts, and which labels are accepted; the value of a part without columns.
-use Rattle.std.specs.Prelude.{◌≡◌, ℕ, List, [], map, length, Bool, true, false, not}
+-- To believe: the labels by which the table of a part is made, from the system and from what was made for earlier parts (of an atom of an expression any that tell likeness and truth), and which labels are accepted; the value of a part without columns.
+use Rattle.std.specs.Prelude.{◌≡◌, ◌↔◌, ℕ, List, [], map, length, Bool, true, false, not, Decides}
 use Rattle.fort_theory.specs.Trees.{Tree}
 use Rattle.fort_theory.specs.Signatures.{Signature}
 use Rattle.fort_theory.specs.Sides.{at_index}
@@ -8,14 +8,16 @@ use Rattle.fort_theory.specs.PatternOrder.{AreSubpatternsInOrder}
 use Rattle.fort_cores.specs.Cores as core
 use Rattle.fort_cores.specs.Cores.{Atom, Core, Rel}
 use Rattle.fort_tables.specs.Tables.{Table}
-use Rattle.fort_tables.specs.LabelRules.{LabelRule}
+use Rattle.fort_tables.specs.Tuples.{Tuple, IsTuple}
+use Rattle.fort_tables.specs.LabelRules.{LabelRule, IsLabelRule, label_of}
 use Rattle.fort_alike.specs.Atoms.{pairs_for, relation_atom, normal_atom}
+use Rattle.fort_alike.specs.ExpressionAlike.{ExpressionAtom, expression_atom, IsTrueOf, AlikeAtExpression}
 use Rattle.fort_atom_labels.specs.ListedAtoms.{listed}
 use Rattle.fort_atom_labels.specs.AtomRules.{atom_rule, atom_accepts}
 use Rattle.fort_atom_labels.specs.ClosureTests.{closure_test}
 use Rattle.fort_atom_labels.specs.Subterms.{subterms}
 use Rattle.fort_atom_labels.specs.TermRule.{term_rule, term_accepts}
-use Rattle.fort_theory.specs.Logic.{Connective}
+use Rattle.fort_theory.specs.Logic.{Surely, Connective}
 use Rattle.fort_operations.specs.Products.{connected, product_rule, product_accepts}
 use Rattle.fort_operations.specs.Projections.{ArePure, some_below, project_rule, project_accepts}
 use Rattle.fort_counts.specs.Counts.{Count, is_infinite, count_at}
@@ -103,10 +105,21 @@ pub record IsManyLocal (parts : List Core) (made : Made) (k n : ℕ) (f : Core) 
   pub counted : IsCounted parts made n f body states
   pub is : local ≡ many_local body (place_in (columns_of f) n) (is_many states (made.counts k))
 
--- of an atom; those of an expression aren't made yet
+-- of an atom of an expression: two tuples have one label exactly where they are alike at the atom, and the accepted labels are those
+-- of the tuples of which the atom surely is true
+pub record IsExpressionLocal (a : ExpressionAtom) (local : Local) : Type 0 where
+  pub rule : IsLabelRule local.rule
+  pub signature : local.rule.signature ≡ a.system.signature
+  pub columns : local.rule.columns ≡ a.columns
+  pub alike : (t u : Tuple) → IsTuple a.system.signature a.columns t → IsTuple a.system.signature a.columns u
+      → (label_of local.rule t ≡ label_of local.rule u) ↔ AlikeAtExpression a t u
+  pub accepted : (t : Tuple) → IsTuple a.system.signature a.columns t → Decides (local.accepting (label_of local.rule t)) (Surely (IsTrueOf a t))
+
+-- of an atom
 abbrev pub IsAtomLocal : PatternSystem → Made → Atom → Local → Type 0
 IsAtomLocal system made (core.Related rel index x y) local = IsRelationLocal system made rel index x y local
-IsAtomLocal system made (core.InContext e number place x y) local = ⊥
+IsAtomLocal system made (core.InContext e number place x y) local =
+    IsExpressionLocal (expression_atom system e number place x y (columns_of (core.Leaf (core.InContext e number place x y)))) local
 IsAtomLocal system made (core.Normal index x) local = IsNormalLocal system index local
 IsAtomLocal system made (core.IsTerm x term) local = local ≡ term_local system.signature term
 

@@ -22,7 +22,7 @@ use Rattle.fort_counts.specs.ManyLabels.{TellsMany, many_value}
 use Rattle.fort_counts.proofs.TellsLaws.{TellsMany-marks}
 use Rattle.fort_parts.specs.PartColumns.{columns_of, place_in}
 use Rattle.fort_parts.specs.PartAnswers.{Answer, OfValue, OfTable, AreGround, IsAnswerTo}
-use Rattle.fort_parts.specs.DecidedCores.{IsOperandOf, IsAtomOver, IsOverSystem}
+use Rattle.fort_parts.specs.DecidedCores.{IsOperandOf}
 use Rattle.fort_parts.specs.RightAnswers.{IsRightFor}
 use Rattle.fort_parts.proofs.PartColumnLaws.{column-from_free, first_within, second_within}
 use Rattle.fort_parts.proofs.StepAnswers.{is_free-joined}
@@ -33,7 +33,8 @@ use Rattle.fort_in_order_laws.proofs.AtomTables.{HasClosuresFor}
 use Rattle.fort_in_order_laws.proofs.JoinedTables.{bound_within, true_right, not_value_right, values_right, some_value_right, many_value_right}
 use Rattle.fort_in_order_laws.proofs.RightParts.{some_columns, none_columns}
 use Rattle.fort_in_order_laws.proofs.LabelledParts.{AreLabelsOf, one_decided}
-use Rattle.fort_in_order_laws.proofs.LabelledKinds.{labels_relation, labels_normal, labels_term, labels_joined, labels_projected, labels_counted}
+use Rattle.fort_in_order_laws.proofs.LabelledKinds.{labels_relation, labels_normal, labels_term, labels_expression, labels_joined, labels_projected, labels_counted}
+use Rattle.fort_in_order_laws.proofs.StateLabels.{state_local, IsExpressionLocal-states}
 use Rattle.fort_in_order_laws.proofs.SidePatterns.{patterns_in_order, side_patterns}
 
 -- the answer that the steps make, which is right
@@ -56,6 +57,22 @@ pub record IsCountedRight (system : PatternSystem) (parts : List Core) (made : M
 abbrev pub AreCountsRight : PatternSystem → List Core → Made → ℕ → Core → Type 0
 AreCountsRight system parts made k (core.Infinite n g) = IsCountedRight system parts made k n g
 AreCountsRight system parts made k other = Unit {0}
+
+-- an expression has a right answer; nothing is asked of other formulas
+abbrev pub HasAnswerIfExpression : PatternSystem → Core → Type 0
+HasAnswerIfExpression system (core.Leaf (core.InContext e number place x y)) = (answer : Answer) × IsRightFor system (core.Leaf (core.InContext e number place x y)) answer
+HasAnswerIfExpression system other = Unit {0}
+
+pub answered_if_expression : (system : PatternSystem) (f : Core) (answer : Answer) → IsRightFor system f answer → HasAnswerIfExpression system f
+answered_if_expression system (core.Leaf (core.InContext e number place x y)) answer right = (answer, right)
+answered_if_expression system (core.Leaf (core.Related rel index x y)) answer right = tt
+answered_if_expression system (core.Leaf (core.Normal index x)) answer right = tt
+answered_if_expression system (core.Leaf (core.IsTerm x term)) answer right = tt
+answered_if_expression system core.True answer right = tt
+answered_if_expression system (core.Not f) answer right = tt
+answered_if_expression system (core.Binary op f g) answer right = tt
+answered_if_expression system (core.Exists n f) answer right = tt
+answered_if_expression system (core.Infinite n f) answer right = tt
 
 -- the labels of a part, whose tables are right
 pub record HasLabels (system : PatternSystem) (parts : List Core) (made : Made) (k : ℕ) (f : Core) : Type 0 where
@@ -116,29 +133,34 @@ counts_tell system parts made k n g among h =
 -- ---- labels
 
 module _ (system : PatternSystem) (is : IsSystem system) (parts : List Core) (made : Made) (k : ℕ) where
-  atom_labels_of : (a : Atom) → length (columns_of (core.Leaf a)) ≤ most_columns → IsAtomOver system a → HasClosuresFor system made (core.Leaf a)
-      → HasLabels system parts made k (core.Leaf a)
-  atom_labels_of (core.Related rel index x y) few over closures =
+  atom_labels_of : (a : Atom) → has_columns (core.Leaf a) ≡ true → length (columns_of (core.Leaf a)) ≤ most_columns → HasClosuresFor system made (core.Leaf a)
+      → HasAnswerIfExpression system (core.Leaf a) → HasLabels system parts made k (core.Leaf a)
+  atom_labels_of (core.Related rel index x y) columns few closures answered =
       let s = side_patterns (pairs_for rel (at_index index system.rules)) in
       let local : Local = relation_local system rel index x y s.0 s.1 (closure_for made rel index) in
       let h : IsRelationLocal system made rel index x y local = record { lefts = s.0; rights = s.1; patterns = s.2; is = refl } in
       record { local = local; is = h; labels = labels_relation system is made rel index x y local few closures h }
-  atom_labels_of (core.InContext e number place x y) few over closures = absurd over
-  atom_labels_of (core.Normal index x) few over closures =
+  atom_labels_of (core.InContext e number place x y) columns few closures answered =
+      let f = core.Leaf (core.InContext e number place x y) in
+      let table = of_table system f answered.0 answered.1 (some_columns f columns) in
+      let right : IsRightFor system f (OfTable table.0) = subst (IsRightFor system f) table.1 answered.1 in
+      let h = IsExpressionLocal-states system is.constant e number place x y table.0 right in
+      record { local = state_local table.0; is = h; labels = labels_expression system is e number place x y (state_local table.0) h }
+  atom_labels_of (core.Normal index x) columns few closures answered =
       let p = patterns_in_order (map (λ (pair : Pair). pair.0) (at_index index system.rules)) in
       let local : Local = normal_local system index p.0 in
       let h : IsNormalLocal system index local = record { lefts = p.0; patterns = p.1; is = refl } in
       record { local = local; is = h; labels = labels_normal system is index x local h }
-  atom_labels_of (core.IsTerm x term) few over closures =
+  atom_labels_of (core.IsTerm x term) columns few closures answered =
       record { local = term_local system.signature term; is = refl; labels = labels_term system is x term }
 
   -- Result
-  pub labels_of : (f : Core) → has_columns f ≡ true → is_turned f ≡ false → length (columns_of f) ≤ most_columns → BindsFree f → IsOverSystem system f
-      → HasClosuresFor system made f → AreOperandsRight system parts made f → AreCountsRight system parts made k f → HasLabels system parts made k f
-  labels_of core.True columns turned few binds over closures operands counts = absurd (true≢false (sym columns))
-  labels_of (core.Leaf a) columns turned few binds over closures operands counts = atom_labels_of a few over closures
-  labels_of (core.Not f) columns turned few binds over closures operands counts = absurd (true≢false (sym columns ∙ turned))
-  labels_of (core.Binary op f g) columns turned few binds over closures operands counts =
+  pub labels_of : (f : Core) → has_columns f ≡ true → is_turned f ≡ false → length (columns_of f) ≤ most_columns → BindsFree f
+      → HasClosuresFor system made f → HasAnswerIfExpression system f → AreOperandsRight system parts made f → AreCountsRight system parts made k f → HasLabels system parts made k f
+  labels_of core.True columns turned few binds closures answered operands counts = absurd (true≢false (sym columns))
+  labels_of (core.Leaf a) columns turned few binds closures answered operands counts = atom_labels_of a columns few closures answered
+  labels_of (core.Not f) columns turned few binds closures answered operands counts = absurd (true≢false (sym columns ∙ turned))
+  labels_of (core.Binary op f g) columns turned few binds closures answered operands counts =
       let a = operands f (inl refl) in
       let b = operands g (inr refl) in
       record {
@@ -146,14 +168,14 @@ module _ (system : PatternSystem) (is : IsSystem system) (parts : List Core) (ma
         is = record { first = a.answer; second = b.answer; first_is = a.made_is; second_is = b.made_is; is = refl };
         labels = labels_joined system op f g a.answer b.answer (some_columns (core.Binary op f g) columns) few a.right b.right;
       }
-  labels_of (core.Exists n f) columns turned few binds over closures operands counts =
+  labels_of (core.Exists n f) columns turned few binds closures answered operands counts =
       let t = table_right system parts made f (operands f refl) (free_some f n binds.0) in
       record {
         local = project_local t.table (place_in (columns_of f) n);
         is = record { body = t.table; body_is = t.made_is; is = refl };
         labels = labels_projected system n f t.table binds.0 (some_columns (core.Exists n f) columns) few t.right;
       }
-  labels_of (core.Infinite n f) columns turned few binds over closures operands counts =
+  labels_of (core.Infinite n f) columns turned few binds closures answered operands counts =
       let many = is_many counts.states (made.counts k) in
       record {
         local = many_local counts.table (place_in (columns_of f) n) many;

@@ -2,8 +2,10 @@
 use Rattle.std.proofs.Common.{◌≡◌, ℕ, ◌≤◌, List, [], length, Bool, true, false, ◌==◌, eq-eqb, refl, ap, sym, arith, subst}
 use Rattle.fort_theory.specs.Trees.{Tree}
 use Rattle.fort_theory.specs.Sides.{at_index}
-use Rattle.fort_theory.specs.Signatures.{most_columns}
+use Rattle.fort_theory.specs.Signatures.{Signature, most_columns}
 use Rattle.fort_theory.specs.Patterns.{Pattern, Pair, PatternSystem, IsSystem}
+use Rattle.fort_expressions.specs.Expressions.{Expression}
+use Rattle.fort_expressions.specs.Contexts.{HoleNumber, HolePlace}
 use Rattle.fort_cores.specs.Cores as core
 use Rattle.fort_cores.specs.Cores.{Core, Rel}
 use Rattle.fort_cores.specs.Structures.{pattern_structure}
@@ -11,6 +13,7 @@ use Rattle.fort_tables.specs.Tables.{Table}
 use Rattle.fort_tables.specs.LabelRules.{label_of}
 use Rattle.fort_alike.specs.Atoms.{kind_for, pairs_for, relation_atom, normal_atom}
 use Rattle.fort_alike.specs.Alike.{is_reaching}
+use Rattle.fort_alike.specs.ExpressionAlike.{expression_atom}
 use Rattle.fort_atom_labels.specs.ListedAtoms.{ListedAtom, listed, IsListedAtom}
 use Rattle.fort_atom_labels.specs.ClosureTests.{IsClosure, closure_test, ListsClosure}
 use Rattle.fort_atom_labels.specs.Subterms.{subterms}
@@ -26,13 +29,14 @@ use Rattle.fort_parts.specs.PartAnswers.{OfTable, IsAnswerTo}
 use Rattle.fort_parts.proofs.PartColumnLaws.{AreColumns-columns_of, columns_of-Normal, columns_of-IsTerm}
 use Rattle.fort_parts.proofs.StepTables.{IsTableOver-labels}
 use Rattle.fort_parts.proofs.AtomAnswers.{TellsTruth-Atom, TellsTruth-Nf, TellsTruth-Is}
+use Rattle.fort_parts.proofs.AtomResults.{IsAnswerTo-Expression_surely}
 use Rattle.fort_certificate_grammar.specs.Certificates.{Which, Star, Conv, Pair as Item}
 use Rattle.fort_in_order.specs.Outcomes.{StepOutcome, Fine}
 use Rattle.fort_in_order.specs.ClosureSteps as closures
 use Rattle.fort_in_order.specs.ClosureSteps.{ClosureRules, relation_of, AreSidePatterns, AreClosureRules, numbers_of, AreFounded, IsClosed, IsClosureOutcome}
 use Rattle.fort_in_order.specs.Dues.{asks}
 use Rattle.fort_in_order.specs.Made.{Made}
-use Rattle.fort_in_order.specs.PartRules.{Local, closure_for, relation_local, normal_local, term_local, IsRelationLocal, IsNormalLocal}
+use Rattle.fort_in_order.specs.PartRules.{Local, closure_for, relation_local, normal_local, term_local, IsRelationLocal, IsNormalLocal, IsExpressionLocal}
 use Rattle.fort_in_order.specs.Checked.{IsClosureJudged}
 use Rattle.fort_in_order.proofs.ClosureExact.{closure_exact}
 use Rattle.fort_in_order.proofs.CheckedLaws.{closure_rules_one}
@@ -103,7 +107,7 @@ module _ (system : PatternSystem) (is : IsSystem system) where
       IsClosure-listed (atom_over rel index x y lefts rights) (relation_listed rel index x y lefts rights patterns) (numbers_of (closure_for made rel index))
       (lists_closure made rel index x y lefts rights patterns right)
 
-  -- Results: the three kinds of atoms
+  -- Results: the kinds of atoms
   pub relation_right : (made : Made) (rel : Rel) (index x y : ℕ) (local : Local) (table : Table) → length (columns_of (core.Leaf (core.Related rel index x y))) ≤ most_columns
       → HasClosuresFor system made (core.Leaf (core.Related rel index x y)) → IsRelationLocal system made rel index x y local → IsMadeBy local table
       → IsAnswerTo (pattern_structure system) (core.Leaf (core.Related rel index x y)) (OfTable table)
@@ -149,3 +153,13 @@ module _ (system : PatternSystem) (is : IsSystem system) where
         over = IsTableOver-labels system.signature (columns_of f) 1 table (label_of own.rule) own.accepting (omega arith) (sym one) table_by;
         truth = TellsTruth-Is system table x term (AcceptsExactly-by system.signature 1 own table _ table_by (λ t k full. accepts-term system.signature term (subterms term) (ListsSubterms-subterms term) t k));
       }
+
+  pub expression_right : (e : Expression) (number : HoleNumber) (place : HolePlace) (x y : ℕ) (local : Local) (table : Table)
+      → IsExpressionLocal (expression_atom system e number place x y (columns_of (core.Leaf (core.InContext e number place x y)))) local → IsMadeBy local table
+      → IsAnswerTo (pattern_structure system) (core.Leaf (core.InContext e number place x y)) (OfTable table)
+  expression_right e number place x y local table h by =
+      let n = length (columns_of (core.Leaf (core.InContext e number place x y))) in
+      let table_by : IsTableByLocal system.signature n local table =
+      subst (λ (s : Signature). IsTableByLocal s n local table) h.signature
+      (subst (λ (m : ℕ). IsTableByLocal local.rule.signature m local table) h.columns (IsTableBy-made local table h.rule by)) in
+      IsAnswerTo-Expression_surely system (label_of local.rule) local.accepting table e number place x y (λ t k full. h.accepted t k) table_by

@@ -3,12 +3,15 @@ use Rattle.std.proofs.Common.{◌≡◌, ℕ, ◌-◌, ◌<◌, ◌≤◌, [], l
 use Rattle.fort_theory.specs.Trees.{Tree}
 use Rattle.fort_theory.specs.Signatures.{most_columns}
 use Rattle.fort_theory.specs.Patterns.{Pattern, PatternSystem, IsSystem}
+use Rattle.fort_expressions.specs.Expressions.{Expression}
+use Rattle.fort_expressions.specs.Contexts.{HoleNumber, HolePlace}
 use Rattle.fort_cores.specs.Cores as core
 use Rattle.fort_cores.specs.Cores.{Core, Rel, Binary}
 use Rattle.fort_cores.specs.Parts.{is_free}
 use Rattle.fort_tables.specs.Tables.{Table, listed_table}
 use Rattle.fort_tables.specs.LabelRules.{label_of}
 use Rattle.fort_alike.specs.Atoms.{normal_atom}
+use Rattle.fort_alike.specs.ExpressionAlike.{expression_atom}
 use Rattle.fort_atom_labels.specs.ListedAtoms.{listed}
 use Rattle.fort_atom_labels.specs.AtomRules.{atom_rule}
 use Rattle.fort_atom_labels.specs.ClosureTests.{closure_test}
@@ -29,8 +32,8 @@ use Rattle.fort_parts.proofs.AtomResults.{LabelsTellAlike-Nf, LabelsTellAlike-Is
 use Rattle.fort_parts.proofs.StepAnswers.{LabelsTellAlike-joined, LabelsTellAlike-projected, LabelsTellAlike-many}
 use Rattle.fort_in_order.specs.ClosureSteps.{numbers_of}
 use Rattle.fort_in_order.specs.Made.{Made}
-use Rattle.fort_in_order.specs.PartRules.{Local, closure_for, relation_local, normal_local, term_local, product_local, project_local, many_local, IsRelationLocal, IsNormalLocal}
-use Rattle.fort_in_order_laws.proofs.AtomTables.{HasClosuresFor, atom_over, relation_listed, relation_closes, relation_right, normal_right, term_right}
+use Rattle.fort_in_order.specs.PartRules.{Local, closure_for, relation_local, normal_local, term_local, product_local, project_local, many_local, IsRelationLocal, IsNormalLocal, IsExpressionLocal}
+use Rattle.fort_in_order_laws.proofs.AtomTables.{HasClosuresFor, atom_over, relation_listed, relation_closes, relation_right, normal_right, term_right, expression_right}
 use Rattle.fort_in_order_laws.proofs.JoinedTables.{bound_many, joined_signature, product_right, project_right, many_right}
 use Rattle.fort_in_order_laws.proofs.LabelledParts.{AreLabelsOf}
 
@@ -71,6 +74,17 @@ module _ (system : PatternSystem) (is : IsSystem system) where
     columns = sym (ap length (columns_of-IsTerm x term));
     alike = LabelsTellAlike-Is system (label_of (term_local system.signature term).rule) x term (labels-AlikeAtTerm system.signature term (subterms term) (ListsSubterms-subterms term));
     right = λ t by. term_right system is x term (listed_table t) by;
+  }
+
+  pub labels_expression : (e : Expression) (number : HoleNumber) (place : HolePlace) (x y : ℕ) (local : Local)
+      → IsExpressionLocal (expression_atom system e number place x y (columns_of (core.Leaf (core.InContext e number place x y)))) local
+      → AreLabelsOf system (core.Leaf (core.InContext e number place x y)) local
+  labels_expression e number place x y local h = record {
+    law = h.rule;
+    signature = h.signature;
+    columns = h.columns;
+    alike = h.alike;
+    right = λ t by. expression_right system is e number place x y local (listed_table t) h by;
   }
 
 module _ (system : PatternSystem) where

@@ -29,12 +29,12 @@ use Rattle.fort_in_order_laws.proofs.MadeTables.{IsMadeBy}
 use Rattle.fort_in_order_laws.proofs.ListedParts.{AreRightTargets, targets_from_states, HasRightTargets}
 
 -- an assignment for a tuple of terms
-record IsAssigned (sig : Signature) (columns : List ℕ) (t : Tuple) : Type 0 where
-  places : Places
-  grounded : AreGround sig places
-  is : tuple_of places columns ≡ t
+pub record IsAssigned (sig : Signature) (columns : List ℕ) (t : Tuple) : Type 0 where
+  pub places : Places
+  pub grounded : AreGround sig places
+  pub is : tuple_of places columns ≡ t
 
-assigned : (sig : Signature) (columns : List ℕ) (t : Tuple) → HasConstant sig → ((i j : ℕ) → i < j → j < length columns → get_or columns i 0 < get_or columns j 0) → length t ≡ length columns
+pub assigned : (sig : Signature) (columns : List ℕ) (t : Tuple) → HasConstant sig → ((i j : ℕ) → i < j → j < length columns → get_or columns i 0 < get_or columns j 0) → length t ≡ length columns
     → IsFull t → AreGroundColumns sig t → IsAssigned sig columns t
 assigned sig [] [] constant up len full grounded = record { places = λ n. Node constant.0 Nil; grounded = λ n. (constant.1, tt); is = refl }
 assigned sig [] (x ∷ t) constant up len full grounded = absurd (omega arith)

@@ -11,6 +11,7 @@ pub mod StepLists
 pub mod WrittenSteps
 pub mod LabelledParts
 pub mod LabelledKinds
+pub mod StateLabels
 pub mod AnsweredParts
 pub mod StepsOfParts
 pub mod Example

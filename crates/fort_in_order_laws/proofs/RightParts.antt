@@ -25,7 +25,7 @@ use Rattle.fort_in_order.specs.Made.{Made, IsAnswerOf, OfStep, Turned}
 use Rattle.fort_in_order.specs.PartRules.{Local, is_many, IsCounted, IsProductLocal, IsConnectedValue, IsLocalOf, IsValueOf, IsAtomLocal}
 use Rattle.fort_in_order.proofs.RuleLaws.{part_one}
 use Rattle.fort_in_order_laws.proofs.MadeTables.{IsMadeBy}
-use Rattle.fort_in_order_laws.proofs.AtomTables.{HasClosuresFor, relation_right, normal_right, term_right}
+use Rattle.fort_in_order_laws.proofs.AtomTables.{HasClosuresFor, relation_right, normal_right, term_right, expression_right}
 use Rattle.fort_in_order_laws.proofs.JoinedTables.{bound_within, true_right, not_value_right, not_table_right, values_right, product_right, project_right, some_value_right, many_right, many_value_right}
 
 -- whether a formula has columns
@@ -121,7 +121,7 @@ module _ (system : PatternSystem) (is : IsSystem system) (root : Core) (decided 
         → IsAtomLocal system made a local → IsMadeBy local table → IsRight (core.Leaf a) (OfTable table)
     atom_right (core.Related rel index x y) local table e closures h by =
         relation_right system is made rel index x y local table (subst (λ (z : Core). length (columns_of z) ≤ most_columns) e few) closures h by
-    atom_right (core.InContext d number place x y) local table e closures h by = absurd h
+    atom_right (core.InContext d number place x y) local table e closures h by = expression_right system is d number place x y local table h by
     atom_right (core.Normal index x) local table e closures h by = normal_right system is index x local table h by
     atom_right (core.IsTerm x term) local table e closures h by = term_right system is x term table (subst (λ (l : Local). IsMadeBy l table) h by)
 

@@ -1,8 +1,8 @@
--- Each well-formed formula over a system has a right answer; so a part over a cap with reduced tables is over it without.
+-- Each well-formed formula over a system, whose expressions have right answers, has one; so a part over a cap with reduced tables is over it without.
 use Rattle.std.proofs.Common.{◌≡◌, ℕ, ◌-◌, ◌<◌, ◌≤◌, List, [], map, length, Bool, true, not, refl, ap, sym, arith, subst, inl, inr, ⊎_elim}
 use Rattle.std.specs.Prelude.{Contains}
 use Rattle.std.proofs.lemmas.Bool.{cases_lt}
-use Rattle.fort_parts.specs.DecidedCores.{IsOverSystem, IsDecided}
+use Rattle.fort_parts.specs.DecidedCores.{IsOverSystem, IsOperandOf, IsDecided}
 use Rattle.fort_theory.specs.Trees.{Tree}
 use Rattle.fort_theory.specs.Signatures.{most_columns}
 use Rattle.fort_theory.specs.Sides.{at_index}
@@ -44,6 +44,7 @@ use Rattle.fort_parts.proofs.PartFacts.{columns_of-few, IsOverSystem-part}
 use Rattle.fort_parts.proofs.PartOrder.{Contains-postorder}
 use Rattle.fort_parts.proofs.StepTables.{IsOperand-answer, IsLawful-answer}
 use Rattle.fort_parts.proofs.StepAnswers.{IsRightBy-value, IsRightBy-labels, IsAnswerTo-True, IsAnswerTo-Not-value, IsAnswerTo-Not-table, is_free-joined, IsAnswerTo-values, some-first, some-second, joined_label, LabelsTellAlike-joined, IsAnswerTo-joined, place_bound, count_bound, IsAnswerTo-projected, IsAnswerTo-closed, LabelsTellAlike-projected, IsAnswerTo-many, IsAnswerTo-many_closed, LabelsTellAlike-many}
+use Rattle.fort_in_order_laws.proofs.AnsweredParts.{HasAnswerIfExpression}
 use Rattle.fort_in_order_laws.proofs.JoinedTables.{joined_signature}
 use Rattle.fort_in_order_laws.proofs.SidePatterns.{patterns_in_order, side_patterns}
 use Rattle.fort_reduced_parts.specs.ReducedParts.{AlikeReduced}
@@ -222,6 +223,15 @@ module _ (system : PatternSystem) where
 
 -- ---- all kinds
 
+-- each expression that stands in the formula has a right answer
+abbrev pub HasAnswersOfExpressions : PatternSystem → Core → Type 0
+HasAnswersOfExpressions system core.True = Unit {0}
+HasAnswersOfExpressions system (core.Leaf a) = HasAnswerIfExpression system (core.Leaf a)
+HasAnswersOfExpressions system (core.Not f) = HasAnswersOfExpressions system f
+HasAnswersOfExpressions system (core.Binary op f g) = HasAnswersOfExpressions system f × HasAnswersOfExpressions system g
+HasAnswersOfExpressions system (core.Exists n f) = HasAnswersOfExpressions system f
+HasAnswersOfExpressions system (core.Infinite n f) = HasAnswersOfExpressions system f
+
 few_columns : (f : Core) → IsWellFormed f → length (columns_of f) ≤ most_columns
 few_columns f well = columns_of-few f f well (Contains-postorder f)
 
@@ -233,36 +243,39 @@ well_second : (op : Connective) (f g : Core) → IsWellFormed (Binary op f g) �
 well_second op f g well = IsWellFormed-operand g (core.Binary op f g) (inr refl) well
 
 module _ (system : PatternSystem) (is : IsSystem system) where
-  -- Result: each well-formed formula over the system has a right answer
-  pub HasAnswer-decided : (f : Core) → IsWellFormed f → IsOverSystem system f → HasAnswer system f
-  HasAnswer-decided core.True well over = by_value system core.True true (IsAnswerTo-True system)
-  HasAnswer-decided (core.Leaf (core.Related rel index x y)) well over = HasAnswer-Related system is rel index x y
-  HasAnswer-decided (core.Leaf (core.InContext e number place x y)) well over = absurd over
-  HasAnswer-decided (core.Leaf (core.Normal index x)) well over = HasAnswer-Normal system is index x
-  HasAnswer-decided (core.Leaf (core.IsTerm x term)) well over = HasAnswer-IsTerm system x term
-  HasAnswer-decided (core.Not f) well over = HasAnswer-Not system f (HasAnswer-decided f (IsWellFormed-operand f (core.Not f) refl well) over)
-  HasAnswer-decided (core.Binary op f g) well over =
-      HasAnswer-joined system op f g (few_columns (core.Binary op f g) well) (HasAnswer-decided f (well_first op f g well) over.0)
-      (HasAnswer-decided g (well_second op f g well) over.1)
-  HasAnswer-decided (core.Exists n f) well over =
-      let w = body_of system n f well.binders.0 (HasAnswer-decided f (IsWellFormed-operand f (core.Exists n f) refl well) over) in
+  -- Result: each well-formed formula over the system has a right answer, where its expressions have
+  pub HasAnswer-decided : (f : Core) → IsWellFormed f → IsOverSystem system f → HasAnswersOfExpressions system f → HasAnswer system f
+  HasAnswer-decided core.True well over answered = by_value system core.True true (IsAnswerTo-True system)
+  HasAnswer-decided (core.Leaf (core.Related rel index x y)) well over answered = HasAnswer-Related system is rel index x y
+  HasAnswer-decided (core.Leaf (core.InContext e number place x y)) well over answered = record { answer = answered.0; right = answered.1 }
+  HasAnswer-decided (core.Leaf (core.Normal index x)) well over answered = HasAnswer-Normal system is index x
+  HasAnswer-decided (core.Leaf (core.IsTerm x term)) well over answered = HasAnswer-IsTerm system x term
+  HasAnswer-decided (core.Not f) well over answered = HasAnswer-Not system f (HasAnswer-decided f (IsWellFormed-operand f (core.Not f) refl well) over answered)
+  HasAnswer-decided (core.Binary op f g) well over answered =
+      HasAnswer-joined system op f g (few_columns (core.Binary op f g) well) (HasAnswer-decided f (well_first op f g well) over.0 answered.0)
+      (HasAnswer-decided g (well_second op f g well) over.1 answered.1)
+  HasAnswer-decided (core.Exists n f) well over answered =
+      let w = body_of system n f well.binders.0 (HasAnswer-decided f (IsWellFormed-operand f (core.Exists n f) refl well) over answered) in
       HasAnswer-Exists system n f well.binders.0 w.0 w.1 (few_columns (core.Exists n f) well)
-  HasAnswer-decided (core.Infinite n f) well over =
-      let w = body_of system n f well.binders.0 (HasAnswer-decided f (IsWellFormed-operand f (core.Infinite n f) refl well) over) in
+  HasAnswer-decided (core.Infinite n f) well over answered =
+      let w = body_of system n f well.binders.0 (HasAnswer-decided f (IsWellFormed-operand f (core.Infinite n f) refl well) over answered) in
       HasAnswer-Infinite system n f well.binders.0 w.0 w.1 (few_columns (core.Infinite n f) well)
 
   -- so has each of its operands
-  pub OperandsAnswered-decided : (f : Core) → IsWellFormed f → IsOverSystem system f → OperandsAnswered system f
-  OperandsAnswered-decided core.True well over = tt
-  OperandsAnswered-decided (core.Leaf a) well over = tt
-  OperandsAnswered-decided (core.Not f) well over = HasAnswer-decided f (IsWellFormed-operand f (core.Not f) refl well) over
-  OperandsAnswered-decided (core.Binary op f g) well over =
-      (HasAnswer-decided f (well_first op f g well) over.0, HasAnswer-decided g (well_second op f g well) over.1)
-  OperandsAnswered-decided (core.Exists n f) well over = HasAnswer-decided f (IsWellFormed-operand f (core.Exists n f) refl well) over
-  OperandsAnswered-decided (core.Infinite n f) well over = HasAnswer-decided f (IsWellFormed-operand f (core.Infinite n f) refl well) over
+  pub OperandsAnswered-decided : (f : Core) → IsWellFormed f → IsOverSystem system f → ((g : Core) → IsOperandOf g f → HasAnswersOfExpressions system g) → OperandsAnswered system f
+  OperandsAnswered-decided core.True well over answered = tt
+  OperandsAnswered-decided (core.Leaf a) well over answered = tt
+  OperandsAnswered-decided (core.Not f) well over answered = HasAnswer-decided f (IsWellFormed-operand f (core.Not f) refl well) over (answered f refl)
+  OperandsAnswered-decided (core.Binary op f g) well over answered = (
+    HasAnswer-decided f (well_first op f g well) over.0 (answered f (inl refl)),
+    HasAnswer-decided g (well_second op f g well) over.1 (answered g (inr refl)),
+  )
+  OperandsAnswered-decided (core.Exists n f) well over answered = HasAnswer-decided f (IsWellFormed-operand f (core.Exists n f) refl well) over (answered f refl)
+  OperandsAnswered-decided (core.Infinite n f) well over answered = HasAnswer-decided f (IsWellFormed-operand f (core.Infinite n f) refl well) over (answered f refl)
 
-  -- Result: a part that is over the cap with reduced tables is over it without
-  pub over_with_reduced : (root f : Core) (cap : ℕ) → IsDecided system root → Contains (postorder root) f → IsOverBy system (AlikeReduced system) f cap → IsPartOver system f cap
-  over_with_reduced root f cap decided among over =
+  -- Result: a part that is over the cap with reduced tables is over it without, where the expressions in its operands have right answers
+  pub over_with_reduced : (root f : Core) (cap : ℕ) → IsDecided system root → Contains (postorder root) f → ((g : Core) → IsOperandOf g f → HasAnswersOfExpressions system g)
+      → IsOverBy system (AlikeReduced system) f cap → IsPartOver system f cap
+  over_with_reduced root f cap decided among answered over =
       let part = IsWellFormed-part root f decided.well_formed among in
-      over_from_reduced system f cap part.binders (OperandsAnswered-decided f part (IsOverSystem-part system root f decided.over among)) over
+      over_from_reduced system f cap part.binders (OperandsAnswered-decided f part (IsOverSystem-part system root f decided.over among) answered) over

@@ -49,7 +49,7 @@ decided_core f system terms core lawful ready well is =
     let first : IsIndexOf system.rules 1 = record { low = omega arith; high = lawful.some } in
     record {
       well_formed = well;
-      over = subst (IsOverSystem system) (sym is) (IsOverSystem-core_of system first terms ready.grounded f ready.within ready.has_terms ready.plain);
+      over = subst (IsOverSystem system) (sym is) (IsOverSystem-core_of system first terms ready.grounded f ready.within ready.has_terms ready.few);
     }
 
 -- ---- from the core formula to the formula

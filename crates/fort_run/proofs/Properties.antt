@@ -68,7 +68,7 @@ pub property_ready : (p : Property) (system : PatternSystem) → 1 ≤ length sy
 property_ready p system some = record {
   small = omega arith;
   narrow = property_narrow p;
-  plain = refl;
+  few = λ e. absurd (true≢false (sym e));
   has_terms = λ k c. absurd (Contains-none k c);
   grounded = All-nil (IsGround system.signature);
   within =

@@ -25,7 +25,7 @@ use Rattle.fort_run.specs.declared.question.Question.{Question}
 use Rattle.fort_run.specs.declared.question.Question.TheVariants.{Truth, Terms, Certificate}
 use Rattle.fort_run.specs.Asked.{IsAskable, IsClosedFor}
 use Rattle.fort_run.specs.Accepted.{IsRead}
-use Rattle.fort_run.specs.Ready.{IsReady}
+use Rattle.fort_run.specs.Ready.{IsReady, HaveFewRules}
 use Rattle.fort_run.proofs.Fitting.{number_is, signature_is}
 
 AreTermsOf-count : (signature : Signature) (gs : List Ground) (ts : List Tree) → AreTermsOf signature gs ts → length gs ≡ length ts
@@ -59,11 +59,10 @@ module _ (question : Question) (parsed : Parsed) (read : IsRead question parsed)
   pub closed_for : IsClosedFor question (as_formula parsed.formula)
   closed_for = closed_of question read.text (as_formula parsed.formula) read.is.askable
 
-  pub ready : IsReady (as_formula parsed.formula) system terms
-  ready = record {
+  pub ready : HaveFewRules (pattern_system p) → IsReady (as_formula parsed.formula) system terms
+  ready few = record {
     small = read.small;
     narrow = accepted.narrow;
-    plain = accepted.plain;
     has_terms = subst (λ n. HasPlacesBelow n (as_formula parsed.formula)) count read.places;
     grounded = subst (λ s. All (IsGround s) terms) (sym (signature_is system.signature system p refl same)) (FitsSystem-ground read.text (as_formula parsed.formula) p terms fits);
     within =
@@ -71,6 +70,7 @@ module _ (question : Question) (parsed : Parsed) (read : IsRead question parsed)
           low = indices-low accepted.read index c;
           high = (let below = fits.within index c in let number = number_is (length system.rules) system p refl same in omega arith);
         };
+    few = λ e. subst HaveFewRules (sym same) few;
     right_ground =
         subst (λ (s : PatternSystem). AreAll (HasRightGroundPairsAt s) (terminations (as_formula parsed.formula))) (sym same)
         (AreAll-same (IsRightGroundAt p) (HasRightGroundPairsAt (pattern_system p)) (IsRightGroundAt-patterns p) (terminations (as_formula parsed.formula)) fits.right_ground);

@@ -1,6 +1,6 @@
--- The core formula of a formula whose indices are the system's, and in which ground terms are written, is over the system.
+-- The core formula of a formula whose indices are the system's, each with few rules if it has an expression, and in which ground terms are written, is over the system.
 use Rattle.std.specs.Prelude.{◌≡◌, ◌||◌, refl, ℕ, ◌+◌, ◌<◌, List, [], ◌∷◌, ◌++◌, length, reverse, Contains, All, Bool, true, false, if◌then◌else◌}
-use Rattle.std.proofs.Common.{true≢false}
+use Rattle.std.proofs.lemmas.Bool.{or_left, or_right}
 use Rattle.std.proofs.lemmas.List.Elements.{All-get_or, Contains-append_left, Contains-append_right}
 use Rattle.fort_theory.specs.Trees.{Tree, Node, Nil}
 use Rattle.fort_theory.specs.Signatures.{IsGround}
@@ -11,19 +11,12 @@ use Rattle.fort_logic.specs.Formulas as surface
 use Rattle.fort_logic.specs.Formulas.{Name, Argument, Formula, SurfaceRel, Property}
 use Rattle.fort_logic.specs.FreeNames.{free_names}
 use Rattle.fort_logic.specs.Mentions.{indices, places, places_in, has_expression}
-use Rattle.fort_cores.specs.Cores.{Core, Leaf, Related, Normal, Binary, Not, Exists, Infinite, Star, Plus, Step, Conv}
+use Rattle.fort_cores.specs.Cores.{Core, Leaf, InContext, Normal, Binary, Not, Exists, Infinite, Star, Plus, Step, Conv}
 use Rattle.fort_theory.specs.Logic.{And}
 use Rattle.fort_cores.specs.Parts.{is_free}
 use Rattle.fort_logic.specs.Translation.{atom, some, every, infinitely_many, implies, equal, at_most_one_step, normalises, joins, terminates, all_terminate, related, forks, property_core, commutes, about, about_both, core_in, core_of, number_in}
 use Rattle.fort_parts.specs.DecidedCores.{IsOverSystem}
-
-neither_first : (a b : Bool) → (a || b) ≡ false → a ≡ false
-neither_first true b e = e
-neither_first false b e = refl
-
-neither_second : (a b : Bool) → (a || b) ≡ false → b ≡ false
-neither_second true b e = absurd (true≢false e)
-neither_second false b e = e
+use Rattle.fort_run.specs.Ready.{HaveFewRules}
 
 -- what holds of both ways of a choice
 either : (P : Core → Type 0) (b : Bool) (f g : Core) → P f → P g → P (if b then f else g)
@@ -112,15 +105,24 @@ module _ (system : PatternSystem) (first : IsIndexOf system.rules 1) (terms : Li
       over-about scope n a (λ m x. about terms scope m b (λ k y. make k x y)) (λ k c. within k (Contains-append_left (places_in a) (places_in b) k c))
       (λ m x. over-about scope m b (λ k y. make k x y) (λ k c. within k (Contains-append_right (places_in a) (places_in b) k c)) (λ k y. over k x y))
 
-  -- each index is one of the system's, each place has a term, and there is no expression
+  -- each index is one of the system's, each place has a term, and where there is an expression, the rules of each index are few
   abbrev Mentions : Formula → Type 0
-  Mentions f = ((y : ℕ) → Contains (indices f) y → IsIndexOf system.rules y) × ((k : ℕ) → Contains (places f) k → k < length terms) × (has_expression f ≡ false)
+  Mentions f = ((y : ℕ) → Contains (indices f) y → IsIndexOf system.rules y) × ((k : ℕ) → Contains (places f) k → k < length terms)
+      × (has_expression f ≡ true → HaveFewRules system)
 
   left : (f g : Formula) → ((y : ℕ) → Contains (indices f ++ indices g) y → IsIndexOf system.rules y) → ((k : ℕ) → Contains (places f ++ places g) k → k < length terms)
-      → (has_expression f || has_expression g) ≡ false → Mentions f × Mentions g
-  left f g i p e = (
-    ((λ y c. i y (Contains-append_left (indices f) (indices g) y c)), (λ k c. p k (Contains-append_left (places f) (places g) k c)), neither_first (has_expression f) (has_expression g) e),
-    ((λ y c. i y (Contains-append_right (indices f) (indices g) y c)), (λ k c. p k (Contains-append_right (places f) (places g) k c)), neither_second (has_expression f) (has_expression g) e),
+      → ((has_expression f || has_expression g) ≡ true → HaveFewRules system) → Mentions f × Mentions g
+  left f g i p few = (
+    (
+      (λ y c. i y (Contains-append_left (indices f) (indices g) y c)),
+      (λ k c. p k (Contains-append_left (places f) (places g) k c)),
+      λ e. few (or_left (has_expression f) (has_expression g) e),
+    ),
+    (
+      (λ y c. i y (Contains-append_right (indices f) (indices g) y c)),
+      (λ k c. p k (Contains-append_right (places f) (places g) k c)),
+      λ e. few (or_right (has_expression f) (has_expression g) e),
+    ),
   )
 
   over-core_in : (scope : List Name) (f : Formula) → Mentions f → Over (core_in terms scope f)
@@ -128,7 +130,9 @@ module _ (system : PatternSystem) (first : IsIndexOf system.rules 1) (terms : Li
   over-core_in scope surface.False m = tt
   over-core_in scope (surface.Related rel a b index) m =
       over-about_both scope (length scope) a b (λ n x y. related rel index x y) m.1 (λ n x y. over-related rel index x y (m.0 index (Contains-head index [])))
-  over-core_in scope (surface.InContext e number place a b) m = absurd (true≢false m.2)
+  over-core_in scope (surface.InContext e number place a b) m =
+      over-about_both scope (length scope) a b (λ n x y. Leaf (InContext e number place x y)) m.1
+      (λ n x y. record { indices = m.0; few = λ index c. m.2 refl index })
   over-core_in scope (surface.Nf a index) m = over-about scope (length scope) a (λ n x. Leaf (Normal index x)) m.1 (λ n x. m.0 index (Contains-head index []))
   over-core_in scope (surface.Join a b index) m =
       over-about_both scope (length scope) a b (λ n x y. joins index n x y) m.1 (λ n x y. over-joins index n x y (m.0 index (Contains-head index [])))
@@ -147,6 +151,6 @@ module _ (system : PatternSystem) (first : IsIndexOf system.rules 1) (terms : Li
   over-core_in scope (surface.Infinite x f) m = over-infinitely_many (length scope) (core_in terms (x ∷ scope) f) (over-core_in (x ∷ scope) f m)
 
   -- Result
-  pub IsOverSystem-core_of : (f : Formula) → ((y : ℕ) → Contains (indices f) y → IsIndexOf system.rules y) → ((k : ℕ) → Contains (places f) k → k < length terms) → has_expression f ≡ false
-      → IsOverSystem system (core_of terms f)
-  IsOverSystem-core_of f i p plain = over-core_in (reverse (free_names f)) f (i, p, plain)
+  pub IsOverSystem-core_of : (f : Formula) → ((y : ℕ) → Contains (indices f) y → IsIndexOf system.rules y) → ((k : ℕ) → Contains (places f) k → k < length terms)
+      → (has_expression f ≡ true → HaveFewRules system) → IsOverSystem system (core_of terms f)
+  IsOverSystem-core_of f i p few = over-core_in (reverse (free_names f)) f (i, p, few)

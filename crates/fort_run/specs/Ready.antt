@@ -1,8 +1,8 @@
 -- Inside: a formula that was accepted, over a system that has all that it speaks of, and what deciding its core formula shows.
-use Rattle.std.specs.Prelude.{◌≡◌, false, ℕ, ◌<◌, ◌^◌, List, Contains, All}
+use Rattle.std.specs.Prelude.{◌≡◌, true, ℕ, ◌<◌, ◌^◌, List, Contains, All}
 use Rattle.fort_theory.specs.Trees.{Tree}
 use Rattle.fort_theory.specs.Signatures.{IsGround, HasConstant}
-use Rattle.fort_theory.specs.Sides.{System, IsLinearSeparated, IsIndexOf}
+use Rattle.fort_theory.specs.Sides.{System, IsLinearSeparated, IsIndexOf, at_index}
 use Rattle.fort_theory.specs.Patterns.{PatternSystem}
 use Rattle.fort_logic.specs.Formulas.{Formula}
 use Rattle.fort_termination.specs.RightGround.{HasRightGroundPairsAt}
@@ -13,6 +13,7 @@ use Rattle.fort_logic.specs.Translation.{IsFormulaTooWide, core_of}
 use Rattle.fort_logic.specs.KeepsTruth.{KeepsTruth}
 use Rattle.fort_cores.specs.Structures.{pattern_structure}
 use Rattle.fort_formulas.specs.NumbersNeeded.{numbers_needed}
+use Rattle.fort_parts.specs.DecidedCores.{AreFewRules}
 use Rattle.fort_parts.specs.PartAnswers.{IsAnswerTo}
 use Rattle.fort_engine.specs.AnswerView.{as_answer, IsLimit}
 use Rattle.fort_engine.specs.declared.answer.Last.{Last}
@@ -25,15 +26,19 @@ pub record IsLawful (system : System) : Type 0 where
   pub constant : HasConstant system.signature
   pub separated : All (All IsLinearSeparated) system.rules
 
--- not too wide, without expressions, with a ground term for each that is written in it, with indices of the system alone, and with
--- right-ground rules at each index of an SN
+-- each index has few rules, as expressions ask
+abbrev pub HaveFewRules : PatternSystem → Type 0
+HaveFewRules system = (index : ℕ) → AreFewRules (at_index index system.rules)
+
+-- not too wide, with a ground term for each that is written in it, with indices of the system alone, with few rules of each index where
+-- it has an expression, and with right-ground rules at each index of an SN
 pub record IsReady (f : Formula) (system : PatternSystem) (terms : List Tree) : Type 0 where
   pub small : numbers_needed f < 2 ^ 32
   pub narrow : IsFormulaTooWide f → ⊥
-  pub plain : has_expression f ≡ false
   pub has_terms : HasTermsFor f terms
   pub grounded : All (IsGround system.signature) terms
   pub within : (index : ℕ) → Contains (indices f) index → IsIndexOf system.rules index
+  pub few : has_expression f ≡ true → HaveFewRules system
   pub right_ground : AreAll (HasRightGroundPairsAt system) (terminations f)
 
 -- a limit of a core formula, of which the line tells

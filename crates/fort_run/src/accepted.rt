@@ -15,7 +15,7 @@ ghost use Rattle.fort_run.specs.Refusals.{RefusesFormula};
 use crate::question::Question;
 use crate::refusal::{Refusal, formula_line, open_line};
 use fort_formula_parser::{Parsed, parse};
-use fort_formulas::{CoreFault, Formula, free_names, has_expression, too_wide};
+use fort_formulas::{CoreFault, Formula, free_names, too_wide};
 use std::alloc::{AllocError, Global};
 
 /// Whether some part of a formula is too wide.
@@ -56,9 +56,6 @@ fn refusal_of(
 {
     if is_too_wide(alloc, formula)? {
         return Ok(Some(Vec::from_slice(alloc, b"REFUSED formula too wide\n")?));
-    }
-    if has_expression(formula) {
-        return Ok(Some(Vec::from_slice(alloc, b"REFUSED formula expression\n")?));
     }
     match question {
         Question::Truth | Question::Certificate => open_refusal(alloc, formula),

@@ -14,9 +14,9 @@ use Rattle.fort_cores.specs.Structures.{pattern_structure}
 use Rattle.fort_tables.specs.Tables.{Listed, listed_table}
 use Rattle.fort_parts.specs.PartColumns.{columns_of}
 use Rattle.fort_parts.specs.PartAnswers.{Answer, OfTable, IsAnswerTo}
-use Rattle.fort_parts.specs.DecidedCores.{IsDecided, IsOverSystem, IsOperandOf}
+use Rattle.fort_parts.specs.DecidedCores.{IsDecided, IsOperandOf}
 use Rattle.fort_parts.specs.RightAnswers.{IsRightFor}
-use Rattle.fort_parts.proofs.PartFacts.{IsOverSystem-part, BindsFree-part, columns_of-few}
+use Rattle.fort_parts.proofs.PartFacts.{BindsFree-part, columns_of-few}
 use Rattle.fort_certificate_grammar.specs.Certificates as certificates
 use Rattle.fort_in_order.specs.Dues.{DueStep, has_columns, is_turned, closures_due, counts_due, answer_due, parts_due, dues}
 use Rattle.fort_in_order.specs.Made.{Made, nothing_made, IsPartAt, IsAnswerOf, OfStep, Turned}
@@ -26,7 +26,7 @@ use Rattle.fort_in_order.proofs.RuleLaws.{part_one, answer_one}
 use Rattle.fort_in_order_laws.proofs.FineSteps.{HasClosures}
 use Rattle.fort_in_order_laws.proofs.CertifiedTruth.{moved_answer, asked_closures, last_part, no_columns_closed}
 use Rattle.fort_in_order_laws.proofs.StepLists.{steps_append, parts_due-push}
-use Rattle.fort_in_order_laws.proofs.AnsweredParts.{AreOperandsRight, AreCountsRight, labels_of, value_of}
+use Rattle.fort_in_order_laws.proofs.AnsweredParts.{AreOperandsRight, AreCountsRight, answered_if_expression, labels_of, value_of}
 use Rattle.fort_in_order_laws.proofs.StepsOfParts.{last_value-push, kept_answer, AreCountsDone, IsAnswerDone, no_counts_done, counts_done, value_done, table_done, turned_done, HasClosures-written}
 use Rattle.fort_outline.specs.declared.outline.Outline.{Outline}
 use Rattle.fort_outline.specs.Outlines.{AreLastUses, parts_in, core_at}
@@ -117,9 +117,6 @@ module _ (system : PatternSystem) (is : IsSystem system) (root : Core) (decided 
   few : length (columns_of own) ≤ most_columns
   few = columns_of-few root own decided.well_formed ((are.same own).1 (Contains-get_or parts k core.True within))
 
-  over : IsOverSystem system own
-  over = IsOverSystem-part system root own decided.over ((are.same own).1 (Contains-get_or parts k core.True within))
-
   answer_recorded : (made : Made) (answer : Last) (old new : List Step) → HasClosures system parts (1 + length system.rules) made → AreOperandsRight system parts made own → AreCountsRight system parts made k own
       → IsRightFor system own (as_answer answer) → (is_turned own ≡ true → IsAnswerOf parts made own (as_answer answer)) → AnswerAdded k own answer old new → HasAnswerDone system parts k made answer old new
   answer_recorded made (Truth b) old new closures operands counts right turned h =
@@ -146,7 +143,8 @@ module _ (system : PatternSystem) (is : IsSystem system) (root : Core) (decided 
         | inr other ↦
             let t = h.targets other in
             let asked = asked_closures system root parts are is decided k made within closures in
-            let labels = labels_of system is parts made k own some (same ∙ other) few binds over asked operands counts in
+            let answered = answered_if_expression system own (OfTable (listed_table table)) right in
+            let labels = labels_of system is parts made k own some (same ∙ other) few binds asked answered operands counts in
             record {
               added = certificates.Part k table.targets ∷ [];
               last = _;

@@ -1,7 +1,7 @@
 use Rattle.std.proofs.Common.{map, sym, ap, ◌∙◌, subst, arith}
 use Rattle.std.proofs.lemmas.Result.{IfOk-weaker}
 use Rattle.fort_cores.specs.Cores.{Core}
-use Rattle.fort_cores.specs.Parts.{BindsFree}
+use Rattle.fort_cores.specs.Parts.{BindsFree, HasManyRootsAt}
 use Rattle.fort_parts.specs.DecidedCores.{IsOverSystem}
 use Rattle.fort_parts.proofs.PartColumnLaws.{column-from_free}
 use Rattle.fort_outline.specs.Outlines.{core_at}
@@ -16,8 +16,11 @@ index-requires c = omega (arith, c.requires.within, c.args.outline.now.roots.ok.
 pub returns-in-True : goal.returns-in-True
 returns-in-True c = part_is c.args.outline.now.roots.items c.requires.outline.1.in_order c.args.k c.index.result.now _ c.requires.within c.index.ensures c.in-True.is
 
-pub atom_labels-requires : goal.atom_labels-requires
-atom_labels-requires c = subst (λ (f : Core). IsOverSystem c.args.system.now f) (part_is c.args.outline.now.roots.items c.requires.outline.1.in_order c.args.k c.index.result.now _ c.requires.within c.index.ensures c.in-Leaf.is) c.requires.fit.over
+pub atom_labels-requires-clause-over : goal.atom_labels-requires-clause-over
+atom_labels-requires-clause-over c = subst (λ (f : Core). IsOverSystem c.args.system.now f) (part_is c.args.outline.now.roots.items c.requires.outline.1.in_order c.args.k c.index.result.now _ c.requires.within c.index.ensures c.in-Leaf.is) c.requires.fit.over
+
+pub atom_labels-requires-clause-narrow : goal.atom_labels-requires-clause-narrow
+atom_labels-requires-clause-narrow c = subst (λ (f : Core). HasManyRootsAt f → ⊥) (part_is c.args.outline.now.roots.items c.requires.outline.1.in_order c.args.k c.index.result.now _ c.requires.within c.index.ensures c.in-Leaf.is) c.requires.fit.roots
 
 pub returns-in_ok-atom_labels-in-Leaf : goal.returns-in_ok-atom_labels-in-Leaf
 returns-in_ok-atom_labels-in-Leaf c =

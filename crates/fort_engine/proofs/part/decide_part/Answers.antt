@@ -2,7 +2,7 @@ use Rattle.std.proofs.Common.{Ok, refl, subst, get_or, arith}
 use Rattle.std.specs.Prelude.{Contains}
 use Rattle.std.proofs.lemmas.List.Elements.{Contains-get_or}
 use Rattle.fort_cores.specs.Cores as core
-use Rattle.fort_cores.specs.Parts.{BindsFree}
+use Rattle.fort_cores.specs.Parts.{BindsFree, HasManyRootsAt}
 use Rattle.fort_parts.specs.DecidedCores.{IsOverSystem}
 use Rattle.fort_outline.specs.Outlines.{parts_in}
 use Rattle.fort_outline.proofs.RootLaws.{length-cores_of}
@@ -18,6 +18,9 @@ returns-in-True c =
 
 pub decide_leaf-requires-clause-over : goal.decide_leaf-requires-clause-over
 decide_leaf-requires-clause-over c = subst (IsOverSystem c.args.system.now) (next_is (has_root c.requires.next c.index.ensures c.in-Leaf.is)) c.requires.next.fit.over
+
+pub decide_leaf-requires-clause-narrow : goal.decide_leaf-requires-clause-narrow
+decide_leaf-requires-clause-narrow c = subst (λ (f : core.Core). HasManyRootsAt f → ⊥) (next_is (has_root c.requires.next c.index.ensures c.in-Leaf.is)) c.requires.next.fit.roots
 
 pub decide_leaf-requires-clause-closures : goal.decide_leaf-requires-clause-closures
 decide_leaf-requires-clause-closures c =

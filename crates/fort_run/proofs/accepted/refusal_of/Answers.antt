@@ -1,6 +1,5 @@
-use Rattle.std.proofs.Common.{sym, ◌∙◌}
 use Rattle.std.proofs.lemmas.Result.{IfOk-weaker}
-use Rattle.fort_answers.specs.FormulaAnswer.{Wide, Undecided}
+use Rattle.fort_answers.specs.FormulaAnswer.{Wide}
 use Rattle.fort_formulas.specs.FormulaView.{as_formula}
 use Rattle.fort_run.proofs.FormulaRefusals.{closed_refusal, told, untold, refused_both}
 use Rattle.fort_run.proofs.accepted.refusal_of.Goals as goal
@@ -10,20 +9,10 @@ returns-then-branch c = λ text read.
     refused_both c.args.question text c.in_ok-from_slice.field-0.items
     (Wide (as_formula c.args.formula.now) read (told c.in_ok-is_too_wide.field-0 _ c.in_ok-is_too_wide.ensures c.if-branch.true) c.in_ok-from_slice.ensures.items)
 
-pub returns-then-has_expression : goal.returns-then-has_expression
-returns-then-has_expression c = λ text read.
-    refused_both c.args.question text c.in_ok-from_slice-2.field-0.items
-    (Undecided (as_formula c.args.formula.now) read (untold c.in_ok-is_too_wide.field-0 _ c.in_ok-is_too_wide.ensures c.if-branch.false)
-    (sym c.has_expression.ensures ∙ c.if-has_expression.true) c.in_ok-from_slice-2.ensures.items)
-
 pub returns-in-Truth : goal.returns-in-Truth
 returns-in-Truth c =
     let f = as_formula c.args.formula.now in
     IfOk-weaker c.open_refusal.result _ _ (λ refusal says. λ text read.
     closed_refusal c.args.question text f refusal c.in-Truth.is
-    (says text (record {
-      read = read;
-      narrow = untold c.in_ok-is_too_wide.field-0 _ c.in_ok-is_too_wide.ensures c.if-branch.false;
-      plain = sym c.has_expression.ensures ∙ c.if-has_expression.false;
-    })))
+    (says text (record { read = read; narrow = untold c.in_ok-is_too_wide.field-0 _ c.in_ok-is_too_wide.ensures c.if-branch.false })))
     c.open_refusal.ensures

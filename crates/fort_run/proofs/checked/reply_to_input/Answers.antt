@@ -4,6 +4,7 @@ use Rattle.fort_formulas.specs.FormulaView.{as_formula}
 use Rattle.fort_steps.specs.CertificateView.{as_certificate}
 use Rattle.fort_answers.specs.CheckAnswer.{IsCertifiedInputRefused}
 use Rattle.fort_answers.specs.FitAnswer.{IsUnfit}
+use Rattle.fort_answers.proofs.FewPatterns.{AreFewRules-certified}
 use Rattle.fort_run.specs.Checked.{TellsOutcome}
 use Rattle.fort_run.specs.Ready.{IsReady}
 use Rattle.fort_run.specs.ReplyView.{status_of, text_of}
@@ -33,7 +34,8 @@ reply_to_certificate-requires-clause-ready c =
     let read = c.in-Ok.ensures.ok in
     let fits = c.in-Ok-terms_of.ensures.ok c.requires.read.text read.system c.requires.read.is.grounds read.same in
     subst (IsReady (as_formula c.args.parsed.now.formula) c.in-Ok.input.system) (sym c.deref.ensures.value)
-    (ready Certificate c.args.parsed.now c.requires.read read.system c.in-Ok.input.system c.in-Ok-terms_of.terms.items read.same fits)
+    (ready Certificate c.args.parsed.now c.requires.read read.system c.in-Ok.input.system c.in-Ok-terms_of.terms.items read.same fits
+    (AreFewRules-certified c.args.bytes.items read.system (as_certificate c.in-Ok.input.certificate) read.is))
 
 pub reply_to_certificate-requires-clause-closed : goal.reply_to_certificate-requires-clause-closed
 reply_to_certificate-requires-clause-closed c =

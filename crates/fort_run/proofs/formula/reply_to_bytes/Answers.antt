@@ -5,6 +5,7 @@ use Rattle.fort_logic.specs.Translation.{core_of}
 use Rattle.fort_formulas.specs.FormulaView.{as_formula}
 use Rattle.fort_answers.specs.InputAnswer.{IsInputRefused}
 use Rattle.fort_answers.specs.FitAnswer.{IsUnfit}
+use Rattle.fort_answers.proofs.FewPatterns.{AreFewRules-input}
 use Rattle.fort_words.specs.RequestView.{as_options}
 use Rattle.fort_run.proofs.LinearRules.{IsInput-lawful}
 use Rattle.fort_run.proofs.FormulaRefusals.{refused_by_line}
@@ -33,7 +34,8 @@ verdict-requires-clause-ready c =
     let input = c.in-Ok.ensures.ok in
     let fits = c.in-Ok-terms_of.ensures.ok c.requires.read.text input.0 c.requires.read.is.grounds input.2 in
     subst (IsReady (as_formula c.args.parsed.now.formula) c.in-Ok.system) (sym c.deref.ensures.value)
-    (ready c.args.question c.args.parsed.now c.requires.read input.0 c.in-Ok.system c.in-Ok-terms_of.terms.items input.2 fits)
+    (ready c.args.question c.args.parsed.now c.requires.read input.0 c.in-Ok.system c.in-Ok-terms_of.terms.items input.2 fits
+    (AreFewRules-input c.args.bytes.items input.0 input.1))
 
 pub verdict-requires-clause-closed : goal.verdict-requires-clause-closed
 verdict-requires-clause-closed c =
