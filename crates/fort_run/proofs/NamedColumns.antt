@@ -1,21 +1,20 @@
 -- The columns of a formula's core formula are the numbers of its free names, all of them.
-use Rattle.std.specs.Prelude.{◌≡◌, ◌≢◌, ℕ, zero, suc, ◌+◌, ◌<◌, ◌≤◌, ◌||◌, ◌&&◌, ◌==◌, Bool, true, false, not, if◌then◌else◌, List, [], ◌∷◌, ◌++◌, length, reverse, Some, slice_get, get_or, bytes_eq, Contains, refl}
+use Rattle.std.specs.Prelude.{◌≡◌, ℕ, zero, suc, ◌+◌, ◌<◌, ◌≤◌, ◌||◌, ◌&&◌, ◌==◌, Bool, true, false, not, if◌then◌else◌, List, [], ◌∷◌, ◌++◌, length, reverse, Some, slice_get, get_or, bytes_eq, Contains, refl}
 use Rattle.std.specs.List.{range_with_len}
 use Rattle.std.proofs.Common.{sym, ap, subst, ◌∙◌, arith, ⊎_elim, eq-eqb}
 use Rattle.std.proofs.lemmas.Bool.{or_left, or_right}
 use Rattle.std.proofs.lemmas.List.{reverse-reverse}
 use Rattle.std.proofs.lemmas.Option.{slice_get-get_or}
 use Rattle.std.proofs.lemmas.List.Elements.{Contains-append_cases}
-use Rattle.std.proofs.lemmas.List.FromFn.{length-range_with_len}
 use Rattle.fort_theory.specs.Trees.{Tree}
 use Rattle.fort_theory.proofs.Members.{Contains-head, Contains-behind, Contains-none, Contains-cons_cases, Contains-from_filter}
 use Rattle.fort_logic.specs.Formulas as surface
 use Rattle.fort_logic.specs.Formulas.{Name, Argument, Formula, SurfaceRel}
 use Rattle.fort_logic.specs.FreeNames.{without, names_in, occurrences, free_names}
 use Rattle.fort_cores.specs.EachOnce.{StandsBefore}
-use Rattle.fort_cores.specs.Cores.{Core, Leaf, Related, Normal, IsTerm, Not, Binary, Exists, Infinite, Star, Plus, InContext}
+use Rattle.fort_cores.specs.Cores.{Core, Leaf, Normal, IsTerm, Not, Binary, Exists, Infinite, Star, Plus, InContext}
 use Rattle.fort_theory.specs.Logic.{And}
-use Rattle.fort_cores.specs.Parts.{is_free, AreColumns}
+use Rattle.fort_cores.specs.Parts.{is_free}
 use Rattle.fort_logic.specs.Translation.{number_in, some, every, infinitely_many, equal, related, joins, terminates, term_at, about, about_both, core_in, core_of, atom}
 use Rattle.fort_logic.proofs.NamesOnce.{free_names-AreEachOnce}
 use Rattle.fort_logic.proofs.FreeNumbers.{core_of-free}

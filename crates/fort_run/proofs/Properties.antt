@@ -1,6 +1,6 @@
 -- A property of the rules of index 1 is ready to be decided over every system.
 use Rattle.std.proofs.Common.{◌≡◌, ◌≤◌, [], length, refl, sym, subst, arith, ⊎_elim, true≢false}
-use Rattle.std.specs.Prelude.{ℕ, Bool, true, false, ◌&&◌, nat_le}
+use Rattle.std.specs.Prelude.{Bool, true, false, ◌&&◌, nat_le}
 use Rattle.std.proofs.lemmas.Bool.{leb-true}
 use Rattle.std.proofs.lemmas.List.Elements.{All-nil}
 use Rattle.fort_theory.specs.Signatures.{IsGround, most_columns}
@@ -9,7 +9,6 @@ use Rattle.fort_theory.specs.Patterns.{PatternSystem}
 use Rattle.fort_theory.proofs.Members.{Contains-none, Contains-cons_cases}
 use Rattle.fort_termination.specs.RightGround.{HasRightGroundPairsAt}
 use Rattle.fort_cores.specs.Cores.{Atom, Related, InContext, Normal, IsTerm, Core, True, Leaf, Not, Binary, Exists, Infinite}
-use Rattle.fort_cores.specs.Parts.{IsTooWide}
 use Rattle.fort_logic.specs.Formulas.{Property, Cr, Wcr, Scr, Wn, Unr, Unc, Nfp, Has}
 use Rattle.fort_logic.specs.Translation.{core_of, IsFormulaTooWide}
 use Rattle.fort_logic.proofs.FreeNumbers.{core_of-binds_free}

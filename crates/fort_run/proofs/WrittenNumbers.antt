@@ -5,7 +5,6 @@ use Rattle.std.specs.Prelude.{if◌then◌else◌, ◌==◌}
 use Rattle.std.specs.List.{AllByRecursion, list_any}
 use Rattle.fort_theory.specs.Patterns.{PatternSystem}
 use Rattle.fort_cores.specs.Cores as core
-use Rattle.fort_theory.specs.Logic as logic
 use Rattle.fort_cores.specs.Cores.{Core}
 use Rattle.fort_certificate_grammar.specs.Certificates.{Which, Star, Conv, Step, Closure, Part, Counts, Value, Certificate}
 use Rattle.fort_certificate_grammar.specs.CertificateForms.{Version, OfOne, OfSeveral, version_for}

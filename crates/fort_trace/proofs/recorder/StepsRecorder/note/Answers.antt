@@ -3,7 +3,7 @@ use Rattle.fort_outline.specs.Outlines.{parts_in, core_at}
 use Rattle.fort_engine.proofs.OperandLaws.{has_root, next_is}
 use Rattle.fort_engine.specs.Deciding.{IsNextPart}
 use Rattle.fort_engine.specs.Found.{IsFound, AreItsTargets}
-use Rattle.fort_trace.specs.Recording.{recorded_with, AnswerAdded, CountsPushed}
+use Rattle.fort_trace.specs.Recording.{AnswerAdded, CountsPushed}
 use Rattle.fort_trace.proofs.RecordLaws.{AreRecordedTo-more}
 use Rattle.fort_trace.proofs.recorder.StepsRecorder.note.Goals as goal
 
