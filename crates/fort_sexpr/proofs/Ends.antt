@@ -1,9 +1,13 @@
 -- Where reading begins, and how it ends: at a fault, in a list that is open, or with the forms of the text.
-use Rattle.std.proofs.Common.{◌≡◌, ℕ, ◌<◌, ◌≤◌, false, List, [], ◌∷◌, length, get_or, refl, inl, inr, arith}
+use Rattle.std.proofs.Common.{◌≡◌, ℕ, ◌<◌, ◌≤◌, false, List, [], ◌∷◌, length, get_or, refl, sym, ◌∙◌, subst, inl, inr, arith}
 use Rattle.std.proofs.lemmas.Bool.{cases_lt}
-use Rattle.fort_grammar.specs.Text.{is_text_byte, depth, deepest, BadByte, ExtraClose, Unclosed, TooDeep, Bad, Extra, Deep, IsFirstFault, First, Open}
+use Rattle.fort_grammar.specs.Text.{depth, deepest, BadByte, ExtraClose, Unclosed, TooDeep, Bad, Extra, Deep, IsFirstFault, IsFaultlessBelow, First, Open}
 use Rattle.fort_grammar.specs.Forms.{Forms, NoForm, End, AreFormsOf}
-use Rattle.fort_sexpr.specs.Progress.{Level, IsReadUpTo}
+use Rattle.fort_sexpr.specs.declared.fault.SFault.{SFault}
+use Rattle.fort_sexpr.specs.declared.fault.SFault.TheVariants as faults
+use Rattle.fort_sexpr.specs.Faults.{IsFirstFaultOf}
+use Rattle.fort_sexpr.specs.Progress.{comment_before, Level, IsReadUpTo}
+use Rattle.fort_sexpr.specs.Tokens.{IsFaultOfByte}
 use Rattle.fort_grammar.proofs.Bytes.{stands_at-from}
 use Rattle.fort_sexpr.proofs.Steps.{not_in_comment, depth_of_levels}
 
@@ -39,19 +43,16 @@ module _ (bytes : List ℕ) where
         | inr ge ↦ ge
       ])
 
-  pub BadByte-read : (levels : List Level) (fs : Forms) (i : ℕ) → IsReadUpTo bytes levels fs i → i < length bytes
-      → (get_or bytes i 0 ≡ 59 → ⊥) → is_text_byte (get_or bytes i 0) ≡ false → IsFirstFault bytes (BadByte i)
-  BadByte-read levels fs i r l n b = First i (BadByte i) (Bad l (not_in_comment bytes i l (r.outside l) n) b) r.faultless
-
-  pub ExtraClose-read : (fs : Forms) (i : ℕ) → IsReadUpTo bytes [] fs i → i < length bytes → get_or bytes i 0 ≡ 41
-      → IsFirstFault bytes (ExtraClose i)
-  ExtraClose-read fs i r l h =
-      let o = not_in_comment bytes i l (r.outside l) (omega arith) in
-      First i (ExtraClose i) (Extra l (stands_at-from 41 bytes i h o) (depth_of_levels bytes [] fs i r)) r.faultless
-
-  pub TooDeep-read : (levels : List Level) (fs : Forms) (i : ℕ) → IsReadUpTo bytes levels fs i → i < length bytes
-      → get_or bytes i 0 ≡ 40 → deepest ≤ length levels → IsFirstFault bytes (TooDeep i)
-  TooDeep-read levels fs i r l h many =
-      let o = not_in_comment bytes i l (r.outside l) (omega arith) in
-      let d : depth bytes i ≡ deepest = omega (arith, depth_of_levels bytes levels fs i r, r.shallow) in
-      First i (TooDeep i) (Deep l (stands_at-from 40 bytes i h o) d) r.faultless
+  -- a byte at fault behind a part without fault
+  pub fault_here : (i height : ℕ) → i < length bytes → comment_before bytes i ≡ false → IsFaultlessBelow bytes i → depth bytes i ≡ height
+      → height ≤ deepest → (fault : SFault) → IsFaultOfByte (get_or bytes i 0) i height fault → IsFirstFaultOf bytes fault
+  fault_here i height l o below d few faults.Memory h = h
+  fault_here i height l o below d few (faults.BadByte k) h =
+      subst (λ n. IsFirstFault bytes (BadByte n)) (sym h.0) (First i (BadByte i) (Bad l (not_in_comment bytes i l o h.1) h.2) below)
+  fault_here i height l o below d few (faults.ExtraClose k) h =
+      let closes = stands_at-from 41 bytes i h.1 (not_in_comment bytes i l o (λ e. absurd (omega (arith, h.1)))) in
+      subst (λ n. IsFirstFault bytes (ExtraClose n)) (sym h.0) (First i (ExtraClose i) (Extra l closes (d ∙ h.2)) below)
+  fault_here i height l o below d few (faults.Unclosed k) h = absurd h
+  fault_here i height l o below d few (faults.TooDeep k) h =
+      let opens = stands_at-from 40 bytes i h.1 (not_in_comment bytes i l o (λ e. absurd (omega (arith, h.1)))) in
+      subst (λ n. IsFirstFault bytes (TooDeep n)) (sym h.0) (First i (TooDeep i) (Deep l opens (omega (arith, d, h.2))) below)

@@ -34,6 +34,15 @@ node_counts-AreForms (Skip s d) = omega (arith, node_counts-AreForms d)
 node_counts-AreForms (AWord w d) = omega (arith, w.some, node_counts-AreForms d)
 node_counts-AreForms (AList l o d m c e) = omega (arith, node_counts-AreForms d, node_counts-AreForms e)
 
+-- a list has no more forms than it has words and lists in it
+pub form_count-least : (fs : Forms) → form_count fs ≤ node_counts fs
+form_count-least NoForm = omega arith
+form_count-least (MoreForms f fs) = omega (arith, some f, form_count-least fs)
+  where
+    some : (f : Form) → 1 ≤ node_count f
+    some (Word from to) = omega arith
+    some (ListForm from to gs) = omega arith
+
 -- nor has any form of a text more of them than the text has bytes
 pub node_count-AreFormsOf : (bytes : List ℕ) (fs : Forms) (i : ℕ) (f : Form) → AreFormsOf bytes fs → form_at fs i ≡ Some f → node_count f ≤ length bytes
 node_count-AreFormsOf bytes fs i f h e = omega (arith, node_counts-AreForms h.stand, node_count-at fs i f e)

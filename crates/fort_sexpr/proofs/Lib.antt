@@ -9,3 +9,7 @@ pub mod OneFault
 pub mod Steps
 pub mod Ends
 pub mod ReadingLaws
+pub mod Fronts
+pub mod TopLaws
+pub mod Tallies
+pub mod Pieces

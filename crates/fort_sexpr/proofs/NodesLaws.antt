@@ -59,6 +59,18 @@ module _ (bytes : List ℕ) where
       let e : i + (j - i) ≡ j = omega arith in
       subst (λ k. opens_before bytes i ≤ opens_before bytes k) e (opens_more i (j - i))
 
+  -- no more lists open than bytes come
+  pub opens_grow : (i n : ℕ) → opens_before bytes (i + n) ≤ opens_before bytes i + n
+  opens_grow i zero = let e : i + zero ≡ i = omega arith in omega (arith, ap (opens_before bytes) e)
+  opens_grow i (suc n) =
+      let e : i + suc n ≡ (i + n) + 1 = omega arith in
+      by (stands_at 40 bytes (i + n)) refl (ap (opens_before bytes) e) (opens_grow i n)
+    where
+      by : (b : Bool) → stands_at 40 bytes (i + n) ≡ b → opens_before bytes (i + suc n) ≡ opens_before bytes ((i + n) + 1)
+          → opens_before bytes (i + n) ≤ opens_before bytes i + n → opens_before bytes (i + suc n) ≤ opens_before bytes i + suc n
+      by true h same before = omega (arith, count_before-yes 40 bytes (i + n) h)
+      by false h same before = omega (arith, count_before-no 40 bytes (i + n) h)
+
   -- lists that open at different offsets have different numbers
   pub opens_apart : (i j : ℕ) → i < j → stands_at 40 bytes i ≡ true → opens_before bytes i < opens_before bytes j
   opens_apart i j l h = omega (arith, count_before-yes 40 bytes i h, opens_ordered (i + 1) j (omega arith))

@@ -3,90 +3,78 @@ use Rattle.std.proofs.Common.{◌≡◌, ℕ, suc, ◌+◌, ◌^◌, ◌<◌, �
 use Rattle.std.proofs.lemmas.Bool.{true≢false, cases_lt, cases_eq, cases_order}
 use Rattle.std.proofs.lemmas.List.{get_or_default, get_or_push, get_or_append_left, get_or-set_same, get_or-set_other, length_push, length-set}
 use Rattle.fort_theory.specs.Signatures.{is_word_byte}
-use Rattle.fort_grammar.specs.Text.{is_blank, stands_at, deepest, Unclosed, ExtraClose, IsFirstFault, IsFaultlessBelow}
+use Rattle.fort_grammar.specs.Text.{is_blank, stands_at, deepest, Unclosed, IsFirstFault, IsFaultlessBelow}
 use Rattle.fort_grammar.specs.Forms.{Form, Forms, NoForm, MoreForms, Word, ListForm, AreForms, AreFormsOf}
 use Rattle.fort_grammar.proofs.Bytes.{IsPlain-from_word_byte, stands_at-from, stands_at-other}
-use Rattle.fort_sexpr.specs.FormCode.{node_count, node_counts}
 use Rattle.fort_sexpr.specs.FormView.{form_count}
 use Rattle.fort_sexpr.specs.Found.{run_from}
 use Rattle.fort_sexpr.specs.declared.arena.Node.{Node}
 use Rattle.fort_sexpr.specs.declared.arena.ListNode.{ListNode}
-use Rattle.fort_sexpr.specs.declared.reader.Token.{Token}
-use Rattle.fort_sexpr.specs.declared.reader.Token.TheVariants as tokens
-use Rattle.fort_sexpr.specs.Nodes.{opens_before, list_at, IsEntry, IsListed, AreListed, node_of, nodes_of, text_forms, AreTextForms}
+use Rattle.fort_sexpr.specs.declared.token.Token.{Token}
+use Rattle.fort_sexpr.specs.declared.token.Token.TheVariants as tokens
+use Rattle.fort_sexpr.specs.Tokens.{IsToken}
+use Rattle.fort_sexpr.specs.Nodes.{opens_before, list_at, IsEntry, IsListed, AreListed, text_forms}
 use Rattle.fort_sexpr.specs.Progress.{Level, StandUpTo, IsReadUpTo, IsWordEnd, IsLineEnd}
-use Rattle.fort_sexpr.specs.Reading.{IsOpenAt, AreOpen, IsReading, CountsMore, one_more, lists_with, top_with, IsTokenAt}
+use Rattle.fort_sexpr.specs.Reading.{IsOpenAt, AreOpen, IsReading, CountsMore, one_more, lists_with, count_with}
 use Rattle.fort_sexpr.proofs.Depths.{count_before-yes, count_before-no}
-use Rattle.fort_sexpr.proofs.FormLists.{joined, form_count-joined, node_counts-AreForms}
+use Rattle.fort_sexpr.proofs.FormLists.{joined, form_count-joined, form_count-least, node_counts-AreForms}
 use Rattle.fort_sexpr.proofs.FoundLaws.{found}
 use Rattle.fort_sexpr.proofs.NodesLaws.{skipped_opens, opens_between, opens_apart, opens_within}
 use Rattle.fort_sexpr.proofs.Steps.{not_in_comment, faultless_word, faultless_mark, comment_skipped, read_blank, read_comment, read_word, read_open, read_close}
-use Rattle.fort_sexpr.proofs.Ends.{read_nothing, AreFormsOf-read, Unclosed-read, ExtraClose-read}
+use Rattle.fort_sexpr.proofs.Ends.{read_nothing, AreFormsOf-read, Unclosed-read}
 
 abbrev nowhere : ListNode
 nowhere = record { to = 0; count = 0; behind = 0 }
 
-form_count-least : (fs : Forms) → form_count fs ≤ node_counts fs
-form_count-least NoForm = omega arith
-form_count-least (MoreForms f fs) = omega (arith, some f, form_count-least fs)
-  where
-    some : (f : Form) → 1 ≤ node_count f
-    some (Word from to) = omega arith
-    some (ListForm from to gs) = omega arith
-
 module _ (bytes : List ℕ) where
-  nodes_of-joined : (fs : Forms) (f : Form) → nodes_of bytes (joined fs (MoreForms f NoForm)) ≡ nodes_of bytes fs ++ node_of bytes f ∷ []
-  nodes_of-joined NoForm f = refl
-  nodes_of-joined (MoreForms g fs) f = ap (λ ns. node_of bytes g ∷ ns) (nodes_of-joined fs f)
-
   -- as many lists are open as there are levels
-  pub length-levels : (lists : List ListNode) (top : List Node) (limit : ℕ) (os : List Node) (ls : List Level) (fs : Forms)
-      → AreOpen bytes lists top limit os ls fs → length ls ≡ length os
-  length-levels lists top limit [] [] fs h = refl
-  length-levels lists top limit [] (l ∷ ls) fs h = absurd h
-  length-levels lists top limit (o ∷ os) [] fs h = absurd h
-  length-levels lists top limit (o ∷ os) (l ∷ ls) fs h = ap suc (length-levels lists top o.list os ls l.before h.4)
+  pub length-levels : (lists : List ListNode) (count : ℕ) (limit : ℕ) (os : List Node) (ls : List Level) (fs : Forms)
+      → AreOpen bytes lists count limit os ls fs → length ls ≡ length os
+  length-levels lists count limit [] [] fs h = refl
+  length-levels lists count limit [] (l ∷ ls) fs h = absurd h
+  length-levels lists count limit (o ∷ os) [] fs h = absurd h
+  length-levels lists count limit (o ∷ os) (l ∷ ls) fs h = ap suc (length-levels lists count o.list os ls l.before h.4)
 
-  open_limit : (lists : List ListNode) (top : List Node) (limit more : ℕ) (os : List Node) (ls : List Level) (fs : Forms) → limit ≤ more
-      → AreOpen bytes lists top limit os ls fs → AreOpen bytes lists top more os ls fs
-  open_limit lists top limit more [] [] fs l h = h
-  open_limit lists top limit more [] (x ∷ ls) fs l h = h
-  open_limit lists top limit more (o ∷ os) [] fs l h = h
-  open_limit lists top limit more (o ∷ os) (x ∷ ls) fs l h = (h.0, h.1, omega (arith, h.2), h.3, h.4)
+  open_limit : (lists : List ListNode) (count : ℕ) (limit more : ℕ) (os : List Node) (ls : List Level) (fs : Forms) → limit ≤ more
+      → AreOpen bytes lists count limit os ls fs → AreOpen bytes lists count more os ls fs
+  open_limit lists count limit more [] [] fs l h = h
+  open_limit lists count limit more [] (x ∷ ls) fs l h = h
+  open_limit lists count limit more (o ∷ os) [] fs l h = h
+  open_limit lists count limit more (o ∷ os) (x ∷ ls) fs l h = (h.0, h.1, omega (arith, h.2), h.3, h.4)
 
   -- what becomes of other entries of the table is nothing to them
-  open_kept : (lists ds : List ListNode) (top : List Node) (limit : ℕ) (os : List Node) (ls : List Level) (fs : Forms)
+  open_kept : (lists ds : List ListNode) (count : ℕ) (limit : ℕ) (os : List Node) (ls : List Level) (fs : Forms)
       → ((k : ℕ) → k < limit → list_at ds k ≡ list_at lists k)
-      → AreOpen bytes lists top limit os ls fs → AreOpen bytes ds top limit os ls fs
-  open_kept lists ds top limit [] [] fs e h = h
-  open_kept lists ds top limit [] (x ∷ ls) fs e h = h
-  open_kept lists ds top limit (o ∷ os) [] fs e h = h
-  open_kept lists ds top limit (o ∷ os) (x ∷ ls) fs e h = (
+      → AreOpen bytes lists count limit os ls fs → AreOpen bytes ds count limit os ls fs
+  open_kept lists ds count limit [] [] fs e h = h
+  open_kept lists ds count limit [] (x ∷ ls) fs e h = h
+  open_kept lists ds count limit (o ∷ os) [] fs e h = h
+  open_kept lists ds count limit (o ∷ os) (x ∷ ls) fs e h = (
     h.0,
     h.1,
     h.2,
     ap (λ (n : ListNode). n.count) (e o.list h.2) ∙ h.3,
-    open_kept lists ds top o.list os ls x.before (λ k l. e k (omega (arith, h.2))) h.4,
+    open_kept lists ds count o.list os ls x.before (λ k l. e k (omega (arith, h.2))) h.4,
   )
 
   set_below : (lists : List ListNode) (i : ℕ) (n : ListNode) (limit : ℕ) → limit ≤ i → (k : ℕ) → k < limit → list_at (set lists i n) k ≡ list_at lists k
   set_below lists i n limit l k m = get_or-set_other lists i k n nowhere (λ e. absurd (omega arith))
 
   -- one more form of the innermost list
-  open_added : (lists : List ListNode) (top : List Node) (limit : ℕ) (os : List Node) (ls : List Level) (fs : Forms) (f : Form)
-      → limit ≤ length lists → AreOpen bytes lists top limit os ls fs
-      → AreOpen bytes (lists_with os lists) (top_with os (node_of bytes f) top) limit os ls (joined fs (MoreForms f NoForm))
-  open_added lists top limit [] [] fs f l h = ap (λ ns. ns ++ node_of bytes f ∷ []) h ∙ sym (nodes_of-joined fs f)
-  open_added lists top limit [] (x ∷ ls) fs f l h = h
-  open_added lists top limit (o ∷ os) [] fs f l h = h
-  open_added lists top limit (o ∷ os) (x ∷ ls) fs f l h =
+  open_added : (lists : List ListNode) (count : ℕ) (limit : ℕ) (os : List Node) (ls : List Level) (fs : Forms) (f : Form)
+      → limit ≤ length lists → AreOpen bytes lists count limit os ls fs
+      → AreOpen bytes (lists_with os lists) (count_with os count) limit os ls (joined fs (MoreForms f NoForm))
+  open_added lists count limit [] [] fs f l h = ap (λ n. n + 1) h ∙ sym (form_count-joined fs f)
+  open_added lists count limit [] (x ∷ ls) fs f l h = h
+  open_added lists count limit (o ∷ os) [] fs f l h = h
+  open_added lists count limit (o ∷ os) (x ∷ ls) fs f l h =
       let n = one_more (list_at lists o.list) in
       let here : list_at (set lists o.list n) o.list ≡ n = get_or-set_same lists o.list n nowhere (omega (arith, h.2)) in (
         h.0,
         h.1,
         h.2,
         ap (λ (m : ListNode). m.count) here ∙ (ap (λ c. c + 1) h.3 ∙ sym (form_count-joined fs f)),
-        open_kept lists (set lists o.list n) top o.list os ls x.before (set_below lists o.list n o.list (omega arith)) h.4,
+        open_kept lists (set lists o.list n) count o.list os ls x.before (set_below lists o.list n o.list (omega arith)) h.4,
       )
 
   listed_kept : (lists ds : List ListNode) (from : ℕ) → list_at ds (opens_before bytes from) ≡ list_at lists (opens_before bytes from)
@@ -114,33 +102,34 @@ module _ (bytes : List ℕ) where
   opens_at : (o : Node) (from : ℕ) → o.from ≡ from → stands_at 40 bytes from ≡ true → stands_at 40 bytes o.from ≡ true
   opens_at o from e h = ap (stands_at 40 bytes) e ∙ h
 
-  each_added : (lists : List ListNode) (top : List Node) (limit i : ℕ) (os : List Node) (ls : List Level) (fs : Forms) (from : ℕ)
-      → AreOpen bytes lists top limit os ls fs → StandUpTo bytes ls fs i → stands_at 40 bytes from ≡ true
+  each_added : (lists : List ListNode) (count : ℕ) (limit i : ℕ) (os : List Node) (ls : List Level) (fs : Forms) (from : ℕ)
+      → AreOpen bytes lists count limit os ls fs → StandUpTo bytes ls fs i → stands_at 40 bytes from ≡ true
       → IsOpenAt os from ⊎ IsListed bytes lists from → IsOpenAt os from ⊎ IsListed bytes (lists_with os lists) from
-  each_added lists top limit i [] ls fs from h s a (inl b) = inl b
-  each_added lists top limit i [] ls fs from h s a (inr b) = inr b
-  each_added lists top limit i (o ∷ os) ls fs from h s a (inl b) = inl b
-  each_added lists top limit i (o ∷ os) [] fs from h s a (inr b) = absurd h
-  each_added lists top limit i (o ∷ os) (l ∷ ls) fs from h s a (inr b) =
+  each_added lists count limit i [] ls fs from h s a (inl b) = inl b
+  each_added lists count limit i [] ls fs from h s a (inr b) = inr b
+  each_added lists count limit i (o ∷ os) ls fs from h s a (inl b) = inl b
+  each_added lists count limit i (o ∷ os) [] fs from h s a (inr b) = absurd h
+  each_added lists count limit i (o ∷ os) (l ∷ ls) fs from h s a (inr b) =
       elim (cases_eq o.from from) [
         | inl e ↦ inl (inl e)
         | inr n ↦ inr (set_apart lists (one_more (list_at lists o.list)) o from (h.1 ∙ ap (opens_before bytes) (sym h.0))
             (opens_at o l.from h.0 s.1.opens) a n b)
       ]
 
-  length-lists_with : (os : List Node) (lists : List ListNode) → length (lists_with os lists) ≡ length lists
+  pub length-lists_with : (os : List Node) (lists : List ListNode) → length (lists_with os lists) ≡ length lists
   length-lists_with [] lists = refl
   length-lists_with (o ∷ os) lists = length-set lists o.list (one_more (list_at lists o.list))
 
   -- the count of an open list is far below what its type holds
-  pub counts_more : (lists : List ListNode) (top : List Node) (limit i : ℕ) (os : List Node) (ls : List Level) (fs : Forms)
-      → AreOpen bytes lists top limit os ls fs → StandUpTo bytes ls fs i → i < 2 ^ 32 → limit ≤ length lists → CountsMore os lists
-  counts_more lists top limit i [] ls fs h s few l = tt
-  counts_more lists top limit i (o ∷ os) [] fs h s few l = absurd h
-  counts_more lists top limit i (o ∷ os) (x ∷ ls) fs h s few l =
+  pub counts_more : (lists : List ListNode) (count : ℕ) (limit i : ℕ) (os : List Node) (ls : List Level) (fs : Forms)
+      → AreOpen bytes lists count limit os ls fs → StandUpTo bytes ls fs i → i + 1 < 2 ^ 32 → limit ≤ length lists → CountsMore os lists count
+  counts_more lists count limit i [] [] fs h s few l = omega (arith, h, node_counts-AreForms s, form_count-least fs)
+  counts_more lists count limit i [] (x ∷ ls) fs h s few l = absurd h
+  counts_more lists count limit i (o ∷ os) [] fs h s few l = absurd h
+  counts_more lists count limit i (o ∷ os) (x ∷ ls) fs h s few l =
       (omega (arith, h.2), omega (arith, h.3, node_counts-AreForms s.2, form_count-least fs))
 
-  reading_nothing : IsReading bytes [] [] [] 0
+  reading_nothing : IsReading bytes [] [] 0 0
   reading_nothing = record {
     levels = [];
     forms = NoForm;
@@ -150,12 +139,10 @@ module _ (bytes : List ℕ) where
     each = λ from l h. absurd (omega arith);
   }
 
-  pub reading_begun : (os : List Node) (lists : List ListNode) (top : List Node) → os ≡ [] → lists ≡ [] → top ≡ []
-      → IsReading bytes (reverse os) lists top 0
-  reading_begun os lists top o l t =
-      subst (λ xs. IsReading bytes (reverse xs) lists top 0) (sym o)
-      (subst (λ xs. IsReading bytes [] xs top 0) (sym l)
-      (subst (λ xs. IsReading bytes [] [] xs 0) (sym t) reading_nothing))
+  pub reading_begun : (os : List Node) (lists : List ListNode) → os ≡ [] → lists ≡ [] → IsReading bytes (reverse os) lists 0 0
+  reading_begun os lists o l =
+      subst (λ xs. IsReading bytes (reverse xs) lists 0 0) (sym o)
+      (subst (λ xs. IsReading bytes [] xs 0 0) (sym l) reading_nothing)
 
   -- up to an offset behind which no list opens before the next one
   each_on : (os : List Node) (lists : List ListNode) (i j : ℕ) → ((k : ℕ) → i ≤ k → k < j → stands_at 40 bytes k ≡ false)
@@ -167,10 +154,10 @@ module _ (bytes : List ℕ) where
         | inr ge ↦ absurd (true≢false (sym h ∙ none from ge l))
       ]
 
-  module _ (os : List Node) (lists : List ListNode) (top : List Node) where
+  module _ (os : List Node) (lists : List ListNode) (count : ℕ) where
     -- over what is no form
-    reading_on : (i j : ℕ) (r : IsReading bytes os lists top i) → i ≤ j → ((k : ℕ) → i ≤ k → k < j → stands_at 40 bytes k ≡ false)
-        → IsReadUpTo bytes r.levels r.forms j → IsReading bytes os lists top j
+    reading_on : (i j : ℕ) (r : IsReading bytes os lists count i) → i ≤ j → ((k : ℕ) → i ≤ k → k < j → stands_at 40 bytes k ≡ false)
+        → IsReadUpTo bytes r.levels r.forms j → IsReading bytes os lists count j
     reading_on i j r l none read = record {
       levels = r.levels;
       forms = r.forms;
@@ -180,51 +167,47 @@ module _ (bytes : List ℕ) where
       each = each_on os lists i j none r.each;
     }
 
-    pub reading_blank : (i : ℕ) → IsReading bytes os lists top i → i < length bytes → is_blank (get_or bytes i 0) ≡ true
-        → IsReading bytes os lists top (i + 1)
+    pub reading_blank : (i : ℕ) → IsReading bytes os lists count i → i < length bytes → is_blank (get_or bytes i 0) ≡ true
+        → IsReading bytes os lists count (i + 1)
     reading_blank i r l b =
         let here = skipped_opens bytes i (record { within = l; idle = inr b }) in
         reading_on i (i + 1) r (omega arith)
         (λ k a c. let e : i ≡ k = omega arith in subst (λ m. stands_at 40 bytes m ≡ false) e here)
         (read_blank bytes r.levels r.forms i r.read l b)
 
-    pub reading_comment : (i j : ℕ) → IsReading bytes os lists top i → get_or bytes i 0 ≡ 59 → IsLineEnd bytes i j
-        → IsReading bytes os lists top j
+    pub reading_comment : (i j : ℕ) → IsReading bytes os lists count i → get_or bytes i 0 ≡ 59 → IsLineEnd bytes i j
+        → IsReading bytes os lists count j
     reading_comment i j r h e =
         reading_on i j r (omega (arith, e.after)) (λ k a b. skipped_opens bytes k (comment_skipped bytes i k j e h a b))
         (read_comment bytes r.levels r.forms i j r.read h e)
 
     -- one more form
-    reading_added : (i j : ℕ) (ls : List Level) (fs : Forms) (f : Form) → AreOpen bytes lists top (length lists) os ls fs
+    reading_added : (i j : ℕ) (ls : List Level) (fs : Forms) (f : Form) → AreOpen bytes lists count (length lists) os ls fs
         → StandUpTo bytes ls fs i → IsReadUpTo bytes ls (joined fs (MoreForms f NoForm)) j → length lists ≡ opens_before bytes j
         → ((from : ℕ) → from < j → stands_at 40 bytes from ≡ true → IsOpenAt os from ⊎ IsListed bytes lists from)
-        → IsReading bytes os (lists_with os lists) (top_with os (node_of bytes f) top) j
+        → IsReading bytes os (lists_with os lists) (count_with os count) j
     reading_added i j ls fs f open_lists stand read number each = record {
       levels = ls;
       forms = joined fs (MoreForms f NoForm);
       read = read;
-      open_lists = open_limit (lists_with os lists) (top_with os (node_of bytes f) top) (length lists) (length (lists_with os lists)) os ls _
+      open_lists = open_limit (lists_with os lists) (count_with os count) (length lists) (length (lists_with os lists)) os ls _
           (omega (arith, length-lists_with os lists))
-          (open_added lists top (length lists) os ls fs f (omega arith) open_lists);
+          (open_added lists count (length lists) os ls fs f (omega arith) open_lists);
       number = length-lists_with os lists ∙ number;
-      each = λ from l h. each_added lists top (length lists) i os ls fs from open_lists stand h (each from l h);
+      each = λ from l h. each_added lists count (length lists) i os ls fs from open_lists stand h (each from l h);
     }
 
-    pub reading_word : (i j : ℕ) (n : Node) → IsReading bytes os lists top i → i < length bytes → is_word_byte (get_or bytes i 0) ≡ true
-        → IsWordEnd bytes i j → n ≡ record { from = i; list = length lists }
-        → IsReading bytes os (lists_with os lists) (top_with os n top) j
-    reading_word i j n r l w e is =
+    pub reading_word : (i j : ℕ) → IsReading bytes os lists count i → i < length bytes → is_word_byte (get_or bytes i 0) ≡ true
+        → IsWordEnd bytes i j → IsReading bytes os (lists_with os lists) (count_with os count) j
+    reading_word i j r l w e =
         let none = λ (k : ℕ) (a : i ≤ k) (b : k < j). stands_at-other 40 bytes k (IsPlain-from_word_byte (get_or bytes k 0) (e.word k a b)).not_open in
         let number = r.number ∙ sym (opens_between bytes i j e.after none) in
-        let made : ℕ → Node = λ m. record { from = i; list = m } in
-        let node : node_of bytes (Word i j) ≡ n = ap made (sym r.number) ∙ sym is in
-        subst (λ m. IsReading bytes os (lists_with os lists) (top_with os m top) j) node
-        (reading_added i j r.levels r.forms (Word i j) r.open_lists r.read.stand
-        (read_word bytes r.levels r.forms i j r.read l w e) number (each_on os lists i j none r.each))
+        reading_added i j r.levels r.forms (Word i j) r.open_lists r.read.stand
+        (read_word bytes r.levels r.forms i j r.read l w e) number (each_on os lists i j none r.each)
 
-    pub reading_open : (i : ℕ) (o : Node) (n : ListNode) → IsReading bytes os lists top i → i < length bytes → get_or bytes i 0 ≡ 40
+    pub reading_open : (i : ℕ) (o : Node) (n : ListNode) → IsReading bytes os lists count i → i < length bytes → get_or bytes i 0 ≡ 40
         → length os < deepest → o ≡ record { from = i; list = length lists } → n ≡ record { to = 0; count = 0; behind = 0 }
-        → IsReading bytes (o ∷ os) (lists ++ n ∷ []) top (i + 1)
+        → IsReading bytes (o ∷ os) (lists ++ n ∷ []) count (i + 1)
     reading_open i o n r l h few is zeros =
         let ds = lists ++ n ∷ [] in
         let outside = not_in_comment bytes i l (r.read.outside l) (omega arith) in
@@ -239,14 +222,14 @@ module _ (bytes : List ℕ) where
           levels = record { from = i; before = r.forms } ∷ r.levels;
           forms = NoForm;
           read = read_open bytes r.levels r.forms i r.read l h
-              (omega (arith, length-levels lists top (length lists) os r.levels r.forms r.open_lists));
+              (omega (arith, length-levels lists count (length lists) os r.levels r.forms r.open_lists));
           open_lists = (
             from,
             number ∙ r.number,
             omega arith,
             none,
-            open_limit ds top (length lists) o.list os r.levels r.forms (omega arith)
-                (open_kept lists ds top (length lists) os r.levels r.forms kept r.open_lists),
+            open_limit ds count (length lists) o.list os r.levels r.forms (omega arith)
+                (open_kept lists ds count (length lists) os r.levels r.forms kept r.open_lists),
           );
           number = omega (arith, r.number);
           each = λ k m s. elim (cases_lt k i) [
@@ -285,18 +268,17 @@ module _ (bytes : List ℕ) where
       pub form : Form
       pub begins : Level
       pub below : begins.from < i
-      pub node : node_of bytes form ≡ o
       pub stand : StandUpTo bytes levels before begins.from
       pub read : IsReadUpTo bytes levels (joined before (MoreForms form NoForm)) (i + 1)
-      pub open_lists : AreOpen bytes ds top (length ds) os levels before
+      pub open_lists : AreOpen bytes ds count (length ds) os levels before
       pub number : length ds ≡ opens_before bytes (i + 1)
       pub each : (from : ℕ) → from < i + 1 → stands_at 40 bytes from ≡ true → IsOpenAt os from ⊎ IsListed bytes ds from
 
-    pub reading_closes : (i : ℕ) (o : Node) (n : ListNode) → IsReading bytes (o ∷ os) lists top i → i < length bytes → get_or bytes i 0 ≡ 41
+    pub reading_closes : (i : ℕ) (o : Node) (n : ListNode) → IsReading bytes (o ∷ os) lists count i → i < length bytes → get_or bytes i 0 ≡ 41
         → n ≡ record { to = i + 1; count = (list_at lists o.list).count; behind = length lists } → IsClosing i o (set lists o.list n)
     reading_closes i o n r l h is = by r.levels r.read r.open_lists
       where
-        by : (ls : List Level) → IsReadUpTo bytes ls r.forms i → AreOpen bytes lists top (length lists) (o ∷ os) ls r.forms
+        by : (ls : List Level) → IsReadUpTo bytes ls r.forms i → AreOpen bytes lists count (length lists) (o ∷ os) ls r.forms
             → IsClosing i o (set lists o.list n)
         by [] read a = absurd a
         by (x ∷ ls) read a =
@@ -318,11 +300,10 @@ module _ (bytes : List ℕ) where
               form = ListForm x.from (i + 1) r.forms;
               begins = x;
               below = omega (arith, node_counts-AreForms read.stand.2);
-              node = ap (λ k. node_of bytes (Word k k)) (sym a.0) ∙ node_is o (sym (a.1 ∙ ap (opens_before bytes) (sym a.0)));
               stand = read.stand.0;
               read = read_close bytes x.from x.before ls r.forms i read l h;
-              open_lists = open_limit ds top o.list (length ds) os ls x.before (omega (arith, a.2))
-                  (open_kept lists ds top o.list os ls x.before (set_below lists o.list n o.list (omega arith)) a.4);
+              open_lists = open_limit ds count o.list (length ds) os ls x.before (omega (arith, a.2))
+                  (open_kept lists ds count o.list os ls x.before (set_below lists o.list n o.list (omega arith)) a.4);
               number = long ∙ behind;
               each = each_on os ds i (i + 1) (λ k b c. let e : i ≡ k = omega arith in subst (λ m. stands_at 40 bytes m ≡ false) e no_open)
                   (λ from m s. elim (r.each from m s) [
@@ -334,30 +315,27 @@ module _ (bytes : List ℕ) where
                     ]
                   ]);
             }
-          where
-            node_is : (m : Node) → opens_before bytes m.from ≡ m.list → node_of bytes (Word m.from m.from) ≡ m
-            node_is m e = let made : ℕ → Node = λ k. record { from = m.from; list = k } in ap made e
 
-  module _ (os : List Node) (lists ds : List ListNode) (top : List Node) (i : ℕ) (o : Node) where
-    pub reading_close : IsClosing os lists top i o ds → IsReading bytes os (lists_with os ds) (top_with os o top) (i + 1)
+  module _ (os : List Node) (lists ds : List ListNode) (count : ℕ) (i : ℕ) (o : Node) where
+    pub reading_close : IsClosing os lists count i o ds → IsReading bytes os (lists_with os ds) (count_with os count) (i + 1)
     reading_close h =
-        subst (λ m. IsReading bytes os (lists_with os ds) (top_with os m top) (i + 1)) h.node
-        (reading_added os ds top h.begins.from (i + 1) h.levels h.before h.form h.open_lists h.stand h.read h.number h.each)
+        reading_added os ds count h.begins.from (i + 1) h.levels h.before h.form h.open_lists h.stand h.read h.number h.each
 
-    pub closing_counts : IsClosing os lists top i o ds → i < length bytes → length bytes < 2 ^ 32 → CountsMore os ds
+    pub closing_counts : IsClosing os lists count i o ds → i < length bytes → length bytes < 2 ^ 32 → CountsMore os ds count
     closing_counts h l few =
-        counts_more ds top (length ds) h.begins.from os h.levels h.before h.open_lists h.stand (omega (arith, h.below)) (omega arith)
+        counts_more ds count (length ds) h.begins.from os h.levels h.before h.open_lists h.stand (omega (arith, h.below)) (omega arith)
 
   -- the text is read to its end
-  pub record IsEnded (lists : List ListNode) (top : List Node) : Type 0 where
+  pub record IsEnded (lists : List ListNode) (many : ℕ) : Type 0 where
     pub listed : AreListed bytes lists
-    pub forms : AreTextForms bytes top
+    pub forms : AreFormsOf bytes (text_forms bytes)
+    pub count : many ≡ form_count (text_forms bytes)
 
-  pub reading_ended : (lists : List ListNode) (top : List Node) → length bytes < 2 ^ 32 → IsReading bytes [] lists top (length bytes)
-      → IsEnded lists top
-  reading_ended lists top few r = by r.levels r.read r.open_lists
+  pub reading_ended : (lists : List ListNode) (count : ℕ) → length bytes < 2 ^ 32 → IsReading bytes [] lists count (length bytes)
+      → IsEnded lists count
+  reading_ended lists count few r = by r.levels r.read r.open_lists
     where
-      by : (ls : List Level) → IsReadUpTo bytes ls r.forms (length bytes) → AreOpen bytes lists top (length lists) [] ls r.forms → IsEnded lists top
+      by : (ls : List Level) → IsReadUpTo bytes ls r.forms (length bytes) → AreOpen bytes lists count (length lists) [] ls r.forms → IsEnded lists count
       by (x ∷ ls) read a = absurd a
       by [] read a =
           let run : run_from bytes 0 ≡ (r.forms, length bytes) = found bytes read.stand (record { closes = λ l. absurd (omega arith) }) in
@@ -371,68 +349,56 @@ module _ (bytes : List ℕ) where
                 | inr b ↦ b close fs at
               ];
             };
-            forms = record {
-              forms = subst (AreFormsOf bytes) same (AreFormsOf-read bytes r.forms read);
-              nodes = a ∙ ap (nodes_of bytes) same;
-            };
+            forms = subst (AreFormsOf bytes) same (AreFormsOf-read bytes r.forms read);
+            count = a ∙ ap form_count same;
           }
 
   -- or in the innermost list that is open there
-  pub reading_unclosed : (o : Node) (os : List Node) (lists : List ListNode) (top : List Node)
-      → IsReading bytes (o ∷ os) lists top (length bytes) → IsFirstFault bytes (Unclosed o.from)
-  reading_unclosed o os lists top r = by r.levels r.read r.open_lists
+  pub reading_unclosed : (o : Node) (os : List Node) (lists : List ListNode) (count : ℕ)
+      → IsReading bytes (o ∷ os) lists count (length bytes) → IsFirstFault bytes (Unclosed o.from)
+  reading_unclosed o os lists count r = by r.levels r.read r.open_lists
     where
-      by : (ls : List Level) → IsReadUpTo bytes ls r.forms (length bytes) → AreOpen bytes lists top (length lists) (o ∷ os) ls r.forms
+      by : (ls : List Level) → IsReadUpTo bytes ls r.forms (length bytes) → AreOpen bytes lists count (length lists) (o ∷ os) ls r.forms
           → IsFirstFault bytes (Unclosed o.from)
       by [] read a = absurd a
       by (x ∷ ls) read a = subst (λ k. IsFirstFault bytes (Unclosed k)) (sym a.0) (Unclosed-read bytes x ls r.forms read)
 
-  pub reading_levels : (os : List Node) (lists : List ListNode) (top : List Node) (i : ℕ) (r : IsReading bytes os lists top i)
+  pub reading_levels : (os : List Node) (lists : List ListNode) (count : ℕ) (i : ℕ) (r : IsReading bytes os lists count i)
       → length r.levels ≡ length os
-  reading_levels os lists top i r = length-levels lists top (length lists) os r.levels r.forms r.open_lists
+  reading_levels os lists count i r = length-levels lists count (length lists) os r.levels r.forms r.open_lists
 
-  pub reading_few : (os : List Node) (lists : List ListNode) (top : List Node) (i : ℕ) → IsReading bytes os lists top i → length lists ≤ i
-  reading_few os lists top i r = omega (arith, r.number, opens_within bytes i)
+  pub reading_few : (os : List Node) (lists : List ListNode) (count : ℕ) (i : ℕ) → IsReading bytes os lists count i → length lists ≤ i
+  reading_few os lists count i r = omega (arith, r.number, opens_within bytes i)
 
-  pub reading_counts : (os : List Node) (lists : List ListNode) (top : List Node) (i : ℕ) → IsReading bytes os lists top i → i < 2 ^ 32
-      → CountsMore os lists
-  reading_counts os lists top i r few =
-      counts_more lists top (length lists) i os r.levels r.forms r.open_lists r.read.stand few (omega arith)
+  pub reading_counts : (os : List Node) (lists : List ListNode) (count : ℕ) (i : ℕ) → IsReading bytes os lists count i → i + 1 < 2 ^ 32
+      → CountsMore os lists count
+  reading_counts os lists count i r few =
+      counts_more lists count (length lists) i os r.levels r.forms r.open_lists r.read.stand few (omega arith)
 
   -- the innermost list as the table has it
-  reading_within : (o : Node) (os : List Node) (lists : List ListNode) (top : List Node) (i : ℕ) → IsReading bytes (o ∷ os) lists top i
+  pub reading_within : (o : Node) (os : List Node) (lists : List ListNode) (count : ℕ) (i : ℕ) → IsReading bytes (o ∷ os) lists count i
       → o.list < length lists
-  reading_within o os lists top i r = by r.levels r.open_lists
+  reading_within o os lists count i r = by r.levels r.open_lists
     where
-      by : (ls : List Level) → AreOpen bytes lists top (length lists) (o ∷ os) ls r.forms → o.list < length lists
+      by : (ls : List Level) → AreOpen bytes lists count (length lists) (o ∷ os) ls r.forms → o.list < length lists
       by [] a = absurd a
       by (x ∷ ls) a = a.2
 
-  pub reading_ends : (o : Node) (os : List Node) (lists : List ListNode) (top : List Node) (i behind : ℕ) (n : ListNode)
-      → IsReading bytes (o ∷ os) lists top i → i < length bytes → get_or bytes i 0 ≡ 41 → n ≡ get_or lists o.list n → behind ≡ length lists
-      → IsClosing os lists top i o (set lists o.list (record { to = i + 1; count = n.count; behind = behind }))
-  reading_ends o os lists top i behind n r l h is last =
-      let same : n ≡ list_at lists o.list = is ∙ get_or_default lists o.list n nowhere (reading_within o os lists top i r) in
+  pub reading_ends : (o : Node) (os : List Node) (lists : List ListNode) (count : ℕ) (i behind : ℕ) (n : ListNode)
+      → IsReading bytes (o ∷ os) lists count i → i < length bytes → get_or bytes i 0 ≡ 41 → n ≡ get_or lists o.list n → behind ≡ length lists
+      → IsClosing os lists count i o (set lists o.list (record { to = i + 1; count = n.count; behind = behind }))
+  reading_ends o os lists count i behind n r l h is last =
+      let same : n ≡ list_at lists o.list = is ∙ get_or_default lists o.list n nowhere (reading_within o os lists count i r) in
       let made : ℕ → ℕ → ListNode = λ m b. record { to = i + 1; count = m; behind = b } in
-      reading_closes os lists top i o _ r l h (ap (λ (x : ListNode). made x.count behind) same ∙ ap (made (list_at lists o.list).count) last)
-
-  -- a parenthesis closes nothing where no list is open
-  pub reading_extra : (lists : List ListNode) (top : List Node) (i : ℕ) → IsReading bytes [] lists top i → i < length bytes
-      → get_or bytes i 0 ≡ 41 → IsFirstFault bytes (ExtraClose i)
-  reading_extra lists top i r l h = by r.levels r.read r.open_lists
-    where
-      by : (ls : List Level) → IsReadUpTo bytes ls r.forms i → AreOpen bytes lists top (length lists) [] ls r.forms
-          → IsFirstFault bytes (ExtraClose i)
-      by [] read a = ExtraClose-read bytes r.forms i read l h
-      by (x ∷ ls) read a = absurd a
+      reading_closes os lists count i o _ r l h (ap (λ (x : ListNode). made x.count behind) same ∙ ap (made (list_at lists o.list).count) last)
 
   -- where one of these begins nothing is at fault
-  pub faultless_token : (os : List Node) (lists : List ListNode) (top : List Node) (i : ℕ) → IsReading bytes os lists top i → i < length bytes
-      → (token : Token) → IsTokenAt bytes i (length os) token → IsFaultlessBelow bytes (i + 1)
-  faultless_token os lists top i r l tokens.Blank h = (read_blank bytes _ _ i r.read l h).faultless
-  faultless_token os lists top i r l tokens.Comment h = faultless_mark bytes _ _ i r.read l h
-  faultless_token os lists top i r l tokens.Word h = faultless_word bytes _ _ i r.read h
-  faultless_token os lists top i r l tokens.Open h =
-      (read_open bytes _ _ i r.read l h.0 (omega (arith, h.1, reading_levels os lists top i r))).faultless
-  faultless_token [] lists top i r l tokens.Close h = absurd (omega (arith, h.1))
-  faultless_token (o ∷ os) lists top i r l tokens.Close h = (reading_closes os lists top i o _ r l h.0 refl).read.faultless
+  pub faultless_token : (os : List Node) (lists : List ListNode) (count : ℕ) (i : ℕ) → IsReading bytes os lists count i → i < length bytes
+      → (token : Token) → IsToken (get_or bytes i 0) (length os) token → IsFaultlessBelow bytes (i + 1)
+  faultless_token os lists count i r l tokens.Blank h = (read_blank bytes _ _ i r.read l h).faultless
+  faultless_token os lists count i r l tokens.Comment h = faultless_mark bytes _ _ i r.read l h
+  faultless_token os lists count i r l tokens.Word h = faultless_word bytes _ _ i r.read h
+  faultless_token os lists count i r l tokens.Open h =
+      (read_open bytes _ _ i r.read l h.0 (omega (arith, h.1, reading_levels os lists count i r))).faultless
+  faultless_token [] lists count i r l tokens.Close h = absurd (omega (arith, h.1))
+  faultless_token (o ∷ os) lists count i r l tokens.Close h = (reading_closes os lists count i o _ r l h.0 refl).read.faultless

@@ -11,10 +11,10 @@ use Rattle.fort_sexpr.proofs.Depths.{count_before-yes, count_before-no}
 use Rattle.fort_grammar.proofs.Bytes.{IsPlain-from_word_byte, is_text_byte-word_byte, is_text_byte-blank, is_text_byte-open, is_text_byte-close, is_blank-at, stands_at-byte, stands_at-from, stands_at-in_comment, stands_at-other}
 
 -- neither a parenthesis nor a fault stands at the offset
-record IsQuiet (bytes : List ℕ) (k : ℕ) : Type 0 where
-  no_open : stands_at 40 bytes k ≡ false
-  no_close : stands_at 41 bytes k ≡ false
-  fine : in_comment bytes k ≡ false → is_text_byte (get_or bytes k 0) ≡ true
+pub record IsQuiet (bytes : List ℕ) (k : ℕ) : Type 0 where
+  pub no_open : stands_at 40 bytes k ≡ false
+  pub no_close : stands_at 41 bytes k ≡ false
+  pub fine : in_comment bytes k ≡ false → is_text_byte (get_or bytes k 0) ≡ true
 
 pub AreForms_ordered : {bytes : List ℕ} {i j : ℕ} {fs : Forms} → AreForms bytes i j fs → i ≤ j
 AreForms_ordered End = omega arith
@@ -23,13 +23,13 @@ AreForms_ordered (AWord w d) = omega (arith, w.some, AreForms_ordered d)
 AreForms_ordered (AList l o d m c e) = omega (arith, AreForms_ordered d, AreForms_ordered e)
 
 module _ (bytes : List ℕ) where
-  quiet_faultless : (k : ℕ) → IsQuiet bytes k → (fault : TextFault) → IsFaultyAt bytes k fault → ⊥
+  pub quiet_faultless : (k : ℕ) → IsQuiet bytes k → (fault : TextFault) → IsFaultyAt bytes k fault → ⊥
   quiet_faultless k q fault (Bad l o b) = true≢false (sym (q.fine o) ∙ b)
   quiet_faultless k q fault (Extra l s d) = true≢false (sym s ∙ q.no_close)
   quiet_faultless k q fault (Deep l s d) = true≢false (sym s ∙ q.no_open)
 
   -- a comment or a blank is quiet, and so is a byte of a word
-  quiet_skipped : (k : ℕ) → IsSkipped bytes k → IsQuiet bytes k
+  pub quiet_skipped : (k : ℕ) → IsSkipped bytes k → IsQuiet bytes k
   quiet_skipped k s =
       elim s.idle [
         | inl c ↦ record {
@@ -44,7 +44,7 @@ module _ (bytes : List ℕ) where
         }
       ]
 
-  quiet_word_byte : (k : ℕ) → is_word_byte (get_or bytes k 0) ≡ true → IsQuiet bytes k
+  pub quiet_word_byte : (k : ℕ) → is_word_byte (get_or bytes k 0) ≡ true → IsQuiet bytes k
   quiet_word_byte k h =
       let p = IsPlain-from_word_byte (get_or bytes k 0) h in
       record {
@@ -67,7 +67,7 @@ module _ (bytes : List ℕ) where
       let e : j ≡ i + (j - i) = omega arith in
       ap (count_before c bytes) e ∙ count_before-stretch c i (j - i) (λ k a b. h k a (omega arith))
 
-  faultless_more : (i j : ℕ) → IsFaultlessBelow bytes i → ((k : ℕ) → i ≤ k → k < j → (fault : TextFault) → IsFaultyAt bytes k fault → ⊥) → IsFaultlessBelow bytes j
+  pub faultless_more : (i j : ℕ) → IsFaultlessBelow bytes i → ((k : ℕ) → i ≤ k → k < j → (fault : TextFault) → IsFaultyAt bytes k fault → ⊥) → IsFaultlessBelow bytes j
   faultless_more i j below here k fault l a =
       elim (cases_lt k i) [
         | inl lt ↦ below k fault lt a
@@ -137,16 +137,16 @@ module _ (bytes : List ℕ) where
       (λ _. o)
 
   -- behind its ; a comment goes on while no LF stands there
-  comment_goes_on : (i n : ℕ) → ((k : ℕ) → i ≤ k → k < i + n + 1 → get_or bytes k 0 ≡ 10 → ⊥) → i + n < length bytes → get_or bytes i 0 ≡ 59
+  pub comment_stays : (i n : ℕ) → ((k : ℕ) → i ≤ k → k < i + n + 1 → get_or bytes k 0 ≡ 10 → ⊥) → i + n < length bytes → get_or bytes i 0 ≡ 59
       → comment_before bytes (i + n + 1) ≡ true
-  comment_goes_on i zero line l h =
+  comment_stays i zero line l h =
       let x : i + 1 ≡ i + zero + 1 = omega arith in
       subst (λ k. comment_before bytes k ≡ true) x (comment_before-mark bytes i (omega arith) h)
-  comment_goes_on i (suc n) line l h =
+  comment_stays i (suc n) line l h =
       let x : (i + n + 1) + 1 ≡ i + suc n + 1 = omega arith in
       subst (λ k. comment_before bytes k ≡ true) x
       (comment_before-goes_on bytes (i + n + 1) (omega arith) (line (i + n + 1) (omega arith) (omega arith))
-      (comment_goes_on i n (λ k a b. line k a (omega arith)) (omega arith) h))
+      (comment_stays i n (λ k a b. line k a (omega arith)) (omega arith) h))
 
   pub comment_skipped : (i k j : ℕ) → IsLineEnd bytes i j → get_or bytes i 0 ≡ 59 → i ≤ k → k < j → IsSkipped bytes k
   comment_skipped i k j e h a b =
@@ -161,7 +161,7 @@ module _ (bytes : List ℕ) where
             ] in
             record {
               within = within;
-              idle = inl (subst (λ z. comment_before bytes z ≡ true) x (comment_goes_on i (k - i) line (omega arith) h));
+              idle = inl (subst (λ z. comment_before bytes z ≡ true) x (comment_stays i (k - i) line (omega arith) h));
             }
       ]
 
@@ -185,7 +185,7 @@ module _ (bytes : List ℕ) where
       (line_outside i j e)
 
   -- in a word no comment begins
-  word_outside : (i n j : ℕ) → IsWordEnd bytes i j → comment_before bytes i ≡ false → i + n ≤ j → comment_before bytes (i + n) ≡ false
+  pub word_outside : (i n j : ℕ) → IsWordEnd bytes i j → comment_before bytes i ≡ false → i + n ≤ j → comment_before bytes (i + n) ≡ false
   word_outside i zero j e o l = let x : i ≡ i + zero = omega arith in subst (λ k. comment_before bytes k ≡ false) x o
   word_outside i (suc n) j e o l =
       let x : (i + n) + 1 ≡ i + suc n = omega arith in
@@ -237,13 +237,13 @@ module _ (bytes : List ℕ) where
       faultless_more i (i + 1) r.faultless
       (λ k a b. let x : i ≡ k = omega arith in quiet_faultless k (quiet_skipped k (subst (IsSkipped bytes) x here)))
 
-  open_fine : (i : ℕ) → stands_at 40 bytes i ≡ true → stands_at 41 bytes i ≡ false → depth bytes i < deepest
+  pub open_fine : (i : ℕ) → stands_at 40 bytes i ≡ true → stands_at 41 bytes i ≡ false → depth bytes i < deepest
       → (fault : TextFault) → IsFaultyAt bytes i fault → ⊥
   open_fine i o c few fault (Bad l n b) = true≢false (sym (is_text_byte-open _ (stands_at-byte 40 bytes i o)) ∙ b)
   open_fine i o c few fault (Extra l s d) = true≢false (sym s ∙ c)
   open_fine i o c few fault (Deep l s d) = omega arith
 
-  close_fine : (i : ℕ) → stands_at 41 bytes i ≡ true → stands_at 40 bytes i ≡ false → 0 < depth bytes i
+  pub close_fine : (i : ℕ) → stands_at 41 bytes i ≡ true → stands_at 40 bytes i ≡ false → 0 < depth bytes i
       → (fault : TextFault) → IsFaultyAt bytes i fault → ⊥
   close_fine i c o some fault (Bad l n b) = true≢false (sym (is_text_byte-close _ (stands_at-byte 41 bytes i c)) ∙ b)
   close_fine i c o some fault (Extra l s d) = omega arith

@@ -5,4 +5,8 @@ pub mod Found
 pub mod Nodes
 pub mod Faults
 pub mod Progress
+pub mod Tokens
 pub mod Reading
+pub mod Ahead
+pub mod Fronts
+pub mod Pieces

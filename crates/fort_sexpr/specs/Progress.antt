@@ -1,5 +1,5 @@
 -- Inside: what holds of the part of a text before an offset, when it is read from left to right.
-use Rattle.std.specs.Prelude.{◌≡◌, ℕ, suc, ◌+◌, ◌<◌, ◌≤◌, Bool, true, false, ◌==◌, List, [], ◌∷◌, length, take, slice_index}
+use Rattle.std.specs.Prelude.{◌≡◌, ℕ, suc, ◌+◌, ◌<◌, ◌≤◌, ◌⊎◌, Bool, true, false, ◌==◌, List, [], ◌∷◌, length, take, slice_index}
 use Rattle.std.specs.List.{after_last, list_any}
 use Rattle.fort_theory.specs.Signatures.{is_word_byte}
 use Rattle.fort_grammar.specs.Text.{stands_at, count_before, depth, deepest, IsFaultlessBelow}
@@ -49,6 +49,25 @@ pub record IsLineEnd (bytes : List ℕ) (from to : ℕ) : Type 0 where
   pub within : to ≤ length bytes
   pub line : (k : ℕ) → from ≤ k → k + 1 < to → slice_index bytes k ≡ 10 → ⊥
   pub ended : to < length bytes → (k : ℕ) → k + 1 ≡ to → slice_index bytes k ≡ 10
+
+-- no LF stands from one offset on before the other
+abbrev pub HasNoLineEnd : List ℕ → (from to : ℕ) → Type 0
+HasNoLineEnd bytes from to = (k : ℕ) → from ≤ k → k < to → slice_index bytes k ≡ 10 → ⊥
+
+-- the first LF from one offset on stands right before the other
+pub record IsBehindLine (bytes : List ℕ) (from to : ℕ) : Type 0 where
+  pub after : from < to
+  pub within : to ≤ length bytes
+  pub line : (k : ℕ) → from ≤ k → k + 1 < to → slice_index bytes k ≡ 10 → ⊥
+  pub ended : (k : ℕ) → k + 1 ≡ to → slice_index bytes k ≡ 10
+
+-- the word or the comment that begins at one offset goes on up to the other; where nothing does, they are one
+pub record GoesOn (bytes : List ℕ) (at to : ℕ) : Type 0 where
+  pub after : at ≤ to
+  pub within : to ≤ length bytes
+  pub begins : at < to → (is_word_byte (slice_index bytes at) ≡ true) ⊎ (slice_index bytes at ≡ 59)
+  pub word : is_word_byte (slice_index bytes at) ≡ true → (k : ℕ) → at ≤ k → k < to → is_word_byte (slice_index bytes k) ≡ true
+  pub comment : slice_index bytes at ≡ 59 → HasNoLineEnd bytes at to
 
 -- blanks and comments alone stand from one offset to the other, and none at that
 pub record IsNextToken (bytes : List ℕ) (from to : ℕ) : Type 0 where

@@ -184,7 +184,7 @@ impl<'a> Form<'a> {
     }
 
     /// The offset behind it, and how many lists open before that.
-    fn behind(&self) -> (u32, u32)
+    pub(crate) fn behind(&self) -> (u32, u32)
         ensures end { result.0 ≡ (span_of self.now.form).to }
         ensures number { result.1 ≡ opens_before self.now.bytes (span_of self.now.form).to }
     {

@@ -1,9 +1,9 @@
 //! Where a word or a line ends, and which byte is what.
-ghost use Rattle.std.specs.Prelude.{◌≡◌, ◌<◌, ◌≤◌, ◌↔◌, false, IsTrue, length};
+ghost use Rattle.std.specs.Prelude.{◌≡◌, ◌<◌, ◌≤◌, ◌↔◌, false, IsTrue, IfSome, IfNone, length};
 ghost use Rattle.fort_theory.specs.Signatures as theory;
 ghost use Rattle.fort_grammar.specs.Text as grammar;
 ghost use Rattle.fort_sexpr.specs.FormView.{word_ahead};
-ghost use Rattle.fort_sexpr.specs.Progress.{comment_before, IsWordEnd, IsLineEnd, IsNextToken};
+ghost use Rattle.fort_sexpr.specs.Progress.{comment_before, HasNoLineEnd, IsBehindLine, IsWordEnd, IsLineEnd, IsNextToken};
 
 /// Whether a byte is a space, a tab, a CR or an LF.
 pub fn is_blank(byte: u8) -> bool
@@ -40,17 +40,29 @@ pub fn is_ahead(bytes: &[u8], text: &[u8]) -> bool
     bytes.starts_with(text) && end_of_word(bytes, 0) == text.len()
 }
 
+/// The offset behind the first LF from an offset on.
+pub(crate) fn behind_line(bytes: &[u8], from: usize) -> Option<usize>
+    requires { from ≤ length bytes.now }
+    ensures some { IfSome result (IsBehindLine bytes.now from) }
+    ensures none { IfNone result (HasNoLineEnd bytes.now from (length bytes.now)) }
+{
+    for i in from..bytes.len() {
+        if bytes[i] == b'\n' {
+            return Some(i + 1);
+        }
+    }
+    None
+}
+
 /// The offset behind the line of an offset.
 pub(crate) fn end_of_line(bytes: &[u8], from: usize) -> usize
     requires { from < length bytes.now }
     ensures { IsLineEnd bytes.now from result }
 {
-    for i in from..bytes.len() {
-        if bytes[i] == b'\n' {
-            return i + 1;
-        }
+    match behind_line(bytes, from) {
+        Some(to) => to,
+        None => bytes.len(),
     }
-    bytes.len()
 }
 
 /// Where the blanks and comments end that stand from an offset on.

@@ -1,10 +1,13 @@
 //! A text that was read.
-ghost use Rattle.std.specs.Prelude.{◌≡◌, ◌<◌, ◌^◌, Some, length};
+ghost use Rattle.std.specs.Prelude.{◌≡◌, ◌<◌, ◌^◌, Some, length, IfOk, OnErr};
 ghost use Rattle.fort_grammar.specs.Forms.{AreFormsOf};
 ghost use Rattle.fort_sexpr.specs.FormView.{form_at, form_count};
+ghost use Rattle.fort_sexpr.specs.Nodes.{nodes_of, text_forms};
 
 use crate::arena::{Arena, Node};
 use crate::form::Form;
+use crate::scan::next_token;
+use std::alloc::{AllocError, Global};
 use std::marker::Model;
 
 /// A text without fault and its forms, in order.
@@ -32,6 +35,17 @@ impl Model for Forms {
 }
 
 impl Forms {
+    /// The forms of a text without fault, of which so many are in no list.
+    pub(crate) fn of(alloc: Global, arena: Arena, count: u32) -> Result<Forms, AllocError>
+        requires forms { AreFormsOf arena.bytes.items (text_forms arena.bytes.items) }
+        requires count { count ≡ form_count (text_forms arena.bytes.items) }
+        ensures bytes { IfOk result (λ text. text.bytes ≡ arena.bytes.items) }
+        ensures some { OnErr result (0 < length arena.bytes.items) }
+    {
+        let top = nodes(alloc, &arena, count)?;
+        Ok(Forms { arena, top })
+    }
+
     /// The number of forms.
     pub fn len(&self) -> usize
         ensures count { result ≡ form_count self.now.forms }
@@ -59,4 +73,24 @@ impl Forms {
     {
         self.arena.bytes.as_slice()
     }
+}
+
+/// The nodes of the forms of a text that are in no list, of which there are so many.
+fn nodes(alloc: Global, arena: &Arena, count: u32) -> Result<Vec<Node>, AllocError>
+    requires forms { AreFormsOf arena.now.bytes.items (text_forms arena.now.bytes.items) }
+    requires count { count ≡ form_count (text_forms arena.now.bytes.items) }
+    ensures nodes { let bytes = arena.now.bytes.items in
+        IfOk result (λ top. top.items ≡ nodes_of bytes (text_forms bytes)) }
+    ensures some { OnErr result (0 < count) }
+{
+    let mut top = Vec::with_capacity(alloc, count as usize)?;
+    let mut at = 0u32;
+    let mut list = 0u32;
+    for _ in 0..count {
+        let from = next_token(arena.bytes.as_slice(), at as usize) as u32;
+        let node = Node { from, list };
+        top.push_reserved(node);
+        (at, list) = Form { arena, node }.behind();
+    }
+    Ok(top)
 }
