@@ -18,8 +18,7 @@ use Rattle.fort_grammar.specs.Declarations.{as_list, elements_of}
 use Rattle.fort_grammar.specs.RuleForms.{HasSides, OfFirst, OfIndex, IsSide, AreSides, AConstant, AVariable, AnApplication, NoSides, MoreOf, IndexedRule, IsRule, AreRules, rules_of}
 use Rattle.fort_grammar.specs.ProblemForms.{IsProblem}
 use Rattle.fort_parts.specs.DecidedCores.{AreFewRules}
-use Rattle.fort_answers.specs.InputAnswer.{IsInput, input_limit}
-use Rattle.fort_answers.specs.CheckAnswer.{IsCertifiedInput}
+use Rattle.fort_answers.specs.InputAnswer.{Tail, Behind, Nothing, ACertificate, IsInput, IsCertifiedInput, IsInputWith, input_limit}
 use Rattle.fort_certificate_grammar.specs.Certificates.{Certificate}
 
 -- ---- different elements of a list are no more than its elements
@@ -225,11 +224,16 @@ module _ (bytes : List ℕ) (forms : Forms) (are : AreFormsOf bytes forms) (syst
     pub AreFewRules-problem : AreFewRules (at_index index (pattern_system system).rules)
     AreFewRules-problem = subst AreFewRules (sym own_are) own_few
 
-pub AreFewRules-input : (bytes : List ℕ) (system : System) → IsInput bytes system → (index : ℕ) → AreFewRules (at_index index (pattern_system system).rules)
+AreFewRules-input : (bytes : List ℕ) (system : System) → IsInput bytes system → (index : ℕ) → AreFewRules (at_index index (pattern_system system).rules)
 AreFewRules-input bytes system is index =
     let text = is.problem in
     AreFewRules-problem bytes text.forms text.are_forms system (length (as_list text.forms)) text.problem is.short index
 
-pub AreFewRules-certified : (bytes : List ℕ) (system : System) (c : Certificate) → IsCertifiedInput bytes system c
+AreFewRules-certified : (bytes : List ℕ) (system : System) (c : Certificate) → IsCertifiedInput bytes system c
     → (index : ℕ) → AreFewRules (at_index index (pattern_system system).rules)
 AreFewRules-certified bytes system c is index = AreFewRules-problem bytes is.forms is.are_forms system is.next is.problem is.short index
+
+pub AreFewRules-with : (tail : Tail) (bytes : List ℕ) (system : System) (behind : Behind tail) → IsInputWith tail bytes system behind
+    → (index : ℕ) → AreFewRules (at_index index (pattern_system system).rules)
+AreFewRules-with Nothing bytes system behind is index = AreFewRules-input bytes system is index
+AreFewRules-with ACertificate bytes system behind is index = AreFewRules-certified bytes system behind is index

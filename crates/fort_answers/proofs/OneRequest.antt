@@ -4,10 +4,8 @@ use Rattle.fort_logic.specs.Formulas.{Formula}
 use Rattle.fort_formula_grammar.proofs.OneFormula.{IsFormulaText-unique}
 use Rattle.fort_answers.specs.Requests.{Text}
 use Rattle.fort_answers.specs.Lines.{refused}
-use Rattle.fort_answers.specs.FormulaAnswer.{IsAccepted, IsAcceptedClosed}
-use Rattle.fort_answers.specs.SystemAnswer.{Are}
-use Rattle.fort_answers.specs.DecideAnswer.{DecideEarly}
-use Rattle.fort_answers.specs.WitnessAnswer.{WitnessEarly}
+use Rattle.fort_answers.specs.FormulaAnswer.{IsAccepted, IsAcceptedClosed, Openness, Any, Closed, IsAcceptedAs, IsRefusedAs}
+use Rattle.fort_answers.specs.SystemAnswer.{Are, Inquiry, IsRefusedEarly}
 use Rattle.fort_answers.proofs.OneVerdict.{accepted-not_refused, closed-not_refused}
 use Rattle.fort_answers.proofs.OneRefusal.{IsRefused-unique, IsRefusedClosed-unique}
 
@@ -23,18 +21,25 @@ IsAccepted-unique text f f' is is' = IsFormulaText-unique is.read is'.read
 pub IsAcceptedClosed-unique : (text : Text) (f f' : Formula) → IsAcceptedClosed text f → IsAcceptedClosed text f' → f ≡ f'
 IsAcceptedClosed-unique text f f' is is' = IsAccepted-unique text f f' is.accepted is'.accepted
 
-pub DecideEarly-unique : (formula : Text) (s s' : ℕ) (t t' : Text) → DecideEarly formula s t → DecideEarly formula s' t' → Are s t s' t'
-DecideEarly-unique formula s s' t t' one other =
-    Are-unique refused one.refusal s s' t t' one.are
-    (subst (Are s' t' refused) (IsRefusedClosed-unique formula other.refusal one.refusal other.refused_both one.refused_both) other.are)
+-- and likewise where any or only closed ones are taken
 
-pub early-without_input : (formula : Text) (s : ℕ) (t : Text) → DecideEarly formula s t → (f : Formula) → IsAcceptedClosed formula f → ⊥
-early-without_input formula s t early f taken = closed-not_refused formula f early.refusal taken early.refused_both
+pub IsAcceptedAs-unique : (o : Openness) (text : Text) (f f' : Formula) → IsAcceptedAs o text f → IsAcceptedAs o text f' → f ≡ f'
+IsAcceptedAs-unique Any text f f' is is' = IsAccepted-unique text f f' is is'
+IsAcceptedAs-unique Closed text f f' is is' = IsAcceptedClosed-unique text f f' is is'
 
-pub WitnessEarly-unique : (formula : Text) (s s' : ℕ) (t t' : Text) → WitnessEarly formula s t → WitnessEarly formula s' t' → Are s t s' t'
-WitnessEarly-unique formula s s' t t' one other =
-    Are-unique refused one.refusal s s' t t' one.are
-    (subst (Are s' t' refused) (IsRefused-unique formula other.refusal one.refusal other.refused_both one.refused_both) other.are)
+IsRefusedAs-unique : (o : Openness) (text line line' : Text) → IsRefusedAs o text line → IsRefusedAs o text line' → line ≡ line'
+IsRefusedAs-unique Any text line line' is is' = IsRefused-unique text line line' is is'
+IsRefusedAs-unique Closed text line line' is is' = IsRefusedClosed-unique text line line' is is'
 
-pub witness_early-without_input : (formula : Text) (s : ℕ) (t : Text) → WitnessEarly formula s t → (f : Formula) → IsAccepted formula f → ⊥
-witness_early-without_input formula s t early f taken = accepted-not_refused formula f early.refusal taken early.refused_both
+pub accepted_as-not_refused : (o : Openness) (text line : Text) (f : Formula) → IsAcceptedAs o text f → IsRefusedAs o text line → ⊥
+accepted_as-not_refused Any text line f is refusal = accepted-not_refused text f line is refusal
+accepted_as-not_refused Closed text line f is refusal = closed-not_refused text f line is refusal
+
+module _ (inquiry : Inquiry) where
+  pub IsRefusedEarly-unique : (s s' : ℕ) (t t' : Text) → IsRefusedEarly inquiry s t → IsRefusedEarly inquiry s' t' → Are s t s' t'
+  IsRefusedEarly-unique s s' t t' one other =
+      Are-unique refused one.refusal s s' t t' one.are
+      (subst (Are s' t' refused) (IsRefusedAs-unique inquiry.openness inquiry.formula other.refusal one.refusal other.is one.is) other.are)
+
+  pub early-without_input : (s : ℕ) (t : Text) (f : Formula) → IsRefusedEarly inquiry s t → IsAcceptedAs inquiry.openness inquiry.formula f → ⊥
+  early-without_input s t f early taken = accepted_as-not_refused inquiry.openness inquiry.formula early.refusal f taken early.is

@@ -4,62 +4,66 @@ use Rattle.fort_logic.specs.Formulas.{Formula}
 use Rattle.fort_answers.specs.Requests.{Text, Options, Request, Decide, Witness, Check, Sample}
 use Rattle.fort_answers.specs.CommandGrammar.{request_of}
 use Rattle.fort_answers.specs.Lines.{usage, usage_text}
-use Rattle.fort_answers.specs.FormulaAnswer.{IsAccepted, IsAcceptedClosed}
-use Rattle.fort_answers.specs.SystemAnswer.{Are}
-use Rattle.fort_answers.specs.DecideAnswer.{DecideEarly, DecideAnswer}
-use Rattle.fort_answers.specs.WitnessAnswer.{WitnessEarly, WitnessAnswer}
+use Rattle.fort_answers.specs.FormulaAnswer.{IsAcceptedAs}
+use Rattle.fort_answers.specs.SystemAnswer.{Are, Inquiry, IsRefusedEarly, IsAnswerTo}
+use Rattle.fort_answers.specs.DecideAnswer.{decide_inquiry}
+use Rattle.fort_answers.specs.WitnessAnswer.{witness_inquiry}
 use Rattle.fort_answers.specs.SampleAnswer.{SampleAnswer}
-use Rattle.fort_answers.specs.CheckAnswer.{CheckAnswer}
+use Rattle.fort_answers.specs.CheckAnswer.{check_inquiry}
+
+-- ---- by request
+
+-- what is owed: an answer for which no input is read, or one about a formula over an input
+pub data Owing : Type 1 where
+  WithoutInput : (answer : ℕ → Text → Type 0) → Owing
+  About : Inquiry → Owing
 
 -- to words that are no request
 abbrev pub OwesUsage : ℕ → Text → Type 0
 OwesUsage status text = Are status text usage usage_text
 
--- what a request owes before anything is read; a sample needs no bytes
-abbrev pub OwesEarly : Request → ℕ → Text → Type 0
-OwesEarly (Decide options certificate formula) status text = DecideEarly formula status text
-OwesEarly (Witness options formula) status text = WitnessEarly formula status text
-OwesEarly (Check formula) status text = DecideEarly formula status text
-OwesEarly (Sample n) status text = SampleAnswer n status text
+-- to a request, or to words that are none
+abbrev pub owing : Option Request → Owing
+owing None = WithoutInput OwesUsage
+owing (Some (Decide options certificate formula)) = About (decide_inquiry options certificate formula)
+owing (Some (Witness options formula)) = About (witness_inquiry options formula)
+owing (Some (Check formula)) = About (check_inquiry formula)
+owing (Some (Sample n)) = WithoutInput (SampleAnswer n)
 
--- what a request owes for these bytes
-abbrev pub Owes : Request → Text → ℕ → Text → Type 0
-Owes (Decide options certificate formula) bytes status text = DecideAnswer options certificate formula bytes status text
-Owes (Witness options formula) bytes status text = WitnessAnswer options formula bytes status text
-Owes (Check formula) bytes status text = CheckAnswer formula bytes status text
-Owes (Sample n) bytes status text = SampleAnswer n status text
+-- the status and the text are owed whatever the input is
+abbrev pub IsOwedEarly : Owing → ℕ → Text → Type 0
+IsOwedEarly (WithoutInput answer) status text = answer status text
+IsOwedEarly (About inquiry) status text = IsRefusedEarly inquiry status text
 
--- a request for which the input is read
-abbrev pub NeedsInput : Request → Type 0
-NeedsInput (Decide options certificate formula) = (f : Formula) × IsAcceptedClosed formula f
-NeedsInput (Witness options formula) = (f : Formula) × IsAccepted formula f
-NeedsInput (Check formula) = (f : Formula) × IsAcceptedClosed formula f
-NeedsInput (Sample n) = ⊥
+-- they are owed for these bytes
+abbrev pub IsOwed : Owing → (bytes : Text) → ℕ → Text → Type 0
+IsOwed (WithoutInput answer) bytes status text = answer status text
+IsOwed (About inquiry) bytes status text = IsAnswerTo inquiry bytes status text
 
--- a request to decide about this formula, that this text is, with these options
-abbrev pub AsksAbout : Request → Options → Text → Formula → Type 0
-AsksAbout (Decide options certificate formula) asked text f = (asked ≡ options) × (text ≡ formula) × IsAcceptedClosed formula f
-AsksAbout (Witness options formula) asked text f = (asked ≡ options) × (text ≡ formula) × IsAccepted formula f
-AsksAbout (Check formula) asked text f = ⊥
-AsksAbout (Sample n) asked text f = ⊥
+-- the input is read
+abbrev pub ReadsInput : Owing → Type 0
+ReadsInput (WithoutInput answer) = ⊥
+ReadsInput (About inquiry) = (f : Formula) × IsAcceptedAs inquiry.openness inquiry.formula f
 
-abbrev pub IsAbout : Option Request → Options → Text → Formula → Type 0
-IsAbout None asked text f = ⊥
-IsAbout (Some request) asked text f = AsksAbout request asked text f
-
--- what the words owe; by the request that they are, if they are one
+-- the parts of this formula, whose text it is, have to keep the cap of these options
+abbrev pub DecidesAbout : Owing → Options → Text → Formula → Type 0
+DecidesAbout (WithoutInput answer) options text f = ⊥
+DecidesAbout (About inquiry) options text f =
+    (inquiry.options ≡ Some options) × (inquiry.formula ≡ text) × IsAcceptedAs inquiry.openness inquiry.formula f
 
 abbrev pub owed_early : Option Request → ℕ → Text → Type 0
-owed_early None status text = OwesUsage status text
-owed_early (Some request) status text = OwesEarly request status text
+owed_early request status text = IsOwedEarly (owing request) status text
 
-abbrev pub owed : Option Request → Text → ℕ → Text → Type 0
-owed None bytes status text = OwesUsage status text
-owed (Some request) bytes status text = Owes request bytes status text
+abbrev pub owed : Option Request → (bytes : Text) → ℕ → Text → Type 0
+owed request bytes status text = IsOwed (owing request) bytes status text
 
 abbrev pub needed : Option Request → Type 0
-needed None = ⊥
-needed (Some request) = NeedsInput request
+needed request = ReadsInput (owing request)
+
+abbrev pub IsAbout : Option Request → Options → Text → Formula → Type 0
+IsAbout request options text f = DecidesAbout (owing request) options text f
+
+-- ---- by words
 
 abbrev pub EarlyAnswer : List Text → ℕ → Text → Type 0
 EarlyAnswer words status text = owed_early (request_of words) status text

@@ -1,8 +1,11 @@
--- To believe: what the words of a command line ask.
-use Rattle.std.specs.Prelude.{◌==◌, ◌&&◌, ℕ, Bool, zero, suc, true, false, not, List, [], ◌∷◌, map, Option, Some, None, codes, if◌then◌else◌, option_and_then, option_map}
-use Rattle.std.specs.List.{after_first, before_first, list_any}
+-- To believe: what the words of a command line ask, by the command that they name.
+use Rattle.std.specs.Prelude.{◌==◌, ◌&&◌, ℕ, Bool, true, false, not, List, [], ◌∷◌, length, map, drop, find, slice_get, Option, Some, None, count_by, if◌then◌else◌, nat_le, option_and_then, option_map, unwrap_or}
+use Rattle.std.specs.List.{after_first, before_first, list_all, list_any}
 use Rattle.std.specs.Str.{bytes_eq}
-use Rattle.fort_answers.specs.Requests.{number_in, Text, Options, Request, Decide, Witness, Check, Sample}
+use Rattle.fort_answers.specs.Requests.{Text, Request}
+use Rattle.fort_answers.specs.Commands.{Parameter, Flag, Setting, NumberWord, TextWord, Given, Command, commands, set_text, unset_text}
+
+-- ---- single words
 
 -- the word is no flag and not `--`: it does not begin with `-`, or is `-` alone
 abbrev pub is_plain : Text → Bool
@@ -12,13 +15,6 @@ is_plain (x ∷ y ∷ rest) = not (x == 45)
 
 abbrev pub dashes : Text
 dashes = 45 ∷ 45 ∷ []
-
--- the words behind `check` and `sample`: the one text in `TEXT`, `-- TEXT` or `TEXT --`
-abbrev pub text_among : List Text → Option Text
-text_among [] = None
-text_among (a ∷ []) = if is_plain a then Some a else None
-text_among (a ∷ b ∷ []) = if bytes_eq a dashes then Some b else (if is_plain a && bytes_eq b dashes then Some a else None)
-text_among (a ∷ b ∷ c ∷ rest) = None
 
 abbrev pub is_equals : ℕ → Bool
 is_equals b = b == 61
@@ -34,121 +30,110 @@ flag_in [] = None
 flag_in (a ∷ []) = None
 flag_in (a ∷ b ∷ rest) = if a == 45 && b == 45 then name_and_value rest else None
 
--- what the words behind `decide` and `witness` give
+-- ---- what the words behind a command's name give
+
 pub data Item : Type 0 where
-  States : Text → Item
-  Reduce : Item
-  Certificate : Item
-  Formula : Text → Item
+  -- a flag
+  Set : (name : Text) → Item
+  -- a setting with its value
+  Value : (name text : Text) → Item
+  -- a word that is neither
+  Word : (text : Text) → Item
 
 abbrev pub with_item : Item → Option (List Item) → Option (List Item)
 with_item item rest = option_map (λ items. item ∷ items) rest
 
--- `--states=VALUE`, or `--states`, of which the value is the next word; `next` and `value` are what the words behind it give
-abbrev pub states_items : Option Text → Option (List Item) → Option (List Item) → Option (List Item)
-states_items (Some text) next value = with_item (States text) next
-states_items None next value = value
+-- whether `--NAME` means the parameter
+abbrev pub is_named : Text → Parameter → Bool
+is_named name (Flag own) = bytes_eq own name
+is_named name (Setting number default) = bytes_eq number.name name
+is_named name (NumberWord number) = false
+is_named name (TextWord own) = false
 
--- a flag that has no value
-abbrev pub set_items : Item → Option Text → Option (List Item) → Option (List Item)
-set_items item (Some text) next = None
-set_items item None next = with_item item next
+-- by the parameter that is meant and the value in the word, if any; none of this name, and a flag with a value, give nothing; `next` is what the words behind it give, and `awaiting` where the first of them
+-- has to be the value that goes under a name
+abbrev pub parameter_items : Option Parameter → Option Text → (next : Option (List Item)) → (awaiting : Text → Option (List Item)) → Option (List Item)
+parameter_items (Some (Flag name)) None next awaiting = with_item (Set name) next
+parameter_items (Some (Setting number default)) (Some text) next awaiting = with_item (Value number.name text) next
+parameter_items (Some (Setting number default)) None next awaiting = awaiting number.name
+parameter_items _ _ next awaiting = None
 
-abbrev pub flag_items : Option (Text × Option Text) → Option (List Item) → Option (List Item) → Option (List Item)
-flag_items None next value = None
-flag_items (Some flag) next value = if bytes_eq (codes "states") flag.0 then states_items flag.1 next value
-    else (if bytes_eq (codes "reduce") flag.0 then set_items Reduce flag.1 next
-    else (if bytes_eq (codes "certificate") flag.0 then set_items Certificate flag.1 next else None))
+abbrev pub flag_items : List Parameter → Option (Text × Option Text) → (next : Option (List Item)) → (awaiting : Text → Option (List Item)) → Option (List Item)
+flag_items parameters None next awaiting = None
+flag_items parameters (Some flag) next awaiting = parameter_items (find (is_named flag.0) parameters) flag.1 next awaiting
 
--- what the words give, in order, where each is a formula, a flag or the value of `--states`; `is_value` says that the first has to be such a value
-unfoldable pub items_of : Bool → List Text → Option (List Item)
-items_of false [] = Some []
-items_of true [] = None
-items_of true (w ∷ ws) = if is_plain w then with_item (States w) (items_of false ws) else None
-items_of false (w ∷ ws) = if bytes_eq w dashes then Some (map Formula ws)
-    else (if is_plain w then with_item (Formula w) (items_of false ws) else flag_items (flag_in w) (items_of false ws) (items_of true ws))
+-- in order; behind `--` each is a word; `awaited` is the name under which the first has to be a value, if it has to
+unfoldable pub items_of : List Parameter → (awaited : Option Text) → List Text → Option (List Item)
+items_of parameters None [] = Some []
+items_of parameters (Some name) [] = None
+items_of parameters (Some name) (w ∷ ws) = if is_plain w then with_item (Value name w) (items_of parameters None ws) else None
+items_of parameters None (w ∷ ws) = if bytes_eq w dashes then Some (map Word ws)
+    else (if is_plain w then with_item (Word w) (items_of parameters None ws)
+    else flag_items parameters (flag_in w) (items_of parameters None ws) (λ name. items_of parameters (Some name) ws))
 
-abbrev pub states_among : List Item → List Text
-states_among [] = []
-states_among (States text ∷ rest) = text ∷ states_among rest
-states_among (Reduce ∷ rest) = states_among rest
-states_among (Certificate ∷ rest) = states_among rest
-states_among (Formula text ∷ rest) = states_among rest
+-- ---- what is given
 
-abbrev pub reduces_among : List Item → ℕ
-reduces_among [] = 0
-reduces_among (States text ∷ rest) = reduces_among rest
-reduces_among (Reduce ∷ rest) = suc (reduces_among rest)
-reduces_among (Certificate ∷ rest) = reduces_among rest
-reduces_among (Formula text ∷ rest) = reduces_among rest
+abbrev pub is_under : Text → Item → Bool
+is_under name (Set own) = bytes_eq own name
+is_under name (Value own text) = bytes_eq own name
+is_under name (Word text) = false
 
-abbrev pub certificates_among : List Item → ℕ
-certificates_among [] = 0
-certificates_among (States text ∷ rest) = certificates_among rest
-certificates_among (Reduce ∷ rest) = certificates_among rest
-certificates_among (Certificate ∷ rest) = suc (certificates_among rest)
-certificates_among (Formula text ∷ rest) = certificates_among rest
+abbrev pub text_of : Item → Text
+text_of (Set name) = set_text
+text_of (Value name text) = text
+text_of (Word text) = text
 
-abbrev pub formulas_among : List Item → List Text
-formulas_among [] = []
-formulas_among (States text ∷ rest) = formulas_among rest
-formulas_among (Reduce ∷ rest) = formulas_among rest
-formulas_among (Certificate ∷ rest) = formulas_among rest
-formulas_among (Formula text ∷ rest) = text ∷ formulas_among rest
+abbrev pub words_among : List Item → List Text
+words_among [] = []
+words_among (Set name ∷ rest) = words_among rest
+words_among (Value name text ∷ rest) = words_among rest
+words_among (Word text ∷ rest) = text ∷ words_among rest
 
--- the only one
-abbrev pub only : List Text → Option Text
-only [] = None
-only (x ∷ []) = Some x
-only (x ∷ y ∷ rest) = None
+-- the text of the first item under the name, or else this one
+abbrev pub text_under : Text → List Item → Text → Text
+text_under name items else_text = unwrap_or (option_map text_of (find (is_under name) items)) else_text
 
--- at most one, and 10000 where there is none
-abbrev pub number_of_states : List Text → Option ℕ
-number_of_states [] = Some 10000
-number_of_states (x ∷ []) = number_in 1 1000000 x
-number_of_states (x ∷ y ∷ rest) = None
+-- what these parameters are given by the items, and by the words that go to them in order
+abbrev pub given_by : List Parameter → List Item → (words : List Text) → Given
+given_by [] items words name = None
+given_by (Flag own ∷ parameters) items words name = if bytes_eq own name then Some (text_under own items unset_text) else given_by parameters items words name
+given_by (Setting number default ∷ parameters) items words name =
+    if bytes_eq number.name name then Some (text_under number.name items default) else given_by parameters items words name
+given_by (NumberWord number ∷ parameters) items words name = if bytes_eq number.name name then slice_get words 0 else given_by parameters items (drop 1 words) name
+given_by (TextWord own ∷ parameters) items words name = if bytes_eq own name then slice_get words 0 else given_by parameters items (drop 1 words) name
 
--- at most one
-abbrev pub is_set_by : ℕ → Option Bool
-is_set_by zero = Some false
-is_set_by (suc zero) = Some true
-is_set_by (suc (suc n)) = None
+-- ---- what is asked
 
--- the number of states and whether there is a `--reduce`, where neither comes twice
-abbrev pub options_among : List Item → Option Options
-options_among items = option_and_then (λ r. option_map (λ n. record { states = n; reduces = r })
-    (number_of_states (states_among items))) (is_set_by (reduces_among items))
+abbrev pub is_word : Parameter → Bool
+is_word (Flag name) = false
+is_word (Setting number default) = false
+is_word (NumberWord number) = true
+is_word (TextWord name) = true
 
--- what is made of the only formula, whether there is a `--certificate` and the options, where none comes twice
-abbrev pub made_by : (Options → Bool → Text → Option Request) → List Item → Option Request
-made_by make items = option_and_then (λ f. option_and_then (λ c. option_and_then (λ o. make o c f)
-    (options_among items)) (is_set_by (certificates_among items))) (only (formulas_among items))
+-- nothing comes twice under the parameter's name
+abbrev pub is_not_repeated : List Item → Parameter → Bool
+is_not_repeated items (Flag name) = nat_le (count_by (is_under name) items) 1
+is_not_repeated items (Setting number default) = nat_le (count_by (is_under number.name) items) 1
+is_not_repeated items (NumberWord number) = true
+is_not_repeated items (TextWord name) = true
 
--- no certificate of reduced tables is written
-abbrev pub to_decide : Options → Bool → Text → Option Request
-to_decide o c f = if c && o.reduces then None else Some (Decide o c f)
+-- no flag and no setting comes twice, and there are as many words as are required
+abbrev pub is_complete : List Parameter → List Item → Bool
+is_complete parameters items = list_all (is_not_repeated items) parameters && length (words_among items) == count_by is_word parameters
 
--- `witness` has no `--certificate`
-abbrev pub to_witness : Options → Bool → Text → Option Request
-to_witness o c f = if c then None else Some (Witness o f)
+abbrev pub asked_by : Command → List Item → Option Request
+asked_by command items =
+    if is_complete command.parameters items then command.asks (given_by command.parameters items (words_among items)) else None
 
-abbrev pub decide_words : List Text → Option Request
-decide_words ws = option_and_then (made_by to_decide) (items_of false ws)
+-- what the words behind the command's name ask
+abbrev pub request_by : Command → List Text → Option Request
+request_by command ws = option_and_then (asked_by command) (items_of command.parameters None ws)
 
-abbrev pub witness_words : List Text → Option Request
-witness_words ws = option_and_then (made_by to_witness) (items_of false ws)
-
-abbrev pub check_words : List Text → Option Request
-check_words ws = option_map Check (text_among ws)
-
-abbrev pub sample_words : List Text → Option Request
-sample_words ws = option_and_then (λ text. option_map Sample (number_in 1 64 text)) (text_among ws)
+abbrev pub command_named : Text → Option Command
+command_named word = find (λ command. bytes_eq command.name word) commands
 
 -- the first word is the program's own name
 unfoldable pub request_of : List Text → Option Request
 request_of [] = None
 request_of (name ∷ []) = None
-request_of (name ∷ word ∷ ws) = if bytes_eq (codes "decide") word then decide_words ws
-    else (if bytes_eq (codes "witness") word then witness_words ws
-    else (if bytes_eq (codes "check") word then check_words ws
-    else (if bytes_eq (codes "sample") word then sample_words ws else None)))
+request_of (name ∷ word ∷ ws) = option_and_then (λ command. request_by command ws) (command_named word)

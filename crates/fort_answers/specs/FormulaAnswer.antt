@@ -1,4 +1,4 @@
--- To believe: when the text of a formula, or of a closed one, is accepted before anything is read, and which line refuses one.
+-- To believe: when the text of a formula, of any or of a closed one, is accepted before anything is read, and which line refuses one.
 use Rattle.std.specs.Prelude.{◌≡◌, ℕ, List, [], ◌∷◌}
 use Rattle.fort_logic.specs.Formulas.{Name, Formula}
 use Rattle.fort_logic.specs.FreeNames.{free_names}
@@ -25,3 +25,16 @@ pub record IsAcceptedClosed (text : List ℕ) (f : Formula) : Type 0 where
 pub data IsRefusedClosed (text line : List ℕ) : Type 0 where
   Refused : IsRefused text line → IsRefusedClosed text line
   Open : (f : Formula) → IsAccepted text f → (x : Name) (xs : List Name) → free_names f ≡ x ∷ xs → line ≡ formula_open x → IsRefusedClosed text line
+
+-- the formulas that a command takes
+pub data Openness : Type 0 where
+  Any : Openness
+  Closed : Openness
+
+abbrev pub IsAcceptedAs : Openness → (text : List ℕ) → Formula → Type 0
+IsAcceptedAs Any text f = IsAccepted text f
+IsAcceptedAs Closed text f = IsAcceptedClosed text f
+
+abbrev pub IsRefusedAs : Openness → (text line : List ℕ) → Type 0
+IsRefusedAs Any text line = IsRefused text line
+IsRefusedAs Closed text line = IsRefusedClosed text line

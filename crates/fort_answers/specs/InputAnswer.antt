@@ -1,28 +1,60 @@
--- To believe: when an input is accepted as a system, and which line refuses one.
+-- To believe: when an input is accepted as a system, alone or with a certificate behind it, and which line refuses one.
 use Rattle.std.specs.Prelude.{◌≡◌, ℕ, ◌<◌, ◌≤◌, List, length}
 use Rattle.fort_theory.specs.Sides.{System}
 use Rattle.fort_grammar.specs.Text.{TextFault, IsFirstFault}
 use Rattle.fort_grammar.specs.Forms.{Forms, AreFormsOf}
 use Rattle.fort_grammar.specs.Declarations.{ProblemFault, BadForm, as_list}
 use Rattle.fort_grammar.specs.ProblemForms.{IsProblem, IsFirstProblemFault, IsProblemText}
-use Rattle.fort_answers.specs.Lines.{input_too_long, text_fault_line, problem_fault_line}
+use Rattle.fort_certificate_grammar.specs.Certificates.{Certificate}
+use Rattle.fort_certificate_grammar.specs.CertificateForms.{IsCertificate}
+use Rattle.fort_certificate_grammar.specs.CertificateFaults.{CertificateFault, IsFirstCertificateFault}
+use Rattle.fort_answers.specs.Lines.{input_too_long, text_fault_line, problem_fault_line, certificate_fault_line}
 
 -- the most bytes of an input
 abbrev pub input_limit : ℕ
 input_limit = 67108864
+
+-- what has to stand behind the problem
+pub data Tail : Type 0 where
+  Nothing : Tail
+  ACertificate : Tail
+
+-- what is read there
+abbrev pub Behind : Tail → Type 0
+Behind Nothing = Unit {0}
+Behind ACertificate = Certificate
 
 -- the input is the system, with no form behind it
 pub record IsInput (bytes : List ℕ) (system : System) : Type 0 where
   pub short : length bytes ≤ input_limit
   pub problem : IsProblemText bytes system
 
+-- the input is the system, and behind it this certificate for as many systems
+pub record IsCertifiedInput (bytes : List ℕ) (system : System) (c : Certificate) : Type 0 where
+  pub short : length bytes ≤ input_limit
+  pub forms : Forms
+  pub are_forms : AreFormsOf bytes forms
+  pub next : ℕ
+  pub problem : IsProblem bytes (as_list forms) system next
+  pub certificate : IsCertificate bytes (length system.rules) (as_list forms) next c
+
+-- the input is the system with this tail
+abbrev pub IsInputWith : (tail : Tail) → (bytes : List ℕ) → System → Behind tail → Type 0
+IsInputWith Nothing bytes system behind = IsInput bytes system
+IsInputWith ACertificate bytes system behind = IsCertifiedInput bytes system behind
+
+-- the forms from this number on, behind the problem, are not what has to stand there
+abbrev pub IsTailRefused : Tail → (bytes : List ℕ) → Forms → System → (next : ℕ) → (line : List ℕ) → Type 0
+IsTailRefused Nothing bytes forms system next line = (next < length (as_list forms)) × (line ≡ problem_fault_line (BadForm next))
+IsTailRefused ACertificate bytes forms system next line =
+    (fault : CertificateFault) × IsFirstCertificateFault bytes (length system.rules) (as_list forms) next fault × (line ≡ certificate_fault_line fault)
+
 -- the cases in their order, each with what the earlier ones leave
-pub data IsInputRefused (bytes line : List ℕ) : Type 0 where
-  TooLong : input_limit < length bytes → line ≡ input_too_long → IsInputRefused bytes line
+pub data IsInputRefused (tail : Tail) (bytes line : List ℕ) : Type 0 where
+  TooLong : input_limit < length bytes → line ≡ input_too_long → IsInputRefused tail bytes line
   NoForms : length bytes ≤ input_limit → (fault : TextFault) → IsFirstFault bytes fault → line ≡ text_fault_line fault
-      → IsInputRefused bytes line
+      → IsInputRefused tail bytes line
   NoProblem : length bytes ≤ input_limit → (forms : Forms) → AreFormsOf bytes forms → (fault : ProblemFault)
-      → IsFirstProblemFault bytes (as_list forms) fault → line ≡ problem_fault_line fault → IsInputRefused bytes line
-  FormBehind : length bytes ≤ input_limit → (forms : Forms) → AreFormsOf bytes forms → (system : System) (next : ℕ)
-      → IsProblem bytes (as_list forms) system next → next < length (as_list forms) → line ≡ problem_fault_line (BadForm next)
-      → IsInputRefused bytes line
+      → IsFirstProblemFault bytes (as_list forms) fault → line ≡ problem_fault_line fault → IsInputRefused tail bytes line
+  BadTail : length bytes ≤ input_limit → (forms : Forms) → AreFormsOf bytes forms → (system : System) (next : ℕ)
+      → IsProblem bytes (as_list forms) system next → IsTailRefused tail bytes forms system next line → IsInputRefused tail bytes line

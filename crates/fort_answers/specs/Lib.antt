@@ -1,4 +1,5 @@
 pub mod Requests
+pub mod Commands
 pub mod CommandGrammar
 pub mod Lines
 pub mod FormulaAnswer

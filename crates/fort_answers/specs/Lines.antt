@@ -6,6 +6,8 @@ use Rattle.fort_cores.specs.Kinds.{Kind}
 use Rattle.fort_formula_grammar.specs.FormulaText as formula
 use Rattle.fort_formula_grammar.specs.FormulaText.{FormulaFault}
 use Rattle.fort_grammar.specs.Text.{TextFault, BadByte, ExtraClose, Unclosed, TooDeep}
+use Rattle.fort_certificate_grammar.specs.CertificateFaults as certificate
+use Rattle.fort_certificate_grammar.specs.CertificateFaults.{CertificateFault}
 use Rattle.fort_grammar.specs.Declarations.{ProblemFault, NoFormat, BadForm, BadName, BadArity, Duplicate, TooManyFunctions, TooManyRules, NoConstant, WrongCount, VariableApplied, LeftRepeats, RightRepeats, Shares}
 
 -- a text and the end of its line
@@ -112,6 +114,14 @@ problem_fault_line (VariableApplied i) = form_line i (codes " variable applied")
 problem_fault_line (LeftRepeats i name) = form_line i (codes " left side repeats " ++ name)
 problem_fault_line (RightRepeats i name) = form_line i (codes " right side repeats " ++ name)
 problem_fault_line (Shares i name) = form_line i (codes " sides share " ++ name)
+
+abbrev pub certificate_line : ℕ → List ℕ → List ℕ
+certificate_line i what = line (codes "REFUSED certificate form " ++ (decimal i ++ what))
+
+abbrev pub certificate_fault_line : CertificateFault → List ℕ
+certificate_fault_line (certificate.BadForm i) = certificate_line i (codes " bad form")
+certificate_fault_line (certificate.BadNumber i) = certificate_line i (codes " bad number")
+certificate_fault_line (certificate.OtherVersion i) = certificate_line i (codes " version")
 
 -- ---- statuses
 

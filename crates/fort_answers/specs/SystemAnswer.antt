@@ -1,5 +1,5 @@
--- To believe: the answers that all questions about a formula share: an input that is refused, a formula that doesn't fit it, a part that is over the cap.
-use Rattle.std.specs.Prelude.{◌≡◌, ℕ, ◌<◌, List, length, get_or}
+-- To believe: what is owed to whoever asks about a formula over an input: the formula's text is refused, the input is, the formula doesn't fit it, a part is over the cap, or what the command itself says.
+use Rattle.std.specs.Prelude.{◌≡◌, ℕ, ◌<◌, List, length, get_or, Option, Some, None}
 use Rattle.fort_theory.specs.Trees.{Tree}
 use Rattle.fort_theory.specs.Sides.{System}
 use Rattle.fort_theory.specs.Patterns.{pattern_system}
@@ -14,7 +14,8 @@ use Rattle.fort_parts.specs.AlikeParts.{IsOverBy, IsFirstOverBy}
 use Rattle.fort_reduced_parts.specs.ReducedParts.{AlikeWith}
 use Rattle.fort_answers.specs.Requests.{Text, Options}
 use Rattle.fort_answers.specs.Lines.{refused, limited, limit_line}
-use Rattle.fort_answers.specs.InputAnswer.{IsInput, IsInputRefused}
+use Rattle.fort_answers.specs.FormulaAnswer.{Openness, IsAcceptedAs, IsRefusedAs}
+use Rattle.fort_answers.specs.InputAnswer.{Tail, Behind, IsInputWith, IsInputRefused}
 use Rattle.fort_answers.specs.FitAnswer.{FitsSystem, IsUnfit}
 
 -- status and text are these
@@ -44,18 +45,40 @@ KeepsCap system terms f options =
     (parts : List Core) (k : ℕ) → AreFormulaParts f terms parts → k < length parts
     → IsOverBy (pattern_system system) (likeness options system) (get_or parts k core.True) options.states → ⊥
 
+-- where there are options, no part is over their cap
+abbrev pub KeepsCapOf : Option Options → System → List Tree → Formula → Type 0
+KeepsCapOf None system terms f = Unit {0}
+KeepsCapOf (Some options) system terms f = KeepsCap system terms f options
+
 -- ---- what is owed
 
--- the bytes are a system with all that the formula speaks of, and each part of the formula keeps the cap
-pub record IsAnswerable (options : Options) (formula : Text) (f : Formula) (bytes : Text) (system : System) (terms : List Tree) : Type 0 where
-  pub input : IsInput bytes system
-  pub fits : FitsSystem formula f system terms
-  pub keeps : KeepsCap system terms f options
+-- what an answer about a formula depends on: the formula's text, which formulas are taken, what has to stand behind the problem, the
+-- options whose cap the formula's parts over the system have to keep, if any, and what is then said
+pub record Inquiry : Type 1 where
+  pub formula : Text
+  pub openness : Openness
+  pub tail : Tail
+  pub options : Option Options
+  pub says : System → Behind tail → List Tree → Formula → ℕ → Text → Type 0
 
--- what is owed otherwise: the cases in their order, each with what the earlier ones leave
-pub data IsUnanswerable (options : Options) (formula : Text) (f : Formula) (bytes : Text) (status : ℕ) (text : Text) : Type 0 where
-  InputRefused : (line : Text) → IsInputRefused bytes line → Are status text refused line → IsUnanswerable options formula f bytes status text
-  FormulaUnfit : (system : System) → IsInput bytes system → (line : Text) → IsUnfit formula f system line → Are status text refused line
-      → IsUnanswerable options formula f bytes status text
-  Limited : (system : System) → IsInput bytes system → (terms : List Tree) → FitsSystem formula f system terms → (k : ℕ) (kind : Kind)
-      → PassesCap system terms f options k kind → Are status text limited (limit_line k kind options.states) → IsUnanswerable options formula f bytes status text
+-- the formula's text is refused, whatever the input is
+pub record IsRefusedEarly (inquiry : Inquiry) (status : ℕ) (text : Text) : Type 0 where
+  pub refusal : Text
+  pub is : IsRefusedAs inquiry.openness inquiry.formula refusal
+  pub are : Are status text refused refusal
+
+-- the cases in their order, each with what the earlier ones leave
+pub data IsAnswerTo (inquiry : Inquiry) (bytes : Text) (status : ℕ) (text : Text) : Type 0 where
+  FormulaRefused : IsRefusedEarly inquiry status text → IsAnswerTo inquiry bytes status text
+  InputRefused : (f : Formula) → IsAcceptedAs inquiry.openness inquiry.formula f → (line : Text) → IsInputRefused inquiry.tail bytes line
+      → Are status text refused line → IsAnswerTo inquiry bytes status text
+  FormulaUnfit : (f : Formula) → IsAcceptedAs inquiry.openness inquiry.formula f → (system : System) (behind : Behind inquiry.tail)
+      → IsInputWith inquiry.tail bytes system behind → (line : Text) → IsUnfit inquiry.formula f system line → Are status text refused line
+      → IsAnswerTo inquiry bytes status text
+  Limited : (f : Formula) → IsAcceptedAs inquiry.openness inquiry.formula f → (system : System) (behind : Behind inquiry.tail)
+      → IsInputWith inquiry.tail bytes system behind → (terms : List Tree) → FitsSystem inquiry.formula f system terms
+      → (options : Options) → inquiry.options ≡ Some options → (k : ℕ) (kind : Kind) → PassesCap system terms f options k kind
+      → Are status text limited (limit_line k kind options.states) → IsAnswerTo inquiry bytes status text
+  Says : (f : Formula) → IsAcceptedAs inquiry.openness inquiry.formula f → (system : System) (behind : Behind inquiry.tail)
+      → IsInputWith inquiry.tail bytes system behind → (terms : List Tree) → FitsSystem inquiry.formula f system terms
+      → KeepsCapOf inquiry.options system terms f → inquiry.says system behind terms f status text → IsAnswerTo inquiry bytes status text

@@ -1,4 +1,4 @@
--- To believe: what `witness` owes for a formula's text and the bytes of an input: the least terms for its free variables that satisfy it, in the order of tuples, or that there are none.
+-- To believe: what `witness` asks of a formula over an input, and what it says: the least terms for its free variables that satisfy it, in the order of tuples, or that there are none.
 use Rattle.std.specs.Prelude.{◌≡◌, ℕ, List, [], ◌∷◌, ◌++◌, map, Some, codes}
 use Rattle.fort_theory.specs.Trees.{Tree}
 use Rattle.fort_theory.specs.Signatures.{Signature}
@@ -10,9 +10,10 @@ use Rattle.fort_logic.specs.Truth.{Assignment, IsGroundAssignment, GivesTerms, H
 use Rattle.fort_order.specs.TupleOrder.{NotAfter}
 use Rattle.fort_order.specs.TermText.{term_text}
 use Rattle.fort_answers.specs.Requests.{Text, Options}
-use Rattle.fort_answers.specs.Lines.{positive, negative, refused, line, witness_line, none_line}
-use Rattle.fort_answers.specs.FormulaAnswer.{IsAccepted, IsRefused}
-use Rattle.fort_answers.specs.SystemAnswer.{Are, IsAnswerable, IsUnanswerable}
+use Rattle.fort_answers.specs.Lines.{positive, negative, line, witness_line, none_line}
+use Rattle.fort_answers.specs.FormulaAnswer.{Any}
+use Rattle.fort_answers.specs.InputAnswer.{Nothing}
+use Rattle.fort_answers.specs.SystemAnswer.{Are, Inquiry}
 
 -- the trees of the free names, in the order of their first free occurrences
 abbrev pub free_trees : Formula → Assignment → List Tree
@@ -43,15 +44,13 @@ pub data WitnessVerdict (system : System) (terms : List Tree) (f : Formula) (sta
       → WitnessVerdict system terms f status text
   NotFound : IsFalseOf system terms f → Are status text negative none_line → WitnessVerdict system terms f status text
 
--- what is owed before anything is read
-pub record WitnessEarly (formula : Text) (status : ℕ) (text : Text) : Type 0 where
-  pub refusal : Text
-  pub refused_both : IsRefused formula refusal
-  pub are : Are status text refused refusal
-
--- what is owed for these bytes
-pub data WitnessAnswer (options : Options) (formula bytes : Text) (status : ℕ) (text : Text) : Type 0 where
-  Early : WitnessEarly formula status text → WitnessAnswer options formula bytes status text
-  Unanswerable : (f : Formula) → IsAccepted formula f → IsUnanswerable options formula f bytes status text → WitnessAnswer options formula bytes status text
-  Answered : (f : Formula) → IsAccepted formula f → (system : System) (terms : List Tree) → IsAnswerable options formula f bytes system terms
-      → WitnessVerdict system terms f status text → WitnessAnswer options formula bytes status text
+-- what `witness` asks of a formula
+abbrev pub witness_inquiry : Options → (formula : Text) → Inquiry
+witness_inquiry options formula =
+    record {
+      formula = formula;
+      openness = Any;
+      tail = Nothing;
+      options = Some options;
+      says = λ system behind terms f status text. WitnessVerdict system terms f status text;
+    }

@@ -1,0 +1,107 @@
+-- Words and bytes are owed one answer.
+use Rattle.std.proofs.Common.{◌≡◌, ◌⊎◌, ℕ, ◌≤◌, List, inl, inr, sym, subst, ◌∙◌}
+use Rattle.std.specs.Prelude.{Option, None, Some, Bool}
+use Rattle.fort_theory.specs.Trees.{Tree}
+use Rattle.fort_theory.specs.Sides.{System}
+use Rattle.fort_theory.proofs.Lists.{some-injective}
+use Rattle.fort_logic.specs.Formulas.{Formula}
+use Rattle.fort_certificate_grammar.specs.Certificates.{Certificate}
+use Rattle.fort_answers.specs.Requests.{Text, Request, Decide, Witness, Check, Sample, Options}
+use Rattle.fort_answers.specs.Lines.{negative, usage, usage_text, limited}
+use Rattle.fort_answers.specs.FormulaAnswer.{IsAcceptedClosed}
+use Rattle.fort_answers.specs.InputAnswer.{IsInput, IsCertifiedInput}
+use Rattle.fort_answers.specs.FitAnswer.{FitsSystem}
+use Rattle.fort_answers.specs.SystemAnswer.{Are, KeepsCap, FormulaRefused}
+use Rattle.fort_answers.specs.DecideAnswer.{decide_inquiry}
+use Rattle.fort_answers.specs.WitnessAnswer.{witness_inquiry}
+use Rattle.fort_answers.specs.CheckAnswer.{check_inquiry}
+use Rattle.fort_answers.specs.Answer.{Owing, WithoutInput, About, owing, IsOwedEarly, IsOwed, owed_early, owed, OwesTold, IsAbout}
+use Rattle.fort_answers.specs.PossibleRequests.{IsPossible}
+use Rattle.fort_answers.proofs.OneRequest.{Are-unique}
+use Rattle.fort_answers.proofs.OneSample.{SampleAnswer-unique}
+use Rattle.fort_answer_laws.proofs.OneVerdicts.{DecideVerdict-unique, DecideVerdict-low, WitnessVerdict-unique, WitnessVerdict-low, CheckVerdict-unique, CheckVerdict-low}
+use Rattle.fort_answer_laws.proofs.OneAnswer.{SaysOne, SaysLow, IsAnswerTo-unique, IsAnswerTo-low}
+
+-- ---- what each command says
+
+decide_one : (options : Options) (certificate : Bool) (formula : Text) → SaysOne (decide_inquiry options certificate formula)
+decide_one options certificate formula system behind terms f s s' t t' constant grounded one other =
+    DecideVerdict-unique certificate system terms f s s' t t' constant grounded one other
+
+decide_low : (options : Options) (certificate : Bool) (formula : Text) → SaysLow (decide_inquiry options certificate formula)
+decide_low options certificate formula system behind terms f s t says = DecideVerdict-low certificate system terms f s t says
+
+witness_one : (options : Options) (formula : Text) → SaysOne (witness_inquiry options formula)
+witness_one options formula system behind terms f s s' t t' constant grounded one other = WitnessVerdict-unique system terms f s s' t t' one other
+
+witness_low : (options : Options) (formula : Text) → SaysLow (witness_inquiry options formula)
+witness_low options formula system behind terms f s t says = WitnessVerdict-low system terms f s t says
+
+check_one : (formula : Text) → SaysOne (check_inquiry formula)
+check_one formula system behind terms f s s' t t' constant grounded one other = CheckVerdict-unique system behind terms f s s' t t' one other
+
+check_low : (formula : Text) → SaysLow (check_inquiry formula)
+check_low formula system behind terms f s t says = CheckVerdict-low system behind terms f s t says
+
+-- ---- requests
+
+-- Result: to a request that can be asked, and to words that are none, one status and text are owed for these bytes
+pub owed-unique : (request : Option Request) (bytes : Text) (s s' : ℕ) (t t' : Text) → IsPossible request → owed request bytes s t
+    → owed request bytes s' t' → Are s t s' t'
+owed-unique None bytes s s' t t' possible one other = Are-unique usage usage_text s s' t t' one other
+owed-unique (Some (Decide options certificate formula)) bytes s s' t t' possible one other =
+    IsAnswerTo-unique (decide_inquiry options certificate formula) bytes (decide_one options certificate formula) s s' t t' one other
+owed-unique (Some (Witness options formula)) bytes s s' t t' possible one other =
+    IsAnswerTo-unique (witness_inquiry options formula) bytes (witness_one options formula) s s' t t' one other
+owed-unique (Some (Check formula)) bytes s s' t t' possible one other = IsAnswerTo-unique (check_inquiry formula) bytes (check_one formula) s s' t t' one other
+owed-unique (Some (Sample n)) bytes s s' t t' possible one other = SampleAnswer-unique n s s' t t' possible.low one other
+
+from_early : (o : Owing) (bytes : Text) (s : ℕ) (t : Text) → (early : IsOwedEarly o s t) → IsOwed o bytes s t
+from_early (WithoutInput answer) bytes s t early = early
+from_early (About inquiry) bytes s t early = FormulaRefused early
+
+-- what is owed before anything is read is owed for any bytes
+pub owed_from_early : (request : Option Request) (bytes : Text) (s : ℕ) (t : Text) → owed_early request s t → owed request bytes s t
+owed_from_early request bytes s t early = from_early (owing request) bytes s t early
+
+-- what a source tells is some bytes
+pub bytes_told : (request : Option Request) (told : Option Text) (s : ℕ) (t : Text) → OwesTold request told s t → (bytes : Text) × owed request bytes s t
+bytes_told request None s t owes = owes
+bytes_told request (Some bytes) s t owes = (bytes, owes)
+
+-- ---- over a system with all that the formula speaks of
+
+module _ (asked : Options) (formula : Text) (f : Formula) (bytes : Text) (system : System) (terms : List Tree) (s : ℕ) (t : Text) (is : IsInput bytes system)
+    (fits : FitsSystem formula f system terms) where
+  abbrev IsLow : Type 0
+  IsLow = (s ≤ negative) ⊎ ((s ≡ limited) × (KeepsCap system terms f asked → ⊥))
+
+  -- by the options of which there was told
+  by_options : (own : Options) → Some own ≡ Some asked → (s ≤ negative) ⊎ ((s ≡ limited) × ((o : Options) × (Some own ≡ Some o) × (KeepsCap system terms f o → ⊥))) → IsLow
+  by_options own same (inl low) = inl low
+  by_options own same (inr over) =
+      inr (over.0, subst (λ o. KeepsCap system terms f o → ⊥) (some-injective (sym over.1.1 ∙ same)) over.1.2)
+
+  -- Result: a request about a formula is answered by a verdict, or by the part that is over the cap
+  pub answered_low : (request : Option Request) → IsAbout request asked formula f → owed request bytes s t → IsLow
+  answered_low None about answer = absurd about
+  answered_low (Some (Decide options certificate text)) about answer =
+      by_options options about.0 (IsAnswerTo-low (decide_inquiry options certificate text) bytes (decide_low options certificate text) f system tt terms s t about.2 is
+      (subst (λ x. FitsSystem x f system terms) (sym about.1) fits) answer)
+  answered_low (Some (Witness options text)) about answer =
+      by_options options about.0 (IsAnswerTo-low (witness_inquiry options text) bytes (witness_low options text) f system tt terms s t about.2 is
+      (subst (λ x. FitsSystem x f system terms) (sym about.1) fits) answer)
+  answered_low (Some (Check text)) about answer = absurd (no_options about.0)
+    where
+      no_options : None ≡ Some asked → ⊥
+      no_options e = cc
+  answered_low (Some (Sample n)) about answer = absurd about
+
+-- Result: a certificate behind a system with all that the formula speaks of is certified or rejected
+pub checked_low : (formula : Text) (f : Formula) (bytes : Text) (system : System) (c : Certificate) (terms : List Tree) (s : ℕ) (t : Text)
+    → IsAcceptedClosed formula f → IsCertifiedInput bytes system c → FitsSystem formula f system terms → owed (Some (Check formula)) bytes s t → s ≤ negative
+checked_low formula f bytes system c terms s t accepted is fits answer =
+    elim (IsAnswerTo-low (check_inquiry formula) bytes (check_low formula) f system c terms s t accepted is fits answer) [
+      | inl low ↦ low
+      | inr over ↦ let e = over.1.1 in cc
+    ]

@@ -1,0 +1,2 @@
+//! Laws alone: words and bytes are owed one answer.
+#![tactic(auto)]

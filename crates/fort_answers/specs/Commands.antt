@@ -1,0 +1,114 @@
+-- To believe: the commands: what stands behind each one's name on a command line, and what it then asks.
+use Rattle.std.specs.Prelude.{◌&&◌, ℕ, Bool, false, List, [], ◌∷◌, Option, Some, None, codes, if◌then◌else◌, option_and_then, option_map}
+use Rattle.std.specs.Option.{option_map_or}
+use Rattle.std.specs.Str.{bytes_eq}
+use Rattle.fort_answers.specs.Requests.{number_in, Text, Options, Request, Decide, Witness, Check, Sample}
+
+-- ---- what can stand there
+
+-- the numbers from low to high, by the name under which one is given; nobody types the name of a word
+pub record Number : Type 0 where
+  pub name : Text
+  pub low : ℕ
+  pub high : ℕ
+
+pub data Parameter : Type 0 where
+  -- `--NAME`
+  Flag : (name : Text) → Parameter
+  -- `--NAME N`, and the text of N where it is left out
+  Setting : (number : Number) (default : Text) → Parameter
+  -- `N`, which is required
+  NumberWord : (number : Number) → Parameter
+  -- a text, which is required
+  TextWord : (name : Text) → Parameter
+
+-- the text that is given under each name, and none under a name that no parameter has; under a flag's `true` or `false`
+abbrev pub Given : Type 0
+Given = Text → Option Text
+
+abbrev pub set_text : Text
+set_text = codes "true"
+
+abbrev pub unset_text : Text
+unset_text = codes "false"
+
+-- a command's name, its parameters, of which words are told apart by their order, and what it asks by what is given; a number that is
+-- given is read by `number_given`, which is where its range counts
+pub record Command : Type 0 where
+  pub name : Text
+  pub parameters : List Parameter
+  pub asks : Given → Option Request
+
+-- ---- the parameters
+
+-- the most states of a part of the formula
+abbrev pub states : Number
+states = record { name = codes "states"; low = 1; high = 1000000 }
+
+abbrev pub default_states : Text
+default_states = codes "10000"
+
+abbrev pub reduce_name : Text
+reduce_name = codes "reduce"
+
+abbrev pub certificate_name : Text
+certificate_name = codes "certificate"
+
+abbrev pub formula_name : Text
+formula_name = codes "formula"
+
+-- the size of a made problem
+abbrev pub count : Number
+count = record { name = codes "count"; low = 1; high = 64 }
+
+-- ---- what is asked
+
+abbrev pub number_given : Number → Given → Option ℕ
+number_given number given = option_and_then (number_in number.low number.high) (given number.name)
+
+abbrev pub is_set : Text → Given → Bool
+is_set name given = option_map_or (λ text. bytes_eq text set_text) (given name) false
+
+abbrev pub options_given : Given → Option Options
+options_given given = option_map (λ n. record { states = n; reduces = is_set reduce_name given }) (number_given states given)
+
+-- no certificate of reduced tables is written
+abbrev pub to_decide : Options → Bool → Text → Option Request
+to_decide o c f = if c && o.reduces then None else Some (Decide o c f)
+
+abbrev pub decide_asked : Given → Option Request
+decide_asked given = option_and_then (λ o. option_and_then (to_decide o (is_set certificate_name given)) (given formula_name)) (options_given given)
+
+abbrev pub witness_asked : Given → Option Request
+witness_asked given = option_and_then (λ o. option_map (Witness o) (given formula_name)) (options_given given)
+
+abbrev pub check_asked : Given → Option Request
+check_asked given = option_map Check (given formula_name)
+
+abbrev pub sample_asked : Given → Option Request
+sample_asked given = option_map Sample (number_given count given)
+
+-- ---- the commands
+
+-- `decide [--states N] [--reduce] [--certificate] FORMULA`
+abbrev pub decide : Command
+decide = record {
+  name = codes "decide";
+  parameters = Setting states default_states ∷ Flag reduce_name ∷ Flag certificate_name ∷ TextWord formula_name ∷ [];
+  asks = decide_asked;
+}
+
+-- `witness [--states N] [--reduce] FORMULA`
+abbrev pub witness : Command
+witness = record { name = codes "witness"; parameters = Setting states default_states ∷ Flag reduce_name ∷ TextWord formula_name ∷ []; asks = witness_asked }
+
+-- `check FORMULA`
+abbrev pub check : Command
+check = record { name = codes "check"; parameters = TextWord formula_name ∷ []; asks = check_asked }
+
+-- `sample N`
+abbrev pub sample : Command
+sample = record { name = codes "sample"; parameters = NumberWord count ∷ []; asks = sample_asked }
+
+abbrev pub commands : List Command
+commands = decide ∷ witness ∷ check ∷ sample ∷ []
