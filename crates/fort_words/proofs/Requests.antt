@@ -1,6 +1,6 @@
 -- How a parse's clauses give what the words ask.
-use Rattle.std.proofs.Common.{◌≡◌, ◌∙◌, List, [], ◌∷◌, true, false, refl, ap, sym, codes}
-use Rattle.std.specs.Prelude.{Option, Some, None, option_and_then, option_map}
+use Rattle.std.proofs.Common.{◌≡◌, ◌∙◌, ℕ, zero, suc, List, [], ◌∷◌, Bool, true, false, refl, ap, sym, inl, inr, true≢false}
+use Rattle.std.specs.Prelude.{Option, Some, None, find, option_and_then, option_map, slice_get}
 use Rattle.std.specs.Str.{bytes_eq}
 use Rattle.clap.specs.Words.{App, IsAmong, Kinds, Row, fault_of, is_simple, is_simple_and_free, subcommand_name_of, subcommand_of, subcommand_rows_of}
 use Rattle.clap.specs.declared.error.kind.ErrorKind.{ErrorKind}
@@ -8,7 +8,10 @@ use Rattle.clap.specs.declared.parser.matches.ArgMatches.{ArgMatches}
 use Rattle.clap.proofs.OnLiterals.{clap_on_literals}
 use Rattle.fort_words.specs.CommandLine.{fort}
 use Rattle.fort_answers.specs.Requests.{Text, Request}
-use Rattle.fort_words.specs.Matches.{asked_in, check_in, decide_in, read_by, sample_in, where_faultless, witness_in}
+use Rattle.fort_answers.specs.Commands.{Command, commands}
+use Rattle.fort_words.specs.Matches.{asked_in, asked_of, read_by, where_faultless}
+use Rattle.fort_words.proofs.Turns.{cases_of}
+use Rattle.fort_words.proofs.RowRules.{named_as, names_are}
 
 pub fort_is_simple : is_simple fort ≡ true
 unfolding clap_on_literals
@@ -50,32 +53,36 @@ pair_of (Some p) a b h g =
     let first : a ≡ p.0 = cc in
     let second : b ≡ p.1 = cc in rw (first, second) refl
 
-pub entered_is : (m : ArgMatches) (name : Text) (rows : List Row) → Some name ≡ subcommand_name_of m
+entered_is : (m : ArgMatches) (name : Text) (rows : List Row) → Some name ≡ subcommand_name_of m
     → Some rows ≡ option_map (λ (p : Text × List Row). p.1) (subcommand_rows_of m) → subcommand_rows_of m ≡ Some (name, rows)
 entered_is m name rows h g = pair_of _ name rows (h ∙ name_is m) g
 
--- `asked_in`, by the tests of the name
+-- `asked_in`, by the command of the name
 
-pub asked_in-decide : (name : Text) (rows : List Row) → bytes_eq name (codes "decide") ≡ true → asked_in (name, rows) ≡ decide_in rows
-unfolding asked_in
-asked_in-decide name rows d = rw d refl
+either_way : (a b : Text) (test : Bool) → bytes_eq a b ≡ test → bytes_eq b a ≡ test
+either_way a b true e = named_as b a (sym (names_are a b e))
+either_way a b false e = elim (cases_of (bytes_eq b a)) [
+  | inl h ↦ absurd (true≢false (sym (named_as a b (sym (names_are b a h))) ∙ e))
+  | inr h ↦ h
+]
 
-pub asked_in-witness : (name : Text) (rows : List Row) → bytes_eq name (codes "decide") ≡ false → bytes_eq name (codes "witness") ≡ true
-    → asked_in (name, rows) ≡ witness_in rows
-unfolding asked_in
-asked_in-witness name rows d w = rw (d, w) refl
+-- the tests of a name against the commands in turn: the first k fail, and the next, if any, passes
+abbrev pub IsAt : Text → List Command → ℕ → Type 0
+IsAt name [] k = Unit {0}
+IsAt name (command ∷ rest) zero = bytes_eq name command.name ≡ true
+IsAt name (command ∷ rest) (suc k) = (bytes_eq name command.name ≡ false) × IsAt name rest k
 
-pub asked_in-check : (name : Text) (rows : List Row) → bytes_eq name (codes "decide") ≡ false → bytes_eq name (codes "witness") ≡ false
-    → bytes_eq name (codes "check") ≡ true → asked_in (name, rows) ≡ check_in rows
-unfolding asked_in
-asked_in-check name rows d w k = rw (d, w, k) refl
+named_at : (name : Text) (all : List Command) (k : ℕ) → IsAt name all k → find (λ command. bytes_eq command.name name) all ≡ slice_get all k
+named_at name [] k at = refl
+named_at name (command ∷ rest) zero at = let here = either_way name command.name true at in rw here refl
+named_at name (command ∷ rest) (suc k) at = let other = either_way name command.name false at.0 in rw other (named_at name rest k at.1)
 
-pub asked_in-sample : (name : Text) (rows : List Row) → bytes_eq name (codes "decide") ≡ false → bytes_eq name (codes "witness") ≡ false
-    → bytes_eq name (codes "check") ≡ false → bytes_eq name (codes "sample") ≡ true → asked_in (name, rows) ≡ sample_in rows
+asked_at : (name : Text) (rows : List Row) (k : ℕ) → IsAt name commands k → asked_in (name, rows) ≡ option_and_then (asked_of rows) (slice_get commands k)
 unfolding asked_in
-asked_in-sample name rows d w k s = rw (d, w, k, s) refl
+asked_at name rows k at = ap (option_and_then (asked_of rows)) (named_at name commands k at)
 
-pub asked_in-other : (name : Text) (rows : List Row) → bytes_eq name (codes "decide") ≡ false → bytes_eq name (codes "witness") ≡ false
-    → bytes_eq name (codes "check") ≡ false → bytes_eq name (codes "sample") ≡ false → asked_in (name, rows) ≡ None
-unfolding asked_in
-asked_in-other name rows d w k s = rw (d, w, k, s) refl
+-- what the command at this place asks is what the matches ask
+pub asked_by : (m : ArgMatches) (name : Text) (rows : List Row) (k : ℕ) → Some name ≡ subcommand_name_of m
+    → Some rows ≡ option_map (λ (p : Text × List Row). p.1) (subcommand_rows_of m) → IsAt name commands k
+    → option_and_then (asked_of rows) (slice_get commands k) ≡ option_and_then asked_in (subcommand_rows_of m)
+asked_by m name rows k is has at = sym (ap (option_and_then asked_in) (entered_is m name rows is has) ∙ asked_at name rows k at)

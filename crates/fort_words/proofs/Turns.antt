@@ -1,6 +1,6 @@
 -- One turn of clap's walk at a subcommand, and what a word can be.
-use Rattle.std.proofs.Common.{◌≡◌, ◌∙◌, ℕ, List, [], ◌∷◌, ◌++◌, Bool, true, false, refl, ap, ◌⊎◌, inl, inr}
-use Rattle.std.specs.Prelude.{Option, Some, None, ◌==◌, not, fold, slice_get}
+use Rattle.std.proofs.Common.{◌≡◌, ◌∙◌, ℕ, List, [], ◌∷◌, ◌++◌, Bool, true, false, refl, ap, subst, ◌⊎◌, inl, inr}
+use Rattle.std.specs.Prelude.{Option, Some, None, ◌==◌, find, not, fold, slice_get}
 use Rattle.std.specs.Str.{IsUtf8, bytes_eq, chars, encode_utf8_all}
 use Rattle.std.specs.Char.{encode_utf8}
 use Rattle.std.specs.List.{after_first, before_first}
@@ -22,15 +22,19 @@ pub not_true : (b : Bool) → not b ≡ true → b ≡ false
 not_true true e = cc
 not_true false e = refl
 
+-- the first that passes does pass
+pub found_passes : {X : Type 0} (p : X → Bool) (xs : List X) (x : X) → find p xs ≡ Some x → p x ≡ true
+found_passes p [] x e = absurd (cc)
+found_passes p (y ∷ ys) x e = elim (cases_of (p y)) [
+  | inl h ↦ let here = rw h at e in let same : y ≡ x = cc in subst (λ z. p z ≡ true) same h
+  | inr h ↦ found_passes p ys x (rw h at e)
+]
+
 -- ---- kinds of faults
 
 abbrev pub some_kinds : Kinds → Bool
 some_kinds [] = false
 some_kinds (k ∷ ks) = true
-
-pub first_kind : (ks : Kinds) → some_kinds ks ≡ true → (k : _) × (rest : Kinds) × (ks ≡ k ∷ rest)
-first_kind [] e = absurd (cc)
-first_kind (k ∷ ks) e = (k, ks, refl)
 
 past : (kinds next : Kinds) → kinds ≡ [] → or_else kinds next ≡ next
 past [] next e = refl

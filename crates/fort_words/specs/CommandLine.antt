@@ -1,51 +1,37 @@
--- To believe: the program's command line, in the words of clap's own specs.
-use Rattle.std.specs.Prelude.{[], ◌∷◌, true, Some, codes}
-use Rattle.clap.specs.Words.{App, Rule, Text, new_app, new_rule, with_rule, with_subcommand}
-use Rattle.clap.specs.Simple.{on_top}
+-- Public: the program's command line, in the words of clap's own specs. That the words on it ask what their own grammar says is proved; nobody needs to read this for the answers.
+use Rattle.std.specs.Prelude.{List, [], ◌∷◌, map, true, false, Some, codes}
+use Rattle.clap.specs.Words.{App, Rule, Shape, new_rule}
+use Rattle.clap.specs.Simple.{new_shape}
 use Rattle.clap.specs.declared.builder.ArgAction.TheVariants.{SetTrue}
+use Rattle.fort_answers.specs.Requests.{Text}
+use Rattle.fort_answers.specs.Commands.{Parameter, Flag, Setting, NumberWord, TextWord, Command, commands}
 
--- `--states N`, of which 10000 is the value where it is left out
-abbrev pub states : Rule
-states = record (new_rule (codes "states")) { long = Some (codes "states"); defaults = codes "10000" ∷ [] }
+-- a word, which is required
+abbrev pub word : Text → Rule
+word name = record (new_rule name) { required = true }
 
--- `--NAME`, which has no value
-abbrev pub flag : Text → Rule
-flag name = record (new_rule name) { long = Some name; action = Some SetTrue }
+abbrev pub rule_for : Parameter → Rule
+rule_for (Flag name) = record (new_rule name) { long = Some name; action = Some SetTrue }
+rule_for (Setting number default) = record (new_rule number.name) { long = Some number.name; defaults = default ∷ [] }
+rule_for (NumberWord number) = word number.name
+rule_for (TextWord name) = word name
 
-abbrev pub reduce : Rule
-reduce = flag (codes "reduce")
+-- a command by its name and its parameters
+abbrev pub command_shape : Text → List Parameter → Shape
+command_shape name parameters = record (new_shape name) { rules = map rule_for parameters }
 
-abbrev pub certificate : Rule
-certificate = flag (codes "certificate")
+abbrev pub command_app : Text → List Parameter → App
+command_app name parameters = record { top = command_shape name parameters; subs = [] }
 
--- `FORMULA`, which is required
-abbrev pub formula : Rule
-formula = record (new_rule (codes "formula")) { required = true }
+abbrev pub shape_for : Command → Shape
+shape_for command = command_shape command.name command.parameters
 
--- `N`, which is required
-abbrev pub count : Rule
-count = record (new_rule (codes "count")) { required = true }
+-- the program with these commands, of which one is required
+abbrev pub program : List Command → App
+program subcommands = record {
+  top = record (new_shape (codes "fort")) { is_leaf = false; subcommand_required = true };
+  subs = map shape_for subcommands;
+}
 
--- `decide [--states N] [--reduce] [--certificate] FORMULA`
-abbrev pub decide : App
-decide = with_rule (with_rule (with_rule (with_rule (new_app (codes "decide")) states) reduce) certificate) formula
-
--- `witness [--states N] [--reduce] FORMULA`
-abbrev pub witness : App
-witness = with_rule (with_rule (with_rule (new_app (codes "witness")) states) reduce) formula
-
--- `check FORMULA`
-abbrev pub check : App
-check = with_rule (new_app (codes "check")) formula
-
--- `sample N`
-abbrev pub sample : App
-sample = with_rule (new_app (codes "sample")) count
-
--- the program without its subcommands, of which one is required
-abbrev pub bare : App
-bare = on_top (λ s. record s { subcommand_required = true }) (new_app (codes "fort"))
-
--- the program
 abbrev pub fort : App
-fort = with_subcommand (with_subcommand (with_subcommand (with_subcommand bare decide.top) witness.top) check.top) sample.top
+fort = program commands

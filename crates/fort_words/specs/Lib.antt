@@ -1,3 +1,4 @@
 pub mod CommandLine
 pub mod Matches
 pub mod RequestView
+pub mod RowView

@@ -4,5 +4,6 @@
 mod command;
 mod number;
 mod request;
+mod row;
 
 pub use request::{Options, Request, read_request};

@@ -1,22 +1,27 @@
 //! Requests, from `clap`'s matches.
-ghost use Rattle.std.specs.Prelude.{◌≡◌, IfOk, map, option_and_then, option_map, string_bytes};
-ghost use Rattle.clap.specs.Words.{first_of, found_of, rows_of, subcommand_rows_of};
-ghost use Rattle.fort_words.specs.Matches.{asked_in, check_in, decide_in, is_set_in, options_in, request_in, sample_in, states_in, witness_in};
+ghost use Rattle.std.specs.Prelude.{◌≡◌, ◌≤◌, IfOk, map, option_and_then, option_map, string_bytes};
+ghost use Rattle.clap.specs.Words.{subcommand_rows_of};
+ghost use Rattle.fort_answers.specs.Commands.{check_asked, decide_asked, is_set, number_given, options_given, sample_asked, witness_asked};
 ghost use Rattle.fort_answers.specs.CommandGrammar.{request_of};
+ghost use Rattle.fort_words.specs.Matches.{asked_in, given_of, request_in};
 ghost use Rattle.fort_words.specs.RequestView.{as_options, as_request};
+ghost use Rattle.fort_words.specs.RowView.{as_number};
 
 use crate::command::fort_command;
 use crate::number::number_of;
+use crate::row::{
+    CERTIFICATE, CHECK, COUNT, DECIDE, FORMULA, Number, REDUCE, SAMPLE, STATES, WITNESS,
+};
 use clap::ArgMatches;
 use clap::error::ErrorKind;
 use std::alloc::{AllocError, Global};
 
-/// How the parts of a formula are decided.
+/// How the parameters of a formula are decided.
 #[derive(Clone, Copy, Debug, PartialEq, Eq)]
 pub struct Options {
-    /// The most states of a part.
+    /// The most states of a parameter.
     pub states: u32,
-    /// Whether the table of each part is reduced.
+    /// Whether the table of each parameter is reduced.
     pub reduces: bool,
 }
 
@@ -46,20 +51,20 @@ pub enum Request<'a> {
 
 /// The first value of `id`.
 fn value_of<'a>(matches: &ArgMatches<'a>, id: &str) -> Option<&'a str>
-    ensures { option_map (λ text. text.now) result ≡
-        first_of id.now (rows_of (found_of matches.now)) }
+    ensures { option_map (λ text. text.now) result ≡ given_of matches.now id.now }
 {
     matches.get_str(id)
 }
 
-fn states_of(matches: &ArgMatches<'_>) -> Option<u32>
-    ensures { result ≡ states_in (rows_of (found_of matches.now)) }
+fn number_given(matches: &ArgMatches<'_>, number: Number) -> Option<u32>
+    requires { 1 ≤ number.low }
+    ensures { result ≡ number_given (as_number number) (given_of matches.now) }
 {
-    number_of(value_of(matches, "states")?, 1, 1_000_000)
+    number_of(value_of(matches, number.name)?, number.low, number.high)
 }
 
 fn is_set(matches: &ArgMatches<'_>, id: &str) -> bool
-    ensures { result ≡ is_set_in id.now (rows_of (found_of matches.now)) }
+    ensures { result ≡ is_set id.now (given_of matches.now) }
 {
     match value_of(matches, id) {
         Some(text) => text == "true",
@@ -67,20 +72,20 @@ fn is_set(matches: &ArgMatches<'_>, id: &str) -> bool
     }
 }
 
-fn options_of(matches: &ArgMatches<'_>) -> Option<Options>
-    ensures { option_map as_options result ≡ options_in (rows_of (found_of matches.now)) }
+fn options_given(matches: &ArgMatches<'_>) -> Option<Options>
+    ensures { option_map as_options result ≡ options_given (given_of matches.now) }
 {
-    let states = states_of(matches)?;
-    let reduces = is_set(matches, "reduce");
+    let states = number_given(matches, STATES)?;
+    let reduces = is_set(matches, REDUCE);
     Some(Options { states, reduces })
 }
 
 fn asked_to_decide<'a>(matches: &ArgMatches<'a>) -> Option<Request<'a>>
-    ensures { option_map as_request result ≡ decide_in (rows_of (found_of matches.now)) }
+    ensures { option_map as_request result ≡ decide_asked (given_of matches.now) }
 {
-    let options = options_of(matches)?;
-    let formula = value_of(matches, "formula")?;
-    let certificate = is_set(matches, "certificate");
+    let options = options_given(matches)?;
+    let formula = value_of(matches, FORMULA)?;
+    let certificate = is_set(matches, CERTIFICATE);
     // No certificate of reduced tables is written.
     if certificate && options.reduces {
         return None;
@@ -93,24 +98,24 @@ fn asked_to_decide<'a>(matches: &ArgMatches<'a>) -> Option<Request<'a>>
 }
 
 fn asked_for_witness<'a>(matches: &ArgMatches<'a>) -> Option<Request<'a>>
-    ensures { option_map as_request result ≡ witness_in (rows_of (found_of matches.now)) }
+    ensures { option_map as_request result ≡ witness_asked (given_of matches.now) }
 {
-    let options = options_of(matches)?;
-    let formula = value_of(matches, "formula")?;
+    let options = options_given(matches)?;
+    let formula = value_of(matches, FORMULA)?;
     Some(Request::Witness { options, formula })
 }
 
 fn asked_to_check<'a>(matches: &ArgMatches<'a>) -> Option<Request<'a>>
-    ensures { option_map as_request result ≡ check_in (rows_of (found_of matches.now)) }
+    ensures { option_map as_request result ≡ check_asked (given_of matches.now) }
 {
-    let formula = value_of(matches, "formula")?;
+    let formula = value_of(matches, FORMULA)?;
     Some(Request::Check { formula })
 }
 
 fn asked_for_sample<'a>(matches: &ArgMatches<'a>) -> Option<Request<'a>>
-    ensures { option_map as_request result ≡ sample_in (rows_of (found_of matches.now)) }
+    ensures { option_map as_request result ≡ sample_asked (given_of matches.now) }
 {
-    let n = number_of(value_of(matches, "count")?, 1, 64)?;
+    let n = number_given(matches, COUNT)?;
     Some(Request::Sample { n })
 }
 
@@ -119,13 +124,13 @@ fn asked<'a>(matches: &ArgMatches<'a>) -> Option<Request<'a>>
         (subcommand_rows_of matches.now) }
 {
     let (name, inner) = matches.subcommand()?;
-    if name == "decide" {
+    if name == DECIDE.name {
         asked_to_decide(inner)
-    } else if name == "witness" {
+    } else if name == WITNESS.name {
         asked_for_witness(inner)
-    } else if name == "check" {
+    } else if name == CHECK.name {
         asked_to_check(inner)
-    } else if name == "sample" {
+    } else if name == SAMPLE.name {
         asked_for_sample(inner)
     } else {
         None

@@ -3,7 +3,7 @@ use Rattle.std.specs.Prelude.{option_map}
 use Rattle.clap.specs.Words.{App, app_of, fault_of, is_simple, is_simple_and_free}
 use Rattle.fort_words.specs.Matches.{read_by, request_in}
 use Rattle.fort_words.specs.CommandLine.{fort}
-use Rattle.fort_words.proofs.TopWords.{request_is, words_are}
+use Rattle.fort_words.proofs.ProgramWords.{request_is, words_are}
 use Rattle.fort_words.specs.RequestView.{as_request}
 use Rattle.fort_words.proofs.Requests.{fort_is_free, fort_is_simple, refused_reads, taken_reads}
 use Rattle.fort_words.proofs.request.read_request.Goals as goal

@@ -1,0 +1,102 @@
+//! The rows of the commands: what stands behind each one's name on a command line.
+ghost use Rattle.std.specs.Prelude.{◌≡◌, map};
+ghost use Rattle.fort_answers.specs.Commands.{commands};
+ghost use Rattle.fort_words.specs.RowView.{as_pair, pair_of};
+
+/// The numbers from `low` to `high`, by the name under which one is given.
+#[derive(Clone, Copy)]
+pub(crate) struct Number {
+    pub(crate) name: &'static str,
+    pub(crate) low: u32,
+    pub(crate) high: u32,
+}
+
+/// What can stand behind a command's name.
+#[derive(Clone, Copy)]
+pub(crate) enum Parameter {
+    /// `--NAME`
+    Flag(&'static str),
+    /// `--NAME N`, and the text of N where it is left out
+    Setting {
+        number: Number,
+        default: &'static str,
+    },
+    /// `N`, which is required
+    NumberWord(Number),
+    /// A text, which is required
+    TextWord(&'static str),
+}
+
+/// A command: its name, and its parameters, of which words are told apart by their order.
+#[derive(Clone, Copy)]
+pub(crate) struct Row {
+    pub(crate) name: &'static str,
+    pub(crate) parameters: &'static [Parameter],
+}
+
+/// The most states of a part of the formula.
+pub(crate) const STATES: Number = Number {
+    name: "states",
+    low: 1,
+    high: 1_000_000,
+};
+
+pub(crate) const REDUCE: &str = "reduce";
+
+pub(crate) const CERTIFICATE: &str = "certificate";
+
+pub(crate) const FORMULA: &str = "formula";
+
+/// The size of a made problem.
+pub(crate) const COUNT: Number = Number {
+    name: "count",
+    low: 1,
+    high: 64,
+};
+
+const STATES_OR_DEFAULT: Parameter = Parameter::Setting {
+    number: STATES,
+    default: "10000",
+};
+
+/// `decide [--states N] [--reduce] [--certificate] FORMULA`
+pub(crate) const DECIDE: Row = Row {
+    name: "decide",
+    parameters: &[
+        STATES_OR_DEFAULT,
+        Parameter::Flag(REDUCE),
+        Parameter::Flag(CERTIFICATE),
+        Parameter::TextWord(FORMULA),
+    ],
+};
+
+/// `witness [--states N] [--reduce] FORMULA`
+pub(crate) const WITNESS: Row = Row {
+    name: "witness",
+    parameters: &[
+        STATES_OR_DEFAULT,
+        Parameter::Flag(REDUCE),
+        Parameter::TextWord(FORMULA),
+    ],
+};
+
+/// `check FORMULA`
+pub(crate) const CHECK: Row = Row {
+    name: "check",
+    parameters: &[Parameter::TextWord(FORMULA)],
+};
+
+/// `sample N`
+pub(crate) const SAMPLE: Row = Row {
+    name: "sample",
+    parameters: &[Parameter::NumberWord(COUNT)],
+};
+
+const ROWS: &[Row] = &[DECIDE, WITNESS, CHECK, SAMPLE];
+
+/// The rows of the commands.
+pub(crate) fn rows() -> &'static [Row]
+    ensures { map as_pair result.now ≡ map pair_of commands }
+{
+    ROWS
+}
