@@ -17,13 +17,15 @@ use Rattle.fort_certificate_texts.proofs.Again.{behind_again}
 use Rattle.fort_in_order.specs.Checked.{Certified}
 use Rattle.fort_in_order.specs.Written.{IsWritten}
 use Rattle.fort_in_order.proofs.WrittenLaws.{IsInOrder-written}
-use Rattle.fort_answers.specs.Requests.{Text}
+use Rattle.fort_answers.specs.Requests.{Text, Check}
 use Rattle.fort_answers.specs.Lines.{positive}
 use Rattle.fort_answers.specs.FormulaAnswer.{IsAcceptedClosed}
-use Rattle.fort_answers.specs.InputAnswer.{IsInput, input_limit}
+use Rattle.fort_answers.specs.InputAnswer.{IsInput, IsCertifiedInput, input_limit}
 use Rattle.fort_answers.specs.FitAnswer.{FitsSystem}
 use Rattle.fort_answers.specs.CertificateAnswer.{CertificateVerdict}
-use Rattle.fort_answers.specs.CheckAnswer.{IsCertifiedInput, CheckAnswer, Checked, certified_line}
+use Rattle.fort_answers.specs.CheckAnswer.{certified_line}
+use Rattle.fort_answers.specs.SystemAnswer.{Says}
+use Rattle.fort_answers.specs.Answer.{owed}
 use Rattle.fort_run.proofs.LongerTexts.{problem_too}
 
 first_word : (bytes : List ℕ) (f : Form) (fs : List Form) (word : List ℕ) (words : List (List ℕ)) → AreWords bytes (f ∷ fs) (word ∷ words)
@@ -50,7 +52,7 @@ module _ (bytes : List ℕ) (number : ℕ) (front others : List Form) (c : Certi
 -- result: behind an LF
 pub written_accepted : (formula : Text) (f : Formula) (bytes : Text) (system : System) (terms : List Tree) (s : ℕ) (text : Text) → IsAcceptedClosed formula f
     → IsInput bytes system → FitsSystem formula f system terms → (v : CertificateVerdict system terms f s text)
-    → length (bytes ++ 10 ∷ text) ≤ input_limit → CheckAnswer formula (bytes ++ 10 ∷ text) positive (certified_line v.certificate.verdict)
+    → length (bytes ++ 10 ∷ text) ≤ input_limit → owed (Some (Check formula)) (bytes ++ 10 ∷ text) positive (certified_line v.certificate.verdict)
 written_accepted formula f bytes system terms s text accepted input fits v short =
     let c = v.certificate in
     let forms = input.problem.forms in
@@ -76,5 +78,8 @@ written_accepted formula f bytes system terms s text accepted input fits v short
       steps = v.written.steps;
       verdict = v.written.verdict;
     } in
-    Checked f accepted system d is terms fits (Certified c.verdict) (IsInOrder-written (pattern_system system) (core_of terms f) d again_written)
-    (record { same_status = refl; same_text = refl })
+    Says f accepted system d is terms fits tt (record {
+      outcome = Certified c.verdict;
+      has = IsInOrder-written (pattern_system system) (core_of terms f) d again_written;
+      owes = record { same_status = refl; same_text = refl };
+    })

@@ -31,7 +31,7 @@ use Rattle.fort_engine.specs.declared.answer.Last.TheVariants.{Truth as Value, A
 use Rattle.fort_engine.specs.AnswerView.{as_answer, IsLimit}
 use Rattle.fort_lockstep.specs.declared.dta.Dta.{Dta}
 use Rattle.fort_tables.specs.Tables.{listed_table}
-use Rattle.fort_answers.specs.Requests.{Options}
+use Rattle.fort_answers.specs.Requests.{Text, Options}
 use Rattle.fort_run.specs.Certified.{IsTruth}
 use Rattle.fort_run.specs.Ready.{IsLawful, IsReady, IsDecidedBy}
 use Rattle.fort_run.proofs.SomeParts.{some_parts}
@@ -90,11 +90,13 @@ module _ (p : System) (lawful : IsLawful p) (f : Formula) (terms : List Tree) (l
         let t = same_truth m v ground given (their_places m) in
         ((λ e. t.1 (d.0 e)), (λ h. d.1 (t.0 h)))
 
-    pub true_verdict : b ≡ true → TruthVerdict p terms f positive yes_line
-    true_verdict e = Yes (λ m ground given. (says m ground given).0 e) (record { same_status = refl; same_text = refl })
+    pub true_verdict : (s : ℕ) (t : Text) → b ≡ true → s ≡ positive → t ≡ yes_line → TruthVerdict p terms f s t
+    true_verdict s t e status_is text_is = Yes (λ m ground given. (says m ground given).0 e) (record { same_status = status_is; same_text = text_is })
 
-    pub false_verdict : b ≡ false → TruthVerdict p terms f negative no_line
-    false_verdict e = No (λ m ground given h. let one = (says m ground given).1 h in let zero : false ≡ true = sym e ∙ one in cc) (record { same_status = refl; same_text = refl })
+    pub false_verdict : (s : ℕ) (t : Text) → b ≡ false → s ≡ negative → t ≡ no_line → TruthVerdict p terms f s t
+    false_verdict s t e status_is text_is =
+        No (λ m ground given h. let one = (says m ground given).1 h in let zero : false ≡ true = sym e ∙ one in cc)
+        (record { same_status = status_is; same_text = text_is })
 
     -- what the core formula comes to is the formula's truth
     pub is_truth : IsTruth b p terms f

@@ -1,15 +1,16 @@
--- The lines that refuse formulas are owed to their texts.
-use Rattle.std.specs.Prelude.{◌≡◌, ◌⊎◌, ℕ, Bool, true, false, List, [], ◌∷◌, Option, None, Some, slice_get, ◌↔◌, IsTrue, IfSome, MatchBool, MatchOption}
-use Rattle.std.proofs.Common.{Vec, Global, inl, inr, sym, ap, subst}
+-- The lines that refuse formulas are owed to their texts; a formula as it was read.
+use Rattle.std.specs.Prelude.{◌≡◌, ℕ, Bool, true, false, List, [], ◌∷◌, Option, None, Some, slice_get, ◌↔◌, IsTrue, IfSome, MatchBool, MatchOption}
+use Rattle.std.proofs.Common.{Vec, Global, sym, ap, subst}
 use Rattle.fort_formula_grammar.specs.FormulaText.{FormulaFault, IsFirstFormulaFault}
 use Rattle.fort_logic.specs.Formulas.{Formula}
-use Rattle.fort_answers.specs.FormulaAnswer.{IsRefused, Faulty, IsAcceptedClosed, IsRefusedClosed, Refused}
+use Rattle.fort_answers.specs.FormulaAnswer.{IsRefused, Faulty, IsAcceptedClosed, IsRefusedClosed, Refused, Openness, Any, Closed, IsAcceptedAs, IsRefusedAs}
 use Rattle.fort_answers.specs.Lines.{formula_fault_line}
-use Rattle.fort_run.specs.declared.question.Question.{Question}
-use Rattle.fort_run.specs.declared.question.Question.TheVariants.{Truth, Terms, Certificate}
-use Rattle.fort_run.specs.Asked.{IsAskable, IsRefusedBy}
+use Rattle.fort_run.specs.declared.question.Openness.{Openness as OwnOpenness}
+use Rattle.fort_run.specs.declared.question.Openness.TheVariants as own
+use Rattle.fort_formula_parser.specs.declared.parsed.Parsed.{Parsed}
+use Rattle.fort_run.specs.Accepted.{IsParsedAs}
+use Rattle.fort_run.specs.Questions.{as_openness}
 use Rattle.fort_run.specs.declared.refusal.Refusal.{Refusal}
-use Rattle.fort_run.specs.declared.refusal.Refusal.TheVariants.{Line}
 use Rattle.fort_run.specs.Refusals.{Refuses}
 
 pub told_false : (b : Bool) (P Q : Type 0) → MatchBool b P Q → b ≡ false → Q
@@ -31,24 +32,25 @@ pub faulty : (text line : List ℕ) (fault : Option FormulaFault) → IfSome fau
 faulty text line None first says = absurd says
 faulty text line (Some fault) first says = Faulty fault first says
 
--- what is refused is so whatever is asked
-pub refused_both : (question : Question) (text line : List ℕ) → IsRefused text line → IsRefusedBy question text line
-refused_both Truth text line says = Refused says
-refused_both Terms text line says = says
-refused_both Certificate text line says = Refused says
+-- what is refused is so whichever formulas are taken
+pub refused_as : (openness : Openness) (text line : List ℕ) → IsRefused text line → IsRefusedAs openness text line
+refused_as Any text line says = says
+refused_as Closed text line says = Refused says
 
--- of a closed formula truth may be asked, and a certificate of it
-pub closed_refusal : (question : Question) (text : List ℕ) (f : Formula) (refusal : Option (Vec ℕ Global)) → (question ≡ Truth) ⊎ (question ≡ Certificate)
+pub closed_refusal : (openness : OwnOpenness) (text : List ℕ) (f : Formula) (refusal : Option (Vec ℕ Global)) → openness ≡ own.Closed
     → MatchOption refusal (IsAcceptedClosed text f) (λ line. IsRefusedClosed text line.items)
-    → MatchOption refusal (IsAskable question text f) (λ line. IsRefusedBy question text line.items)
-closed_refusal question text f refusal (inl is) says =
-    subst (λ q. MatchOption refusal (IsAskable q text f) (λ line. IsRefusedBy q text line.items)) (sym is) says
-closed_refusal question text f refusal (inr is) says =
-    subst (λ q. MatchOption refusal (IsAskable q text f) (λ line. IsRefusedBy q text line.items)) (sym is) says
+    → MatchOption refusal (IsAcceptedAs (as_openness openness) text f) (λ line. IsRefusedAs (as_openness openness) text line.items)
+closed_refusal openness text f refusal is says =
+    subst (λ o. MatchOption refusal (IsAcceptedAs (as_openness o) text f) (λ line. IsRefusedAs (as_openness o) text line.items)) (sym is) says
 
--- the line of a refusal is one by which something is refused
-pub refused_by_line : (P : List ℕ → Type 0) (r : Refusal) (line : Vec ℕ Global) → r ≡ Line line → Refuses P r → P line.items
-refused_by_line P r line is h = subst (Refuses P) is h
+-- a text that was read, and which formulas are taken, by equal names
+pub refused_there : (o o' : Openness) (text text' : List ℕ) (r : Refusal) → o ≡ o' → text ≡ text' → Refuses (IsRefusedAs o text) r → Refuses (IsRefusedAs o' text') r
+refused_there o o' text text' r same_openness same_text is =
+    subst (λ t. Refuses (IsRefusedAs o' t) r) same_text (subst (λ x. Refuses (IsRefusedAs x text) r) same_openness is)
+
+pub parsed_as : (o o' : Openness) (text text' : List ℕ) (parsed : Parsed) → o ≡ o' → text ≡ text' → IsParsedAs o text parsed → IsParsedAs o' text' parsed
+parsed_as o o' text text' parsed same_openness same_text is =
+    subst (λ t. IsParsedAs o' t parsed) same_text (subst (λ x. IsParsedAs x text parsed) same_openness is)
 
 -- a test that failed says that the fact fails, and one that passed says the fact
 pub untold : (b : Bool) (P : Type 0) → IsTrue b ↔ P → b ≡ false → P → ⊥

@@ -1,9 +1,8 @@
+pub mod QuestionLaws
 pub mod FormulaRefusals
-pub mod InputStages
-pub mod OneInput
-pub mod OneCheck
-pub mod CheckReplies
-pub mod OneAnswer
+pub mod InputLines
+pub mod Told
+pub mod LineReplies
 pub mod LongerTexts
 pub mod CertificateAccepted
 pub mod PrintedCertificates
@@ -13,8 +12,10 @@ pub mod LinearRules
 pub mod SomeParts
 pub mod Deciding
 pub mod PosedQuestions
+pub mod CheckOutcomes
 pub mod Readiness
-pub mod ReplyStatuses
+pub mod OneAnswer
+pub mod WrittenReplies
 pub mod WitnessTruth
 pub mod WitnessVerdicts
 pub mod Properties

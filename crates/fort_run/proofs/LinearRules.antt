@@ -8,12 +8,12 @@ use Rattle.fort_theory.specs.Sides.{Side, Rule, System, IsLinear, IsLinearSepara
 use Rattle.fort_theory.proofs.Lists.{Contains-map_from}
 use Rattle.fort_theory.proofs.Members.{Contains-none, Contains-cons_cases, Contains-from_filter}
 use Rattle.fort_theory.proofs.IndexLaws.{at_index-get}
+use Rattle.fort_grammar.specs.Declarations.{as_list}
 use Rattle.fort_grammar.specs.Forms.{Form}
 use Rattle.fort_grammar.specs.RuleForms.{IsSide, IndexedRule, IsRule, AreRules, rules_of}
 use Rattle.fort_grammar.specs.ProblemForms.{IsProblem}
-use Rattle.fort_certificate_grammar.specs.Certificates.{Certificate}
-use Rattle.fort_answers.specs.CheckAnswer.{IsCertifiedInput}
-use Rattle.fort_answers.specs.InputAnswer.{IsInput}
+use Rattle.fort_answers.specs.InputAnswer.{Tail, Behind, IsInputWith}
+use Rattle.fort_answer_laws.proofs.OneInput.{problem_with}
 use Rattle.fort_run.specs.Ready.{IsLawful}
 use Rattle.fort_ari.proofs.SideLaws.{variables-IsSide}
 use Rattle.fort_tables.proofs.EqualTests.{test_from_apart}
@@ -88,9 +88,7 @@ IsProblem-separated bytes forms system next p =
 IsProblem-lawful : (bytes : List ℕ) (forms : List Form) (system : System) (next : ℕ) → IsProblem bytes forms system next → IsLawful system
 IsProblem-lawful bytes forms system next p = record { constant = p.constant; separated = IsProblem-separated bytes forms system next p }
 
--- Results
-pub IsInput-lawful : (bytes : List ℕ) (system : System) → IsInput bytes system → IsLawful system
-IsInput-lawful bytes system is = IsProblem-lawful bytes _ system _ is.problem.problem
-
-pub IsCertifiedInput-lawful : (bytes : List ℕ) (system : System) (c : Certificate) → IsCertifiedInput bytes system c → IsLawful system
-IsCertifiedInput-lawful bytes system c is = IsProblem-lawful bytes _ system _ is.problem
+-- Result
+pub IsInputWith-lawful : (tail : Tail) (bytes : List ℕ) (system : System) (behind : Behind tail) → IsInputWith tail bytes system behind → IsLawful system
+IsInputWith-lawful tail bytes system behind is =
+    let read = problem_with tail bytes system behind is in IsProblem-lawful bytes (as_list read.0) system read.1 read.2

@@ -19,12 +19,10 @@ use Rattle.fort_formulas.specs.FormulaView.{as_formula}
 use Rattle.fort_formula_parser.specs.declared.parsed.Parsed.{Parsed}
 use Rattle.fort_formula_parser.specs.ParsedView.{as_ground}
 use Rattle.fort_answers.specs.FitAnswer.{AreTermsOf, FitsSystem}
-use Rattle.fort_answers.specs.FormulaAnswer.{IsAccepted}
+use Rattle.fort_answers.specs.FormulaAnswer.{IsAccepted, Openness, Any, Closed, IsAcceptedAs}
 use Rattle.fort_answers.proofs.OneFit.{FitsSystem-ground}
-use Rattle.fort_run.specs.declared.question.Question.{Question}
-use Rattle.fort_run.specs.declared.question.Question.TheVariants.{Truth, Terms, Certificate}
-use Rattle.fort_run.specs.Asked.{IsAskable, IsClosedFor}
 use Rattle.fort_run.specs.Accepted.{IsRead}
+use Rattle.fort_run.specs.Posed.{IsClosedFor}
 use Rattle.fort_run.specs.Ready.{IsReady, HaveFewRules}
 use Rattle.fort_run.proofs.Fitting.{number_is, signature_is}
 
@@ -35,17 +33,18 @@ AreTermsOf-count signature (g ∷ gs) [] are = absurd are
 AreTermsOf-count signature (g ∷ gs) (t ∷ ts) are = ap suc (AreTermsOf-count signature gs ts are.1)
 
 -- of a closed formula or any
-accepted_of : (question : Question) (text : List ℕ) (f : Formula) → IsAskable question text f → IsAccepted text f
-accepted_of Truth text f askable = askable.accepted
-accepted_of Terms text f askable = askable
-accepted_of Certificate text f askable = askable.accepted
+accepted_of : (openness : Openness) (text : List ℕ) (f : Formula) → IsAcceptedAs openness text f → IsAccepted text f
+accepted_of Any text f accepted = accepted
+accepted_of Closed text f accepted = accepted.accepted
 
-closed_of : (question : Question) (text : List ℕ) (f : Formula) → IsAskable question text f → IsClosedFor question f
-closed_of Truth text f askable = askable.closed
-closed_of Terms text f askable = tt
-closed_of Certificate text f askable = askable.closed
+closed_of : (openness : Openness) (text : List ℕ) (f : Formula) → IsAcceptedAs openness text f → IsClosedFor openness f
+closed_of Any text f accepted = tt
+closed_of Closed text f accepted = accepted.closed
 
-module _ (question : Question) (parsed : Parsed) (read : IsRead question parsed) (p : System) (system : PatternSystem) (terms : List Tree) (same : system ≡ pattern_system p)
+pub closed_for : (openness : Openness) (parsed : Parsed) → IsRead openness parsed → IsClosedFor openness (as_formula parsed.formula)
+closed_for openness parsed read = closed_of openness read.text (as_formula parsed.formula) read.is.accepted
+
+module _ (openness : Openness) (parsed : Parsed) (read : IsRead openness parsed) (p : System) (system : PatternSystem) (terms : List Tree) (same : system ≡ pattern_system p)
     (fits : FitsSystem read.text (as_formula parsed.formula) p terms) where
   count : length parsed.grounds.items ≡ length terms
   count =
@@ -54,10 +53,7 @@ module _ (question : Question) (parsed : Parsed) (read : IsRead question parsed)
       ∙ AreTermsOf-count p.signature fits.grounds terms fits.are_terms)
 
   accepted : IsAccepted read.text (as_formula parsed.formula)
-  accepted = accepted_of question read.text (as_formula parsed.formula) read.is.askable
-
-  pub closed_for : IsClosedFor question (as_formula parsed.formula)
-  closed_for = closed_of question read.text (as_formula parsed.formula) read.is.askable
+  accepted = accepted_of openness read.text (as_formula parsed.formula) read.is.accepted
 
   pub ready : HaveFewRules (pattern_system p) → IsReady (as_formula parsed.formula) system terms
   ready few = record {

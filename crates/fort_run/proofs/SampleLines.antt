@@ -1,36 +1,52 @@
 -- The lines of a sample, one after another, and the answer that they are.
-use Rattle.std.proofs.Common.{◌≡◌, ℕ, List, [], ◌∷◌, ◌++◌, refl, sym, ap, ◌∙◌, append-nil, append_assoc}
+use Rattle.std.proofs.Common.{◌≡◌, ℕ, List, [], ◌∷◌, ◌++◌, false, refl, sym, ap, subst, ◌∙◌, append-nil, append_assoc}
 use Rattle.std.specs.Prelude.{codes, decimal}
 use Rattle.fort_theory.specs.Sides.{System}
 use Rattle.fort_theory.specs.Patterns.{PatternSystem, pattern_system}
 use Rattle.fort_logic.specs.Formulas.{Property, Has}
 use Rattle.fort_formula_grammar.specs.Tokens.{property_text}
+use Rattle.fort_cores.specs.Cores.{Core}
+use Rattle.fort_formulas.specs.KindView.{as_kind}
+use Rattle.fort_words.specs.declared.request.Options.{Options}
+use Rattle.fort_answers.specs.Requests as theirs
 use Rattle.fort_answers.specs.Requests.{Text}
-use Rattle.fort_answers.specs.Lines.{positive}
+use Rattle.fort_answers.specs.Lines.{positive, limit_line}
+use Rattle.fort_answers.specs.FormulaAnswer.{Closed}
+use Rattle.fort_answers.specs.SystemAnswer.{PassesCap}
 use Rattle.fort_answers.specs.DecideAnswer as decide
 use Rattle.fort_answers.specs.MadeProblem.{made_system}
-use Rattle.fort_answers.specs.SampleAnswer.{sample_options, sample_line, sample_properties, PropertyVerdict, Over, Yes, No, IsPropertyLine, ArePropertyLines, SampleAnswer}
+use Rattle.fort_answers.specs.SampleAnswer.{sample_cap, sample_options, sample_line, sample_properties, PropertyVerdict, Over, Yes, No, IsPropertyLine, ArePropertyLines, SampleAnswer}
 use Rattle.fort_answers.specs.PossibleRequests.{IsSampleSize}
 use Rattle.fort_answers.proofs.MadeLaws.{made_system-constant, made_system-separated}
 use Rattle.fort_run.specs.declared.question.Question.TheVariants.{Truth}
-use Rattle.fort_run.specs.Asked.{IsVerdict, Limits, Says}
+use Rattle.fort_run.specs.declared.reply.Reply.{Reply}
+use Rattle.fort_run.specs.Posed.{IsPosed, SettlesCore}
 use Rattle.fort_run.specs.Ready.{IsLawful}
 use Rattle.fort_run.specs.Samples.{AddsLine, AddsLines}
+use Rattle.fort_run.specs.Verdicts.{IsVerdict, Limits, Says}
+use Rattle.fort_run.proofs.Deciding.{passes}
+
+-- the options of every sample, as the program has them
+abbrev own_options : Options
+own_options = record { states = sample_cap; reduces = false }
 
 -- whether a property holds is what its line says
-property_says : (p : System) (q : Property) (status : ℕ) (text : Text) → IsVerdict Truth p [] (Has q 1) sample_options status text → PropertyVerdict p q text
-property_says p q status text (Limits k kind over are) = Over k kind over are.same_text
-property_says p q status text (Says keeps (decide.Yes holds are)) = Yes keeps holds are.same_text
-property_says p q status text (Says keeps (decide.No fails are)) = No keeps fails are.same_text
+property_says : (p : System) (q : Property) (reply : Reply) → IsVerdict (Truth own_options) p tt [] (Has q 1) reply → PropertyVerdict p q reply.text.items
+property_says p q reply (Limits options asked limit is tells) =
+    let same : options ≡ sample_options = cc in
+    Over limit.part (as_kind limit.kind) (subst (λ o. PassesCap p [] (Has q 1) o limit.part (as_kind limit.kind)) same (passes p [] (Has q 1) options limit is))
+    (tells.line_is ∙ ap (λ (o : theirs.Options). limit_line limit.part (as_kind limit.kind) o.states) same)
+property_says p q reply (Says keeps (decide.Yes holds are) none) = Yes keeps holds are.same_text
+property_says p q reply (Says keeps (decide.No fails are) none) = No keeps fails are.same_text
 
 -- the name, a blank and the answer are a line
-pub line_added : (system : PatternSystem) (q : Property) (status : ℕ) (answer t0 t1 t2 t3 name : Text)
-    → ((p : System) → IsLawful p → system ≡ pattern_system p → IsVerdict Truth p [] (Has q 1) sample_options status answer)
-    → name ≡ property_text q → t1 ≡ t0 ++ name → t2 ≡ t1 ++ codes " " → t3 ≡ t2 ++ answer → AddsLine system q t0 t3
-line_added system q status answer t0 t1 t2 t3 name says named first second third = λ p lawful same. (
-  property_text q ++ (codes " " ++ answer),
-  third ∙ (ap (λ t. t ++ answer) (second ∙ ap (λ t. t ++ codes " ") (first ∙ ap (λ t. t0 ++ t) named)) ∙ regroup t0 (property_text q) (codes " ") answer),
-  record { verdict = answer; says = property_says p q status answer (says p lawful same); is = refl },
+pub line_added : (system : PatternSystem) (q : Property) (c : Core) (reply : Reply) (t0 t1 t2 t3 name : Text)
+    → SettlesCore (Truth own_options) system tt c (Has q 1) reply → IsPosed Closed (Has q 1) system [] c
+    → name ≡ property_text q → t1 ≡ t0 ++ name → t2 ≡ t1 ++ codes " " → t3 ≡ t2 ++ reply.text.items → AddsLine system q t0 t3
+line_added system q c reply t0 t1 t2 t3 name settles posed named first second third = λ p lawful same. (
+  property_text q ++ (codes " " ++ reply.text.items),
+  third ∙ (ap (λ t. t ++ reply.text.items) (second ∙ ap (λ t. t ++ codes " ") (first ∙ ap (λ t. t0 ++ t) named)) ∙ regroup t0 (property_text q) (codes " ") reply.text.items),
+  record { verdict = reply.text.items; says = property_says p q reply (settles p [] lawful same posed); is = refl },
 )
   where
     regroup : (a b c d : Text) → ((a ++ b) ++ c) ++ d ≡ a ++ (b ++ (c ++ d))

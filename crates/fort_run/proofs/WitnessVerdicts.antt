@@ -52,7 +52,7 @@ module _ (p : System) (lawful : IsLawful p) (f : Formula) (terms : List Tree) (l
 
   -- ---- without columns
 
-  module _ (b : Bool) (is : last ≡ Value b) where
+  module _ (b : Bool) (is : last ≡ Value b) (s : ℕ) (t : Text) where
     own-value : IsAnswerTo (pattern_structure (pattern_system p)) (core_of terms f) (OfValue b)
     own-value = subst (λ a. IsAnswerTo (pattern_structure (pattern_system p)) (core_of terms f) (as_answer a)) is decided.answer
 
@@ -63,25 +63,28 @@ module _ (p : System) (lawful : IsLawful p) (f : Formula) (terms : List Tree) (l
     none-after us are =
         inl (ap (map Some) (sym (no_items us (witnesses-count p lawful f terms last decided us are ∙ closed))))
 
-    pub value-found : b ≡ true → WitnessVerdict p terms f positive witness_line
-    value-found e =
+    pub value-found : b ≡ true → s ≡ positive → t ≡ witness_line → WitnessVerdict p terms f s t
+    value-found e status_is text_is =
         let said_true = ap (λ a. said (as_answer a) []) is ∙ e in
         Found [] (record { are = witnesses-said p lawful f terms last decided [] (sym closed) (All-nil (IsGround p.signature)) said_true; least = none-after })
-        (record { same_status = refl; same_text = sym (ap (λ w. witness_line ++ w) (no_bindings p.signature (free_names f)) ∙ append-nil witness_line) })
+        (record {
+          same_status = status_is;
+          same_text = text_is ∙ sym (ap (λ w. witness_line ++ w) (no_bindings p.signature (free_names f)) ∙ append-nil witness_line);
+        })
 
-    pub value-not_found : b ≡ false → WitnessVerdict p terms f negative none_line
-    value-not_found e =
+    pub value-not_found : b ≡ false → s ≡ negative → t ≡ none_line → WitnessVerdict p terms f s t
+    value-not_found e status_is text_is =
         NotFound
         (λ m ground given h.
         let ts = free_trees f m in
         let said_true = said-witnesses p lawful f terms last decided ts (record { assignment = m; grounded = ground; given = given; holds = h; are = refl }) in
         let said_false = ap (λ a. said (as_answer a) (map Some ts)) is ∙ e in
         let absurdity : true ≡ false = sym said_true ∙ said_false in cc)
-        (record { same_status = refl; same_text = refl })
+        (record { same_status = status_is; same_text = text_is })
 
   -- ---- a table
 
-  module _ (table : Dta) (is : last ≡ Auto table) where
+  module _ (table : Dta) (is : last ≡ Auto table) (s : ℕ) (t : Text) where
     own-table : IsAnswerTo (pattern_structure (pattern_system p)) (core_of terms f) (OfTable (listed_table table))
     own-table = subst (λ a. IsAnswerTo (pattern_structure (pattern_system p)) (core_of terms f) (as_answer a)) is decided.answer
 
@@ -99,18 +102,18 @@ module _ (p : System) (lawful : IsLawful p) (f : Formula) (terms : List Tree) (l
         subst (λ s. IsTuple s (listed_table table).columns (map Some ts)) (sym own-table.over.signature)
         (subst (λ n. IsTuple p.signature n (map Some ts)) (sym columns-count) (IsTuple-terms p.signature (length (free_names f)) ts names-some (witnesses-count p lawful f terms last decided ts are) (witnesses-ground p lawful f terms last decided ts are)))
 
-    pub table-not_found : AcceptsNone (listed_table table) → WitnessVerdict p terms f negative none_line
-    table-not_found none =
+    pub table-not_found : AcceptsNone (listed_table table) → s ≡ negative → t ≡ none_line → WitnessVerdict p terms f s t
+    table-not_found none status_is text_is =
         NotFound
         (λ m ground given h.
         let ts = free_trees f m in
         let are : AreWitnesses p terms f ts = record { assignment = m; grounded = ground; given = given; holds = h; are = refl } in
         none (map Some ts) (tuple ts are) (full-terms ts) (accepted ts are))
-        (record { same_status = refl; same_text = refl })
+        (record { same_status = status_is; same_text = text_is })
 
-    pub table-found : (nodes : List Entry) (ts : List Tree) (text : Text) → IsWitness (listed_table table) nodes → AreLastTerms p.signature (free_names f) nodes ts
-        → text ≡ witness_line ++ bindings p.signature (free_names f) ts → WitnessVerdict p terms f positive text
-    table-found nodes ts text w are says =
+    pub table-found : (nodes : List Entry) (ts : List Tree) → IsWitness (listed_table table) nodes → AreLastTerms p.signature (free_names f) nodes ts
+        → s ≡ positive → t ≡ witness_line ++ bindings p.signature (free_names f) ts → WitnessVerdict p terms f s t
+    table-found nodes ts w are status_is text_is =
         let one = terms_in (listed_table table).signature (last_tuple nodes) w.least.full w.least.tuple.grounded in
         let same : one.0 ≡ ts = terms-one one.0 ts (sym one.2 ∙ are.terms) in
         let ground : All (IsGround p.signature) ts = subst (λ s. All (IsGround s) ts) own-table.over.signature (subst (All (IsGround (listed_table table).signature)) same one.1) in
@@ -125,7 +128,7 @@ module _ (p : System) (lawful : IsLawful p) (f : Formula) (terms : List Tree) (l
               (least_not_after (listed_table table).signature (listed_table table).columns (Accepted (listed_table table)) (last_tuple nodes) (map Some us) w.least
               (tuple us their) (full-terms us) (accepted us their));
         })
-        (record { same_status = refl; same_text = says })
+        (record { same_status = status_is; same_text = text_is })
 
 -- the same of any system
 pub last_terms_of : (f : Formula) (system : PatternSystem) (terms : List Tree) (last : Last) (table : Dta) (nodes : List Entry) → last ≡ Auto table

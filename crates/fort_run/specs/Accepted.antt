@@ -8,18 +8,17 @@ use Rattle.fort_formulas.specs.FormulaView.{as_formula}
 use Rattle.fort_formulas.specs.NumbersNeeded.{numbers_needed}
 use Rattle.fort_formula_parser.specs.declared.parsed.Parsed.{Parsed}
 use Rattle.fort_formula_parser.specs.ParsedView.{as_ground, AreShort}
-use Rattle.fort_run.specs.declared.question.Question.{Question}
-use Rattle.fort_run.specs.Asked.{IsAskable}
+use Rattle.fort_answers.specs.FormulaAnswer.{Openness, IsAcceptedAs}
 
--- the text is a formula of which this may be asked, with these ground terms
-pub record IsAskedAs (question : Question) (text : List ℕ) (parsed : Parsed) : Type 0 where
-  pub askable : IsAskable question text (as_formula parsed.formula)
+-- the text is this formula, which is taken, with these ground terms
+pub record IsParsedAs (openness : Openness) (text : List ℕ) (parsed : Parsed) : Type 0 where
+  pub accepted : IsAcceptedAs openness text (as_formula parsed.formula)
   pub grounds : AreGroundsOf text (map as_ground parsed.grounds.items)
 
 -- what holds of each text that was read
-pub record IsRead (question : Question) (parsed : Parsed) : Type 0 where
+pub record IsRead (openness : Openness) (parsed : Parsed) : Type 0 where
   pub text : List ℕ
-  pub is : IsAskedAs question text parsed
+  pub is : IsParsedAs openness text parsed
   pub short : AreShort parsed.grounds.items
   pub places : HasPlacesBelow (length parsed.grounds.items) (as_formula parsed.formula)
   pub small : numbers_needed (as_formula parsed.formula) < 2 ^ 32

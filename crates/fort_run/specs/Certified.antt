@@ -1,5 +1,5 @@
 -- To believe: what CERTIFIED says, whoever wrote the certificate; that `check` answers where there is all that it speaks of; what a printed certificate says, and that a certificate which is owed is accepted behind the bytes of its problem.
-use Rattle.std.specs.Prelude.{◌≡◌, ℕ, ◌≤◌, Bool, true, false, List, ◌∷◌, ◌++◌, length, Option, Some, IfSome}
+use Rattle.std.specs.Prelude.{◌≡◌, ℕ, ◌≤◌, Bool, true, false, List, ◌∷◌, ◌++◌, length, Option, Some}
 use Rattle.fort_theory.specs.Trees.{Tree}
 use Rattle.fort_theory.specs.Sides.{System}
 use Rattle.fort_logic.specs.Formulas.{Formula}
@@ -14,9 +14,11 @@ use Rattle.fort_answers.specs.Requests.{Text, Check}
 use Rattle.fort_answers.specs.CommandGrammar.{request_of}
 use Rattle.fort_answers.specs.Lines.{positive}
 use Rattle.fort_answers.specs.FormulaAnswer.{IsAcceptedClosed}
-use Rattle.fort_answers.specs.InputAnswer.{IsInput, input_limit}
+use Rattle.fort_answers.specs.InputAnswer.{IsInput, IsCertifiedInput, input_limit}
 use Rattle.fort_answers.specs.FitAnswer.{FitsSystem}
-use Rattle.fort_answers.specs.CheckAnswer.{IsCertifiedInput, CheckAnswer, certified_line}
+use Rattle.fort_answers.specs.CheckAnswer.{certified_line}
+use Rattle.fort_answers.specs.Answer.{owed}
+use Rattle.fort_run.specs.Told.{HoldsForTold}
 
 -- ---- what CERTIFIED says
 
@@ -31,8 +33,9 @@ pub record BeginsWith (bytes : Text) (system : System) : Type 0 where
   pub next : ℕ
   pub problem : IsProblem bytes (as_list forms) system next
 
--- the line says the formula's truth over the system with which the bytes begin
+-- the line is owed to the bytes, and says the formula's truth over the system with which they begin
 pub record IsCertified (formula bytes line : Text) : Type 0 where
+  pub is_owed : owed (Some (Check formula)) bytes positive line
   pub f : Formula
   pub accepted : IsAcceptedClosed formula f
   pub system : System
@@ -43,12 +46,9 @@ pub record IsCertified (formula bytes line : Text) : Type 0 where
   pub is : IsTruth verdict system terms f
   pub says : line ≡ certified_line verdict
 
--- it is what is owed to the bytes that were told; where none were, to some bytes
-pub record IsCertifiedTold (formula : Text) (told : Option Text) (line : Text) : Type 0 where
-  pub bytes : Text
-  pub told_are : IfSome told (λ b. b ≡ bytes)
-  pub owed : CheckAnswer formula bytes positive line
-  pub certified : IsCertified formula bytes line
+-- for the bytes that were told; where none were, for some bytes
+abbrev pub IsCertifiedTold : (formula : Text) → (told : Option Text) → (line : Text) → Type 0
+IsCertifiedTold formula told line = HoldsForTold told (λ bytes. IsCertified formula bytes line)
 
 -- from old to new the sink took the line
 pub record CertifiesTruth (formula : Text) (told old new : Option Text) : Type 0 where
@@ -87,13 +87,11 @@ pub record IsPrinted (formula bytes text : Text) : Type 0 where
   pub is : IsTruth verdict system terms f
   pub steps : List Step
   pub says : text ≡ certificate_text (length system.rules) verdict steps
-  pub again : length (bytes ++ 10 ∷ text) ≤ input_limit → CheckAnswer formula (bytes ++ 10 ∷ text) positive (certified_line verdict)
+  pub again : length (bytes ++ 10 ∷ text) ≤ input_limit → owed (Some (Check formula)) (bytes ++ 10 ∷ text) positive (certified_line verdict)
 
 -- it is printed for the bytes that were told; where none were, for some bytes
-pub record IsPrintedTold (formula : Text) (told : Option Text) (text : Text) : Type 0 where
-  pub bytes : Text
-  pub told_are : IfSome told (λ b. b ≡ bytes)
-  pub printed : IsPrinted formula bytes text
+abbrev pub IsPrintedTold : (formula : Text) → (told : Option Text) → (text : Text) → Type 0
+IsPrintedTold formula told text = HoldsForTold told (λ bytes. IsPrinted formula bytes text)
 
 -- from old to new the sink took the certificate
 pub record PrintsTruth (formula : Text) (told old new : Option Text) : Type 0 where
@@ -107,4 +105,4 @@ pub record IsAcceptedBehind (formula bytes text : Text) : Type 0 where
   pub verdict : Bool
   pub steps : List Step
   pub is : text ≡ certificate_text number verdict steps
-  pub accepted : length (bytes ++ 10 ∷ text) ≤ input_limit → CheckAnswer formula (bytes ++ 10 ∷ text) positive (certified_line verdict)
+  pub accepted : length (bytes ++ 10 ∷ text) ≤ input_limit → owed (Some (Check formula)) (bytes ++ 10 ∷ text) positive (certified_line verdict)

@@ -1,5 +1,5 @@
 -- To believe: what the limit of a run shows: the first part over the cap of the core formula that the words ask about, its kind, and one more tuple than the cap, no two of them alike, as the options say; the line that is written tells of this limit.
-use Rattle.std.specs.Prelude.{◌≡◌, ℕ, List, Option, IfSome}
+use Rattle.std.specs.Prelude.{◌≡◌, ℕ, List, Option}
 use Rattle.fort_theory.specs.Trees.{Tree}
 use Rattle.fort_theory.specs.Sides.{System}
 use Rattle.fort_theory.specs.Patterns.{pattern_system}
@@ -15,6 +15,7 @@ use Rattle.fort_answers.specs.FitAnswer.{FitsSystem}
 use Rattle.fort_answers.specs.Answer.{IsAbout}
 use Rattle.fort_engine.specs.declared.answer.Limit.{Limit}
 use Rattle.fort_engine.specs.AnswerView.{IsLimit}
+use Rattle.fort_run.specs.Told.{HoldsForTold}
 
 -- the line tells of this limit
 abbrev pub IsLineOf : (states : ℕ) → Limit → Text → Type 0
@@ -34,10 +35,8 @@ pub record HasLimit (request : Option Request) (bytes line : Text) (limit : Limi
   pub line_is : IsLineOf options.states limit line
 
 -- for the bytes that a source tells; for one that tells none, for some bytes
-pub record HasLimitTold (request : Option Request) (told : Option Text) (line : Text) (limit : Limit) : Type 0 where
-  pub bytes : Text
-  pub told_are : IfSome told (λ b. b ≡ bytes)
-  pub has : HasLimit request bytes line limit
+abbrev pub HasLimitTold : Option Request → (told : Option Text) → (line : Text) → Limit → Type 0
+HasLimitTold request told line limit = HoldsForTold told (λ bytes. HasLimit request bytes line limit)
 
 -- and from old to new the sink took the line
 pub record IsLimitOf (words : List Text) (told old new : Option Text) (limit : Limit) : Type 0 where

@@ -8,18 +8,14 @@ use Rattle.fort_logic.specs.Formulas.{Formula}
 use Rattle.fort_termination.specs.RightGround.{HasRightGroundPairsAt}
 use Rattle.fort_logic.specs.Mentions.{indices, HasTermsFor, has_expression}
 use Rattle.fort_logic.specs.Terminations.{terminations, AreAll}
-use Rattle.fort_cores.specs.Cores.{Core}
 use Rattle.fort_logic.specs.Translation.{IsFormulaTooWide, core_of}
 use Rattle.fort_logic.specs.KeepsTruth.{KeepsTruth}
 use Rattle.fort_cores.specs.Structures.{pattern_structure}
 use Rattle.fort_formulas.specs.NumbersNeeded.{numbers_needed}
 use Rattle.fort_parts.specs.DecidedCores.{AreFewRules}
 use Rattle.fort_parts.specs.PartAnswers.{IsAnswerTo}
-use Rattle.fort_engine.specs.AnswerView.{as_answer, IsLimit}
+use Rattle.fort_engine.specs.AnswerView.{as_answer}
 use Rattle.fort_engine.specs.declared.answer.Last.{Last}
-use Rattle.fort_engine.specs.declared.answer.Limit.{Limit}
-use Rattle.fort_answers.specs.Requests.{Options}
-use Rattle.fort_run.specs.Limits.{IsLineOf}
 
 -- what every system that is asked about keeps: a constant, and rules that are linear and variable-separated
 pub record IsLawful (system : System) : Type 0 where
@@ -40,11 +36,6 @@ pub record IsReady (f : Formula) (system : PatternSystem) (terms : List Tree) : 
   pub within : (index : ℕ) → Contains (indices f) index → IsIndexOf system.rules index
   pub few : has_expression f ≡ true → HaveFewRules system
   pub right_ground : AreAll (HasRightGroundPairsAt system) (terminations f)
-
--- a limit of a core formula, of which the line tells
-pub record ShowsLimit (system : PatternSystem) (f : Core) (options : Options) (line : List ℕ) (limit : Limit) : Type 0 where
-  pub is : IsLimit system options.reduces f options.states limit
-  pub line_is : IsLineOf options.states limit line
 
 -- the answer to the core formula of a formula that is ready
 pub record IsDecidedBy (f : Formula) (system : PatternSystem) (terms : List Tree) (last : Last) : Type 0 where

@@ -1,13 +1,9 @@
 -- Inside: which line says which fault of the program's readers. No line says want of memory.
-use Rattle.std.specs.Prelude.{◌≡◌, List, ℕ, MatchOption}
+use Rattle.std.specs.Prelude.{◌≡◌, List, ℕ, None, MatchOption}
 use Rattle.fort_theory.specs.Signatures.{Signature}
 use Rattle.fort_formula_grammar.specs.FormulaText.{Ground}
 use Rattle.fort_answers.specs.FitAnswer.{IsFirstWithoutTerm}
-use Rattle.fort_grammar.specs.Text.{TextFault, IsFirstFault, BadByte, ExtraClose, Unclosed, TooDeep}
-use Rattle.fort_grammar.specs.Forms.{Forms}
-use Rattle.fort_grammar.specs.Declarations as grammar
-use Rattle.fort_grammar.specs.Declarations.{as_list}
-use Rattle.fort_grammar.specs.ProblemForms.{IsFirstProblemFault}
+use Rattle.fort_grammar.specs.Text.{BadByte, ExtraClose, Unclosed, TooDeep}
 use Rattle.fort_sexpr.specs.declared.fault.SFault.{SFault}
 use Rattle.fort_sexpr.specs.declared.fault.SFault.TheVariants as faults
 use Rattle.fort_ari.specs.declared.fault.ProblemFault.{ProblemFault}
@@ -16,13 +12,11 @@ use Rattle.fort_formula_parser.specs.declared.fault.FFault.{FFault}
 use Rattle.fort_formula_parser.specs.Faults.{as_formula_fault}
 use Rattle.fort_certificate.specs.declared.fault.CertificateFault.{CertificateFault}
 use Rattle.fort_certificate.specs.Faults as certificates
-use Rattle.fort_answers.specs.InputAnswer.{IsInputRefused}
-use Rattle.fort_answers.specs.CheckAnswer.{IsCertifiedInputRefused, certificate_fault_line}
-use Rattle.fort_answers.specs.Lines.{formula_fault_line, formula_term, text_fault_line, problem_fault_line}
-use Rattle.fort_run.specs.declared.question.Question.{Question}
-use Rattle.fort_run.specs.Asked.{IsRefusedBy}
+use Rattle.fort_answers.specs.Lines.{refused, formula_fault_line, formula_term, text_fault_line, problem_fault_line, certificate_fault_line}
 use Rattle.fort_run.specs.declared.refusal.Refusal.{Refusal}
 use Rattle.fort_run.specs.declared.refusal.Refusal.TheVariants as refusal
+use Rattle.fort_run.specs.declared.reply.Reply.{Reply}
+use Rattle.fort_run.specs.StatusView.{code_of}
 
 abbrev pub SaysTextFault : SFault → List ℕ → Type 0
 SaysTextFault faults.Memory line = ⊥
@@ -45,29 +39,15 @@ abbrev pub Refuses : (List ℕ → Type 0) → Refusal → Type 0
 Refuses P refusal.Memory = Unit {0}
 Refuses P (refusal.Line line) = P line.items
 
--- the refusal of a formula's text is owed to it
-abbrev pub RefusesFormula : Question → List ℕ → Refusal → Type 0
-RefusesFormula question text = Refuses (IsRefusedBy question text)
+-- the reply is one without a limit that refuses by this line
+pub record IsRefusal (line : List ℕ) (reply : Reply) : Type 0 where
+  pub status_is : code_of reply.status ≡ refused
+  pub text_is : reply.text.items ≡ line
+  pub limit_is : reply.limit ≡ None
 
--- the line says the first fault of a text
-pub record IsTextRefused (bytes line : List ℕ) : Type 0 where
-  pub fault : TextFault
-  pub first : IsFirstFault bytes fault
-  pub says : line ≡ text_fault_line fault
-
--- that of the forms of a text as a problem
-pub record IsProblemRefused (bytes : List ℕ) (forms : Forms) (line : List ℕ) : Type 0 where
-  pub fault : grammar.ProblemFault
-  pub first : IsFirstProblemFault bytes (as_list forms) fault
-  pub says : line ≡ problem_fault_line fault
-
--- the refusal of an input is owed to it
-abbrev pub RefusesInput : List ℕ → Refusal → Type 0
-RefusesInput bytes = Refuses (IsInputRefused bytes)
-
--- likewise of one with a certificate
-abbrev pub RefusesCertified : List ℕ → Refusal → Type 0
-RefusesCertified bytes = Refuses (IsCertifiedInputRefused bytes)
+abbrev pub TellsRefusal : Refusal → Reply → Type 0
+TellsRefusal refusal.Memory reply = ⊥
+TellsRefusal (refusal.Line line) reply = IsRefusal line.items reply
 
 -- the line names the first braces in which no ground term stands
 pub record NamesTerm (signature : Signature) (grounds : List Ground) (line : List ℕ) : Type 0 where

@@ -1,18 +1,17 @@
 //! The formula of a text, or the line that refuses it.
 ghost use Rattle.std.specs.Prelude.{◌↔◌, ℕ, List, ◌<◌, ◌^◌, length, IsTrue, IfOk, IfErr, MatchOption};
-ghost use Rattle.fort_logic.specs.FreeNames as names;
 ghost use Rattle.fort_logic.specs.Mentions.{HasPlacesBelow};
 ghost use Rattle.fort_logic.specs.Translation.{IsFormulaTooWide};
 ghost use Rattle.fort_formula_grammar.specs.FormulaText.{IsFormulaText};
-ghost use Rattle.fort_answers.specs.FormulaAnswer.{IsAccepted, IsAcceptedClosed, IsRefusedClosed};
+ghost use Rattle.fort_answers.specs.FormulaAnswer.{IsAccepted, IsAcceptedClosed, IsRefusedClosed, IsAcceptedAs, IsRefusedAs};
 ghost use Rattle.fort_formulas.specs.FormulaView.{as_formula};
 ghost use Rattle.fort_formulas.specs.NumbersNeeded.{numbers_needed};
 ghost use Rattle.fort_formula_parser.specs.ParsedView.{AreShort};
-ghost use Rattle.fort_run.specs.Accepted.{IsAskedAs};
-ghost use Rattle.fort_run.specs.Asked.{IsAskable, IsRefusedBy};
-ghost use Rattle.fort_run.specs.Refusals.{RefusesFormula};
+ghost use Rattle.fort_run.specs.Accepted.{IsParsedAs};
+ghost use Rattle.fort_run.specs.Questions.{as_openness};
+ghost use Rattle.fort_run.specs.Refusals.{Refuses};
 
-use crate::question::Question;
+use crate::question::Openness;
 use crate::refusal::{Refusal, formula_line, open_line};
 use fort_formula_parser::{Parsed, parse};
 use fort_formulas::{CoreFault, Formula, free_names, too_wide};
@@ -46,37 +45,37 @@ fn open_refusal(alloc: Global, formula: &Formula) -> Result<Option<Vec<u8>>, All
 /// The line that refuses a formula that could be read, if there is one.
 fn refusal_of(
     alloc: Global,
-    question: Question,
+    openness: Openness,
     formula: &Formula,
 ) -> Result<Option<Vec<u8>>, AllocError>
     requires { numbers_needed (as_formula formula.now) < 2 ^ 32 }
     ensures { IfOk result (λ refusal. (text : List ℕ) → IsFormulaText text (as_formula formula.now)
-        → MatchOption refusal (IsAskable question text (as_formula formula.now))
-        (λ line. IsRefusedBy question text line.items)) }
+        → MatchOption refusal (IsAcceptedAs (as_openness openness) text (as_formula formula.now))
+        (λ line. IsRefusedAs (as_openness openness) text line.items)) }
 {
     if is_too_wide(alloc, formula)? {
         return Ok(Some(Vec::from_slice(alloc, b"REFUSED formula too wide\n")?));
     }
-    match question {
-        Question::Truth | Question::Certificate => open_refusal(alloc, formula),
-        Question::Terms => Ok(None),
+    match openness {
+        Openness::Any => Ok(None),
+        Openness::Closed => open_refusal(alloc, formula),
     }
 }
 
-/// The formula of a text of which this may be asked, with the ground terms that are written in it.
-pub fn accepted_formula(alloc: Global, question: Question, text: &[u8]) -> Result<Parsed, Refusal>
-    ensures ok { IfOk result (IsAskedAs question text.now) }
+/// The formula of a text, where one such is taken, with the ground terms that are written in it.
+pub fn accepted_formula(alloc: Global, openness: Openness, text: &[u8]) -> Result<Parsed, Refusal>
+    ensures ok { IfOk result (IsParsedAs (as_openness openness) text.now) }
     ensures short { IfOk result (λ p. AreShort p.grounds.items) }
     ensures places { IfOk result (λ p.
         HasPlacesBelow (length p.grounds.items) (as_formula p.formula)) }
     ensures small { IfOk result (λ p. numbers_needed (as_formula p.formula) < 2 ^ 32) }
-    ensures refused { IfErr result (RefusesFormula question text.now) }
+    ensures refused { IfErr result (Refuses (IsRefusedAs (as_openness openness) text.now)) }
 {
     let parsed = match parse(alloc, text) {
         Ok(parsed) => parsed,
         Err(fault) => return Err(Refusal::Line(formula_line(alloc, &fault)?)),
     };
-    match refusal_of(alloc, question, &parsed.formula)? {
+    match refusal_of(alloc, openness, &parsed.formula)? {
         None => Ok(parsed),
         Some(line) => Err(Refusal::Line(line)),
     }

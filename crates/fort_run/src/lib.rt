@@ -2,10 +2,9 @@
 #![tactic(auto)]
 
 mod accepted;
-mod certified;
+mod ask;
 mod checked;
 mod fit;
-mod formula;
 mod input;
 mod limit;
 mod outcome;
@@ -16,6 +15,7 @@ mod reply;
 mod sample;
 mod status;
 mod top;
+mod usage;
 mod verdict;
 mod witness;
 

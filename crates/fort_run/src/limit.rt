@@ -2,7 +2,7 @@
 ghost use Rattle.std.specs.Prelude.{◌≡◌, IfOk};
 ghost use Rattle.fort_answers.specs.Lines as lines;
 ghost use Rattle.fort_formulas.specs.KindView.{as_kind};
-ghost use Rattle.fort_run.specs.Posed.{TellsLimit};
+ghost use Rattle.fort_run.specs.Verdicts.{TellsFault};
 
 use crate::refusal::push_number;
 use crate::reply::Reply;
@@ -52,13 +52,13 @@ fn limit_line(alloc: Global, k: usize, kind: Kind, cap: u32) -> Result<Vec<u8>, 
 
 /// The reply to a fault of deciding, which is over this cap or wants memory.
 pub fn limit_reply(alloc: Global, fault: EngineFault, cap: u32) -> Result<Reply, AllocError>
-    ensures { IfOk result (TellsLimit fault cap) }
+    ensures { IfOk result (TellsFault cap fault) }
 {
     match fault {
         EngineFault::Memory => Err(AllocError),
         EngineFault::Over(limit) => {
             let line = limit_line(alloc, limit.part, limit.kind, cap)?;
-            Ok(Reply::Limited(line, limit))
+            Ok(Reply::limited(line, limit))
         }
     }
 }

@@ -1,7 +1,6 @@
 //! What the top call answers.
 ghost use Rattle.std.specs.Prelude.{◌≡◌, None};
 ghost use Rattle.fort_answers.specs.Lines.{out_of_memory};
-ghost use Rattle.fort_run.specs.ReplyView.{status_of, limit_of};
 ghost use Rattle.fort_run.specs.StatusView.{code_of};
 
 use crate::reply::Reply;
@@ -31,13 +30,12 @@ impl Outcome {
 
     /// That of a reply whose text was written.
     pub(crate) fn of_reply(reply: Reply) -> Outcome
-        ensures status { result.status ≡ status_of reply }
-        ensures limit { result.limit ≡ limit_of reply }
+        ensures status { result.status ≡ code_of reply.status }
+        ensures limit { result.limit ≡ reply.limit }
     {
-        let status = reply.status();
         Outcome {
-            status: status.code(),
-            limit: reply.into_limit(),
+            status: reply.status.code(),
+            limit: reply.limit,
         }
     }
 

@@ -1,12 +1,53 @@
 //! What is asked of a formula.
+ghost use Rattle.std.specs.Prelude.{◌≡◌};
+ghost use Rattle.fort_run.specs.Questions.{as_openness, as_tail, openness_of, tail_of};
 
-/// What a request asks of a formula over a system.
+use fort_words::Options;
+
+/// What a request asks of a formula over an input.
 #[derive(Clone, Copy, Debug, PartialEq, Eq)]
 pub enum Question {
-    /// Whether it is true; it must be closed.
-    Truth,
+    /// Whether it is true.
+    Truth(Options),
+    /// A certificate of whether it is true, of tables that aren't reduced.
+    Certificate(Options),
     /// The least terms for its free variables that satisfy it.
-    Terms,
-    /// A certificate of whether it is true; it must be closed.
+    Terms(Options),
+    /// Whether the certificate behind the problem proves it or its negation.
+    Check,
+}
+
+/// The formulas of which something is asked.
+#[derive(Clone, Copy, Debug, PartialEq, Eq)]
+pub enum Openness {
+    Any,
+    /// Those in which no variable is free.
+    Closed,
+}
+
+/// What has to stand behind the problem of an input.
+#[derive(Clone, Copy, Debug, PartialEq, Eq)]
+pub enum Tail {
+    Nothing,
     Certificate,
+}
+
+impl Question {
+    pub fn openness(self) -> Openness
+        ensures { as_openness result ≡ openness_of self }
+    {
+        match self {
+            Question::Truth(_) | Question::Certificate(_) | Question::Check => Openness::Closed,
+            Question::Terms(_) => Openness::Any,
+        }
+    }
+
+    pub fn tail(self) -> Tail
+        ensures { as_tail result ≡ tail_of self }
+    {
+        match self {
+            Question::Truth(_) | Question::Certificate(_) | Question::Terms(_) => Tail::Nothing,
+            Question::Check => Tail::Certificate,
+        }
+    }
 }

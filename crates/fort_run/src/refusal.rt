@@ -1,9 +1,9 @@
 //! The lines that refuse formulas and inputs.
 ghost use Rattle.std.specs.Prelude.{◌≡◌, ◌++◌, IfOk, OnOk, decimal};
 ghost use Rattle.fort_answers.specs.Lines as lines;
-ghost use Rattle.fort_answers.specs.CheckAnswer.{certificate_line as certificate_line_lem};
-ghost use Rattle.fort_run.specs.Refusals.{SaysCertificateFault, SaysFormulaFault, SaysProblemFault, SaysTextFault};
+ghost use Rattle.fort_run.specs.Refusals.{SaysCertificateFault, SaysFormulaFault, SaysProblemFault, SaysTextFault, TellsRefusal};
 
+use crate::reply::Reply;
 use fort_ari::ProblemFault;
 use fort_certificate::CertificateFault;
 use fort_formula_parser::FFault;
@@ -18,6 +18,18 @@ pub enum Refusal {
     Memory,
     /// By this line.
     Line(Vec<u8>),
+}
+
+impl Refusal {
+    /// The reply of the line.
+    pub fn into_reply(self) -> Result<Reply, AllocError>
+        ensures { IfOk result (TellsRefusal self) }
+    {
+        match self {
+            Refusal::Memory => Err(AllocError),
+            Refusal::Line(line) => Ok(Reply::refused(line)),
+        }
+    }
 }
 
 impl From<AllocError> for Refusal {
@@ -135,7 +147,7 @@ pub fn problem_line(alloc: Global, fault: &ProblemFault) -> Result<Vec<u8>, Allo
 
 /// The line of a refusal of the form with a number, as one of a certificate: what it is.
 fn certificate_form(alloc: Global, i: u32, what: &[u8]) -> Result<Vec<u8>, AllocError>
-    ensures { IfOk result (λ line. line.items ≡ certificate_line_lem i what.now) }
+    ensures { IfOk result (λ line. line.items ≡ lines.certificate_line i what.now) }
 {
     let mut line = Vec::from_slice(alloc, b"REFUSED certificate form ")?;
     push_number(&mut line, i as usize)?;

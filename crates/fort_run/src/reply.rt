@@ -1,78 +1,68 @@
-//! Answers, with their texts and statuses.
-ghost use Rattle.std.specs.Prelude.{◌≡◌};
-ghost use Rattle.fort_run.specs.ReplyView.{status_of, text_of, limit_of};
+//! Answers: a status, a text, and a limit where one withholds a verdict.
+ghost use Rattle.std.specs.Prelude.{◌≡◌, ◌<◌, ◌≤◌, ◌↔◌, None, Some, IfOk, IsSome};
+ghost use Rattle.fort_answers.specs.Lines.{last_answer, limited, refused};
 ghost use Rattle.fort_run.specs.StatusView.{code_of};
 
 use crate::status::Status;
 use fort_engine::Limit;
+use std::alloc::{AllocError, Global};
 
 /// What the program answers where neither memory nor a device withholds the answer.
 #[derive(Drop)]
-pub enum Reply {
-    Usage,
-    /// The line that refuses the formula or the input.
-    Refused(Vec<u8>),
-    InputTooLong,
-    /// The line that tells which part of the formula is over the cap, and the limit.
-    Limited(Vec<u8>, Limit),
-    Yes,
-    No,
-    /// The whole text that tells the least terms.
-    Found(Vec<u8>),
-    NotFound,
-    /// The whole text of the certificate that is written, of either verdict.
-    Certificate(Vec<u8>),
-    /// The whole text of a sample.
-    Sampled(Vec<u8>),
-    /// A certificate is in order, with this verdict.
-    Certified(bool),
-    /// The line that tells which form of a certificate fails.
-    Rejected(Vec<u8>),
+pub struct Reply {
+    pub status: Status,
+    /// All that is to be written.
+    pub text: Vec<u8>,
+    /// The part that is over the cap, and the tuples that show it.
+    pub limit: Option<Limit>,
+    ghost low: { code_of status ≤ last_answer },
+    ghost shown: { IsSome limit ↔ (code_of status ≡ limited) },
 }
 
-const USAGE: &str = "usage: fort decide [--states N] [--reduce] [--certificate] FORMULA
-       fort witness [--states N] [--reduce] FORMULA
-       fort check FORMULA
-       fort sample N
-";
-
 impl Reply {
-    pub fn status(&self) -> Status
-        ensures { code_of result ≡ status_of self.now }
+    /// One without a limit.
+    pub fn of(status: Status, text: Vec<u8>) -> Reply
+        requires { code_of status < limited }
+        ensures status { result.status ≡ status }
+        ensures text { result.text.items ≡ text.items }
+        ensures limit { result.limit ≡ None }
     {
-        match self {
-            Reply::Yes | Reply::Found(_) | Reply::Certificate(_) => Status::Positive,
-            Reply::Sampled(_) | Reply::Certified(_) => Status::Positive,
-            Reply::No | Reply::NotFound | Reply::Rejected(_) => Status::Negative,
-            Reply::Usage => Status::Usage,
-            Reply::Limited(_, _) => Status::Limited,
-            Reply::Refused(_) | Reply::InputTooLong => Status::Refused,
+        Reply {
+            status,
+            text,
+            limit: None,
         }
     }
 
-    pub fn text(&self) -> &[u8]
-        ensures { result.now ≡ text_of self.now }
+    /// The same of a text that is copied.
+    pub fn line(alloc: Global, status: Status, text: &[u8]) -> Result<Reply, AllocError>
+        requires { code_of status < limited }
+        ensures status { IfOk result (λ r. r.status ≡ status) }
+        ensures text { IfOk result (λ r. r.text.items ≡ text.now) }
+        ensures limit { IfOk result (λ r. r.limit ≡ None) }
     {
-        match self {
-            Reply::Usage => USAGE.as_bytes(),
-            Reply::Refused(line) | Reply::Limited(line, _) | Reply::Rejected(line) => line,
-            Reply::Found(text) | Reply::Certificate(text) | Reply::Sampled(text) => text,
-            Reply::NotFound => b"NONE\n",
-            Reply::InputTooLong => b"REFUSED input too long\n",
-            Reply::Yes => b"YES\n",
-            Reply::No => b"NO\n",
-            Reply::Certified(true) => b"CERTIFIED YES\n",
-            Reply::Certified(false) => b"CERTIFIED NO\n",
-        }
+        Ok(Reply::of(status, Vec::from_slice(alloc, text)?))
     }
 
-    /// The limit, where a part of the formula is over the cap.
-    pub fn into_limit(self) -> Option<Limit>
-        ensures { result ≡ limit_of self }
+    /// The formula or the input is refused by this line.
+    pub fn refused(line: Vec<u8>) -> Reply
+        ensures status { code_of result.status ≡ refused }
+        ensures text { result.text.items ≡ line.items }
+        ensures limit { result.limit ≡ None }
     {
-        match self {
-            Reply::Limited(_, limit) => Some(limit),
-            _ => None,
+        Reply::of(Status::Refused, line)
+    }
+
+    /// A part of the formula is over the cap; the line tells which.
+    pub fn limited(line: Vec<u8>, limit: Limit) -> Reply
+        ensures status { code_of result.status ≡ limited }
+        ensures text { result.text.items ≡ line.items }
+        ensures limit { result.limit ≡ Some limit }
+    {
+        Reply {
+            status: Status::Limited,
+            text: line,
+            limit: Some(limit),
         }
     }
 }

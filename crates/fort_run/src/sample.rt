@@ -5,13 +5,13 @@ ghost use Rattle.fort_formulas.specs.FormulaView.{as_property};
 ghost use Rattle.fort_answers.specs.Lines.{positive};
 ghost use Rattle.fort_answers.specs.SampleAnswer.{SampleAnswer};
 ghost use Rattle.fort_answers.specs.PossibleRequests.{IsSampleSize};
-ghost use Rattle.fort_run.specs.ReplyView.{status_of, text_of, limit_of};
 ghost use Rattle.fort_run.specs.Samples.{AddsLine, AddsLines};
+ghost use Rattle.fort_run.specs.StatusView.{code_of};
 
-use crate::question::Question;
 use crate::refusal::push_number;
 use crate::reply::Reply;
-use crate::verdict::verdict;
+use crate::status::Status;
+use crate::verdict::{core_for, truth};
 use fort_formulas::{Formula, Macro};
 use fort_sample::made_system;
 use fort_terms::System;
@@ -62,11 +62,11 @@ fn push_property(
 {
     // Each system has an index 1.
     let _number = system.number();
-    let formula = Formula::Macro(property, 1);
-    let reply = verdict(alloc, Question::Truth, system, &formula, &[], OPTIONS)?;
+    let core = core_for(alloc, system, &Formula::Macro(property, 1), &[])?;
+    let reply = truth(alloc, system, &core, OPTIONS)?;
     text.extend_from_slice(property_word(property))?;
     text.push(b' ')?;
-    text.extend_from_slice(reply.text())?;
+    text.extend_from_slice(&reply.text)?;
     Ok(())
 }
 
@@ -102,8 +102,8 @@ fn sample_text(alloc: Global, n: u32) -> Result<Vec<u8>, AllocError>
 /// The reply to a sample of this size.
 pub fn sample(alloc: Global, n: u32) -> Result<Reply, AllocError>
     requires { IsSampleSize n }
-    ensures answer { IfOk result (λ r. SampleAnswer n (status_of r) (text_of r)) }
-    ensures limit { IfOk result (λ r. limit_of r ≡ None) }
+    ensures answer { IfOk result (λ r. SampleAnswer n (code_of r.status) r.text.items) }
+    ensures limit { IfOk result (λ r. r.limit ≡ None) }
 {
-    Ok(Reply::Sampled(sample_text(alloc, n)?))
+    Ok(Reply::of(Status::Positive, sample_text(alloc, n)?))
 }

@@ -1,24 +1,24 @@
 //! The top call.
-ghost use Rattle.std.specs.Prelude.{◌≡◌, ◌<◌, ◌≤◌, ◌⊎◌, ◌↔◌, ℕ, true, map, string_bytes, IfOk, IfSome, IsSome, OnOk, IsErrOf};
+ghost use Rattle.std.specs.Prelude.{◌≡◌, ◌<◌, ◌≤◌, ◌⊎◌, ◌↔◌, true, map, string_bytes, IfOk, IfSome, IsSome, OnOk, IsErrOf};
 ghost use Rattle.fort_io.specs.Devices.{FaultCounted};
 ghost use Rattle.fort_words.specs.RequestView.{as_request};
 ghost use Rattle.fort_answers.specs.PossibleRequests.{CanBeAsked};
 ghost use Rattle.fort_answers.specs.Requests.{Text, Options, Decide, Check as CheckOf};
-ghost use Rattle.fort_answers.specs.Answer.{Answer, AnswerFor, AsksNothing, AsksSomething, NeedsInput, OwesTold};
+ghost use Rattle.fort_answers.specs.Answer.{Answer, AsksNothing, AsksSomething, needed};
 ghost use Rattle.fort_answers.specs.Lines.{last_answer, limited, negative, positive, out_of_memory, read_failed, write_failed};
 ghost use Rattle.fort_run.specs.Answered.{Answers, CutsShort, IsDecidable, IsDecidableWithin, OwesOnly, OwesOnlyEarly, ReadsWhole};
-ghost use Rattle.fort_run.specs.Certified.{IsCertifiedTold, CertifiesTruth, IsCheckable, IsPrintedTold, PrintsTruth, IsAcceptedBehind};
-ghost use Rattle.fort_run.specs.ReplyView.{status_of, text_of, limit_of};
+ghost use Rattle.fort_run.specs.Certified.{CertifiesTruth, IsCheckable, PrintsTruth, IsAcceptedBehind};
 ghost use Rattle.fort_answers.specs.CommandGrammar.{request_of};
-ghost use Rattle.fort_run.specs.Limits.{HasLimitTold, IsLimitOf};
+ghost use Rattle.fort_run.specs.Limits.{IsLimitOf};
+ghost use Rattle.fort_run.specs.Replies.{IsReplyTold};
 
-use crate::checked::check;
-use crate::formula::{Stop, ask};
+use crate::ask::{Stop, ask};
 use crate::outcome::Outcome;
 use crate::question::Question;
 use crate::reply::Reply;
 use crate::sample::sample;
 use crate::status::Status;
+use crate::usage::USAGE;
 use fort_io::{Sink, Source, write_all};
 use fort_words::{Request, read_request};
 use std::alloc::{AllocError, Global};
@@ -30,23 +30,16 @@ fn reply_to_request<S: Source>(
     input: &mut S,
 ) -> Result<Reply, Stop>
     requires { CanBeAsked (as_request request.now) }
-    ensures ok { IfOk result (λ r.
-        OwesTold (Some (as_request request.now)) (S.rest input.old) (status_of r) (text_of r)) }
-    ensures certified { IfOk result (λ r. (formula : Text)
-        → as_request request.now ≡ CheckOf formula → status_of r ≡ positive
-        → IsCertifiedTold formula (S.rest input.old) (text_of r)) }
-    ensures printed { IfOk result (λ r. (options : Options) (formula : Text)
-        → as_request request.now ≡ Decide options true formula → status_of r ≡ positive
-        → IsPrintedTold formula (S.rest input.old) (text_of r)) }
-    ensures limit { IfOk result (λ r. IfSome (limit_of r)
-        (HasLimitTold (Some (as_request request.now)) (S.rest input.old) (text_of r))) }
-    ensures whole { OnOk result (NeedsInput (as_request request.now) →
+    ensures ok { IfOk result
+        (IsReplyTold (Some (as_request request.now)) (S.rest input.old)) }
+    ensures whole { OnOk result (needed (Some (as_request request.now)) →
         ReadsWhole (S.rest input.old) (S.rest input.new)) }
     ensures fault { IsErrOf result Stop.Fault →
         FaultCounted (S.faults input.old) (S.faults input.new) }
     ensures told { S.faults input.old < S.faults input.new → IsErrOf result Stop.Fault }
-    ensures asked { IsErrOf result Stop.Fault → NeedsInput (as_request request.now) }
-    ensures unread { (NeedsInput (as_request request.now) → ⊥) → input.new ≡ input.old }
+    ensures asked { IsErrOf result Stop.Fault → needed (Some (as_request request.now)) }
+    ensures unread { (needed (Some (as_request request.now)) → ⊥) →
+        input.new ≡ input.old }
     ensures never_falls { S.faults input.old ≤ S.faults input.new }
 {
     match *request {
@@ -54,35 +47,24 @@ fn reply_to_request<S: Source>(
             options,
             certificate: false,
             formula,
-        } => ask(alloc, Question::Truth, options, formula, input),
+        } => ask(alloc, Question::Truth(options), formula, input),
         Request::Decide {
             options,
             certificate: true,
             formula,
-        } => ask(alloc, Question::Certificate, options, formula, input),
+        } => ask(alloc, Question::Certificate(options), formula, input),
         Request::Witness { options, formula } => {
-            ask(alloc, Question::Terms, options, formula, input)
+            ask(alloc, Question::Terms(options), formula, input)
         }
-        Request::Sample { n } => match sample(alloc, n) {
-            Ok(reply) => Ok(reply),
-            Err(AllocError) => Err(Stop::Memory),
-        },
-        Request::Check { formula } => check(alloc, formula, input),
+        Request::Check { formula } => ask(alloc, Question::Check, formula, input),
+        Request::Sample { n } => Ok(sample(alloc, n)?),
     }
 }
 
 /// The reply to the words on what the source gives. Where the words ask nothing, nothing is read.
 fn reply_to<S: Source>(alloc: Global, words: &[String], input: &mut S) -> Result<Reply, Stop>
-    ensures ok { IfOk result (λ r.
-        AnswerFor (map string_bytes words.now) (S.rest input.old) (status_of r) (text_of r)) }
-    ensures certified { IfOk result (λ r. (formula : Text)
-        → request_of (map string_bytes words.now) ≡ Some (CheckOf formula)
-        → status_of r ≡ positive → IsCertifiedTold formula (S.rest input.old) (text_of r)) }
-    ensures printed { IfOk result (λ r. (options : Options) (formula : Text)
-        → request_of (map string_bytes words.now) ≡ Some (Decide options true formula)
-        → status_of r ≡ positive → IsPrintedTold formula (S.rest input.old) (text_of r)) }
-    ensures limit { IfOk result (λ r. IfSome (limit_of r)
-        (HasLimitTold (request_of (map string_bytes words.now)) (S.rest input.old) (text_of r))) }
+    ensures ok { IfOk result
+        (IsReplyTold (request_of (map string_bytes words.now)) (S.rest input.old)) }
     ensures whole { OnOk result (AsksSomething (map string_bytes words.now) →
         ReadsWhole (S.rest input.old) (S.rest input.new)) }
     ensures fault { IsErrOf result Stop.Fault →
@@ -92,10 +74,9 @@ fn reply_to<S: Source>(alloc: Global, words: &[String], input: &mut S) -> Result
     ensures unread { AsksNothing (map string_bytes words.now) → input.new ≡ input.old }
     ensures never_falls { S.faults input.old ≤ S.faults input.new }
 {
-    match read_request(alloc, words) {
-        Ok(Some(request)) => reply_to_request(alloc, &request, input),
-        Ok(None) => Ok(Reply::Usage),
-        Err(AllocError) => Err(Stop::Memory),
+    match read_request(alloc, words)? {
+        Some(request) => reply_to_request(alloc, &request, input),
+        None => Ok(Reply::line(alloc, Status::Usage, USAGE.as_bytes())?),
     }
 }
 
@@ -182,7 +163,7 @@ pub fn run<S: Source, K: Sink>(
         Err(Stop::Memory) => return Outcome::of(Status::OutOfMemory),
         Err(Stop::Fault) => return Outcome::of(Status::ReadFailed),
     };
-    match write_all(output, reply.text()) {
+    match write_all(output, &reply.text) {
         Ok(()) => Outcome::of_reply(reply),
         Err(_) => Outcome::of(Status::WriteFailed),
     }

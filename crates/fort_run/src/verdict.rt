@@ -1,5 +1,5 @@
-//! What a formula comes to over a system.
-ghost use Rattle.std.specs.Prelude.{◌≡◌, List, None, false, IfOk, IfErr, IfSome, OnOk};
+//! What a question about a formula comes to over an input.
+ghost use Rattle.std.specs.Prelude.{◌≡◌, List, None, false, IfOk, IfErr, OnOk};
 ghost use Rattle.fort_theory.specs.Sides as theory;
 ghost use Rattle.fort_theory.specs.Patterns.{PatternSystem, pattern_system};
 ghost use Rattle.fort_theory.specs.Trees.{Tree};
@@ -11,17 +11,23 @@ ghost use Rattle.fort_formulas.specs.CoreView.{as_core};
 ghost use Rattle.fort_formulas.specs.FormulaView.{as_formula};
 ghost use Rattle.fort_parts.specs.DecidedCores.{IsDecided};
 ghost use Rattle.fort_parts.specs.PartAnswers.{IsAnswerTo};
-ghost use Rattle.fort_words.specs.RequestView.{as_options};
+ghost use Rattle.fort_answers.specs.DecideAnswer.{TruthVerdict};
+ghost use Rattle.fort_answers.specs.FormulaAnswer.{Any, Closed};
+ghost use Rattle.fort_answers.specs.InputAnswer.{Behind as BehindOf};
 ghost use Rattle.fort_engine.specs.AnswerView.{as_answer, IfOver, KeepsCapAt, IsLimit};
-ghost use Rattle.fort_run.specs.Asked.{SuitsQuestion, IsClosedFor, IsVerdict, VerdictOn};
-ghost use Rattle.fort_run.specs.Posed.{IsPosed, SaysOn};
-ghost use Rattle.fort_run.specs.Ready.{IsLawful, IsReady, IsDecidedBy, ShowsLimit};
-ghost use Rattle.fort_run.specs.ReplyView.{status_of, text_of, limit_of};
+ghost use Rattle.fort_run.specs.Inputs.{IsBehind};
+ghost use Rattle.fort_run.specs.Posed.{IsClosedFor, IsPosed, Settles, SettlesCore};
+ghost use Rattle.fort_run.specs.Questions.{openness_of, tail_of, CanBeAskedOf};
+ghost use Rattle.fort_run.specs.Ready.{IsLawful, IsReady, IsDecidedBy};
+ghost use Rattle.fort_run.specs.StatusView.{code_of};
 ghost use Rattle.fort_run.specs.declared.question.Question.TheVariants.{Truth, Terms, Certificate};
 
+use crate::checked::checked;
+use crate::input::{Behind, Input};
 use crate::limit::limit_reply;
 use crate::question::Question;
 use crate::reply::Reply;
+use crate::status::Status;
 use crate::witness::witness;
 use fort_engine::{EngineFault, Last, decide_with};
 use fort_formulas::{Core, CoreFault, Formula, to_core};
@@ -52,22 +58,6 @@ pub fn core_for(
     }
 }
 
-/// Whether the formula is true.
-fn truth_of(last: &Last) -> Reply
-    requires { (f : logic.Formula) × (system : PatternSystem) × (terms : List Tree)
-        × IsClosedFor Truth f × IsDecidedBy f system terms last.now }
-    ensures says { (f : logic.Formula) (p : theory.System) (terms : List Tree)
-        → IsLawful p → IsClosedFor Truth f → IsDecidedBy f (pattern_system p) terms last.now
-        → VerdictOn Truth p terms f (status_of result) (text_of result) }
-    ensures limit { limit_of result ≡ None }
-{
-    match last {
-        Last::Truth(true) => Reply::Yes,
-        Last::Truth(false) => Reply::No,
-        Last::Auto(_) => unreachable!(),
-    }
-}
-
 /// The answer to a core formula.
 fn answer_to(
     alloc: Global,
@@ -90,26 +80,37 @@ fn answer_to(
     }
 }
 
+/// Whether a formula is true, by the answer to its core formula.
+fn truth_of(alloc: Global, last: &Last) -> Result<Reply, AllocError>
+    requires { (f : logic.Formula) × (system : PatternSystem) × (terms : List Tree)
+        × IsClosedFor Closed f × IsDecidedBy f system terms last.now }
+    ensures verdict { IfOk result (λ r. (f : logic.Formula) (p : theory.System) (terms : List Tree)
+        → IsLawful p → IsClosedFor Closed f → IsDecidedBy f (pattern_system p) terms last.now
+        → TruthVerdict p terms f (code_of r.status) r.text.items) }
+    ensures limit { IfOk result (λ r. r.limit ≡ None) }
+{
+    match last {
+        Last::Truth(true) => Reply::line(alloc, Status::Positive, b"YES\n"),
+        Last::Truth(false) => Reply::line(alloc, Status::Negative, b"NO\n"),
+        Last::Auto(_) => unreachable!(),
+    }
+}
+
 /// Whether a formula is true, by its core formula.
-fn truth(
+pub fn truth(
     alloc: Global,
     system: &System,
     core: &Core,
     options: Options,
-) -> Result<Reply, EngineFault>
+) -> Result<Reply, AllocError>
     requires { (f : logic.Formula) × (terms : List Tree)
-        × IsPosed Truth f system.now terms (as_core core.now) }
-    ensures says { IfOk result (λ r. (f : logic.Formula)
-        → SaysOn Truth f system.now (as_core core.now) r) }
-    ensures limit { IfOk result (λ r. limit_of r ≡ None) }
-    ensures within { OnOk result (KeepsCapAt system.now options.reduces (as_core core.now)
-        options.states) }
-    ensures over { IfErr result (λ e. IfOver e
-        (IsLimit system.now options.reduces (as_core core.now) options.states)) }
+        × IsPosed Closed f system.now terms (as_core core.now) }
+    ensures { IfOk result (λ r. (f : logic.Formula)
+        → SettlesCore (Truth options) system.now tt (as_core core.now) f r) }
 {
     match answer_to(alloc, system, core, options) {
-        Ok(last) => Ok(truth_of(&last)),
-        Err(fault) => Err(fault),
+        Ok(last) => truth_of(alloc, &last),
+        Err(fault) => limit_reply(alloc, fault, options.states),
     }
 }
 
@@ -120,24 +121,15 @@ fn least_terms(
     formula: &Formula,
     core: &Core,
     options: Options,
-) -> Result<Reply, EngineFault>
+) -> Result<Reply, AllocError>
     requires { (terms : List Tree)
-        × IsPosed Terms (as_formula formula.now) system.now terms (as_core core.now) }
-    ensures says { IfOk result
-        (SaysOn Terms (as_formula formula.now) system.now (as_core core.now)) }
-    ensures limit { IfOk result (λ r. limit_of r ≡ None) }
-    ensures within { OnOk result (KeepsCapAt system.now options.reduces (as_core core.now)
-        options.states) }
-    ensures over { IfErr result (λ e. IfOver e
-        (IsLimit system.now options.reduces (as_core core.now) options.states)) }
+        × IsPosed Any (as_formula formula.now) system.now terms (as_core core.now) }
+    ensures { IfOk result (SettlesCore (Terms options) system.now tt
+        (as_core core.now) (as_formula formula.now)) }
 {
-    let last = match answer_to(alloc, system, core, options) {
-        Ok(last) => last,
-        Err(fault) => return Err(fault),
-    };
-    match witness(alloc, system.signature(), formula, &last) {
-        Ok(reply) => Ok(reply),
-        Err(AllocError) => Err(EngineFault::Memory),
+    match answer_to(alloc, system, core, options) {
+        Ok(last) => witness(alloc, system.signature(), formula, &last),
+        Err(fault) => limit_reply(alloc, fault, options.states),
     }
 }
 
@@ -147,78 +139,47 @@ fn certificate(
     system: &System,
     core: &Core,
     options: Options,
-) -> Result<Reply, EngineFault>
+) -> Result<Reply, AllocError>
     requires posed { (f : logic.Formula) × (terms : List Tree)
-        × IsPosed Certificate f system.now terms (as_core core.now) }
+        × IsPosed Closed f system.now terms (as_core core.now) }
     requires plain { options.reduces ≡ false }
-    ensures says { IfOk result (λ r. (f : logic.Formula)
-        → SaysOn Certificate f system.now (as_core core.now) r) }
-    ensures limit { IfOk result (λ r. limit_of r ≡ None) }
-    ensures within { OnOk result (KeepsCapAt system.now options.reduces (as_core core.now)
-        options.states) }
-    ensures over { IfErr result (λ e. IfOver e
-        (IsLimit system.now options.reduces (as_core core.now) options.states)) }
+    ensures { IfOk result (λ r. (f : logic.Formula)
+        → SettlesCore (Certificate options) system.now tt (as_core core.now) f r) }
 {
-    let recorded = match decide_with_steps(alloc, system, core, options.states) {
-        Ok(recorded) => recorded,
-        Err(fault) => return Err(fault),
-    };
-    match fort_certificate::text(alloc, system.number(), recorded.verdict, &recorded.steps) {
-        Ok(text) => Ok(Reply::Certificate(text)),
-        Err(AllocError) => Err(EngineFault::Memory),
+    match decide_with_steps(alloc, system, core, options.states) {
+        Ok(recorded) => {
+            let number = system.number();
+            let text = fort_certificate::text(alloc, number, recorded.verdict, &recorded.steps)?;
+            Ok(Reply::of(Status::Positive, text))
+        }
+        Err(fault) => limit_reply(alloc, fault, options.states),
     }
 }
 
-/// The reply to a question, by the core formula.
-fn reply_to_question(
-    alloc: Global,
-    question: Question,
-    system: &System,
-    formula: &Formula,
-    core: &Core,
-    options: Options,
-) -> Result<Reply, EngineFault>
-    requires posed { (terms : List Tree)
-        × IsPosed question (as_formula formula.now) system.now terms (as_core core.now) }
-    requires suits { SuitsQuestion question (as_options options) }
-    ensures says { IfOk result
-        (SaysOn question (as_formula formula.now) system.now (as_core core.now)) }
-    ensures limit { IfOk result (λ r. limit_of r ≡ None) }
-    ensures within { OnOk result (KeepsCapAt system.now options.reduces (as_core core.now)
-        options.states) }
-    ensures over { IfErr result (λ e. IfOver e
-        (IsLimit system.now options.reduces (as_core core.now) options.states)) }
-{
-    match question {
-        Question::Truth => truth(alloc, system, core, options),
-        Question::Terms => least_terms(alloc, system, formula, core, options),
-        Question::Certificate => certificate(alloc, system, core, options),
-    }
-}
-
-/// The reply to a question about a formula that speaks of nothing but what the system has.
+/// The reply to a question about a formula that speaks of nothing but what the input has.
 pub fn verdict(
     alloc: Global,
     question: Question,
-    system: &System,
+    input: &Input,
     formula: &Formula,
     terms: &[Term],
-    options: Options,
 ) -> Result<Reply, AllocError>
-    requires ready { IsReady (as_formula formula.now) system.now terms.now }
-    requires closed { IsClosedFor question (as_formula formula.now) }
-    requires suits { SuitsQuestion question (as_options options) }
-    ensures ok { IfOk result (λ r. (p : theory.System) → IsLawful p
-        → system.now ≡ pattern_system p
-        → IsVerdict question p terms.now (as_formula formula.now) (as_options options)
-        (status_of r) (text_of r)) }
-    ensures limit { IfOk result (λ r. IfSome (limit_of r)
-        (ShowsLimit system.now (core_of terms.now (as_formula formula.now)) (as_options options)
-        (text_of r))) }
+    requires ready { IsReady (as_formula formula.now) input.now.system terms.now }
+    requires closed { IsClosedFor (openness_of question) (as_formula formula.now) }
+    requires behind { (behind : BehindOf (tail_of question))
+        × IsBehind (tail_of question) input.now.behind behind }
+    requires asked { CanBeAskedOf question }
+    ensures { IfOk result (Settles question input.now terms.now (as_formula formula.now)) }
 {
+    let system = &input.system;
     let core = core_for(alloc, system, formula, terms)?;
-    match reply_to_question(alloc, question, system, formula, &core, options) {
-        Ok(reply) => Ok(reply),
-        Err(fault) => limit_reply(alloc, fault, options.states),
+    match question {
+        Question::Truth(options) => truth(alloc, system, &core, options),
+        Question::Certificate(options) => certificate(alloc, system, &core, options),
+        Question::Terms(options) => least_terms(alloc, system, formula, &core, options),
+        Question::Check => match &input.behind {
+            Behind::Certificate(certificate) => checked(alloc, system, &core, certificate),
+            Behind::Nothing => unreachable!(),
+        },
     }
 }

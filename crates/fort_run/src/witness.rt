@@ -7,14 +7,13 @@ ghost use Rattle.fort_theory.specs.Trees.{Tree};
 ghost use Rattle.fort_logic.specs.FreeNames as names;
 ghost use Rattle.fort_formulas.specs.FormulaView.{as_formula};
 ghost use Rattle.fort_answers.specs.Lines.{witness_line};
-ghost use Rattle.fort_answers.specs.WitnessAnswer.{bindings};
-ghost use Rattle.fort_run.specs.Asked.{VerdictOn};
+ghost use Rattle.fort_answers.specs.WitnessAnswer.{bindings, WitnessVerdict};
 ghost use Rattle.fort_run.specs.Ready.{IsLawful, IsDecidedBy};
-ghost use Rattle.fort_run.specs.ReplyView.{status_of, text_of, limit_of};
+ghost use Rattle.fort_run.specs.StatusView.{code_of};
 ghost use Rattle.fort_run.specs.Witnesses.{AreLastTerms};
-ghost use Rattle.fort_run.specs.declared.question.Question.TheVariants.{Terms};
 
 use crate::reply::Reply;
+use crate::status::Status;
 use fort_engine::Last;
 use fort_formulas::{Formula, free_names};
 use fort_lockstep::{Dag, Table};
@@ -58,21 +57,24 @@ pub fn witness(
 ) -> Result<Reply, AllocError>
     requires { (system : PatternSystem) × (terms : List Tree) × (signature.now ≡ system.signature)
         × IsDecidedBy (as_formula formula.now) system terms last.now }
-    ensures says { IfOk result (λ r. (p : theory.System) (terms : List Tree)
+    ensures verdict { IfOk result (λ r. (p : theory.System) (terms : List Tree)
         → IsLawful p → signature.now ≡ p.signature
         → IsDecidedBy (as_formula formula.now) (pattern_system p) terms last.now
-        → VerdictOn Terms p terms (as_formula formula.now) (status_of r) (text_of r)) }
-    ensures limit { IfOk result (λ r. limit_of r ≡ None) }
+        → WitnessVerdict p terms (as_formula formula.now) (code_of r.status) r.text.items) }
+    ensures limit { IfOk result (λ r. r.limit ≡ None) }
 {
     match last {
-        Last::Truth(true) => Ok(Reply::Found(Vec::from_slice(alloc, b"WITNESS\n")?)),
-        Last::Truth(false) => Ok(Reply::NotFound),
+        Last::Truth(true) => Reply::line(alloc, Status::Positive, b"WITNESS\n"),
+        Last::Truth(false) => Reply::line(alloc, Status::Negative, b"NONE\n"),
         Last::Auto(table) => {
             // its clause says that the table is lawful
             let _states = table.states();
             match least(alloc, table)? {
-                Some(dag) => Ok(Reply::Found(witness_text(alloc, signature, formula, &dag)?)),
-                None => Ok(Reply::NotFound),
+                Some(dag) => {
+                    let text = witness_text(alloc, signature, formula, &dag)?;
+                    Ok(Reply::of(Status::Positive, text))
+                }
+                None => Reply::line(alloc, Status::Negative, b"NONE\n"),
             }
         }
     }

@@ -1,34 +1,46 @@
-use Rattle.std.proofs.Common.{◌≡◌, subst}
+use Rattle.std.proofs.Common.{◌≡◌, sym, subst}
+use Rattle.std.specs.Prelude.{Some}
 use Rattle.std.proofs.lemmas.Result.{on_ok_weaker}
 use Rattle.fort_words.specs.RequestView.{as_options, as_request}
-use Rattle.fort_answers.specs.Requests.{Witness, Check as CheckOf}
-use Rattle.fort_answers.specs.Answer.{NeedsInput}
+use Rattle.fort_answers.specs.Requests.{Witness, Check, Sample}
+use Rattle.fort_answers.specs.Answer.{needed}
+use Rattle.fort_run.specs.Replies.{IsReplyTo}
+use Rattle.fort_run.proofs.Replies.{no_limit}
+use Rattle.fort_run.proofs.Told.{told_any}
 use Rattle.fort_run.proofs.top.reply_to_request.Goals as goal
 
 pub returns-in-Decide-default-false-default-clause-whole : goal.returns-in-Decide-default-false-default-clause-whole
 returns-in-Decide-default-false-default-clause-whole g c =
-    on_ok_weaker c.ask-in-Decide-default-false-default.result (λ whole needs.
-    let there = subst (λ r. NeedsInput (as_request r)) c.in-Decide-default-false-default.is needs in
+    on_ok_weaker c.ask-in-Decide-default-false-default.result (λ whole is_needed.
+    let there = subst (λ r. needed (Some (as_request r))) c.in-Decide-default-false-default.is is_needed in
     whole (there.0, rw c.in-Decide-default-false-default.formula-is there.1))
     c.ask-in-Decide-default-false-default.ensures.whole
 
 pub returns-in-Decide-default-true-default-clause-whole : goal.returns-in-Decide-default-true-default-clause-whole
 returns-in-Decide-default-true-default-clause-whole g c =
-    on_ok_weaker c.ask.result (λ whole needs.
-    let there = subst (λ r. NeedsInput (as_request r)) c.in-Decide-default-true-default.is needs in
+    on_ok_weaker c.ask.result (λ whole is_needed.
+    let there = subst (λ r. needed (Some (as_request r))) c.in-Decide-default-true-default.is is_needed in
     whole (there.0, rw c.in-Decide-default-true-default.formula-is there.1))
     c.ask.ensures.whole
 
 pub returns-in-Witness-clause-whole : goal.returns-in-Witness-clause-whole
 returns-in-Witness-clause-whole g c =
-    on_ok_weaker c.ask-in-Witness.result (λ whole needs.
+    on_ok_weaker c.ask-in-Witness.result (λ whole is_needed.
     let e : as_request c.args.request.now ≡ Witness (as_options c.in-Witness.options) c.in-Witness.formula.now = cc in
-    whole (subst NeedsInput e needs))
+    whole (subst (λ r. needed (Some r)) e is_needed))
     c.ask-in-Witness.ensures.whole
 
 pub returns-in-Check-clause-whole : goal.returns-in-Check-clause-whole
 returns-in-Check-clause-whole g c =
-    on_ok_weaker c.check.result (λ whole needs.
-    let e : as_request c.args.request.now ≡ CheckOf c.in-Check.formula.now = cc in
-    whole (subst NeedsInput e needs))
-    c.check.ensures.whole
+    on_ok_weaker c.ask-in-Check.result (λ whole is_needed.
+    let e : as_request c.args.request.now ≡ Check c.in-Check.formula.now = cc in
+    whole (subst (λ r. needed (Some r)) e is_needed))
+    c.ask-in-Check.ensures.whole
+
+pub returns-in_ok-sample-in-Sample-clause-ok : goal.returns-in_ok-sample-in-Sample-clause-ok
+returns-in_ok-sample-in-Sample-clause-ok g c =
+    let reply = c.in_ok-sample-in-Sample.field-0 in
+    let e : as_request c.args.request.now ≡ Sample c.in-Sample.n = cc in
+    told_any (λ bytes. IsReplyTo (Some (as_request c.args.request.now)) bytes reply) _ (λ bytes.
+    subst (λ r. IsReplyTo (Some r) bytes reply) (sym e)
+    (record { is_owed = c.in_ok-sample-in-Sample.ensures.answer; says = λ done. tt; limit = no_limit (Some (Sample c.in-Sample.n)) bytes reply c.in_ok-sample-in-Sample.ensures.limit }))

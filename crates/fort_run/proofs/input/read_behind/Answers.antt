@@ -1,0 +1,52 @@
+use Rattle.std.proofs.Common.{refl, sym, subst, arith}
+use Rattle.std.specs.Prelude.{IfSome}
+use Rattle.fort_grammar.specs.Declarations.{as_list}
+use Rattle.fort_certificate_grammar.specs.CertificateForms.{IsCertificate}
+use Rattle.fort_certificate_grammar.specs.CertificateFaults.{IsFirstCertificateFault}
+use Rattle.fort_certificate.specs.Faults.{as_fault}
+use Rattle.fort_steps.specs.CertificateView.{as_certificate}
+use Rattle.fort_answers.specs.InputAnswer.{IsInputRefused}
+use Rattle.fort_run.specs.declared.input.Behind.TheVariants.{Nothing, Certificate}
+use Rattle.fort_run.specs.Inputs.{IsReadBehind}
+use Rattle.fort_run.specs.Questions.{as_tail}
+use Rattle.fort_run.proofs.Fitting.{number_is}
+use Rattle.fort_run.proofs.InputLines.{form_refused, nothing_behind, certificate_refused, certificate_behind}
+use Rattle.fort_run.proofs.input.read_behind.Goals as goal
+
+pub returns-then-problem-len-clause-refused : goal.returns-then-problem-len-clause-refused
+returns-then-problem-len-clause-refused c = λ s problem same.
+    let forms = c.args.forms.now in
+    let line = c.in_ok-line-in-Nothing.line.items in
+    subst (λ t. IsInputRefused (as_tail t) forms.bytes line) (sym c.in-Nothing.is)
+    (form_refused forms.bytes forms.forms c.requires.short c.requires.are s c.args.problem.now.next problem line
+    (omega (arith, c.len.ensures.count, c.if-problem-len.true)) c.in_ok-line-in-Nothing.ensures)
+
+pub returns-else-problem-len-clause-ok : goal.returns-else-problem-len-clause-ok
+returns-else-problem-len-clause-ok c = λ s problem same.
+    let forms = c.args.forms.now in
+    let is = nothing_behind forms.bytes forms.forms c.requires.short c.requires.are s c.args.problem.now.next problem
+    (omega (arith, c.len.ensures.count, c.if-problem-len.false)) in
+    subst (λ t. IsReadBehind (as_tail t) forms.bytes s Nothing) (sym c.in-Nothing.is) (record { behind = tt; is = is; behind_is = tt })
+
+pub returns-in-Ok-clause-ok : goal.returns-in-Ok-clause-ok
+returns-in-Ok-clause-ok c = λ s problem same.
+    let forms = c.args.forms.now in
+    let next = c.args.problem.now.next in
+    let own = as_certificate c.in-Ok.certificate in
+    let number = number_is c.number-number.result c.args.problem.now.system s c.number-number.ensures.count same in
+    let is = certificate_behind forms.bytes forms.forms c.requires.short c.requires.are s next problem own
+    (subst (λ n. IsCertificate forms.bytes n (as_list forms.forms) next own) number c.in-Ok.ensures.ok) in
+    subst (λ t. IsReadBehind (as_tail t) forms.bytes s (Certificate c.in-Ok.certificate)) (sym c.in-Certificate.is)
+    (record { behind = own; is = is; behind_is = refl })
+
+pub returns-in_ok-certificate_line-in-Err-clause-refused : goal.returns-in_ok-certificate_line-in-Err-clause-refused
+returns-in_ok-certificate_line-in-Err-clause-refused c = λ s problem same.
+    let forms = c.args.forms.now in
+    let next = c.args.problem.now.next in
+    let fault = c.in-Err.fault in
+    let line = c.in_ok-certificate_line-in-Err.field-0.items in
+    let number = number_is c.number-number.result c.args.problem.now.system s c.number-number.ensures.count same in
+    subst (λ t. IsInputRefused (as_tail t) forms.bytes line) (sym c.in-Certificate.is)
+    (certificate_refused forms.bytes forms.forms c.requires.short c.requires.are s next problem fault line
+    (subst (λ n. IfSome (as_fault fault) (IsFirstCertificateFault forms.bytes n (as_list forms.forms) next)) number c.in-Err.ensures.fault)
+    c.in_ok-certificate_line-in-Err.ensures)

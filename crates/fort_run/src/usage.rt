@@ -1,0 +1,8 @@
+//! The usage text.
+
+/// What is printed where the words are no request.
+pub const USAGE: &str = "usage: fort decide [--states N] [--reduce] [--certificate] FORMULA
+       fort witness [--states N] [--reduce] FORMULA
+       fort check FORMULA
+       fort sample N
+";
