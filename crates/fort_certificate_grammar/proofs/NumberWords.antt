@@ -1,8 +1,8 @@
 -- Words of numbers, and of versions.
-use Rattle.std.proofs.Common.{◌≡◌, ℕ, ◌+◌, ◌%◌, ◌^◌, ◌<◌, ◌≤◌, List, [], ◌∷◌, length, get_or, decimal, ap, sym, ◌∙◌, arith}
+use Rattle.std.proofs.Common.{◌≡◌, ℕ, ◌+◌, ◌%◌, ◌^◌, ◌<◌, ◌≤◌, List, [], ◌∷◌, length, get_or, decimal, refl, ap, sym, ◌∙◌, arith}
 use Rattle.std.proofs.lemmas.List.{get_or_append_left, length-append}
 use Rattle.std.proofs.lemmas.Fmt.{decimal_digit, decimal_injective, decimal_by_steps}
-use Rattle.fort_certificate_grammar.specs.CertificateForms.{Version, OfOne, OfSeveral, version_word, IsNumberWord}
+use Rattle.fort_certificate_grammar.specs.CertificateForms.{Version, OfOne, OfSeveral, OfReduced, version_word, IsNumberWord}
 
 record BeginsAsNumber (n : ℕ) (ds : List ℕ) : Type 0 where
   some : 0 < length ds
@@ -26,3 +26,10 @@ number_one w n m h k = decimal_injective n m (omega (arith, h.small)) (omega (ar
 pub version_number : (version : Version) → (n : ℕ) × IsNumberWord (version_word version) n
 version_number OfOne = let one : IsNumberWord (version_word OfOne) 1 = record { is = sym (decimal_digit 1 (omega arith)); small = omega arith } in (1, one)
 version_number OfSeveral = let two : IsNumberWord (version_word OfSeveral) 2 = record { is = sym (decimal_digit 2 (omega arith)); small = omega arith } in (2, two)
+version_number OfReduced = let three : IsNumberWord (version_word OfReduced) 3 = record { is = sym (decimal_digit 3 (omega arith)); small = omega arith } in (3, three)
+
+pub version_one : (a b : Version) → version_word a ≡ version_word b → a ≡ b
+version_one OfOne OfOne h = refl
+version_one OfSeveral OfSeveral h = refl
+version_one OfReduced OfReduced h = refl
+version_one a b h = let e = ap (λ w. get_or w 0 0) h in absurd (omega arith)

@@ -4,9 +4,9 @@ use Rattle.std.specs.List.{AllZip}
 use Rattle.fort_counts.specs.Counts.{Count, Finite, Infinite}
 use Rattle.fort_grammar.specs.Forms.{Form}
 use Rattle.fort_grammar.specs.Declarations.{word_of, elements_of, AreWords, IsListOfWords}
-use Rattle.fort_certificate_grammar.specs.Certificates.{Which, Star, Conv, Why, Rule, Pair, Step, Closure, Part, Counts, Value, Certificate}
-use Rattle.fort_certificate_grammar.specs.CertificateForms.{Version, OfOne, OfSeveral, version_for, version_word, IsNumberWord, IsNumberForm, verdict_word, which_word, IsWhyWord, AnyWord, KidsWord, RuleWord, IsPairForm, IsCountForm, FiniteForm, InfiniteForm, IsStepForm, ClosureForm, IndexedForm, PartForm, CountsForm, ValueForm, IsHeaderForm, IsCertificate}
-use Rattle.fort_certificate_grammar.proofs.NumberWords.{number_digit, number_one}
+use Rattle.fort_certificate_grammar.specs.Certificates.{Which, Star, Conv, Why, Rule, Pair, Step, Closure, Part, Merge, Counts, Value, Certificate}
+use Rattle.fort_certificate_grammar.specs.CertificateForms.{Version, version_word, IsNumberWord, IsNumberForm, verdict_word, which_word, IsWhyWord, AnyWord, KidsWord, RuleWord, IsPairForm, IsCountForm, FiniteForm, InfiniteForm, IsStepForm, ClosureForm, IndexedForm, PartForm, MergeForm, CountsForm, ValueForm, IsHeaderForm, IsCertificate}
+use Rattle.fort_certificate_grammar.proofs.NumberWords.{number_digit, number_one, version_one}
 
 some_one : {A : Type 0} (x y : A) → Some x ≡ Some y → x ≡ y
 some_one x y h = cc
@@ -110,6 +110,7 @@ first_one a b fs gs h = (cc, cc)
 abbrev step_word : Step → List ℕ
 step_word (Closure which index pairs) = codes "closure"
 step_word (Part k targets) = codes "part"
+step_word (Merge k classes) = codes "merge"
 step_word (Counts k counts) = codes "counts"
 step_word (Value k value) = codes "value"
 
@@ -124,6 +125,7 @@ step_head : (bytes : List ℕ) (version : Version) (f : Form) (s : Step) → IsS
 step_head bytes version f s (ClosureForm a b fs v is head second each) = record { head = a; second = b; others = fs; is = is; headed = head }
 step_head bytes version f s (IndexedForm a b c fs v is head second third each) = record { head = a; second = b; others = c ∷ fs; is = is; headed = head }
 step_head bytes version f s (PartForm a b fs is head second each) = record { head = a; second = b; others = fs; is = is; headed = head }
+step_head bytes version f s (MergeForm a b fs v is head second each) = record { head = a; second = b; others = fs; is = is; headed = head }
 step_head bytes version f s (CountsForm a b fs is head second each) = record { head = a; second = b; others = fs; is = is; headed = head }
 step_head bytes version f s (ValueForm a b c is head second third) = record { head = a; second = b; others = c ∷ []; is = is; headed = head }
 
@@ -132,8 +134,8 @@ heads_one bytes f u v h k =
     let s = same_two f h.head h.second k.head k.second h.others k.others h.is k.is in
     word_one bytes k.head u v (ap (word_of bytes) (sym s.head) ∙ h.headed) k.headed
 
-one_several : (version : Version) → version ≡ OfOne → version ≡ OfSeveral → ⊥
-one_several version h k = let e : OfOne ≡ OfSeveral = sym h ∙ k in absurd cc
+not_both : (b : Bool) → b ≡ false → b ≡ true → ⊥
+not_both b h k = let e : false ≡ true = sym h ∙ k in absurd cc
 
 pub step_one : (bytes : List ℕ) (version : Version) (f : Form) (s t : Step) → IsStepForm bytes version f s → IsStepForm bytes version f t → s ≡ t
 step_one bytes version f s t (ClosureForm {which = w1} {pairs = ps1} a1 b1 fs1 v1 is1 head1 second1 each1)
@@ -143,9 +145,9 @@ step_one bytes version f s t (ClosureForm {which = w1} {pairs = ps1} a1 b1 fs1 v
     let p = each_one (IsPairForm bytes) (pair_one bytes) fs1 ps1 ps2 each1 (subst (λ (gs : List Form). AllZip (IsPairForm bytes) gs ps2) same.others each2) in
     ap (λ x. Closure x 1 ps1) w ∙ ap (Closure w2 1) p
 step_one bytes version f s t (ClosureForm a1 b1 fs1 v1 is1 head1 second1 each1) (IndexedForm a2 b2 c2 fs2 v2 is2 head2 second2 third2 each2) =
-    absurd (one_several version v1 v2)
+    absurd (not_both _ v1 v2)
 step_one bytes version f s t (IndexedForm a1 b1 c1 fs1 v1 is1 head1 second1 third1 each1) (ClosureForm a2 b2 fs2 v2 is2 head2 second2 each2) =
-    absurd (one_several version v2 v1)
+    absurd (not_both _ v2 v1)
 step_one bytes version f s t (IndexedForm {which = w1} {index = i1} {pairs = ps1} a1 b1 c1 fs1 v1 is1 head1 second1 third1 each1)
     (IndexedForm {which = w2} {index = i2} {pairs = ps2} a2 b2 c2 fs2 v2 is2 head2 second2 third2 each2) =
     let same = same_two f a2 b2 a1 b1 (c2 ∷ fs2) (c1 ∷ fs1) is2 is1 in
@@ -160,6 +162,12 @@ step_one bytes version f s t (PartForm {k = k1} {targets = ns1} a1 b1 fs1 is1 he
     let k = number_form_one bytes b1 k1 k2 second1 (subst (λ (g : Form). IsNumberForm bytes g k2) same.second second2) in
     let p = each_one (IsNumberForm bytes) (number_form_one bytes) fs1 ns1 ns2 each1 (subst (λ (gs : List Form). AllZip (IsNumberForm bytes) gs ns2) same.others each2) in
     ap (λ x. Part x ns1) k ∙ ap (Part k2) p
+step_one bytes version f s t (MergeForm {k = k1} {classes = ns1} a1 b1 fs1 v1 is1 head1 second1 each1)
+    (MergeForm {k = k2} {classes = ns2} a2 b2 fs2 v2 is2 head2 second2 each2) =
+    let same = same_two f a2 b2 a1 b1 fs2 fs1 is2 is1 in
+    let k = number_form_one bytes b1 k1 k2 second1 (subst (λ (g : Form). IsNumberForm bytes g k2) same.second second2) in
+    let p = each_one (IsNumberForm bytes) (number_form_one bytes) fs1 ns1 ns2 each1 (subst (λ (gs : List Form). AllZip (IsNumberForm bytes) gs ns2) same.others each2) in
+    ap (λ x. Merge x ns1) k ∙ ap (Merge k2) p
 step_one bytes version f s t (CountsForm {k = k1} {counts = cs1} a1 b1 fs1 is1 head1 second1 each1)
     (CountsForm {k = k2} {counts = cs2} a2 b2 fs2 is2 head2 second2 each2) =
     let same = same_two f a2 b2 a1 b1 fs2 fs1 is2 is1 in
@@ -174,22 +182,33 @@ step_one bytes version f s t (ValueForm {k = k1} {value = v1} a1 b1 c1 is1 head1
     let v = verdict_one v1 v2 (word_one bytes c1 (verdict_word v1) (verdict_word v2) third1 (ap (word_of bytes) (sym third) ∙ third2)) in
     ap (λ x. Value x v1) k ∙ ap (Value k2) v
 step_one bytes version f s t h k =
-    let e = ap length (heads_one bytes f (step_word s) (step_word t) (step_head bytes version f s h) (step_head bytes version f t k)) in
+    let same = heads_one bytes f (step_word s) (step_word t) (step_head bytes version f s h) (step_head bytes version f t k) in
+    let e = ap length same in
+    let d = ap (λ w. get_or w 0 0) same in
     absurd (omega arith)
 
-header_one : (bytes : List ℕ) (version : Version) (f : Form) (u v : Bool) → IsHeaderForm bytes version f u → IsHeaderForm bytes version f v → u ≡ v
-header_one bytes version f u v h k =
-    verdict_one u v (three_one (codes "certificate") (version_word version) (verdict_word u) (codes "certificate") (version_word version) (verdict_word v)
-    (list_words_one bytes f _ _ h k)).2
+record SameHeader (version other : Version) (u v : Bool) : Type 0 where
+  version_same : version ≡ other
+  verdict : u ≡ v
+
+header_one : (bytes : List ℕ) (version other : Version) (f : Form) (u v : Bool) → IsHeaderForm bytes version f u → IsHeaderForm bytes other f v
+    → SameHeader version other u v
+header_one bytes version other f u v h k =
+    let words = three_one (codes "certificate") (version_word version) (verdict_word u) (codes "certificate") (version_word other) (verdict_word v)
+    (list_words_one bytes f _ _ h k) in
+    record { version_same = version_one version other words.1; verdict = verdict_one u v words.2 }
 
 -- result: forms have at most one reading as a certificate
 pub certificate_one : (bytes : List ℕ) (number : ℕ) (forms : List Form) (from : ℕ) (c d : Certificate) → IsCertificate bytes number forms from c
     → IsCertificate bytes number forms from d → c ≡ d
 certificate_one bytes number forms from c d h k =
-    let version = version_for number in
     let split : k.header ∷ k.others ≡ h.header ∷ h.others = sym k.split ∙ h.split in
     let same = first_one k.header h.header k.others h.others split in
     let first : c.first ≡ d.first = h.first ∙ sym k.first in
-    let verdict = header_one bytes version h.header c.verdict d.verdict h.headed (subst (λ (f : Form). IsHeaderForm bytes version f d.verdict) same.0 k.headed) in
-    let steps = each_one (IsStepForm bytes version) (step_one bytes version) h.others c.steps d.steps h.are_steps (subst (λ (fs : List Form). AllZip (IsStepForm bytes version) fs d.steps) same.1 k.are_steps) in
+    let heads = header_one bytes h.version k.version h.header c.verdict d.verdict h.headed
+    (subst (λ (f : Form). IsHeaderForm bytes k.version f d.verdict) same.0 k.headed) in
+    let verdict = heads.verdict in
+    let others = subst (λ (v : Version). AllZip (IsStepForm bytes v) h.others d.steps) (sym heads.version_same)
+    (subst (λ (fs : List Form). AllZip (IsStepForm bytes k.version) fs d.steps) same.1 k.are_steps) in
+    let steps = each_one (IsStepForm bytes h.version) (step_one bytes h.version) h.others c.steps d.steps h.are_steps others in
     λ i. record { first = first i; verdict = verdict i; steps = steps i }

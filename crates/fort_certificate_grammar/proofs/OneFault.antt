@@ -4,16 +4,16 @@ use Rattle.std.specs.List.{AllZip}
 use Rattle.fort_grammar.specs.Forms.{Form}
 use Rattle.fort_grammar.specs.Declarations.{IsListOfWords}
 use Rattle.fort_certificate_grammar.specs.Certificates.{Step, Certificate}
-use Rattle.fort_certificate_grammar.specs.CertificateForms.{Version, version_for, version_word, IsNumberWord, verdict_word, IsStepForm, IsHeaderForm, IsCertificate}
+use Rattle.fort_certificate_grammar.specs.CertificateForms.{Version, version_word, IsVersionOf, IsNumberWord, verdict_word, IsStepForm, IsHeaderForm, IsCertificate}
 use Rattle.fort_certificate_grammar.specs.CertificateFaults.{CertificateFault, fault_of, StepHead, slots_of, rest_of, AreBad, IsBadStep, NoHead, BadElement, IsBadHeader, NoHeader, NoVersion, WrongVersion, WrongVerdict, IsFirstCertificateFault, WithoutHeader, InHeader, InStep}
-use Rattle.fort_certificate_grammar.proofs.NumberWords.{version_number}
+use Rattle.fort_certificate_grammar.proofs.NumberWords.{version_number, version_one}
 use Rattle.fort_certificate_grammar.proofs.OneCertificate.{list_words_one}
 use Rattle.fort_certificate_grammar.proofs.Slots.{are_bad_same, all_fit_none_bad}
 use Rattle.fort_certificate_grammar.proofs.StepSlots.{Filled, filled, same_parts, heads_same}
 
 against : (bytes : List ℕ) (version : Version) (i : ℕ) (f : Form) (fault : CertificateFault) → Filled bytes version f → IsBadStep bytes version i f fault → ⊥
-against bytes version i f fault x (NoHead other) = other x.which (record { first = x.head; others = x.others; is = x.is; head = x.headed })
-against bytes version i f fault x (BadElement g a fs k is head bad) =
+against bytes version i f fault x (NoHead other) = other x.which x.of_version (record { first = x.head; others = x.others; is = x.is; head = x.headed })
+against bytes version i f fault x (BadElement g a fs k v is head bad) =
     let w : g ≡ x.which = heads_same bytes f a x.head fs x.others g x.which is x.is head x.headed in
     let p = (same_parts f a x.head fs x.others is x.is).others in
     all_fit_none_bad bytes (slots_of x.which version) (rest_of x.which) x.others k x.fit
@@ -27,9 +27,9 @@ step_not_bad bytes version i f s fault h b = against bytes version i f fault (fi
 pub bad_step_one : (bytes : List ℕ) (version : Version) (i : ℕ) (f : Form) (a b : CertificateFault) → IsBadStep bytes version i f a
     → IsBadStep bytes version i f b → a ≡ b
 bad_step_one bytes version i f a b (NoHead x) (NoHead y) = refl
-bad_step_one bytes version i f a b (NoHead x) (BadElement h e fs k is head bad) = absurd (x h (record { first = e; others = fs; is = is; head = head }))
-bad_step_one bytes version i f a b (BadElement h e fs k is head bad) (NoHead x) = absurd (x h (record { first = e; others = fs; is = is; head = head }))
-bad_step_one bytes version i f a b (BadElement g e fs j is head bad) (BadElement h d gs k is' head' bad') =
+bad_step_one bytes version i f a b (NoHead x) (BadElement h e fs k v is head bad) = absurd (x h v (record { first = e; others = fs; is = is; head = head }))
+bad_step_one bytes version i f a b (BadElement h e fs k v is head bad) (NoHead x) = absurd (x h v (record { first = e; others = fs; is = is; head = head }))
+bad_step_one bytes version i f a b (BadElement g e fs j v is head bad) (BadElement h d gs k v' is' head' bad') =
     let w : g ≡ h = heads_same bytes f e d fs gs g h is is' head head' in
     let p = (same_parts f e d fs gs is is').others in
     ap (fault_of i) (are_bad_same bytes (slots_of h version) (rest_of h) gs j k
@@ -61,36 +61,40 @@ not_no_number version w e other =
     let one = version_number version in
     other one.0 (subst (λ (x : List ℕ). IsNumberWord x one.0) e one.1)
 
-pub header_not_bad : (bytes : List ℕ) (version : Version) (i : ℕ) (f : Form) (v : Bool) (fault : CertificateFault) → IsHeaderForm bytes version f v
-    → IsBadHeader bytes version i f fault → ⊥
-header_not_bad bytes version i f v fault h (NoHeader other) = other (version_word version) (verdict_word v) h
-header_not_bad bytes version i f v fault h (NoVersion u w k other) =
+pub header_not_bad : (bytes : List ℕ) (number : ℕ) (version : Version) (i : ℕ) (f : Form) (v : Bool) (fault : CertificateFault) → IsVersionOf number version
+    → IsHeaderForm bytes version f v → IsBadHeader bytes number i f fault → ⊥
+header_not_bad bytes number version i f v fault of h (NoHeader other) = other (version_word version) (verdict_word v) h
+header_not_bad bytes number version i f v fault of h (NoVersion u w k other) =
     not_no_number version u (seconds bytes f (version_word version) (verdict_word v) u w h k) other
-header_not_bad bytes version i f v fault h (WrongVersion n u w k is other) = other (seconds bytes f u w (version_word version) (verdict_word v) k h)
-header_not_bad bytes version i f v fault h (WrongVerdict w k other) = other v (thirds bytes f (version_word version) w (version_word version) (verdict_word v) k h)
+header_not_bad bytes number version i f v fault of h (WrongVersion n u w k is other) =
+    other version of (seconds bytes f u w (version_word version) (verdict_word v) k h)
+header_not_bad bytes number version i f v fault of h (WrongVerdict version' w of' k other) =
+    other v (thirds bytes f (version_word version') w (version_word version) (verdict_word v) k h)
 
-pub bad_header_one : (bytes : List ℕ) (version : Version) (i : ℕ) (f : Form) (a b : CertificateFault) → IsBadHeader bytes version i f a
-    → IsBadHeader bytes version i f b → a ≡ b
-bad_header_one bytes version i f a b (NoHeader x) (NoHeader y) = refl
-bad_header_one bytes version i f a b (NoHeader x) (NoVersion u w k other) = absurd (x u w k)
-bad_header_one bytes version i f a b (NoHeader x) (WrongVersion n u w k is other) = absurd (x u w k)
-bad_header_one bytes version i f a b (NoHeader x) (WrongVerdict w k other) = refl
-bad_header_one bytes version i f a b (NoVersion u w k other) (NoHeader x) = absurd (x u w k)
-bad_header_one bytes version i f a b (NoVersion u w k other) (NoVersion x y l other') = refl
-bad_header_one bytes version i f a b (NoVersion u w k other) (WrongVersion n x y l is other') =
+pub bad_header_one : (bytes : List ℕ) (number : ℕ) (i : ℕ) (f : Form) (a b : CertificateFault) → IsBadHeader bytes number i f a
+    → IsBadHeader bytes number i f b → a ≡ b
+bad_header_one bytes number i f a b (NoHeader x) (NoHeader y) = refl
+bad_header_one bytes number i f a b (NoHeader x) (NoVersion u w k other) = absurd (x u w k)
+bad_header_one bytes number i f a b (NoHeader x) (WrongVersion n u w k is other) = absurd (x u w k)
+bad_header_one bytes number i f a b (NoHeader x) (WrongVerdict version w of k other) = refl
+bad_header_one bytes number i f a b (NoVersion u w k other) (NoHeader x) = absurd (x u w k)
+bad_header_one bytes number i f a b (NoVersion u w k other) (NoVersion x y l other') = refl
+bad_header_one bytes number i f a b (NoVersion u w k other) (WrongVersion n x y l is other') =
     absurd (other n (subst (λ (z : List ℕ). IsNumberWord z n) (seconds bytes f x y u w l k) is))
-bad_header_one bytes version i f a b (NoVersion u w k other) (WrongVerdict y l other') =
+bad_header_one bytes number i f a b (NoVersion u w k other) (WrongVerdict version y of l other') =
     absurd (not_no_number version u (seconds bytes f (version_word version) y u w l k) other)
-bad_header_one bytes version i f a b (WrongVersion n x y l is other') (NoHeader z) = absurd (z x y l)
-bad_header_one bytes version i f a b (WrongVersion n x y l is other') (NoVersion u w k other) =
+bad_header_one bytes number i f a b (WrongVersion n x y l is other') (NoHeader z) = absurd (z x y l)
+bad_header_one bytes number i f a b (WrongVersion n x y l is other') (NoVersion u w k other) =
     absurd (other n (subst (λ (z : List ℕ). IsNumberWord z n) (seconds bytes f x y u w l k) is))
-bad_header_one bytes version i f a b (WrongVersion n x y l is other') (WrongVersion m u w k is' other) = refl
-bad_header_one bytes version i f a b (WrongVersion n x y l is other') (WrongVerdict w k other) = absurd (other' (seconds bytes f x y (version_word version) w l k))
-bad_header_one bytes version i f a b (WrongVerdict y l other') (NoHeader z) = refl
-bad_header_one bytes version i f a b (WrongVerdict y l other') (NoVersion u w k other) =
+bad_header_one bytes number i f a b (WrongVersion n x y l is other') (WrongVersion m u w k is' other) = refl
+bad_header_one bytes number i f a b (WrongVersion n x y l is other') (WrongVerdict version w of k other) =
+    absurd (other' version of (seconds bytes f x y (version_word version) w l k))
+bad_header_one bytes number i f a b (WrongVerdict version y of l other') (NoHeader z) = refl
+bad_header_one bytes number i f a b (WrongVerdict version y of l other') (NoVersion u w k other) =
     absurd (not_no_number version u (seconds bytes f (version_word version) y u w l k) other)
-bad_header_one bytes version i f a b (WrongVerdict y l other') (WrongVersion n u w k is' other) = absurd (other (seconds bytes f u w (version_word version) y k l))
-bad_header_one bytes version i f a b (WrongVerdict y l other') (WrongVerdict w k other) = refl
+bad_header_one bytes number i f a b (WrongVerdict version y of l other') (WrongVersion n u w k is' other) =
+    absurd (other version of (seconds bytes f u w (version_word version) y k l))
+bad_header_one bytes number i f a b (WrongVerdict version y of l other') (WrongVerdict version' w of' k other) = refl
 
 -- two readings stop at one form
 stop_one : (bytes : List ℕ) (version : Version) (i : ℕ) (all before after before' after' : List Form) (ss ss' : List Step) (f f' : Form)
@@ -146,37 +150,58 @@ same_front xs a b fs gs h k = let e : a ∷ fs ≡ b ∷ gs = sym h ∙ k in rec
 none_more : (xs fs : List Form) (a : Form) → xs ≡ [] → xs ≡ a ∷ fs → ⊥
 none_more xs fs a h k = let e : [] ≡ a ∷ fs = sym h ∙ k in absurd cc
 
+-- one form is a header of one version
+version_of_header : (bytes : List ℕ) (version other : Version) (f : Form) (u v : Bool) → IsHeaderForm bytes version f u → IsHeaderForm bytes other f v
+    → version ≡ other
+version_of_header bytes version other f u v h k =
+    version_one version other (seconds bytes f (version_word version) (verdict_word u) (version_word other) (verdict_word v) h k)
+
+-- what a fault in a step says, of the version of another header
+record InStepOf (bytes : List ℕ) (version : Version) (from : ℕ) (before : List Form) (ss : List Step) (f : Form) (a : CertificateFault) : Type 0 where
+  each : AllZip (IsStepForm bytes version) before ss
+  bad : IsBadStep bytes version (from + 1 + length before) f a
+
+moved : (bytes : List ℕ) (version other : Version) (from : ℕ) (header header' : Form) (u v : Bool) (before : List Form) (ss : List Step) (f : Form)
+    (a : CertificateFault) → header ≡ header' → IsHeaderForm bytes version header u → IsHeaderForm bytes other header' v
+    → AllZip (IsStepForm bytes version) before ss → IsBadStep bytes version (from + 1 + length before) f a → InStepOf bytes other from before ss f a
+moved bytes version other from header header' u v before ss f a same h k each bad =
+    let e = version_of_header bytes version other header' u v (subst (λ (g : Form). IsHeaderForm bytes version g u) same h) k in
+    subst (λ (x : Version). InStepOf bytes x from before ss f a) e (record { each = each; bad = bad })
+
 -- result: forms that are a certificate have no fault
 pub certificate_not_bad : (bytes : List ℕ) (number : ℕ) (forms : List Form) (from : ℕ) (c : Certificate) (fault : CertificateFault)
     → IsCertificate bytes number forms from c → IsFirstCertificateFault bytes number forms from fault → ⊥
 certificate_not_bad bytes number forms from c fault h (WithoutHeader is) = none_more (drop from forms) h.others h.header is h.split
 certificate_not_bad bytes number forms from c fault h (InHeader f fs a is bad) =
     let s = same_front (drop from forms) f h.header fs h.others is h.split in
-    header_not_bad bytes (version_for number) from h.header c.verdict a h.headed
-    (subst (λ (g : Form). IsBadHeader bytes (version_for number) from g a) s.header bad)
-certificate_not_bad bytes number forms from c fault h (InStep f v before after ss g a is head each bad) =
+    header_not_bad bytes number h.version from h.header c.verdict a h.of_problem h.headed
+    (subst (λ (g : Form). IsBadHeader bytes number from g a) s.header bad)
+certificate_not_bad bytes number forms from c fault h (InStep version f v before after ss g a is of head each bad) =
     let s = same_front (drop from forms) f h.header (before ++ g ∷ after) h.others is h.split in
-    stop_or_all bytes (version_for number) (from + 1 + length before) h.others before after ss c.steps g a (sym s.others) each h.are_steps bad
+    let m = moved bytes version h.version from f h.header v c.verdict before ss g a s.header head h.headed each bad in
+    stop_or_all bytes h.version (from + 1 + length before) h.others before after ss c.steps g a (sym s.others) m.each h.are_steps m.bad
 
 -- result: forms have at most one first fault
 pub first_fault_one : (bytes : List ℕ) (number : ℕ) (forms : List Form) (from : ℕ) (a b : CertificateFault)
     → IsFirstCertificateFault bytes number forms from a → IsFirstCertificateFault bytes number forms from b → a ≡ b
 first_fault_one bytes number forms from a b (WithoutHeader h) (WithoutHeader k) = refl
 first_fault_one bytes number forms from a b (WithoutHeader h) (InHeader f fs e is bad) = absurd (none_more (drop from forms) fs f h is)
-first_fault_one bytes number forms from a b (WithoutHeader h) (InStep f v before after ss g e is head each bad) =
+first_fault_one bytes number forms from a b (WithoutHeader h) (InStep version f v before after ss g e is of head each bad) =
     absurd (none_more (drop from forms) (before ++ g ∷ after) f h is)
 first_fault_one bytes number forms from a b (InHeader f fs e is bad) (WithoutHeader k) = absurd (none_more (drop from forms) fs f k is)
 first_fault_one bytes number forms from a b (InHeader f fs e is bad) (InHeader g gs d is' bad') =
     let s = same_front (drop from forms) f g fs gs is is' in
-    bad_header_one bytes (version_for number) from g a b (subst (λ (x : Form). IsBadHeader bytes (version_for number) from x a) s.header bad) bad'
-first_fault_one bytes number forms from a b (InHeader f fs e is bad) (InStep g v before after ss x d is' head each bad') =
+    bad_header_one bytes number from g a b (subst (λ (x : Form). IsBadHeader bytes number from x a) s.header bad) bad'
+first_fault_one bytes number forms from a b (InHeader f fs e is bad) (InStep version g v before after ss x d is' of head each bad') =
     let s = same_front (drop from forms) f g fs (before ++ x ∷ after) is is' in
-    absurd (header_not_bad bytes (version_for number) from g v a head (subst (λ (y : Form). IsBadHeader bytes (version_for number) from y a) s.header bad))
-first_fault_one bytes number forms from a b (InStep f v before after ss x d is head each bad) (WithoutHeader k) =
+    absurd (header_not_bad bytes number version from g v a of head (subst (λ (y : Form). IsBadHeader bytes number from y a) s.header bad))
+first_fault_one bytes number forms from a b (InStep version f v before after ss x d is of head each bad) (WithoutHeader k) =
     absurd (none_more (drop from forms) (before ++ x ∷ after) f k is)
-first_fault_one bytes number forms from a b (InStep f v before after ss x d is head each bad) (InHeader g gs e is' bad') =
+first_fault_one bytes number forms from a b (InStep version f v before after ss x d is of head each bad) (InHeader g gs e is' bad') =
     let s = same_front (drop from forms) g f gs (before ++ x ∷ after) is' is in
-    absurd (header_not_bad bytes (version_for number) from f v b head (subst (λ (y : Form). IsBadHeader bytes (version_for number) from y b) s.header bad'))
-first_fault_one bytes number forms from a b (InStep f v before after ss x d is head each bad) (InStep g u before' after' ts y e is' head' each' bad') =
+    absurd (header_not_bad bytes number version from f v b of head (subst (λ (y : Form). IsBadHeader bytes number from y b) s.header bad'))
+first_fault_one bytes number forms from a b (InStep version f v before after ss x d is of head each bad)
+    (InStep version' g u before' after' ts y e is' of' head' each' bad') =
     let s = same_front (drop from forms) f g (before ++ x ∷ after) (before' ++ y ∷ after') is is' in
-    stop_one bytes (version_for number) (from + 1) (before ++ x ∷ after) before after before' after' ss ts x y a b refl s.others each each' bad bad'
+    let m = moved bytes version version' from f g v u before ss x a s.header head head' each bad in
+    stop_one bytes version' (from + 1) (before ++ x ∷ after) before after before' after' ss ts x y a b refl s.others m.each each' m.bad bad'

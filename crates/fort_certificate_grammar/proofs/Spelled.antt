@@ -1,11 +1,11 @@
 -- Forms that spell a certificate's elements are that certificate.
-use Rattle.std.proofs.Common.{◌≡◌, ℕ, Bool, List, [], ◌∷◌, map, drop, Some, decimal, refl, sym, subst}
+use Rattle.std.proofs.Common.{◌≡◌, ℕ, Bool, true, false, if◌then◌else◌, List, [], ◌∷◌, ◌++◌, map, codes, drop, Some, decimal, refl, sym, subst}
 use Rattle.std.specs.List.{AllByRecursion, AllZip}
 use Rattle.fort_counts.specs.Counts.{Count, Finite, Infinite}
 use Rattle.fort_grammar.specs.Forms.{Form}
 use Rattle.fort_grammar.specs.Declarations.{word_of, elements_of, IsListOfWords}
-use Rattle.fort_certificate_grammar.specs.Certificates.{Which, Why, Any, Kids, Rule, Pair, Step, Closure, Part, Counts, Value, Certificate}
-use Rattle.fort_certificate_grammar.specs.CertificateForms.{Version, OfOne, OfSeveral, version_for, IsNumberForm, IsWhyWord, AnyWord, KidsWord, RuleWord, IsPairForm, IsCountForm, FiniteForm, InfiniteForm, IsStepForm, ClosureForm, IndexedForm, PartForm, CountsForm, ValueForm, IsHeaderForm, IsCertificate}
+use Rattle.fort_certificate_grammar.specs.Certificates.{Which, Why, Any, Kids, Rule, Pair, Step, Closure, Part, Merge, Counts, Value, Certificate}
+use Rattle.fort_certificate_grammar.specs.CertificateForms.{Version, tells_index, IsVersionOf, which_word, IsNumberForm, IsWhyWord, AnyWord, KidsWord, RuleWord, IsPairForm, IsCountForm, FiniteForm, InfiniteForm, IsStepForm, ClosureForm, IndexedForm, PartForm, MergeForm, CountsForm, ValueForm, IsHeaderForm, IsCertificate}
 use Rattle.fort_certificate_grammar.specs.CertificateText.{Element, Word, Group, number_element, why_word, pair_element, count_element, step_elements, header_elements, IsSmall, IsSmallWhy, IsSmallPair, IsSmallCount, CanBeWritten}
 
 -- the form is this element; a form is these elements in a list
@@ -61,25 +61,33 @@ counts_again bytes (f ∷ fs) (Infinite n ∷ cs) small h =
     (InfiniteForm (decimal n) h.0 (record { is = refl; small = small.0 }), counts_again bytes fs cs small.1 h.1)
 
 -- a form that spells a step is read as it
-closure_again : (bytes : List ℕ) (version : Version) (f : Form) (which : Which) (index : ℕ) (ps : List Pair) (a b : Form) (fs : List Form)
-    → CanBeWritten version (Closure which index ps) → elements_of f ≡ Some (a ∷ b ∷ fs)
-    → AllZip (SpellsElement bytes) (a ∷ b ∷ fs) (step_elements version (Closure which index ps)) → IsStepForm bytes version f (Closure which index ps)
-closure_again bytes OfOne f which index ps a b fs small is h =
-    subst (λ (i : ℕ). IsStepForm bytes OfOne f (Closure which i ps)) (sym small.0)
-    (ClosureForm a b fs refl is h.0 h.1.0 (pairs_again bytes fs ps small.1 h.1.1))
-closure_again bytes OfSeveral f which index ps a b [] small is h = absurd h.1.1
-closure_again bytes OfSeveral f which index ps a b (c ∷ fs) small is h =
-    IndexedForm a b c fs refl is h.0 h.1.0 (number_again bytes c index small.0 h.1.1.0) (pairs_again bytes fs ps small.1 h.1.1.1)
+closure_again : (bytes : List ℕ) (version : Version) (told : Bool) (f : Form) (which : Which) (index : ℕ) (ps : List Pair) (a b : Form) (fs : List Form)
+    → tells_index version ≡ told → IsSmall index → (tells_index version ≡ false → index ≡ 1) → AllByRecursion IsSmallPair ps
+    → elements_of f ≡ Some (a ∷ b ∷ fs)
+    → AllZip (SpellsElement bytes) (a ∷ b ∷ fs)
+    (Word (codes "closure") ∷ Word (which_word which) ∷ ((if told then (number_element index ∷ []) else []) ++ map pair_element ps))
+    → IsStepForm bytes version f (Closure which index ps)
+closure_again bytes version false f which index ps a b fs told small one each is h =
+    subst (λ (i : ℕ). IsStepForm bytes version f (Closure which i ps)) (sym (one told))
+    (ClosureForm a b fs told is h.0 h.1.0 (pairs_again bytes fs ps each h.1.1))
+closure_again bytes version true f which index ps a b [] told small one each is h = absurd h.1.1
+closure_again bytes version true f which index ps a b (c ∷ fs) told small one each is h =
+    IndexedForm a b c fs told is h.0 h.1.0 (number_again bytes c index small h.1.1.0) (pairs_again bytes fs ps each h.1.1.1)
 
 step_of_elements : (bytes : List ℕ) (version : Version) (f : Form) (s : Step) (fs : List Form) → CanBeWritten version s → elements_of f ≡ Some fs
     → AllZip (SpellsElement bytes) fs (step_elements version s) → IsStepForm bytes version f s
 step_of_elements bytes version f (Closure w i ps) [] small is h = absurd h
 step_of_elements bytes version f (Closure w i ps) (a ∷ []) small is h = absurd h.1
-step_of_elements bytes version f (Closure w i ps) (a ∷ b ∷ fs) small is h = closure_again bytes version f w i ps a b fs small is h
+step_of_elements bytes version f (Closure w i ps) (a ∷ b ∷ fs) small is h =
+    closure_again bytes version (tells_index version) f w i ps a b fs refl small.0.0 small.0.1 small.1 is h
 step_of_elements bytes version f (Part k ns) [] small is h = absurd h
 step_of_elements bytes version f (Part k ns) (a ∷ []) small is h = absurd h.1
 step_of_elements bytes version f (Part k ns) (a ∷ b ∷ fs) small is h =
     PartForm a b fs is h.0 (number_again bytes b k small.0 h.1.0) (numbers_again bytes fs ns small.1 h.1.1)
+step_of_elements bytes version f (Merge k ns) [] small is h = absurd h
+step_of_elements bytes version f (Merge k ns) (a ∷ []) small is h = absurd h.1
+step_of_elements bytes version f (Merge k ns) (a ∷ b ∷ fs) small is h =
+    MergeForm a b fs small.0 is h.0 (number_again bytes b k small.1 h.1.0) (numbers_again bytes fs ns small.2 h.1.1)
 step_of_elements bytes version f (Counts k cs) [] small is h = absurd h
 step_of_elements bytes version f (Counts k cs) (a ∷ []) small is h = absurd h.1
 step_of_elements bytes version f (Counts k cs) (a ∷ b ∷ fs) small is h =
@@ -114,15 +122,16 @@ header_of_elements bytes version f v (a ∷ b ∷ c ∷ []) is h = record { elem
 header_of_elements bytes version f v (a ∷ b ∷ c ∷ d ∷ fs) is h = absurd h.1.1.1
 
 -- result: the forms of a written certificate are that certificate
-pub certificate_again : (bytes : List ℕ) (number : ℕ) (forms : List Form) (c : Certificate) (header : Form) (others : List Form)
-    → drop c.first forms ≡ header ∷ others → AllByRecursion (CanBeWritten (version_for number)) c.steps
-    → Spells bytes header (header_elements (version_for number) c.verdict) → SpellSteps bytes (version_for number) others c.steps
-    → IsCertificate bytes number forms c.first c
-certificate_again bytes number forms c header others split small h k = record {
+pub certificate_again : (bytes : List ℕ) (number : ℕ) (version : Version) (forms : List Form) (c : Certificate) (header : Form) (others : List Form)
+    → IsVersionOf number version → drop c.first forms ≡ header ∷ others → AllByRecursion (CanBeWritten version) c.steps
+    → Spells bytes header (header_elements version c.verdict) → SpellSteps bytes version others c.steps → IsCertificate bytes number forms c.first c
+certificate_again bytes number version forms c header others of split small h k = record {
+  version = version;
+  of_problem = of;
   header = header;
   others = others;
   first = refl;
   split = split;
-  headed = header_of_elements bytes (version_for number) header c.verdict h.elements h.is h.each;
-  are_steps = steps_again bytes (version_for number) others c.steps small k;
+  headed = header_of_elements bytes version header c.verdict h.elements h.is h.each;
+  are_steps = steps_again bytes version others c.steps small k;
 }

@@ -1,16 +1,17 @@
 -- A step is a head and slots that are filled.
-use Rattle.std.proofs.Common.{◌≡◌, ℕ, List, [], ◌∷◌, length, Some, refl, ap, sym, ◌∙◌, arith, subst}
+use Rattle.std.proofs.Common.{◌≡◌, ℕ, Bool, true, false, if◌then◌else◌, List, [], ◌∷◌, length, get_or, Some, refl, ap, sym, ◌∙◌, arith, subst}
 use Rattle.std.specs.List.{AllZip}
 use Rattle.fort_grammar.specs.Forms.{Form}
 use Rattle.fort_grammar.specs.Declarations.{word_of, elements_of}
-use Rattle.fort_certificate_grammar.specs.Certificates.{Step, Closure, Part, Counts, Value}
-use Rattle.fort_certificate_grammar.specs.CertificateForms.{Version, OfOne, OfSeveral, IsNumberForm, IsPairForm, IsCountForm, IsStepForm, ClosureForm, IndexedForm, PartForm, CountsForm, ValueForm}
-use Rattle.fort_certificate_grammar.specs.CertificateFaults.{Slot, WhichSlot, NumberSlot, PairSlot, CountSlot, Fits, index_slots, StepHead, ClosureHead, PartHead, CountsHead, ValueHead, head_word, slots_of, rest_of}
+use Rattle.fort_certificate_grammar.specs.Certificates.{Step, Closure, Part, Merge, Counts, Value}
+use Rattle.fort_certificate_grammar.specs.CertificateForms.{Version, tells_index, IsNumberForm, IsPairForm, IsCountForm, IsStepForm, ClosureForm, IndexedForm, PartForm, MergeForm, CountsForm, ValueForm}
+use Rattle.fort_certificate_grammar.specs.CertificateFaults.{Slot, WhichSlot, NumberSlot, PairSlot, CountSlot, Fits, StepHead, ClosureHead, PartHead, MergeHead, CountsHead, ValueHead, head_word, is_head_of, slots_of, rest_of}
 use Rattle.fort_certificate_grammar.specs.FilledSlots.{FitAll}
 use Rattle.fort_certificate_grammar.proofs.OneCertificate.{word_one}
 
 pub record Filled (bytes : List ℕ) (version : Version) (f : Form) : Type 0 where
   pub which : StepHead
+  pub of_version : is_head_of version which ≡ true
   pub head : Form
   pub others : List Form
   pub is : elements_of f ≡ Some (head ∷ others)
@@ -24,27 +25,43 @@ rest_fits bytes s R fit [] (x ∷ xs) h = absurd h
 rest_fits bytes s R fit (f ∷ fs) [] h = absurd h
 rest_fits bytes s R fit (f ∷ fs) (x ∷ xs) h = (fit f x h.0, rest_fits bytes s R fit fs xs h.1)
 
+-- the slots behind the head of a closure
+abbrev closure_slots : (told : Bool) → List Slot
+closure_slots told = WhichSlot ∷ (if told then (NumberSlot ∷ []) else [])
+
 pub filled : (bytes : List ℕ) (version : Version) (f : Form) (s : Step) → IsStepForm bytes version f s → Filled bytes version f
 filled bytes version f s (ClosureForm {which = w} {pairs = ps} a b fs v is head second each) = record {
   which = ClosureHead;
+  of_version = refl;
   head = a;
   others = b ∷ fs;
   is = is;
   headed = head;
-  fit = subst (λ (x : Version). FitAll bytes (slots_of ClosureHead x) (rest_of ClosureHead) (b ∷ fs)) (sym v)
+  fit = subst (λ (told : Bool). FitAll bytes (closure_slots told) (Some PairSlot) (b ∷ fs)) (sym v)
       ((w, second), rest_fits bytes PairSlot (IsPairForm bytes) (λ g p h. (p, h)) fs ps each);
 }
 filled bytes version f s (IndexedForm {which = w} {index = i} {pairs = ps} a b c fs v is head second third each) = record {
   which = ClosureHead;
+  of_version = refl;
   head = a;
   others = b ∷ c ∷ fs;
   is = is;
   headed = head;
-  fit = subst (λ (x : Version). FitAll bytes (slots_of ClosureHead x) (rest_of ClosureHead) (b ∷ c ∷ fs)) (sym v)
+  fit = subst (λ (told : Bool). FitAll bytes (closure_slots told) (Some PairSlot) (b ∷ c ∷ fs)) (sym v)
       ((w, second), ((i, third), rest_fits bytes PairSlot (IsPairForm bytes) (λ g p h. (p, h)) fs ps each));
 }
 filled bytes version f s (PartForm {k = k} {targets = ns} a b fs is head second each) = record {
   which = PartHead;
+  of_version = refl;
+  head = a;
+  others = b ∷ fs;
+  is = is;
+  headed = head;
+  fit = ((k, second), rest_fits bytes NumberSlot (IsNumberForm bytes) (λ g n h. (n, h)) fs ns each);
+}
+filled bytes version f s (MergeForm {k = k} {classes = ns} a b fs v is head second each) = record {
+  which = MergeHead;
+  of_version = v;
   head = a;
   others = b ∷ fs;
   is = is;
@@ -53,6 +70,7 @@ filled bytes version f s (PartForm {k = k} {targets = ns} a b fs is head second 
 }
 filled bytes version f s (CountsForm {k = k} {counts = cs} a b fs is head second each) = record {
   which = CountsHead;
+  of_version = refl;
   head = a;
   others = b ∷ fs;
   is = is;
@@ -61,6 +79,7 @@ filled bytes version f s (CountsForm {k = k} {counts = cs} a b fs is head second
 }
 filled bytes version f s (ValueForm {k = k} {value = v} a b c is head second third) = record {
   which = ValueHead;
+  of_version = refl;
   head = a;
   others = b ∷ c ∷ [];
   is = is;
@@ -79,42 +98,51 @@ each_from_fits bytes s R read (f ∷ fs) h =
 abbrev SomeStep : List ℕ → Version → Form → Type 0
 SomeStep bytes version f = (s : Step) × IsStepForm bytes version f s
 
-closure_from_filled : (bytes : List ℕ) (version : Version) (f a b : Form) (fs : List Form) → elements_of f ≡ Some (a ∷ b ∷ fs)
-    → word_of bytes a ≡ Some (head_word ClosureHead) → Fits bytes b WhichSlot → FitAll bytes (index_slots version) (Some PairSlot) fs
-    → SomeStep bytes version f
-closure_from_filled bytes OfOne f a b fs is head which h =
-    let pairs = each_from_fits bytes PairSlot (IsPairForm bytes) (λ g fits. fits) fs h in
-    (Closure which.0 1 pairs.0, ClosureForm a b fs refl is head which.1 pairs.1)
-closure_from_filled bytes OfSeveral f a b [] is head which h = absurd h
-closure_from_filled bytes OfSeveral f a b (c ∷ fs) is head which h =
+closure_from_filled : (bytes : List ℕ) (version : Version) (told : Bool) (f a b : Form) (fs : List Form) → tells_index version ≡ told
+    → elements_of f ≡ Some (a ∷ b ∷ fs) → word_of bytes a ≡ Some (head_word ClosureHead)
+    → FitAll bytes (closure_slots told) (Some PairSlot) (b ∷ fs) → SomeStep bytes version f
+closure_from_filled bytes version false f a b fs told is head h =
     let pairs = each_from_fits bytes PairSlot (IsPairForm bytes) (λ g fits. fits) fs h.1 in
-    (Closure which.0 h.0.0 pairs.0, IndexedForm a b c fs refl is head which.1 h.0.1 pairs.1)
+    (Closure h.0.0 1 pairs.0, ClosureForm a b fs told is head h.0.1 pairs.1)
+closure_from_filled bytes version true f a b [] told is head h = absurd h.1
+closure_from_filled bytes version true f a b (c ∷ fs) told is head h =
+    let pairs = each_from_fits bytes PairSlot (IsPairForm bytes) (λ g fits. fits) fs h.1.1 in
+    (Closure h.0.0 h.1.0.0 pairs.0, IndexedForm a b c fs told is head h.0.1 h.1.0.1 pairs.1)
 
--- a head whose slots are filled is a step
-pub step_from_filled : (bytes : List ℕ) (version : Version) (f : Form) (which : StepHead) (a : Form) (fs : List Form) → elements_of f ≡ Some (a ∷ fs)
-    → word_of bytes a ≡ Some (head_word which) → FitAll bytes (slots_of which version) (rest_of which) fs → SomeStep bytes version f
-step_from_filled bytes version f ClosureHead a [] is head h = absurd h
-step_from_filled bytes version f ClosureHead a (b ∷ fs) is head h = closure_from_filled bytes version f a b fs is head h.0 h.1
-step_from_filled bytes version f PartHead a [] is head h = absurd h
-step_from_filled bytes version f PartHead a (b ∷ fs) is head h =
+-- a head of the version whose slots are filled is a step
+pub step_from_filled : (bytes : List ℕ) (version : Version) (f : Form) (which : StepHead) (a : Form) (fs : List Form) → is_head_of version which ≡ true
+    → elements_of f ≡ Some (a ∷ fs) → word_of bytes a ≡ Some (head_word which) → FitAll bytes (slots_of which version) (rest_of which) fs
+    → SomeStep bytes version f
+step_from_filled bytes version f ClosureHead a [] v is head h = absurd h
+step_from_filled bytes version f ClosureHead a (b ∷ fs) v is head h = closure_from_filled bytes version (tells_index version) f a b fs refl is head h
+step_from_filled bytes version f PartHead a [] v is head h = absurd h
+step_from_filled bytes version f PartHead a (b ∷ fs) v is head h =
     let targets = each_from_fits bytes NumberSlot (IsNumberForm bytes) (λ g fits. fits) fs h.1 in
     (Part h.0.0 targets.0, PartForm a b fs is head h.0.1 targets.1)
-step_from_filled bytes version f CountsHead a [] is head h = absurd h
-step_from_filled bytes version f CountsHead a (b ∷ fs) is head h =
+step_from_filled bytes version f MergeHead a [] v is head h = absurd h
+step_from_filled bytes version f MergeHead a (b ∷ fs) v is head h =
+    let classes = each_from_fits bytes NumberSlot (IsNumberForm bytes) (λ g fits. fits) fs h.1 in
+    (Merge h.0.0 classes.0, MergeForm a b fs v is head h.0.1 classes.1)
+step_from_filled bytes version f CountsHead a [] v is head h = absurd h
+step_from_filled bytes version f CountsHead a (b ∷ fs) v is head h =
     let counts = each_from_fits bytes CountSlot (IsCountForm bytes) (λ g fits. fits) fs h.1 in
     (Counts h.0.0 counts.0, CountsForm a b fs is head h.0.1 counts.1)
-step_from_filled bytes version f ValueHead a [] is head h = absurd h
-step_from_filled bytes version f ValueHead a (b ∷ []) is head h = absurd h.1
-step_from_filled bytes version f ValueHead a (b ∷ c ∷ []) is head h = (Value h.0.0 h.1.0.0, ValueForm a b c is head h.0.1 h.1.0.1)
-step_from_filled bytes version f ValueHead a (b ∷ c ∷ d ∷ fs) is head h = absurd h.1.1
+step_from_filled bytes version f ValueHead a [] v is head h = absurd h
+step_from_filled bytes version f ValueHead a (b ∷ []) v is head h = absurd h.1
+step_from_filled bytes version f ValueHead a (b ∷ c ∷ []) v is head h = (Value h.0.0 h.1.0.0, ValueForm a b c is head h.0.1 h.1.0.1)
+step_from_filled bytes version f ValueHead a (b ∷ c ∷ d ∷ fs) v is head h = absurd h.1.1
 
--- the four heads have different lengths
+-- the heads have different lengths or first letters
 head_one : (g h : StepHead) → head_word g ≡ head_word h → g ≡ h
 head_one ClosureHead ClosureHead e = refl
 head_one PartHead PartHead e = refl
+head_one MergeHead MergeHead e = refl
 head_one CountsHead CountsHead e = refl
 head_one ValueHead ValueHead e = refl
-head_one g h e = let l = ap length e in absurd (omega arith)
+head_one g h e =
+    let l = ap length e in
+    let d = ap (λ w. get_or w 0 0) e in
+    absurd (omega arith)
 
 pub record SameParts (a b : Form) (fs gs : List Form) : Type 0 where
   pub head : a ≡ b

@@ -1,11 +1,11 @@
 -- To believe: what is first wrong with forms that are no certificate of a problem of so many systems.
-use Rattle.std.specs.Prelude.{◌≡◌, ℕ, ◌+◌, Bool, List, [], ◌∷◌, ◌++◌, length, Option, None, Some, codes, drop}
+use Rattle.std.specs.Prelude.{◌≡◌, ℕ, ◌+◌, Bool, true, List, [], ◌∷◌, ◌++◌, length, Option, None, Some, codes, drop, if◌then◌else◌}
 use Rattle.std.specs.List.{AllZip}
 use Rattle.fort_counts.specs.Counts.{Count}
 use Rattle.fort_grammar.specs.Forms.{Form}
 use Rattle.fort_grammar.specs.Declarations.{word_of, elements_of, IsListOfWords, IsHeaded}
 use Rattle.fort_certificate_grammar.specs.Certificates.{Which, Pair, Step}
-use Rattle.fort_certificate_grammar.specs.CertificateForms.{Version, OfOne, OfSeveral, version_for, version_word, IsNumberWord, IsNumberForm, verdict_word, which_word, IsPairForm, IsCountForm, IsStepForm, IsHeaderForm}
+use Rattle.fort_certificate_grammar.specs.CertificateForms.{Version, version_word, tells_index, has_merges, IsVersionOf, IsNumberWord, IsNumberForm, verdict_word, which_word, IsPairForm, IsCountForm, IsStepForm, IsHeaderForm}
 
 -- the number is the form's
 pub data CertificateFault : Type 0 where
@@ -64,59 +64,71 @@ pub data AreBad (bytes : List ℕ) : List Slot → Option Slot → List Form →
   LaterOfRest : (s : Slot) (f : Form) (fs : List Form) (kind : FaultKind) → Fits bytes f s → AreBad bytes [] (Some s) fs kind
       → AreBad bytes [] (Some s) (f ∷ fs) kind
 
--- the four steps by their heads
+-- the steps by their heads
 pub data StepHead : Type 0 where
   ClosureHead : StepHead
   PartHead : StepHead
+  MergeHead : StepHead
   CountsHead : StepHead
   ValueHead : StepHead
 
 abbrev pub head_word : StepHead → List ℕ
 head_word ClosureHead = codes "closure"
 head_word PartHead = codes "part"
+head_word MergeHead = codes "merge"
 head_word CountsHead = codes "counts"
 head_word ValueHead = codes "value"
 
+-- whether a step of this version may have it
+abbrev pub is_head_of : Version → StepHead → Bool
+is_head_of version ClosureHead = true
+is_head_of version PartHead = true
+is_head_of version MergeHead = has_merges version
+is_head_of version CountsHead = true
+is_head_of version ValueHead = true
+
 abbrev pub index_slots : Version → List Slot
-index_slots OfOne = []
-index_slots OfSeveral = NumberSlot ∷ []
+index_slots version = if tells_index version then (NumberSlot ∷ []) else []
 
 abbrev pub slots_of : StepHead → Version → List Slot
 slots_of ClosureHead version = WhichSlot ∷ index_slots version
 slots_of PartHead version = NumberSlot ∷ []
+slots_of MergeHead version = NumberSlot ∷ []
 slots_of CountsHead version = NumberSlot ∷ []
 slots_of ValueHead version = NumberSlot ∷ VerdictSlot ∷ []
 
 abbrev pub rest_of : StepHead → Option Slot
 rest_of ClosureHead = Some PairSlot
 rest_of PartHead = Some NumberSlot
+rest_of MergeHead = Some NumberSlot
 rest_of CountsHead = Some CountSlot
 rest_of ValueHead = None
 
 -- what is first wrong with form i, which should be a step
 pub data IsBadStep (bytes : List ℕ) (version : Version) (i : ℕ) (f : Form) : CertificateFault → Type 0 where
-  NoHead : ((h : StepHead) → IsHeaded bytes (head_word h) f → ⊥) → IsBadStep bytes version i f (BadForm i)
-  BadElement : (h : StepHead) (head : Form) (others : List Form) (kind : FaultKind) → elements_of f ≡ Some (head ∷ others)
+  NoHead : ((h : StepHead) → is_head_of version h ≡ true → IsHeaded bytes (head_word h) f → ⊥) → IsBadStep bytes version i f (BadForm i)
+  BadElement : (h : StepHead) (head : Form) (others : List Form) (kind : FaultKind) → is_head_of version h ≡ true
+      → elements_of f ≡ Some (head ∷ others)
       → word_of bytes head ≡ Some (head_word h) → AreBad bytes (slots_of h version) (rest_of h) others kind
       → IsBadStep bytes version i f (fault_of i kind)
 
--- what is first wrong with form i, which should be the header
-pub data IsBadHeader (bytes : List ℕ) (version : Version) (i : ℕ) (f : Form) : CertificateFault → Type 0 where
+-- what is first wrong with form i, which should be the header of a certificate of a problem of so many systems
+pub data IsBadHeader (bytes : List ℕ) (number : ℕ) (i : ℕ) (f : Form) : CertificateFault → Type 0 where
   NoHeader : ((second third : List ℕ) → IsListOfWords bytes f (codes "certificate" ∷ second ∷ third ∷ []) → ⊥)
-      → IsBadHeader bytes version i f (BadForm i)
+      → IsBadHeader bytes number i f (BadForm i)
   NoVersion : (second third : List ℕ) → IsListOfWords bytes f (codes "certificate" ∷ second ∷ third ∷ []) → IsNoNumber second
-      → IsBadHeader bytes version i f (BadNumber i)
+      → IsBadHeader bytes number i f (BadNumber i)
   WrongVersion : (n : ℕ) (second third : List ℕ) → IsListOfWords bytes f (codes "certificate" ∷ second ∷ third ∷ []) → IsNumberWord second n
-      → (second ≡ version_word version → ⊥) → IsBadHeader bytes version i f (OtherVersion i)
-  WrongVerdict : (third : List ℕ) → IsListOfWords bytes f (codes "certificate" ∷ version_word version ∷ third ∷ [])
-      → ((v : Bool) → third ≡ verdict_word v → ⊥) → IsBadHeader bytes version i f (BadForm i)
+      → ((version : Version) → IsVersionOf number version → second ≡ version_word version → ⊥) → IsBadHeader bytes number i f (OtherVersion i)
+  WrongVerdict : (version : Version) (third : List ℕ) → IsVersionOf number version
+      → IsListOfWords bytes f (codes "certificate" ∷ version_word version ∷ third ∷ [])
+      → ((v : Bool) → third ≡ verdict_word v → ⊥) → IsBadHeader bytes number i f (BadForm i)
 
 -- the first fault of the forms from this number on: there is no header, or it is bad, or a step is, and all before it are none
 pub data IsFirstCertificateFault (bytes : List ℕ) (number : ℕ) (forms : List Form) (from : ℕ) : CertificateFault → Type 0 where
   WithoutHeader : drop from forms ≡ [] → IsFirstCertificateFault bytes number forms from (BadForm from)
   InHeader : (header : Form) (others : List Form) (fault : CertificateFault) → drop from forms ≡ header ∷ others
-      → IsBadHeader bytes (version_for number) from header fault → IsFirstCertificateFault bytes number forms from fault
-  InStep : (header : Form) (verdict : Bool) (before after : List Form) (steps : List Step) (f : Form) (fault : CertificateFault)
-      → drop from forms ≡ header ∷ (before ++ f ∷ after) → IsHeaderForm bytes (version_for number) header verdict
-      → AllZip (IsStepForm bytes (version_for number)) before steps
-      → IsBadStep bytes (version_for number) (from + 1 + length before) f fault → IsFirstCertificateFault bytes number forms from fault
+      → IsBadHeader bytes number from header fault → IsFirstCertificateFault bytes number forms from fault
+  InStep : (version : Version) (header : Form) (verdict : Bool) (before after : List Form) (steps : List Step) (f : Form) (fault : CertificateFault)
+      → drop from forms ≡ header ∷ (before ++ f ∷ after) → IsVersionOf number version → IsHeaderForm bytes version header verdict
+      → AllZip (IsStepForm bytes version) before steps → IsBadStep bytes version (from + 1 + length before) f fault → IsFirstCertificateFault bytes number forms from fault

@@ -1,9 +1,9 @@
 -- To believe: the text that is written for a certificate: each form on a line that LF ends, single blanks between elements.
-use Rattle.std.specs.Prelude.{◌≡◌, ℕ, ◌≤◌, Bool, List, [], ◌∷◌, ◌++◌, map, codes, decimal}
+use Rattle.std.specs.Prelude.{◌≡◌, ℕ, ◌≤◌, Bool, true, false, if◌then◌else◌, List, [], ◌∷◌, ◌++◌, map, codes, decimal}
 use Rattle.std.specs.List.{AllByRecursion}
 use Rattle.fort_counts.specs.Counts.{Count, Finite, Infinite}
-use Rattle.fort_certificate_grammar.specs.Certificates.{Why, Any, Kids, Rule, Pair, Step, Closure, Part, Counts, Value}
-use Rattle.fort_certificate_grammar.specs.CertificateForms.{Version, OfOne, OfSeveral, version_for, version_word, most_number, verdict_word, which_word}
+use Rattle.fort_certificate_grammar.specs.Certificates.{Why, Any, Kids, Rule, Pair, Step, Closure, Part, Merge, Counts, Value}
+use Rattle.fort_certificate_grammar.specs.CertificateForms.{Version, version_word, tells_index, has_merges, most_number, verdict_word, which_word}
 
 -- an element of a line: a word, or words in parentheses
 pub data Element : Type 0 where
@@ -40,15 +40,14 @@ abbrev pub count_element : Count → Element
 count_element (Finite n) = Group (codes "fin" ∷ decimal n ∷ [])
 count_element (Infinite n) = Group (codes "inf" ∷ decimal n ∷ [])
 
--- version 1 tells no index
 abbrev pub index_elements : Version → ℕ → List Element
-index_elements OfOne index = []
-index_elements OfSeveral index = number_element index ∷ []
+index_elements version index = if tells_index version then (number_element index ∷ []) else []
 
 abbrev pub step_elements : Version → Step → List Element
 step_elements version (Closure which index pairs) =
     Word (codes "closure") ∷ Word (which_word which) ∷ (index_elements version index ++ map pair_element pairs)
 step_elements version (Part k targets) = Word (codes "part") ∷ number_element k ∷ map number_element targets
+step_elements version (Merge k classes) = Word (codes "merge") ∷ number_element k ∷ map number_element classes
 step_elements version (Counts k counts) = Word (codes "counts") ∷ number_element k ∷ map count_element counts
 step_elements version (Value k value) = Word (codes "value") ∷ number_element k ∷ Word (verdict_word value) ∷ []
 
@@ -59,10 +58,8 @@ abbrev pub steps_text : Version → List Step → List ℕ
 steps_text version [] = []
 steps_text version (s ∷ ss) = line_of (step_elements version s) ++ steps_text version ss
 
--- of a problem of so many systems
-abbrev pub certificate_text : ℕ → Bool → List Step → List ℕ
-certificate_text number verdict steps =
-    line_of (header_elements (version_for number) verdict) ++ steps_text (version_for number) steps
+abbrev pub certificate_text : Version → Bool → List Step → List ℕ
+certificate_text version verdict steps = line_of (header_elements version verdict) ++ steps_text version steps
 
 -- a number that can be written
 abbrev pub IsSmall : ℕ → Type 0
@@ -80,13 +77,14 @@ abbrev pub IsSmallCount : Count → Type 0
 IsSmallCount (Finite n) = IsSmall n
 IsSmallCount (Infinite n) = IsSmall n
 
+-- an index that isn't told is 1
 abbrev pub IsIndex : Version → ℕ → Type 0
-IsIndex OfOne index = index ≡ 1
-IsIndex OfSeveral index = IsSmall index
+IsIndex version index = IsSmall index × (tells_index version ≡ false → index ≡ 1)
 
--- the numbers of a step can be written, and in version 1 the index of a closure is 1
+-- the numbers of a step can be written, and only a version with merges has one
 abbrev pub CanBeWritten : Version → Step → Type 0
 CanBeWritten version (Closure which index pairs) = IsIndex version index × AllByRecursion IsSmallPair pairs
 CanBeWritten version (Part k targets) = IsSmall k × AllByRecursion IsSmall targets
+CanBeWritten version (Merge k classes) = (has_merges version ≡ true) × IsSmall k × AllByRecursion IsSmall classes
 CanBeWritten version (Counts k counts) = IsSmall k × AllByRecursion IsSmallCount counts
 CanBeWritten version (Value k value) = IsSmall k

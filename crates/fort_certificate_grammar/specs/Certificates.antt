@@ -19,11 +19,12 @@ pub record Pair : Type 0 where
   pub q : ℕ
   pub why : Why
 
--- the pairs of a closure of the system of an index; the targets of a part's entries; the counts of the pure states of a part's body; the
--- value of a part without columns
+-- the pairs of a closure of the system of an index; the targets of a part's entries; the classes of the states of a part's table; the counts
+-- of the pure states of a part's body; the value of a part without columns
 pub data Step : Type 0 where
   Closure : Which → (index : ℕ) → List Pair → Step
   Part : (part : ℕ) → (targets : List ℕ) → Step
+  Merge : (part : ℕ) → (classes : List ℕ) → Step
   Counts : (part : ℕ) → List Count → Step
   Value : (part : ℕ) → Bool → Step
 

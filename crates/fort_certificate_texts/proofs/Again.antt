@@ -9,7 +9,7 @@ use Rattle.fort_sexpr.specs.Progress.{IsReadUpTo}
 use Rattle.fort_sexpr.proofs.FormLists.{joined, joined-none}
 use Rattle.fort_sexpr.proofs.Ends.{read_nothing, AreFormsOf-read}
 use Rattle.fort_certificate_grammar.specs.Certificates.{Step, Certificate}
-use Rattle.fort_certificate_grammar.specs.CertificateForms.{Version, version_for}
+use Rattle.fort_certificate_grammar.specs.CertificateForms.{Version, IsVersionOf}
 use Rattle.fort_certificate_grammar.specs.CertificateText.{line_of, step_elements, header_elements, steps_text, certificate_text, CanBeWritten}
 use Rattle.fort_certificate_grammar.specs.CertificateAgain.{IsReadAgain}
 use Rattle.fort_certificate_texts.proofs.TextWords.{IsAt, at_length, at_past}
@@ -49,11 +49,10 @@ steps_at bytes version fs i (s ∷ ss) small r h =
     }
 
 -- behind what was read up to a place
-text_again : (bytes : List ℕ) (number : ℕ) (fs : Forms) (i : ℕ) (v : Bool) (ss : List Step) → AllByRecursion (CanBeWritten (version_for number)) ss
-    → IsReadUpTo bytes [] fs i → IsAt bytes i (certificate_text number v ss) []
+text_again : (bytes : List ℕ) (number : ℕ) (version : Version) (fs : Forms) (i : ℕ) (v : Bool) (ss : List Step) → IsVersionOf number version
+    → AllByRecursion (CanBeWritten version) ss → IsReadUpTo bytes [] fs i → IsAt bytes i (certificate_text version v ss) []
     → IsReadAgain bytes number fs (record { first = length (as_list fs); verdict = v; steps = ss })
-text_again bytes number fs i v ss small r h =
-    let version = version_for number in
+text_again bytes number version fs i v ss of small r h =
     let line = line_of (header_elements version v) in
     let front : IsAt bytes i line (steps_text version ss) = record { is = h.is ∙ append-nil (line ++ steps_text version ss); within = h.within } in
     let o = line_at bytes fs i (header_elements version v) (steps_text version ss) (header_written version v) r front in
@@ -68,25 +67,25 @@ text_again bytes number fs i v ss small r h =
       are_forms = AreFormsOf-read bytes (joined fs gs) (subst (λ (xs : Forms). IsReadUpTo bytes [] xs (length bytes)) (joined-one fs o.form later.forms) later.read);
       others = as_list gs;
       behind = list-joined fs gs;
-      certificate = certificate_again bytes number (as_list (joined fs gs)) c o.form (as_list later.forms) split small o.is later.each;
+      certificate = certificate_again bytes number version (as_list (joined fs gs)) c o.form (as_list later.forms) of split small o.is later.each;
     }
 
 -- result: the text alone
-pub alone_again : (number : ℕ) (v : Bool) (ss : List Step) → AllByRecursion (CanBeWritten (version_for number)) ss
-    → IsReadAgain (certificate_text number v ss) number NoForm (record { first = 0; verdict = v; steps = ss })
-alone_again number v ss small =
-    let whole = certificate_text number v ss in
-    text_again whole number NoForm 0 v ss small (read_nothing whole) (record { is = sym (append-nil whole); within = omega arith })
+pub alone_again : (number : ℕ) (version : Version) (v : Bool) (ss : List Step) → IsVersionOf number version → AllByRecursion (CanBeWritten version) ss
+    → IsReadAgain (certificate_text version v ss) number NoForm (record { first = 0; verdict = v; steps = ss })
+alone_again number version v ss of small =
+    let whole = certificate_text version v ss in
+    text_again whole number version NoForm 0 v ss of small (read_nothing whole) (record { is = sym (append-nil whole); within = omega arith })
 
 -- result: a text without fault, an LF and the text
-pub behind_again : (number : ℕ) (front : List ℕ) (fs : Forms) (v : Bool) (ss : List Step) → AreFormsOf front fs
-    → AllByRecursion (CanBeWritten (version_for number)) ss
-    → IsReadAgain (front ++ 10 ∷ certificate_text number v ss) number fs (record { first = length (as_list fs); verdict = v; steps = ss })
-behind_again number front fs v ss h small =
-    let text = certificate_text number v ss in
+pub behind_again : (number : ℕ) (version : Version) (front : List ℕ) (fs : Forms) (v : Bool) (ss : List Step) → AreFormsOf front fs
+    → IsVersionOf number version → AllByRecursion (CanBeWritten version) ss
+    → IsReadAgain (front ++ 10 ∷ certificate_text version v ss) number fs (record { first = length (as_list fs); verdict = v; steps = ss })
+behind_again number version front fs v ss h of small =
+    let text = certificate_text version v ss in
     let whole = front ++ 10 ∷ text in
     let at_feed : IsAt whole (length front) (10 ∷ []) (text ++ []) = record {
       is = drop-append_seam front (10 ∷ text) ∙ ap (λ xs. 10 ∷ xs) (sym (append-nil text));
       within = omega (arith, length-append front (10 ∷ text));
     } in
-    text_again whole number fs (length front + 1) v ss small (front_read front text fs h) (at_past whole (length front) (10 ∷ []) text [] at_feed)
+    text_again whole number version fs (length front + 1) v ss of small (front_read front text fs h) (at_past whole (length front) (10 ∷ []) text [] at_feed)

@@ -1,11 +1,11 @@
 -- The words of a certificate are words of a text.
-use Rattle.std.proofs.Common.{◌≡◌, ℕ, zero, suc, ◌<◌, Bool, true, false, ◌&&◌, List, [], ◌∷◌, ◌++◌, map, length, get_or, codes, decimal, refl, arith}
+use Rattle.std.proofs.Common.{◌≡◌, ℕ, zero, suc, ◌<◌, Bool, true, false, if◌then◌else◌, ◌&&◌, List, [], ◌∷◌, ◌++◌, map, length, get_or, codes, decimal, refl, arith}
 use Rattle.std.specs.List.{AllByRecursion, list_all}
 use Rattle.fort_theory.specs.Signatures.{is_word_byte}
 use Rattle.fort_counts.specs.Counts.{Count, Finite, Infinite}
-use Rattle.fort_certificate_grammar.specs.Certificates.{Which, Star, Conv, Why, Any, Kids, Rule, Pair, Step, Closure, Part, Counts, Value}
-use Rattle.fort_certificate_grammar.specs.CertificateForms.{Version, OfOne, OfSeveral, version_word, verdict_word, which_word}
-use Rattle.fort_certificate_grammar.specs.CertificateText.{number_element, why_word, pair_element, count_element, index_elements, step_elements, header_elements, IsSmall, IsSmallWhy, IsSmallPair, IsSmallCount, IsIndex, CanBeWritten}
+use Rattle.fort_certificate_grammar.specs.Certificates.{Which, Star, Conv, Why, Any, Kids, Rule, Pair, Step, Closure, Part, Merge, Counts, Value}
+use Rattle.fort_certificate_grammar.specs.CertificateForms.{Version, OfOne, OfSeveral, OfReduced, version_word, tells_index, verdict_word, which_word}
+use Rattle.fort_certificate_grammar.specs.CertificateText.{number_element, why_word, pair_element, count_element, step_elements, header_elements, IsSmall, IsSmallWhy, IsSmallPair, IsSmallCount, CanBeWritten}
 use Rattle.fort_certificate_texts.proofs.TextWords.{IsWritten, written_number}
 use Rattle.fort_certificate_texts.proofs.TextLines.{IsWrittenElement}
 
@@ -35,6 +35,7 @@ verdict_written false = written (codes "no") (omega arith) refl
 version_written : (version : Version) → IsWritten (version_word version)
 version_written OfOne = written (codes "1") (omega arith) refl
 version_written OfSeveral = written (codes "2") (omega arith) refl
+version_written OfReduced = written (codes "3") (omega arith) refl
 
 why_written : (w : Why) → IsSmallWhy w → IsWritten (why_word w)
 why_written Any h = written (codes "any") (omega arith) refl
@@ -54,14 +55,15 @@ counts_written [] h = tt
 counts_written (Finite n ∷ cs) h = ((written (codes "fin") (omega arith) refl, (number_written n h.0, tt)), counts_written cs h.1)
 counts_written (Infinite n ∷ cs) h = ((written (codes "inf") (omega arith) refl, (number_written n h.0, tt)), counts_written cs h.1)
 
-closure_written : (version : Version) (index : ℕ) (ps : List Pair) → IsIndex version index → AllByRecursion IsSmallPair ps
-    → AllByRecursion IsWrittenElement (index_elements version index ++ map pair_element ps)
-closure_written OfOne index ps h small = pairs_written ps small
-closure_written OfSeveral index ps h small = (number_written index h, pairs_written ps small)
+closure_written : (told : Bool) (index : ℕ) (ps : List Pair) → IsSmall index → AllByRecursion IsSmallPair ps
+    → AllByRecursion IsWrittenElement ((if told then (number_element index ∷ []) else []) ++ map pair_element ps)
+closure_written false index ps h small = pairs_written ps small
+closure_written true index ps h small = (number_written index h, pairs_written ps small)
 
 pub step_written : (version : Version) (s : Step) → CanBeWritten version s → AllByRecursion IsWrittenElement (step_elements version s)
-step_written version (Closure w i ps) h = (written (codes "closure") (omega arith) refl, (which_written w, closure_written version i ps h.0 h.1))
+step_written version (Closure w i ps) h = (written (codes "closure") (omega arith) refl, (which_written w, closure_written (tells_index version) i ps h.0.0 h.1))
 step_written version (Part k ns) h = (written (codes "part") (omega arith) refl, (number_written k h.0, numbers_written ns h.1))
+step_written version (Merge k ns) h = (written (codes "merge") (omega arith) refl, (number_written k h.1, numbers_written ns h.2))
 step_written version (Counts k cs) h = (written (codes "counts") (omega arith) refl, (number_written k h.0, counts_written cs h.1))
 step_written version (Value k v) h = (written (codes "value") (omega arith) refl, (number_written k h, (verdict_written v, tt)))
 

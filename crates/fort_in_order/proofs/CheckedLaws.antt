@@ -10,6 +10,9 @@ use Rattle.fort_cores.specs.Parts.{postorder}
 use Rattle.fort_tables.specs.Entries.{Entry}
 use Rattle.fort_tables.specs.Tables.{Table, listed_table}
 use Rattle.fort_counts.specs.Counts as counts
+use Rattle.fort_interchange.specs.Merges.{merged, IsMerge}
+use Rattle.fort_interchange.specs.MergeOutcomes.{AreEntriesOf, IsMergeOutcome}
+use Rattle.fort_interchange.proofs.MergeOutcomeLaws.{merge_outcome}
 use Rattle.fort_parts.specs.PartColumns.{columns_of, place_in}
 use Rattle.fort_parts.specs.PartAnswers.{OfTable}
 use Rattle.fort_certificate_grammar.specs.Certificates.{Which, Pair as Item, Step, Certificate}
@@ -18,17 +21,19 @@ use Rattle.fort_in_order.specs.PartSteps as part
 use Rattle.fort_in_order.specs.PartSteps.{IsRightPart, part_table}
 use Rattle.fort_in_order.specs.ClosureSteps.{ClosureRules, AreClosureRules, IsClosureOutcome}
 use Rattle.fort_in_order.specs.CountSteps.{IsCountOutcome}
-use Rattle.fort_in_order.specs.Dues.{DueStep, due_of, dues}
+use Rattle.fort_in_order.specs.MergeSteps.{step_outcome, listed_merge}
+use Rattle.fort_in_order.specs.Dues.{DueStep, due_of, dues_of}
 use Rattle.fort_in_order.specs.Made.{Made, nothing_made, with_answer}
 use Rattle.fort_in_order.specs.PartRules.{Local, IsCounted}
-use Rattle.fort_in_order.specs.Checked.{IsClosureJudged, IsCountJudged, IsFine, FineClosure, FinePart, FineCounts, FineValue, IsFailing, FailingClosure, FailingPart, FailingCounts, FailingValue, AreSteps, NoSteps, MoreSteps, last_value, Outcome, Certified, Rejected, IsUpTo, IsChecked, InOrder, OtherVerdict, Failing, NotDue, OneTooMany, Missing, HasOutcome}
+use Rattle.fort_in_order.specs.Checked.{IsClosureJudged, IsCountJudged, IsFine, FineClosure, FinePart, FineMerge, FineCounts, FineValue, IsFailing, FailingClosure, FailingPart, FailingMerge, FailingCounts, FailingValue, AreSteps, NoSteps, MoreSteps, last_value, Outcome, Certified, Rejected, IsUpTo, AreAllFine, IsFirstFailure, Failing, NotDue, OneTooMany, Missing, form_behind, IsChecked, InOrder, OtherVerdict, FailingStep, HasOutcome}
 use Rattle.fort_in_order.proofs.PartLaws.{right_same}
 use Rattle.fort_in_order.proofs.PartOutcomes.{outcome_one}
 use Rattle.fort_in_order.proofs.ClosureOutcomes.{closure_one}
 use Rattle.fort_in_order.proofs.CountOutcomes.{counts_one}
+use Rattle.fort_in_order.proofs.MergeOutcomeLaws.{entries_one, merge_outcome_one}
 use Rattle.fort_in_order.proofs.OrderedLists.{subpatterns_one}
 use Rattle.fort_in_order.proofs.SameLabels.{AreOneOrSame, part_moved, failure_moved}
-use Rattle.fort_in_order.proofs.RuleLaws.{counted_one, local_one, value_one}
+use Rattle.fort_in_order.proofs.RuleLaws.{table_same, counted_one, local_one, value_one}
 
 pub closure_rules_one : (system : PatternSystem) (which : Which) (index : ℕ) (a b : ClosureRules) → AreClosureRules system which index a → AreClosureRules system which index b → a ≡ b
 closure_rules_one system which index a b h k =
@@ -94,10 +99,24 @@ module _ (system : PatternSystem) (root : Core) (parts : List Core) (are : ArePa
       ∙ (ap (λ xs. with_answer made k (OfTable (listed_table (part_table b.rule b.accepting xs targets there.labels)))) same.entries_same
       ∙ ap (λ xs. with_answer made k (OfTable (listed_table (part_table b.rule b.accepting fs targets xs)))) same.labels_same)
 
+  -- and that of its classes
+  merge_made_one : (made : Made) (k : ℕ) (classes : List ℕ) (a b : Table) (es fs : List Entry) → a ≡ b → AreEntriesOf (merged a classes) es → AreEntriesOf (merged b classes) fs
+      → with_answer made k (OfTable (listed_table (listed_merge a classes es))) ≡ with_answer made k (OfTable (listed_table (listed_merge b classes fs)))
+  merge_made_one made k classes a b es fs same h l =
+      let e : es ≡ fs = entries_one (merged b classes) es fs (subst (λ (t : Table). AreEntriesOf (merged t classes) es) same h) l in
+      ap (λ (t : Table). with_answer made k (OfTable (listed_table (listed_merge t classes es)))) same
+      ∙ ap (λ (xs : List Entry). with_answer made k (OfTable (listed_table (listed_merge b classes xs)))) e
+
+  -- the table that stands at one number
+  made_table_one : (made : Made) (k : ℕ) (a b : Table) → made.answers k ≡ OfTable a → made.answers k ≡ OfTable b → a ≡ b
+  made_table_one made k a b h l = table_same a b (sym h ∙ l)
+
   pub fine_one : (made : Made) (s : Step) (x y : Made) → IsFine system parts made s x → IsFine system parts made s y → x ≡ y
   fine_one made s x y (FineClosure h) (FineClosure k) = refl
   fine_one made s x y (FinePart {k = k} {targets = targets} a es ws is h) (FinePart b fs us js l) =
       part_made_one made k targets a b es fs ws us (local_one root parts are made system k (get_or parts k core.True) a b is js) h l
+  fine_one made s x y (FineMerge {k = k} {classes = classes} a es at m h) (FineMerge b fs also n l) =
+      merge_made_one made k classes a b es fs (made_table_one made k a b at also) h l
   fine_one made s x y (FineCounts h) (FineCounts k) = refl
   fine_one made s x y (FineValue h) (FineValue k) = refl
 
@@ -106,6 +125,9 @@ module _ (system : PatternSystem) (root : Core) (parts : List Core) (are : ArePa
   fine_not_failing made s x n a (FinePart {k = k} {targets = targets} l es ws is h) (FailingPart m js f) =
       let there = part_moved l m (local_one root parts are made system k (get_or parts k core.True) l m is js) targets es ws h in
       fine_or_fails n a (outcome_one m.rule targets Fine (Fails n a) (part.IsRight es there.labels there.right) (part.IsFailed n a f))
+  fine_not_failing made s x n a (FineMerge {k = k} {classes = classes} t es at m h) (FailingMerge u outcome also o e) =
+      let same : t ≡ u = made_table_one made k t u at also in
+      fine_or_fails n a (sym (ap step_outcome (merge_outcome u classes (subst (λ (z : Table). IsMerge z classes) same m) o)) ∙ e)
   fine_not_failing made s x n a (FineCounts {k = k} {marks = cs} h) (FailingCounts l) = fine_or_fails n a (count_judged_one made k cs Fine (Fails n a) h l)
   fine_not_failing made s x n a (FineValue {k = k} {value = v} h) (FailingValue own l other) = other (value_one root parts are made k (get_or parts k core.True) v own h l)
 
@@ -114,6 +136,10 @@ module _ (system : PatternSystem) (root : Core) (parts : List Core) (are : ArePa
   failing_one made s n m a b (FailingPart {k = k} {targets = targets} l is f) (FailingPart z js g) =
       let here = failure_moved l z (local_one root parts are made system k (get_or parts k core.True) l z is js) targets n a f in
       one_from_fails n m a b (outcome_one z.rule targets (Fails n a) (Fails m b) (part.IsFailed n a here) (part.IsFailed m b g))
+  failing_one made s n m a b (FailingMerge {k = k} {classes = classes} t o at h e) (FailingMerge u p also l f) =
+      let same : t ≡ u = made_table_one made k t u at also in
+      let one : o ≡ p = merge_outcome_one u classes o p (subst (λ (z : Table). IsMergeOutcome z classes o) same h) l in
+      one_from_fails n m a b (sym e ∙ (ap step_outcome one ∙ f))
   failing_one made s n m a b (FailingCounts {k = k} {marks = cs} h) (FailingCounts l) = one_from_fails n m a b (count_judged_one made k cs (Fails n a) (Fails m b) h l)
   failing_one made s n m a b (FailingValue own h l) (FailingValue other k g) = record { place = refl; reason = refl }
 
@@ -153,29 +179,33 @@ module _ (system : PatternSystem) (root : Core) (parts : List Core) (are : ArePa
       let n : form + suc (length ts) ≡ suc form + length ts = omega arith in
       On e h (runs_over c mid last (suc form) es ts ds ss o more (subst (λ (n : ℕ). Runs c last n ds ss o) n r))
 
-  abbrev all_due : List DueStep
-  all_due = dues (length system.rules) parts
+  abbrev all_due : Certificate → List DueStep
+  all_due c = dues_of c.steps (length system.rules) parts
 
-  runs_whole : (c : Certificate) (m : Made) (o : Outcome) → AreSteps (IsFine system parts) nothing_made all_due c.steps m → ((form : ℕ) → Runs c m form [] [] o) → Runs c nothing_made (c.first + 1) all_due c.steps o
+  runs_whole : (c : Certificate) (m : Made) (o : Outcome) → AreAllFine system parts c.steps m → ((form : ℕ) → Runs c m form [] [] o) → Runs c nothing_made (c.first + 1) (all_due c) c.steps o
   runs_whole c m o h r =
-      let x = runs_over c nothing_made m (c.first + 1) all_due c.steps [] [] o h (r ((c.first + 1) + length c.steps)) in
-      subst (λ (ds : List DueStep). Runs c nothing_made (c.first + 1) ds c.steps o) (append-nil all_due) (subst (λ (ss : List Step). Runs c nothing_made (c.first + 1) (all_due ++ []) ss o) (append-nil c.steps) x)
+      let x = runs_over c nothing_made m (c.first + 1) (all_due c) c.steps [] [] o h (r ((c.first + 1) + length c.steps)) in
+      subst (λ (ds : List DueStep). Runs c nothing_made (c.first + 1) ds c.steps o) (append-nil (all_due c)) (subst (λ (ss : List Step). Runs c nothing_made (c.first + 1) (all_due c ++ []) ss o) (append-nil c.steps) x)
 
-  runs_up_to : (c : Certificate) (front : List Step) (wanted : List DueStep) (rest : List Step) (m : Made) (o : Outcome) → IsUpTo system parts c front wanted rest m → Runs c m ((c.first + 1) + length front) wanted rest o → Runs c nothing_made (c.first + 1) all_due c.steps o
+  runs_up_to : (c : Certificate) (front : List Step) (wanted : List DueStep) (rest : List Step) (m : Made) (o : Outcome) → IsUpTo system parts c.steps front wanted rest m → Runs c m (form_behind c front) wanted rest o → Runs c nothing_made (c.first + 1) (all_due c) c.steps o
   runs_up_to c front wanted rest m o u r =
       let x = runs_over c nothing_made m (c.first + 1) u.done front wanted rest o u.fine r in
       subst (λ (ds : List DueStep). Runs c nothing_made (c.first + 1) ds c.steps o) (sym u.dues_are) (subst (λ (ss : List Step). Runs c nothing_made (c.first + 1) (u.done ++ wanted) ss o) (sym u.steps_are) x)
 
-  runs : (c : Certificate) (o : Outcome) → IsChecked system parts c o → Runs c nothing_made (c.first + 1) all_due c.steps o
+  runs_failing : (c : Certificate) (front : List Step) (place : ℕ) (reason : Reason) → IsFirstFailure system parts c.steps front place reason
+      → Runs c nothing_made (c.first + 1) (all_due c) c.steps (Rejected (form_behind c front) place reason)
+  runs_failing c front place reason (Failing f rest s d wanted m u e h) = runs_up_to c front (d ∷ wanted) (s ∷ rest) m (Rejected (form_behind c front) place reason) u (Fail place reason e h)
+  runs_failing c front place reason (NotDue f rest s d wanted m u other) = runs_up_to c front (d ∷ wanted) (s ∷ rest) m (Rejected (form_behind c front) 0 Due) u (Strange other)
+  runs_failing c front place reason (OneTooMany f rest s m u) = runs_up_to c front [] (s ∷ rest) m (Rejected (form_behind c front) 0 Due) u Over
+  runs_failing c front place reason (Missing f d wanted m u) = runs_up_to c front (d ∷ wanted) [] m (Rejected (form_behind c front) 0 Due) u Under
+
+  runs : (c : Certificate) (o : Outcome) → IsChecked system parts c o → Runs c nothing_made (c.first + 1) (all_due c) c.steps o
   runs c o (InOrder m h v) = runs_whole c m o h (λ form. End v)
   runs c o (OtherVerdict m v h is other) = runs_whole c m o h (λ form. EndOther v is other)
-  runs c o (Failing front rest s d wanted m place reason u e h) = runs_up_to c front (d ∷ wanted) (s ∷ rest) m o u (Fail place reason e h)
-  runs c o (NotDue front rest s d wanted m u other) = runs_up_to c front (d ∷ wanted) (s ∷ rest) m o u (Strange other)
-  runs c o (OneTooMany front rest s m u) = runs_up_to c front [] (s ∷ rest) m o u Over
-  runs c o (Missing front d wanted m u) = runs_up_to c front (d ∷ wanted) [] m o u Under
+  runs c o (FailingStep front place reason h) = runs_failing c front place reason h
 
   pub checked_one : (c : Certificate) (a b : Outcome) → IsChecked system parts c a → IsChecked system parts c b → a ≡ b
-  checked_one c a b h k = runs_one c nothing_made (c.first + 1) all_due c.steps a b (runs c a h) (runs c b k)
+  checked_one c a b h k = runs_one c nothing_made (c.first + 1) (all_due c) c.steps a b (runs c a h) (runs c b k)
 
 -- Result: whatever the parts are listed as
 pub HasOutcome-one : (system : PatternSystem) (f : Core) (c : Certificate) (a b : Outcome) → HasOutcome system f c a → HasOutcome system f c b → a ≡ b

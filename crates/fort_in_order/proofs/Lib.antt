@@ -9,7 +9,10 @@ pub mod OrderedLists
 pub mod CountOutcomes
 pub mod SameLabels
 pub mod RuleLaws
+pub mod MergeOutcomeLaws
+pub mod MergedDues
 pub mod CheckedLaws
 pub mod WrittenParts
+pub mod WrittenMerges
 pub mod WrittenClosures
 pub mod WrittenLaws

@@ -49,7 +49,7 @@ part_one f parts are g j k a b =
     (cases_lt k j))
     (cases_lt j k)
 
-table_same : (a b : Table) → OfTable a ≡ OfTable b → a ≡ b
+pub table_same : (a b : Table) → OfTable a ≡ OfTable b → a ≡ b
 table_same a b h = cc
 
 value_same : (a b : Bool) → OfValue a ≡ OfValue b → a ≡ b

@@ -7,15 +7,18 @@ use Rattle.fort_cores.specs.PartLists.{AreParts}
 use Rattle.fort_tables.specs.Entries.{Entry}
 use Rattle.fort_tables.specs.Tables.{Table, listed_table}
 use Rattle.fort_counts.specs.Counts as counts
+use Rattle.fort_interchange.specs.Merges.{merged, IsMerge}
+use Rattle.fort_interchange.specs.MergeOutcomes.{MergeOutcome, AreEntriesOf, IsMergeOutcome}
 use Rattle.fort_parts.specs.PartColumns.{columns_of, place_in}
 use Rattle.fort_parts.specs.PartAnswers.{OfValue, OfTable}
 use Rattle.fort_certificate_grammar.specs.Certificates as certificates
-use Rattle.fort_certificate_grammar.specs.Certificates.{Which, Pair as Item, Step, Closure, Part, Counts, Certificate}
+use Rattle.fort_certificate_grammar.specs.Certificates.{Which, Pair as Item, Step, Closure, Part, Merge, Counts, Certificate}
 use Rattle.fort_in_order.specs.Outcomes.{Reason, Due, Value, Verdict, StepOutcome, Fine, Fails}
 use Rattle.fort_in_order.specs.PartSteps.{IsRightPart, IsPartFailure, part_table}
 use Rattle.fort_in_order.specs.ClosureSteps.{ClosureRules, AreClosureRules, IsClosureOutcome}
 use Rattle.fort_in_order.specs.CountSteps.{IsCountOutcome}
-use Rattle.fort_in_order.specs.Dues.{DueStep, due_of, dues}
+use Rattle.fort_in_order.specs.MergeSteps.{step_outcome, listed_merge}
+use Rattle.fort_in_order.specs.Dues.{DueStep, due_of, dues_of}
 use Rattle.fort_in_order.specs.Made.{Made, nothing_made, with_closure, with_counts, with_answer}
 use Rattle.fort_in_order.specs.PartRules.{Local, IsLocalOf, IsCounted, IsValueOf}
 
@@ -42,6 +45,9 @@ pub data IsFine (system : PatternSystem) (parts : List Core) (made : Made) : Ste
       → IsLocalOf system parts made k (get_or parts k core.True) local → IsRightPart local.rule targets entries labels
       → IsFine system parts made (Part k targets)
       (with_answer made k (OfTable (listed_table (part_table local.rule local.accepting entries targets labels))))
+  FineMerge : {k : ℕ} {classes : List ℕ} (table : Table) (entries : List Entry) → made.answers k ≡ OfTable table → IsMerge table classes
+      → AreEntriesOf (merged table classes) entries
+      → IsFine system parts made (Merge k classes) (with_answer made k (OfTable (listed_table (listed_merge table classes entries))))
   FineCounts : {k : ℕ} {marks : List counts.Count} → IsCountJudged parts made k marks Fine
       → IsFine system parts made (Counts k marks) (with_counts made k marks)
   FineValue : {k : ℕ} {value : Bool} → IsValueOf parts made k (get_or parts k core.True) value
@@ -55,6 +61,9 @@ pub data IsFailing (system : PatternSystem) (parts : List Core) (made : Made) : 
   FailingPart : {k : ℕ} {targets : List ℕ} {place : ℕ} {reason : Reason} (local : Local)
       → IsLocalOf system parts made k (get_or parts k core.True) local
       → IsPartFailure local.rule targets place reason → IsFailing system parts made (Part k targets) place reason
+  FailingMerge : {k : ℕ} {classes : List ℕ} {place : ℕ} {reason : Reason} (table : Table) (outcome : MergeOutcome)
+      → made.answers k ≡ OfTable table → IsMergeOutcome table classes outcome → step_outcome outcome ≡ Fails place reason
+      → IsFailing system parts made (Merge k classes) place reason
   FailingCounts : {k : ℕ} {marks : List counts.Count} {place : ℕ} {reason : Reason} → IsCountJudged parts made k marks (Fails place reason)
       → IsFailing system parts made (Counts k marks) place reason
   FailingValue : {k : ℕ} {value : Bool} (own : Bool) → IsValueOf parts made k (get_or parts k core.True) own → (value ≡ own → ⊥)
@@ -65,6 +74,34 @@ pub data AreSteps (IsStep : Made → Step → Made → Type 0) : Made → List D
   NoSteps : {made : Made} → AreSteps IsStep made [] [] made
   MoreSteps : {made next last : Made} {s : Step} {d : DueStep} {ds : List DueStep} {ss : List Step} → due_of s ≡ d → IsStep made s next
       → AreSteps IsStep next ds ss last → AreSteps IsStep made (d ∷ ds) (s ∷ ss) last
+
+-- ---- what comes of the steps
+
+-- the steps in front are fine; what is left then of those due, and of those that are there
+pub record IsUpTo (system : PatternSystem) (parts : List Core) (steps front : List Step) (wanted : List DueStep) (rest : List Step)
+    (made : Made) : Type 0 where
+  pub done : List DueStep
+  pub dues_are : dues_of steps (length system.rules) parts ≡ done ++ wanted
+  pub steps_are : steps ≡ front ++ rest
+  pub fine : AreSteps (IsFine system parts) nothing_made done front made
+
+-- all are fine, and this is made then
+abbrev pub AreAllFine : PatternSystem → List Core → List Step → Made → Type 0
+AreAllFine system parts steps made = AreSteps (IsFine system parts) nothing_made (dues_of steps (length system.rules) parts) steps made
+
+-- those in front are fine, and the next one fails, isn't the one due, or isn't there
+pub data IsFirstFailure (system : PatternSystem) (parts : List Core) (steps : List Step) : (front : List Step) → ℕ → Reason → Type 0 where
+  Failing : {place : ℕ} {reason : Reason} (front rest : List Step) (s : Step) (d : DueStep) (wanted : List DueStep) (made : Made)
+      → IsUpTo system parts steps front (d ∷ wanted) (s ∷ rest) made → due_of s ≡ d → IsFailing system parts made s place reason
+      → IsFirstFailure system parts steps front place reason
+  NotDue : (front rest : List Step) (s : Step) (d : DueStep) (wanted : List DueStep) (made : Made)
+      → IsUpTo system parts steps front (d ∷ wanted) (s ∷ rest) made → (due_of s ≡ d → ⊥) → IsFirstFailure system parts steps front 0 Due
+  OneTooMany : (front rest : List Step) (s : Step) (made : Made) → IsUpTo system parts steps front [] (s ∷ rest) made
+      → IsFirstFailure system parts steps front 0 Due
+  Missing : (front : List Step) (d : DueStep) (wanted : List DueStep) (made : Made) → IsUpTo system parts steps front (d ∷ wanted) [] made
+      → IsFirstFailure system parts steps front 0 Due
+
+-- ---- and of the verdict
 
 -- the value of the last step
 abbrev pub last_value : List Step → Option Bool
@@ -78,34 +115,18 @@ pub data Outcome : Type 0 where
   Certified : Bool → Outcome
   Rejected : (form place : ℕ) → Reason → Outcome
 
--- the steps in front are fine; what is left then of those due, and of those that are there
-pub record IsUpTo (system : PatternSystem) (parts : List Core) (c : Certificate) (front : List Step) (wanted : List DueStep)
-    (rest : List Step) (made : Made) : Type 0 where
-  pub done : List DueStep
-  pub dues_are : dues (length system.rules) parts ≡ done ++ wanted
-  pub steps_are : c.steps ≡ front ++ rest
-  pub fine : AreSteps (IsFine system parts) nothing_made done front made
-
 -- the number of the form behind these steps
 abbrev pub form_behind : Certificate → List Step → ℕ
 form_behind c front = c.first + 1 + length front
 
--- what comes of a certificate of a formula with these parts
+-- what comes of a certificate of a closed formula with these parts
 pub data IsChecked (system : PatternSystem) (parts : List Core) (c : Certificate) : Outcome → Type 0 where
-  InOrder : (made : Made) → AreSteps (IsFine system parts) nothing_made (dues (length system.rules) parts) c.steps made
-      → last_value c.steps ≡ Some c.verdict → IsChecked system parts c (Certified c.verdict)
-  OtherVerdict : (made : Made) (value : Bool) → AreSteps (IsFine system parts) nothing_made (dues (length system.rules) parts) c.steps made
-      → last_value c.steps ≡ Some value → (c.verdict ≡ value → ⊥) → IsChecked system parts c (Rejected c.first 0 Verdict)
-  Failing : (front rest : List Step) (s : Step) (d : DueStep) (wanted : List DueStep) (made : Made) (place : ℕ) (reason : Reason)
-      → IsUpTo system parts c front (d ∷ wanted) (s ∷ rest) made → due_of s ≡ d → IsFailing system parts made s place reason
+  InOrder : (made : Made) → AreAllFine system parts c.steps made → last_value c.steps ≡ Some c.verdict
+      → IsChecked system parts c (Certified c.verdict)
+  OtherVerdict : (made : Made) (value : Bool) → AreAllFine system parts c.steps made → last_value c.steps ≡ Some value
+      → (c.verdict ≡ value → ⊥) → IsChecked system parts c (Rejected c.first 0 Verdict)
+  FailingStep : (front : List Step) (place : ℕ) (reason : Reason) → IsFirstFailure system parts c.steps front place reason
       → IsChecked system parts c (Rejected (form_behind c front) place reason)
-  NotDue : (front rest : List Step) (s : Step) (d : DueStep) (wanted : List DueStep) (made : Made)
-      → IsUpTo system parts c front (d ∷ wanted) (s ∷ rest) made → (due_of s ≡ d → ⊥)
-      → IsChecked system parts c (Rejected (form_behind c front) 0 Due)
-  OneTooMany : (front rest : List Step) (s : Step) (made : Made) → IsUpTo system parts c front [] (s ∷ rest) made
-      → IsChecked system parts c (Rejected (form_behind c front) 0 Due)
-  Missing : (front : List Step) (d : DueStep) (wanted : List DueStep) (made : Made) → IsUpTo system parts c front (d ∷ wanted) [] made
-      → IsChecked system parts c (Rejected (form_behind c front) 0 Due)
 
 -- of a formula over a system
 pub record HasOutcome (system : PatternSystem) (f : Core) (c : Certificate) (outcome : Outcome) : Type 0 where

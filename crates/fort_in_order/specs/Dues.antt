@@ -1,21 +1,23 @@
--- To believe: which steps a certificate of a closed formula has to have, and in which order.
+-- To believe: which steps a certificate of a formula has to have, and in which order; a merge may stand behind the step of its part.
 use Rattle.std.specs.Prelude.{ℕ, zero, suc, Bool, true, false, ◌&&◌, ◌==◌, nat_lt, List, [], ◌∷◌, ◌++◌, length, if◌then◌else◌}
 use Rattle.std.specs.List.{list_any}
 use Rattle.fort_cores.specs.Cores as core
 use Rattle.fort_cores.specs.Cores.{Atom, Core}
 use Rattle.fort_parts.specs.PartColumns.{columns_of}
-use Rattle.fort_certificate_grammar.specs.Certificates.{Which, Star, Conv, Step, Closure, Part, Counts, Value}
+use Rattle.fort_certificate_grammar.specs.Certificates.{Which, Star, Conv, Step, Closure, Part, Merge, Counts, Value}
 
 -- what a step is about
 pub data DueStep : Type 0 where
   OfClosure : Which → (index : ℕ) → DueStep
   OfPart : ℕ → DueStep
+  OfMerge : ℕ → DueStep
   OfCounts : ℕ → DueStep
   OfValue : ℕ → DueStep
 
 abbrev pub due_of : Step → DueStep
 due_of (Closure which index items) = OfClosure which index
 due_of (Part k targets) = OfPart k
+due_of (Merge k classes) = OfMerge k
 due_of (Counts k counts) = OfCounts k
 due_of (Value k value) = OfValue k
 
@@ -58,14 +60,33 @@ abbrev pub counts_due : ℕ → Core → List DueStep
 counts_due k (core.Infinite n f) = OfCounts k ∷ []
 counts_due k other = []
 
-abbrev pub answer_due : ℕ → Core → List DueStep
-answer_due k f = if has_columns f then (if is_turned f then [] else (OfPart k ∷ [])) else (OfValue k ∷ [])
+-- the table of part k, and where it is merged its classes behind it
+abbrev pub table_due : (merges : ℕ → Bool) → ℕ → List DueStep
+table_due merges k = OfPart k ∷ (if merges k then (OfMerge k ∷ []) else [])
+
+abbrev pub answer_due : (merges : ℕ → Bool) → ℕ → Core → List DueStep
+answer_due merges k f = if has_columns f then (if is_turned f then [] else table_due merges k) else (OfValue k ∷ [])
 
 -- the parts from number k on
-abbrev pub parts_due : ℕ → List Core → List DueStep
-parts_due k [] = []
-parts_due k (f ∷ fs) = counts_due k f ++ (answer_due k f ++ parts_due (suc k) fs)
+abbrev pub parts_due : (merges : ℕ → Bool) → ℕ → List Core → List DueStep
+parts_due merges k [] = []
+parts_due merges k (f ∷ fs) = counts_due k f ++ (answer_due merges k f ++ parts_due merges (suc k) fs)
 
--- of a formula with these parts, over a system of this many indices
-abbrev pub dues : (indices : ℕ) → List Core → List DueStep
-dues indices parts = closures_due parts indices 1 ++ parts_due 0 parts
+-- of a formula with these parts, over a system of this many indices, where the tables of these parts are merged
+abbrev pub dues : (merges : ℕ → Bool) → (indices : ℕ) → List Core → List DueStep
+dues merges indices parts = closures_due parts indices 1 ++ parts_due merges 0 parts
+
+-- the first of these steps is a merge of part k
+abbrev pub begins_with_merge : List Step → ℕ → Bool
+begins_with_merge (Merge j classes ∷ ss) k = j == k
+begins_with_merge other k = false
+
+-- the step behind the first one of the targets of part k is a merge of it
+abbrev pub is_merged_in : List Step → ℕ → Bool
+is_merged_in [] k = false
+is_merged_in (Part j targets ∷ ss) k = if j == k then begins_with_merge ss k else is_merged_in ss k
+is_merged_in (s ∷ ss) k = is_merged_in ss k
+
+-- those of a certificate with these steps
+abbrev pub dues_of : (steps : List Step) → (indices : ℕ) → List Core → List DueStep
+dues_of steps indices parts = dues (is_merged_in steps) indices parts

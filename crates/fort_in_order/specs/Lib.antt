@@ -5,6 +5,7 @@ pub mod CountSteps
 pub mod Dues
 pub mod Made
 pub mod PartRules
+pub mod MergeSteps
 pub mod Checked
 pub mod Passes
 pub mod Written

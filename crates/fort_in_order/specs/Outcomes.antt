@@ -13,8 +13,12 @@ pub data Reason : Type 0 where
   Label : Reason
   Short : Reason
   Long : Reason
-  -- of counts: not as many as pure states; a child isn't finite with a smaller number; nothing makes the state infinite
+  -- of a merge: a state has no right class; an entry leads elsewhere than with its children's first states
+  Class : Reason
+  Split : Reason
+  -- of counts and merges: not as many as pure states, or as states
   Count : Reason
+  -- of counts: a child isn't finite with a smaller number; nothing makes the state infinite
   Rank : Reason
   Cycle : Reason
   -- the part has another value

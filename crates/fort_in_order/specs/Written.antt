@@ -1,5 +1,5 @@
--- To believe: the certificate that is written: it is in order, with one state for each label, closures by passes, the greatest heights, and of the children that show infinitely many the least.
-use Rattle.std.specs.Prelude.{◌≡◌, ℕ, ◌<◌, List, [], length, get_or, Some}
+-- To believe: the certificate that is written: it is in order, with one state for each label, the coarsest classes behind each table where tables are reduced, closures by passes, the greatest heights, and of the children that show infinitely many the least.
+use Rattle.std.specs.Prelude.{◌≡◌, ℕ, ◌<◌, Bool, List, [], length, get_or, Some}
 use Rattle.fort_theory.specs.Patterns.{PatternSystem}
 use Rattle.fort_cores.specs.Cores as core
 use Rattle.fort_cores.specs.Cores.{Core}
@@ -8,8 +8,10 @@ use Rattle.fort_tables.specs.Entries.{Entry}
 use Rattle.fort_tables.specs.Tables.{Table}
 use Rattle.fort_counts.specs.Counts as counts
 use Rattle.fort_counts.specs.Counts.{Finite, IsCountOf}
+use Rattle.fort_interchange.specs.Merges.{IsCoarsest}
+use Rattle.fort_parts.specs.PartAnswers.{OfTable}
 use Rattle.fort_parts.specs.PartColumns.{columns_of, place_in}
-use Rattle.fort_certificate_grammar.specs.Certificates.{Which, Pair as Item, Step, Closure, Part, Counts, Value, Certificate}
+use Rattle.fort_certificate_grammar.specs.Certificates.{Which, Pair as Item, Step, Closure, Part, Merge, Counts, Value, Certificate}
 use Rattle.fort_in_order.specs.PartSteps.{IsRightPart}
 use Rattle.fort_in_order.specs.ClosureSteps.{ClosureRules, AreClosureRules}
 use Rattle.fort_in_order.specs.Dues.{dues}
@@ -35,6 +37,12 @@ pub record IsWrittenPart (system : PatternSystem) (parts : List Core) (made : Ma
   pub right : IsRightPart local.rule targets entries labels
   pub once : NoLabelTwice labels
 
+-- the classes join all that can be joined
+pub record IsWrittenMerge (made : Made) (k : ℕ) (classes : List ℕ) : Type 0 where
+  pub table : Table
+  pub table_is : made.answers k ≡ OfTable table
+  pub coarsest : IsCoarsest table classes
+
 -- each mark is the count of its state: the greatest height, or the least child that infinitely many terms give
 pub record IsWrittenCounts (parts : List Core) (made : Made) (k : ℕ) (marks : List counts.Count) : Type 0 where
   pub number : ℕ
@@ -49,6 +57,7 @@ pub record IsWrittenCounts (parts : List Core) (made : Made) (k : ℕ) (marks : 
 abbrev pub IsAsWritten : PatternSystem → List Core → Made → Step → Type 0
 IsAsWritten system parts made (Closure which index items) = IsWrittenClosure system which index items
 IsAsWritten system parts made (Part k targets) = IsWrittenPart system parts made k targets
+IsAsWritten system parts made (Merge k classes) = IsWrittenMerge made k classes
 IsAsWritten system parts made (Counts k marks) = IsWrittenCounts parts made k marks
 IsAsWritten system parts made (Value k value) = Unit {0}
 
@@ -57,10 +66,10 @@ pub record IsWrittenStep (system : PatternSystem) (parts : List Core) (made : Ma
   pub fine : IsFine system parts made s next
   pub written : IsAsWritten system parts made s
 
--- of a formula over a system
-pub record IsWritten (system : PatternSystem) (f : Core) (c : Certificate) : Type 0 where
+-- of a formula over a system, with reduced tables or with tables as they are
+pub record IsWritten (reduces : Bool) (system : PatternSystem) (f : Core) (c : Certificate) : Type 0 where
   pub parts : List Core
   pub parts_are : AreParts f parts
   pub made : Made
-  pub steps : AreSteps (IsWrittenStep system parts) nothing_made (dues (length system.rules) parts) c.steps made
+  pub steps : AreSteps (IsWrittenStep system parts) nothing_made (dues (λ k. reduces) (length system.rules) parts) c.steps made
   pub verdict : last_value c.steps ≡ Some c.verdict

@@ -1,4 +1,4 @@
--- A certificate in order proves its verdict: step after step, the counts and answers that are made are right, and the last answer is that of the formula.
+-- A certificate in order proves its verdict: step after step, the counts and answers that are made are right, whatever is merged, and the last answer is that of the formula.
 use Rattle.std.proofs.Common.{◌≡◌, ℕ, zero, suc, ◌+◌, ◌<◌, ◌≤◌, ◌⊎◌, List, [], ◌∷◌, ◌++◌, length, get_or, Bool, true, false, ◌==◌, ◌&&◌, if◌then◌else◌, Some, true≢false, refl, ap, sym, ◌∙◌, arith, subst, inl, inr, ⊎_elim}
 use Rattle.std.specs.Prelude.{Contains}
 use Rattle.std.specs.List.{list_any}
@@ -12,7 +12,7 @@ use Rattle.fort_cores.specs.Cores.{Core, Rel, Atom}
 use Rattle.fort_cores.specs.Parts.{IsClosed, postorder}
 use Rattle.fort_cores.specs.PartLists.{AreParts}
 use Rattle.fort_cores.specs.Structures.{pattern_structure}
-use Rattle.fort_tables.specs.Tables.{Table}
+use Rattle.fort_tables.specs.Tables.{Table, listed_table}
 use Rattle.fort_tables.proofs.EqualTests.{test_from_apart, equal_from_test}
 use Rattle.fort_counts.specs.Counts.{Count, KeepRules, count_at}
 use Rattle.fort_parts.specs.PartColumns.{columns_of, place_in}
@@ -23,18 +23,20 @@ use Rattle.fort_parts.proofs.PartColumnLaws.{is_free-from_column}
 use Rattle.fort_parts.proofs.PartFacts.{IsOverSystem-part}
 use Rattle.fort_parts.proofs.PartOrder.{Contains-postorder, operand_earlier}
 use Rattle.fort_certificate_grammar.specs.Certificates as certificates
-use Rattle.fort_certificate_grammar.specs.Certificates.{Which, Star, Conv, Step, Closure, Part, Counts, Certificate}
+use Rattle.fort_certificate_grammar.specs.Certificates.{Which, Star, Conv, Step, Closure, Part, Merge, Counts, Certificate}
 use Rattle.fort_in_order.specs.Outcomes.{Fine}
-use Rattle.fort_in_order.specs.Dues.{DueStep, OfPart, OfCounts, OfValue, due_of, reads, asks, closures_due, has_columns, is_turned, counts_due, answer_due, parts_due, dues, atom_asks}
+use Rattle.fort_in_order.specs.MergeSteps.{listed_merge}
+use Rattle.fort_in_order.specs.Dues.{DueStep, OfPart, OfMerge, OfCounts, OfValue, due_of, reads, asks, closures_due, has_columns, is_turned, counts_due, table_due, answer_due, parts_due, is_merged_in, dues_of, atom_asks}
 use Rattle.fort_in_order.specs.Made.{Made, nothing_made, with_counts, with_answer, IsAnswerOf, OfStep, Turned}
 use Rattle.fort_in_order.specs.PartRules.{IsCounted, IsLocalOf, IsValueOf}
-use Rattle.fort_in_order.specs.Checked.{IsClosureJudged, IsFine, FineValue, AreSteps, NoSteps, MoreSteps, last_value, IsChecked, InOrder, OtherVerdict, Failing, NotDue, OneTooMany, Missing, Outcome, Certified, IsInOrder}
+use Rattle.fort_in_order.specs.Checked.{IsClosureJudged, IsFine, FineValue, AreSteps, NoSteps, MoreSteps, last_value, AreAllFine, IsChecked, InOrder, OtherVerdict, FailingStep, Outcome, Certified, IsInOrder}
 use Rattle.fort_in_order.proofs.CountOutcomes.{KeepRules-right}
 use Rattle.fort_in_order.proofs.RuleLaws.{part_one, counted_one}
 use Rattle.fort_in_order.proofs.CheckedLaws.{number_same, under_same}
 use Rattle.fort_in_order_laws.proofs.AtomTables.{HasClosuresFor}
 use Rattle.fort_in_order_laws.proofs.RightParts.{some_columns, HasCountsFor, HasAnswers, IsRight, local_right, value_right}
-use Rattle.fort_in_order_laws.proofs.FineSteps.{cut_steps, counts_step, part_step, value_step, one_step, no_step, chosen, passed_over, itself, value_number, HasClosures, closures_done}
+use Rattle.fort_in_order_laws.proofs.MergedTables.{IsAnswerTo-listed_merge}
+use Rattle.fort_in_order_laws.proofs.FineSteps.{cut_steps, counts_step, part_step, merge_step, value_step, one_step, no_step, chosen, passed_over, itself, value_number, HasClosures, closures_done}
 
 -- answers by what was made depend on the answers that were made alone
 pub moved_answer : (parts : List Core) (made other : Made) (f : Core) (answer : Answer) → made.answers ≡ other.answers → IsAnswerOf parts made f answer → IsAnswerOf parts other f answer
@@ -141,14 +143,40 @@ module _ (system : PatternSystem) (root : Core) (parts : List Core) (are : ArePa
       closures = refl;
     }
 
-    answer_done : (k : ℕ) (f : Core) (made next : Made) (ss : List Step) → k < length parts → get_or parts k core.True ≡ f → Has k made → HasClosuresFor system made f → HasCountsFor parts made k f
-        → AreSteps (IsFine system parts) made (answer_due k f) ss next → IsAnswerDone k f made next
-    answer_done k f made next ss l e has closures counts h = by (has_columns f) (is_turned f) refl refl h
+    -- a merge of the table that was made
+    merge_done : (k : ℕ) (f : Core) (made mid next : Made) (ss : List Step) → is_turned f ≡ false → IsAnswerDone k f made mid → AreSteps (IsFine system parts) mid (OfMerge k ∷ []) ss next
+        → IsAnswerDone k f made next
+    merge_done k f made mid next ss t done h =
+        let s = one_step (IsFine system parts) mid next (OfMerge k) ss h in
+        let m = merge_step system parts mid s.0 next k s.1 s.2 in
+        let old : Right f (OfTable m.table) = subst (λ (x : Answer). Right f x) m.table_is (done.right t) in
+        let new = answered k f mid (OfTable (listed_table (listed_merge m.table m.classes m.entries))) (IsAnswerTo-listed_merge system f m.table m.classes m.entries old m.merge m.entries_are) in
+        subst (λ (x : Made). IsAnswerDone k f made x) (sym m.is) (record {
+          right = new.right;
+          others = λ j other. new.others j other ∙ done.others j other;
+          closures = done.closures;
+        })
+
+    answer_done : (merges : ℕ → Bool) (k : ℕ) (f : Core) (made next : Made) (ss : List Step) → k < length parts → get_or parts k core.True ≡ f → Has k made → HasClosuresFor system made f → HasCountsFor parts made k f
+        → AreSteps (IsFine system parts) made (answer_due merges k f) ss next → IsAnswerDone k f made next
+    answer_done merges k f made next ss l e has closures counts h = by (has_columns f) (is_turned f) refl refl h
       where
         own_counts : HasCountsFor parts made k (get_or parts k core.True)
         own_counts = subst (HasCountsFor parts made k) (sym e) counts
 
-        by : (b c : Bool) → has_columns f ≡ b → is_turned f ≡ c → AreSteps (IsFine system parts) made (if b then (if c then [] else (OfPart k ∷ [])) else (OfValue k ∷ [])) ss next → IsAnswerDone k f made next
+        table_made : (mid : Made) (ts : List Step) → has_columns f ≡ true → AreSteps (IsFine system parts) made (OfPart k ∷ []) ts mid → IsAnswerDone k f made mid
+        table_made mid ts m g =
+            let s = one_step (IsFine system parts) made mid (OfPart k) ts g in
+            let p = part_step system parts made s.0 mid k s.1 s.2 in
+            let right = local_right system is root decided parts are k l made has f p.local p.table e m closures own_counts (subst (λ (z : Core). IsLocalOf system parts made k z p.local) e p.local_is) p.by in
+            subst (λ (x : Made). IsAnswerDone k f made x) (sym p.is) (answered k f made (OfTable p.table) right)
+
+        merged_or_not : (b : Bool) (mid : Made) (ts : List Step) → is_turned f ≡ false → IsAnswerDone k f made mid → AreSteps (IsFine system parts) mid (if b then (OfMerge k ∷ []) else []) ts next
+            → IsAnswerDone k f made next
+        merged_or_not true mid ts t done g = merge_done k f made mid next ts t done g
+        merged_or_not false mid ts t done g = subst (λ (x : Made). IsAnswerDone k f made x) (no_step (IsFine system parts) mid next ts g) done
+
+        by : (b c : Bool) → has_columns f ≡ b → is_turned f ≡ c → AreSteps (IsFine system parts) made (if b then (if c then [] else table_due merges k) else (OfValue k ∷ [])) ss next → IsAnswerDone k f made next
         by true true m t g =
             subst (λ (x : Made). IsAnswerDone k f made x) (no_step (IsFine system parts) made next ss g) (record {
               right = λ other. absurd (true≢false (sym t ∙ other));
@@ -156,10 +184,8 @@ module _ (system : PatternSystem) (root : Core) (parts : List Core) (are : ArePa
               closures = refl;
             })
         by true false m t g =
-            let s = one_step (IsFine system parts) made next (OfPart k) ss g in
-            let p = part_step system parts made s.0 next k s.1 s.2 in
-            let right = local_right system is root decided parts are k l made has f p.local p.table e m closures own_counts (subst (λ (z : Core). IsLocalOf system parts made k z p.local) e p.local_is) p.by in
-            subst (λ (x : Made). IsAnswerDone k f made x) (sym p.is) (answered k f made (OfTable p.table) right)
+            let c = cut_steps (IsFine system parts) made (OfPart k ∷ []) (if merges k then (OfMerge k ∷ []) else []) ss next g in
+            merged_or_not (merges k) c.mid c.rest t (table_made c.mid c.front m c.first) c.second
         by false c m t g =
             let s = one_step (IsFine system parts) made next (OfValue k) ss g in
             let p = value_step system parts made s.0 next k s.1 s.2 in
@@ -180,22 +206,22 @@ module _ (system : PatternSystem) (root : Core) (parts : List Core) (are : ArePa
         let w = asked_index system which i f asked o in
         has which i w.0 (omega (arith, w.1)) (any_from (asks which i) parts f c asked)
 
-    parts_done : (fs : List Core) (k : ℕ) (made last : Made) (ss : List Step) → length parts ≡ k + length fs → ((j : ℕ) → get_or fs j core.True ≡ get_or parts (k + j) core.True)
-        → Has k made → HasClosures system parts (1 + length system.rules) made → AreSteps (IsFine system parts) made (parts_due k fs) ss last → Has (length parts) last
-    parts_done [] k made last ss count at has closures h =
+    parts_done : (merges : ℕ → Bool) (fs : List Core) (k : ℕ) (made last : Made) (ss : List Step) → length parts ≡ k + length fs → ((j : ℕ) → get_or fs j core.True ≡ get_or parts (k + j) core.True)
+        → Has k made → HasClosures system parts (1 + length system.rules) made → AreSteps (IsFine system parts) made (parts_due merges k fs) ss last → Has (length parts) last
+    parts_done merges [] k made last ss count at has closures h =
         let e : k ≡ length parts = omega arith in
         subst (λ (n : ℕ). Has n last) e (subst (λ (x : Made). Has k x) (no_step (IsFine system parts) made last ss h) has)
-    parts_done (f ∷ fs) k made last ss count at has closures h =
+    parts_done merges (f ∷ fs) k made last ss count at has closures h =
         let l : k < length parts = omega arith in
         let zero_more : k + 0 ≡ k = omega arith in
         let own : get_or parts k core.True ≡ f = sym (at 0 ∙ ap (λ i. get_or parts i core.True) zero_more) in
-        let c = cut_steps (IsFine system parts) made (counts_due k f) (answer_due k f ++ parts_due (suc k) fs) ss last h in
-        let d = cut_steps (IsFine system parts) c.mid (answer_due k f) (parts_due (suc k) fs) c.rest last c.second in
+        let c = cut_steps (IsFine system parts) made (counts_due k f) (answer_due merges k f ++ parts_due merges (suc k) fs) ss last h in
+        let d = cut_steps (IsFine system parts) c.mid (answer_due merges k f) (parts_due merges (suc k) fs) c.rest last c.second in
         let counts = counts_done k f made c.mid c.front own c.first in
         let has_mid : Has k c.mid = λ j m n t. subst (λ (g : ℕ → Answer). Right (get_or parts j core.True) (g j)) (sym counts.answers) (has j m n t) in
         let closures_mid : HasClosures system parts (1 + length system.rules) c.mid = subst (λ (g : Which → ℕ → List certificates.Pair). AreRightBelow (1 + length system.rules) g) (sym counts.closures) closures in
         let asked : HasClosuresFor system c.mid f = subst (HasClosuresFor system c.mid) own (asked_closures k c.mid l closures_mid) in
-        let answer = answer_done k f c.mid d.mid d.front l own has_mid asked counts.counts d.first in
+        let answer = answer_done merges k f c.mid d.mid d.front l own has_mid asked counts.counts d.first in
         let has_next : Has (suc k) d.mid =
         λ j m n t. ⊎_elim
         (λ (b : j < k). let apart : j ≡ k → ⊥ = λ z. omega arith in subst (λ (x : Answer). Right (get_or parts j core.True) x) (sym (answer.others j apart)) (has_mid j b n t))
@@ -205,7 +231,7 @@ module _ (system : PatternSystem) (root : Core) (parts : List Core) (are : ArePa
         subst (λ (i : ℕ). Right (get_or parts i core.True) (d.mid.answers i)) z (subst (λ (g : Core). Right g (d.mid.answers k)) (sym own) (answer.right turned)))
         (cases_lt j k) in
         let closures_next : HasClosures system parts (1 + length system.rules) d.mid = subst (λ (g : Which → ℕ → List certificates.Pair). AreRightBelow (1 + length system.rules) g) (sym answer.closures) closures_mid in
-        parts_done fs (suc k) d.mid last d.rest (omega arith) (λ j. let i : k + suc j ≡ suc k + j = omega arith in at (suc j) ∙ ap (λ z. get_or parts z core.True) i) has_next closures_next d.second
+        parts_done merges fs (suc k) d.mid last d.rest (omega arith) (λ j. let i : k + suc j ≡ suc k + j = omega arith in at (suc j) ∙ ap (λ z. get_or parts z core.True) i) has_next closures_next d.second
 
 -- ---- the last answer
 
@@ -222,25 +248,26 @@ ends_append : (ds es : List DueStep) (d : DueStep) → EndsIn es d → EndsIn (d
 ends_append [] es d h = h
 ends_append (e ∷ ds) es d h = Behind (ends_append ds es d h)
 
-parts_end : (fs : List Core) (k n : ℕ) → length fs ≡ suc n → has_columns (get_or fs n core.True) ≡ false → EndsIn (parts_due k fs) (OfValue (k + n))
-parts_end [] k n e none = absurd (omega arith)
-parts_end (f ∷ []) k zero e none =
+parts_end : (merges : ℕ → Bool) (fs : List Core) (k n : ℕ) → length fs ≡ suc n → has_columns (get_or fs n core.True) ≡ false → EndsIn (parts_due merges k fs) (OfValue (k + n))
+parts_end merges [] k n e none = absurd (omega arith)
+parts_end merges (f ∷ []) k zero e none =
     let z : k ≡ k + 0 = omega arith in
-    let due : (OfValue k ∷ []) ≡ answer_due k f = sym (passed_over (has_columns f) (if is_turned f then [] else (OfPart k ∷ [])) (OfValue k ∷ []) none) in
-    ends_append (counts_due k f) (answer_due k f ++ []) (OfValue (k + 0))
+    let due : (OfValue k ∷ []) ≡ answer_due merges k f = sym (passed_over (has_columns f) (if is_turned f then [] else table_due merges k) (OfValue k ∷ []) none) in
+    ends_append (counts_due k f) (answer_due merges k f ++ []) (OfValue (k + 0))
     (subst (λ (ds : List DueStep). EndsIn (ds ++ []) (OfValue (k + 0))) due (subst (λ (i : ℕ). EndsIn (OfValue k ∷ []) (OfValue i)) z AtEnd))
-parts_end (f ∷ []) k (suc n) e none = absurd (omega arith)
-parts_end (f ∷ g ∷ fs) k zero e none = absurd (omega arith)
-parts_end (f ∷ g ∷ fs) k (suc n) e none =
+parts_end merges (f ∷ []) k (suc n) e none = absurd (omega arith)
+parts_end merges (f ∷ g ∷ fs) k zero e none = absurd (omega arith)
+parts_end merges (f ∷ g ∷ fs) k (suc n) e none =
     let z : suc k + n ≡ k + suc n = omega arith in
-    ends_append (counts_due k f) (answer_due k f ++ parts_due (suc k) (g ∷ fs)) (OfValue (k + suc n))
-    (ends_append (answer_due k f) (parts_due (suc k) (g ∷ fs)) (OfValue (k + suc n))
-    (subst (λ (i : ℕ). EndsIn (parts_due (suc k) (g ∷ fs)) (OfValue i)) z (parts_end (g ∷ fs) (suc k) n (omega arith) none)))
+    ends_append (counts_due k f) (answer_due merges k f ++ parts_due merges (suc k) (g ∷ fs)) (OfValue (k + suc n))
+    (ends_append (answer_due merges k f) (parts_due merges (suc k) (g ∷ fs)) (OfValue (k + suc n))
+    (subst (λ (i : ℕ). EndsIn (parts_due merges (suc k) (g ∷ fs)) (OfValue i)) z (parts_end merges (g ∷ fs) (suc k) n (omega arith) none)))
 
 module _ (system : PatternSystem) (parts : List Core) where
   own_value : (s : Step) (v : Bool) → last_value (s ∷ []) ≡ Some v → (k : ℕ) × (s ≡ certificates.Value k v)
   own_value (Closure which index items) v e = absurd cc
   own_value (Part k targets) v e = absurd cc
+  own_value (Merge k classes) v e = absurd cc
   own_value (Counts k marks) v e = absurd cc
   own_value (certificates.Value k u) v e = let same : u ≡ v = cc in (k, ap (certificates.Value k) same)
 
@@ -341,7 +368,7 @@ turned_closed (core.Infinite n f) h = refl
 -- the steps of a certificate in order
 record IsFineTo (system : PatternSystem) (parts : List Core) (c : Certificate) (verdict : Bool) : Type 0 where
   made : Made
-  steps : AreSteps (IsFine system parts) nothing_made (dues (length system.rules) parts) c.steps made
+  steps : AreAllFine system parts c.steps made
   last : last_value c.steps ≡ Some verdict
 
 verdict_same : (u v : Bool) → Certified u ≡ Certified v → u ≡ v
@@ -350,10 +377,7 @@ verdict_same u v h = cc
 fine_to : (system : PatternSystem) (parts : List Core) (c : Certificate) (verdict : Bool) (o : Outcome) → IsChecked system parts c o → o ≡ Certified verdict → IsFineTo system parts c verdict
 fine_to system parts c verdict o (InOrder made steps last) e = record { made = made; steps = steps; last = last ∙ ap Some (verdict_same c.verdict verdict e) }
 fine_to system parts c verdict o (OtherVerdict made v steps last other) e = absurd cc
-fine_to system parts c verdict o (Failing front rest s d wanted made place reason u f h) e = absurd cc
-fine_to system parts c verdict o (NotDue front rest s d wanted made u other) e = absurd cc
-fine_to system parts c verdict o (OneTooMany front rest s made u) e = absurd cc
-fine_to system parts c verdict o (Missing front d wanted made u) e = absurd cc
+fine_to system parts c verdict o (FailingStep front place reason h) e = absurd cc
 
 -- Result: whoever wrote a certificate that is in order, its verdict is the formula's truth
 pub certified_truth : (system : PatternSystem) → IsSystem system → (f : Core) → IsDecided system f → IsClosed f → (c : Certificate) (verdict : Bool) → IsInOrder system f c verdict
@@ -361,17 +385,18 @@ pub certified_truth : (system : PatternSystem) → IsSystem system → (f : Core
 certified_truth system is f decided closed c verdict h =
     let parts = h.parts in
     let are = h.parts_are in
+    let merges = is_merged_in c.steps in
     let fine = fine_to system parts c verdict (Certified verdict) h.checked refl in
-    let cut = cut_steps (IsFine system parts) nothing_made (closures_due parts (length system.rules) 1) (parts_due 0 parts) c.steps fine.made fine.steps in
+    let cut = cut_steps (IsFine system parts) nothing_made (closures_due parts (length system.rules) 1) (parts_due merges 0 parts) c.steps fine.made fine.steps in
     let closures = closures_done system parts (length system.rules) 1 nothing_made cut.mid cut.front (λ which j low l asked. absurd (omega arith)) cut.first in
-    let has = parts_done system f parts are is decided parts 0 cut.mid fine.made cut.rest (omega arith) (λ j. let e : j ≡ 0 + j = omega arith in ap (λ i. get_or parts i core.True) e) (λ j l m t. absurd (omega arith)) closures cut.second in
+    let has = parts_done system f parts are is decided merges parts 0 cut.mid fine.made cut.rest (omega arith) (λ j. let e : j ≡ 0 + j = omega arith in ap (λ i. get_or parts i core.True) e) (λ j l m t. absurd (omega arith)) closures cut.second in
     let at = (are.same f).0 (Contains-postorder f) in
     let some = some_part parts f at in
     let n = some.0 in
     let root = last_part f parts are n some.1 in
     let none = no_columns_closed f closed in
-    let end = ends_append (closures_due parts (length system.rules) 1) (parts_due 0 parts) (OfValue n) (let e : 0 + n ≡ n = omega arith in subst (λ (i : ℕ). EndsIn (parts_due 0 parts) (OfValue i)) e (parts_end parts 0 n some.1 (ap has_columns root ∙ none))) in
-    let last = last_made system parts nothing_made fine.made (dues (length system.rules) parts) c.steps n verdict fine.steps end fine.last in
+    let end = ends_append (closures_due parts (length system.rules) 1) (parts_due merges 0 parts) (OfValue n) (let e : 0 + n ≡ n = omega arith in subst (λ (i : ℕ). EndsIn (parts_due merges 0 parts) (OfValue i)) e (parts_end merges parts 0 n some.1 (ap has_columns root ∙ none))) in
+    let last = last_made system parts nothing_made fine.made (dues_of c.steps (length system.rules) parts) c.steps n verdict fine.steps end fine.last in
     let right = has n (omega (arith, some.1)) (omega (arith, some.1)) (ap is_turned root ∙ turned_closed f none) in
     subst (λ (a : Answer). IsAnswerTo (pattern_structure system) f a) last (subst (λ (g : Core). IsAnswerTo (pattern_structure system) g (fine.made.answers n)) root right)
   where

@@ -1,5 +1,5 @@
--- Examples: a certificate that is in order, and the same with another verdict; what is due; a closure that is right, and one that is open.
-use Rattle.std.proofs.Common.{◌≡◌, ℕ, zero, suc, ◌<◌, List, [], ◌∷◌, length, take, get_or, Bool, true, false, None, Some, refl, ap, sym, ◌∙◌, arith, subst, inl, ⊎_elim}
+-- Examples: a certificate that is in order, the same with another verdict, and one with a merge; what is due; a closure that is right, and one that is open.
+use Rattle.std.proofs.Common.{◌≡◌, ℕ, zero, suc, ◌<◌, ◌≤◌, List, [], ◌∷◌, length, take, get_or, Bool, true, false, None, Some, refl, ap, sym, ◌∙◌, arith, subst, inl, ⊎_elim}
 use Rattle.std.specs.Prelude.{Contains}
 use Rattle.fort_theory.specs.Signatures.{Signature, symbol}
 use Rattle.fort_theory.specs.Patterns.{Pattern, Any, At, NoPattern, MorePatterns, PatternSystem}
@@ -12,17 +12,20 @@ use Rattle.fort_cores.proofs.EachOnceLaws.{AreEachOnce-nil, AreEachOnce-new}
 use Rattle.fort_tables.specs.Tuples.{TupleSymbol}
 use Rattle.fort_tables.specs.Entries.{Entry, entry, IsEntry}
 use Rattle.fort_tables.specs.Tables.{Table, listed_table}
+use Rattle.fort_interchange.specs.Merges.{class_of, count_of, leader, led, merged, IsMerge}
+use Rattle.fort_interchange.specs.MergeOutcomes.{AreEntriesOf}
 use Rattle.fort_operations.specs.OperationTruth.{complemented}
 use Rattle.fort_parts.specs.PartAnswers.{OfValue, OfTable}
-use Rattle.fort_certificate_grammar.specs.Certificates.{Star, Conv, Why, Kids, Pair as Item, Part, Value, Certificate}
+use Rattle.fort_certificate_grammar.specs.Certificates.{Star, Conv, Why, Kids, Pair as Item, Step, Part, Merge, Value, Certificate}
 use Rattle.fort_in_order.specs.Outcomes.{Fine, Fails, Open, Verdict}
 use Rattle.fort_in_order.specs.ClosureSteps.{ClosureRules, IsListed, AreListed, Follows, AnyRight, AnyLeft, ByArguments, ByRule, FollowsAt, IsWithin, IsFounded, IsClosureOutcome, IsRight, NotClosed}
 use Rattle.fort_in_order.specs.PartSteps.{IsRightAt, IsRightPart, part_table}
-use Rattle.fort_in_order.specs.Dues.{DueStep, OfClosure, OfPart, OfCounts, dues}
+use Rattle.fort_in_order.specs.MergeSteps.{listed_merge}
+use Rattle.fort_in_order.specs.Dues.{DueStep, OfClosure, OfPart, OfMerge, OfCounts, dues, dues_of}
 use Rattle.fort_in_order.specs.Dues as due
 use Rattle.fort_in_order.specs.Made.{Made, nothing_made, with_answer, OfStep, Turned}
 use Rattle.fort_in_order.specs.PartRules.{Local, normal_local}
-use Rattle.fort_in_order.specs.Checked.{IsFine, FinePart, FineValue, AreSteps, NoSteps, MoreSteps, InOrder, OtherVerdict, Rejected, HasOutcome, IsInOrder}
+use Rattle.fort_in_order.specs.Checked.{IsFine, FinePart, FineMerge, FineValue, AreSteps, NoSteps, MoreSteps, InOrder, OtherVerdict, Rejected, HasOutcome, IsInOrder}
 
 abbrev constants : Signature
 constants = symbol (97 ∷ []) 0 ∷ []
@@ -52,7 +55,7 @@ are_parts =
     AreEachOnce-new (normal ∷ a ∷ b ∷ []) (normal ∷ a ∷ b ∷ []) formula three
     (absent normal formula (a ∷ b ∷ []) (λ e. cc) (absent a formula (b ∷ []) (λ e. cc) (absent b formula [] (λ e. cc) (Contains-none formula))))
 
-all_due : dues 1 parts ≡ (OfPart 0 ∷ due.OfValue 2 ∷ due.OfValue 3 ∷ [])
+all_due : dues (λ k. false) 1 parts ≡ (OfPart 0 ∷ due.OfValue 2 ∷ due.OfValue 3 ∷ [])
 all_due = refl
 
 abbrev local : Local
@@ -105,20 +108,20 @@ right = record {
   all = λ x h. (0, omega arith, is_only (1 ∷ []) x.symbol x.kids h);
 }
 
+no_patterns : AreSubpatternsInOrder [] []
+no_patterns = record {
+  same = λ p. ((λ c. absurd (Contains-none p c)), (λ w. absurd (Contains-none w.0 w.1)));
+  ordered = λ i j l m. absurd (omega arith);
+}
+
 abbrev made : Made
 made = with_answer nothing_made 0 (OfTable table)
 
-steps : AreSteps (IsFine system parts) nothing_made (dues 1 parts) (Part 0 (0 ∷ []) ∷ Value 2 false ∷ Value 3 true ∷ []) (with_answer (with_answer made 2 (OfValue false)) 3 (OfValue true))
+steps : AreSteps (IsFine system parts) nothing_made (dues_of (Part 0 (0 ∷ []) ∷ Value 2 false ∷ Value 3 true ∷ []) 1 parts) (Part 0 (0 ∷ []) ∷ Value 2 false ∷ Value 3 true ∷ []) (with_answer (with_answer made 2 (OfValue false)) 3 (OfValue true))
 steps =
-    MoreSteps refl (FinePart local (only ∷ []) (label ∷ []) (record { lefts = []; patterns = none; is = refl }) right)
+    MoreSteps refl (FinePart local (only ∷ []) (label ∷ []) (record { lefts = []; patterns = no_patterns; is = refl }) right)
     (MoreSteps refl (FineValue (complemented table, Turned table refl (OfStep 0 (omega arith, refl) refl refl), refl))
     (MoreSteps refl (FineValue (false, OfStep 2 (omega arith, refl) refl refl, refl)) NoSteps))
-  where
-    none : AreSubpatternsInOrder [] []
-    none = record {
-      same = λ p. ((λ c. absurd (Contains-none p c)), (λ w. absurd (Contains-none w.0 w.1)));
-      ordered = λ i j l m. absurd (omega arith);
-    }
 
 -- its header is form 2
 abbrev certificate : Bool → Certificate
@@ -129,6 +132,54 @@ example_in_order = record { parts = parts; parts_are = are_parts; checked = InOr
 
 pub example_rejected : HasOutcome system formula (certificate false) (Rejected 2 0 Verdict)
 example_rejected = record { parts = parts; parts_are = are_parts; checked = OtherVerdict (with_answer (with_answer made 2 (OfValue false)) 3 (OfValue true)) true steps refl (λ e. cc) }
+
+-- ---- a merge behind the table, which has one state
+
+abbrev merged_steps : List Step
+merged_steps = Part 0 (0 ∷ []) ∷ Merge 0 (0 ∷ []) ∷ Value 2 false ∷ Value 3 true ∷ []
+
+merge_due : dues_of merged_steps 1 parts ≡ (OfPart 0 ∷ OfMerge 0 ∷ due.OfValue 2 ∷ due.OfValue 3 ∷ [])
+merge_due = refl
+
+-- behind another step a merge isn't due
+merge_elsewhere : dues_of (Part 0 (0 ∷ []) ∷ Value 2 false ∷ Merge 0 (0 ∷ []) ∷ Value 3 true ∷ []) 1 parts ≡ (OfPart 0 ∷ due.OfValue 2 ∷ due.OfValue 3 ∷ [])
+merge_elsewhere = refl
+
+merge : IsMerge table (0 ∷ [])
+merge = record {
+  count = refl;
+  numbered = λ q l. let z : 0 ≡ q = omega arith in subst (λ (i : ℕ). class_of (0 ∷ []) i ≤ count_of (take i (0 ∷ []))) z (omega arith);
+  columns = λ q l. let z : 0 ≡ q = omega arith in subst (λ (i : ℕ). get_or table.presences i 0 ≡ get_or table.presences (leader (0 ∷ []) i) 0) z refl;
+  acceptance = λ q l. let z : 0 ≡ q = omega arith in subst (λ (i : ℕ). table.accepting i ≡ table.accepting (leader (0 ∷ []) i)) z refl;
+  whole = λ e h. subst (λ (x : Entry). class_of (0 ∷ []) (table.target x) ≡ class_of (0 ∷ []) (table.target (led (0 ∷ []) x))) (is_only table.presences e.symbol e.kids h) refl;
+}
+
+entries_are : AreEntriesOf (merged table (0 ∷ [])) (only ∷ [])
+entries_are = record {
+  order = record {
+    are = λ k d l.
+        let z : 0 ≡ k = omega arith in
+        subst (λ (i : ℕ). IsEntry constants 1 (merged table (0 ∷ [])).presences (get_or (only ∷ []) i d)) z (is_entry (merged table (0 ∷ [])).presences);
+    order = λ i j d l m. absurd (omega arith);
+  };
+  all = λ x h. (0, omega arith, is_only (merged table (0 ∷ [])).presences x.symbol x.kids h);
+}
+
+abbrev left : Table
+left = listed_table (listed_merge table (0 ∷ []) (only ∷ []))
+
+abbrev made_merged : Made
+made_merged = with_answer (with_answer (with_answer made 0 (OfTable left)) 2 (OfValue false)) 3 (OfValue true)
+
+steps_merged : AreSteps (IsFine system parts) nothing_made (dues_of merged_steps 1 parts) merged_steps made_merged
+steps_merged =
+    MoreSteps refl (FinePart local (only ∷ []) (label ∷ []) (record { lefts = []; patterns = no_patterns; is = refl }) right)
+    (MoreSteps refl (FineMerge table (only ∷ []) refl merge entries_are)
+    (MoreSteps refl (FineValue (complemented left, Turned left refl (OfStep 0 (omega arith, refl) refl refl), refl))
+    (MoreSteps refl (FineValue (false, OfStep 2 (omega arith, refl) refl refl, refl)) NoSteps)))
+
+pub example_merged : IsInOrder system formula (record { first = 2; verdict = true; steps = merged_steps }) true
+example_merged = record { parts = parts; parts_are = are_parts; checked = InOrder made_merged steps_merged refl }
 
 -- ---- what is due
 
@@ -145,11 +196,11 @@ many_parts =
     ∷ core.Not (core.Exists 0 (core.Not (core.Infinite 1 reached)))
     ∷ []
 
-many_due : dues 1 many_parts ≡ (OfClosure Star 1 ∷ OfPart 0 ∷ OfCounts 1 ∷ OfPart 1 ∷ due.OfValue 3 ∷ due.OfValue 4 ∷ [])
+many_due : dues (λ k. false) 1 many_parts ≡ (OfClosure Star 1 ∷ OfPart 0 ∷ OfCounts 1 ∷ OfPart 1 ∷ due.OfValue 3 ∷ due.OfValue 4 ∷ [])
 many_due = refl
 
 -- of two indices, each with a conversion, one with a strict reduction
-two_due : dues 2 (core.Leaf (core.Related core.Conv 1 0 1) ∷ core.Leaf (core.Related core.Conv 2 0 1) ∷ core.Leaf (core.Related core.Plus 2 0 1) ∷ [])
+two_due : dues (λ k. false) 2 (core.Leaf (core.Related core.Conv 1 0 1) ∷ core.Leaf (core.Related core.Conv 2 0 1) ∷ core.Leaf (core.Related core.Plus 2 0 1) ∷ [])
     ≡ (OfClosure Conv 1 ∷ OfClosure Star 2 ∷ OfClosure Conv 2 ∷ OfPart 0 ∷ OfPart 1 ∷ OfPart 2 ∷ [])
 two_due = refl
 

@@ -5,17 +5,21 @@ use Rattle.std.proofs.lemmas.Bool.{cases_lt}
 use Rattle.fort_theory.specs.Patterns.{PatternSystem}
 use Rattle.fort_cores.specs.Cores as core
 use Rattle.fort_cores.specs.Cores.{Core, Rel}
+use Rattle.fort_tables.specs.Entries.{Entry}
 use Rattle.fort_tables.specs.Tables.{Table, listed_table}
 use Rattle.fort_tables.proofs.EqualTests.{test_from_apart}
+use Rattle.fort_interchange.specs.Merges.{merged, IsMerge}
+use Rattle.fort_interchange.specs.MergeOutcomes.{AreEntriesOf}
 use Rattle.fort_counts.specs.Counts.{Count}
 use Rattle.fort_parts.specs.PartAnswers.{OfValue, OfTable}
 use Rattle.fort_certificate_grammar.specs.Certificates.{Which, Star, Conv, Pair as Item, Step}
 use Rattle.fort_in_order.specs.Outcomes.{Fine}
 use Rattle.fort_in_order.specs.PartSteps.{part_table}
-use Rattle.fort_in_order.specs.Dues.{DueStep, OfClosure, OfPart, OfCounts, OfValue, due_of, asks, closure_due, closures_due}
+use Rattle.fort_in_order.specs.MergeSteps.{listed_merge}
+use Rattle.fort_in_order.specs.Dues.{DueStep, OfClosure, OfPart, OfMerge, OfCounts, OfValue, due_of, asks, closure_due, closures_due}
 use Rattle.fort_in_order.specs.Made.{Made, same_which, with_closure, with_counts, with_answer}
 use Rattle.fort_in_order.specs.PartRules.{Local, IsLocalOf, IsValueOf}
-use Rattle.fort_in_order.specs.Checked.{IsClosureJudged, IsCountJudged, IsFine, FineClosure, FinePart, FineCounts, FineValue, AreSteps, NoSteps, MoreSteps}
+use Rattle.fort_in_order.specs.Checked.{IsClosureJudged, IsCountJudged, IsFine, FineClosure, FinePart, FineMerge, FineCounts, FineValue, AreSteps, NoSteps, MoreSteps}
 use Rattle.fort_in_order_laws.proofs.MadeTables.{IsMadeBy}
 
 -- steps for two lists of dues are some for the first, and then some for the second
@@ -42,6 +46,9 @@ closure_index v w i j h = cc
 part_number : (i j : ℕ) → OfPart i ≡ OfPart j → i ≡ j
 part_number i j h = cc
 
+merge_number : (i j : ℕ) → OfMerge i ≡ OfMerge j → i ≡ j
+merge_number i j h = cc
+
 counts_number : (i j : ℕ) → OfCounts i ≡ OfCounts j → i ≡ j
 counts_number i j h = cc
 
@@ -67,6 +74,15 @@ module _ (system : PatternSystem) (parts : List Core) (made : Made) where
     pub by : IsMadeBy local table
     pub is : next ≡ with_answer made k (OfTable table)
 
+  pub record IsMergeMade (k : ℕ) (next : Made) : Type 0 where
+    pub classes : List ℕ
+    pub table : Table
+    pub entries : List Entry
+    pub table_is : made.answers k ≡ OfTable table
+    pub merge : IsMerge table classes
+    pub entries_are : AreEntriesOf (merged table classes) entries
+    pub is : next ≡ with_answer made k (OfTable (listed_table (listed_merge table classes entries)))
+
   pub record IsValueMade (k : ℕ) (next : Made) : Type 0 where
     pub value : Bool
     pub value_is : IsValueOf parts made k (get_or parts k core.True) value
@@ -82,12 +98,14 @@ module _ (system : PatternSystem) (parts : List Core) (made : Made) where
         is = λ n. with_closure made (a n) (b n) items;
       }
   closure_step s next which index e (FinePart local es ws h r) = absurd cc
+  closure_step s next which index e (FineMerge table es at m h) = absurd cc
   closure_step s next which index e (FineCounts h) = absurd cc
   closure_step s next which index e (FineValue h) = absurd cc
 
   pub counts_step : (s : Step) (next : Made) (k : ℕ) → due_of s ≡ OfCounts k → IsFine system parts made s next → IsCountsMade k next
   counts_step s next k e (FineClosure h) = absurd cc
   counts_step s next k e (FinePart local es ws h r) = absurd cc
+  counts_step s next k e (FineMerge table es at m h) = absurd cc
   counts_step s next k e (FineCounts {k = i} {marks = marks} h) =
       let a = counts_number i k e in
       record { marks = marks; judged = subst (λ (j : ℕ). IsCountJudged parts made j marks Fine) a h; is = λ n. with_counts made (a n) marks }
@@ -105,12 +123,31 @@ module _ (system : PatternSystem) (parts : List Core) (made : Made) where
         by = record { targets = targets; entries = es; labels = ws; right = r; is = refl };
         is = λ n. with_answer made (a n) (OfTable table);
       }
+  part_step s next k e (FineMerge table es at m h) = absurd cc
   part_step s next k e (FineCounts h) = absurd cc
   part_step s next k e (FineValue h) = absurd cc
+
+  pub merge_step : (s : Step) (next : Made) (k : ℕ) → due_of s ≡ OfMerge k → IsFine system parts made s next → IsMergeMade k next
+  merge_step s next k e (FineClosure h) = absurd cc
+  merge_step s next k e (FinePart local es ws h r) = absurd cc
+  merge_step s next k e (FineMerge {k = i} {classes = classes} table es at m h) =
+      let a = merge_number i k e in
+      record {
+        classes = classes;
+        table = table;
+        entries = es;
+        table_is = subst (λ (j : ℕ). made.answers j ≡ OfTable table) a at;
+        merge = m;
+        entries_are = h;
+        is = λ n. with_answer made (a n) (OfTable (listed_table (listed_merge table classes es)));
+      }
+  merge_step s next k e (FineCounts h) = absurd cc
+  merge_step s next k e (FineValue h) = absurd cc
 
   pub value_step : (s : Step) (next : Made) (k : ℕ) → due_of s ≡ OfValue k → IsFine system parts made s next → IsValueMade k next
   value_step s next k e (FineClosure h) = absurd cc
   value_step s next k e (FinePart local es ws h r) = absurd cc
+  value_step s next k e (FineMerge table es at m h) = absurd cc
   value_step s next k e (FineCounts h) = absurd cc
   value_step s next k e (FineValue {k = i} {value = value} h) =
       let a = value_number i k e in

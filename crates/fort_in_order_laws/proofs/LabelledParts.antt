@@ -19,10 +19,11 @@ use Rattle.fort_atom_labels.specs.AssignedTuples.{tuple_of}
 use Rattle.fort_operations.specs.OperationTruth.{accepts}
 use Rattle.fort_parts.specs.PartColumns.{columns_of}
 use Rattle.fort_parts.specs.PartAnswers.{OfTable, AreGround, IsAnswerTo}
-use Rattle.fort_parts.specs.PartLabels.{LabelsTellAlike}
-use Rattle.fort_parts.specs.RightAnswers.{IsRightFor}
+use Rattle.fort_parts.specs.PartLabels.{LabelsTell}
+use Rattle.fort_parts.specs.RightAnswers.{IsRightBy}
 use Rattle.fort_parts.proofs.AssignedColumns.{insert-tuple_of, AreGround-with_number}
 use Rattle.fort_parts.proofs.PartColumnLaws.{AreColumns-columns_of}
+use Rattle.fort_reduced_parts.specs.ReducedParts.{AlikeWith}
 use Rattle.fort_in_order.specs.PartSteps.{part_table}
 use Rattle.fort_in_order.specs.PartRules.{Local}
 use Rattle.fort_in_order_laws.proofs.MadeTables.{IsMadeBy}
@@ -56,16 +57,16 @@ one_decided true false P d e = sym (e.1 (d.0 refl))
 one_decided false true P d e = d.1 (e.0 refl)
 one_decided false false P d e = refl
 
--- labels for a formula, whose tables are right and whose words tell when tuples are alike
-pub record AreLabelsOf (system : PatternSystem) (f : Core) (local : Local) : Type 0 where
+-- labels for a formula, whose tables are right and whose words tell when tuples are alike, with reduced tables or without
+pub record AreLabelsOf (reduces : Bool) (system : PatternSystem) (f : Core) (local : Local) : Type 0 where
   pub law : IsLabelRule local.rule
   pub signature : local.rule.signature ≡ system.signature
   pub columns : local.rule.columns ≡ length (columns_of f)
-  pub alike : LabelsTellAlike system f (label_of local.rule)
+  pub alike : LabelsTell system f (AlikeWith reduces system f) (label_of local.rule)
   pub right : (t : Listed) → IsMadeBy local (listed_table t) → IsAnswerTo (pattern_structure system) f (OfTable (listed_table t))
 
-module _ (system : PatternSystem) (constant : HasConstant system.signature) (f : Core) (local : Local) (labels : AreLabelsOf system f local) (t : Listed) (is : IsListed t)
-    (count : length t.finals ≡ length t.presences) (right : IsRightFor system f (OfTable (listed_table t))) where
+module _ (reduces : Bool) (system : PatternSystem) (constant : HasConstant system.signature) (f : Core) (local : Local) (labels : AreLabelsOf reduces system f local) (t : Listed) (is : IsListed t)
+    (count : length t.finals ≡ length t.presences) (right : IsRightBy system (AlikeWith reduces system) f (OfTable (listed_table t))) where
   over_signature : t.signature ≡ local.rule.signature
   over_signature = right.answers.over.signature ∙ sym labels.signature
 

@@ -1,4 +1,5 @@
 pub mod MadeTables
+pub mod MergedTables
 pub mod AtomTables
 pub mod JoinedTables
 pub mod RightParts

@@ -1,11 +1,11 @@
 -- Steps done one by one: another step behind them, and what is due for one more index or part.
-use Rattle.std.proofs.Common.{◌≡◌, ℕ, zero, suc, ◌+◌, List, [], ◌∷◌, ◌++◌, length, refl, ap, sym, ◌∙◌, arith, subst, append_assoc, append-nil}
+use Rattle.std.proofs.Common.{◌≡◌, ℕ, zero, suc, ◌+◌, Bool, List, [], ◌∷◌, ◌++◌, length, refl, ap, sym, ◌∙◌, arith, subst, append_assoc, append-nil}
 use Rattle.fort_theory.specs.Patterns.{PatternSystem}
 use Rattle.fort_cores.specs.Cores.{Core}
-use Rattle.fort_certificate_grammar.specs.Certificates.{Star, Conv, Step, Certificate}
-use Rattle.fort_in_order.specs.Dues.{DueStep, due_of, closure_due, closures_due, counts_due, answer_due, parts_due, dues}
+use Rattle.fort_certificate_grammar.specs.Certificates.{Star, Conv, Step}
+use Rattle.fort_in_order.specs.Dues.{DueStep, due_of, closure_due, closures_due, counts_due, answer_due, parts_due, dues_of}
 use Rattle.fort_in_order.specs.Made.{Made, nothing_made}
-use Rattle.fort_in_order.specs.Checked.{IsFine, AreSteps, NoSteps, MoreSteps, IsUpTo}
+use Rattle.fort_in_order.specs.Checked.{IsFine, AreSteps, NoSteps, MoreSteps, IsUpTo, AreAllFine}
 
 pub steps_append : (IsStep : Made → Step → Made → Type 0) (made mid last : Made) (ds es : List DueStep) (ss ts : List Step) → AreSteps IsStep made ds ss mid → AreSteps IsStep mid es ts last
     → AreSteps IsStep made (ds ++ es) (ss ++ ts) last
@@ -33,29 +33,30 @@ closures_due-push parts (suc n) i =
     ∙ ap (λ j. (a ++ (b ++ rest)) ++ (closure_due parts j Star ++ closure_due parts j Conv)) e))
 
 -- the dues of some parts and one more
-pub parts_due-push : (k : ℕ) (fs : List Core) (f : Core) → parts_due k (fs ++ f ∷ []) ≡ parts_due k fs ++ (counts_due (k + length fs) f ++ answer_due (k + length fs) f)
-parts_due-push k [] f =
+pub parts_due-push : (merges : ℕ → Bool) (k : ℕ) (fs : List Core) (f : Core)
+    → parts_due merges k (fs ++ f ∷ []) ≡ parts_due merges k fs ++ (counts_due (k + length fs) f ++ answer_due merges (k + length fs) f)
+parts_due-push merges k [] f =
     let e : k ≡ k + 0 = omega arith in
-    ap (λ ds. counts_due k f ++ ds) (append-nil (answer_due k f)) ∙ ap (λ j. counts_due j f ++ answer_due j f) e
-parts_due-push k (g ∷ fs) f =
+    ap (λ ds. counts_due k f ++ ds) (append-nil (answer_due merges k f)) ∙ ap (λ j. counts_due j f ++ answer_due merges j f) e
+parts_due-push merges k (g ∷ fs) f =
     let e : suc k + length fs ≡ k + suc (length fs) = omega arith in
     let a = counts_due k g in
-    let b = answer_due k g in
-    let rest = parts_due (suc k) fs in
-    let more = counts_due (suc k + length fs) f ++ answer_due (suc k + length fs) f in
-    ap (λ ds. a ++ (b ++ ds)) (parts_due-push (suc k) fs f)
+    let b = answer_due merges k g in
+    let rest = parts_due merges (suc k) fs in
+    let more = counts_due (suc k + length fs) f ++ answer_due merges (suc k + length fs) f in
+    ap (λ ds. a ++ (b ++ ds)) (parts_due-push merges (suc k) fs f)
     ∙ (ap (λ ds. a ++ ds) (sym (append_assoc b rest more))
     ∙ (sym (append_assoc a (b ++ rest) more)
-    ∙ ap (λ j. (a ++ (b ++ rest)) ++ (counts_due j f ++ answer_due j f)) e))
+    ∙ ap (λ j. (a ++ (b ++ rest)) ++ (counts_due j f ++ answer_due merges j f)) e))
 
--- ---- a certificate that is fine up to some step
+-- ---- steps that are fine up to some place
 
-module _ (system : PatternSystem) (parts : List Core) (c : Certificate) where
-  pub up_to_none : IsUpTo system parts c [] (dues (length system.rules) parts) c.steps nothing_made
+module _ (system : PatternSystem) (parts : List Core) (steps : List Step) where
+  pub up_to_none : IsUpTo system parts steps [] (dues_of steps (length system.rules) parts) steps nothing_made
   up_to_none = record { done = []; dues_are = refl; steps_are = refl; fine = NoSteps }
 
-  pub up_to_next : (front rest : List Step) (s : Step) (d : DueStep) (wanted : List DueStep) (made next : Made) → IsUpTo system parts c front (d ∷ wanted) (s ∷ rest) made
-      → due_of s ≡ d → IsFine system parts made s next → IsUpTo system parts c (front ++ s ∷ []) wanted rest next
+  pub up_to_next : (front rest : List Step) (s : Step) (d : DueStep) (wanted : List DueStep) (made next : Made) → IsUpTo system parts steps front (d ∷ wanted) (s ∷ rest) made
+      → due_of s ≡ d → IsFine system parts made s next → IsUpTo system parts steps (front ++ s ∷ []) wanted rest next
   up_to_next front rest s d wanted made next u e h = record {
     done = u.done ++ d ∷ [];
     dues_are = u.dues_are ∙ sym (append_assoc u.done (d ∷ []) wanted);
@@ -63,8 +64,8 @@ module _ (system : PatternSystem) (parts : List Core) (c : Certificate) where
     fine = steps_push (IsFine system parts) nothing_made made next u.done front d s u.fine e h;
   }
 
-  pub up_to_all : (front : List Step) (made : Made) → IsUpTo system parts c front [] [] made → AreSteps (IsFine system parts) nothing_made (dues (length system.rules) parts) c.steps made
+  pub up_to_all : (front : List Step) (made : Made) → IsUpTo system parts steps front [] [] made → AreAllFine system parts steps made
   up_to_all front made u =
-      let ds : u.done ≡ dues (length system.rules) parts = sym (u.dues_are ∙ append-nil u.done) in
-      let ss : front ≡ c.steps = sym (u.steps_are ∙ append-nil front) in
-      subst (λ (xs : List DueStep). AreSteps (IsFine system parts) nothing_made xs c.steps made) ds (subst (λ (xs : List Step). AreSteps (IsFine system parts) nothing_made u.done xs made) ss u.fine)
+      let ds : u.done ≡ dues_of steps (length system.rules) parts = sym (u.dues_are ∙ append-nil u.done) in
+      let ss : front ≡ steps = sym (u.steps_are ∙ append-nil front) in
+      subst (λ (xs : List DueStep). AreSteps (IsFine system parts) nothing_made xs steps made) ds (subst (λ (xs : List Step). AreSteps (IsFine system parts) nothing_made u.done xs made) ss u.fine)

@@ -1,19 +1,23 @@
--- Steps as they are written: closures by passes, tables with one state for each label, counts of states, values.
+-- Steps as they are written: closures by passes, tables with one state for each label, the coarsest classes of tables, counts of states, values.
 use Rattle.std.proofs.Common.{◌≡◌, ℕ, List, Bool, get_or, subst}
 use Rattle.fort_theory.specs.Patterns.{PatternSystem}
 use Rattle.fort_cores.specs.Cores as core
 use Rattle.fort_cores.specs.Cores.{Core}
+use Rattle.fort_tables.specs.Entries.{Entry}
 use Rattle.fort_tables.specs.Tables.{Table, Listed, listed_table}
+use Rattle.fort_interchange.specs.Merges.{merged, IsCoarsest}
+use Rattle.fort_interchange.specs.MergeOutcomes.{AreEntriesOf}
 use Rattle.fort_counts.specs.Counts as counts
 use Rattle.fort_counts.specs.Counts.{AreCounts}
 use Rattle.fort_parts.specs.PartColumns.{columns_of, place_in}
 use Rattle.fort_parts.specs.PartAnswers.{OfValue, OfTable}
 use Rattle.fort_certificate_grammar.specs.Certificates as certificates
-use Rattle.fort_certificate_grammar.specs.Certificates.{Which, Pair as Item, Step, Closure, Part, Counts, Certificate}
+use Rattle.fort_certificate_grammar.specs.Certificates.{Which, Pair as Item, Step, Closure, Part, Merge, Counts}
 use Rattle.fort_in_order.specs.ClosureSteps.{ClosureRules, AreClosureRules}
+use Rattle.fort_in_order.specs.MergeSteps.{listed_merge}
 use Rattle.fort_in_order.specs.Made.{Made, with_closure, with_counts, with_answer}
 use Rattle.fort_in_order.specs.PartRules.{Local, IsLocalOf, IsCounted, IsValueOf}
-use Rattle.fort_in_order.specs.Checked.{IsFine, FineClosure, FinePart, FineCounts, FineValue}
+use Rattle.fort_in_order.specs.Checked.{IsFine, FineClosure, FinePart, FineMerge, FineCounts, FineValue}
 use Rattle.fort_in_order.specs.Passes.{IsListOfPasses}
 use Rattle.fort_in_order.specs.Written.{IsWrittenStep}
 use Rattle.fort_in_order.proofs.CountOutcomes.{IsCountOutcome-rules}
@@ -34,6 +38,13 @@ module _ (system : PatternSystem) (parts : List Core) (made : Made) where
   written_part k local t is h = record {
     fine = subst (λ (x : Listed). IsFine system parts made (Part k t.targets) (with_answer made k (OfTable (listed_table x)))) h.again (FinePart local t.entries h.labels is h.right);
     written = record { local = local; entries = t.entries; labels = h.labels; local_is = is; right = h.right; once = h.once };
+  }
+
+  pub written_merge : (k : ℕ) (table : Table) (classes : List ℕ) (entries : List Entry) → made.answers k ≡ OfTable table → IsCoarsest table classes → AreEntriesOf (merged table classes) entries
+      → IsWrittenStep system parts made (Merge k classes) (with_answer made k (OfTable (listed_table (listed_merge table classes entries))))
+  written_merge k table classes entries at coarsest are = record {
+    fine = FineMerge table entries at coarsest.merge are;
+    written = record { table = table; table_is = at; coarsest = coarsest };
   }
 
   pub written_counts : (k n : ℕ) (f : Core) (body : Table) (states : List ℕ) (marks : List counts.Count) → get_or parts k core.True ≡ core.Infinite n f → IsCounted parts made n f body states
