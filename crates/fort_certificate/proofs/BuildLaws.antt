@@ -1,16 +1,15 @@
 -- Elements, read one after another.
-use Rattle.std.proofs.Common.{◌≡◌, ℕ, ◌+◌, ◌-◌, ◌<◌, ◌≤◌, ◌==◌, Bool, true, false, if◌then◌else◌, List, [], ◌∷◌, ◌++◌, map, length, get_or, slice_get, take, drop, Some, refl, ap, sym, ◌∙◌, subst, arith, append_assoc, append-nil}
+use Rattle.std.proofs.Common.{◌≡◌, ℕ, ◌+◌, ◌-◌, ◌<◌, ◌≤◌, Bool, true, false, List, [], ◌∷◌, ◌++◌, map, length, get_or, slice_get, take, drop, Some, refl, ap, sym, ◌∙◌, subst, arith, append_assoc, append-nil}
 use Rattle.std.specs.List.{AllZip}
-use Rattle.std.proofs.lemmas.Bool.Decides.{nat_tests}
 use Rattle.std.proofs.lemmas.List.{take_all, take_more, length-drop, get_or-drop}
 use Rattle.std.proofs.lemmas.Option.{slice_get_within, get_or_from_slice_get}
 use Rattle.std.proofs.lemmas.Slice.Zip.{all_zipped_more}
 use Rattle.fort_grammar.specs.Forms.{Form}
 use Rattle.fort_grammar.specs.Declarations.{word_of, elements_of, IsHeaded}
 use Rattle.fort_counts.specs.Counts.{Count}
-use Rattle.fort_certificate_grammar.specs.Certificates.{Which, Pair, Closure, Part, Counts, Value}
-use Rattle.fort_certificate_grammar.specs.CertificateForms.{Version, OfOne, OfSeveral, version_for, which_word, verdict_word, IsNumberForm, IsPairForm, IsCountForm, IsStepForm, ClosureForm, IndexedForm, PartForm, CountsForm, ValueForm}
-use Rattle.fort_certificate_grammar.specs.CertificateFaults.{ClosureHead, PartHead, CountsHead, ValueHead, head_word}
+use Rattle.fort_certificate_grammar.specs.Certificates.{Which, Pair, Closure, Part, Merge, Counts, Value}
+use Rattle.fort_certificate_grammar.specs.CertificateForms.{Version, tells_index, has_merges, which_word, verdict_word, IsNumberForm, IsPairForm, IsCountForm, IsStepForm, ClosureForm, IndexedForm, PartForm, MergeForm, CountsForm, ValueForm}
+use Rattle.fort_certificate_grammar.specs.CertificateFaults.{ClosureHead, PartHead, MergeHead, CountsHead, ValueHead, head_word}
 use Rattle.fort_certificate_grammar.proofs.StepSlots.{same_parts}
 
 -- a list from one place up to another
@@ -49,17 +48,6 @@ each_map R view [] (y ∷ ys) h = absurd h
 each_map R view (g ∷ gs) [] h = absurd h
 each_map R view (g ∷ gs) (y ∷ ys) h = (h.0, each_map R view gs ys h.1)
 
--- versions by the number of systems
-pub version_one : (n : ℕ) → n ≡ 1 → version_for n ≡ OfOne
-version_one n e = ap version_for e
-
-pub version_several : (n : ℕ) → (n ≡ 1 → ⊥) → version_for n ≡ OfSeveral
-version_several n other = go (n == 1) refl
-  where
-    go : (b : Bool) → (n == 1) ≡ b → (if b then OfOne else OfSeveral) ≡ OfSeveral
-    go true e = let same : n ≡ 1 = grind (arith, nat_tests) in absurd (other same)
-    go false e = refl
-
 -- what is read so far of forms of which these are left
 pub record IsReadTo {A : Type 0} (R : Form → A → Type 0) (fs left : List Form) (xs : List A) : Type 0 where
   pub all : (ys : List A) → AllZip R left ys → AllZip R fs (xs ++ ys)
@@ -91,11 +79,15 @@ module _ (bytes : List ℕ) (f : Form) where
         → IsHeaded bytes (head_word PartHead) f → IsStepForm bytes version f (Part k ns)
     part_made version k ns n each headed = PartForm a b rest is (headed_first (head_word PartHead) a fs headed elements) n each
 
+    pub merge_made : (version : Version) (k : ℕ) (ns : List ℕ) → has_merges version ≡ true → IsNumberForm bytes b k → AllZip (IsNumberForm bytes) rest ns
+        → IsHeaded bytes (head_word MergeHead) f → IsStepForm bytes version f (Merge k ns)
+    merge_made version k ns merges n each headed = MergeForm a b rest merges is (headed_first (head_word MergeHead) a fs headed elements) n each
+
     pub counts_made : (version : Version) (k : ℕ) (ns : List Count) → IsNumberForm bytes b k → AllZip (IsCountForm bytes) rest ns
         → IsHeaded bytes (head_word CountsHead) f → IsStepForm bytes version f (Counts k ns)
     counts_made version k ns n each headed = CountsForm a b rest is (headed_first (head_word CountsHead) a fs headed elements) n each
 
-    pub closure_made : (version : Version) (w : Which) (ps : List Pair) → version ≡ OfOne → word_of bytes b ≡ Some (which_word w)
+    pub closure_made : (version : Version) (w : Which) (ps : List Pair) → tells_index version ≡ false → word_of bytes b ≡ Some (which_word w)
         → AllZip (IsPairForm bytes) rest ps → IsHeaded bytes (head_word ClosureHead) f → IsStepForm bytes version f (Closure w 1 ps)
     closure_made version w ps one word each headed = ClosureForm a b rest one is (headed_first (head_word ClosureHead) a fs headed elements) word each
 
@@ -108,7 +100,7 @@ module _ (bytes : List ℕ) (f : Form) where
       value_made version k v none n word headed =
           ValueForm a b d (both ∙ ap (λ gs. Some (a ∷ b ∷ d ∷ gs)) none) (headed_first (head_word ValueHead) a fs headed elements) n word
 
-      pub indexed_made : (version : Version) (w : Which) (k : ℕ) (ps : List Pair) → version ≡ OfSeveral → word_of bytes b ≡ Some (which_word w)
+      pub indexed_made : (version : Version) (w : Which) (k : ℕ) (ps : List Pair) → tells_index version ≡ true → word_of bytes b ≡ Some (which_word w)
           → IsNumberForm bytes d k → AllZip (IsPairForm bytes) last ps → IsHeaded bytes (head_word ClosureHead) f
           → IsStepForm bytes version f (Closure w k ps)
       indexed_made version w k ps several word n each headed =

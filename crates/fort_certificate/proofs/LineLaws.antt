@@ -1,9 +1,9 @@
 -- How a line grows, element by element.
-use Rattle.std.proofs.Common.{◌≡◌, ℕ, ◌+◌, ◌<◌, Bool, List, [], ◌∷◌, ◌++◌, map, length, take, get_or, codes, decimal, refl, ap, sym, ◌∙◌, append_assoc, append-nil}
+use Rattle.std.proofs.Common.{◌≡◌, ℕ, ◌+◌, ◌<◌, Bool, true, false, if◌then◌else◌, List, [], ◌∷◌, ◌++◌, map, length, take, get_or, codes, decimal, refl, ap, sym, ◌∙◌, append_assoc, append-nil}
 use Rattle.std.proofs.lemmas.List.{map_more}
-use Rattle.fort_certificate_grammar.specs.Certificates.{Which, Step, Closure, Part, Counts}
-use Rattle.fort_certificate_grammar.specs.CertificateForms.{Version, OfOne, OfSeveral, version_for, which_word}
-use Rattle.fort_certificate_grammar.specs.CertificateText.{spaced, in_parentheses, element_text, number_element, pair_element, count_element, index_elements, line_of, step_elements, header_elements, steps_text, certificate_text}
+use Rattle.fort_certificate_grammar.specs.Certificates.{Which, Step, Closure, Part, Merge, Counts}
+use Rattle.fort_certificate_grammar.specs.CertificateForms.{Version, tells_index, which_word}
+use Rattle.fort_certificate_grammar.specs.CertificateText.{Element, spaced, in_parentheses, element_text, number_element, pair_element, count_element, index_elements, line_of, step_elements, header_elements, steps_text, certificate_text}
 use Rattle.fort_steps.specs.declared.closure.ClosureEntry.{ClosureEntry}
 use Rattle.fort_steps.specs.declared.count.Count.{Count}
 use Rattle.fort_steps.specs.declared.step.Step as step
@@ -75,6 +75,12 @@ part_line old version k ns =
     one_line old (codes "part") (decimal k) (map decimal ns)
     ∙ ap (λ ws. old ++ (in_parentheses (codes "part" ∷ decimal k ∷ ws) ++ 10 ∷ [])) (sym (numbers_text ns))
 
+pub merge_line : (old : List ℕ) (version : Version) (k : ℕ) (ns : List ℕ)
+    → (((old ++ codes "(merge") ++ (32 ∷ decimal k)) ++ tails (map decimal ns)) ++ (41 ∷ 10 ∷ []) ≡ old ++ line_of (step_elements version (Merge k ns))
+merge_line old version k ns =
+    one_line old (codes "merge") (decimal k) (map decimal ns)
+    ∙ ap (λ ws. old ++ (in_parentheses (codes "merge" ∷ decimal k ∷ ws) ++ 10 ∷ [])) (sym (numbers_text ns))
+
 pub counts_line : (old : List ℕ) (version : Version) (k : ℕ) (cs : List Count)
     → (((old ++ codes "(counts") ++ (32 ∷ decimal k)) ++ tails (map (λ n. element_text (count_element (as_count n))) cs)) ++ (41 ∷ 10 ∷ [])
     ≡ old ++ line_of (step_elements version (Counts k (map as_count cs)))
@@ -82,11 +88,14 @@ counts_line old version k cs =
     one_line old (codes "counts") (decimal k) (map (λ n. element_text (count_element (as_count n))) cs)
     ∙ ap (λ ws. old ++ (in_parentheses (codes "counts" ∷ decimal k ∷ ws) ++ 10 ∷ [])) (sym (counts_text cs))
 
-closure_elements : (version : Version) (i : ℕ) (es : List ClosureEntry)
-    → map element_text (index_elements version i) ++ map (λ e. element_text (pair_element (as_pair e))) es
-    ≡ map element_text (index_elements version i ++ map pair_element (map as_pair es))
-closure_elements OfOne i es = sym (pairs_text es)
-closure_elements OfSeveral i es = ap (λ ws. decimal i ∷ ws) (sym (pairs_text es))
+abbrev told_index : Bool → ℕ → List Element
+told_index told i = if told then (number_element i ∷ []) else []
+
+closure_elements : (told : Bool) (i : ℕ) (es : List ClosureEntry)
+    → map element_text (told_index told i) ++ map (λ e. element_text (pair_element (as_pair e))) es
+    ≡ map element_text (told_index told i ++ map pair_element (map as_pair es))
+closure_elements false i es = sym (pairs_text es)
+closure_elements true i es = ap (λ ws. decimal i ∷ ws) (sym (pairs_text es))
 
 pub closure_line : (old : List ℕ) (version : Version) (w : Which) (i : ℕ) (es : List ClosureEntry)
     → ((((old ++ codes "(closure") ++ (32 ∷ which_word w)) ++ tails (map element_text (index_elements version i)))
@@ -94,7 +103,7 @@ pub closure_line : (old : List ℕ) (version : Version) (w : Which) (i : ℕ) (e
     ≡ old ++ line_of (step_elements version (Closure w i (map as_pair es)))
 closure_line old version w i es =
     two_lists old (codes "closure") (which_word w) (map element_text (index_elements version i)) (map (λ e. element_text (pair_element (as_pair e))) es)
-    ∙ ap (λ ws. old ++ (in_parentheses (codes "closure" ∷ which_word w ∷ ws) ++ 10 ∷ [])) (closure_elements version i es)
+    ∙ ap (λ ws. old ++ (in_parentheses (codes "closure" ∷ which_word w ∷ ws) ++ 10 ∷ [])) (closure_elements (tells_index version) i es)
 
 steps_push : (version : Version) (ss : List Step) (s : Step) → steps_text version (ss ++ s ∷ []) ≡ steps_text version ss ++ line_of (step_elements version s)
 steps_push version [] s = append-nil (line_of (step_elements version s))
@@ -103,11 +112,10 @@ steps_push version (r ∷ ss) s =
     ∙ sym (append_assoc (line_of (step_elements version r)) (steps_text version ss) (line_of (step_elements version s)))
 
 -- one more step of a certificate
-pub steps_more : (number : ℕ) (verdict : Bool) (ss : List step.Step) (i : ℕ) (s : step.Step) → i < length ss → s ≡ get_or ss i s
-    → certificate_text number verdict (map as_step (take i ss)) ++ line_of (step_elements (version_for number) (as_step s))
-    ≡ certificate_text number verdict (map as_step (take (i + 1) ss))
-steps_more number verdict ss i s l e =
-    let version = version_for number in
+pub steps_more : (version : Version) (verdict : Bool) (ss : List step.Step) (i : ℕ) (s : step.Step) → i < length ss → s ≡ get_or ss i s
+    → certificate_text version verdict (map as_step (take i ss)) ++ line_of (step_elements version (as_step s))
+    ≡ certificate_text version verdict (map as_step (take (i + 1) ss))
+steps_more version verdict ss i s l e =
     let header = line_of (header_elements version verdict) in
     append_assoc header (steps_text version (map as_step (take i ss))) (line_of (step_elements version (as_step s)))
     ∙ ap (λ xs. header ++ xs)

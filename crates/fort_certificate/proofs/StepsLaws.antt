@@ -1,5 +1,5 @@
 -- Forms that are steps, one after another, and the first that is none.
-use Rattle.std.proofs.Common.{◌≡◌, ℕ, zero, suc, ◌+◌, ◌-◌, ◌<◌, ◌≤◌, Bool, List, [], ◌∷◌, ◌++◌, length, get_or, slice_get, take, drop, Option, Some, refl, ap, sym, ◌∙◌, subst, arith}
+use Rattle.std.proofs.Common.{◌≡◌, ℕ, zero, suc, ◌+◌, ◌-◌, ◌<◌, ◌≤◌, Bool, true, List, [], ◌∷◌, ◌++◌, length, get_or, slice_get, take, drop, Option, Some, refl, ap, sym, ◌∙◌, subst, arith}
 use Rattle.std.specs.List.{AllZip}
 use Rattle.std.proofs.lemmas.List.{drop_more, drop_all, take_all, take_more, length-drop, length-take-le, get_or-drop}
 use Rattle.std.proofs.lemmas.List.{take-append-drop}
@@ -11,9 +11,9 @@ use Rattle.fort_sexpr.specs.FormCode.{node_count, node_counts}
 use Rattle.fort_sexpr.specs.FormView.{form_count, form_at}
 use Rattle.fort_sexpr.proofs.FormLists.{node_counts-AreForms}
 use Rattle.fort_certificate_grammar.specs.Certificates.{Step}
-use Rattle.fort_certificate_grammar.specs.CertificateForms.{Version, version_for, IsStepForm, IsHeaderForm, IsCertificate}
+use Rattle.fort_certificate_grammar.specs.CertificateForms.{Version, IsVersionOf, IsStepForm, IsHeaderForm, IsCertificate}
 use Rattle.fort_certificate_grammar.specs.CertificateFaults as grammar
-use Rattle.fort_certificate_grammar.specs.CertificateFaults.{CertificateFault, FaultKind, fault_of, StepHead, head_word, slots_of, rest_of, AreBad, IsBadStep, BadElement, IsBadHeader, IsFirstCertificateFault, WithoutHeader, InHeader, InStep}
+use Rattle.fort_certificate_grammar.specs.CertificateFaults.{CertificateFault, FaultKind, fault_of, StepHead, head_word, is_head_of, slots_of, rest_of, AreBad, IsBadStep, BadElement, IsBadHeader, IsFirstCertificateFault, WithoutHeader, InHeader, InStep}
 use Rattle.fort_certificate_grammar.specs.FilledSlots.{FitAll}
 use Rattle.fort_certificate_grammar.proofs.StepSlots.{step_from_filled}
 use Rattle.fort_certificate.specs.Checking.{IsSomeStep, AreSomeSteps, HasBadStep}
@@ -42,20 +42,20 @@ form_count-bytes bytes fs h = omega (arith, node_counts-AreForms h.stand, form_c
 
 -- one step
 pub step_fits : (bytes : List ℕ) (version : Version) (f : Form) (which : StepHead) (fs : List Form) (slots : List grammar.Slot) (last : Option grammar.Slot)
-    → IsHeaded bytes (head_word which) f → elements_of f ≡ Some fs → slots ≡ slots_of which version → last ≡ rest_of which
-    → FitAll bytes slots last (drop 1 fs) → IsSomeStep bytes version f
-step_fits bytes version f which fs slots last headed is e g fit =
+    → is_head_of version which ≡ true → IsHeaded bytes (head_word which) f → elements_of f ≡ Some fs → slots ≡ slots_of which version
+    → last ≡ rest_of which → FitAll bytes slots last (drop 1 fs) → IsSomeStep bytes version f
+step_fits bytes version f which fs slots last allowed headed is e g fit =
     let same : fs ≡ headed.first ∷ headed.others = (let i = headed.is in cc) in
-    step_from_filled bytes version f which headed.first headed.others headed.is headed.head
+    step_from_filled bytes version f which headed.first headed.others allowed headed.is headed.head
     (subst (λ gs. FitAll bytes (slots_of which version) (rest_of which) (drop 1 gs)) same
     (subst (λ l. FitAll bytes (slots_of which version) l (drop 1 fs)) g (subst (λ ss. FitAll bytes ss last (drop 1 fs)) e fit)))
 
 pub step_bad : (bytes : List ℕ) (version : Version) (f : Form) (which : StepHead) (fs : List Form) (slots : List grammar.Slot) (last : Option grammar.Slot)
-    (kind : FaultKind) → IsHeaded bytes (head_word which) f → elements_of f ≡ Some fs → slots ≡ slots_of which version → last ≡ rest_of which
-    → AreBad bytes slots last (drop 1 fs) kind → (i : ℕ) → IsBadStep bytes version i f (fault_of i kind)
-step_bad bytes version f which fs slots last kind headed is e g bad i =
+    (kind : FaultKind) → is_head_of version which ≡ true → IsHeaded bytes (head_word which) f → elements_of f ≡ Some fs
+    → slots ≡ slots_of which version → last ≡ rest_of which → AreBad bytes slots last (drop 1 fs) kind → (i : ℕ) → IsBadStep bytes version i f (fault_of i kind)
+step_bad bytes version f which fs slots last kind allowed headed is e g bad i =
     let same : fs ≡ headed.first ∷ headed.others = (let i = headed.is in cc) in
-    BadElement which headed.first headed.others kind headed.is headed.head
+    BadElement which headed.first headed.others kind allowed headed.is headed.head
     (subst (λ gs. AreBad bytes (slots_of which version) (rest_of which) (drop 1 gs) kind) same
     (subst (λ l. AreBad bytes (slots_of which version) l (drop 1 fs) kind) g (subst (λ ss. AreBad bytes ss last (drop 1 fs) kind) e bad)))
 
@@ -109,19 +109,27 @@ module _ (bytes : List ℕ) (number : ℕ) (all : List Form) (from : ℕ) (heade
       drop_more all from header (slice_get_within all from header here)
       ∙ ap (λ g. g ∷ drop (from + 1) all) (get_or_from_slice_get all from header header here)
 
-  pub header_bad : (fault : CertificateFault) → IsBadHeader bytes (version_for number) from header fault → IsFirstCertificateFault bytes number all from fault
+  pub header_bad : (fault : CertificateFault) → IsBadHeader bytes number from header fault → IsFirstCertificateFault bytes number all from fault
   header_bad fault bad = InHeader header (drop (from + 1) all) fault split bad
 
-  pub step_is_bad : (verdict : Bool) (fault : CertificateFault) → IsHeaderForm bytes (version_for number) header verdict
-      → HasBadStep bytes (version_for number) (from + 1) (drop (from + 1) all) fault → IsFirstCertificateFault bytes number all from fault
-  step_is_bad verdict fault headed h =
-      InStep header verdict h.before h.after h.steps h.f fault (split ∙ ap (λ gs. header ∷ gs) h.is) headed h.fine h.bad
+  module _ (version : Version) (of_problem : IsVersionOf number version) (verdict : Bool) (headed : IsHeaderForm bytes version header verdict) where
+    pub step_is_bad : (fault : CertificateFault) → HasBadStep bytes version (from + 1) (drop (from + 1) all) fault
+        → IsFirstCertificateFault bytes number all from fault
+    step_is_bad fault h =
+        InStep version header verdict h.before h.after h.steps h.f fault (split ∙ ap (λ gs. header ∷ gs) h.is) of_problem headed h.fine h.bad
 
-  pub certificate_of : (verdict : Bool) (steps : List Step) → IsHeaderForm bytes (version_for number) header verdict
-      → AllZip (IsStepForm bytes (version_for number)) (drop (from + 1) all) steps
-      → IsCertificate bytes number all from (record { first = from; verdict = verdict; steps = steps })
-  certificate_of verdict steps headed each =
-      record { header = header; others = drop (from + 1) all; first = refl; split = split; headed = headed; are_steps = each }
+    pub certificate_of : (steps : List Step) → AllZip (IsStepForm bytes version) (drop (from + 1) all) steps
+        → IsCertificate bytes number all from (record { first = from; verdict = verdict; steps = steps })
+    certificate_of steps each = record {
+      version = version;
+      of_problem = of_problem;
+      header = header;
+      others = drop (from + 1) all;
+      first = refl;
+      split = split;
+      headed = headed;
+      are_steps = each;
+    }
 
 pub no_header : (bytes : List ℕ) (number : ℕ) (all : List Form) (from : ℕ) → length all ≤ from
     → IsFirstCertificateFault bytes number all from (grammar.BadForm from)

@@ -1,10 +1,10 @@
 -- What is wrong with elements, by the first that is bad.
-use Rattle.std.proofs.Common.{◌≡◌, ℕ, List, [], ◌∷◌, Option, None, Some, refl, ap, sym, ◌∙◌, subst}
+use Rattle.std.proofs.Common.{◌≡◌, ℕ, Bool, true, if◌then◌else◌, List, [], ◌∷◌, Option, None, Some, refl, ap, sym, ◌∙◌, subst}
 use Rattle.fort_grammar.specs.Forms.{Form}
 use Rattle.fort_grammar.specs.Declarations.{word_of, elements_of, IsHeaded}
-use Rattle.fort_certificate_grammar.specs.CertificateForms.{Version}
+use Rattle.fort_certificate_grammar.specs.CertificateForms.{Version, tells_index}
 use Rattle.fort_certificate_grammar.specs.CertificateFaults as grammar
-use Rattle.fort_certificate_grammar.specs.CertificateFaults.{FaultKind, AsForm, fault_of, Fits, IsBadAt, AreBad, Absent, Here, Later, Extra, HereOfRest, LaterOfRest, head_word, IsBadStep, BadElement}
+use Rattle.fort_certificate_grammar.specs.CertificateFaults.{FaultKind, AsForm, fault_of, WhichSlot, NumberSlot, PairSlot, ClosureHead, Fits, IsBadAt, AreBad, Absent, Here, Later, Extra, HereOfRest, LaterOfRest, head_word, is_head_of, IsBadStep, BadElement}
 use Rattle.fort_certificate_grammar.proofs.StepSlots.{same_parts}
 use Rattle.fort_certificate.specs.declared.slot.Head.{Head}
 use Rattle.fort_certificate.specs.ReadView.{as_head}
@@ -38,15 +38,21 @@ module _ (bytes : List ℕ) (s : grammar.Slot) (ss : List grammar.Slot) (last : 
   pub slot_fits : Fits bytes f s → AreBad bytes ss last rest kind → AreBad bytes (s ∷ ss) last fs kind
   slot_fits fits bad = subst (λ gs. AreBad bytes (s ∷ ss) last gs kind) (sym split) (Later s ss last f rest kind fits bad)
 
+-- behind the head of a closure, by whether its index is told
+pub closure_bad : (bytes : List ℕ) (version : Version) (told : Bool) (fs : List Form) (kind : FaultKind) → tells_index version ≡ told
+    → AreBad bytes (WhichSlot ∷ (if told then (NumberSlot ∷ []) else [])) (Some PairSlot) fs kind → AreBadElementsOf bytes version ClosureHead fs kind
+closure_bad bytes version told fs kind e bad =
+    subst (λ (t : Bool). AreBad bytes (WhichSlot ∷ (if t then (NumberSlot ∷ []) else [])) (Some PairSlot) fs kind) (sym e) bad
+
 pub some_extra : (bytes : List ℕ) (fs : List Form) → (fs ≡ [] → ⊥) → AreBad bytes [] None fs AsForm
 some_extra bytes [] more = absurd (more refl)
 some_extra bytes (f ∷ fs) more = Extra f fs
 
 -- a list whose elements behind its head are bad
 pub list_bad : (bytes other : List ℕ) (version : Version) (f : Form) (head which : Head) (a : Form) (fs : List Form) → other ≡ bytes → head ≡ which
-    → IsHeaded bytes (head_word (as_head head)) f → elements_of f ≡ Some (a ∷ fs) → (kind : FaultKind)
+    → is_head_of version (as_head head) ≡ true → IsHeaded bytes (head_word (as_head head)) f → elements_of f ≡ Some (a ∷ fs) → (kind : FaultKind)
     → AreBadElementsOf other version (as_head which) fs kind → (i : ℕ) → IsBadStep bytes version i f (fault_of i kind)
-list_bad bytes other version f head which a fs same is headed elements kind bad i =
-    BadElement (as_head which) a fs kind elements
+list_bad bytes other version f head which a fs same is allowed headed elements kind bad i =
+    BadElement (as_head which) a fs kind (subst (λ (h : Head). is_head_of version (as_head h) ≡ true) is allowed) elements
     (ap (word_of bytes) (same_parts f a headed.first fs headed.others elements headed.is).head ∙ (headed.head ∙ ap (λ (h : Head). Some (head_word (as_head h))) is))
     (subst (λ (b : List ℕ). AreBadElementsOf b version (as_head which) fs kind) same bad)

@@ -1,11 +1,11 @@
 -- Inside: that forms are steps, and which is the first that is none.
-use Rattle.std.specs.Prelude.{◌≡◌, ℕ, ◌+◌, List, ◌∷◌, ◌++◌, length, Some}
+use Rattle.std.specs.Prelude.{◌≡◌, ℕ, ◌+◌, true, List, ◌∷◌, ◌++◌, length, Some}
 use Rattle.std.specs.List.{AllZip}
 use Rattle.fort_grammar.specs.Forms.{Form}
 use Rattle.fort_grammar.specs.Declarations.{elements_of, IsHeaded}
 use Rattle.fort_certificate_grammar.specs.Certificates.{Step}
 use Rattle.fort_certificate_grammar.specs.CertificateForms.{Version, IsStepForm}
-use Rattle.fort_certificate_grammar.specs.CertificateFaults.{CertificateFault, FaultKind, StepHead, head_word, slots_of, rest_of, AreBad, IsBadStep}
+use Rattle.fort_certificate_grammar.specs.CertificateFaults.{CertificateFault, FaultKind, StepHead, head_word, is_head_of, slots_of, rest_of, AreBad, IsBadStep}
 
 abbrev pub IsSomeStep : List ℕ → Version → Form → Type 0
 IsSomeStep bytes version f = (s : Step) × IsStepForm bytes version f s
@@ -13,10 +13,11 @@ IsSomeStep bytes version f = (s : Step) × IsStepForm bytes version f s
 abbrev pub AreSomeSteps : List ℕ → Version → List Form → Type 0
 AreSomeSteps bytes version fs = (ss : List Step) × AllZip (IsStepForm bytes version) fs ss
 
--- a form headed so, with these elements behind its head, is the step
+-- a form headed so, as one of the version may be, with these elements behind its head, is the step
 abbrev pub AreElementsOf : List ℕ → Version → StepHead → List Form → Step → Type 0
 AreElementsOf bytes version which fs s =
-    (f head : Form) → elements_of f ≡ Some (head ∷ fs) → IsHeaded bytes (head_word which) f → IsStepForm bytes version f s
+    (f head : Form) → is_head_of version which ≡ true → elements_of f ≡ Some (head ∷ fs) → IsHeaded bytes (head_word which) f
+    → IsStepForm bytes version f s
 
 -- what is first wrong with elements that should stand behind the head
 abbrev pub AreBadElementsOf : List ℕ → Version → StepHead → List Form → FaultKind → Type 0

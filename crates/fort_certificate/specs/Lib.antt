@@ -1,4 +1,5 @@
 pub mod Lines
+pub mod VersionView
 pub mod Again
 pub mod Faults
 pub mod ReadView

@@ -9,7 +9,7 @@ use Rattle.fort_certificate.specs.declared.build.Unread.TheVariants as unread
 use Rattle.fort_certificate.specs.declared.slot.Slot.{Slot}
 use Rattle.fort_certificate.specs.declared.slot.Slot.TheVariants.{Which, Number, Verdict, Entry, Count}
 use Rattle.fort_certificate.specs.declared.slot.Head.{Head}
-use Rattle.fort_certificate.specs.declared.slot.Head.TheVariants.{Closure, Part, Counts, Value}
+use Rattle.fort_certificate.specs.declared.slot.Head.TheVariants.{Closure, Part, Merge, Counts, Value}
 
 abbrev pub as_kind : Wrong → grammar.FaultKind
 as_kind Form = grammar.AsForm
@@ -34,6 +34,7 @@ as_last (Some slot) = Some (as_slot slot)
 abbrev pub as_head : Head → grammar.StepHead
 as_head Closure = grammar.ClosureHead
 as_head Part = grammar.PartHead
+as_head Merge = grammar.MergeHead
 as_head Counts = grammar.CountsHead
 as_head Value = grammar.ValueHead
 

@@ -3,19 +3,21 @@ ghost use Rattle.std.specs.Prelude.{◌≡◌, ℕ, ◌≤◌, List, [], ◌∷�
 ghost use Rattle.std.specs.List.{AllZip};
 ghost use Rattle.fort_grammar.specs.Declarations.{as_list};
 ghost use Rattle.fort_grammar.specs.Forms as grammar;
-ghost use Rattle.fort_certificate_grammar.specs.CertificateForms.{Version, version_for, IsNumberForm, IsPairForm, IsCountForm, IsStepForm};
-ghost use Rattle.fort_certificate_grammar.specs.CertificateFaults.{NumberSlot, PairSlot, CountSlot, ClosureHead, PartHead, CountsHead, ValueHead, fault_of, AreBad, IsBadAt, IsBadStep};
+ghost use Rattle.fort_certificate_grammar.specs.CertificateForms.{Version as GrammarVersion, IsNumberForm, IsPairForm, IsCountForm, IsStepForm};
+ghost use Rattle.fort_certificate_grammar.specs.CertificateFaults.{NumberSlot, PairSlot, CountSlot, ClosureHead, PartHead, MergeHead, CountsHead, ValueHead, fault_of, AreBad, IsBadAt, IsBadStep};
 ghost use Rattle.fort_sexpr.specs.FormView.{form_count};
 ghost use Rattle.fort_steps.specs.StepView.{as_pair, as_count, as_step};
 ghost use Rattle.fort_certificate.specs.declared.build.Unread.TheVariants as unread;
 ghost use Rattle.fort_certificate.specs.Checking.{AreElementsOf, AreBadElementsOf, HasBadStep};
 ghost use Rattle.fort_certificate.specs.Faults.{as_fault};
 ghost use Rattle.fort_certificate.specs.ReadView.{as_kind, as_wrong};
+ghost use Rattle.fort_certificate.specs.VersionView.{as_version};
 
 use crate::check::fault_at;
 use crate::fault::CertificateFault;
 use crate::slot::{Head, head_of};
 use crate::value::{Wrong, count_in, entry_in, number_in, verdict_in, which_in};
+use crate::version::Version;
 use crate::word::number_of;
 use fort_sexpr::{Form, FormList, Forms};
 use fort_steps::{ClosureEntry, Count, Step};
@@ -115,12 +117,12 @@ fn counts(alloc: Global, elements: FormList) -> Result<Vec<Count>, Unread>
     Ok(counts)
 }
 
-/// The closure with these forms behind its head, in a problem of so many systems.
-fn closure(alloc: Global, elements: &FormList, systems: u32) -> Result<Step, Unread>
-    ensures ok { IfOk result (λ step. AreElementsOf elements.now.bytes (version_for systems)
+/// The closure with these forms behind its head, in this version.
+fn closure(alloc: Global, elements: &FormList, version: Version) -> Result<Step, Unread>
+    ensures ok { IfOk result (λ step. AreElementsOf elements.now.bytes (as_version version)
         ClosureHead elements.now.forms (as_step step)) }
     ensures wrong { IfErr result (λ e. IfSome (as_wrong e) (AreBadElementsOf
-        elements.now.bytes (version_for systems) ClosureHead elements.now.forms)) }
+        elements.now.bytes (as_version version) ClosureHead elements.now.forms)) }
 {
     let Some((kind, rest)) = elements.split_first() else {
         return Err(Unread::Wrong(Wrong::Form));
@@ -128,7 +130,7 @@ fn closure(alloc: Global, elements: &FormList, systems: u32) -> Result<Step, Unr
     let Some(which) = which_in(&kind) else {
         return Err(Unread::Wrong(Wrong::Form));
     };
-    if systems == 1 {
+    if !version.tells_index() {
         return Ok(Step::Closure(which, 1, entries(alloc, rest)?));
     }
     let Some((system, rest)) = rest.split_first() else {
@@ -137,22 +139,44 @@ fn closure(alloc: Global, elements: &FormList, systems: u32) -> Result<Step, Unr
     Ok(Step::Closure(which, number_in(&system)?, entries(alloc, rest)?))
 }
 
-fn part(alloc: Global, elements: &FormList) -> Result<Step, Unread>
-    ensures ok { IfOk result (λ step. (version : Version) →
-        AreElementsOf elements.now.bytes version PartHead elements.now.forms (as_step step)) }
-    ensures wrong { IfErr result (λ e. IfSome (as_wrong e) (λ kind. (version : Version) →
-        AreBadElementsOf elements.now.bytes version PartHead elements.now.forms kind)) }
+/// The number of a part, and the numbers behind it.
+fn part_and_numbers(alloc: Global, elements: &FormList) -> Result<(u32, Vec<u32>), Unread>
+    ensures ok { IfOk result (λ p. (f : grammar.Form) × (fs : List grammar.Form)
+        × (elements.now.forms ≡ f ∷ fs) × IsNumberForm elements.now.bytes f p.0
+        × AllZip (IsNumberForm elements.now.bytes) fs p.1.items) }
+    ensures wrong { IfErr result (λ e. IfSome (as_wrong e)
+        (AreBad elements.now.bytes (NumberSlot ∷ []) (Some NumberSlot) elements.now.forms)) }
 {
     let Some((part, rest)) = elements.split_first() else {
         return Err(Unread::Wrong(Wrong::Form));
     };
-    Ok(Step::Part(number_in(&part)?, numbers(alloc, rest)?))
+    Ok((number_in(&part)?, numbers(alloc, rest)?))
+}
+
+fn part(alloc: Global, elements: &FormList) -> Result<Step, Unread>
+    ensures ok { IfOk result (λ step. (version : GrammarVersion) →
+        AreElementsOf elements.now.bytes version PartHead elements.now.forms (as_step step)) }
+    ensures wrong { IfErr result (λ e. IfSome (as_wrong e) (λ kind. (version : GrammarVersion) →
+        AreBadElementsOf elements.now.bytes version PartHead elements.now.forms kind)) }
+{
+    let (part, targets) = part_and_numbers(alloc, elements)?;
+    Ok(Step::Part(part, targets))
+}
+
+fn merge(alloc: Global, elements: &FormList) -> Result<Step, Unread>
+    ensures ok { IfOk result (λ step. (version : GrammarVersion) →
+        AreElementsOf elements.now.bytes version MergeHead elements.now.forms (as_step step)) }
+    ensures wrong { IfErr result (λ e. IfSome (as_wrong e) (λ kind. (version : GrammarVersion) →
+        AreBadElementsOf elements.now.bytes version MergeHead elements.now.forms kind)) }
+{
+    let (part, classes) = part_and_numbers(alloc, elements)?;
+    Ok(Step::Merge(part, classes))
 }
 
 fn counts_step(alloc: Global, elements: &FormList) -> Result<Step, Unread>
-    ensures ok { IfOk result (λ step. (version : Version) →
+    ensures ok { IfOk result (λ step. (version : GrammarVersion) →
         AreElementsOf elements.now.bytes version CountsHead elements.now.forms (as_step step)) }
-    ensures wrong { IfErr result (λ e. IfSome (as_wrong e) (λ kind. (version : Version) →
+    ensures wrong { IfErr result (λ e. IfSome (as_wrong e) (λ kind. (version : GrammarVersion) →
         AreBadElementsOf elements.now.bytes version CountsHead elements.now.forms kind)) }
 {
     let Some((part, rest)) = elements.split_first() else {
@@ -162,9 +186,9 @@ fn counts_step(alloc: Global, elements: &FormList) -> Result<Step, Unread>
 }
 
 fn value(elements: &FormList) -> Result<Step, Wrong>
-    ensures ok { IfOk result (λ step. (version : Version) →
+    ensures ok { IfOk result (λ step. (version : GrammarVersion) →
         AreElementsOf elements.now.bytes version ValueHead elements.now.forms (as_step step)) }
-    ensures wrong { IfErr result (λ wrong. (version : Version) → AreBadElementsOf
+    ensures wrong { IfErr result (λ wrong. (version : GrammarVersion) → AreBadElementsOf
         elements.now.bytes version ValueHead elements.now.forms (as_kind wrong)) }
 {
     let Some((part, rest)) = elements.split_first() else {
@@ -183,14 +207,14 @@ fn value(elements: &FormList) -> Result<Step, Wrong>
     Ok(Step::Value(number, verdict))
 }
 
-/// The step that a form is.
-fn step(alloc: Global, form: &Form, systems: u32) -> Result<Step, Unread>
+/// The step that a form is, in this version.
+fn step(alloc: Global, form: &Form, version: Version) -> Result<Step, Unread>
     ensures ok { IfOk result (λ step.
-        IsStepForm form.now.bytes (version_for systems) form.now.form (as_step step)) }
+        IsStepForm form.now.bytes (as_version version) form.now.form (as_step step)) }
     ensures wrong { IfErr result (λ e. IfSome (as_wrong e) (λ kind. (i : ℕ) →
-        IsBadStep form.now.bytes (version_for systems) i form.now.form (fault_of i kind))) }
+        IsBadStep form.now.bytes (as_version version) i form.now.form (fault_of i kind))) }
 {
-    let Some(head) = head_of(form) else {
+    let Some(head) = head_of(form, version) else {
         return Err(Unread::Wrong(Wrong::Form));
     };
     let Some(list) = form.elements() else {
@@ -200,29 +224,30 @@ fn step(alloc: Global, form: &Form, systems: u32) -> Result<Step, Unread>
         unreachable!()
     };
     match head {
-        Head::Closure => closure(alloc, &elements, systems),
+        Head::Closure => closure(alloc, &elements, version),
         Head::Part => part(alloc, &elements),
+        Head::Merge => merge(alloc, &elements),
         Head::Counts => counts_step(alloc, &elements),
         Head::Value => Ok(value(&elements)?),
     }
 }
 
-/// The steps that the forms from a number on are, or the fault of the first that is none.
+/// The steps of this version that the forms from a number on are, or the fault of the first that is none.
 pub(crate) fn steps(
     alloc: Global,
     forms: &Forms,
     from: usize,
-    systems: u32,
+    version: Version,
 ) -> Result<Vec<Step>, CertificateFault>
     requires { from ≤ form_count forms.now.forms }
-    ensures ok { IfOk result (λ v. AllZip (IsStepForm forms.now.bytes (version_for systems))
+    ensures ok { IfOk result (λ v. AllZip (IsStepForm forms.now.bytes (as_version version))
         (drop from (as_list forms.now.forms)) (map as_step v.items)) }
     ensures fault { IfErr result (λ fault. IfSome (as_fault fault) (HasBadStep forms.now.bytes
-        (version_for systems) from (drop from (as_list forms.now.forms)))) }
+        (as_version version) from (drop from (as_list forms.now.forms)))) }
 {
     let mut steps = Vec::with_capacity(alloc, forms.len() - from)?;
     'steps: for i in from..forms.len() {
-        match step(alloc, &forms.form(i), systems) {
+        match step(alloc, &forms.form(i), version) {
             Ok(step) => steps.push_reserved(step),
             Err(Unread::Wrong(wrong)) => return Err(fault_at(i as u32, wrong)),
             Err(Unread::Memory) => return Err(CertificateFault::Memory),

@@ -32,14 +32,14 @@ pub fn read(
     if from as usize >= forms.len() {
         return Err(CertificateFault::BadForm(from));
     }
-    let verdict = check_header(&forms.form(from as usize), number, from)?;
+    let header = check_header(&forms.form(from as usize), number, from)?;
     let first = from as usize + 1;
-    let steps = match steps(alloc, forms, first, number) {
+    let steps = match steps(alloc, forms, first, header.version) {
         Ok(steps) => steps,
         Err(fault) => match fault {
             CertificateFault::Memory => {
                 // A form that is no step comes before want of memory, and is found without any.
-                check_steps(forms, first, number)?;
+                check_steps(forms, first, header.version)?;
                 return Err(CertificateFault::Memory);
             }
             _ => return Err(fault),
@@ -47,7 +47,7 @@ pub fn read(
     };
     Ok(Certificate {
         first: from,
-        verdict,
+        verdict: header.verdict,
         steps,
     })
 }

@@ -1,19 +1,20 @@
 //! Finds the first fault of forms that are no certificate, without memory.
-ghost use Rattle.std.specs.Prelude.{◌≡◌, ℕ, ◌<◌, ◌≤◌, Some, map, drop, length, IfOk, IfErr};
+ghost use Rattle.std.specs.Prelude.{◌≡◌, ℕ, ◌<◌, ◌≤◌, Some, map, drop, length, IfSome, IfNone, IfOk, IfErr};
 ghost use Rattle.fort_grammar.specs.Declarations.{as_list};
-ghost use Rattle.fort_certificate_grammar.specs.CertificateForms.{version_for, IsHeaderForm};
+ghost use Rattle.fort_certificate_grammar.specs.CertificateForms.{Version as GrammarVersion, version_word, IsVersionOf, IsHeaderForm};
 ghost use Rattle.fort_certificate_grammar.specs.CertificateFaults.{fault_of, AreBad, IsBadStep, IsBadHeader};
 ghost use Rattle.fort_certificate_grammar.specs.FilledSlots.{FitAll};
-ghost use Rattle.fort_sexpr.specs.FormView.{form_count};
+ghost use Rattle.fort_sexpr.specs.FormView.{form_count, word_ahead};
 ghost use Rattle.fort_certificate.specs.Faults.{as_fault, IsFault};
 ghost use Rattle.fort_certificate.specs.Checking.{IsSomeStep, AreSomeSteps, HasBadStep};
 ghost use Rattle.fort_certificate.specs.ReadView.{as_kind, as_slot, as_last};
+ghost use Rattle.fort_certificate.specs.VersionView.{as_version};
 
 use crate::fault::CertificateFault;
 use crate::slot::{Slot, check_slot, first_slots, head_of, last_slot, slot_of};
 use crate::value::{Wrong, three_words, verdict_ahead};
+use crate::version::Version;
 use crate::word::number_ahead;
-use crate::words::version_text;
 use fort_sexpr::{Form, FormList, Forms, is_ahead};
 
 /// Whether these slots stand behind the head, and any number of the last one, if there is one.
@@ -43,29 +44,56 @@ fn check_elements(list: &FormList, first: &[Slot], last: Option<Slot>) -> Result
     Ok(())
 }
 
-/// Whether a form is a step of a certificate of a problem of so many systems.
-fn check_step(form: &Form, number: u32) -> Result<(), Wrong>
+/// Whether a form is a step of a certificate of this version.
+fn check_step(form: &Form, version: Version) -> Result<(), Wrong>
     ensures ok { IfOk result (λ _.
-        IsSomeStep form.now.bytes (version_for number) form.now.form) }
+        IsSomeStep form.now.bytes (as_version version) form.now.form) }
     ensures err { IfErr result (λ wrong. (i : ℕ) →
-        IsBadStep form.now.bytes (version_for number) i form.now.form
+        IsBadStep form.now.bytes (as_version version) i form.now.form
         (fault_of i (as_kind wrong))) }
 {
-    let Some(head) = head_of(form) else {
+    let Some(head) = head_of(form, version) else {
         return Err(Wrong::Form);
     };
     let Some(list) = form.elements() else {
         unreachable!()
     };
-    check_elements(&list, first_slots(head, number), last_slot(head))
+    check_elements(&list, first_slots(head, version), last_slot(head))
 }
 
-/// The verdict of the header.
-pub(crate) fn check_header(form: &Form, number: u32, i: u32) -> Result<bool, CertificateFault>
-    ensures ok { IfOk result (λ verdict.
-        IsHeaderForm form.now.bytes (version_for number) form.now.form verdict) }
+/// The version that a word is, of those of a problem of so many systems.
+fn version_ahead(bytes: &[u8], number: u32) -> Option<Version>
+    ensures some { IfSome result (λ version.
+        word_ahead bytes.now ≡ version_word (as_version version)) }
+    ensures of_problem { IfSome result (λ version. IsVersionOf number (as_version version)) }
+    ensures none { IfNone result ((version : GrammarVersion) → IsVersionOf number version
+        → word_ahead bytes.now ≡ version_word version → ⊥) }
+{
+    let plain = Version::new(false, number);
+    if is_ahead(bytes, plain.word()) {
+        return Some(plain);
+    }
+    let reduced = Version::new(true, number);
+    if is_ahead(bytes, reduced.word()) {
+        return Some(reduced);
+    }
+    None
+}
+
+/// What the header says.
+#[derive(Clone, Copy)]
+pub(crate) struct Header {
+    pub version: Version,
+    pub verdict: bool,
+}
+
+/// The header of a certificate of a problem of so many systems.
+pub(crate) fn check_header(form: &Form, number: u32, i: u32) -> Result<Header, CertificateFault>
+    ensures ok { IfOk result (λ header. IsHeaderForm form.now.bytes
+        (as_version header.version) form.now.form header.verdict) }
+    ensures of_problem { IfOk result (λ header. IsVersionOf number (as_version header.version)) }
     ensures fault { IfErr result (IsFault
-        (IsBadHeader form.now.bytes (version_for number) i form.now.form)) }
+        (IsBadHeader form.now.bytes number i form.now.form)) }
 {
     let Some(words) = three_words(form) else {
         return Err(CertificateFault::BadForm(i));
@@ -73,14 +101,14 @@ pub(crate) fn check_header(form: &Form, number: u32, i: u32) -> Result<bool, Cer
     if !is_ahead(words.first, b"certificate") {
         return Err(CertificateFault::BadForm(i));
     }
-    if !is_ahead(words.second, version_text(number)) {
+    let Some(version) = version_ahead(words.second, number) else {
         return match number_ahead(words.second) {
             Some(_version) => Err(CertificateFault::Version(i)),
             None => Err(CertificateFault::BadNumber(i)),
         };
-    }
+    };
     match verdict_ahead(words.third) {
-        Some(verdict) => Ok(verdict),
+        Some(verdict) => Ok(Header { version, verdict }),
         None => Err(CertificateFault::BadForm(i)),
     }
 }
@@ -95,16 +123,20 @@ pub(crate) fn fault_at(i: u32, wrong: Wrong) -> CertificateFault
     }
 }
 
-/// Whether the forms from a number on are steps.
-pub(crate) fn check_steps(forms: &Forms, from: usize, number: u32) -> Result<(), CertificateFault>
+/// Whether the forms from a number on are steps of this version.
+pub(crate) fn check_steps(
+    forms: &Forms,
+    from: usize,
+    version: Version,
+) -> Result<(), CertificateFault>
     requires { from ≤ form_count forms.now.forms }
-    ensures ok { IfOk result (λ _. AreSomeSteps forms.now.bytes (version_for number)
+    ensures ok { IfOk result (λ _. AreSomeSteps forms.now.bytes (as_version version)
         (drop from (as_list forms.now.forms))) }
-    ensures fault { IfErr result (IsFault (HasBadStep forms.now.bytes (version_for number) from
+    ensures fault { IfErr result (IsFault (HasBadStep forms.now.bytes (as_version version) from
         (drop from (as_list forms.now.forms)))) }
 {
     'steps: for i in from..forms.len() {
-        match check_step(&forms.form(i), number) {
+        match check_step(&forms.form(i), version) {
             Ok(()) => {}
             Err(wrong) => return Err(fault_at(i as u32, wrong)),
         }

@@ -13,7 +13,7 @@ pub enum CertificateFault {
     BadForm(u32),
     /// A word in a number's place that is no number.
     BadNumber(u32),
-    /// The version is a number, but not that of the problem's certificates.
+    /// The version is a number, but none of the versions of the problem's certificates.
     Version(u32),
 }
 

@@ -7,10 +7,12 @@ mod check;
 mod fault;
 mod slot;
 mod value;
+mod version;
 mod word;
 mod words;
 mod write;
 
 pub use certificate::read;
 pub use fault::CertificateFault;
+pub use version::Version;
 pub use write::text;

@@ -1,11 +1,12 @@
 //! What stands at which place of a step, and what is wrong there.
-ghost use Rattle.std.specs.Prelude.{◌≡◌, map, IfSome, IfNone, IfOk, IfErr};
+ghost use Rattle.std.specs.Prelude.{◌≡◌, true, map, IfSome, IfNone, IfOk, IfErr};
 ghost use Rattle.fort_grammar.specs.Declarations.{IsHeaded};
-ghost use Rattle.fort_certificate_grammar.specs.CertificateForms.{version_for};
-ghost use Rattle.fort_certificate_grammar.specs.CertificateFaults.{StepHead, ClosureHead, head_word, slots_of, rest_of, Fits, IsBadAt};
+ghost use Rattle.fort_certificate_grammar.specs.CertificateFaults.{StepHead, ClosureHead, head_word, is_head_of, slots_of, rest_of, Fits, IsBadAt};
 ghost use Rattle.fort_certificate.specs.ReadView.{as_kind, as_slot, as_last, as_head, slot_at};
+ghost use Rattle.fort_certificate.specs.VersionView.{as_version};
 
 use crate::value::{Wrong, count_in, entry_in, number_in, verdict_in, which_in};
+use crate::version::Version;
 use fort_sexpr::Form;
 
 /// What may stand at a place.
@@ -23,22 +24,28 @@ pub(crate) enum Slot {
 pub(crate) enum Head {
     Closure,
     Part,
+    Merge,
     Counts,
     Value,
 }
 
-/// The head of a form.
-pub(crate) fn head_of(form: &Form) -> Option<Head>
+/// The head of a form that may be a step of this version.
+pub(crate) fn head_of(form: &Form, version: Version) -> Option<Head>
     ensures some { IfSome result (λ head.
         IsHeaded form.now.bytes (head_word (as_head head)) form.now.form) }
-    ensures none { IfNone result ((head : StepHead) →
-        IsHeaded form.now.bytes (head_word head) form.now.form → ⊥) }
+    ensures allowed { IfSome result (λ head.
+        is_head_of (as_version version) (as_head head) ≡ true) }
+    ensures none { IfNone result ((head : StepHead) → is_head_of (as_version version) head ≡ true
+        → IsHeaded form.now.bytes (head_word head) form.now.form → ⊥) }
 {
     if form.is_headed(b"closure") {
         return Some(Head::Closure);
     }
     if form.is_headed(b"part") {
         return Some(Head::Part);
+    }
+    if version.has_merges() && form.is_headed(b"merge") {
+        return Some(Head::Merge);
     }
     if form.is_headed(b"counts") {
         return Some(Head::Counts);
@@ -57,22 +64,27 @@ const NUMBER: &[Slot] = &[Slot::Number];
 
 const NUMBER_AND_VERDICT: &[Slot] = &[Slot::Number, Slot::Verdict];
 
-/// What stands behind a head, in a problem of so many systems.
-pub(crate) fn first_slots(head: Head, number: u32) -> &'static [Slot]
-    ensures { map as_slot result.now ≡ slots_of (as_head head) (version_for number) }
+/// What stands behind a head, in this version.
+pub(crate) fn first_slots(head: Head, version: Version) -> &'static [Slot]
+    ensures { map as_slot result.now ≡ slots_of (as_head head) (as_version version) }
 {
     match head {
-        Head::Closure => closure_slots(number),
+        Head::Closure => closure_slots(version),
         Head::Part => NUMBER,
+        Head::Merge => NUMBER,
         Head::Counts => NUMBER,
         Head::Value => NUMBER_AND_VERDICT,
     }
 }
 
-fn closure_slots(number: u32) -> &'static [Slot]
-    ensures { map as_slot result.now ≡ slots_of ClosureHead (version_for number) }
+fn closure_slots(version: Version) -> &'static [Slot]
+    ensures { map as_slot result.now ≡ slots_of ClosureHead (as_version version) }
 {
-    if number == 1 { WHICH } else { WHICH_AND_INDEX }
+    if version.tells_index() {
+        WHICH_AND_INDEX
+    } else {
+        WHICH
+    }
 }
 
 /// What may follow, any number of times.
@@ -82,6 +94,7 @@ pub(crate) fn last_slot(head: Head) -> Option<Slot>
     match head {
         Head::Closure => Some(Slot::Entry),
         Head::Part => Some(Slot::Number),
+        Head::Merge => Some(Slot::Number),
         Head::Counts => Some(Slot::Count),
         Head::Value => None,
     }

@@ -1,9 +1,11 @@
 //! The words of a certificate, each behind a blank.
 ghost use Rattle.std.specs.Prelude.{◌≡◌, ◌∷◌, ◌++◌, decimal, OnOk};
-ghost use Rattle.fort_certificate_grammar.specs.CertificateForms.{version_for, version_word, verdict_word, which_word};
+ghost use Rattle.fort_certificate_grammar.specs.CertificateForms.{version_word, verdict_word, which_word};
 ghost use Rattle.fort_certificate_grammar.specs.CertificateText.{why_word, IsSmall, IsSmallWhy};
 ghost use Rattle.fort_steps.specs.StepView.{as_which, as_why};
+ghost use Rattle.fort_certificate.specs.VersionView.{as_version};
 
+use crate::version::Version;
 use fort_steps::{Reason, Which};
 use itoa::Buffer;
 use std::alloc::AllocError;
@@ -24,19 +26,12 @@ pub(crate) fn push_number(out: &mut Vec<u8>, n: u32) -> Result<(), AllocError>
     push_digits(out, n)
 }
 
-/// The version of certificates of a problem of so many systems.
-pub(crate) fn version_text(number: u32) -> &'static [u8]
-    ensures { result.now ≡ version_word (version_for number) }
-{
-    if number == 1 { b"1" } else { b"2" }
-}
-
-pub(crate) fn push_version(out: &mut Vec<u8>, number: u32) -> Result<(), AllocError>
+pub(crate) fn push_version(out: &mut Vec<u8>, version: Version) -> Result<(), AllocError>
     ensures { OnOk result (out.new.items ≡
-        out.old.items ++ 32 ∷ version_word (version_for number)) }
+        out.old.items ++ 32 ∷ version_word (as_version version)) }
 {
     out.push(b' ')?;
-    out.extend_from_slice(version_text(number))
+    out.extend_from_slice(version.word())
 }
 
 pub(crate) fn push_verdict(out: &mut Vec<u8>, verdict: bool) -> Result<(), AllocError>

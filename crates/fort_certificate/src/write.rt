@@ -1,13 +1,14 @@
 //! Writes a certificate.
 ghost use Rattle.std.specs.Prelude.{◌≡◌, ◌++◌, ◌∷◌, map, decimal, OnOk, IfOk};
 ghost use Rattle.fort_certificate_grammar.specs.Certificates as certificates;
-ghost use Rattle.fort_certificate_grammar.specs.CertificateForms.{version_for};
 ghost use Rattle.fort_certificate_grammar.specs.CertificateText.{line_of, element_text, pair_element, count_element, index_elements, step_elements, header_elements, certificate_text, IsSmall, IsSmallPair, IsSmallCount};
 ghost use Rattle.std.specs.List.{AllByRecursion};
 ghost use Rattle.fort_steps.specs.StepView.{as_which, as_pair, as_count, as_step};
 ghost use Rattle.fort_certificate.specs.Again.{IsReadBehind, HasSmallNumbers};
 ghost use Rattle.fort_certificate.specs.Lines.{tails};
+ghost use Rattle.fort_certificate.specs.VersionView.{as_version};
 
+use crate::version::Version;
 use crate::words::{push_digits, push_number, push_reason, push_verdict, push_version, push_which};
 use fort_steps::{ClosureEntry, Count, Step, Which};
 use std::alloc::{AllocError, Global};
@@ -36,12 +37,12 @@ fn push_entries(out: &mut Vec<u8>, entries: &[ClosureEntry]) -> Result<(), Alloc
     Ok(())
 }
 
-/// The index of a closure, where there are several systems.
-fn push_index(out: &mut Vec<u8>, number: u32, index: u32) -> Result<(), AllocError>
+/// The index of a closure, where the version tells it.
+fn push_index(out: &mut Vec<u8>, version: Version, index: u32) -> Result<(), AllocError>
     ensures { OnOk result (out.new.items ≡ out.old.items ++
-        tails (map element_text (index_elements (version_for number) index))) }
+        tails (map element_text (index_elements (as_version version) index))) }
 {
-    if number == 1 {
+    if !version.tells_index() {
         return Ok(());
     }
     push_number(out, index)
@@ -49,44 +50,67 @@ fn push_index(out: &mut Vec<u8>, number: u32, index: u32) -> Result<(), AllocErr
 
 fn push_closure(
     out: &mut Vec<u8>,
-    number: u32,
+    version: Version,
     which: Which,
     index: u32,
     entries: &[ClosureEntry],
 ) -> Result<(), AllocError>
     ensures text { OnOk result (out.new.items ≡
-        out.old.items ++ line_of (step_elements (version_for number)
+        out.old.items ++ line_of (step_elements (as_version version)
         (certificates.Closure (as_which which) index (map as_pair entries.now)))) }
     ensures small { OnOk result (HasSmallNumbers
         (certificates.Closure (as_which which) index (map as_pair entries.now))) }
 {
     out.extend_from_slice(b"(closure")?;
     push_which(out, which)?;
-    push_index(out, number, index)?;
+    push_index(out, version, index)?;
     push_entries(out, entries)?;
     out.extend_from_slice(b")\n")?;
     Ok(())
 }
 
-fn push_targets(out: &mut Vec<u8>, targets: &[u32]) -> Result<(), AllocError>
-    ensures text { OnOk result (out.new.items ≡ out.old.items ++ tails (map decimal targets.now)) }
-    ensures small { OnOk result (AllByRecursion IsSmall targets.now) }
+fn push_numbers(out: &mut Vec<u8>, numbers: &[u32]) -> Result<(), AllocError>
+    ensures text { OnOk result (out.new.items ≡ out.old.items ++ tails (map decimal numbers.now)) }
+    ensures small { OnOk result (AllByRecursion IsSmall numbers.now) }
 {
-    for target in targets {
-        push_number(out, *target)?;
+    for number in numbers {
+        push_number(out, *number)?;
     }
     Ok(())
 }
 
-fn push_part(out: &mut Vec<u8>, number: u32, part: u32, targets: &[u32]) -> Result<(), AllocError>
+fn push_part(
+    out: &mut Vec<u8>,
+    version: Version,
+    part: u32,
+    targets: &[u32],
+) -> Result<(), AllocError>
     ensures text { OnOk result (out.new.items ≡
-        out.old.items ++ line_of (step_elements (version_for number)
+        out.old.items ++ line_of (step_elements (as_version version)
         (certificates.Part part targets.now))) }
     ensures small { OnOk result (HasSmallNumbers (certificates.Part part targets.now)) }
 {
     out.extend_from_slice(b"(part")?;
     push_number(out, part)?;
-    push_targets(out, targets)?;
+    push_numbers(out, targets)?;
+    out.extend_from_slice(b")\n")?;
+    Ok(())
+}
+
+fn push_merge(
+    out: &mut Vec<u8>,
+    version: Version,
+    part: u32,
+    classes: &[u32],
+) -> Result<(), AllocError>
+    ensures text { OnOk result (out.new.items ≡
+        out.old.items ++ line_of (step_elements (as_version version)
+        (certificates.Merge part classes.now))) }
+    ensures small { OnOk result (HasSmallNumbers (certificates.Merge part classes.now)) }
+{
+    out.extend_from_slice(b"(merge")?;
+    push_number(out, part)?;
+    push_numbers(out, classes)?;
     out.extend_from_slice(b")\n")?;
     Ok(())
 }
@@ -123,12 +147,12 @@ fn push_each_count(out: &mut Vec<u8>, counts: &[Count]) -> Result<(), AllocError
 
 fn push_counts(
     out: &mut Vec<u8>,
-    number: u32,
+    version: Version,
     part: u32,
     counts: &[Count],
 ) -> Result<(), AllocError>
     ensures text { OnOk result (out.new.items ≡
-        out.old.items ++ line_of (step_elements (version_for number)
+        out.old.items ++ line_of (step_elements (as_version version)
         (certificates.Counts part (map as_count counts.now)))) }
     ensures small { OnOk result (HasSmallNumbers
         (certificates.Counts part (map as_count counts.now))) }
@@ -140,9 +164,9 @@ fn push_counts(
     Ok(())
 }
 
-fn push_value(out: &mut Vec<u8>, number: u32, part: u32, value: bool) -> Result<(), AllocError>
+fn push_value(out: &mut Vec<u8>, version: Version, part: u32, value: bool) -> Result<(), AllocError>
     ensures text { OnOk result (out.new.items ≡
-        out.old.items ++ line_of (step_elements (version_for number)
+        out.old.items ++ line_of (step_elements (as_version version)
         (certificates.Value part value))) }
     ensures small { OnOk result (HasSmallNumbers (certificates.Value part value)) }
 {
@@ -153,49 +177,50 @@ fn push_value(out: &mut Vec<u8>, number: u32, part: u32, value: bool) -> Result<
     Ok(())
 }
 
-fn push_step(out: &mut Vec<u8>, number: u32, step: &Step) -> Result<(), AllocError>
+fn push_step(out: &mut Vec<u8>, version: Version, step: &Step) -> Result<(), AllocError>
     ensures text { OnOk result (out.new.items ≡
-        out.old.items ++ line_of (step_elements (version_for number) (as_step step.now))) }
+        out.old.items ++ line_of (step_elements (as_version version) (as_step step.now))) }
     ensures small { OnOk result (HasSmallNumbers (as_step step.now)) }
 {
     match step {
         Step::Closure(which, index, entries) => {
-            push_closure(out, number, *which, *index, entries.as_slice())
+            push_closure(out, version, *which, *index, entries.as_slice())
         }
-        Step::Part(part, targets) => push_part(out, number, *part, targets.as_slice()),
-        Step::Counts(part, counts) => push_counts(out, number, *part, counts.as_slice()),
-        Step::Value(part, value) => push_value(out, number, *part, *value),
+        Step::Part(part, targets) => push_part(out, version, *part, targets.as_slice()),
+        Step::Merge(part, classes) => push_merge(out, version, *part, classes.as_slice()),
+        Step::Counts(part, counts) => push_counts(out, version, *part, counts.as_slice()),
+        Step::Value(part, value) => push_value(out, version, *part, *value),
     }
 }
 
-fn push_header(out: &mut Vec<u8>, number: u32, verdict: bool) -> Result<(), AllocError>
+fn push_header(out: &mut Vec<u8>, version: Version, verdict: bool) -> Result<(), AllocError>
     ensures { OnOk result (out.new.items ≡
-        out.old.items ++ line_of (header_elements (version_for number) verdict)) }
+        out.old.items ++ line_of (header_elements (as_version version) verdict)) }
 {
     out.extend_from_slice(b"(certificate")?;
-    push_version(out, number)?;
+    push_version(out, version)?;
     push_verdict(out, verdict)?;
     out.extend_from_slice(b")\n")?;
     Ok(())
 }
 
-/// The text of a certificate of a problem of so many systems.
+/// The text of a certificate.
 pub fn text(
     alloc: Global,
-    number: u32,
+    version: Version,
     verdict: bool,
     steps: &[Step],
 ) -> Result<Vec<u8>, AllocError>
     ensures text { IfOk result (λ text.
-        text.items ≡ certificate_text number verdict (map as_step steps.now)) }
+        text.items ≡ certificate_text (as_version version) verdict (map as_step steps.now)) }
     ensures again { IfOk result (λ text.
-        IsReadBehind number verdict (map as_step steps.now) text.items) }
+        IsReadBehind (as_version version) verdict (map as_step steps.now) text.items) }
     ensures small { OnOk result (AllByRecursion HasSmallNumbers (map as_step steps.now)) }
 {
     let mut out = Vec::new(alloc);
-    push_header(&mut out, number, verdict)?;
+    push_header(&mut out, version, verdict)?;
     for step in steps {
-        push_step(&mut out, number, step)?;
+        push_step(&mut out, version, step)?;
     }
     Ok(out)
 }

@@ -8,7 +8,7 @@ use Rattle.fort_cores.specs.Cores.{Core}
 use Rattle.fort_tables.proofs.EqualTests.{test_from_apart}
 use Rattle.fort_parts.specs.PartColumns.{columns_of}
 use Rattle.fort_certificate_grammar.specs.Certificates.{Star, Conv}
-use Rattle.fort_in_order.specs.Dues.{DueStep, OfPart, OfValue, closure_due, closures_due, has_columns, is_turned, counts_due, answer_due, parts_due}
+use Rattle.fort_in_order.specs.Dues.{DueStep, OfPart, OfMerge, OfValue, closure_due, closures_due, has_columns, is_turned, counts_due, table_due, answer_due, parts_due}
 use Rattle.fort_outline.specs.declared.dues.DueStep as due
 use Rattle.fort_outline.specs.DueView.{as_due}
 use Rattle.fort_in_order_laws.proofs.FineSteps.{chosen, passed_over}
@@ -31,27 +31,34 @@ closures_more parts n ds xs ys zs e h k =
     regroup ds (closures_due parts n 1) (a ++ b) xs zs e both ∙ ap (λ ys. ds ++ ys) (sym grown)
 
 -- one more part
-pub parts_more : (fs : List Core) (k : ℕ) (f : Core) (ds xs ys : List DueStep) → k < length fs → get_or fs k f ≡ f → xs ≡ ds ++ parts_due 0 (take k fs) → ys ≡ xs ++ (counts_due k f ++ answer_due k f)
-    → ys ≡ ds ++ parts_due 0 (take (k + 1) fs)
-parts_more fs k f ds xs ys l at e h =
+pub parts_more : (merges : ℕ → Bool) (fs : List Core) (k : ℕ) (f : Core) (ds xs ys : List DueStep) → k < length fs → get_or fs k f ≡ f → xs ≡ ds ++ parts_due merges 0 (take k fs) → ys ≡ xs ++ (counts_due k f ++ answer_due merges k f)
+    → ys ≡ ds ++ parts_due merges 0 (take (k + 1) fs)
+parts_more merges fs k f ds xs ys l at e h =
     let count : 0 + length (take k fs) ≡ k = omega (arith, length-take-le k fs (omega arith)) in
-    let grown : parts_due 0 (take (k + 1) fs) ≡ parts_due 0 (take k fs) ++ (counts_due k f ++ answer_due k f) =
-    ap (parts_due 0) (take_more fs k f l ∙ ap (λ g. take k fs ++ g ∷ []) at)
-    ∙ (parts_due-push 0 (take k fs) f ∙ ap (λ i. parts_due 0 (take k fs) ++ (counts_due i f ++ answer_due i f)) count) in
-    regroup ds (parts_due 0 (take k fs)) (counts_due k f ++ answer_due k f) xs ys e h ∙ ap (λ zs. ds ++ zs) (sym grown)
+    let grown : parts_due merges 0 (take (k + 1) fs) ≡ parts_due merges 0 (take k fs) ++ (counts_due k f ++ answer_due merges k f) =
+    ap (parts_due merges 0) (take_more fs k f l ∙ ap (λ g. take k fs ++ g ∷ []) at)
+    ∙ (parts_due-push merges 0 (take k fs) f ∙ ap (λ i. parts_due merges 0 (take k fs) ++ (counts_due i f ++ answer_due merges i f)) count) in
+    regroup ds (parts_due merges 0 (take k fs)) (counts_due k f ++ answer_due merges k f) xs ys e h ∙ ap (λ zs. ds ++ zs) (sym grown)
 
 -- the answer of one part
-pub answer_value : (k : ℕ) (f : Core) → has_columns f ≡ false → answer_due k f ≡ OfValue k ∷ []
-answer_value k f h = passed_over (has_columns f) (if is_turned f then [] else (OfPart k ∷ [])) (OfValue k ∷ []) h
+pub answer_value : (merges : ℕ → Bool) (k : ℕ) (f : Core) → has_columns f ≡ false → answer_due merges k f ≡ OfValue k ∷ []
+answer_value merges k f h = passed_over (has_columns f) (if is_turned f then [] else table_due merges k) (OfValue k ∷ []) h
 
-pub answer_turned : (k : ℕ) (f g : Core) → f ≡ core.Not g → has_columns f ≡ true → answer_due k f ≡ []
-answer_turned k f g e h =
-    chosen (has_columns f) (if is_turned f then [] else (OfPart k ∷ [])) (OfValue k ∷ []) h
-    ∙ chosen (is_turned f) [] (OfPart k ∷ []) (ap is_turned e ∙ (sym (ap has_columns e) ∙ h))
+pub answer_turned : (merges : ℕ → Bool) (k : ℕ) (f g : Core) → f ≡ core.Not g → has_columns f ≡ true → answer_due merges k f ≡ []
+answer_turned merges k f g e h =
+    chosen (has_columns f) (if is_turned f then [] else table_due merges k) (OfValue k ∷ []) h
+    ∙ chosen (is_turned f) [] (table_due merges k) (ap is_turned e ∙ (sym (ap has_columns e) ∙ h))
 
-pub answer_part : (k : ℕ) (f : Core) → is_turned f ≡ false → has_columns f ≡ true → answer_due k f ≡ OfPart k ∷ []
-answer_part k f t h =
-    chosen (has_columns f) (if is_turned f then [] else (OfPart k ∷ [])) (OfValue k ∷ []) h ∙ passed_over (is_turned f) [] (OfPart k ∷ []) t
+pub answer_part : (merges : ℕ → Bool) (k : ℕ) (f : Core) → is_turned f ≡ false → has_columns f ≡ true → answer_due merges k f ≡ table_due merges k
+answer_part merges k f t h =
+    chosen (has_columns f) (if is_turned f then [] else table_due merges k) (OfValue k ∷ []) h ∙ passed_over (is_turned f) [] (table_due merges k) t
+
+-- the table of one part, which is merged or isn't
+pub merged_table : (b : Bool) (k : ℕ) → b ≡ true → table_due (λ j. b) k ≡ OfPart k ∷ OfMerge k ∷ []
+merged_table b k e = ap (λ (ds : List DueStep). OfPart k ∷ ds) (chosen b (OfMerge k ∷ []) [] e)
+
+pub plain_table : (b : Bool) (k : ℕ) → b ≡ false → table_due (λ j. b) k ≡ OfPart k ∷ []
+plain_table b k e = ap (λ (ds : List DueStep). OfPart k ∷ ds) (passed_over b (OfMerge k ∷ []) [] e)
 
 -- whether there are columns, by the list of them
 pub columns_there : (f : Core) (ns : List ℕ) (empty : Bool) → ns ≡ columns_of f → empty ≡ (length ns == 0) → not empty ≡ has_columns f

@@ -10,7 +10,7 @@ use Rattle.fort_steps.specs.declared.closure.ClosureEntry.{ClosureEntry}
 use Rattle.fort_steps.specs.declared.count.Count.{Count}
 use Rattle.fort_steps.specs.declared.count.Count.TheVariants.{Finite, Infinite}
 use Rattle.fort_steps.specs.declared.step.Step.{Step}
-use Rattle.fort_steps.specs.declared.step.Step.TheVariants.{Closure, Part, Counts, Value}
+use Rattle.fort_steps.specs.declared.step.Step.TheVariants.{Closure, Part, Merge, Counts, Value}
 
 abbrev pub as_which : Which → certificates.Which
 as_which Star = certificates.Star
@@ -31,5 +31,6 @@ as_count (Infinite child) = counts.Infinite child
 abbrev pub as_step : Step → certificates.Step
 as_step (Closure which index entries) = certificates.Closure (as_which which) index (map as_pair entries.items)
 as_step (Part part targets) = certificates.Part part targets.items
+as_step (Merge part classes) = certificates.Merge part classes.items
 as_step (Counts part marks) = certificates.Counts part (map as_count marks.items)
 as_step (Value part value) = certificates.Value part value

@@ -9,6 +9,8 @@ pub enum Step {
     Closure(Which, u32, Vec<ClosureEntry>),
     /// The targets of a part's entries, in their order.
     Part(u32, Vec<u32>),
+    /// The classes of the states of the part's table, in the order of the states.
+    Merge(u32, Vec<u32>),
     /// The counts of the pure states of the part's body, in their order.
     Counts(u32, Vec<Count>),
     /// The value of a part without columns.

@@ -8,7 +8,7 @@ use Rattle.fort_certificate.proofs.WrongLaws.{slot_absent, slot_bad, slot_fits}
 use Rattle.fort_certificate.proofs.build.counts_step.Goals as goal
 
 pub returns-clause-ok : goal.returns-clause-ok
-returns-clause-ok c = λ version f head is headed.
+returns-clause-ok c = λ version f head allowed is headed.
     counts_made c.args.elements.now.bytes f head c.in-Some.part.form c.args.elements.now.forms c.in-Some.rest.forms c.in-Some.ensures.some is version c.in_ok-number_in.field-0 _
     (rw c.in-Some.ensures.bytes.0 at c.in_ok-number_in.ensures.ok) (rw c.in-Some.ensures.bytes.1 at c.in_ok-counts.ensures.ok) headed
 

@@ -6,7 +6,7 @@ use Rattle.fort_certificate.proofs.WrongLaws.{slot_absent, slot_bad, slot_fits, 
 use Rattle.fort_certificate.proofs.build.value.Goals as goal
 
 pub returns-clause-ok : goal.returns-clause-ok
-returns-clause-ok c = λ version f head is headed.
+returns-clause-ok c = λ version f head allowed is headed.
     let bytes = c.args.elements.now.bytes in
     let forms = c.args.elements.now.forms in
     let rest = c.in-Some.rest.forms in

@@ -1,5 +1,5 @@
 use Rattle.std.proofs.Common.{◌++◌, ◌∷◌, [], map, decimal, ap, ◌∙◌}
-use Rattle.fort_certificate_grammar.specs.CertificateForms.{version_for}
+use Rattle.fort_certificate.specs.VersionView.{as_version}
 use Rattle.fort_certificate_grammar.specs.CertificateText.{element_text, count_element}
 use Rattle.fort_steps.specs.StepView.{as_count}
 use Rattle.fort_certificate.specs.Lines.{tails}
@@ -12,4 +12,4 @@ returns-clause-text c =
     ∙ (ap (λ xs. xs ++ (41 ∷ 10 ∷ [])) (c.in_ok-push_each_count.ensures.text
     ∙ ap (λ xs. xs ++ tails (map (λ n. element_text (count_element (as_count n))) c.args.counts.now)) (c.in_ok-push_number.ensures.text
     ∙ ap (λ xs. xs ++ (32 ∷ decimal c.args.part)) c.in_ok-extend_from_slice.ensures.items))
-    ∙ counts_line c.args.out.now.items (version_for c.args.number) c.args.part c.args.counts.now)
+    ∙ counts_line c.args.out.now.items (as_version c.args.version) c.args.part c.args.counts.now)

@@ -1,5 +1,5 @@
 use Rattle.std.proofs.Common.{◌++◌, ◌∷◌, [], map, decimal, ap, ◌∙◌}
-use Rattle.fort_certificate_grammar.specs.CertificateForms.{version_for}
+use Rattle.fort_certificate.specs.VersionView.{as_version}
 use Rattle.fort_certificate.specs.Lines.{tails}
 use Rattle.fort_certificate.proofs.LineLaws.{part_line}
 use Rattle.fort_certificate.proofs.write.push_part.Goals as goal
@@ -7,7 +7,7 @@ use Rattle.fort_certificate.proofs.write.push_part.Goals as goal
 pub returns-clause-text : goal.returns-clause-text
 returns-clause-text c =
     c.in_ok-extend_from_slice-2.ensures.items
-    ∙ (ap (λ xs. xs ++ (41 ∷ 10 ∷ [])) (c.in_ok-push_targets.ensures.text
+    ∙ (ap (λ xs. xs ++ (41 ∷ 10 ∷ [])) (c.in_ok-push_numbers.ensures.text
     ∙ ap (λ xs. xs ++ tails (map decimal c.args.targets.now)) (c.in_ok-push_number.ensures.text
     ∙ ap (λ xs. xs ++ (32 ∷ decimal c.args.part)) c.in_ok-extend_from_slice.ensures.items))
-    ∙ part_line c.args.out.now.items (version_for c.args.number) c.args.part c.args.targets.now)
+    ∙ part_line c.args.out.now.items (as_version c.args.version) c.args.part c.args.targets.now)

@@ -3,10 +3,11 @@ use Rattle.std.specs.List.{AllByRecursion}
 use Rattle.fort_certificate_grammar.specs.CertificateText.{certificate_text}
 use Rattle.fort_steps.specs.StepView.{as_step}
 use Rattle.fort_certificate.specs.Again.{HasSmallNumbers}
+use Rattle.fort_certificate.specs.VersionView.{as_version}
 use Rattle.fort_certificate.proofs.write.text.Given as goal
 
 abbrev pub invariant-loop-step : goal.invariant-loop-step
 invariant-loop-step l = record {
-  text : l.out.items ≡ certificate_text l.number l.verdict (map as_step (take l.step-index l.steps));
+  text : l.out.items ≡ certificate_text (as_version l.version) l.verdict (map as_step (take l.step-index l.steps));
   small : AllByRecursion HasSmallNumbers (map as_step (take l.step-index l.steps));
 }
