@@ -1,5 +1,5 @@
 -- Which answers are right: by a formula's labels, of atoms, of a complement, of a projection, of "infinitely many".
-use Rattle.std.specs.Prelude.{◌≡◌, ◌<◌, ℕ, ◌-◌, List, length, Contains, Bool, true, false, Option, None, Some, is_some, IfSome, Ok}
+use Rattle.std.specs.Prelude.{◌≡◌, ◌<◌, ℕ, ◌-◌, List, length, Contains, Bool, true, Option, None, Some, is_some, IfSome, Ok}
 use Rattle.std.specs.declared.alloc.Global.{Global}
 use Rattle.std.specs.declared.vec.Vec.{Vec}
 use Rattle.std.proofs.Common.{not, refl, ap, sym, ◌∙◌, subst, arith, true≢false}
@@ -12,7 +12,7 @@ use Rattle.fort_expressions.specs.Contexts.{HoleNumber, HolePlace}
 use Rattle.fort_cores.specs.Cores as core
 use Rattle.fort_cores.specs.Parts.{is_free, AreColumns}
 use Rattle.fort_cores.specs.Structures.{pattern_structure}
-use Rattle.fort_tables.specs.Tables.{Table, listed_table}
+use Rattle.fort_tables.specs.Tables.{Table, IsListed, listed_table}
 use Rattle.fort_tables.specs.Labels.{Labelling, HasMoreLabels, IsTableOf}
 use Rattle.fort_tables.specs.LabelRules.{label_of, IsTableBy}
 use Rattle.fort_alike.specs.Atoms.{relation_atom, normal_atom}
@@ -42,7 +42,7 @@ use Rattle.fort_engine.specs.declared.options.Options.{Options}
 use Rattle.fort_engine.specs.AnswerView.{as_answer}
 use Rattle.fort_engine.specs.Kept.{IsRight, IsOverCap, IsKeptOverCap}
 use Rattle.fort_engine.specs.Deciding.{IsDecision, AreLabelsFor}
-use Rattle.fort_engine.specs.Found.{IsDecidedBy, ListsTargets}
+use Rattle.fort_engine.specs.Found.{IsDecidedBy, IsKeptAs, IsAnswerMade}
 
 listed_targets : (own : Option (Vec ℕ Global)) (ts : List ℕ) → is_some own ≡ true → IfSome own (λ l. l.items ≡ ts) → (list : Vec ℕ Global) × (own ≡ Some list) × (list.items ≡ ts)
 listed_targets None ts there all = absurd (true≢false (sym there))
@@ -54,7 +54,7 @@ pub IsDecision-truth : (system : PatternSystem) (options : Options) (f : core.Co
 IsDecision-truth system options f d b is none answers = record {
   ok = subst (λ a. IsRight system options f (as_answer a)) (sym is) (IsRightBy-value system (ToldWith options.reduces system) f b answers);
   plain = none;
-  listed = λ _ _. subst (λ a. ListsTargets a d.targets) (sym is) tt;
+  made = λ _. subst (IsAnswerMade system options f d) (sym is) tt;
   within = IsOverBy-closed system (AlikeWith options.reduces system) f options.cap answers.over;
   kept_within = IsOverBy-closed system (ToldWith options.reduces system) f options.cap answers.over;
   over = tt;
@@ -71,12 +71,12 @@ made_right system reduces f columns label accepting sig table same are of by =
 
 -- what is kept of it
 pub IsDecision-labels : (system : PatternSystem) (options : Options) (f : core.Core) (columns : ℕ) (label : Labelling) (accepting : List ℕ → Bool) (sig : Signature)
-    (x : Explored) (kept : Dta) → sig ≡ system.signature → AreLabelsFor system options.reduces f columns label accepting → IsTableOf sig columns label accepting (listed_table x.table)
+    (x : Explored) (kept : Dta) (classes : Option (Vec ℕ Global)) → sig ≡ system.signature → AreLabelsFor system options.reduces f columns label accepting → IsTableOf sig columns label accepting (listed_table x.table)
     → IsTableBy sig columns label accepting (listed_table x.table) → AreListedTargets options.lists x → (HasMoreLabels sig columns label options.cap → ⊥)
     → (IsRightBy system (AlikeWith options.reduces system) f (OfTable (listed_table x.table)) → IsRight system options f (OfTable (listed_table kept)))
-    → (options.reduces ≡ false → kept ≡ x.table)
-    → IsDecision system options f (Ok (record { answer = Auto kept; counts = None; targets = x.targets }))
-IsDecision-labels system options f columns label accepting sig x kept same are of by listed few right as_made =
+    → IsListed x.table → length x.table.finals ≡ length x.table.presences → IsKeptAs options.reduces x.table classes kept
+    → IsDecision system options f (Ok (record { answer = Auto kept; counts = None; targets = x.targets; classes = classes }))
+IsDecision-labels system options f columns label accepting sig x kept classes same are of by listed few right lawful finals as_made =
     let like = AlikeWith options.reduces system in
     let made = made_right system options.reduces f columns label accepting sig (listed_table x.table) same are of by in
     let within : IsOverCap system options f → ⊥ =
@@ -84,7 +84,18 @@ IsDecision-labels system options f columns label accepting sig x kept same are o
     (subst (λ n. HasMoreLabels system.signature n label options.cap → ⊥) are.count (subst (λ s. HasMoreLabels s columns label options.cap → ⊥) same few)) in
     record {
       plain = refl;
-      listed = λ asked unreduced. subst (λ t. ListsTargets (Auto t) x.targets) (sym (as_made unreduced)) (listed_targets x.targets x.table.targets (listed.asked ∙ asked) listed.all);
+      made = λ asked.
+          let own = listed_targets x.targets x.table.targets (listed.asked ∙ asked) listed.all in
+          record {
+            made = x.table;
+            lawful = lawful;
+            finals = finals;
+            right = made;
+            list = own.0;
+            listed = own.1;
+            targets_are = own.2;
+            kept_as = as_made;
+          };
       ok = right made;
       within = within;
       kept_within = λ over. within (IsOverBy-told options.reduces system f (OfTable (listed_table x.table)) options.cap made over);

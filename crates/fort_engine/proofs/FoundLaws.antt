@@ -1,5 +1,5 @@
 -- How the answer to a part was found, by its root.
-use Rattle.std.specs.Prelude.{◌≡◌, ℕ, ◌<◌, List, map, get_or, Bool, true, false, Option, None, Some, Result, Ok, Err, IfOk, refl}
+use Rattle.std.specs.Prelude.{◌≡◌, ℕ, ◌<◌, List, map, get_or, true, Option, None, Some, Result, Ok, Err, IfOk, refl}
 use Rattle.std.specs.declared.alloc.Global.{Global}
 use Rattle.std.specs.declared.vec.Vec.{Vec}
 use Rattle.std.proofs.Common.{true≢false, ap, sym, ◌∙◌, subst}
@@ -27,7 +27,7 @@ use Rattle.fort_engine.specs.declared.options.Options.{Options}
 use Rattle.fort_engine.specs.AnswerView.{as_answer}
 use Rattle.fort_engine.specs.Kept.{IsRight}
 use Rattle.fort_engine.specs.Deciding.{IsBody, IsDecision}
-use Rattle.fort_engine.specs.Found.{IsDecidedBy, counted_with, ListsTargets, IsKeptAnswer, IsTurnedOf, IsCounted, AreMarks, IsMany, IsManyOf, IsFound}
+use Rattle.fort_engine.specs.Found.{IsDecidedBy, counted_with, IsMade, IsKeptAnswer, IsTurnedOf, IsCounted, AreMarks, IsMany, IsManyOf, IsFound}
 use Rattle.fort_engine.proofs.OperandLaws.{HasRoot, next_is, next_over, operand_of_root, kept_below}
 
 pub IsDecidedBy-weaker : (system : PatternSystem) (options : Options) (f : core.Core) (P Q : Decided → Type 0) (r : Result Decided ExploreFault) → ((d : Decided) → P d → Q d)
@@ -42,18 +42,18 @@ IsPlain (Infinite n f) = ⊥
 IsPlain other = Unit {0}
 
 plain_one : (system : PatternSystem) (options : Options) (parts : List core.Core) (kept : List (Option Last)) (r : Root) → IsPlain r → (d : Decided)
-    → IsRight system options (root_core parts r) (as_answer d.answer) → d.counts ≡ None → (options.lists ≡ true → options.reduces ≡ false → ListsTargets d.answer d.targets)
+    → IsRight system options (root_core parts r) (as_answer d.answer) → d.counts ≡ None → (options.lists ≡ true → IsMade system options (root_core parts r) d)
     → IsFound system options parts kept (root_core parts r) d
-plain_one system options parts kept True p d right none listed = record { right = right; turned = tt; counted = none; listed = λ asked as_is _. listed asked as_is }
-plain_one system options parts kept (Leaf a) p d right none listed = record { right = right; turned = tt; counted = none; listed = λ asked as_is _. listed asked as_is }
-plain_one system options parts kept (Not f) p d right none listed = absurd p
-plain_one system options parts kept (Binary op f g) p d right none listed = record { right = right; turned = tt; counted = none; listed = λ asked as_is _. listed asked as_is }
-plain_one system options parts kept (Exists n f) p d right none listed = record { right = right; turned = tt; counted = none; listed = λ asked as_is _. listed asked as_is }
-plain_one system options parts kept (Infinite n f) p d right none listed = absurd p
+plain_one system options parts kept True p d right none made = record { right = right; turned = tt; counted = none; made = λ asked _. made asked }
+plain_one system options parts kept (Leaf a) p d right none made = record { right = right; turned = tt; counted = none; made = λ asked _. made asked }
+plain_one system options parts kept (Not f) p d right none made = absurd p
+plain_one system options parts kept (Binary op f g) p d right none made = record { right = right; turned = tt; counted = none; made = λ asked _. made asked }
+plain_one system options parts kept (Exists n f) p d right none made = record { right = right; turned = tt; counted = none; made = λ asked _. made asked }
+plain_one system options parts kept (Infinite n f) p d right none made = absurd p
 
 plain_by : (system : PatternSystem) (options : Options) (parts : List core.Core) (kept : List (Option Last)) (r : Root) → IsPlain r → (out : Result Decided ExploreFault)
     → IsDecision system options (root_core parts r) out → IsDecidedBy system options (root_core parts r) (IsFound system options parts kept (root_core parts r)) out
-plain_by system options parts kept r p (Ok d) i = record { ok = plain_one system options parts kept r p d i.ok i.plain i.listed; within = i.within; kept_within = i.kept_within; over = tt }
+plain_by system options parts kept r p (Ok d) i = record { ok = plain_one system options parts kept r p d i.ok i.plain i.made; within = i.within; kept_within = i.kept_within; over = tt }
 plain_by system options parts kept r p (Err e) i = record { ok = tt; within = tt; kept_within = tt; over = i.over }
 
 negation_by : (system : PatternSystem) (options : Options) (parts : List core.Core) (kept : List (Option Last)) (g : core.Core) (body : Last) → IsKeptAnswer parts kept g body
@@ -61,7 +61,7 @@ negation_by : (system : PatternSystem) (options : Options) (parts : List core.Co
     → IfOk out (λ d. IsTurnedOf body d.answer) → IfOk out (λ d. d.counts ≡ None)
     → IsDecidedBy system options (core.Not g) (IsFound system options parts kept (core.Not g)) out
 negation_by system options parts kept g body is (Ok d) i turned plain = record {
-  ok = record { right = i.ok; turned = record { body = body; kept_is = is; turned = turned }; counted = plain; listed = λ _ _ e. absurd (true≢false e) };
+  ok = record { right = i.ok; turned = record { body = body; kept_is = is; turned = turned }; counted = plain; made = λ _ e. absurd (true≢false e) };
   within = i.within;
   kept_within = i.kept_within;
   over = tt;
@@ -110,7 +110,7 @@ module _ {system : PatternSystem} {options : Options} {o : Outline} {k : ℕ} {k
           list_is = m.many.list_is;
           marks = m.many.marks;
         };
-        listed = λ asked as_is _. m.many.listed asked as_is;
+        made = λ asked _. m.many.made asked;
       })
       d)
 
@@ -120,7 +120,7 @@ many_by : (system : PatternSystem) (options : Options) (n : ℕ) (f : core.Core)
     → (decided : Result Decided ExploreFault) → IsDecision system options (core.Infinite n f) decided
     → IsDecidedBy system options (core.Infinite n f) (IsMany system options n f table) (counted_with list decided)
 many_by system options n f table list marks (Ok d) i =
-    record { ok = record { right = i.ok; list = list; list_is = refl; marks = marks; listed = i.listed }; within = i.within; kept_within = i.kept_within; over = tt }
+    record { ok = record { right = i.ok; list = list; list_is = refl; marks = marks; made = i.made }; within = i.within; kept_within = i.kept_within; over = tt }
 many_by system options n f table list marks (Err e) i = record { ok = tt; within = tt; kept_within = tt; over = i.over }
 
 pub IsCounted-body : (system : PatternSystem) (options : Options) (n : ℕ) (f : core.Core) (table : Table) (columns : List ℕ) (c : ℕ) (alone states : List ℕ) (marks : List counts.Count)

@@ -10,7 +10,7 @@ use Rattle.fort_tables.specs.Entries.{entry}
 use Rattle.fort_tables.specs.Tables.{Table, IsTable, IsReached, state_of}
 use Rattle.fort_tables.proofs.TupleLaws.{tuple_induction, fold_tuple-step, IsTuple-kid, length-tabulate, get_or-tabulate}
 use Rattle.fort_tables.proofs.TableLaws.{table_state, entry_of}
-use Rattle.fort_interchange.specs.Merges.{count_of, merged, IsCoarsest}
+use Rattle.fort_interchange.specs.Merges.{merged, IsCoarsest}
 use Rattle.fort_interchange.proofs.MergeLaws.{class_count, IsTable-merged}
 use Rattle.fort_interchange.proofs.SeparationLaws.{IsTableEntry-states}
 use Rattle.fort_atom_labels.specs.AssignedTuples.{tuple_of}

@@ -1,5 +1,5 @@
 -- To believe: what a part meets that is decided, what is known of its operands, what a decision of it is, and which labels are a formula's.
-use Rattle.std.specs.Prelude.{◌≡◌, ℕ, ◌<◌, ◌≤◌, List, length, get_or, Bool, true, false, Option, None, Result, IfOk, IfErr, OnOk}
+use Rattle.std.specs.Prelude.{◌≡◌, ℕ, ◌<◌, ◌≤◌, List, length, get_or, Bool, true, Option, None, Result, IfOk, IfErr, OnOk}
 use Rattle.fort_cores.specs.Cores.{Binary}
 use Rattle.fort_theory.specs.Signatures.{most_columns}
 use Rattle.fort_theory.specs.Patterns.{PatternSystem}
@@ -25,7 +25,7 @@ use Rattle.fort_engine.specs.declared.answer.Last.{Last}
 use Rattle.fort_engine.specs.declared.answer.Decided.{Decided}
 use Rattle.fort_engine.specs.declared.options.Options.{Options}
 use Rattle.fort_engine.specs.AnswerView.{as_answer}
-use Rattle.fort_engine.specs.Found.{ListsTargets}
+use Rattle.fort_engine.specs.Found.{IsMade}
 use Rattle.fort_engine.specs.Kept.{IsRight, IsOverCap, IsKeptOverCap, HasRightAnswer}
 
 -- its indices and terms are the system's, it is no wider than a tuple, and it has not too many root steps
@@ -65,12 +65,12 @@ pub record IsOfTwo (op : Connective) (parts : List core.Core) (k f g : ℕ) : Ty
   pub second : g < k
   pub is : get_or parts k core.True ≡ Binary op (get_or parts f core.True) (get_or parts g core.True)
 
--- a right answer without counts, with its table's targets where they are asked for and no table is reduced, and then the formula is not over the cap, nor told apart at more tuples by what is
--- kept; or tuples that show that it is
+-- a right answer without counts, with its table's targets where they are asked for, and then the formula is not over the cap, nor told apart at more tuples by what is kept; or tuples that show
+-- that it is
 pub record IsDecision (system : PatternSystem) (options : Options) (f : core.Core) (result : Result Decided ExploreFault) : Type 0 where
   pub ok : IfOk result (λ d. IsRight system options f (as_answer d.answer))
   pub plain : IfOk result (λ d. d.counts ≡ None)
-  pub listed : IfOk result (λ d. options.lists ≡ true → options.reduces ≡ false → ListsTargets d.answer d.targets)
+  pub made : IfOk result (λ d. options.lists ≡ true → IsMade system options f d)
   pub within : OnOk result (IsOverCap system options f → ⊥)
   pub kept_within : OnOk result (IsKeptOverCap system options f → ⊥)
   pub over : IfErr result (λ e. IfOver e (HasTooManyBy system (AlikeWith options.reduces system) f options.cap))

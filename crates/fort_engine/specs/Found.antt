@@ -5,7 +5,9 @@ use Rattle.std.specs.declared.vec.Vec.{Vec}
 use Rattle.fort_theory.specs.Patterns.{PatternSystem}
 use Rattle.fort_cores.specs.Cores as core
 use Rattle.fort_cores.specs.Parts.{is_free}
-use Rattle.fort_tables.specs.Tables.{Table, Listed, listed_table}
+use Rattle.fort_tables.specs.Tables.{Table, Listed, IsListed, listed_table}
+use Rattle.fort_interchange.specs.Merges.{IsCoarsest}
+use Rattle.fort_reduce.specs.MergedTables.{IsMergedTable}
 use Rattle.fort_operations.specs.Projections.{ArePure}
 use Rattle.fort_operations.specs.OperationTruth.{complemented}
 use Rattle.fort_counts.specs.Counts as counts
@@ -14,7 +16,7 @@ use Rattle.fort_steps.specs.declared.count.Count.{Count}
 use Rattle.fort_steps.specs.StepView.{as_count}
 use Rattle.fort_parts.specs.PartColumns.{columns_of, place_in}
 use Rattle.fort_parts.specs.PartAnswers.{OfTable}
-use Rattle.fort_parts.specs.RightAnswers.{HasTooManyBy}
+use Rattle.fort_parts.specs.RightAnswers.{IsRightBy, HasTooManyBy}
 use Rattle.fort_reduced_parts.specs.ReducedParts.{AlikeWith}
 use Rattle.fort_explore.specs.declared.table.ExploreFault.{ExploreFault}
 use Rattle.fort_explore.specs.Answer.{IfOver}
@@ -33,13 +35,40 @@ pub record IsDecidedBy (system : PatternSystem) (options : Options) (f : core.Co
   pub over : IfErr result (λ e. IfOver e (HasTooManyBy system (AlikeWith options.reduces system) f options.cap))
 
 abbrev pub counted_with : Vec Count Global → Result Decided ExploreFault → Result Decided ExploreFault
-counted_with counts (Ok d) = Ok (record { answer = d.answer; counts = Some counts; targets = d.targets })
+counted_with counts (Ok d) = Ok (record { answer = d.answer; counts = Some counts; targets = d.targets; classes = d.classes })
 counted_with counts (Err e) = Err e
 
--- the targets of a table, in the order of its entries
-abbrev pub ListsTargets : Last → Option (Vec ℕ Global) → Type 0
-ListsTargets (Truth b) own = Unit {0}
-ListsTargets (Auto table) own = (list : Vec ℕ Global) × (own ≡ Some list) × (list.items ≡ table.targets)
+-- tables, as they are made and as they are kept
+
+-- by its coarsest classes
+pub record IsReduced (made : Listed) (classes : List ℕ) (kept : Listed) : Type 0 where
+  pub coarsest : IsCoarsest (listed_table made) classes
+  pub merged : IsMergedTable (listed_table made) classes (listed_table kept)
+  pub lawful : IsListed kept
+
+abbrev pub IsKeptAs : (reduces : Bool) → (made : Listed) → (classes : Option (Vec ℕ Global)) → (kept : Listed) → Type 0
+IsKeptAs true made (Some classes) kept = IsReduced made classes.items kept
+IsKeptAs true made None kept = ⊥
+IsKeptAs false made classes kept = (classes ≡ None) × (kept ≡ made)
+
+-- a table of f by its labels with these targets, of which this one is kept, with these classes where it is reduced
+pub record IsTableMade (system : PatternSystem) (options : Options) (f : core.Core) (kept : Listed) (targets classes : Option (Vec ℕ Global)) : Type 0 where
+  pub made : Listed
+  pub lawful : IsListed made
+  pub finals : length made.finals ≡ length made.presences
+  pub right : IsRightBy system (AlikeWith options.reduces system) f (OfTable (listed_table made))
+  pub list : Vec ℕ Global
+  pub listed : targets ≡ Some list
+  pub targets_are : list.items ≡ made.targets
+  pub kept_as : IsKeptAs options.reduces made classes kept
+
+-- where the answer is a table
+abbrev pub IsAnswerMade : PatternSystem → Options → core.Core → Decided → Last → Type 0
+IsAnswerMade system options f d (Truth b) = Unit {0}
+IsAnswerMade system options f d (Auto kept) = IsTableMade system options f kept d.targets d.classes
+
+abbrev pub IsMade : PatternSystem → Options → core.Core → Decided → Type 0
+IsMade system options f d = IsAnswerMade system options f d d.answer
 
 -- the answer to g that is kept
 pub record IsKeptAnswer (parts : List core.Core) (kept : List (Option Last)) (g : core.Core) (answer : Last) : Type 0 where
@@ -82,7 +111,7 @@ pub record IsMany (system : PatternSystem) (options : Options) (n : ℕ) (f : co
   pub list : Vec Count Global
   pub list_is : d.counts ≡ Some list
   pub marks : AreMarks n f (listed_table table) (map as_count list.items)
-  pub listed : options.lists ≡ true → options.reduces ≡ false → ListsTargets d.answer d.targets
+  pub made : options.lists ≡ true → IsMade system options (core.Infinite n f) d
 
 pub record IsManyOf (system : PatternSystem) (options : Options) (n : ℕ) (f : core.Core) (body : Last) (d : Decided) : Type 0 where
   pub table : Listed
@@ -110,14 +139,10 @@ abbrev pub is_negation : core.Core → Bool
 is_negation (core.Not f) = true
 is_negation other = false
 
--- a negation has no table of its own
-abbrev pub AreItsTargets : core.Core → Last → Option (Vec ℕ Global) → Type 0
-AreItsTargets f answer own = is_negation f ≡ false → ListsTargets answer own
-
--- a right answer to f; that of a negation is its body's, turned; "infinitely many" has its counts, and no other formula has any; the targets of other tables than a negation's are there where
--- they are asked for and no table is reduced
+-- a right answer to f; that of a negation is its body's, turned; "infinitely many" has its counts, and no other formula has any; other tables than a negation's are made by labels, and their
+-- targets are there where they are asked for
 pub record IsFound (system : PatternSystem) (options : Options) (parts : List core.Core) (kept : List (Option Last)) (f : core.Core) (d : Decided) : Type 0 where
   pub right : IsRight system options f (as_answer d.answer)
   pub turned : IsItsTurned parts kept f d.answer
   pub counted : AreItsCounts parts kept f d.counts
-  pub listed : options.lists ≡ true → options.reduces ≡ false → AreItsTargets f d.answer d.targets
+  pub made : options.lists ≡ true → is_negation f ≡ false → IsMade system options f d

@@ -22,8 +22,11 @@ pub struct Decided {
     pub answer: Last,
     /// Where it is one of "infinitely many", the counts of the states of its body's table that have its variable alone.
     pub counts: Option<Vec<Count>>,
-    /// Where they are asked for, the targets of its table in the order of the entries; none of a negation's, which has its body's.
+    /// Where they are asked for, the targets of its table as it was made, in the order of the entries; none of a negation's, which has
+    /// its body's.
     pub targets: Option<Vec<u32>>,
+    /// Where its table was reduced, the class of each state of the table as it was made; none of a negation's.
+    pub classes: Option<Vec<u32>>,
 }
 
 impl Decided {
@@ -36,6 +39,7 @@ impl Decided {
             answer: Last::Truth(value),
             counts: None,
             targets: None,
+            classes: None,
         }
     }
 }

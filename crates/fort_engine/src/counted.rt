@@ -34,11 +34,13 @@ fn with_counts(
                 answer,
                 counts: _none,
                 targets,
+                classes,
             } = decided;
             Ok(Decided {
                 answer,
                 counts: Some(counts),
                 targets,
+                classes,
             })
         }
         Err(fault) => Err(fault),

@@ -70,11 +70,11 @@ pub fn decide_parts<R: Recorder>(
     requires planned { (root : theory.Core) × IsPlanned system.now root outline.now }
     requires closures { AreClosures system.now (parts_in outline.now) closures.now.list.items }
     requires taken { R.takes options.now }
-    requires begun { R.recorded recorder.old system.now outline.now 0 [] }
+    requires begun { R.recorded recorder.old system.now options.now outline.now 0 [] }
     ensures far { IfOk result (λ kept. IsSoFar system.now options.now (parts_in outline.now)
         outline.now.last_uses.items (length outline.now.roots.items) kept.items) }
-    ensures recorded { IfOk result (λ kept. R.recorded recorder.new system.now outline.now
-        (length outline.now.roots.items) kept.items) }
+    ensures recorded { IfOk result (λ kept. R.recorded recorder.new system.now options.now
+        outline.now (length outline.now.roots.items) kept.items) }
     ensures over { IfErr result (λ e. (root : theory.Core)
         → IsPlanned system.now root outline.now
         → IfOver e (IsLimit system.now options.now.reduces root options.now.cap)) }

@@ -1,5 +1,5 @@
 //! Tables by a formula's labels, reduced where tables are.
-ghost use Rattle.std.specs.Prelude.{◌≡◌, false, IfOk};
+ghost use Rattle.std.specs.Prelude.{◌≡◌, length, IfOk};
 ghost use Rattle.fort_theory.specs.Patterns.{PatternSystem};
 ghost use Rattle.fort_cores.specs.Cores as theory;
 ghost use Rattle.fort_tables.specs.Tables.{IsListed, listed_table};
@@ -7,6 +7,7 @@ ghost use Rattle.fort_parts.specs.PartAnswers.{OfTable};
 ghost use Rattle.fort_parts.specs.RightAnswers.{IsRightBy};
 ghost use Rattle.fort_reduced_parts.specs.ReducedParts.{AlikeWith};
 ghost use Rattle.fort_engine.specs.Kept.{IsRight};
+ghost use Rattle.fort_engine.specs.Found.{IsKeptAs};
 ghost use Rattle.fort_engine.specs.Deciding.{IsDecision, AreLabelsFor};
 
 use crate::answer::{Decided, Last};
@@ -17,19 +18,26 @@ use fort_reduce::reduce;
 use fort_terms::{Memory, System};
 use std::alloc::Global;
 
-/// The table as it is kept.
-fn kept_table(alloc: Global, options: &Options, table: Dta) -> Result<Dta, Memory>
+/// A table as it is kept, and where it is reduced the class of each of its states.
+fn kept_table(
+    alloc: Global,
+    options: &Options,
+    table: Dta,
+) -> Result<(Dta, Option<Vec<u32>>), Memory>
     requires { IsListed table }
-    ensures right { IfOk result (λ t. (system : PatternSystem) (f : theory.Core)
+    ensures right { IfOk result (λ k. (system : PatternSystem) (f : theory.Core)
         → IsRightBy system (AlikeWith options.now.reduces system) f (OfTable (listed_table table))
-        → IsRight system options.now f (OfTable (listed_table t))) }
-    ensures same { IfOk result (λ t. options.now.reduces ≡ false → t ≡ table) }
+        → IsRight system options.now f (OfTable (listed_table k.0))) }
+    ensures kept { IfOk result (λ k. IsKeptAs options.now.reduces table k.1 k.0) }
+    ensures finals { length table.finals ≡ length table.presences }
 {
+    // its clauses say that the table is lawful
+    let _laws = table.entries();
     if !options.reduces {
-        return Ok(table);
+        return Ok((table, None));
     }
-    let (reduced, _classes) = reduce(alloc, &table)?;
-    Ok(reduced)
+    let (reduced, classes) = reduce(alloc, &table)?;
+    Ok((reduced, Some(classes)))
 }
 
 /// Decides the formula that has these labels.
@@ -52,10 +60,11 @@ pub(crate) fn explored<L: Labeller>(
         options.lists,
     )?;
     let Explored { table, targets } = found;
-    let kept = kept_table(alloc, options, table)?;
+    let (kept, classes) = kept_table(alloc, options, table)?;
     Ok(Decided {
         answer: Last::Auto(kept),
         counts: None,
         targets,
+        classes,
     })
 }

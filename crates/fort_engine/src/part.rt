@@ -26,7 +26,7 @@ use fort_rrn_algebra::negate;
 use fort_terms::System;
 use std::alloc::Global;
 
-/// Decides the negation of a formula with this answer. No targets are listed, since its table has its body's.
+/// Decides the negation of a formula with this answer. No targets and no classes are listed, since its table has its body's.
 fn complement(alloc: Global, body: &Last) -> Result<Decided, ExploreFault>
     ensures decided { (system : PatternSystem) (options : asked.Options) (f : theory.Core)
         → IsRight system options f (as_answer body.now)
@@ -42,6 +42,7 @@ fn complement(alloc: Global, body: &Last) -> Result<Decided, ExploreFault>
             answer: Last::Auto(negate(alloc, table)?),
             counts: None,
             targets: None,
+            classes: None,
         }),
     }
 }

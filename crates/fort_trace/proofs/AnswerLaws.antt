@@ -1,11 +1,12 @@
 -- The answer of a negation: its body's, turned.
-use Rattle.std.proofs.Common.{◌≡◌, ℕ, true, false, nat_lt, List, length, get_or, Option, None, true≢false, refl, ap, sym, ◌∙◌, subst}
+use Rattle.std.proofs.Common.{◌≡◌, ℕ, Bool, true, false, nat_lt, List, length, get_or, Option, None, true≢false, refl, ap, sym, ◌∙◌, subst}
 use Rattle.fort_theory.specs.Patterns.{PatternSystem}
 use Rattle.fort_cores.specs.Cores as core
 use Rattle.fort_cores.specs.Cores.{Core}
 use Rattle.fort_tables.specs.Tables.{listed_table}
 use Rattle.fort_parts.specs.PartAnswers.{OfValue}
-use Rattle.fort_parts.specs.RightAnswers.{IsRightFor}
+use Rattle.fort_parts.specs.RightAnswers.{IsRightBy}
+use Rattle.fort_reduced_parts.specs.ToldParts.{ToldWith}
 use Rattle.fort_in_order.specs.Dues.{has_columns, is_turned}
 use Rattle.fort_in_order.specs.Made.{Made, IsAnswerOf, Turned}
 use Rattle.fort_engine.specs.declared.answer.Last.{Last}
@@ -16,13 +17,13 @@ use Rattle.fort_engine.specs.Found.{IsKeptAnswer, IsTurnedOf, IsItsTurned}
 use Rattle.fort_engine.proofs.OperandLaws.{IsRight-taken}
 use Rattle.fort_trace.specs.Recording.{recorded_with, AreOperandsMade}
 
-module _ (system : PatternSystem) (cap : ℕ) (parts : List Core) (made : Made) (kept : List (Option Last)) where
+module _ (system : PatternSystem) (cap : ℕ) (reduces : Bool) (parts : List Core) (made : Made) (kept : List (Option Last)) where
   -- a truth is of no columns
-  turned_body : (g : Core) (answer body : Last) → HasOperands system (recorded_with cap) parts kept (core.Not g) → AreOperandsMade parts made kept (core.Not g) → has_columns g ≡ true
+  turned_body : (g : Core) (answer body : Last) → HasOperands system (recorded_with cap reduces) parts kept (core.Not g) → AreOperandsMade parts made kept (core.Not g) → has_columns g ≡ true
       → IsKeptAnswer parts kept g body → IsTurnedOf body answer → IsAnswerOf parts made (core.Not g) (as_answer answer)
   turned_body g answer (Truth b) operands made_are columns is turned =
       let has = (operands g refl).right is.place is.before is.is in
-      let right : IsRightFor system g (OfValue b) = IsRight-taken system (recorded_with cap) g (get_or kept is.place None) (Truth b) has is.there in
+      let right : IsRightBy system (ToldWith reduces system) g (OfValue b) = IsRight-taken system (recorded_with cap reduces) g (get_or kept is.place None) (Truth b) has is.there in
       let none : has_columns g ≡ false = ap (λ xs. nat_lt 0 (length xs)) right.answers.over in
       absurd (true≢false (sym columns ∙ none))
   turned_body g answer (Auto table) operands made_are columns is turned =
@@ -30,7 +31,7 @@ module _ (system : PatternSystem) (cap : ℕ) (parts : List Core) (made : Made) 
       (Turned (listed_table table) columns (made_are g refl is.place (Auto table) is.before is.is is.there))
 
   -- only a negation is turned
-  pub turned_answer : (f : Core) (answer : Last) → HasOperands system (recorded_with cap) parts kept f → AreOperandsMade parts made kept f → IsItsTurned parts kept f answer
+  pub turned_answer : (f : Core) (answer : Last) → HasOperands system (recorded_with cap reduces) parts kept f → AreOperandsMade parts made kept f → IsItsTurned parts kept f answer
       → is_turned f ≡ true → IsAnswerOf parts made f (as_answer answer)
   turned_answer core.True answer operands made_are its e = absurd (true≢false (sym e))
   turned_answer (core.Leaf a) answer operands made_are its e = absurd (true≢false (sym e))

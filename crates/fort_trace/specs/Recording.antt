@@ -28,9 +28,9 @@ use Rattle.fort_steps.specs.declared.count.Count.{Count}
 use Rattle.fort_steps.specs.declared.step.Step.{Step}
 use Rattle.fort_steps.specs.StepView.{as_count, as_step}
 
--- how a formula is decided whose steps are recorded: tables as they are, with their targets
-abbrev pub recorded_with : (cap : ℕ) → Options
-recorded_with cap = record { cap = cap; reduces = false; lists = true }
+-- how a formula is decided whose steps are recorded: with the targets of its tables
+abbrev pub recorded_with : (cap : ℕ) (reduces : Bool) → Options
+recorded_with cap reduces = record { cap = cap; reduces = reduces; lists = true }
 
 -- the steps behind the old ones are those due, each as it is written, and make the last
 pub record AddsSteps (system : PatternSystem) (parts : List Core) (made : Made) (due : List DueStep) (old new : List Step) : Type 0 where
@@ -72,20 +72,32 @@ abbrev pub CountsAdded : List Core → Made → ℕ → Core → (old new : List
 CountsAdded parts made k (core.Infinite n g) old new = AreCountsAdded parts made k n g old new
 CountsAdded parts made k other old new = new ≡ old
 
-pub record AreTargetsAdded (k : ℕ) (table : Listed) (old new : List Step) : Type 0 where
-  pub step : IsOneMore old (certificates.Part k table.targets) new
+-- the classes of the table of part k, where it was reduced
+abbrev pub merge_of : ℕ → Option (Vec ℕ Global) → List certificates.Step
+merge_of k None = []
+merge_of k (Some classes) = certificates.Merge k classes.items ∷ []
+
+-- the targets of a table, and its classes
+abbrev pub TablePushed : ℕ → (targets classes : Option (Vec ℕ Global)) → (old new : List Step) → Type 0
+TablePushed k None classes old new = ⊥
+TablePushed k (Some targets) classes old new = map as_step new ≡ map as_step old ++ certificates.Part k targets.items ∷ merge_of k classes
+
+-- the table of a negation is its body's, and has no step
+pub record IsTableAdded (k : ℕ) (f : Core) (table : Listed) (targets classes : Option (Vec ℕ Global)) (old new : List Step) : Type 0 where
+  pub turned : is_negation f ≡ true → new ≡ old
+  pub pushed : is_negation f ≡ false → TablePushed k targets classes old new
   pub finals : length table.finals ≡ length table.presences
   pub lawful : IsListed table
 
--- the table of a negation is its body's, and has no step
-pub record IsTableAdded (k : ℕ) (f : Core) (table : Listed) (old new : List Step) : Type 0 where
-  pub turned : is_negation f ≡ true → new ≡ old
-  pub targets : is_negation f ≡ false → AreTargetsAdded k table old new
-
 -- the answer of part k
-abbrev pub AnswerAdded : ℕ → Core → Last → (old new : List Step) → Type 0
-AnswerAdded k f (Truth b) old new = IsOneMore old (certificates.Value k b) new
-AnswerAdded k f (Auto table) old new = IsTableAdded k f table old new
+abbrev pub AnswerAdded : ℕ → Core → Last → (targets classes : Option (Vec ℕ Global)) → (old new : List Step) → Type 0
+AnswerAdded k f (Truth b) targets classes old new = IsOneMore old (certificates.Value k b) new
+AnswerAdded k f (Auto table) targets classes old new = IsTableAdded k f table targets classes old new
+
+-- the targets of a table are there, but a negation's
+abbrev pub HasTargets : Core → Last → Option (Vec ℕ Global) → Type 0
+HasTargets f (Truth b) targets = Unit {0}
+HasTargets f (Auto table) targets = is_negation f ≡ false → (list : Vec ℕ Global) × (targets ≡ Some list)
 
 -- the answers of earlier parts that have a step are right
 abbrev pub HasRightSteps : PatternSystem → List Core → ℕ → Made → Type 0
@@ -94,20 +106,20 @@ HasRightSteps system parts k made =
     → IsAnswerTo (pattern_structure system) (get_or parts j core.True) (made.answers j)
 
 -- its steps, which make its answer and leave the others
-pub record IsPartRecorded (system : PatternSystem) (parts : List Core) (k : ℕ) (made : Made) (answer : Last) (old new : List Step) : Type 0 where
+pub record IsPartRecorded (reduces : Bool) (system : PatternSystem) (parts : List Core) (k : ℕ) (made : Made) (answer : Last) (old new : List Step) : Type 0 where
   pub added : List certificates.Step
   pub last : Made
   pub all : map as_step new ≡ map as_step old ++ added
-  pub done : AreSteps (IsWrittenStep system parts) made (counts_due k (get_or parts k core.True) ++ answer_due k (get_or parts k core.True)) added last
+  pub done : AreSteps (IsWrittenStep system parts) made (counts_due k (get_or parts k core.True) ++ answer_due (λ i. reduces) k (get_or parts k core.True)) added last
   pub closures : HasClosures system parts (1 + length system.rules) last
   pub others : (j : ℕ) → (j ≡ k → ⊥) → last.answers j ≡ made.answers j
   pub is : IsAnswerOf parts last (get_or parts k core.True) (as_answer answer)
   pub value : (v : Bool) → answer ≡ Truth v → last_value (map as_step new) ≡ Some v
 
 -- the steps of the closures and of the first k parts, which make the answers that are kept
-pub record IsRecordedTo (system : PatternSystem) (parts : List Core) (uses : List ℕ) (k : ℕ) (kept : List (Option Last)) (steps : List Step) : Type 0 where
+pub record IsRecordedTo (reduces : Bool) (system : PatternSystem) (parts : List Core) (uses : List ℕ) (k : ℕ) (kept : List (Option Last)) (steps : List Step) : Type 0 where
   pub made : Made
-  pub done : AreSteps (IsWrittenStep system parts) nothing_made (closures_due parts (length system.rules) 1 ++ parts_due 0 (take k parts)) (map as_step steps) made
+  pub done : AreSteps (IsWrittenStep system parts) nothing_made (closures_due parts (length system.rules) 1 ++ parts_due (λ i. reduces) 0 (take k parts)) (map as_step steps) made
   pub closures : HasClosures system parts (1 + length system.rules) made
   pub right : HasRightSteps system parts k made
   pub kept_made : (j : ℕ) (a : Last) → j < k → k ≤ get_or uses j 0 → get_or kept j None ≡ Some a
@@ -115,14 +127,14 @@ pub record IsRecordedTo (system : PatternSystem) (parts : List Core) (uses : Lis
   pub value : (j : ℕ) (v : Bool) → j + 1 ≡ k → k ≤ get_or uses j 0 → get_or kept j None ≡ Some (Truth v) → last_value (map as_step steps) ≡ Some v
 
 -- the same, where the parts are numbered by 32 bits
-pub record AreRecordedTo (system : PatternSystem) (outline : Outline) (k : ℕ) (kept : List (Option Last)) (steps : List Step) : Type 0 where
+pub record AreRecordedTo (reduces : Bool) (system : PatternSystem) (outline : Outline) (k : ℕ) (kept : List (Option Last)) (steps : List Step) : Type 0 where
   pub few : length outline.roots.items < 2 ^ 32
-  pub recorded : IsRecordedTo system (parts_in outline) outline.last_uses.items k kept steps
+  pub recorded : IsRecordedTo reduces system (parts_in outline) outline.last_uses.items k kept steps
 
 -- answers that are not needed may be let go
-pub AreRecordedTo-less : (system : PatternSystem) (outline : Outline) (k : ℕ) (kept less : List (Option Last)) (steps : List Step) → AreRecordedTo system outline k kept steps
-    → ((j : ℕ) → j < k → k ≤ get_or outline.last_uses.items j 0 → get_or less j None ≡ get_or kept j None) → AreRecordedTo system outline k less steps
-AreRecordedTo-less system outline k kept less steps h same =
+pub AreRecordedTo-less : (reduces : Bool) (system : PatternSystem) (outline : Outline) (k : ℕ) (kept less : List (Option Last)) (steps : List Step) → AreRecordedTo reduces system outline k kept steps
+    → ((j : ℕ) → j < k → k ≤ get_or outline.last_uses.items j 0 → get_or less j None ≡ get_or kept j None) → AreRecordedTo reduces system outline k less steps
+AreRecordedTo-less reduces system outline k kept less steps h same =
     let far = h.recorded in
     record {
       few = h.few;

@@ -1,5 +1,5 @@
 //! Decides a formula, each of its parts in turn, and records the steps.
-ghost use Rattle.std.specs.Prelude.{ℕ, false, IfOk, IfErr, OnOk};
+ghost use Rattle.std.specs.Prelude.{ℕ, IfOk, IfErr, OnOk};
 ghost use Rattle.fort_cores.specs.Parts as logic;
 ghost use Rattle.fort_cores.specs.Structures.{pattern_structure};
 ghost use Rattle.fort_formulas.specs.CoreView.{as_core};
@@ -25,23 +25,25 @@ pub struct Recorded {
     pub steps: Vec<Step>,
 }
 
-/// Decides a closed core formula over a system, with the steps of the certificate that is written for it. It is over the cap where some
-/// part has more labels than the cap; the first such part is told. More parts than there are numbers of 32 bits are want of memory.
+/// Decides a closed core formula over a system, with the steps of the certificate that is written for it, with reduced tables or with
+/// tables as they are. It is over the cap where some part has more labels than the cap; the first such part is told. More parts than
+/// there are numbers of 32 bits are want of memory.
 pub fn decide_with_steps(
     alloc: Global,
     system: &System,
     core: &Core,
     cap: u32,
+    reduces: bool,
 ) -> Result<Recorded, EngineFault>
     requires decided { IsDecided system.now (as_core core.now) }
     requires closed { logic.IsClosed (as_core core.now) }
     ensures truth { IfOk result (λ r. IsAnswerTo (pattern_structure system.now)
         (as_core core.now) (OfValue r.verdict)) }
     ensures written { IfOk result (λ r. (first : ℕ)
-        → IsWritten system.now (as_core core.now) (as_certificate first r)) }
-    ensures within { OnOk result (KeepsCapAt system.now false (as_core core.now) cap) }
+        → IsWritten reduces system.now (as_core core.now) (as_certificate first r)) }
+    ensures within { OnOk result (KeepsCapAt system.now reduces (as_core core.now) cap) }
     ensures over { IfErr result (λ e. IfOver e
-        (IsLimit system.now false (as_core core.now) cap)) }
+        (IsLimit system.now reduces (as_core core.now) cap)) }
 {
     let outline = Outline::new(alloc, core)?;
     if !has_numbers(outline.roots.len()) {
@@ -53,7 +55,7 @@ pub fn decide_with_steps(
     let mut recorder = Steps { list };
     let options = Options {
         cap,
-        reduces: false,
+        reduces,
         lists: true,
     };
     let mut kept = match decide_parts(alloc, system, &outline, &closures, &options, &mut recorder) {

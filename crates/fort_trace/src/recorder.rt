@@ -17,12 +17,13 @@ impl Recorder for Steps {
     ghost use Rattle.std.specs.Prelude.{◌≡◌};
     ghost use Rattle.fort_trace.specs.Recording.{recorded_with, AreRecordedTo, AreRecordedTo-less};
 
-    ghost recorded = { λ s system o k kept. AreRecordedTo system o k kept s.list.items };
+    ghost recorded = { λ s system options o k kept.
+        AreRecordedTo options.reduces system o k kept s.list.items };
 
-    ghost takes = { λ options. options ≡ recorded_with options.cap };
+    ghost takes = { λ options. options ≡ recorded_with options.cap options.reduces };
 
-    ghost lets_go = { λ s system o k kept less h same.
-        AreRecordedTo-less system o k kept less s.list.items h same };
+    ghost lets_go = { λ s system options o k kept less h same.
+        AreRecordedTo-less options.reduces system o k kept less s.list.items h same };
 
     fn note(
         &mut self,
@@ -41,9 +42,11 @@ impl Recorder for Steps {
             answer,
             counts,
             targets,
+            classes,
         } = decided;
+        let root = &outline.roots[k];
         push_counts(number, counts, &mut self.list)?;
-        push_answer(number, &outline.roots[k], &answer, targets, &mut self.list)?;
+        push_answer(number, root, &answer, targets, classes, &mut self.list)?;
         Ok(answer)
     }
 }

@@ -19,7 +19,7 @@ loop-k-init g c =
     record {
       far = subst (IsSoFar system c.args.options.now (parts_in o) o.last_uses.items 0) (sym c.new-kept.ensures.items)
           (IsSoFar-none system c.args.options.now (parts_in o) o.last_uses.items);
-      recorded = subst (g.R.Recorder.recorded c.args.recorder.now system o 0) (sym c.new-kept.ensures.items) c.requires.begun;
+      recorded = subst (g.R.Recorder.recorded c.args.recorder.now system c.args.options.now o 0) (sym c.new-kept.ensures.items) c.requires.begun;
     }
 
 pub decide_part-requires-clause-next : goal.decide_part-requires-clause-next
@@ -77,7 +77,7 @@ note-requires-clause-found g c =
 
 pub note-requires-clause-before : goal.note-requires-clause-before
 note-requires-clause-before g c =
-    subst (g.R.Recorder.recorded c.loop-k.recorder c.args.system.now c.args.outline.now c.loop-k.k) (sym c.as_slice-answers.ensures.value) c.loop-k.invariant.recorded
+    subst (g.R.Recorder.recorded c.loop-k.recorder c.args.system.now c.args.options.now c.args.outline.now c.loop-k.k) (sym c.as_slice-answers.ensures.value) c.loop-k.invariant.recorded
 
 pub drop_idle-requires : goal.drop_idle-requires
 drop_idle-requires g c =
@@ -116,13 +116,13 @@ loop-k-preserved g c =
     subst (IsDecidedBy system options own (IsFound system options parts c.as_slice-answers.result.now own)) c.in-Ok.is c.decide_part.ensures in
     let pushed : c.push.new.self.items ≡ all = c.in_ok-push.ensures.items ∙ ap (λ a. kept ++ Some a ∷ []) c.in_ok-answer.ensures.answer in
     let long : length all ≡ k + 1 = omega (arith, length-append kept (Some answer ∷ []), far.kept_are.count) in
-    let recorded : g.R.Recorder.recorded c.note.new.self system o (k + 1) all =
-    subst (λ xs. g.R.Recorder.recorded c.note.new.self system o (k + 1) (xs ++ Some answer ∷ [])) c.as_slice-answers.ensures.value c.in_ok-answer.ensures.recorded in
+    let recorded : g.R.Recorder.recorded c.note.new.self system options o (k + 1) all =
+    subst (λ xs. g.R.Recorder.recorded c.note.new.self system options o (k + 1) (xs ++ Some answer ∷ [])) c.as_slice-answers.ensures.value c.in_ok-answer.ensures.recorded in
     record {
       far = IsSoFar-more system options f parts laid.parts o.whole uses laid.uses k kept far answer c.drop_idle.new.kept.items decided.ok.right decided.within decided.kept_within
           (c.drop_idle.ensures.count ∙ ap length pushed)
           (λ j l m. c.drop_idle.ensures.needed j (subst (λ n. j < n) (sym (ap length pushed)) l) m ∙ ap (λ xs. get_or xs j None) pushed);
-      recorded = g.met.R.Recorder.lets_go c.note.new.self system o (k + 1) all c.drop_idle.new.kept.items recorded
+      recorded = g.met.R.Recorder.lets_go c.note.new.self system options o (k + 1) all c.drop_idle.new.kept.items recorded
           (λ j l m.
           let below : j < length c.push.new.self.items = subst (λ n. j < n) (sym (ap length pushed ∙ long)) l in
           c.drop_idle.ensures.needed j below (omega arith) ∙ ap (λ xs. get_or xs j None) pushed);
@@ -138,4 +138,4 @@ pub returns-clause-recorded : goal.returns-clause-recorded
 returns-clause-recorded g c =
     let o = c.args.outline.now in
     let all : c.loop-k.k ≡ length o.roots.items = omega (arith, c.loop-k-test.false, c.loop-k.auto.k-end, c.len-k-end.ensures) in
-    subst (λ n. g.R.Recorder.recorded c.loop-k.recorder c.args.system.now o n c.loop-k.kept.items) all c.loop-k.invariant.recorded
+    subst (λ n. g.R.Recorder.recorded c.loop-k.recorder c.args.system.now c.args.options.now o n c.loop-k.kept.items) all c.loop-k.invariant.recorded

@@ -28,7 +28,7 @@ decide_parts-requires-clause-begun c =
     let begun : AddsSteps system (parts_in o) nothing_made (closures_due (parts_in o) (length system.rules) 1) [] new =
     subst (λ (xs : List Step). AddsSteps system (parts_in o) nothing_made (closures_due (parts_in o) (length system.rules) 1) xs new) c.new-list.ensures.items
     (c.in_ok-push_closures.ensures (parts_in o) nothing_made (rw c.deref.ensures.value at c.in_ok-closures.ensures)) in
-    record { few = few; recorded = IsRecordedTo-none system (parts_in o) o.last_uses.items new begun }
+    record { few = few; recorded = IsRecordedTo-none c.args.reduces system (parts_in o) o.last_uses.items new begun }
 
 pub unreachable-requires : goal.unreachable-requires
 unreachable-requires c =
@@ -42,8 +42,8 @@ unreachable-requires c =
     let far = c.in-Ok.ensures.far in
     let taken : get_or kept o.whole None ≡ c.swap_remove.result =
     get_or_default kept o.whole None c.swap_remove.result (omega (arith, plan.laid.within, far.kept_are.count)) ∙ sym c.swap_remove.ensures.value in
-    let has = taken_right system f o plan a.cap n kept far refl in
-    no_table system a.cap f (get_or kept o.whole None) c.in-Some-Auto.field-0-0 c.requires.closed has (taken ∙ (c.in-Some-Auto.is ∙ ap Some c.in-Some-Auto.field-0-is))
+    let has = taken_right a.reduces system f o plan a.cap n kept far refl in
+    no_table a.reduces system a.cap f (get_or kept o.whole None) c.in-Some-Auto.field-0-0 c.requires.closed has (taken ∙ (c.in-Some-Auto.is ∙ ap Some c.in-Some-Auto.field-0-is))
 
 pub unreachable-requires-in-None : goal.unreachable-requires-in-None
 unreachable-requires-in-None c =
@@ -57,8 +57,8 @@ unreachable-requires-in-None c =
     let far = c.in-Ok.ensures.far in
     let taken : get_or kept o.whole None ≡ c.swap_remove.result =
     get_or_default kept o.whole None c.swap_remove.result (omega (arith, plan.laid.within, far.kept_are.count)) ∙ sym c.swap_remove.ensures.value in
-    let has = taken_right system f o plan a.cap n kept far refl in
-    none_taken system (recorded_with a.cap) f (get_or kept o.whole None) has (taken ∙ c.in-None.is)
+    let has = taken_right a.reduces system f o plan a.cap n kept far refl in
+    none_taken system (recorded_with a.cap a.reduces) f (get_or kept o.whole None) has (taken ∙ c.in-None.is)
 
 pub returns-clause-truth : goal.returns-clause-truth
 returns-clause-truth c =
@@ -72,9 +72,9 @@ returns-clause-truth c =
     let far = c.in-Ok.ensures.far in
     let taken : get_or kept o.whole None ≡ c.swap_remove.result =
     get_or_default kept o.whole None c.swap_remove.result (omega (arith, plan.laid.within, far.kept_are.count)) ∙ sym c.swap_remove.ensures.value in
-    let has = taken_right system f o plan a.cap n kept far refl in
+    let has = taken_right a.reduces system f o plan a.cap n kept far refl in
     let truth : get_or kept o.whole None ≡ Some (Truth c.in-Some-Truth.verdict) = taken ∙ (c.in-Some-Truth.is ∙ ap Some c.in-Some-Truth.field-0-is) in
-    IsAnswerTo-taken system (recorded_with a.cap) f (get_or kept o.whole None) (Truth c.in-Some-Truth.verdict) has truth
+    IsAnswerTo-taken system (recorded_with a.cap a.reduces) f (get_or kept o.whole None) (Truth c.in-Some-Truth.verdict) has truth
 
 pub returns-clause-written : goal.returns-clause-written
 returns-clause-written c first =
@@ -89,7 +89,7 @@ returns-clause-written c first =
     let taken : get_or kept o.whole None ≡ c.swap_remove.result =
     get_or_default kept o.whole None c.swap_remove.result (omega (arith, plan.laid.within, far.kept_are.count)) ∙ sym c.swap_remove.ensures.value in
     let truth : get_or kept o.whole None ≡ Some (Truth c.in-Some-Truth.verdict) = taken ∙ (c.in-Some-Truth.is ∙ ap Some c.in-Some-Truth.field-0-is) in
-    IsWritten-root system f o plan a.cap n kept far refl c.decide_parts.new.recorder.list.items c.in-Ok.ensures.recorded.recorded c.in-Some-Truth.verdict truth first
+    IsWritten-root a.reduces system f o plan a.cap n kept far refl c.decide_parts.new.recorder.list.items c.in-Ok.ensures.recorded.recorded c.in-Some-Truth.verdict truth first
 
 pub returns-clause-within : goal.returns-clause-within
 returns-clause-within c =
@@ -101,4 +101,4 @@ returns-clause-within c =
     let n = length o.roots.items in
     let plan : IsPlanned system f o = record { decided = c.requires.decided; laid = c.in_ok-outline.ensures } in
     let far = c.in-Ok.ensures.far in
-    none_over_end system f o plan a.cap n kept far refl
+    none_over_end a.reduces system f o plan a.cap n kept far refl
