@@ -8,7 +8,7 @@ use Rattle.fort_cores.specs.Cores.{Core}
 use Rattle.fort_certificate_grammar.specs.Certificates.{Part, Certificate}
 use Rattle.fort_certificate_grammar.specs.Certificates as certificates
 use Rattle.fort_in_order.specs.Outcomes.{Reason, Due, Verdict}
-use Rattle.fort_in_order.specs.Dues.{DueStep, OfPart, due_of, dues}
+use Rattle.fort_in_order.specs.Dues.{DueStep, OfPart, due_of, is_merged_in, dues_of}
 use Rattle.fort_in_order.specs.Made.{Made, nothing_made}
 use Rattle.fort_in_order.specs.Checked.{IsFailing, IsFine, IsChecked, HasOutcome, Outcome, Certified, Rejected, last_value}
 use Rattle.fort_steps.specs.StepView.{as_step}
@@ -79,6 +79,7 @@ last_value_in xs x v e h = by x (sym (last_step xs x e) ∙ h)
     by (program_step.Value k w) e = cc
     by (program_step.Closure which index items) e = absurd cc
     by (program_step.Part k targets) e = absurd cc
+    by (program_step.Merge k classes) e = absurd cc
     by (program_step.Counts k marks) e = absurd cc
 
 -- an empty list has none
@@ -109,7 +110,7 @@ are_read a n d s steps e test step low due =
 
 module _ (system : PatternSystem) (f : Core) (c : Certificate) (a : Checker) (h : IsCheckerOf system f c a) where
   abbrev all_due : List DueStep
-  all_due = dues (length system.rules) h.parts
+  all_due = dues_of c.steps (length system.rules) h.parts
 
   pub steps_are : c.steps ≡ steps_in a
   steps_are = ap (λ (d : Certificate). d.steps) (sym h.certificate_is)
@@ -269,7 +270,7 @@ module _ (system : PatternSystem) (f : Core) (c : Certificate) (a : Checker) (h 
         all_steps = omega (arith, step_count)
 
         value : (v : Bool) × (last_value c.steps ≡ Some v)
-        value = last_is_value (IsFine system h.parts) (length system.rules) f h.parts c.steps made h.ready.are h.closed (fine_steps system h.parts c n made at.place due_whole all_steps)
+        value = last_is_value (IsFine system h.parts) (is_merged_in c.steps) (length system.rules) f h.parts c.steps made h.ready.are h.closed (fine_steps system h.parts c n made at.place due_whole all_steps)
 
         -- Result
         pub has_value : (v : Bool) × (last_value (map as_step a.certificate.now.steps.items) ≡ Some v)

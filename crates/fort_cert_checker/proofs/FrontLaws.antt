@@ -6,11 +6,11 @@ use Rattle.std.proofs.lemmas.List.{get_or_append_left}
 use Rattle.std.proofs.lemmas.List.Elements.{Contains-push, Contains-push_cases}
 use Rattle.fort_theory.proofs.Members.{Contains-cons_cases, Contains-none, Contains-head, Contains-behind}
 use Rattle.fort_counts.specs.Counts.{Count}
-use Rattle.fort_certificate_grammar.specs.Certificates.{Which, Step, Closure, Part, Counts, Value}
-use Rattle.fort_in_order.specs.Dues.{DueStep, OfClosure, OfPart, OfCounts, OfValue, due_of}
+use Rattle.fort_certificate_grammar.specs.Certificates.{Which, Step, Closure, Part, Merge, Counts, Value}
+use Rattle.fort_in_order.specs.Dues.{DueStep, OfClosure, OfPart, OfMerge, OfCounts, OfValue, due_of}
 use Rattle.fort_in_order.specs.Made.{Made}
 use Rattle.fort_in_order.specs.Checked.{AreSteps, NoSteps, MoreSteps}
-use Rattle.fort_cert_checker.specs.Abouts.{IsFirstAbout, IsOnlyAbout, targets_in, marks_in, items_in, value_in}
+use Rattle.fort_cert_checker.specs.Abouts.{IsFirstAbout, IsOnlyAbout, targets_in, classes_in, marks_in, items_in, value_in}
 use Rattle.fort_cert_checker.proofs.DueKeys.{key, GoesUp, low_member, key_before}
 
 -- the step of a due
@@ -104,22 +104,32 @@ only_next IsStep n lo hi made last done wanted ss front rest d s up h e about = 
       (Contains-push_cases front s t k);
 }
 
--- a step about a part's table, counts or value, or about a closure
+-- a step about a part's table, classes, counts or value, or about a closure
 pub part_of : (s : Step) (k : ℕ) → due_of s ≡ OfPart k → s ≡ Part k (targets_in s)
 part_of (Closure which index items) k e = absurd cc
 part_of (Part j targets) k e = let same : j ≡ k = cc in ap (λ i. Part i targets) same
+part_of (Merge j classes) k e = absurd cc
 part_of (Counts j marks) k e = absurd cc
 part_of (Value j value) k e = absurd cc
+
+pub merge_of : (s : Step) (k : ℕ) → due_of s ≡ OfMerge k → s ≡ Merge k (classes_in s)
+merge_of (Closure which index items) k e = absurd cc
+merge_of (Part j targets) k e = absurd cc
+merge_of (Merge j classes) k e = let same : j ≡ k = cc in ap (λ i. Merge i classes) same
+merge_of (Counts j marks) k e = absurd cc
+merge_of (Value j value) k e = absurd cc
 
 pub counts_of : (s : Step) (k : ℕ) → due_of s ≡ OfCounts k → s ≡ Counts k (marks_in s)
 counts_of (Closure which index items) k e = absurd cc
 counts_of (Part j targets) k e = absurd cc
+counts_of (Merge j classes) k e = absurd cc
 counts_of (Counts j marks) k e = let same : j ≡ k = cc in ap (λ i. Counts i marks) same
 counts_of (Value j value) k e = absurd cc
 
 pub value_of : (s : Step) (k : ℕ) → due_of s ≡ OfValue k → s ≡ Value k (value_in s)
 value_of (Closure which index items) k e = absurd cc
 value_of (Part j targets) k e = absurd cc
+value_of (Merge j classes) k e = absurd cc
 value_of (Counts j marks) k e = absurd cc
 value_of (Value j value) k e = let same : j ≡ k = cc in ap (λ i. Value i value) same
 
@@ -129,6 +139,7 @@ closure_of (Closure v j items) which index e =
     let b : j ≡ index = cc in
     λ i. Closure (a i) (b i) items
 closure_of (Part j targets) which index e = absurd cc
+closure_of (Merge j classes) which index e = absurd cc
 closure_of (Counts j marks) which index e = absurd cc
 closure_of (Value j value) which index e = absurd cc
 

@@ -14,13 +14,13 @@ use Rattle.fort_parts.specs.PartColumns.{columns_of, place_in}
 use Rattle.fort_parts.specs.PartAnswers.{Answer, OfValue, OfTable}
 use Rattle.fort_parts.proofs.PartOrder.{operand_earlier}
 use Rattle.fort_parts.specs.DecidedCores.{IsOperandOf}
-use Rattle.fort_certificate_grammar.specs.Certificates.{Which, Star, Conv, Pair as Item, Step, Closure, Part, Counts, Value}
+use Rattle.fort_certificate_grammar.specs.Certificates.{Which, Star, Conv, Pair as Item, Step, Closure, Part, Merge, Counts, Value}
 use Rattle.fort_in_order.specs.Outcomes.{StepOutcome, Fine}
 use Rattle.fort_in_order.specs.CountSteps.{IsCountOutcome, IsRight, NotAsMany, NotRanked, NotFed}
-use Rattle.fort_in_order.specs.Dues.{OfClosure, OfPart, OfValue, due_of}
+use Rattle.fort_in_order.specs.Dues.{OfClosure, OfPart, OfMerge, OfValue, due_of}
 use Rattle.fort_in_order.specs.Made.{Made, nothing_made, same_which, with_closure, with_counts, with_answer, IsAnswerOf}
 use Rattle.fort_in_order.specs.PartRules.{IsCounted}
-use Rattle.fort_in_order.specs.Checked.{IsCountJudged, IsFine, FineClosure, FinePart, FineCounts, FineValue}
+use Rattle.fort_in_order.specs.Checked.{IsCountJudged, IsFine, FineClosure, FinePart, FineMerge, FineCounts, FineValue}
 use Rattle.fort_in_order.proofs.CountOutcomes.{KeepRules-right}
 use Rattle.fort_in_order.proofs.RuleLaws.{counted_one}
 use Rattle.fort_in_order.proofs.CheckedLaws.{number_same, under_same}
@@ -64,13 +64,17 @@ right_count body c states marks o (NotAsMany h) e = absurd cc
 right_count body c states marks o (NotRanked i r k h l is child below) e = absurd cc
 right_count body c states marks o (NotFed i q h l is none) e = absurd cc
 
+no_table : (table : Table) (value : Bool) → OfTable table ≡ OfValue value → ⊥
+no_table table value e = cc
+
 module _ (n : ℕ) (system : PatternSystem) (root : Core) (parts : List Core) (are : AreParts root parts) where
-  -- an answer stays, where a later step is done
-  pub answer_kept : (k : ℕ) (s : Step) (made next : Made) → key n (OfPart k) < key n (due_of s) → IsFine system parts made s next → next.answers k ≡ made.answers k
-  answer_kept k s made next l (FineClosure h) = refl
-  answer_kept k s made next l (FinePart {k = i} local es ws h r) = passed_over (k == i) _ (made.answers k) (test_from_apart k i (λ e. omega (arith, l, e)))
-  answer_kept k s made next l (FineCounts h) = refl
-  answer_kept k s made next l (FineValue {k = i} h) = passed_over (k == i) _ (made.answers k) (test_from_apart k i (λ e. omega (arith, l, e)))
+  -- an answer stays, where a later step is done, which isn't its merge
+  pub answer_kept : (k : ℕ) (s : Step) (made next : Made) → key n (OfPart k) < key n (due_of s) → (due_of s ≡ OfMerge k → ⊥) → IsFine system parts made s next → next.answers k ≡ made.answers k
+  answer_kept k s made next l other (FineClosure h) = refl
+  answer_kept k s made next l other (FinePart {k = i} local es ws h r) = passed_over (k == i) _ (made.answers k) (test_from_apart k i (λ e. omega (arith, l, e)))
+  answer_kept k s made next l other (FineMerge {k = i} table es is h r) = passed_over (k == i) _ (made.answers k) (test_from_apart k i (λ e. other (ap OfMerge (sym e))))
+  answer_kept k s made next l other (FineCounts h) = refl
+  answer_kept k s made next l other (FineValue {k = i} h) = passed_over (k == i) _ (made.answers k) (test_from_apart k i (λ e. omega (arith, l, e)))
 
   -- the rules of counts stay, where an answer of this part or a later one comes
   rules_kept : (j k : ℕ) (a : Answer) (made : Made) → j ≤ k → HasMarksFor parts made j (get_or parts j core.True) → HasMarksFor parts (with_answer made k a) j (get_or parts j core.True)
@@ -143,6 +147,20 @@ module _ (n : ℕ) (system : PatternSystem) (root : Core) (parts : List Core) (a
           (Contains-push_cases front (Part k targets) (Counts j marks) c);
     }
 
+    tells_merge : (k : ℕ) (classes : List ℕ) (table : Table) (a : Answer) → made.answers k ≡ OfTable table → IsLater (Merge k classes) → Tells parts (front ++ Merge k classes ∷ []) (with_answer made k a)
+    tells_merge k classes table a is later = record {
+      closures = λ w i xs c. ⊎_elim (λ b. h.closures w i xs b) (λ (e : Merge k classes ≡ Closure w i xs). absurd cc) (Contains-push_cases front (Merge k classes) (Closure w i xs) c);
+      counts = λ j marks c. ⊎_elim (λ b. h.counts j marks b) (λ (e : Merge k classes ≡ Counts j marks). absurd cc) (Contains-push_cases front (Merge k classes) (Counts j marks) c);
+      values = λ j value c. ⊎_elim
+          (λ b. passed_over (j == k) a (made.answers j) (test_from_apart j k (λ e. no_table table value (sym is ∙ (ap made.answers (sym e) ∙ h.values j value b)))) ∙ h.values j value b)
+          (λ (e : Merge k classes ≡ Value j value). absurd cc)
+          (Contains-push_cases front (Merge k classes) (Value j value) c);
+      rules = λ j marks c. ⊎_elim
+          (λ b. rules_kept j k a made (let l = later (Counts j marks) b in omega (arith, l)) (h.rules j marks b))
+          (λ (e : Merge k classes ≡ Counts j marks). absurd cc)
+          (Contains-push_cases front (Merge k classes) (Counts j marks) c);
+    }
+
     tells_value : (k : ℕ) (value : Bool) → IsLater (Value k value) → Tells parts (front ++ Value k value ∷ []) (with_answer made k (OfValue value))
     tells_value k value later = record {
       closures = λ w i xs c. ⊎_elim (λ b. h.closures w i xs b) (λ (e : Value k value ≡ Closure w i xs). absurd cc) (Contains-push_cases front (Value k value) (Closure w i xs) c);
@@ -183,5 +201,6 @@ module _ (n : ℕ) (system : PatternSystem) (root : Core) (parts : List Core) (a
     pub tells_next : (s : Step) (next : Made) → ((t : Step) → Contains front t → key n (due_of t) < key n (due_of s)) → IsFine system parts made s next → Tells parts (front ++ s ∷ []) next
     tells_next s next later (FineClosure {which = v} {index = j} {items = items} g) = tells_closure v j items later
     tells_next s next later (FinePart {k = k} {targets = targets} local es ws g r) = tells_part k targets _ later
+    tells_next s next later (FineMerge {k = k} {classes = classes} table es is g r) = tells_merge k classes table _ is later
     tells_next s next later (FineCounts {k = k} {marks = marks} g) = tells_counts k marks later g
     tells_next s next later (FineValue {k = k} {value = value} g) = tells_value k value later

@@ -1,31 +1,23 @@
 -- The answers of a part's operands: where they stand, what was made of them, and that they fit their columns.
-use Rattle.std.specs.Prelude.{◌≡◌, ℕ, zero, suc, ◌<◌, List, [], ◌∷◌, map, length, get_or, nat_lt, Bool, true, false, refl}
+use Rattle.std.specs.Prelude.{◌≡◌, ℕ, zero, suc, ◌<◌, List, [], ◌∷◌, length, get_or, nat_lt, Bool, true, false, refl}
 use Rattle.std.proofs.Common.{sym, ap, ◌∙◌, subst, arith}
-use Rattle.std.proofs.Math.Seq.{take-length}
-use Rattle.std.proofs.lemmas.List.{length-map}
 use Rattle.fort_theory.specs.Signatures.{Signature}
 use Rattle.fort_theory.specs.Patterns.{PatternSystem}
 use Rattle.fort_cores.specs.Cores as core
 use Rattle.fort_cores.specs.Cores.{Core}
-use Rattle.fort_tables.specs.Entries.{stage}
-use Rattle.fort_tables.specs.Tables.{Table, listed_table}
-use Rattle.fort_tables.specs.Labels.{first_word}
+use Rattle.fort_tables.specs.Tables.{Table, IsTable, IsReached}
 use Rattle.fort_parts.specs.PartColumns.{columns_of}
 use Rattle.fort_parts.specs.PartAnswers.{Answer, OfValue, OfTable, IsTableOver, FitsColumns}
 use Rattle.fort_parts.specs.DecidedCores.{IsOperandOf}
 use Rattle.fort_in_order.specs.Dues.{has_columns, is_turned}
 use Rattle.fort_in_order.specs.Made.{Made, IsAnswerOf}
-use Rattle.fort_in_order.proofs.PartByLabels.{part_by_labels}
-use Rattle.fort_in_order_laws.proofs.EntryWalks.{right_few}
 use Rattle.fort_in_order_laws.proofs.RightParts.{some_columns, none_columns}
 use Rattle.fort_check_steps.specs.declared.room.PartRoom.{PartRoom}
-use Rattle.fort_check_steps.specs.Held.{held_entries}
-use Rattle.fort_check_steps.specs.Room.{most_states}
-use Rattle.fort_check_steps.proofs.TableLaws.{held_part}
 use Rattle.fort_cert_checker.specs.declared.plan.Source.{Source}
 use Rattle.fort_cert_checker.specs.declared.past.Past.{Past}
 use Rattle.fort_cert_checker.specs.Sources.{IsSourceOf, turned}
-use Rattle.fort_cert_checker.specs.Pasts.{IsHeld, IsTableAt, IsTruthAt, IsAnswerAt, KnowsPast}
+use Rattle.fort_cert_checker.specs.Pasts.{steps_of, IsHeld, IsTableAt, IsTruthAt, IsAnswerAt, KnowsPast}
+use Rattle.fort_cert_checker.specs.PartStates.{IsStatesOf}
 use Rattle.fort_cert_checker.proofs.SourceLaws.{source_table, source_value, source_columns, source_part, source_earlier, turned_over}
 
 empty_list : (xs : List ℕ) → length xs ≡ 0 → xs ≡ []
@@ -36,23 +28,15 @@ turned_presences : (n : ℕ) (t : Table) → (turned n t).presences ≡ t.presen
 turned_presences zero t = refl
 turned_presences (suc n) t = turned_presences n t
 
--- a held table is one over its columns, with as many states as the targets make
+-- a held table is one over its columns
 pub held_over : (sig : Signature) (columns : List ℕ) (targets : List ℕ) (room : PartRoom) (table : Table) → 0 < length columns → IsHeld sig (length columns) targets room table → IsTableOver sig columns table
-held_over sig columns targets room table some h =
-    let by = part_by_labels h.rule h.accepting targets (held_entries h.rule room) h.holds.labels h.holds.lawful h.holds.right in
-    subst (IsTableOver sig columns) (ap listed_table (held_part h.rule h.accepting targets room h.holds) ∙ h.is) (record {
-      some = some;
-      signature = by.signature ∙ h.signature;
-      columns_are = by.columns_are ∙ h.columns_are;
-      lawful = by.lawful;
-      reached = by.reached;
-    })
-
-pub held_states : (sig : Signature) (columns : ℕ) (targets : List ℕ) (room : PartRoom) (table : Table) → IsHeld sig columns targets room table → length table.presences ≡ most_states targets
-held_states sig columns targets room table h =
-    let r = h.holds.right in
-    let own : length (map first_word h.holds.labels) ≡ length table.presences = ap length (sym h.holds.presences) ∙ ap (λ (t : Table). length t.presences) h.is in
-    omega (arith, own, length-map h.holds.labels first_word, right_few h.rule targets (length targets) (held_entries h.rule room) h.holds.labels r.right, r.right.states, ap stage (take-length targets))
+held_over sig columns targets room table some h = record {
+  some = some;
+  signature = ap (λ (t : Table). t.signature) (sym h.is);
+  columns_are = ap (λ (t : Table). t.columns) (sym h.is);
+  lawful = subst IsTable h.is h.holds.listed.table;
+  reached = subst IsReached h.is h.holds.listed.reached;
+}
 
 module _ (system : PatternSystem) (parts : List Core) (past : Past) (k : ℕ) (made : Made) (known : KnowsPast system parts past k made) where
   -- what is known of an operand
@@ -64,12 +48,12 @@ module _ (system : PatternSystem) (parts : List Core) (past : Past) (k : ℕ) (m
 
   pub record IsKnownTable (g : Core) (s : Source) : Type 0 where
     pub table : Table
-    pub targets : List ℕ
+    pub count : ℕ
+    pub count_is : IsStatesOf (steps_of past) s.part count
     pub at : IsTableAt past s table
     pub is : IsAnswerOf parts made g (OfTable table)
     pub over : IsTableOver system.signature (columns_of g) table
-    pub states : length table.presences ≡ most_states targets
-    pub targets_are : at.targets ≡ targets
+    pub states : length table.presences ≡ count
 
   module _ (g : Core) (operand : IsOperandOf g (get_or parts k core.True)) (s : Source) (source : IsSourceOf parts g s.part s.turns) where
     before : s.part < k
@@ -102,7 +86,8 @@ module _ (system : PatternSystem) (parts : List Core) (past : Past) (k : ℕ) (m
         subst (λ (xs : List ℕ). IsTableOver system.signature xs t.table) columns (held_over system.signature (columns_of (get_or parts s.part core.True)) t.targets t.room t.table some t.held) in
         record {
           table = turned s.turns t.table;
-          targets = t.targets;
+          count = length t.table.presences;
+          count_is = t.states;
           at = record {
             plan = p.0;
             room = t.room;
@@ -111,15 +96,13 @@ module _ (system : PatternSystem) (parts : List Core) (past : Past) (k : ℕ) (m
             plan_at = p.1;
             room_at = t.room_at;
             only = t.only;
-            few = t.few;
             some = omega (arith, some, count);
             held = held;
             is = refl;
           };
           is = source_table parts made g s.part s.turns t.table source t.made_is;
           over = turned_over system.signature (columns_of g) s.turns t.table over;
-          states = ap length (turned_presences s.turns t.table) ∙ held_states system.signature (length (columns_of (get_or parts s.part core.True))) t.targets t.room t.table t.held;
-          targets_are = refl;
+          states = ap length (turned_presences s.turns t.table);
         }
 
     pub known_value : has_columns g ≡ false → (truth : Bool) × IsTruthAt past s truth × IsAnswerOf parts made g (OfValue truth)

@@ -24,10 +24,10 @@ record EndsInValue (ds : List DueStep) : Type 0 where
   k : ℕ
   is : ds ≡ front ++ OfValue k ∷ []
 
-ends_in_value : (n : ℕ) (f : Core) (parts : List Core) → AreParts f parts → IsClosed f → EndsInValue (dues n parts)
-ends_in_value n f parts are closed = by (length parts) refl
+ends_in_value : (merges : ℕ → Bool) (n : ℕ) (f : Core) (parts : List Core) → AreParts f parts → IsClosed f → EndsInValue (dues merges n parts)
+ends_in_value merges n f parts are closed = by (length parts) refl
   where
-    by : (m : ℕ) → length parts ≡ m → EndsInValue (dues n parts)
+    by : (m : ℕ) → length parts ≡ m → EndsInValue (dues merges n parts)
     by zero e = absurd (let c = (are.same f).0 (Contains-postorder f) in omega (arith, c.1, e))
     by (suc m) e =
         let l : m < length parts = omega arith in
@@ -36,26 +36,26 @@ ends_in_value n f parts are closed = by (length parts) refl
         let whole : parts ≡ take m parts ++ f ∷ [] =
         sym (take_all (m + 1) parts (omega arith)) ∙ (take_more parts m core.True l ∙ ap (λ g. take m parts ++ g ∷ []) root) in
         let count : 0 + length (take m parts) ≡ m = omega (arith, length-take-le m parts (omega arith)) in
-        let answer : answer_due m f ≡ OfValue m ∷ [] = passed_over (has_columns f) _ (OfValue m ∷ []) (no_columns_closed f closed) in
-        let all : parts_due 0 parts ≡ parts_due 0 (take m parts) ++ (counts_due m f ++ OfValue m ∷ []) =
-        ap (parts_due 0) whole
-        ∙ (parts_due-push 0 (take m parts) f
-        ∙ (ap (λ i. parts_due 0 (take m parts) ++ (counts_due i f ++ answer_due i f)) count ∙ ap (λ ds. parts_due 0 (take m parts) ++ (counts_due m f ++ ds)) answer)) in
+        let answer : answer_due merges m f ≡ OfValue m ∷ [] = passed_over (has_columns f) _ (OfValue m ∷ []) (no_columns_closed f closed) in
+        let all : parts_due merges 0 parts ≡ parts_due merges 0 (take m parts) ++ (counts_due m f ++ OfValue m ∷ []) =
+        ap (parts_due merges 0) whole
+        ∙ (parts_due-push merges 0 (take m parts) f
+        ∙ (ap (λ i. parts_due merges 0 (take m parts) ++ (counts_due i f ++ answer_due merges i f)) count ∙ ap (λ ds. parts_due merges 0 (take m parts) ++ (counts_due m f ++ ds)) answer)) in
         record {
-          front = closures_due parts n 1 ++ (parts_due 0 (take m parts) ++ counts_due m f);
+          front = closures_due parts n 1 ++ (parts_due merges 0 (take m parts) ++ counts_due m f);
           k = m;
-          is = ap (λ ds. closures_due parts n 1 ++ ds) (all ∙ sym (append_assoc (parts_due 0 (take m parts)) (counts_due m f) (OfValue m ∷ [])))
-              ∙ sym (append_assoc (closures_due parts n 1) (parts_due 0 (take m parts) ++ counts_due m f) (OfValue m ∷ []));
+          is = ap (λ ds. closures_due parts n 1 ++ ds) (all ∙ sym (append_assoc (parts_due merges 0 (take m parts)) (counts_due m f) (OfValue m ∷ [])))
+              ∙ sym (append_assoc (closures_due parts n 1) (parts_due merges 0 (take m parts) ++ counts_due m f) (OfValue m ∷ []));
         }
 
 one_of : (IsStep : Made → Step → Made → Type 0) (made last : Made) (d : DueStep) (ss : List Step) → AreSteps IsStep made (d ∷ []) ss last → (s : Step) × (ss ≡ s ∷ []) × (due_of s ≡ d)
 one_of IsStep made last d ss (MoreSteps {s = s} e h NoSteps) = (s, refl, e)
 
 -- Result
-pub last_is_value : (IsStep : Made → Step → Made → Type 0) (n : ℕ) (f : Core) (parts : List Core) (ss : List Step) (last : Made) → AreParts f parts → IsClosed f
-    → AreSteps IsStep nothing_made (dues n parts) ss last → (value : Bool) × (last_value ss ≡ Some value)
-last_is_value IsStep n f parts ss last are closed h =
-    let w = ends_in_value n f parts are closed in
+pub last_is_value : (IsStep : Made → Step → Made → Type 0) (merges : ℕ → Bool) (n : ℕ) (f : Core) (parts : List Core) (ss : List Step) (last : Made) → AreParts f parts → IsClosed f
+    → AreSteps IsStep nothing_made (dues merges n parts) ss last → (value : Bool) × (last_value ss ≡ Some value)
+last_is_value IsStep merges n f parts ss last are closed h =
+    let w = ends_in_value merges n f parts are closed in
     let cut = cut_steps IsStep nothing_made w.front (OfValue w.k ∷ []) ss last (subst (λ (ds : List DueStep). AreSteps IsStep nothing_made ds ss last) w.is h) in
     let one = one_of IsStep cut.mid last (OfValue w.k) cut.rest cut.second in
     let is : one.0 ≡ Value w.k (value_in one.0) = value_of one.0 w.k one.2 in

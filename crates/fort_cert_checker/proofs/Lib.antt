@@ -1,5 +1,6 @@
 pub mod DueKeys
 pub mod FrontLaws
+pub mod PartStateLaws
 pub mod FrontTells
 pub mod FrontKnows
 pub mod SourceLaws

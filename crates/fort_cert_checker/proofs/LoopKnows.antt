@@ -1,8 +1,8 @@
 -- What is known at a place of a certificate behind fine steps: the step of a part that is due there may be checked, and the rooms hold the tables behind it.
 use Rattle.std.specs.List.{list_any}
-use Rattle.std.specs.Prelude.{◌≡◌, ℕ, zero, suc, ◌+◌, ◌*◌, ◌<◌, ◌≤◌, List, [], ◌∷◌, ◌++◌, length, get_or, Contains, Bool, true, false, if◌then◌else◌, refl}
-use Rattle.std.proofs.Common.{sym, ap, ◌∙◌, subst, arith, inr, ⊎_elim}
-use Rattle.std.proofs.lemmas.List.Elements.{Contains-append_cases, Contains-append_left, Contains-append_right, Contains-get_or}
+use Rattle.std.specs.Prelude.{◌≡◌, ℕ, zero, suc, ◌+◌, ◌*◌, ◌<◌, ◌≤◌, List, [], ◌∷◌, ◌++◌, length, get_or, Contains, Bool, true, false, if◌then◌else◌, IsFalse, refl}
+use Rattle.std.proofs.Common.{sym, ap, ◌∙◌, subst, arith, inr, true≢false, ⊎_elim}
+use Rattle.std.proofs.lemmas.List.Elements.{Contains-append_cases, Contains-append_right, Contains-get_or}
 use Rattle.fort_theory.specs.Patterns.{PatternSystem}
 use Rattle.fort_theory.specs.Sides.{IsIndexOf}
 use Rattle.fort_theory.proofs.Members.{Contains-head, Contains-none, Contains-cons_cases}
@@ -12,8 +12,8 @@ use Rattle.fort_cores.specs.PartLists.{AreParts}
 use Rattle.fort_parts.specs.PartColumns.{columns_of}
 use Rattle.fort_parts.specs.DecidedCores.{IsDecided, IsOverSystem}
 use Rattle.fort_parts.proofs.PartFacts.{IsOverSystem-part, BindsFree-part, columns_of-few}
-use Rattle.fort_certificate_grammar.specs.Certificates.{Which, Star, Conv, Pair as Item, Step, Closure, Part, Counts, Value, Certificate}
-use Rattle.fort_in_order.specs.Dues.{DueStep, OfClosure, OfPart, OfCounts, OfValue, due_of, reads, asks, closure_due, closures_due, has_columns, is_turned, parts_due, dues}
+use Rattle.fort_certificate_grammar.specs.Certificates.{Which, Star, Conv, Pair as Item, Step, Closure, Part, Merge, Counts, Value, Certificate}
+use Rattle.fort_in_order.specs.Dues.{DueStep, OfClosure, OfPart, OfMerge, OfCounts, OfValue, due_of, reads, asks, closure_due, closures_due, has_columns, is_turned, parts_due, dues, is_merged_in, dues_of}
 use Rattle.fort_in_order.specs.Made.{Made}
 use Rattle.fort_in_order.specs.Checked.{IsUpTo}
 use Rattle.fort_check_steps.specs.declared.room.PartRoom.{PartRoom}
@@ -21,14 +21,16 @@ use Rattle.fort_check_steps.specs.declared.room.LabelRoom.{LabelRoom}
 use Rattle.fort_check_steps.specs.declared.marks.MarkRoom.{MarkRoom}
 use Rattle.fort_cert_checker.specs.declared.plan.Plan.{Plan}
 use Rattle.fort_cert_checker.specs.declared.past.Past.{Past}
+use Rattle.fort_check_steps.specs.Room.{most_states}
 use Rattle.fort_cert_checker.specs.Abouts.{IsOnlyAbout}
+use Rattle.fort_cert_checker.specs.PartStates.{IsStatesOf, OfTargets, OfClasses}
 use Rattle.fort_cert_checker.specs.Plans.{IsFitPart, IsPlanOf, IsWidthFor}
 use Rattle.fort_cert_checker.specs.OperandLists.{AreListsFor}
-use Rattle.fort_cert_checker.specs.Pasts.{steps_of, IsElement, IsClosureKnown, IsTableKnown, IsValueKnown, KnowsPast, KnowsCounts, IsPartDue, IsMarkRoomFor}
+use Rattle.fort_cert_checker.specs.Pasts.{steps_of, IsElement, IsHeld, IsClosureKnown, IsTableKnown, IsValueKnown, KnowsPast, KnowsCounts, IsPartDue, IsMarkRoomFor}
 use Rattle.fort_cert_checker.specs.Makings.{IsRoomFor, IsScratchFor, ArePlansMade}
 use Rattle.fort_cert_checker.specs.Fronts.{Tells, AreHeld, HasFewTargets, IsOwnDue, part_in}
 use Rattle.fort_cert_checker.proofs.DueKeys.{key, IsDueFor, parts_for}
-use Rattle.fort_cert_checker.proofs.FrontKnows.{table_step, value_step, counts_step, closure_step, only_front}
+use Rattle.fort_cert_checker.proofs.FrontKnows.{table_before, merge_before, front_due, none_merged, table_step, value_step, counts_step, closure_step, only_front}
 
 pub element_of : {A : Type 0} (xs : List A) (j : ℕ) → j < length xs → (x : A) × IsElement xs j x
 element_of [] j l = absurd (omega arith)
@@ -67,26 +69,31 @@ closures_only parts (suc n) i d c =
 abbrev pub IsNoClosure : DueStep → Type 0
 IsNoClosure (OfClosure w i) = ⊥
 IsNoClosure (OfPart k) = Unit {0}
+IsNoClosure (OfMerge k) = Unit {0}
 IsNoClosure (OfCounts k) = Unit {0}
 IsNoClosure (OfValue k) = Unit {0}
 
-due_for : (n : ℕ) (parts : List Core) (d : DueStep) → IsNoClosure d → Contains (dues n parts) d → IsDueFor 0 parts d
-due_for n parts d plain_due c =
+due_for : (merges : ℕ → Bool) (n : ℕ) (parts : List Core) (d : DueStep) → IsNoClosure d → Contains (dues merges n parts) d → IsDueFor merges 0 parts d
+due_for merges n parts d plain_due c =
     ⊎_elim
     (λ a. let w = closures_only parts n 1 d a in absurd (subst IsNoClosure w.2 plain_due))
-    (λ b. parts_for 0 parts d b)
-    (Contains-append_cases (closures_due parts n 1) (parts_due 0 parts) d c)
+    (λ b. parts_for merges 0 parts d b)
+    (Contains-append_cases (closures_due parts n 1) (parts_due merges 0 parts) d c)
+
+is_false : (b : Bool) → (b ≡ true → ⊥) → b ≡ false
+is_false true h = absurd (h refl)
+is_false false h = refl
 
 -- ---- at a place
 
 module _ (system : PatternSystem) (root : Core) (parts : List Core) (c : Certificate) (plans : List Plan) (rooms : List PartRoom) (front rest : List Step) (s : Step) (d : DueStep) (wanted : List DueStep) (made : Made)
-    (up : IsUpTo system parts c front (d ∷ wanted) (s ∷ rest) made) (are : AreParts root parts) (decided : IsDecided system root) (tells : Tells parts front made) (held : AreHeld system parts rooms front made)
+    (up : IsUpTo system parts c.steps front (d ∷ wanted) (s ∷ rest) made) (are : AreParts root parts) (decided : IsDecided system root) (tells : Tells parts front made) (held : AreHeld system parts rooms front made)
     (planned : ArePlansMade system parts c.steps (length parts) plans) (few : HasFewTargets c.steps) where
-  at_due : Contains (dues (length system.rules) parts) d
+  at_due : Contains (dues_of c.steps (length system.rules) parts) d
   at_due = subst (λ (ds : List DueStep). Contains ds d) (sym up.dues_are) (Contains-append_right up.done (d ∷ wanted) d (Contains-head d wanted))
 
   -- some past, with the rooms of earlier parts
-  module _ (k : ℕ) (past : Past) (within : k < length parts) (own : 2 * (length system.rules + k) + 2 ≤ key (length system.rules) d) (signature : past.signature.now ≡ system.signature)
+  module _ (k : ℕ) (past : Past) (within : k < length parts) (own : 3 * (length system.rules + k) + 3 ≤ key (length system.rules) d) (signature : past.signature.now ≡ system.signature)
       (steps : steps_of past ≡ c.steps) (plans_are : past.plans.now ≡ plans) (low_rooms : (j : ℕ) (r : PartRoom) → j < k → IsElement rooms j r → IsElement past.rooms.now j r) where
     only : (t : Step) → Contains front t → IsOnlyAbout (steps_of past) t
     only t m = subst (λ (ss : List Step). IsOnlyAbout ss t) (sym steps) (only_front system parts c front rest s d wanted made up t m)
@@ -96,11 +103,37 @@ module _ (system : PatternSystem) (root : Core) (parts : List Core) (c : Certifi
         let w = element_of plans j (omega (arith, l, planned.count)) in
         (w.0, subst (λ (ps : List Plan). IsElement ps j w.0) (sym plans_are) w.1, ap (λ (p : Plan). p.columns) (sym (w.1.1 w.0)) ∙ (planned.each j w.0 l).columns)
 
+    not_merged : (j : ℕ) (classes : List ℕ) → is_merged_in c.steps j ≡ false → Contains front (Merge j classes) → ⊥
+    not_merged j classes e m =
+        let h = due_for (is_merged_in c.steps) (length system.rules) parts (OfMerge j) tt (front_due system parts c front rest s d wanted made up (Merge j classes) m) in
+        true≢false (sym h.5 ∙ e)
+
+    -- by its targets or its classes
+    states_for : (j : ℕ) (targets : List ℕ) → j < k → has_columns (get_or parts j core.True) ≡ true → is_turned (get_or parts j core.True) ≡ false → Contains front (Part j targets) → (n : ℕ)
+        → (((classes : List ℕ) → Contains front (Merge j classes) → ⊥) → n ≡ most_states targets) → ((classes : List ℕ) → Contains front (Merge j classes) → n ≡ most_states classes)
+        → IsStatesOf (steps_of past) j n
+    states_for j targets l has plain m n by_targets by_classes = by (is_merged_in c.steps j) refl
+      where
+        by : (b : Bool) → is_merged_in c.steps j ≡ b → IsStatesOf (steps_of past) j n
+        by true e =
+            let w = merge_before system parts c front rest s d wanted made up j (omega (arith, l, own)) (omega (arith, l, within)) has plain e in
+            OfClasses w.0 (only (Merge j w.0) w.1) (ap (λ (ss : List Step). is_merged_in ss j) steps ∙ e) (by_classes w.0 w.1)
+        by false e = OfTargets targets (only (Part j targets) m) (ap (λ (ss : List Step). is_merged_in ss j) steps ∙ e) (by_targets (λ classes x. not_merged j classes e x))
+
     table_for : (j : ℕ) → j < k → has_columns (get_or parts j core.True) ≡ true → is_turned (get_or parts j core.True) ≡ false → IsTableKnown system.signature parts past made j
     table_for j l has plain =
         let t = table_step system parts c front rest s d wanted made up k own j l (omega (arith, l, within)) has plain in
         let h = held j t.0 t.1 in
-        record { targets = t.0; room = h.room; table = h.table; only = only (Part j t.0) t.1; room_at = low_rooms j h.room l h.room_at; few = few j t.0 (subst (λ (ss : List Step). Contains ss (Part j t.0)) (sym up.steps_are) (Contains-append_left front (s ∷ rest) (Part j t.0) t.1)); held = h.held; made_is = h.made_is }
+        record {
+          targets = t.0;
+          room = h.room;
+          table = h.table;
+          only = only (Part j t.0) t.1;
+          room_at = low_rooms j h.room l h.room_at;
+          held = h.held;
+          made_is = h.made_is;
+          states = states_for j t.0 l has plain t.1 (length h.table.presences) h.plain_states h.merged_states;
+        }
 
     value_for : (j : ℕ) → j < k → has_columns (get_or parts j core.True) ≡ false → is_turned (get_or parts j core.True) ≡ false → IsValueKnown past made j
     value_for j l has plain =
@@ -165,9 +198,10 @@ module _ (system : PatternSystem) (root : Core) (parts : List Core) (c : Certifi
 
   pub own_within : (t : Step) → due_of t ≡ d → IsNoClosure (due_of t) → part_in t < length parts
   own_within (Closure w i xs) e plain_due = absurd plain_due
-  own_within (Part k targets) e plain_due = let h = due_for (length system.rules) parts (OfPart k) tt (subst (Contains (dues (length system.rules) parts)) (sym e) at_due) in omega (arith, h.1, h.2)
-  own_within (Counts k marks) e plain_due = let h = due_for (length system.rules) parts (OfCounts k) tt (subst (Contains (dues (length system.rules) parts)) (sym e) at_due) in omega (arith, h.1, h.2)
-  own_within (Value k value) e plain_due = let h = due_for (length system.rules) parts (OfValue k) tt (subst (Contains (dues (length system.rules) parts)) (sym e) at_due) in omega (arith, h.1, h.2)
+  own_within (Part k targets) e plain_due = let h = due_for (is_merged_in c.steps) (length system.rules) parts (OfPart k) tt (subst (Contains (dues_of c.steps (length system.rules) parts)) (sym e) at_due) in omega (arith, h.1, h.2)
+  own_within (Merge k classes) e plain_due = let h = due_for (is_merged_in c.steps) (length system.rules) parts (OfMerge k) tt (subst (Contains (dues_of c.steps (length system.rules) parts)) (sym e) at_due) in omega (arith, h.1, h.2)
+  own_within (Counts k marks) e plain_due = let h = due_for (is_merged_in c.steps) (length system.rules) parts (OfCounts k) tt (subst (Contains (dues_of c.steps (length system.rules) parts)) (sym e) at_due) in omega (arith, h.1, h.2)
+  own_within (Value k value) e plain_due = let h = due_for (is_merged_in c.steps) (length system.rules) parts (OfValue k) tt (subst (Contains (dues_of c.steps (length system.rules) parts)) (sym e) at_due) in omega (arith, h.1, h.2)
 
   module _ (past : Past) (signature : past.signature.now ≡ system.signature) (steps : steps_of past ≡ c.steps) (plans_are : past.plans.now ≡ plans) (p : Plan) (room : PartRoom) (scratch : LabelRoom) (mark : MarkRoom)
       (sized : IsMarkRoomFor c.steps p.work mark) where
@@ -175,34 +209,59 @@ module _ (system : PatternSystem) (root : Core) (parts : List Core) (c : Certifi
     here_sized = subst (λ (ss : List Step). IsMarkRoomFor ss p.work mark) (sym steps) sized
 
     pub own_due : (t : Step) → due_of t ≡ d → IsNoClosure (due_of t) → Contains c.steps t → IsOnlyAbout c.steps t → ((j : ℕ) (r : PartRoom) → j < part_in t → IsElement rooms j r → IsElement past.rooms.now j r)
-        → IsElement plans (part_in t) p → IsRoomFor c.steps (part_in t) room → IsScratchFor c.steps (part_in t) p scratch
+        → IsElement plans (part_in t) p → IsElement rooms (part_in t) room → IsRoomFor c.steps (part_in t) room → IsScratchFor c.steps (part_in t) p scratch
         → IsOwnDue system parts past made (get_or parts (part_in t) core.True) p t room scratch mark
-    own_due (Closure w i xs) e plain_due there alone low_rooms at rf sf = absurd plain_due
-    own_due (Part k targets) e plain_due there alone low_rooms at rf sf =
-        let h = due_for (length system.rules) parts (OfPart k) tt (subst (Contains (dues (length system.rules) parts)) (sym e) at_due) in
+    own_due (Closure w i xs) e plain_due there alone low_rooms at room_at rf sf = absurd plain_due
+    own_due (Part k targets) e plain_due there alone low_rooms at room_at rf sf =
+        let h = due_for (is_merged_in c.steps) (length system.rules) parts (OfPart k) tt (subst (Contains (dues_of c.steps (length system.rules) parts)) (sym e) at_due) in
         let same : h.0 ≡ k = omega (arith, h.1) in
         let within : k < length parts = omega (arith, h.1, h.2) in
         let key_is : key (length system.rules) (OfPart k) ≡ key (length system.rules) d = ap (key (length system.rules)) e in
-        let own : 2 * (length system.rules + k) + 2 ≤ key (length system.rules) d = omega (arith, key_is) in
+        let own : 3 * (length system.rules + k) + 3 ≤ key (length system.rules) d = omega (arith, key_is) in
         record {
           due = part_is k past within own signature steps plans_are low_rooms p at;
           columns = subst (λ (i : ℕ). has_columns (get_or parts i core.True) ≡ true) same h.3;
           plain = subst (λ (i : ℕ). is_turned (get_or parts i core.True) ≡ false) same h.4;
           counts = knows_counts k past within own signature steps plans_are low_rooms (omega (arith, key_is));
-          few = few k targets there;
+          few = few.targets k targets there;
           width = sf.width;
           is_width = subst (λ (ss : List Step). IsWidthFor ss p.work sf.width) (sym steps) sf.is_width;
-          sized = rf targets alone;
+          sized = rf.targets_fit targets alone;
           scratch_sized = sf.sized targets alone;
           lists_sized = subst (λ (ss : List Step). AreListsFor ss p.work scratch.lists) (sym steps) sf.lists;
           marks_sized = here_sized;
         }
-    own_due (Counts k marks) e plain_due there alone low_rooms at rf sf =
-        let h = due_for (length system.rules) parts (OfCounts k) tt (subst (Contains (dues (length system.rules) parts)) (sym e) at_due) in
+    own_due (Merge k classes) e plain_due there alone low_rooms at room_at rf sf =
+        let h = due_for (is_merged_in c.steps) (length system.rules) parts (OfMerge k) tt (subst (Contains (dues_of c.steps (length system.rules) parts)) (sym e) at_due) in
+        let same : h.0 ≡ k = omega (arith, h.1) in
+        let within : k < length parts = omega (arith, h.1, h.2) in
+        let key_is : key (length system.rules) (OfMerge k) ≡ key (length system.rules) d = ap (key (length system.rules)) e in
+        let has = subst (λ (i : ℕ). has_columns (get_or parts i core.True) ≡ true) same h.3 in
+        let plain = subst (λ (i : ℕ). is_turned (get_or parts i core.True) ≡ false) same h.4 in
+        let t = table_before system parts c front rest s d wanted made up k (omega (arith, key_is)) within has plain in
+        let r = held k t.0 t.1 in
+        let one : r.room ≡ room = sym (r.room_at.1 room) ∙ room_at.1 room in
+        let only_part : IsOnlyAbout c.steps (Part k t.0) = only_front system parts c front rest s d wanted made up (Part k t.0) t.1 in
+        record {
+          targets = t.0;
+          table = r.table;
+          signature = signature;
+          columns = ap (λ (q : Plan). q.columns) (sym (at.1 p)) ∙ (planned.each k p within).columns;
+          only = subst (λ (ss : List Step). IsOnlyAbout ss (Part k t.0)) (sym steps) only_part;
+          held = subst (λ (x : PartRoom). IsHeld system.signature (length (columns_of (get_or parts k core.True))) t.0 x r.table) one r.held;
+          plain = subst (λ (x : PartRoom). IsFalse x.is_merged) one
+              (is_false r.room.is_merged (λ is. let w = r.merged is in none_merged system parts c front rest s d wanted made up k w.0 (sym e) w.1));
+          made_is = r.made_is;
+          sized = rf.classes_fit t.0 only_part h.5;
+          scratch_sized = sf.leaders t.0 only_part h.5;
+          marks_sized = here_sized;
+        }
+    own_due (Counts k marks) e plain_due there alone low_rooms at room_at rf sf =
+        let h = due_for (is_merged_in c.steps) (length system.rules) parts (OfCounts k) tt (subst (Contains (dues_of c.steps (length system.rules) parts)) (sym e) at_due) in
         let same : h.0 ≡ k = omega (arith, h.1) in
         let within : k < length parts = omega (arith, h.1, h.2) in
         let key_is : key (length system.rules) (OfCounts k) ≡ key (length system.rules) d = ap (key (length system.rules)) e in
-        let own : 2 * (length system.rules + k) + 2 ≤ key (length system.rules) d = omega (arith, key_is) in
+        let own : 3 * (length system.rules + k) + 3 ≤ key (length system.rules) d = omega (arith, key_is) in
         record {
           due = part_is k past within own signature steps plans_are low_rooms p at;
           number = h.3.0;
@@ -211,12 +270,12 @@ module _ (system : PatternSystem) (root : Core) (parts : List Core) (c : Certifi
           only = subst (λ (ss : List Step). IsOnlyAbout ss (Counts k marks)) (sym steps) alone;
           marks_sized = here_sized;
         }
-    own_due (Value k value) e plain_due there alone low_rooms at rf sf =
-        let h = due_for (length system.rules) parts (OfValue k) tt (subst (Contains (dues (length system.rules) parts)) (sym e) at_due) in
+    own_due (Value k value) e plain_due there alone low_rooms at room_at rf sf =
+        let h = due_for (is_merged_in c.steps) (length system.rules) parts (OfValue k) tt (subst (Contains (dues_of c.steps (length system.rules) parts)) (sym e) at_due) in
         let same : h.0 ≡ k = omega (arith, h.1) in
         let within : k < length parts = omega (arith, h.1, h.2) in
         let key_is : key (length system.rules) (OfValue k) ≡ key (length system.rules) d = ap (key (length system.rules)) e in
-        let own : 2 * (length system.rules + k) + 2 ≤ key (length system.rules) d = omega (arith, key_is) in
+        let own : 3 * (length system.rules + k) + 3 ≤ key (length system.rules) d = omega (arith, key_is) in
         record {
           due = part_is k past within own signature steps plans_are low_rooms p at;
           columns = subst (λ (i : ℕ). has_columns (get_or parts i core.True) ≡ false) same h.3;

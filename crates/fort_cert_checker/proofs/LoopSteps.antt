@@ -1,14 +1,14 @@
 -- One more step at a place: what it needs is there, and behind it the rooms hold on.
-use Rattle.std.specs.Prelude.{◌≡◌, ℕ, zero, suc, ◌+◌, ◌*◌, ◌<◌, ◌≤◌, List, [], ◌∷◌, ◌++◌, take, drop, set, map, length, get_or, Contains, Option, ◌⊎◌, Bool, Result, Ok, Err, OnOk, IfErr, refl}
-use Rattle.std.proofs.Common.{sym, ap, ◌∙◌, subst, arith, ⊎_elim, Vec, Global}
+use Rattle.std.specs.Prelude.{◌≡◌, ℕ, zero, suc, ◌+◌, ◌<◌, List, [], ◌∷◌, ◌++◌, take, drop, set, map, length, get_or, Contains, Option, ◌⊎◌, Bool, IsFalse, Result, Ok, Err, OnOk, IfErr, refl}
+use Rattle.std.proofs.Common.{sym, ap, ◌∙◌, subst, arith, inl, inr, true≢false, ⊎_elim, Vec, Global}
 use Rattle.std.proofs.lemmas.Bool.{cases_eq}
 use Rattle.std.proofs.lemmas.List.{length-set, length-take-le, take_more}
-use Rattle.std.proofs.lemmas.List.Elements.{Contains-get_or, Contains-push_cases}
+use Rattle.std.proofs.lemmas.List.Elements.{Contains-append_left, Contains-get_or, Contains-push, Contains-push_cases}
 use Rattle.fort_theory.specs.Patterns.{PatternSystem}
 use Rattle.fort_cores.specs.Cores as core
 use Rattle.fort_cores.specs.Cores.{Core}
-use Rattle.fort_certificate_grammar.specs.Certificates.{Which, Pair as Item, Step, Closure, Part, Counts, Value, Certificate}
-use Rattle.fort_in_order.specs.Dues.{DueStep, OfClosure, OfPart, due_of, dues}
+use Rattle.fort_certificate_grammar.specs.Certificates.{Which, Pair as Item, Step, Closure, Part, Merge, Counts, Value, Certificate}
+use Rattle.fort_in_order.specs.Dues.{DueStep, OfClosure, OfPart, OfMerge, due_of, dues_of}
 use Rattle.fort_in_order.specs.Outcomes.{Reason, StepOutcome, Fine, Fails}
 use Rattle.fort_in_order.specs.Made.{Made, with_closure}
 use Rattle.fort_in_order.specs.Checked.{IsClosureJudged, IsFine, FineClosure, IsFailing, FailingClosure, IsUpTo}
@@ -23,16 +23,17 @@ use Rattle.fort_check_steps.specs.declared.room.LabelRoom.{LabelRoom}
 use Rattle.fort_check_steps.specs.declared.marks.MarkRoom.{MarkRoom}
 use Rattle.fort_cert_checker.specs.declared.plan.Plan.{Plan}
 use Rattle.fort_cert_checker.specs.declared.making.ClosurePlan.{ClosurePlan}
-use Rattle.fort_cert_checker.specs.Abouts.{IsOnlyAbout}
+use Rattle.fort_cert_checker.specs.Abouts.{IsOnlyAbout, classes_in}
 use Rattle.fort_cert_checker.proofs.ListLaws.{lists_kept}
 use Rattle.fort_cert_checker.specs.Pasts.{IsElement, IsMarkRoomFor}
-use Rattle.fort_check_steps.specs.Room.{IsAsRoomy}
-use Rattle.fort_check_steps.proofs.RoomLaws.{still_room}
+use Rattle.fort_check_steps.specs.Room.{IsAsRoomy, most_states}
+use Rattle.fort_check_steps.proofs.RoomLaws.{still_room, still_leader_room}
 use Rattle.fort_cert_checker.specs.Makings.{AreMade, IsClosureFor, IsRoomFor, IsScratchFor}
-use Rattle.fort_cert_checker.specs.Fronts.{IsAtPlace, IsRoomHeld, AreHeld, IsReady, IsLoopAt, IsStepDue, IsOwnDue, IsDueBehind, IsHeldAfter, IsFineStep, part_in}
+use Rattle.fort_cert_checker.specs.Fronts.{IsAtPlace, IsRoomHeld, AreHeld, IsReady, IsLoopAt, IsStepDue, IsOwnDue, IsDueBehind, IsNewlyHeld, IsHeldAfter, IsFineStep, part_in}
 use Rattle.fort_cert_checker.proofs.DueKeys.{key}
+use Rattle.fort_cert_checker.proofs.FrontLaws.{merge_of}
 use Rattle.fort_cert_checker.proofs.FrontTells.{answer_kept}
-use Rattle.fort_cert_checker.proofs.FrontKnows.{later_key, only_due}
+use Rattle.fort_cert_checker.proofs.FrontKnows.{later_key, only_front, only_due}
 use Rattle.fort_cert_checker.proofs.LoopLaws.{at_step, at_next}
 use Rattle.fort_cert_checker.proofs.LoopKnows.{IsNoClosure, own_within, own_due}
 
@@ -109,72 +110,113 @@ scratch_kept ss k p old new keep h = record {
   is_width = h.is_width;
   sized = λ targets only. still_room (h.sized targets only) keep;
   lists = lists_kept ss p.work old.lists new.lists keep.lists h.lists;
+  leaders = λ targets only is. still_leader_room (h.leaders targets only is) keep;
 }
 
 -- the part that a step names
-pub named : (s : steps.Step) (k : ℕ) → ((xs : Vec ℕ Global) × (s ≡ variants.Part k xs)) ⊎ (((xs : Vec Count Global) × (s ≡ variants.Counts k xs)) ⊎ ((b : Bool) × (s ≡ variants.Value k b)))
+pub named : (s : steps.Step) (k : ℕ)
+    → ((xs : Vec ℕ Global) × (s ≡ variants.Part k xs))
+    ⊎ (((xs : Vec ℕ Global) × (s ≡ variants.Merge k xs)) ⊎ (((xs : Vec Count Global) × (s ≡ variants.Counts k xs)) ⊎ ((b : Bool) × (s ≡ variants.Value k b))))
     → (part_in (as_step s) ≡ k) × IsNoClosure (due_of (as_step s))
 named s k h =
     ⊎_elim
     (λ a. subst (λ (t : steps.Step). (part_in (as_step t) ≡ k) × IsNoClosure (due_of (as_step t))) (sym a.1) (refl, tt))
     (λ b. ⊎_elim
     (λ a. subst (λ (t : steps.Step). (part_in (as_step t) ≡ k) × IsNoClosure (due_of (as_step t))) (sym a.1) (refl, tt))
+    (λ x. ⊎_elim
     (λ a. subst (λ (t : steps.Step). (part_in (as_step t) ≡ k) × IsNoClosure (due_of (as_step t))) (sym a.1) (refl, tt))
+    (λ a. subst (λ (t : steps.Step). (part_in (as_step t) ≡ k) × IsNoClosure (due_of (as_step t))) (sym a.1) (refl, tt))
+    x)
     b)
     h
 
-own_key : (n : ℕ) (s : Step) → IsNoClosure (due_of s) → key n (due_of s) ≤ 2 * (n + part_in s) + 3
-own_key n (Closure w i xs) plain = absurd plain
-own_key n (Part k targets) plain = omega arith
-own_key n (Counts k marks) plain = omega arith
-own_key n (Value k value) plain = omega arith
+-- a part before the step's is another one, but for its own merge
+apart_own : (n : ℕ) (s : Step) (j : ℕ) → IsNoClosure (due_of s) → key n (OfPart j) < key n (due_of s) → (due_of s ≡ OfMerge j → ⊥) → j ≡ part_in s → ⊥
+apart_own n (Closure w i xs) j plain l other e = plain
+apart_own n (Part k targets) j plain l other e = omega (arith, l, e)
+apart_own n (Merge k classes) j plain l other e = other (ap OfMerge (sym e))
+apart_own n (Counts k marks) j plain l other e = omega (arith, l, e)
+apart_own n (Value k value) j plain l other e = omega (arith, l, e)
+
+merge_or_other : (s : Step) (j : ℕ) → (due_of s ≡ OfMerge j) ⊎ (due_of s ≡ OfMerge j → ⊥)
+merge_or_other (Closure w i xs) j = inr (λ e. cc)
+merge_or_other (Part k targets) j = inr (λ e. cc)
+merge_or_other (Merge k classes) j = ⊎_elim (λ (e : k ≡ j). inl (ap OfMerge e)) (λ apart. inr (λ e. apart (let same : k ≡ j = cc in same))) (cases_eq k j)
+merge_or_other (Counts k marks) j = inr (λ e. cc)
+merge_or_other (Value k value) j = inr (λ e. cc)
 
 module _ (system : PatternSystem) (root : Core) (parts : List Core) (c : Certificate) (plans : List Plan) (closures : List (Option ClosurePlan)) (rooms : List PartRoom) (scratch : LabelRoom) (marks : List MarkRoom) (n : ℕ) (made : Made)
     (h : IsLoopAt system root parts c plans closures rooms scratch marks n made) (due : IsStepDue system parts c n) (s : Step) (is : get_or c.steps n s ≡ s) where
-  due_is : get_or (dues (length system.rules) parts) n (due_of s) ≡ due_of s
+  due_is : get_or (dues_of c.steps (length system.rules) parts) n (due_of s) ≡ due_of s
   due_is = sym (due.about s (due_of s)) ∙ ap due_of is
 
-  up : IsUpTo system parts c (take n c.steps) (due_of s ∷ drop (n + 1) (dues (length system.rules) parts)) (s ∷ drop (n + 1) c.steps) made
+  up : IsUpTo system parts c.steps (take n c.steps) (due_of s ∷ drop (n + 1) (dues_of c.steps (length system.rules) parts)) (s ∷ drop (n + 1) c.steps) made
   up = at_step system parts c n made h.place (due_of s) due.due_low due_is s due.low is
 
   alone : IsOnlyAbout c.steps s
-  alone = only_due system parts c (take n c.steps) (drop (n + 1) c.steps) s (due_of s) (drop (n + 1) (dues (length system.rules) parts)) made up refl
+  alone = only_due system parts c (take n c.steps) (drop (n + 1) c.steps) s (due_of s) (drop (n + 1) (dues_of c.steps (length system.rules) parts)) made up refl
 
   there : Contains c.steps s
   there = subst (Contains c.steps) is (Contains-get_or c.steps n s due.low)
 
   before : (t : Step) → Contains (take n c.steps) t → key (length system.rules) (due_of t) < key (length system.rules) (due_of s)
-  before = later_key system parts c (take n c.steps) (drop (n + 1) c.steps) s (due_of s) (drop (n + 1) (dues (length system.rules) parts)) made up refl
+  before = later_key system parts c (take n c.steps) (drop (n + 1) c.steps) s (due_of s) (drop (n + 1) (dues_of c.steps (length system.rules) parts)) made up refl
 
   place_next : (next : Made) → IsFine system parts made s next → IsAtPlace system parts c (n + 1) next
   place_next next fine = at_next system parts c n made h.place (due_of s) due.due_low due_is s due.low is root h.ready.are refl next fine
 
-  -- the rooms hold on
-  held_next : (others : List PartRoom) (next : Made) → IsFine system parts made s next
-      → ((j : ℕ) (r : PartRoom) → key (length system.rules) (OfPart j) < key (length system.rules) (due_of s) → IsElement rooms j r → IsElement others j r)
-      → ((j : ℕ) (targets : List ℕ) → s ≡ Part j targets → IsRoomHeld system parts others next j targets) → AreHeld system parts others (take (n + 1) c.steps) next
-  held_next others next fine old own = λ j targets m.
-      let more : take (n + 1) c.steps ≡ take n c.steps ++ s ∷ [] = take_more c.steps n s due.low ∙ ap (λ x. take n c.steps ++ x ∷ []) is in
-      ⊎_elim
-      (λ a.
-      let l = before (Part j targets) a in
-      let r = h.held j targets a in
+  more : take (n + 1) c.steps ≡ take n c.steps ++ s ∷ []
+  more = take_more c.steps n s due.low ∙ ap (λ x. take n c.steps ++ x ∷ []) is
+
+  -- what stands in front now stood there before, or is the step
+  front_or_step : (t : Step) → Contains (take (n + 1) c.steps) t → Contains (take n c.steps) t ⊎ (s ≡ t)
+  front_or_step t m = Contains-push_cases (take n c.steps) s t (subst (λ (xs : List Step). Contains xs t) more m)
+
+  in_front : (t : Step) → Contains (take n c.steps) t → Contains (take (n + 1) c.steps) t
+  in_front t m = subst (λ (xs : List Step). Contains xs t) (sym more) (Contains-append_left (take n c.steps) (s ∷ []) t m)
+
+  step_in_front : Contains (take (n + 1) c.steps) s
+  step_in_front = subst (λ (xs : List Step). Contains xs s) (sym more) (Contains-push (take n c.steps) s)
+
+  -- a part whose merge this isn't
+  held_on : (others : List PartRoom) (next : Made) → IsFine system parts made s next → (j : ℕ) (targets : List ℕ) → Contains (take n c.steps) (Part j targets) → (due_of s ≡ OfMerge j → ⊥)
+      → ((r : PartRoom) → IsElement rooms j r → IsElement others j r) → IsRoomHeld system parts others (take (n + 1) c.steps) next j targets
+  held_on others next fine j targets m other keep =
+      let r = h.held j targets m in
+      let old : (classes : List ℕ) → Contains (take (n + 1) c.steps) (Merge j classes) → Contains (take n c.steps) (Merge j classes) =
+      λ classes x. ⊎_elim (λ y. y) (λ e. absurd (other (ap due_of e))) (front_or_step (Merge j classes) x) in
       record {
         room = r.room;
         table = r.table;
-        room_at = old j r.room l r.room_at;
+        room_at = keep r.room r.room_at;
         held = r.held;
-        made_is = answer_kept (length system.rules) system root parts h.ready.are j s made next l fine ∙ r.made_is;
-      })
+        made_is = answer_kept (length system.rules) system root parts h.ready.are j s made next (before (Part j targets) m) other fine ∙ r.made_is;
+        merged = λ is_merged. let w = r.merged is_merged in (w.0, in_front (Merge j w.0) w.1);
+        plain_states = λ none. r.plain_states (λ classes x. none classes (in_front (Merge j classes) x));
+        merged_states = λ classes x. r.merged_states classes (old classes x);
+      }
+
+  -- the rooms hold on
+  held_next : (others : List PartRoom) (next : Made) → IsFine system parts made s next
+      → ((j : ℕ) (r : PartRoom) → key (length system.rules) (OfPart j) < key (length system.rules) (due_of s) → (due_of s ≡ OfMerge j → ⊥) → IsElement rooms j r → IsElement others j r)
+      → ((j : ℕ) (targets : List ℕ) → s ≡ Part j targets → IsRoomHeld system parts others (take (n + 1) c.steps) next j targets)
+      → ((j : ℕ) (targets : List ℕ) → Contains (take n c.steps) (Part j targets) → due_of s ≡ OfMerge j → IsRoomHeld system parts others (take (n + 1) c.steps) next j targets)
+      → AreHeld system parts others (take (n + 1) c.steps) next
+  held_next others next fine old own merge = λ j targets m.
+      ⊎_elim
+      (λ a. ⊎_elim
+      (λ e. merge j targets a e)
+      (λ other. held_on others next fine j targets a other (λ r x. old j r (before (Part j targets) a) other x))
+      (merge_or_other s j))
       (λ e. own j targets e)
-      (Contains-push_cases (take n c.steps) s (Part j targets) (subst (λ (xs : List Step). Contains xs (Part j targets)) more m))
+      (front_or_step (Part j targets) m)
 
   -- ---- of a part
 
   module _ (k : ℕ) (named_is : part_in s ≡ k) (plain : IsNoClosure (due_of s)) where
     pub within : k < length parts
     within =
-        let l = own_within system root parts c plans rooms (take n c.steps) (drop (n + 1) c.steps) s (due_of s) (drop (n + 1) (dues (length system.rules) parts)) made up h.ready.are h.ready.decided h.place.tells h.held
+        let l = own_within system root parts c plans rooms (take n c.steps) (drop (n + 1) c.steps) s (due_of s) (drop (n + 1) (dues_of c.steps (length system.rules) parts)) made up h.ready.are h.ready.decided h.place.tells h.held
         h.ready.plans_made h.ready.few s refl plain in
         omega (arith, l, named_is)
 
@@ -203,9 +245,9 @@ module _ (system : PatternSystem) (root : Core) (parts : List Core) (c : Certifi
           λ j r l e. subst (λ (rs : List PartRoom). IsElement rs j r) (sym (past_is.rooms_are ∙ front_is))
           (omega (arith, l, named_is, length-take-le k rooms (omega (arith, room_low))), λ d. take_at rooms k j d (omega (arith, l, named_is)) ∙ e.1 d) in
           subst (λ (g : Core). IsOwnDue system parts past made g p s room scratch mark) (ap (λ (i : ℕ). get_or parts i core.True) named_is ∙ sym f_is)
-          (own_due system root parts c plans rooms (take n c.steps) (drop (n + 1) c.steps) s (due_of s) (drop (n + 1) (dues (length system.rules) parts)) made up h.ready.are h.ready.decided h.place.tells h.held
+          (own_due system root parts c plans rooms (take n c.steps) (drop (n + 1) c.steps) s (due_of s) (drop (n + 1) (dues_of c.steps (length system.rules) parts)) made up h.ready.are h.ready.decided h.place.tells h.held
           h.ready.plans_made h.ready.few past past_is.signature past_is.steps past_is.plans_are p room scratch mark own_mark s refl plain there alone low
-          (subst (λ (i : ℕ). IsElement plans i p) (sym named_is) plan_at) (subst (λ (i : ℕ). IsRoomFor c.steps i room) (sym named_is) own_room)
+          (subst (λ (i : ℕ). IsElement plans i p) (sym named_is) plan_at) (subst (λ (i : ℕ). IsElement rooms i room) (sym named_is) room_at) (subst (λ (i : ℕ). IsRoomFor c.steps i room) (sym named_is) own_room)
           (subst (λ (i : ℕ). IsScratchFor c.steps i p scratch) (sym named_is) own_scratch))
 
       -- behind the step
@@ -227,24 +269,64 @@ module _ (system : PatternSystem) (root : Core) (parts : List Core) (c : Certifi
               closures_made = h.ready.closures_made;
             }
 
-        pub part_next : IsFineStep system parts made s new_room → (next : Made) × IsLoopAt system root parts c plans closures (set rooms k new_room) new_scratch (set marks k new_mark) (n + 1) next
+        new_at : (j : ℕ) → j ≡ k → IsElement (set rooms k new_room) j new_room
+        new_at j e = subst (λ (i : ℕ). IsElement (set rooms k new_room) i new_room) (sym e) (omega (arith, length-set rooms k new_room, room_low), λ d. set_own rooms k new_room d room_low)
+
+        -- behind the targets of part j
+        part_held : (next : Made) (j : ℕ) (targets : List ℕ) → s ≡ Part j targets → IsNewlyHeld system parts next j targets (most_states targets) new_room × IsFalse new_room.is_merged
+            → IsRoomHeld system parts (set rooms k new_room) (take (n + 1) c.steps) next j targets
+        part_held next j targets e w =
+            let none : (classes : List ℕ) → Contains (take (n + 1) c.steps) (Merge j classes) → ⊥ =
+            λ classes x. ⊎_elim
+            (λ y. let l = before (Merge j classes) y in let about : key (length system.rules) (due_of s) ≡ key (length system.rules) (OfPart j) = ap (λ (t : Step). key (length system.rules) (due_of t)) e in omega (arith, l, about))
+            (λ y. let z : Part j targets ≡ Merge j classes = sym e ∙ y in absurd cc)
+            (front_or_step (Merge j classes) x) in
+            record {
+              room = new_room;
+              table = w.0.table;
+              room_at = new_at j (sym (ap part_in e) ∙ named_is);
+              held = w.0.held;
+              made_is = w.0.made_is;
+              merged = λ is_merged. absurd (true≢false (sym is_merged ∙ w.1));
+              plain_states = λ x. w.0.states_are;
+              merged_states = λ classes x. absurd (none classes x);
+            }
+
+        -- behind the classes of part j
+        merge_held : (next : Made) (j : ℕ) (targets classes : List ℕ) → s ≡ Merge j classes → IsNewlyHeld system parts next j targets (most_states classes) new_room
+            → IsRoomHeld system parts (set rooms k new_room) (take (n + 1) c.steps) next j targets
+        merge_held next j targets classes e w =
+            let there_is : Contains (take (n + 1) c.steps) (Merge j classes) = subst (λ (t : Step). Contains (take (n + 1) c.steps) t) e step_in_front in
+            let only_one : (others : List ℕ) → Contains (take (n + 1) c.steps) (Merge j others) → classes ≡ others =
+            λ others x. ⊎_elim
+            (λ y. let l = before (Merge j others) y in let about : key (length system.rules) (due_of s) ≡ key (length system.rules) (OfMerge j) = ap (λ (t : Step). key (length system.rules) (due_of t)) e in absurd (omega (arith, l, about)))
+            (λ y. let z : Merge j classes ≡ Merge j others = sym e ∙ y in ap classes_in z)
+            (front_or_step (Merge j others) x) in
+            record {
+              room = new_room;
+              table = w.table;
+              room_at = new_at j (sym (ap part_in e) ∙ named_is);
+              held = w.held;
+              made_is = w.made_is;
+              merged = λ is_merged. (classes, there_is);
+              plain_states = λ x. absurd (x classes there_is);
+              merged_states = λ others x. w.states_are ∙ ap most_states (only_one others x);
+            }
+
+        pub part_next : IsFineStep system parts c.steps made s new_room → (next : Made) × IsLoopAt system root parts c plans closures (set rooms k new_room) new_scratch (set marks k new_mark) (n + 1) next
         part_next fine = (
           fine.next,
           record {
             ready = part_ready;
             place = place_next fine.next fine.fine;
             held = held_next (set rooms k new_room) fine.next fine.fine
-                (λ j r l e. element_kept rooms k j new_room r (λ same. let top = own_key (length system.rules) s plain in omega (arith, l, top, same, named_is)) e)
-                (λ j targets e.
-                let w = subst (λ (t : Step). IsHeldAfter system parts fine.next t new_room) e fine.after in
-                let j_is : k ≡ j = sym named_is ∙ ap part_in e in
-                record {
-                  room = new_room;
-                  table = w.0;
-                  room_at = subst (λ (i : ℕ). IsElement (set rooms k new_room) i new_room) j_is (omega (arith, length-set rooms k new_room, room_low), λ d. set_own rooms k new_room d room_low);
-                  held = w.1;
-                  made_is = w.2;
-                });
+                (λ j r l other e. element_kept rooms k j new_room r (λ same. apart_own (length system.rules) s j plain l other (same ∙ sym named_is)) e)
+                (λ j targets e. part_held fine.next j targets e (subst (λ (t : Step). IsHeldAfter system parts c.steps fine.next t new_room) e fine.after))
+                (λ j targets m e.
+                let whole : s ≡ Merge j (classes_in s) = merge_of s j e in
+                merge_held fine.next j targets (classes_in s) whole
+                (subst (λ (t : Step). IsHeldAfter system parts c.steps fine.next t new_room) whole fine.after targets
+                (only_front system parts c (take n c.steps) (drop (n + 1) c.steps) s (due_of s) (drop (n + 1) (dues_of c.steps (length system.rules) parts)) made up (Part j targets) m)));
           },
         )
 
@@ -254,12 +336,12 @@ module _ (system : PatternSystem) (root : Core) (parts : List Core) (c : Certifi
     pub closure_low : n < length closures
     closure_low = omega (arith, due.due_low, h.ready.closures_made.count)
 
-    at_own : get_or (dues (length system.rules) parts) n (OfPart 0) ≡ OfClosure which index
+    at_own : get_or (dues_of c.steps (length system.rules) parts) n (OfPart 0) ≡ OfClosure which index
     at_own = sym (due.about s (OfPart 0)) ∙ (ap due_of is ∙ ap due_of e)
 
     pub closure_for : IsClosureFor system (OfClosure which index) old
     closure_for = subst (λ (d : DueStep). IsClosureFor system d old) at_own
-        (subst (IsClosureFor system (get_or (dues (length system.rules) parts) n (OfPart 0))) old_at (h.ready.closures_made.each n old due.due_low))
+        (subst (IsClosureFor system (get_or (dues_of c.steps (length system.rules) parts) n (OfPart 0))) old_at (h.ready.closures_made.each n old due.due_low))
 
     module _ (new : Option ClosurePlan) (keeps : (d : DueStep) → IsClosureFor system d old → IsClosureFor system d new) where
       pub closure_ready : IsReady system root parts c.steps plans (set closures n new) rooms scratch marks
@@ -271,7 +353,7 @@ module _ (system : PatternSystem) (root : Core) (parts : List Core) (c : Certifi
         rooms_made = h.ready.rooms_made;
         scratch_made = h.ready.scratch_made;
         marks_made = h.ready.marks_made;
-        closures_made = made_again (λ j q. IsClosureFor system (get_or (dues (length system.rules) parts) j (OfPart 0)) q) (length (dues (length system.rules) parts)) closures n new h.ready.closures_made
+        closures_made = made_again (λ j q. IsClosureFor system (get_or (dues_of c.steps (length system.rules) parts) j (OfPart 0)) q) (length (dues_of c.steps (length system.rules) parts)) closures n new h.ready.closures_made
             (subst (λ (d : DueStep). IsClosureFor system d new) (sym at_own) (keeps (OfClosure which index) closure_for));
       }
 
@@ -279,7 +361,8 @@ module _ (system : PatternSystem) (root : Core) (parts : List Core) (c : Certifi
       closure_next next fine = record {
         ready = closure_ready;
         place = place_next next fine;
-        held = held_next rooms next fine (λ j r l x. x) (λ j targets f. let z : Part j targets ≡ Closure which index items = sym f ∙ e in absurd cc);
+        held = held_next rooms next fine (λ j r l other x. x) (λ j targets f. let z : Part j targets ≡ Closure which index items = sym f ∙ e in absurd cc)
+            (λ j targets m f. let z : OfClosure which index ≡ OfMerge j = sym (ap due_of e) ∙ f in absurd cc);
       }
 
       pub closure_done : (o : StepOutcome) → IsClosureJudged system which index items o → o ≡ Fine → (next : Made) × IsLoopAt system root parts c plans (set closures n new) rooms scratch marks (n + 1) next

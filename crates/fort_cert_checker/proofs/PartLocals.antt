@@ -6,7 +6,7 @@ use Rattle.fort_theory.specs.Patterns.{PatternSystem}
 use Rattle.fort_cores.specs.Cores as core
 use Rattle.fort_cores.specs.Cores.{Core, Binary}
 use Rattle.fort_tables.specs.Tables.{Table}
-use Rattle.fort_theory.specs.Logic.{Connective, And, Or, Iff}
+use Rattle.fort_theory.specs.Logic.{Connective}
 use Rattle.fort_operations.specs.Products.{AreOperands, connected}
 use Rattle.fort_operations.specs.Projections.{ArePure, some_below}
 use Rattle.fort_counts.specs.Counts.{Count}

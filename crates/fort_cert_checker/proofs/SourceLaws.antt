@@ -3,7 +3,6 @@ use Rattle.std.specs.Prelude.{◌≡◌, ℕ, zero, suc, ◌<◌, List, length, 
 use Rattle.std.proofs.Common.{sym, ap, ◌∙◌, subst, arith, true≢false}
 use Rattle.fort_theory.specs.Signatures.{Signature}
 use Rattle.fort_cores.specs.Cores as core
-use Rattle.fort_theory.specs.Logic as logic
 use Rattle.fort_cores.specs.Cores.{Core}
 use Rattle.fort_cores.specs.PartLists.{AreParts}
 use Rattle.fort_tables.specs.Tables.{Table}

@@ -21,7 +21,7 @@ use Rattle.fort_parts.specs.PartColumns.{columns_of, place_in}
 use Rattle.fort_parts.specs.PartAnswers.{Answer}
 use Rattle.fort_parts.specs.DecidedCores.{IsOperandOf}
 use Rattle.fort_parts.proofs.PartColumnLaws.{columns_of-Normal, columns_of-IsTerm}
-use Rattle.fort_certificate_grammar.specs.Certificates.{Step, Part, Counts}
+use Rattle.fort_certificate_grammar.specs.Certificates.{Step, Counts}
 use Rattle.fort_in_order.specs.Dues.{has_columns, is_turned}
 use Rattle.fort_in_order.specs.Made.{Made}
 use Rattle.fort_in_order.specs.PartRules.{Local, closure_for, IsLocalOf, project_local, many_local, is_many, IsCounted}
@@ -36,7 +36,7 @@ use Rattle.fort_check_steps.specs.declared.failure.Failure.{Failure}
 use Rattle.fort_check_steps.specs.declared.room.PartRoom.{PartRoom}
 use Rattle.fort_check_steps.specs.declared.room.LabelRoom.{LabelRoom}
 use Rattle.fort_check_steps.specs.declared.marks.MarkRoom.{MarkRoom}
-use Rattle.fort_check_steps.specs.Room.{HasLabelRoom, most_states}
+use Rattle.fort_check_steps.specs.Room.{HasLabelRoom}
 use Rattle.fort_check_steps.proofs.PureStates.{pure_push, pure_left}
 use Rattle.fort_check_steps.specs.Marks.{HasMarkRoom}
 use Rattle.fort_cert_checker.specs.declared.plan.Source.{Source}
@@ -53,6 +53,7 @@ use Rattle.fort_cert_checker.specs.Plans.{IsClosureRead, IsAtomPlan, IsNegationP
 use Rattle.fort_cert_checker.specs.OperandLists.{FitsList, AreListsFor}
 use Rattle.fort_cert_checker.specs.Pasts.{steps_of, IsTableAt, IsAnswerAt, IsPartStep, IsClosureKnown, IsMarkRoomFor, AreCountsKnown, IsTableDue, IsTableStep}
 use Rattle.fort_outline.proofs.JoinedOperands.{operand_first, operand_second}
+use Rattle.fort_cert_checker.specs.PartStates.{IsStatesOf}
 use Rattle.fort_cert_checker.proofs.KnownAnswers.{IsKnown, IsKnownTable, known_answer, known_table}
 use Rattle.fort_cert_checker.proofs.LocalRules.{relation_local_is, expression_local_is, normal_local_is}
 use Rattle.fort_cert_checker.proofs.PartLocals.{joined_local_is, joined_fit, projected_local_is, many_local_is}
@@ -167,12 +168,12 @@ module _ (system : PatternSystem) (parts : List Core) (past : Past) (k : ℕ) (m
   pub many_plan : (s : Source) (c : ℕ) (ns : Vec Count Global) → p.work ≡ Many s c ns → (xs : List Count) → xs ≡ ns.items → IsManyPlan parts (steps_of past) k f s c xs
   many_plan s c ns e xs same = subst (IsManyPlan parts (steps_of past) k f s c) (sym same) (at_work (Many s c ns) e)
 
-  pub many_width : (s : Source) (c : ℕ) (ns : Vec Count Global) → p.work ≡ Many s c ns → (qs : List ℕ) → IsOnlyAbout (steps_of past) (Part s.part qs) → due.width ≡ words_for (2 * most_states qs) + 2
+  pub many_width : (s : Source) (c : ℕ) (ns : Vec Count Global) → p.work ≡ Many s c ns → (n : ℕ) → IsStatesOf (steps_of past) s.part n → due.width ≡ words_for (2 * n) + 2
   many_width s c ns e = width_for (Many s c ns) e
 
-  pub many_sized : (s : Source) (c : ℕ) (ns : Vec Count Global) → p.work ≡ Many s c ns → (xs : List Count) → xs ≡ ns.items → (qs : List ℕ) → IsOnlyAbout (steps_of past) (Part s.part qs)
-      → HasMarkRoom (most_states qs) (length xs) marks
-  many_sized s c ns e xs same qs only = subst (λ (ms : List Count). HasMarkRoom (most_states qs) (length ms) marks) (sym same) (marks_for (Many s c ns) e qs only)
+  pub many_sized : (s : Source) (c : ℕ) (ns : Vec Count Global) → p.work ≡ Many s c ns → (xs : List Count) → xs ≡ ns.items → (n : ℕ) → IsStatesOf (steps_of past) s.part n
+      → HasMarkRoom n (length xs) marks
+  many_sized s c ns e xs same n are = subst (λ (ms : List Count). HasMarkRoom n (length ms) marks) (sym same) (marks_for (Many s c ns) e n are)
 
   pub not_truth : p.work ≡ Truth → ⊥
   not_truth e =
@@ -236,9 +237,6 @@ module _ (system : PatternSystem) (parts : List Core) (past : Past) (k : ℕ) (m
     pub body_columns : body.table.columns - 1 ≡ length (columns_of f)
     body_columns = omega (arith, bound, body.over.columns_are)
 
-    pub body_only : IsOnlyAbout (steps_of past) (Part s.part body.targets)
-    body_only = subst (λ (qs : List ℕ). IsOnlyAbout (steps_of past) (Part s.part qs)) body.targets_are body.at.only
-
   module _ (s : Source) (c : ℕ) (is : p.work ≡ Projection s c) where
     pub projection_plan : IsProjectionPlan parts f s c
     projection_plan = at_work (Projection s c) is
@@ -260,14 +258,13 @@ module _ (system : PatternSystem) (parts : List Core) (past : Past) (k : ℕ) (m
     unfolding projected body
     projection_needs =
         let q = projection_plan in
-        let only = body_only q.number q.body projection_operand s q.source projection_free c q.column projection_bound in
-        let m : HasMarkRoom (most_states projected.targets) 0 marks = marks_for (Projection s c) is projected.targets only in (
+        let m : HasMarkRoom projected.count 0 marks = marks_for (Projection s c) is projected.count projected.count_is in (
           projected.table,
           projected.at,
           body_signature q.number q.body projection_operand s q.source projection_free c q.column projection_bound,
           body_column q.number q.body projection_operand s q.source projection_free c q.column projection_bound,
           body_another q.number q.body projection_operand s q.source projection_free c q.column projection_bound,
-          sized_for _ (width_for (Projection s c) is projected.targets only ∙ ap (λ (w : ℕ). words_for w + 2) (sym projected.states)),
+          sized_for _ (width_for (Projection s c) is projected.count projected.count_is ∙ ap (λ (w : ℕ). words_for w + 2) (sym projected.states)),
           subst (λ (w : ℕ). HasMarkRoom w 0 marks) (sym projected.states) m,
         )
 
@@ -285,8 +282,8 @@ module _ (system : PatternSystem) (parts : List Core) (past : Past) (k : ℕ) (m
         }
 
   module _ (s : Source) (c : ℕ) (ns : List Count) (is : (own_marks : List counts.Count) → IsOnlyAbout (steps_of past) (Counts k own_marks) → map as_count ns ≡ own_marks) (plan : IsManyPlan parts (steps_of past) k f s c ns)
-      (sized : (qs : List ℕ) → IsOnlyAbout (steps_of past) (Part s.part qs) → due.width ≡ words_for (2 * most_states qs) + 2)
-      (marks_sized : (qs : List ℕ) → IsOnlyAbout (steps_of past) (Part s.part qs) → HasMarkRoom (most_states qs) (length ns) marks) where
+      (sized : (n : ℕ) → IsStatesOf (steps_of past) s.part n → due.width ≡ words_for (2 * n) + 2)
+      (marks_sized : (n : ℕ) → IsStatesOf (steps_of past) s.part n → HasMarkRoom n (length ns) marks) where
     many_free : is_free plan.number plan.body ≡ true
     many_free = (subst BindsFree plan.whole due.due.fit.binders).0
 
@@ -319,14 +316,13 @@ module _ (system : PatternSystem) (parts : List Core) (past : Past) (k : ℕ) (m
         × HasMarkRoom (length table.presences) 0 marks × ((states : List ℕ) → ArePure table c states → (length ns ≡ length states) × KeepRules table c (count_at states (map as_count ns)))
     unfolding many_known body
     many_needs =
-        let only = body_only plan.number plan.body many_operand s plan.source many_free c plan.column many_bound in
-        let m = marks_sized many_known.targets only in (
+        let m = marks_sized many_known.count many_known.count_is in (
           many_known.table,
           many_known.at,
           body_signature plan.number plan.body many_operand s plan.source many_free c plan.column many_bound,
           body_column plan.number plan.body many_operand s plan.source many_free c plan.column many_bound,
           body_another plan.number plan.body many_operand s plan.source many_free c plan.column many_bound,
-          sized_for _ (sized many_known.targets only ∙ ap (λ (w : ℕ). words_for (2 * w) + 2) (sym many_known.states)),
+          sized_for _ (sized many_known.count many_known.count_is ∙ ap (λ (w : ℕ). words_for (2 * w) + 2) (sym many_known.states)),
           subst (λ (w : ℕ). HasMarkRoom w 0 marks) (sym many_known.states) (record { pure = m.pure; holds = omega arith }),
           many_marks,
         )

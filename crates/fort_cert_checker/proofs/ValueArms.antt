@@ -9,7 +9,7 @@ use Rattle.fort_cores.specs.Cores as core
 use Rattle.fort_cores.specs.Cores.{Core, Binary}
 use Rattle.fort_cores.specs.Parts.{is_free, BindsFree}
 use Rattle.fort_tables.specs.Tables.{Table}
-use Rattle.fort_theory.specs.Logic.{Connective, And, Or, Iff}
+use Rattle.fort_theory.specs.Logic.{Connective}
 use Rattle.fort_operations.specs.Products.{connected}
 use Rattle.fort_operations.specs.Projections.{ArePure, some_below}
 use Rattle.fort_counts.specs.Counts as counts
@@ -17,7 +17,6 @@ use Rattle.fort_counts.specs.ManyLabels.{many_value}
 use Rattle.fort_parts.specs.PartColumns.{columns_of, place_in}
 use Rattle.fort_parts.specs.DecidedCores.{IsOperandOf}
 use Rattle.fort_parts.proofs.PartColumnLaws.{columns_of-Normal, columns_of-IsTerm, column-from_free}
-use Rattle.fort_certificate_grammar.specs.Certificates.{Part}
 use Rattle.fort_in_order.specs.CountSteps.{IsCountOutcome}
 use Rattle.fort_in_order.specs.Dues.{has_columns}
 use Rattle.fort_in_order.specs.Made.{Made}
@@ -31,7 +30,6 @@ use Rattle.fort_connectives.specs.ConnectiveView.{connective_of}
 use Rattle.fort_steps.specs.declared.count.Count.{Count}
 use Rattle.fort_steps.specs.StepView.{as_count}
 use Rattle.fort_check_steps.specs.declared.marks.MarkRoom.{MarkRoom}
-use Rattle.fort_check_steps.specs.Room.{most_states}
 use Rattle.fort_check_steps.specs.Marks.{HasMarkRoom}
 use Rattle.fort_cert_checker.specs.declared.plan.Source.{Source}
 use Rattle.fort_cert_checker.specs.declared.plan.OperandPlan.{OperandPlan}
@@ -41,12 +39,11 @@ use Rattle.fort_cert_checker.specs.declared.plan.Work.{Work}
 use Rattle.fort_cert_checker.specs.declared.plan.Work.TheVariants.{Truth, Negation, Atom, Product, Projection, Many}
 use Rattle.fort_cert_checker.specs.declared.plan.Plan.{Plan}
 use Rattle.fort_cert_checker.specs.declared.past.Past.{Past}
-use Rattle.fort_cert_checker.specs.Abouts.{IsOnlyAbout}
 use Rattle.fort_cert_checker.specs.Sources.{IsSourceOf}
 use Rattle.fort_cert_checker.specs.Plans.{IsAtomPlan, IsNegationPlan, IsProductPlan, IsProjectionPlan, IsManyPlan, IsWorkOf}
 use Rattle.fort_cert_checker.specs.Pasts.{steps_of, IsTableAt, IsTruthAt, IsPartDue, AreCountsKnown, IsMarkRoomFor}
 use Rattle.fort_cert_checker.specs.Values.{IsValueDue, AreCountsDue}
-use Rattle.fort_cert_checker.proofs.FrontLaws.{only_targets}
+use Rattle.fort_cert_checker.proofs.PartStateLaws.{states_one}
 use Rattle.fort_cert_checker.proofs.JoinFits.{joined_first, joined_second}
 use Rattle.fort_outline.proofs.JoinedOperands.{operand_first, operand_second}
 use Rattle.fort_cert_checker.proofs.KnownAnswers.{IsKnownTable, known_table, known_value}
@@ -85,9 +82,6 @@ module _ (system : PatternSystem) (parts : List Core) (past : Past) (k : ℕ) (m
     pub bound_low : (c : ℕ) → c ≡ place_in (columns_of g) n → c < bound_body.table.columns
     bound_low c e = omega (arith, low, bound_body.over.columns_are, e)
 
-    pub bound_only : IsOnlyAbout (steps_of past) (Part s.part bound_body.targets)
-    bound_only = subst (λ (qs : List ℕ). IsOnlyAbout (steps_of past) (Part s.part qs)) bound_body.targets_are bound_body.at.only
-
   pub counts_plan : (n : ℕ) (g : Core) → f ≡ core.Infinite n g → (s : Source) (c : ℕ) (ns : Vec Count Global) → p.work ≡ Many s c ns → IsManyPlan parts (steps_of past) k f s c ns.items
   counts_plan n g whole s c ns e = at_work (Many s c ns) e
 
@@ -107,10 +101,6 @@ module _ (system : PatternSystem) (parts : List Core) (past : Past) (k : ℕ) (m
     pub many_low : c < many_body.table.columns
     unfolding many_body
     many_low = bound_low many_plan.number many_plan.body many_operand s many_plan.source many_free c many_plan.column
-
-    pub many_only : IsOnlyAbout (steps_of past) (Part s.part many_body.targets)
-    unfolding many_body
-    many_only = bound_only many_plan.number many_plan.body many_operand s many_plan.source many_free
 
     -- the marks are judged on the table
     pub many_judged : (marks : List counts.Count) (states : List ℕ) (o : StepOutcome) → ArePure many_body.table c states → IsCountOutcome many_body.table c states marks o → IsCountJudged parts made k marks o
@@ -189,7 +179,7 @@ module _ (system : PatternSystem) (parts : List Core) (past : Past) (k : ℕ) (m
     pub many_needs : (table : Table) × IsTableAt past s table × (c < table.columns) × HasMarkRoom (length table.presences) 0 marks × ((states : List ℕ) → ArePure table c states → length xs ≡ length states)
     unfolding body plan
     many_needs =
-        let m = (subst (λ (w : Work). IsMarkRoomFor (steps_of past) w marks) is due.marks_sized) body.targets (many_only system parts past k made f p due.due s c ns is) in
+        let m = (subst (λ (w : Work). IsMarkRoomFor (steps_of past) w marks) is due.marks_sized) body.count body.count_is in
         (body.table, body.at, many_low system parts past k made f p due.due s c ns is, subst (λ (w : ℕ). HasMarkRoom w 0 marks) (sym body.states) (record { pure = m.pure; holds = omega arith }), many_sizes)
 
     pub many_value_at : (value : Bool) → ((table : Table) (states : List ℕ) → IsTableAt past s table → ArePure table c states → value ≡ many_value table c (is_many states (map as_count xs))) → IsValueOf parts made k f value
@@ -260,11 +250,11 @@ module _ (system : PatternSystem) (parts : List Core) (past : Past) (k : ℕ) (m
     pub counted_room : (own : Table) (count : ℕ) → ((table : Table) → IsTableAt past s table → own ≡ table) → count ≡ length own_marks → HasMarkRoom (length own.presences) count room
     unfolding body_is plan_is
     counted_room own count told size =
-        let m : HasMarkRoom (most_states body_is.targets) (length ns.items) room =
-        (subst (λ (w : Work). IsMarkRoomFor (steps_of past) w room) is due.marks_sized) body_is.targets (many_only system parts past k made f p due.due s c ns is) in
+        let m : HasMarkRoom body_is.count (length ns.items) room =
+        (subst (λ (w : Work). IsMarkRoomFor (steps_of past) w room) is due.marks_sized) body_is.count body_is.count_is in
         let sizes : length ns.items ≡ length own_marks = sym (length-map ns.items as_count) ∙ ap length (plan_is.marks_are own_marks due.only) in
         let same = told body_is.table body_is.at in
-        let states : length own.presences ≡ most_states body_is.targets = ap (λ (t : Table). length t.presences) same ∙ body_is.states in
+        let states : length own.presences ≡ body_is.count = ap (λ (t : Table). length t.presences) same ∙ body_is.states in
         record { pure = omega (arith, m.pure, states); holds = omega (arith, m.holds, sizes, size) }
 
     pub counted_judged : (own : Table) (states : List ℕ) (o : StepOutcome) → ((table : Table) → IsTableAt past s table → own ≡ table) → ArePure own c states → IsCountOutcome own c states own_marks o → IsCountJudged parts made k own_marks o
@@ -278,9 +268,8 @@ module _ (system : PatternSystem) (parts : List Core) (past : Past) (k : ℕ) (m
     unfolding body_is plan_is
     counted_kept own count new told size h =
         subst (λ (w : Work). IsMarkRoomFor (steps_of past) w new) (sym is)
-        (λ targets only.
-        let same = only_targets (steps_of past) s.part body_is.targets targets (many_only system parts past k made f p due.due s c ns is) only in
-        let most : most_states body_is.targets ≡ most_states targets = ap most_states same in
+        (λ n are.
+        let same = states_one (steps_of past) s.part body_is.count n body_is.count_is are in
         let sizes : length ns.items ≡ length own_marks = sym (length-map ns.items as_count) ∙ ap length (plan_is.marks_are own_marks due.only) in
-        let states : length own.presences ≡ most_states body_is.targets = ap (λ (t : Table). length t.presences) (told body_is.table body_is.at) ∙ body_is.states in
-        record { pure = omega (arith, h.pure, states, most); holds = omega (arith, h.holds, sizes, size) })
+        let states : length own.presences ≡ body_is.count = ap (λ (t : Table). length t.presences) (told body_is.table body_is.at) ∙ body_is.states in
+        record { pure = omega (arith, h.pure, states, same); holds = omega (arith, h.holds, sizes, size) })

@@ -1,7 +1,7 @@
 -- Inside: the first step of a certificate about a due, and the only one in front; what a step holds.
 use Rattle.std.specs.Prelude.{◌≡◌, ℕ, ◌<◌, List, [], ◌++◌, length, get_or, Contains, Bool, false}
 use Rattle.fort_counts.specs.Counts.{Count}
-use Rattle.fort_certificate_grammar.specs.Certificates.{Pair as Item, Step, Closure, Part, Counts, Value}
+use Rattle.fort_certificate_grammar.specs.Certificates.{Pair as Item, Step, Closure, Part, Merge, Counts, Value}
 use Rattle.fort_in_order.specs.Dues.{DueStep, due_of}
 
 pub record IsFirstAbout (ss : List Step) (d : DueStep) (s : Step) : Type 0 where
@@ -23,6 +23,10 @@ pub record IsOnlyAbout (ss : List Step) (s : Step) : Type 0 where
 abbrev pub targets_in : Step → List ℕ
 targets_in (Part k targets) = targets
 targets_in other = []
+
+abbrev pub classes_in : Step → List ℕ
+classes_in (Merge k classes) = classes
+classes_in other = []
 
 abbrev pub marks_in : Step → List Count
 marks_in (Counts k marks) = marks

@@ -5,7 +5,7 @@ use Rattle.fort_cores.specs.Cores.{Core}
 use Rattle.fort_cores.specs.Parts.{IsClosed}
 use Rattle.fort_certificate_grammar.specs.Certificates.{Step, Certificate}
 use Rattle.fort_in_order.specs.Made.{Made}
-use Rattle.fort_in_order.specs.Dues.{dues}
+use Rattle.fort_in_order.specs.Dues.{dues_of}
 use Rattle.fort_steps.specs.StepView.{as_step}
 use Rattle.fort_steps.specs.CertificateView.{as_certificate}
 use Rattle.fort_outline.specs.DueView.{as_due}
@@ -23,7 +23,7 @@ pub record IsCheckerOf (system : PatternSystem) (f : Core) (c : Certificate) (a 
   pub closed : IsClosed f
   pub parts : List Core
   pub forms : a.certificate.now.first + length a.certificate.now.steps.items + 1 < 2 ^ 32
-  pub dues : map as_due a.dues.items ≡ dues (length system.rules) parts
+  pub dues : map as_due a.dues.items ≡ dues_of c.steps (length system.rules) parts
   pub ready : IsReady system f parts c.steps a.plans.items a.closures.items a.rooms.items a.scratch a.marks.items
 
 -- its first n steps are fine, and the rooms hold their tables

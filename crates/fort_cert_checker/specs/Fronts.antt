@@ -1,5 +1,5 @@
 -- Inside: where a check stands: the first steps are fine, and the rooms hold their tables; what comes of the step behind them.
-use Rattle.std.specs.Prelude.{◌≡◌, ℕ, ◌^◌, ◌<◌, ◌≤◌, List, length, take, drop, get_or, Contains, Bool, Option}
+use Rattle.std.specs.Prelude.{◌≡◌, ℕ, ◌^◌, ◌<◌, ◌≤◌, List, length, take, drop, get_or, Contains, Bool, Option, IsTrue, IsFalse}
 use Rattle.fort_theory.specs.Patterns.{PatternSystem}
 use Rattle.fort_cores.specs.Cores as core
 use Rattle.fort_cores.specs.Cores.{Core}
@@ -9,10 +9,11 @@ use Rattle.fort_counts.specs.Counts.{Count}
 use Rattle.fort_parts.specs.PartColumns.{columns_of}
 use Rattle.fort_parts.specs.PartAnswers.{OfValue, OfTable}
 use Rattle.fort_parts.specs.DecidedCores.{IsDecided}
-use Rattle.fort_certificate_grammar.specs.Certificates.{Which, Pair as Item, Step, Closure, Part, Counts, Value, Certificate}
-use Rattle.fort_in_order.specs.Dues.{DueStep, due_of, dues}
+use Rattle.fort_certificate_grammar.specs.Certificates.{Which, Pair as Item, Step, Closure, Part, Merge, Counts, Value, Certificate}
+use Rattle.fort_in_order.specs.Dues.{DueStep, due_of, dues_of}
 use Rattle.fort_in_order.specs.Made.{Made}
 use Rattle.fort_in_order.specs.Checked.{IsFine, IsUpTo}
+use Rattle.fort_check_steps.specs.Room.{most_states}
 use Rattle.fort_check_steps.specs.declared.room.PartRoom.{PartRoom}
 use Rattle.fort_check_steps.specs.declared.room.LabelRoom.{LabelRoom}
 use Rattle.fort_check_steps.specs.declared.marks.MarkRoom.{MarkRoom}
@@ -20,7 +21,8 @@ use Rattle.fort_cert_checker.specs.declared.plan.Plan.{Plan}
 use Rattle.fort_cert_checker.specs.declared.past.Past.{Past}
 use Rattle.fort_cert_checker.specs.declared.making.ClosurePlan.{ClosurePlan}
 use Rattle.fort_cert_checker.specs.KnownMarks.{HasMarksFor}
-use Rattle.fort_cert_checker.specs.Pasts.{steps_of, IsElement, IsHeld, IsTableDue}
+use Rattle.fort_cert_checker.specs.Abouts.{IsOnlyAbout}
+use Rattle.fort_cert_checker.specs.Pasts.{steps_of, IsElement, IsHeld, IsTableDue, IsMergeDue}
 use Rattle.fort_cert_checker.specs.Values.{IsValueDue, AreCountsDue}
 use Rattle.fort_cert_checker.specs.Makings.{ArePlansMade, AreRoomsMade, IsScratchMade, AreMarksMade, AreClosuresMade}
 
@@ -34,23 +36,27 @@ pub record Tells (parts : List Core) (front : List Step) (made : Made) : Type 0 
 -- the first n steps are fine
 pub record IsAtPlace (system : PatternSystem) (parts : List Core) (c : Certificate) (n : ℕ) (made : Made) : Type 0 where
   pub within : n ≤ length c.steps
-  pub up : IsUpTo system parts c (take n c.steps) (drop n (dues (length system.rules) parts)) (drop n c.steps) made
+  pub up : IsUpTo system parts c.steps (take n c.steps) (drop n (dues_of c.steps (length system.rules) parts)) (drop n c.steps) made
   pub tells : Tells parts (take n c.steps) made
 
--- a room holds the table of part j, which was made
-pub record IsRoomHeld (system : PatternSystem) (parts : List Core) (rooms : List PartRoom) (made : Made) (j : ℕ) (targets : List ℕ) : Type 0 where
+-- a room holds the table of part j, which was made, and is merged only behind a merge of it
+pub record IsRoomHeld (system : PatternSystem) (parts : List Core) (rooms : List PartRoom) (front : List Step) (made : Made) (j : ℕ) (targets : List ℕ) : Type 0 where
   pub room : PartRoom
   pub table : Table
   pub room_at : IsElement rooms j room
   pub held : IsHeld system.signature (length (columns_of (get_or parts j core.True))) targets room table
   pub made_is : made.answers j ≡ OfTable table
+  pub merged : IsTrue room.is_merged → (classes : List ℕ) × Contains front (Merge j classes)
+  pub plain_states : ((classes : List ℕ) → Contains front (Merge j classes) → ⊥) → length table.presences ≡ most_states targets
+  pub merged_states : (classes : List ℕ) → Contains front (Merge j classes) → length table.presences ≡ most_states classes
 
 abbrev pub AreHeld : PatternSystem → List Core → List PartRoom → List Step → Made → Type 0
-AreHeld system parts rooms front made = (j : ℕ) (targets : List ℕ) → Contains front (Part j targets) → IsRoomHeld system parts rooms made j targets
+AreHeld system parts rooms front made = (j : ℕ) (targets : List ℕ) → Contains front (Part j targets) → IsRoomHeld system parts rooms front made j targets
 
--- no part has more targets than there are numbers for
-abbrev pub HasFewTargets : List Step → Type 0
-HasFewTargets ss = (k : ℕ) (targets : List ℕ) → Contains ss (Part k targets) → length targets < 2 ^ 32
+-- no part has more targets or classes than there are numbers for
+pub record HasFewTargets (ss : List Step) : Type 0 where
+  pub targets : (k : ℕ) (targets : List ℕ) → Contains ss (Part k targets) → length targets < 2 ^ 32
+  pub classes : (k : ℕ) (classes : List ℕ) → Contains ss (Merge k classes) → length classes < 2 ^ 32
 
 -- all that a check needs
 pub record IsReady (system : PatternSystem) (root : Core) (parts : List Core) (ss : List Step) (plans : List Plan) (closures : List (Option ClosurePlan)) (rooms : List PartRoom) (scratch : LabelRoom) (marks : List MarkRoom) : Type 0 where
@@ -61,7 +67,7 @@ pub record IsReady (system : PatternSystem) (root : Core) (parts : List Core) (s
   pub rooms_made : AreRoomsMade ss (length parts) rooms
   pub scratch_made : IsScratchMade ss plans (length parts) scratch
   pub marks_made : AreMarksMade ss plans (length parts) marks
-  pub closures_made : AreClosuresMade system (dues (length system.rules) parts) (length (dues (length system.rules) parts)) closures
+  pub closures_made : AreClosuresMade system (dues_of ss (length system.rules) parts) (length (dues_of ss (length system.rules) parts)) closures
 
 -- the first n steps are fine, and the rooms hold their tables
 pub record IsLoopAt (system : PatternSystem) (root : Core) (parts : List Core) (c : Certificate) (plans : List Plan) (closures : List (Option ClosurePlan)) (rooms : List PartRoom) (scratch : LabelRoom) (marks : List MarkRoom) (n : ℕ)
@@ -73,8 +79,8 @@ pub record IsLoopAt (system : PatternSystem) (root : Core) (parts : List Core) (
 -- the step at a place is the one that is due there
 pub record IsStepDue (system : PatternSystem) (parts : List Core) (c : Certificate) (n : ℕ) : Type 0 where
   pub low : n < length c.steps
-  pub due_low : n < length (dues (length system.rules) parts)
-  pub about : (s : Step) (d : DueStep) → due_of (get_or c.steps n s) ≡ get_or (dues (length system.rules) parts) n d
+  pub due_low : n < length (dues_of c.steps (length system.rules) parts)
+  pub about : (s : Step) (d : DueStep) → due_of (get_or c.steps n s) ≡ get_or (dues_of c.steps (length system.rules) parts) n d
 
 -- ---- the step of a part
 
@@ -89,6 +95,7 @@ pub record IsPastOf (system : PatternSystem) (ss : List Step) (plans : List Plan
 abbrev pub part_in : Step → ℕ
 part_in (Closure which index items) = 0
 part_in (Part k targets) = k
+part_in (Merge k classes) = k
 part_in (Counts k marks) = k
 part_in (Value k value) = k
 
@@ -96,19 +103,28 @@ part_in (Value k value) = k
 abbrev pub IsOwnDue : PatternSystem → List Core → Past → Made → Core → Plan → Step → PartRoom → LabelRoom → MarkRoom → Type 0
 IsOwnDue system parts past made f p (Closure which index items) room scratch marks = ⊥
 IsOwnDue system parts past made f p (Part k targets) room scratch marks = IsTableDue system parts past k made f p targets room scratch marks
+IsOwnDue system parts past made f p (Merge k classes) room scratch marks = IsMergeDue system parts past k made p room scratch marks
 IsOwnDue system parts past made f p (Counts k counts) room scratch marks = AreCountsDue system parts past k made f p counts marks
 IsOwnDue system parts past made f p (Value k value) room scratch marks = IsValueDue system parts past k made f p marks
 
--- after it, a part's room holds its table
-abbrev pub IsHeldAfter : PatternSystem → List Core → Made → Step → PartRoom → Type 0
-IsHeldAfter system parts next (Part k targets) room =
-    (table : Table) × IsHeld system.signature (length (columns_of (get_or parts k core.True))) targets room table × (next.answers k ≡ OfTable table)
-IsHeldAfter system parts next other room = Unit {0}
+-- the room of part k with these targets holds its table, which was made, of so many states
+pub record IsNewlyHeld (system : PatternSystem) (parts : List Core) (next : Made) (k : ℕ) (targets : List ℕ) (states : ℕ) (room : PartRoom) : Type 0 where
+  pub table : Table
+  pub held : IsHeld system.signature (length (columns_of (get_or parts k core.True))) targets room table
+  pub made_is : next.answers k ≡ OfTable table
+  pub states_are : length table.presences ≡ states
 
-pub record IsFineStep (system : PatternSystem) (parts : List Core) (made : Made) (s : Step) (room : PartRoom) : Type 0 where
+-- after a step of these, a part's room holds its table, or that of its classes
+abbrev pub IsHeldAfter : PatternSystem → List Core → List Step → Made → Step → PartRoom → Type 0
+IsHeldAfter system parts ss next (Part k targets) room = IsNewlyHeld system parts next k targets (most_states targets) room × IsFalse room.is_merged
+IsHeldAfter system parts ss next (Merge k classes) room =
+    (targets : List ℕ) → IsOnlyAbout ss (Part k targets) → IsNewlyHeld system parts next k targets (most_states classes) room
+IsHeldAfter system parts ss next other room = Unit {0}
+
+pub record IsFineStep (system : PatternSystem) (parts : List Core) (ss : List Step) (made : Made) (s : Step) (room : PartRoom) : Type 0 where
   pub next : Made
   pub fine : IsFine system parts made s next
-  pub after : IsHeldAfter system parts next s room
+  pub after : IsHeldAfter system parts ss next s room
 
 -- with every past that is read of these
 abbrev pub IsDueBehind : PatternSystem → List Core → List Step → List Plan → List PartRoom → Made → Core → Plan → Step → PartRoom → LabelRoom → MarkRoom → Type 0

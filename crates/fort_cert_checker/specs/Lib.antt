@@ -1,4 +1,5 @@
 pub mod Abouts
+pub mod PartStates
 pub mod KnownMarks
 pub mod Sources
 pub mod Plans

@@ -1,15 +1,15 @@
 -- Inside: what is made before a check, for each step that is due and for each part.
-use Rattle.std.specs.Prelude.{◌≡◌, ℕ, ◌*◌, ◌^◌, ◌<◌, ◌≤◌, List, length, get_or, Option, None, Some}
+use Rattle.std.specs.Prelude.{◌≡◌, ℕ, ◌*◌, ◌^◌, ◌<◌, ◌≤◌, List, length, get_or, Bool, true, Option, None, Some}
 use Rattle.fort_theory.specs.Patterns.{PatternSystem}
 use Rattle.fort_cores.specs.Cores as core
 use Rattle.fort_cores.specs.Cores.{Core}
 use Rattle.fort_certificate_grammar.specs.Certificates.{Which, Step, Part}
-use Rattle.fort_in_order.specs.Dues.{DueStep, OfClosure, OfPart, OfCounts, OfValue}
+use Rattle.fort_in_order.specs.Dues.{DueStep, OfClosure, OfPart, OfMerge, OfCounts, OfValue, is_merged_in}
 use Rattle.fort_check_steps.specs.PairSteps.{HasClosureRules}
 use Rattle.fort_check_steps.specs.declared.room.PartRoom.{PartRoom}
 use Rattle.fort_check_steps.specs.declared.room.LabelRoom.{LabelRoom}
 use Rattle.fort_check_steps.specs.declared.marks.MarkRoom.{MarkRoom}
-use Rattle.fort_check_steps.specs.Room.{HasRoom, HasLabelRoom, most_states}
+use Rattle.fort_check_steps.specs.Room.{HasRoom, HasMergeRoom, HasLabelRoom, HasLeaderRoom, most_states}
 use Rattle.fort_cert_checker.specs.Abouts.{IsFirstAbout, IsOnlyAbout, targets_in}
 use Rattle.fort_cert_checker.specs.OperandLists.{AreListsFor}
 use Rattle.fort_cert_checker.specs.Plans.{IsPlanOf, IsWidthFor}
@@ -31,6 +31,7 @@ abbrev pub IsClosureFor : PatternSystem → DueStep → Option ClosurePlan → T
 IsClosureFor system (OfClosure which index) (Some p) = IsClosurePlan system which index p
 IsClosureFor system (OfClosure which index) None = ⊥
 IsClosureFor system (OfPart k) p = Unit {0}
+IsClosureFor system (OfMerge k) p = Unit {0}
 IsClosureFor system (OfCounts k) p = Unit {0}
 IsClosureFor system (OfValue k) p = Unit {0}
 
@@ -40,9 +41,14 @@ AreClosuresMade system dues n ps = AreMade (λ k p. IsClosureFor system (get_or 
 abbrev pub ArePlansMade : PatternSystem → List Core → List Step → ℕ → List Plan → Type 0
 ArePlansMade system parts ss n ps = AreMade (λ k p. IsPlanOf system parts ss k (get_or parts k core.True) p) n ps
 
--- room for the targets of part k
-abbrev pub IsRoomFor : List Step → ℕ → PartRoom → Type 0
-IsRoomFor ss k r = (targets : List ℕ) → IsOnlyAbout ss (Part k targets) → HasRoom targets r
+-- for each of the first n parts, whether it is merged
+abbrev pub AreMergesMade : List Step → ℕ → List Bool → Type 0
+AreMergesMade ss n bs = AreMade (λ k b. b ≡ is_merged_in ss k) n bs
+
+-- room for the targets of part k, and where it is merged for those over its classes
+pub record IsRoomFor (ss : List Step) (k : ℕ) (r : PartRoom) : Type 0 where
+  pub targets_fit : (targets : List ℕ) → IsOnlyAbout ss (Part k targets) → HasRoom targets r
+  pub classes_fit : (targets : List ℕ) → IsOnlyAbout ss (Part k targets) → is_merged_in ss k ≡ true → HasMergeRoom targets r
 
 abbrev pub AreRoomsMade : List Step → ℕ → List PartRoom → Type 0
 AreRoomsMade ss n rs = AreMade (IsRoomFor ss) n rs
@@ -55,12 +61,13 @@ pub record HasTooManyWords (ss : List Step) (k : ℕ) (w : Work) : Type 0 where
   pub first : IsFirstAbout ss (OfPart k) step
   pub many : 2 ^ 64 ≤ width * most_states (targets_in step)
 
--- room for the labels of part k, and for its operands' lists
+-- room for the labels of part k, for its operands' lists, and where it is merged for its classes
 pub record IsScratchFor (ss : List Step) (k : ℕ) (p : Plan) (r : LabelRoom) : Type 0 where
   pub width : ℕ
   pub is_width : IsWidthFor ss p.work width
   pub sized : (targets : List ℕ) → IsOnlyAbout ss (Part k targets) → HasLabelRoom width targets r
   pub lists : AreListsFor ss p.work r.lists
+  pub leaders : (targets : List ℕ) → IsOnlyAbout ss (Part k targets) → is_merged_in ss k ≡ true → HasLeaderRoom targets r
 
 -- for each of the first n parts
 abbrev pub IsScratchMade : List Step → List Plan → ℕ → LabelRoom → Type 0

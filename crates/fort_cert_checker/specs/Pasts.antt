@@ -1,11 +1,10 @@
 -- Inside: the answers of earlier parts, by steps, plans and rooms; what a part's step is checked by, and what comes of it.
-use Rattle.std.specs.Prelude.{◌≡◌, ℕ, ◌^◌, ◌<◌, List, map, length, get_or, Bool, true, false, Result, OnOk}
+use Rattle.std.specs.Prelude.{◌≡◌, ℕ, ◌^◌, ◌<◌, ◌≤◌, List, IsFalse, map, length, get_or, Bool, true, false, Result, OnOk}
 use Rattle.fort_theory.specs.Patterns.{PatternSystem}
 use Rattle.fort_theory.specs.Signatures.{Signature}
 use Rattle.fort_cores.specs.Cores as core
 use Rattle.fort_cores.specs.Cores.{Core}
 use Rattle.fort_tables.specs.Tables.{Table, listed_table}
-use Rattle.fort_tables.specs.LabelRules.{LabelRule}
 use Rattle.fort_counts.specs.Counts.{Count}
 use Rattle.fort_parts.specs.PartColumns.{columns_of}
 use Rattle.fort_parts.specs.PartAnswers.{Answer, OfValue, OfTable}
@@ -19,12 +18,13 @@ use Rattle.fort_check_steps.specs.declared.room.PartRoom.{PartRoom}
 use Rattle.fort_check_steps.specs.declared.room.LabelRoom.{LabelRoom}
 use Rattle.fort_check_steps.specs.declared.failure.Failure.{Failure}
 use Rattle.fort_check_steps.specs.StepAnswers.{outcome_of}
-use Rattle.fort_check_steps.specs.Held.{HoldsPart, held_table}
+use Rattle.fort_check_steps.specs.Held.{HoldsPart, IsRoomTable, room_table, own_targets}
 use Rattle.fort_check_steps.specs.Turned.{turned_table}
-use Rattle.fort_check_steps.specs.Room.{HasRoom, HasLabelRoom, most_states}
+use Rattle.fort_check_steps.specs.Room.{HasRoom, HasMergeRoom, HasLabelRoom, HasLeaderRoom, most_states}
 use Rattle.fort_check_steps.specs.Marks.{HasMarkRoom}
 use Rattle.fort_check_steps.specs.declared.marks.MarkRoom.{MarkRoom}
 use Rattle.fort_cert_checker.specs.Abouts.{IsOnlyAbout}
+use Rattle.fort_cert_checker.specs.PartStates.{IsStatesOf}
 use Rattle.fort_cert_checker.specs.KnownMarks.{HasMarksFor}
 use Rattle.fort_cert_checker.specs.Sources.{turned}
 use Rattle.fort_cert_checker.specs.OperandLists.{AreListsFor}
@@ -37,14 +37,13 @@ use Rattle.fort_cert_checker.specs.declared.past.Past.{Past}
 use Rattle.fort_cert_checker.specs.declared.past.PastAnswer as answers
 use Rattle.fort_cert_checker.specs.declared.past.PastAnswer.TheVariants as variants
 
--- a room holds the table of a part's step, by some rule over this signature and so many columns
+-- a room holds the table of a part with these targets, over this signature and so many columns, with no more states and targets than there
+-- is room for
 pub record IsHeld (sig : Signature) (columns : ℕ) (targets : List ℕ) (room : PartRoom) (table : Table) : Type 0 where
-  pub rule : LabelRule
-  pub accepting : List ℕ → Bool
-  pub signature : rule.signature ≡ sig
-  pub columns_are : rule.columns ≡ columns
-  pub holds : HoldsPart rule accepting targets room
-  pub is : listed_table (held_table rule targets room) ≡ table
+  pub holds : IsRoomTable sig columns targets room
+  pub is : listed_table (room_table sig columns targets room) ≡ table
+  pub few_states : length table.presences ≤ most_states targets
+  pub few_targets : length (own_targets targets room) ≤ length targets
 
 -- the steps, as the definitions have them
 abbrev pub steps_of : Past → List Step
@@ -63,7 +62,6 @@ pub record IsTableAt (past : Past) (s : Source) (table : Table) : Type 0 where
   pub plan_at : IsElement past.plans.now s.part plan
   pub room_at : IsElement past.rooms.now s.part room
   pub only : IsOnlyAbout (steps_of past) (Part s.part targets)
-  pub few : length targets < 2 ^ 32
   pub some : 0 < plan.columns
   pub held : IsHeld past.signature.now plan.columns targets room own
   pub is : table ≡ turned s.turns own
@@ -85,6 +83,7 @@ as_answer (variants.Auto table) = OfTable (turned_table table)
 -- what comes of the step of a part by this rule
 pub record IsPartStep {U : Type 0} (local : Local) (targets : List ℕ) (room : PartRoom) (result : Result U Failure) : Type 0 where
   pub outcome : IsPartOutcome local.rule targets (outcome_of result)
+  pub plain : IsFalse room.is_merged
   pub held : OnOk result (HoldsPart local.rule local.accepting targets room)
 
 -- the items of the closure that a relation reads
@@ -100,9 +99,9 @@ pub record IsTableKnown (sig : Signature) (parts : List Core) (past : Past) (mad
   pub table : Table
   pub only : IsOnlyAbout (steps_of past) (Part j targets)
   pub room_at : IsElement past.rooms.now j room
-  pub few : length targets < 2 ^ 32
   pub held : IsHeld sig (length (columns_of (get_or parts j core.True))) targets room table
   pub made_is : made.answers j ≡ OfTable table
+  pub states : IsStatesOf (steps_of past) j (length table.presences)
 
 pub record IsValueKnown (past : Past) (made : Made) (j : ℕ) : Type 0 where
   pub value : Bool
@@ -138,8 +137,8 @@ KnowsCounts parts past k made = (n : ℕ) (g : Core) → get_or parts k core.Tru
 
 -- room for the pure states of a source, and for so many marks
 abbrev pub IsMarkRoomFor : List Step → Work → MarkRoom → Type 0
-IsMarkRoomFor ss (Projection s c) room = (targets : List ℕ) → IsOnlyAbout ss (Part s.part targets) → HasMarkRoom (most_states targets) 0 room
-IsMarkRoomFor ss (Many s c marks) room = (targets : List ℕ) → IsOnlyAbout ss (Part s.part targets) → HasMarkRoom (most_states targets) (length marks.items) room
+IsMarkRoomFor ss (Projection s c) room = (n : ℕ) → IsStatesOf ss s.part n → HasMarkRoom n 0 room
+IsMarkRoomFor ss (Many s c marks) room = (n : ℕ) → IsStatesOf ss s.part n → HasMarkRoom n (length marks.items) room
 IsMarkRoomFor ss other room = Unit {0}
 
 -- the targets are due, and there is room for them
@@ -163,3 +162,17 @@ pub record IsTableStep {U : Type 0} (system : PatternSystem) (parts : List Core)
   pub signature : local.rule.signature ≡ system.signature
   pub columns_are : local.rule.columns ≡ length (columns_of f)
   pub step : IsPartStep local targets room result
+
+-- the classes of part k are due, whose room holds the table of its targets
+pub record IsMergeDue (system : PatternSystem) (parts : List Core) (past : Past) (k : ℕ) (made : Made) (p : Plan) (room : PartRoom) (scratch : LabelRoom) (marks : MarkRoom) : Type 0 where
+  pub targets : List ℕ
+  pub table : Table
+  pub signature : past.signature.now ≡ system.signature
+  pub columns : p.columns ≡ length (columns_of (get_or parts k core.True))
+  pub only : IsOnlyAbout (steps_of past) (Part k targets)
+  pub held : IsHeld system.signature (length (columns_of (get_or parts k core.True))) targets room table
+  pub plain : IsFalse room.is_merged
+  pub made_is : made.answers k ≡ OfTable table
+  pub sized : HasMergeRoom targets room
+  pub scratch_sized : HasLeaderRoom targets scratch
+  pub marks_sized : IsMarkRoomFor (steps_of past) p.work marks

@@ -21,14 +21,14 @@ use Rattle.fort_relation_exprs.specs.RexSeen.{RexSeen}
 use Rattle.fort_relation_exprs.specs.RexView.{AreRexLabels}
 use Rattle.fort_parts.specs.PartColumns.{columns_of, place_in, places_in}
 use Rattle.fort_parts.specs.DecidedCores.{IsOverSystem}
-use Rattle.fort_certificate_grammar.specs.Certificates.{Star, Conv, Pair as Item, Step, Closure, Part, Counts}
+use Rattle.fort_certificate_grammar.specs.Certificates.{Star, Conv, Pair as Item, Step, Closure, Counts}
 use Rattle.fort_steps.specs.declared.closure.ClosureEntry.{ClosureEntry}
 use Rattle.fort_steps.specs.declared.count.Count.{Count}
 use Rattle.fort_steps.specs.StepView.{as_count, as_pair}
 use Rattle.fort_connectives.specs.declared.connective.Op.{Op}
 use Rattle.fort_connectives.specs.ConnectiveView.{connective_of}
-use Rattle.fort_check_steps.specs.Room.{most_states}
 use Rattle.fort_cert_checker.specs.Abouts.{IsOnlyAbout}
+use Rattle.fort_cert_checker.specs.PartStates.{IsStatesOf}
 use Rattle.fort_cert_checker.specs.Sources.{IsSourceOf}
 use Rattle.fort_cert_checker.specs.declared.plan.Source.{Source}
 use Rattle.fort_cert_checker.specs.declared.plan.OperandPlan.{OperandPlan}
@@ -143,5 +143,5 @@ IsWidthFor ss Truth w = w ≡ 1
 IsWidthFor ss (Atom labels) w = w ≡ word_count labels
 IsWidthFor ss (Negation s) w = w ≡ 1
 IsWidthFor ss (Product op first second) w = w ≡ 3
-IsWidthFor ss (Projection s c) w = (targets : List ℕ) → IsOnlyAbout ss (Part s.part targets) → w ≡ words_for (most_states targets) + 2
-IsWidthFor ss (Many s c marks) w = (targets : List ℕ) → IsOnlyAbout ss (Part s.part targets) → w ≡ words_for (2 * most_states targets) + 2
+IsWidthFor ss (Projection s c) w = (n : ℕ) → IsStatesOf ss s.part n → w ≡ words_for n + 2
+IsWidthFor ss (Many s c marks) w = (n : ℕ) → IsStatesOf ss s.part n → w ≡ words_for (2 * n) + 2

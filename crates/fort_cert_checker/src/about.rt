@@ -1,5 +1,5 @@
 //! The steps of a certificate, by what they are about.
-ghost use Rattle.std.specs.Prelude.{◌≡◌, ℕ, ◌<◌, ◌^◌, List, Bool, map, length, slice_index_or, IfSome, IfNone};
+ghost use Rattle.std.specs.Prelude.{◌≡◌, ℕ, ◌<◌, ◌^◌, List, Bool, map, length, slice_index_or, IfSome, IfNone, IfOk};
 ghost use Rattle.fort_counts.specs.Counts as counts;
 ghost use Rattle.fort_certificate_grammar.specs.Certificates as theory;
 ghost use Rattle.fort_in_order.specs.Dues as definitions;
@@ -8,10 +8,13 @@ ghost use Rattle.fort_outline.specs.DueView.{as_due};
 ghost use Rattle.fort_cert_checker.specs.Abouts as abouts;
 ghost use Rattle.fort_cert_checker.specs.Abouts.{IsFirstAbout, IsOnlyAbout};
 ghost use Rattle.fort_cert_checker.specs.Fronts.{HasFewTargets};
+ghost use Rattle.fort_cert_checker.specs.Makings.{AreMergesMade};
 
 use fort_check_steps::is_about;
 use fort_outline::DueStep;
 use fort_steps::{ClosureEntry, Count, Step, Which};
+use fort_terms::Memory;
+use std::alloc::Global;
 
 /// The first step about this.
 fn step_about<'a>(steps: &'a [Step], due: DueStep) -> Option<&'a Step>
@@ -50,6 +53,62 @@ pub(crate) fn targets_of<'a>(steps: &'a [Step], k: u32) -> &'a [u32]
         Some(step) => targets_in(step),
         None => &[],
     }
+}
+
+fn classes_in<'a>(step: &'a Step) -> &'a [u32]
+    ensures { result.now ≡ abouts.classes_in (as_step step.now) }
+{
+    match step {
+        Step::Merge(_, classes) => classes,
+        _ => &[],
+    }
+}
+
+/// The classes of a part's states, by its first merge.
+pub(crate) fn classes_of<'a>(steps: &'a [Step], k: u32) -> &'a [u32]
+    ensures own { (classes : List ℕ) → IsOnlyAbout (map as_step steps.now)
+        (theory.Merge k classes) → result.now ≡ classes }
+    ensures few { HasFewTargets (map as_step steps.now) → length result.now < 2 ^ 32 }
+{
+    match step_about(steps, DueStep::Merge(k)) {
+        Some(step) => classes_in(step),
+        None => &[],
+    }
+}
+
+fn begins_with_merge(steps: &[Step], k: u32) -> bool
+    ensures { result ≡ definitions.begins_with_merge (map as_step steps.now) k }
+{
+    match steps.first() {
+        Some(Step::Merge(part, _)) => *part == k,
+        _ => false,
+    }
+}
+
+/// Whether a merge of part `k` stands behind the first step of its targets.
+pub(crate) fn is_merged(steps: &[Step], k: u32) -> bool
+    ensures { result ≡ definitions.is_merged_in (map as_step steps.now) k }
+{
+    let mut rest = steps;
+    'steps: while let Some((step, behind)) = rest.split_first() {
+        if is_about(step, DueStep::Part(k)) {
+            return begins_with_merge(behind, k);
+        }
+        rest = behind;
+    }
+    false
+}
+
+/// For each part whether it is merged.
+pub(crate) fn merged_parts(alloc: Global, steps: &[Step], parts: usize) -> Result<Vec<bool>, Memory>
+    requires { parts < 2 ^ 32 }
+    ensures { IfOk result (λ merges. AreMergesMade (map as_step steps.now) parts merges.items) }
+{
+    let mut merges = Vec::with_capacity(alloc, parts)?;
+    for k in 0..parts {
+        merges.push(is_merged(steps, k as u32))?;
+    }
+    Ok(merges)
 }
 
 pub(crate) fn value_in(step: &Step) -> bool

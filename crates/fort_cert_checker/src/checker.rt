@@ -5,7 +5,7 @@ ghost use Rattle.fort_cores.specs.Cores as theory;
 ghost use Rattle.fort_cores.specs.Parts as logic;
 ghost use Rattle.fort_cores.specs.Structures.{pattern_structure};
 ghost use Rattle.fort_certificate_grammar.specs.Certificates as certificates;
-ghost use Rattle.fort_certificate_grammar.specs.Certificates.{Part};
+ghost use Rattle.fort_certificate_grammar.specs.Certificates.{Part, Merge};
 ghost use Rattle.fort_formulas.specs.CoreView.{as_core};
 ghost use Rattle.fort_parts.specs.DecidedCores.{IsDecided};
 ghost use Rattle.fort_parts.specs.PartAnswers.{OfValue, IsAnswerTo};
@@ -19,7 +19,7 @@ ghost use Rattle.fort_cert_checker.specs.Fronts.{HasFewTargets};
 ghost use Rattle.fort_cert_checker.specs.OutcomeView.{as_reason, as_outcome};
 ghost use Rattle.fort_cert_checker.specs.Checkers.{IsCheckerOf, IsCheckAt};
 
-use crate::about::value_in;
+use crate::about::{merged_parts, value_in};
 use crate::making::{ClosurePlan, closure_plans, mark_rooms, plans_of, rooms_of, scratch_for};
 use crate::plan::Plan;
 use crate::steps::{Given, check_step};
@@ -55,16 +55,18 @@ pub struct Checker<'a> {
 }
 
 fn has_few(step: &Step) -> bool
-    ensures { IsTrue result ↔ ((k : ℕ) (targets : List ℕ) → as_step step.now ≡ Part k targets
-        → length targets < 2 ^ 32) }
+    ensures { IsTrue result ↔ (((k : ℕ) (targets : List ℕ) → as_step step.now ≡ Part k targets
+        → length targets < 2 ^ 32) × ((k : ℕ) (classes : List ℕ)
+        → as_step step.now ≡ Merge k classes → length classes < 2 ^ 32)) }
 {
     match step {
         Step::Part(_, targets) => has_numbers(targets.len()),
+        Step::Merge(_, classes) => has_numbers(classes.len()),
         _ => true,
     }
 }
 
-/// Whether each part has fewer targets than there are numbers.
+/// Whether each part has fewer targets and classes than there are numbers.
 fn have_few(steps: &[Step]) -> bool
     ensures { IsTrue result ↔ HasFewTargets (map as_step steps.now) }
 {
@@ -83,7 +85,7 @@ fn has_forms(first: u32, steps: usize) -> bool
     has_numbers((first as usize).saturating_add(steps).saturating_add(1))
 }
 
-/// Whether there are numbers for so many parts, for the forms of a certificate, and for the targets of each of its steps.
+/// Whether there are numbers for so many parts, for the forms of a certificate, and for the targets and classes of its steps.
 fn has_all_numbers(parts: usize, first: u32, steps: &[Step]) -> bool
     ensures { IsTrue result ↔ ((parts < 2 ^ 32) × (first + length steps.now + 1 < 2 ^ 32)
         × HasFewTargets (map as_step steps.now)) }
@@ -129,8 +131,8 @@ fn verdict_of(certificate: &Certificate) -> Result<bool, Rejected>
 }
 
 impl<'a> Checker<'a> {
-    /// Takes all the memory that the check needs. More parts, steps or targets of a part than there are numbers of 32 bits are want
-    /// of memory.
+    /// Takes all the memory that the check needs. More parts, steps, or targets or classes of a part than there are numbers of 32 bits
+    /// are want of memory.
     pub fn new(
         alloc: Global,
         system: &'a System,
@@ -147,7 +149,8 @@ impl<'a> Checker<'a> {
         if !has_all_numbers(outline.roots.len(), certificate.first, steps) {
             return Err(AllocError);
         }
-        let dues = steps_due(alloc, system.number(), &outline)?;
+        let merges = merged_parts(alloc, steps, outline.roots.len())?;
+        let dues = steps_due(alloc, system.number(), &outline, &merges)?;
         let closures = closure_plans(alloc, system, &dues)?;
         let plans = plans_of(alloc, system, steps, &outline)?;
         let rooms = rooms_of(alloc, steps, plans.len())?;

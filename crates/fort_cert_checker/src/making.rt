@@ -1,5 +1,5 @@
 //! What a check needs, taken before it: the rules of closures, the plans of parts, and room.
-ghost use Rattle.std.specs.Prelude.{◌≡◌, ℕ, ◌<◌, ◌^◌, List, map, length, Contains, Option, IfOk, IfSome, IfNone};
+ghost use Rattle.std.specs.Prelude.{◌≡◌, ℕ, ◌<◌, ◌^◌, List, map, length, Contains, Option, true, IfOk, IfSome, IfNone};
 ghost use Rattle.fort_theory.specs.Sides.{IsIndexOf};
 ghost use Rattle.fort_cores.specs.Cores as theory;
 ghost use Rattle.fort_certificate_grammar.specs.Certificates as theory_steps;
@@ -8,16 +8,17 @@ ghost use Rattle.fort_in_order.specs.Dues as definitions;
 ghost use Rattle.fort_outline.specs.Outlines.{IsOutlineOf, parts_in};
 ghost use Rattle.fort_steps.specs.StepView.{as_step, as_which};
 ghost use Rattle.fort_outline.specs.DueView.{as_due};
-ghost use Rattle.fort_check_steps.specs.Room.{HasNeeds, IsListFor, most_states as most_states_lem};
+ghost use Rattle.fort_check_steps.specs.Room.{HasNeeds, HasLeaderRoom, IsListFor};
 ghost use Rattle.fort_cert_checker.specs.OperandLists.{AreNeedsOf};
 ghost use Rattle.fort_check_steps.specs.Marks.{HasMarkRoom};
 ghost use Rattle.fort_cert_checker.specs.Abouts.{IsOnlyAbout};
+ghost use Rattle.fort_cert_checker.specs.PartStates.{IsStatesOf};
 ghost use Rattle.fort_cert_checker.specs.Plans.{IsFitPart, IsWidthFor};
 ghost use Rattle.fort_cert_checker.specs.Pasts.{IsMarkRoomFor};
 ghost use Rattle.fort_cert_checker.specs.Fronts.{HasFewTargets};
 ghost use Rattle.fort_cert_checker.specs.Makings.{IsClosurePlan, IsClosureFor, IsScratchFor, HasTooManyWords, AreClosuresMade, ArePlansMade, AreRoomsMade, IsScratchMade, AreMarksMade};
 
-use crate::about::targets_of;
+use crate::about::{classes_of, is_merged, targets_of};
 use crate::plan::{Plan, Source, Work};
 use fort_check_steps::{
     LabelNeeds, LabelRoom, ListNeeds, MarkRoom, PairRules, PartRoom, closure_rules, most_states,
@@ -105,14 +106,18 @@ pub(crate) fn plans_of(
     Ok(plans)
 }
 
-/// The most states of the table of a source.
+/// How many states the table of a source has: as many as its targets make, or where it is merged as its classes.
 fn states_of(steps: &[Step], source: Source) -> usize
     requires { HasFewTargets (map as_step steps.now) }
     ensures few { result < 2 ^ 32 }
-    ensures states { (targets : List ℕ) → IsOnlyAbout (map as_step steps.now)
-        (Part source.part targets) → result ≡ most_states_lem targets }
+    ensures states { (states : ℕ) → IsStatesOf (map as_step steps.now) source.part states
+        → result ≡ states }
 {
-    most_states(targets_of(steps, source.part))
+    if is_merged(steps, source.part) {
+        most_states(classes_of(steps, source.part))
+    } else {
+        most_states(targets_of(steps, source.part))
+    }
 }
 
 /// The words of the labels of a part.
@@ -136,7 +141,9 @@ pub(crate) fn rooms_of(alloc: Global, steps: &[Step], parts: usize) -> Result<Ve
 {
     let mut rooms = Vec::with_capacity(alloc, parts)?;
     for k in 0..parts {
-        rooms.push(PartRoom::new(alloc, targets_of(steps, k as u32))?)?;
+        let part = k as u32;
+        let room = PartRoom::new(alloc, targets_of(steps, part), is_merged(steps, part))?;
+        rooms.push(room)?;
     }
     Ok(rooms)
 }
@@ -167,22 +174,43 @@ fn list_needs(steps: &[Step], plan: &Plan) -> (ListNeeds, ListNeeds)
     }
 }
 
-/// What the labels of part `k` need, and the lists of its operands, or none where there are more words than numbers for them.
+/// What the check of the classes of a table with these targets needs, where it is merged.
+fn merge_needs(targets: &[u32], merges: bool) -> LabelNeeds
+    ensures { merges ≡ true → (scratch : LabelRoom) → HasNeeds result scratch
+        → HasLeaderRoom targets.now scratch }
+{
+    if !merges {
+        return LabelNeeds::default();
+    }
+    let states = most_states(targets);
+    let own = ListNeeds {
+        states,
+        targets: targets.len(),
+    };
+    let listed = LabelNeeds::default().with_lists(own, ListNeeds::default());
+    listed.with_leaders(states)
+}
+
+/// What the labels of part `k` need, the lists of its operands, and the check of its classes; or none where there are more words than
+/// numbers for them.
 fn label_needs(steps: &[Step], k: u32, plan: &Plan) -> Option<LabelNeeds>
     requires { HasFewTargets (map as_step steps.now) }
     ensures some { IfSome result (λ needs. (scratch : LabelRoom) → HasNeeds needs scratch
         → IsScratchFor (map as_step steps.now) k plan.now scratch) }
     ensures none { IfNone result (HasTooManyWords (map as_step steps.now) k plan.now.work) }
 {
-    let states = most_states(targets_of(steps, k));
+    let targets = targets_of(steps, k);
+    let states = most_states(targets);
     let Some(needs) = LabelNeeds::new(width_of(steps, plan), states) else {
         return None;
     };
     let (first, second) = list_needs(steps, plan);
-    Some(needs.with_lists(first, second))
+    let listed = needs.with_lists(first, second);
+    let merge = merge_needs(targets, is_merged(steps, k));
+    Some(listed.max(merge))
 }
 
-/// Room for the labels of each part in its turn, and for its operands' lists. More words of a part's labels than there are numbers for
+/// Room for the labels of each part in its turn, for its operands' lists, and for its classes. More words of a part's labels than there are numbers for
 /// are want of memory.
 pub(crate) fn scratch_for(
     alloc: Global,

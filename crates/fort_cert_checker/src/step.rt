@@ -10,7 +10,7 @@ ghost use Rattle.fort_connectives.specs.ConnectiveView.{connective_of};
 ghost use Rattle.fort_steps.specs.StepView.{as_count};
 ghost use Rattle.fort_in_order.specs.PartRules.{project_local, many_local};
 ghost use Rattle.fort_context_closure.specs.AtomLabelsView.{word_count};
-ghost use Rattle.fort_check_steps.specs.Room.{HasRoom, HasLabelRoom, IsAsRoomy};
+ghost use Rattle.fort_check_steps.specs.Room.{HasRoom, HasMergeRoom, HasLabelRoom, IsAsRoomy};
 ghost use Rattle.fort_check_steps.specs.Marks.{HasMarkRoom};
 ghost use Rattle.fort_in_order.specs.Made.{Made};
 ghost use Rattle.fort_cert_checker.specs.AtomPlans.{atom_local};
@@ -41,6 +41,7 @@ fn check_atom(
     requires scratch { HasLabelRoom (word_count labels.now) targets.now scratch.old }
     ensures step { IsPartStep (atom_local system.now labels.now) targets.now room.new result }
     ensures room { HasRoom targets.now room.new }
+    ensures merge_room { HasMergeRoom targets.now room.old → HasMergeRoom targets.now room.new }
     ensures scratch { IsAsRoomy scratch.old scratch.new }
 {
     let signature = system.signature();
@@ -80,6 +81,7 @@ fn check_product(
         → IsAnswerAt past.now second.now.source b → IsPartStep (joined_local (connective_of op)
         columns a first.now.places.items b second.now.places.items) targets.now room.new result }
     ensures room { HasRoom targets.now room.new }
+    ensures merge_room { HasMergeRoom targets.now room.old → HasMergeRoom targets.now room.new }
     ensures scratch { IsAsRoomy scratch.old scratch.new }
 {
     let one = past.answer(first.source);
@@ -124,6 +126,7 @@ fn check_projection(
     ensures step { (table : tables.Table) → IsTableAt past.now source table
         → IsPartStep (project_local table column) targets.now room.new result }
     ensures room { HasRoom targets.now room.new }
+    ensures merge_room { HasMergeRoom targets.now room.old → HasMergeRoom targets.now room.new }
     ensures scratch { IsAsRoomy scratch.old scratch.new }
     ensures marks { (states count : ℕ) → HasMarkRoom states count marks.old
         → HasMarkRoom states count marks.new }
@@ -171,6 +174,7 @@ fn check_many(
         (λ q. is_infinite (count_at states (map as_count counts.now) q))) targets.now room.new
         result }
     ensures room { HasRoom targets.now room.new }
+    ensures merge_room { HasMergeRoom targets.now room.old → HasMergeRoom targets.now room.new }
     ensures scratch { IsAsRoomy scratch.old scratch.new }
     ensures marks { (states count : ℕ) → HasMarkRoom states count marks.old
         → HasMarkRoom states count marks.new }
@@ -209,6 +213,7 @@ pub(crate) fn check_table(
         → IsTableDue system.now parts past.now k made f plan.now targets.now room.old scratch.old
         marks.old → IsTableStep system.now parts k made f targets.now room.new result }
     ensures room { HasRoom targets.now room.new }
+    ensures merge_room { HasMergeRoom targets.now room.old → HasMergeRoom targets.now room.new }
     ensures scratch { IsAsRoomy scratch.old scratch.new }
     ensures marks { (states count : ℕ) → HasMarkRoom states count marks.old
         → HasMarkRoom states count marks.new }

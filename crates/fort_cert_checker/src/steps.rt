@@ -15,11 +15,13 @@ ghost use Rattle.fort_cert_checker.specs.Makings.{IsClosureFor, IsRoomFor};
 ghost use Rattle.fort_cert_checker.specs.Fronts.{IsReady, IsFineStep, part_in};
 ghost use Rattle.fort_cert_checker.specs.GivenSteps.{IsPartDue, WherePartDue, IsLoopOf, IsDueAt, WhereDue};
 
+use crate::about::targets_of;
 use crate::making::ClosurePlan;
 use crate::past::Past;
 use crate::plan::Plan;
 use crate::step::check_table;
 use crate::value::{check_counts, check_value};
+use fort_check_merges::check_merge;
 use fort_check_steps::{Failure, LabelRoom, MarkRoom, PartRoom, check_closure};
 use fort_steps::{ClosureEntry, Step};
 use fort_terms::System;
@@ -61,8 +63,8 @@ fn check_own(
         × IsPartDue given.now parts front.now made f plan.now (as_step step.now) room.old
         scratch.old marks.old }
     ensures fine { OnOk result (WherePartDue given.now front.now plan.now (as_step step.now)
-        room.old scratch.old marks.old (λ parts f made. IsFineStep given.now.system.now parts made
-        (as_step step.now) room.new)) }
+        room.old scratch.old marks.old (λ parts f made. IsFineStep given.now.system.now parts
+        (map as_step given.now.steps.now) made (as_step step.now) room.new)) }
     ensures failing { IfErr result (λ e. WherePartDue given.now front.now plan.now
         (as_step step.now) room.old scratch.old marks.old (λ parts f made.
         IsFailing given.now.system.now parts made (as_step step.now) e.place
@@ -90,6 +92,14 @@ fn check_own(
             room,
             scratch,
             marks,
+        ),
+        Step::Merge(part, classes) => check_merge(
+            past.signature,
+            plan.columns,
+            targets_of(given.steps, *part),
+            classes,
+            room,
+            scratch,
         ),
         Step::Counts(_, counts) => check_counts(plan, &past, counts, marks),
         Step::Value(_, value) => check_value(plan, &past, *value, marks),
@@ -123,7 +133,7 @@ pub(crate) fn check_step(
     let step = &given.steps[place];
     match step {
         Step::Closure(_, _, entries) => check_pairs(&mut closures[place], entries),
-        Step::Part(k, _) | Step::Counts(k, _) | Step::Value(k, _) => {
+        Step::Part(k, _) | Step::Merge(k, _) | Step::Counts(k, _) | Step::Value(k, _) => {
             let part = *k as usize;
             let plan = &given.plans[part];
             let (front, back) = rooms.split_at_mut(part);

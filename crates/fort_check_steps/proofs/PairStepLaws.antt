@@ -153,6 +153,8 @@ module _ (c : ClosureRules) (r : PairRules) (rules : IsPairRules c r) (items : L
   refused n e words reasons.Label l is h f = absurd f
   refused n e words reasons.Short l is h f = absurd f
   refused n e words reasons.Long l is h f = absurd f
+  refused n e words reasons.Class l is h f = absurd f
+  refused n e words reasons.Split l is h f = absurd f
   refused n e words reasons.Count l is h f = absurd f
   refused n e words reasons.Rank l is h f = absurd f
   refused n e words reasons.Cycle l is h f = absurd f

@@ -8,7 +8,7 @@ use Rattle.fort_target_lists.specs.TargetLists.{HasListRoom}
 use Rattle.fort_check_steps.specs.StateLabelsView.{Spaces, HasSpace, IsAsSpacious}
 use Rattle.fort_check_steps.specs.declared.room.LabelRoom.{LabelRoom}
 use Rattle.fort_check_steps.specs.declared.room.LabelNeeds.{LabelNeeds}
-use Rattle.fort_check_steps.specs.Room.{HasLabelRoom, HasFirstRoom, HasSecondRoom, IsAsRoomy, IsSpaceFor, IsListFor, IsAsNeedy, HasNeeds, most_states}
+use Rattle.fort_check_steps.specs.Room.{HasLabelRoom, HasFirstRoom, HasSecondRoom, HasLeaderRoom, IsAsRoomy, IsSpaceFor, IsListFor, IsAsNeedy, HasNeeds, most_states}
 
 pub as_spacious : {a b c : Spaces} → IsAsSpacious b c → IsAsSpacious a b → IsAsSpacious a c
 as_spacious h g = record {
@@ -46,6 +46,10 @@ first_room h g = record { list = list_fewer g.first h.states h.targets_fit; lay 
 pub second_room : {targets : List ℕ} {n : LabelNeeds} {r : LabelRoom} → IsListFor targets n.second → HasNeeds n r → HasSecondRoom targets r.lists
 second_room h g = record { list = list_fewer g.second h.states h.targets_fit; lay = lay_fewer g.second_lay h.states }
 
+-- and room for what a merge needs is room for it
+pub leader_room : {targets : List ℕ} {n : LabelNeeds} {r : LabelRoom} → IsListFor targets n.first → most_states targets ≤ n.leaders → HasNeeds n r → HasLeaderRoom targets r
+leader_room h l g = record { leaders = omega (arith, l, g.leaders); own = first_room h g }
+
 pub more_room : {less more : LabelNeeds} {r : LabelRoom} → IsAsNeedy less more → HasNeeds more r → HasNeeds less r
 more_room h g = record {
   rows = as_spacious g.rows h.rows;
@@ -55,8 +59,15 @@ more_room h g = record {
   second = list_fewer g.second h.second.states h.second.targets;
   first_lay = lay_fewer g.first_lay h.first.states;
   second_lay = lay_fewer g.second_lay h.second.states;
+  leaders = omega (arith, g.leaders, h.leaders);
 }
 
 -- what there was room for, there still is
 pub still_room : {w : ℕ} {targets : List ℕ} {old new : LabelRoom} → HasLabelRoom w targets old → IsAsRoomy old new → HasLabelRoom w targets new
 still_room h g = record { rows = has_space h.rows (omega arith) g.rows; out = omega (arith, h.out, g.out); lay = g.lists.lay _ h.lay }
+
+pub still_leader_room : {targets : List ℕ} {old new : LabelRoom} → HasLeaderRoom targets old → IsAsRoomy old new → HasLeaderRoom targets new
+still_leader_room h g = record {
+  leaders = omega (arith, h.leaders, g.leaders);
+  own = record { list = g.lists.first _ _ h.own.list; lay = g.lists.lay _ h.own.lay };
+}

@@ -1,5 +1,5 @@
 -- The table that a room holds, and tables under negations.
-use Rattle.std.proofs.Common.{◌≡◌, ℕ, zero, suc, ◌+◌, ◌^◌, ◌-◌, ◌%◌, ◌*◌, ◌<◌, ◌≤◌, List, map, Bool, true, false, not, ◌&&◌, ◌==◌, if◌then◌else◌, length, get_or, refl, ap, sym, ◌∙◌, arith, subst, true≢false}
+use Rattle.std.proofs.Common.{◌≡◌, ℕ, zero, suc, ◌+◌, ◌^◌, ◌-◌, ◌%◌, ◌*◌, ◌<◌, ◌≤◌, List, map, Bool, true, false, not, ◌&&◌, ◌==◌, if◌then◌else◌, length, get_or, IsFalse, refl, ap, sym, ◌∙◌, arith, subst, true≢false}
 use Rattle.std.proofs.Math.Pow.{pow_mono}
 use Rattle.std.proofs.lemmas.Bool.Decides.{Decides-eqb}
 use Rattle.std.proofs.lemmas.List.{length-map, take_all}
@@ -13,23 +13,27 @@ use Rattle.fort_in_order.specs.PartSteps.{IsRightPart, part_table}
 use Rattle.fort_in_order.proofs.PartByLabels.{part_is_listed, part_by_labels}
 use Rattle.fort_in_order_laws.proofs.EntryWalks.{right_few}
 use Rattle.fort_check_steps.specs.declared.room.PartRoom.{PartRoom}
-use Rattle.fort_check_steps.specs.Held.{HoldsPart, held_entries, held_table}
+use Rattle.fort_check_steps.specs.Held.{HoldsPart, held_entries, held_table, own_targets, room_table, IsRoomTable}
 use Rattle.fort_check_steps.specs.Room.{most_states}
 use Rattle.fort_check_steps.specs.Turned.{TurnedTable, turned_by, turned_table}
 
-abbrev pub room_table : Signature → ℕ → List ℕ → PartRoom → Listed
-room_table sig n targets room = record {
-  signature = sig;
-  columns = n;
-  presences = room.presences.items;
-  entries = all_entries sig n room.presences.items;
-  targets = targets;
-  finals = room.finals.items;
-}
+-- where it isn't merged, the targets are the part's own
+pub own_not_merged : (targets : List ℕ) (room : PartRoom) → IsFalse room.is_merged → own_targets targets room ≡ targets
+own_not_merged targets room e = ap (λ (b : Bool). if b then room.merged.items else targets) e
 
-pub held_is : (r : LabelRule) (accepting : List ℕ → Bool) (sig : Signature) (n : ℕ) (targets : List ℕ) (room : PartRoom) → r.signature ≡ sig → r.columns ≡ n
-    → HoldsPart r accepting targets room → room_table sig n targets room ≡ held_table r targets room
-held_is r accepting sig n targets room a b h = λ i. room_table (sym a i) (sym b i) targets room
+-- Result: and the table is the part's
+pub held_is : (r : LabelRule) (sig : Signature) (n : ℕ) (targets : List ℕ) (room : PartRoom) → r.signature ≡ sig → r.columns ≡ n
+    → IsFalse room.is_merged → room_table sig n targets room ≡ held_table r targets room
+held_is r sig n targets room a b e =
+    let own = own_not_merged targets room e in
+    λ i. record {
+      signature = sym a i;
+      columns = sym b i;
+      presences = room.presences.items;
+      entries = all_entries (sym a i) (sym b i) room.presences.items;
+      targets = own i;
+      finals = room.finals.items;
+    }
 
 -- the table that the labels give is the one with these presences and finals
 same_table : (r : LabelRule) (accepting : List ℕ → Bool) (targets : List ℕ) (room : PartRoom) (labels : List (List ℕ)) → room.presences.items ≡ map first_word labels
@@ -64,9 +68,9 @@ right_table r accepting targets room labels law h a b =
     (part_by_labels r accepting targets (held_entries r room) labels law h)
 
 pub held_listed : (r : LabelRule) (accepting : List ℕ → Bool) (sig : Signature) (n : ℕ) (targets : List ℕ) (room : PartRoom) → r.signature ≡ sig → r.columns ≡ n
-    → HoldsPart r accepting targets room → IsListed (room_table sig n targets room)
-held_listed r accepting sig n targets room a b h =
-    subst IsListed (sym (held_is r accepting sig n targets room a b h)) (right_listed r accepting targets room h.labels h.lawful h.right h.presences h.finals)
+    → IsFalse room.is_merged → HoldsPart r accepting targets room → IsListed (room_table sig n targets room)
+held_listed r accepting sig n targets room a b e h =
+    subst IsListed (sym (held_is r sig n targets room a b e)) (right_listed r accepting targets room h.labels h.lawful h.right h.presences h.finals)
 
 pub held_few : (r : LabelRule) (accepting : List ℕ → Bool) (targets : List ℕ) (room : PartRoom) → HoldsPart r accepting targets room → length targets < 2 ^ 32
     → length room.presences.items < 2 ^ 32
@@ -82,6 +86,16 @@ pub held_finals : (r : LabelRule) (accepting : List ℕ → Bool) (targets : Lis
     → length room.finals.items ≡ length room.presences.items
 held_finals r accepting targets room h =
     ap length h.finals ∙ (length-map h.labels (final_by r.columns accepting) ∙ sym (ap length h.presences ∙ length-map h.labels first_word))
+
+-- Result: what holds a part that isn't merged is a table
+pub held_room : (r : LabelRule) (accepting : List ℕ → Bool) (sig : Signature) (n : ℕ) (targets : List ℕ) (room : PartRoom) → r.signature ≡ sig → r.columns ≡ n
+    → IsFalse room.is_merged → HoldsPart r accepting targets room → length targets < 2 ^ 32 → IsRoomTable sig n targets room
+held_room r accepting sig n targets room a b e h l = record {
+  listed = held_listed r accepting sig n targets room a b e h;
+  few = held_few r accepting targets room h l;
+  few_targets = omega (arith, l, ap length (own_not_merged targets room e));
+  final_count = held_finals r accepting targets room h;
+}
 
 -- under negations
 turned_full : (n : ℕ) (is_full b : Bool) → (b ≡ true → is_full ≡ true) → turned_by n is_full b ≡ true → is_full ≡ true

@@ -1,4 +1,4 @@
--- To believe: which room the check of a part needs: for states no more than it has targets, and no more than the greatest target names; words for the labels of so many states, of which the wide ones stand by themselves; numbers by which so many states are walked through; and for the list of each operand as many as its targets, and one start more.
+-- To believe: which room the check of a part needs: for states no more than it has targets, and no more than the greatest target names; words for the labels of so many states, of which the wide ones stand by themselves; numbers by which so many states are walked through; for the list of each operand as many as its targets, and one start more; and for a merge as many targets over classes as targets, and as many classes as states.
 use Rattle.std.specs.Prelude.{ℕ, ◌≤◌, min, List, length, vec_capacity}
 use Rattle.fort_tables.specs.Entries.{stage}
 use Rattle.fort_target_lists.specs.LayRooms.{HasLayRoom}
@@ -18,6 +18,10 @@ pub record HasRoom (targets : List ℕ) (r : PartRoom) : Type 0 where
   pub finals : most_states targets ≤ vec_capacity r.finals
   pub presences : most_states targets ≤ vec_capacity r.presences
 
+-- for the targets of the entries over classes
+pub record HasMergeRoom (targets : List ℕ) (r : PartRoom) : Type 0 where
+  pub merged : length targets ≤ vec_capacity r.merged
+
 -- for labels of this width, and for a walk over their states
 pub record HasLabelRoom (width : ℕ) (targets : List ℕ) (r : LabelRoom) : Type 0 where
   pub rows : HasSpace width (most_states targets) r.rows.spaces
@@ -34,6 +38,11 @@ pub record HasSecondRoom (targets : List ℕ) (r : ListRoom) : Type 0 where
   pub list : HasListRoom (most_states targets) (length targets) r.second
   pub lay : HasLayRoom (most_states targets) r.lay
 
+-- for the check of a merge of a part with these targets: a first state for each class, and the list of its own targets
+pub record HasLeaderRoom (targets : List ℕ) (r : LabelRoom) : Type 0 where
+  pub leaders : most_states targets ≤ vec_capacity r.leaders
+  pub own : HasFirstRoom targets r.lists
+
 -- lists for which there was room still have it
 pub record AreAsRoomy (old new : ListRoom) : Type 0 where
   pub first : (n k : ℕ) → HasListRoom n k old.first → HasListRoom n k new.first
@@ -45,6 +54,7 @@ pub record IsAsRoomy (old new : LabelRoom) : Type 0 where
   pub rows : IsAsSpacious old.rows.spaces new.rows.spaces
   pub out : vec_capacity old.out ≤ vec_capacity new.out
   pub lists : AreAsRoomy old.lists new.lists
+  pub leaders : vec_capacity old.leaders ≤ vec_capacity new.leaders
 
 -- what the labels need, as spaces
 abbrev pub spaces_of : LabelNeeds → Spaces
@@ -73,6 +83,7 @@ pub record IsAsNeedy (less more : LabelNeeds) : Type 0 where
   pub states : less.states ≤ more.states
   pub first : IsAsLong less.first more.first
   pub second : IsAsLong less.second more.second
+  pub leaders : less.leaders ≤ more.leaders
 
 -- room for what labels and lists need
 pub record HasNeeds (n : LabelNeeds) (r : LabelRoom) : Type 0 where
@@ -83,3 +94,4 @@ pub record HasNeeds (n : LabelNeeds) (r : LabelRoom) : Type 0 where
   pub second : HasListRoom n.second.states n.second.targets r.lists.second
   pub first_lay : HasLayRoom n.first.states r.lists.lay
   pub second_lay : HasLayRoom n.second.states r.lists.lay
+  pub leaders : n.leaders ≤ vec_capacity r.leaders

@@ -6,6 +6,7 @@ use Rattle.fort_in_order.specs.Made.{same_which}
 abbrev pub same_due : definitions.DueStep → definitions.DueStep → Bool
 same_due (definitions.OfClosure which i) (definitions.OfClosure other j) = same_which which other && (i == j)
 same_due (definitions.OfPart i) (definitions.OfPart j) = i == j
+same_due (definitions.OfMerge i) (definitions.OfMerge j) = i == j
 same_due (definitions.OfCounts i) (definitions.OfCounts j) = i == j
 same_due (definitions.OfValue i) (definitions.OfValue j) = i == j
 same_due due other = false

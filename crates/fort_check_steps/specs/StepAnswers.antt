@@ -4,7 +4,7 @@ use Rattle.fort_in_order.specs.Outcomes as outcomes
 use Rattle.fort_in_order.specs.Outcomes.{StepOutcome, Fine, Fails}
 use Rattle.fort_check_steps.specs.declared.failure.Failure.{Failure}
 use Rattle.fort_check_steps.specs.declared.failure.Reason.{Reason}
-use Rattle.fort_check_steps.specs.declared.failure.Reason.TheVariants.{Due, Range, Unfounded, Open, Target, Label, Short, Long, Count, Rank, Cycle, Value, Verdict}
+use Rattle.fort_check_steps.specs.declared.failure.Reason.TheVariants.{Due, Range, Unfounded, Open, Target, Label, Short, Long, Class, Split, Count, Rank, Cycle, Value, Verdict}
 
 abbrev pub as_reason : Reason → outcomes.Reason
 as_reason Due = outcomes.Due
@@ -15,6 +15,8 @@ as_reason Target = outcomes.Target
 as_reason Label = outcomes.Label
 as_reason Short = outcomes.Short
 as_reason Long = outcomes.Long
+as_reason Class = outcomes.Class
+as_reason Split = outcomes.Split
 as_reason Count = outcomes.Count
 as_reason Rank = outcomes.Rank
 as_reason Cycle = outcomes.Cycle

@@ -37,6 +37,10 @@ pub fn is_about(step: &Step, due: DueStep) -> bool
             DueStep::Part(number) => *part == number,
             _ => false,
         },
+        Step::Merge(part, _) => match due {
+            DueStep::Merge(number) => *part == number,
+            _ => false,
+        },
         Step::Counts(part, _) => match due {
             DueStep::Counts(number) => *part == number,
             _ => false,

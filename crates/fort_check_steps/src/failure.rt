@@ -20,7 +20,11 @@ pub enum Reason {
     Short,
     /// There are too many targets.
     Long,
-    /// Not as many marks as pure states.
+    /// A state has no right class.
+    Class,
+    /// An entry leads elsewhere than with its children's first states.
+    Split,
+    /// Not as many marks as pure states, or not as many classes as states.
     Count,
     /// A child isn't finite with a smaller number.
     Rank,

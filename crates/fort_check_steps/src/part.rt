@@ -1,5 +1,5 @@
 //! The check of a part.
-ghost use Rattle.std.specs.Prelude.{◌≡◌, ℕ, ◌<◌, ◌≤◌, ◌^◌, length, vec_capacity, OnOk};
+ghost use Rattle.std.specs.Prelude.{◌≡◌, ℕ, ◌<◌, ◌≤◌, ◌^◌, length, vec_capacity, OnOk, IsFalse};
 ghost use Rattle.fort_tables.specs.LabelRules.{IsLabelRule, IsTableBy, label_of};
 ghost use Rattle.fort_tables.specs.Tables.{listed_table};
 ghost use Rattle.fort_target_lists.specs.LayRooms.{HasLayRoom};
@@ -7,7 +7,7 @@ ghost use Rattle.fort_in_order.specs.Outcomes.{StepOutcome};
 ghost use Rattle.fort_in_order.specs.PartSteps.{IsPartOutcome};
 ghost use Rattle.fort_check_steps.specs.Held.{HoldsPart, held_table};
 ghost use Rattle.fort_check_steps.specs.HeldStates.{AreRightStates, IsRoomLeft};
-ghost use Rattle.fort_check_steps.specs.Room.{HasRoom, most_states};
+ghost use Rattle.fort_check_steps.specs.Room.{HasRoom, HasMergeRoom, most_states};
 ghost use Rattle.fort_check_steps.specs.StateLabelsView.{HasSpace, IsAsSpacious};
 ghost use Rattle.fort_check_steps.specs.StepAnswers.{outcome_of};
 
@@ -80,7 +80,9 @@ pub fn check_part<R: PartRule>(
     ensures table { OnOk result (IsTableBy (R.rule rule.now).signature (R.rule rule.now).columns
         (label_of (R.rule rule.now)) (R.accepting rule.now) (listed_table (held_table
         (R.rule rule.now) targets.now room.new))) }
+    ensures not_merged { IsFalse room.new.is_merged }
     ensures room { HasRoom targets.now room.new }
+    ensures merge_room { HasMergeRoom targets.now room.old → HasMergeRoom targets.now room.new }
     ensures space { IsAsSpacious rows.old.spaces rows.new.spaces }
     ensures out { vec_capacity out.old ≤ vec_capacity out.new }
     ensures lay { (n : ℕ) → HasLayRoom n lay.old → HasLayRoom n lay.new }
@@ -88,6 +90,7 @@ pub fn check_part<R: PartRule>(
     let width = rule.width();
     put_zeros(out, width);
     room.finals.clear();
+    room.is_merged = false;
     match hold_targets(
         rule,
         sig,

@@ -1,8 +1,8 @@
 //! Room for the tables of parts, and for their check.
-ghost use Rattle.std.specs.Prelude.{◌≡◌, ℕ, ◌↔◌, ◌*◌, ◌<◌, ◌≤◌, ◌^◌, IsTrue, IfOk, IfSome, IfNone};
+ghost use Rattle.std.specs.Prelude.{◌≡◌, ℕ, ◌↔◌, ◌*◌, ◌<◌, ◌≤◌, ◌^◌, IsTrue, IsFalse, IfOk, IfSome, IfNone};
 ghost use Rattle.fort_tables.specs.Entries.{stage};
 ghost use Rattle.fort_target_lists.specs.TargetLists.{HasListRoom};
-ghost use Rattle.fort_check_steps.specs.Room.{HasRoom, IsAsLong, IsSpaceFor, IsAsNeedy, HasNeeds, most_states as most_states_lem};
+ghost use Rattle.fort_check_steps.specs.Room.{HasRoom, HasMergeRoom, IsAsLong, IsSpaceFor, IsAsNeedy, HasNeeds, most_states as most_states_lem};
 
 use crate::state_labels::{NARROW, StateLabels};
 use fort_rrn_algebra::{LayRoom, TargetList};
@@ -12,11 +12,15 @@ use std::alloc::{AllocError, Global};
 /// A list has no more targets than these, so that there is a number for each start.
 const MOST_TARGETS: usize = 0x7fff_ffff_ffff_ffff;
 
-/// What is kept of a part that was checked: the presences and the acceptance of its states.
+/// What is kept of a part that was checked: the presences and the acceptance of its states, and the targets over classes where it is merged.
 #[derive(Drop)]
 pub struct PartRoom {
     pub presences: Vec<u16>,
     pub finals: Vec<bool>,
+    /// The targets of the entries over classes.
+    pub merged: Vec<u32>,
+    /// Whether the states are classes: the targets are those in `merged` then.
+    pub is_merged: bool,
 }
 
 /// Where the targets of a part's operands are laid, before the part is checked.
@@ -27,12 +31,14 @@ pub struct ListRoom {
     pub lay: LayRoom,
 }
 
-/// What each part in its turn is checked in: the labels of its states, and one label more; the lists of its operands' targets.
+/// What each part in its turn is checked in: the labels of its states, and one label more; the lists of its operands' targets; and the
+/// first state of each class, where it is merged.
 #[derive(Drop)]
 pub struct LabelRoom {
     pub rows: StateLabels,
     pub out: Vec<u64>,
     pub lists: ListRoom,
+    pub leaders: Vec<u32>,
 }
 
 /// The most states and targets of a table whose list is laid.
@@ -59,6 +65,8 @@ pub struct LabelNeeds {
     pub states: usize,
     pub first: ListNeeds,
     pub second: ListNeeds,
+    /// The most classes of a merge.
+    pub leaders: usize,
 }
 
 /// One more than the greatest target, or 0.
@@ -85,14 +93,19 @@ pub fn most_states(targets: &[u32]) -> usize
 }
 
 impl PartRoom {
-    /// Room for all that is kept of these targets.
-    pub fn new(alloc: Global, targets: &[u32]) -> Result<PartRoom, Memory>
-        ensures { IfOk result (HasRoom targets.now) }
+    /// Room for all that is kept of these targets, and for those over classes where they are merged.
+    pub fn new(alloc: Global, targets: &[u32], merges: bool) -> Result<PartRoom, Memory>
+        ensures room { IfOk result (HasRoom targets.now) }
+        ensures merge_room { IfOk result (λ r. IsTrue merges → HasMergeRoom targets.now r) }
+        ensures not_merged { IfOk result (λ r. IsFalse r.is_merged) }
     {
         let states = most_states(targets);
+        let classes = if merges { targets.len() } else { 0 };
         Ok(PartRoom {
             presences: Vec::with_capacity(alloc, states)?,
             finals: Vec::with_capacity(alloc, states)?,
+            merged: Vec::with_capacity(alloc, classes)?,
+            is_merged: false,
         })
     }
 }
@@ -144,6 +157,7 @@ impl LabelNeeds {
                 states: count,
                 first: ListNeeds::default(),
                 second: ListNeeds::default(),
+                leaders: 0,
             });
         }
         Some(LabelNeeds {
@@ -155,6 +169,7 @@ impl LabelNeeds {
             states: count,
             first: ListNeeds::default(),
             second: ListNeeds::default(),
+            leaders: 0,
         })
     }
 
@@ -164,6 +179,7 @@ impl LabelNeeds {
             → IsSpaceFor width count result }
         ensures first { result.first ≡ first }
         ensures second { result.second ≡ second }
+        ensures leaders { result.leaders ≡ self.leaders }
     {
         LabelNeeds {
             width: self.width,
@@ -174,6 +190,28 @@ impl LabelNeeds {
             states: self.states,
             first,
             second,
+            leaders: self.leaders,
+        }
+    }
+
+    /// The same, with room for the first states of so many classes.
+    pub fn with_leaders(self, leaders: usize) -> LabelNeeds
+        ensures labels { (width count : ℕ) → IsSpaceFor width count self
+            → IsSpaceFor width count result }
+        ensures first { result.first ≡ self.first }
+        ensures second { result.second ≡ self.second }
+        ensures leaders { result.leaders ≡ leaders }
+    {
+        LabelNeeds {
+            width: self.width,
+            narrow: self.narrow,
+            wide: self.wide,
+            most: self.most,
+            widest: self.widest,
+            states: self.states,
+            first: self.first,
+            second: self.second,
+            leaders,
         }
     }
 
@@ -191,6 +229,7 @@ impl LabelNeeds {
             states: self.states.max(other.states),
             first: self.first.max(other.first),
             second: self.second.max(other.second),
+            leaders: self.leaders.max(other.leaders),
         }
     }
 }
@@ -210,6 +249,7 @@ impl LabelRoom {
                 second: list_for(alloc, needs.second)?,
                 lay: LayRoom::new(alloc, states)?,
             },
+            leaders: Vec::with_capacity(alloc, needs.leaders)?,
         })
     }
 }

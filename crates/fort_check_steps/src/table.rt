@@ -1,12 +1,11 @@
 //! The tables of parts that were checked.
-ghost use Rattle.std.specs.Prelude.{◌≡◌, ◌<◌, ◌≤◌, ◌^◌, ◌==◌, ℕ, List, Bool, length};
-ghost use Rattle.fort_tables.specs.LabelRules.{LabelRule};
+ghost use Rattle.std.specs.Prelude.{◌≡◌, ◌<◌, ◌≤◌, ◌^◌, ◌==◌, ℕ, length};
 ghost use Rattle.fort_tables.specs.Entries.{entry};
 ghost use Rattle.fort_tables.specs.Tables.{full_presence, IsListed, IsTableEntry};
 ghost use Rattle.fort_target_lists.specs.LayRooms.{HasLayRoom};
 ghost use Rattle.fort_target_lists.specs.TargetLists.{IsTargetListOf, HasListRoom};
 ghost use Rattle.fort_check_steps.specs.Turned.{turned_by, turned_table};
-ghost use Rattle.fort_check_steps.specs.Held.{HoldsPart, held_table};
+ghost use Rattle.fort_check_steps.specs.Held.{IsRoomTable, own_targets as own_targets_lem, room_table};
 
 use crate::room::PartRoom;
 use fort_lockstep::{Entries, Table, TupleSym};
@@ -19,6 +18,7 @@ use std::marker::Model;
 pub struct PartTable<'a> {
     signature: &'a Signature,
     columns: usize,
+    /// Those of the entries over the states that the room holds.
     targets: &'a [u32],
     room: &'a PartRoom,
     turns: usize,
@@ -38,8 +38,19 @@ impl<'a> Model for PartTable<'a> {
     ghost invariant = { IsPartTable };
 }
 
+/// The targets of the entries over the states that a room holds.
+fn own_targets<'a>(targets: &'a [u32], room: &'a PartRoom) -> &'a [u32]
+    ensures { result.now ≡ own_targets_lem targets.now room.now }
+{
+    if room.is_merged {
+        room.merged.as_slice()
+    } else {
+        targets
+    }
+}
+
 impl<'a> PartTable<'a> {
-    /// The table that a room holds, under so many negations.
+    /// The table that a room holds, under so many negations. The part has these targets, which a merge replaces.
     pub fn new(
         signature: &'a Signature,
         columns: usize,
@@ -47,20 +58,14 @@ impl<'a> PartTable<'a> {
         room: &'a PartRoom,
         turns: usize,
     ) -> PartTable<'a>
-        requires few { length targets.now < 2 ^ 32 }
-        requires holds { (r : LabelRule) × (accepting : (List ℕ → Bool))
-            × (r.signature ≡ signature.now) × (r.columns ≡ columns)
-            × HoldsPart r accepting targets.now room.now }
-        ensures table { (r : LabelRule) → (accepting : (List ℕ → Bool))
-            → r.signature ≡ signature.now → r.columns ≡ columns
-            → HoldsPart r accepting targets.now room.now
-            → result.table ≡ held_table r targets.now room.now }
+        requires { IsRoomTable signature.now columns targets.now room.now }
+        ensures table { result.table ≡ room_table signature.now columns targets.now room.now }
         ensures turns { result.turns ≡ turns }
     {
         PartTable {
             signature,
             columns,
-            targets,
+            targets: own_targets(targets, room),
             room,
             turns,
             list: None,

@@ -12,4 +12,4 @@ pub returns-clause-step : goal.returns-clause-step
 returns-clause-step c =
     let l = c.args.labels.now in
     subst (λ (s : Signature). IsPartStep (record { rule = rule_by s l; accepting = accepted_by s l }) c.args.targets.now c.check_part.new.room c.check_part.result) c.signature-signature.ensures.same
-    (record { outcome = c.check_part.ensures.outcome; held = c.check_part.ensures.held })
+    (record { outcome = c.check_part.ensures.outcome; plain = c.check_part.ensures.not_merged; held = c.check_part.ensures.held })

@@ -70,6 +70,7 @@ returns-clause-scratch c = record {
   rows = c.check_part.ensures.space;
   out = c.check_part.ensures.out;
   lists = record { first = c.lay.ensures.list_room; second = λ n k h. h; lay = λ n h. c.check_part.ensures.lay n (c.lay.ensures.room n h) };
+  leaders = omega arith;
 }
 
 pub new-rule-requires-clause-sizes : goal.new-rule-requires-clause-sizes
@@ -98,4 +99,4 @@ returns-clause-step c table states at pure =
     (subst (λ (xs : List ℕ). Step table c.args.column xs c.new-rule.result.counts.now) given
     (subst (λ (n : ℕ). Step table n c.new-rule.result.alone.now c.new-rule.result.counts.now) c.new-rule.ensures.column
     (subst (λ (t : Table). Step t c.new-rule.result.column c.new-rule.result.alone.now c.new-rule.result.counts.now) own
-    (record { outcome = c.check_part.ensures.outcome; held = c.check_part.ensures.held }))))
+    (record { outcome = c.check_part.ensures.outcome; plain = c.check_part.ensures.not_merged; held = c.check_part.ensures.held }))))

@@ -1,4 +1,4 @@
-use Rattle.std.proofs.Common.{◌≡◌, ℕ, IfSome, sym, ap, ◌∙◌, subst}
+use Rattle.std.proofs.Common.{◌≡◌, ℕ, IfSome, sym, ap, ◌∙◌, subst, arith}
 use Rattle.fort_operations.specs.Products.{Operand, AreOperands, signature_of, product_rule, product_accepts}
 use Rattle.fort_parts.specs.PartSteps as parts
 use Rattle.fort_connectives.specs.declared.connective.Op.{Op}
@@ -57,6 +57,7 @@ returns-clause-scratch c = record {
     second = c.lay-2.ensures.list_room;
     lay = λ n h. c.check_part.ensures.lay n (c.lay-2.ensures.room n (c.lay.ensures.room n h));
   };
+  leaders = omega arith;
 }
 
 pub returns-clause-step : goal.returns-clause-step
@@ -74,4 +75,4 @@ returns-clause-step c a b at bt =
     (subst (λ (n : ℕ). Step rule.op n (parts.operand_of a c.args.first.now.places.items) (parts.operand_of b c.args.second.now.places.items)) (c.listed-rule.ensures.columns ∙ c.new-plain.ensures.columns)
     (subst (λ (u : Operand). Step rule.op rule.columns u (parts.operand_of b c.args.second.now.places.items)) first
     (subst (λ (v : Operand). Step rule.op rule.columns (operand_of turned_table rule.first) v) second
-    (record { outcome = c.check_part.ensures.outcome; held = c.check_part.ensures.held }))))
+    (record { outcome = c.check_part.ensures.outcome; plain = c.check_part.ensures.not_merged; held = c.check_part.ensures.held }))))

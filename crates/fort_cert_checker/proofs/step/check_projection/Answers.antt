@@ -64,6 +64,7 @@ returns-clause-scratch c = record {
   rows = c.check_part.ensures.space;
   out = c.check_part.ensures.out;
   lists = record { first = c.lay.ensures.list_room; second = λ n k h. h; lay = λ n h. c.check_part.ensures.lay n (c.lay.ensures.room n h) };
+  leaders = omega arith;
 }
 
 pub returns-clause-step : goal.returns-clause-step
@@ -72,4 +73,4 @@ returns-clause-step c table at =
     subst (λ (n : ℕ). IsPartStep (project_local table n) c.args.targets.now c.check_part.new.room c.check_part.result)
     (c.listed-rule.ensures.column ∙ c.new.ensures.column)
     (subst (λ (t : Table). IsPartStep (project_local t c.listed-rule.result.column) c.args.targets.now c.check_part.new.room c.check_part.result) own
-    (record { outcome = c.check_part.ensures.outcome; held = c.check_part.ensures.held }))
+    (record { outcome = c.check_part.ensures.outcome; plain = c.check_part.ensures.not_merged; held = c.check_part.ensures.held }))

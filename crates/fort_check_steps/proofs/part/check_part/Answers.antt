@@ -1,4 +1,4 @@
-use Rattle.std.proofs.Common.{arith}
+use Rattle.std.proofs.Common.{false, arith}
 use Rattle.fort_in_order.proofs.PartOutcomes.{outcome_one}
 use Rattle.fort_check_steps.specs.declared.room.PartRoom.{PartRoom}
 use Rattle.fort_check_steps.proofs.TableLaws.{right_held, right_table}
@@ -8,7 +8,7 @@ pub returns-in-Ok-clause-held : goal.returns-in-Ok-clause-held
 returns-in-Ok-clause-held g c =
     let r = g.R.LocalRule.rule c.args.rule.now in
     let labels = c.hold_targets.new.rows.labels in
-    let room : PartRoom = record { presences = c.hold_targets.new.presences; finals = c.put_finals.new.finals } in
+    let room : PartRoom = record { presences = c.hold_targets.new.presences; finals = c.put_finals.new.finals; merged = c.args.room.now.merged; is_merged = false } in
     record {
       labels = labels;
       lawful = c.in-Ok.ensures.lawful;
@@ -28,7 +28,7 @@ returns-in-Ok-clause-table g c =
     let r = g.R.LocalRule.rule c.args.rule.now in
     let targets = c.args.targets.now in
     let labels = c.hold_targets.new.rows.labels in
-    let room : PartRoom = record { presences = c.hold_targets.new.presences; finals = c.put_finals.new.finals } in
+    let room : PartRoom = record { presences = c.hold_targets.new.presences; finals = c.put_finals.new.finals; merged = c.args.room.now.merged; is_merged = false } in
     right_table r (g.R.LocalRule.accepting c.args.rule.now) targets room labels c.in-Ok.ensures.lawful (right_held r targets room labels c.in-Ok.ensures.right.right c.in-Ok.ensures.right.presences_are) c.in-Ok.ensures.right.presences_are c.put_finals.ensures.finals
 
 pub returns-in-Ok-clause-room : goal.returns-in-Ok-clause-room

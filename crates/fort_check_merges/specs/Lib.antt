@@ -1,0 +1,4 @@
+pub mod MergeAnswers
+pub mod GivenMerges
+pub mod Leaders
+pub mod KeptTargets
