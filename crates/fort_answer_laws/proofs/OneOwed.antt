@@ -26,10 +26,10 @@ use Rattle.fort_answer_laws.proofs.OneAnswer.{SaysOne, SaysLow, IsAnswerTo-uniqu
 
 decide_one : (options : Options) (certificate : Bool) (formula : Text) → SaysOne (decide_inquiry options certificate formula)
 decide_one options certificate formula system behind terms f s s' t t' constant grounded one other =
-    DecideVerdict-unique certificate system terms f s s' t t' constant grounded one other
+    DecideVerdict-unique certificate options.reduces system terms f s s' t t' constant grounded one other
 
 decide_low : (options : Options) (certificate : Bool) (formula : Text) → SaysLow (decide_inquiry options certificate formula)
-decide_low options certificate formula system behind terms f s t says = DecideVerdict-low certificate system terms f s t says
+decide_low options certificate formula system behind terms f s t says = DecideVerdict-low certificate options.reduces system terms f s t says
 
 witness_one : (options : Options) (formula : Text) → SaysOne (witness_inquiry options formula)
 witness_one options formula system behind terms f s s' t t' constant grounded one other = WitnessVerdict-unique system terms f s s' t t' one other

@@ -11,6 +11,7 @@ use Rattle.fort_logic.specs.Translation.{core_of}
 use Rattle.fort_logic.specs.Truth.{IsFalseOf}
 use Rattle.fort_logic.proofs.Verdicts.{IsTrueOf-not_false}
 use Rattle.fort_certificate_grammar.specs.Certificates.{Step, Certificate}
+use Rattle.fort_certificate_grammar.specs.CertificateForms.{version_for}
 use Rattle.fort_certificate_grammar.specs.CertificateText.{certificate_text}
 use Rattle.fort_in_order.specs.Checked.{Outcome, Certified, Rejected}
 use Rattle.fort_in_order.proofs.CheckedLaws.{HasOutcome-one}
@@ -38,27 +39,31 @@ TruthVerdict-low : (system : System) (terms : List Tree) (f : Formula) (s : ℕ)
 TruthVerdict-low system terms f s t (Yes holds are) = let e = are.same_status in omega arith
 TruthVerdict-low system terms f s t (No fails are) = let e = are.same_status in omega arith
 
-CertificateVerdict-unique : (system : System) (terms : List Tree) (f : Formula) (s s' : ℕ) (t t' : Text) → CertificateVerdict system terms f s t
-    → CertificateVerdict system terms f s' t' → Are s t s' t'
-CertificateVerdict-unique system terms f s s' t t' one other =
-    let text : Bool → List Step → Text = λ v ss. certificate_text (length system.rules) v ss in
-    let same = IsWritten-one (pattern_system system) (core_of terms f) other.certificate one.certificate other.written one.written in
+CertificateVerdict-unique : (reduces : Bool) (system : System) (terms : List Tree) (f : Formula) (s s' : ℕ) (t t' : Text)
+    → CertificateVerdict reduces system terms f s t → CertificateVerdict reduces system terms f s' t' → Are s t s' t'
+CertificateVerdict-unique reduces system terms f s s' t t' one other =
+    let text : Bool → List Step → Text = λ v ss. certificate_text (version_for reduces (length system.rules)) v ss in
+    let same = IsWritten-one reduces (pattern_system system) (core_of terms f) other.certificate one.certificate other.written one.written in
     Are-unique positive (text one.certificate.verdict one.certificate.steps) s s' t t' one.are
     (subst (λ v. Are s' t' positive (text v one.certificate.steps)) same.verdict
     (subst (λ ss. Are s' t' positive (text other.certificate.verdict ss)) same.steps other.are))
 
-CertificateVerdict-low : (system : System) (terms : List Tree) (f : Formula) (s : ℕ) (t : Text) → CertificateVerdict system terms f s t → s ≤ negative
-CertificateVerdict-low system terms f s t says = let e = says.are.same_status in omega arith
+CertificateVerdict-low : (reduces : Bool) (system : System) (terms : List Tree) (f : Formula) (s : ℕ) (t : Text)
+    → CertificateVerdict reduces system terms f s t → s ≤ negative
+CertificateVerdict-low reduces system terms f s t says = let e = says.are.same_status in omega arith
 
-pub DecideVerdict-unique : (certificate : Bool) (system : System) (terms : List Tree) (f : Formula) (s s' : ℕ) (t t' : Text) → HasConstant system.signature
-    → All (IsGround system.signature) terms → DecideVerdict certificate system terms f s t → DecideVerdict certificate system terms f s' t' → Are s t s' t'
-DecideVerdict-unique false system terms f s s' t t' constant grounded one other = TruthVerdict-unique system terms f s s' t t' constant grounded one other
-DecideVerdict-unique true system terms f s s' t t' constant grounded one other = CertificateVerdict-unique system terms f s s' t t' one other
+pub DecideVerdict-unique : (certificate reduces : Bool) (system : System) (terms : List Tree) (f : Formula) (s s' : ℕ) (t t' : Text)
+    → HasConstant system.signature → All (IsGround system.signature) terms → DecideVerdict certificate reduces system terms f s t
+    → DecideVerdict certificate reduces system terms f s' t' → Are s t s' t'
+DecideVerdict-unique false reduces system terms f s s' t t' constant grounded one other =
+    TruthVerdict-unique system terms f s s' t t' constant grounded one other
+DecideVerdict-unique true reduces system terms f s s' t t' constant grounded one other =
+    CertificateVerdict-unique reduces system terms f s s' t t' one other
 
-pub DecideVerdict-low : (certificate : Bool) (system : System) (terms : List Tree) (f : Formula) (s : ℕ) (t : Text)
-    → DecideVerdict certificate system terms f s t → s ≤ negative
-DecideVerdict-low false system terms f s t says = TruthVerdict-low system terms f s t says
-DecideVerdict-low true system terms f s t says = CertificateVerdict-low system terms f s t says
+pub DecideVerdict-low : (certificate reduces : Bool) (system : System) (terms : List Tree) (f : Formula) (s : ℕ) (t : Text)
+    → DecideVerdict certificate reduces system terms f s t → s ≤ negative
+DecideVerdict-low false reduces system terms f s t says = TruthVerdict-low system terms f s t says
+DecideVerdict-low true reduces system terms f s t says = CertificateVerdict-low reduces system terms f s t says
 
 trees_one : (ts us : List Tree) → map Some ts ≡ map Some us → ts ≡ us
 trees_one [] [] e = refl

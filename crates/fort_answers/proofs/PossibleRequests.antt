@@ -1,12 +1,12 @@
--- Words ask for samples of the sizes that there are, and for no certificate of reduced tables.
+-- Words ask for samples of the sizes that there are.
 use Rattle.std.proofs.Common.{◌≡◌, ℕ, ◌≤◌, Bool, true, false, List, [], ◌∷◌, Option, Some, None, refl}
 use Rattle.std.proofs.lemmas.Bool.{leb-true}
 use Rattle.std.specs.Prelude.{◌&&◌, find, if◌then◌else◌, nat_le, option_and_then, option_map}
 use Rattle.std.specs.Fmt.{decimal}
 use Rattle.std.specs.Str.{bytes_eq}
 use Rattle.std.specs.Str.Parse.{digits_value}
-use Rattle.fort_answers.specs.Requests.{Text, Options, Request, Decide, Witness, Check, Sample, number_in}
-use Rattle.fort_answers.specs.Commands.{Given, Command, commands, decide, witness, check, sample, to_decide, is_set, options_given, certificate_name, formula_name, count}
+use Rattle.fort_answers.specs.Requests.{Text, Request, Decide, Witness, Check, Sample, number_in}
+use Rattle.fort_answers.specs.Commands.{Given, Command, commands, decide, witness, check, sample, is_set, options_given, certificate_name, formula_name, count}
 use Rattle.fort_answers.specs.CommandGrammar.{items_of, is_complete, given_by, words_among, asked_by, request_by, request_of}
 use Rattle.fort_answers.specs.PossibleRequests.{IsPossible}
 
@@ -21,14 +21,6 @@ keeps_then f (Some a) h = h a
 keeps_map : {A : Type 0} (f : A → Request) (x : Option A) → ((a : A) → IsPossible (Some (f a))) → IsPossible (option_map f x)
 keeps_map f None h = tt
 keeps_map f (Some a) h = h a
-
-keeps_certificate : (o : Options) (c : Bool) (f : Text) → IsPossible (to_decide o c f)
-keeps_certificate o false f = tt
-keeps_certificate o true f = by o.reduces refl
-  where
-    by : (r : Bool) → o.reduces ≡ r → IsPossible (if r then None else Some (Decide o true f))
-    by true e = tt
-    by false e = e
 
 in_range : (low high : Bool) (rest : Bool) (n : ℕ) → (low ≡ true → 1 ≤ n) → (high ≡ true → n ≤ 64)
     → IsPossible (option_map Sample (if low && (high && rest) then Some n else None))
@@ -50,8 +42,8 @@ AsksPossible command = (given : Given) → IsPossible (command.asks given)
 
 decide_possible : AsksPossible decide
 decide_possible given =
-    keeps_then (λ o. option_and_then (to_decide o (is_set certificate_name given)) (given formula_name)) (options_given given) (λ o.
-    keeps_then (to_decide o (is_set certificate_name given)) (given formula_name) (keeps_certificate o (is_set certificate_name given)))
+    keeps_then (λ o. option_map (Decide o (is_set certificate_name given)) (given formula_name)) (options_given given) (λ o.
+    keeps_map (Decide o (is_set certificate_name given)) (given formula_name) (λ f. tt))
 
 witness_possible : AsksPossible witness
 witness_possible given =

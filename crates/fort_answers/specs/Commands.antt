@@ -1,5 +1,5 @@
 -- To believe: the commands: what stands behind each one's name on a command line, and what it then asks.
-use Rattle.std.specs.Prelude.{◌&&◌, ℕ, Bool, false, List, [], ◌∷◌, Option, Some, None, codes, if◌then◌else◌, option_and_then, option_map}
+use Rattle.std.specs.Prelude.{ℕ, Bool, false, List, [], ◌∷◌, Option, codes, option_and_then, option_map}
 use Rattle.std.specs.Option.{option_map_or}
 use Rattle.std.specs.Str.{bytes_eq}
 use Rattle.fort_answers.specs.Requests.{number_in, Text, Options, Request, Decide, Witness, Check, Sample}
@@ -72,12 +72,8 @@ is_set name given = option_map_or (λ text. bytes_eq text set_text) (given name)
 abbrev pub options_given : Given → Option Options
 options_given given = option_map (λ n. record { states = n; reduces = is_set reduce_name given }) (number_given states given)
 
--- no certificate of reduced tables is written
-abbrev pub to_decide : Options → Bool → Text → Option Request
-to_decide o c f = if c && o.reduces then None else Some (Decide o c f)
-
 abbrev pub decide_asked : Given → Option Request
-decide_asked given = option_and_then (λ o. option_and_then (to_decide o (is_set certificate_name given)) (given formula_name)) (options_given given)
+decide_asked given = option_and_then (λ o. option_map (Decide o (is_set certificate_name given)) (given formula_name)) (options_given given)
 
 abbrev pub witness_asked : Given → Option Request
 witness_asked given = option_and_then (λ o. option_map (Witness o) (given formula_name)) (options_given given)

@@ -16,10 +16,10 @@ pub data TruthVerdict (system : System) (terms : List Tree) (f : Formula) (statu
   Yes : IsTrueOf system terms f → Are status text positive yes_line → TruthVerdict system terms f status text
   No : IsFalseOf system terms f → Are status text negative no_line → TruthVerdict system terms f status text
 
--- a certificate of that in place of it, where one is asked for; words ask for none of reduced tables
-abbrev pub DecideVerdict : (certificate : Bool) → System → List Tree → Formula → ℕ → Text → Type 0
-DecideVerdict false system terms f status text = TruthVerdict system terms f status text
-DecideVerdict true system terms f status text = CertificateVerdict system terms f status text
+-- a certificate of that in place of it, where one is asked for
+abbrev pub DecideVerdict : (certificate reduces : Bool) → System → List Tree → Formula → ℕ → Text → Type 0
+DecideVerdict false reduces system terms f status text = TruthVerdict system terms f status text
+DecideVerdict true reduces system terms f status text = CertificateVerdict reduces system terms f status text
 
 -- what `decide` asks of a closed formula
 abbrev pub decide_inquiry : Options → (certificate : Bool) → (formula : Text) → Inquiry
@@ -29,5 +29,5 @@ decide_inquiry options certificate formula =
       openness = Closed;
       tail = Nothing;
       options = Some options;
-      says = λ system behind terms f status text. DecideVerdict certificate system terms f status text;
+      says = λ system behind terms f status text. DecideVerdict certificate options.reduces system terms f status text;
     }

@@ -1,5 +1,5 @@
--- Inside: what each request keeps that words make: the size of a made problem is in range, and no certificate of reduced tables is asked for. That they keep it is proved.
-use Rattle.std.specs.Prelude.{◌≡◌, ℕ, ◌≤◌, true, false, Option, Some, None}
+-- Inside: what each request keeps that words make: the size of a made problem is in range. That they keep it is proved.
+use Rattle.std.specs.Prelude.{ℕ, ◌≤◌, Option, Some, None}
 use Rattle.fort_answers.specs.Requests.{Request, Decide, Witness, Check, Sample}
 
 pub record IsSampleSize (n : ℕ) : Type 0 where
@@ -7,8 +7,7 @@ pub record IsSampleSize (n : ℕ) : Type 0 where
   pub high : n ≤ 64
 
 abbrev pub CanBeAsked : Request → Type 0
-CanBeAsked (Decide options false formula) = Unit {0}
-CanBeAsked (Decide options true formula) = options.reduces ≡ false
+CanBeAsked (Decide options certificate formula) = Unit {0}
 CanBeAsked (Witness options formula) = Unit {0}
 CanBeAsked (Check formula) = Unit {0}
 CanBeAsked (Sample n) = IsSampleSize n

@@ -1,6 +1,6 @@
 -- A certificate that is written for a formula over a system is accepted behind that system, with its verdict.
 use Rattle.std.proofs.Common.{◌≡◌, ℕ, ◌≤◌, List, ◌∷◌, ◌++◌, length, drop, refl, ap, sym, ◌∙◌, subst}
-use Rattle.std.specs.Prelude.{Some, Option, codes}
+use Rattle.std.specs.Prelude.{Some, Option, Bool, codes}
 use Rattle.std.proofs.Math.Seq.{drop-append_seam}
 use Rattle.fort_theory.specs.Trees.{Tree}
 use Rattle.fort_theory.specs.Sides.{System}
@@ -11,7 +11,7 @@ use Rattle.fort_grammar.specs.Forms.{Form}
 use Rattle.fort_grammar.specs.Declarations.{as_list, word_of, AreWords, IsListOfWords, IsHeaded}
 use Rattle.fort_grammar.specs.ProblemForms.{BeginsOtherwise, IsProblem}
 use Rattle.fort_certificate_grammar.specs.Certificates.{Certificate}
-use Rattle.fort_certificate_grammar.specs.CertificateForms.{IsCertificate}
+use Rattle.fort_certificate_grammar.specs.CertificateForms.{IsCertificate, version_for}
 use Rattle.fort_certificate_grammar.specs.CertificateAgain.{IsReadAgain}
 use Rattle.fort_certificate_texts.proofs.Again.{behind_again}
 use Rattle.fort_in_order.specs.Checked.{Certified}
@@ -50,17 +50,18 @@ module _ (bytes : List ℕ) (number : ℕ) (front others : List Form) (c : Certi
       subst (BeginsOtherwise bytes word) (sym others_are) (λ a. other (headed_same bytes is.header (codes "certificate") word _ is.headed a))
 
 -- result: behind an LF
-pub written_accepted : (formula : Text) (f : Formula) (bytes : Text) (system : System) (terms : List Tree) (s : ℕ) (text : Text) → IsAcceptedClosed formula f
-    → IsInput bytes system → FitsSystem formula f system terms → (v : CertificateVerdict system terms f s text)
+pub written_accepted : (reduces : Bool) (formula : Text) (f : Formula) (bytes : Text) (system : System) (terms : List Tree) (s : ℕ) (text : Text) → IsAcceptedClosed formula f
+    → IsInput bytes system → FitsSystem formula f system terms → (v : CertificateVerdict reduces system terms f s text)
     → length (bytes ++ 10 ∷ text) ≤ input_limit → owed (Some (Check formula)) (bytes ++ 10 ∷ text) positive (certified_line v.certificate.verdict)
-written_accepted formula f bytes system terms s text accepted input fits v short =
+written_accepted reduces formula f bytes system terms s text accepted input fits v short =
     let c = v.certificate in
+    let number = length system.rules in
     let forms = input.problem.forms in
     let whole = bytes ++ 10 ∷ text in
-    let again = subst (λ t. IsReadAgain (bytes ++ 10 ∷ t) (length system.rules) forms (record { first = length (as_list forms); verdict = c.verdict; steps = c.steps }))
-    (sym v.are.same_text) (behind_again (length system.rules) bytes forms c.verdict c.steps input.problem.are_forms v.small) in
+    let again = subst (λ t. IsReadAgain (bytes ++ 10 ∷ t) number forms (record { first = length (as_list forms); verdict = c.verdict; steps = c.steps }))
+    (sym v.are.same_text) (behind_again number (version_for reduces number) bytes forms c.verdict c.steps input.problem.are_forms (reduces, refl) v.small) in
     let d : Certificate = record { first = length (as_list forms); verdict = c.verdict; steps = c.steps } in
-    let otherwise = begins_otherwise whole (length system.rules) (as_list forms) again.others d (as_list again.forms) again.behind again.certificate in
+    let otherwise = begins_otherwise whole number (as_list forms) again.others d (as_list again.forms) again.behind again.certificate in
     let problem = problem_too bytes (10 ∷ text) forms system again.others input.problem.are_forms input.problem.problem
     (otherwise (codes "fun") (λ e. absurd cc)) (otherwise (codes "rule") (λ e. absurd cc)) in
     let is : IsCertifiedInput whole system d = record {
@@ -71,7 +72,7 @@ written_accepted formula f bytes system terms s text accepted input fits v short
       problem = subst (λ fs. IsProblem whole fs system (length (as_list forms))) (sym again.behind) problem;
       certificate = again.certificate;
     } in
-    let again_written : IsWritten (pattern_system system) (core_of terms f) d = record {
+    let again_written : IsWritten reduces (pattern_system system) (core_of terms f) d = record {
       parts = v.written.parts;
       parts_are = v.written.parts_are;
       made = v.written.made;
@@ -80,6 +81,6 @@ written_accepted formula f bytes system terms s text accepted input fits v short
     } in
     Says f accepted system d is terms fits tt (record {
       outcome = Certified c.verdict;
-      has = IsInOrder-written (pattern_system system) (core_of terms f) d again_written;
+      has = IsInOrder-written reduces (pattern_system system) (core_of terms f) d again_written;
       owes = record { same_status = refl; same_text = refl };
     })

@@ -1,6 +1,6 @@
 -- The ground terms that stand in the braces of a formula's text, one after another, and what of a formula a system lacks.
-use Rattle.std.proofs.Common.{◌≡◌, ℕ, ◌+◌, ◌<◌, ◌≤◌, List, [], ◌∷◌, ◌++◌, length, get_or, map, take, drop, sym, ap, subst, ◌∙◌}
-use Rattle.std.proofs.lemmas.List.{take_more, take_all, drop_more, take-append-drop, length-map, map-append}
+use Rattle.std.proofs.Common.{◌≡◌, ℕ, ◌+◌, ◌<◌, List, [], ◌∷◌, ◌++◌, length, get_or, map, take, drop, sym, ap, subst, ◌∙◌}
+use Rattle.std.proofs.lemmas.List.{take_more, drop_more, take-append-drop, length-map, map-append}
 use Rattle.fort_theory.specs.Trees.{Tree}
 use Rattle.fort_theory.specs.Signatures.{Signature}
 use Rattle.fort_theory.specs.Sides.{System}
@@ -37,10 +37,6 @@ AreTermsOf-push signature grounds i d ts us t lt so_far is e =
     subst (AreTermsOf signature (map as_ground (take (i + 1) grounds))) (sym e)
     (subst (λ gs. AreTermsOf signature gs (ts ++ t ∷ [])) (sym all)
     (AreTermsOf-append signature (map as_ground (take i grounds)) (as_ground (get_or grounds i d) ∷ []) ts (t ∷ []) so_far (is, tt)))
-
-pub AreTermsOf-all : (signature : Signature) (grounds : List made.Ground) (i : ℕ) (ts : List Tree) → length grounds ≤ i
-    → AreTermsOf signature (map as_ground (take i grounds)) ts → AreTermsOf signature (map as_ground grounds) ts
-AreTermsOf-all signature grounds i ts le so_far = subst (λ gs. AreTermsOf signature (map as_ground gs) ts) (take_all i grounds le) so_far
 
 -- none stands in these braces
 pub IsFirstWithoutTerm-at : (signature : Signature) (grounds : List made.Ground) (i : ℕ) (d : made.Ground) (ts : List Tree) → i < length grounds

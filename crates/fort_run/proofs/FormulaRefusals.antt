@@ -1,5 +1,5 @@
 -- The lines that refuse formulas are owed to their texts; a formula as it was read.
-use Rattle.std.specs.Prelude.{◌≡◌, ℕ, Bool, true, false, List, [], ◌∷◌, Option, None, Some, slice_get, ◌↔◌, IsTrue, IfSome, MatchBool, MatchOption}
+use Rattle.std.specs.Prelude.{◌≡◌, ℕ, Bool, true, false, List, [], ◌∷◌, Option, None, Some, slice_get, ◌↔◌, IsTrue, IfSome, MatchOption}
 use Rattle.std.proofs.Common.{Vec, Global, sym, ap, subst}
 use Rattle.fort_formula_grammar.specs.FormulaText.{FormulaFault, IsFirstFormulaFault}
 use Rattle.fort_logic.specs.Formulas.{Formula}
@@ -12,14 +12,6 @@ use Rattle.fort_run.specs.Accepted.{IsParsedAs}
 use Rattle.fort_run.specs.Questions.{as_openness}
 use Rattle.fort_run.specs.declared.refusal.Refusal.{Refusal}
 use Rattle.fort_run.specs.Refusals.{Refuses}
-
-pub told_false : (b : Bool) (P Q : Type 0) → MatchBool b P Q → b ≡ false → Q
-told_false true P Q h is = cc
-told_false false P Q h is = h
-
-pub told_true : (b : Bool) (P Q : Type 0) → MatchBool b P Q → b ≡ true → P
-told_true true P Q h is = h
-told_true false P Q h is = cc
 
 -- the first of some names
 pub first_of_names : {A : Type 0} (names : List A) (x : A) → Some x ≡ slice_get names 0 → (xs : List A) × (names ≡ x ∷ xs)

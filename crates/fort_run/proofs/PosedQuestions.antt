@@ -14,7 +14,7 @@ use Rattle.fort_cores.specs.Structures.{pattern_structure}
 use Rattle.fort_logic.specs.Translation.{core_of}
 use Rattle.fort_logic.proofs.FreeNumbers.{core_of-free}
 use Rattle.fort_parts.specs.PartAnswers.{OfValue, IsAnswerTo}
-use Rattle.fort_certificate_grammar.specs.CertificateForms.{version_for}
+use Rattle.fort_certificate_grammar.specs.CertificateForms.{Version, version_for}
 use Rattle.fort_certificate_grammar.specs.CertificateText.{certificate_text, CanBeWritten}
 use Rattle.fort_certificate.specs.Again.{HasSmallNumbers}
 use Rattle.fort_in_order.specs.Written.{IsWritten}
@@ -70,36 +70,35 @@ value_truth f system terms c posed p lawful same verdict answer =
     let decided = decided_by Closed f system terms c (Value verdict) posed answer in
     is_truth p lawful f terms (Value verdict) (subst (λ s. IsDecidedBy f s terms (Value verdict)) same decided) posed.closed verdict refl
 
--- the text of the steps that were recorded
-certificate_says : (f : Formula) (p : System) (system : PatternSystem) (terms : List Tree) (c : Core) (r : Recorded) (number status : ℕ) (text : Text)
-    → status ≡ positive → system ≡ pattern_system p → IsPosed Closed f system terms c → ((first : ℕ) → IsWritten system c (as_certificate first r))
-    → AllByRecursion HasSmallNumbers (map as_step r.steps.items) → number ≡ length system.rules
-    → text ≡ certificate_text number r.verdict (map as_step r.steps.items) → CertificateVerdict p terms f status text
-certificate_says f p system terms c r number status text done same posed written numbers count spelled =
-    let own : IsWritten system (core_of terms f) (as_certificate 0 r) = subst (λ k. IsWritten system k (as_certificate 0 r)) posed.is (written 0) in
-    let there : IsWritten (pattern_system p) (core_of terms f) (as_certificate 0 r) = subst (λ s. IsWritten s (core_of terms f) (as_certificate 0 r)) same own in
-    let rules : length (pattern_system p).rules ≡ length p.rules = number_is (length (pattern_system p).rules) (pattern_system p) p refl refl in
-    record {
-      certificate = as_certificate 0 r;
-      written = there;
-      small = subst (λ n. AllByRecursion (CanBeWritten (version_for n)) (map as_step r.steps.items)) rules
-          (written_numbers (pattern_system p) (core_of terms f) (as_certificate 0 r) there numbers);
-      are = record {
-        same_status = done;
-        same_text = spelled ∙ ap (λ n. certificate_text n r.verdict (map as_step r.steps.items)) (number_is number system p count same);
-      };
-    }
+-- what a recording says, with reduced tables or without, where its text is of the version for so many systems
+module _ (reduces : Bool) (f : Formula) (p : System) (system : PatternSystem) (terms : List Tree) (c : Core) (r : Recorded) (number : ℕ) (version : Version)
+    (status : ℕ) (text : Text) (done : status ≡ positive) (same : system ≡ pattern_system p) (posed : IsPosed Closed f system terms c)
+    (written : (first : ℕ) → IsWritten reduces system c (as_certificate first r)) (numbers : AllByRecursion HasSmallNumbers (map as_step r.steps.items))
+    (count : number ≡ length system.rules) (of_number : version ≡ version_for reduces number)
+    (spelled : text ≡ certificate_text version r.verdict (map as_step r.steps.items)) where
+  certificate_says : CertificateVerdict reduces p terms f status text
+  certificate_says =
+      let own : IsWritten reduces system (core_of terms f) (as_certificate 0 r) =
+      subst (λ k. IsWritten reduces system k (as_certificate 0 r)) posed.is (written 0) in
+      let there : IsWritten reduces (pattern_system p) (core_of terms f) (as_certificate 0 r) =
+      subst (λ s. IsWritten reduces s (core_of terms f) (as_certificate 0 r)) same own in
+      let rules : length (pattern_system p).rules ≡ length p.rules = number_is (length (pattern_system p).rules) (pattern_system p) p refl refl in
+      let version_is : version ≡ version_for reduces (length p.rules) = of_number ∙ ap (version_for reduces) (number_is number system p count same) in
+      record {
+        certificate = as_certificate 0 r;
+        written = there;
+        small = subst (λ n. AllByRecursion (CanBeWritten (version_for reduces n)) (map as_step r.steps.items)) rules
+            (written_numbers reduces (pattern_system p) (core_of terms f) (as_certificate 0 r) there numbers);
+        are = record {
+          same_status = done;
+          same_text = spelled ∙ ap (λ v. certificate_text v r.verdict (map as_step r.steps.items)) version_is;
+        };
+      }
 
--- the same with the truth of its verdict
-pub true_certificate : (f : Formula) (p : System) (system : PatternSystem) (terms : List Tree) (c : Core) (r : Recorded) (number status : ℕ) (text : Text) → IsLawful p
-    → status ≡ positive → system ≡ pattern_system p → IsPosed Closed f system terms c → IsAnswerTo (pattern_structure system) c (OfValue r.verdict)
-    → ((first : ℕ) → IsWritten system c (as_certificate first r)) → AllByRecursion HasSmallNumbers (map as_step r.steps.items)
-    → number ≡ length system.rules → text ≡ certificate_text number r.verdict (map as_step r.steps.items) → IsTrueCertificate p terms f status text
-unfolding certificate_says
-true_certificate f p system terms c r number status text lawful done same posed answer written numbers count spelled = record {
-  written = certificate_says f p system terms c r number status text done same posed written numbers count spelled;
-  truth = value_truth f system terms c posed p lawful same r.verdict answer;
-}
+  -- the same with the truth of its verdict
+  pub true_certificate : IsLawful p → IsAnswerTo (pattern_structure system) c (OfValue r.verdict) → IsTrueCertificate reduces p terms f status text
+  unfolding certificate_says
+  true_certificate lawful answer = record { written = certificate_says; truth = value_truth f system terms c posed p lawful same r.verdict answer }
 
 -- ---- verdicts
 

@@ -1,6 +1,7 @@
 -- A certificate that is owed is accepted behind the bytes of its problem.
 use Rattle.std.proofs.Common.{◌≡◌, ℕ, List, length, true, refl, subst, arith}
 use Rattle.std.specs.Prelude.{Some}
+use Rattle.fort_certificate_grammar.specs.CertificateForms.{version_for}
 use Rattle.fort_answers.specs.Requests.{Text, Decide, Options}
 use Rattle.fort_answers.specs.CommandGrammar.{request_of}
 use Rattle.fort_answers.specs.Lines.{positive}
@@ -17,11 +18,11 @@ module _ (options : Options) (formula bytes text : Text) where
   accepted status (FormulaUnfit f taken system behind is line says are) e = let other = are.same_status in absurd (omega arith)
   accepted status (Limited f taken system behind is terms fits own same k kind over are) e = let other = are.same_status in absurd (omega arith)
   accepted status (Says f taken system behind is terms fits keeps verdict) e = record {
-    number = length system.rules;
+    version = version_for options.reduces (length system.rules);
     verdict = verdict.certificate.verdict;
     steps = verdict.certificate.steps;
     is = verdict.are.same_text;
-    accepted = λ short. written_accepted formula f bytes system terms status text taken is fits verdict short;
+    accepted = λ short. written_accepted options.reduces formula f bytes system terms status text taken is fits verdict short;
   }
 
 -- result

@@ -125,7 +125,7 @@ module _ (text bytes : Text) (f : Formula) (p : System) (terms : List Tree) (fit
     is = verdict.truth;
     steps = verdict.written.certificate.steps;
     says = verdict.written.are.same_text;
-    again = λ short. written_accepted text f bytes p terms positive t accepted is fits verdict.written short;
+    again = λ short. written_accepted options.reduces text f bytes p terms positive t accepted is fits verdict.written short;
   }
   says_more (Terms options) behind accepted is verdict owes = tt
   says_more Check behind accepted is verdict owes =

@@ -60,9 +60,6 @@ ArePropertyLines-push p [] q lines line are is = (line, [], is, refl, ap (λ t. 
 ArePropertyLines-push p (r ∷ qs) q lines line (first, rest, here, behind, split) is =
     (first, rest ++ line, here, ArePropertyLines-push p qs q rest line behind is, ap (λ t. t ++ line) split ∙ append_assoc first rest line)
 
-pub no_lines : (system : PatternSystem) (t : Text) → AddsLines system [] t t
-no_lines system t = λ p lawful same. ([], sym (append-nil t), refl)
-
 pub more_lines : (system : PatternSystem) (qs : List Property) (q : Property) (t0 t1 t2 : Text) → AddsLines system qs t0 t1 → AddsLine system q t1 t2
     → AddsLines system (qs ++ q ∷ []) t0 t2
 more_lines system qs q t0 t1 t2 before here = λ p lawful same.

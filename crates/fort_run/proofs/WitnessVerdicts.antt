@@ -162,9 +162,6 @@ bindings-more sig (x ∷ xs) (t ∷ ts) (suc k) d l len =
     ap (λ w. own ++ w) (bindings-more sig xs ts k d (omega arith) (omega arith))
     ∙ sym (append_assoc own (bindings sig (take k xs) (take k ts)) (line (get_or xs k [] ++ (codes " = " ++ term_text sig (get_or ts k d)))))
 
-pub AreLastTerms-one : (sig : Signature) (names : List Name) (nodes : List Entry) (ts us : List Tree) → AreLastTerms sig names nodes ts → AreLastTerms sig names nodes us → ts ≡ us
-AreLastTerms-one sig names nodes ts us a b = terms-one ts us (sym a.terms ∙ b.terms)
-
 -- a last node has a term in each column
 pub last-text : (sig : Signature) (names : List Name) (nodes : List Entry) (ts : List Tree) (k : ℕ) (d : Tree) → AreLastTerms sig names nodes ts → k < length names
     → term_at nodes (length nodes - 1) k ≡ Some (get_or ts k d)

@@ -50,7 +50,7 @@ module _ (words : List Text) (told old new : Option Text) (r : Reply) (is : IsRe
     }
 
     pub prints : (options : Options) (formula : Text) → request_of words ≡ Some (Decide options true formula) → status ≡ positive
-        → PrintsTruth formula told old new
+        → PrintsTruth options.reduces formula told old new
     prints options formula asked e = record {
       text = r.text.items;
       printed = record { bytes = is.bytes; told_are = is.told_are; holds = says (Some (Decide options true formula)) asked e };

@@ -8,6 +8,7 @@ use Rattle.fort_grammar.specs.Forms.{Forms, AreFormsOf}
 use Rattle.fort_grammar.specs.Declarations.{as_list}
 use Rattle.fort_grammar.specs.ProblemForms.{IsProblem}
 use Rattle.fort_certificate_grammar.specs.Certificates.{Step, Certificate}
+use Rattle.fort_certificate_grammar.specs.CertificateForms.{Version, version_for}
 use Rattle.fort_certificate_grammar.specs.CertificateText.{certificate_text}
 use Rattle.fort_io.specs.Devices.{Takes}
 use Rattle.fort_answers.specs.Requests.{Text, Check}
@@ -74,9 +75,9 @@ pub record IsCheckable (words : List Text) (told : Option Text) : Type 0 where
 
 -- ---- what a printed certificate is worth
 
--- the text is a certificate with the formula's truth over the system of the bytes; behind these and an LF it is accepted with
--- that verdict, where the whole keeps the limit of inputs
-pub record IsPrinted (formula bytes text : Text) : Type 0 where
+-- the text is a certificate with the formula's truth over the system of the bytes, of the version for its tables; behind these and an LF it is
+-- accepted with that verdict, where the whole keeps the limit of inputs
+pub record IsPrinted (reduces : Bool) (formula bytes text : Text) : Type 0 where
   pub f : Formula
   pub accepted : IsAcceptedClosed formula f
   pub system : System
@@ -86,23 +87,23 @@ pub record IsPrinted (formula bytes text : Text) : Type 0 where
   pub verdict : Bool
   pub is : IsTruth verdict system terms f
   pub steps : List Step
-  pub says : text ≡ certificate_text (length system.rules) verdict steps
+  pub says : text ≡ certificate_text (version_for reduces (length system.rules)) verdict steps
   pub again : length (bytes ++ 10 ∷ text) ≤ input_limit → owed (Some (Check formula)) (bytes ++ 10 ∷ text) positive (certified_line verdict)
 
 -- it is printed for the bytes that were told; where none were, for some bytes
-abbrev pub IsPrintedTold : (formula : Text) → (told : Option Text) → (text : Text) → Type 0
-IsPrintedTold formula told text = HoldsForTold told (λ bytes. IsPrinted formula bytes text)
+abbrev pub IsPrintedTold : (reduces : Bool) → (formula : Text) → (told : Option Text) → (text : Text) → Type 0
+IsPrintedTold reduces formula told text = HoldsForTold told (λ bytes. IsPrinted reduces formula bytes text)
 
 -- from old to new the sink took the certificate
-pub record PrintsTruth (formula : Text) (told old new : Option Text) : Type 0 where
+pub record PrintsTruth (reduces : Bool) (formula : Text) (told old new : Option Text) : Type 0 where
   pub text : Text
-  pub printed : IsPrintedTold formula told text
+  pub printed : IsPrintedTold reduces formula told text
   pub taken : Takes old new text
 
 -- the text is a certificate; behind the bytes and an LF it is accepted with the verdict of its header, where the whole keeps the limit of inputs
 pub record IsAcceptedBehind (formula bytes text : Text) : Type 0 where
-  pub number : ℕ
+  pub version : Version
   pub verdict : Bool
   pub steps : List Step
-  pub is : text ≡ certificate_text number verdict steps
+  pub is : text ≡ certificate_text version verdict steps
   pub accepted : length (bytes ++ 10 ∷ text) ≤ input_limit → owed (Some (Check formula)) (bytes ++ 10 ∷ text) positive (certified_line verdict)

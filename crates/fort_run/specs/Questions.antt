@@ -15,7 +15,6 @@ use Rattle.fort_answers.specs.DecideAnswer.{TruthVerdict}
 use Rattle.fort_answers.specs.CertificateAnswer.{CertificateVerdict}
 use Rattle.fort_answers.specs.WitnessAnswer.{WitnessVerdict}
 use Rattle.fort_answers.specs.CheckAnswer.{CheckVerdict}
-use Rattle.fort_answers.specs.PossibleRequests.{CanBeAsked}
 use Rattle.fort_run.specs.declared.question.Openness.{Openness as OwnOpenness}
 use Rattle.fort_run.specs.declared.question.Openness.TheVariants as openness
 use Rattle.fort_run.specs.declared.question.Question.{Question}
@@ -59,7 +58,7 @@ options_of Check = None
 
 abbrev pub says_of : (question : Question) → System → Behind (tail_of question) → List Tree → Formula → ℕ → Text → Type 0
 says_of (Truth options) system behind terms f status text = TruthVerdict system terms f status text
-says_of (Certificate options) system behind terms f status text = CertificateVerdict system terms f status text
+says_of (Certificate options) system behind terms f status text = CertificateVerdict options.reduces system terms f status text
 says_of (Terms options) system behind terms f status text = WitnessVerdict system terms f status text
 says_of Check system behind terms f status text = CheckVerdict system behind terms f status text
 
@@ -71,7 +70,3 @@ inquiry_of question formula = record {
   options = options_of question;
   says = says_of question;
 }
-
--- words can ask it of any formula
-abbrev pub CanBeAskedOf : Question → Type 0
-CanBeAskedOf question = (formula : Text) → CanBeAsked (request_for question formula)

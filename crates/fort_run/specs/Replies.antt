@@ -13,7 +13,7 @@ use Rattle.fort_run.specs.Certified.{IsCertified, IsPrinted}
 abbrev pub SaysFor : Option Request → (bytes text : Text) → Type 0
 SaysFor None bytes text = Unit {0}
 SaysFor (Some (Decide options false formula)) bytes text = Unit {0}
-SaysFor (Some (Decide options true formula)) bytes text = IsPrinted formula bytes text
+SaysFor (Some (Decide options true formula)) bytes text = IsPrinted options.reduces formula bytes text
 SaysFor (Some (Witness options formula)) bytes text = Unit {0}
 SaysFor (Some (Check formula)) bytes text = IsCertified formula bytes text
 SaysFor (Some (Sample n)) bytes text = Unit {0}

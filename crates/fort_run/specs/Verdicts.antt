@@ -28,8 +28,8 @@ use Rattle.fort_run.specs.Certified.{IsTruth}
 use Rattle.fort_run.specs.Limits.{IsLineOf}
 
 -- the certificate that is written, and its verdict is the formula's truth
-pub record IsTrueCertificate (system : System) (terms : List Tree) (f : Formula) (status : ℕ) (text : Text) : Type 0 where
-  pub written : CertificateVerdict system terms f status text
+pub record IsTrueCertificate (reduces : Bool) (system : System) (terms : List Tree) (f : Formula) (status : ℕ) (text : Text) : Type 0 where
+  pub written : CertificateVerdict reduces system terms f status text
   pub truth : IsTruth written.certificate.verdict system terms f
 
 -- what comes of the certificate, and a verdict that is certified is the formula's truth
@@ -40,7 +40,7 @@ pub record IsTrueOutcome (system : System) (c : certificates.Certificate) (terms
 abbrev pub VerdictOn : (question : Question) → System → Behind (tail_of question) → List Tree → Formula → ℕ → Text → Type 0
 VerdictOn (Truth options) system behind terms f status text = TruthVerdict system terms f status text
 VerdictOn (Terms options) system behind terms f status text = WitnessVerdict system terms f status text
-VerdictOn (Certificate options) system behind terms f status text = IsTrueCertificate system terms f status text
+VerdictOn (Certificate options) system behind terms f status text = IsTrueCertificate options.reduces system terms f status text
 VerdictOn Check system behind terms f status text = IsTrueOutcome system behind terms f status text
 
 -- the reply has this limit and its line

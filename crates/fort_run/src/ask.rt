@@ -7,7 +7,7 @@ ghost use Rattle.fort_answers.specs.Requests.{Text};
 ghost use Rattle.fort_answers.specs.Answer.{needed};
 ghost use Rattle.fort_run.specs.Accepted.{IsParsedAs, IsRead};
 ghost use Rattle.fort_run.specs.Answered.{ReadsWhole};
-ghost use Rattle.fort_run.specs.Questions.{openness_of, request_for, CanBeAskedOf};
+ghost use Rattle.fort_run.specs.Questions.{openness_of, request_for};
 ghost use Rattle.fort_run.specs.Replies.{IsReplyTo, IsReplyTold};
 
 use crate::accepted::accepted_formula;
@@ -57,7 +57,6 @@ fn reply_to_forms(
     requires short { length forms.now.bytes ≤ input_limit }
     requires are { AreFormsOf forms.now.bytes forms.now.forms }
     requires read { IsRead (openness_of question) parsed.now }
-    requires asked { CanBeAskedOf question }
     ensures { IfOk result (λ r. (text : Text) → IsParsedAs (openness_of question) text parsed.now
         → IsReplyTo (Some (request_for question text)) forms.now.bytes r) }
 {
@@ -78,8 +77,7 @@ fn reply_to_formula<S: Source>(
     parsed: &Parsed,
     input: &mut S,
 ) -> Result<Reply, Stop>
-    requires read { IsRead (openness_of question) parsed.now }
-    requires asked { CanBeAskedOf question }
+    requires { IsRead (openness_of question) parsed.now }
     ensures ok { IfOk result (λ r. (text : Text) → IsParsedAs (openness_of question) text parsed.now
         → IsReplyTold (Some (request_for question text)) (S.rest input.old) r) }
     ensures whole { OnOk result (ReadsWhole (S.rest input.old) (S.rest input.new)) }
@@ -108,7 +106,6 @@ pub fn ask<S: Source>(
     text: &str,
     input: &mut S,
 ) -> Result<Reply, Stop>
-    requires { CanBeAskedOf question }
     ensures ok { IfOk result
         (IsReplyTold (Some (request_for question text.now)) (S.rest input.old)) }
     ensures whole { OnOk result (needed (Some (request_for question text.now)) →

@@ -5,11 +5,11 @@ ghost use Rattle.fort_run.specs.Questions.{as_openness, as_tail, openness_of, ta
 use fort_words::Options;
 
 /// What a request asks of a formula over an input.
-#[derive(Clone, Copy, Debug, PartialEq, Eq)]
+#[derive(Clone, Copy, Debug)]
 pub enum Question {
     /// Whether it is true.
     Truth(Options),
-    /// A certificate of whether it is true, of tables that aren't reduced.
+    /// A certificate of whether it is true.
     Certificate(Options),
     /// The least terms for its free variables that satisfy it.
     Terms(Options),
@@ -18,7 +18,7 @@ pub enum Question {
 }
 
 /// The formulas of which something is asked.
-#[derive(Clone, Copy, Debug, PartialEq, Eq)]
+#[derive(Clone, Copy, Debug)]
 pub enum Openness {
     Any,
     /// Those in which no variable is free.
@@ -26,7 +26,7 @@ pub enum Openness {
 }
 
 /// What has to stand behind the problem of an input.
-#[derive(Clone, Copy, Debug, PartialEq, Eq)]
+#[derive(Clone, Copy, Debug)]
 pub enum Tail {
     Nothing,
     Certificate,

@@ -20,6 +20,8 @@ fn reason_word(reason: Reason) -> &'static [u8]
         Reason::Label => b"label",
         Reason::Short => b"short",
         Reason::Long => b"long",
+        Reason::Class => b"class",
+        Reason::Split => b"split",
         Reason::Count => b"count",
         Reason::Rank => b"rank",
         Reason::Cycle => b"cycle",

@@ -107,7 +107,7 @@ pub fn run<S: Source, K: Sink>(
         (S.rest input.old) (K.taken output.old) (K.taken output.new) }
     ensures printed { (options : Options) (formula : Text)
         → request_of (map string_bytes words.now) ≡ Some (Decide options true formula)
-        → result.status ≡ positive → PrintsTruth formula
+        → result.status ≡ positive → PrintsTruth options.reduces formula
         (S.rest input.old) (K.taken output.old) (K.taken output.new) }
     ensures accepted { (options : Options) (formula bytes text : Text)
         → request_of (map string_bytes words.now) ≡ Some (Decide options true formula)

@@ -1,5 +1,5 @@
 //! What a question about a formula comes to over an input.
-ghost use Rattle.std.specs.Prelude.{◌≡◌, List, None, false, IfOk, IfErr, OnOk};
+ghost use Rattle.std.specs.Prelude.{◌≡◌, List, None, IfOk, IfErr, OnOk};
 ghost use Rattle.fort_theory.specs.Sides as theory;
 ghost use Rattle.fort_theory.specs.Patterns.{PatternSystem, pattern_system};
 ghost use Rattle.fort_theory.specs.Trees.{Tree};
@@ -17,7 +17,7 @@ ghost use Rattle.fort_answers.specs.InputAnswer.{Behind as BehindOf};
 ghost use Rattle.fort_engine.specs.AnswerView.{as_answer, IfOver, KeepsCapAt, IsLimit};
 ghost use Rattle.fort_run.specs.Inputs.{IsBehind};
 ghost use Rattle.fort_run.specs.Posed.{IsClosedFor, IsPosed, Settles, SettlesCore};
-ghost use Rattle.fort_run.specs.Questions.{openness_of, tail_of, CanBeAskedOf};
+ghost use Rattle.fort_run.specs.Questions.{openness_of, tail_of};
 ghost use Rattle.fort_run.specs.Ready.{IsLawful, IsReady, IsDecidedBy};
 ghost use Rattle.fort_run.specs.StatusView.{code_of};
 ghost use Rattle.fort_run.specs.declared.question.Question.TheVariants.{Truth, Terms, Certificate};
@@ -29,6 +29,7 @@ use crate::question::Question;
 use crate::reply::Reply;
 use crate::status::Status;
 use crate::witness::witness;
+use fort_certificate::Version;
 use fort_engine::{EngineFault, Last, decide_with};
 use fort_formulas::{Core, CoreFault, Formula, to_core};
 use fort_terms::{System, Term};
@@ -140,16 +141,15 @@ fn certificate(
     core: &Core,
     options: Options,
 ) -> Result<Reply, AllocError>
-    requires posed { (f : logic.Formula) × (terms : List Tree)
+    requires { (f : logic.Formula) × (terms : List Tree)
         × IsPosed Closed f system.now terms (as_core core.now) }
-    requires plain { options.reduces ≡ false }
     ensures { IfOk result (λ r. (f : logic.Formula)
         → SettlesCore (Certificate options) system.now tt (as_core core.now) f r) }
 {
-    match decide_with_steps(alloc, system, core, options.states) {
+    match decide_with_steps(alloc, system, core, options.states, options.reduces) {
         Ok(recorded) => {
-            let number = system.number();
-            let text = fort_certificate::text(alloc, number, recorded.verdict, &recorded.steps)?;
+            let version = Version::new(options.reduces, system.number());
+            let text = fort_certificate::text(alloc, version, recorded.verdict, &recorded.steps)?;
             Ok(Reply::of(Status::Positive, text))
         }
         Err(fault) => limit_reply(alloc, fault, options.states),
@@ -168,7 +168,6 @@ pub fn verdict(
     requires closed { IsClosedFor (openness_of question) (as_formula formula.now) }
     requires behind { (behind : BehindOf (tail_of question))
         × IsBehind (tail_of question) input.now.behind behind }
-    requires asked { CanBeAskedOf question }
     ensures { IfOk result (Settles question input.now terms.now (as_formula formula.now)) }
 {
     let system = &input.system;

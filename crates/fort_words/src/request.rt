@@ -86,10 +86,6 @@ fn asked_to_decide<'a>(matches: &ArgMatches<'a>) -> Option<Request<'a>>
     let options = options_given(matches)?;
     let formula = value_of(matches, FORMULA)?;
     let certificate = is_set(matches, CERTIFICATE);
-    // No certificate of reduced tables is written.
-    if certificate && options.reduces {
-        return None;
-    }
     Some(Request::Decide {
         options,
         certificate,

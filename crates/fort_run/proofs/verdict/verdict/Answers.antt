@@ -1,4 +1,4 @@
-use Rattle.std.proofs.Common.{[], subst}
+use Rattle.std.proofs.Common.{subst}
 use Rattle.std.proofs.lemmas.Result.{IfOk-weaker}
 use Rattle.fort_formulas.specs.CoreView.{as_core}
 use Rattle.fort_formulas.specs.FormulaView.{as_formula}
@@ -6,12 +6,9 @@ use Rattle.fort_answers.specs.InputAnswer.{ACertificate}
 use Rattle.fort_run.specs.declared.question.Question.TheVariants.{Truth, Certificate, Terms, Check}
 use Rattle.fort_run.specs.Inputs.{IsBehind}
 use Rattle.fort_run.specs.Posed.{IsPosed, SettlesCore}
-use Rattle.fort_run.specs.Questions.{openness_of, CanBeAskedOf}
+use Rattle.fort_run.specs.Questions.{openness_of}
 use Rattle.fort_run.proofs.PosedQuestions.{settled}
 use Rattle.fort_run.proofs.verdict.verdict.Goals as goal
-
-pub certificate-requires-clause-plain : goal.certificate-requires-clause-plain
-certificate-requires-clause-plain c = subst CanBeAskedOf c.in-Certificate.is c.requires.asked []
 
 pub returns-in-Truth : goal.returns-in-Truth
 returns-in-Truth c =
