@@ -73,6 +73,25 @@ pub fn run_command(
     }))
 }
 
+/// The formula that a command of `decide` without a flag asks about, where its status says that it is true or false.
+pub fn decided_formula<'a>(line: &'a str, status: &str) -> Option<&'a str> {
+    let formula = line.strip_prefix("decide ")?;
+    let is_verdict = status == "0" || status == "1";
+    if is_verdict && !formula.contains("--") {
+        Some(formula)
+    } else {
+        None
+    }
+}
+
+/// A command line of these words in front and a formula.
+pub fn command_on(alloc: Global, front: &str, formula: &str) -> Result<String, AllocError> {
+    let mut command = String::from_str(alloc, front)?;
+    command.push(' ')?;
+    command.push_str(formula)?;
+    Ok(command)
+}
+
 /// The same question with reduced tables, where the command is one of `decide` or `witness` without `--reduce` and `--certificate`, and its
 /// status says that no part is over the cap: then the answer may not differ.
 pub fn reduced_command(

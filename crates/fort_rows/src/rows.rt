@@ -1,5 +1,5 @@
 //! The rows, line by line.
-use crate::command::{Answer, reduced_command, run_command};
+use crate::command::{Answer, command_on, decided_formula, reduced_command, run_command};
 use crate::escape::push_text;
 use std::alloc::{AllocError, Global};
 use std::rt::Files;
@@ -202,10 +202,41 @@ impl Rows {
         if let Some(reduced) = reduced_command(self.alloc, command.as_str(), status)? {
             self.run_row(rt, reduced.as_str(), status)?;
         }
+        if let Some(formula) = decided_formula(command.as_str(), status) {
+            if self.problem.len() <= ROW_ROOM {
+                self.certify(rt, "decide --certificate", formula, status)?;
+                self.certify(rt, "decide --reduce --certificate", formula, status)?;
+            }
+        }
         if let Some(length) = self.behind {
             self.problem.truncate(length);
             self.behind = None;
         }
+        Ok(())
+    }
+
+    /// Puts the certificate that a command writes behind the problem for the check of it, which has to find the verdict of this status.
+    fn certify<R: Print + AllocGlobal>(
+        &mut self,
+        rt: &R,
+        writing: &str,
+        formula: &str,
+        status: &str,
+    ) -> io::Result<()> {
+        let length = self.problem.len();
+        let command = command_on(self.alloc, writing, formula)?;
+        self.put_behind(rt, command.as_str())?;
+        let verdict = if status == "0" {
+            "CERTIFIED YES\n"
+        } else {
+            "CERTIFIED NO\n"
+        };
+        self.wanted.clear();
+        self.wanted.extend_from_slice(verdict.as_bytes())?;
+        let check = command_on(self.alloc, "check", formula)?;
+        self.run_row(rt, check.as_str(), "0")?;
+        self.problem.truncate(length);
+        self.is_used = true;
         Ok(())
     }
 

@@ -53,24 +53,63 @@ fn certificate_of(alloc: Global, child: u32) -> Result<Certificate, Memory> {
     })
 }
 
-/// Whether each of two checks gives this answer.
-fn is_answer(alloc: Global, child: u32, answer: Result<bool, Rejected>) -> Result<bool, Fail> {
+/// A certificate in which the states of "some term is reached" are joined: the second is of this class.
+fn certificate_with_merge(alloc: Global, class: u32) -> Result<Certificate, Memory> {
+    let pair = ClosureEntry {
+        p: 0,
+        q: 0,
+        why: Why::Any,
+    };
+    let pairs = [0, 1, 2, 3, 4, 5, 6, 7, 3, 4, 8, 5, 6, 7, 7, 8];
+    let mut steps = Vec::new(alloc);
+    steps.push(Step::Closure(Which::Star, 1, Vec::from_slice(alloc, &[pair])?))?;
+    steps.push(Step::Part(0, Vec::from_slice(alloc, &pairs)?))?;
+    steps.push(Step::Part(1, Vec::from_slice(alloc, &[0, 1, 1])?))?;
+    steps.push(Step::Merge(1, Vec::from_slice(alloc, &[0, class])?))?;
+    steps.push(Step::Counts(2, Vec::from_slice(alloc, &[Count::Infinite(0)])?))?;
+    steps.push(Step::Value(2, true))?;
+    Ok(Certificate {
+        first: 5,
+        verdict: true,
+        steps,
+    })
+}
+
+/// Whether each of two checks of a certificate gives this answer.
+fn is_answer(
+    alloc: Global,
+    certificate: &Certificate,
+    answer: Result<bool, Rejected>,
+) -> Result<bool, Fail> {
     let system = system_of(alloc)?;
     let core = many_reduced(alloc)?;
-    let certificate = certificate_of(alloc, child)?;
-    let mut checker = Checker::new(alloc, &system, &core, &certificate)?;
+    let mut checker = Checker::new(alloc, &system, &core, certificate)?;
     let first = checker.check();
     Ok(first == answer && checker.check() == answer)
 }
 
 #[test]
 fn the_same_again(rt: HostRuntime) -> Result<(), Fail> {
-    assert!(rt; is_answer(rt.alloc(), 1, Ok(true))?);
+    let alloc = rt.alloc();
+    assert!(rt; is_answer(alloc, &certificate_of(alloc, 1)?, Ok(true))?);
     let rejected = Rejected {
         form: 9,
         place: 1,
         reason: Reason::Cycle,
     };
-    assert!(rt; is_answer(rt.alloc(), 0, Err(rejected))?);
+    assert!(rt; is_answer(alloc, &certificate_of(alloc, 0)?, Err(rejected))?);
+    Ok(())
+}
+
+#[test]
+fn states_are_joined(rt: HostRuntime) -> Result<(), Fail> {
+    let alloc = rt.alloc();
+    assert!(rt; is_answer(alloc, &certificate_with_merge(alloc, 0)?, Ok(true))?);
+    let rejected = Rejected {
+        form: 9,
+        place: 1,
+        reason: Reason::Class,
+    };
+    assert!(rt; is_answer(alloc, &certificate_with_merge(alloc, 2)?, Err(rejected))?);
     Ok(())
 }
