@@ -44,6 +44,7 @@ class Command:
     status: int
     first_line: str
     edit: tuple = ()  # `old, new`: the program's own certificate stands behind the problem, with old replaced by new
+    flags: tuple = ()  # with which that certificate is written
     length: int = 0  # blanks stand behind all, up to so many bytes
     pieces: tuple = BY_BYTES
 
@@ -67,13 +68,18 @@ def witnessed(status: int, first_line: str, problem: str, *words: str) -> Comman
     return Command("witness", ("witness", *words), problem, status, first_line)
 
 
-def written(first_line: str, problem: str, formula: str) -> Command:
-    return Command("decide --certificate", ("decide", "--certificate", formula), problem, 0, first_line)
+def written(first_line: str, problem: str, *words: str) -> Command:
+    return Command("decide --certificate", ("decide", "--certificate", *words), problem, 0, first_line)
 
 
-def checked(status: int, first_line: str, problem: str, formula: str, old: str = "", new: str = "") -> Command:
+def checked(status: int, first_line: str, problem: str, formula: str, old: str = "", new: str = "", flags: tuple = ()) -> Command:
     """The certificate is the one that the program writes for the formula, with `old` replaced by `new`."""
-    return Command("check", ("check", formula), problem, status, first_line, edit=(old, new))
+    return Command("check", ("check", formula), problem, status, first_line, edit=(old, new), flags=flags)
+
+
+def checked_merges(status: int, first_line: str, problem: str, formula: str, old: str = "", new: str = "") -> Command:
+    """The same of the certificate of reduced tables."""
+    return checked(status, first_line, problem, formula, old, new, flags=("--reduce",))
 
 
 def asks_nothing(*words: str | bytes) -> Command:
@@ -131,11 +137,16 @@ ANSWERS = [
     written("(certificate 1 no)", RING, PEAK),
     written("(certificate 1 yes)", FALLS, "SN"),
     written("(certificate 2 yes)", TWO, "COM"),
+    written("(certificate 3 yes)", GROWS, "--reduce", MANY),
+    written("(certificate 3 yes)", TWO, "--reduce", "COM"),
     checked(0, "CERTIFIED YES", GROWS, MANY),
     checked(0, "CERTIFIED NO", RING, "CR"),
     checked(0, "CERTIFIED NO", RING, PEAK),
     checked(0, "CERTIFIED YES", FALLS, "SN"),
     checked(0, "CERTIFIED YES", TWO, "COM"),
+    checked_merges(0, "CERTIFIED YES", GROWS, MANY),
+    checked_merges(0, "CERTIFIED YES", TWO, "COM"),
+    checked_merges(1, "REJECTED form 7 place 6 class", GROWS, MANY, "1 3 2 3)", "1 2 2 3)"),
     checked(1, "REJECTED form 4 place 0 verdict", GROWS, MANY, " yes", " no"),
     checked(1, "REJECTED form 5 place 0 due", GROWS, MANY, "closure star", "closure conv"),
     checked(1, "REJECTED form 6 place 15 short", GROWS, MANY, " 7 8)", " 7)"),
