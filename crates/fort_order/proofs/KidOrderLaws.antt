@@ -1,5 +1,5 @@
 -- Children in the order of tuples, and what is rebuilt from them: with children that aren't after others, the tuple isn't after the other one.
-use Rattle.std.proofs.Common.{◌≡◌, ℕ, zero, suc, ◌-◌, ◌<◌, ◌≤◌, ◌⊎◌, max, List, [], ◌∷◌, length, get_or, Option, None, Some, refl, ap, sym, ◌∙◌, arith, subst, inl, inr, ⊎_elim}
+use Rattle.std.proofs.Common.{◌≡◌, ℕ, suc, ◌-◌, ◌<◌, ◌≤◌, ◌⊎◌, max, List, [], ◌∷◌, length, get_or, Option, None, Some, refl, ap, sym, ◌∙◌, arith, subst, inl, inr, ⊎_elim}
 use Rattle.std.proofs.lemmas.Bool.{cases_lt}
 use Rattle.fort_theory.specs.Trees.{Tree, Trees, Node, Nil, More, heights, tree_count}
 use Rattle.fort_theory.specs.Signatures.{Signature}
@@ -37,7 +37,7 @@ kid_count_of sig f us h = sym (length-tabulate (kid_count (rebuilt f us)) (kid (
 pub level_rebuilt : (sig : Signature) (f : TupleSymbol) (us : List Tuple) (n : ℕ) → AreKids sig f us → ((j : ℕ) → j < length us → level (get_or us j []) ≤ n) → level (rebuilt f us) ≤ suc n
 level_rebuilt sig f us n h k = level_from_kids (rebuilt f us) n (λ j l. omega (arith, ap level (kid_at sig f us j h l), k j (omega (arith, kid_count_of sig f us h))))
 
-level_of_kid : (sig : Signature) (f : TupleSymbol) (us : List Tuple) (j n : ℕ) → AreKids sig f us → j < length us → level (rebuilt f us) ≤ suc n → level (get_or us j []) ≤ n
+pub level_of_kid : (sig : Signature) (f : TupleSymbol) (us : List Tuple) (j n : ℕ) → AreKids sig f us → j < length us → level (rebuilt f us) ≤ suc n → level (get_or us j []) ≤ n
 level_of_kid sig f us j n h l m = omega (arith, ap level (kid_at sig f us j h (omega (arith, kid_count_of sig f us h))), level_kid (rebuilt f us) j n m)
 
 -- each tuple is the same or before

@@ -1,5 +1,5 @@
 -- The least tuple of a relation: it isn't after any other, and there is one at most.
-use Rattle.std.proofs.Common.{◌≡◌, ℕ, sym, ⊎_elim, inl, inr}
+use Rattle.std.proofs.Common.{◌≡◌, ℕ, ⊎_elim, inl, inr}
 use Rattle.fort_theory.specs.Signatures.{Signature}
 use Rattle.fort_tables.specs.Tuples.{Tuple, IsTuple, IsFull}
 use Rattle.fort_operations.specs.OperationTruth.{TupleRelation}

@@ -1,3 +1,5 @@
 pub mod TupleOrder
 pub mod LeastTuple
+pub mod FirstInOrder
+pub mod Solutions
 pub mod TermText
