@@ -8,3 +8,16 @@ pub mod NodesLaws
 pub mod SearchLaws
 pub mod TextLaws
 pub mod WitnessLaws
+pub mod ExchangeLaws
+pub mod SolutionLaws
+pub mod ChoiceLaws
+pub mod NodeListLaws
+pub mod MakingLaws
+pub mod EntriesToLaws
+pub mod StepLaws
+pub mod FirstRowsLaws
+pub mod TurnLaws
+pub mod PushedLaws
+pub mod NextRowLaws
+pub mod StartLaws
+pub mod AnswerLaws

@@ -5,3 +5,9 @@ pub mod Rounds
 pub mod Searching
 pub mod RowsLeft
 pub mod Pieces
+pub mod Placing
+pub mod Choices
+pub mod Heads
+pub mod Accepted
+pub mod Making
+pub mod Solving

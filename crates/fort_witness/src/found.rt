@@ -39,7 +39,7 @@ pub struct Search {
 }
 
 /// The row over the states of its nodes.
-fn over_states(states: &[u32], row: &Row) -> Row
+pub fn over_states(states: &[u32], row: &Row) -> Row
     requires { (j : ℕ) → j < length row.now.kids
         → slice_index_or row.now.kids j 0 < length states.now }
     ensures { result ≡ over_states_lem states.now row.now }
