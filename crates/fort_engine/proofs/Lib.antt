@@ -5,3 +5,4 @@ pub mod JoinLaws
 pub mod DecideLaws
 pub mod ClosureLaws
 pub mod ReducedTables
+pub mod StateLaws

@@ -1,5 +1,5 @@
--- To believe: which answer of the definitions an answer of the program is; a fault of deciding is want of memory, or a part over the cap with its kind and the tuples that show it, with reduced tables or without.
-use Rattle.std.specs.Prelude.{◌≡◌, ◌<◌, ℕ, List, length, get_or, Bool}
+-- To believe: which answer of the definitions an answer of the program is, and how many states its table has; a fault of deciding is want of memory, or a part over the cap with its kind and the tuples that show it, with reduced tables or without.
+use Rattle.std.specs.Prelude.{◌≡◌, ◌<◌, ◌≤◌, ℕ, List, length, get_or, Bool}
 use Rattle.fort_theory.specs.Patterns.{PatternSystem}
 use Rattle.fort_cores.specs.Cores as core
 use Rattle.fort_cores.specs.PartLists.{AreParts}
@@ -15,6 +15,11 @@ use Rattle.fort_engine.specs.declared.answer.Last.TheVariants.{Truth, Auto}
 use Rattle.fort_engine.specs.declared.answer.Limit.{Limit}
 use Rattle.fort_engine.specs.declared.answer.EngineFault.{EngineFault}
 use Rattle.fort_engine.specs.declared.answer.EngineFault.TheVariants.{Memory, Over}
+
+-- a table has at most so many states
+abbrev pub HasStatesWithin : ℕ → Last → Type 0
+HasStatesWithin n (Truth b) = Unit {0}
+HasStatesWithin n (Auto table) = length table.presences ≤ n
 
 abbrev pub as_answer : Last → parts.Answer
 as_answer (Truth b) = parts.OfValue b

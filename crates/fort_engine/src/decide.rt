@@ -7,7 +7,7 @@ ghost use Rattle.fort_parts.specs.DecidedCores.{IsDecided};
 ghost use Rattle.fort_parts.specs.PartAnswers.{IsAnswerTo};
 ghost use Rattle.fort_outline.specs.Roots.{HasOperandsBelow};
 ghost use Rattle.fort_outline.specs.Outlines.{parts_in};
-ghost use Rattle.fort_engine.specs.AnswerView.{as_answer, IfOver, KeepsCapAt, IsLimit};
+ghost use Rattle.fort_engine.specs.AnswerView.{as_answer, HasStatesWithin, IfOver, KeepsCapAt, IsLimit};
 ghost use Rattle.fort_engine.specs.Kept.{IsSoFar};
 ghost use Rattle.fort_engine.specs.Closures.{AreClosures};
 ghost use Rattle.fort_engine.specs.Deciding.{IsPlanned};
@@ -114,6 +114,7 @@ pub fn decide_with(
         (as_core core.now) (as_answer t.last)) }
     ensures within { OnOk result (KeepsCapAt system.now options.now.reduces (as_core core.now)
         options.now.cap) }
+    ensures states { IfOk result (λ t. HasStatesWithin options.now.cap t.last) }
     ensures over { IfErr result (λ e. IfOver e
         (IsLimit system.now options.now.reduces (as_core core.now) options.now.cap)) }
 {
