@@ -4,36 +4,35 @@ use Rattle.fort_logic.specs.Formulas.{Formula}
 use Rattle.fort_formula_grammar.proofs.OneFormula.{IsFormulaText-unique}
 use Rattle.fort_answers.specs.Requests.{Text}
 use Rattle.fort_answers.specs.Lines.{refused}
-use Rattle.fort_answers.specs.FormulaAnswer.{IsAccepted, IsAcceptedClosed, Openness, Any, Closed, IsAcceptedAs, IsRefusedAs}
+use Rattle.fort_answers.specs.FormulaAnswer.{IsAccepted, Openness, IsNotTaken, IsAcceptedAs, IsRefusedAs, Refused, NotTaken}
 use Rattle.fort_answers.specs.SystemAnswer.{Are, Inquiry, IsRefusedEarly}
-use Rattle.fort_answers.proofs.OneVerdict.{accepted-not_refused, closed-not_refused}
-use Rattle.fort_answers.proofs.OneRefusal.{IsRefused-unique, IsRefusedClosed-unique}
+use Rattle.fort_answers.proofs.OneVerdict.{accepted-not_refused, taken-not_refused}
+use Rattle.fort_answers.proofs.OneRefusal.{IsRefused-unique, IsNotTaken-unique}
 
 -- two that are the same are one
 pub Are-unique : (n : ℕ) (x : Text) (status status' : ℕ) (text text' : Text) → Are status text n x → Are status' text' n x → Are status text status' text'
 Are-unique n x status status' text text' are are' =
     record { same_status = are.same_status ∙ sym are'.same_status; same_text = are.same_text ∙ sym are'.same_text }
 
--- a formula's text is accepted as one formula
-pub IsAccepted-unique : (text : Text) (f f' : Formula) → IsAccepted text f → IsAccepted text f' → f ≡ f'
+-- a formula's text is accepted as one formula, or refused by one line, and not both
+
+IsAccepted-unique : (text : Text) (f f' : Formula) → IsAccepted text f → IsAccepted text f' → f ≡ f'
 IsAccepted-unique text f f' is is' = IsFormulaText-unique is.read is'.read
 
-pub IsAcceptedClosed-unique : (text : Text) (f f' : Formula) → IsAcceptedClosed text f → IsAcceptedClosed text f' → f ≡ f'
-IsAcceptedClosed-unique text f f' is is' = IsAccepted-unique text f f' is.accepted is'.accepted
-
--- and likewise where any or only closed ones are taken
-
 pub IsAcceptedAs-unique : (o : Openness) (text : Text) (f f' : Formula) → IsAcceptedAs o text f → IsAcceptedAs o text f' → f ≡ f'
-IsAcceptedAs-unique Any text f f' is is' = IsAccepted-unique text f f' is is'
-IsAcceptedAs-unique Closed text f f' is is' = IsAcceptedClosed-unique text f f' is is'
+IsAcceptedAs-unique o text f f' is is' = IsAccepted-unique text f f' is.accepted is'.accepted
 
 IsRefusedAs-unique : (o : Openness) (text line line' : Text) → IsRefusedAs o text line → IsRefusedAs o text line' → line ≡ line'
-IsRefusedAs-unique Any text line line' is is' = IsRefused-unique text line line' is is'
-IsRefusedAs-unique Closed text line line' is is' = IsRefusedClosed-unique text line line' is is'
+IsRefusedAs-unique o text line line' (Refused faulty) (Refused faulty') = IsRefused-unique text line line' faulty faulty'
+IsRefusedAs-unique o text line line' (Refused faulty) (NotTaken g accepted not) = absurd (accepted-not_refused text g line accepted faulty)
+IsRefusedAs-unique o text line line' (NotTaken f accepted not) (Refused faulty) = absurd (accepted-not_refused text f line' accepted faulty)
+IsRefusedAs-unique o text line line' (NotTaken f accepted not) (NotTaken g accepted' not') =
+    IsNotTaken-unique o f line line' not (subst (λ h. IsNotTaken o h line') (IsAccepted-unique text g f accepted' accepted) not')
 
 pub accepted_as-not_refused : (o : Openness) (text line : Text) (f : Formula) → IsAcceptedAs o text f → IsRefusedAs o text line → ⊥
-accepted_as-not_refused Any text line f is refusal = accepted-not_refused text f line is refusal
-accepted_as-not_refused Closed text line f is refusal = closed-not_refused text f line is refusal
+accepted_as-not_refused o text line f is (Refused faulty) = accepted-not_refused text f line is.accepted faulty
+accepted_as-not_refused o text line f is (NotTaken g accepted not) =
+    taken-not_refused o f line is.taken (subst (λ h. IsNotTaken o h line) (IsAccepted-unique text g f accepted is.accepted) not)
 
 module _ (inquiry : Inquiry) where
   pub IsRefusedEarly-unique : (s s' : ℕ) (t t' : Text) → IsRefusedEarly inquiry s t → IsRefusedEarly inquiry s' t' → Are s t s' t'

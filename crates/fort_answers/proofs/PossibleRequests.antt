@@ -1,12 +1,12 @@
--- Words ask for samples of the sizes that there are.
+-- What words ask keeps its ranges: the size of a made problem, the cap of solutions, and how many are wanted.
 use Rattle.std.proofs.Common.{◌≡◌, ℕ, ◌≤◌, Bool, true, false, List, [], ◌∷◌, Option, Some, None, refl}
 use Rattle.std.proofs.lemmas.Bool.{leb-true}
-use Rattle.std.specs.Prelude.{◌&&◌, find, if◌then◌else◌, nat_le, option_and_then, option_map}
+use Rattle.std.specs.Prelude.{◌&&◌, find, if◌then◌else◌, nat_le, IfSome, option_and_then, option_map}
 use Rattle.std.specs.Fmt.{decimal}
 use Rattle.std.specs.Str.{bytes_eq}
 use Rattle.std.specs.Str.Parse.{digits_value}
-use Rattle.fort_answers.specs.Requests.{Text, Request, Decide, Witness, Check, Sample, number_in}
-use Rattle.fort_answers.specs.Commands.{Given, Command, commands, decide, witness, check, sample, is_set, options_given, certificate_name, formula_name, count}
+use Rattle.fort_answers.specs.Requests.{Text, Options, Bounds, Request, Decide, Witness, Check, Sample, Solutions, number_in}
+use Rattle.fort_answers.specs.Commands.{Given, Command, commands, decide, witness, check, sample, solutions, is_set, number_given, options_given, bounds_given, reduce_name, certificate_name, formula_name, states, count, height, most}
 use Rattle.fort_answers.specs.CommandGrammar.{items_of, is_complete, given_by, words_among, asked_by, request_by, request_of}
 use Rattle.fort_answers.specs.PossibleRequests.{IsPossible}
 
@@ -22,19 +22,61 @@ keeps_map : {A : Type 0} (f : A → Request) (x : Option A) → ((a : A) → IsP
 keeps_map f None h = tt
 keeps_map f (Some a) h = h a
 
-in_range : (low high : Bool) (rest : Bool) (n : ℕ) → (low ≡ true → 1 ≤ n) → (high ≡ true → n ≤ 64)
-    → IsPossible (option_map Sample (if low && (high && rest) then Some n else None))
-in_range false high rest n l h = tt
-in_range true false rest n l h = tt
-in_range true true false n l h = tt
-in_range true true true n l h = record { low = l refl; high = h refl }
+keeps_then_if : {A : Type 0} (P : A → Type 0) (f : A → Option Request) (x : Option A) → IfSome x P → ((a : A) → P a → IsPossible (f a))
+    → IsPossible (option_and_then f x)
+keeps_then_if P f None given h = tt
+keeps_then_if P f (Some a) given h = h a given
 
-keeps_size : (text : Option Text) → IsPossible (option_map Sample (option_and_then (number_in 1 64) text))
+keeps_map_if : {A : Type 0} (P : A → Type 0) (f : A → Request) (x : Option A) → IfSome x P → ((a : A) → P a → IsPossible (Some (f a)))
+    → IsPossible (option_map f x)
+keeps_map_if P f None given h = tt
+keeps_map_if P f (Some a) given h = h a given
+
+-- ---- a number that is given is in its range
+
+abbrev IsWithin : (low high n : ℕ) → Type 0
+IsWithin low high n = (low ≤ n) × (n ≤ high)
+
+within_if : (low high n : ℕ) (from to rest : Bool) → (from ≡ true → low ≤ n) → (to ≡ true → n ≤ high)
+    → IfSome (if from && (to && rest) then Some n else None) (IsWithin low high)
+within_if low high n false to rest l h = tt
+within_if low high n true false rest l h = tt
+within_if low high n true true false l h = tt
+within_if low high n true true true l h = (l refl, h refl)
+
+number_within : (low high : ℕ) (text : Option Text) → IfSome (option_and_then (number_in low high) text) (IsWithin low high)
 unfolding number_in
-keeps_size None = tt
-keeps_size (Some text) =
+number_within low high None = tt
+number_within low high (Some text) =
     let n = digits_value 10 text in
-    in_range (nat_le 1 n) (nat_le n 64) (bytes_eq text (decimal n)) n (leb-true 1 n) (leb-true n 64)
+    within_if low high n (nat_le low n) (nat_le n high) (bytes_eq text (decimal n)) (leb-true low n) (leb-true n high)
+
+abbrev HasFewStates : Options → Type 0
+HasFewStates options = IsWithin states.low states.high options.states
+
+options_within : (given : Given) → IfSome (options_given given) HasFewStates
+options_within given =
+    made (number_given states given) (is_set reduce_name given) (number_within states.low states.high (given states.name))
+  where
+    made : (x : Option ℕ) (reduces : Bool) → IfSome x (IsWithin states.low states.high)
+        → IfSome (option_map {U = Options} (λ n. record { states = n; reduces = reduces }) x) HasFewStates
+    made None reduces within = tt
+    made (Some n) reduces within = within
+
+abbrev HasFewSolutions : Bounds → Type 0
+HasFewSolutions bounds = IsWithin most.low most.high bounds.most
+
+bounds_within : (given : Given) → IfSome (bounds_given given) HasFewSolutions
+bounds_within given =
+    made (number_given height given) (number_given most given) (number_within most.low most.high (given most.name))
+  where
+    made : (x y : Option ℕ) → IfSome y (IsWithin most.low most.high)
+        → IfSome (option_and_then (λ h. option_map {U = Bounds} (λ m. record { height = h; most = m }) y) x) HasFewSolutions
+    made None y within = tt
+    made (Some h) None within = tt
+    made (Some h) (Some m) within = within
+
+-- ---- by command
 
 -- each command asks what can be asked, whatever is given
 abbrev AsksPossible : Command → Type 0
@@ -53,14 +95,23 @@ check_possible : AsksPossible check
 check_possible given = keeps_map Check (given formula_name) (λ f. tt)
 
 sample_possible : AsksPossible sample
-sample_possible given = keeps_size (given count.name)
+sample_possible given =
+    keeps_map_if (IsWithin count.low count.high) Sample (number_given count given) (number_within count.low count.high (given count.name))
+    (λ n within. record { low = within.0; high = within.1 })
+
+solutions_possible : AsksPossible solutions
+solutions_possible given =
+    keeps_then_if HasFewStates (λ o. option_and_then (λ b. option_map (Solutions o b) (given formula_name)) (bounds_given given))
+    (options_given given) (options_within given) (λ o states.
+    keeps_then_if HasFewSolutions (λ b. option_map (Solutions o b) (given formula_name)) (bounds_given given) (bounds_within given) (λ b few.
+    keeps_map (Solutions o b) (given formula_name) (λ f. record { states = states.1; some = few.0; few = few.1 })))
 
 abbrev AllPossible : List Command → Type 0
 AllPossible [] = Unit {0}
 AllPossible (c ∷ cs) = AsksPossible c × AllPossible cs
 
 all_possible : AllPossible commands
-all_possible = (decide_possible, (witness_possible, (check_possible, (sample_possible, tt))))
+all_possible = (decide_possible, (witness_possible, (check_possible, (sample_possible, (solutions_possible, tt)))))
 
 keeps_request : (c : Command) (ws : List Text) → AsksPossible c → IsPossible (request_by c ws)
 keeps_request c ws possible =

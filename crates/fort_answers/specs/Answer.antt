@@ -1,13 +1,14 @@
 -- To believe: the one status and text that the program owes to words and bytes: the usage text where the words ask nothing, else what the request owes.
 use Rattle.std.specs.Prelude.{◌≡◌, ℕ, List, Option, Some, None}
 use Rattle.fort_logic.specs.Formulas.{Formula}
-use Rattle.fort_answers.specs.Requests.{Text, Options, Request, Decide, Witness, Check, Sample}
+use Rattle.fort_answers.specs.Requests.{Text, Options, Request, Decide, Witness, Check, Sample, Solutions}
 use Rattle.fort_answers.specs.CommandGrammar.{request_of}
 use Rattle.fort_answers.specs.Lines.{usage, usage_text}
 use Rattle.fort_answers.specs.FormulaAnswer.{IsAcceptedAs}
 use Rattle.fort_answers.specs.SystemAnswer.{Are, Inquiry, IsRefusedEarly, IsAnswerTo}
 use Rattle.fort_answers.specs.DecideAnswer.{decide_inquiry}
 use Rattle.fort_answers.specs.WitnessAnswer.{witness_inquiry}
+use Rattle.fort_answers.specs.SolutionsAnswer.{solutions_inquiry}
 use Rattle.fort_answers.specs.SampleAnswer.{SampleAnswer}
 use Rattle.fort_answers.specs.CheckAnswer.{check_inquiry}
 
@@ -29,6 +30,7 @@ owing (Some (Decide options certificate formula)) = About (decide_inquiry option
 owing (Some (Witness options formula)) = About (witness_inquiry options formula)
 owing (Some (Check formula)) = About (check_inquiry formula)
 owing (Some (Sample n)) = WithoutInput (SampleAnswer n)
+owing (Some (Solutions options bounds formula)) = About (solutions_inquiry options bounds formula)
 
 -- the status and the text are owed whatever the input is
 abbrev pub IsOwedEarly : Owing → ℕ → Text → Type 0

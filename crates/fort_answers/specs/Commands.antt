@@ -2,7 +2,7 @@
 use Rattle.std.specs.Prelude.{ℕ, Bool, false, List, [], ◌∷◌, Option, codes, option_and_then, option_map}
 use Rattle.std.specs.Option.{option_map_or}
 use Rattle.std.specs.Str.{bytes_eq}
-use Rattle.fort_answers.specs.Requests.{number_in, Text, Options, Request, Decide, Witness, Check, Sample}
+use Rattle.fort_answers.specs.Requests.{number_in, Text, Options, Bounds, Request, Decide, Witness, Check, Sample, Solutions}
 
 -- ---- what can stand there
 
@@ -61,6 +61,17 @@ formula_name = codes "formula"
 abbrev pub count : Number
 count = record { name = codes "count"; low = 1; high = 64 }
 
+-- how high the terms of solutions may be
+abbrev pub height : Number
+height = record { name = codes "height"; low = 0; high = 64 }
+
+-- how many solutions are wanted
+abbrev pub most : Number
+most = record { name = codes "most"; low = 1; high = 1000 }
+
+abbrev pub default_most : Text
+default_most = codes "1000"
+
 -- ---- what is asked
 
 abbrev pub number_given : Number → Given → Option ℕ
@@ -84,6 +95,14 @@ check_asked given = option_map Check (given formula_name)
 abbrev pub sample_asked : Given → Option Request
 sample_asked given = option_map Sample (number_given count given)
 
+abbrev pub bounds_given : Given → Option Bounds
+bounds_given given =
+    option_and_then (λ h. option_map (λ m. record { height = h; most = m }) (number_given most given)) (number_given height given)
+
+abbrev pub solutions_asked : Given → Option Request
+solutions_asked given =
+    option_and_then (λ o. option_and_then (λ b. option_map (Solutions o b) (given formula_name)) (bounds_given given)) (options_given given)
+
 -- ---- the commands
 
 -- `decide [--states N] [--reduce] [--certificate] FORMULA`
@@ -106,5 +125,13 @@ check = record { name = codes "check"; parameters = TextWord formula_name ∷ []
 abbrev pub sample : Command
 sample = record { name = codes "sample"; parameters = NumberWord count ∷ []; asks = sample_asked }
 
+-- `solutions [--states N] [--most M] H FORMULA`
+abbrev pub solutions : Command
+solutions = record {
+  name = codes "solutions";
+  parameters = Setting states default_states ∷ Setting most default_most ∷ NumberWord height ∷ TextWord formula_name ∷ [];
+  asks = solutions_asked;
+}
+
 abbrev pub commands : List Command
-commands = decide ∷ witness ∷ check ∷ sample ∷ []
+commands = decide ∷ witness ∷ check ∷ sample ∷ solutions ∷ []

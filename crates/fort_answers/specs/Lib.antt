@@ -8,6 +8,7 @@ pub mod FitAnswer
 pub mod SystemAnswer
 pub mod DecideAnswer
 pub mod WitnessAnswer
+pub mod SolutionsAnswer
 pub mod MadeProblem
 pub mod PossibleRequests
 pub mod SampleAnswer

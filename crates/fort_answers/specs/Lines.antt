@@ -18,7 +18,8 @@ abbrev pub usage_text : List ℕ
 usage_text = line (codes "usage: fort decide [--states N] [--reduce] [--certificate] FORMULA")
     ++ (line (codes "       fort witness [--states N] [--reduce] FORMULA")
     ++ (line (codes "       fort check FORMULA")
-    ++ line (codes "       fort sample N")))
+    ++ (line (codes "       fort sample N")
+    ++ line (codes "       fort solutions [--states N] [--most M] H FORMULA"))))
 
 abbrev pub yes_line : List ℕ
 yes_line = line (codes "YES")
@@ -78,6 +79,10 @@ formula_too_wide = line (codes "REFUSED formula too wide")
 abbrev pub formula_open : Name → List ℕ
 formula_open x = line (codes "REFUSED formula open " ++ x)
 
+-- no variable is free
+abbrev pub formula_closed : List ℕ
+formula_closed = line (codes "REFUSED formula closed")
+
 -- the formula speaks of rules of an index that the problem hasn't
 abbrev pub formula_index : ℕ → List ℕ
 formula_index i = numbered (codes "REFUSED formula index ") i
@@ -129,7 +134,7 @@ certificate_fault_line (certificate.OtherVersion i) = certificate_line i (codes 
 abbrev pub positive : ℕ
 positive = 0
 
--- NO
+-- NO, that no terms satisfy the formula, and that a certificate is rejected
 abbrev pub negative : ℕ
 negative = 1
 

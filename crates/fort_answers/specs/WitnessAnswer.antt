@@ -32,11 +32,15 @@ pub record AreLeastWitnesses (system : System) (terms : List Tree) (f : Formula)
   pub are : AreWitnesses system terms f ts
   pub least : (us : List Tree) → AreWitnesses system terms f us → NotAfter (map Some ts) (map Some us)
 
+-- a name with its term
+abbrev pub binding : Signature → Name → Tree → Text
+binding sig x t = x ++ (codes " = " ++ term_text sig t)
+
 -- a line for each name with its term
 abbrev pub bindings : Signature → List Name → List Tree → Text
 bindings sig [] ts = []
 bindings sig (x ∷ xs) [] = []
-bindings sig (x ∷ xs) (t ∷ ts) = line (x ++ (codes " = " ++ term_text sig t)) ++ bindings sig xs ts
+bindings sig (x ∷ xs) (t ∷ ts) = line (binding sig x t) ++ bindings sig xs ts
 
 -- the least terms that satisfy the formula, or that it is false whatever its variables are
 pub data WitnessVerdict (system : System) (terms : List Tree) (f : Formula) (status : ℕ) (text : Text) : Type 0 where
