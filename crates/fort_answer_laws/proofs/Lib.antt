@@ -1,5 +1,7 @@
 pub mod InputStages
 pub mod OneInput
+pub mod TermTuples
 pub mod OneVerdicts
+pub mod OneSolutions
 pub mod OneAnswer
 pub mod OneOwed

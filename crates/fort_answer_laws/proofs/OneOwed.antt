@@ -6,7 +6,7 @@ use Rattle.fort_theory.specs.Sides.{System}
 use Rattle.fort_theory.proofs.Lists.{some-injective}
 use Rattle.fort_logic.specs.Formulas.{Formula}
 use Rattle.fort_certificate_grammar.specs.Certificates.{Certificate}
-use Rattle.fort_answers.specs.Requests.{Text, Request, Decide, Witness, Check, Sample, Options}
+use Rattle.fort_answers.specs.Requests.{Text, Request, Decide, Witness, Check, Sample, Solutions, Options, Bounds}
 use Rattle.fort_answers.specs.Lines.{negative, usage, usage_text, limited}
 use Rattle.fort_answers.specs.FormulaAnswer.{IsAcceptedClosed}
 use Rattle.fort_answers.specs.InputAnswer.{IsInput, IsCertifiedInput}
@@ -15,11 +15,13 @@ use Rattle.fort_answers.specs.SystemAnswer.{Are, KeepsCap, FormulaRefused}
 use Rattle.fort_answers.specs.DecideAnswer.{decide_inquiry}
 use Rattle.fort_answers.specs.WitnessAnswer.{witness_inquiry}
 use Rattle.fort_answers.specs.CheckAnswer.{check_inquiry}
+use Rattle.fort_answers.specs.SolutionsAnswer.{solutions_inquiry}
 use Rattle.fort_answers.specs.Answer.{Owing, WithoutInput, About, owing, IsOwedEarly, IsOwed, owed_early, owed, OwesTold, IsAbout}
 use Rattle.fort_answers.specs.PossibleRequests.{IsPossible}
 use Rattle.fort_answers.proofs.OneRequest.{Are-unique}
 use Rattle.fort_answers.proofs.OneSample.{SampleAnswer-unique}
 use Rattle.fort_answer_laws.proofs.OneVerdicts.{DecideVerdict-unique, DecideVerdict-low, WitnessVerdict-unique, WitnessVerdict-low, CheckVerdict-unique, CheckVerdict-low}
+use Rattle.fort_answer_laws.proofs.OneSolutions.{SolutionsVerdict-unique, SolutionsVerdict-low}
 use Rattle.fort_answer_laws.proofs.OneAnswer.{SaysOne, SaysLow, IsAnswerTo-unique, IsAnswerTo-low}
 
 -- ---- what each command says
@@ -43,6 +45,13 @@ check_one formula system behind terms f s s' t t' constant grounded one other = 
 check_low : (formula : Text) → SaysLow (check_inquiry formula)
 check_low formula system behind terms f s t says = CheckVerdict-low system behind terms f s t says
 
+solutions_one : (options : Options) (bounds : Bounds) (formula : Text) → SaysOne (solutions_inquiry options bounds formula)
+solutions_one options bounds formula system behind terms f s s' t t' constant grounded one other =
+    SolutionsVerdict-unique bounds system terms f s s' t t' one other
+
+solutions_low : (options : Options) (bounds : Bounds) (formula : Text) → SaysLow (solutions_inquiry options bounds formula)
+solutions_low options bounds formula system behind terms f s t says = SolutionsVerdict-low bounds system terms f s t says
+
 -- ---- requests
 
 -- Result: to a request that can be asked, and to words that are none, one status and text are owed for these bytes
@@ -55,6 +64,8 @@ owed-unique (Some (Witness options formula)) bytes s s' t t' possible one other 
     IsAnswerTo-unique (witness_inquiry options formula) bytes (witness_one options formula) s s' t t' one other
 owed-unique (Some (Check formula)) bytes s s' t t' possible one other = IsAnswerTo-unique (check_inquiry formula) bytes (check_one formula) s s' t t' one other
 owed-unique (Some (Sample n)) bytes s s' t t' possible one other = SampleAnswer-unique n s s' t t' possible.low one other
+owed-unique (Some (Solutions options bounds formula)) bytes s s' t t' possible one other =
+    IsAnswerTo-unique (solutions_inquiry options bounds formula) bytes (solutions_one options bounds formula) s s' t t' one other
 
 from_early : (o : Owing) (bytes : Text) (s : ℕ) (t : Text) → (early : IsOwedEarly o s t) → IsOwed o bytes s t
 from_early (WithoutInput answer) bytes s t early = early
@@ -96,6 +107,9 @@ module _ (asked : Options) (formula : Text) (f : Formula) (bytes : Text) (system
       no_options : None ≡ Some asked → ⊥
       no_options e = cc
   answered_low (Some (Sample n)) about answer = absurd about
+  answered_low (Some (Solutions options bounds text)) about answer =
+      by_options options about.0 (IsAnswerTo-low (solutions_inquiry options bounds text) bytes (solutions_low options bounds text) f system tt terms s t about.2 is
+      (subst (λ x. FitsSystem x f system terms) (sym about.1) fits) answer)
 
 -- Result: a certificate behind a system with all that the formula speaks of is certified or rejected
 pub checked_low : (formula : Text) (f : Formula) (bytes : Text) (system : System) (c : Certificate) (terms : List Tree) (s : ℕ) (t : Text)

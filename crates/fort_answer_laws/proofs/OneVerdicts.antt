@@ -1,5 +1,5 @@
 -- What a command says of a formula over a system is one answer, of a status that is YES's or NO's.
-use Rattle.std.proofs.Common.{◌≡◌, ℕ, ◌≤◌, List, [], ◌∷◌, map, refl, ap, ◌∙◌, subst, arith, ⊎_elim}
+use Rattle.std.proofs.Common.{◌≡◌, ℕ, ◌≤◌, List, map, subst, arith, ⊎_elim}
 use Rattle.std.specs.Prelude.{All, Bool, true, false, length, Some, ◌++◌}
 use Rattle.fort_theory.specs.Trees.{Tree}
 use Rattle.fort_theory.specs.Signatures.{IsGround, HasConstant}
@@ -25,6 +25,7 @@ use Rattle.fort_answers.specs.WitnessAnswer.{AreWitnesses, AreLeastWitnesses, bi
 use Rattle.fort_answers.specs.CertificateAnswer.{CertificateVerdict}
 use Rattle.fort_answers.specs.CheckAnswer.{certified_line, rejected_line, OwesOutcome, CheckVerdict}
 use Rattle.fort_answers.proofs.OneRequest.{Are-unique}
+use Rattle.fort_answer_laws.proofs.TermTuples.{terms-one}
 
 TruthVerdict-unique : (system : System) (terms : List Tree) (f : Formula) (s s' : ℕ) (t t' : Text) → HasConstant system.signature
     → All (IsGround system.signature) terms → TruthVerdict system terms f s t → TruthVerdict system terms f s' t' → Are s t s' t'
@@ -65,18 +66,10 @@ pub DecideVerdict-low : (certificate reduces : Bool) (system : System) (terms : 
 DecideVerdict-low false reduces system terms f s t says = TruthVerdict-low system terms f s t says
 DecideVerdict-low true reduces system terms f s t says = CertificateVerdict-low reduces system terms f s t says
 
-trees_one : (ts us : List Tree) → map Some ts ≡ map Some us → ts ≡ us
-trees_one [] [] e = refl
-trees_one [] (u ∷ us) e = cc
-trees_one (t ∷ ts) [] e = cc
-trees_one (t ∷ ts) (u ∷ us) e =
-    let heads : t ≡ u = cc in let tails : map Some ts ≡ map Some us = cc in
-    ap (λ x. x ∷ ts) heads ∙ ap (λ xs. u ∷ xs) (trees_one ts us tails)
-
 AreLeastWitnesses-unique : (system : System) (terms : List Tree) (f : Formula) (ts us : List Tree) → AreLeastWitnesses system terms f ts
     → AreLeastWitnesses system terms f us → ts ≡ us
 AreLeastWitnesses-unique system terms f ts us one other =
-    ⊎_elim (λ e. trees_one ts us e) (λ before. absurd (not_after_none (map Some us) (map Some ts) (other.least ts one.are) before)) (one.least us other.are)
+    ⊎_elim (λ e. terms-one ts us e) (λ before. absurd (not_after_none (map Some us) (map Some ts) (other.least ts one.are) before)) (one.least us other.are)
 
 none_found : (system : System) (terms : List Tree) (f : Formula) (ts : List Tree) → AreWitnesses system terms f ts → IsFalseOf system terms f → ⊥
 none_found system terms f ts are fails = fails are.assignment are.grounded are.given are.holds
