@@ -1,11 +1,11 @@
 -- What `parse` reads of a text, as the text that `decimal` writes.
-use Rattle.std.proofs.Common.{◌≡◌, ◌≢◌, ◌∙◌, ℕ, ◌≤◌, ◌<◌, ◌^◌, List, Bool, true, ap, sym, arith, get_or}
+use Rattle.std.proofs.Common.{◌≡◌, ◌≢◌, ◌∙◌, ℕ, ◌≤◌, ◌<◌, ◌^◌, List, Bool, true, ap, arith}
 use Rattle.std.specs.Prelude.{Option, Some, None, MatchOption, Result, Ok, Err, nat_le, ◌&&◌, if◌then◌else◌}
 use Rattle.std.specs.Fmt.{decimal}
 use Rattle.std.specs.Str.{bytes_eq}
 use Rattle.std.specs.Str.Parse.{AllDigits, ParsesUnsigned, digits_value}
-use Rattle.std.proofs.lemmas.Str.Parse.{IsNumeralModel, numerals_by_value, parse_plain, tells_digits}
-use Rattle.std.proofs.lemmas.Fmt.{decimal-digits_value, digits_value-decimal, first_decimal, parse-decimal}
+use Rattle.std.proofs.lemmas.Str.Parse.{IsNumeralModel, numerals_by_value, tells_digits}
+use Rattle.std.proofs.lemmas.Fmt.{digits_value-decimal, parse-decimal}
 use Rattle.std.proofs.lemmas.Slice.Eq.{bytes_eq-Decides}
 use Rattle.std.proofs.lemmas.Bool.Decides.{nat_tests}
 use Rattle.fort_answers.specs.Requests.{number_in}
@@ -17,36 +17,21 @@ IsNumberIn low high text answer = MatchOption answer ((n : ℕ) → low ≤ n �
 own : IsNumeralModel (AllDigits 10) (digits_value 10)
 own = numerals_by_value _ tells_digits
 
--- a text that begins above `0` and is read as n is that of n
-pub read_is : {E : Type 0} (text : List ℕ) (n : ℕ) (r : Result ℕ E) → r ≡ Ok n → ParsesUnsigned 32 10 text r → 48 < get_or text 0 0 → text ≡ decimal n
-read_is {E} text n r is h above =
-    let plain = parse_plain own {E = E} 32 text (Ok n) (rw is at h) (λ e. absurd (omega arith)) in
-    let written : decimal (digits_value 10 text) ≡ text = decimal-digits_value own text plain.0.0 plain.0.1 (λ e. absurd (omega arith)) (omega (arith, plain.0.2)) in
-    sym written ∙ ap decimal (sym plain.1)
-
--- the text of a number from 1 on begins above `0`
-pub begins_above : (text : List ℕ) (n : ℕ) → 1 ≤ n → n < 2 ^ 64 → text ≡ decimal n → 48 < get_or text 0 0
-begins_above text n low small e = rw e (first_decimal n (omega arith) small)
-
 -- the text of a number is read as it
-pub reads_back : {E : Type 0} (text : List ℕ) (n : ℕ) (r : Result ℕ E) → n < 2 ^ 32 → text ≡ decimal n → ParsesUnsigned 32 10 text r → r ≡ Ok n
+reads_back : {E : Type 0} (text : List ℕ) (n : ℕ) (r : Result ℕ E) → n < 2 ^ 32 → text ≡ decimal n → ParsesUnsigned 32 10 text r → r ≡ Ok n
 reads_back text n r small e h = parse-decimal 32 n text r small (omega arith) e h
 
--- a text that begins at `0` or below, or is empty, is that of no number from 1 on
-pub begins_below : (text : List ℕ) (low high : ℕ) → 1 ≤ low → high < 2 ^ 32 → get_or text 0 0 ≤ 48 → (n : ℕ) → low ≤ n → n ≤ high → text ≡ decimal n → ⊥
-begins_below text low high one small below n a b e = omega (arith, begins_above text n (omega arith) (omega arith) e)
-
 -- a text that is read as m is that of no other number
-pub read_as_other : {E : Type 0} (text : List ℕ) (m low high : ℕ) (r : Result ℕ E) → r ≡ Ok m → ParsesUnsigned 32 10 text r → high < 2 ^ 32 → (low ≤ m → m ≤ high → ⊥)
-    → (n : ℕ) → low ≤ n → n ≤ high → text ≡ decimal n → ⊥
+pub read_as_other : {E : Type 0} (text : List ℕ) (m low high : ℕ) (r : Result ℕ E) → r ≡ Ok m → ParsesUnsigned 32 10 text r → high < 2 ^ 32
+    → (low ≤ m → m ≤ high → text ≢ decimal m) → (n : ℕ) → low ≤ n → n ≤ high → text ≢ decimal n
 read_as_other text m low high r is h small out n a b e =
     let back : r ≡ Ok n = reads_back text n r (omega arith) e h in
-    let same : m ≡ n = cc in
-    out (omega arith) (omega arith)
+    let same : n ≡ m = cc in
+    out (omega arith) (omega arith) (e ∙ ap decimal same)
 
 -- a text that is not read is that of no number
 pub read_as_none : {E : Type 0} (text : List ℕ) (low high : ℕ) (r : Result ℕ E) (error : E) → r ≡ Err error → ParsesUnsigned 32 10 text r → high < 2 ^ 32
-    → (n : ℕ) → low ≤ n → n ≤ high → text ≡ decimal n → ⊥
+    → (n : ℕ) → low ≤ n → n ≤ high → text ≢ decimal n
 read_as_none text low high r error is h small n a b e =
     let back : r ≡ Ok n = reads_back text n r (omega arith) e h in
     cc

@@ -1,16 +1,17 @@
 //! Requests, from `clap`'s matches.
-ghost use Rattle.std.specs.Prelude.{◌≡◌, ◌≤◌, IfOk, map, option_and_then, option_map, string_bytes};
+ghost use Rattle.std.specs.Prelude.{◌≡◌, IfOk, map, option_and_then, option_map, string_bytes};
 ghost use Rattle.clap.specs.Words.{subcommand_rows_of};
-ghost use Rattle.fort_answers.specs.Commands.{check_asked, decide_asked, is_set, number_given, options_given, sample_asked, witness_asked};
+ghost use Rattle.fort_answers.specs.Commands.{bounds_given, check_asked, decide_asked, is_set, number_given, options_given, sample_asked, solutions_asked, witness_asked};
 ghost use Rattle.fort_answers.specs.CommandGrammar.{request_of};
 ghost use Rattle.fort_words.specs.Matches.{asked_in, given_of, request_in};
-ghost use Rattle.fort_words.specs.RequestView.{as_options, as_request};
+ghost use Rattle.fort_words.specs.RequestView.{as_bounds, as_options, as_request};
 ghost use Rattle.fort_words.specs.RowView.{as_number};
 
 use crate::command::fort_command;
 use crate::number::number_of;
 use crate::row::{
-    CERTIFICATE, CHECK, COUNT, DECIDE, FORMULA, Number, REDUCE, SAMPLE, STATES, WITNESS,
+    CERTIFICATE, CHECK, COUNT, DECIDE, FORMULA, HEIGHT, MOST, Number, REDUCE, SAMPLE, SOLUTIONS,
+    STATES, WITNESS,
 };
 use clap::ArgMatches;
 use clap::error::ErrorKind;
@@ -23,6 +24,15 @@ pub struct Options {
     pub states: u32,
     /// Whether the table of each parameter is reduced.
     pub reduces: bool,
+}
+
+/// Which solutions are wanted.
+#[derive(Clone, Copy, Debug, PartialEq, Eq)]
+pub struct Bounds {
+    /// How high their terms may be.
+    pub height: u32,
+    /// How many at most.
+    pub most: u32,
 }
 
 /// What a command line asks.
@@ -47,6 +57,12 @@ pub enum Request<'a> {
     Sample {
         n: u32,
     },
+    /// The first terms for its free variables that make the formula true.
+    Solutions {
+        options: Options,
+        bounds: Bounds,
+        formula: &'a str,
+    },
 }
 
 /// The first value of `id`.
@@ -57,7 +73,6 @@ fn value_of<'a>(matches: &ArgMatches<'a>, id: &str) -> Option<&'a str>
 }
 
 fn number_given(matches: &ArgMatches<'_>, number: Number) -> Option<u32>
-    requires { 1 ≤ number.low }
     ensures { result ≡ number_given (as_number number) (given_of matches.now) }
 {
     number_of(value_of(matches, number.name)?, number.low, number.high)
@@ -115,6 +130,27 @@ fn asked_for_sample<'a>(matches: &ArgMatches<'a>) -> Option<Request<'a>>
     Some(Request::Sample { n })
 }
 
+fn bounds_given(matches: &ArgMatches<'_>) -> Option<Bounds>
+    ensures { option_map as_bounds result ≡ bounds_given (given_of matches.now) }
+{
+    let height = number_given(matches, HEIGHT)?;
+    let most = number_given(matches, MOST)?;
+    Some(Bounds { height, most })
+}
+
+fn asked_for_solutions<'a>(matches: &ArgMatches<'a>) -> Option<Request<'a>>
+    ensures { option_map as_request result ≡ solutions_asked (given_of matches.now) }
+{
+    let options = options_given(matches)?;
+    let bounds = bounds_given(matches)?;
+    let formula = value_of(matches, FORMULA)?;
+    Some(Request::Solutions {
+        options,
+        bounds,
+        formula,
+    })
+}
+
 fn asked<'a>(matches: &ArgMatches<'a>) -> Option<Request<'a>>
     ensures { option_map as_request result ≡ option_and_then asked_in
         (subcommand_rows_of matches.now) }
@@ -128,6 +164,8 @@ fn asked<'a>(matches: &ArgMatches<'a>) -> Option<Request<'a>>
         asked_to_check(inner)
     } else if name == SAMPLE.name {
         asked_for_sample(inner)
+    } else if name == SOLUTIONS.name {
+        asked_for_solutions(inner)
     } else {
         None
     }

@@ -54,6 +54,20 @@ pub(crate) const COUNT: Number = Number {
     high: 64,
 };
 
+/// How high the terms of solutions may be.
+pub(crate) const HEIGHT: Number = Number {
+    name: "height",
+    low: 0,
+    high: 64,
+};
+
+/// How many solutions are wanted.
+pub(crate) const MOST: Number = Number {
+    name: "most",
+    low: 1,
+    high: 1000,
+};
+
 const STATES_OR_DEFAULT: Parameter = Parameter::Setting {
     number: STATES,
     default: "10000",
@@ -92,7 +106,21 @@ pub(crate) const SAMPLE: Row = Row {
     parameters: &[Parameter::NumberWord(COUNT)],
 };
 
-const ROWS: &[Row] = &[DECIDE, WITNESS, CHECK, SAMPLE];
+/// `solutions [--states N] [--most M] H FORMULA`
+pub(crate) const SOLUTIONS: Row = Row {
+    name: "solutions",
+    parameters: &[
+        STATES_OR_DEFAULT,
+        Parameter::Setting {
+            number: MOST,
+            default: "1000",
+        },
+        Parameter::NumberWord(HEIGHT),
+        Parameter::TextWord(FORMULA),
+    ],
+};
+
+const ROWS: &[Row] = &[DECIDE, WITNESS, CHECK, SAMPLE, SOLUTIONS];
 
 /// The rows of the commands.
 pub(crate) fn rows() -> &'static [Row]

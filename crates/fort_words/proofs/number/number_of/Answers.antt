@@ -1,29 +1,25 @@
-use Rattle.std.proofs.Common.{◌∙◌, ◌≤◌, ◌<◌, Some, None, get_or, rules}
-use Rattle.fort_words.proofs.NumberTexts.{begins_below, number_is, read_as_none, read_as_other, read_is}
+use Rattle.std.proofs.Common.{◌∙◌, Some, None, sym, arith, rules, true≢false}
+use Rattle.std.proofs.lemmas.Slice.Eq.{bytes_eq-Decides}
+use Rattle.fort_words.proofs.NumberTexts.{number_is, read_as_none, read_as_other}
+use Rattle.fort_words.proofs.number.number_of.Goals.{else-low-n-via-then-low-n+then-n-high+else-eq, else-low-n-via-then-low-n+else-n-high, else-low-n-via-else-low-n}
 use Rattle.fort_words.proofs.number.number_of.Goals as goal
 
-pub returns-in_err-first : goal.returns-in_err-first
-returns-in_err-first c =
-    let below : get_or c.args.text.now 0 0 ≤ 48 = search rules in
-    c.from_residual.ensures ∙ number_is c.args.low c.args.high c.args.text.now None (search rules)
-    (begins_below c.args.text.now c.args.low c.args.high c.requires (search rules) below)
-
-pub returns-then-first-le48 : goal.returns-then-first-le48
-returns-then-first-le48 c =
-    let below : get_or c.args.text.now 0 0 ≤ 48 = search rules in
-    number_is c.args.low c.args.high c.args.text.now None (search rules)
-    (begins_below c.args.text.now c.args.low c.args.high c.requires (search rules) below)
-
-pub returns-then-n-high : goal.returns-then-n-high
-returns-then-n-high c =
-    let above : 48 < get_or c.args.text.now 0 0 = search rules in
-    number_is c.args.low c.args.high c.args.text.now (Some c.in-Ok.n) (search rules)
-    (c.if-low-n.true, c.if-n-high.true, read_is c.args.text.now c.in-Ok.n c.parse.result (search rules) c.parse.ensures.value.0 above)
+pub returns-then-eq : goal.returns-then-eq
+returns-then-eq c =
+    let same = (bytes_eq-Decides c.format.result.now c.args.text.now).0 (sym c.eq.ensures ∙ c.if-eq.true) in
+    number_is c.args.low c.args.high c.args.text.now (Some c.in-Ok.n) (search rules) (c.if-low-n.true, c.if-n-high.true, sym same ∙ c.format.ensures.text)
 
 pub returns-else-low-n : goal.returns-else-low-n
 returns-else-low-n c =
     number_is c.args.low c.args.high c.args.text.now None (search rules)
-    (read_as_other c.args.text.now c.in-Ok.n c.args.low c.args.high c.parse.result (search rules) c.parse.ensures.value.0 (search rules) (search rules))
+    (read_as_other c.args.text.now c.in-Ok.n c.args.low c.args.high c.parse.result (search rules) c.parse.ensures.value.0 (search rules) (λ low high is.
+    elim c.else-low-n.branch [
+      | else-low-n-via-then-low-n+then-n-high+else-eq w ↦
+          let same = (bytes_eq-Decides w.format.result.now c.args.text.now).1 (w.format.ensures.text ∙ sym is) in
+          true≢false (sym same ∙ (sym w.eq.ensures ∙ w.if-eq.false))
+      | else-low-n-via-then-low-n+else-n-high w ↦ omega (arith, high, w.if-n-high.false)
+      | else-low-n-via-else-low-n w ↦ omega (arith, low, w.if-low-n.false)
+    ]))
 
 pub returns-in-Err : goal.returns-in-Err
 returns-in-Err c =

@@ -22,7 +22,28 @@ returns-then-eq-4 c =
     c.asked_for_sample.ensures ∙ asked_by c.args.matches.now c.in_ok-name.name.now _ 3 c.in_ok-name.ensures.name c.in_ok-name.ensures.rows
     (sym c.eq.ensures ∙ c.if-eq.false, (sym c.eq-else-eq.ensures ∙ c.if-eq-2.false, (sym c.eq-else-eq-2.ensures ∙ c.if-eq-3.false, sym c.eq-else-eq-3.ensures ∙ c.if-eq-4.true)))
 
-pub returns-else-eq-4 : goal.returns-else-eq-4
-returns-else-eq-4 c =
-    asked_by c.args.matches.now c.in_ok-name.name.now _ 4 c.in_ok-name.ensures.name c.in_ok-name.ensures.rows
-    (sym c.eq.ensures ∙ c.if-eq.false, (sym c.eq-else-eq.ensures ∙ c.if-eq-2.false, (sym c.eq-else-eq-2.ensures ∙ c.if-eq-3.false, (sym c.eq-else-eq-3.ensures ∙ c.if-eq-4.false, tt))))
+pub returns-then-eq-5 : goal.returns-then-eq-5
+returns-then-eq-5 c =
+    c.asked_for_solutions.ensures ∙ asked_by c.args.matches.now c.in_ok-name.name.now _ 4 c.in_ok-name.ensures.name c.in_ok-name.ensures.rows (
+      sym c.eq.ensures ∙ c.if-eq.false,
+      (
+        sym c.eq-else-eq.ensures ∙ c.if-eq-2.false,
+        (
+          sym c.eq-else-eq-2.ensures ∙ c.if-eq-3.false,
+          (sym c.eq-else-eq-3.ensures ∙ c.if-eq-4.false, sym c.eq-else-eq-4.ensures ∙ c.if-eq-5.true),
+        ),
+      ),
+    )
+
+pub returns-else-eq-5 : goal.returns-else-eq-5
+returns-else-eq-5 c =
+    asked_by c.args.matches.now c.in_ok-name.name.now _ 5 c.in_ok-name.ensures.name c.in_ok-name.ensures.rows (
+      sym c.eq.ensures ∙ c.if-eq.false,
+      (
+        sym c.eq-else-eq.ensures ∙ c.if-eq-2.false,
+        (
+          sym c.eq-else-eq-2.ensures ∙ c.if-eq-3.false,
+          (sym c.eq-else-eq-3.ensures ∙ c.if-eq-4.false, (sym c.eq-else-eq-4.ensures ∙ c.if-eq-5.false, tt)),
+        ),
+      ),
+    )
