@@ -1,17 +1,21 @@
 -- The lines that refuse formulas are owed to their texts; a formula as it was read.
-use Rattle.std.specs.Prelude.{◌≡◌, ℕ, Bool, true, false, List, [], ◌∷◌, Option, None, Some, slice_get, ◌↔◌, IsTrue, IfSome, MatchOption}
-use Rattle.std.proofs.Common.{Vec, Global, sym, ap, subst}
+use Rattle.std.specs.Prelude.{◌≡◌, ℕ, Bool, true, false, List, [], ◌∷◌, length, refl, Option, None, Some, slice_get, ◌↔◌, IsTrue, IfSome, MatchOption}
+use Rattle.std.proofs.Common.{Vec, Global, sym, ap, subst, arith}
 use Rattle.fort_formula_grammar.specs.FormulaText.{FormulaFault, IsFirstFormulaFault}
 use Rattle.fort_logic.specs.Formulas.{Formula}
-use Rattle.fort_answers.specs.FormulaAnswer.{IsRefused, Faulty, IsAcceptedClosed, IsRefusedClosed, Refused, Openness, Any, Closed, IsAcceptedAs, IsRefusedAs}
+use Rattle.fort_answers.specs.FormulaAnswer.{IsAccepted, IsRefused, Faulty, Openness, IsTaken, IsNotTaken, IsAcceptedAs, IsRefusedAs, NotTaken}
 use Rattle.fort_answers.specs.Lines.{formula_fault_line}
 use Rattle.fort_run.specs.declared.question.Openness.{Openness as OwnOpenness}
-use Rattle.fort_run.specs.declared.question.Openness.TheVariants as own
 use Rattle.fort_formula_parser.specs.declared.parsed.Parsed.{Parsed}
 use Rattle.fort_run.specs.Accepted.{IsParsedAs}
 use Rattle.fort_run.specs.Questions.{as_openness}
 use Rattle.fort_run.specs.declared.refusal.Refusal.{Refusal}
 use Rattle.fort_run.specs.Refusals.{Refuses}
+
+-- a list of no length
+pub no_items : {A : Type 0} (xs : List A) → length xs ≡ 0 → xs ≡ []
+no_items [] e = refl
+no_items (x ∷ xs) e = absurd (omega arith)
 
 -- the first of some names
 pub first_of_names : {A : Type 0} (names : List A) (x : A) → Some x ≡ slice_get names 0 → (xs : List A) × (names ≡ x ∷ xs)
@@ -24,16 +28,19 @@ pub faulty : (text line : List ℕ) (fault : Option FormulaFault) → IfSome fau
 faulty text line None first says = absurd says
 faulty text line (Some fault) first says = Faulty fault first says
 
--- what is refused is so whichever formulas are taken
-pub refused_as : (openness : Openness) (text line : List ℕ) → IsRefused text line → IsRefusedAs openness text line
-refused_as Any text line says = says
-refused_as Closed text line says = Refused says
+-- a formula that is taken or isn't, of an accepted text
+taken_there : (openness : Openness) (text : List ℕ) (f : Formula) (refusal : Option (Vec ℕ Global)) → IsAccepted text f
+    → MatchOption refusal (IsTaken openness f) (λ line. IsNotTaken openness f line.items)
+    → MatchOption refusal (IsAcceptedAs openness text f) (λ line. IsRefusedAs openness text line.items)
+taken_there openness text f None accepted says = record { accepted = accepted; taken = says }
+taken_there openness text f (Some line) accepted says = NotTaken f accepted says
 
-pub closed_refusal : (openness : OwnOpenness) (text : List ℕ) (f : Formula) (refusal : Option (Vec ℕ Global)) → openness ≡ own.Closed
-    → MatchOption refusal (IsAcceptedClosed text f) (λ line. IsRefusedClosed text line.items)
+pub taken_as : (openness asked : OwnOpenness) (text : List ℕ) (f : Formula) (refusal : Option (Vec ℕ Global)) → openness ≡ asked → IsAccepted text f
+    → MatchOption refusal (IsTaken (as_openness asked) f) (λ line. IsNotTaken (as_openness asked) f line.items)
     → MatchOption refusal (IsAcceptedAs (as_openness openness) text f) (λ line. IsRefusedAs (as_openness openness) text line.items)
-closed_refusal openness text f refusal is says =
-    subst (λ o. MatchOption refusal (IsAcceptedAs (as_openness o) text f) (λ line. IsRefusedAs (as_openness o) text line.items)) (sym is) says
+taken_as openness asked text f refusal is accepted says =
+    subst (λ o. MatchOption refusal (IsAcceptedAs (as_openness o) text f) (λ line. IsRefusedAs (as_openness o) text line.items)) (sym is)
+    (taken_there (as_openness asked) text f refusal accepted says)
 
 -- a text that was read, and which formulas are taken, by equal names
 pub refused_there : (o o' : Openness) (text text' : List ℕ) (r : Refusal) → o ≡ o' → text ≡ text' → Refuses (IsRefusedAs o text) r → Refuses (IsRefusedAs o' text') r

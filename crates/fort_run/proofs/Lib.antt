@@ -18,6 +18,8 @@ pub mod OneAnswer
 pub mod WrittenReplies
 pub mod WitnessTruth
 pub mod WitnessVerdicts
+pub mod SolutionVerdicts
+pub mod TermTexts
 pub mod Properties
 pub mod SampleLines
 pub mod WrittenNumbers

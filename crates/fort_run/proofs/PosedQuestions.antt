@@ -60,7 +60,7 @@ pub closed_core : (f : Formula) (system : PatternSystem) (terms : List Tree) (c 
 closed_core f system terms c posed =
     subst IsClosed (sym posed.is) (λ n free.
     let below : n < length (free_names f) = core_of-free terms f n free in
-    let none : length (free_names f) ≡ 0 = ap length posed.closed in
+    let none : length (free_names f) ≡ 0 = ap length posed.taken in
     omega arith)
 
 -- the value of the core formula is the formula's truth
@@ -68,7 +68,7 @@ pub value_truth : (f : Formula) (system : PatternSystem) (terms : List Tree) (c 
     → system ≡ pattern_system p → (verdict : Bool) → IsAnswerTo (pattern_structure system) c (OfValue verdict) → IsTruth verdict p terms f
 value_truth f system terms c posed p lawful same verdict answer =
     let decided = decided_by Closed f system terms c (Value verdict) posed answer in
-    is_truth p lawful f terms (Value verdict) (subst (λ s. IsDecidedBy f s terms (Value verdict)) same decided) posed.closed verdict refl
+    is_truth p lawful f terms (Value verdict) (subst (λ s. IsDecidedBy f s terms (Value verdict)) same decided) posed.taken verdict refl
 
 -- what a recording says, with reduced tables or without, where its text is of the version for so many systems
 module _ (reduces : Bool) (f : Formula) (p : System) (system : PatternSystem) (terms : List Tree) (c : Core) (r : Recorded) (number : ℕ) (version : Version)

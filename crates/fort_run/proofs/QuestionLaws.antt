@@ -10,7 +10,7 @@ use Rattle.fort_answers.specs.SystemAnswer.{IsAnswerTo}
 use Rattle.fort_answers.specs.Answer.{About, owing, IsOwed, ReadsInput, DecidesAbout, owed, needed, IsAbout}
 use Rattle.fort_answers.proofs.OneRequest.{accepted_as-not_refused}
 use Rattle.fort_run.specs.declared.question.Question.{Question}
-use Rattle.fort_run.specs.declared.question.Question.TheVariants.{Truth, Certificate, Terms, Check}
+use Rattle.fort_run.specs.declared.question.Question.TheVariants.{Truth, Certificate, Terms, Check, Solutions}
 use Rattle.fort_run.specs.Questions.{request_for, inquiry_of, openness_of, tail_of, options_of}
 
 owing_is : (question : Question) (text : Text) → owing (Some (request_for question text)) ≡ About (inquiry_of question text)
@@ -18,6 +18,7 @@ owing_is (Truth options) text = refl
 owing_is (Certificate options) text = refl
 owing_is (Terms options) text = refl
 owing_is Check text = refl
+owing_is (Solutions options bounds) text = refl
 
 module _ (question : Question) (text : Text) where
   pub owed_to : (bytes : Text) (s : ℕ) (t : Text) → IsAnswerTo (inquiry_of question text) bytes s t → owed (Some (request_for question text)) bytes s t
@@ -42,3 +43,4 @@ capped_input (Truth own) options bytes p behind asked is = is
 capped_input (Certificate own) options bytes p behind asked is = is
 capped_input (Terms own) options bytes p behind asked is = is
 capped_input Check options bytes p behind asked is = absurd cc
+capped_input (Solutions own bounds) options bytes p behind asked is = is

@@ -1,12 +1,11 @@
 -- A formula that was read, over the system of an input that has all that it speaks of, is ready to be decided.
-use Rattle.std.specs.Prelude.{◌≡◌, ℕ, suc, List, [], ◌∷◌, length, map, All, refl}
+use Rattle.std.specs.Prelude.{◌≡◌, suc, List, [], ◌∷◌, length, map, All, refl}
 use Rattle.std.proofs.Common.{sym, ap, subst, ◌∙◌, arith}
 use Rattle.std.proofs.lemmas.List.{length-map}
 use Rattle.fort_theory.specs.Trees.{Tree}
 use Rattle.fort_theory.specs.Signatures.{Signature, IsGround}
 use Rattle.fort_theory.specs.Sides.{System}
 use Rattle.fort_theory.specs.Patterns.{PatternSystem, pattern_system}
-use Rattle.fort_logic.specs.Formulas.{Formula}
 use Rattle.fort_termination.specs.RightGround.{IsRightGroundAt, HasRightGroundPairsAt}
 use Rattle.fort_termination.proofs.RightGroundTargets.{IsRightGroundAt-patterns}
 use Rattle.fort_logic.specs.Mentions.{HasPlacesBelow}
@@ -19,10 +18,9 @@ use Rattle.fort_formulas.specs.FormulaView.{as_formula}
 use Rattle.fort_formula_parser.specs.declared.parsed.Parsed.{Parsed}
 use Rattle.fort_formula_parser.specs.ParsedView.{as_ground}
 use Rattle.fort_answers.specs.FitAnswer.{AreTermsOf, FitsSystem}
-use Rattle.fort_answers.specs.FormulaAnswer.{IsAccepted, Openness, Any, Closed, IsAcceptedAs}
+use Rattle.fort_answers.specs.FormulaAnswer.{IsAccepted, Openness}
 use Rattle.fort_answers.proofs.OneFit.{FitsSystem-ground}
 use Rattle.fort_run.specs.Accepted.{IsRead}
-use Rattle.fort_run.specs.Posed.{IsClosedFor}
 use Rattle.fort_run.specs.Ready.{IsReady, HaveFewRules}
 use Rattle.fort_run.proofs.Fitting.{number_is, signature_is}
 
@@ -31,18 +29,6 @@ AreTermsOf-count signature [] [] are = refl
 AreTermsOf-count signature [] (t ∷ ts) are = absurd are
 AreTermsOf-count signature (g ∷ gs) [] are = absurd are
 AreTermsOf-count signature (g ∷ gs) (t ∷ ts) are = ap suc (AreTermsOf-count signature gs ts are.1)
-
--- of a closed formula or any
-accepted_of : (openness : Openness) (text : List ℕ) (f : Formula) → IsAcceptedAs openness text f → IsAccepted text f
-accepted_of Any text f accepted = accepted
-accepted_of Closed text f accepted = accepted.accepted
-
-closed_of : (openness : Openness) (text : List ℕ) (f : Formula) → IsAcceptedAs openness text f → IsClosedFor openness f
-closed_of Any text f accepted = tt
-closed_of Closed text f accepted = accepted.closed
-
-pub closed_for : (openness : Openness) (parsed : Parsed) → IsRead openness parsed → IsClosedFor openness (as_formula parsed.formula)
-closed_for openness parsed read = closed_of openness read.text (as_formula parsed.formula) read.is.accepted
 
 module _ (openness : Openness) (parsed : Parsed) (read : IsRead openness parsed) (p : System) (system : PatternSystem) (terms : List Tree) (same : system ≡ pattern_system p)
     (fits : FitsSystem read.text (as_formula parsed.formula) p terms) where
@@ -53,7 +39,7 @@ module _ (openness : Openness) (parsed : Parsed) (read : IsRead openness parsed)
       ∙ AreTermsOf-count p.signature fits.grounds terms fits.are_terms)
 
   accepted : IsAccepted read.text (as_formula parsed.formula)
-  accepted = accepted_of openness read.text (as_formula parsed.formula) read.is.accepted
+  accepted = read.is.accepted.accepted
 
   pub ready : HaveFewRules (pattern_system p) → IsReady (as_formula parsed.formula) system terms
   ready few = record {

@@ -18,7 +18,7 @@ use Rattle.fort_answers.specs.CheckAnswer.{OwesOutcome}
 use Rattle.fort_answers.specs.Answer.{owed, needed}
 use Rattle.fort_formulas.specs.KindView.{as_kind}
 use Rattle.fort_run.specs.declared.question.Question.{Question}
-use Rattle.fort_run.specs.declared.question.Question.TheVariants.{Truth, Certificate, Terms, Check}
+use Rattle.fort_run.specs.declared.question.Question.TheVariants.{Truth, Certificate, Terms, Check, Solutions}
 use Rattle.fort_run.specs.declared.reply.Reply.{Reply}
 use Rattle.fort_run.specs.declared.refusal.Refusal.{Refusal}
 use Rattle.fort_run.specs.declared.refusal.Refusal.TheVariants as refusals
@@ -90,6 +90,7 @@ said (Truth options) p behind terms f s t verdict = verdict
 said (Certificate options) p behind terms f s t verdict = verdict.written
 said (Terms options) p behind terms f s t verdict = verdict
 said Check p behind terms f s t verdict = verdict.checked
+said (Solutions options bounds) p behind terms f s t verdict = verdict
 
 module _ (text bytes : Text) (f : Formula) (accepted : IsAcceptedClosed text f) (p : System) (c : certificates.Certificate) (is : IsCertifiedInput bytes p c)
     (terms : List Tree) (fits : FitsSystem text f p terms) (line : Text) (owes : owed (Some (requests.Check text)) bytes positive line) where
@@ -130,6 +131,7 @@ module _ (text bytes : Text) (f : Formula) (p : System) (terms : List Tree) (fit
   says_more (Terms options) behind accepted is verdict owes = tt
   says_more Check behind accepted is verdict owes =
       certified text bytes f accepted p behind is terms fits t owes verdict.checked.outcome verdict.checked.owes verdict.truth
+  says_more (Solutions options bounds) behind accepted is verdict owes = tt
 
 -- the verdict on an input that has all that the formula speaks of
 pub verdict_replies : (question : Question) (text bytes : Text) (f : Formula) (p : System) (behind : Behind (tail_of question)) (terms : List Tree) (r : Reply)

@@ -1,13 +1,13 @@
 -- Terms satisfy a formula exactly where the answer to its core formula says so of the tuple of them, in the order of the free names.
-use Rattle.std.specs.Prelude.{◌≡◌, ℕ, suc, ◌<◌, ◌≤◌, List, [], ◌∷◌, map, length, reverse, get_or, All, true, Decides, None, Some, refl}
+use Rattle.std.specs.Prelude.{◌≡◌, ℕ, ◌<◌, ◌≤◌, List, [], map, length, reverse, get_or, All, true, Decides, None, Some}
 use Rattle.std.proofs.Common.{sym, ap, subst, ◌∙◌, arith, ⊎_elim}
 use Rattle.std.proofs.lemmas.Bool.{cases_lt}
 use Rattle.std.proofs.lemmas.List.{length-map, get_or-map, get_or_past, ext_get_or}
-use Rattle.std.proofs.lemmas.List.Elements.{All-get_or, All-nil, All-cons}
+use Rattle.std.proofs.lemmas.List.Elements.{All-get_or}
 use Rattle.std.proofs.lemmas.List.FromFn.{fill_by_all}
 use Rattle.std.proofs.lemmas.Option.{slice_get_within, slice_get-get_or, get_or_from_slice_get}
 use Rattle.fort_theory.specs.Trees.{Tree, Node, Nil}
-use Rattle.fort_theory.specs.Signatures.{Signature, IsGround}
+use Rattle.fort_theory.specs.Signatures.{IsGround}
 use Rattle.fort_theory.specs.Sides.{System}
 use Rattle.fort_theory.specs.Patterns.{pattern_system}
 use Rattle.fort_logic.specs.Formulas.{Name, Formula, Var, Ground}
@@ -17,13 +17,12 @@ use Rattle.fort_logic.specs.KeepsTruth.{AreTheirPlaces}
 use Rattle.fort_cores.specs.Structures.{pattern_structure, structure_of}
 use Rattle.fort_logic.specs.Translation.{number_in, core_of}
 use Rattle.fort_logic.specs.Truth.{Assignment, IsGroundAssignment, GivesTerms}
-use Rattle.fort_tables.specs.Tuples.{Tuple, IsTuple, IsFull, AreGroundColumns}
 use Rattle.fort_atom_labels.specs.AssignedTuples.{tuple_of}
-use Rattle.fort_operations.proofs.SelectionLaws.{present_from_full}
 use Rattle.fort_parts.specs.PartColumns.{columns_of}
 use Rattle.fort_parts.specs.PartAnswers.{said, AreGround}
 use Rattle.fort_run.proofs.NamedColumns.{columns_of-core_of, number_of_name}
 use Rattle.fort_answers.specs.WitnessAnswer.{AreWitnesses}
+use Rattle.fort_answer_laws.proofs.TermTuples.{witnesses-count, witnesses-ground}
 use Rattle.fort_engine.specs.declared.answer.Last.{Last}
 use Rattle.fort_engine.specs.AnswerView.{as_answer}
 use Rattle.fort_run.specs.Ready.{IsLawful, IsDecidedBy}
@@ -33,38 +32,6 @@ use Rattle.fort_run.proofs.Deciding.{same_truth}
 at_or : {A : Type 0} (P : A → Type 0) (xs : List A) (k : ℕ) (d : A) → All P xs → P d → P (get_or xs k d)
 at_or P xs k d all h =
     ⊎_elim (λ (l : k < length xs). All-get_or P xs k d l all) (λ (l : length xs ≤ k). subst P (sym (get_or_past xs k d l)) h) (cases_lt k (length xs))
-
--- ---- tuples of terms
-
-pub full-terms : (ts : List Tree) → IsFull (map Some ts)
-full-terms [] = tt
-full-terms (t ∷ ts) = full-terms ts
-
-pub ground-terms : (sig : Signature) (ts : List Tree) → ((k : ℕ) (d : Tree) → k < length ts → IsGround sig (get_or ts k d)) → AreGroundColumns sig (map Some ts)
-ground-terms sig [] h = tt
-ground-terms sig (t ∷ ts) h = (h 0 t (omega arith), ground-terms sig ts (λ k d l. h (suc k) d (omega arith)))
-
-pub IsTuple-terms : (sig : Signature) (n : ℕ) (ts : List Tree) → 0 < n → length ts ≡ n → All (IsGround sig) ts → IsTuple sig n (map Some ts)
-IsTuple-terms sig n ts some len all = record {
-  width = length-map ts Some ∙ len;
-  present = present_from_full (map Some ts) (full-terms ts) (omega (arith, length-map ts Some));
-  grounded = ground-terms sig ts (λ k d l. All-get_or (IsGround sig) ts k d l all);
-}
-
--- the terms of a full tuple
-pub terms_in : (sig : Signature) (t : Tuple) → IsFull t → AreGroundColumns sig t → (ts : List Tree) × All (IsGround sig) ts × (t ≡ map Some ts)
-terms_in sig [] full g = ([], All-nil (IsGround sig), refl)
-terms_in sig (None ∷ t) full g = absurd full
-terms_in sig (Some x ∷ t) full g =
-    let rest = terms_in sig t full g.1 in (x ∷ rest.0, All-cons (IsGround sig) x rest.0 g.0 rest.1, ap (λ u. Some x ∷ u) rest.2)
-
-pub terms-one : (ts us : List Tree) → map Some ts ≡ map Some us → ts ≡ us
-terms-one [] [] e = refl
-terms-one [] (u ∷ us) e = cc
-terms-one (t ∷ ts) [] e = cc
-terms-one (t ∷ ts) (u ∷ us) e =
-    let heads : t ≡ u = cc in let tails : map Some ts ≡ map Some us = cc in
-    ap (λ x. x ∷ ts) heads ∙ ap (λ xs. u ∷ xs) (terms-one ts us tails)
 
 -- ---- the assignment of terms to the free names
 
@@ -104,18 +71,6 @@ module _ (p : System) (lawful : IsLawful p) (f : Formula) (terms : List Tree) (l
       subst (λ t. Decides (said (as_answer last) t) (IsMetBy (pattern_structure (pattern_system p)) (core_of terms f) (place ts))) (tuple-terms ts len)
       (decided.answer.truth (place ts) (place-ground ts all))
 
-  -- Results: as many terms as names, all ground
-  pub witnesses-count : (ts : List Tree) → AreWitnesses p terms f ts → length ts ≡ length (free_names f)
-  witnesses-count ts are = ap length are.are ∙ length-map (free_names f) (λ x. are.assignment (Var x))
-
-  pub witnesses-ground : (ts : List Tree) → AreWitnesses p terms f ts → All (IsGround p.signature) ts
-  witnesses-ground ts are =
-      subst (All (IsGround p.signature)) (sym are.are) (all_of (free_names f))
-    where
-      all_of : (names : List Name) → All (IsGround p.signature) (map (λ x. are.assignment (Var x)) names)
-      all_of [] = All-nil (IsGround p.signature)
-      all_of (x ∷ xs) = All-cons (IsGround p.signature) (are.assignment (Var x)) (map (λ y. are.assignment (Var y)) xs) (are.grounded (Var x)) (all_of xs)
-
   -- Result
   pub said-witnesses : (ts : List Tree) → AreWitnesses p terms f ts → said (as_answer last) (map Some ts) ≡ true
   said-witnesses ts are =
@@ -125,7 +80,7 @@ module _ (p : System) (lawful : IsLawful p) (f : Formula) (terms : List Tree) (l
       let l = slice_get_within (free_names f) n x at in
       ap (λ us. get_or us n d) are.are
       ∙ (get_or-map (λ y. m (Var y)) (free_names f) n [] d l ∙ ap (λ y. m (Var y)) (get_or_from_slice_get (free_names f) n x [] at)) in
-      (decides ts (witnesses-count ts are) (witnesses-ground ts are)).1
+      (decides ts (witnesses-count p terms f ts are) (witnesses-ground p terms f ts are)).1
       ((same_truth p lawful f terms last decided m (place ts) are.grounded are.given places).0 are.holds)
 
   -- Result

@@ -1,15 +1,14 @@
 -- Inside: a question about a formula, put to its core formula over a system, and what a reply to it is.
-use Rattle.std.specs.Prelude.{◌≡◌, List, []}
+use Rattle.std.specs.Prelude.{◌≡◌, List}
 use Rattle.fort_theory.specs.Trees.{Tree}
 use Rattle.fort_theory.specs.Sides as theory
 use Rattle.fort_theory.specs.Patterns.{PatternSystem, pattern_system}
 use Rattle.fort_logic.specs.Formulas.{Formula}
-use Rattle.fort_logic.specs.FreeNames.{free_names}
 use Rattle.fort_cores.specs.Cores.{Core}
 use Rattle.fort_logic.specs.Translation.{core_of}
 use Rattle.fort_logic.specs.KeepsTruth.{KeepsTruth}
 use Rattle.fort_parts.specs.DecidedCores.{IsDecided}
-use Rattle.fort_answers.specs.FormulaAnswer.{Openness, Any, Closed}
+use Rattle.fort_answers.specs.FormulaAnswer.{Openness, IsTaken}
 use Rattle.fort_answers.specs.InputAnswer.{Behind}
 use Rattle.fort_run.specs.declared.input.Input.{Input}
 use Rattle.fort_run.specs.declared.question.Question.{Question}
@@ -19,13 +18,9 @@ use Rattle.fort_run.specs.Questions.{openness_of, tail_of}
 use Rattle.fort_run.specs.Ready.{IsLawful, IsReady}
 use Rattle.fort_run.specs.Verdicts.{IsVerdict}
 
-abbrev pub IsClosedFor : Openness → Formula → Type 0
-IsClosedFor Any f = Unit {0}
-IsClosedFor Closed f = free_names f ≡ []
-
 -- such a formula may be asked about, and this is its core formula, which can be decided
 pub record IsPosed (openness : Openness) (f : Formula) (system : PatternSystem) (terms : List Tree) (c : Core) : Type 0 where
-  pub closed : IsClosedFor openness f
+  pub taken : IsTaken openness f
   pub ready : IsReady f system terms
   pub is : c ≡ core_of terms f
   pub keeps : KeepsTruth terms f c

@@ -1,11 +1,12 @@
--- Inside: which request a question about a formula is, and what is owed to it.
+-- Inside: which request a question about a formula is, what one that words ask keeps, and what is owed to it.
 use Rattle.std.specs.Prelude.{ℕ, true, false, List, Option, Some, None}
 use Rattle.fort_theory.specs.Trees.{Tree}
 use Rattle.fort_theory.specs.Sides.{System}
 use Rattle.fort_logic.specs.Formulas.{Formula}
-use Rattle.fort_words.specs.RequestView.{as_options}
+use Rattle.fort_words.specs.RequestView.{as_options, as_bounds}
 use Rattle.fort_answers.specs.Requests.{Text, Options, Request, Decide, Witness}
 use Rattle.fort_answers.specs.Requests as requests
+use Rattle.fort_answers.specs.PossibleRequests.{AreBoundsInRange}
 use Rattle.fort_answers.specs.FormulaAnswer as formulas
 use Rattle.fort_answers.specs.FormulaAnswer.{Openness}
 use Rattle.fort_answers.specs.InputAnswer as inputs
@@ -15,16 +16,18 @@ use Rattle.fort_answers.specs.DecideAnswer.{TruthVerdict}
 use Rattle.fort_answers.specs.CertificateAnswer.{CertificateVerdict}
 use Rattle.fort_answers.specs.WitnessAnswer.{WitnessVerdict}
 use Rattle.fort_answers.specs.CheckAnswer.{CheckVerdict}
+use Rattle.fort_answers.specs.SolutionsAnswer.{SolutionsVerdict}
 use Rattle.fort_run.specs.declared.question.Openness.{Openness as OwnOpenness}
 use Rattle.fort_run.specs.declared.question.Openness.TheVariants as openness
 use Rattle.fort_run.specs.declared.question.Question.{Question}
-use Rattle.fort_run.specs.declared.question.Question.TheVariants.{Truth, Certificate, Terms, Check}
+use Rattle.fort_run.specs.declared.question.Question.TheVariants.{Truth, Certificate, Terms, Check, Solutions}
 use Rattle.fort_run.specs.declared.question.Tail.{Tail as OwnTail}
 use Rattle.fort_run.specs.declared.question.Tail.TheVariants as tail
 
 abbrev pub as_openness : OwnOpenness → Openness
 as_openness openness.Any = formulas.Any
 as_openness openness.Closed = formulas.Closed
+as_openness openness.Open = formulas.Open
 
 abbrev pub as_tail : OwnTail → Tail
 as_tail tail.Nothing = inputs.Nothing
@@ -35,6 +38,15 @@ request_for (Truth options) formula = Decide (as_options options) false formula
 request_for (Certificate options) formula = Decide (as_options options) true formula
 request_for (Terms options) formula = Witness (as_options options) formula
 request_for Check formula = requests.Check formula
+request_for (Solutions options bounds) formula = requests.Solutions (as_options options) (as_bounds bounds) formula
+
+-- what a question that words ask keeps
+abbrev pub CanBePut : Question → Type 0
+CanBePut (Truth options) = Unit {0}
+CanBePut (Certificate options) = Unit {0}
+CanBePut (Terms options) = Unit {0}
+CanBePut Check = Unit {0}
+CanBePut (Solutions options bounds) = AreBoundsInRange (as_options options) (as_bounds bounds)
 
 -- what is owed to that request, which is proved
 
@@ -43,24 +55,28 @@ openness_of (Truth options) = formulas.Closed
 openness_of (Certificate options) = formulas.Closed
 openness_of (Terms options) = formulas.Any
 openness_of Check = formulas.Closed
+openness_of (Solutions options bounds) = formulas.Open
 
 abbrev pub tail_of : Question → Tail
 tail_of (Truth options) = inputs.Nothing
 tail_of (Certificate options) = inputs.Nothing
 tail_of (Terms options) = inputs.Nothing
 tail_of Check = inputs.ACertificate
+tail_of (Solutions options bounds) = inputs.Nothing
 
 abbrev pub options_of : Question → Option Options
 options_of (Truth options) = Some (as_options options)
 options_of (Certificate options) = Some (as_options options)
 options_of (Terms options) = Some (as_options options)
 options_of Check = None
+options_of (Solutions options bounds) = Some (as_options options)
 
 abbrev pub says_of : (question : Question) → System → Behind (tail_of question) → List Tree → Formula → ℕ → Text → Type 0
 says_of (Truth options) system behind terms f status text = TruthVerdict system terms f status text
 says_of (Certificate options) system behind terms f status text = CertificateVerdict options.reduces system terms f status text
 says_of (Terms options) system behind terms f status text = WitnessVerdict system terms f status text
 says_of Check system behind terms f status text = CheckVerdict system behind terms f status text
+says_of (Solutions options bounds) system behind terms f status text = SolutionsVerdict (as_bounds bounds) system terms f status text
 
 abbrev pub inquiry_of : Question → (formula : Text) → Inquiry
 inquiry_of question formula = record {

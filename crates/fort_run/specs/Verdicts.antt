@@ -15,12 +15,14 @@ use Rattle.fort_answers.specs.DecideAnswer.{TruthVerdict}
 use Rattle.fort_answers.specs.CertificateAnswer.{CertificateVerdict}
 use Rattle.fort_answers.specs.WitnessAnswer.{WitnessVerdict}
 use Rattle.fort_answers.specs.CheckAnswer.{CheckVerdict}
+use Rattle.fort_answers.specs.SolutionsAnswer.{SolutionsVerdict}
+use Rattle.fort_words.specs.RequestView.{as_bounds}
 use Rattle.fort_engine.specs.AnswerView.{IsLimit}
 use Rattle.fort_engine.specs.declared.answer.Limit.{Limit}
 use Rattle.fort_engine.specs.declared.answer.EngineFault.{EngineFault}
 use Rattle.fort_engine.specs.declared.answer.EngineFault.TheVariants.{Memory, Over}
 use Rattle.fort_run.specs.declared.question.Question.{Question}
-use Rattle.fort_run.specs.declared.question.Question.TheVariants.{Truth, Terms, Certificate, Check}
+use Rattle.fort_run.specs.declared.question.Question.TheVariants.{Truth, Terms, Certificate, Check, Solutions}
 use Rattle.fort_run.specs.declared.reply.Reply.{Reply}
 use Rattle.fort_run.specs.StatusView.{code_of}
 use Rattle.fort_run.specs.Questions.{tail_of, options_of}
@@ -42,6 +44,7 @@ VerdictOn (Truth options) system behind terms f status text = TruthVerdict syste
 VerdictOn (Terms options) system behind terms f status text = WitnessVerdict system terms f status text
 VerdictOn (Certificate options) system behind terms f status text = IsTrueCertificate options.reduces system terms f status text
 VerdictOn Check system behind terms f status text = IsTrueOutcome system behind terms f status text
+VerdictOn (Solutions options bounds) system behind terms f status text = SolutionsVerdict (as_bounds bounds) system terms f status text
 
 -- the reply has this limit and its line
 pub record TellsLimit (states : ℕ) (limit : Limit) (reply : Reply) : Type 0 where

@@ -3,7 +3,7 @@ ghost use Rattle.std.specs.Prelude.{◌↔◌, ℕ, List, ◌<◌, ◌^◌, leng
 ghost use Rattle.fort_logic.specs.Mentions.{HasPlacesBelow};
 ghost use Rattle.fort_logic.specs.Translation.{IsFormulaTooWide};
 ghost use Rattle.fort_formula_grammar.specs.FormulaText.{IsFormulaText};
-ghost use Rattle.fort_answers.specs.FormulaAnswer.{IsAccepted, IsAcceptedClosed, IsRefusedClosed, IsAcceptedAs, IsRefusedAs};
+ghost use Rattle.fort_answers.specs.FormulaAnswer.{Closed, Open, IsTaken, IsNotTaken, IsAcceptedAs, IsRefusedAs};
 ghost use Rattle.fort_formulas.specs.FormulaView.{as_formula};
 ghost use Rattle.fort_formulas.specs.NumbersNeeded.{numbers_needed};
 ghost use Rattle.fort_formula_parser.specs.ParsedView.{AreShort};
@@ -29,17 +29,28 @@ fn is_too_wide(alloc: Global, formula: &Formula) -> Result<bool, AllocError>
     }
 }
 
-/// The line that refuses a formula that is taken, but not closed.
+/// The line that refuses a formula that is not closed.
 fn open_refusal(alloc: Global, formula: &Formula) -> Result<Option<Vec<u8>>, AllocError>
-    ensures { IfOk result (λ refusal. (text : List ℕ) → IsAccepted text (as_formula formula.now)
-        → MatchOption refusal (IsAcceptedClosed text (as_formula formula.now))
-        (λ line. IsRefusedClosed text line.items)) }
+    ensures { IfOk result (λ refusal. MatchOption refusal (IsTaken Closed (as_formula formula.now))
+        (λ line. IsNotTaken Closed (as_formula formula.now) line.items)) }
 {
     let names = free_names(alloc, formula)?;
     match names.first() {
         Some(name) => Ok(Some(open_line(alloc, name.as_bytes())?)),
         None => Ok(None),
     }
+}
+
+/// The line that refuses a formula that is not open.
+fn closed_refusal(alloc: Global, formula: &Formula) -> Result<Option<Vec<u8>>, AllocError>
+    ensures { IfOk result (λ refusal. MatchOption refusal (IsTaken Open (as_formula formula.now))
+        (λ line. IsNotTaken Open (as_formula formula.now) line.items)) }
+{
+    let names = free_names(alloc, formula)?;
+    if names.is_empty() {
+        return Ok(Some(Vec::from_slice(alloc, b"REFUSED formula closed\n")?));
+    }
+    Ok(None)
 }
 
 /// The line that refuses a formula that could be read, if there is one.
@@ -59,6 +70,7 @@ fn refusal_of(
     match openness {
         Openness::Any => Ok(None),
         Openness::Closed => open_refusal(alloc, formula),
+        Openness::Open => closed_refusal(alloc, formula),
     }
 }
 

@@ -1,4 +1,4 @@
-//! The commands that ask about a formula over an input: `decide`, `witness` and `check`.
+//! The commands that ask about a formula over an input: `decide`, `witness`, `check` and `solutions`.
 ghost use Rattle.std.specs.Prelude.{◌≡◌, ◌<◌, ◌≤◌, Some, length, IfOk, OnOk, IsErrOf};
 ghost use Rattle.fort_grammar.specs.Forms.{AreFormsOf};
 ghost use Rattle.fort_io.specs.Devices.{FaultCounted};
@@ -7,7 +7,7 @@ ghost use Rattle.fort_answers.specs.Requests.{Text};
 ghost use Rattle.fort_answers.specs.Answer.{needed};
 ghost use Rattle.fort_run.specs.Accepted.{IsParsedAs, IsRead};
 ghost use Rattle.fort_run.specs.Answered.{ReadsWhole};
-ghost use Rattle.fort_run.specs.Questions.{openness_of, request_for};
+ghost use Rattle.fort_run.specs.Questions.{CanBePut, openness_of, request_for};
 ghost use Rattle.fort_run.specs.Replies.{IsReplyTo, IsReplyTold};
 
 use crate::accepted::accepted_formula;
@@ -57,6 +57,7 @@ fn reply_to_forms(
     requires short { length forms.now.bytes ≤ input_limit }
     requires are { AreFormsOf forms.now.bytes forms.now.forms }
     requires read { IsRead (openness_of question) parsed.now }
+    requires possible { CanBePut question }
     ensures { IfOk result (λ r. (text : Text) → IsParsedAs (openness_of question) text parsed.now
         → IsReplyTo (Some (request_for question text)) forms.now.bytes r) }
 {
@@ -77,7 +78,8 @@ fn reply_to_formula<S: Source>(
     parsed: &Parsed,
     input: &mut S,
 ) -> Result<Reply, Stop>
-    requires { IsRead (openness_of question) parsed.now }
+    requires read { IsRead (openness_of question) parsed.now }
+    requires possible { CanBePut question }
     ensures ok { IfOk result (λ r. (text : Text) → IsParsedAs (openness_of question) text parsed.now
         → IsReplyTold (Some (request_for question text)) (S.rest input.old) r) }
     ensures whole { OnOk result (ReadsWhole (S.rest input.old) (S.rest input.new)) }
@@ -106,6 +108,7 @@ pub fn ask<S: Source>(
     text: &str,
     input: &mut S,
 ) -> Result<Reply, Stop>
+    requires { CanBePut question }
     ensures ok { IfOk result
         (IsReplyTold (Some (request_for question text.now)) (S.rest input.old)) }
     ensures whole { OnOk result (needed (Some (request_for question text.now)) →

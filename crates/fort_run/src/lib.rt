@@ -13,6 +13,7 @@ mod refusal;
 mod rejection;
 mod reply;
 mod sample;
+mod solutions;
 mod status;
 mod top;
 mod usage;

@@ -2,7 +2,7 @@
 ghost use Rattle.std.specs.Prelude.{◌≡◌};
 ghost use Rattle.fort_run.specs.Questions.{as_openness, as_tail, openness_of, tail_of};
 
-use fort_words::Options;
+use fort_words::{Bounds, Options};
 
 /// What a request asks of a formula over an input.
 #[derive(Clone, Copy, Debug)]
@@ -15,6 +15,8 @@ pub enum Question {
     Terms(Options),
     /// Whether the certificate behind the problem proves it or its negation.
     Check,
+    /// The first terms for its free variables that satisfy it.
+    Solutions(Options, Bounds),
 }
 
 /// The formulas of which something is asked.
@@ -23,6 +25,8 @@ pub enum Openness {
     Any,
     /// Those in which no variable is free.
     Closed,
+    /// Those in which one is.
+    Open,
 }
 
 /// What has to stand behind the problem of an input.
@@ -39,6 +43,7 @@ impl Question {
         match self {
             Question::Truth(_) | Question::Certificate(_) | Question::Check => Openness::Closed,
             Question::Terms(_) => Openness::Any,
+            Question::Solutions(_, _) => Openness::Open,
         }
     }
 
@@ -46,7 +51,8 @@ impl Question {
         ensures { as_tail result ≡ tail_of self }
     {
         match self {
-            Question::Truth(_) | Question::Certificate(_) | Question::Terms(_) => Tail::Nothing,
+            Question::Truth(_) | Question::Certificate(_) => Tail::Nothing,
+            Question::Terms(_) | Question::Solutions(_, _) => Tail::Nothing,
             Question::Check => Tail::Certificate,
         }
     }

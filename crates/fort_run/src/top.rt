@@ -58,6 +58,11 @@ fn reply_to_request<S: Source>(
         }
         Request::Check { formula } => ask(alloc, Question::Check, formula, input),
         Request::Sample { n } => Ok(sample(alloc, n)?),
+        Request::Solutions {
+            options,
+            bounds,
+            formula,
+        } => ask(alloc, Question::Solutions(options, bounds), formula, input),
     }
 }
 

@@ -5,4 +5,5 @@ pub const USAGE: &str = "usage: fort decide [--states N] [--reduce] [--certifica
        fort witness [--states N] [--reduce] FORMULA
        fort check FORMULA
        fort sample N
+       fort solutions [--states N] [--most M] H FORMULA
 ";

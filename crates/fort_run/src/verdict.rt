@@ -12,21 +12,22 @@ ghost use Rattle.fort_formulas.specs.FormulaView.{as_formula};
 ghost use Rattle.fort_parts.specs.DecidedCores.{IsDecided};
 ghost use Rattle.fort_parts.specs.PartAnswers.{IsAnswerTo};
 ghost use Rattle.fort_answers.specs.DecideAnswer.{TruthVerdict};
-ghost use Rattle.fort_answers.specs.FormulaAnswer.{Any, Closed};
+ghost use Rattle.fort_answers.specs.FormulaAnswer.{Any, Closed, Open, IsTaken};
 ghost use Rattle.fort_answers.specs.InputAnswer.{Behind as BehindOf};
-ghost use Rattle.fort_engine.specs.AnswerView.{as_answer, IfOver, KeepsCapAt, IsLimit};
+ghost use Rattle.fort_engine.specs.AnswerView.{as_answer, HasStatesWithin, IfOver, KeepsCapAt, IsLimit};
 ghost use Rattle.fort_run.specs.Inputs.{IsBehind};
-ghost use Rattle.fort_run.specs.Posed.{IsClosedFor, IsPosed, Settles, SettlesCore};
-ghost use Rattle.fort_run.specs.Questions.{openness_of, tail_of};
+ghost use Rattle.fort_run.specs.Posed.{IsPosed, Settles, SettlesCore};
+ghost use Rattle.fort_run.specs.Questions.{CanBePut, openness_of, tail_of};
 ghost use Rattle.fort_run.specs.Ready.{IsLawful, IsReady, IsDecidedBy};
 ghost use Rattle.fort_run.specs.StatusView.{code_of};
-ghost use Rattle.fort_run.specs.declared.question.Question.TheVariants.{Truth, Terms, Certificate};
+ghost use Rattle.fort_run.specs.declared.question.Question.TheVariants.{Truth, Terms, Certificate, Solutions};
 
 use crate::checked::checked;
 use crate::input::{Behind, Input};
 use crate::limit::limit_reply;
 use crate::question::Question;
 use crate::reply::Reply;
+use crate::solutions::solutions;
 use crate::status::Status;
 use crate::witness::witness;
 use fort_certificate::Version;
@@ -34,7 +35,7 @@ use fort_engine::{EngineFault, Last, decide_with};
 use fort_formulas::{Core, CoreFault, Formula, to_core};
 use fort_terms::{System, Term};
 use fort_trace::decide_with_steps;
-use fort_words::Options;
+use fort_words::{Bounds, Options};
 use std::alloc::{AllocError, Global};
 
 /// The core formula of a formula that speaks of nothing but what the system has.
@@ -71,6 +72,7 @@ fn answer_to(
         (as_core core.now) (as_answer last)) }
     ensures within { OnOk result (KeepsCapAt system.now options.reduces (as_core core.now)
         options.states) }
+    ensures states { IfOk result (HasStatesWithin options.states) }
     ensures over { IfErr result (λ e. IfOver e
         (IsLimit system.now options.reduces (as_core core.now) options.states)) }
 {
@@ -84,9 +86,9 @@ fn answer_to(
 /// Whether a formula is true, by the answer to its core formula.
 fn truth_of(alloc: Global, last: &Last) -> Result<Reply, AllocError>
     requires { (f : logic.Formula) × (system : PatternSystem) × (terms : List Tree)
-        × IsClosedFor Closed f × IsDecidedBy f system terms last.now }
+        × IsTaken Closed f × IsDecidedBy f system terms last.now }
     ensures verdict { IfOk result (λ r. (f : logic.Formula) (p : theory.System) (terms : List Tree)
-        → IsLawful p → IsClosedFor Closed f → IsDecidedBy f (pattern_system p) terms last.now
+        → IsLawful p → IsTaken Closed f → IsDecidedBy f (pattern_system p) terms last.now
         → TruthVerdict p terms f (code_of r.status) r.text.items) }
     ensures limit { IfOk result (λ r. r.limit ≡ None) }
 {
@@ -134,6 +136,27 @@ fn least_terms(
     }
 }
 
+/// The first terms up to a height that satisfy an open formula, by its core formula.
+fn first_terms(
+    alloc: Global,
+    system: &System,
+    formula: &Formula,
+    core: &Core,
+    options: Options,
+    bounds: Bounds,
+) -> Result<Reply, AllocError>
+    requires posed { (terms : List Tree)
+        × IsPosed Open (as_formula formula.now) system.now terms (as_core core.now) }
+    requires possible { CanBePut (Solutions options bounds) }
+    ensures { IfOk result (SettlesCore (Solutions options bounds) system.now tt
+        (as_core core.now) (as_formula formula.now)) }
+{
+    match answer_to(alloc, system, core, options) {
+        Ok(last) => solutions(alloc, system.signature(), formula, &last, bounds),
+        Err(fault) => limit_reply(alloc, fault, options.states),
+    }
+}
+
 /// The certificate that is written for a formula, by its core formula.
 fn certificate(
     alloc: Global,
@@ -165,7 +188,8 @@ pub fn verdict(
     terms: &[Term],
 ) -> Result<Reply, AllocError>
     requires ready { IsReady (as_formula formula.now) input.now.system terms.now }
-    requires closed { IsClosedFor (openness_of question) (as_formula formula.now) }
+    requires taken { IsTaken (openness_of question) (as_formula formula.now) }
+    requires possible { CanBePut question }
     requires behind { (behind : BehindOf (tail_of question))
         × IsBehind (tail_of question) input.now.behind behind }
     ensures { IfOk result (Settles question input.now terms.now (as_formula formula.now)) }
@@ -180,5 +204,8 @@ pub fn verdict(
             Behind::Certificate(certificate) => checked(alloc, system, &core, certificate),
             Behind::Nothing => unreachable!(),
         },
+        Question::Solutions(options, bounds) => {
+            first_terms(alloc, system, formula, &core, options, bounds)
+        }
     }
 }

@@ -1,16 +1,17 @@
 //! The least terms that satisfy a formula.
-ghost use Rattle.std.specs.Prelude.{◌≡◌, ◌<◌, ◌^◌, ◌++◌, List, None, length, IfOk};
+ghost use Rattle.std.specs.Prelude.{◌≡◌, ◌<◌, ◌^◌, ◌++◌, List, None, length, get_or, IfOk, OnOk};
 ghost use Rattle.fort_theory.specs.Signatures as signatures;
 ghost use Rattle.fort_theory.specs.Sides as theory;
 ghost use Rattle.fort_theory.specs.Patterns.{PatternSystem, pattern_system};
 ghost use Rattle.fort_theory.specs.Trees.{Tree};
+ghost use Rattle.fort_logic.specs.Formulas.{Name};
 ghost use Rattle.fort_logic.specs.FreeNames as names;
 ghost use Rattle.fort_formulas.specs.FormulaView.{as_formula};
 ghost use Rattle.fort_answers.specs.Lines.{witness_line};
-ghost use Rattle.fort_answers.specs.WitnessAnswer.{bindings, WitnessVerdict};
+ghost use Rattle.fort_answers.specs.WitnessAnswer.{binding, bindings, WitnessVerdict};
 ghost use Rattle.fort_run.specs.Ready.{IsLawful, IsDecidedBy};
 ghost use Rattle.fort_run.specs.StatusView.{code_of};
-ghost use Rattle.fort_run.specs.Witnesses.{AreLastTerms};
+ghost use Rattle.fort_run.specs.Witnesses.{AreLastTerms, AreTermsAt};
 
 use crate::reply::Reply;
 use crate::status::Status;
@@ -20,6 +21,27 @@ use fort_lockstep::{Dag, Table};
 use fort_terms::Signature;
 use fort_witness::{least, write_term};
 use std::alloc::{AllocError, Global};
+
+/// Adds a variable's name with the term in its column of a node.
+pub fn push_binding(
+    alloc: Global,
+    signature: &Signature,
+    name: &[u8],
+    dag: &Dag,
+    node: u32,
+    column: usize,
+    text: &mut Vec<u8>,
+) -> Result<(), AllocError>
+    requires terms { (names : List Name) × (ts : List Tree)
+        × AreTermsAt signature.now names dag.now node ts × (column < length names) }
+    ensures { OnOk result ((names : List Name) (ts : List Tree) (d : Tree)
+        → AreTermsAt signature.now names dag.now node ts → column < length names
+        → text.new.items ≡ text.old.items ++ binding signature.now name.now (get_or ts column d)) }
+{
+    text.extend_from_slice(name)?;
+    text.extend_from_slice(b" = ")?;
+    write_term(alloc, dag, node, column, signature, text)
+}
 
 /// A line for each free variable, with the term in its column of the last node.
 fn witness_text(
@@ -40,9 +62,8 @@ fn witness_text(
     let last = (dag.len() - 1) as u32;
     let mut text = Vec::from_slice(alloc, b"WITNESS\n")?;
     for column in 0..names.len() {
-        text.extend_from_slice(names[column].as_bytes())?;
-        text.extend_from_slice(b" = ")?;
-        write_term(alloc, dag, last, column, signature, &mut text)?;
+        let name = names[column].as_bytes();
+        push_binding(alloc, signature, name, dag, last, column, &mut text)?;
         text.push(b'\n')?;
     }
     Ok(text)

@@ -1,12 +1,12 @@
 use Rattle.std.proofs.lemmas.Option.{MatchOption-at_some}
 use Rattle.fort_formula_parser.specs.Faults.{as_formula_fault}
-use Rattle.fort_run.specs.Questions.{as_openness}
-use Rattle.fort_run.proofs.FormulaRefusals.{faulty, refused_as}
+use Rattle.fort_answers.specs.FormulaAnswer.{Refused}
+use Rattle.fort_run.proofs.FormulaRefusals.{faulty}
 use Rattle.fort_run.proofs.accepted.accepted_formula.Goals as goal
 
 pub returns-in-Err-clause-refused : goal.returns-in-Err-clause-refused
 returns-in-Err-clause-refused c =
-    refused_as (as_openness c.args.openness) c.args.text.now c.in_ok-formula_line-in-Err.field-0.items
+    Refused
     (faulty c.args.text.now c.in_ok-formula_line-in-Err.field-0.items (as_formula_fault c.in-Err.fault) c.in-Err.ensures.fault c.in_ok-formula_line-in-Err.ensures)
 
 pub returns-in-Some-clause-refused : goal.returns-in-Some-clause-refused

@@ -11,7 +11,7 @@ use Rattle.fort_run.specs.Questions.{openness_of, tail_of, request_for}
 use Rattle.fort_run.specs.Ready.{IsReady}
 use Rattle.fort_run.specs.Refusals.{Refuses}
 use Rattle.fort_run.proofs.LinearRules.{IsInputWith-lawful}
-use Rattle.fort_run.proofs.Readiness.{ready, closed_for}
+use Rattle.fort_run.proofs.Readiness.{ready}
 use Rattle.fort_run.proofs.Replies.{input_refused, unfit, told_refusal, verdict_replies}
 use Rattle.fort_run.proofs.ask.reply_to_forms.Goals as goal
 
@@ -47,8 +47,8 @@ verdict-requires-clause-ready c =
     (ready (openness_of c.args.question) c.args.parsed.now c.requires.read read.system c.in-Ok.input.system c.in-Ok-terms_of.terms.items read.input_is.same fits
     (AreFewRules-with (tail_of c.args.question) bytes read.system read.behind read.is))
 
-pub verdict-requires-clause-closed : goal.verdict-requires-clause-closed
-verdict-requires-clause-closed c = closed_for (openness_of c.args.question) c.args.parsed.now c.requires.read
+pub verdict-requires-clause-taken : goal.verdict-requires-clause-taken
+verdict-requires-clause-taken c = c.requires.read.is.accepted.taken
 
 pub verdict-requires-clause-behind : goal.verdict-requires-clause-behind
 verdict-requires-clause-behind c =

@@ -16,7 +16,7 @@ truth-requires c = (
   Has (as_property c.args.property) 1,
   [],
   record {
-    closed = refl;
+    taken = refl;
     ready = property_ready (as_property c.args.property) c.args.system.now c.number-number.ensures.lawful.some;
     is = c.in_ok-core.ensures.is;
     keeps = c.in_ok-core.ensures.truth;
@@ -29,7 +29,7 @@ returns c =
     let q = as_property c.args.property in
     let core = as_core c.in_ok-core.core in
     let posed : IsPosed Closed (Has q 1) c.args.system.now [] core = record {
-      closed = refl;
+      taken = refl;
       ready = property_ready q c.args.system.now c.number-number.ensures.lawful.some;
       is = c.in_ok-core.ensures.is;
       keeps = c.in_ok-core.ensures.truth;

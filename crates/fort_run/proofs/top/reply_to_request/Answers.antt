@@ -1,8 +1,9 @@
 use Rattle.std.proofs.Common.{◌≡◌, sym, subst}
 use Rattle.std.specs.Prelude.{Some}
 use Rattle.std.proofs.lemmas.Result.{on_ok_weaker}
-use Rattle.fort_words.specs.RequestView.{as_options, as_request}
-use Rattle.fort_answers.specs.Requests.{Witness, Check, Sample}
+use Rattle.fort_words.specs.RequestView.{as_options, as_bounds, as_request}
+use Rattle.fort_answers.specs.PossibleRequests.{CanBeAsked}
+use Rattle.fort_answers.specs.Requests.{Witness, Check, Sample, Solutions}
 use Rattle.fort_answers.specs.Answer.{needed}
 use Rattle.fort_run.specs.Replies.{IsReplyTo}
 use Rattle.fort_run.proofs.Replies.{no_limit}
@@ -44,3 +45,15 @@ returns-in_ok-sample-in-Sample-clause-ok g c =
     told_any (λ bytes. IsReplyTo (Some (as_request c.args.request.now)) bytes reply) _ (λ bytes.
     subst (λ r. IsReplyTo (Some r) bytes reply) (sym e)
     (record { is_owed = c.in_ok-sample-in-Sample.ensures.answer; says = λ done. tt; limit = no_limit (Some (Sample c.in-Sample.n)) bytes reply c.in_ok-sample-in-Sample.ensures.limit }))
+
+pub ask-requires-in-Solutions : goal.ask-requires-in-Solutions
+ask-requires-in-Solutions g c =
+    let e : as_request c.args.request.now ≡ Solutions (as_options c.in-Solutions.options) (as_bounds c.in-Solutions.bounds) c.in-Solutions.formula.now = cc in
+    subst CanBeAsked e c.requires
+
+pub returns-in-Solutions-clause-whole : goal.returns-in-Solutions-clause-whole
+returns-in-Solutions-clause-whole g c =
+    on_ok_weaker c.ask-in-Solutions.result (λ whole is_needed.
+    let e : as_request c.args.request.now ≡ Solutions (as_options c.in-Solutions.options) (as_bounds c.in-Solutions.bounds) c.in-Solutions.formula.now = cc in
+    whole (subst (λ r. needed (Some r)) e is_needed))
+    c.ask-in-Solutions.ensures.whole

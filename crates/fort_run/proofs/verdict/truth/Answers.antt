@@ -18,7 +18,7 @@ truth_of-requires c =
       c.requires.0,
       system,
       c.requires.1,
-      c.requires.2.closed,
+      c.requires.2.taken,
       decided_by Closed c.requires.0 system c.requires.1 (as_core c.args.core.now) c.in-Ok.last c.requires.2 c.in-Ok.ensures.truth,
     )
 
@@ -28,7 +28,7 @@ returns-in-Ok c =
     let core = as_core c.args.core.now in
     verdict_is c.truth_of.result _ _ (λ r says none. λ f p terms lawful same posed.
     verdict_settles (Truth c.args.options) f p tt system terms core (as_options c.args.options) r refl same posed.is c.in-Ok.ensures.within
-    (says f p terms lawful posed.closed
+    (says f p terms lawful posed.taken
     (subst (λ s. IsDecidedBy f s terms c.in-Ok.last) same (decided_by Closed f system terms core c.in-Ok.last posed c.in-Ok.ensures.truth)))
     none)
     c.truth_of.ensures.verdict c.truth_of.ensures.limit

@@ -3,7 +3,7 @@ use Rattle.std.proofs.lemmas.Result.{IfOk-weaker}
 use Rattle.fort_formulas.specs.CoreView.{as_core}
 use Rattle.fort_formulas.specs.FormulaView.{as_formula}
 use Rattle.fort_answers.specs.InputAnswer.{ACertificate}
-use Rattle.fort_run.specs.declared.question.Question.TheVariants.{Truth, Certificate, Terms, Check}
+use Rattle.fort_run.specs.declared.question.Question.TheVariants.{Truth, Certificate, Terms, Check, Solutions}
 use Rattle.fort_run.specs.Inputs.{IsBehind}
 use Rattle.fort_run.specs.Posed.{IsPosed, SettlesCore}
 use Rattle.fort_run.specs.Questions.{openness_of}
@@ -15,7 +15,7 @@ returns-in-Truth c =
     let f = as_formula c.args.formula.now in
     let core = as_core c.in_ok-core.core in
     let posed : IsPosed (openness_of c.args.question) f c.args.input.now.system c.args.terms.now core = record {
-      closed = c.requires.closed;
+      taken = c.requires.taken;
       ready = c.requires.ready;
       is = c.in_ok-core.ensures.is;
       keeps = c.in_ok-core.ensures.truth;
@@ -30,7 +30,7 @@ returns-in-Certificate c =
     let f = as_formula c.args.formula.now in
     let core = as_core c.in_ok-core.core in
     let posed : IsPosed (openness_of c.args.question) f c.args.input.now.system c.args.terms.now core = record {
-      closed = c.requires.closed;
+      taken = c.requires.taken;
       ready = c.requires.ready;
       is = c.in_ok-core.ensures.is;
       keeps = c.in_ok-core.ensures.truth;
@@ -45,7 +45,7 @@ returns-in-Terms c =
     let f = as_formula c.args.formula.now in
     let core = as_core c.in_ok-core.core in
     let posed : IsPosed (openness_of c.args.question) f c.args.input.now.system c.args.terms.now core = record {
-      closed = c.requires.closed;
+      taken = c.requires.taken;
       ready = c.requires.ready;
       is = c.in_ok-core.ensures.is;
       keeps = c.in_ok-core.ensures.truth;
@@ -61,7 +61,7 @@ returns-in-Certificate-behind c =
     let core = as_core c.in_ok-core.core in
     let system = c.args.input.now.system in
     let posed : IsPosed (openness_of c.args.question) f system c.args.terms.now core = record {
-      closed = c.requires.closed;
+      taken = c.requires.taken;
       ready = c.requires.ready;
       is = c.in_ok-core.ensures.is;
       keeps = c.in_ok-core.ensures.truth;
@@ -71,3 +71,18 @@ returns-in-Certificate-behind c =
     settled c.args.question Check c.args.input.now f c.args.terms.now core r c.in-Check.is posed (λ p behind is.
     subst (λ b. SettlesCore Check system b core f r) (subst (λ b. IsBehind ACertificate b behind) c.in-Certificate-behind.is is.behind_is) (says f)))
     c.checked.ensures
+
+pub returns : goal.returns
+returns c =
+    let f = as_formula c.args.formula.now in
+    let core = as_core c.in_ok-core.core in
+    let posed : IsPosed (openness_of c.args.question) f c.args.input.now.system c.args.terms.now core = record {
+      taken = c.requires.taken;
+      ready = c.requires.ready;
+      is = c.in_ok-core.ensures.is;
+      keeps = c.in_ok-core.ensures.truth;
+      decided = c.in_ok-core.ensures.decided;
+    } in
+    IfOk-weaker c.first_terms.result _ _ (λ r says.
+    settled c.args.question (Solutions c.in-Solutions.options c.in-Solutions.bounds) c.args.input.now f c.args.terms.now core r c.in-Solutions.is posed (λ p behind is. says))
+    c.first_terms.ensures
