@@ -68,6 +68,10 @@ def witnessed(status: int, first_line: str, problem: str, *words: str) -> Comman
     return Command("witness", ("witness", *words), problem, status, first_line)
 
 
+def listed(status: int, first_line: str, problem: str, *words: str) -> Command:
+    return Command("solutions", ("solutions", *words), problem, status, first_line)
+
+
 def written(first_line: str, problem: str, *words: str) -> Command:
     return Command("decide --certificate", ("decide", "--certificate", *words), problem, 0, first_line)
 
@@ -86,8 +90,8 @@ def asks_nothing(*words: str | bytes) -> Command:
     return Command("no request", words, "", 2, "usage: fort ")
 
 
-def formula_refused(fault: str, formula: str, problem: str = "", command: str = "decide") -> Command:
-    return Command("formula refused", (command, formula), problem, 3, f"REFUSED formula {fault}")
+def formula_refused(fault: str, formula: str, problem: str = "", command: tuple = ("decide",)) -> Command:
+    return Command("formula refused", (*command, formula), problem, 3, f"REFUSED formula {fault}")
 
 
 def text_refused(fault: str, text: str, **more) -> Command:
@@ -131,6 +135,11 @@ ANSWERS = [
     witnessed(1, "NONE", FALLS, "x -> y & y -> x"),
     witnessed(1, "NONE", ONE, "--reduce", "~NF(x)"),
     witnessed(4, "LIMIT 0 star 1", FALLS, "--states", "1", "x ->* y"),
+    listed(0, "SOLUTIONS 2", FALLS, "2", "~NF(x)"),
+    listed(0, "SOLUTIONS 3 AND MORE", FORK, "--most", "3", "4", "x ->* y & ~(x = y)"),
+    listed(0, "SOLUTIONS 2", RING, "1", "~SN(x)"),
+    listed(1, "SOLUTIONS 0", FALLS, "0", "~NF(x)"),
+    listed(4, "LIMIT 0 step 1", FALLS, "--states", "1", "2", "x -> y"),
     written("(certificate 1 yes)", ONE, "forall x (NF(x))"),
     written("(certificate 1 yes)", GROWS, MANY),
     written("(certificate 1 no)", RING, "CR"),
@@ -161,15 +170,18 @@ REFUSALS = [
     asks_nothing("check", "--reduce", "CR"),
     asks_nothing("check", "CR", "CR"),
     asks_nothing("sample", "65"),
+    asks_nothing("solutions", "NF(x)"),
+    asks_nothing("solutions", "--most", "1001", "2", "NF(x)"),
     asks_nothing("decide", b"\xff"),
     formula_refused("bad byte at 2", "x #"),
     formula_refused("too long", "~" * 1_000 + "true"),
     formula_refused("too deep at 200", "(" * 201 + "true" + ")" * 201),
     formula_refused("syntax at 14", "true <=> true <=> true"),
-    formula_refused("too wide", WIDE, command="witness"),
-    formula_refused("too wide", f"x <<{EXPRESSION_WIDE}, any, all>> y", command="witness"),
+    formula_refused("too wide", WIDE, command=("witness",)),
+    formula_refused("too wide", f"x <<{EXPRESSION_WIDE}, any, all>> y", command=("witness",)),
     formula_refused("open x", "NF(x)"),
-    formula_refused("open x", "NF(x)", command="check"),
+    formula_refused("open x", "NF(x)", command=("check",)),
+    formula_refused("closed", "CR", command=("solutions", "2")),
     formula_refused("index 2", "CR & WN[2]", ONE),
     formula_refused("term at 6", "{a} = {b}", ONE),
     formula_refused("sn 1", "SN", LOSES),
