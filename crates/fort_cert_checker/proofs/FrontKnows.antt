@@ -9,7 +9,7 @@ use Rattle.fort_cores.specs.Cores as core
 use Rattle.fort_cores.specs.Cores.{Core, Rel}
 use Rattle.fort_counts.specs.Counts.{Count}
 use Rattle.fort_certificate_grammar.specs.Certificates as certificates
-use Rattle.fort_certificate_grammar.specs.Certificates.{Which, Pair as Item, Step, Closure, Part, Merge, Counts, Value, Certificate}
+use Rattle.fort_certificate_grammar.specs.Certificates.{Which, Pair as Item, Step, Closure, Part, Merge, Counts, Value}
 use Rattle.fort_in_order.specs.Dues.{DueStep, OfClosure, OfPart, OfMerge, OfCounts, OfValue as OfValueOf, due_of, reads, asks, closures_due, has_columns, is_turned, parts_due, is_merged_in, dues_of}
 use Rattle.fort_in_order.specs.Made.{Made, nothing_made}
 use Rattle.fort_in_order.specs.Checked.{IsFine, IsUpTo}
@@ -30,8 +30,8 @@ both_true : (a b : Bool) → a ≡ true → b ≡ true → (a && b) ≡ true
 both_true true b e h = h
 both_true false b e h = absurd (true≢false (sym e))
 
-module _ (system : PatternSystem) (parts : List Core) (c : Certificate) (front rest : List Step) (s : Step) (d : DueStep) (wanted : List DueStep) (made : Made)
-    (up : IsUpTo system parts c.steps front (d ∷ wanted) (s ∷ rest) made) where
+module _ (system : PatternSystem) (parts : List Core) (ss : List Step) (front rest : List Step) (s : Step) (d : DueStep) (wanted : List DueStep) (made : Made)
+    (up : IsUpTo system parts ss front (d ∷ wanted) (s ∷ rest) made) where
   indices : ℕ
   indices = length system.rules
 
@@ -39,7 +39,7 @@ module _ (system : PatternSystem) (parts : List Core) (c : Certificate) (front r
   top = 3 * (length system.rules + length parts) + 3
 
   abbrev merges : ℕ → Bool
-  merges = is_merged_in c.steps
+  merges = is_merged_in ss
 
   all_up : GoesUp (length system.rules) 3 top (up.done ++ d ∷ wanted)
   all_up = subst (GoesUp (length system.rules) 3 top) up.dues_are (dues_up merges (length system.rules) parts)
@@ -53,18 +53,18 @@ module _ (system : PatternSystem) (parts : List Core) (c : Certificate) (front r
       subst (λ (x : DueStep). key (length system.rules) (due_of t) < key (length system.rules) x) (sym e)
       (key_before (length system.rules) 3 top up.done wanted d (due_of t) all_up (due_in (IsFine system parts) nothing_made made up.done front t up.fine k))
 
-  pub only_front : (t : Step) → Contains front t → IsOnlyAbout c.steps t
-  only_front t k = only_in_front (IsFine system parts) (length system.rules) 3 top nothing_made made up.done c.steps front (s ∷ rest) t done_up up.fine up.steps_are k
+  pub only_front : (t : Step) → Contains front t → IsOnlyAbout ss t
+  only_front t k = only_in_front (IsFine system parts) (length system.rules) 3 top nothing_made made up.done ss front (s ∷ rest) t done_up up.fine up.steps_are k
 
-  pub only_due : due_of s ≡ d → IsOnlyAbout c.steps s
-  only_due e = only_next (IsFine system parts) (length system.rules) 3 top nothing_made made up.done wanted c.steps front rest d s all_up up.fine up.steps_are e
+  pub only_due : due_of s ≡ d → IsOnlyAbout ss s
+  only_due e = only_next (IsFine system parts) (length system.rules) 3 top nothing_made made up.done wanted ss front rest d s all_up up.fine up.steps_are e
 
-  front_step : (e : DueStep) → Contains (dues_of c.steps (length system.rules) parts) e → key (length system.rules) e < key (length system.rules) d → (t : Step) × Contains front t × (due_of t ≡ e)
+  front_step : (e : DueStep) → Contains (dues_of ss (length system.rules) parts) e → key (length system.rules) e < key (length system.rules) d → (t : Step) × Contains front t × (due_of t ≡ e)
   front_step e k l =
       step_of (IsFine system parts) nothing_made made up.done front e up.fine
       (due_before (length system.rules) 3 top up.done wanted d e all_up (subst (λ (ds : List DueStep). Contains ds e) up.dues_are k) l)
 
-  of_parts : (e : DueStep) → Contains (parts_due merges 0 parts) e → Contains (dues_of c.steps (length system.rules) parts) e
+  of_parts : (e : DueStep) → Contains (parts_due merges 0 parts) e → Contains (dues_of ss (length system.rules) parts) e
   of_parts e k = Contains-append_right (closures_due parts (length system.rules) 1) (parts_due merges 0 parts) e k
 
   -- the targets of a part
@@ -80,7 +80,7 @@ module _ (system : PatternSystem) (parts : List Core) (c : Certificate) (front r
 
   -- the classes of a part that is merged
   pub merge_before : (j : ℕ) → key (length system.rules) (OfMerge j) < key (length system.rules) d → j < length parts → has_columns (get_or parts j core.True) ≡ true → is_turned (get_or parts j core.True) ≡ false
-      → is_merged_in c.steps j ≡ true → (classes : List ℕ) × Contains front (Merge j classes)
+      → is_merged_in ss j ≡ true → (classes : List ℕ) × Contains front (Merge j classes)
   merge_before j l m has plain is =
       let z : 0 + j ≡ j = omega arith in
       let h : Contains (parts_due merges 0 parts) (OfMerge j) =
@@ -89,7 +89,7 @@ module _ (system : PatternSystem) (parts : List Core) (c : Certificate) (front r
       (classes_in w.0, subst (Contains front) (merge_of w.0 j w.2) w.1)
 
   -- what is in front was due
-  pub front_due : (t : Step) → Contains front t → Contains (dues_of c.steps (length system.rules) parts) (due_of t)
+  pub front_due : (t : Step) → Contains front t → Contains (dues_of ss (length system.rules) parts) (due_of t)
   front_due t k =
       subst (λ (ds : List DueStep). Contains ds (due_of t)) (sym up.dues_are)
       (Contains-append_left up.done (d ∷ wanted) (due_of t) (due_in (IsFine system parts) nothing_made made up.done front t up.fine k))
@@ -130,7 +130,7 @@ module _ (system : PatternSystem) (parts : List Core) (c : Certificate) (front r
     closure_step w rel index x y l e r low high =
         let among : Contains parts (core.Leaf (core.Related rel index x y)) = subst (Contains parts) e (Contains-get_or parts k core.True l) in
         let asked : list_any (asks w index) parts ≡ true = any_from (asks w index) parts (core.Leaf (core.Related rel index x y)) among (both_true (reads w rel) (index == index) r (eq-eqb index index refl)) in
-        let there : Contains (dues_of c.steps (length system.rules) parts) (OfClosure w index) =
+        let there : Contains (dues_of ss (length system.rules) parts) (OfClosure w index) =
         Contains-append_left (closures_due parts (length system.rules) 1) (parts_due merges 0 parts) (OfClosure w index) (closure_due_at parts w (length system.rules) 1 index low (omega arith) asked) in
         let small : key (length system.rules) (OfClosure w index) < key (length system.rules) d = small_key w in
         let t = front_step (OfClosure w index) there small in

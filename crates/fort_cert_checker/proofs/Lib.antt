@@ -20,4 +20,6 @@ pub mod OwnSteps
 pub mod LoopKnows
 pub mod LoopSteps
 pub mod NewLaws
+pub mod StepCheckLaws
+pub mod WholeLaws
 pub mod CheckLaws

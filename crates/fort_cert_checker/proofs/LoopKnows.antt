@@ -12,7 +12,7 @@ use Rattle.fort_cores.specs.PartLists.{AreParts}
 use Rattle.fort_parts.specs.PartColumns.{columns_of}
 use Rattle.fort_parts.specs.DecidedCores.{IsDecided, IsOverSystem}
 use Rattle.fort_parts.proofs.PartFacts.{IsOverSystem-part, BindsFree-part, columns_of-few}
-use Rattle.fort_certificate_grammar.specs.Certificates.{Which, Star, Conv, Pair as Item, Step, Closure, Part, Merge, Counts, Value, Certificate}
+use Rattle.fort_certificate_grammar.specs.Certificates.{Which, Star, Conv, Pair as Item, Step, Closure, Part, Merge, Counts, Value}
 use Rattle.fort_in_order.specs.Dues.{DueStep, OfClosure, OfPart, OfMerge, OfCounts, OfValue, due_of, reads, asks, closure_due, closures_due, has_columns, is_turned, parts_due, dues, is_merged_in, dues_of}
 use Rattle.fort_in_order.specs.Made.{Made}
 use Rattle.fort_in_order.specs.Checked.{IsUpTo}
@@ -86,43 +86,43 @@ is_false false h = refl
 
 -- ---- at a place
 
-module _ (system : PatternSystem) (root : Core) (parts : List Core) (c : Certificate) (plans : List Plan) (rooms : List PartRoom) (front rest : List Step) (s : Step) (d : DueStep) (wanted : List DueStep) (made : Made)
-    (up : IsUpTo system parts c.steps front (d ∷ wanted) (s ∷ rest) made) (are : AreParts root parts) (decided : IsDecided system root) (tells : Tells parts front made) (held : AreHeld system parts rooms front made)
-    (planned : ArePlansMade system parts c.steps (length parts) plans) (few : HasFewTargets c.steps) where
-  at_due : Contains (dues_of c.steps (length system.rules) parts) d
+module _ (system : PatternSystem) (root : Core) (parts : List Core) (ss : List Step) (plans : List Plan) (rooms : List PartRoom) (front rest : List Step) (s : Step) (d : DueStep) (wanted : List DueStep) (made : Made)
+    (up : IsUpTo system parts ss front (d ∷ wanted) (s ∷ rest) made) (are : AreParts root parts) (decided : IsDecided system root) (tells : Tells parts front made) (held : AreHeld system parts rooms front made)
+    (planned : ArePlansMade system parts ss (length parts) plans) (few : HasFewTargets ss) where
+  at_due : Contains (dues_of ss (length system.rules) parts) d
   at_due = subst (λ (ds : List DueStep). Contains ds d) (sym up.dues_are) (Contains-append_right up.done (d ∷ wanted) d (Contains-head d wanted))
 
   -- some past, with the rooms of earlier parts
   module _ (k : ℕ) (past : Past) (within : k < length parts) (own : 3 * (length system.rules + k) + 3 ≤ key (length system.rules) d) (signature : past.signature.now ≡ system.signature)
-      (steps : steps_of past ≡ c.steps) (plans_are : past.plans.now ≡ plans) (low_rooms : (j : ℕ) (r : PartRoom) → j < k → IsElement rooms j r → IsElement past.rooms.now j r) where
+      (steps : steps_of past ≡ ss) (plans_are : past.plans.now ≡ plans) (low_rooms : (j : ℕ) (r : PartRoom) → j < k → IsElement rooms j r → IsElement past.rooms.now j r) where
     only : (t : Step) → Contains front t → IsOnlyAbout (steps_of past) t
-    only t m = subst (λ (ss : List Step). IsOnlyAbout ss t) (sym steps) (only_front system parts c front rest s d wanted made up t m)
+    only t m = subst (λ (ts : List Step). IsOnlyAbout ts t) (sym steps) (only_front system parts ss front rest s d wanted made up t m)
 
     plan_for : (j : ℕ) → j < length parts → (p : Plan) × IsElement past.plans.now j p × (p.columns ≡ length (columns_of (get_or parts j core.True)))
     plan_for j l =
         let w = element_of plans j (omega (arith, l, planned.count)) in
         (w.0, subst (λ (ps : List Plan). IsElement ps j w.0) (sym plans_are) w.1, ap (λ (p : Plan). p.columns) (sym (w.1.1 w.0)) ∙ (planned.each j w.0 l).columns)
 
-    not_merged : (j : ℕ) (classes : List ℕ) → is_merged_in c.steps j ≡ false → Contains front (Merge j classes) → ⊥
+    not_merged : (j : ℕ) (classes : List ℕ) → is_merged_in ss j ≡ false → Contains front (Merge j classes) → ⊥
     not_merged j classes e m =
-        let h = due_for (is_merged_in c.steps) (length system.rules) parts (OfMerge j) tt (front_due system parts c front rest s d wanted made up (Merge j classes) m) in
+        let h = due_for (is_merged_in ss) (length system.rules) parts (OfMerge j) tt (front_due system parts ss front rest s d wanted made up (Merge j classes) m) in
         true≢false (sym h.5 ∙ e)
 
     -- by its targets or its classes
     states_for : (j : ℕ) (targets : List ℕ) → j < k → has_columns (get_or parts j core.True) ≡ true → is_turned (get_or parts j core.True) ≡ false → Contains front (Part j targets) → (n : ℕ)
         → (((classes : List ℕ) → Contains front (Merge j classes) → ⊥) → n ≡ most_states targets) → ((classes : List ℕ) → Contains front (Merge j classes) → n ≡ most_states classes)
         → IsStatesOf (steps_of past) j n
-    states_for j targets l has plain m n by_targets by_classes = by (is_merged_in c.steps j) refl
+    states_for j targets l has plain m n by_targets by_classes = by (is_merged_in ss j) refl
       where
-        by : (b : Bool) → is_merged_in c.steps j ≡ b → IsStatesOf (steps_of past) j n
+        by : (b : Bool) → is_merged_in ss j ≡ b → IsStatesOf (steps_of past) j n
         by true e =
-            let w = merge_before system parts c front rest s d wanted made up j (omega (arith, l, own)) (omega (arith, l, within)) has plain e in
-            OfClasses w.0 (only (Merge j w.0) w.1) (ap (λ (ss : List Step). is_merged_in ss j) steps ∙ e) (by_classes w.0 w.1)
-        by false e = OfTargets targets (only (Part j targets) m) (ap (λ (ss : List Step). is_merged_in ss j) steps ∙ e) (by_targets (λ classes x. not_merged j classes e x))
+            let w = merge_before system parts ss front rest s d wanted made up j (omega (arith, l, own)) (omega (arith, l, within)) has plain e in
+            OfClasses w.0 (only (Merge j w.0) w.1) (ap (λ (ts : List Step). is_merged_in ts j) steps ∙ e) (by_classes w.0 w.1)
+        by false e = OfTargets targets (only (Part j targets) m) (ap (λ (ts : List Step). is_merged_in ts j) steps ∙ e) (by_targets (λ classes x. not_merged j classes e x))
 
     table_for : (j : ℕ) → j < k → has_columns (get_or parts j core.True) ≡ true → is_turned (get_or parts j core.True) ≡ false → IsTableKnown system.signature parts past made j
     table_for j l has plain =
-        let t = table_step system parts c front rest s d wanted made up k own j l (omega (arith, l, within)) has plain in
+        let t = table_step system parts ss front rest s d wanted made up k own j l (omega (arith, l, within)) has plain in
         let h = held j t.0 t.1 in
         record {
           targets = t.0;
@@ -137,7 +137,7 @@ module _ (system : PatternSystem) (root : Core) (parts : List Core) (c : Certifi
 
     value_for : (j : ℕ) → j < k → has_columns (get_or parts j core.True) ≡ false → is_turned (get_or parts j core.True) ≡ false → IsValueKnown past made j
     value_for j l has plain =
-        let t = value_step system parts c front rest s d wanted made up k own j l (omega (arith, l, within)) has plain in
+        let t = value_step system parts ss front rest s d wanted made up k own j l (omega (arith, l, within)) has plain in
         record { value = t.0; only = only (Value j t.0) t.1; made_is = tells.values j t.0 t.1 }
 
     fit : IsFitPart system (get_or parts k core.True)
@@ -152,13 +152,13 @@ module _ (system : PatternSystem) (root : Core) (parts : List Core) (c : Certifi
         star_of : (r : core.Rel) → get_or parts k core.True ≡ core.Leaf (core.Related r index x y) → reads Star r ≡ true → (items : List Item) × IsOnlyAbout (steps_of past) (Closure Star index items) × (made.closures Star index ≡ items)
         star_of r f e =
             let o = index_of r f in
-            let t = closure_step system parts c front rest s d wanted made up k own Star r index x y within f e o.low o.high in
+            let t = closure_step system parts ss front rest s d wanted made up k own Star r index x y within f e o.low o.high in
             (t.0, only (Closure Star index t.0) t.1, tells.closures Star index t.0 t.1)
 
         conv_of : get_or parts k core.True ≡ core.Leaf (core.Related core.Conv index x y) → (items : List Item) × IsOnlyAbout (steps_of past) (Closure Conv index items) × (made.closures Conv index ≡ items)
         conv_of f =
             let o = index_of core.Conv f in
-            let t = closure_step system parts c front rest s d wanted made up k own Conv core.Conv index x y within f refl o.low o.high in
+            let t = closure_step system parts ss front rest s d wanted made up k own Conv core.Conv index x y within f refl o.low o.high in
             (t.0, only (Closure Conv index t.0) t.1, tells.closures Conv index t.0 t.1)
 
         by : (r : core.Rel) → get_or parts k core.True ≡ core.Leaf (core.Related r index x y) → IsClosureKnown (steps_of past) made r index
@@ -184,36 +184,36 @@ module _ (system : PatternSystem) (root : Core) (parts : List Core) (c : Certifi
 
     knows_counts : key (length system.rules) (OfCounts k) < key (length system.rules) d → KnowsCounts parts past k made
     knows_counts low m g e =
-        let t = counts_step system parts c front rest s d wanted made up k own m g within e low in
+        let t = counts_step system parts ss front rest s d wanted made up k own m g within e low in
         record { marks = t.0; only = only (Counts k t.0) t.1; made_is = tells.counts k t.0 t.1; rules = tells.rules k t.0 t.1 }
 
     part_is : (p : Plan) → IsElement plans k p → IsPartDue system parts past k made (get_or parts k core.True) p
     part_is p at = record {
       known = knows;
       part = refl;
-      plan = subst (λ (ss : List Step). IsPlanOf system parts ss k (get_or parts k core.True) p) (sym steps)
-          (subst (IsPlanOf system parts c.steps k (get_or parts k core.True)) (at.1 p) (planned.each k p within));
+      plan = subst (λ (ts : List Step). IsPlanOf system parts ts k (get_or parts k core.True) p) (sym steps)
+          (subst (IsPlanOf system parts ss k (get_or parts k core.True)) (at.1 p) (planned.each k p within));
       fit = fit;
     }
 
   pub own_within : (t : Step) → due_of t ≡ d → IsNoClosure (due_of t) → part_in t < length parts
   own_within (Closure w i xs) e plain_due = absurd plain_due
-  own_within (Part k targets) e plain_due = let h = due_for (is_merged_in c.steps) (length system.rules) parts (OfPart k) tt (subst (Contains (dues_of c.steps (length system.rules) parts)) (sym e) at_due) in omega (arith, h.1, h.2)
-  own_within (Merge k classes) e plain_due = let h = due_for (is_merged_in c.steps) (length system.rules) parts (OfMerge k) tt (subst (Contains (dues_of c.steps (length system.rules) parts)) (sym e) at_due) in omega (arith, h.1, h.2)
-  own_within (Counts k marks) e plain_due = let h = due_for (is_merged_in c.steps) (length system.rules) parts (OfCounts k) tt (subst (Contains (dues_of c.steps (length system.rules) parts)) (sym e) at_due) in omega (arith, h.1, h.2)
-  own_within (Value k value) e plain_due = let h = due_for (is_merged_in c.steps) (length system.rules) parts (OfValue k) tt (subst (Contains (dues_of c.steps (length system.rules) parts)) (sym e) at_due) in omega (arith, h.1, h.2)
+  own_within (Part k targets) e plain_due = let h = due_for (is_merged_in ss) (length system.rules) parts (OfPart k) tt (subst (Contains (dues_of ss (length system.rules) parts)) (sym e) at_due) in omega (arith, h.1, h.2)
+  own_within (Merge k classes) e plain_due = let h = due_for (is_merged_in ss) (length system.rules) parts (OfMerge k) tt (subst (Contains (dues_of ss (length system.rules) parts)) (sym e) at_due) in omega (arith, h.1, h.2)
+  own_within (Counts k marks) e plain_due = let h = due_for (is_merged_in ss) (length system.rules) parts (OfCounts k) tt (subst (Contains (dues_of ss (length system.rules) parts)) (sym e) at_due) in omega (arith, h.1, h.2)
+  own_within (Value k value) e plain_due = let h = due_for (is_merged_in ss) (length system.rules) parts (OfValue k) tt (subst (Contains (dues_of ss (length system.rules) parts)) (sym e) at_due) in omega (arith, h.1, h.2)
 
-  module _ (past : Past) (signature : past.signature.now ≡ system.signature) (steps : steps_of past ≡ c.steps) (plans_are : past.plans.now ≡ plans) (p : Plan) (room : PartRoom) (scratch : LabelRoom) (mark : MarkRoom)
-      (sized : IsMarkRoomFor c.steps p.work mark) where
+  module _ (past : Past) (signature : past.signature.now ≡ system.signature) (steps : steps_of past ≡ ss) (plans_are : past.plans.now ≡ plans) (p : Plan) (room : PartRoom) (scratch : LabelRoom) (mark : MarkRoom)
+      (sized : IsMarkRoomFor ss p.work mark) where
     here_sized : IsMarkRoomFor (steps_of past) p.work mark
-    here_sized = subst (λ (ss : List Step). IsMarkRoomFor ss p.work mark) (sym steps) sized
+    here_sized = subst (λ (ts : List Step). IsMarkRoomFor ts p.work mark) (sym steps) sized
 
-    pub own_due : (t : Step) → due_of t ≡ d → IsNoClosure (due_of t) → Contains c.steps t → IsOnlyAbout c.steps t → ((j : ℕ) (r : PartRoom) → j < part_in t → IsElement rooms j r → IsElement past.rooms.now j r)
-        → IsElement plans (part_in t) p → IsElement rooms (part_in t) room → IsRoomFor c.steps (part_in t) room → IsScratchFor c.steps (part_in t) p scratch
+    pub own_due : (t : Step) → due_of t ≡ d → IsNoClosure (due_of t) → Contains ss t → IsOnlyAbout ss t → ((j : ℕ) (r : PartRoom) → j < part_in t → IsElement rooms j r → IsElement past.rooms.now j r)
+        → IsElement plans (part_in t) p → IsElement rooms (part_in t) room → IsRoomFor ss (part_in t) room → IsScratchFor ss (part_in t) p scratch
         → IsOwnDue system parts past made (get_or parts (part_in t) core.True) p t room scratch mark
     own_due (Closure w i xs) e plain_due there alone low_rooms at room_at rf sf = absurd plain_due
     own_due (Part k targets) e plain_due there alone low_rooms at room_at rf sf =
-        let h = due_for (is_merged_in c.steps) (length system.rules) parts (OfPart k) tt (subst (Contains (dues_of c.steps (length system.rules) parts)) (sym e) at_due) in
+        let h = due_for (is_merged_in ss) (length system.rules) parts (OfPart k) tt (subst (Contains (dues_of ss (length system.rules) parts)) (sym e) at_due) in
         let same : h.0 ≡ k = omega (arith, h.1) in
         let within : k < length parts = omega (arith, h.1, h.2) in
         let key_is : key (length system.rules) (OfPart k) ≡ key (length system.rules) d = ap (key (length system.rules)) e in
@@ -225,39 +225,39 @@ module _ (system : PatternSystem) (root : Core) (parts : List Core) (c : Certifi
           counts = knows_counts k past within own signature steps plans_are low_rooms (omega (arith, key_is));
           few = few.targets k targets there;
           width = sf.width;
-          is_width = subst (λ (ss : List Step). IsWidthFor ss p.work sf.width) (sym steps) sf.is_width;
+          is_width = subst (λ (ts : List Step). IsWidthFor ts p.work sf.width) (sym steps) sf.is_width;
           sized = rf.targets_fit targets alone;
           scratch_sized = sf.sized targets alone;
-          lists_sized = subst (λ (ss : List Step). AreListsFor ss p.work scratch.lists) (sym steps) sf.lists;
+          lists_sized = subst (λ (ts : List Step). AreListsFor ts p.work scratch.lists) (sym steps) sf.lists;
           marks_sized = here_sized;
         }
     own_due (Merge k classes) e plain_due there alone low_rooms at room_at rf sf =
-        let h = due_for (is_merged_in c.steps) (length system.rules) parts (OfMerge k) tt (subst (Contains (dues_of c.steps (length system.rules) parts)) (sym e) at_due) in
+        let h = due_for (is_merged_in ss) (length system.rules) parts (OfMerge k) tt (subst (Contains (dues_of ss (length system.rules) parts)) (sym e) at_due) in
         let same : h.0 ≡ k = omega (arith, h.1) in
         let within : k < length parts = omega (arith, h.1, h.2) in
         let key_is : key (length system.rules) (OfMerge k) ≡ key (length system.rules) d = ap (key (length system.rules)) e in
         let has = subst (λ (i : ℕ). has_columns (get_or parts i core.True) ≡ true) same h.3 in
         let plain = subst (λ (i : ℕ). is_turned (get_or parts i core.True) ≡ false) same h.4 in
-        let t = table_before system parts c front rest s d wanted made up k (omega (arith, key_is)) within has plain in
+        let t = table_before system parts ss front rest s d wanted made up k (omega (arith, key_is)) within has plain in
         let r = held k t.0 t.1 in
         let one : r.room ≡ room = sym (r.room_at.1 room) ∙ room_at.1 room in
-        let only_part : IsOnlyAbout c.steps (Part k t.0) = only_front system parts c front rest s d wanted made up (Part k t.0) t.1 in
+        let only_part : IsOnlyAbout ss (Part k t.0) = only_front system parts ss front rest s d wanted made up (Part k t.0) t.1 in
         record {
           targets = t.0;
           table = r.table;
           signature = signature;
           columns = ap (λ (q : Plan). q.columns) (sym (at.1 p)) ∙ (planned.each k p within).columns;
-          only = subst (λ (ss : List Step). IsOnlyAbout ss (Part k t.0)) (sym steps) only_part;
+          only = subst (λ (ts : List Step). IsOnlyAbout ts (Part k t.0)) (sym steps) only_part;
           held = subst (λ (x : PartRoom). IsHeld system.signature (length (columns_of (get_or parts k core.True))) t.0 x r.table) one r.held;
           plain = subst (λ (x : PartRoom). IsFalse x.is_merged) one
-              (is_false r.room.is_merged (λ is. let w = r.merged is in none_merged system parts c front rest s d wanted made up k w.0 (sym e) w.1));
+              (is_false r.room.is_merged (λ is. let w = r.merged is in none_merged system parts ss front rest s d wanted made up k w.0 (sym e) w.1));
           made_is = r.made_is;
           sized = rf.classes_fit t.0 only_part h.5;
           scratch_sized = sf.leaders t.0 only_part h.5;
           marks_sized = here_sized;
         }
     own_due (Counts k marks) e plain_due there alone low_rooms at room_at rf sf =
-        let h = due_for (is_merged_in c.steps) (length system.rules) parts (OfCounts k) tt (subst (Contains (dues_of c.steps (length system.rules) parts)) (sym e) at_due) in
+        let h = due_for (is_merged_in ss) (length system.rules) parts (OfCounts k) tt (subst (Contains (dues_of ss (length system.rules) parts)) (sym e) at_due) in
         let same : h.0 ≡ k = omega (arith, h.1) in
         let within : k < length parts = omega (arith, h.1, h.2) in
         let key_is : key (length system.rules) (OfCounts k) ≡ key (length system.rules) d = ap (key (length system.rules)) e in
@@ -267,11 +267,11 @@ module _ (system : PatternSystem) (root : Core) (parts : List Core) (c : Certifi
           number = h.3.0;
           body = h.3.1;
           whole = subst (λ (i : ℕ). get_or parts i core.True ≡ core.Infinite h.3.0 h.3.1) same h.3.2;
-          only = subst (λ (ss : List Step). IsOnlyAbout ss (Counts k marks)) (sym steps) alone;
+          only = subst (λ (ts : List Step). IsOnlyAbout ts (Counts k marks)) (sym steps) alone;
           marks_sized = here_sized;
         }
     own_due (Value k value) e plain_due there alone low_rooms at room_at rf sf =
-        let h = due_for (is_merged_in c.steps) (length system.rules) parts (OfValue k) tt (subst (Contains (dues_of c.steps (length system.rules) parts)) (sym e) at_due) in
+        let h = due_for (is_merged_in ss) (length system.rules) parts (OfValue k) tt (subst (Contains (dues_of ss (length system.rules) parts)) (sym e) at_due) in
         let same : h.0 ≡ k = omega (arith, h.1) in
         let within : k < length parts = omega (arith, h.1, h.2) in
         let key_is : key (length system.rules) (OfValue k) ≡ key (length system.rules) d = ap (key (length system.rules)) e in

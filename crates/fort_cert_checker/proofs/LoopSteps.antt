@@ -7,7 +7,7 @@ use Rattle.std.proofs.lemmas.List.Elements.{Contains-append_left, Contains-get_o
 use Rattle.fort_theory.specs.Patterns.{PatternSystem}
 use Rattle.fort_cores.specs.Cores as core
 use Rattle.fort_cores.specs.Cores.{Core}
-use Rattle.fort_certificate_grammar.specs.Certificates.{Which, Pair as Item, Step, Closure, Part, Merge, Counts, Value, Certificate}
+use Rattle.fort_certificate_grammar.specs.Certificates.{Which, Pair as Item, Step, Closure, Part, Merge, Counts, Value}
 use Rattle.fort_in_order.specs.Dues.{DueStep, OfClosure, OfPart, OfMerge, due_of, dues_of}
 use Rattle.fort_in_order.specs.Outcomes.{Reason, StepOutcome, Fine, Fails}
 use Rattle.fort_in_order.specs.Made.{Made, with_closure}
@@ -145,45 +145,45 @@ merge_or_other (Merge k classes) j = ⊎_elim (λ (e : k ≡ j). inl (ap OfMerge
 merge_or_other (Counts k marks) j = inr (λ e. cc)
 merge_or_other (Value k value) j = inr (λ e. cc)
 
-module _ (system : PatternSystem) (root : Core) (parts : List Core) (c : Certificate) (plans : List Plan) (closures : List (Option ClosurePlan)) (rooms : List PartRoom) (scratch : LabelRoom) (marks : List MarkRoom) (n : ℕ) (made : Made)
-    (h : IsLoopAt system root parts c plans closures rooms scratch marks n made) (due : IsStepDue system parts c n) (s : Step) (is : get_or c.steps n s ≡ s) where
-  due_is : get_or (dues_of c.steps (length system.rules) parts) n (due_of s) ≡ due_of s
+module _ (system : PatternSystem) (root : Core) (parts : List Core) (ss : List Step) (plans : List Plan) (closures : List (Option ClosurePlan)) (rooms : List PartRoom) (scratch : LabelRoom) (marks : List MarkRoom) (n : ℕ) (made : Made)
+    (h : IsLoopAt system root parts ss plans closures rooms scratch marks n made) (due : IsStepDue system parts ss n) (s : Step) (is : get_or ss n s ≡ s) where
+  due_is : get_or (dues_of ss (length system.rules) parts) n (due_of s) ≡ due_of s
   due_is = sym (due.about s (due_of s)) ∙ ap due_of is
 
-  up : IsUpTo system parts c.steps (take n c.steps) (due_of s ∷ drop (n + 1) (dues_of c.steps (length system.rules) parts)) (s ∷ drop (n + 1) c.steps) made
-  up = at_step system parts c n made h.place (due_of s) due.due_low due_is s due.low is
+  up : IsUpTo system parts ss (take n ss) (due_of s ∷ drop (n + 1) (dues_of ss (length system.rules) parts)) (s ∷ drop (n + 1) ss) made
+  up = at_step system parts ss n made h.place (due_of s) due.due_low due_is s due.low is
 
-  alone : IsOnlyAbout c.steps s
-  alone = only_due system parts c (take n c.steps) (drop (n + 1) c.steps) s (due_of s) (drop (n + 1) (dues_of c.steps (length system.rules) parts)) made up refl
+  alone : IsOnlyAbout ss s
+  alone = only_due system parts ss (take n ss) (drop (n + 1) ss) s (due_of s) (drop (n + 1) (dues_of ss (length system.rules) parts)) made up refl
 
-  there : Contains c.steps s
-  there = subst (Contains c.steps) is (Contains-get_or c.steps n s due.low)
+  there : Contains ss s
+  there = subst (Contains ss) is (Contains-get_or ss n s due.low)
 
-  before : (t : Step) → Contains (take n c.steps) t → key (length system.rules) (due_of t) < key (length system.rules) (due_of s)
-  before = later_key system parts c (take n c.steps) (drop (n + 1) c.steps) s (due_of s) (drop (n + 1) (dues_of c.steps (length system.rules) parts)) made up refl
+  before : (t : Step) → Contains (take n ss) t → key (length system.rules) (due_of t) < key (length system.rules) (due_of s)
+  before = later_key system parts ss (take n ss) (drop (n + 1) ss) s (due_of s) (drop (n + 1) (dues_of ss (length system.rules) parts)) made up refl
 
-  place_next : (next : Made) → IsFine system parts made s next → IsAtPlace system parts c (n + 1) next
-  place_next next fine = at_next system parts c n made h.place (due_of s) due.due_low due_is s due.low is root h.ready.are refl next fine
+  place_next : (next : Made) → IsFine system parts made s next → IsAtPlace system parts ss (n + 1) next
+  place_next next fine = at_next system parts ss n made h.place (due_of s) due.due_low due_is s due.low is root h.ready.are refl next fine
 
-  more : take (n + 1) c.steps ≡ take n c.steps ++ s ∷ []
-  more = take_more c.steps n s due.low ∙ ap (λ x. take n c.steps ++ x ∷ []) is
+  more : take (n + 1) ss ≡ take n ss ++ s ∷ []
+  more = take_more ss n s due.low ∙ ap (λ x. take n ss ++ x ∷ []) is
 
   -- what stands in front now stood there before, or is the step
-  front_or_step : (t : Step) → Contains (take (n + 1) c.steps) t → Contains (take n c.steps) t ⊎ (s ≡ t)
-  front_or_step t m = Contains-push_cases (take n c.steps) s t (subst (λ (xs : List Step). Contains xs t) more m)
+  front_or_step : (t : Step) → Contains (take (n + 1) ss) t → Contains (take n ss) t ⊎ (s ≡ t)
+  front_or_step t m = Contains-push_cases (take n ss) s t (subst (λ (xs : List Step). Contains xs t) more m)
 
-  in_front : (t : Step) → Contains (take n c.steps) t → Contains (take (n + 1) c.steps) t
-  in_front t m = subst (λ (xs : List Step). Contains xs t) (sym more) (Contains-append_left (take n c.steps) (s ∷ []) t m)
+  in_front : (t : Step) → Contains (take n ss) t → Contains (take (n + 1) ss) t
+  in_front t m = subst (λ (xs : List Step). Contains xs t) (sym more) (Contains-append_left (take n ss) (s ∷ []) t m)
 
-  step_in_front : Contains (take (n + 1) c.steps) s
-  step_in_front = subst (λ (xs : List Step). Contains xs s) (sym more) (Contains-push (take n c.steps) s)
+  step_in_front : Contains (take (n + 1) ss) s
+  step_in_front = subst (λ (xs : List Step). Contains xs s) (sym more) (Contains-push (take n ss) s)
 
   -- a part whose merge this isn't
-  held_on : (others : List PartRoom) (next : Made) → IsFine system parts made s next → (j : ℕ) (targets : List ℕ) → Contains (take n c.steps) (Part j targets) → (due_of s ≡ OfMerge j → ⊥)
-      → ((r : PartRoom) → IsElement rooms j r → IsElement others j r) → IsRoomHeld system parts others (take (n + 1) c.steps) next j targets
+  held_on : (others : List PartRoom) (next : Made) → IsFine system parts made s next → (j : ℕ) (targets : List ℕ) → Contains (take n ss) (Part j targets) → (due_of s ≡ OfMerge j → ⊥)
+      → ((r : PartRoom) → IsElement rooms j r → IsElement others j r) → IsRoomHeld system parts others (take (n + 1) ss) next j targets
   held_on others next fine j targets m other keep =
       let r = h.held j targets m in
-      let old : (classes : List ℕ) → Contains (take (n + 1) c.steps) (Merge j classes) → Contains (take n c.steps) (Merge j classes) =
+      let old : (classes : List ℕ) → Contains (take (n + 1) ss) (Merge j classes) → Contains (take n ss) (Merge j classes) =
       λ classes x. ⊎_elim (λ y. y) (λ e. absurd (other (ap due_of e))) (front_or_step (Merge j classes) x) in
       record {
         room = r.room;
@@ -199,9 +199,9 @@ module _ (system : PatternSystem) (root : Core) (parts : List Core) (c : Certifi
   -- the rooms hold on
   held_next : (others : List PartRoom) (next : Made) → IsFine system parts made s next
       → ((j : ℕ) (r : PartRoom) → key (length system.rules) (OfPart j) < key (length system.rules) (due_of s) → (due_of s ≡ OfMerge j → ⊥) → IsElement rooms j r → IsElement others j r)
-      → ((j : ℕ) (targets : List ℕ) → s ≡ Part j targets → IsRoomHeld system parts others (take (n + 1) c.steps) next j targets)
-      → ((j : ℕ) (targets : List ℕ) → Contains (take n c.steps) (Part j targets) → due_of s ≡ OfMerge j → IsRoomHeld system parts others (take (n + 1) c.steps) next j targets)
-      → AreHeld system parts others (take (n + 1) c.steps) next
+      → ((j : ℕ) (targets : List ℕ) → s ≡ Part j targets → IsRoomHeld system parts others (take (n + 1) ss) next j targets)
+      → ((j : ℕ) (targets : List ℕ) → Contains (take n ss) (Part j targets) → due_of s ≡ OfMerge j → IsRoomHeld system parts others (take (n + 1) ss) next j targets)
+      → AreHeld system parts others (take (n + 1) ss) next
   held_next others next fine old own merge = λ j targets m.
       ⊎_elim
       (λ a. ⊎_elim
@@ -216,7 +216,7 @@ module _ (system : PatternSystem) (root : Core) (parts : List Core) (c : Certifi
   module _ (k : ℕ) (named_is : part_in s ≡ k) (plain : IsNoClosure (due_of s)) where
     pub within : k < length parts
     within =
-        let l = own_within system root parts c plans rooms (take n c.steps) (drop (n + 1) c.steps) s (due_of s) (drop (n + 1) (dues_of c.steps (length system.rules) parts)) made up h.ready.are h.ready.decided h.place.tells h.held
+        let l = own_within system root parts ss plans rooms (take n ss) (drop (n + 1) ss) s (due_of s) (drop (n + 1) (dues_of ss (length system.rules) parts)) made up h.ready.are h.ready.decided h.place.tells h.held
         h.ready.plans_made h.ready.few s refl plain in
         omega (arith, l, named_is)
 
@@ -230,42 +230,42 @@ module _ (system : PatternSystem) (root : Core) (parts : List Core) (c : Certifi
     mark_low = omega (arith, within, h.ready.marks_made.count)
 
     module _ (p : Plan) (room : PartRoom) (mark : MarkRoom) (plan_at : IsElement plans k p) (room_at : IsElement rooms k room) (mark_at : IsElement marks k mark) where
-      own_room : IsRoomFor c.steps k room
-      own_room = subst (IsRoomFor c.steps k) (room_at.1 room) (h.ready.rooms_made.each k room within)
+      own_room : IsRoomFor ss k room
+      own_room = subst (IsRoomFor ss k) (room_at.1 room) (h.ready.rooms_made.each k room within)
 
-      own_scratch : IsScratchFor c.steps k p scratch
-      own_scratch = subst (λ (q : Plan). IsScratchFor c.steps k q scratch) (plan_at.1 p) (h.ready.scratch_made k p within)
+      own_scratch : IsScratchFor ss k p scratch
+      own_scratch = subst (λ (q : Plan). IsScratchFor ss k q scratch) (plan_at.1 p) (h.ready.scratch_made k p within)
 
-      own_mark : IsMarkRoomFor c.steps p.work mark
-      own_mark = subst (IsMarkRoomFor c.steps p.work) (mark_at.1 mark) (subst (λ (q : Plan). IsMarkRoomFor c.steps q.work (get_or marks k mark)) (plan_at.1 p) (h.ready.marks_made.each k mark within p))
+      own_mark : IsMarkRoomFor ss p.work mark
+      own_mark = subst (IsMarkRoomFor ss p.work) (mark_at.1 mark) (subst (λ (q : Plan). IsMarkRoomFor ss q.work (get_or marks k mark)) (plan_at.1 p) (h.ready.marks_made.each k mark within p))
 
-      pub behind : (front : List PartRoom) (f : Core) → front ≡ take k rooms → f ≡ get_or parts k core.True → IsDueBehind system parts c.steps plans front made f p s room scratch mark
+      pub behind : (front : List PartRoom) (f : Core) → front ≡ take k rooms → f ≡ get_or parts k core.True → IsDueBehind system parts ss plans front made f p s room scratch mark
       behind front f front_is f_is = λ past past_is.
           let low : (j : ℕ) (r : PartRoom) → j < part_in s → IsElement rooms j r → IsElement past.rooms.now j r =
           λ j r l e. subst (λ (rs : List PartRoom). IsElement rs j r) (sym (past_is.rooms_are ∙ front_is))
           (omega (arith, l, named_is, length-take-le k rooms (omega (arith, room_low))), λ d. take_at rooms k j d (omega (arith, l, named_is)) ∙ e.1 d) in
           subst (λ (g : Core). IsOwnDue system parts past made g p s room scratch mark) (ap (λ (i : ℕ). get_or parts i core.True) named_is ∙ sym f_is)
-          (own_due system root parts c plans rooms (take n c.steps) (drop (n + 1) c.steps) s (due_of s) (drop (n + 1) (dues_of c.steps (length system.rules) parts)) made up h.ready.are h.ready.decided h.place.tells h.held
+          (own_due system root parts ss plans rooms (take n ss) (drop (n + 1) ss) s (due_of s) (drop (n + 1) (dues_of ss (length system.rules) parts)) made up h.ready.are h.ready.decided h.place.tells h.held
           h.ready.plans_made h.ready.few past past_is.signature past_is.steps past_is.plans_are p room scratch mark own_mark s refl plain there alone low
-          (subst (λ (i : ℕ). IsElement plans i p) (sym named_is) plan_at) (subst (λ (i : ℕ). IsElement rooms i room) (sym named_is) room_at) (subst (λ (i : ℕ). IsRoomFor c.steps i room) (sym named_is) own_room)
-          (subst (λ (i : ℕ). IsScratchFor c.steps i p scratch) (sym named_is) own_scratch))
+          (subst (λ (i : ℕ). IsElement plans i p) (sym named_is) plan_at) (subst (λ (i : ℕ). IsElement rooms i room) (sym named_is) room_at) (subst (λ (i : ℕ). IsRoomFor ss i room) (sym named_is) own_room)
+          (subst (λ (i : ℕ). IsScratchFor ss i p scratch) (sym named_is) own_scratch))
 
       -- behind the step
-      module _ (new_room : PartRoom) (new_scratch : LabelRoom) (new_mark : MarkRoom) (keeps_room : (ss : List Step) → IsOnlyAbout ss s → IsRoomFor ss (part_in s) room → IsRoomFor ss (part_in s) new_room)
-          (keeps_scratch : IsAsRoomy scratch new_scratch) (keeps_mark : IsMarkRoomFor c.steps p.work new_mark) where
-        pub part_ready : IsReady system root parts c.steps plans closures (set rooms k new_room) new_scratch (set marks k new_mark)
+      module _ (new_room : PartRoom) (new_scratch : LabelRoom) (new_mark : MarkRoom) (keeps_room : (ts : List Step) → IsOnlyAbout ts s → IsRoomFor ts (part_in s) room → IsRoomFor ts (part_in s) new_room)
+          (keeps_scratch : IsAsRoomy scratch new_scratch) (keeps_mark : IsMarkRoomFor ss p.work new_mark) where
+        pub part_ready : IsReady system root parts ss plans closures (set rooms k new_room) new_scratch (set marks k new_mark)
         part_ready =
-            let kept : IsRoomFor c.steps k new_room =
-            subst (λ (i : ℕ). IsRoomFor c.steps i new_room) named_is (keeps_room c.steps alone (subst (λ (i : ℕ). IsRoomFor c.steps i room) (sym named_is) own_room)) in
+            let kept : IsRoomFor ss k new_room =
+            subst (λ (i : ℕ). IsRoomFor ss i new_room) named_is (keeps_room ss alone (subst (λ (i : ℕ). IsRoomFor ss i room) (sym named_is) own_room)) in
             record {
               are = h.ready.are;
               decided = h.ready.decided;
               few = h.ready.few;
               plans_made = h.ready.plans_made;
-              rooms_made = made_again (IsRoomFor c.steps) (length parts) rooms k new_room h.ready.rooms_made kept;
-              scratch_made = λ j d l. scratch_kept c.steps j (get_or plans j d) scratch new_scratch keeps_scratch (h.ready.scratch_made j d l);
-              marks_made = made_again (λ j r. (d : Plan) → IsMarkRoomFor c.steps (get_or plans j d).work r) (length parts) marks k new_mark h.ready.marks_made
-                  (λ d. subst (λ (q : Plan). IsMarkRoomFor c.steps q.work new_mark) (sym (plan_at.1 d)) keeps_mark);
+              rooms_made = made_again (IsRoomFor ss) (length parts) rooms k new_room h.ready.rooms_made kept;
+              scratch_made = λ j d l. scratch_kept ss j (get_or plans j d) scratch new_scratch keeps_scratch (h.ready.scratch_made j d l);
+              marks_made = made_again (λ j r. (d : Plan) → IsMarkRoomFor ss (get_or plans j d).work r) (length parts) marks k new_mark h.ready.marks_made
+                  (λ d. subst (λ (q : Plan). IsMarkRoomFor ss q.work new_mark) (sym (plan_at.1 d)) keeps_mark);
               closures_made = h.ready.closures_made;
             }
 
@@ -274,9 +274,9 @@ module _ (system : PatternSystem) (root : Core) (parts : List Core) (c : Certifi
 
         -- behind the targets of part j
         part_held : (next : Made) (j : ℕ) (targets : List ℕ) → s ≡ Part j targets → IsNewlyHeld system parts next j targets (most_states targets) new_room × IsFalse new_room.is_merged
-            → IsRoomHeld system parts (set rooms k new_room) (take (n + 1) c.steps) next j targets
+            → IsRoomHeld system parts (set rooms k new_room) (take (n + 1) ss) next j targets
         part_held next j targets e w =
-            let none : (classes : List ℕ) → Contains (take (n + 1) c.steps) (Merge j classes) → ⊥ =
+            let none : (classes : List ℕ) → Contains (take (n + 1) ss) (Merge j classes) → ⊥ =
             λ classes x. ⊎_elim
             (λ y. let l = before (Merge j classes) y in let about : key (length system.rules) (due_of s) ≡ key (length system.rules) (OfPart j) = ap (λ (t : Step). key (length system.rules) (due_of t)) e in omega (arith, l, about))
             (λ y. let z : Part j targets ≡ Merge j classes = sym e ∙ y in absurd cc)
@@ -294,10 +294,10 @@ module _ (system : PatternSystem) (root : Core) (parts : List Core) (c : Certifi
 
         -- behind the classes of part j
         merge_held : (next : Made) (j : ℕ) (targets classes : List ℕ) → s ≡ Merge j classes → IsNewlyHeld system parts next j targets (most_states classes) new_room
-            → IsRoomHeld system parts (set rooms k new_room) (take (n + 1) c.steps) next j targets
+            → IsRoomHeld system parts (set rooms k new_room) (take (n + 1) ss) next j targets
         merge_held next j targets classes e w =
-            let there_is : Contains (take (n + 1) c.steps) (Merge j classes) = subst (λ (t : Step). Contains (take (n + 1) c.steps) t) e step_in_front in
-            let only_one : (others : List ℕ) → Contains (take (n + 1) c.steps) (Merge j others) → classes ≡ others =
+            let there_is : Contains (take (n + 1) ss) (Merge j classes) = subst (λ (t : Step). Contains (take (n + 1) ss) t) e step_in_front in
+            let only_one : (others : List ℕ) → Contains (take (n + 1) ss) (Merge j others) → classes ≡ others =
             λ others x. ⊎_elim
             (λ y. let l = before (Merge j others) y in let about : key (length system.rules) (due_of s) ≡ key (length system.rules) (OfMerge j) = ap (λ (t : Step). key (length system.rules) (due_of t)) e in absurd (omega (arith, l, about)))
             (λ y. let z : Merge j classes ≡ Merge j others = sym e ∙ y in ap classes_in z)
@@ -313,7 +313,7 @@ module _ (system : PatternSystem) (root : Core) (parts : List Core) (c : Certifi
               merged_states = λ others x. w.states_are ∙ ap most_states (only_one others x);
             }
 
-        pub part_next : IsFineStep system parts c.steps made s new_room → (next : Made) × IsLoopAt system root parts c plans closures (set rooms k new_room) new_scratch (set marks k new_mark) (n + 1) next
+        pub part_next : IsFineStep system parts ss made s new_room → (next : Made) × IsLoopAt system root parts ss plans closures (set rooms k new_room) new_scratch (set marks k new_mark) (n + 1) next
         part_next fine = (
           fine.next,
           record {
@@ -321,12 +321,12 @@ module _ (system : PatternSystem) (root : Core) (parts : List Core) (c : Certifi
             place = place_next fine.next fine.fine;
             held = held_next (set rooms k new_room) fine.next fine.fine
                 (λ j r l other e. element_kept rooms k j new_room r (λ same. apart_own (length system.rules) s j plain l other (same ∙ sym named_is)) e)
-                (λ j targets e. part_held fine.next j targets e (subst (λ (t : Step). IsHeldAfter system parts c.steps fine.next t new_room) e fine.after))
+                (λ j targets e. part_held fine.next j targets e (subst (λ (t : Step). IsHeldAfter system parts ss fine.next t new_room) e fine.after))
                 (λ j targets m e.
                 let whole : s ≡ Merge j (classes_in s) = merge_of s j e in
                 merge_held fine.next j targets (classes_in s) whole
-                (subst (λ (t : Step). IsHeldAfter system parts c.steps fine.next t new_room) whole fine.after targets
-                (only_front system parts c (take n c.steps) (drop (n + 1) c.steps) s (due_of s) (drop (n + 1) (dues_of c.steps (length system.rules) parts)) made up (Part j targets) m)));
+                (subst (λ (t : Step). IsHeldAfter system parts ss fine.next t new_room) whole fine.after targets
+                (only_front system parts ss (take n ss) (drop (n + 1) ss) s (due_of s) (drop (n + 1) (dues_of ss (length system.rules) parts)) made up (Part j targets) m)));
           },
         )
 
@@ -336,15 +336,15 @@ module _ (system : PatternSystem) (root : Core) (parts : List Core) (c : Certifi
     pub closure_low : n < length closures
     closure_low = omega (arith, due.due_low, h.ready.closures_made.count)
 
-    at_own : get_or (dues_of c.steps (length system.rules) parts) n (OfPart 0) ≡ OfClosure which index
+    at_own : get_or (dues_of ss (length system.rules) parts) n (OfPart 0) ≡ OfClosure which index
     at_own = sym (due.about s (OfPart 0)) ∙ (ap due_of is ∙ ap due_of e)
 
     pub closure_for : IsClosureFor system (OfClosure which index) old
     closure_for = subst (λ (d : DueStep). IsClosureFor system d old) at_own
-        (subst (IsClosureFor system (get_or (dues_of c.steps (length system.rules) parts) n (OfPart 0))) old_at (h.ready.closures_made.each n old due.due_low))
+        (subst (IsClosureFor system (get_or (dues_of ss (length system.rules) parts) n (OfPart 0))) old_at (h.ready.closures_made.each n old due.due_low))
 
     module _ (new : Option ClosurePlan) (keeps : (d : DueStep) → IsClosureFor system d old → IsClosureFor system d new) where
-      pub closure_ready : IsReady system root parts c.steps plans (set closures n new) rooms scratch marks
+      pub closure_ready : IsReady system root parts ss plans (set closures n new) rooms scratch marks
       closure_ready = record {
         are = h.ready.are;
         decided = h.ready.decided;
@@ -353,11 +353,11 @@ module _ (system : PatternSystem) (root : Core) (parts : List Core) (c : Certifi
         rooms_made = h.ready.rooms_made;
         scratch_made = h.ready.scratch_made;
         marks_made = h.ready.marks_made;
-        closures_made = made_again (λ j q. IsClosureFor system (get_or (dues_of c.steps (length system.rules) parts) j (OfPart 0)) q) (length (dues_of c.steps (length system.rules) parts)) closures n new h.ready.closures_made
+        closures_made = made_again (λ j q. IsClosureFor system (get_or (dues_of ss (length system.rules) parts) j (OfPart 0)) q) (length (dues_of ss (length system.rules) parts)) closures n new h.ready.closures_made
             (subst (λ (d : DueStep). IsClosureFor system d new) (sym at_own) (keeps (OfClosure which index) closure_for));
       }
 
-      pub closure_next : (next : Made) → IsFine system parts made s next → IsLoopAt system root parts c plans (set closures n new) rooms scratch marks (n + 1) next
+      pub closure_next : (next : Made) → IsFine system parts made s next → IsLoopAt system root parts ss plans (set closures n new) rooms scratch marks (n + 1) next
       closure_next next fine = record {
         ready = closure_ready;
         place = place_next next fine;
@@ -365,7 +365,7 @@ module _ (system : PatternSystem) (root : Core) (parts : List Core) (c : Certifi
             (λ j targets m f. let z : OfClosure which index ≡ OfMerge j = sym (ap due_of e) ∙ f in absurd cc);
       }
 
-      pub closure_done : (o : StepOutcome) → IsClosureJudged system which index items o → o ≡ Fine → (next : Made) × IsLoopAt system root parts c plans (set closures n new) rooms scratch marks (n + 1) next
+      pub closure_done : (o : StepOutcome) → IsClosureJudged system which index items o → o ≡ Fine → (next : Made) × IsLoopAt system root parts ss plans (set closures n new) rooms scratch marks (n + 1) next
       closure_done o judged fine =
           let next = with_closure made which index items in
           (next, closure_next next (subst (λ (x : Step). IsFine system parts made x next) (sym e) (FineClosure (subst (IsClosureJudged system which index items) fine judged))))

@@ -9,7 +9,7 @@ use Rattle.fort_counts.specs.Counts.{Count}
 use Rattle.fort_parts.specs.PartColumns.{columns_of}
 use Rattle.fort_parts.specs.PartAnswers.{OfValue, OfTable}
 use Rattle.fort_parts.specs.DecidedCores.{IsDecided}
-use Rattle.fort_certificate_grammar.specs.Certificates.{Which, Pair as Item, Step, Closure, Part, Merge, Counts, Value, Certificate}
+use Rattle.fort_certificate_grammar.specs.Certificates.{Which, Pair as Item, Step, Closure, Part, Merge, Counts, Value}
 use Rattle.fort_in_order.specs.Dues.{DueStep, due_of, dues_of}
 use Rattle.fort_in_order.specs.Made.{Made}
 use Rattle.fort_in_order.specs.Checked.{IsFine, IsUpTo}
@@ -34,10 +34,10 @@ pub record Tells (parts : List Core) (front : List Step) (made : Made) : Type 0 
   pub rules : (k : ℕ) (marks : List Count) → Contains front (Counts k marks) → HasMarksFor parts made k (get_or parts k core.True)
 
 -- the first n steps are fine
-pub record IsAtPlace (system : PatternSystem) (parts : List Core) (c : Certificate) (n : ℕ) (made : Made) : Type 0 where
-  pub within : n ≤ length c.steps
-  pub up : IsUpTo system parts c.steps (take n c.steps) (drop n (dues_of c.steps (length system.rules) parts)) (drop n c.steps) made
-  pub tells : Tells parts (take n c.steps) made
+pub record IsAtPlace (system : PatternSystem) (parts : List Core) (ss : List Step) (n : ℕ) (made : Made) : Type 0 where
+  pub within : n ≤ length ss
+  pub up : IsUpTo system parts ss (take n ss) (drop n (dues_of ss (length system.rules) parts)) (drop n ss) made
+  pub tells : Tells parts (take n ss) made
 
 -- a room holds the table of part j, which was made, and is merged only behind a merge of it
 pub record IsRoomHeld (system : PatternSystem) (parts : List Core) (rooms : List PartRoom) (front : List Step) (made : Made) (j : ℕ) (targets : List ℕ) : Type 0 where
@@ -70,17 +70,17 @@ pub record IsReady (system : PatternSystem) (root : Core) (parts : List Core) (s
   pub closures_made : AreClosuresMade system (dues_of ss (length system.rules) parts) (length (dues_of ss (length system.rules) parts)) closures
 
 -- the first n steps are fine, and the rooms hold their tables
-pub record IsLoopAt (system : PatternSystem) (root : Core) (parts : List Core) (c : Certificate) (plans : List Plan) (closures : List (Option ClosurePlan)) (rooms : List PartRoom) (scratch : LabelRoom) (marks : List MarkRoom) (n : ℕ)
+pub record IsLoopAt (system : PatternSystem) (root : Core) (parts : List Core) (ss : List Step) (plans : List Plan) (closures : List (Option ClosurePlan)) (rooms : List PartRoom) (scratch : LabelRoom) (marks : List MarkRoom) (n : ℕ)
     (made : Made) : Type 0 where
-  pub ready : IsReady system root parts c.steps plans closures rooms scratch marks
-  pub place : IsAtPlace system parts c n made
-  pub held : AreHeld system parts rooms (take n c.steps) made
+  pub ready : IsReady system root parts ss plans closures rooms scratch marks
+  pub place : IsAtPlace system parts ss n made
+  pub held : AreHeld system parts rooms (take n ss) made
 
 -- the step at a place is the one that is due there
-pub record IsStepDue (system : PatternSystem) (parts : List Core) (c : Certificate) (n : ℕ) : Type 0 where
-  pub low : n < length c.steps
-  pub due_low : n < length (dues_of c.steps (length system.rules) parts)
-  pub about : (s : Step) (d : DueStep) → due_of (get_or c.steps n s) ≡ get_or (dues_of c.steps (length system.rules) parts) n d
+pub record IsStepDue (system : PatternSystem) (parts : List Core) (ss : List Step) (n : ℕ) : Type 0 where
+  pub low : n < length ss
+  pub due_low : n < length (dues_of ss (length system.rules) parts)
+  pub about : (s : Step) (d : DueStep) → due_of (get_or ss n s) ≡ get_or (dues_of ss (length system.rules) parts) n d
 
 -- ---- the step of a part
 

@@ -1,7 +1,7 @@
 -- Inside: where a step is due, by what a check reads; what holds wherever it is.
 use Rattle.std.specs.Prelude.{◌≡◌, ℕ, List, map, Option}
 use Rattle.fort_cores.specs.Cores.{Core}
-use Rattle.fort_certificate_grammar.specs.Certificates.{Step, Certificate}
+use Rattle.fort_certificate_grammar.specs.Certificates.{Step}
 use Rattle.fort_in_order.specs.Made.{Made}
 use Rattle.fort_steps.specs.StepView.{as_step}
 use Rattle.fort_check_steps.specs.declared.room.PartRoom.{PartRoom}
@@ -21,15 +21,15 @@ abbrev pub WherePartDue : Given → List PartRoom → Plan → Step → PartRoom
 WherePartDue given front plan step room scratch marks P =
     (parts : List Core) (f : Core) (made : Made) → IsPartDue given parts front made f plan step room scratch marks → P parts f made
 
-abbrev pub IsLoopOf : Given → Core → List Core → Certificate → List (Option ClosurePlan) → List PartRoom → LabelRoom → List MarkRoom → ℕ → Made → Type 0
-IsLoopOf given root parts c closures rooms scratch marks n made = IsLoopAt given.system.now root parts c given.plans.now closures rooms scratch marks n made
+abbrev pub IsLoopOf : Given → Core → List Core → List Step → List (Option ClosurePlan) → List PartRoom → LabelRoom → List MarkRoom → ℕ → Made → Type 0
+IsLoopOf given root parts ss closures rooms scratch marks n made = IsLoopAt given.system.now root parts ss given.plans.now closures rooms scratch marks n made
 
 -- the certificate has the steps that are read, the loop stands at a place, and the step there is due
-abbrev pub IsDueAt : Given → List (Option ClosurePlan) → List PartRoom → LabelRoom → List MarkRoom → ℕ → List Core → Core → Certificate → Made → Type 0
-IsDueAt given closures rooms scratch marks n parts root c made =
-    (c.steps ≡ map as_step given.steps.now) × IsLoopOf given root parts c closures rooms scratch marks n made × IsStepDue given.system.now parts c n
+abbrev pub IsDueAt : Given → List (Option ClosurePlan) → List PartRoom → LabelRoom → List MarkRoom → ℕ → List Core → Core → List Step → Made → Type 0
+IsDueAt given closures rooms scratch marks n parts root ss made =
+    (ss ≡ map as_step given.steps.now) × IsLoopOf given root parts ss closures rooms scratch marks n made × IsStepDue given.system.now parts ss n
 
-abbrev pub WhereDue : Given → List (Option ClosurePlan) → List PartRoom → LabelRoom → List MarkRoom → ℕ → (List Core → Core → Certificate → Made → Type 0) → Type 0
+abbrev pub WhereDue : Given → List (Option ClosurePlan) → List PartRoom → LabelRoom → List MarkRoom → ℕ → (List Core → Core → List Step → Made → Type 0) → Type 0
 WhereDue given closures rooms scratch marks n P =
-    (parts : List Core) (root : Core) (c : Certificate) (made : Made) → c.steps ≡ map as_step given.steps.now
-    → IsLoopOf given root parts c closures rooms scratch marks n made → IsStepDue given.system.now parts c n → P parts root c made
+    (parts : List Core) (root : Core) (ss : List Step) (made : Made) → ss ≡ map as_step given.steps.now
+    → IsLoopOf given root parts ss closures rooms scratch marks n made → IsStepDue given.system.now parts ss n → P parts root ss made

@@ -11,5 +11,6 @@ pub mod Makings
 pub mod Values
 pub mod Fronts
 pub mod GivenSteps
-pub mod Checkers
 pub mod OutcomeView
+pub mod StepCheckers
+pub mod Checkers

@@ -5,7 +5,7 @@ use Rattle.fort_in_order.specs.Checked as outcomes
 use Rattle.fort_check_steps.specs.StepAnswers as steps
 use Rattle.fort_check_steps.specs.declared.failure.Reason.{Reason}
 use Rattle.fort_in_order.specs.Outcomes as reasons
-use Rattle.fort_cert_checker.specs.declared.checker.Rejected.{Rejected}
+use Rattle.fort_cert_checker.specs.declared.rejected.Rejected.{Rejected}
 
 abbrev pub as_reason : Reason → reasons.Reason
 as_reason reason = steps.as_reason reason

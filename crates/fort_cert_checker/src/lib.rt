@@ -4,11 +4,17 @@
 mod about;
 mod checker;
 mod making;
+mod numbers;
 mod past;
 mod plan;
+mod rejected;
 mod step;
+mod step_checker;
 mod steps;
 mod value;
 
-pub use checker::{Checker, Rejected};
+pub use checker::Checker;
 pub use fort_check_steps::Reason;
+pub use past::accepts_some;
+pub use rejected::Rejected;
+pub use step_checker::{StepChecker, WholeRoom};

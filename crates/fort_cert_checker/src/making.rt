@@ -149,9 +149,11 @@ pub(crate) fn rooms_of(alloc: Global, steps: &[Step], parts: usize) -> Result<Ve
 }
 
 /// What the list of a source's targets needs.
-fn list_of(steps: &[Step], source: Source) -> ListNeeds
-    ensures { (targets : List ℕ) → IsOnlyAbout (map as_step steps.now) (Part source.part targets)
+pub(crate) fn list_of(steps: &[Step], source: Source) -> ListNeeds
+    ensures list { (targets : List ℕ)
+        → IsOnlyAbout (map as_step steps.now) (Part source.part targets)
         → IsListFor targets result }
+    ensures few { HasFewTargets (map as_step steps.now) → result.targets < 2 ^ 32 }
 {
     let targets = targets_of(steps, source.part);
     ListNeeds {

@@ -123,7 +123,7 @@ pub(crate) fn laid_list<'b>(answer: &PastAnswer<'_>, list: &'b TargetList) -> Op
 }
 
 /// Whether some state is accepting.
-pub(crate) fn accepts_some<T: Table>(table: &T) -> bool
+pub fn accepts_some<T: Table>(table: &T) -> bool
     ensures { result ≡ some_below (length (T.table table.now).presences)
         (T.table table.now).accepting }
 {

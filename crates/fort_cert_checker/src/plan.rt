@@ -82,7 +82,7 @@ fn turned_body(outline: &Outline, k: usize) -> Option<usize>
 }
 
 /// Where the answer to part `k` is.
-fn source_of(outline: &Outline, k: usize) -> Source
+pub(crate) fn source_of(outline: &Outline, k: usize) -> Source
     requires outline { (f : theory.Core) × IsOutlineOf f outline.now }
     requires few { length outline.now.roots.items < 2 ^ 32 }
     requires within { k < length outline.now.roots.items }

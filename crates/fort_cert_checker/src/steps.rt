@@ -117,17 +117,17 @@ pub(crate) fn check_step(
     marks: &mut [MarkRoom],
 ) -> Result<(), Failure>
     requires due { (parts : List theory.Core) × (root : theory.Core)
-        × (c : certificates.Certificate) × (made : Made) × IsDueAt given.now closures.old rooms.old
-        scratch.old marks.old place parts root c made }
+        × (ss : List certificates.Step) × (made : Made) × IsDueAt given.now closures.old rooms.old
+        scratch.old marks.old place parts root ss made }
     ensures fine { OnOk result (WhereDue given.now closures.old rooms.old scratch.old marks.old
-        place (λ parts root c made. (next : Made) × IsLoopOf given.now root parts c closures.new
+        place (λ parts root ss made. (next : Made) × IsLoopOf given.now root parts ss closures.new
         rooms.new scratch.new marks.new (place + 1) next)) }
     ensures failing { IfErr result (λ e. WhereDue given.now closures.old rooms.old scratch.old
-        marks.old place (λ parts root c made. (s : certificates.Step)
-        → IsFailing given.now.system.now parts made (slice_index_or c.steps place s) e.place
+        marks.old place (λ parts root ss made. (s : certificates.Step)
+        → IsFailing given.now.system.now parts made (slice_index_or ss place s) e.place
         (as_reason e.reason))) }
     ensures ready { WhereDue given.now closures.old rooms.old scratch.old marks.old place
-        (λ parts root c made. IsReady given.now.system.now root parts c.steps given.now.plans.now
+        (λ parts root ss made. IsReady given.now.system.now root parts ss given.now.plans.now
         closures.new rooms.new scratch.new marks.new) }
 {
     let step = &given.steps[place];

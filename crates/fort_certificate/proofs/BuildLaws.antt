@@ -11,10 +11,7 @@ use Rattle.fort_certificate_grammar.specs.Certificates.{Which, Pair, Closure, Pa
 use Rattle.fort_certificate_grammar.specs.CertificateForms.{Version, tells_index, has_merges, which_word, verdict_word, IsNumberForm, IsPairForm, IsCountForm, IsStepForm, ClosureForm, IndexedForm, PartForm, MergeForm, CountsForm, ValueForm}
 use Rattle.fort_certificate_grammar.specs.CertificateFaults.{ClosureHead, PartHead, MergeHead, CountsHead, ValueHead, head_word}
 use Rattle.fort_certificate_grammar.proofs.StepSlots.{same_parts}
-
--- a list from one place up to another
-abbrev pub between : {A : Type 0} → ℕ → ℕ → List A → List A
-between from i xs = take (i - from) (drop from xs)
+use Rattle.fort_certificate.specs.Checking.{between}
 
 pub between_none : {A : Type 0} (from : ℕ) (xs : List A) → between from from xs ≡ []
 between_none from xs = let none : from - from ≡ 0 = omega arith in rw none refl

@@ -8,3 +8,8 @@ pub mod BuildLaws
 pub mod WrongLaws
 mod NumberWords
 mod SmallLaws
+pub mod NodeLaws
+pub mod OpenHeaderLaws
+pub mod OpenReadLaws
+pub mod SpelledSteps
+pub mod OpenAgain

@@ -1,14 +1,19 @@
 -- How a line grows, element by element.
-use Rattle.std.proofs.Common.{◌≡◌, ℕ, ◌+◌, ◌<◌, Bool, true, false, if◌then◌else◌, List, [], ◌∷◌, ◌++◌, map, length, take, get_or, codes, decimal, refl, ap, sym, ◌∙◌, append_assoc, append-nil}
-use Rattle.std.proofs.lemmas.List.{map_more}
+use Rattle.std.proofs.Common.{◌≡◌, ℕ, ◌+◌, ◌<◌, Bool, true, false, if◌then◌else◌, List, [], ◌∷◌, ◌++◌, map, length, take, get_or, slice_get, Option, Some, codes, decimal, refl, ap, sym, ◌∙◌, arith, append_assoc, append-nil}
+use Rattle.std.proofs.lemmas.List.{map_more, take_more, length-map, length-take-le}
+use Rattle.std.proofs.lemmas.Option.{slice_get_within, get_or_from_slice_get}
+use Rattle.fort_tables.specs.Entries.{Entry}
 use Rattle.fort_certificate_grammar.specs.Certificates.{Which, Step, Closure, Part, Merge, Counts}
 use Rattle.fort_certificate_grammar.specs.CertificateForms.{Version, tells_index, which_word}
-use Rattle.fort_certificate_grammar.specs.CertificateText.{Element, spaced, in_parentheses, element_text, number_element, pair_element, count_element, index_elements, line_of, step_elements, header_elements, steps_text, certificate_text}
+use Rattle.fort_certificate_grammar.specs.CertificateText.{Element, spaced, in_parentheses, element_text, number_element, pair_element, count_element, index_elements, line_of, step_elements, steps_text}
 use Rattle.fort_steps.specs.declared.closure.ClosureEntry.{ClosureEntry}
 use Rattle.fort_steps.specs.declared.count.Count.{Count}
 use Rattle.fort_steps.specs.declared.step.Step as step
 use Rattle.fort_steps.specs.StepView.{as_pair, as_count, as_step}
-use Rattle.fort_certificate.specs.Lines.{tails}
+use Rattle.fort_open_certificates.specs.OpenCertificates.{Claim, Found, Empty}
+use Rattle.fort_open_certificates.specs.OpenForms.{claim_word, step_version}
+use Rattle.fort_open_certificates.specs.OpenText.{symbol_word, node_elements, open_header_elements, nodes_text, open_text}
+use Rattle.fort_certificate.specs.Lines.{tails, gap}
 
 spaced_tails : (w : List ℕ) (ws : List (List ℕ)) → spaced (w ∷ ws) ≡ w ++ tails ws
 spaced_tails w [] = sym (append-nil w)
@@ -111,13 +116,71 @@ steps_push version (r ∷ ss) s =
     ap (λ xs. line_of (step_elements version r) ++ xs) (steps_push version ss s)
     ∙ sym (append_assoc (line_of (step_elements version r)) (steps_text version ss) (line_of (step_elements version s)))
 
--- one more step of a certificate
-pub steps_more : (version : Version) (verdict : Bool) (ss : List step.Step) (i : ℕ) (s : step.Step) → i < length ss → s ≡ get_or ss i s
-    → certificate_text version verdict (map as_step (take i ss)) ++ line_of (step_elements version (as_step s))
-    ≡ certificate_text version verdict (map as_step (take (i + 1) ss))
-steps_more version verdict ss i s l e =
-    let header = line_of (header_elements version verdict) in
-    append_assoc header (steps_text version (map as_step (take i ss))) (line_of (step_elements version (as_step s)))
-    ∙ ap (λ xs. header ++ xs)
+-- one more step
+pub steps_more : (old : List ℕ) (version : Version) (ss : List step.Step) (i : ℕ) (s : step.Step) → i < length ss → s ≡ get_or ss i s
+    → (old ++ steps_text version (map as_step (take i ss))) ++ line_of (step_elements version (as_step s))
+    ≡ old ++ steps_text version (map as_step (take (i + 1) ss))
+steps_more old version ss i s l e =
+    append_assoc old (steps_text version (map as_step (take i ss))) (line_of (step_elements version (as_step s)))
+    ∙ ap (λ xs. old ++ xs)
     (sym (steps_push version (map as_step (take i ss)) (as_step s))
     ∙ ap (steps_text version) (ap (λ t. map as_step (take i ss) ++ as_step t ∷ []) e ∙ sym (map_more as_step ss i s l)))
+
+-- words with single blanks between them
+pub spaced_push : (ws : List (List ℕ)) (w : List ℕ) → spaced (ws ++ w ∷ []) ≡ spaced ws ++ (gap (length ws) ++ w)
+spaced_push [] w = refl
+spaced_push (v ∷ []) w = refl
+spaced_push (v ∷ u ∷ ws) w =
+    ap (λ xs. v ++ 32 ∷ xs) (spaced_push (u ∷ ws) w) ∙ sym (append_assoc v (32 ∷ spaced (u ∷ ws)) (32 ∷ w))
+
+pub symbols_more : (old : List ℕ) (symbol : List (Option ℕ)) (i : ℕ) (d x : Option ℕ) → i < length symbol → get_or symbol i d ≡ x
+    → ((old ++ spaced (map symbol_word (take i symbol))) ++ gap i) ++ symbol_word x ≡ old ++ spaced (map symbol_word (take (i + 1) symbol))
+symbols_more old symbol i d x l e =
+    let ws = map symbol_word (take i symbol) in
+    let long : length ws ≡ i = omega (arith, length-map (take i symbol) symbol_word, length-take-le i symbol (omega arith)) in
+    append_assoc (old ++ spaced ws) (gap i) (symbol_word x)
+    ∙ (append_assoc old (spaced ws) (gap i ++ symbol_word x)
+    ∙ ap (λ xs. old ++ xs)
+    (ap (λ n. spaced ws ++ (gap n ++ symbol_word x)) (sym long)
+    ∙ (sym (spaced_push ws (symbol_word x))
+    ∙ ap spaced (ap (λ y. ws ++ symbol_word y ∷ []) (sym e) ∙ sym (map_more symbol_word symbol i d l)))))
+
+-- the line of a node
+pub node_line : (old : List ℕ) (e : Entry)
+    → ((((old ++ codes "(node (") ++ spaced (map symbol_word e.symbol)) ++ 41 ∷ []) ++ tails (map decimal e.kids)) ++ (41 ∷ 10 ∷ [])
+    ≡ old ++ line_of (node_elements e)
+node_line old e =
+    let words = spaced (map symbol_word e.symbol) in
+    let group = in_parentheses (map symbol_word e.symbol) in
+    ap (λ xs. (xs ++ tails (map decimal e.kids)) ++ (41 ∷ 10 ∷ []))
+    (append_assoc (old ++ codes "(node (") words (41 ∷ [])
+    ∙ (append_assoc old (codes "(node (") (words ++ 41 ∷ []) ∙ sym (append_assoc old (codes "(node") (32 ∷ group))))
+    ∙ (one_line old (codes "node") group (map decimal e.kids)
+    ∙ ap (λ ws. old ++ (in_parentheses (codes "node" ∷ group ∷ ws) ++ 10 ∷ [])) (sym (numbers_text e.kids)))
+
+nodes_push : (ns : List Entry) (n : Entry) → nodes_text (ns ++ n ∷ []) ≡ nodes_text ns ++ line_of (node_elements n)
+nodes_push [] n = append-nil (line_of (node_elements n))
+nodes_push (m ∷ ns) n =
+    ap (λ xs. line_of (node_elements m) ++ xs) (nodes_push ns n)
+    ∙ sym (append_assoc (line_of (node_elements m)) (nodes_text ns) (line_of (node_elements n)))
+
+-- one more node
+pub nodes_more : (old : List ℕ) (ns : List Entry) (i : ℕ) (n : Entry) → slice_get ns i ≡ Some n
+    → (old ++ nodes_text (take i ns)) ++ line_of (node_elements n) ≡ old ++ nodes_text (take (i + 1) ns)
+nodes_more old ns i n here =
+    append_assoc old (nodes_text (take i ns)) (line_of (node_elements n))
+    ∙ ap (λ xs. old ++ xs)
+    (sym (nodes_push (take i ns) n)
+    ∙ ap nodes_text
+    (ap (λ m. take i ns ++ m ∷ []) (sym (get_or_from_slice_get ns i n n here)) ∙ sym (take_more ns i n (slice_get_within ns i n here))))
+
+pub open_header_line : (claim : Claim) → (codes "(certificate 4 " ++ claim_word claim) ++ (41 ∷ 10 ∷ []) ≡ line_of (open_header_elements claim)
+open_header_line Found = refl
+open_header_line Empty = refl
+
+-- nodes behind the steps
+pub with_nodes : (claim : Claim) (ss : List Step) (ns : List Entry) → open_text claim ss [] ++ nodes_text ns ≡ open_text claim ss ns
+with_nodes claim ss ns =
+    let header = line_of (open_header_elements claim) in
+    let steps = steps_text step_version ss in
+    append_assoc header (steps ++ []) (nodes_text ns) ∙ ap (λ xs. header ++ (xs ++ nodes_text ns)) (append-nil steps)

@@ -1,5 +1,5 @@
--- Inside: that forms are steps, and which is the first that is none.
-use Rattle.std.specs.Prelude.{◌≡◌, ℕ, ◌+◌, true, List, ◌∷◌, ◌++◌, length, Some}
+-- Inside: that forms are values, and which is the first that is none.
+use Rattle.std.specs.Prelude.{◌≡◌, ℕ, ◌+◌, ◌-◌, true, List, ◌∷◌, ◌++◌, length, Some, take, drop}
 use Rattle.std.specs.List.{AllZip}
 use Rattle.fort_grammar.specs.Forms.{Form}
 use Rattle.fort_grammar.specs.Declarations.{elements_of, IsHeaded}
@@ -23,12 +23,20 @@ AreElementsOf bytes version which fs s =
 abbrev pub AreBadElementsOf : List ℕ → Version → StepHead → List Form → FaultKind → Type 0
 AreBadElementsOf bytes version which fs kind = AreBad bytes (slots_of which version) (rest_of which) fs kind
 
--- the fault of the first that is no step; i is the number of the first of the forms
-pub record HasBadStep (bytes : List ℕ) (version : Version) (i : ℕ) (fs : List Form) (fault : CertificateFault) : Type 0 where
+-- a list from one place up to another
+abbrev pub between : {A : Type 0} → (from end : ℕ) → List A → List A
+between from end xs = take (end - from) (drop from xs)
+
+-- the fault of the first form that is no value; i is the number of the first of the forms
+pub record HasFirstBad {A : Type 0} (R : Form → A → Type 0) (Bad : ℕ → Form → CertificateFault → Type 0) (i : ℕ) (fs : List Form)
+    (fault : CertificateFault) : Type 0 where
   pub before : List Form
   pub f : Form
   pub after : List Form
-  pub steps : List Step
+  pub values : List A
   pub is : fs ≡ before ++ f ∷ after
-  pub fine : AllZip (IsStepForm bytes version) before steps
-  pub bad : IsBadStep bytes version (i + length before) f fault
+  pub fine : AllZip R before values
+  pub bad : Bad (i + length before) f fault
+
+abbrev pub HasBadStep : List ℕ → Version → ℕ → List Form → CertificateFault → Type 0
+HasBadStep bytes version i fs fault = HasFirstBad (IsStepForm bytes version) (IsBadStep bytes version) i fs fault

@@ -4,3 +4,5 @@ pub mod Again
 pub mod Faults
 pub mod ReadView
 pub mod Checking
+pub mod NodeChecking
+pub mod OpenWriting

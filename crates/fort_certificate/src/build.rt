@@ -1,5 +1,5 @@
 //! Reads forms as steps, each number once, and says what is wrong with the first that is none.
-ghost use Rattle.std.specs.Prelude.{◌≡◌, ℕ, ◌≤◌, List, [], ◌∷◌, Some, map, drop, IfSome, IfNone, IfOk, IfErr};
+ghost use Rattle.std.specs.Prelude.{◌≡◌, ℕ, ◌^◌, ◌≤◌, List, [], ◌∷◌, Some, map, IfSome, IfNone, IfOk, IfErr};
 ghost use Rattle.std.specs.List.{AllZip};
 ghost use Rattle.fort_grammar.specs.Declarations.{as_list};
 ghost use Rattle.fort_grammar.specs.Forms as grammar;
@@ -8,7 +8,7 @@ ghost use Rattle.fort_certificate_grammar.specs.CertificateFaults.{NumberSlot, P
 ghost use Rattle.fort_sexpr.specs.FormView.{form_count};
 ghost use Rattle.fort_steps.specs.StepView.{as_pair, as_count, as_step};
 ghost use Rattle.fort_certificate.specs.declared.build.Unread.TheVariants as unread;
-ghost use Rattle.fort_certificate.specs.Checking.{AreElementsOf, AreBadElementsOf, HasBadStep};
+ghost use Rattle.fort_certificate.specs.Checking.{AreElementsOf, AreBadElementsOf, HasBadStep, between};
 ghost use Rattle.fort_certificate.specs.Faults.{as_fault};
 ghost use Rattle.fort_certificate.specs.ReadView.{as_kind, as_wrong};
 ghost use Rattle.fort_certificate.specs.VersionView.{as_version};
@@ -70,7 +70,7 @@ fn split_number<'a>(list: &FormList<'a>) -> Result<Option<(u32, FormList<'a>)>, 
 }
 
 /// The numbers that forms are.
-fn numbers(alloc: Global, elements: FormList) -> Result<Vec<u32>, Unread>
+pub(crate) fn numbers(alloc: Global, elements: FormList) -> Result<Vec<u32>, Unread>
     ensures ok { IfOk result (λ v.
         AllZip (IsNumberForm elements.entry.bytes) elements.entry.forms v.items) }
     ensures wrong { IfErr result (λ e. IfSome (as_wrong e)
@@ -232,21 +232,24 @@ fn step(alloc: Global, form: &Form, version: Version) -> Result<Step, Unread>
     }
 }
 
-/// The steps of this version that the forms from a number on are, or the fault of the first that is none.
+/// The steps of this version that the forms from a number up to another one are, or the fault of the first that is none.
 pub(crate) fn steps(
     alloc: Global,
     forms: &Forms,
     from: usize,
+    end: usize,
     version: Version,
 ) -> Result<Vec<Step>, CertificateFault>
-    requires { from ≤ form_count forms.now.forms }
+    requires order { from ≤ end }
+    requires within { end ≤ form_count forms.now.forms }
+    requires small { end ≤ 2 ^ 32 }
     ensures ok { IfOk result (λ v. AllZip (IsStepForm forms.now.bytes (as_version version))
-        (drop from (as_list forms.now.forms)) (map as_step v.items)) }
+        (between from end (as_list forms.now.forms)) (map as_step v.items)) }
     ensures fault { IfErr result (λ fault. IfSome (as_fault fault) (HasBadStep forms.now.bytes
-        (as_version version) from (drop from (as_list forms.now.forms)))) }
+        (as_version version) from (between from end (as_list forms.now.forms)))) }
 {
-    let mut steps = Vec::with_capacity(alloc, forms.len() - from)?;
-    'steps: for i in from..forms.len() {
+    let mut steps = Vec::with_capacity(alloc, end - from)?;
+    'steps: for i in from..end {
         match step(alloc, &forms.form(i), version) {
             Ok(step) => steps.push_reserved(step),
             Err(Unread::Wrong(wrong)) => return Err(fault_at(i as u32, wrong)),

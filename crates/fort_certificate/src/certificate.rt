@@ -29,17 +29,18 @@ pub fn read(
     ensures memory { IsErrOf result Memory → (c : certificates.Certificate) ×
         IsCertificate forms.now.bytes number (as_list forms.now.forms) from c }
 {
-    if from as usize >= forms.len() {
+    let end = forms.len();
+    if from as usize >= end {
         return Err(CertificateFault::BadForm(from));
     }
     let header = check_header(&forms.form(from as usize), number, from)?;
     let first = from as usize + 1;
-    let steps = match steps(alloc, forms, first, header.version) {
+    let steps = match steps(alloc, forms, first, end, header.version) {
         Ok(steps) => steps,
         Err(fault) => match fault {
             CertificateFault::Memory => {
                 // A form that is no step comes before want of memory, and is found without any.
-                check_steps(forms, first, header.version)?;
+                check_steps(forms, first, end, header.version)?;
                 return Err(CertificateFault::Memory);
             }
             _ => return Err(fault),

@@ -1,12 +1,12 @@
 //! Finds the first fault of forms that are no certificate, without memory.
-ghost use Rattle.std.specs.Prelude.{◌≡◌, ℕ, ◌<◌, ◌≤◌, Some, map, drop, length, IfSome, IfNone, IfOk, IfErr};
+ghost use Rattle.std.specs.Prelude.{◌≡◌, ℕ, ◌^◌, ◌<◌, ◌≤◌, Some, map, drop, length, IfSome, IfNone, IfOk, IfErr};
 ghost use Rattle.fort_grammar.specs.Declarations.{as_list};
 ghost use Rattle.fort_certificate_grammar.specs.CertificateForms.{Version as GrammarVersion, version_word, IsVersionOf, IsHeaderForm};
 ghost use Rattle.fort_certificate_grammar.specs.CertificateFaults.{fault_of, AreBad, IsBadStep, IsBadHeader};
 ghost use Rattle.fort_certificate_grammar.specs.FilledSlots.{FitAll};
 ghost use Rattle.fort_sexpr.specs.FormView.{form_count, word_ahead};
 ghost use Rattle.fort_certificate.specs.Faults.{as_fault, IsFault};
-ghost use Rattle.fort_certificate.specs.Checking.{IsSomeStep, AreSomeSteps, HasBadStep};
+ghost use Rattle.fort_certificate.specs.Checking.{IsSomeStep, AreSomeSteps, HasBadStep, between};
 ghost use Rattle.fort_certificate.specs.ReadView.{as_kind, as_slot, as_last};
 ghost use Rattle.fort_certificate.specs.VersionView.{as_version};
 
@@ -18,7 +18,11 @@ use crate::word::number_ahead;
 use fort_sexpr::{Form, FormList, Forms, is_ahead};
 
 /// Whether these slots stand behind the head, and any number of the last one, if there is one.
-fn check_elements(list: &FormList, first: &[Slot], last: Option<Slot>) -> Result<(), Wrong>
+pub(crate) fn check_elements(
+    list: &FormList,
+    first: &[Slot],
+    last: Option<Slot>,
+) -> Result<(), Wrong>
     requires { 0 < length list.now.forms }
     ensures ok { IfOk result (λ _. FitAll list.now.bytes
         (map as_slot first.now) (as_last last) (drop 1 list.now.forms)) }
@@ -123,19 +127,22 @@ pub(crate) fn fault_at(i: u32, wrong: Wrong) -> CertificateFault
     }
 }
 
-/// Whether the forms from a number on are steps of this version.
+/// Whether the forms from a number up to another one are steps of this version.
 pub(crate) fn check_steps(
     forms: &Forms,
     from: usize,
+    end: usize,
     version: Version,
 ) -> Result<(), CertificateFault>
-    requires { from ≤ form_count forms.now.forms }
+    requires order { from ≤ end }
+    requires within { end ≤ form_count forms.now.forms }
+    requires small { end ≤ 2 ^ 32 }
     ensures ok { IfOk result (λ _. AreSomeSteps forms.now.bytes (as_version version)
-        (drop from (as_list forms.now.forms))) }
+        (between from end (as_list forms.now.forms))) }
     ensures fault { IfErr result (IsFault (HasBadStep forms.now.bytes (as_version version) from
-        (drop from (as_list forms.now.forms)))) }
+        (between from end (as_list forms.now.forms)))) }
 {
-    'steps: for i in from..forms.len() {
+    'steps: for i in from..end {
         match check_step(&forms.form(i), version) {
             Ok(()) => {}
             Err(wrong) => return Err(fault_at(i as u32, wrong)),

@@ -5,6 +5,9 @@ mod build;
 mod certificate;
 mod check;
 mod fault;
+mod node;
+mod open_read;
+mod open_write;
 mod slot;
 mod value;
 mod version;
@@ -14,5 +17,7 @@ mod write;
 
 pub use certificate::read;
 pub use fault::CertificateFault;
+pub use open_read::read_open;
+pub use open_write::open_text;
 pub use version::Version;
 pub use write::text;

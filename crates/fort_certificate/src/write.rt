@@ -1,7 +1,7 @@
 //! Writes a certificate.
 ghost use Rattle.std.specs.Prelude.{◌≡◌, ◌++◌, ◌∷◌, map, decimal, OnOk, IfOk};
 ghost use Rattle.fort_certificate_grammar.specs.Certificates as certificates;
-ghost use Rattle.fort_certificate_grammar.specs.CertificateText.{line_of, element_text, pair_element, count_element, index_elements, step_elements, header_elements, certificate_text, IsSmall, IsSmallPair, IsSmallCount};
+ghost use Rattle.fort_certificate_grammar.specs.CertificateText.{line_of, element_text, pair_element, count_element, index_elements, step_elements, header_elements, steps_text, certificate_text, IsSmall, IsSmallPair, IsSmallCount};
 ghost use Rattle.std.specs.List.{AllByRecursion};
 ghost use Rattle.fort_steps.specs.StepView.{as_which, as_pair, as_count, as_step};
 ghost use Rattle.fort_certificate.specs.Again.{IsReadBehind, HasSmallNumbers};
@@ -69,7 +69,7 @@ fn push_closure(
     Ok(())
 }
 
-fn push_numbers(out: &mut Vec<u8>, numbers: &[u32]) -> Result<(), AllocError>
+pub(crate) fn push_numbers(out: &mut Vec<u8>, numbers: &[u32]) -> Result<(), AllocError>
     ensures text { OnOk result (out.new.items ≡ out.old.items ++ tails (map decimal numbers.now)) }
     ensures small { OnOk result (AllByRecursion IsSmall numbers.now) }
 {
@@ -193,6 +193,21 @@ fn push_step(out: &mut Vec<u8>, version: Version, step: &Step) -> Result<(), All
     }
 }
 
+pub(crate) fn push_steps(
+    out: &mut Vec<u8>,
+    version: Version,
+    steps: &[Step],
+) -> Result<(), AllocError>
+    ensures text { OnOk result (out.new.items ≡
+        out.old.items ++ steps_text (as_version version) (map as_step steps.now)) }
+    ensures small { OnOk result (AllByRecursion HasSmallNumbers (map as_step steps.now)) }
+{
+    for step in steps {
+        push_step(out, version, step)?;
+    }
+    Ok(())
+}
+
 fn push_header(out: &mut Vec<u8>, version: Version, verdict: bool) -> Result<(), AllocError>
     ensures { OnOk result (out.new.items ≡
         out.old.items ++ line_of (header_elements (as_version version) verdict)) }
@@ -219,8 +234,6 @@ pub fn text(
 {
     let mut out = Vec::new(alloc);
     push_header(&mut out, version, verdict)?;
-    for step in steps {
-        push_step(&mut out, version, step)?;
-    }
+    push_steps(&mut out, version, steps)?;
     Ok(out)
 }

@@ -21,10 +21,10 @@ use Rattle.fort_parts.specs.RightAnswers.{IsRightBy}
 use Rattle.fort_reduced_parts.specs.ToldParts.{ToldWith}
 use Rattle.fort_parts.proofs.PartFacts.{BindsFree-part, columns_of-few}
 use Rattle.fort_certificate_grammar.specs.Certificates as certificates
-use Rattle.fort_in_order.specs.Dues.{DueStep, has_columns, is_turned, closures_due, counts_due, answer_due, parts_due, dues}
+use Rattle.fort_in_order.specs.Dues.{DueStep, has_columns, is_turned, closures_due, counts_due, answer_due, parts_due}
 use Rattle.fort_in_order.specs.Made.{Made, nothing_made, with_answer, IsPartAt, IsAnswerOf, OfStep, Turned}
 use Rattle.fort_in_order.specs.Checked.{AreSteps, last_value}
-use Rattle.fort_in_order.specs.Written.{IsWrittenStep, IsWritten}
+use Rattle.fort_in_order.specs.Written.{IsWrittenStep}
 use Rattle.fort_in_order.proofs.RuleLaws.{part_one, answer_one}
 use Rattle.fort_in_order_laws.proofs.FineSteps.{HasClosures}
 use Rattle.fort_in_order_laws.proofs.CertifiedTruth.{moved_answer, asked_closures, last_part, no_columns_closed}
@@ -46,7 +46,7 @@ use Rattle.fort_outline.proofs.RootLaws.{length-cores_of}
 use Rattle.fort_engine.proofs.DecideLaws.{HasRightAnswer-root, none_over}
 use Rattle.fort_steps.specs.declared.step.Step.{Step}
 use Rattle.fort_steps.specs.StepView.{as_step}
-use Rattle.fort_trace.specs.Recording.{recorded_with, AddsSteps, AreOperandsMade, CountsPushed, CountsAdded, merge_of, TablePushed, HasTargets, AnswerAdded, HasRightSteps, IsPartRecorded, IsRecordedTo, AreRecordedTo}
+use Rattle.fort_trace.specs.Recording.{recorded_with, AddsSteps, AreOperandsMade, CountsPushed, CountsAdded, merge_of, TablePushed, HasTargets, AnswerAdded, HasRightSteps, IsPartRecorded, IsRecordedTo, AreRecordedTo, IsTraced}
 use Rattle.fort_trace.proofs.AnswerLaws.{turned_answer}
 use Rattle.fort_trace.proofs.CountLaws.{counts_added}
 
@@ -299,18 +299,17 @@ module _ (reduces : Bool) (system : PatternSystem) (root : Core) (decided : IsDe
     }
 
   -- at the end
-  pub IsWritten-end : k ≡ length parts → (n : ℕ) (v : Bool) → n + 1 ≡ k → k ≤ get_or uses n 0 → get_or kept n None ≡ Some (Truth v) → (ss : List Step) → ss ≡ steps
-      → (first : ℕ) → IsWritten reduces system root (record { first = first; verdict = v; steps = map as_step ss })
-  IsWritten-end end n v next needed e ss same first =
+  pub IsTraced-end : k ≡ length parts → (n : ℕ) (answer : Last) → n + 1 ≡ k → k ≤ get_or uses n 0 → get_or parts n core.True ≡ root → get_or kept n None ≡ Some answer → IsTraced reduces system root answer steps
+  IsTraced-end end n answer next needed at e =
       let cs = closures_due parts (length system.rules) 1 in
       let all : take k parts ≡ parts = take_all k parts (omega arith) in
       record {
         parts = parts;
         parts_are = are;
         made = far.made;
-        steps = subst (λ (xs : List Step). AreSteps (IsWrittenStep system parts) nothing_made (dues (λ i. reduces) (length system.rules) parts) (map as_step xs) far.made) (sym same)
-            (subst (λ (ps : List Core). AreSteps (IsWrittenStep system parts) nothing_made (cs ++ parts_due (λ i. reduces) 0 ps) (map as_step steps) far.made) all far.done);
-        verdict = ap (λ xs. last_value (map as_step xs)) same ∙ far.value n v next needed e;
+        done = subst (λ (ps : List Core). AreSteps (IsWrittenStep system parts) nothing_made (cs ++ parts_due (λ i. reduces) 0 ps) (map as_step steps) far.made) all far.done;
+        is = subst (λ (f : Core). IsAnswerOf parts far.made f (as_answer answer)) at (far.kept_made n answer (omega arith) needed e);
+        value = λ v same. far.value n v next needed (e ∙ ap Some same);
       }
 
 -- ---- with what the engine knows
@@ -360,21 +359,20 @@ module _ (reduces : Bool) (system : PatternSystem) (root : Core) (o : Outline) (
         let at = last_part root (parts_in o) plan.laid.parts n e in
         part_one root (parts_in o) plan.laid.parts root o.whole n (low, plan.laid.whole_is) (omega arith, at)
 
-    pub IsWritten-root : (steps : List Step) → IsRecordedTo reduces system (parts_in o) o.last_uses.items k kept steps → (v : Bool) → get_or kept o.whole None ≡ Some (Truth v) → (first : ℕ)
-        → IsWritten reduces system root (record { first = first; verdict = v; steps = map as_step steps })
-    IsWritten-root steps recorded v e first =
+    pub IsTraced-root : (steps : List Step) → IsRecordedTo reduces system (parts_in o) o.last_uses.items k kept steps → (answer : Last) → get_or kept o.whole None ≡ Some answer
+        → IsTraced reduces system root answer steps
+    IsTraced-root steps recorded answer e =
         let next : o.whole + 1 ≡ k = by (length (parts_in o)) refl in
-        IsWritten-end reduces system root plan.decided (parts_in o) plan.laid.parts o.whole o.last_uses.items plan.laid.uses k kept steps far.kept_are.count recorded end o.whole v next
-        (omega (arith, end, plan.laid.uses.whole_is)) e steps refl first
+        IsTraced-end reduces system root plan.decided (parts_in o) plan.laid.parts o.whole o.last_uses.items plan.laid.uses k kept steps far.kept_are.count recorded end o.whole answer next
+        (omega (arith, end, plan.laid.uses.whole_is)) plan.laid.whole_is e
       where
         by : (n : ℕ) → length (parts_in o) ≡ n → o.whole + 1 ≡ k
         by zero e = absurd (omega (arith, low))
         by (suc n) e = let at = root_last n e in omega (arith, end)
 
 -- a closed formula has a truth
-pub no_table : (reduces : Bool) (system : PatternSystem) (cap : ℕ) (f : Core) (taken : Option Last) (table : Listed) → IsClosed f → HasRightAnswer system (recorded_with cap reduces) f taken → taken ≡ Some (Auto table) → ⊥
-no_table reduces system cap f taken table closed has e =
-    let same : has.answer ≡ Auto table = some_same has.answer (Auto table) (sym has.is ∙ e) in
-    let right : IsRightBy system (ToldWith reduces system) f (OfTable (listed_table table)) = subst (λ a. IsRightBy system (ToldWith reduces system) f (as_answer a)) same has.right in
-    let some : has_columns f ≡ true = lt-ltb 0 (length (columns_of f)) right.answers.over.some in
+pub no_table : (system : PatternSystem) (f : Core) (answer : Last) (table : Listed) → IsClosed f → IsAnswerTo (pattern_structure system) f (as_answer answer) → answer ≡ Auto table → ⊥
+no_table system f answer table closed h e =
+    let right : IsAnswerTo (pattern_structure system) f (OfTable (listed_table table)) = subst (λ a. IsAnswerTo (pattern_structure system) f (as_answer a)) e h in
+    let some : has_columns f ≡ true = lt-ltb 0 (length (columns_of f)) right.over.some in
     true≢false (sym some ∙ no_columns_closed f closed)

@@ -1,4 +1,4 @@
--- Inside: steps behind those that are recorded, what a part adds, and what is recorded of the first parts.
+-- Inside: steps behind those that are recorded, what a part adds, and what is recorded of the first parts and of all.
 use Rattle.std.specs.Prelude.{◌≡◌, ℕ, ◌+◌, ◌<◌, ◌≤◌, ◌^◌, List, [], ◌∷◌, ◌++◌, map, take, length, get_or, Bool, true, false, Option, None, Some}
 use Rattle.std.specs.declared.alloc.Global.{Global}
 use Rattle.std.specs.declared.vec.Vec.{Vec}
@@ -6,13 +6,14 @@ use Rattle.std.proofs.Common.{sym, ◌∙◌, arith}
 use Rattle.fort_theory.specs.Patterns.{PatternSystem}
 use Rattle.fort_cores.specs.Cores as core
 use Rattle.fort_cores.specs.Cores.{Core}
+use Rattle.fort_cores.specs.PartLists.{AreParts}
 use Rattle.fort_cores.specs.Structures.{pattern_structure}
 use Rattle.fort_tables.specs.Tables.{Table, Listed, IsListed}
 use Rattle.fort_counts.specs.Counts as counts
 use Rattle.fort_parts.specs.PartAnswers.{OfTable, IsAnswerTo}
 use Rattle.fort_parts.specs.DecidedCores.{IsOperandOf}
 use Rattle.fort_certificate_grammar.specs.Certificates as certificates
-use Rattle.fort_in_order.specs.Dues.{DueStep, is_turned, counts_due, answer_due, parts_due, closures_due}
+use Rattle.fort_in_order.specs.Dues.{DueStep, is_turned, counts_due, answer_due, parts_due, closures_due, dues}
 use Rattle.fort_in_order.specs.Made.{Made, nothing_made, IsAnswerOf}
 use Rattle.fort_in_order.specs.Checked.{AreSteps, last_value}
 use Rattle.fort_in_order.specs.Written.{IsWrittenStep}
@@ -130,6 +131,15 @@ pub record IsRecordedTo (reduces : Bool) (system : PatternSystem) (parts : List 
 pub record AreRecordedTo (reduces : Bool) (system : PatternSystem) (outline : Outline) (k : ℕ) (kept : List (Option Last)) (steps : List Step) : Type 0 where
   pub few : length outline.roots.items < 2 ^ 32
   pub recorded : IsRecordedTo reduces system (parts_in outline) outline.last_uses.items k kept steps
+
+-- the steps of all parts, which make the formula's answer
+pub record IsTraced (reduces : Bool) (system : PatternSystem) (f : Core) (answer : Last) (steps : List Step) : Type 0 where
+  pub parts : List Core
+  pub parts_are : AreParts f parts
+  pub made : Made
+  pub done : AreSteps (IsWrittenStep system parts) nothing_made (dues (λ k. reduces) (length system.rules) parts) (map as_step steps) made
+  pub is : IsAnswerOf parts made f (as_answer answer)
+  pub value : (v : Bool) → answer ≡ Truth v → last_value (map as_step steps) ≡ Some v
 
 -- answers that are not needed may be let go
 pub AreRecordedTo-less : (reduces : Bool) (system : PatternSystem) (outline : Outline) (k : ℕ) (kept less : List (Option Last)) (steps : List Step) → AreRecordedTo reduces system outline k kept steps

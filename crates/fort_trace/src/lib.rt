@@ -7,4 +7,4 @@ mod counts;
 mod decide;
 mod recorder;
 
-pub use decide::{Recorded, decide_with_steps};
+pub use decide::{OpenRecorded, Recorded, decide_with_steps, table_with_steps};

@@ -21,3 +21,6 @@ pub mod PushedLaws
 pub mod NextRowLaws
 pub mod StartLaws
 pub mod AnswerLaws
+pub mod TuplesInLaws
+pub mod VisitLaws
+pub mod TakeLaws

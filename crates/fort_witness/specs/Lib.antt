@@ -11,3 +11,4 @@ pub mod Heads
 pub mod Accepted
 pub mod Making
 pub mod Solving
+pub mod Visiting

@@ -1,0 +1,10 @@
+pub mod Readings
+pub mod OpenWords
+pub mod NodeForms
+pub mod OpenHeaders
+pub mod OneOpenCertificate
+pub mod OneOpenOutcome
+pub mod WrittenSteps
+pub mod OneOpenWritten
+pub mod LastNodes
+pub mod OpenWrittenLaws

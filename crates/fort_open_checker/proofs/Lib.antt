@@ -1,0 +1,4 @@
+pub mod NodeTestLaws
+pub mod NodeStateLaws
+pub mod JudgeLaws
+pub mod OpenLaws

@@ -1,0 +1,4 @@
+pub mod NodeTests
+pub mod NodeStates
+pub mod OpenOutcomeView
+pub mod OpenCheckers

@@ -1,0 +1,28 @@
+//! Why a certificate of an open formula isn't in order.
+ghost use Rattle.std.specs.Prelude.{◌≡◌, Err};
+ghost use Rattle.fort_in_order.specs.Outcomes.{Verdict};
+ghost use Rattle.fort_open_certificates.specs.OpenChecked as definitions;
+ghost use Rattle.fort_open_checker.specs.OpenOutcomeView.{as_outcome};
+
+use fort_cert_checker::{Reason, Rejected};
+use fort_open_steps::OpenCertificate;
+
+/// The first form that fails.
+#[derive(Clone, Copy, Debug, PartialEq, Eq)]
+pub enum Unconfirmed {
+    /// A step, a node that isn't due, or the claim.
+    Rejected(Rejected),
+    /// A node that is no entry over the nodes before it.
+    NoEntry { form: u32 },
+}
+
+/// The claim isn't what the table tells.
+pub(crate) fn other_claim(certificate: &OpenCertificate) -> Unconfirmed
+    ensures { as_outcome (Err result) ≡ definitions.Rejected certificate.now.first 0 Verdict }
+{
+    Unconfirmed::Rejected(Rejected {
+        form: certificate.first,
+        place: 0,
+        reason: Reason::Verdict,
+    })
+}

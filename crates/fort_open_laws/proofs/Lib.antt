@@ -1,0 +1,3 @@
+pub mod RightSteps
+pub mod OpenTruthLaws
+pub mod WrittenInOrder
