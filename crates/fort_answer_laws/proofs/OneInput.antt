@@ -12,8 +12,11 @@ use Rattle.fort_certificate_grammar.specs.Certificates.{Certificate}
 use Rattle.fort_certificate_grammar.specs.CertificateForms.{IsCertificate}
 use Rattle.fort_certificate_grammar.proofs.OneCertificate.{certificate_one}
 use Rattle.fort_certificate_grammar.proofs.OneFault.{certificate_not_bad, first_fault_one}
+use Rattle.fort_open_certificates.specs.OpenCertificates.{OpenCertificate}
+use Rattle.fort_open_certificates.specs.OpenForms.{IsOpenCertificate}
+use Rattle.fort_open_certificates.proofs.OneOpenCertificate.{IsOpenCertificate-one, IsFirstOpenFault-one, IsOpenCertificate-not_bad}
 use Rattle.fort_answers.specs.Lines.{problem_fault_line, certificate_fault_line}
-use Rattle.fort_answers.specs.InputAnswer.{input_limit, Tail, Behind, Nothing, ACertificate, IsCertifiedInput, IsInputWith, IsTailRefused, IsInputRefused, TooLong, NoForms, NoProblem, BadTail}
+use Rattle.fort_answers.specs.InputAnswer.{input_limit, Tail, Behind, Nothing, ACertificate, AnOpenCertificate, IsCertifiedInput, IsOpenCertifiedInput, IsInputWith, IsTailRefused, IsInputRefused, TooLong, NoForms, NoProblem, BadTail}
 use Rattle.fort_answer_laws.proofs.InputStages.{Refusal, Long, BadText, Read, stages_one, stages_read}
 
 -- ---- what was read, whatever has to stand behind the problem
@@ -35,6 +38,8 @@ read_as Nothing bytes system behind is = record {
   problem = is.problem.problem;
 }
 read_as ACertificate bytes system behind is =
+    record { short = is.short; forms = is.forms; are_forms = is.are_forms; next = is.next; problem = is.problem }
+read_as AnOpenCertificate bytes system behind is =
     record { short = is.short; forms = is.forms; are_forms = is.are_forms; next = is.next; problem = is.problem }
 
 -- the forms of such an input are a problem
@@ -62,6 +67,8 @@ module _ (bytes : List ℕ) (forms : Forms) where
   tail_one Nothing s n line line' is is' = is.1 ∙ sym is'.1
   tail_one ACertificate s n line line' is is' =
       is.2 ∙ (ap certificate_fault_line (first_fault_one bytes (length s.rules) (as_list forms) n is.0 is'.0 is.1 is'.1) ∙ sym is'.2)
+  tail_one AnOpenCertificate s n line line' is is' =
+      is.2 ∙ (ap certificate_fault_line (IsFirstOpenFault-one bytes (as_list forms) n is.0 is'.0 is.1 is'.1) ∙ sym is'.2)
 
   Reading-unique : (tail : Tail) (line line' : List ℕ) → Reading tail bytes forms line → Reading tail bytes forms line' → line ≡ line'
   Reading-unique tail line line' (Faulty x first e) (Faulty y first' e') =
@@ -89,6 +96,8 @@ tail_right : (tail : Tail) (bytes line : List ℕ) (system : System) (behind : B
 tail_right Nothing bytes line system behind is r = let below = r.0 in omega arith
 tail_right ACertificate bytes line system behind is r =
     certificate_not_bad bytes (length system.rules) (as_list is.forms) is.next behind r.0 is.certificate r.1
+tail_right AnOpenCertificate bytes line system behind is r =
+    IsOpenCertificate-not_bad bytes (as_list is.forms) is.next behind r.0 is.certificate r.1
 
 module _ (tail : Tail) (bytes line : List ℕ) (system : System) (behind : Behind tail) (is : IsInputWith tail bytes system behind) where
   not_read : Reading tail bytes (read_as tail bytes system behind is).forms line → ⊥
@@ -122,9 +131,20 @@ certificates_one bytes s s' c c' is is' =
     (subst (λ fs. IsCertificate bytes (length s'.rules) (as_list fs) is'.next c') same is'.certificate)) in
     certificate_one bytes (length s.rules) (as_list is.forms) is.next c' c there is.certificate
 
+open_certificates_one : (bytes : List ℕ) (s s' : System) (c c' : OpenCertificate) → IsOpenCertifiedInput bytes s c
+    → IsOpenCertifiedInput bytes s' c' → c' ≡ c
+open_certificates_one bytes s s' c c' is is' =
+    let same = same_forms bytes is'.forms is.forms is'.are_forms.stand is.are_forms.stand in
+    let problem = subst (λ fs. IsProblem bytes (as_list fs) s' is'.next) same is'.problem in
+    let one = IsProblem-unique bytes (as_list is.forms) s' s is'.next is.next problem is.problem in
+    let there = subst (λ n. IsOpenCertificate bytes (as_list is.forms) n c') one.1
+    (subst (λ fs. IsOpenCertificate bytes (as_list fs) is'.next c') same is'.certificate) in
+    IsOpenCertificate-one bytes (as_list is.forms) is.next c' c there is.certificate
+
 behind_one : (tail : Tail) (bytes : List ℕ) (s s' : System) (b b' : Behind tail) → IsInputWith tail bytes s b → IsInputWith tail bytes s' b' → b' ≡ b
 behind_one Nothing bytes s s' b b' is is' = refl
 behind_one ACertificate bytes s s' b b' is is' = certificates_one bytes s s' b b' is is'
+behind_one AnOpenCertificate bytes s s' b b' is is' = open_certificates_one bytes s s' b b' is is'
 
 pub IsInputWith-unique : (tail : Tail) (bytes : List ℕ) (system system' : System) (behind behind' : Behind tail) → IsInputWith tail bytes system behind
     → IsInputWith tail bytes system' behind' → (system' ≡ system) × (behind' ≡ behind)

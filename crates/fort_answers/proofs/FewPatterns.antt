@@ -18,7 +18,7 @@ use Rattle.fort_grammar.specs.Declarations.{as_list, elements_of}
 use Rattle.fort_grammar.specs.RuleForms.{HasSides, OfFirst, OfIndex, IsSide, AreSides, AConstant, AVariable, AnApplication, NoSides, MoreOf, IndexedRule, IsRule, AreRules, rules_of}
 use Rattle.fort_grammar.specs.ProblemForms.{IsProblem}
 use Rattle.fort_parts.specs.DecidedCores.{AreFewRules}
-use Rattle.fort_answers.specs.InputAnswer.{Tail, Behind, Nothing, ACertificate, IsInput, IsCertifiedInput, IsInputWith, input_limit}
+use Rattle.fort_answers.specs.InputAnswer.{Tail, Behind, Nothing, ACertificate, AnOpenCertificate, IsInput, IsCertifiedInput, IsInputWith, input_limit}
 use Rattle.fort_certificate_grammar.specs.Certificates.{Certificate}
 
 -- ---- different elements of a list are no more than its elements
@@ -237,3 +237,4 @@ pub AreFewRules-with : (tail : Tail) (bytes : List ℕ) (system : System) (behin
     → (index : ℕ) → AreFewRules (at_index index (pattern_system system).rules)
 AreFewRules-with Nothing bytes system behind is index = AreFewRules-input bytes system is index
 AreFewRules-with ACertificate bytes system behind is index = AreFewRules-certified bytes system behind is index
+AreFewRules-with AnOpenCertificate bytes system behind is index = AreFewRules-problem bytes is.forms is.are_forms system is.next is.problem is.short index

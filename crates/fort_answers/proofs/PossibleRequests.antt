@@ -5,8 +5,8 @@ use Rattle.std.specs.Prelude.{◌&&◌, find, if◌then◌else◌, nat_le, IfSom
 use Rattle.std.specs.Fmt.{decimal}
 use Rattle.std.specs.Str.{bytes_eq}
 use Rattle.std.specs.Str.Parse.{digits_value}
-use Rattle.fort_answers.specs.Requests.{Text, Options, Bounds, Request, Decide, Witness, Check, Sample, Solutions, number_in}
-use Rattle.fort_answers.specs.Commands.{Given, Command, commands, decide, witness, check, sample, solutions, is_set, number_given, options_given, bounds_given, reduce_name, certificate_name, formula_name, states, count, height, most}
+use Rattle.fort_answers.specs.Requests.{Text, Options, Bounds, Request, Decide, Witness, Check, Sample, Solutions, Confirm, number_in}
+use Rattle.fort_answers.specs.Commands.{Given, Command, commands, decide, witness, check, sample, solutions, confirm, is_set, number_given, options_given, bounds_given, reduce_name, certificate_name, formula_name, states, count, height, most}
 use Rattle.fort_answers.specs.CommandGrammar.{items_of, is_complete, given_by, words_among, asked_by, request_by, request_of}
 use Rattle.fort_answers.specs.PossibleRequests.{IsPossible}
 
@@ -89,7 +89,8 @@ decide_possible given =
 
 witness_possible : AsksPossible witness
 witness_possible given =
-    keeps_then (λ o. option_map (Witness o) (given formula_name)) (options_given given) (λ o. keeps_map (Witness o) (given formula_name) (λ f. tt))
+    keeps_then (λ o. option_map (Witness o (is_set certificate_name given)) (given formula_name)) (options_given given) (λ o.
+    keeps_map (Witness o (is_set certificate_name given)) (given formula_name) (λ f. tt))
 
 check_possible : AsksPossible check
 check_possible given = keeps_map Check (given formula_name) (λ f. tt)
@@ -106,12 +107,15 @@ solutions_possible given =
     keeps_then_if HasFewSolutions (λ b. option_map (Solutions o b) (given formula_name)) (bounds_given given) (bounds_within given) (λ b few.
     keeps_map (Solutions o b) (given formula_name) (λ f. record { states = states.1; some = few.0; few = few.1 })))
 
+confirm_possible : AsksPossible confirm
+confirm_possible given = keeps_map Confirm (given formula_name) (λ f. tt)
+
 abbrev AllPossible : List Command → Type 0
 AllPossible [] = Unit {0}
 AllPossible (c ∷ cs) = AsksPossible c × AllPossible cs
 
 all_possible : AllPossible commands
-all_possible = (decide_possible, (witness_possible, (check_possible, (sample_possible, (solutions_possible, tt)))))
+all_possible = (decide_possible, (witness_possible, (check_possible, (sample_possible, (solutions_possible, (confirm_possible, tt))))))
 
 keeps_request : (c : Command) (ws : List Text) → AsksPossible c → IsPossible (request_by c ws)
 keeps_request c ws possible =

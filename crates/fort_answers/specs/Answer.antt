@@ -1,7 +1,7 @@
 -- To believe: the one status and text that the program owes to words and bytes: the usage text where the words ask nothing, else what the request owes.
 use Rattle.std.specs.Prelude.{◌≡◌, ℕ, List, Option, Some, None}
 use Rattle.fort_logic.specs.Formulas.{Formula}
-use Rattle.fort_answers.specs.Requests.{Text, Options, Request, Decide, Witness, Check, Sample, Solutions}
+use Rattle.fort_answers.specs.Requests.{Text, Options, Request, Decide, Witness, Check, Sample, Solutions, Confirm}
 use Rattle.fort_answers.specs.CommandGrammar.{request_of}
 use Rattle.fort_answers.specs.Lines.{usage, usage_text}
 use Rattle.fort_answers.specs.FormulaAnswer.{IsAcceptedAs}
@@ -11,6 +11,7 @@ use Rattle.fort_answers.specs.WitnessAnswer.{witness_inquiry}
 use Rattle.fort_answers.specs.SolutionsAnswer.{solutions_inquiry}
 use Rattle.fort_answers.specs.SampleAnswer.{SampleAnswer}
 use Rattle.fort_answers.specs.CheckAnswer.{check_inquiry}
+use Rattle.fort_answers.specs.ConfirmAnswer.{confirm_inquiry}
 
 -- ---- by request
 
@@ -27,10 +28,11 @@ OwesUsage status text = Are status text usage usage_text
 abbrev pub owing : Option Request → Owing
 owing None = WithoutInput OwesUsage
 owing (Some (Decide options certificate formula)) = About (decide_inquiry options certificate formula)
-owing (Some (Witness options formula)) = About (witness_inquiry options formula)
+owing (Some (Witness options certificate formula)) = About (witness_inquiry options certificate formula)
 owing (Some (Check formula)) = About (check_inquiry formula)
 owing (Some (Sample n)) = WithoutInput (SampleAnswer n)
 owing (Some (Solutions options bounds formula)) = About (solutions_inquiry options bounds formula)
+owing (Some (Confirm formula)) = About (confirm_inquiry formula)
 
 -- the status and the text are owed whatever the input is
 abbrev pub IsOwedEarly : Owing → ℕ → Text → Type 0

@@ -2,7 +2,7 @@
 use Rattle.std.specs.Prelude.{ℕ, Bool, false, List, [], ◌∷◌, Option, codes, option_and_then, option_map}
 use Rattle.std.specs.Option.{option_map_or}
 use Rattle.std.specs.Str.{bytes_eq}
-use Rattle.fort_answers.specs.Requests.{number_in, Text, Options, Bounds, Request, Decide, Witness, Check, Sample, Solutions}
+use Rattle.fort_answers.specs.Requests.{number_in, Text, Options, Bounds, Request, Decide, Witness, Check, Sample, Solutions, Confirm}
 
 -- ---- what can stand there
 
@@ -87,7 +87,7 @@ abbrev pub decide_asked : Given → Option Request
 decide_asked given = option_and_then (λ o. option_map (Decide o (is_set certificate_name given)) (given formula_name)) (options_given given)
 
 abbrev pub witness_asked : Given → Option Request
-witness_asked given = option_and_then (λ o. option_map (Witness o) (given formula_name)) (options_given given)
+witness_asked given = option_and_then (λ o. option_map (Witness o (is_set certificate_name given)) (given formula_name)) (options_given given)
 
 abbrev pub check_asked : Given → Option Request
 check_asked given = option_map Check (given formula_name)
@@ -103,6 +103,9 @@ abbrev pub solutions_asked : Given → Option Request
 solutions_asked given =
     option_and_then (λ o. option_and_then (λ b. option_map (Solutions o b) (given formula_name)) (bounds_given given)) (options_given given)
 
+abbrev pub confirm_asked : Given → Option Request
+confirm_asked given = option_map Confirm (given formula_name)
+
 -- ---- the commands
 
 -- `decide [--states N] [--reduce] [--certificate] FORMULA`
@@ -113,9 +116,13 @@ decide = record {
   asks = decide_asked;
 }
 
--- `witness [--states N] [--reduce] FORMULA`
+-- `witness [--states N] [--reduce] [--certificate] FORMULA`
 abbrev pub witness : Command
-witness = record { name = codes "witness"; parameters = Setting states default_states ∷ Flag reduce_name ∷ TextWord formula_name ∷ []; asks = witness_asked }
+witness = record {
+  name = codes "witness";
+  parameters = Setting states default_states ∷ Flag reduce_name ∷ Flag certificate_name ∷ TextWord formula_name ∷ [];
+  asks = witness_asked;
+}
 
 -- `check FORMULA`
 abbrev pub check : Command
@@ -133,5 +140,9 @@ solutions = record {
   asks = solutions_asked;
 }
 
+-- `confirm FORMULA`
+abbrev pub confirm : Command
+confirm = record { name = codes "confirm"; parameters = TextWord formula_name ∷ []; asks = confirm_asked }
+
 abbrev pub commands : List Command
-commands = decide ∷ witness ∷ check ∷ sample ∷ solutions ∷ []
+commands = decide ∷ witness ∷ check ∷ sample ∷ solutions ∷ confirm ∷ []

@@ -1,4 +1,4 @@
--- To believe: when an input is accepted as a system, alone or with a certificate behind it, and which line refuses one.
+-- To believe: when an input is accepted as a system, alone or with a certificate of a closed or an open formula behind it, and which line refuses one.
 use Rattle.std.specs.Prelude.{◌≡◌, ℕ, ◌<◌, ◌≤◌, List, length}
 use Rattle.fort_theory.specs.Sides.{System}
 use Rattle.fort_grammar.specs.Text.{TextFault, IsFirstFault}
@@ -8,6 +8,9 @@ use Rattle.fort_grammar.specs.ProblemForms.{IsProblem, IsFirstProblemFault, IsPr
 use Rattle.fort_certificate_grammar.specs.Certificates.{Certificate}
 use Rattle.fort_certificate_grammar.specs.CertificateForms.{IsCertificate}
 use Rattle.fort_certificate_grammar.specs.CertificateFaults.{CertificateFault, IsFirstCertificateFault}
+use Rattle.fort_open_certificates.specs.OpenCertificates.{OpenCertificate}
+use Rattle.fort_open_certificates.specs.OpenForms.{IsOpenCertificate}
+use Rattle.fort_open_certificates.specs.OpenFaults.{IsFirstOpenFault}
 use Rattle.fort_answers.specs.Lines.{input_too_long, text_fault_line, problem_fault_line, certificate_fault_line}
 
 -- the most bytes of an input
@@ -18,11 +21,13 @@ input_limit = 67108864
 pub data Tail : Type 0 where
   Nothing : Tail
   ACertificate : Tail
+  AnOpenCertificate : Tail
 
 -- what is read there
 abbrev pub Behind : Tail → Type 0
 Behind Nothing = Unit {0}
 Behind ACertificate = Certificate
+Behind AnOpenCertificate = OpenCertificate
 
 -- the input is the system, with no form behind it
 pub record IsInput (bytes : List ℕ) (system : System) : Type 0 where
@@ -38,16 +43,28 @@ pub record IsCertifiedInput (bytes : List ℕ) (system : System) (c : Certificat
   pub problem : IsProblem bytes (as_list forms) system next
   pub certificate : IsCertificate bytes (length system.rules) (as_list forms) next c
 
+-- the same of a certificate of an open formula
+pub record IsOpenCertifiedInput (bytes : List ℕ) (system : System) (c : OpenCertificate) : Type 0 where
+  pub short : length bytes ≤ input_limit
+  pub forms : Forms
+  pub are_forms : AreFormsOf bytes forms
+  pub next : ℕ
+  pub problem : IsProblem bytes (as_list forms) system next
+  pub certificate : IsOpenCertificate bytes (as_list forms) next c
+
 -- the input is the system with this tail
 abbrev pub IsInputWith : (tail : Tail) → (bytes : List ℕ) → System → Behind tail → Type 0
 IsInputWith Nothing bytes system behind = IsInput bytes system
 IsInputWith ACertificate bytes system behind = IsCertifiedInput bytes system behind
+IsInputWith AnOpenCertificate bytes system behind = IsOpenCertifiedInput bytes system behind
 
 -- the forms from this number on, behind the problem, are not what has to stand there
 abbrev pub IsTailRefused : Tail → (bytes : List ℕ) → Forms → System → (next : ℕ) → (line : List ℕ) → Type 0
 IsTailRefused Nothing bytes forms system next line = (next < length (as_list forms)) × (line ≡ problem_fault_line (BadForm next))
 IsTailRefused ACertificate bytes forms system next line =
     (fault : CertificateFault) × IsFirstCertificateFault bytes (length system.rules) (as_list forms) next fault × (line ≡ certificate_fault_line fault)
+IsTailRefused AnOpenCertificate bytes forms system next line =
+    (fault : CertificateFault) × IsFirstOpenFault bytes (as_list forms) next fault × (line ≡ certificate_fault_line fault)
 
 -- the cases in their order, each with what the earlier ones leave
 pub data IsInputRefused (tail : Tail) (bytes line : List ℕ) : Type 0 where

@@ -7,6 +7,7 @@ pub mod InputAnswer
 pub mod FitAnswer
 pub mod SystemAnswer
 pub mod DecideAnswer
+pub mod OpenCertificateAnswer
 pub mod WitnessAnswer
 pub mod SolutionsAnswer
 pub mod MadeProblem
@@ -14,4 +15,5 @@ pub mod PossibleRequests
 pub mod SampleAnswer
 pub mod CertificateAnswer
 pub mod CheckAnswer
+pub mod ConfirmAnswer
 pub mod Answer

@@ -16,10 +16,11 @@ line text = text ++ 10 ∷ []
 
 abbrev pub usage_text : List ℕ
 usage_text = line (codes "usage: fort decide [--states N] [--reduce] [--certificate] FORMULA")
-    ++ (line (codes "       fort witness [--states N] [--reduce] FORMULA")
+    ++ (line (codes "       fort witness [--states N] [--reduce] [--certificate] FORMULA")
     ++ (line (codes "       fort check FORMULA")
     ++ (line (codes "       fort sample N")
-    ++ line (codes "       fort solutions [--states N] [--most M] H FORMULA"))))
+    ++ (line (codes "       fort solutions [--states N] [--most M] H FORMULA")
+    ++ line (codes "       fort confirm FORMULA")))))
 
 abbrev pub yes_line : List ℕ
 yes_line = line (codes "YES")

@@ -1,6 +1,6 @@
 -- Inside: what each request keeps that words make: the size of a made problem is in range, and for solutions how many are wanted; their cap on states is at most 1,000,000. That they keep it is proved.
 use Rattle.std.specs.Prelude.{ℕ, ◌≤◌, Option, Some, None}
-use Rattle.fort_answers.specs.Requests.{Options, Bounds, Request, Decide, Witness, Check, Sample, Solutions}
+use Rattle.fort_answers.specs.Requests.{Options, Bounds, Request, Decide, Witness, Check, Sample, Solutions, Confirm}
 
 pub record IsSampleSize (n : ℕ) : Type 0 where
   pub low : 1 ≤ n
@@ -13,10 +13,11 @@ pub record AreBoundsInRange (options : Options) (bounds : Bounds) : Type 0 where
 
 abbrev pub CanBeAsked : Request → Type 0
 CanBeAsked (Decide options certificate formula) = Unit {0}
-CanBeAsked (Witness options formula) = Unit {0}
+CanBeAsked (Witness options certificate formula) = Unit {0}
 CanBeAsked (Check formula) = Unit {0}
 CanBeAsked (Sample n) = IsSampleSize n
 CanBeAsked (Solutions options bounds formula) = AreBoundsInRange options bounds
+CanBeAsked (Confirm formula) = Unit {0}
 
 -- the words ask nothing, or what can be asked
 abbrev pub IsPossible : Option Request → Type 0

@@ -1,5 +1,5 @@
--- To believe: what `witness` asks of a formula over an input, and what it says: the least terms for its free variables that satisfy it, in the order of tuples, or that there are none.
-use Rattle.std.specs.Prelude.{◌≡◌, ℕ, List, [], ◌∷◌, ◌++◌, map, Some, codes}
+-- To believe: what `witness` asks of a formula over an input, and what it says: the least terms for its free variables that satisfy it, in the order of tuples, or that there are none; or where one is asked for, a certificate of that.
+use Rattle.std.specs.Prelude.{◌≡◌, ℕ, Bool, true, false, List, [], ◌∷◌, ◌++◌, map, Some, codes}
 use Rattle.fort_theory.specs.Trees.{Tree}
 use Rattle.fort_theory.specs.Signatures.{Signature}
 use Rattle.fort_theory.specs.Sides.{System}
@@ -11,9 +11,10 @@ use Rattle.fort_order.specs.TupleOrder.{NotAfter}
 use Rattle.fort_order.specs.TermText.{term_text}
 use Rattle.fort_answers.specs.Requests.{Text, Options}
 use Rattle.fort_answers.specs.Lines.{positive, negative, line, witness_line, none_line}
-use Rattle.fort_answers.specs.FormulaAnswer.{Any}
+use Rattle.fort_answers.specs.FormulaAnswer.{Openness, Any, Open}
 use Rattle.fort_answers.specs.InputAnswer.{Nothing}
 use Rattle.fort_answers.specs.SystemAnswer.{Are, Inquiry}
+use Rattle.fort_answers.specs.OpenCertificateAnswer.{OpenCertificateVerdict}
 
 -- the trees of the free names, in the order of their first free occurrences
 abbrev pub free_trees : Formula → Assignment → List Tree
@@ -48,13 +49,23 @@ pub data WitnessVerdict (system : System) (terms : List Tree) (f : Formula) (sta
       → WitnessVerdict system terms f status text
   NotFound : IsFalseOf system terms f → Are status text negative none_line → WitnessVerdict system terms f status text
 
+-- a certificate of that in place of it, where one is asked for
+abbrev pub WitnessAnswerOf : (certificate reduces : Bool) → System → List Tree → Formula → ℕ → Text → Type 0
+WitnessAnswerOf false reduces system terms f status text = WitnessVerdict system terms f status text
+WitnessAnswerOf true reduces system terms f status text = OpenCertificateVerdict reduces system terms f status text
+
+-- only of an open formula there is a certificate of terms
+abbrev pub witness_openness : (certificate : Bool) → Openness
+witness_openness false = Any
+witness_openness true = Open
+
 -- what `witness` asks of a formula
-abbrev pub witness_inquiry : Options → (formula : Text) → Inquiry
-witness_inquiry options formula =
+abbrev pub witness_inquiry : Options → (certificate : Bool) → (formula : Text) → Inquiry
+witness_inquiry options certificate formula =
     record {
       formula = formula;
-      openness = Any;
+      openness = witness_openness certificate;
       tail = Nothing;
       options = Some options;
-      says = λ system behind terms f status text. WitnessVerdict system terms f status text;
+      says = λ system behind terms f status text. WitnessAnswerOf certificate options.reduces system terms f status text;
     }

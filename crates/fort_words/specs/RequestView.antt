@@ -1,5 +1,5 @@
 -- To believe: which request each value of the program's type is.
-use Rattle.fort_answers.specs.Requests.{Options, Bounds, Request, Decide, Witness, Check, Sample, Solutions}
+use Rattle.fort_answers.specs.Requests.{Options, Bounds, Request, Decide, Witness, Check, Sample, Solutions, Confirm}
 use Rattle.fort_words.specs.declared.request.Options.{Options as OwnOptions}
 use Rattle.fort_words.specs.declared.request.Bounds.{Bounds as OwnBounds}
 use Rattle.fort_words.specs.declared.request.Request.{Request as OwnRequest}
@@ -13,7 +13,8 @@ as_bounds b = record { height = b.height; most = b.most }
 
 abbrev pub as_request : OwnRequest → Request
 as_request (own.Decide options certificate formula) = Decide (as_options options) certificate formula.now
-as_request (own.Witness options formula) = Witness (as_options options) formula.now
+as_request (own.Witness options certificate formula) = Witness (as_options options) certificate formula.now
 as_request (own.Check formula) = Check formula.now
 as_request (own.Sample n) = Sample n
 as_request (own.Solutions options bounds formula) = Solutions (as_options options) (as_bounds bounds) formula.now
+as_request (own.Confirm formula) = Confirm formula.now

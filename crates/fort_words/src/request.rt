@@ -1,7 +1,7 @@
 //! Requests, from `clap`'s matches.
 ghost use Rattle.std.specs.Prelude.{◌≡◌, IfOk, map, option_and_then, option_map, string_bytes};
 ghost use Rattle.clap.specs.Words.{subcommand_rows_of};
-ghost use Rattle.fort_answers.specs.Commands.{bounds_given, check_asked, decide_asked, is_set, number_given, options_given, sample_asked, solutions_asked, witness_asked};
+ghost use Rattle.fort_answers.specs.Commands.{bounds_given, check_asked, confirm_asked, decide_asked, is_set, number_given, options_given, sample_asked, solutions_asked, witness_asked};
 ghost use Rattle.fort_answers.specs.CommandGrammar.{request_of};
 ghost use Rattle.fort_words.specs.Matches.{asked_in, given_of, request_in};
 ghost use Rattle.fort_words.specs.RequestView.{as_bounds, as_options, as_request};
@@ -10,8 +10,8 @@ ghost use Rattle.fort_words.specs.RowView.{as_number};
 use crate::command::fort_command;
 use crate::number::number_of;
 use crate::row::{
-    CERTIFICATE, CHECK, COUNT, DECIDE, FORMULA, HEIGHT, MOST, Number, REDUCE, SAMPLE, SOLUTIONS,
-    STATES, WITNESS,
+    CERTIFICATE, CHECK, CONFIRM, COUNT, DECIDE, FORMULA, HEIGHT, MOST, Number, REDUCE, SAMPLE,
+    SOLUTIONS, STATES, WITNESS,
 };
 use clap::ArgMatches;
 use clap::error::ErrorKind;
@@ -47,6 +47,7 @@ pub enum Request<'a> {
     /// The least terms for its free variables that make the formula true.
     Witness {
         options: Options,
+        certificate: bool,
         formula: &'a str,
     },
     /// Whether the certificate behind the problem proves the formula or its negation.
@@ -61,6 +62,10 @@ pub enum Request<'a> {
     Solutions {
         options: Options,
         bounds: Bounds,
+        formula: &'a str,
+    },
+    /// Whether the certificate behind the problem proves that some terms make the formula true, or that none do.
+    Confirm {
         formula: &'a str,
     },
 }
@@ -113,7 +118,12 @@ fn asked_for_witness<'a>(matches: &ArgMatches<'a>) -> Option<Request<'a>>
 {
     let options = options_given(matches)?;
     let formula = value_of(matches, FORMULA)?;
-    Some(Request::Witness { options, formula })
+    let certificate = is_set(matches, CERTIFICATE);
+    Some(Request::Witness {
+        options,
+        certificate,
+        formula,
+    })
 }
 
 fn asked_to_check<'a>(matches: &ArgMatches<'a>) -> Option<Request<'a>>
@@ -151,6 +161,13 @@ fn asked_for_solutions<'a>(matches: &ArgMatches<'a>) -> Option<Request<'a>>
     })
 }
 
+fn asked_to_confirm<'a>(matches: &ArgMatches<'a>) -> Option<Request<'a>>
+    ensures { option_map as_request result ≡ confirm_asked (given_of matches.now) }
+{
+    let formula = value_of(matches, FORMULA)?;
+    Some(Request::Confirm { formula })
+}
+
 fn asked<'a>(matches: &ArgMatches<'a>) -> Option<Request<'a>>
     ensures { option_map as_request result ≡ option_and_then asked_in
         (subcommand_rows_of matches.now) }
@@ -166,6 +183,8 @@ fn asked<'a>(matches: &ArgMatches<'a>) -> Option<Request<'a>>
         asked_for_sample(inner)
     } else if name == SOLUTIONS.name {
         asked_for_solutions(inner)
+    } else if name == CONFIRM.name {
+        asked_to_confirm(inner)
     } else {
         None
     }

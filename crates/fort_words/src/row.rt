@@ -84,12 +84,13 @@ pub(crate) const DECIDE: Row = Row {
     ],
 };
 
-/// `witness [--states N] [--reduce] FORMULA`
+/// `witness [--states N] [--reduce] [--certificate] FORMULA`
 pub(crate) const WITNESS: Row = Row {
     name: "witness",
     parameters: &[
         STATES_OR_DEFAULT,
         Parameter::Flag(REDUCE),
+        Parameter::Flag(CERTIFICATE),
         Parameter::TextWord(FORMULA),
     ],
 };
@@ -120,7 +121,13 @@ pub(crate) const SOLUTIONS: Row = Row {
     ],
 };
 
-const ROWS: &[Row] = &[DECIDE, WITNESS, CHECK, SAMPLE, SOLUTIONS];
+/// `confirm FORMULA`
+pub(crate) const CONFIRM: Row = Row {
+    name: "confirm",
+    parameters: &[Parameter::TextWord(FORMULA)],
+};
+
+const ROWS: &[Row] = &[DECIDE, WITNESS, CHECK, SAMPLE, SOLUTIONS, CONFIRM];
 
 /// The rows of the commands.
 pub(crate) fn rows() -> &'static [Row]
