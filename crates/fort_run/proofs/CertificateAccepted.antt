@@ -11,7 +11,7 @@ use Rattle.fort_grammar.specs.Forms.{Form}
 use Rattle.fort_grammar.specs.Declarations.{as_list, word_of, AreWords, IsListOfWords, IsHeaded}
 use Rattle.fort_grammar.specs.ProblemForms.{BeginsOtherwise, IsProblem}
 use Rattle.fort_certificate_grammar.specs.Certificates.{Certificate}
-use Rattle.fort_certificate_grammar.specs.CertificateForms.{IsCertificate, version_for}
+use Rattle.fort_certificate_grammar.specs.CertificateForms.{version_for}
 use Rattle.fort_certificate_grammar.specs.CertificateAgain.{IsReadAgain}
 use Rattle.fort_certificate_texts.proofs.Again.{behind_again}
 use Rattle.fort_in_order.specs.Checked.{Certified}
@@ -39,15 +39,13 @@ headed_same bytes f head word words l a =
     let there : word_of bytes a.first ≡ Some head = first_word bytes a.first a.others head words (subst (λ fs. AreWords bytes fs (head ∷ words)) same l.words_are) in
     let both : ◌≡◌ {A = Option (List ℕ)} (Some head) (Some word) = sym there ∙ a.head in cc
 
-module _ (bytes : List ℕ) (number : ℕ) (front others : List Form) (c : Certificate) (forms : List Form) (behind : forms ≡ front ++ others)
-    (is : IsCertificate bytes number forms (length front) c) where
-  others_are : others ≡ is.header ∷ is.others
-  others_are = sym (drop-append_seam front others) ∙ (ap (drop (length front)) (sym behind) ∙ is.split)
-
-  -- the first form behind the problem is the header
-  begins_otherwise : (word : List ℕ) → (codes "certificate" ≡ word → ⊥) → BeginsOtherwise bytes word others
-  begins_otherwise word other =
-      subst (BeginsOtherwise bytes word) (sym others_are) (λ a. other (headed_same bytes is.header (codes "certificate") word _ is.headed a))
+-- forms behind others begin otherwise than with a word that is not that of their first one
+pub begins_behind : (bytes : List ℕ) (forms front others more : List Form) (header : Form) (head : List ℕ) (words : List (List ℕ)) (word : List ℕ)
+    → forms ≡ front ++ others → drop (length front) forms ≡ header ∷ more → IsListOfWords bytes header (head ∷ words) → (head ≡ word → ⊥)
+    → BeginsOtherwise bytes word others
+begins_behind bytes forms front others more header head words word behind split headed other =
+    let are : others ≡ header ∷ more = sym (drop-append_seam front others) ∙ (ap (drop (length front)) (sym behind) ∙ split) in
+    subst (BeginsOtherwise bytes word) (sym are) (λ a. other (headed_same bytes header head word words headed a))
 
 -- result: behind an LF
 pub written_accepted : (reduces : Bool) (formula : Text) (f : Formula) (bytes : Text) (system : System) (terms : List Tree) (s : ℕ) (text : Text) → IsAcceptedClosed formula f
@@ -61,16 +59,18 @@ written_accepted reduces formula f bytes system terms s text accepted input fits
     let again = subst (λ t. IsReadAgain (bytes ++ 10 ∷ t) number forms (record { first = length (as_list forms); verdict = c.verdict; steps = c.steps }))
     (sym v.are.same_text) (behind_again number (version_for reduces number) bytes forms c.verdict c.steps input.problem.are_forms (reduces, refl) v.small) in
     let d : Certificate = record { first = length (as_list forms); verdict = c.verdict; steps = c.steps } in
-    let otherwise = begins_otherwise whole number (as_list forms) again.others d (as_list again.forms) again.behind again.certificate in
+    let is = again.certificate in
+    let otherwise : (word : List ℕ) → (codes "certificate" ≡ word → ⊥) → BeginsOtherwise whole word again.others =
+    λ word other. begins_behind whole (as_list again.forms) (as_list forms) again.others is.others is.header (codes "certificate") _ word again.behind is.split is.headed other in
     let problem = problem_too bytes (10 ∷ text) forms system again.others input.problem.are_forms input.problem.problem
     (otherwise (codes "fun") (λ e. absurd cc)) (otherwise (codes "rule") (λ e. absurd cc)) in
-    let is : IsCertifiedInput whole system d = record {
+    let input_is : IsCertifiedInput whole system d = record {
       short = short;
       forms = again.forms;
       are_forms = again.are_forms;
       next = length (as_list forms);
       problem = subst (λ fs. IsProblem whole fs system (length (as_list forms))) (sym again.behind) problem;
-      certificate = again.certificate;
+      certificate = is;
     } in
     let again_written : IsWritten reduces (pattern_system system) (core_of terms f) d = record {
       parts = v.written.parts;
@@ -79,7 +79,7 @@ written_accepted reduces formula f bytes system terms s text accepted input fits
       steps = v.written.steps;
       verdict = v.written.verdict;
     } in
-    Says f accepted system d is terms fits tt (record {
+    Says f accepted system d input_is terms fits tt (record {
       outcome = Certified c.verdict;
       has = IsInOrder-written reduces (pattern_system system) (core_of terms f) d again_written;
       owes = record { same_status = refl; same_text = refl };

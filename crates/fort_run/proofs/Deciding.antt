@@ -18,7 +18,7 @@ use Rattle.fort_logic.specs.Truth.{Assignment, IsGroundAssignment, GivesTerms, H
 use Rattle.fort_formulas.specs.KindView.{as_kind}
 use Rattle.fort_parts.specs.DecidedCores.{IsOverSystem, IsDecided}
 use Rattle.fort_parts.specs.PartColumns.{columns_of}
-use Rattle.fort_parts.specs.PartAnswers.{OfValue, OfTable, IsAnswerTo}
+use Rattle.fort_parts.specs.PartAnswers.{Answer, OfValue, OfTable, IsAnswerTo}
 use Rattle.fort_run.proofs.NamedColumns.{columns_of-core_of}
 use Rattle.fort_cores.proofs.SameCoreRoots.{IsMetBy-by_patterns}
 use Rattle.fort_run.proofs.TranslatedCores.{IsOverSystem-core_of}
@@ -33,7 +33,7 @@ use Rattle.fort_lockstep.specs.declared.dta.Dta.{Dta}
 use Rattle.fort_tables.specs.Tables.{listed_table}
 use Rattle.fort_answers.specs.Requests.{Text, Options}
 use Rattle.fort_run.specs.Certified.{IsTruth}
-use Rattle.fort_run.specs.Ready.{IsLawful, IsReady, IsDecidedBy}
+use Rattle.fort_run.specs.Ready.{IsLawful, IsReady, IsAnsweredBy, IsDecidedBy}
 use Rattle.fort_run.proofs.SomeParts.{some_parts}
 
 no_name : (n : ℕ) (x : Name) → slice_get [] n ≡ Some x → ⊥
@@ -65,17 +65,19 @@ passes system terms f options limit is =
       kind_is = is.kind parts.0 parts.1;
     }
 
-module _ (p : System) (lawful : IsLawful p) (f : Formula) (terms : List Tree) (last : Last)
-    (decided : IsDecidedBy f (pattern_system p) terms last) where
+module _ (p : System) (lawful : IsLawful p) (f : Formula) (terms : List Tree) (answer : Answer)
+    (answered : IsAnsweredBy f (pattern_system p) terms answer) where
   -- the formula of names is true of the trees of which the core formula is
   pub same_truth : (m : Assignment) (v : Places) → IsGroundAssignment (structure_of p) m → GivesTerms terms m → AreTheirPlaces f m v
       → Holds (structure_of p) f m ↔ IsMetBy (pattern_structure (pattern_system p)) (core_of terms f) v
   same_truth m v ground given places =
-      let suits : SuitsTerminations p f m = λ index c. ((IsRightGroundAt-patterns p index).1 (decided.ready.right_ground index c), ground) in
-      let one = decided.keeps p lawful.constant decided.ready.grounded m v suits given places in
+      let suits : SuitsTerminations p f m = λ index c. ((IsRightGroundAt-patterns p index).1 (answered.ready.right_ground index c), ground) in
+      let one = answered.keeps p lawful.constant answered.ready.grounded m v suits given places in
       let two = IsMetBy-by_patterns p lawful.constant lawful.separated (core_of terms f) v in
       ((λ h. two.0 (one.0 h)), (λ h. one.1 (two.1 h)))
 
+module _ (p : System) (lawful : IsLawful p) (f : Formula) (terms : List Tree) (last : Last)
+    (decided : IsDecidedBy f (pattern_system p) terms last) where
   -- the core formula of a closed formula is true of any trees, or of none
   module _ (closed : free_names f ≡ []) (b : Bool) (is : last ≡ Value b) where
     their_places : (m : Assignment) → AreTheirPlaces f m (λ n. m (Var []))
@@ -85,9 +87,9 @@ module _ (p : System) (lawful : IsLawful p) (f : Formula) (terms : List Tree) (l
     says m ground given =
         let v : Places = λ n. m (Var []) in
         let own : IsAnswerTo (pattern_structure (pattern_system p)) (core_of terms f) (OfValue b) =
-        subst (λ a. IsAnswerTo (pattern_structure (pattern_system p)) (core_of terms f) (as_answer a)) is decided.answer in
+        subst (λ a. IsAnswerTo (pattern_structure (pattern_system p)) (core_of terms f) (as_answer a)) is decided.answers in
         let d = own.truth v (λ n. ground (Var [])) in
-        let t = same_truth m v ground given (their_places m) in
+        let t = same_truth p lawful f terms (as_answer last) decided m v ground given (their_places m) in
         ((λ e. t.1 (d.0 e)), (λ h. d.1 (t.0 h)))
 
     pub true_verdict : (s : ℕ) (t : Text) → b ≡ true → s ≡ positive → t ≡ yes_line → TruthVerdict p terms f s t
@@ -110,6 +112,6 @@ pub no_table : (f : Formula) (system : PatternSystem) (terms : List Tree) (last 
     → IsDecidedBy f system terms last → ⊥
 no_table f system terms last table is closed decided =
     let own : IsAnswerTo (pattern_structure system) (core_of terms f) (OfTable (listed_table table)) =
-    subst (λ a. IsAnswerTo (pattern_structure system) (core_of terms f) (as_answer a)) is decided.answer in
+    subst (λ a. IsAnswerTo (pattern_structure system) (core_of terms f) (as_answer a)) is decided.answers in
     let none : length (columns_of (core_of terms f)) ≡ 0 = ap length (closed_columns terms f closed) in
     omega (arith, own.over.some)

@@ -16,11 +16,14 @@ use Rattle.fort_certificate_grammar.specs.Certificates.{Certificate}
 use Rattle.fort_certificate_grammar.specs.CertificateForms.{IsCertificate}
 use Rattle.fort_certificate_grammar.specs.CertificateFaults as grammar
 use Rattle.fort_certificate_grammar.specs.CertificateFaults.{IsFirstCertificateFault}
+use Rattle.fort_open_certificates.specs.OpenCertificates.{OpenCertificate}
+use Rattle.fort_open_certificates.specs.OpenForms.{IsOpenCertificate}
+use Rattle.fort_open_certificates.specs.OpenFaults.{IsFirstOpenFault}
 use Rattle.fort_certificate.specs.declared.fault.CertificateFault.{CertificateFault}
 use Rattle.fort_certificate.specs.Faults as certificates
 use Rattle.fort_answers.specs.Requests.{Text}
 use Rattle.fort_answers.specs.Lines.{problem_fault_line, certificate_fault_line}
-use Rattle.fort_answers.specs.InputAnswer.{input_limit, Tail, Nothing, ACertificate, IsInput, IsCertifiedInput, IsInputRefused, NoForms, NoProblem, BadTail}
+use Rattle.fort_answers.specs.InputAnswer.{input_limit, Tail, Nothing, ACertificate, AnOpenCertificate, IsInput, IsCertifiedInput, IsOpenCertifiedInput, IsInputRefused, NoForms, NoProblem, BadTail}
 use Rattle.fort_run.specs.Refusals.{SaysTextFault, SaysProblemFault, SaysCertificateFault}
 
 -- the forms of a text, counted
@@ -78,6 +81,15 @@ module _ (bytes : Text) (forms : Forms) (short : length bytes ≤ input_limit) (
         → IsInputRefused ACertificate bytes line
     certificate_refused fault line first says = certificate_at_fault (certificates.as_fault fault) line first says
 
+    open_at_fault : (fault : Option grammar.CertificateFault) (line : Text) → IfSome fault (IsFirstOpenFault bytes (as_list forms) next)
+        → MatchOption fault ⊥ (λ x. line ≡ certificate_fault_line x) → IsInputRefused AnOpenCertificate bytes line
+    open_at_fault None line first says = absurd says
+    open_at_fault (Some x) line first says = BadTail short forms are system next problem (x, first, says)
+
+    pub open_certificate_refused : (fault : CertificateFault) (line : Text) → IfSome (certificates.as_fault fault) (IsFirstOpenFault bytes (as_list forms) next)
+        → SaysCertificateFault fault line → IsInputRefused AnOpenCertificate bytes line
+    open_certificate_refused fault line first says = open_at_fault (certificates.as_fault fault) line first says
+
     -- a problem that ends with its text
     pub nothing_behind : form_count forms ≤ next → IsInput bytes system
     nothing_behind end =
@@ -92,3 +104,6 @@ module _ (bytes : Text) (forms : Forms) (short : length bytes ≤ input_limit) (
 
     pub certificate_behind : (c : Certificate) → IsCertificate bytes (length system.rules) (as_list forms) next c → IsCertifiedInput bytes system c
     certificate_behind c is = record { short = short; forms = forms; are_forms = are; next = next; problem = problem; certificate = is }
+
+    pub open_certificate_behind : (c : OpenCertificate) → IsOpenCertificate bytes (as_list forms) next c → IsOpenCertifiedInput bytes system c
+    open_certificate_behind c is = record { short = short; forms = forms; are_forms = are; next = next; problem = problem; certificate = is }

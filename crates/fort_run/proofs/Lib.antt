@@ -5,6 +5,10 @@ pub mod Told
 pub mod LineReplies
 pub mod LongerTexts
 pub mod CertificateAccepted
+pub mod PlacesWritten
+pub mod DecidedInputs
+pub mod SmallSteps
+pub mod OpenAccepted
 pub mod PrintedCertificates
 pub mod Replies
 pub mod Fitting
@@ -13,10 +17,14 @@ pub mod SomeParts
 pub mod Deciding
 pub mod PosedQuestions
 pub mod CheckOutcomes
+pub mod OpenTruths
+pub mod WrittenTerms
+pub mod ConfirmOutcomes
 pub mod Readiness
 pub mod OneAnswer
 pub mod WrittenReplies
 pub mod WitnessTruth
+pub mod TableWitnesses
 pub mod WitnessVerdicts
 pub mod SolutionVerdicts
 pub mod TermTexts

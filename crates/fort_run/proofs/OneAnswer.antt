@@ -8,9 +8,10 @@ use Rattle.fort_answers.specs.Lines.{negative, limited}
 use Rattle.fort_answers.specs.SystemAnswer.{KeepsCap}
 use Rattle.fort_answers.specs.Answer.{OwesTold, owed, Answer}
 use Rattle.fort_answers.proofs.PossibleRequests.{words_possible}
-use Rattle.fort_answer_laws.proofs.OneOwed.{owed-unique, owed_from_early, bytes_told, answered_low, checked_low}
+use Rattle.fort_answer_laws.proofs.OneOwed.{owed-unique, owed_from_early, bytes_told, answered_low, checked_low, confirmed_low}
 use Rattle.fort_run.specs.Answered.{Answers, OwesOnly, OwesOnlyEarly, IsDecidable, IsDecidableWithin}
 use Rattle.fort_run.specs.Certified.{IsCheckable}
+use Rattle.fort_run.specs.Confirmed.{IsConfirmable}
 
 -- where the bytes are known, no other answer is owed than the one that a run left
 pub Answers-only : (words : List Text) (bytes : Text) (old new : Option Text) (status : ℕ) → Answers words (Some bytes) old new status
@@ -47,4 +48,11 @@ module _ (words : List Text) (told old new : Option Text) (status : ℕ) (given 
       let at_bytes : OwesTold (request_of words) (Some is.bytes) status given.text =
       subst (λ o. OwesTold (request_of words) o status given.text) is.told_are given.owed in
       checked_low is.formula is.f is.bytes is.system is.certificate is.terms status given.text is.accepted is.input is.fits
+      (subst (λ r. owed r is.bytes status given.text) is.asked at_bytes)
+
+  pub Answers-confirmed : IsConfirmable words told → status ≤ negative
+  Answers-confirmed is =
+      let at_bytes : OwesTold (request_of words) (Some is.bytes) status given.text =
+      subst (λ o. OwesTold (request_of words) o status given.text) is.told_are given.owed in
+      confirmed_low is.formula is.f is.bytes is.system is.certificate is.terms status given.text is.accepted is.input is.fits
       (subst (λ r. owed r is.bytes status given.text) is.asked at_bytes)

@@ -1,7 +1,8 @@
 -- A question that is put to a core formula: what its answer, the certificate that is written for it, or its limit says to the question.
 use Rattle.std.specs.Prelude.{◌≡◌, ℕ, ◌<◌, Bool, List, map, length, Some, None}
 use Rattle.std.specs.List.{AllByRecursion}
-use Rattle.std.proofs.Common.{refl, sym, ap, subst, ◌∙◌, arith}
+use Rattle.std.proofs.Common.{refl, sym, ap, subst, ◌∙◌, arith, ⊎_elim}
+use Rattle.std.proofs.lemmas.Bool.{cases_lt}
 use Rattle.fort_theory.specs.Trees.{Tree}
 use Rattle.fort_theory.specs.Sides.{System}
 use Rattle.fort_theory.specs.Patterns.{PatternSystem, pattern_system}
@@ -13,7 +14,8 @@ use Rattle.fort_cores.specs.Parts.{IsClosed}
 use Rattle.fort_cores.specs.Structures.{pattern_structure}
 use Rattle.fort_logic.specs.Translation.{core_of}
 use Rattle.fort_logic.proofs.FreeNumbers.{core_of-free}
-use Rattle.fort_parts.specs.PartAnswers.{OfValue, IsAnswerTo}
+use Rattle.fort_parts.specs.PartColumns.{columns_of}
+use Rattle.fort_parts.specs.PartAnswers.{Answer, OfValue, IsAnswerTo}
 use Rattle.fort_certificate_grammar.specs.CertificateForms.{Version, version_for}
 use Rattle.fort_certificate_grammar.specs.CertificateText.{certificate_text, CanBeWritten}
 use Rattle.fort_certificate.specs.Again.{HasSmallNumbers}
@@ -24,7 +26,7 @@ use Rattle.fort_trace.specs.RecordedView.{as_certificate}
 use Rattle.fort_answers.specs.Requests.{Text, Options}
 use Rattle.fort_answers.specs.Lines.{positive}
 use Rattle.fort_answers.specs.CertificateAnswer.{CertificateVerdict}
-use Rattle.fort_answers.specs.FormulaAnswer.{Openness, Closed}
+use Rattle.fort_answers.specs.FormulaAnswer.{Openness, Closed, Open}
 use Rattle.fort_answers.specs.InputAnswer.{Behind}
 use Rattle.fort_answers.specs.SystemAnswer.{KeepsCap, KeepsCapOf}
 use Rattle.fort_engine.specs.declared.answer.EngineFault.{EngineFault}
@@ -40,20 +42,26 @@ use Rattle.fort_run.specs.Inputs.{IsInputOf}
 use Rattle.fort_run.specs.Questions.{openness_of, tail_of, options_of}
 use Rattle.fort_run.specs.Certified.{IsTruth}
 use Rattle.fort_run.specs.Posed.{IsPosed, Settles, SettlesCore}
-use Rattle.fort_run.specs.Ready.{IsLawful, IsDecidedBy}
+use Rattle.fort_run.specs.Ready.{IsLawful, IsAnsweredBy, IsDecidedBy}
 use Rattle.fort_run.specs.Verdicts.{IsTrueCertificate, VerdictOn, TellsFault, IsVerdict, Limits, Says}
 use Rattle.fort_run.proofs.Deciding.{is_truth}
 use Rattle.fort_run.proofs.Fitting.{number_is}
+use Rattle.fort_run.proofs.FormulaRefusals.{no_items}
+use Rattle.fort_run.proofs.TableWitnesses.{columns-names}
 use Rattle.fort_run.proofs.WrittenNumbers.{written_numbers}
 
 -- the answer to the core formula
-pub decided_by : (openness : Openness) (f : Formula) (system : PatternSystem) (terms : List Tree) (c : Core) (last : Last) → IsPosed openness f system terms c
-    → IsAnswerTo (pattern_structure system) c (as_answer last) → IsDecidedBy f system terms last
-decided_by openness f system terms c last posed answer = record {
+pub answered_by : (openness : Openness) (f : Formula) (system : PatternSystem) (terms : List Tree) (c : Core) (answer : Answer)
+    → IsPosed openness f system terms c → IsAnswerTo (pattern_structure system) c answer → IsAnsweredBy f system terms answer
+answered_by openness f system terms c answer posed is = record {
   ready = posed.ready;
   keeps = subst (KeepsTruth terms f) posed.is posed.keeps;
-  answer = subst (λ k. IsAnswerTo (pattern_structure system) k (as_answer last)) posed.is answer;
+  answers = subst (λ k. IsAnswerTo (pattern_structure system) k answer) posed.is is;
 }
+
+pub decided_by : (openness : Openness) (f : Formula) (system : PatternSystem) (terms : List Tree) (c : Core) (last : Last) → IsPosed openness f system terms c
+    → IsAnswerTo (pattern_structure system) c (as_answer last) → IsDecidedBy f system terms last
+decided_by openness f system terms c last posed answer = answered_by openness f system terms c (as_answer last) posed answer
 
 -- no number is free in the core formula of a closed formula
 pub closed_core : (f : Formula) (system : PatternSystem) (terms : List Tree) (c : Core) → IsPosed Closed f system terms c → IsClosed c
@@ -62,6 +70,13 @@ closed_core f system terms c posed =
     let below : n < length (free_names f) = core_of-free terms f n free in
     let none : length (free_names f) ≡ 0 = ap length posed.taken in
     omega arith)
+
+-- some number is free in that of an open one
+pub open_columns : (f : Formula) (system : PatternSystem) (terms : List Tree) (c : Core) → IsPosed Open f system terms c → 0 < length (columns_of c)
+open_columns f system terms c posed =
+    let count : length (columns_of c) ≡ length (free_names f) = ap (λ g. length (columns_of g)) posed.is ∙ columns-names terms f in
+    ⊎_elim (λ (some : 0 < length (free_names f)). omega (arith, some, count))
+    (λ none. absurd (posed.taken (no_items (free_names f) (omega (arith, none))))) (cases_lt 0 (length (free_names f)))
 
 -- the value of the core formula is the formula's truth
 pub value_truth : (f : Formula) (system : PatternSystem) (terms : List Tree) (c : Core) → IsPosed Closed f system terms c → (p : System) → IsLawful p

@@ -24,7 +24,7 @@ use Rattle.fort_run.specs.Accepted.{IsRead}
 use Rattle.fort_run.specs.Ready.{IsReady, HaveFewRules}
 use Rattle.fort_run.proofs.Fitting.{number_is, signature_is}
 
-AreTermsOf-count : (signature : Signature) (gs : List Ground) (ts : List Tree) → AreTermsOf signature gs ts → length gs ≡ length ts
+pub AreTermsOf-count : (signature : Signature) (gs : List Ground) (ts : List Tree) → AreTermsOf signature gs ts → length gs ≡ length ts
 AreTermsOf-count signature [] [] are = refl
 AreTermsOf-count signature [] (t ∷ ts) are = absurd are
 AreTermsOf-count signature (g ∷ gs) [] are = absurd are

@@ -18,7 +18,7 @@ use Rattle.fort_answers.specs.CheckAnswer.{OwesOutcome}
 use Rattle.fort_answers.specs.Answer.{owed, needed}
 use Rattle.fort_formulas.specs.KindView.{as_kind}
 use Rattle.fort_run.specs.declared.question.Question.{Question}
-use Rattle.fort_run.specs.declared.question.Question.TheVariants.{Truth, Certificate, Terms, Check, Solutions}
+use Rattle.fort_run.specs.declared.question.Question.TheVariants.{Truth, Certificate, Terms, TermsCertificate, Check, Solutions, Confirm}
 use Rattle.fort_run.specs.declared.reply.Reply.{Reply}
 use Rattle.fort_run.specs.declared.refusal.Refusal.{Refusal}
 use Rattle.fort_run.specs.declared.refusal.Refusal.TheVariants as refusals
@@ -31,6 +31,7 @@ use Rattle.fort_run.specs.Replies.{SaysFor, IsReplyTo}
 use Rattle.fort_run.specs.Verdicts.{VerdictOn, IsVerdict, Limits, Says}
 use Rattle.fort_run.proofs.CertificateAccepted.{written_accepted}
 use Rattle.fort_run.proofs.Deciding.{passes}
+use Rattle.fort_run.proofs.OpenAccepted.{told_lines, open_accepted}
 use Rattle.fort_run.proofs.QuestionLaws.{owed_to, refused_needs_nothing, is_about, capped_input}
 
 pub are : (status : ℕ) (text : Text) → Are status text status text
@@ -89,8 +90,10 @@ said : (question : Question) (p : System) (behind : Behind (tail_of question)) (
 said (Truth options) p behind terms f s t verdict = verdict
 said (Certificate options) p behind terms f s t verdict = verdict.written
 said (Terms options) p behind terms f s t verdict = verdict
+said (TermsCertificate options) p behind terms f s t verdict = verdict.written
 said Check p behind terms f s t verdict = verdict.checked
 said (Solutions options bounds) p behind terms f s t verdict = verdict
+said Confirm p behind terms f s t verdict = verdict.checked
 
 module _ (text bytes : Text) (f : Formula) (accepted : IsAcceptedClosed text f) (p : System) (c : certificates.Certificate) (is : IsCertifiedInput bytes p c)
     (terms : List Tree) (fits : FitsSystem text f p terms) (line : Text) (owes : owed (Some (requests.Check text)) bytes positive line) where
@@ -129,9 +132,37 @@ module _ (text bytes : Text) (f : Formula) (p : System) (terms : List Tree) (fit
     again = λ short. written_accepted options.reduces text f bytes p terms positive t accepted is fits verdict.written short;
   }
   says_more (Terms options) behind accepted is verdict owes = tt
+  says_more (TermsCertificate options) behind accepted is verdict owes =
+      let c = verdict.written.certificate in
+      let told = told_lines p terms f c.claim c.nodes verdict.truth in
+      record {
+        f = f;
+        accepted = accepted;
+        system = p;
+        input = is;
+        terms = terms;
+        fits = fits;
+        claim = c.claim;
+        steps = c.steps;
+        nodes = c.nodes;
+        is = verdict.written.are.same_text;
+        lines = told.0;
+        says = told.1;
+        again = λ short. open_accepted options.reduces text f bytes p terms positive t accepted is fits verdict.written told.0 told.2 short;
+      }
   says_more Check behind accepted is verdict owes =
       certified text bytes f accepted p behind is terms fits t owes verdict.checked.outcome verdict.checked.owes verdict.truth
   says_more (Solutions options bounds) behind accepted is verdict owes = tt
+  says_more Confirm behind accepted is verdict owes = record {
+    is_owed = owes;
+    f = f;
+    accepted = accepted;
+    system = p;
+    begins = record { forms = is.forms; are_forms = is.are_forms; next = is.next; problem = is.problem };
+    terms = terms;
+    fits = fits;
+    says = verdict.truth refl;
+  }
 
 -- the verdict on an input that has all that the formula speaks of
 pub verdict_replies : (question : Question) (text bytes : Text) (f : Formula) (p : System) (behind : Behind (tail_of question)) (terms : List Tree) (r : Reply)

@@ -5,7 +5,7 @@ use Rattle.std.proofs.lemmas.List.{length-map, get_or-map}
 use Rattle.std.proofs.lemmas.List.Elements.{All-nil, All-cons}
 use Rattle.std.proofs.lemmas.List.FromFn.{length-range_with_len}
 use Rattle.fort_theory.specs.Trees.{Tree, height}
-use Rattle.fort_theory.specs.Signatures.{Signature, IsGround}
+use Rattle.fort_theory.specs.Signatures.{Signature}
 use Rattle.fort_theory.specs.Sides.{System}
 use Rattle.fort_theory.specs.Patterns.{PatternSystem, pattern_system}
 use Rattle.fort_logic.specs.Formulas.{Formula}
@@ -22,27 +22,27 @@ use Rattle.fort_order.specs.FirstInOrder.{AreFirstInOrder}
 use Rattle.fort_order.specs.Solutions.{IsSolution}
 use Rattle.fort_order.proofs.FirstLaws.{AreFirstInOrder-mapped}
 use Rattle.fort_witness.specs.Answers.{AreSolutions}
-use Rattle.fort_parts.specs.PartAnswers.{OfValue, OfTable, IsAnswerTo, said}
+use Rattle.fort_parts.specs.PartAnswers.{OfValue, OfTable, IsAnswerTo}
 use Rattle.fort_answers.specs.Lines.{positive, negative}
 use Rattle.fort_answers.specs.Requests.{Text, Bounds}
 use Rattle.fort_answers.specs.SolutionsAnswer.{AreSolutionTerms, TermsBefore, SolutionsVerdict, count_line, solution_lines, status_of}
 use Rattle.fort_engine.specs.declared.answer.Last.{Last}
 use Rattle.fort_engine.specs.declared.answer.Last.TheVariants.{Truth as Value, Auto}
 use Rattle.fort_engine.specs.AnswerView.{as_answer, HasStatesWithin}
-use Rattle.fort_run.specs.Ready.{IsLawful, IsDecidedBy}
+use Rattle.fort_run.specs.Ready.{IsLawful, IsAnsweredBy, IsDecidedBy}
 use Rattle.fort_run.specs.Witnesses.{AreTermsAt, AreAllTermsAt}
 use Rattle.fort_run.proofs.NamedColumns.{columns_of-core_of}
 use Rattle.fort_answer_laws.proofs.TermTuples.{full-terms, terms_in, terms-one}
 use Rattle.fort_run.proofs.FormulaRefusals.{no_items}
-use Rattle.fort_run.proofs.WitnessTruth.{witnesses-said}
-use Rattle.fort_run.proofs.WitnessVerdicts.{own-table, columns-count, accepted, tuple}
+use Rattle.fort_run.proofs.TableWitnesses.{table-columns, accepted, tuple, accepted-satisfy}
+use Rattle.fort_run.proofs.WitnessVerdicts.{of_table}
 
 -- an answer without columns is that of a closed formula
 pub value_closed : (f : Formula) (system : PatternSystem) (terms : List Tree) (last : Last) (b : Bool) → last ≡ Value b
     → IsDecidedBy f system terms last → free_names f ≡ []
 value_closed f system terms last b is decided =
     let own : IsAnswerTo (pattern_structure system) (core_of terms f) (OfValue b) =
-    subst (λ a. IsAnswerTo (pattern_structure system) (core_of terms f) (as_answer a)) is decided.answer in
+    subst (λ a. IsAnswerTo (pattern_structure system) (core_of terms f) (as_answer a)) is decided.answers in
     no_items (free_names f)
     (sym (ap length (columns_of-core_of terms f) ∙ length-range_with_len 0 (length (free_names f))) ∙ ap length own.over)
 
@@ -63,10 +63,6 @@ level-low (t ∷ ts) h low = All-cons (λ t. height t ≤ h) t ts (omega arith) 
 
 -- ---- lists of terms
 
-ground-columns : (sig : Signature) (ts : List Tree) → AreGroundColumns sig (map Some ts) → All (IsGround sig) ts
-ground-columns sig [] g = All-nil (IsGround sig)
-ground-columns sig (t ∷ ts) g = All-cons (IsGround sig) t ts g.0 (ground-columns sig ts g.1)
-
 -- the terms of full tuples
 all_terms_in : (sig : Signature) (us : List Tuple) → All (λ t. IsFull t × AreGroundColumns sig t) us
     → (tss : List (List Tree)) × (us ≡ map (map Some) tss)
@@ -84,11 +80,8 @@ module _ (f : Formula) (system : PatternSystem) (terms : List Tree) (last : Last
   abbrev found : List Tuple
   found = picked (tuples_of dag) nodes
 
-  own : IsAnswerTo (pattern_structure system) (core_of terms f) (OfTable (listed_table table))
-  own = subst (λ a. IsAnswerTo (pattern_structure system) (core_of terms f) (as_answer a)) is decided.answer
-
-  columns : (listed_table table).columns ≡ length (free_names f)
-  columns = own.over.columns_are ∙ (ap length (columns_of-core_of terms f) ∙ length-range_with_len 0 (length (free_names f)))
+  own : IsAnsweredBy f system terms (OfTable (listed_table table))
+  own = of_table f system terms last table is decided
 
   found-count : length found ≡ length nodes
   found-count = length-map nodes (λ q. get_or (tuples_of dag) q [])
@@ -101,7 +94,8 @@ module _ (f : Formula) (system : PatternSystem) (terms : List Tree) (last : Last
     terms_at k l =
         let at : get_or found k [] ≡ map Some (get_or tss k []) =
         ap (λ us. get_or us k []) are ∙ get_or-map (map Some) tss k [] [] (omega (arith, same-count)) in
-        let own-nodes = subst (λ s. AreNodes s (listed_table table).columns dag) own.over.signature w.are in
+        let own-nodes = subst (λ s. AreNodes s (listed_table table).columns dag) own.answers.over.signature w.are in
+        let columns = table-columns f system terms (listed_table table) own in
         let width = (w.first.are k [] (omega (arith, found-count))).tuple.width in
         record {
           are = subst (λ n. AreNodes system.signature n dag) columns own-nodes;
@@ -136,6 +130,9 @@ status_by tss n s e (inr (some, is)) = is ∙ sym (status-some tss (λ z. some (
 
 module _ (p : System) (lawful : IsLawful p) (f : Formula) (terms : List Tree) (last : Last)
     (decided : IsDecidedBy f (pattern_system p) terms last) (table : Dta) (is : last ≡ Auto table) where
+  answered : IsAnsweredBy f (pattern_system p) terms (OfTable (listed_table table))
+  answered = of_table f (pattern_system p) terms last table is decided
+
   abbrev Solves : ℕ → Tuple → Type 0
   Solves height = IsSolution (listed_table table).signature (listed_table table).columns (Accepted (listed_table table)) height
 
@@ -145,19 +142,17 @@ module _ (p : System) (lawful : IsLawful p) (f : Formula) (terms : List Tree) (l
 
     to : (ts : List Tree) → AreLow ts → Solves height (map Some ts)
     to ts low = record {
-      tuple = tuple p lawful f terms last decided table is ts low.are;
+      tuple = tuple p lawful f terms (listed_table table) answered ts low.are;
       full = full-terms ts;
-      holds = accepted p lawful f terms last decided table is ts low.are;
+      holds = accepted p lawful f terms (listed_table table) answered ts low.are;
       low = low-level ts height low.low;
     }
 
     from : (ts : List Tree) → Solves height (map Some ts) → AreLow ts
-    from ts s =
-        let same = (own-table p lawful f terms last decided table is).over.signature in
-        let count = sym (length-map ts Some) ∙ (s.tuple.width ∙ columns-count p lawful f terms last decided table is) in
-        let ground = subst (λ g. All (IsGround g) ts) same (ground-columns (listed_table table).signature ts s.tuple.grounded) in
-        let holds = ap (λ a. said (as_answer a) (map Some ts)) is ∙ s.holds in
-        record { are = witnesses-said p lawful f terms last decided ts count ground holds; low = level-low ts height s.low }
+    from ts s = record {
+      are = accepted-satisfy p lawful f terms (listed_table table) answered ts s.tuple s.holds;
+      low = level-low ts height s.low;
+    }
 
     onto : (t : Tuple) → Solves height t → (ts : List Tree) × (t ≡ map Some ts)
     onto t s = let one = terms_in (listed_table table).signature t s.full s.tuple.grounded in (one.0, one.2)

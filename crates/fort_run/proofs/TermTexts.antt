@@ -8,7 +8,7 @@ use Rattle.fort_logic.specs.Formulas.{Name}
 use Rattle.fort_tables.specs.Entries.{Entry}
 use Rattle.fort_order.specs.TermText.{term_text}
 use Rattle.fort_witness.specs.Texts.{term_at, column_text, text_at}
-use Rattle.fort_answers.specs.Lines.{line, witness_line}
+use Rattle.fort_answers.specs.Lines.{line}
 use Rattle.fort_answers.specs.Requests.{Text}
 use Rattle.fort_answers.specs.WitnessAnswer.{binding, bindings}
 use Rattle.fort_answers.specs.SolutionsAnswer.{count_line, solution_text, solution_lines}
@@ -50,20 +50,20 @@ bindings-more sig (x ∷ xs) (t ∷ ts) (suc k) d l len =
     ∙ sym (append_assoc own (bindings sig (take k xs) (take k ts)) (line (binding sig (get_or xs k []) (get_or ts k d))))
 
 -- the line of one name is appended
-pub bindings-line : (sig : Signature) (names : List Name) (ts : List Tree) (k : ℕ) (d : Tree) (t0 t1 t2 name : Text)
-    → k < length names → length ts ≡ length names → t0 ≡ witness_line ++ bindings sig (take k names) (take k ts)
+pub bindings-line : (sig : Signature) (names : List Name) (ts : List Tree) (k : ℕ) (d : Tree) (first t0 t1 t2 name : Text)
+    → k < length names → length ts ≡ length names → t0 ≡ first ++ bindings sig (take k names) (take k ts)
     → name ≡ get_or names k [] → t1 ≡ t0 ++ binding sig name (get_or ts k d) → t2 ≡ t1 ++ 10 ∷ []
-    → t2 ≡ witness_line ++ bindings sig (take (k + 1) names) (take (k + 1) ts)
-bindings-line sig names ts k d t0 t1 t2 name low count e0 en e1 e2 =
+    → t2 ≡ first ++ bindings sig (take (k + 1) names) (take (k + 1) ts)
+bindings-line sig names ts k d first t0 t1 t2 name low count e0 en e1 e2 =
     let t = get_or ts k d in
     let old = bindings sig (take k names) (take k ts) in
     let own = binding sig (get_or names k []) t in
     let next : suc k ≡ k + 1 = omega arith in
     let more = bindings-more sig names ts k d low count in
     e2 ∙ ap (λ w. w ++ 10 ∷ []) (e1 ∙ (λ i. e0 i ++ binding sig (en i) t))
-    ∙ (append_assoc (witness_line ++ old) own (10 ∷ [])
-    ∙ (append_assoc witness_line old (line own)
-    ∙ ap (λ w. witness_line ++ w) (sym more ∙ ap (λ n. bindings sig (take n names) (take n ts)) next)))
+    ∙ (append_assoc (first ++ old) own (10 ∷ [])
+    ∙ (append_assoc first old (line own)
+    ∙ ap (λ w. first ++ w) (sym more ∙ ap (λ n. bindings sig (take n names) (take n ts)) next)))
 
 -- ---- the line of a solution
 

@@ -19,13 +19,11 @@ use Rattle.fort_logic.specs.Translation.{number_in, core_of}
 use Rattle.fort_logic.specs.Truth.{Assignment, IsGroundAssignment, GivesTerms}
 use Rattle.fort_atom_labels.specs.AssignedTuples.{tuple_of}
 use Rattle.fort_parts.specs.PartColumns.{columns_of}
-use Rattle.fort_parts.specs.PartAnswers.{said, AreGround}
+use Rattle.fort_parts.specs.PartAnswers.{Answer, said, AreGround}
 use Rattle.fort_run.proofs.NamedColumns.{columns_of-core_of, number_of_name}
 use Rattle.fort_answers.specs.WitnessAnswer.{AreWitnesses}
 use Rattle.fort_answer_laws.proofs.TermTuples.{witnesses-count, witnesses-ground}
-use Rattle.fort_engine.specs.declared.answer.Last.{Last}
-use Rattle.fort_engine.specs.AnswerView.{as_answer}
-use Rattle.fort_run.specs.Ready.{IsLawful, IsDecidedBy}
+use Rattle.fort_run.specs.Ready.{IsLawful, IsAnsweredBy}
 use Rattle.fort_run.proofs.Deciding.{same_truth}
 
 -- an element of a list, or a default, where P holds of both
@@ -40,8 +38,8 @@ abbrev assigned : List Tree → List Tree → List Name → Tree → Assignment
 assigned ts terms names d (Var x) = get_or ts (number_in (reverse names) x) d
 assigned ts terms names d (Ground k) = get_or terms k d
 
-module _ (p : System) (lawful : IsLawful p) (f : Formula) (terms : List Tree) (last : Last)
-    (decided : IsDecidedBy f (pattern_system p) terms last) where
+module _ (p : System) (lawful : IsLawful p) (f : Formula) (terms : List Tree) (answer : Answer)
+    (answered : IsAnsweredBy f (pattern_system p) terms answer) where
   abbrev d : Tree
   d = Node lawful.constant.0 Nil
 
@@ -56,7 +54,7 @@ module _ (p : System) (lawful : IsLawful p) (f : Formula) (terms : List Tree) (l
 
   assigned-ground : (ts : List Tree) → All (IsGround p.signature) ts → IsGroundAssignment (structure_of p) (assigned ts terms (free_names f) d)
   assigned-ground ts all (Var x) = at_or (IsGround p.signature) ts (number_in (reverse (free_names f)) x) d all d-ground
-  assigned-ground ts all (Ground k) = at_or (IsGround p.signature) terms k d decided.ready.grounded d-ground
+  assigned-ground ts all (Ground k) = at_or (IsGround p.signature) terms k d answered.ready.grounded d-ground
 
   tuple-terms : (ts : List Tree) → length ts ≡ length (free_names f) → tuple_of (place ts) (columns_of (core_of terms f)) ≡ map Some ts
   tuple-terms ts len =
@@ -66,13 +64,13 @@ module _ (p : System) (lawful : IsLawful p) (f : Formula) (terms : List Tree) (l
 
   -- what the answer says of the terms
   decides : (ts : List Tree) → length ts ≡ length (free_names f) → All (IsGround p.signature) ts
-      → Decides (said (as_answer last) (map Some ts)) (IsMetBy (pattern_structure (pattern_system p)) (core_of terms f) (place ts))
+      → Decides (said answer (map Some ts)) (IsMetBy (pattern_structure (pattern_system p)) (core_of terms f) (place ts))
   decides ts len all =
-      subst (λ t. Decides (said (as_answer last) t) (IsMetBy (pattern_structure (pattern_system p)) (core_of terms f) (place ts))) (tuple-terms ts len)
-      (decided.answer.truth (place ts) (place-ground ts all))
+      subst (λ t. Decides (said answer t) (IsMetBy (pattern_structure (pattern_system p)) (core_of terms f) (place ts))) (tuple-terms ts len)
+      (answered.answers.truth (place ts) (place-ground ts all))
 
   -- Result
-  pub said-witnesses : (ts : List Tree) → AreWitnesses p terms f ts → said (as_answer last) (map Some ts) ≡ true
+  pub said-witnesses : (ts : List Tree) → AreWitnesses p terms f ts → said answer (map Some ts) ≡ true
   said-witnesses ts are =
       let m = are.assignment in
       let places : AreTheirPlaces f m (place ts) =
@@ -81,10 +79,10 @@ module _ (p : System) (lawful : IsLawful p) (f : Formula) (terms : List Tree) (l
       ap (λ us. get_or us n d) are.are
       ∙ (get_or-map (λ y. m (Var y)) (free_names f) n [] d l ∙ ap (λ y. m (Var y)) (get_or_from_slice_get (free_names f) n x [] at)) in
       (decides ts (witnesses-count p terms f ts are) (witnesses-ground p terms f ts are)).1
-      ((same_truth p lawful f terms last decided m (place ts) are.grounded are.given places).0 are.holds)
+      ((same_truth p lawful f terms answer answered m (place ts) are.grounded are.given places).0 are.holds)
 
   -- Result
-  pub witnesses-said : (ts : List Tree) → length ts ≡ length (free_names f) → All (IsGround p.signature) ts → said (as_answer last) (map Some ts) ≡ true
+  pub witnesses-said : (ts : List Tree) → length ts ≡ length (free_names f) → All (IsGround p.signature) ts → said answer (map Some ts) ≡ true
       → AreWitnesses p terms f ts
   witnesses-said ts len all e =
       let m = assigned ts terms (free_names f) d in
@@ -94,7 +92,7 @@ module _ (p : System) (lawful : IsLawful p) (f : Formula) (terms : List Tree) (l
         assignment = m;
         grounded = assigned-ground ts all;
         given = given;
-        holds = (same_truth p lawful f terms last decided m (place ts) (assigned-ground ts all) given places).1 ((decides ts len all).0 e);
+        holds = (same_truth p lawful f terms answer answered m (place ts) (assigned-ground ts all) given places).1 ((decides ts len all).0 e);
         are =
             ext_get_or d ts (map (λ x. m (Var x)) (free_names f)) (len ∙ sym (length-map (free_names f) (λ x. m (Var x))))
             (λ k l.

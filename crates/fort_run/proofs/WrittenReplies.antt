@@ -2,7 +2,7 @@
 use Rattle.std.proofs.Common.{◌≡◌, ◌⊎◌, ℕ, ◌≤◌, true, List, ◌++◌, inl, inr, sym, subst, ◌∙◌}
 use Rattle.std.specs.Prelude.{◌↔◌, Option, None, Some, IfSome, IsSome}
 use Rattle.fort_io.specs.Devices.{Takes}
-use Rattle.fort_answers.specs.Requests.{Text, Request, Options, Decide, Check}
+use Rattle.fort_answers.specs.Requests.{Text, Request, Options, Decide, Witness, Check, Confirm}
 use Rattle.fort_answers.specs.CommandGrammar.{request_of}
 use Rattle.fort_answers.specs.Lines.{negative, positive, limited, last_answer, out_of_memory}
 use Rattle.fort_answers.specs.Answer.{OwesTold, owed}
@@ -11,6 +11,7 @@ use Rattle.fort_run.specs.declared.reply.Reply.{Reply}
 use Rattle.fort_run.specs.StatusView.{code_of}
 use Rattle.fort_run.specs.Answered.{Answers, CutsShort}
 use Rattle.fort_run.specs.Certified.{CertifiesTruth, PrintsTruth}
+use Rattle.fort_run.specs.Confirmed.{ConfirmsTerms, PrintsTerms}
 use Rattle.fort_run.specs.Limits.{HasLimit, IsLimitOf}
 use Rattle.fort_run.specs.Replies.{SaysFor, IsReplyTold}
 
@@ -54,6 +55,21 @@ module _ (words : List Text) (told old new : Option Text) (r : Reply) (is : IsRe
     prints options formula asked e = record {
       text = r.text.items;
       printed = record { bytes = is.bytes; told_are = is.told_are; holds = says (Some (Decide options true formula)) asked e };
+      taken = subst (Takes old new) text_is taken;
+    }
+
+    pub confirms : (formula : Text) → request_of words ≡ Some (Confirm formula) → status ≡ positive → ConfirmsTerms formula told old new
+    confirms formula asked e = record {
+      text = r.text.items;
+      confirmed = record { bytes = is.bytes; told_are = is.told_are; holds = says (Some (Confirm formula)) asked e };
+      taken = subst (Takes old new) text_is taken;
+    }
+
+    pub prints_terms : (options : Options) (formula : Text) → request_of words ≡ Some (Witness options true formula) → status ≡ positive
+        → PrintsTerms formula told old new
+    prints_terms options formula asked e = record {
+      text = r.text.items;
+      printed = record { bytes = is.bytes; told_are = is.told_are; holds = says (Some (Witness options true formula)) asked e };
       taken = subst (Takes old new) text_is taken;
     }
 

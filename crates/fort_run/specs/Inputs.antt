@@ -3,7 +3,8 @@ use Rattle.std.specs.Prelude.{◌≡◌, List, ℕ}
 use Rattle.fort_theory.specs.Sides.{System}
 use Rattle.fort_theory.specs.Patterns.{pattern_system}
 use Rattle.fort_steps.specs.CertificateView.{as_certificate}
-use Rattle.fort_answers.specs.InputAnswer.{Tail, Behind, Nothing, ACertificate, IsInputWith}
+use Rattle.fort_open_steps.specs.OpenView.{as_open}
+use Rattle.fort_answers.specs.InputAnswer.{Tail, Behind, Nothing, ACertificate, AnOpenCertificate, IsInputWith}
 use Rattle.fort_run.specs.declared.input.Behind.{Behind as OwnBehind}
 use Rattle.fort_run.specs.declared.input.Behind.TheVariants as own
 use Rattle.fort_run.specs.declared.input.Input.{Input}
@@ -12,8 +13,13 @@ use Rattle.fort_run.specs.declared.input.Input.{Input}
 abbrev pub IsBehind : (tail : Tail) → OwnBehind → Behind tail → Type 0
 IsBehind Nothing own.Nothing behind = Unit {0}
 IsBehind Nothing (own.Certificate c) behind = ⊥
+IsBehind Nothing (own.OpenCertificate c) behind = ⊥
 IsBehind ACertificate own.Nothing behind = ⊥
 IsBehind ACertificate (own.Certificate c) behind = as_certificate c ≡ behind
+IsBehind ACertificate (own.OpenCertificate c) behind = ⊥
+IsBehind AnOpenCertificate own.Nothing behind = ⊥
+IsBehind AnOpenCertificate (own.Certificate c) behind = ⊥
+IsBehind AnOpenCertificate (own.OpenCertificate c) behind = as_open c ≡ behind
 
 -- the bytes are the system with that behind it
 pub record IsReadBehind (tail : Tail) (bytes : List ℕ) (system : System) (read : OwnBehind) : Type 0 where

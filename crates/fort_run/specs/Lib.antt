@@ -6,6 +6,8 @@ pub mod Refusals
 pub mod Accepted
 pub mod Limits
 pub mod Certified
+pub mod Confirmed
+pub mod OpenTexts
 pub mod Replies
 pub mod Ready
 pub mod Verdicts

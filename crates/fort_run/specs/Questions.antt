@@ -17,10 +17,12 @@ use Rattle.fort_answers.specs.CertificateAnswer.{CertificateVerdict}
 use Rattle.fort_answers.specs.WitnessAnswer.{WitnessVerdict}
 use Rattle.fort_answers.specs.CheckAnswer.{CheckVerdict}
 use Rattle.fort_answers.specs.SolutionsAnswer.{SolutionsVerdict}
+use Rattle.fort_answers.specs.OpenCertificateAnswer.{OpenCertificateVerdict}
+use Rattle.fort_answers.specs.ConfirmAnswer.{ConfirmVerdict}
 use Rattle.fort_run.specs.declared.question.Openness.{Openness as OwnOpenness}
 use Rattle.fort_run.specs.declared.question.Openness.TheVariants as openness
 use Rattle.fort_run.specs.declared.question.Question.{Question}
-use Rattle.fort_run.specs.declared.question.Question.TheVariants.{Truth, Certificate, Terms, Check, Solutions}
+use Rattle.fort_run.specs.declared.question.Question.TheVariants.{Truth, Certificate, Terms, TermsCertificate, Check, Solutions, Confirm}
 use Rattle.fort_run.specs.declared.question.Tail.{Tail as OwnTail}
 use Rattle.fort_run.specs.declared.question.Tail.TheVariants as tail
 
@@ -32,21 +34,26 @@ as_openness openness.Open = formulas.Open
 abbrev pub as_tail : OwnTail → Tail
 as_tail tail.Nothing = inputs.Nothing
 as_tail tail.Certificate = inputs.ACertificate
+as_tail tail.OpenCertificate = inputs.AnOpenCertificate
 
 abbrev pub request_for : Question → (formula : Text) → Request
 request_for (Truth options) formula = Decide (as_options options) false formula
 request_for (Certificate options) formula = Decide (as_options options) true formula
-request_for (Terms options) formula = Witness (as_options options) formula
+request_for (Terms options) formula = Witness (as_options options) false formula
+request_for (TermsCertificate options) formula = Witness (as_options options) true formula
 request_for Check formula = requests.Check formula
 request_for (Solutions options bounds) formula = requests.Solutions (as_options options) (as_bounds bounds) formula
+request_for Confirm formula = requests.Confirm formula
 
 -- what a question that words ask keeps
 abbrev pub CanBePut : Question → Type 0
 CanBePut (Truth options) = Unit {0}
 CanBePut (Certificate options) = Unit {0}
 CanBePut (Terms options) = Unit {0}
+CanBePut (TermsCertificate options) = Unit {0}
 CanBePut Check = Unit {0}
 CanBePut (Solutions options bounds) = AreBoundsInRange (as_options options) (as_bounds bounds)
+CanBePut Confirm = Unit {0}
 
 -- what is owed to that request, which is proved
 
@@ -54,29 +61,37 @@ abbrev pub openness_of : Question → Openness
 openness_of (Truth options) = formulas.Closed
 openness_of (Certificate options) = formulas.Closed
 openness_of (Terms options) = formulas.Any
+openness_of (TermsCertificate options) = formulas.Open
 openness_of Check = formulas.Closed
 openness_of (Solutions options bounds) = formulas.Open
+openness_of Confirm = formulas.Open
 
 abbrev pub tail_of : Question → Tail
 tail_of (Truth options) = inputs.Nothing
 tail_of (Certificate options) = inputs.Nothing
 tail_of (Terms options) = inputs.Nothing
+tail_of (TermsCertificate options) = inputs.Nothing
 tail_of Check = inputs.ACertificate
 tail_of (Solutions options bounds) = inputs.Nothing
+tail_of Confirm = inputs.AnOpenCertificate
 
 abbrev pub options_of : Question → Option Options
 options_of (Truth options) = Some (as_options options)
 options_of (Certificate options) = Some (as_options options)
 options_of (Terms options) = Some (as_options options)
+options_of (TermsCertificate options) = Some (as_options options)
 options_of Check = None
 options_of (Solutions options bounds) = Some (as_options options)
+options_of Confirm = None
 
 abbrev pub says_of : (question : Question) → System → Behind (tail_of question) → List Tree → Formula → ℕ → Text → Type 0
 says_of (Truth options) system behind terms f status text = TruthVerdict system terms f status text
 says_of (Certificate options) system behind terms f status text = CertificateVerdict options.reduces system terms f status text
 says_of (Terms options) system behind terms f status text = WitnessVerdict system terms f status text
+says_of (TermsCertificate options) system behind terms f status text = OpenCertificateVerdict options.reduces system terms f status text
 says_of Check system behind terms f status text = CheckVerdict system behind terms f status text
 says_of (Solutions options bounds) system behind terms f status text = SolutionsVerdict (as_bounds bounds) system terms f status text
+says_of Confirm system behind terms f status text = ConfirmVerdict system behind terms f status text
 
 abbrev pub inquiry_of : Question → (formula : Text) → Inquiry
 inquiry_of question formula = record {

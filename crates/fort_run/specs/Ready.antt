@@ -13,7 +13,7 @@ use Rattle.fort_logic.specs.KeepsTruth.{KeepsTruth}
 use Rattle.fort_cores.specs.Structures.{pattern_structure}
 use Rattle.fort_formulas.specs.NumbersNeeded.{numbers_needed}
 use Rattle.fort_parts.specs.DecidedCores.{AreFewRules}
-use Rattle.fort_parts.specs.PartAnswers.{IsAnswerTo}
+use Rattle.fort_parts.specs.PartAnswers.{Answer, IsAnswerTo}
 use Rattle.fort_engine.specs.AnswerView.{as_answer}
 use Rattle.fort_engine.specs.declared.answer.Last.{Last}
 
@@ -38,7 +38,10 @@ pub record IsReady (f : Formula) (system : PatternSystem) (terms : List Tree) : 
   pub right_ground : AreAll (HasRightGroundPairsAt system) (terminations f)
 
 -- the answer to the core formula of a formula that is ready
-pub record IsDecidedBy (f : Formula) (system : PatternSystem) (terms : List Tree) (last : Last) : Type 0 where
+pub record IsAnsweredBy (f : Formula) (system : PatternSystem) (terms : List Tree) (answer : Answer) : Type 0 where
   pub ready : IsReady f system terms
   pub keeps : KeepsTruth terms f (core_of terms f)
-  pub answer : IsAnswerTo (pattern_structure system) (core_of terms f) (as_answer last)
+  pub answers : IsAnswerTo (pattern_structure system) (core_of terms f) answer
+
+abbrev pub IsDecidedBy : Formula → PatternSystem → List Tree → Last → Type 0
+IsDecidedBy f system terms last = IsAnsweredBy f system terms (as_answer last)

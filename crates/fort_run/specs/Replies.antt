@@ -1,6 +1,6 @@
 -- Inside: what a reply to a request is on the bytes of an input.
 use Rattle.std.specs.Prelude.{◌≡◌, true, false, Option, Some, None, IfSome}
-use Rattle.fort_answers.specs.Requests.{Text, Request, Decide, Witness, Check, Sample, Solutions}
+use Rattle.fort_answers.specs.Requests.{Text, Request, Decide, Witness, Check, Sample, Solutions, Confirm}
 use Rattle.fort_answers.specs.Lines.{positive}
 use Rattle.fort_answers.specs.Answer.{owed}
 use Rattle.fort_run.specs.declared.reply.Reply.{Reply}
@@ -8,16 +8,19 @@ use Rattle.fort_run.specs.StatusView.{code_of}
 use Rattle.fort_run.specs.Told.{HoldsForTold}
 use Rattle.fort_run.specs.Limits.{HasLimit}
 use Rattle.fort_run.specs.Certified.{IsCertified, IsPrinted}
+use Rattle.fort_run.specs.Confirmed.{IsConfirmed, IsPrintedTerms}
 
 -- what a text with status 0 says, beyond being owed
 abbrev pub SaysFor : Option Request → (bytes text : Text) → Type 0
 SaysFor None bytes text = Unit {0}
 SaysFor (Some (Decide options false formula)) bytes text = Unit {0}
 SaysFor (Some (Decide options true formula)) bytes text = IsPrinted options.reduces formula bytes text
-SaysFor (Some (Witness options formula)) bytes text = Unit {0}
+SaysFor (Some (Witness options false formula)) bytes text = Unit {0}
+SaysFor (Some (Witness options true formula)) bytes text = IsPrintedTerms formula bytes text
 SaysFor (Some (Check formula)) bytes text = IsCertified formula bytes text
 SaysFor (Some (Sample n)) bytes text = Unit {0}
 SaysFor (Some (Solutions options bounds formula)) bytes text = Unit {0}
+SaysFor (Some (Confirm formula)) bytes text = IsConfirmed formula bytes text
 
 -- the reply is owed for the bytes, says what it is to say, and its limit is the request's
 pub record IsReplyTo (request : Option Request) (bytes : Text) (reply : Reply) : Type 0 where

@@ -16,13 +16,17 @@ use Rattle.fort_answers.specs.CertificateAnswer.{CertificateVerdict}
 use Rattle.fort_answers.specs.WitnessAnswer.{WitnessVerdict}
 use Rattle.fort_answers.specs.CheckAnswer.{CheckVerdict}
 use Rattle.fort_answers.specs.SolutionsAnswer.{SolutionsVerdict}
+use Rattle.fort_answers.specs.OpenCertificateAnswer.{OpenCertificateVerdict}
+use Rattle.fort_answers.specs.ConfirmAnswer.{ConfirmVerdict}
+use Rattle.fort_open_certificates.specs.OpenCertificates.{OpenCertificate}
+use Rattle.fort_run.specs.Confirmed.{SaysTerms, TellsLeast}
 use Rattle.fort_words.specs.RequestView.{as_bounds}
 use Rattle.fort_engine.specs.AnswerView.{IsLimit}
 use Rattle.fort_engine.specs.declared.answer.Limit.{Limit}
 use Rattle.fort_engine.specs.declared.answer.EngineFault.{EngineFault}
 use Rattle.fort_engine.specs.declared.answer.EngineFault.TheVariants.{Memory, Over}
 use Rattle.fort_run.specs.declared.question.Question.{Question}
-use Rattle.fort_run.specs.declared.question.Question.TheVariants.{Truth, Terms, Certificate, Check, Solutions}
+use Rattle.fort_run.specs.declared.question.Question.TheVariants.{Truth, Terms, TermsCertificate, Certificate, Check, Solutions, Confirm}
 use Rattle.fort_run.specs.declared.reply.Reply.{Reply}
 use Rattle.fort_run.specs.StatusView.{code_of}
 use Rattle.fort_run.specs.Questions.{tail_of, options_of}
@@ -39,12 +43,24 @@ pub record IsTrueOutcome (system : System) (c : certificates.Certificate) (terms
   pub checked : CheckVerdict system c terms f status text
   pub truth : (verdict : Bool) → checked.outcome ≡ Certified verdict → IsTruth verdict system terms f
 
+-- the certificate of terms that is written, and its claim is right
+pub record IsTrueOpenCertificate (reduces : Bool) (system : System) (terms : List Tree) (f : Formula) (status : ℕ) (text : Text) : Type 0 where
+  pub written : OpenCertificateVerdict reduces system terms f status text
+  pub truth : TellsLeast system terms f written.certificate.claim written.certificate.nodes
+
+-- what comes of a certificate of terms, and what is confirmed is right
+pub record IsTrueOpenOutcome (system : System) (c : OpenCertificate) (terms : List Tree) (f : Formula) (code : ℕ) (text : Text) : Type 0 where
+  pub checked : ConfirmVerdict system c terms f code text
+  pub truth : code ≡ status.positive → SaysTerms system terms f text
+
 abbrev pub VerdictOn : (question : Question) → System → Behind (tail_of question) → List Tree → Formula → ℕ → Text → Type 0
 VerdictOn (Truth options) system behind terms f status text = TruthVerdict system terms f status text
 VerdictOn (Terms options) system behind terms f status text = WitnessVerdict system terms f status text
+VerdictOn (TermsCertificate options) system behind terms f status text = IsTrueOpenCertificate options.reduces system terms f status text
 VerdictOn (Certificate options) system behind terms f status text = IsTrueCertificate options.reduces system terms f status text
 VerdictOn Check system behind terms f status text = IsTrueOutcome system behind terms f status text
 VerdictOn (Solutions options bounds) system behind terms f status text = SolutionsVerdict (as_bounds bounds) system terms f status text
+VerdictOn Confirm system behind terms f status text = IsTrueOpenOutcome system behind terms f status text
 
 -- the reply has this limit and its line
 pub record TellsLimit (states : ℕ) (limit : Limit) (reply : Reply) : Type 0 where

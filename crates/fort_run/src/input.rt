@@ -13,6 +13,7 @@ ghost use Rattle.fort_run.specs.Refusals.{Refuses};
 use crate::question::Tail;
 use crate::refusal::{Refusal, certificate_line, form_line, problem_line};
 use fort_ari::{Problem, read_problem};
+use fort_open_steps::OpenCertificate;
 use fort_sexpr::Forms;
 use fort_steps::Certificate;
 use fort_terms::System;
@@ -30,6 +31,7 @@ pub struct Input {
 pub enum Behind {
     Nothing,
     Certificate(Certificate),
+    OpenCertificate(OpenCertificate),
 }
 
 /// What stands behind a problem, or the line that refuses it.
@@ -65,6 +67,10 @@ fn read_behind(
                 Err(fault) => Err(Refusal::Line(certificate_line(alloc, fault)?)),
             }
         }
+        Tail::OpenCertificate => match fort_certificate::read_open(alloc, forms, problem.next) {
+            Ok(certificate) => Ok(Behind::OpenCertificate(certificate)),
+            Err(fault) => Err(Refusal::Line(certificate_line(alloc, fault)?)),
+        },
     }
 }
 

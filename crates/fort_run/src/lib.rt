@@ -4,6 +4,7 @@
 mod accepted;
 mod ask;
 mod checked;
+mod confirmed;
 mod fit;
 mod input;
 mod limit;

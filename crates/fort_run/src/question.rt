@@ -13,10 +13,14 @@ pub enum Question {
     Certificate(Options),
     /// The least terms for its free variables that satisfy it.
     Terms(Options),
+    /// A certificate of these terms, or that there are none.
+    TermsCertificate(Options),
     /// Whether the certificate behind the problem proves it or its negation.
     Check,
     /// The first terms for its free variables that satisfy it.
     Solutions(Options, Bounds),
+    /// Whether the certificate behind the problem proves that some terms satisfy it, or that none do.
+    Confirm,
 }
 
 /// The formulas of which something is asked.
@@ -34,6 +38,8 @@ pub enum Openness {
 pub enum Tail {
     Nothing,
     Certificate,
+    /// A certificate of an open formula.
+    OpenCertificate,
 }
 
 impl Question {
@@ -43,7 +49,8 @@ impl Question {
         match self {
             Question::Truth(_) | Question::Certificate(_) | Question::Check => Openness::Closed,
             Question::Terms(_) => Openness::Any,
-            Question::Solutions(_, _) => Openness::Open,
+            Question::TermsCertificate(_) | Question::Solutions(_, _) | Question::Confirm =>
+                Openness::Open,
         }
     }
 
@@ -52,7 +59,9 @@ impl Question {
     {
         match self {
             Question::Truth(_) | Question::Certificate(_) => Tail::Nothing,
-            Question::Terms(_) | Question::Solutions(_, _) => Tail::Nothing,
+            Question::Terms(_) | Question::TermsCertificate(_) => Tail::Nothing,
+            Question::Solutions(_, _) => Tail::Nothing,
+            Question::Confirm => Tail::OpenCertificate,
             Question::Check => Tail::Certificate,
         }
     }

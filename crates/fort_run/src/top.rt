@@ -3,11 +3,12 @@ ghost use Rattle.std.specs.Prelude.{◌≡◌, ◌<◌, ◌≤◌, ◌⊎◌, �
 ghost use Rattle.fort_io.specs.Devices.{FaultCounted};
 ghost use Rattle.fort_words.specs.RequestView.{as_request};
 ghost use Rattle.fort_answers.specs.PossibleRequests.{CanBeAsked};
-ghost use Rattle.fort_answers.specs.Requests.{Text, Options, Decide, Check as CheckOf};
+ghost use Rattle.fort_answers.specs.Requests.{Text, Options, Decide, Witness, Check as CheckOf, Confirm as ConfirmOf};
 ghost use Rattle.fort_answers.specs.Answer.{Answer, AsksNothing, AsksSomething, needed};
 ghost use Rattle.fort_answers.specs.Lines.{last_answer, limited, negative, positive, out_of_memory, read_failed, write_failed};
 ghost use Rattle.fort_run.specs.Answered.{Answers, CutsShort, IsDecidable, IsDecidableWithin, OwesOnly, OwesOnlyEarly, ReadsWhole};
 ghost use Rattle.fort_run.specs.Certified.{CertifiesTruth, IsCheckable, PrintsTruth, IsAcceptedBehind};
+ghost use Rattle.fort_run.specs.Confirmed.{ConfirmsTerms, IsConfirmable, PrintsTerms, IsOpenAcceptedBehind};
 ghost use Rattle.fort_answers.specs.CommandGrammar.{request_of};
 ghost use Rattle.fort_run.specs.Limits.{IsLimitOf};
 ghost use Rattle.fort_run.specs.Replies.{IsReplyTold};
@@ -53,9 +54,16 @@ fn reply_to_request<S: Source>(
             certificate: true,
             formula,
         } => ask(alloc, Question::Certificate(options), formula, input),
-        Request::Witness { options, formula } => {
-            ask(alloc, Question::Terms(options), formula, input)
-        }
+        Request::Witness {
+            options,
+            certificate: false,
+            formula,
+        } => ask(alloc, Question::Terms(options), formula, input),
+        Request::Witness {
+            options,
+            certificate: true,
+            formula,
+        } => ask(alloc, Question::TermsCertificate(options), formula, input),
         Request::Check { formula } => ask(alloc, Question::Check, formula, input),
         Request::Sample { n } => Ok(sample(alloc, n)?),
         Request::Solutions {
@@ -63,6 +71,7 @@ fn reply_to_request<S: Source>(
             bounds,
             formula,
         } => ask(alloc, Question::Solutions(options, bounds), formula, input),
+        Request::Confirm { formula } => ask(alloc, Question::Confirm, formula, input),
     }
 }
 
@@ -119,6 +128,20 @@ pub fn run<S: Source, K: Sink>(
         → Answer (map string_bytes words.now) bytes positive text
         → IsAcceptedBehind formula bytes text }
 
+    // The same of terms that are found, or that there are none.
+    ensures confirmed { (formula : Text)
+        → request_of (map string_bytes words.now) ≡ Some (ConfirmOf formula)
+        → result.status ≡ positive → ConfirmsTerms formula
+        (S.rest input.old) (K.taken output.old) (K.taken output.new) }
+    ensures printed_terms { (options : Options) (formula : Text)
+        → request_of (map string_bytes words.now) ≡ Some (Witness options true formula)
+        → result.status ≡ positive → PrintsTerms formula
+        (S.rest input.old) (K.taken output.old) (K.taken output.new) }
+    ensures accepted_terms { (options : Options) (formula bytes text : Text)
+        → request_of (map string_bytes words.now) ≡ Some (Witness options true formula)
+        → Answer (map string_bytes words.now) bytes positive text
+        → IsOpenAcceptedBehind formula bytes text }
+
     // With 4, and with no other status, there is a limit: the part that is over the cap, and the tuples that show it.
     ensures limited { IsSome result.limit ↔ (result.status ≡ limited) }
     ensures limit { IfSome result.limit
@@ -146,7 +169,7 @@ pub fn run<S: Source, K: Sink>(
     ensures unread { AsksNothing (map string_bytes words.now) → input.new ≡ input.old }
 
     // Without a fault there is an answer, or want of memory; 0, 1 or 4 where the words ask to decide and the bytes are a system
-    // with all that the formula speaks of, 0 or 1 where each part of it keeps the cap, and where the words ask to check.
+    // with all that the formula speaks of, 0 or 1 where each part of it keeps the cap, and where the words ask to check or to confirm.
     ensures complete { (FaultCounted (S.faults input.old) (S.faults input.new) → ⊥) →
         (FaultCounted (K.faults output.old) (K.faults output.new) → ⊥) →
         (result.status ≤ last_answer) ⊎ (result.status ≡ out_of_memory) }
@@ -161,6 +184,10 @@ pub fn run<S: Source, K: Sink>(
     ensures checked { (FaultCounted (S.faults input.old) (S.faults input.new) → ⊥) →
         (FaultCounted (K.faults output.old) (K.faults output.new) → ⊥) →
         IsCheckable (map string_bytes words.now) (S.rest input.old) →
+        (result.status ≤ negative) ⊎ (result.status ≡ out_of_memory) }
+    ensures confirmable { (FaultCounted (S.faults input.old) (S.faults input.new) → ⊥) →
+        (FaultCounted (K.faults output.old) (K.faults output.new) → ⊥) →
+        IsConfirmable (map string_bytes words.now) (S.rest input.old) →
         (result.status ≤ negative) ⊎ (result.status ≡ out_of_memory) }
 {
     let reply = match reply_to(alloc, words, input) {

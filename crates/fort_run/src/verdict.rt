@@ -16,13 +16,15 @@ ghost use Rattle.fort_answers.specs.FormulaAnswer.{Any, Closed, Open, IsTaken};
 ghost use Rattle.fort_answers.specs.InputAnswer.{Behind as BehindOf};
 ghost use Rattle.fort_engine.specs.AnswerView.{as_answer, HasStatesWithin, IfOver, KeepsCapAt, IsLimit};
 ghost use Rattle.fort_run.specs.Inputs.{IsBehind};
+ghost use Rattle.fort_run.specs.OpenTexts.{IsTextOf};
 ghost use Rattle.fort_run.specs.Posed.{IsPosed, Settles, SettlesCore};
 ghost use Rattle.fort_run.specs.Questions.{CanBePut, openness_of, tail_of};
 ghost use Rattle.fort_run.specs.Ready.{IsLawful, IsReady, IsDecidedBy};
 ghost use Rattle.fort_run.specs.StatusView.{code_of};
-ghost use Rattle.fort_run.specs.declared.question.Question.TheVariants.{Truth, Terms, Certificate, Solutions};
+ghost use Rattle.fort_run.specs.declared.question.Question.TheVariants.{Truth, Terms, Certificate, TermsCertificate, Solutions};
 
 use crate::checked::checked;
+use crate::confirmed::confirmed;
 use crate::input::{Behind, Input};
 use crate::limit::limit_reply;
 use crate::question::Question;
@@ -33,8 +35,10 @@ use crate::witness::witness;
 use fort_certificate::Version;
 use fort_engine::{EngineFault, Last, decide_with};
 use fort_formulas::{Core, CoreFault, Formula, to_core};
+use fort_lockstep::Table;
 use fort_terms::{System, Term};
-use fort_trace::decide_with_steps;
+use fort_trace::{OpenRecorded, decide_with_steps, table_with_steps};
+use fort_witness::{least, needed_nodes};
 use fort_words::{Bounds, Options};
 use std::alloc::{AllocError, Global};
 
@@ -136,6 +140,39 @@ fn least_terms(
     }
 }
 
+/// The text of the certificate with these steps, and with the nodes of the least terms that the table accepts.
+fn terms_text(alloc: Global, recorded: &OpenRecorded) -> Result<Vec<u8>, AllocError>
+    ensures { IfOk result (λ text. IsTextOf recorded.now text.items) }
+{
+    // its clause says that the table is lawful
+    let _states = recorded.table.states();
+    match least(alloc, &recorded.table)? {
+        Some(dag) => {
+            let nodes = needed_nodes(alloc, &dag)?;
+            fort_certificate::open_text(alloc, &recorded.steps, Some(&nodes))
+        }
+        None => fort_certificate::open_text(alloc, &recorded.steps, None),
+    }
+}
+
+/// The certificate that is written for an open formula, by its core formula.
+fn terms_certificate(
+    alloc: Global,
+    system: &System,
+    core: &Core,
+    options: Options,
+) -> Result<Reply, AllocError>
+    requires { (f : logic.Formula) × (terms : List Tree)
+        × IsPosed Open f system.now terms (as_core core.now) }
+    ensures { IfOk result (λ r. (f : logic.Formula)
+        → SettlesCore (TermsCertificate options) system.now tt (as_core core.now) f r) }
+{
+    match table_with_steps(alloc, system, core, options.states, options.reduces) {
+        Ok(recorded) => Ok(Reply::of(Status::Positive, terms_text(alloc, &recorded)?)),
+        Err(fault) => limit_reply(alloc, fault, options.states),
+    }
+}
+
 /// The first terms up to a height that satisfy an open formula, by its core formula.
 fn first_terms(
     alloc: Global,
@@ -200,9 +237,14 @@ pub fn verdict(
         Question::Truth(options) => truth(alloc, system, &core, options),
         Question::Certificate(options) => certificate(alloc, system, &core, options),
         Question::Terms(options) => least_terms(alloc, system, formula, &core, options),
+        Question::TermsCertificate(options) => terms_certificate(alloc, system, &core, options),
         Question::Check => match &input.behind {
             Behind::Certificate(certificate) => checked(alloc, system, &core, certificate),
-            Behind::Nothing => unreachable!(),
+            Behind::Nothing | Behind::OpenCertificate(_) => unreachable!(),
+        },
+        Question::Confirm => match &input.behind {
+            Behind::OpenCertificate(open) => confirmed(alloc, system, formula, &core, open),
+            Behind::Nothing | Behind::Certificate(_) => unreachable!(),
         },
         Question::Solutions(options, bounds) => {
             first_terms(alloc, system, formula, &core, options, bounds)

@@ -7,7 +7,6 @@ ghost use Rattle.fort_theory.specs.Trees.{Tree};
 ghost use Rattle.fort_logic.specs.Formulas.{Name};
 ghost use Rattle.fort_logic.specs.FreeNames as names;
 ghost use Rattle.fort_formulas.specs.FormulaView.{as_formula};
-ghost use Rattle.fort_answers.specs.Lines.{witness_line};
 ghost use Rattle.fort_answers.specs.WitnessAnswer.{binding, bindings, WitnessVerdict};
 ghost use Rattle.fort_run.specs.Ready.{IsLawful, IsDecidedBy};
 ghost use Rattle.fort_run.specs.StatusView.{code_of};
@@ -43,9 +42,10 @@ pub fn push_binding(
     write_term(alloc, dag, node, column, signature, text)
 }
 
-/// A line for each free variable, with the term in its column of the last node.
-fn witness_text(
+/// A first line, and then one for each free variable, with the term in its column of the last node.
+pub fn witness_text(
     alloc: Global,
+    first: &[u8],
     signature: &Signature,
     formula: &Formula,
     dag: &Dag,
@@ -55,12 +55,12 @@ fn witness_text(
         (names.free_names (as_formula formula.now)) dag.now ts }
     ensures { IfOk result (λ text. (ts : List Tree)
         → AreLastTerms signature.now (names.free_names (as_formula formula.now)) dag.now ts
-        → text.items ≡ witness_line
+        → text.items ≡ first.now
         ++ bindings signature.now (names.free_names (as_formula formula.now)) ts) }
 {
     let names = free_names(alloc, formula)?;
     let last = (dag.len() - 1) as u32;
-    let mut text = Vec::from_slice(alloc, b"WITNESS\n")?;
+    let mut text = Vec::from_slice(alloc, first)?;
     for column in 0..names.len() {
         let name = names[column].as_bytes();
         push_binding(alloc, signature, name, dag, last, column, &mut text)?;
@@ -92,7 +92,7 @@ pub fn witness(
             let _states = table.states();
             match least(alloc, table)? {
                 Some(dag) => {
-                    let text = witness_text(alloc, signature, formula, &dag)?;
+                    let text = witness_text(alloc, b"WITNESS\n", signature, formula, &dag)?;
                     Ok(Reply::of(Status::Positive, text))
                 }
                 None => Reply::line(alloc, Status::Negative, b"NONE\n"),

@@ -4,13 +4,14 @@ use Rattle.fort_grammar.specs.Declarations.{as_list}
 use Rattle.fort_certificate_grammar.specs.CertificateForms.{IsCertificate}
 use Rattle.fort_certificate_grammar.specs.CertificateFaults.{IsFirstCertificateFault}
 use Rattle.fort_certificate.specs.Faults.{as_fault}
+use Rattle.fort_open_steps.specs.OpenView.{as_open}
 use Rattle.fort_steps.specs.CertificateView.{as_certificate}
 use Rattle.fort_answers.specs.InputAnswer.{IsInputRefused}
-use Rattle.fort_run.specs.declared.input.Behind.TheVariants.{Nothing, Certificate}
+use Rattle.fort_run.specs.declared.input.Behind.TheVariants.{Nothing, Certificate, OpenCertificate}
 use Rattle.fort_run.specs.Inputs.{IsReadBehind}
 use Rattle.fort_run.specs.Questions.{as_tail}
 use Rattle.fort_run.proofs.Fitting.{number_is}
-use Rattle.fort_run.proofs.InputLines.{form_refused, nothing_behind, certificate_refused, certificate_behind}
+use Rattle.fort_run.proofs.InputLines.{form_refused, nothing_behind, certificate_refused, certificate_behind, open_certificate_refused, open_certificate_behind}
 use Rattle.fort_run.proofs.input.read_behind.Goals as goal
 
 pub returns-then-problem-len-clause-refused : goal.returns-then-problem-len-clause-refused
@@ -50,3 +51,20 @@ returns-in_ok-certificate_line-in-Err-clause-refused c = λ s problem same.
     (certificate_refused forms.bytes forms.forms c.requires.short c.requires.are s next problem fault line
     (subst (λ n. IfSome (as_fault fault) (IsFirstCertificateFault forms.bytes n (as_list forms.forms) next)) number c.in-Err.ensures.fault)
     c.in_ok-certificate_line-in-Err.ensures)
+
+pub returns-in-Ok-read_open-clause-ok : goal.returns-in-Ok-read_open-clause-ok
+returns-in-Ok-read_open-clause-ok c = λ s problem same.
+    let forms = c.args.forms.now in
+    let own = as_open c.in-Ok-read_open.certificate in
+    let is = open_certificate_behind forms.bytes forms.forms c.requires.short c.requires.are s c.args.problem.now.next problem own
+    c.in-Ok-read_open.ensures.ok in
+    subst (λ t. IsReadBehind (as_tail t) forms.bytes s (OpenCertificate c.in-Ok-read_open.certificate)) (sym c.in-OpenCertificate.is)
+    (record { behind = own; is = is; behind_is = refl })
+
+pub returns-in_ok-certificate_line-in-Err-read_open-clause-refused : goal.returns-in_ok-certificate_line-in-Err-read_open-clause-refused
+returns-in_ok-certificate_line-in-Err-read_open-clause-refused c = λ s problem same.
+    let forms = c.args.forms.now in
+    let line = c.in_ok-certificate_line-in-Err-read_open.field-0.items in
+    subst (λ t. IsInputRefused (as_tail t) forms.bytes line) (sym c.in-OpenCertificate.is)
+    (open_certificate_refused forms.bytes forms.forms c.requires.short c.requires.are s c.args.problem.now.next problem c.in-Err-read_open.fault line
+    c.in-Err-read_open.ensures.fault c.in_ok-certificate_line-in-Err-read_open.ensures)

@@ -1,9 +1,8 @@
-use Rattle.std.proofs.Common.{◌≡◌, sym, subst}
+use Rattle.std.proofs.Common.{◌≡◌, true, false, sym, subst}
 use Rattle.std.specs.Prelude.{Some}
 use Rattle.std.proofs.lemmas.Result.{on_ok_weaker}
 use Rattle.fort_words.specs.RequestView.{as_options, as_bounds, as_request}
-use Rattle.fort_answers.specs.PossibleRequests.{CanBeAsked}
-use Rattle.fort_answers.specs.Requests.{Witness, Check, Sample, Solutions}
+use Rattle.fort_answers.specs.Requests.{Witness, Check, Sample, Solutions, Confirm}
 use Rattle.fort_answers.specs.Answer.{needed}
 use Rattle.fort_run.specs.Replies.{IsReplyTo}
 use Rattle.fort_run.proofs.Replies.{no_limit}
@@ -24,12 +23,21 @@ returns-in-Decide-default-true-default-clause-whole g c =
     whole (there.0, rw c.in-Decide-default-true-default.formula-is there.1))
     c.ask.ensures.whole
 
-pub returns-in-Witness-clause-whole : goal.returns-in-Witness-clause-whole
-returns-in-Witness-clause-whole g c =
-    on_ok_weaker c.ask-in-Witness.result (λ whole is_needed.
-    let e : as_request c.args.request.now ≡ Witness (as_options c.in-Witness.options) c.in-Witness.formula.now = cc in
-    whole (subst (λ r. needed (Some r)) e is_needed))
-    c.ask-in-Witness.ensures.whole
+pub returns-in-Witness-default-false-default-clause-whole : goal.returns-in-Witness-default-false-default-clause-whole
+returns-in-Witness-default-false-default-clause-whole g c =
+    on_ok_weaker c.ask-in-Witness-default-false-default.result (λ whole is_needed.
+    let e : as_request c.args.request.now ≡ Witness (as_options c.in-Witness-default-false-default.options) false c.in-Witness-default-false-default.formula.now = cc in
+    let there = subst (λ r. needed (Some r)) e is_needed in
+    whole (there.0, rw c.in-Witness-default-false-default.formula-is there.1))
+    c.ask-in-Witness-default-false-default.ensures.whole
+
+pub returns-in-Witness-default-true-default-clause-whole : goal.returns-in-Witness-default-true-default-clause-whole
+returns-in-Witness-default-true-default-clause-whole g c =
+    on_ok_weaker c.ask-in-Witness-default-true-default.result (λ whole is_needed.
+    let e : as_request c.args.request.now ≡ Witness (as_options c.in-Witness-default-true-default.options) true c.in-Witness-default-true-default.formula.now = cc in
+    let there = subst (λ r. needed (Some r)) e is_needed in
+    whole (there.0, rw c.in-Witness-default-true-default.formula-is there.1))
+    c.ask-in-Witness-default-true-default.ensures.whole
 
 pub returns-in-Check-clause-whole : goal.returns-in-Check-clause-whole
 returns-in-Check-clause-whole g c =
@@ -46,14 +54,16 @@ returns-in_ok-sample-in-Sample-clause-ok g c =
     subst (λ r. IsReplyTo (Some r) bytes reply) (sym e)
     (record { is_owed = c.in_ok-sample-in-Sample.ensures.answer; says = λ done. tt; limit = no_limit (Some (Sample c.in-Sample.n)) bytes reply c.in_ok-sample-in-Sample.ensures.limit }))
 
-pub ask-requires-in-Solutions : goal.ask-requires-in-Solutions
-ask-requires-in-Solutions g c =
-    let e : as_request c.args.request.now ≡ Solutions (as_options c.in-Solutions.options) (as_bounds c.in-Solutions.bounds) c.in-Solutions.formula.now = cc in
-    subst CanBeAsked e c.requires
-
 pub returns-in-Solutions-clause-whole : goal.returns-in-Solutions-clause-whole
 returns-in-Solutions-clause-whole g c =
     on_ok_weaker c.ask-in-Solutions.result (λ whole is_needed.
     let e : as_request c.args.request.now ≡ Solutions (as_options c.in-Solutions.options) (as_bounds c.in-Solutions.bounds) c.in-Solutions.formula.now = cc in
     whole (subst (λ r. needed (Some r)) e is_needed))
     c.ask-in-Solutions.ensures.whole
+
+pub returns-in-Confirm-clause-whole : goal.returns-in-Confirm-clause-whole
+returns-in-Confirm-clause-whole g c =
+    on_ok_weaker c.ask-in-Confirm.result (λ whole is_needed.
+    let e : as_request c.args.request.now ≡ Confirm c.in-Confirm.formula.now = cc in
+    whole (subst (λ r. needed (Some r)) e is_needed))
+    c.ask-in-Confirm.ensures.whole

@@ -1,7 +1,7 @@
 use Rattle.std.proofs.Common.{inl, map, string_bytes}
-use Rattle.fort_run.proofs.PrintedCertificates.{printed_accepted}
-use Rattle.fort_run.proofs.OneAnswer.{Answers-told, Answers-early, Answers-decided, Answers-kept, Answers-checked}
-use Rattle.fort_run.proofs.WrittenReplies.{answers, certifies, prints, limit_written, cuts_short, limit_shown, status_low, decided_status}
+use Rattle.fort_run.proofs.PrintedCertificates.{printed_accepted, printed_terms_accepted}
+use Rattle.fort_run.proofs.OneAnswer.{Answers-told, Answers-early, Answers-decided, Answers-kept, Answers-checked, Answers-confirmed}
+use Rattle.fort_run.proofs.WrittenReplies.{answers, certifies, prints, confirms, prints_terms, limit_written, cuts_short, limit_shown, status_low, decided_status}
 use Rattle.fort_run.proofs.top.run.Goals as goal
 
 -- ---- all of the text was written
@@ -42,14 +42,30 @@ returns-in-Ok-write_all-clause-checked g c = λ read write is.
     c.of_reply.result.status
     (answers (map string_bytes c.args.words.now) (g.S.Source.rest c.args.input.now) (g.K.Sink.taken c.args.output.now) (g.K.Sink.taken c.write_all.new.sink) c.in-Ok.reply c.in-Ok.ensures.ok c.of_reply.result.status c.deref.result.now c.of_reply.ensures.status c.deref.ensures.value c.in-Ok-write_all.ensures.all) is)
 
+pub returns-in-Ok-write_all-clause-confirmable : goal.returns-in-Ok-write_all-clause-confirmable
+returns-in-Ok-write_all-clause-confirmable g c = λ read write is.
+    inl (Answers-confirmed (map string_bytes c.args.words.now) (g.S.Source.rest c.args.input.now) (g.K.Sink.taken c.args.output.now) (g.K.Sink.taken c.write_all.new.sink)
+    c.of_reply.result.status
+    (answers (map string_bytes c.args.words.now) (g.S.Source.rest c.args.input.now) (g.K.Sink.taken c.args.output.now) (g.K.Sink.taken c.write_all.new.sink) c.in-Ok.reply c.in-Ok.ensures.ok c.of_reply.result.status c.deref.result.now c.of_reply.ensures.status c.deref.ensures.value c.in-Ok-write_all.ensures.all) is)
+
 pub returns-in-Ok-write_all-clause-certified : goal.returns-in-Ok-write_all-clause-certified
 returns-in-Ok-write_all-clause-certified g c =
     certifies (map string_bytes c.args.words.now) (g.S.Source.rest c.args.input.now) (g.K.Sink.taken c.args.output.now) (g.K.Sink.taken c.write_all.new.sink)
     c.in-Ok.reply c.in-Ok.ensures.ok c.of_reply.result.status c.deref.result.now c.of_reply.ensures.status c.deref.ensures.value c.in-Ok-write_all.ensures.all
 
+pub returns-in-Ok-write_all-clause-confirmed : goal.returns-in-Ok-write_all-clause-confirmed
+returns-in-Ok-write_all-clause-confirmed g c =
+    confirms (map string_bytes c.args.words.now) (g.S.Source.rest c.args.input.now) (g.K.Sink.taken c.args.output.now) (g.K.Sink.taken c.write_all.new.sink)
+    c.in-Ok.reply c.in-Ok.ensures.ok c.of_reply.result.status c.deref.result.now c.of_reply.ensures.status c.deref.ensures.value c.in-Ok-write_all.ensures.all
+
 pub returns-in-Ok-write_all-clause-printed : goal.returns-in-Ok-write_all-clause-printed
 returns-in-Ok-write_all-clause-printed g c =
     prints (map string_bytes c.args.words.now) (g.S.Source.rest c.args.input.now) (g.K.Sink.taken c.args.output.now) (g.K.Sink.taken c.write_all.new.sink)
+    c.in-Ok.reply c.in-Ok.ensures.ok c.of_reply.result.status c.deref.result.now c.of_reply.ensures.status c.deref.ensures.value c.in-Ok-write_all.ensures.all
+
+pub returns-in-Ok-write_all-clause-printed_terms : goal.returns-in-Ok-write_all-clause-printed_terms
+returns-in-Ok-write_all-clause-printed_terms g c =
+    prints_terms (map string_bytes c.args.words.now) (g.S.Source.rest c.args.input.now) (g.K.Sink.taken c.args.output.now) (g.K.Sink.taken c.write_all.new.sink)
     c.in-Ok.reply c.in-Ok.ensures.ok c.of_reply.result.status c.deref.result.now c.of_reply.ensures.status c.deref.ensures.value c.in-Ok-write_all.ensures.all
 
 pub returns-in-Ok-write_all-clause-limit : goal.returns-in-Ok-write_all-clause-limit
@@ -89,3 +105,15 @@ returns-in-Err-Fault-clause-accepted g c = printed_accepted (map string_bytes c.
 
 pub returns-in-Err-clause-accepted : goal.returns-in-Err-clause-accepted
 returns-in-Err-clause-accepted g c = printed_accepted (map string_bytes c.args.words.now)
+
+pub returns-in-Ok-write_all-clause-accepted_terms : goal.returns-in-Ok-write_all-clause-accepted_terms
+returns-in-Ok-write_all-clause-accepted_terms g c = printed_terms_accepted (map string_bytes c.args.words.now)
+
+pub returns-in-Err-Memory-clause-accepted_terms : goal.returns-in-Err-Memory-clause-accepted_terms
+returns-in-Err-Memory-clause-accepted_terms g c = printed_terms_accepted (map string_bytes c.args.words.now)
+
+pub returns-in-Err-Fault-clause-accepted_terms : goal.returns-in-Err-Fault-clause-accepted_terms
+returns-in-Err-Fault-clause-accepted_terms g c = printed_terms_accepted (map string_bytes c.args.words.now)
+
+pub returns-in-Err-clause-accepted_terms : goal.returns-in-Err-clause-accepted_terms
+returns-in-Err-clause-accepted_terms g c = printed_terms_accepted (map string_bytes c.args.words.now)

@@ -2,8 +2,8 @@ use Rattle.std.proofs.Common.{subst}
 use Rattle.std.proofs.lemmas.Result.{IfOk-weaker}
 use Rattle.fort_formulas.specs.CoreView.{as_core}
 use Rattle.fort_formulas.specs.FormulaView.{as_formula}
-use Rattle.fort_answers.specs.InputAnswer.{ACertificate}
-use Rattle.fort_run.specs.declared.question.Question.TheVariants.{Truth, Certificate, Terms, Check, Solutions}
+use Rattle.fort_answers.specs.InputAnswer.{ACertificate, AnOpenCertificate}
+use Rattle.fort_run.specs.declared.question.Question.TheVariants.{Truth, Certificate, Terms, TermsCertificate, Check, Solutions, Confirm}
 use Rattle.fort_run.specs.Inputs.{IsBehind}
 use Rattle.fort_run.specs.Posed.{IsPosed, SettlesCore}
 use Rattle.fort_run.specs.Questions.{openness_of}
@@ -86,3 +86,35 @@ returns c =
     IfOk-weaker c.first_terms.result _ _ (λ r says.
     settled c.args.question (Solutions c.in-Solutions.options c.in-Solutions.bounds) c.args.input.now f c.args.terms.now core r c.in-Solutions.is posed (λ p behind is. says))
     c.first_terms.ensures
+
+pub returns-in-TermsCertificate : goal.returns-in-TermsCertificate
+returns-in-TermsCertificate c =
+    let f = as_formula c.args.formula.now in
+    let core = as_core c.in_ok-core.core in
+    let posed : IsPosed (openness_of c.args.question) f c.args.input.now.system c.args.terms.now core = record {
+      taken = c.requires.taken;
+      ready = c.requires.ready;
+      is = c.in_ok-core.ensures.is;
+      keeps = c.in_ok-core.ensures.truth;
+      decided = c.in_ok-core.ensures.decided;
+    } in
+    IfOk-weaker c.terms_certificate.result _ _ (λ r says.
+    settled c.args.question (TermsCertificate c.in-TermsCertificate.options) c.args.input.now f c.args.terms.now core r c.in-TermsCertificate.is posed (λ p behind is. says f))
+    c.terms_certificate.ensures
+
+pub returns-in-OpenCertificate : goal.returns-in-OpenCertificate
+returns-in-OpenCertificate c =
+    let f = as_formula c.args.formula.now in
+    let core = as_core c.in_ok-core.core in
+    let system = c.args.input.now.system in
+    let posed : IsPosed (openness_of c.args.question) f c.args.input.now.system c.args.terms.now core = record {
+      taken = c.requires.taken;
+      ready = c.requires.ready;
+      is = c.in_ok-core.ensures.is;
+      keeps = c.in_ok-core.ensures.truth;
+      decided = c.in_ok-core.ensures.decided;
+    } in
+    IfOk-weaker c.confirmed.result _ _ (λ r says.
+    settled c.args.question Confirm c.args.input.now f c.args.terms.now core r c.in-Confirm.is posed (λ p behind is.
+    subst (λ b. SettlesCore Confirm system b core f r) (subst (λ b. IsBehind AnOpenCertificate b behind) c.in-OpenCertificate.is is.behind_is) says))
+    c.confirmed.ensures

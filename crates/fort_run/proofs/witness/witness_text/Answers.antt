@@ -27,7 +27,7 @@ loop-column-preserved c = λ ts are.
     let d = Node 0 Nil in
     let low : k < length names = omega (arith, c.loop-column-test.true, ap length c.in_ok-names.ensures, c.in_ok-names.names.ok.0, c.len-column-end.ensures) in
     let inside : k < length c.in_ok-names.names.items = omega (arith, low, ap length c.in_ok-names.ensures) in
-    bindings-line c.args.signature.now names ts k d c.loop-column.text.items c.push_binding.new.text.items c.push.new.self.items c.as_bytes-name.result.now low are.count
+    bindings-line c.args.signature.now names ts k d c.args.first.now c.loop-column.text.items c.push_binding.new.text.items c.push.new.self.items c.as_bytes-name.result.now low are.count
     (c.loop-column.invariant ts are)
     (c.as_bytes-name.ensures ∙ (c.index.ensures ∙ (get_or_default c.in_ok-names.names.items k c.index.result.now [] inside ∙ ap (λ xs. get_or xs k []) c.in_ok-names.ensures)))
     (c.in_ok-push_binding.ensures names ts d (subst (λ n. AreTermsAt c.args.signature.now names c.args.dag.now (n - 1) ts) (sym c.len.ensures) are) low) c.in_ok-push.ensures.items
