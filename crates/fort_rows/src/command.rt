@@ -73,11 +73,11 @@ pub fn run_command(
     }))
 }
 
-/// The formula that a command of `decide` without a flag asks about, where its status says that it is true or false.
-pub fn decided_formula<'a>(line: &'a str, status: &str) -> Option<&'a str> {
-    let formula = line.strip_prefix("decide ")?;
-    let is_verdict = status == "0" || status == "1";
-    if is_verdict && !formula.contains("--") {
+/// The formula that a command without a flag asks about, where its status says that nothing withholds the answer.
+pub fn answered_formula<'a>(line: &'a str, command: &str, status: &str) -> Option<&'a str> {
+    let formula = line.strip_prefix(command)?;
+    let is_answer = status == "0" || status == "1";
+    if is_answer && !formula.contains("--") {
         Some(formula)
     } else {
         None

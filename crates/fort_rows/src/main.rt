@@ -11,7 +11,8 @@
 //! A row of `decide` or `witness` with neither `--reduce` nor `--certificate`, of status 0, 1 or 3, is run a second time with
 //! `--reduce`, and has to print the same; it then counts twice. The answer of such a row of `decide` with no flag at all on a problem
 //! of at most 65,536 bytes is certified, with tables as they are and with reduced ones: what `--certificate` writes stands behind
-//! the problem, and `check` has to find that verdict; it then counts twice more.
+//! the problem, and `check` has to find that verdict; it then counts twice more. So is the answer of such a row of `witness` to a
+//! question with a free variable, by `confirm`, which has to print the same terms.
 //!
 //! All else fails as a wrong answer does: a row without its status, a problem without a row, a backslash that begins no
 //! escape, a `+` with another status, more text than a row may have.

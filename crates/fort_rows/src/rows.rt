@@ -1,5 +1,5 @@
 //! The rows, line by line.
-use crate::command::{Answer, command_on, decided_formula, reduced_command, run_command};
+use crate::command::{Answer, answered_formula, command_on, reduced_command, run_command};
 use crate::escape::push_text;
 use std::alloc::{AllocError, Global};
 use std::rt::Files;
@@ -202,16 +202,72 @@ impl Rows {
         if let Some(reduced) = reduced_command(self.alloc, command.as_str(), status)? {
             self.run_row(rt, reduced.as_str(), status)?;
         }
-        if let Some(formula) = decided_formula(command.as_str(), status) {
-            if self.problem.len() <= ROW_ROOM {
-                self.certify(rt, "decide --certificate", formula, status)?;
-                self.certify(rt, "decide --reduce --certificate", formula, status)?;
-            }
+        if self.problem.len() <= ROW_ROOM {
+            self.certify_answer(rt, command.as_str(), status)?;
         }
         if let Some(length) = self.behind {
             self.problem.truncate(length);
             self.behind = None;
         }
+        Ok(())
+    }
+
+    /// Certifies the answer to a command, with tables as they are and with reduced ones.
+    fn certify_answer<R: Print + AllocGlobal>(
+        &mut self,
+        rt: &R,
+        command: &str,
+        status: &str,
+    ) -> io::Result<()> {
+        if let Some(formula) = answered_formula(command, "decide ", status) {
+            self.certify(rt, "decide --certificate", formula, status)?;
+            self.certify(rt, "decide --reduce --certificate", formula, status)?;
+        }
+        if let Some(formula) = answered_formula(command, "witness ", status) {
+            let found = Vec::from_slice(self.alloc, self.wanted.as_slice())?;
+            self.certify_terms(rt, "witness --certificate", formula, found.as_slice())?;
+            self.certify_terms(
+                rt,
+                "witness --reduce --certificate",
+                formula,
+                found.as_slice(),
+            )?;
+        }
+        Ok(())
+    }
+
+    /// Whether a command refuses its formula, in which no variable is free.
+    fn is_closed(&self, command: &str) -> Result<bool, AllocError> {
+        Ok(
+            match run_command(self.alloc, command, self.problem.as_slice(), BEHIND_ROOM)? {
+                Some(answer) => answer.text.as_slice() == b"REFUSED formula closed\n".as_slice(),
+                None => false,
+            },
+        )
+    }
+
+    /// Puts the certificate of terms that a command writes behind the problem for the check of it, which has to print what was found. Of a closed
+    /// formula there is none.
+    fn certify_terms<R: Print + AllocGlobal>(
+        &mut self,
+        rt: &R,
+        writing: &str,
+        formula: &str,
+        found: &[u8],
+    ) -> io::Result<()> {
+        let length = self.problem.len();
+        let command = command_on(self.alloc, writing, formula)?;
+        if self.is_closed(command.as_str())? {
+            return Ok(());
+        }
+        self.put_behind(rt, command.as_str())?;
+        self.wanted.clear();
+        self.wanted.extend_from_slice(b"CERTIFIED ")?;
+        self.wanted.extend_from_slice(found)?;
+        let confirm = command_on(self.alloc, "confirm", formula)?;
+        self.run_row(rt, confirm.as_str(), "0")?;
+        self.problem.truncate(length);
+        self.is_used = true;
         Ok(())
     }
 
