@@ -182,6 +182,7 @@ REFUSALS = [
     formula_refused("open x", "NF(x)"),
     formula_refused("open x", "NF(x)", command=("check",)),
     formula_refused("closed", "CR", command=("solutions", "2")),
+    formula_refused("closed", "CR", command=("confirm",)),
     formula_refused("index 2", "CR & WN[2]", ONE),
     formula_refused("term at 6", "{a} = {b}", ONE),
     formula_refused("sn 1", "SN", LOSES),
