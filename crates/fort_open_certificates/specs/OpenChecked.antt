@@ -45,7 +45,7 @@ pub record MakesTable (system : PatternSystem) (f : Core) (parts : List Core) (c
   pub fine : AreAllFine system parts c.steps made
   pub table_is : IsAnswerOf parts made f (OfTable table)
 
--- the first nodes are entries over those before them
+-- each of these nodes is an entry over those before it
 abbrev pub AreFormulaNodes : PatternSystem → Core → List Entry → Type 0
 AreFormulaNodes system f nodes = AreNodes system.signature (length (columns_of f)) nodes
 

@@ -8,7 +8,8 @@ ghost use Rattle.fort_parts.specs.DecidedCores.{IsDecided};
 ghost use Rattle.fort_in_order.specs.Made.{Made};
 ghost use Rattle.fort_open_certificates.specs.OpenCertificates as definitions;
 ghost use Rattle.fort_open_certificates.specs.OpenChecked.{HasOpenOutcome};
-ghost use Rattle.fort_open_steps.specs.OpenView.{as_open};
+ghost use Rattle.fort_open_laws.specs.OpenTruth.{Proves};
+ghost use Rattle.fort_open_steps.specs.OpenView.{as_open, as_claim};
 ghost use Rattle.fort_open_checker.specs.OpenOutcomeView.{as_outcome};
 ghost use Rattle.fort_open_checker.specs.OpenCheckers.{IsOpenCheckerOf, IsOpenCheckDone};
 
@@ -122,6 +123,9 @@ impl<'a> OpenChecker<'a> {
         ensures outcome { (system : PatternSystem) (f : theory.Core)
             (c : definitions.OpenCertificate) → IsOpenCheckerOf system f c self.old
             → HasOpenOutcome system f c (as_outcome result) }
+        ensures truth { IfOk result (λ claim. (system : PatternSystem) (f : theory.Core)
+            (c : definitions.OpenCertificate) → IsOpenCheckerOf system f c self.old
+            → Proves system f c (as_claim claim)) }
         ensures again { (system : PatternSystem) (f : theory.Core)
             (c : definitions.OpenCertificate) → IsOpenCheckerOf system f c self.old
             → IsOpenCheckerOf system f c self.new }

@@ -29,7 +29,7 @@ use Rattle.fort_answers.specs.WitnessAnswer.{bindings}
 use Rattle.fort_answers.specs.SystemAnswer.{Says}
 use Rattle.fort_answers.specs.Answer.{owed}
 use Rattle.fort_answer_laws.proofs.TermTuples.{terms_in}
-use Rattle.fort_run.specs.Confirmed.{SaysLeast, TellsLeast}
+use Rattle.fort_run.specs.Confirmed.{SaysLeast, TellsLeast, TellsClaim}
 use Rattle.fort_run.proofs.CertificateAccepted.{begins_behind}
 use Rattle.fort_run.proofs.DecidedInputs.{decided_input}
 use Rattle.fort_run.proofs.LinearRules.{IsInputWith-system}
@@ -62,12 +62,13 @@ told_lines system terms f Empty nodes tells = (certified_none_line, (tells, refl
 
 -- those of a claim that is written
 pub written_lines : (system : System) (f : Formula) (table : Table) (nodes : List Entry) (claim : Claim) → IsWrittenClaim table nodes claim
-    → (lines : Text) × OwesLines system f claim nodes lines
+    → (lines : Text) × TellsClaim claim lines × OwesLines system f claim nodes lines
 written_lines system f table nodes Found (LeastFound t least are) =
     let one = terms_in table.signature t least.full least.tuple.grounded in
     let last = (last_node table.signature table.columns t nodes are).last ∙ one.2 in
-    (certified_witness_line ++ bindings system.signature (free_names f) one.0, owes_found system f nodes one.0 last)
-written_lines system f table nodes Empty (NoneFound none empty) = (certified_none_line, owes_empty system f nodes)
+    let lines = bindings system.signature (free_names f) one.0 in
+    (certified_witness_line ++ lines, (lines, refl), owes_found system f nodes one.0 last)
+written_lines system f table nodes Empty (NoneFound none empty) = (certified_none_line, refl, owes_empty system f nodes)
 
 -- Result: behind an LF
 pub open_accepted : (reduces : Bool) (formula : Text) (f : Formula) (bytes : Text) (system : System) (terms : List Tree) (s : ℕ) (text : Text)

@@ -52,7 +52,8 @@ module _ (options : Options) (formula bytes text : Text) where
         nodes = c.nodes;
         is = verdict.are.same_text;
         lines = lines.0;
-        accepted = λ short. open_accepted options.reduces formula f bytes system terms status text taken is fits verdict lines.0 lines.1 short;
+        tells = lines.1;
+        accepted = λ short. open_accepted options.reduces formula f bytes system terms status text taken is fits verdict lines.0 lines.2 short;
       }
 
 -- result

@@ -108,11 +108,17 @@ pub record PrintsTerms (formula : Text) (told old new : Option Text) : Type 0 wh
   pub printed : IsPrintedTermsTold formula told text
   pub taken : Takes old new text
 
--- the text is a certificate; behind the bytes and an LF it is accepted, where the whole keeps the limit of inputs
+-- what is printed where a certificate with this claim is accepted: terms, or that there are none
+abbrev pub TellsClaim : Claim → (text : Text) → Type 0
+TellsClaim Found text = (lines : Text) × (text ≡ certified_witness_line ++ lines)
+TellsClaim Empty text = text ≡ certified_none_line
+
+-- the text is a certificate; behind the bytes and an LF it is accepted with its claim, where the whole keeps the limit of inputs
 pub record IsOpenAcceptedBehind (formula bytes text : Text) : Type 0 where
   pub claim : Claim
   pub steps : List Step
   pub nodes : List Entry
   pub is : text ≡ open_text claim steps nodes
   pub lines : Text
+  pub tells : TellsClaim claim lines
   pub accepted : length (bytes ++ 10 ∷ text) ≤ input_limit → owed (Some (Confirm formula)) (bytes ++ 10 ∷ text) positive lines

@@ -1,4 +1,4 @@
-//! Decides closed core formulas over a system, with the steps of a certificate.
+//! Decides core formulas over a system, with the steps of a certificate.
 #![tactic(auto)]
 
 mod answers;

@@ -1,6 +1,7 @@
 use Rattle.std.proofs.Common.{refl, sym, ap, ◌∙◌}
 use Rattle.fort_open_steps.specs.OpenView.{as_claim}
 use Rattle.fort_open_checker.proofs.OpenLaws.{failing_step, checker_kept, behind_steps}
+use Rattle.fort_open_checker.proofs.OpenTruths.{truths}
 use Rattle.fort_open_checker.proofs.checker.OpenChecker.check.Goals as goal
 
 pub check-requires : goal.check-requires
@@ -45,3 +46,15 @@ returns-in-Empty-clause-outcome c = λ system f own h.
 pub returns-in-Empty-clause-again : goal.returns-in-Empty-clause-again
 returns-in-Empty-clause-again c = λ system f own h.
     checker_kept system f own c.args.self.now _ refl (c.check.ensures.again system f own.first own.steps h.steps) (c.check.ensures.room _ _ h.whole) (λ n room. room) h
+
+pub returns-in-Found-clause-truth : goal.returns-in-Found-clause-truth
+returns-in-Found-clause-truth c = truths c.args.self.now c.check_found.result (λ system f own h.
+    let d = c.in_default.ensures.fine system f own.first own.steps h.steps in
+    c.check_found.ensures.outcome system f own d.0 (behind_steps system f own c.args.self.now _ refl d.0 d.1 (c.check.ensures.room _ _ h.whole) (λ n room. room) h)
+    (sym (ap (λ k. k.claim) h.certificate_is) ∙ ap as_claim c.in-Found.is))
+
+pub returns-in-Empty-clause-truth : goal.returns-in-Empty-clause-truth
+returns-in-Empty-clause-truth c = truths c.args.self.now c.check_empty.result (λ system f own h.
+    let d = c.in_default.ensures.fine system f own.first own.steps h.steps in
+    c.check_empty.ensures system f own d.0 (behind_steps system f own c.args.self.now _ refl d.0 d.1 (c.check.ensures.room _ _ h.whole) (λ n room. room) h)
+    (sym (ap (λ k. k.claim) h.certificate_is) ∙ ap as_claim c.in-Empty.is))

@@ -1,0 +1,3 @@
+pub mod FamilyRules
+pub mod FamilySystems
+pub mod RuleText
