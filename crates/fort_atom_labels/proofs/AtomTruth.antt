@@ -7,8 +7,7 @@ use Rattle.fort_theory.specs.Signatures.{Signature, IsGround, HasConstant}
 use Rattle.fort_theory.specs.Sides.{at_index, System, IsLinearSeparated}
 use Rattle.fort_theory.specs.Patterns.{Pattern, Pair, PatternSystem, pattern_system}
 use Rattle.fort_theory.specs.PatternSteps.{PatternStep, PatternStepAt}
-use Rattle.fort_theory.specs.Rewriting.{Relation, IsNormalForm}
-use Rattle.fort_theory.specs.RootSteps.{RootStepAt}
+use Rattle.fort_theory.specs.Rewriting.{Relation, IsNormalForm, RootStepAt}
 use Rattle.fort_theory.proofs.IndexLaws.{at_index-map, All-at_index}
 use Rattle.fort_theory.proofs.PatternSteps.{PatternStep-from_RootStep, RootStep-from_PatternStep}
 use Rattle.fort_theory.proofs.WithinRoots.{Within, Rewrites-within, RewritesBelow-within, Reduces-within, ReducesStrictly-within, Converts-within, RewritesInParallel-within, IsNormalForm-within}

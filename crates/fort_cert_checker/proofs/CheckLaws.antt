@@ -5,7 +5,7 @@ use Rattle.std.proofs.lemmas.Option.{slice_get-get_or}
 use mathlib.Core.Bool.{beq}
 use Rattle.fort_theory.specs.Patterns.{PatternSystem}
 use Rattle.fort_cores.specs.Cores.{Core}
-use Rattle.fort_cores.specs.Structures.{pattern_structure}
+use Rattle.fort_cores.specs.PatternStructures.{pattern_structure}
 use Rattle.fort_certificate_grammar.specs.Certificates.{Certificate}
 use Rattle.fort_parts.specs.PartAnswers.{OfValue, IsAnswerTo}
 use Rattle.fort_in_order.specs.Outcomes.{Verdict}

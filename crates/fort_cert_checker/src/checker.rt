@@ -3,7 +3,7 @@ ghost use Rattle.std.specs.Prelude.{◌≡◌, Bool, map, Some, Err, IfOk, OnOk,
 ghost use Rattle.fort_theory.specs.Patterns.{PatternSystem};
 ghost use Rattle.fort_cores.specs.Cores as theory;
 ghost use Rattle.fort_cores.specs.Parts as logic;
-ghost use Rattle.fort_cores.specs.Structures.{pattern_structure};
+ghost use Rattle.fort_cores.specs.PatternStructures.{pattern_structure};
 ghost use Rattle.fort_certificate_grammar.specs.Certificates as certificates;
 ghost use Rattle.fort_formulas.specs.CoreView.{as_core};
 ghost use Rattle.fort_parts.specs.DecidedCores.{IsDecided};

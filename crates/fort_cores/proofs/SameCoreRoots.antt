@@ -3,13 +3,13 @@ use Rattle.std.specs.Prelude.{◌↔◌, ℕ, All}
 use Rattle.fort_theory.specs.Signatures.{Signature, HasConstant}
 use Rattle.fort_theory.specs.Sides.{at_index, System, IsLinearSeparated}
 use Rattle.fort_theory.specs.Patterns.{pattern_system}
-use Rattle.fort_theory.specs.Rewriting.{Relation}
-use Rattle.fort_theory.specs.RootSteps.{RootStepAt}
+use Rattle.fort_theory.specs.Rewriting.{Relation, RootStepAt}
 use Rattle.fort_theory.specs.PatternSteps.{PatternStepAt}
 use Rattle.fort_theory.proofs.IndexLaws.{at_index-map, All-at_index}
 use Rattle.fort_theory.proofs.WithinRoots.{Within, Rewrites-within, RewritesBelow-within, Reduces-within, ReducesStrictly-within, Converts-within, RewritesInParallel-within, IsNormalForm-within}
 use Rattle.fort_theory.proofs.PatternSteps.{PatternStep-from_RootStep, RootStep-from_PatternStep}
-use Rattle.fort_cores.specs.Structures.{Structure, structure_of, pattern_structure}
+use Rattle.fort_cores.specs.Structures.{Structure, structure_of}
+use Rattle.fort_cores.specs.PatternStructures.{pattern_structure}
 use Rattle.fort_expressions.specs.Expressions.{Means}
 use Rattle.fort_expressions.proofs.MeaningLaws.{Means-within, HoldsInContext-within}
 use Rattle.fort_cores.proofs.ConnectedLaws.{Connected-same}

@@ -1,4 +1,5 @@
 pub mod Structures
+pub mod PatternStructures
 pub mod Cores
 pub mod CoreTruth
 pub mod EachOnce

@@ -1,11 +1,8 @@
--- To believe: what truth speaks of: a signature, and for each index the root steps; a system has those by its rules, a system of patterns those by its pairs.
+-- To believe: what truth speaks of: a signature, and for each index the root steps; a system has those by its rules.
 use Rattle.std.specs.Prelude.{ℕ}
 use Rattle.fort_theory.specs.Signatures.{Signature}
 use Rattle.fort_theory.specs.Sides.{System}
-use Rattle.fort_theory.specs.Patterns.{PatternSystem}
-use Rattle.fort_theory.specs.Rewriting.{Relation}
-use Rattle.fort_theory.specs.RootSteps.{RootStepAt}
-use Rattle.fort_theory.specs.PatternSteps.{PatternStepAt}
+use Rattle.fort_theory.specs.Rewriting.{Relation, RootStepAt}
 
 pub record Structure : Type 1 where
   pub signature : Signature
@@ -13,6 +10,3 @@ pub record Structure : Type 1 where
 
 abbrev pub structure_of : System → Structure
 structure_of system = record { signature = system.signature; root = RootStepAt system }
-
-abbrev pub pattern_structure : PatternSystem → Structure
-pattern_structure system = record { signature = system.signature; root = PatternStepAt system }

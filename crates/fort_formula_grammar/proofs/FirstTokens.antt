@@ -2,7 +2,7 @@
 use Rattle.std.proofs.Common.{◌≡◌, true, false, List, [], ◌∷◌, ◌++◌, refl, ◌∙◌}
 use Rattle.fort_logic.specs.Formulas.{Name}
 use Rattle.fort_formula_grammar.specs.Tokens.{Token, And, Or, Imp, Iff, Related, Begin}
-use Rattle.fort_formula_grammar.specs.IndexGrammar.{begins_with_index}
+use Rattle.fort_formula_grammar.specs.ExpressionGrammar.{begins_with_index}
 use Rattle.fort_formula_grammar.specs.FormulaGrammar.{begins_with_open, AVariable, AGround}
 use Rattle.fort_formula_grammar.specs.Continuations.{continues_formula, begins_relation, HasNoNext, HasNoVariable, HasNoArgument, HasNoWord}
 use Rattle.fort_formula_grammar.specs.Stuck.{starts_unary}

@@ -3,7 +3,7 @@ use Rattle.std.proofs.Common.{◌≡◌, ℕ, List, ◌∷◌, refl, sym, subst}
 use Rattle.std.proofs.lemmas.Bool.{true≢false}
 use Rattle.fort_logic.specs.Formulas.{Argument}
 use Rattle.fort_formula_grammar.specs.Tokens.{Token}
-use Rattle.fort_formula_grammar.specs.IndexGrammar.{IsIndex, Given, LeftOut}
+use Rattle.fort_formula_grammar.specs.ExpressionGrammar.{IsIndex, Given, LeftOut}
 use Rattle.fort_formula_grammar.specs.FormulaGrammar.{IsArgument, AVariable, AGround}
 
 pub same_behind : {t : Token} {us vs : List Token} → t ∷ us ≡ t ∷ vs → us ≡ vs

@@ -2,7 +2,7 @@
 use Rattle.std.proofs.Common.{◌≡◌, ℕ, true, Bool, false, List, [], ◌∷◌, ◌++◌, append_assoc, refl, sym, ap, ◌∙◌, subst}
 use Rattle.std.proofs.lemmas.Bool.{true≢false, false_from_ne_true}
 use Rattle.fort_formula_grammar.specs.Tokens.{Token, Open, Index}
-use Rattle.fort_formula_grammar.specs.IndexGrammar.{begins_with_index, IsIndex, Given, LeftOut}
+use Rattle.fort_formula_grammar.specs.ExpressionGrammar.{begins_with_index, IsIndex, Given, LeftOut}
 use Rattle.fort_formula_grammar.specs.FormulaGrammar.{begins_with_open}
 
 -- whether an index comes first depends on the first token alone

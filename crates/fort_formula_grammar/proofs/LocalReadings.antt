@@ -2,7 +2,7 @@
 use Rattle.std.proofs.Common.{◌≡◌, ℕ, false, List, [], ◌∷◌}
 use Rattle.fort_logic.specs.Formulas.{Argument, Formula}
 use Rattle.fort_formula_grammar.specs.Tokens.{Token, Open, Comma, Not, Related, Exists, Forall, Infinite, True, False, Nf, Join, Has, Com, Sn, Variable, Ground}
-use Rattle.fort_formula_grammar.specs.IndexGrammar.{IsIndex}
+use Rattle.fort_formula_grammar.specs.ExpressionGrammar.{IsIndex}
 use Rattle.fort_formula_grammar.specs.FormulaGrammar.{Quantifier, begins_with_open, Comparison, compared, IsRelation, WithoutIndex, WithIndex, OfExpression, IsArgument, AVariable, AGround, IsFormula, IsImplication, IsDisjunction, IsConjunction, IsUnary, IsBound, OneSide, BothSides, Conclusion, Premise, FirstOr, MoreOr, FirstAnd, MoreAnd, Negated, ForSome, ForEvery, Infinitely, Enclosed, Truth, Falsity, Named, Commuting, AllTerminating, Terminating, NormalForm, Joinable, Compared, LastBinder, MoreBinders}
 use Rattle.fort_formula_grammar.proofs.LocalParts.{Local, Local-map, Local-token, Local-front, Local-back, Local-then, still_false, index-local}
 use Rattle.fort_formula_grammar.proofs.ExpressionLocal.{enclosed-local}

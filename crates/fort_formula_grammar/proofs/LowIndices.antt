@@ -8,8 +8,7 @@ use Rattle.fort_logic.specs.Formulas.{Name, Argument, Formula, Com}
 use Rattle.fort_logic.specs.Mentions.{indices}
 use Rattle.fort_formula_grammar.specs.Tokens.{Token, Index, IsToken}
 use Rattle.fort_formula_grammar.specs.TokenText.{Reads, Nothing, Blank, Next}
-use Rattle.fort_formula_grammar.specs.IndexGrammar.{IsIndex, Given, LeftOut}
-use Rattle.fort_formula_grammar.specs.ExpressionGrammar.{OneOperand, Inv, Clos, TwoOperands, Uni, Comp, of_one, of_two, IsExpression, OfRoot, OfOne, OfTwo, Between}
+use Rattle.fort_formula_grammar.specs.ExpressionGrammar.{IsIndex, Given, LeftOut, OneOperand, Inv, Clos, TwoOperands, Uni, Comp, of_one, of_two, IsExpression, OfRoot, OfOne, OfTwo, Between}
 use Rattle.fort_formula_grammar.specs.FormulaGrammar as grammar
 use Rattle.fort_formula_grammar.specs.FormulaGrammar.{Quantifier, quantified, Comparison, compared, IsRelation, WithoutIndex, WithIndex, OfExpression, IsFormula, IsImplication, IsDisjunction, IsConjunction, IsUnary, IsBound, OneSide, BothSides, Conclusion, Premise, FirstOr, MoreOr, FirstAnd, MoreAnd, Negated, ForSome, ForEvery, Infinitely, Enclosed, Truth, Falsity, Named, Commuting, AllTerminating, Terminating, NormalForm, Joinable, Compared, LastBinder, MoreBinders}
 use Rattle.fort_formula_grammar.specs.FormulaText.{IsFormulaText}

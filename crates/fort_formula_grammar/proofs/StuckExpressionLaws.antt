@@ -6,8 +6,7 @@ use Rattle.fort_expressions.specs.Expressions.{Expression, RootSteps, Inverse}
 use Rattle.fort_expressions.specs.Contexts.{HoleNumber, OneHole, HolePlace, AtTheRoot}
 use Rattle.fort_logic.specs.Formulas.{Name}
 use Rattle.fort_formula_grammar.specs.Tokens.{Token, Open, Close, Comma, Begin, End, Variable}
-use Rattle.fort_formula_grammar.specs.IndexGrammar.{LeftOut}
-use Rattle.fort_formula_grammar.specs.ExpressionGrammar.{OneOperand, Inv, Clos, TwoOperands, Uni, Comp, root_word, one_word, two_word, number_word, place_word, expression_words, number_words, place_words, IsExpression, OfRoot, OfOne, OfTwo, IsEnclosed, Between}
+use Rattle.fort_formula_grammar.specs.ExpressionGrammar.{LeftOut, OneOperand, Inv, Clos, TwoOperands, Uni, Comp, root_word, one_word, two_word, number_word, place_word, expression_words, number_words, place_words, IsExpression, OfRoot, OfOne, OfTwo, IsEnclosed, Between}
 use Rattle.fort_formula_grammar.specs.Continuations.{HasNoNext, HasNoExpression, HasNoWord}
 use Rattle.fort_formula_grammar.specs.StuckExpressions.{StuckExpression, StuckEnclosed, NoExpression, OneUnopened, InOne, OneUnclosed, TwoUnopened, InFirst, FirstAlone, InSecond, TwoUnclosed, InExpression, ExpressionAlone, NoNumber, NumberAlone, NoPlace, Unended}
 use Rattle.fort_formula_grammar.proofs.LocalParts.{Local-back, Local-then}

@@ -3,8 +3,7 @@ use Rattle.std.proofs.Common.{◌≡◌, ℕ, true, false, List, [], ◌∷◌, 
 use Rattle.std.proofs.lemmas.Bool.{true≢false}
 use Rattle.fort_logic.specs.Formulas.{Name, Argument, Formula}
 use Rattle.fort_formula_grammar.specs.Tokens.{Token, Open, Close, Comma, Not, Exists, Forall, Infinite, Nf, Join, Sn, Variable}
-use Rattle.fort_formula_grammar.specs.IndexGrammar.{IsIndex}
-use Rattle.fort_formula_grammar.specs.ExpressionGrammar.{Between}
+use Rattle.fort_formula_grammar.specs.ExpressionGrammar.{IsIndex, Between}
 use Rattle.fort_formula_grammar.specs.FormulaGrammar as grammar
 use Rattle.fort_formula_grammar.specs.FormulaGrammar.{Quantifier, begins_with_open, Comparison, IsArgument, IsRelation, WithoutIndex, WithIndex, OfExpression, AVariable, AGround, IsFormula, IsUnary, IsBound, Negated, ForSome, ForEvery, Infinitely, Enclosed, Truth, Falsity, Named, Commuting, AllTerminating, Terminating, NormalForm, Joinable, Compared, LastBinder, MoreBinders}
 use Rattle.fort_formula_grammar.specs.Continuations.{continues_formula, begins_relation, HasNoNext, HasNoVariable, HasNoArgument, HasNoUnary, HasNoBound, HasNoConjunction, HasNoDisjunction, HasNoImplication, HasNoFormula}

@@ -2,7 +2,7 @@
 use Rattle.std.proofs.Common.{◌≡◌, ℕ, Bool, true, false, List, [], ◌∷◌, ◌++◌, append_assoc, refl, sym, ap, ◌∙◌, subst}
 use Rattle.std.proofs.lemmas.Bool.{true≢false}
 use Rattle.fort_formula_grammar.specs.Tokens.{Token, Open, Index}
-use Rattle.fort_formula_grammar.specs.IndexGrammar.{begins_with_index, IsIndex}
+use Rattle.fort_formula_grammar.specs.ExpressionGrammar.{begins_with_index, IsIndex}
 use Rattle.fort_formula_grammar.specs.FormulaGrammar.{begins_with_open}
 use Rattle.fort_formula_grammar.proofs.LocalParts.{Local, LocalIndex, Then, less_first}
 use Rattle.fort_formula_grammar.proofs.FirstTokens.{SameFirst, index_same, less_same}

@@ -1,10 +1,25 @@
--- To believe: which tokens are which relation expression; its words are names elsewhere.
-use Rattle.std.specs.Prelude.{◌≡◌, ℕ, List, [], ◌∷◌, codes}
+-- To believe: where an index of rules is written, and that it is 1 where it is left out; which tokens are which relation expression; its words are names elsewhere.
+use Rattle.std.specs.Prelude.{◌≡◌, ℕ, Bool, true, false, List, [], ◌∷◌, codes}
 use Rattle.fort_expressions.specs.Expressions.{Expression, RootSteps, Inverse, Union, Composition, Closure}
 use Rattle.fort_expressions.specs.Contexts.{HoleNumber, OneHole, SomeHoles, AnyHoles, HolePlace, AtTheRoot, BelowTheRoot, AnyPlace}
 use Rattle.fort_logic.specs.Formulas.{Name}
-use Rattle.fort_formula_grammar.specs.Tokens.{Token, Open, Close, Comma, Begin, End, Variable}
-use Rattle.fort_formula_grammar.specs.IndexGrammar.{IsIndex}
+use Rattle.fort_formula_grammar.specs.Tokens.{Token, Index, Open, Close, Comma, Begin, End, Variable}
+
+-- ---- indices
+
+-- an index is the next token
+abbrev pub begins_with_index : List Token → Bool
+begins_with_index [] = false
+begins_with_index (Index n ∷ ts) = true
+begins_with_index (t ∷ ts) = false
+
+-- index := "[1]" | .. | "[9]"; where it may be left out and is, it is 1. That none stands there makes readings from the left
+-- unique; which tokens are a whole formula doesn't rest on it.
+pub data IsIndex : List Token → ℕ → List Token → Type 0 where
+  Given : {n : ℕ} {us : List Token} → IsIndex (Index n ∷ us) n us
+  LeftOut : {us : List Token} → begins_with_index us ≡ false → IsIndex us 1 us
+
+-- ---- expressions
 
 -- what makes an expression of one other, and of two
 pub data OneOperand : Type 0 where

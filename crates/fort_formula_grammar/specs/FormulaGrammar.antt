@@ -5,8 +5,7 @@ use Rattle.fort_logic.specs.Formulas as theory
 use Rattle.fort_logic.specs.Formulas.{Name, Argument, Formula, Property, SurfaceRel}
 use Rattle.fort_expressions.specs.Expressions.{Expression}
 use Rattle.fort_expressions.specs.Contexts.{HoleNumber, HolePlace}
-use Rattle.fort_formula_grammar.specs.IndexGrammar.{IsIndex}
-use Rattle.fort_formula_grammar.specs.ExpressionGrammar.{IsEnclosed}
+use Rattle.fort_formula_grammar.specs.ExpressionGrammar.{IsIndex, IsEnclosed}
 use Rattle.fort_formula_grammar.specs.Tokens.{Token, Open, Close, Comma, Not, And, Or, Imp, Iff, Related, Exists, Forall, Infinite, True, False, Nf, Join, Has, Com, Sn, Variable, Ground}
 
 -- "exists" and "forall"

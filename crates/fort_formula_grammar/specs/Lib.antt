@@ -1,7 +1,6 @@
 pub mod Tokens
 pub mod TokenText
 pub mod TokenForms
-pub mod IndexGrammar
 pub mod ExpressionGrammar
 pub mod FormulaGrammar
 pub mod Continuations

@@ -4,7 +4,7 @@
 use Rattle.std.specs.Prelude.{◌≡◌, ℕ, Bool, false, List, [], ◌∷◌}
 use Rattle.fort_logic.specs.Formulas.{Name, Argument, Formula}
 use Rattle.fort_formula_grammar.specs.Tokens.{Token, Open, Close, Comma, Not, And, Or, Imp, Iff, Exists, Forall, Infinite, Nf, Join, Sn, Variable}
-use Rattle.fort_formula_grammar.specs.IndexGrammar.{IsIndex}
+use Rattle.fort_formula_grammar.specs.ExpressionGrammar.{IsIndex}
 use Rattle.fort_formula_grammar.specs.FormulaGrammar.{Comparison, IsArgument, IsRelation, IsFormula, IsImplication, IsDisjunction, IsConjunction}
 use Rattle.fort_formula_grammar.specs.Continuations.{continues_formula, begins_unary, begins_relation, HasNoNext, HasNoVariable, HasNoArgument}
 use Rattle.fort_formula_grammar.specs.StuckExpressions.{StuckEnclosed}

@@ -4,7 +4,7 @@ use Rattle.fort_expressions.specs.Expressions.{Expression}
 use Rattle.fort_logic.specs.Formulas as theory
 use Rattle.fort_logic.specs.Formulas.{Argument, Property}
 use Rattle.fort_formula_grammar.specs.Tokens.{Token, Open, Close, Comma, Related, Begin, Nf, Join, Sn, Has}
-use Rattle.fort_formula_grammar.specs.IndexGrammar.{IsIndex}
+use Rattle.fort_formula_grammar.specs.ExpressionGrammar.{IsIndex}
 use Rattle.fort_formula_grammar.specs.FormulaGrammar.{begins_with_open, IsArgument, IsUnary, OfExpression, Named, AllTerminating, Terminating, NormalForm, Joinable, Compared}
 use Rattle.fort_formula_grammar.specs.Continuations.{begins_relation, HasNoNext, HasNoArgument}
 use Rattle.fort_formula_grammar.specs.StuckExpressions.{StuckEnclosed}

@@ -5,7 +5,7 @@ use Rattle.fort_logic.specs.Formulas as theory
 use Rattle.fort_logic.specs.Formulas.{Name}
 use Rattle.fort_formula_grammar.specs.Tokens as grammar
 use Rattle.fort_formula_grammar.specs.Tokens.{Token}
-use Rattle.fort_formula_grammar.specs.IndexGrammar.{begins_with_index, IsIndex, Given, LeftOut}
+use Rattle.fort_formula_grammar.specs.ExpressionGrammar.{begins_with_index, IsIndex, Given, LeftOut}
 use Rattle.fort_formula_grammar.specs.FormulaGrammar.{takes_index, ByRules, IsArgument, IsRelation, WithoutIndex, WithIndex}
 use Rattle.fort_formula_grammar.specs.Continuations.{HasNoNext, HasNoArgument}
 use Rattle.fort_formulas.specs.declared.surface.SurfaceRel as rels

@@ -9,8 +9,7 @@ use Rattle.fort_logic.specs.Formulas as theory
 use Rattle.fort_logic.specs.Formulas.{Name, Argument, Var, Ground, Formula}
 use Rattle.fort_logic.specs.FreeNames.{without, names_in, occurrences, once}
 use Rattle.fort_formula_grammar.specs.Tokens.{Token, And, Or, Imp, Iff}
-use Rattle.fort_formula_grammar.specs.IndexGrammar.{IsIndex, Given, LeftOut}
-use Rattle.fort_formula_grammar.specs.ExpressionGrammar.{IsExpression, OfRoot, OfOne, OfTwo, Between}
+use Rattle.fort_formula_grammar.specs.ExpressionGrammar.{IsIndex, Given, LeftOut, IsExpression, OfRoot, OfOne, OfTwo, Between}
 use Rattle.fort_formula_grammar.specs.FormulaGrammar.{Quantifier, Some, Every, quantified, Comparison, ByRules, ByExpression, compared, IsArgument, AVariable, AGround, IsRelation, WithoutIndex, WithIndex, OfExpression, IsFormula, OneSide, BothSides, IsImplication, Conclusion, Premise, IsDisjunction, FirstOr, MoreOr, IsConjunction, FirstAnd, MoreAnd, IsUnary, Negated, ForSome, ForEvery, Infinitely, Enclosed, Truth, Falsity, Named, Commuting, AllTerminating, Terminating, NormalForm, Joinable, Compared, IsBound, LastBinder, MoreBinders}
 use Rattle.fort_formula_grammar.specs.FormulaText.{most_tokens}
 use Rattle.fort_formulas.specs.NumbersNeeded.{argument_numbers, binder_numbers, numbers_needed}

@@ -4,7 +4,7 @@ use Rattle.std.specs.declared.alloc.AllocError.{AllocError}
 use Rattle.fort_logic.specs.Formulas as theory
 use Rattle.fort_logic.specs.Formulas.{SurfaceRel, Formula}
 use Rattle.fort_formula_grammar.specs.Tokens.{Token, Open, Close, Related, Ground}
-use Rattle.fort_formula_grammar.specs.IndexGrammar.{IsIndex}
+use Rattle.fort_formula_grammar.specs.ExpressionGrammar.{IsIndex}
 use Rattle.fort_formula_grammar.specs.FormulaGrammar as grammar
 use Rattle.fort_formula_grammar.specs.FormulaGrammar.{ByRules, IsArgument, IsRelation, IsFormula, IsImplication, IsDisjunction, IsConjunction}
 use Rattle.fort_formula_grammar.specs.Continuations.{continues_formula, continues_implication, continues_disjunction, continues_conjunction}

@@ -11,7 +11,7 @@ use Rattle.fort_cores.specs.Cores as core
 use Rattle.fort_cores.specs.Cores.{Core, Binary, Atom}
 use Rattle.fort_cores.specs.CoreTruth.{Places, IsMetBy}
 use Rattle.fort_cores.specs.Parts.{is_free, BindsFree}
-use Rattle.fort_cores.specs.Structures.{pattern_structure}
+use Rattle.fort_cores.specs.PatternStructures.{pattern_structure}
 use Rattle.fort_tables.specs.Tables.{Table}
 use Rattle.fort_alike.specs.Atoms.{pairs_for}
 use Rattle.fort_theory.specs.Logic.{Connective}

@@ -8,7 +8,7 @@ use Rattle.fort_expressions.specs.Expressions.{Expression}
 use Rattle.fort_expressions.specs.Contexts.{HoleNumber, HolePlace}
 use Rattle.fort_cores.specs.Cores as core
 use Rattle.fort_cores.specs.Cores.{Core, Rel}
-use Rattle.fort_cores.specs.Structures.{pattern_structure}
+use Rattle.fort_cores.specs.PatternStructures.{pattern_structure}
 use Rattle.fort_tables.specs.Tables.{Table}
 use Rattle.fort_tables.specs.LabelRules.{label_of}
 use Rattle.fort_alike.specs.Atoms.{kind_for, pairs_for, relation_atom, normal_atom}

@@ -11,7 +11,7 @@ use Rattle.fort_cores.specs.Cores as core
 use Rattle.fort_cores.specs.Cores.{Core, Rel, Atom}
 use Rattle.fort_cores.specs.Parts.{IsClosed, postorder}
 use Rattle.fort_cores.specs.PartLists.{AreParts}
-use Rattle.fort_cores.specs.Structures.{pattern_structure}
+use Rattle.fort_cores.specs.PatternStructures.{pattern_structure}
 use Rattle.fort_tables.specs.Tables.{Table, listed_table}
 use Rattle.fort_tables.proofs.EqualTests.{test_from_apart, equal_from_test}
 use Rattle.fort_counts.specs.Counts.{Count, KeepRules, count_at}

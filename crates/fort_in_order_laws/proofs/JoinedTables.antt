@@ -10,7 +10,7 @@ use Rattle.fort_theory.proofs.Members.{Contains-none, Contains-head}
 use Rattle.fort_cores.specs.Cores as core
 use Rattle.fort_cores.specs.Cores.{Core, Binary}
 use Rattle.fort_cores.specs.Parts.{is_free}
-use Rattle.fort_cores.specs.Structures.{pattern_structure}
+use Rattle.fort_cores.specs.PatternStructures.{pattern_structure}
 use Rattle.fort_tables.specs.Tables.{Table}
 use Rattle.fort_tables.specs.LabelRules.{IsLabelRule, label_of}
 use Rattle.fort_operations.specs.OperationTruth.{complemented}

@@ -9,7 +9,7 @@ use Rattle.fort_theory.specs.Signatures.{Signature, HasConstant}
 use Rattle.fort_theory.specs.Patterns.{PatternSystem}
 use Rattle.fort_cores.specs.Cores.{Core}
 use Rattle.fort_cores.specs.CoreTruth.{Places, with_number, IsMetBy}
-use Rattle.fort_cores.specs.Structures.{pattern_structure}
+use Rattle.fort_cores.specs.PatternStructures.{pattern_structure}
 use Rattle.fort_tables.specs.Tuples.{Tuple, presence, IsTuple, IsFull, AreGroundColumns}
 use Rattle.fort_tables.specs.Tables.{Listed, listed_table, full_presence, state_of, IsListed}
 use Rattle.fort_tables.specs.LabelRules.{IsLabelRule, label_of}

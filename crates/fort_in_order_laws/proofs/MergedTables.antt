@@ -5,7 +5,7 @@ use Rattle.std.proofs.lemmas.List.{length-map, get_or-map, get_or_default, ext_g
 use Rattle.fort_theory.specs.Signatures.{Signature}
 use Rattle.fort_theory.specs.Patterns.{PatternSystem}
 use Rattle.fort_cores.specs.Cores.{Core}
-use Rattle.fort_cores.specs.Structures.{pattern_structure}
+use Rattle.fort_cores.specs.PatternStructures.{pattern_structure}
 use Rattle.fort_tables.specs.Tuples.{Tuple, tabulate, root, kid, kids, kid_count, IsTuple}
 use Rattle.fort_tables.specs.Entries.{Entry, entry, no_entry, IsEntry, ComesBefore}
 use Rattle.fort_tables.specs.Tables.{Table, Listed, listed_table, IsTable, IsTableEntry, IsReached, IsListed, IsFirstWith, state_of}

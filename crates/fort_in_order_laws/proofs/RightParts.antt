@@ -9,7 +9,7 @@ use Rattle.fort_cores.specs.Cores as core
 use Rattle.fort_cores.specs.Cores.{Core, Binary, Atom}
 use Rattle.fort_cores.specs.Parts.{postorder, BindsFree}
 use Rattle.fort_cores.specs.PartLists.{AreParts}
-use Rattle.fort_cores.specs.Structures.{pattern_structure}
+use Rattle.fort_cores.specs.PatternStructures.{pattern_structure}
 use Rattle.fort_tables.specs.Tables.{Table}
 use Rattle.fort_theory.specs.Logic.{Connective}
 use Rattle.fort_counts.specs.Counts.{KeepRules, count_at}

@@ -4,8 +4,7 @@ use Rattle.fort_theory.specs.Trees.{Tree}
 use Rattle.fort_theory.specs.Signatures.{Signature, HasConstant}
 use Rattle.fort_theory.specs.Sides.{at_index, System, IsLinearSeparated}
 use Rattle.fort_theory.specs.Patterns.{pattern_system}
-use Rattle.fort_theory.specs.Rewriting.{Relation}
-use Rattle.fort_theory.specs.RootSteps.{RootStepAt}
+use Rattle.fort_theory.specs.Rewriting.{Relation, RootStepAt}
 use Rattle.fort_theory.specs.PatternSteps.{PatternStepAt}
 use Rattle.fort_theory.proofs.IndexLaws.{at_index-map, All-at_index}
 use Rattle.fort_theory.proofs.WithinRoots.{Within, Rewrites-within, RewritesBelow-within, RewritesAtMostOnce-within, RewritesEitherWay-within, Reduces-within, ReducesStrictly-within, Converts-within, RewritesInParallel-within, IsNormalForm-within}
@@ -15,7 +14,8 @@ use Rattle.fort_expressions.specs.Expressions.{Means}
 use Rattle.fort_expressions.proofs.MeaningLaws.{Means-within, HoldsInContext-within}
 use Rattle.fort_cores.proofs.SameCoreRoots.{over}
 use Rattle.fort_logic.specs.Formulas.{SurfaceRel, Eq, Step, Star, Plus, Reflexive, Normal, Root, Below, Par, Either, Conv, Property, Cr, Wcr, Scr, Wn, Unr, Unc, Nfp, Formula, True, False, Related, InContext, Nf, Join, Sn, AllSn, Has, Com, Not, And, Or, Imp, Iff, Exists, Forall, Infinite}
-use Rattle.fort_cores.specs.Structures.{pattern_structure, structure_of}
+use Rattle.fort_cores.specs.Structures.{structure_of}
+use Rattle.fort_cores.specs.PatternStructures.{pattern_structure}
 use Rattle.fort_logic.specs.Truth.{Assignment, with_name, Relates, AreJoinable, HasProperty, Commute, Holds}
 
 module _ (r q : Relation) (w : Within r q) (back : Within q r) where

@@ -5,8 +5,7 @@ use Rattle.fort_theory.specs.Logic.{Surely}
 use Rattle.fort_theory.specs.Trees.{Tree}
 use Rattle.fort_theory.specs.Signatures.{IsGround}
 use Rattle.fort_theory.specs.Sides.{System}
-use Rattle.fort_theory.specs.Rewriting.{Reduces, ReducesStrictly}
-use Rattle.fort_theory.specs.RootSteps.{RootStepAt}
+use Rattle.fort_theory.specs.Rewriting.{Reduces, ReducesStrictly, RootStepAt}
 use Rattle.fort_termination.specs.RightGround.{IsRightGroundAt}
 use Rattle.fort_termination.specs.Termination.{ReachesInfinitelyMany, ReachesCycle}
 use Rattle.fort_termination.proofs.RightGroundTargets.{IsTerminating-right_ground}

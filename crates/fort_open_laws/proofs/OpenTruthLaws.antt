@@ -4,7 +4,7 @@ use Rattle.fort_theory.specs.Signatures.{Signature}
 use Rattle.fort_theory.specs.Patterns.{PatternSystem, IsSystem}
 use Rattle.fort_cores.specs.Cores.{Core}
 use Rattle.fort_cores.specs.PartLists.{AreParts}
-use Rattle.fort_cores.specs.Structures.{pattern_structure}
+use Rattle.fort_cores.specs.PatternStructures.{pattern_structure}
 use Rattle.fort_tables.specs.Tuples.{Tuple, IsTuple, IsFull}
 use Rattle.fort_tables.specs.Entries.{Entry, tuples_of}
 use Rattle.fort_tables.specs.Tables.{Table, full_presence, state_of}

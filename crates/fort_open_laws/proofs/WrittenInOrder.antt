@@ -2,7 +2,7 @@
 use Rattle.std.proofs.Common.{Bool, length}
 use Rattle.fort_theory.specs.Patterns.{PatternSystem, IsSystem}
 use Rattle.fort_cores.specs.Cores.{Core}
-use Rattle.fort_cores.specs.Structures.{pattern_structure}
+use Rattle.fort_cores.specs.PatternStructures.{pattern_structure}
 use Rattle.fort_parts.specs.PartAnswers.{OfTable, IsAnswerTo}
 use Rattle.fort_parts.specs.DecidedCores.{IsDecided}
 use Rattle.fort_in_order.specs.Dues.{dues}

@@ -11,7 +11,7 @@ use Rattle.fort_theory.specs.Logic.{Surely}
 use Rattle.fort_cores.specs.Cores as core
 use Rattle.fort_cores.specs.Cores.{Rel, Core}
 use Rattle.fort_cores.specs.CoreTruth.{Places, RelatesBy, IsMetBy}
-use Rattle.fort_cores.specs.Structures.{pattern_structure}
+use Rattle.fort_cores.specs.PatternStructures.{pattern_structure}
 use Rattle.fort_tables.specs.Tuples.{Tuple, IsTuple, IsFull}
 use Rattle.fort_tables.specs.Tables.{Table}
 use Rattle.fort_alike.specs.Atoms.{OfOne, OfTwo, Says, kind_for, pairs_for, relation_atom, normal_atom, IsTrueOf}

@@ -6,7 +6,7 @@ use Rattle.fort_theory.specs.Trees.{Tree}
 use Rattle.fort_theory.specs.Patterns.{PatternSystem}
 use Rattle.fort_cores.specs.Cores as core
 use Rattle.fort_cores.specs.Cores.{Rel, Core}
-use Rattle.fort_cores.specs.Structures.{pattern_structure}
+use Rattle.fort_cores.specs.PatternStructures.{pattern_structure}
 use Rattle.fort_tables.specs.Tuples.{Tuple, IsTuple, IsFull}
 use Rattle.fort_tables.specs.Tables.{Table}
 use Rattle.fort_tables.specs.Labels.{Labelling}

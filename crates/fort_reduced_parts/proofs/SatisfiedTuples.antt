@@ -8,7 +8,7 @@ use Rattle.fort_theory.specs.Signatures.{Signature, HasConstant, IsGround}
 use Rattle.fort_theory.specs.Patterns.{PatternSystem}
 use Rattle.fort_cores.specs.Cores.{Core}
 use Rattle.fort_cores.specs.CoreTruth.{Places, with_number}
-use Rattle.fort_cores.specs.Structures.{pattern_structure}
+use Rattle.fort_cores.specs.PatternStructures.{pattern_structure}
 use Rattle.fort_tables.specs.Tuples.{Tuple, IsTuple, IsPresent, IsFull, AreGroundColumns}
 use Rattle.fort_tables.specs.Tables.{Table, state_of}
 use Rattle.fort_interchange.specs.Interchange.{AcceptsExactly}

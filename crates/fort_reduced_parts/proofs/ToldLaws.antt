@@ -9,7 +9,7 @@ use Rattle.fort_tables.specs.Tuples.{Tuple, IsTuple}
 use Rattle.fort_tables.specs.Tables.{Table}
 use Rattle.fort_tables.specs.Labels.{Labelling}
 use Rattle.fort_operations.specs.OperationTruth.{complemented}
-use Rattle.fort_cores.specs.Structures.{pattern_structure}
+use Rattle.fort_cores.specs.PatternStructures.{pattern_structure}
 use Rattle.fort_parts.specs.PartColumns.{columns_of}
 use Rattle.fort_parts.specs.AlikeParts.{AlikeBy, IsOverBy}
 use Rattle.fort_parts.specs.PartAnswers.{Answer, OfValue, OfTable, IsAnswerTo}

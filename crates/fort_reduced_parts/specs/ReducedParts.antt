@@ -3,7 +3,7 @@ use Rattle.std.specs.Prelude.{◌≡◌, Bool, true, false, length}
 use Rattle.fort_theory.specs.Patterns.{PatternSystem}
 use Rattle.fort_cores.specs.Cores.{Core}
 use Rattle.fort_cores.specs.CoreTruth.{Places, IsMetBy}
-use Rattle.fort_cores.specs.Structures.{pattern_structure}
+use Rattle.fort_cores.specs.PatternStructures.{pattern_structure}
 use Rattle.fort_tables.specs.Tuples.{Tuple}
 use Rattle.fort_interchange.specs.Interchange.{Interchangeable}
 use Rattle.fort_atom_labels.specs.AssignedTuples.{tuple_of}

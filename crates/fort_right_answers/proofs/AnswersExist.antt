@@ -10,7 +10,7 @@ use Rattle.fort_theory.specs.Patterns.{Pair, PatternSystem, IsSystem}
 use Rattle.fort_cores.specs.Cores as core
 use Rattle.fort_cores.specs.Cores.{Core, Rel, Binary}
 use Rattle.fort_cores.specs.Parts.{is_free, postorder, IsWellFormed}
-use Rattle.fort_cores.specs.Structures.{pattern_structure}
+use Rattle.fort_cores.specs.PatternStructures.{pattern_structure}
 use Rattle.fort_tables.specs.Tables.{Table}
 use Rattle.fort_tables.specs.Labels.{Labelling}
 use Rattle.fort_tables.specs.LabelRules.{LabelRule, IsLabelRule, label_of, IsTableBy}

@@ -6,8 +6,7 @@ use Rattle.fort_theory.specs.Trees.{Tree, Trees, Node, Nil, More, tree_count, su
 use Rattle.fort_theory.specs.Signatures.{Signature, IsGround, AreGround}
 use Rattle.fort_theory.specs.Sides.{Rule}
 use Rattle.fort_theory.specs.Patterns.{Pair}
-use Rattle.fort_theory.specs.Rewriting.{Relation, RewritesAt, Rewrites, RewritesBelow, RewritesAtMostOnce, Path, Reduces, ReducesStrictly, RewritesEitherWay, Converts, RewritesInParallel, AllRewriteInParallel, AtRoot, Inside, End, Both}
-use Rattle.fort_theory.specs.RootSteps.{RootStep}
+use Rattle.fort_theory.specs.Rewriting.{Relation, RewritesAt, Rewrites, RewritesBelow, RewritesAtMostOnce, Path, Reduces, ReducesStrictly, RewritesEitherWay, Converts, RewritesInParallel, AllRewriteInParallel, AtRoot, Inside, End, Both, RootStep}
 use Rattle.fort_theory.specs.PatternSteps.{PatternStep}
 use Rattle.fort_theory.proofs.Lists.{none-some, some-injective}
 

@@ -7,7 +7,7 @@ use Rattle.fort_theory.specs.Trees.{Tree, Trees, Node, Nil, More}
 use Rattle.fort_theory.specs.Signatures.{Signature, IsGround, AreGround, HasConstant}
 use Rattle.fort_theory.specs.Sides.{Side, Sides, Var, App, NoSide, MoreSides, variables, variables_among, Substitution, applied, all_applied, Rule, IsLinear, IsLinearSeparated}
 use Rattle.fort_theory.specs.Patterns.{IsInstance, AreInstances, pattern_of, patterns_of, pattern_pair}
-use Rattle.fort_theory.specs.RootSteps.{RootStep}
+use Rattle.fort_theory.specs.Rewriting.{RootStep}
 use Rattle.fort_theory.specs.PatternSteps.{PatternStep}
 use Rattle.fort_theory.proofs.Lists.{IsDistinct-append_left, IsDistinct-append_right, IsDistinct-append_apart, Contains-map, Contains-map_from}
 

@@ -5,7 +5,6 @@ pub mod Sides
 pub mod Patterns
 pub mod PatternOrder
 pub mod Rewriting
-pub mod RootSteps
 pub mod PatternSteps
 pub mod TreeCode
 pub mod SideCode

@@ -1,9 +1,29 @@
--- To believe: what a step, a reduction, a conversion, a parallel step and a normal form are, for any relation between trees in the place of the root step.
-use Rattle.std.specs.Prelude.{◌≡◌, ◌≢◌, ℕ, List, [], ◌∷◌, ◌⊎◌, Some}
+-- To believe: what a root step by rules is, one rule and one substitution by ground terms giving both ends; what a step, a reduction, a conversion, a parallel step and a normal form are, for any relation between trees in the place of the root step.
+use Rattle.std.specs.Prelude.{◌≡◌, ◌≢◌, ℕ, List, [], ◌∷◌, ◌⊎◌, Some, Contains}
 use Rattle.fort_theory.specs.Trees.{Tree, Trees, Node, Nil, More, subtree_at, replaced_at}
+use Rattle.fort_theory.specs.Signatures.{Signature, IsGround}
+use Rattle.fort_theory.specs.Sides.{Rule, System, at_index, Substitution, applied}
 
 abbrev pub Relation : Type 1
 Relation = Tree → Tree → Type 0
+
+-- ---- root steps
+
+pub record RootStep (signature : Signature) (rules : List Rule) (s t : Tree) : Type 0 where
+  pub rule : Rule
+  pub among : Contains rules rule
+  pub substitution : Substitution
+  pub by_ground : (v : ℕ) → IsGround signature (substitution v)
+  pub left : s ≡ applied substitution rule.left
+  pub right : t ≡ applied substitution rule.right
+  pub left_grounded : IsGround signature s
+  pub right_grounded : IsGround signature t
+
+-- the root steps of a system at an index
+abbrev pub RootStepAt : System → ℕ → Relation
+RootStepAt system index = RootStep system.signature (at_index index system.rules)
+
+-- ---- steps anywhere
 
 -- at a position of s stands a redex, and t is s with a contractum of it there
 pub record RewritesAt (root : Relation) (position : List ℕ) (s t : Tree) : Type 0 where

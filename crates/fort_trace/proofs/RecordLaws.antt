@@ -12,7 +12,7 @@ use Rattle.fort_cores.specs.Cores as core
 use Rattle.fort_cores.specs.Cores.{Core}
 use Rattle.fort_cores.specs.Parts.{BindsFree, IsClosed}
 use Rattle.fort_cores.specs.PartLists.{AreParts}
-use Rattle.fort_cores.specs.Structures.{pattern_structure}
+use Rattle.fort_cores.specs.PatternStructures.{pattern_structure}
 use Rattle.fort_tables.specs.Tables.{Listed, listed_table}
 use Rattle.fort_parts.specs.PartColumns.{columns_of}
 use Rattle.fort_parts.specs.PartAnswers.{Answer, OfTable, IsAnswerTo}

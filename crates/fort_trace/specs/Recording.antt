@@ -7,7 +7,7 @@ use Rattle.fort_theory.specs.Patterns.{PatternSystem}
 use Rattle.fort_cores.specs.Cores as core
 use Rattle.fort_cores.specs.Cores.{Core}
 use Rattle.fort_cores.specs.PartLists.{AreParts}
-use Rattle.fort_cores.specs.Structures.{pattern_structure}
+use Rattle.fort_cores.specs.PatternStructures.{pattern_structure}
 use Rattle.fort_tables.specs.Tables.{Table, Listed, IsListed}
 use Rattle.fort_counts.specs.Counts as counts
 use Rattle.fort_parts.specs.PartAnswers.{OfTable, IsAnswerTo}

@@ -1,7 +1,7 @@
 //! Decides a formula, each of its parts in turn, and records the steps.
 ghost use Rattle.std.specs.Prelude.{ℕ, ◌<◌, length, map, IfOk, IfErr, OnOk};
 ghost use Rattle.fort_cores.specs.Parts as logic;
-ghost use Rattle.fort_cores.specs.Structures.{pattern_structure};
+ghost use Rattle.fort_cores.specs.PatternStructures.{pattern_structure};
 ghost use Rattle.fort_formulas.specs.CoreView.{as_core};
 ghost use Rattle.fort_parts.specs.DecidedCores.{IsDecided};
 ghost use Rattle.fort_parts.specs.PartColumns.{columns_of};
