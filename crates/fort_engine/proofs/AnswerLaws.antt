@@ -11,7 +11,7 @@ use Rattle.fort_expressions.specs.Expressions.{Expression}
 use Rattle.fort_expressions.specs.Contexts.{HoleNumber, HolePlace}
 use Rattle.fort_cores.specs.Cores as core
 use Rattle.fort_cores.specs.Parts.{is_free, AreColumns}
-use Rattle.fort_cores.specs.Structures.{pattern_structure}
+use Rattle.fort_cores.specs.PatternStructures.{pattern_structure}
 use Rattle.fort_tables.specs.Tables.{Table, IsListed, listed_table}
 use Rattle.fort_tables.specs.Labels.{Labelling, HasMoreLabels, IsTableOf}
 use Rattle.fort_tables.specs.LabelRules.{label_of, IsTableBy}

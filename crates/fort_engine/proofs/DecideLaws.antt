@@ -11,7 +11,7 @@ use Rattle.fort_cores.specs.Cores.{Core}
 use Rattle.fort_cores.specs.PartLists.{AreParts}
 use Rattle.fort_cores.specs.Parts.{postorder}
 use Rattle.fort_cores.specs.Kinds.{kind_of}
-use Rattle.fort_cores.specs.Structures.{pattern_structure}
+use Rattle.fort_cores.specs.PatternStructures.{pattern_structure}
 use Rattle.fort_cores.proofs.EachOnceUnique.{AreEachOnce-unique}
 use Rattle.fort_tables.specs.Tuples.{Tuple, IsTuple}
 use Rattle.fort_tables.specs.Entries.{Entry, tuples_of}

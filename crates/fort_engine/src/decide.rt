@@ -1,7 +1,7 @@
 //! Decides a formula, each of its parts in turn.
 ghost use Rattle.std.specs.Prelude.{◌≡◌, ℕ, ◌<◌, ◌≤◌, [], length, slice_index_or, false, true, None, IfOk, IfErr, OnOk};
 ghost use Rattle.fort_cores.specs.Cores as theory;
-ghost use Rattle.fort_cores.specs.Structures.{pattern_structure};
+ghost use Rattle.fort_cores.specs.PatternStructures.{pattern_structure};
 ghost use Rattle.fort_formulas.specs.CoreView.{as_core};
 ghost use Rattle.fort_parts.specs.DecidedCores.{IsDecided};
 ghost use Rattle.fort_parts.specs.PartAnswers.{IsAnswerTo};
@@ -100,6 +100,34 @@ pub fn decide_parts<R: Recorder>(
     Ok(kept)
 }
 
+/// `decide_with`, by the outline of the core formula, which serves each system over which the formula can be decided.
+pub fn decide_outlined(
+    alloc: Global,
+    system: &System,
+    outline: &Outline,
+    options: &Options,
+) -> Result<Trace, EngineFault>
+    requires { (root : theory.Core) × IsPlanned system.now root outline.now }
+    ensures truth { IfOk result (λ t. (root : theory.Core) → IsPlanned system.now root outline.now
+        → IsAnswerTo (pattern_structure system.now) root (as_answer t.last)) }
+    ensures within { OnOk result ((root : theory.Core) → IsPlanned system.now root outline.now
+        → KeepsCapAt system.now options.now.reduces root options.now.cap) }
+    ensures states { IfOk result (λ t. HasStatesWithin options.now.cap t.last) }
+    ensures over { IfErr result (λ e. (root : theory.Core)
+        → IsPlanned system.now root outline.now
+        → IfOver e (IsLimit system.now options.now.reduces root options.now.cap)) }
+{
+    let closures = Closures::new(alloc, system, &outline.roots)?;
+    let mut kept = match decide_parts(alloc, system, outline, &closures, options, &mut ()) {
+        Ok(kept) => kept,
+        Err(fault) => return Err(fault),
+    };
+    match kept.swap_remove(outline.whole) {
+        Some(last) => Ok(Trace { last }),
+        None => unreachable!(),
+    }
+}
+
 /// Decides a core formula over a system: its truth where it is closed, else a table that accepts exactly the tuples that meet it.
 /// It is over the cap where some part has more labels than the cap, by its operands' tables as they are kept; the first such part
 /// is told.
@@ -119,15 +147,7 @@ pub fn decide_with(
         (IsLimit system.now options.now.reduces (as_core core.now) options.now.cap)) }
 {
     let outline = Outline::new(alloc, core)?;
-    let closures = Closures::new(alloc, system, &outline.roots)?;
-    let mut kept = match decide_parts(alloc, system, &outline, &closures, options, &mut ()) {
-        Ok(kept) => kept,
-        Err(fault) => return Err(fault),
-    };
-    match kept.swap_remove(outline.whole) {
-        Some(last) => Ok(Trace { last }),
-        None => unreachable!(),
-    }
+    decide_outlined(alloc, system, &outline, options)
 }
 
 /// `decide_with`, with tables as they are.

@@ -16,6 +16,6 @@ mod recorder;
 
 pub use answer::{Decided, EngineFault, Last, Limit, Trace};
 pub use closures::{Closures, IndexClosure};
-pub use decide::{decide_core, decide_parts, decide_reduced, decide_with};
+pub use decide::{decide_core, decide_outlined, decide_parts, decide_reduced, decide_with};
 pub use options::Options;
 pub use recorder::Recorder;
