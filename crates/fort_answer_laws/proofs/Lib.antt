@@ -4,5 +4,7 @@ pub mod TermTuples
 pub mod OneVerdicts
 pub mod OneSolutions
 pub mod OneConfirmed
+pub mod OneSynth
 pub mod OneAnswer
 pub mod OneOwed
+pub mod SaidAnswers

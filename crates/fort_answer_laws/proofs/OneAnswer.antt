@@ -115,35 +115,42 @@ module _ (inquiry : Inquiry) (bytes : Text) where
     pub IsAnswerTo-unique : (s s' : ℕ) (t t' : Text) → IsAnswerTo inquiry bytes s t → IsAnswerTo inquiry bytes s' t' → Are s t s' t'
     IsAnswerTo-unique s s' t t' one other = AtFormula-unique s s' t t' (staged s t one) (staged s' t' other)
 
-  -- ---- over a system with all that the formula speaks of, it is what is said, or the part that is over the cap
+  -- ---- over a system with all that the formula speaks of, what is said has some property, or a part is over the cap
 
-  module _ (low : SaysLow inquiry) (f : Formula) (system : System) (behind : Behind inquiry.tail) (terms : List Tree) (s : ℕ) (t : Text)
+  module _ (P : Type 0) (f : Formula) (system : System) (behind : Behind inquiry.tail) (terms : List Tree) (s : ℕ) (t : Text)
       (accepted : IsAcceptedAs inquiry.openness inquiry.formula f) (is : IsInputWith inquiry.tail bytes system behind)
-      (fits : FitsSystem inquiry.formula f system terms) where
-    -- the answer is low, or some part is over the cap of the options
-    abbrev pub IsLowOrOver : Type 0
-    IsLowOrOver = (s ≤ negative) ⊎ ((s ≡ limited) × ((options : Options) × (inquiry.options ≡ Some options) × (KeepsCap system terms f options → ⊥)))
+      (fits : FitsSystem inquiry.formula f system terms) (low : inquiry.says system behind terms f s t → P) where
+    -- that, or some part is over the cap of the options
+    abbrev pub HoldsOrOver : Type 0
+    HoldsOrOver = P ⊎ ((s ≡ limited) × ((options : Options) × (inquiry.options ≡ Some options) × (KeepsCap system terms f options → ⊥)))
 
-    cap_low : AtCap system behind terms f s t → IsLowOrOver
-    cap_low (Over options same k kind over are) = inr (are.same_status, (options, same, PassesCap-not_kept system terms f options k kind over))
-    cap_low (Within keeps says) = inl (low system behind terms f s t says)
+    cap_holds : AtCap system behind terms f s t → HoldsOrOver
+    cap_holds (Over options same k kind over are) = inr (are.same_status, (options, same, PassesCap-not_kept system terms f options k kind over))
+    cap_holds (Within keeps says) = inl (low says)
 
-    fit_low : AtFit system behind f s t → IsLowOrOver
-    fit_low (Unfit line says are) = absurd (FitsSystem-not_unfit inquiry.formula f system terms line fits says)
-    fit_low (Fits terms' fits' rest) =
+    fit_holds : AtFit system behind f s t → HoldsOrOver
+    fit_holds (Unfit line says are) = absurd (FitsSystem-not_unfit inquiry.formula f system terms line fits says)
+    fit_holds (Fits terms' fits' rest) =
         let problem = (problem_with inquiry.tail bytes system behind is).2 in
-        cap_low (subst (λ xs. AtCap system behind xs f s t) (FitsSystem-one inquiry.formula f system terms' terms problem.declares.distinct fits' fits) rest)
+        cap_holds (subst (λ xs. AtCap system behind xs f s t) (FitsSystem-one inquiry.formula f system terms' terms problem.declares.distinct fits' fits) rest)
 
-    input_low : AtInput f s t → IsLowOrOver
-    input_low (Refused line says are) = absurd (IsInputWith-not_refused inquiry.tail bytes line system behind is says)
-    input_low (Read system' behind' is' rest) =
+    input_holds : AtInput f s t → HoldsOrOver
+    input_holds (Refused line says are) = absurd (IsInputWith-not_refused inquiry.tail bytes line system behind is says)
+    input_holds (Read system' behind' is' rest) =
         let same = IsInputWith-unique inquiry.tail bytes system system' behind behind' is is' in
-        fit_low (subst (λ b. AtFit system b f s t) same.1 (subst (λ x. AtFit x behind' f s t) same.0 rest))
+        fit_holds (subst (λ b. AtFit system b f s t) same.1 (subst (λ x. AtFit x behind' f s t) same.0 rest))
 
-    formula_low : AtFormula s t → IsLowOrOver
-    formula_low (Early early) = absurd (early-without_input inquiry s t f early accepted)
-    formula_low (Accepted g accepted' rest) =
-        input_low (subst (λ h. AtInput h s t) (IsAcceptedAs-unique inquiry.openness inquiry.formula g f accepted' accepted) rest)
+    formula_holds : AtFormula s t → HoldsOrOver
+    formula_holds (Early early) = absurd (early-without_input inquiry s t f early accepted)
+    formula_holds (Accepted g accepted' rest) =
+        input_holds (subst (λ h. AtInput h s t) (IsAcceptedAs-unique inquiry.openness inquiry.formula g f accepted' accepted) rest)
 
-    pub IsAnswerTo-low : IsAnswerTo inquiry bytes s t → IsLowOrOver
-    IsAnswerTo-low answer = formula_low (staged s t answer)
+    pub IsAnswerTo-or_over : IsAnswerTo inquiry bytes s t → HoldsOrOver
+    IsAnswerTo-or_over answer = formula_holds (staged s t answer)
+
+  -- where what is said has a low status
+  pub IsAnswerTo-low : SaysLow inquiry → (f : Formula) (system : System) (behind : Behind inquiry.tail) (terms : List Tree) (s : ℕ) (t : Text)
+      → IsAcceptedAs inquiry.openness inquiry.formula f → IsInputWith inquiry.tail bytes system behind → FitsSystem inquiry.formula f system terms
+      → IsAnswerTo inquiry bytes s t → (s ≤ negative) ⊎ ((s ≡ limited) × ((options : Options) × (inquiry.options ≡ Some options) × (KeepsCap system terms f options → ⊥)))
+  IsAnswerTo-low low f system behind terms s t accepted is fits answer =
+      IsAnswerTo-or_over (s ≤ negative) f system behind terms s t accepted is fits (low system behind terms f s t) answer

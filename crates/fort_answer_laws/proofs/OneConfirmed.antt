@@ -17,7 +17,7 @@ use Rattle.fort_open_certificates.proofs.OneOpenWritten.{IsOpenWritten-one}
 use Rattle.fort_answers.specs.Requests.{Text}
 use Rattle.fort_answers.specs.Lines.{positive, negative}
 use Rattle.fort_answers.specs.SystemAnswer.{Are}
-use Rattle.fort_answers.specs.WitnessAnswer.{bindings}
+use Rattle.fort_answers.specs.Witnesses.{bindings}
 use Rattle.fort_answers.specs.OpenCertificateAnswer.{OpenCertificateVerdict}
 use Rattle.fort_answers.specs.CheckAnswer.{rejected_line}
 use Rattle.fort_answers.specs.ConfirmAnswer.{certified_witness_line, certified_none_line, node_line, OwesOpenOutcome, SaysFound, SaysNone, SaysRejected, SaysNoEntry, ConfirmVerdict}

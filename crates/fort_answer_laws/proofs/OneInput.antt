@@ -3,7 +3,7 @@ use Rattle.std.proofs.Common.{◌≡◌, ◌≤◌, List, ℕ, length, refl, sym
 use Rattle.fort_theory.specs.Sides.{System}
 use Rattle.fort_grammar.specs.Forms.{Forms, AreFormsOf}
 use Rattle.fort_grammar.specs.Declarations.{ProblemFault, as_list}
-use Rattle.fort_grammar.specs.ProblemForms.{IsProblem, IsFirstProblemFault}
+use Rattle.fort_grammar.specs.ProblemForms.{IsProblem}
 use Rattle.fort_grammar.proofs.OneReading.{same_forms}
 use Rattle.fort_ari.proofs.OneAnswer.{problem_without_fault}
 use Rattle.fort_ari.proofs.OneFault.{first_fault_unique}
@@ -15,8 +15,9 @@ use Rattle.fort_certificate_grammar.proofs.OneFault.{certificate_not_bad, first_
 use Rattle.fort_open_certificates.specs.OpenCertificates.{OpenCertificate}
 use Rattle.fort_open_certificates.specs.OpenForms.{IsOpenCertificate}
 use Rattle.fort_open_certificates.proofs.OneOpenCertificate.{IsOpenCertificate-one, IsFirstOpenFault-one, IsOpenCertificate-not_bad}
+use Rattle.fort_answers.specs.Said.{BeginsWith}
 use Rattle.fort_answers.specs.Lines.{problem_fault_line, certificate_fault_line}
-use Rattle.fort_answers.specs.InputAnswer.{input_limit, Tail, Behind, Nothing, ACertificate, AnOpenCertificate, IsCertifiedInput, IsOpenCertifiedInput, IsInputWith, IsTailRefused, IsInputRefused, TooLong, NoForms, NoProblem, BadTail}
+use Rattle.fort_answers.specs.InputAnswer.{input_limit, Tail, Behind, Nothing, ACertificate, AnOpenCertificate, NoRules, BeginsPlainly, IsCertifiedInput, IsOpenCertifiedInput, IsInputWith, IsFirstPlainFault, NotPlain, Plain, IsProblemRefused, IsTailRefused, IsInputRefused, TooLong, NoForms, NoProblem, BadTail}
 use Rattle.fort_answer_laws.proofs.InputStages.{Refusal, Long, BadText, Read, stages_one, stages_read}
 
 -- ---- what was read, whatever has to stand behind the problem
@@ -41,6 +42,14 @@ read_as ACertificate bytes system behind is =
     record { short = is.short; forms = is.forms; are_forms = is.are_forms; next = is.next; problem = is.problem }
 read_as AnOpenCertificate bytes system behind is =
     record { short = is.short; forms = is.forms; are_forms = is.are_forms; next = is.next; problem = is.problem }
+read_as NoRules bytes system behind is =
+    record { short = is.short; forms = is.forms; are_forms = is.are_forms; next = length (as_list is.forms); problem = is.problem }
+
+-- the first of them are the system
+pub begins_with : (tail : Tail) (bytes : List ℕ) (system : System) (behind : Behind tail) → IsInputWith tail bytes system behind → BeginsWith bytes system
+begins_with tail bytes system behind is =
+    let read = read_as tail bytes system behind is in
+    record { forms = read.forms; are_forms = read.are_forms; next = read.next; problem = read.problem }
 
 -- the forms of such an input are a problem
 pub problem_with : (tail : Tail) (bytes : List ℕ) (system : System) (behind : Behind tail) → IsInputWith tail bytes system behind
@@ -51,7 +60,7 @@ problem_with tail bytes system behind is = let read = read_as tail bytes system 
 
 -- why forms are no problem with the right tail
 data Reading (tail : Tail) (bytes : List ℕ) (forms : Forms) (line : List ℕ) : Type 0 where
-  Faulty : (fault : ProblemFault) → IsFirstProblemFault bytes (as_list forms) fault → line ≡ problem_fault_line fault → Reading tail bytes forms line
+  Faulty : (fault : ProblemFault) → IsProblemRefused tail bytes forms fault → line ≡ problem_fault_line fault → Reading tail bytes forms line
   Tailed : (system : System) (next : ℕ) → IsProblem bytes (as_list forms) system next → IsTailRefused tail bytes forms system next line
       → Reading tail bytes forms line
 
@@ -62,6 +71,32 @@ module _ (bytes : List ℕ) (forms : Forms) where
       let same = IsProblem-unique bytes (as_list forms) s s' n n' p p' in
       subst (λ k. P s k) (sym same.1) (subst (λ x. P x n') (sym same.0) h)
 
+  plain_fault_one : (x y : ProblemFault) → IsFirstPlainFault bytes (as_list forms) x → IsFirstPlainFault bytes (as_list forms) y → x ≡ y
+  plain_fault_one x y (NotPlain not) (NotPlain nor) = refl
+  plain_fault_one x y (NotPlain not) (Plain plain fault first) = absurd (not plain)
+  plain_fault_one x y (Plain plain fault first) (NotPlain not) = absurd (not plain)
+  plain_fault_one x y (Plain plain fault first) (Plain plain' fault' first') = first_fault_unique bytes (as_list forms) x y first first'
+
+  fault_one : (tail : Tail) (x y : ProblemFault) → IsProblemRefused tail bytes forms x → IsProblemRefused tail bytes forms y → x ≡ y
+  fault_one Nothing x y first first' = first_fault_unique bytes (as_list forms) x y first first'
+  fault_one ACertificate x y first first' = first_fault_unique bytes (as_list forms) x y first first'
+  fault_one AnOpenCertificate x y first first' = first_fault_unique bytes (as_list forms) x y first first'
+  fault_one NoRules x y first first' = plain_fault_one x y first first'
+
+  -- a problem that begins plainly has no fault
+  plain_without_fault : (s : System) (n : ℕ) (x : ProblemFault) → IsProblem bytes (as_list forms) s n → BeginsPlainly bytes (as_list forms)
+      → IsFirstPlainFault bytes (as_list forms) x → ⊥
+  plain_without_fault s n x p plain (NotPlain not) = not plain
+  plain_without_fault s n x p plain (Plain also fault first) = problem_without_fault bytes (as_list forms) s n x p first
+
+  -- nor have forms whose tail is refused
+  tailed_without_fault : (tail : Tail) (s : System) (n : ℕ) (x : ProblemFault) (line : List ℕ) → IsProblem bytes (as_list forms) s n
+      → IsTailRefused tail bytes forms s n line → IsProblemRefused tail bytes forms x → ⊥
+  tailed_without_fault Nothing s n x line p is first = problem_without_fault bytes (as_list forms) s n x p first
+  tailed_without_fault ACertificate s n x line p is first = problem_without_fault bytes (as_list forms) s n x p first
+  tailed_without_fault AnOpenCertificate s n x line p is first = problem_without_fault bytes (as_list forms) s n x p first
+  tailed_without_fault NoRules s n x line p is first = plain_without_fault s n x p is.0 first
+
   tail_one : (tail : Tail) (s : System) (n : ℕ) (line line' : List ℕ) → IsTailRefused tail bytes forms s n line → IsTailRefused tail bytes forms s n line'
       → line ≡ line'
   tail_one Nothing s n line line' is is' = is.1 ∙ sym is'.1
@@ -69,12 +104,12 @@ module _ (bytes : List ℕ) (forms : Forms) where
       is.2 ∙ (ap certificate_fault_line (first_fault_one bytes (length s.rules) (as_list forms) n is.0 is'.0 is.1 is'.1) ∙ sym is'.2)
   tail_one AnOpenCertificate s n line line' is is' =
       is.2 ∙ (ap certificate_fault_line (IsFirstOpenFault-one bytes (as_list forms) n is.0 is'.0 is.1 is'.1) ∙ sym is'.2)
+  tail_one NoRules s n line line' is is' = is.2 ∙ sym is'.2
 
   Reading-unique : (tail : Tail) (line line' : List ℕ) → Reading tail bytes forms line → Reading tail bytes forms line' → line ≡ line'
-  Reading-unique tail line line' (Faulty x first e) (Faulty y first' e') =
-      e ∙ (ap problem_fault_line (first_fault_unique bytes (as_list forms) x y first first') ∙ sym e')
-  Reading-unique tail line line' (Faulty x first e) (Tailed s n p is) = absurd (problem_without_fault bytes (as_list forms) s n x p first)
-  Reading-unique tail line line' (Tailed s n p is) (Faulty y first' e') = absurd (problem_without_fault bytes (as_list forms) s n y p first')
+  Reading-unique tail line line' (Faulty x first e) (Faulty y first' e') = e ∙ (ap problem_fault_line (fault_one tail x y first first') ∙ sym e')
+  Reading-unique tail line line' (Faulty x first e) (Tailed s n p is) = absurd (tailed_without_fault tail s n x line' p is first)
+  Reading-unique tail line line' (Tailed s n p is) (Faulty y first' e') = absurd (tailed_without_fault tail s n y line p is first')
   Reading-unique tail line line' (Tailed s n p is) (Tailed s' n' p' is') =
       tail_one tail s n line line' is (moved (λ x k. IsTailRefused tail bytes forms x k line') s s' n n' p p' is')
 
@@ -98,11 +133,20 @@ tail_right ACertificate bytes line system behind is r =
     certificate_not_bad bytes (length system.rules) (as_list is.forms) is.next behind r.0 is.certificate r.1
 tail_right AnOpenCertificate bytes line system behind is r =
     IsOpenCertificate-not_bad bytes (as_list is.forms) is.next behind r.0 is.certificate r.1
+tail_right NoRules bytes line system behind is r = let below = r.1 in let all = is.no_rules in omega arith
+
+-- nor is its problem
+problem_right : (tail : Tail) (bytes : List ℕ) (system : System) (behind : Behind tail) (is : IsInputWith tail bytes system behind) (x : ProblemFault)
+    → IsProblemRefused tail bytes (read_as tail bytes system behind is).forms x → ⊥
+problem_right Nothing bytes system behind is x first =
+    problem_without_fault bytes (as_list is.problem.forms) system (length (as_list is.problem.forms)) x is.problem.problem first
+problem_right ACertificate bytes system behind is x first = problem_without_fault bytes (as_list is.forms) system is.next x is.problem first
+problem_right AnOpenCertificate bytes system behind is x first = problem_without_fault bytes (as_list is.forms) system is.next x is.problem first
+problem_right NoRules bytes system behind is x first = plain_without_fault bytes is.forms system (length (as_list is.forms)) x is.problem is.plain first
 
 module _ (tail : Tail) (bytes line : List ℕ) (system : System) (behind : Behind tail) (is : IsInputWith tail bytes system behind) where
   not_read : Reading tail bytes (read_as tail bytes system behind is).forms line → ⊥
-  not_read (Faulty x first e) =
-      let read = read_as tail bytes system behind is in problem_without_fault bytes (as_list read.forms) system read.next x read.problem first
+  not_read (Faulty x first e) = problem_right tail bytes system behind is x first
   not_read (Tailed s n p r) =
       let read = read_as tail bytes system behind is in
       tail_right tail bytes line system behind is
@@ -145,6 +189,7 @@ behind_one : (tail : Tail) (bytes : List ℕ) (s s' : System) (b b' : Behind tai
 behind_one Nothing bytes s s' b b' is is' = refl
 behind_one ACertificate bytes s s' b b' is is' = certificates_one bytes s s' b b' is is'
 behind_one AnOpenCertificate bytes s s' b b' is is' = open_certificates_one bytes s s' b b' is is'
+behind_one NoRules bytes s s' b b' is is' = refl
 
 pub IsInputWith-unique : (tail : Tail) (bytes : List ℕ) (system system' : System) (behind behind' : Behind tail) → IsInputWith tail bytes system behind
     → IsInputWith tail bytes system' behind' → (system' ≡ system) × (behind' ≡ behind)

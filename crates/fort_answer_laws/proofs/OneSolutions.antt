@@ -11,7 +11,8 @@ use Rattle.fort_order.proofs.FirstLaws.{AreFirstInOrder-unique}
 use Rattle.fort_answers.specs.Requests.{Text, Bounds}
 use Rattle.fort_answers.specs.Lines.{negative}
 use Rattle.fort_answers.specs.SystemAnswer.{Are}
-use Rattle.fort_answers.specs.SolutionsAnswer.{AreSolutionTerms, TermsBefore, SolutionsVerdict, count_line, solution_lines, status_of}
+use Rattle.fort_answers.specs.SolutionsAnswer.{SolutionsVerdict, status_of}
+use Rattle.fort_answers.specs.SolutionTerms.{AreSolutionTerms, TermsBefore, count_line, solution_lines}
 use Rattle.fort_answers.proofs.OneRequest.{Are-unique}
 use Rattle.fort_answer_laws.proofs.TermTuples.{IsTuple-terms, terms-one, witnesses-count, witnesses-ground}
 

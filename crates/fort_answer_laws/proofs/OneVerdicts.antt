@@ -21,7 +21,8 @@ use Rattle.fort_answers.specs.Requests.{Text}
 use Rattle.fort_answers.specs.Lines.{positive, negative, yes_line, no_line, witness_line, none_line}
 use Rattle.fort_answers.specs.SystemAnswer.{Are}
 use Rattle.fort_answers.specs.DecideAnswer.{TruthVerdict, Yes, No, DecideVerdict}
-use Rattle.fort_answers.specs.WitnessAnswer.{AreWitnesses, AreLeastWitnesses, bindings, WitnessVerdict, Found, NotFound}
+use Rattle.fort_answers.specs.WitnessAnswer.{WitnessVerdict, Found, NotFound}
+use Rattle.fort_answers.specs.Witnesses.{AreWitnesses, AreLeastWitnesses, bindings}
 use Rattle.fort_answers.specs.CertificateAnswer.{CertificateVerdict}
 use Rattle.fort_answers.specs.CheckAnswer.{certified_line, rejected_line, OwesOutcome, CheckVerdict}
 use Rattle.fort_answers.proofs.OneRequest.{Are-unique}

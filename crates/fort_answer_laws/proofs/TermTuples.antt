@@ -9,7 +9,7 @@ use Rattle.fort_theory.specs.Sides.{System}
 use Rattle.fort_logic.specs.Formulas.{Name, Formula, Var}
 use Rattle.fort_logic.specs.FreeNames.{free_names}
 use Rattle.fort_tables.specs.Tuples.{Tuple, IsTuple, IsFull, IsPresent, AreGroundColumns}
-use Rattle.fort_answers.specs.WitnessAnswer.{AreWitnesses}
+use Rattle.fort_answers.specs.Witnesses.{AreWitnesses}
 
 pub full-terms : (ts : List Tree) → IsFull (map Some ts)
 full-terms [] = tt

@@ -18,7 +18,7 @@ use Rattle.fort_grammar.specs.Declarations.{as_list, elements_of}
 use Rattle.fort_grammar.specs.RuleForms.{HasSides, OfFirst, OfIndex, IsSide, AreSides, AConstant, AVariable, AnApplication, NoSides, MoreOf, IndexedRule, IsRule, AreRules, rules_of}
 use Rattle.fort_grammar.specs.ProblemForms.{IsProblem}
 use Rattle.fort_parts.specs.DecidedCores.{AreFewRules}
-use Rattle.fort_answers.specs.InputAnswer.{Tail, Behind, Nothing, ACertificate, AnOpenCertificate, IsInput, IsCertifiedInput, IsInputWith, input_limit}
+use Rattle.fort_answers.specs.InputAnswer.{Tail, Behind, Nothing, ACertificate, AnOpenCertificate, NoRules, IsInput, IsCertifiedInput, IsInputWith, input_limit}
 use Rattle.fort_certificate_grammar.specs.Certificates.{Certificate}
 
 -- ---- different elements of a list are no more than its elements
@@ -238,3 +238,5 @@ pub AreFewRules-with : (tail : Tail) (bytes : List ℕ) (system : System) (behin
 AreFewRules-with Nothing bytes system behind is index = AreFewRules-input bytes system is index
 AreFewRules-with ACertificate bytes system behind is index = AreFewRules-certified bytes system behind is index
 AreFewRules-with AnOpenCertificate bytes system behind is index = AreFewRules-problem bytes is.forms is.are_forms system is.next is.problem is.short index
+AreFewRules-with NoRules bytes system behind is index =
+    AreFewRules-problem bytes is.forms is.are_forms system (length (as_list is.forms)) is.problem is.short index

@@ -7,3 +7,7 @@ pub mod MadeLaws
 pub mod OneSample
 pub mod PossibleRequests
 pub mod FewPatterns
+pub mod FewFamilyRules
+pub mod FamilySystemLaws
+pub mod OptionItems
+pub mod AskedWords

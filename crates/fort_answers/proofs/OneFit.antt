@@ -19,7 +19,8 @@ use Rattle.fort_formula_grammar.proofs.OneFormula.{AreGroundsOf-unique}
 use Rattle.fort_answers.specs.Requests.{Text}
 use Rattle.fort_answers.specs.Lines.{formula_index, formula_term, formula_sn}
 use Rattle.fort_answers.specs.InputAnswer.{IsInput}
-use Rattle.fort_answers.specs.FitAnswer.{AreTermsOf, IsFirstWithoutTerm, FitsSystem, IsUnfit, NoIndex, NoTerm, NotRightGround}
+use Rattle.fort_answers.specs.FitAnswer.{IsFirstWithoutTerm, FitsSystem, IsUnfit, NoIndex, NoTerm, NotRightGround}
+use Rattle.fort_answers.specs.Said.{AreTermsOf}
 
 -- one by one these texts are one list of terms
 AreTermsOf-unique : (signature : Signature) (gs : List Ground) (ts us : List Tree) → IsDistinct bytes_eq (names_of signature) → AreTermsOf signature gs ts

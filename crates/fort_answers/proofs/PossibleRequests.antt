@@ -1,12 +1,12 @@
--- What words ask keeps its ranges: the size of a made problem, the cap of solutions, and how many are wanted.
+-- What words ask keeps its ranges: the size of a made problem, the cap of solutions, how many are wanted, and how many rules a family's systems have and how high they are.
 use Rattle.std.proofs.Common.{◌≡◌, ℕ, ◌≤◌, Bool, true, false, List, [], ◌∷◌, Option, Some, None, refl}
 use Rattle.std.proofs.lemmas.Bool.{leb-true}
 use Rattle.std.specs.Prelude.{◌&&◌, find, if◌then◌else◌, nat_le, IfSome, option_and_then, option_map}
 use Rattle.std.specs.Fmt.{decimal}
 use Rattle.std.specs.Str.{bytes_eq}
 use Rattle.std.specs.Str.Parse.{digits_value}
-use Rattle.fort_answers.specs.Requests.{Text, Options, Bounds, Request, Decide, Witness, Check, Sample, Solutions, Confirm, number_in}
-use Rattle.fort_answers.specs.Commands.{Given, Command, commands, decide, witness, check, sample, solutions, confirm, is_set, number_given, options_given, bounds_given, reduce_name, certificate_name, formula_name, states, count, height, most}
+use Rattle.fort_answers.specs.Requests.{Text, Options, Bounds, Family, Request, Decide, Witness, Check, Sample, Solutions, Confirm, Synth, number_in}
+use Rattle.fort_answers.specs.Commands.{Given, Command, commands, decide, witness, check, sample, solutions, confirm, synth, is_set, number_given, options_given, bounds_given, family_given, reduce_name, certificate_name, formula_name, states, count, height, most, rule_count, side_height}
 use Rattle.fort_answers.specs.CommandGrammar.{items_of, is_complete, given_by, words_among, asked_by, request_by, request_of}
 use Rattle.fort_answers.specs.PossibleRequests.{IsPossible}
 
@@ -76,6 +76,20 @@ bounds_within given =
     made (Some h) None within = tt
     made (Some h) (Some m) within = within
 
+abbrev IsInRange : Family → Type 0
+IsInRange family = IsWithin rule_count.low rule_count.high family.count × IsWithin side_height.low side_height.high family.height
+
+family_within : (given : Given) → IfSome (family_given given) IsInRange
+family_within given =
+    made (number_given rule_count given) (number_given side_height given) (number_within rule_count.low rule_count.high (given rule_count.name))
+    (number_within side_height.low side_height.high (given side_height.name))
+  where
+    made : (x y : Option ℕ) → IfSome x (IsWithin rule_count.low rule_count.high) → IfSome y (IsWithin side_height.low side_height.high)
+        → IfSome (option_and_then (λ n. option_map {U = Family} (λ h. record { count = n; height = h }) y) x) IsInRange
+    made None y few low = tt
+    made (Some n) None few low = tt
+    made (Some n) (Some h) few low = (few, low)
+
 -- ---- by command
 
 -- each command asks what can be asked, whatever is given
@@ -110,12 +124,18 @@ solutions_possible given =
 confirm_possible : AsksPossible confirm
 confirm_possible given = keeps_map Confirm (given formula_name) (λ f. tt)
 
+synth_possible : AsksPossible synth
+synth_possible given =
+    keeps_then (λ o. option_and_then (λ b. option_map (Synth o b) (given formula_name)) (family_given given)) (options_given given) (λ o.
+    keeps_then_if IsInRange (λ b. option_map (Synth o b) (given formula_name)) (family_given given) (family_within given) (λ b within.
+    keeps_map (Synth o b) (given formula_name) (λ f. record { some = within.0.0; few = within.0.1; flat = within.1.1 })))
+
 abbrev AllPossible : List Command → Type 0
 AllPossible [] = Unit {0}
 AllPossible (c ∷ cs) = AsksPossible c × AllPossible cs
 
 all_possible : AllPossible commands
-all_possible = (decide_possible, (witness_possible, (check_possible, (sample_possible, (solutions_possible, (confirm_possible, tt))))))
+all_possible = (decide_possible, (witness_possible, (check_possible, (sample_possible, (solutions_possible, (confirm_possible, (synth_possible, tt)))))))
 
 keeps_request : (c : Command) (ws : List Text) → AsksPossible c → IsPossible (request_by c ws)
 keeps_request c ws possible =

@@ -1,7 +1,7 @@
 -- To believe: the one status and text that the program owes to words and bytes: the usage text where the words ask nothing, else what the request owes.
 use Rattle.std.specs.Prelude.{◌≡◌, ℕ, List, Option, Some, None}
 use Rattle.fort_logic.specs.Formulas.{Formula}
-use Rattle.fort_answers.specs.Requests.{Text, Options, Request, Decide, Witness, Check, Sample, Solutions, Confirm}
+use Rattle.fort_answers.specs.Requests.{Text, Options, Request, Decide, Witness, Check, Sample, Solutions, Confirm, Synth}
 use Rattle.fort_answers.specs.CommandGrammar.{request_of}
 use Rattle.fort_answers.specs.Lines.{usage, usage_text}
 use Rattle.fort_answers.specs.FormulaAnswer.{IsAcceptedAs}
@@ -12,6 +12,7 @@ use Rattle.fort_answers.specs.SolutionsAnswer.{solutions_inquiry}
 use Rattle.fort_answers.specs.SampleAnswer.{SampleAnswer}
 use Rattle.fort_answers.specs.CheckAnswer.{check_inquiry}
 use Rattle.fort_answers.specs.ConfirmAnswer.{confirm_inquiry}
+use Rattle.fort_answers.specs.SynthAnswer.{synth_inquiry}
 
 -- ---- by request
 
@@ -33,6 +34,7 @@ owing (Some (Check formula)) = About (check_inquiry formula)
 owing (Some (Sample n)) = WithoutInput (SampleAnswer n)
 owing (Some (Solutions options bounds formula)) = About (solutions_inquiry options bounds formula)
 owing (Some (Confirm formula)) = About (confirm_inquiry formula)
+owing (Some (Synth options family formula)) = About (synth_inquiry options family formula)
 
 -- the status and the text are owed whatever the input is
 abbrev pub IsOwedEarly : Owing → ℕ → Text → Type 0

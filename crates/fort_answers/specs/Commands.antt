@@ -2,7 +2,7 @@
 use Rattle.std.specs.Prelude.{ℕ, Bool, false, List, [], ◌∷◌, Option, codes, option_and_then, option_map}
 use Rattle.std.specs.Option.{option_map_or}
 use Rattle.std.specs.Str.{bytes_eq}
-use Rattle.fort_answers.specs.Requests.{number_in, Text, Options, Bounds, Request, Decide, Witness, Check, Sample, Solutions, Confirm}
+use Rattle.fort_answers.specs.Requests.{number_in, Text, Options, Bounds, Family, Request, Decide, Witness, Check, Sample, Solutions, Confirm, Synth}
 
 -- ---- what can stand there
 
@@ -72,6 +72,14 @@ most = record { name = codes "most"; low = 1; high = 1000 }
 abbrev pub default_most : Text
 default_most = codes "1000"
 
+-- how many rules the systems of a family have
+abbrev pub rule_count : Number
+rule_count = record { name = codes "rules"; low = 1; high = 4 }
+
+-- how high the sides of its rules may be
+abbrev pub side_height : Number
+side_height = record { name = codes "height"; low = 0; high = 2 }
+
 -- ---- what is asked
 
 abbrev pub number_given : Number → Given → Option ℕ
@@ -105,6 +113,14 @@ solutions_asked given =
 
 abbrev pub confirm_asked : Given → Option Request
 confirm_asked given = option_map Confirm (given formula_name)
+
+abbrev pub family_given : Given → Option Family
+family_given given =
+    option_and_then (λ n. option_map (λ h. record { count = n; height = h }) (number_given side_height given)) (number_given rule_count given)
+
+abbrev pub synth_asked : Given → Option Request
+synth_asked given =
+    option_and_then (λ o. option_and_then (λ b. option_map (Synth o b) (given formula_name)) (family_given given)) (options_given given)
 
 -- ---- the commands
 
@@ -144,5 +160,13 @@ solutions = record {
 abbrev pub confirm : Command
 confirm = record { name = codes "confirm"; parameters = TextWord formula_name ∷ []; asks = confirm_asked }
 
+-- `synth [--states N] RULES HEIGHT FORMULA`
+abbrev pub synth : Command
+synth = record {
+  name = codes "synth";
+  parameters = Setting states default_states ∷ NumberWord rule_count ∷ NumberWord side_height ∷ TextWord formula_name ∷ [];
+  asks = synth_asked;
+}
+
 abbrev pub commands : List Command
-commands = decide ∷ witness ∷ check ∷ sample ∷ solutions ∷ confirm ∷ []
+commands = decide ∷ witness ∷ check ∷ sample ∷ solutions ∷ confirm ∷ synth ∷ []

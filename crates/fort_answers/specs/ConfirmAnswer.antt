@@ -14,7 +14,7 @@ use Rattle.fort_answers.specs.Lines.{positive, negative, line}
 use Rattle.fort_answers.specs.FormulaAnswer.{Open}
 use Rattle.fort_answers.specs.InputAnswer.{AnOpenCertificate}
 use Rattle.fort_answers.specs.SystemAnswer.{Are, Inquiry}
-use Rattle.fort_answers.specs.WitnessAnswer.{bindings}
+use Rattle.fort_answers.specs.Witnesses.{bindings}
 use Rattle.fort_answers.specs.CheckAnswer.{rejected_line}
 
 -- the first line where terms are found

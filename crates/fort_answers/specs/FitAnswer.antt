@@ -1,5 +1,5 @@
 -- To believe: when a formula speaks of nothing but what the system of the input has, and of termination over right-ground rules alone, and which line refuses any other.
-use Rattle.std.specs.Prelude.{◌≡◌, ℕ, List, [], ◌∷◌, ◌++◌, length}
+use Rattle.std.specs.Prelude.{◌≡◌, ℕ, List, ◌∷◌, ◌++◌, length}
 use Rattle.fort_theory.specs.Trees.{Tree}
 use Rattle.fort_theory.specs.Signatures.{Signature}
 use Rattle.fort_theory.specs.Sides.{System}
@@ -8,14 +8,8 @@ use Rattle.fort_logic.specs.Mentions.{indices, AreWithin, IsFirstAbove}
 use Rattle.fort_logic.specs.Terminations.{IsRightGroundFor, IsFirstNotRightGround}
 use Rattle.fort_grammar.specs.GroundForms.{IsGroundText}
 use Rattle.fort_formula_grammar.specs.FormulaText.{Ground, AreGroundsOf}
+use Rattle.fort_answers.specs.Said.{AreTermsOf}
 use Rattle.fort_answers.specs.Lines.{formula_index, formula_term, formula_sn}
-
--- what stands in the braces is these ground terms of the signature, one by one
-abbrev pub AreTermsOf : Signature → List Ground → List Tree → Type 0
-AreTermsOf signature [] [] = Unit {0}
-AreTermsOf signature [] (t ∷ ts) = ⊥
-AreTermsOf signature (g ∷ gs) [] = ⊥
-AreTermsOf signature (g ∷ gs) (t ∷ ts) = IsGroundText signature g.text t × AreTermsOf signature gs ts
 
 -- g is the first in whose braces no ground term of the signature stands
 pub record IsFirstWithoutTerm (signature : Signature) (grounds : List Ground) (g : Ground) : Type 0 where

@@ -4,10 +4,15 @@ pub mod CommandGrammar
 pub mod Lines
 pub mod FormulaAnswer
 pub mod InputAnswer
+pub mod Said
 pub mod FitAnswer
 pub mod SystemAnswer
 pub mod DecideAnswer
 pub mod OpenCertificateAnswer
+pub mod Witnesses
+pub mod SolutionTerms
+pub mod SaidTerms
+pub mod SaidSystems
 pub mod WitnessAnswer
 pub mod SolutionsAnswer
 pub mod MadeProblem
@@ -16,4 +21,5 @@ pub mod SampleAnswer
 pub mod CertificateAnswer
 pub mod CheckAnswer
 pub mod ConfirmAnswer
+pub mod SynthAnswer
 pub mod Answer

@@ -20,7 +20,8 @@ usage_text = line (codes "usage: fort decide [--states N] [--reduce] [--certific
     ++ (line (codes "       fort check FORMULA")
     ++ (line (codes "       fort sample N")
     ++ (line (codes "       fort solutions [--states N] [--most M] H FORMULA")
-    ++ line (codes "       fort confirm FORMULA")))))
+    ++ (line (codes "       fort confirm FORMULA")
+    ++ line (codes "       fort synth [--states N] RULES HEIGHT FORMULA"))))))
 
 abbrev pub yes_line : List ℕ
 yes_line = line (codes "YES")
@@ -135,7 +136,7 @@ certificate_fault_line (certificate.OtherVersion i) = certificate_line i (codes 
 abbrev pub positive : ℕ
 positive = 0
 
--- NO, that no terms satisfy the formula, and that a certificate is rejected
+-- NO, that no terms satisfy the formula, that no system of a family makes it true, and that a certificate is rejected
 abbrev pub negative : ℕ
 negative = 1
 
@@ -143,7 +144,7 @@ negative = 1
 abbrev pub usage : ℕ
 usage = 2
 
--- the formula or the input is refused
+-- the formula, the input or the family is refused
 abbrev pub refused : ℕ
 refused = 3
 

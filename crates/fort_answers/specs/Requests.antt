@@ -1,4 +1,4 @@
--- To believe: what a command line can ask: to decide a formula, to find the least terms for one, or the first ones up to a height, each with options, to check a certificate of a formula or of such terms, to decide properties of a made problem; and which text writes which number of a range.
+-- To believe: what a command line can ask: to decide a formula, to find the least terms for one, the first ones up to a height, or the first system of a family that makes one true, each with options, to check a certificate of a formula or of such terms, to decide properties of a made problem; and which text writes which number of a range.
 use Rattle.std.specs.Prelude.{◌&&◌, ℕ, Bool, List, Option, Some, None, if◌then◌else◌, nat_le}
 use Rattle.std.specs.Fmt.{decimal}
 use Rattle.std.specs.Str.{bytes_eq}
@@ -17,7 +17,12 @@ pub record Bounds : Type 0 where
   pub height : ℕ
   pub most : ℕ
 
--- options, whether the certificate is to be written, the bounds of solutions, the formula's text; for a sample its size
+-- how many rules the systems of a family have, and how high the sides of its rules may be
+pub record Family : Type 0 where
+  pub count : ℕ
+  pub height : ℕ
+
+-- options, whether the certificate is to be written, the bounds of solutions, the family, the formula's text; for a sample its size
 pub data Request : Type 0 where
   Decide : (options : Options) → (certificate : Bool) → (formula : Text) → Request
   Witness : (options : Options) → (certificate : Bool) → (formula : Text) → Request
@@ -25,6 +30,7 @@ pub data Request : Type 0 where
   Sample : (n : ℕ) → Request
   Solutions : (options : Options) → (bounds : Bounds) → (formula : Text) → Request
   Confirm : (formula : Text) → Request
+  Synth : (options : Options) → (family : Family) → (formula : Text) → Request
 
 -- the number from low to high whose decimal digits, with no needless zero, are the text
 unfoldable pub number_in : ℕ → ℕ → List ℕ → Option ℕ

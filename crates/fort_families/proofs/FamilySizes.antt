@@ -1,9 +1,12 @@
 -- The sides of a family's rules are small where no symbol has more than eight arguments: so many patterns stand within one, and no more of its places are for variables.
-use Rattle.std.proofs.Common.{◌≡◌, ℕ, zero, suc, ◌+◌, ◌*◌, ◌^◌, ◌≤◌, max, length, Some, refl, sym, ap, ◌∙◌, subst, arith, length-append}
+use Rattle.std.proofs.Common.{◌≡◌, ℕ, zero, suc, ◌+◌, ◌*◌, ◌^◌, ◌≤◌, max, [], ◌∷◌, length, Some, refl, sym, ap, ◌∙◌, subst, arith, length-append}
 use Rattle.std.proofs.Math.Nat.{mul-le-mul_right, suc-mul, pow-succ'}
+use Rattle.std.specs.List.{AllByRecursion}
+use Rattle.std.proofs.lemmas.List.Elements.{recursion_from_All}
+use Rattle.fort_theory.proofs.Lists.{some-injective}
 use Rattle.fort_theory.specs.Trees.{Tree, Trees, Node, Nil, More, tree_count}
 use Rattle.fort_theory.specs.Trees as trees
-use Rattle.fort_theory.specs.Signatures.{Signature, arity_of, IsGround, AreGround}
+use Rattle.fort_theory.specs.Signatures.{most_arguments, Symbol, IsSignature, Signature, arity_of, IsGround, AreGround}
 use Rattle.fort_theory.specs.Patterns.{Pattern, Patterns, Any, At, NoPattern, MorePatterns, pattern_count, pattern_of, patterns_of, FitsPattern, FitPatterns}
 use Rattle.fort_theory.specs.PatternOrder.{subpatterns, all_subpatterns}
 use Rattle.fort_families.specs.FamilyRules.{pattern_height, pattern_heights}
@@ -12,6 +15,17 @@ use Rattle.fort_families.specs.FamilySystems.{any_count, any_counts, ground_side
 pow_some : (h : ℕ) → 1 ≤ 9 ^ h
 pow_some zero = omega arith
 pow_some (suc h) = let some = pow_some h in omega (arith, some)
+
+-- ---- no symbol has more than eight arguments
+
+pub small_arities : (sig : Signature) → IsSignature sig → (g n : ℕ) → arity_of sig g ≡ Some n → n ≤ 8
+small_arities sig is = by sig (recursion_from_All (λ (s : Symbol). s.arity ≤ most_arguments) sig is.small)
+  where
+    by : (ss : Signature) → AllByRecursion (λ (s : Symbol). s.arity ≤ most_arguments) ss → (g n : ℕ) → arity_of ss g ≡ Some n → n ≤ 8
+    by [] all zero n e = cc
+    by [] all (suc g) n e = cc
+    by (s ∷ ss) all zero n e = let same : s.arity ≡ n = some-injective e in let few = all.0 in omega (arith, few, same)
+    by (s ∷ ss) all (suc g) n e = by ss all.1 g n e
 
 -- ---- places for variables are patterns within
 

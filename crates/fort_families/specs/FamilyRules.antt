@@ -1,4 +1,4 @@
--- To believe: the rules of a family are the pairs of a pattern and a ground term over a signature, neither higher than some height; they are ordered by their patterns, and then by their terms, which are ordered by their symbols and then by their children from left to right.
+-- To believe: the rules of a family are the pairs of a pattern and a ground term over a signature, neither higher than some height; they are ordered by their patterns, and then by their terms, which are ordered by their symbols and then by their children from left to right; a family of more than 4,096 rules is too large.
 use Rattle.std.specs.Prelude.{◌≡◌, ◌↔◌, ℕ, suc, max, ◌<◌, ◌≤◌, ◌⊎◌, List, length, get_or, Contains}
 use Rattle.fort_theory.specs.Trees.{Tree, Trees, Node, Nil, More}
 use Rattle.fort_theory.specs.Trees as trees
@@ -25,7 +25,7 @@ abbrev mutual
   TreesBefore Nil (More u us) = Unit {0}
   TreesBefore (More t ts) (More u us) = TreeBefore t u ⊎ ((t ≡ u) × TreesBefore ts us)
 
--- a pattern on the left, whose places for variables are all different, and a ground term on the right
+-- a pattern on the left, with a different variable in each of its places, and a ground term on the right
 abbrev pub FamilyRule : Type 0
 FamilyRule = Pattern × Tree
 
@@ -47,10 +47,11 @@ pub record IsFamily (signature : Signature) (height : ℕ) (rules : List FamilyR
   pub same : (r : FamilyRule) → Contains rules r ↔ IsFamilyRule signature height r
   pub ascend : Ascend rules
 
--- a family has at most this many rules
+-- the most rules of a family that is searched
 abbrev pub most_family_rules : ℕ
 most_family_rules = 4096
 
+-- the family has more
 pub record IsTooLarge (signature : Signature) (height : ℕ) : Type 0 where
   pub rules : List FamilyRule
   pub are : IsFamily signature height rules

@@ -1,4 +1,4 @@
--- To believe: the systems of a family are those of as many of its rules as are wanted, ascending, in lexicographic order; a pattern's places for variables have different variables, numbered from left to right.
+-- To believe: a system of a family has as many of its rules as are wanted, ascending; the systems come in lexicographic order; a pattern's places for variables have different variables, numbered from left to right.
 use Rattle.std.specs.Prelude.{◌≡◌, ℕ, ◌+◌, ◌⊎◌, All, List, [], ◌∷◌, length, map}
 use Rattle.fort_theory.specs.Trees.{Tree, Trees, Node, Nil, More}
 use Rattle.fort_theory.specs.Signatures.{Signature}

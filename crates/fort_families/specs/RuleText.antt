@@ -1,4 +1,4 @@
--- To believe: the text of a rule of a family: its two terms, where the variables have the names v0, v1 and so on from left to right, those passed over that the signature declares.
+-- To believe: the text of a rule of a family: its two terms, where the variables have the names v0, v1 and so on from left to right, passing over the names that the signature declares.
 use Rattle.std.specs.Prelude.{ℕ, suc, ◌+◌, Bool, not, List, [], ◌∷◌, ◌++◌, map, length, get_or, filter, codes, decimal, bytes_eq}
 use Rattle.std.specs.List.{list_any, range_with_len}
 use Rattle.fort_theory.specs.Signatures.{Signature, names_of}

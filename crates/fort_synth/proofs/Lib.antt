@@ -13,3 +13,4 @@ pub mod CandidateSystems
 pub mod SearchChoices
 pub mod SearchOrder
 pub mod SearchOutcomes
+mod TreeOrderLaws

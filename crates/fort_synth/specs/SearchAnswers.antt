@@ -1,4 +1,4 @@
--- To believe: what a search finds through the systems of a family, by the answers of the test that it asks: the first system on which the test says yes, or no on all, or the first on which the test fails.
+-- To believe: what a search finds through the systems of a family, by the answers of the test that it asks: the first system on which the test says yes, where it says no on all before; that it says no on all; or the first on which it fails, where it says no on all before.
 use Rattle.std.specs.Prelude.{◌≡◌, ◌<◌, ◌^◌, ℕ, Bool, false, List, length, Contains, All, Result, Ok}
 use Rattle.std.specs.Fn.{Shared, FnReturnsAt}
 use Rattle.fort_theory.specs.Signatures.{Signature, IsGround}
@@ -9,7 +9,7 @@ use Rattle.fort_synth.specs.declared.search.SynthFault.{SynthFault}
 use Rattle.fort_synth.specs.declared.search.SynthFault.TheVariants.{Memory, Decide}
 use denote.Ref.{Bor}
 
--- both sides fit the signature, and there are numbers for the places of the left one
+-- both sides fit the signature, and the left one has fewer than 2^32 places for variables
 pub record FitsRule (signature : Signature) (rule : FamilyRule) : Type 0 where
   pub left : FitsPattern signature rule.0
   pub right : IsGround signature rule.1
@@ -38,16 +38,16 @@ abbrev pub MayAskAll : {F E : Type 0} → Test F E → F → Signature → List 
 MayAskAll {F} {E} test f signature family count =
     (rules : List FamilyRule) → IsPicked family count rules → MayAsk test f (picked_system signature rules)
 
--- the test has answered this about the system of these rules
+-- a call of the test at the system of these rules may give this
 abbrev pub Answers : {F E : Type 0} → Test F E → F → Signature → Result Bool E → List FamilyRule → Type 0
 Answers {F} {E} test f signature answer rules = FnReturnsAt test f (picked_system signature rules) answer
 
--- no about every system of the family
+-- it may say no about every system of the family
 abbrev pub AnswersNoOnAll : {F E : Type 0} → Test F E → F → Signature → List FamilyRule → ℕ → Type 0
 AnswersNoOnAll {F} {E} test f signature family count =
     (rules : List FamilyRule) → IsPicked family count rules → Answers test f signature (Ok false) rules
 
--- this about the system, and no about every system of the family before it
+-- it may say this about the system, and no about every system of the family before it
 pub record IsFirstAnswer {F E : Type 0} (test : Test F E) (f : F) (signature : Signature) (family : List FamilyRule) (count : ℕ) (answer : Result Bool E)
     (system : PatternSystem) : Type 0 where
   pub rules : List FamilyRule
@@ -56,7 +56,7 @@ pub record IsFirstAnswer {F E : Type 0} (test : Test F E) (f : F) (signature : S
   pub answered : Answers test f signature answer rules
   pub before : (others : List FamilyRule) → IsPicked family count others → CandidateBefore others rules → Answers test f signature (Ok false) others
 
--- where a search ended by a fault of the test: of the system and the fault
+-- P of the system and the fault, where the search ended by a fault of the test
 abbrev pub IfDecide : {E : Type 0} → SynthFault E → (PatternSystem → E → Type 0) → Type 0
 IfDecide Memory P = Unit {0}
 IfDecide (Decide system fault) P = P system fault

@@ -1,4 +1,4 @@
--- Inside: the lines of rules that are pairs of patterns, a pattern with a variable in each of its places.
+-- Inside: the lines of rules that are pairs of patterns, each read with a variable in each of its places.
 use Rattle.std.specs.Prelude.{◌≡◌, ℕ, ◌<◌, ◌^◌, List, [], ◌∷◌, ◌++◌, codes}
 use Rattle.fort_theory.specs.Signatures.{Signature}
 use Rattle.fort_theory.specs.Patterns.{Pair}

@@ -1,4 +1,4 @@
-//! The systems of a family: one of its rules in each of the places given.
+//! A system of a family: its rules at some places.
 ghost use Rattle.std.specs.Prelude.{◌≡◌, ◌<◌, ◌≤◌, ◌+◌, ◌^◌, All, IfOk, OnOk, length, map};
 ghost use Rattle.fort_theory.specs.Signatures.{HasConstant, IsGround};
 ghost use Rattle.fort_theory.specs.Sides.{pushed_at, count_all, IsIndexOf};

@@ -9,7 +9,7 @@ use crate::family_patterns::patterns_up_to;
 use fort_terms::{Pattern, Signature, Term};
 use std::alloc::{AllocError, AllocFailed, Global};
 
-/// A family has at most this many rules.
+/// The most rules of a family that is listed.
 pub(crate) const MOST_RULES: usize = 4096;
 
 /// Why there is no list of a family's rules.

@@ -1,4 +1,4 @@
-//! The rules of a family, the first of its systems that a test decides as wanted, and the text of rules.
+//! The rules of a family, the first of its systems on which a test says yes, and the text of rules.
 #![tactic(auto)]
 
 mod candidate;

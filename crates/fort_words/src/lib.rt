@@ -6,4 +6,4 @@ mod number;
 mod request;
 mod row;
 
-pub use request::{Bounds, Options, Request, read_request};
+pub use request::{Bounds, Family, Options, Request, read_request};

@@ -1,28 +1,28 @@
 //! Requests, from `clap`'s matches.
 ghost use Rattle.std.specs.Prelude.{◌≡◌, IfOk, map, option_and_then, option_map, string_bytes};
 ghost use Rattle.clap.specs.Words.{subcommand_rows_of};
-ghost use Rattle.fort_answers.specs.Commands.{bounds_given, check_asked, confirm_asked, decide_asked, is_set, number_given, options_given, sample_asked, solutions_asked, witness_asked};
+ghost use Rattle.fort_answers.specs.Commands.{bounds_given, check_asked, confirm_asked, decide_asked, family_given, is_set, number_given, options_given, sample_asked, solutions_asked, synth_asked, witness_asked};
 ghost use Rattle.fort_answers.specs.CommandGrammar.{request_of};
 ghost use Rattle.fort_words.specs.Matches.{asked_in, given_of, request_in};
-ghost use Rattle.fort_words.specs.RequestView.{as_bounds, as_options, as_request};
+ghost use Rattle.fort_words.specs.RequestView.{as_bounds, as_family, as_options, as_request};
 ghost use Rattle.fort_words.specs.RowView.{as_number};
 
 use crate::command::fort_command;
 use crate::number::number_of;
 use crate::row::{
-    CERTIFICATE, CHECK, CONFIRM, COUNT, DECIDE, FORMULA, HEIGHT, MOST, Number, REDUCE, SAMPLE,
-    SOLUTIONS, STATES, WITNESS,
+    CERTIFICATE, CHECK, CONFIRM, COUNT, DECIDE, FORMULA, HEIGHT, MOST, Number, REDUCE, RULE_COUNT,
+    SAMPLE, SIDE_HEIGHT, SOLUTIONS, STATES, SYNTH, WITNESS,
 };
 use clap::ArgMatches;
 use clap::error::ErrorKind;
 use std::alloc::{AllocError, Global};
 
-/// How the parameters of a formula are decided.
+/// How the parts of a formula are decided.
 #[derive(Clone, Copy, Debug, PartialEq, Eq)]
 pub struct Options {
-    /// The most states of a parameter.
+    /// The most states of a part.
     pub states: u32,
-    /// Whether the table of each parameter is reduced.
+    /// Whether the table of each part is reduced.
     pub reduces: bool,
 }
 
@@ -33,6 +33,15 @@ pub struct Bounds {
     pub height: u32,
     /// How many at most.
     pub most: u32,
+}
+
+/// Of which systems the first is wanted.
+#[derive(Clone, Copy, Debug, PartialEq, Eq)]
+pub struct Family {
+    /// How many rules they have.
+    pub count: u32,
+    /// How high the sides of their rules may be.
+    pub height: u32,
 }
 
 /// What a command line asks.
@@ -66,6 +75,12 @@ pub enum Request<'a> {
     },
     /// Whether the certificate behind the problem proves that some terms make the formula true, or that none do.
     Confirm {
+        formula: &'a str,
+    },
+    /// The first system of the family that makes the formula true.
+    Synth {
+        options: Options,
+        family: Family,
         formula: &'a str,
     },
 }
@@ -168,6 +183,27 @@ fn asked_to_confirm<'a>(matches: &ArgMatches<'a>) -> Option<Request<'a>>
     Some(Request::Confirm { formula })
 }
 
+fn family_given(matches: &ArgMatches<'_>) -> Option<Family>
+    ensures { option_map as_family result ≡ family_given (given_of matches.now) }
+{
+    let count = number_given(matches, RULE_COUNT)?;
+    let height = number_given(matches, SIDE_HEIGHT)?;
+    Some(Family { count, height })
+}
+
+fn asked_for_synth<'a>(matches: &ArgMatches<'a>) -> Option<Request<'a>>
+    ensures { option_map as_request result ≡ synth_asked (given_of matches.now) }
+{
+    let options = options_given(matches)?;
+    let family = family_given(matches)?;
+    let formula = value_of(matches, FORMULA)?;
+    Some(Request::Synth {
+        options,
+        family,
+        formula,
+    })
+}
+
 fn asked<'a>(matches: &ArgMatches<'a>) -> Option<Request<'a>>
     ensures { option_map as_request result ≡ option_and_then asked_in
         (subcommand_rows_of matches.now) }
@@ -185,6 +221,8 @@ fn asked<'a>(matches: &ArgMatches<'a>) -> Option<Request<'a>>
         asked_for_solutions(inner)
     } else if name == CONFIRM.name {
         asked_to_confirm(inner)
+    } else if name == SYNTH.name {
+        asked_for_synth(inner)
     } else {
         None
     }

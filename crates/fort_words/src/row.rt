@@ -68,6 +68,20 @@ pub(crate) const MOST: Number = Number {
     high: 1000,
 };
 
+/// How many rules the systems of a family have.
+pub(crate) const RULE_COUNT: Number = Number {
+    name: "rules",
+    low: 1,
+    high: 4,
+};
+
+/// How high the sides of its rules may be.
+pub(crate) const SIDE_HEIGHT: Number = Number {
+    name: "height",
+    low: 0,
+    high: 2,
+};
+
 const STATES_OR_DEFAULT: Parameter = Parameter::Setting {
     number: STATES,
     default: "10000",
@@ -127,7 +141,18 @@ pub(crate) const CONFIRM: Row = Row {
     parameters: &[Parameter::TextWord(FORMULA)],
 };
 
-const ROWS: &[Row] = &[DECIDE, WITNESS, CHECK, SAMPLE, SOLUTIONS, CONFIRM];
+/// `synth [--states N] RULES HEIGHT FORMULA`
+pub(crate) const SYNTH: Row = Row {
+    name: "synth",
+    parameters: &[
+        STATES_OR_DEFAULT,
+        Parameter::NumberWord(RULE_COUNT),
+        Parameter::NumberWord(SIDE_HEIGHT),
+        Parameter::TextWord(FORMULA),
+    ],
+};
+
+const ROWS: &[Row] = &[DECIDE, WITNESS, CHECK, SAMPLE, SOLUTIONS, CONFIRM, SYNTH];
 
 /// The rows of the commands.
 pub(crate) fn rows() -> &'static [Row]

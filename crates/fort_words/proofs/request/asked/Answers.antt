@@ -51,9 +51,9 @@ returns-then-eq-6 c =
       ),
     )
 
-pub returns-else-eq-6 : goal.returns-else-eq-6
-returns-else-eq-6 c =
-    asked_by c.args.matches.now c.in_ok-name.name.now _ 6 c.in_ok-name.ensures.name c.in_ok-name.ensures.rows (
+pub returns-then-eq-7 : goal.returns-then-eq-7
+returns-then-eq-7 c =
+    c.asked_for_synth.ensures ∙ asked_by c.args.matches.now c.in_ok-name.name.now _ 6 c.in_ok-name.ensures.name c.in_ok-name.ensures.rows (
       sym c.eq.ensures ∙ c.if-eq.false,
       (
         sym c.eq-else-eq.ensures ∙ c.if-eq-2.false,
@@ -61,7 +61,29 @@ returns-else-eq-6 c =
           sym c.eq-else-eq-2.ensures ∙ c.if-eq-3.false,
           (
             sym c.eq-else-eq-3.ensures ∙ c.if-eq-4.false,
-            (sym c.eq-else-eq-4.ensures ∙ c.if-eq-5.false, (sym c.eq-else-eq-5.ensures ∙ c.if-eq-6.false, tt)),
+            (
+              sym c.eq-else-eq-4.ensures ∙ c.if-eq-5.false,
+              (sym c.eq-else-eq-5.ensures ∙ c.if-eq-6.false, sym c.eq-else-eq-6.ensures ∙ c.if-eq-7.true),
+            ),
+          ),
+        ),
+      ),
+    )
+
+pub returns-else-eq-7 : goal.returns-else-eq-7
+returns-else-eq-7 c =
+    asked_by c.args.matches.now c.in_ok-name.name.now _ 7 c.in_ok-name.ensures.name c.in_ok-name.ensures.rows (
+      sym c.eq.ensures ∙ c.if-eq.false,
+      (
+        sym c.eq-else-eq.ensures ∙ c.if-eq-2.false,
+        (
+          sym c.eq-else-eq-2.ensures ∙ c.if-eq-3.false,
+          (
+            sym c.eq-else-eq-3.ensures ∙ c.if-eq-4.false,
+            (
+              sym c.eq-else-eq-4.ensures ∙ c.if-eq-5.false,
+              (sym c.eq-else-eq-5.ensures ∙ c.if-eq-6.false, (sym c.eq-else-eq-6.ensures ∙ c.if-eq-7.false, tt)),
+            ),
           ),
         ),
       ),
