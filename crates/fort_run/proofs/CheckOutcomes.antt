@@ -7,7 +7,7 @@ use Rattle.fort_theory.specs.Patterns.{PatternSystem, pattern_system}
 use Rattle.fort_logic.specs.Formulas.{Formula}
 use Rattle.fort_cores.specs.Cores.{Core}
 use Rattle.fort_logic.specs.Translation.{core_of}
-use Rattle.fort_cores.specs.Structures.{pattern_structure}
+use Rattle.fort_cores.specs.PatternStructures.{pattern_structure}
 use Rattle.fort_parts.specs.PartAnswers.{OfValue, IsAnswerTo}
 use Rattle.fort_certificate_grammar.specs.Certificates.{Certificate}
 use Rattle.fort_in_order.specs.Outcomes.{Reason}

@@ -15,7 +15,7 @@ use Rattle.fort_answers.specs.Lines.{positive, negative}
 use Rattle.fort_answers.specs.FormulaAnswer.{Open}
 use Rattle.fort_answers.specs.CheckAnswer.{rejected_line}
 use Rattle.fort_answers.specs.ConfirmAnswer.{certified_witness_line, certified_none_line, node_line, SaysFound, SaysNone, SaysRejected, SaysNoEntry}
-use Rattle.fort_answers.specs.WitnessAnswer.{bindings}
+use Rattle.fort_answers.specs.Witnesses.{bindings}
 use Rattle.fort_run.specs.declared.question.Question.TheVariants.{Confirm}
 use Rattle.fort_run.specs.declared.reply.Reply.{Reply}
 use Rattle.fort_run.specs.StatusView.{code_of}

@@ -13,7 +13,8 @@ use Rattle.fort_logic.specs.KeepsTruth.{AreTheirPlaces, SuitsTerminations}
 use Rattle.fort_termination.proofs.RightGroundTargets.{IsRightGroundAt-patterns}
 use Rattle.fort_cores.specs.Parts.{IsWellFormed}
 use Rattle.fort_logic.specs.Translation.{core_of}
-use Rattle.fort_cores.specs.Structures.{structure_of, pattern_structure}
+use Rattle.fort_cores.specs.Structures.{structure_of}
+use Rattle.fort_cores.specs.PatternStructures.{pattern_structure}
 use Rattle.fort_logic.specs.Truth.{Assignment, IsGroundAssignment, GivesTerms, Holds}
 use Rattle.fort_formulas.specs.KindView.{as_kind}
 use Rattle.fort_parts.specs.DecidedCores.{IsOverSystem, IsDecided}

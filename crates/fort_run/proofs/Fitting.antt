@@ -13,7 +13,8 @@ use Rattle.fort_logic.specs.Terminations.{terminations, AreAll, IsFirstWithout, 
 use Rattle.fort_logic.proofs.TerminationMentions.{AreAll-same, IsFirstWithout-same}
 use Rattle.fort_grammar.specs.GroundForms.{IsGroundText}
 use Rattle.fort_formula_grammar.specs.FormulaText.{Ground, AreGroundsOf}
-use Rattle.fort_answers.specs.FitAnswer.{AreTermsOf, IsFirstWithoutTerm, IsUnfit, NoTerm}
+use Rattle.fort_answers.specs.FitAnswer.{IsFirstWithoutTerm, IsUnfit, NoTerm}
+use Rattle.fort_answers.specs.Said.{AreTermsOf}
 use Rattle.fort_formula_parser.specs.declared.parsed.Ground as made
 use Rattle.fort_formula_parser.specs.ParsedView.{as_ground}
 use Rattle.fort_run.specs.declared.refusal.Refusal.{Refusal}

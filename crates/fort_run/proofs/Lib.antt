@@ -1,5 +1,6 @@
 pub mod QuestionLaws
 pub mod FormulaRefusals
+pub mod PlainFormats
 pub mod InputLines
 pub mod Told
 pub mod LineReplies
@@ -16,6 +17,7 @@ pub mod LinearRules
 pub mod SomeParts
 pub mod Deciding
 pub mod PosedQuestions
+pub mod FamilyVerdicts
 pub mod CheckOutcomes
 pub mod OpenTruths
 pub mod WrittenTerms
@@ -33,3 +35,4 @@ pub mod SampleLines
 pub mod WrittenNumbers
 pub mod NamedColumns
 pub mod TranslatedCores
+pub mod SaidClauses

@@ -8,8 +8,8 @@ use Rattle.fort_answers.specs.Lines.{negative, limited}
 use Rattle.fort_answers.specs.SystemAnswer.{KeepsCap}
 use Rattle.fort_answers.specs.Answer.{OwesTold, owed, Answer}
 use Rattle.fort_answers.proofs.PossibleRequests.{words_possible}
-use Rattle.fort_answer_laws.proofs.OneOwed.{owed-unique, owed_from_early, bytes_told, answered_low, checked_low, confirmed_low}
-use Rattle.fort_run.specs.Answered.{Answers, OwesOnly, OwesOnlyEarly, IsDecidable, IsDecidableWithin}
+use Rattle.fort_answer_laws.proofs.OneOwed.{owed-unique, owed_from_early, bytes_told, answered_low, checked_low, confirmed_low, searched_low, searched_within}
+use Rattle.fort_run.specs.Answered.{Answers, OwesOnly, OwesOnlyEarly, IsDecidable, IsDecidableWithin, IsSearchable, IsSearchableWithin}
 use Rattle.fort_run.specs.Certified.{IsCheckable}
 use Rattle.fort_run.specs.Confirmed.{IsConfirmable}
 
@@ -56,3 +56,18 @@ module _ (words : List Text) (told old new : Option Text) (status : ℕ) (given 
       subst (λ o. OwesTold (request_of words) o status given.text) is.told_are given.owed in
       confirmed_low is.formula is.f is.bytes is.system is.certificate is.terms status given.text is.accepted is.input is.fits
       (subst (λ r. owed r is.bytes status given.text) is.asked at_bytes)
+
+  pub Answers-searched : IsSearchable words told → (status ≤ negative) ⊎ (status ≡ limited)
+  Answers-searched is =
+      let at_bytes : OwesTold (request_of words) (Some is.bytes) status given.text =
+      subst (λ o. OwesTold (request_of words) o status given.text) is.told_are given.owed in
+      searched_low is.options is.family is.formula is.f is.bytes is.system is.terms status given.text is.accepted is.input is.fits is.small
+      (subst (λ r. owed r is.bytes status given.text) is.asked at_bytes)
+
+  pub Answers-searched_within : IsSearchableWithin words told → status ≤ negative
+  Answers-searched_within is =
+      let own = is.searchable in
+      let at_bytes : OwesTold (request_of words) (Some own.bytes) status given.text =
+      subst (λ o. OwesTold (request_of words) o status given.text) own.told_are given.owed in
+      searched_within own.options own.family own.formula own.f own.bytes own.system own.terms status given.text own.accepted own.input own.fits own.small is.keeps
+      (subst (λ r. owed r own.bytes status given.text) own.asked at_bytes)

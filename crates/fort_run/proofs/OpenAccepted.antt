@@ -25,7 +25,7 @@ use Rattle.fort_answers.specs.InputAnswer.{Nothing, IsInput, IsOpenCertifiedInpu
 use Rattle.fort_answers.specs.FitAnswer.{FitsSystem}
 use Rattle.fort_answers.specs.OpenCertificateAnswer.{OpenCertificateVerdict}
 use Rattle.fort_answers.specs.ConfirmAnswer.{certified_witness_line, certified_none_line, OwesOpenOutcome, SaysFound, SaysNone}
-use Rattle.fort_answers.specs.WitnessAnswer.{bindings}
+use Rattle.fort_answers.specs.Witnesses.{bindings}
 use Rattle.fort_answers.specs.SystemAnswer.{Says}
 use Rattle.fort_answers.specs.Answer.{owed}
 use Rattle.fort_answer_laws.proofs.TermTuples.{terms_in}

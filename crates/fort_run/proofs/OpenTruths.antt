@@ -26,7 +26,7 @@ use Rattle.fort_open_certificates.specs.OpenChecked.{Confirmed, last_of, Accepts
 use Rattle.fort_open_certificates.specs.OpenWritten.{IsWrittenClaim, LeastFound, NoneFound}
 use Rattle.fort_open_certificates.proofs.LastNodes.{last_node}
 use Rattle.fort_open_laws.proofs.OpenTruthLaws.{IsBorneOut, claim_borne_out, proves}
-use Rattle.fort_answers.specs.WitnessAnswer.{AreWitnesses}
+use Rattle.fort_answers.specs.Witnesses.{AreWitnesses}
 use Rattle.fort_answers.specs.FormulaAnswer.{Open}
 use Rattle.fort_answer_laws.proofs.TermTuples.{terms_in, terms-one}
 use Rattle.fort_run.specs.Confirmed.{TellsLeast}

@@ -11,7 +11,7 @@ use Rattle.fort_logic.specs.FreeNames.{free_names}
 use Rattle.fort_cores.specs.Cores.{Core}
 use Rattle.fort_logic.specs.KeepsTruth.{KeepsTruth}
 use Rattle.fort_cores.specs.Parts.{IsClosed}
-use Rattle.fort_cores.specs.Structures.{pattern_structure}
+use Rattle.fort_cores.specs.PatternStructures.{pattern_structure}
 use Rattle.fort_logic.specs.Translation.{core_of}
 use Rattle.fort_logic.proofs.FreeNumbers.{core_of-free}
 use Rattle.fort_parts.specs.PartColumns.{columns_of}

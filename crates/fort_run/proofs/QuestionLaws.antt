@@ -10,7 +10,7 @@ use Rattle.fort_answers.specs.SystemAnswer.{IsAnswerTo}
 use Rattle.fort_answers.specs.Answer.{About, owing, IsOwed, ReadsInput, DecidesAbout, owed, needed, IsAbout}
 use Rattle.fort_answers.proofs.OneRequest.{accepted_as-not_refused}
 use Rattle.fort_run.specs.declared.question.Question.{Question}
-use Rattle.fort_run.specs.declared.question.Question.TheVariants.{Truth, Certificate, Terms, TermsCertificate, Check, Solutions, Confirm}
+use Rattle.fort_run.specs.declared.question.Question.TheVariants.{Truth, Certificate, Terms, TermsCertificate, Check, Solutions, Confirm, Synth}
 use Rattle.fort_run.specs.Questions.{request_for, inquiry_of, openness_of, tail_of, options_of}
 
 owing_is : (question : Question) (text : Text) → owing (Some (request_for question text)) ≡ About (inquiry_of question text)
@@ -21,6 +21,7 @@ owing_is (TermsCertificate options) text = refl
 owing_is Check text = refl
 owing_is (Solutions options bounds) text = refl
 owing_is Confirm text = refl
+owing_is (Synth options family) text = refl
 
 module _ (question : Question) (text : Text) where
   pub owed_to : (bytes : Text) (s : ℕ) (t : Text) → IsAnswerTo (inquiry_of question text) bytes s t → owed (Some (request_for question text)) bytes s t
@@ -48,3 +49,4 @@ capped_input (TermsCertificate own) options bytes p behind asked is = is
 capped_input Check options bytes p behind asked is = absurd cc
 capped_input (Solutions own bounds) options bytes p behind asked is = is
 capped_input Confirm options bytes p behind asked is = absurd cc
+capped_input (Synth own family) options bytes p behind asked is = absurd cc

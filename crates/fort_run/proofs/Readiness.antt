@@ -17,7 +17,8 @@ use Rattle.fort_formula_grammar.proofs.OneFormula.{AreGroundsOf-unique}
 use Rattle.fort_formulas.specs.FormulaView.{as_formula}
 use Rattle.fort_formula_parser.specs.declared.parsed.Parsed.{Parsed}
 use Rattle.fort_formula_parser.specs.ParsedView.{as_ground}
-use Rattle.fort_answers.specs.FitAnswer.{AreTermsOf, FitsSystem}
+use Rattle.fort_answers.specs.FitAnswer.{FitsSystem}
+use Rattle.fort_answers.specs.Said.{AreTermsOf}
 use Rattle.fort_answers.specs.FormulaAnswer.{IsAccepted, Openness}
 use Rattle.fort_answers.proofs.OneFit.{FitsSystem-ground}
 use Rattle.fort_run.specs.Accepted.{IsRead}

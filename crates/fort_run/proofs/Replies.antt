@@ -10,7 +10,14 @@ use Rattle.fort_answers.specs.Requests.{Text, Request}
 use Rattle.fort_answers.specs.Requests as requests
 use Rattle.fort_answers.specs.Lines.{positive, refused, limit_line}
 use Rattle.fort_answers.specs.FormulaAnswer.{IsAcceptedAs, IsAcceptedClosed, IsRefusedAs}
-use Rattle.fort_answers.specs.InputAnswer.{Behind, IsCertifiedInput, IsInputWith, IsInputRefused}
+use Rattle.fort_families.specs.FamilyRules.{FamilyRule}
+use Rattle.fort_families.specs.FamilySystems.{system_of}
+use Rattle.fort_words.specs.declared.request.Options.{Options as OwnOptions}
+use Rattle.fort_words.specs.declared.request.Family.{Family as OwnFamily}
+use Rattle.fort_words.specs.RequestView.{as_options, as_family}
+use Rattle.fort_engine.specs.declared.answer.Limit.{Limit}
+use Rattle.fort_answers.specs.SynthAnswer.{Over}
+use Rattle.fort_answers.specs.InputAnswer.{Behind, IsCertifiedInput, IsSignatureInput, IsInputWith, IsInputRefused}
 use Rattle.fort_answers.specs.FitAnswer.{FitsSystem, IsUnfit}
 use Rattle.fort_answers.specs.SystemAnswer.{Are, FormulaRefused, InputRefused, FormulaUnfit}
 use Rattle.fort_answers.specs.SystemAnswer as answers
@@ -18,7 +25,7 @@ use Rattle.fort_answers.specs.CheckAnswer.{OwesOutcome}
 use Rattle.fort_answers.specs.Answer.{owed, needed}
 use Rattle.fort_formulas.specs.KindView.{as_kind}
 use Rattle.fort_run.specs.declared.question.Question.{Question}
-use Rattle.fort_run.specs.declared.question.Question.TheVariants.{Truth, Certificate, Terms, TermsCertificate, Check, Solutions, Confirm}
+use Rattle.fort_run.specs.declared.question.Question.TheVariants.{Truth, Certificate, Terms, TermsCertificate, Check, Solutions, Confirm, Synth}
 use Rattle.fort_run.specs.declared.reply.Reply.{Reply}
 use Rattle.fort_run.specs.declared.refusal.Refusal.{Refusal}
 use Rattle.fort_run.specs.declared.refusal.Refusal.TheVariants as refusals
@@ -26,9 +33,9 @@ use Rattle.fort_run.specs.Refusals.{Refuses, IsRefusal, TellsRefusal}
 use Rattle.fort_run.specs.StatusView.{code_of}
 use Rattle.fort_run.specs.Questions.{request_for, openness_of, tail_of, says_of}
 use Rattle.fort_run.specs.Certified.{IsTruth, IsCertified}
-use Rattle.fort_run.specs.Limits.{HasLimit}
+use Rattle.fort_run.specs.Limits.{HasLimit, OverInput, OverFamily}
 use Rattle.fort_run.specs.Replies.{SaysFor, IsReplyTo}
-use Rattle.fort_run.specs.Verdicts.{VerdictOn, IsVerdict, Limits, Says}
+use Rattle.fort_run.specs.Verdicts.{VerdictOn, StopsAt, IsVerdict, Limits, Says, Stops}
 use Rattle.fort_run.proofs.CertificateAccepted.{written_accepted}
 use Rattle.fort_run.proofs.Deciding.{passes}
 use Rattle.fort_run.proofs.OpenAccepted.{told_lines, open_accepted}
@@ -94,6 +101,7 @@ said (TermsCertificate options) p behind terms f s t verdict = verdict.written
 said Check p behind terms f s t verdict = verdict.checked
 said (Solutions options bounds) p behind terms f s t verdict = verdict
 said Confirm p behind terms f s t verdict = verdict.checked
+said (Synth options family) p behind terms f s t verdict = verdict
 
 module _ (text bytes : Text) (f : Formula) (accepted : IsAcceptedClosed text f) (p : System) (c : certificates.Certificate) (is : IsCertifiedInput bytes p c)
     (terms : List Tree) (fits : FitsSystem text f p terms) (line : Text) (owes : owed (Some (requests.Check text)) bytes positive line) where
@@ -163,6 +171,49 @@ module _ (text bytes : Text) (f : Formula) (p : System) (terms : List Tree) (fit
     fits = fits;
     says = verdict.truth refl;
   }
+  says_more (Synth options family) behind accepted is verdict owes = tt
+
+-- where a search stops
+module _ (text bytes : Text) (f : Formula) (p : System) (terms : List Tree) (r : Reply) (options : OwnOptions) (family : OwnFamily) (rules : List FamilyRule)
+    (l : Limit) (fits : FitsSystem text f p terms) (stops : StopsAt (as_options options) (as_family family) p terms f rules l r) where
+  abbrev own : Request
+  own = requests.Synth (as_options options) (as_family family) text
+
+  stop_there : IsAcceptedClosed text f → IsSignatureInput bytes p → IsReplyTo (Some own) bytes r
+  stop_there accepted is =
+      let over = passes (system_of p.signature rules) terms f (as_options options) l stops.is in
+      let has : HasLimit (Some own) bytes r.text.items l = OverFamily (record {
+        options = as_options options;
+        family = as_family family;
+        formula = text;
+        asked = refl;
+        f = f;
+        accepted = accepted;
+        system = p;
+        input = is;
+        terms = terms;
+        fits = fits;
+        small = stops.small;
+        rules = rules;
+        reached = stops.reached;
+        is = stops.is;
+        text_is = stops.text_is;
+      }) in
+      record {
+        is_owed =
+            answers.Says f accepted p tt is terms fits tt
+            (Over stops.small rules stops.reached l.part (as_kind l.kind) over (record { same_status = stops.status_is; same_text = stops.text_is }));
+        says = λ e. let other = stops.status_is in absurd (omega arith);
+        limit = subst (λ o. IfSome o (HasLimit (Some own) bytes r.text.items)) (sym stops.limit_is) has;
+      }
+
+  -- for the question that is put
+  stop_replies : (question : Question) → question ≡ Synth options family → (behind : Behind (tail_of question)) → IsAcceptedAs (openness_of question) text f
+      → IsInputWith (tail_of question) bytes p behind → IsReplyTo (Some (request_for question text)) bytes r
+  stop_replies question asked behind accepted is =
+      let there = subst (λ q. (b : Behind (tail_of q)) × IsInputWith (tail_of q) bytes p b) asked (behind, is) in
+      subst (λ q. IsReplyTo (Some (request_for q text)) bytes r) (sym asked)
+      (stop_there (subst (λ q. IsAcceptedAs (openness_of q) text f) asked accepted) there.1)
 
 -- the verdict on an input that has all that the formula speaks of
 pub verdict_replies : (question : Question) (text bytes : Text) (f : Formula) (p : System) (behind : Behind (tail_of question)) (terms : List Tree) (r : Reply)
@@ -171,7 +222,7 @@ pub verdict_replies : (question : Question) (text bytes : Text) (f : Formula) (p
 verdict_replies question text bytes f p behind terms r accepted is fits (Limits options asked l shows tells) =
     let over = passes p terms f options l shows in
     let line = limit_line l.part (as_kind l.kind) options.states in
-    let has : HasLimit (Some (request_for question text)) bytes r.text.items l = record {
+    let has : HasLimit (Some (request_for question text)) bytes r.text.items l = OverInput (record {
       options = options;
       formula = text;
       f = f;
@@ -182,7 +233,7 @@ verdict_replies question text bytes f p behind terms r accepted is fits (Limits 
       fits = fits;
       is = shows;
       line_is = tells.line_is;
-    } in
+    }) in
     record {
       is_owed =
           owed_to question text bytes (code_of r.status) r.text.items
@@ -201,3 +252,5 @@ verdict_replies question text bytes f p behind terms r accepted is fits (Says ke
           (subst (λ n. owed (Some (request_for question text)) bytes n t) e owes);
       limit = no_limit (Some (request_for question text)) bytes r none;
     }
+verdict_replies question text bytes f p behind terms r accepted is fits (Stops options family asked rules l stops) =
+    stop_replies text bytes f p terms r options family rules l fits stops question asked behind accepted is

@@ -23,7 +23,7 @@ use Rattle.fort_run.specs.declared.reply.Reply.{Reply}
 use Rattle.fort_run.specs.Posed.{IsPosed, SettlesCore}
 use Rattle.fort_run.specs.Ready.{IsLawful}
 use Rattle.fort_run.specs.Samples.{AddsLine, AddsLines}
-use Rattle.fort_run.specs.Verdicts.{IsVerdict, Limits, Says}
+use Rattle.fort_run.specs.Verdicts.{IsVerdict, Limits, Says, Stops}
 use Rattle.fort_run.proofs.Deciding.{passes}
 
 -- the options of every sample, as the program has them
@@ -38,6 +38,7 @@ property_says p q reply (Limits options asked limit is tells) =
     (tells.line_is ∙ ap (λ (o : theirs.Options). limit_line limit.part (as_kind limit.kind) o.states) same)
 property_says p q reply (Says keeps (decide.Yes holds are) none) = Yes keeps holds are.same_text
 property_says p q reply (Says keeps (decide.No fails are) none) = No keeps fails are.same_text
+property_says p q reply (Stops options family other rules limit stops) = absurd cc
 
 -- the name, a blank and the answer are a line
 pub line_added : (system : PatternSystem) (q : Property) (c : Core) (reply : Reply) (t0 t1 t2 t3 name : Text)

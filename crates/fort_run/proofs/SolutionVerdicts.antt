@@ -10,7 +10,7 @@ use Rattle.fort_theory.specs.Sides.{System}
 use Rattle.fort_theory.specs.Patterns.{PatternSystem, pattern_system}
 use Rattle.fort_logic.specs.Formulas.{Formula}
 use Rattle.fort_logic.specs.FreeNames.{free_names}
-use Rattle.fort_cores.specs.Structures.{pattern_structure}
+use Rattle.fort_cores.specs.PatternStructures.{pattern_structure}
 use Rattle.fort_logic.specs.Translation.{core_of}
 use Rattle.fort_tables.specs.Tuples.{Tuple, IsFull, AreGroundColumns, level}
 use Rattle.fort_tables.specs.Entries.{Entry, AreNodes, picked, tuples_of}
@@ -25,7 +25,8 @@ use Rattle.fort_witness.specs.Answers.{AreSolutions}
 use Rattle.fort_parts.specs.PartAnswers.{OfValue, OfTable, IsAnswerTo}
 use Rattle.fort_answers.specs.Lines.{positive, negative}
 use Rattle.fort_answers.specs.Requests.{Text, Bounds}
-use Rattle.fort_answers.specs.SolutionsAnswer.{AreSolutionTerms, TermsBefore, SolutionsVerdict, count_line, solution_lines, status_of}
+use Rattle.fort_answers.specs.SolutionsAnswer.{SolutionsVerdict, status_of}
+use Rattle.fort_answers.specs.SolutionTerms.{AreSolutionTerms, TermsBefore, count_line, solution_lines}
 use Rattle.fort_engine.specs.declared.answer.Last.{Last}
 use Rattle.fort_engine.specs.declared.answer.Last.TheVariants.{Truth as Value, Auto}
 use Rattle.fort_engine.specs.AnswerView.{as_answer, HasStatesWithin}

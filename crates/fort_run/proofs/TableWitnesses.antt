@@ -19,7 +19,7 @@ use Rattle.fort_order.specs.LeastTuple.{Accepted, IsLeastAccepted, AcceptsNone}
 use Rattle.fort_order.proofs.LeastLaws.{least_not_after}
 use Rattle.fort_parts.specs.PartColumns.{columns_of}
 use Rattle.fort_parts.specs.PartAnswers.{OfTable}
-use Rattle.fort_answers.specs.WitnessAnswer.{free_trees, AreWitnesses, AreLeastWitnesses}
+use Rattle.fort_answers.specs.Witnesses.{free_trees, AreWitnesses, AreLeastWitnesses}
 use Rattle.fort_answer_laws.proofs.TermTuples.{full-terms, IsTuple-terms, witnesses-count, witnesses-ground}
 use Rattle.fort_run.specs.Ready.{IsLawful, IsAnsweredBy}
 use Rattle.fort_run.proofs.NamedColumns.{columns_of-core_of}

@@ -10,8 +10,8 @@ use Rattle.fort_order.specs.TermText.{term_text}
 use Rattle.fort_witness.specs.Texts.{term_at, column_text, text_at}
 use Rattle.fort_answers.specs.Lines.{line}
 use Rattle.fort_answers.specs.Requests.{Text}
-use Rattle.fort_answers.specs.WitnessAnswer.{binding, bindings}
-use Rattle.fort_answers.specs.SolutionsAnswer.{count_line, solution_text, solution_lines}
+use Rattle.fort_answers.specs.Witnesses.{binding, bindings}
+use Rattle.fort_answers.specs.SolutionTerms.{count_line, solution_text, solution_lines}
 use Rattle.fort_run.specs.Witnesses.{AreTermsAt, AreAllTermsAt}
 
 -- ---- a name and its term

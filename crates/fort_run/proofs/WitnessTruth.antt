@@ -14,14 +14,15 @@ use Rattle.fort_logic.specs.Formulas.{Name, Formula, Var, Ground}
 use Rattle.fort_logic.specs.FreeNames.{free_names}
 use Rattle.fort_cores.specs.CoreTruth.{Places, IsMetBy}
 use Rattle.fort_logic.specs.KeepsTruth.{AreTheirPlaces}
-use Rattle.fort_cores.specs.Structures.{pattern_structure, structure_of}
+use Rattle.fort_cores.specs.Structures.{structure_of}
+use Rattle.fort_cores.specs.PatternStructures.{pattern_structure}
 use Rattle.fort_logic.specs.Translation.{number_in, core_of}
 use Rattle.fort_logic.specs.Truth.{Assignment, IsGroundAssignment, GivesTerms}
 use Rattle.fort_atom_labels.specs.AssignedTuples.{tuple_of}
 use Rattle.fort_parts.specs.PartColumns.{columns_of}
 use Rattle.fort_parts.specs.PartAnswers.{Answer, said, AreGround}
 use Rattle.fort_run.proofs.NamedColumns.{columns_of-core_of, number_of_name}
-use Rattle.fort_answers.specs.WitnessAnswer.{AreWitnesses}
+use Rattle.fort_answers.specs.Witnesses.{AreWitnesses}
 use Rattle.fort_answer_laws.proofs.TermTuples.{witnesses-count, witnesses-ground}
 use Rattle.fort_run.specs.Ready.{IsLawful, IsAnsweredBy}
 use Rattle.fort_run.proofs.Deciding.{same_truth}

@@ -18,7 +18,8 @@ use Rattle.fort_witness.specs.Answers.{last_tuple, IsWitness}
 use Rattle.fort_parts.specs.PartAnswers.{OfValue, OfTable}
 use Rattle.fort_answers.specs.Lines.{positive, negative, witness_line, none_line}
 use Rattle.fort_answers.specs.Requests.{Text}
-use Rattle.fort_answers.specs.WitnessAnswer.{free_trees, AreWitnesses, bindings, WitnessVerdict, Found, NotFound}
+use Rattle.fort_answers.specs.WitnessAnswer.{WitnessVerdict, Found, NotFound}
+use Rattle.fort_answers.specs.Witnesses.{free_trees, AreWitnesses, bindings}
 use Rattle.fort_engine.specs.declared.answer.Last.{Last}
 use Rattle.fort_engine.specs.declared.answer.Last.TheVariants.{Truth as Value, Auto}
 use Rattle.fort_engine.specs.AnswerView.{as_answer}

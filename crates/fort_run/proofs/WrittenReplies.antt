@@ -76,7 +76,7 @@ module _ (words : List Text) (told old new : Option Text) (r : Reply) (is : IsRe
     limit_by : (limit : Option Limit) → IfSome limit (HasLimit (request_of words) is.bytes r.text.items) → IfSome limit (IsLimitOf words told old new)
     limit_by None has = tt
     limit_by (Some limit) has = record {
-      line = r.text.items;
+      text = r.text.items;
       told_limit = record { bytes = is.bytes; told_are = is.told_are; holds = has };
       taken = subst (Takes old new) text_is taken;
     }

@@ -5,7 +5,7 @@ use Rattle.fort_theory.specs.Sides.{System}
 use Rattle.fort_theory.specs.Patterns.{PatternSystem, pattern_system}
 use Rattle.fort_logic.specs.Formulas.{Formula}
 use Rattle.fort_cores.specs.Cores.{Core}
-use Rattle.fort_cores.specs.Structures.{pattern_structure}
+use Rattle.fort_cores.specs.PatternStructures.{pattern_structure}
 use Rattle.fort_logic.specs.Translation.{core_of}
 use Rattle.fort_tables.specs.Tables.{Table, listed_table}
 use Rattle.fort_parts.specs.PartAnswers.{OfTable, IsAnswerTo}

@@ -1,12 +1,9 @@
 -- To believe: what CERTIFIED says, whoever wrote the certificate; that `check` answers where there is all that it speaks of; what a printed certificate says, and that a certificate which is owed is accepted behind the bytes of its problem.
-use Rattle.std.specs.Prelude.{◌≡◌, ℕ, ◌≤◌, Bool, true, false, List, ◌∷◌, ◌++◌, length, Option, Some}
+use Rattle.std.specs.Prelude.{◌≡◌, ◌≤◌, Bool, true, false, List, ◌∷◌, ◌++◌, length, Option, Some}
 use Rattle.fort_theory.specs.Trees.{Tree}
 use Rattle.fort_theory.specs.Sides.{System}
 use Rattle.fort_logic.specs.Formulas.{Formula}
 use Rattle.fort_logic.specs.Truth.{IsTrueOf, IsFalseOf}
-use Rattle.fort_grammar.specs.Forms.{Forms, AreFormsOf}
-use Rattle.fort_grammar.specs.Declarations.{as_list}
-use Rattle.fort_grammar.specs.ProblemForms.{IsProblem}
 use Rattle.fort_certificate_grammar.specs.Certificates.{Step, Certificate}
 use Rattle.fort_certificate_grammar.specs.CertificateForms.{Version, version_for}
 use Rattle.fort_certificate_grammar.specs.CertificateText.{certificate_text}
@@ -16,6 +13,7 @@ use Rattle.fort_answers.specs.CommandGrammar.{request_of}
 use Rattle.fort_answers.specs.Lines.{positive}
 use Rattle.fort_answers.specs.FormulaAnswer.{IsAcceptedClosed}
 use Rattle.fort_answers.specs.InputAnswer.{IsInput, IsCertifiedInput, input_limit}
+use Rattle.fort_answers.specs.Said.{BeginsWith}
 use Rattle.fort_answers.specs.FitAnswer.{FitsSystem}
 use Rattle.fort_answers.specs.CheckAnswer.{certified_line}
 use Rattle.fort_answers.specs.Answer.{owed}
@@ -26,13 +24,6 @@ use Rattle.fort_run.specs.Told.{HoldsForTold}
 abbrev pub IsTruth : Bool → System → List Tree → Formula → Type 0
 IsTruth true system terms f = IsTrueOf system terms f
 IsTruth false system terms f = IsFalseOf system terms f
-
--- the first forms of the bytes are the system
-pub record BeginsWith (bytes : Text) (system : System) : Type 0 where
-  pub forms : Forms
-  pub are_forms : AreFormsOf bytes forms
-  pub next : ℕ
-  pub problem : IsProblem bytes (as_list forms) system next
 
 -- the line is owed to the bytes, and says the formula's truth over the system with which they begin
 pub record IsCertified (formula bytes line : Text) : Type 0 where

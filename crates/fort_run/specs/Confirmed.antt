@@ -17,11 +17,11 @@ use Rattle.fort_answers.specs.Lines.{positive}
 use Rattle.fort_answers.specs.FormulaAnswer.{Open, IsAcceptedAs}
 use Rattle.fort_answers.specs.InputAnswer.{IsInput, IsOpenCertifiedInput, input_limit}
 use Rattle.fort_answers.specs.FitAnswer.{FitsSystem}
-use Rattle.fort_answers.specs.WitnessAnswer.{AreWitnesses, AreLeastWitnesses, bindings}
+use Rattle.fort_answers.specs.Witnesses.{AreWitnesses, AreLeastWitnesses, bindings}
 use Rattle.fort_answers.specs.ConfirmAnswer.{certified_witness_line, certified_none_line}
 use Rattle.fort_answers.specs.Answer.{owed}
 use Rattle.fort_run.specs.Told.{HoldsForTold}
-use Rattle.fort_run.specs.Certified.{BeginsWith}
+use Rattle.fort_answers.specs.Said.{BeginsWith}
 
 -- ---- what `confirm` says
 

@@ -4,10 +4,18 @@ use Rattle.fort_theory.specs.Sides.{System}
 use Rattle.fort_theory.specs.Patterns.{pattern_system}
 use Rattle.fort_steps.specs.CertificateView.{as_certificate}
 use Rattle.fort_open_steps.specs.OpenView.{as_open}
-use Rattle.fort_answers.specs.InputAnswer.{Tail, Behind, Nothing, ACertificate, AnOpenCertificate, IsInputWith}
+use Rattle.fort_grammar.specs.Forms.{Form}
+use Rattle.fort_answers.specs.InputAnswer.{Tail, Behind, Nothing, ACertificate, AnOpenCertificate, NoRules, BeginsPlainly, IsInputWith}
 use Rattle.fort_run.specs.declared.input.Behind.{Behind as OwnBehind}
 use Rattle.fort_run.specs.declared.input.Behind.TheVariants as own
 use Rattle.fort_run.specs.declared.input.Input.{Input}
+
+-- the forms begin as they have to before such a tail
+abbrev pub BeginsFor : Tail → (bytes : List ℕ) → List Form → Type 0
+BeginsFor Nothing bytes forms = Unit {0}
+BeginsFor ACertificate bytes forms = Unit {0}
+BeginsFor AnOpenCertificate bytes forms = Unit {0}
+BeginsFor NoRules bytes forms = BeginsPlainly bytes forms
 
 -- what was read behind the problem is this
 abbrev pub IsBehind : (tail : Tail) → OwnBehind → Behind tail → Type 0
@@ -20,6 +28,9 @@ IsBehind ACertificate (own.OpenCertificate c) behind = ⊥
 IsBehind AnOpenCertificate own.Nothing behind = ⊥
 IsBehind AnOpenCertificate (own.Certificate c) behind = ⊥
 IsBehind AnOpenCertificate (own.OpenCertificate c) behind = as_open c ≡ behind
+IsBehind NoRules own.Nothing behind = Unit {0}
+IsBehind NoRules (own.Certificate c) behind = ⊥
+IsBehind NoRules (own.OpenCertificate c) behind = ⊥
 
 -- the bytes are the system with that behind it
 pub record IsReadBehind (tail : Tail) (bytes : List ℕ) (system : System) (read : OwnBehind) : Type 0 where

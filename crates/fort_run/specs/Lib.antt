@@ -12,6 +12,7 @@ pub mod Replies
 pub mod Ready
 pub mod Verdicts
 pub mod Posed
+pub mod Searches
 pub mod Answered
 pub mod Witnesses
 pub mod Samples

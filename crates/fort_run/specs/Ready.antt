@@ -10,7 +10,7 @@ use Rattle.fort_logic.specs.Mentions.{indices, HasTermsFor, has_expression}
 use Rattle.fort_logic.specs.Terminations.{terminations, AreAll}
 use Rattle.fort_logic.specs.Translation.{IsFormulaTooWide, core_of}
 use Rattle.fort_logic.specs.KeepsTruth.{KeepsTruth}
-use Rattle.fort_cores.specs.Structures.{pattern_structure}
+use Rattle.fort_cores.specs.PatternStructures.{pattern_structure}
 use Rattle.fort_formulas.specs.NumbersNeeded.{numbers_needed}
 use Rattle.fort_parts.specs.DecidedCores.{AreFewRules}
 use Rattle.fort_parts.specs.PartAnswers.{Answer, IsAnswerTo}

@@ -1,6 +1,6 @@
 -- Inside: what a reply to a request is on the bytes of an input.
 use Rattle.std.specs.Prelude.{◌≡◌, true, false, Option, Some, None, IfSome}
-use Rattle.fort_answers.specs.Requests.{Text, Request, Decide, Witness, Check, Sample, Solutions, Confirm}
+use Rattle.fort_answers.specs.Requests.{Text, Request, Decide, Witness, Check, Sample, Solutions, Confirm, Synth}
 use Rattle.fort_answers.specs.Lines.{positive}
 use Rattle.fort_answers.specs.Answer.{owed}
 use Rattle.fort_run.specs.declared.reply.Reply.{Reply}
@@ -21,6 +21,7 @@ SaysFor (Some (Check formula)) bytes text = IsCertified formula bytes text
 SaysFor (Some (Sample n)) bytes text = Unit {0}
 SaysFor (Some (Solutions options bounds formula)) bytes text = Unit {0}
 SaysFor (Some (Confirm formula)) bytes text = IsConfirmed formula bytes text
+SaysFor (Some (Synth options family formula)) bytes text = Unit {0}
 
 -- the reply is owed for the bytes, says what it is to say, and its limit is the request's
 pub record IsReplyTo (request : Option Request) (bytes : Text) (reply : Reply) : Type 0 where

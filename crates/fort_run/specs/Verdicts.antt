@@ -1,5 +1,5 @@
 -- Inside: what a question about a formula comes to over an input: a verdict, with the truth that it tells, or a limit.
-use Rattle.std.specs.Prelude.{◌≡◌, ℕ, Bool, List, Some, None}
+use Rattle.std.specs.Prelude.{◌≡◌, ℕ, Bool, List, ◌++◌, Some, None}
 use Rattle.fort_theory.specs.Trees.{Tree}
 use Rattle.fort_theory.specs.Sides.{System}
 use Rattle.fort_theory.specs.Patterns.{pattern_system}
@@ -7,7 +7,10 @@ use Rattle.fort_logic.specs.Formulas.{Formula}
 use Rattle.fort_logic.specs.Translation.{core_of}
 use Rattle.fort_in_order.specs.Checked.{Certified}
 use Rattle.fort_certificate_grammar.specs.Certificates as certificates
-use Rattle.fort_answers.specs.Requests.{Text, Options}
+use Rattle.fort_families.specs.FamilyRules.{FamilyRule, IsTooLarge}
+use Rattle.fort_families.specs.FamilySystems.{system_of}
+use Rattle.fort_families.specs.RuleText.{rule_lines}
+use Rattle.fort_answers.specs.Requests.{Text, Options, Family}
 use Rattle.fort_answers.specs.Lines as status
 use Rattle.fort_answers.specs.InputAnswer.{Behind}
 use Rattle.fort_answers.specs.SystemAnswer.{KeepsCapOf}
@@ -18,15 +21,17 @@ use Rattle.fort_answers.specs.CheckAnswer.{CheckVerdict}
 use Rattle.fort_answers.specs.SolutionsAnswer.{SolutionsVerdict}
 use Rattle.fort_answers.specs.OpenCertificateAnswer.{OpenCertificateVerdict}
 use Rattle.fort_answers.specs.ConfirmAnswer.{ConfirmVerdict}
+use Rattle.fort_answers.specs.SynthAnswer.{IsReached, SynthVerdict}
+use Rattle.fort_formulas.specs.KindView.{as_kind}
 use Rattle.fort_open_certificates.specs.OpenCertificates.{OpenCertificate}
 use Rattle.fort_run.specs.Confirmed.{SaysTerms, TellsLeast}
-use Rattle.fort_words.specs.RequestView.{as_bounds}
+use Rattle.fort_words.specs.RequestView.{as_options, as_bounds, as_family}
 use Rattle.fort_engine.specs.AnswerView.{IsLimit}
 use Rattle.fort_engine.specs.declared.answer.Limit.{Limit}
 use Rattle.fort_engine.specs.declared.answer.EngineFault.{EngineFault}
 use Rattle.fort_engine.specs.declared.answer.EngineFault.TheVariants.{Memory, Over}
 use Rattle.fort_run.specs.declared.question.Question.{Question}
-use Rattle.fort_run.specs.declared.question.Question.TheVariants.{Truth, Terms, TermsCertificate, Certificate, Check, Solutions, Confirm}
+use Rattle.fort_run.specs.declared.question.Question.TheVariants.{Truth, Terms, TermsCertificate, Certificate, Check, Solutions, Confirm, Synth}
 use Rattle.fort_run.specs.declared.reply.Reply.{Reply}
 use Rattle.fort_run.specs.StatusView.{code_of}
 use Rattle.fort_run.specs.Questions.{tail_of, options_of}
@@ -61,6 +66,8 @@ VerdictOn (Certificate options) system behind terms f status text = IsTrueCertif
 VerdictOn Check system behind terms f status text = IsTrueOutcome system behind terms f status text
 VerdictOn (Solutions options bounds) system behind terms f status text = SolutionsVerdict (as_bounds bounds) system terms f status text
 VerdictOn Confirm system behind terms f status text = IsTrueOpenOutcome system behind terms f status text
+VerdictOn (Synth options family) system behind terms f status text =
+    SynthVerdict (as_options options) (as_family family) system.signature terms f status text
 
 -- the reply has this limit and its line
 pub record TellsLimit (states : ℕ) (limit : Limit) (reply : Reply) : Type 0 where
@@ -73,6 +80,16 @@ abbrev pub TellsFault : (states : ℕ) → EngineFault → Reply → Type 0
 TellsFault states Memory reply = ⊥
 TellsFault states (Over limit) reply = TellsLimit states limit reply
 
+-- a search through a family that is not too large comes to these rules, over whose system the core formula has this limit, and the reply has it, with its line and the rules
+pub record StopsAt (options : Options) (family : Family) (system : System) (terms : List Tree) (f : Formula) (rules : List FamilyRule) (limit : Limit)
+    (reply : Reply) : Type 0 where
+  pub small : IsTooLarge system.signature family.height → ⊥
+  pub reached : IsReached options family system.signature terms f rules
+  pub is : IsLimit (pattern_system (system_of system.signature rules)) options.reduces (core_of terms f) options.states limit
+  pub limit_is : reply.limit ≡ Some limit
+  pub status_is : code_of reply.status ≡ status.limited
+  pub text_is : reply.text.items ≡ status.limit_line limit.part (as_kind limit.kind) options.states ++ rule_lines system.signature rules
+
 -- the answer to a question about a formula over a system with this behind it, with these ground terms in the formula
 pub data IsVerdict (question : Question) (system : System) (behind : Behind (tail_of question)) (terms : List Tree) (f : Formula) (reply : Reply) : Type 0 where
   Limits : (options : Options) → options_of question ≡ Some options → (limit : Limit)
@@ -80,3 +97,5 @@ pub data IsVerdict (question : Question) (system : System) (behind : Behind (tai
       → IsVerdict question system behind terms f reply
   Says : KeepsCapOf (options_of question) system terms f → VerdictOn question system behind terms f (code_of reply.status) reply.text.items
       → reply.limit ≡ None → IsVerdict question system behind terms f reply
+  Stops : (options : _) (family : _) → question ≡ Synth options family → (rules : List FamilyRule) (limit : Limit)
+      → StopsAt (as_options options) (as_family family) system terms f rules limit reply → IsVerdict question system behind terms f reply

@@ -1,4 +1,4 @@
-//! The commands that ask about a formula over an input: `decide`, `witness`, `check` and `solutions`.
+//! The commands that ask about a formula over an input: all but `sample`.
 ghost use Rattle.std.specs.Prelude.{◌≡◌, ◌<◌, ◌≤◌, Some, length, IfOk, OnOk, IsErrOf};
 ghost use Rattle.fort_grammar.specs.Forms.{AreFormsOf};
 ghost use Rattle.fort_io.specs.Devices.{FaultCounted};

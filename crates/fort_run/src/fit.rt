@@ -1,7 +1,8 @@
 //! Whether a formula speaks of nothing but what a system has.
 ghost use Rattle.std.specs.Prelude.{map, IfOk, IfErr};
 ghost use Rattle.fort_theory.specs.Signatures as theory;
-ghost use Rattle.fort_answers.specs.FitAnswer.{AreTermsOf, FitsSystem, IsUnfit};
+ghost use Rattle.fort_answers.specs.FitAnswer.{FitsSystem, IsUnfit};
+ghost use Rattle.fort_answers.specs.Said.{AreTermsOf};
 ghost use Rattle.fort_formulas.specs.FormulaView.{as_formula};
 ghost use Rattle.fort_formula_parser.specs.ParsedView.{as_ground, AreShort};
 ghost use Rattle.fort_run.specs.Accepted.{Beside};

@@ -1,20 +1,20 @@
 //! The system of an input with what stands behind it, or the line that refuses the input.
-ghost use Rattle.std.specs.Prelude.{◌≡◌, ◌≤◌, length, IfOk, IfErr};
+ghost use Rattle.std.specs.Prelude.{◌≡◌, ◌≤◌, ◌↔◌, [], ◌∷◌, codes, length, IsTrue, IfOk, IfErr};
 ghost use Rattle.fort_theory.specs.Sides as theory;
 ghost use Rattle.fort_theory.specs.Patterns.{pattern_system};
 ghost use Rattle.fort_grammar.specs.Forms.{AreFormsOf};
-ghost use Rattle.fort_grammar.specs.Declarations.{as_list};
+ghost use Rattle.fort_grammar.specs.Declarations.{as_list, IsListOfWords};
 ghost use Rattle.fort_grammar.specs.ProblemForms.{IsProblem};
-ghost use Rattle.fort_answers.specs.InputAnswer.{input_limit, IsInputRefused};
-ghost use Rattle.fort_run.specs.Inputs.{IsReadFrom, IsReadBehind};
+ghost use Rattle.fort_answers.specs.InputAnswer.{input_limit, BeginsPlainly, IsInputRefused};
+ghost use Rattle.fort_run.specs.Inputs.{BeginsFor, IsReadFrom, IsReadBehind};
 ghost use Rattle.fort_run.specs.Questions.{as_tail};
 ghost use Rattle.fort_run.specs.Refusals.{Refuses};
 
 use crate::question::Tail;
 use crate::refusal::{Refusal, certificate_line, form_line, problem_line};
-use fort_ari::{Problem, read_problem};
+use fort_ari::{Problem, ProblemFault, read_problem};
 use fort_open_steps::OpenCertificate;
-use fort_sexpr::Forms;
+use fort_sexpr::{Form, Forms};
 use fort_steps::Certificate;
 use fort_terms::System;
 use std::alloc::Global;
@@ -34,6 +34,37 @@ pub enum Behind {
     OpenCertificate(OpenCertificate),
 }
 
+/// Whether a form is `(format TRS)`.
+fn is_plain_format(form: &Form) -> bool
+    ensures { IsTrue result ↔ IsListOfWords form.now.bytes form.now.form
+        (codes "format" ∷ codes "TRS" ∷ []) }
+{
+    match form.two() {
+        Some((first, second)) => first.is_word(b"format") && second.is_word(b"TRS"),
+        None => false,
+    }
+}
+
+/// Whether the first form is `(format TRS)`, without a number of systems.
+fn begins_plainly(forms: &Forms) -> bool
+    ensures { IsTrue result ↔ BeginsPlainly forms.now.bytes (as_list forms.now.forms) }
+{
+    if forms.len() == 0 {
+        return false;
+    }
+    is_plain_format(&forms.form(0))
+}
+
+/// Whether the forms begin as they have to where such a tail is wanted.
+fn begins_for(tail: Tail, forms: &Forms) -> bool
+    ensures { IsTrue result ↔ BeginsFor (as_tail tail) forms.now.bytes (as_list forms.now.forms) }
+{
+    match tail {
+        Tail::Nothing | Tail::Certificate | Tail::OpenCertificate => true,
+        Tail::NoRules => begins_plainly(forms),
+    }
+}
+
 /// What stands behind a problem, or the line that refuses it.
 fn read_behind(
     alloc: Global,
@@ -43,6 +74,7 @@ fn read_behind(
 ) -> Result<Behind, Refusal>
     requires short { length forms.now.bytes ≤ input_limit }
     requires are { AreFormsOf forms.now.bytes forms.now.forms }
+    requires begins { BeginsFor (as_tail tail) forms.now.bytes (as_list forms.now.forms) }
     ensures ok { IfOk result (λ behind. (s : theory.System)
         → IsProblem forms.now.bytes (as_list forms.now.forms) s problem.now.next
         → problem.now.system ≡ pattern_system s
@@ -71,6 +103,14 @@ fn read_behind(
             Ok(certificate) => Ok(Behind::OpenCertificate(certificate)),
             Err(fault) => Err(Refusal::Line(certificate_line(alloc, fault)?)),
         },
+        Tail::NoRules => {
+            let behind = problem.system.signature().len() + 1;
+            if behind < forms.len() {
+                let line = form_line(alloc, behind as u32, b" bad form", b"")?;
+                return Err(Refusal::Line(line));
+            }
+            Ok(Behind::Nothing)
+        }
     }
 }
 
@@ -81,6 +121,10 @@ pub fn read_input(alloc: Global, tail: Tail, forms: &Forms) -> Result<Input, Ref
     ensures ok { IfOk result (IsReadFrom (as_tail tail) forms.now.bytes) }
     ensures refused { IfErr result (Refuses (IsInputRefused (as_tail tail) forms.now.bytes)) }
 {
+    if !begins_for(tail, forms) {
+        let line = problem_line(alloc, &ProblemFault::NoFormat)?;
+        return Err(Refusal::Line(line));
+    }
     let problem = match read_problem(alloc, forms) {
         Ok(problem) => problem,
         Err(fault) => return Err(Refusal::Line(problem_line(alloc, &fault)?)),

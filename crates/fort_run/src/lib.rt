@@ -16,6 +16,7 @@ mod reply;
 mod sample;
 mod solutions;
 mod status;
+mod synth;
 mod top;
 mod usage;
 mod verdict;

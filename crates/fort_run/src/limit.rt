@@ -37,7 +37,7 @@ fn kind_word(kind: Kind) -> &'static [u8]
 }
 
 /// The line for part `k`, of this kind, over the cap.
-fn limit_line(alloc: Global, k: usize, kind: Kind, cap: u32) -> Result<Vec<u8>, AllocError>
+pub fn limit_line(alloc: Global, k: usize, kind: Kind, cap: u32) -> Result<Vec<u8>, AllocError>
     ensures { IfOk result (λ line. line.items ≡ lines.limit_line k (as_kind kind) cap) }
 {
     let mut line = Vec::from_slice(alloc, b"LIMIT ")?;

@@ -10,8 +10,9 @@ use fort_engine::Limit;
 /// How a run ended.
 #[derive(Drop)]
 pub struct Outcome {
-    /// 0 for YES, WITNESS, a certificate, a sample and CERTIFIED, 1 for NO, NONE and REJECTED, 2 where the words are no request, 3 where
-    /// the formula or the input is refused, 4 for LIMIT, 5 for want of memory, 6 where a read and 7 where a write failed.
+    /// 0 for YES, WITNESS, solutions, SYSTEM, a certificate, a sample and CERTIFIED, 1 for NO, NONE, no solutions, NO SYSTEM and REJECTED,
+    /// 2 where the words are no request, 3 where the formula, the input or the family is refused, 4 for LIMIT, 5 for want of memory,
+    /// 6 where a read and 7 where a write failed.
     pub status: u8,
     /// With 4, the part that is over the cap, and the tuples that show it.
     pub limit: Option<Limit>,

@@ -2,7 +2,7 @@
 ghost use Rattle.std.specs.Prelude.{◌≡◌};
 ghost use Rattle.fort_run.specs.Questions.{as_openness, as_tail, openness_of, tail_of};
 
-use fort_words::{Bounds, Options};
+use fort_words::{Bounds, Family, Options};
 
 /// What a request asks of a formula over an input.
 #[derive(Clone, Copy, Debug)]
@@ -21,6 +21,8 @@ pub enum Question {
     Solutions(Options, Bounds),
     /// Whether the certificate behind the problem proves that some terms satisfy it, or that none do.
     Confirm,
+    /// The first system of a family over the input's signature that makes it true.
+    Synth(Options, Family),
 }
 
 /// The formulas of which something is asked.
@@ -40,6 +42,8 @@ pub enum Tail {
     Certificate,
     /// A certificate of an open formula.
     OpenCertificate,
+    /// Nothing behind the declarations, and before them a plain `(format TRS)`.
+    NoRules,
 }
 
 impl Question {
@@ -48,6 +52,7 @@ impl Question {
     {
         match self {
             Question::Truth(_) | Question::Certificate(_) | Question::Check => Openness::Closed,
+            Question::Synth(_, _) => Openness::Closed,
             Question::Terms(_) => Openness::Any,
             Question::TermsCertificate(_) | Question::Solutions(_, _) | Question::Confirm =>
                 Openness::Open,
@@ -63,6 +68,7 @@ impl Question {
             Question::Solutions(_, _) => Tail::Nothing,
             Question::Confirm => Tail::OpenCertificate,
             Question::Check => Tail::Certificate,
+            Question::Synth(_, _) => Tail::NoRules,
         }
     }
 }

@@ -5,13 +5,13 @@ ghost use Rattle.fort_run.specs.StatusView.{code_of};
 /// How a run ended.
 #[derive(Clone, Copy, Debug, PartialEq, Eq)]
 pub enum Status {
-    /// YES, WITNESS, a certificate, a sample or CERTIFIED.
+    /// YES, WITNESS, solutions, SYSTEM, a certificate, a sample or CERTIFIED.
     Positive,
-    /// NO, NONE or REJECTED.
+    /// NO, NONE, no solutions, NO SYSTEM or REJECTED.
     Negative,
     /// The usage text.
     Usage,
-    /// A formula or an input was refused.
+    /// A formula, an input or a family was refused.
     Refused,
     /// Some part of the formula is over the cap.
     Limited,

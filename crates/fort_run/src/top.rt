@@ -1,12 +1,15 @@
 //! The top call.
-ghost use Rattle.std.specs.Prelude.{◌≡◌, ◌<◌, ◌≤◌, ◌⊎◌, ◌↔◌, true, map, string_bytes, IfOk, IfSome, IsSome, OnOk, IsErrOf};
+ghost use Rattle.std.specs.Prelude.{◌≡◌, ◌<◌, ◌≤◌, ◌⊎◌, ◌↔◌, ℕ, true, List, [], ◌∷◌, map, codes, string_bytes, IfOk, IfSome, IsSome, OnOk, IsErrOf};
 ghost use Rattle.fort_io.specs.Devices.{FaultCounted};
 ghost use Rattle.fort_words.specs.RequestView.{as_request};
 ghost use Rattle.fort_answers.specs.PossibleRequests.{CanBeAsked};
 ghost use Rattle.fort_answers.specs.Requests.{Text, Options, Decide, Witness, Check as CheckOf, Confirm as ConfirmOf};
+ghost use Rattle.fort_answers.specs.Said.{Asks, Says, SaysTrue, SaysFalse, SaysTruth};
+ghost use Rattle.fort_answers.specs.SaidTerms.{SaysLeastTerms, SaysConfirmed, SaysFirstTerms};
+ghost use Rattle.fort_answers.specs.SaidSystems.{SaysSystem, SaysNoSystem};
 ghost use Rattle.fort_answers.specs.Answer.{Answer, AsksNothing, AsksSomething, needed};
 ghost use Rattle.fort_answers.specs.Lines.{last_answer, limited, negative, positive, out_of_memory, read_failed, write_failed};
-ghost use Rattle.fort_run.specs.Answered.{Answers, CutsShort, IsDecidable, IsDecidableWithin, OwesOnly, OwesOnlyEarly, ReadsWhole};
+ghost use Rattle.fort_run.specs.Answered.{Answers, CutsShort, IsDecidable, IsDecidableWithin, IsSearchable, IsSearchableWithin, OwesOnly, OwesOnlyEarly, ReadsWhole};
 ghost use Rattle.fort_run.specs.Certified.{CertifiesTruth, IsCheckable, PrintsTruth, IsAcceptedBehind};
 ghost use Rattle.fort_run.specs.Confirmed.{ConfirmsTerms, IsConfirmable, PrintsTerms, IsOpenAcceptedBehind};
 ghost use Rattle.fort_answers.specs.CommandGrammar.{request_of};
@@ -72,6 +75,11 @@ fn reply_to_request<S: Source>(
             formula,
         } => ask(alloc, Question::Solutions(options, bounds), formula, input),
         Request::Confirm { formula } => ask(alloc, Question::Confirm, formula, input),
+        Request::Synth {
+            options,
+            family,
+            formula,
+        } => ask(alloc, Question::Synth(options, family), formula, input),
     }
 }
 
@@ -102,6 +110,49 @@ pub fn run<S: Source, K: Sink>(
     input: &mut S,
     output: &mut K,
 ) -> Outcome
+    // What YES, NO and CERTIFIED say, where the words plainly ask: the formula's truth over the system of the bytes.
+    ensures yes { (formula : List ℕ)
+        → Asks (codes "decide") (formula ∷ []) (map string_bytes words.now)
+        → result.status ≡ 0 → Says formula (S.rest input.old)
+        (K.taken output.old) (K.taken output.new) (SaysTrue (codes "YES")) }
+    ensures no { (formula : List ℕ)
+        → Asks (codes "decide") (formula ∷ []) (map string_bytes words.now)
+        → result.status ≡ 1 → Says formula (S.rest input.old)
+        (K.taken output.old) (K.taken output.new) (SaysFalse (codes "NO")) }
+    ensures certified { (formula : List ℕ)
+        → Asks (codes "check") (formula ∷ []) (map string_bytes words.now)
+        → result.status ≡ 0 → Says formula (S.rest input.old)
+        (K.taken output.old) (K.taken output.new)
+        (SaysTruth (codes "CERTIFIED YES") (codes "CERTIFIED NO")) }
+
+    // What is said of terms: the least that satisfy the formula, some that do, the first ones, or that there are none.
+    ensures found { (formula : List ℕ)
+        → Asks (codes "witness") (formula ∷ []) (map string_bytes words.now)
+        → result.status ≡ 0 → Says formula (S.rest input.old)
+        (K.taken output.old) (K.taken output.new) SaysLeastTerms }
+    ensures none { (formula : List ℕ)
+        → Asks (codes "witness") (formula ∷ []) (map string_bytes words.now)
+        → result.status ≡ 1 → Says formula (S.rest input.old)
+        (K.taken output.old) (K.taken output.new) (SaysFalse (codes "NONE")) }
+    ensures confirmed { (formula : List ℕ)
+        → Asks (codes "confirm") (formula ∷ []) (map string_bytes words.now)
+        → result.status ≡ 0 → Says formula (S.rest input.old)
+        (K.taken output.old) (K.taken output.new) SaysConfirmed }
+    ensures solved { (height formula : List ℕ)
+        → Asks (codes "solutions") (height ∷ formula ∷ []) (map string_bytes words.now)
+        → result.status ≤ 1 → Says formula (S.rest input.old)
+        (K.taken output.old) (K.taken output.new) (SaysFirstTerms height) }
+
+    // And of the systems of a family: the first that makes the formula true, or that none does.
+    ensures system { (rules height formula : List ℕ)
+        → Asks (codes "synth") (rules ∷ height ∷ formula ∷ []) (map string_bytes words.now)
+        → result.status ≡ 0 → Says formula (S.rest input.old)
+        (K.taken output.old) (K.taken output.new) (SaysSystem rules height) }
+    ensures no_system { (rules height formula : List ℕ)
+        → Asks (codes "synth") (rules ∷ height ∷ formula ∷ []) (map string_bytes words.now)
+        → result.status ≡ 1 → Says formula (S.rest input.old)
+        (K.taken output.old) (K.taken output.new) (SaysNoSystem rules height) }
+
     // With 0 to 4 the status is the answer's, and its text was written. No other answer is owed to the bytes.
     ensures answered { result.status ≤ last_answer → Answers (map string_bytes words.now)
         (S.rest input.old) (K.taken output.old) (K.taken output.new) result.status }
@@ -113,9 +164,9 @@ pub fn run<S: Source, K: Sink>(
     ensures whole { result.status ≤ last_answer → AsksSomething (map string_bytes words.now) →
         ReadsWhole (S.rest input.old) (S.rest input.new) }
 
-    // CERTIFIED says the formula's truth, whoever wrote the certificate; so does a certificate that is printed, and it is
-    // certified in its turn, as each is that is owed.
-    ensures certified { (formula : Text)
+    // A line that says CERTIFIED is owed to the bytes, whoever wrote the certificate; a certificate that is printed says the
+    // formula's truth, and is certified in its turn, as each is that is owed.
+    ensures owed_certified { (formula : Text)
         → request_of (map string_bytes words.now) ≡ Some (CheckOf formula)
         → result.status ≡ positive → CertifiesTruth formula
         (S.rest input.old) (K.taken output.old) (K.taken output.new) }
@@ -129,7 +180,7 @@ pub fn run<S: Source, K: Sink>(
         → IsAcceptedBehind formula bytes text }
 
     // The same of terms that are found, or that there are none.
-    ensures confirmed { (formula : Text)
+    ensures owed_confirmed { (formula : Text)
         → request_of (map string_bytes words.now) ≡ Some (ConfirmOf formula)
         → result.status ≡ positive → ConfirmsTerms formula
         (S.rest input.old) (K.taken output.old) (K.taken output.new) }
@@ -169,7 +220,9 @@ pub fn run<S: Source, K: Sink>(
     ensures unread { AsksNothing (map string_bytes words.now) → input.new ≡ input.old }
 
     // Without a fault there is an answer, or want of memory; 0, 1 or 4 where the words ask to decide and the bytes are a system
-    // with all that the formula speaks of, 0 or 1 where each part of it keeps the cap, and where the words ask to check or to confirm.
+    // with all that the formula speaks of, 0 or 1 where each part of it keeps the cap, and where the words ask to check or to confirm;
+    // 0, 1 or 4 too where they ask for the first system of a family that is not too large, and the bytes are a signature with all that
+    // the formula speaks of, 0 or 1 where each part of it keeps the cap over each system of the family.
     ensures complete { (FaultCounted (S.faults input.old) (S.faults input.new) → ⊥) →
         (FaultCounted (K.faults output.old) (K.faults output.new) → ⊥) →
         (result.status ≤ last_answer) ⊎ (result.status ≡ out_of_memory) }
@@ -188,6 +241,14 @@ pub fn run<S: Source, K: Sink>(
     ensures confirmable { (FaultCounted (S.faults input.old) (S.faults input.new) → ⊥) →
         (FaultCounted (K.faults output.old) (K.faults output.new) → ⊥) →
         IsConfirmable (map string_bytes words.now) (S.rest input.old) →
+        (result.status ≤ negative) ⊎ (result.status ≡ out_of_memory) }
+    ensures searched { (FaultCounted (S.faults input.old) (S.faults input.new) → ⊥) →
+        (FaultCounted (K.faults output.old) (K.faults output.new) → ⊥) →
+        IsSearchable (map string_bytes words.now) (S.rest input.old) → (result.status ≤ negative)
+        ⊎ ((result.status ≡ limited) ⊎ (result.status ≡ out_of_memory)) }
+    ensures searched_within { (FaultCounted (S.faults input.old) (S.faults input.new) → ⊥) →
+        (FaultCounted (K.faults output.old) (K.faults output.new) → ⊥) →
+        IsSearchableWithin (map string_bytes words.now) (S.rest input.old) →
         (result.status ≤ negative) ⊎ (result.status ≡ out_of_memory) }
 {
     let reply = match reply_to(alloc, words, input) {

@@ -7,4 +7,5 @@ pub const USAGE: &str = "usage: fort decide [--states N] [--reduce] [--certifica
        fort sample N
        fort solutions [--states N] [--most M] H FORMULA
        fort confirm FORMULA
+       fort synth [--states N] RULES HEIGHT FORMULA
 ";

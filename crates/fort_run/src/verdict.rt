@@ -1,11 +1,11 @@
 //! What a question about a formula comes to over an input.
-ghost use Rattle.std.specs.Prelude.{◌≡◌, List, None, IfOk, IfErr, OnOk};
+ghost use Rattle.std.specs.Prelude.{◌≡◌, List, None, length, IfOk, IfErr, OnOk};
 ghost use Rattle.fort_theory.specs.Sides as theory;
 ghost use Rattle.fort_theory.specs.Patterns.{PatternSystem, pattern_system};
 ghost use Rattle.fort_theory.specs.Trees.{Tree};
 ghost use Rattle.fort_logic.specs.Formulas as logic;
 ghost use Rattle.fort_logic.specs.KeepsTruth.{KeepsTruth};
-ghost use Rattle.fort_cores.specs.Structures.{pattern_structure};
+ghost use Rattle.fort_cores.specs.PatternStructures.{pattern_structure};
 ghost use Rattle.fort_logic.specs.Translation.{core_of};
 ghost use Rattle.fort_formulas.specs.CoreView.{as_core};
 ghost use Rattle.fort_formulas.specs.FormulaView.{as_formula};
@@ -13,7 +13,7 @@ ghost use Rattle.fort_parts.specs.DecidedCores.{IsDecided};
 ghost use Rattle.fort_parts.specs.PartAnswers.{IsAnswerTo};
 ghost use Rattle.fort_answers.specs.DecideAnswer.{TruthVerdict};
 ghost use Rattle.fort_answers.specs.FormulaAnswer.{Any, Closed, Open, IsTaken};
-ghost use Rattle.fort_answers.specs.InputAnswer.{Behind as BehindOf};
+ghost use Rattle.fort_answers.specs.InputAnswer.{Behind as BehindOf, ACertificate, AnOpenCertificate, NoRules};
 ghost use Rattle.fort_engine.specs.AnswerView.{as_answer, HasStatesWithin, IfOver, KeepsCapAt, IsLimit};
 ghost use Rattle.fort_run.specs.Inputs.{IsBehind};
 ghost use Rattle.fort_run.specs.OpenTexts.{IsTextOf};
@@ -21,7 +21,7 @@ ghost use Rattle.fort_run.specs.Posed.{IsPosed, Settles, SettlesCore};
 ghost use Rattle.fort_run.specs.Questions.{CanBePut, openness_of, tail_of};
 ghost use Rattle.fort_run.specs.Ready.{IsLawful, IsReady, IsDecidedBy};
 ghost use Rattle.fort_run.specs.StatusView.{code_of};
-ghost use Rattle.fort_run.specs.declared.question.Question.TheVariants.{Truth, Terms, Certificate, TermsCertificate, Solutions};
+ghost use Rattle.fort_run.specs.declared.question.Question.TheVariants.{Truth, Terms, Certificate, TermsCertificate, Check, Solutions, Confirm};
 
 use crate::checked::checked;
 use crate::confirmed::confirmed;
@@ -31,6 +31,7 @@ use crate::question::Question;
 use crate::reply::Reply;
 use crate::solutions::solutions;
 use crate::status::Status;
+use crate::synth::synth;
 use crate::witness::witness;
 use fort_certificate::Version;
 use fort_engine::{EngineFault, Last, decide_with};
@@ -65,7 +66,7 @@ pub fn core_for(
 }
 
 /// The answer to a core formula.
-fn answer_to(
+pub fn answer_to(
     alloc: Global,
     system: &System,
     core: &Core,
@@ -216,6 +217,76 @@ fn certificate(
     }
 }
 
+/// What comes of the certificate behind the problem of an input, by the core formula of a closed formula.
+fn checked_behind(alloc: Global, input: &Input, core: &Core) -> Result<Reply, AllocError>
+    requires posed { (f : logic.Formula) × (terms : List Tree)
+        × IsPosed Closed f input.now.system terms (as_core core.now) }
+    requires behind { (behind : BehindOf ACertificate)
+        × IsBehind ACertificate input.now.behind behind }
+    ensures { IfOk result (λ r. (f : logic.Formula) (behind : BehindOf ACertificate)
+        → IsBehind ACertificate input.now.behind behind
+        → SettlesCore Check input.now.system behind (as_core core.now) f r) }
+{
+    match &input.behind {
+        Behind::Certificate(certificate) => checked(alloc, &input.system, core, certificate),
+        Behind::Nothing | Behind::OpenCertificate(_) => unreachable!(),
+    }
+}
+
+/// The same of an open formula.
+fn confirmed_behind(
+    alloc: Global,
+    input: &Input,
+    formula: &Formula,
+    core: &Core,
+) -> Result<Reply, AllocError>
+    requires posed { (terms : List Tree)
+        × IsPosed Open (as_formula formula.now) input.now.system terms (as_core core.now) }
+    requires behind { (behind : BehindOf AnOpenCertificate)
+        × IsBehind AnOpenCertificate input.now.behind behind }
+    ensures { IfOk result (λ r. (behind : BehindOf AnOpenCertificate)
+        → IsBehind AnOpenCertificate input.now.behind behind → SettlesCore Confirm
+        input.now.system behind (as_core core.now) (as_formula formula.now) r) }
+{
+    match &input.behind {
+        Behind::OpenCertificate(open) => confirmed(alloc, &input.system, formula, core, open),
+        Behind::Nothing | Behind::Certificate(_) => unreachable!(),
+    }
+}
+
+/// The reply to a question about a formula, by its core formula.
+fn reply_by_core(
+    alloc: Global,
+    question: Question,
+    input: &Input,
+    formula: &Formula,
+    core: &Core,
+) -> Result<Reply, AllocError>
+    requires posed { (terms : List Tree) × IsPosed (openness_of question)
+        (as_formula formula.now) input.now.system terms (as_core core.now) }
+    requires possible { CanBePut question }
+    requires behind { (behind : BehindOf (tail_of question))
+        × IsBehind (tail_of question) input.now.behind behind }
+    requires single { tail_of question ≡ NoRules → length input.now.system.rules ≡ 1 }
+    ensures { IfOk result (λ r. (terms : List Tree) → IsPosed (openness_of question)
+        (as_formula formula.now) input.now.system terms (as_core core.now)
+        → Settles question input.now terms (as_formula formula.now) r) }
+{
+    let system = &input.system;
+    match question {
+        Question::Truth(options) => truth(alloc, system, core, options),
+        Question::Certificate(options) => certificate(alloc, system, core, options),
+        Question::Terms(options) => least_terms(alloc, system, formula, core, options),
+        Question::TermsCertificate(options) => terms_certificate(alloc, system, core, options),
+        Question::Check => checked_behind(alloc, input, core),
+        Question::Confirm => confirmed_behind(alloc, input, formula, core),
+        Question::Synth(options, family) => synth(alloc, system, core, options, family),
+        Question::Solutions(options, bounds) => {
+            first_terms(alloc, system, formula, core, options, bounds)
+        }
+    }
+}
+
 /// The reply to a question about a formula that speaks of nothing but what the input has.
 pub fn verdict(
     alloc: Global,
@@ -229,25 +300,9 @@ pub fn verdict(
     requires possible { CanBePut question }
     requires behind { (behind : BehindOf (tail_of question))
         × IsBehind (tail_of question) input.now.behind behind }
+    requires single { tail_of question ≡ NoRules → length input.now.system.rules ≡ 1 }
     ensures { IfOk result (Settles question input.now terms.now (as_formula formula.now)) }
 {
-    let system = &input.system;
-    let core = core_for(alloc, system, formula, terms)?;
-    match question {
-        Question::Truth(options) => truth(alloc, system, &core, options),
-        Question::Certificate(options) => certificate(alloc, system, &core, options),
-        Question::Terms(options) => least_terms(alloc, system, formula, &core, options),
-        Question::TermsCertificate(options) => terms_certificate(alloc, system, &core, options),
-        Question::Check => match &input.behind {
-            Behind::Certificate(certificate) => checked(alloc, system, &core, certificate),
-            Behind::Nothing | Behind::OpenCertificate(_) => unreachable!(),
-        },
-        Question::Confirm => match &input.behind {
-            Behind::OpenCertificate(open) => confirmed(alloc, system, formula, &core, open),
-            Behind::Nothing | Behind::Certificate(_) => unreachable!(),
-        },
-        Question::Solutions(options, bounds) => {
-            first_terms(alloc, system, formula, &core, options, bounds)
-        }
-    }
+    let core = core_for(alloc, &input.system, formula, terms)?;
+    reply_by_core(alloc, question, input, formula, &core)
 }

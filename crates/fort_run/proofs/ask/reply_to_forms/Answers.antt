@@ -1,4 +1,4 @@
-use Rattle.std.proofs.Common.{sym, subst}
+use Rattle.std.proofs.Common.{length, refl, sym, ◌∙◌, subst}
 use Rattle.std.specs.Prelude.{Some}
 use Rattle.std.proofs.lemmas.Result.{IfOk-weaker}
 use Rattle.fort_formulas.specs.FormulaView.{as_formula}
@@ -10,6 +10,8 @@ use Rattle.fort_run.specs.Posed.{Settles}
 use Rattle.fort_run.specs.Questions.{openness_of, tail_of, request_for}
 use Rattle.fort_run.specs.Ready.{IsReady}
 use Rattle.fort_run.specs.Refusals.{Refuses}
+use Rattle.fort_run.proofs.Fitting.{number_is}
+use Rattle.fort_run.proofs.PlainFormats.{single_index}
 use Rattle.fort_run.proofs.LinearRules.{IsInputWith-lawful}
 use Rattle.fort_run.proofs.Readiness.{ready}
 use Rattle.fort_run.proofs.Replies.{input_refused, unfit, told_refusal, verdict_replies}
@@ -68,3 +70,10 @@ returns-in-Ok-terms_of c =
     verdict_replies question text bytes f read.system read.behind terms r is.accepted read.is fits
     (there read.system read.behind (IsInputWith-lawful (tail_of question) bytes read.system read.behind read.is) read.input_is))
     c.verdict.ensures
+
+pub verdict-requires-clause-single : goal.verdict-requires-clause-single
+verdict-requires-clause-single c = λ none.
+    let bytes = c.args.forms.now.bytes in
+    let read = subst (λ t. IsReadFrom t bytes c.in-Ok.input) c.tail.ensures c.in-Ok.ensures.ok in
+    number_is (length c.in-Ok.input.system.rules) c.in-Ok.input.system read.system refl read.input_is.same
+    ∙ single_index (tail_of c.args.question) bytes read.system read.behind read.is none

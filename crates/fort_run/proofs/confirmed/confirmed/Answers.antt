@@ -12,7 +12,7 @@ use Rattle.fort_open_certificates.specs.OpenChecked.{HasOpenOutcome}
 use Rattle.fort_open_checker.specs.OpenOutcomeView.{as_outcome}
 use Rattle.fort_open_steps.specs.OpenView.{as_node, as_open}
 use Rattle.fort_answers.specs.ConfirmAnswer.{certified_witness_line, certified_none_line}
-use Rattle.fort_answers.specs.WitnessAnswer.{bindings}
+use Rattle.fort_answers.specs.Witnesses.{bindings}
 use Rattle.fort_run.specs.StatusView.{code_of}
 use Rattle.fort_run.specs.Witnesses.{AreLastTerms}
 use Rattle.fort_run.specs.declared.status.Status.TheVariants.{Positive}

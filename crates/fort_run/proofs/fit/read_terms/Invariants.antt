@@ -1,5 +1,5 @@
 use Rattle.std.proofs.Common.{map, take}
-use Rattle.fort_answers.specs.FitAnswer.{AreTermsOf}
+use Rattle.fort_answers.specs.Said.{AreTermsOf}
 use Rattle.fort_formula_parser.specs.ParsedView.{as_ground}
 use Rattle.fort_run.proofs.fit.read_terms.Given as goal
 

@@ -3,7 +3,8 @@ use Rattle.std.proofs.lemmas.Result.{err_from_is_err_and}
 use Rattle.fort_logic.specs.Mentions.{indices, IsFirstAbove, AreWithin}
 use Rattle.fort_formulas.specs.FormulaView.{as_formula}
 use Rattle.fort_formula_parser.specs.ParsedView.{as_ground}
-use Rattle.fort_answers.specs.FitAnswer.{AreTermsOf, NoIndex, NotRightGround}
+use Rattle.fort_answers.specs.FitAnswer.{NoIndex, NotRightGround}
+use Rattle.fort_answers.specs.Said.{AreTermsOf}
 use Rattle.fort_run.specs.Refusals.{Refuses, NamesTerm}
 use Rattle.fort_run.proofs.Fitting.{number_is, signature_is, term_refused, right_ground_of, not_right_ground_of}
 use Rattle.fort_run.proofs.fit.terms_of.Goals as goal

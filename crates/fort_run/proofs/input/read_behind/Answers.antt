@@ -1,17 +1,19 @@
-use Rattle.std.proofs.Common.{refl, sym, subst, arith}
+use Rattle.std.proofs.Common.{◌≡◌, ◌+◌, length, refl, sym, ap, ◌∙◌, subst, arith}
 use Rattle.std.specs.Prelude.{IfSome}
-use Rattle.fort_grammar.specs.Declarations.{as_list}
+use Rattle.fort_theory.specs.Patterns.{PatternSystem}
+use Rattle.fort_grammar.specs.Declarations.{as_list, BadForm}
+use Rattle.fort_answers.specs.Lines.{problem_fault_line}
 use Rattle.fort_certificate_grammar.specs.CertificateForms.{IsCertificate}
 use Rattle.fort_certificate_grammar.specs.CertificateFaults.{IsFirstCertificateFault}
 use Rattle.fort_certificate.specs.Faults.{as_fault}
 use Rattle.fort_open_steps.specs.OpenView.{as_open}
 use Rattle.fort_steps.specs.CertificateView.{as_certificate}
-use Rattle.fort_answers.specs.InputAnswer.{IsInputRefused}
+use Rattle.fort_answers.specs.InputAnswer.{BeginsPlainly, behind_declarations, IsInputRefused}
 use Rattle.fort_run.specs.declared.input.Behind.TheVariants.{Nothing, Certificate, OpenCertificate}
-use Rattle.fort_run.specs.Inputs.{IsReadBehind}
+use Rattle.fort_run.specs.Inputs.{BeginsFor, IsReadBehind}
 use Rattle.fort_run.specs.Questions.{as_tail}
 use Rattle.fort_run.proofs.Fitting.{number_is}
-use Rattle.fort_run.proofs.InputLines.{form_refused, nothing_behind, certificate_refused, certificate_behind, open_certificate_refused, open_certificate_behind}
+use Rattle.fort_run.proofs.InputLines.{form_refused, nothing_behind, rule_refused, signature_alone, certificate_refused, certificate_behind, open_certificate_refused, open_certificate_behind}
 use Rattle.fort_run.proofs.input.read_behind.Goals as goal
 
 pub returns-then-problem-len-clause-refused : goal.returns-then-problem-len-clause-refused
@@ -68,3 +70,28 @@ returns-in_ok-certificate_line-in-Err-read_open-clause-refused c = λ s problem 
     subst (λ t. IsInputRefused (as_tail t) forms.bytes line) (sym c.in-OpenCertificate.is)
     (open_certificate_refused forms.bytes forms.forms c.requires.short c.requires.are s c.args.problem.now.next problem c.in-Err-read_open.fault line
     c.in-Err-read_open.ensures.fault c.in_ok-certificate_line-in-Err-read_open.ensures)
+
+pub returns-then-behind-len-clause-refused : goal.returns-then-behind-len-clause-refused
+returns-then-behind-len-clause-refused c = λ s problem same.
+    let forms = c.args.forms.now in
+    let line = c.in_ok-line-in-NoRules.line.items in
+    let begins : BeginsPlainly forms.bytes (as_list forms.forms) =
+    subst (λ t. BeginsFor (as_tail t) forms.bytes (as_list forms.forms)) c.in-NoRules.is c.requires.begins in
+    let count : c.len-behind.result ≡ length s.signature =
+    c.len-behind.ensures.count ∙ ap length (c.signature.ensures.same ∙ ap (λ (x : PatternSystem). x.signature) same) in
+    let at : behind_declarations s ≡ c.len-behind.result + 1 = omega (arith, count) in
+    subst (λ t. IsInputRefused (as_tail t) forms.bytes line) (sym c.in-NoRules.is)
+    (rule_refused forms.bytes forms.forms c.requires.short c.requires.are s c.args.problem.now.next problem line begins
+    (omega (arith, count, c.len-in-NoRules.ensures.count, c.if-behind-len.true))
+    (c.in_ok-line-in-NoRules.ensures ∙ ap (λ n. problem_fault_line (BadForm n)) (sym at)))
+
+pub returns-else-behind-len-clause-ok : goal.returns-else-behind-len-clause-ok
+returns-else-behind-len-clause-ok c = λ s problem same.
+    let forms = c.args.forms.now in
+    let begins : BeginsPlainly forms.bytes (as_list forms.forms) =
+    subst (λ t. BeginsFor (as_tail t) forms.bytes (as_list forms.forms)) c.in-NoRules.is c.requires.begins in
+    let count : c.len-behind.result ≡ length s.signature =
+    c.len-behind.ensures.count ∙ ap length (c.signature.ensures.same ∙ ap (λ (x : PatternSystem). x.signature) same) in
+    let is = signature_alone forms.bytes forms.forms c.requires.short c.requires.are s c.args.problem.now.next problem begins
+    (omega (arith, count, c.len-in-NoRules.ensures.count, c.if-behind-len.false)) in
+    subst (λ t. IsReadBehind (as_tail t) forms.bytes s Nothing) (sym c.in-NoRules.is) (record { behind = tt; is = is; behind_is = tt })

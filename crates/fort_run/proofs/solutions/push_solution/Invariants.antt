@@ -1,6 +1,6 @@
 use Rattle.std.proofs.Common.{◌≡◌, ◌++◌, List, take}
 use Rattle.fort_theory.specs.Trees.{Tree}
-use Rattle.fort_answers.specs.SolutionsAnswer.{solution_text}
+use Rattle.fort_answers.specs.SolutionTerms.{solution_text}
 use Rattle.fort_run.specs.Witnesses.{AreTermsAt}
 use Rattle.fort_run.proofs.solutions.push_solution.Given as goal
 

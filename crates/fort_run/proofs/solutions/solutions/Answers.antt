@@ -4,7 +4,7 @@ use Rattle.fort_theory.specs.Patterns.{pattern_system}
 use Rattle.fort_logic.specs.FreeNames.{free_names}
 use Rattle.fort_formulas.specs.FormulaView.{as_formula}
 use Rattle.fort_words.specs.RequestView.{as_bounds}
-use Rattle.fort_answers.specs.SolutionsAnswer.{count_line, solution_lines}
+use Rattle.fort_answers.specs.SolutionTerms.{count_line, solution_lines}
 use Rattle.fort_engine.specs.AnswerView.{HasStatesWithin}
 use Rattle.fort_run.specs.StatusView.{code_of}
 use Rattle.fort_run.proofs.SolutionVerdicts.{value_closed, all_terms, solutions_say, status_by}

@@ -2,7 +2,7 @@ use Rattle.std.proofs.Common.{◌≡◌, ◌<◌, [], ◌++◌, length, get_or, 
 use Rattle.fort_logic.specs.FreeNames.{free_names}
 use Rattle.fort_formulas.specs.FormulaView.{as_formula}
 use Rattle.fort_answers.specs.Lines.{line}
-use Rattle.fort_answers.specs.SolutionsAnswer.{count_line, solution_text}
+use Rattle.fort_answers.specs.SolutionTerms.{count_line, solution_text}
 use Rattle.fort_run.proofs.TermTexts.{terms-there, solutions-line, solutions-all}
 use Rattle.fort_run.proofs.solutions.solutions_text.Goals as goal
 

@@ -2,7 +2,7 @@ use Rattle.std.proofs.Common.{◌≡◌, ◌++◌, List, take, length}
 use Rattle.fort_theory.specs.Trees.{Tree}
 use Rattle.fort_logic.specs.FreeNames.{free_names}
 use Rattle.fort_formulas.specs.FormulaView.{as_formula}
-use Rattle.fort_answers.specs.SolutionsAnswer.{count_line, solution_lines}
+use Rattle.fort_answers.specs.SolutionTerms.{count_line, solution_lines}
 use Rattle.fort_run.specs.Witnesses.{AreAllTermsAt}
 use Rattle.fort_run.proofs.solutions.solutions_text.Given as goal
 

@@ -1,8 +1,8 @@
 use Rattle.std.proofs.Common.{◌≡◌, true, false, sym, subst}
 use Rattle.std.specs.Prelude.{Some}
 use Rattle.std.proofs.lemmas.Result.{on_ok_weaker}
-use Rattle.fort_words.specs.RequestView.{as_options, as_bounds, as_request}
-use Rattle.fort_answers.specs.Requests.{Witness, Check, Sample, Solutions, Confirm}
+use Rattle.fort_words.specs.RequestView.{as_options, as_bounds, as_family, as_request}
+use Rattle.fort_answers.specs.Requests.{Witness, Check, Sample, Solutions, Confirm, Synth}
 use Rattle.fort_answers.specs.Answer.{needed}
 use Rattle.fort_run.specs.Replies.{IsReplyTo}
 use Rattle.fort_run.proofs.Replies.{no_limit}
@@ -67,3 +67,10 @@ returns-in-Confirm-clause-whole g c =
     let e : as_request c.args.request.now ≡ Confirm c.in-Confirm.formula.now = cc in
     whole (subst (λ r. needed (Some r)) e is_needed))
     c.ask-in-Confirm.ensures.whole
+
+pub returns-in-Synth-clause-whole : goal.returns-in-Synth-clause-whole
+returns-in-Synth-clause-whole g c =
+    on_ok_weaker c.ask-in-Synth.result (λ whole is_needed.
+    let e : as_request c.args.request.now ≡ Synth (as_options c.in-Synth.options) (as_family c.in-Synth.family) c.in-Synth.formula.now = cc in
+    whole (subst (λ r. needed (Some r)) e is_needed))
+    c.ask-in-Synth.ensures.whole

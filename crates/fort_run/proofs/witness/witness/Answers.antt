@@ -6,7 +6,7 @@ use Rattle.fort_formulas.specs.FormulaView.{as_formula}
 use Rattle.fort_order.specs.LeastTuple.{AcceptsNone}
 use Rattle.fort_witness.specs.Answers.{IsWitness}
 use Rattle.fort_answers.specs.Lines.{witness_line, none_line}
-use Rattle.fort_answers.specs.WitnessAnswer.{bindings}
+use Rattle.fort_answers.specs.Witnesses.{bindings}
 use Rattle.fort_run.specs.StatusView.{code_of}
 use Rattle.fort_run.specs.Witnesses.{AreLastTerms}
 use Rattle.fort_run.specs.declared.status.Status.TheVariants.{Positive, Negative}

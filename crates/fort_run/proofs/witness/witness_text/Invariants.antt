@@ -2,7 +2,7 @@ use Rattle.std.proofs.Common.{◌≡◌, ◌++◌, List, take}
 use Rattle.fort_theory.specs.Trees.{Tree}
 use Rattle.fort_logic.specs.FreeNames.{free_names}
 use Rattle.fort_formulas.specs.FormulaView.{as_formula}
-use Rattle.fort_answers.specs.WitnessAnswer.{bindings}
+use Rattle.fort_answers.specs.Witnesses.{bindings}
 use Rattle.fort_run.specs.Witnesses.{AreLastTerms}
 use Rattle.fort_run.proofs.witness.witness_text.Given as goal
 
