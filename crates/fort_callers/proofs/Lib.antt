@@ -1,0 +1,6 @@
+pub mod OneRuleLaws
+pub mod AllNormalLaws
+pub mod NodeStateLaws
+pub mod DifferenceLaws
+pub mod ClosedTruths
+pub mod WrittenAnswers

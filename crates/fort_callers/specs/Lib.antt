@@ -1,0 +1,4 @@
+pub mod OneRule
+pub mod AllNormal
+pub mod NodeStates
+pub mod DecideWords

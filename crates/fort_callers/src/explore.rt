@@ -1,0 +1,34 @@
+//! The table of the normal forms.
+ghost use Rattle.std.specs.Prelude.{IfOk};
+ghost use Rattle.fort_theory.specs.Sides.{IsIndexOf};
+ghost use Rattle.fort_cores.specs.Cores.{Leaf, Normal};
+ghost use Rattle.fort_cores.specs.PatternStructures.{pattern_structure};
+ghost use Rattle.fort_tables.specs.Tables.{IsListed, listed_table};
+ghost use Rattle.fort_parts.specs.PartAnswers.{OfTable, IsAnswerTo};
+
+use fort_context_closure::{AtomLabels, SignedAtom};
+use fort_explore::{ByRule, ExploreFault, explore};
+use fort_lockstep::Dta;
+use fort_terms::System;
+use std::alloc::Global;
+
+/// The table that accepts the normal forms of an index's rules, with at most so many states.
+pub fn normal_forms(
+    alloc: Global,
+    system: &System,
+    index: u32,
+    cap: u32,
+) -> Result<Dta, ExploreFault>
+    requires { IsIndexOf system.now.rules index }
+    ensures answer { IfOk result (λ t. IsAnswerTo (pattern_structure system.now)
+        (Leaf (Normal index 0)) (OfTable (listed_table t))) }
+    ensures listed { IfOk result IsListed }
+{
+    let normal = AtomLabels::nf(alloc, system, index)?;
+    let signature = system.signature();
+    let atom = SignedAtom {
+        signature,
+        labels: &normal,
+    };
+    explore(alloc, signature, &ByRule(&atom), cap)
+}
