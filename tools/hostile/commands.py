@@ -11,6 +11,7 @@ LIMIT = 67_108_864  # the most bytes of an input
 # ---- problems
 
 ONE = "(format TRS) (fun a 0)\n"
+UNARY = "(format TRS) (fun a 0) (fun f 1)\n"
 GROWS = "(format TRS) (fun a 0) (fun f 1) (rule a (f a))\n"
 FALLS = "(format TRS) (fun a 0) (fun f 1) (rule (f x) a)\n"
 LOSES = "(format TRS) (fun a 0) (fun f 1) (rule a (f y))\n"
@@ -70,6 +71,10 @@ def witnessed(status: int, first_line: str, problem: str, *words: str) -> Comman
 
 def listed(status: int, first_line: str, problem: str, *words: str) -> Command:
     return Command("solutions", ("solutions", *words), problem, status, first_line)
+
+
+def searched(status: int, first_line: str, problem: str, *words: str) -> Command:
+    return Command("synth", ("synth", *words), problem, status, first_line)
 
 
 def written(first_line: str, problem: str, *words: str) -> Command:
@@ -140,6 +145,10 @@ ANSWERS = [
     listed(0, "SOLUTIONS 2", RING, "1", "~SN(x)"),
     listed(1, "SOLUTIONS 0", FALLS, "0", "~NF(x)"),
     listed(4, "LIMIT 0 step 1", FALLS, "--states", "1", "2", "x -> y"),
+    searched(0, "SYSTEM", UNARY, "1", "1", "SN & exists x (~NF(x))"),
+    searched(0, "SYSTEM", UNARY, "2", "1", "exists x (NF(x)) & exists x (x ->+ x)"),
+    searched(1, "NO SYSTEM", UNARY, "1", "0", "SN"),
+    searched(4, "LIMIT 0 nf 1", UNARY, "--states", "1", "1", "0", "exists x (NF(x))"),
     written("(certificate 1 yes)", ONE, "forall x (NF(x))"),
     written("(certificate 1 yes)", GROWS, MANY),
     written("(certificate 1 no)", RING, "CR"),
@@ -172,6 +181,7 @@ REFUSALS = [
     asks_nothing("sample", "65"),
     asks_nothing("solutions", "NF(x)"),
     asks_nothing("solutions", "--most", "1001", "2", "NF(x)"),
+    asks_nothing("synth", "5", "0", "CR"),
     asks_nothing("decide", b"\xff"),
     formula_refused("bad byte at 2", "x #"),
     formula_refused("too long", "~" * 1_000 + "true"),
@@ -183,6 +193,7 @@ REFUSALS = [
     formula_refused("open x", "NF(x)", command=("check",)),
     formula_refused("closed", "CR", command=("solutions", "2")),
     formula_refused("closed", "CR", command=("confirm",)),
+    formula_refused("open x", "NF(x)", command=("synth", "1", "0")),
     formula_refused("index 2", "CR & WN[2]", ONE),
     formula_refused("term at 6", "{a} = {b}", ONE),
     formula_refused("sn 1", "SN", LOSES),
