@@ -1,9 +1,10 @@
 -- Over one column, a product of a table and a complement accepts what the table accepts and the complemented one doesn't.
-use Rattle.std.proofs.Common.{◌≡◌, ℕ, [], ◌∷◌, length, Decides, IsTrue, refl, sym, subst, arith}
+use Rattle.std.proofs.Common.{◌≡◌, ℕ, List, [], ◌∷◌, length, Decides, IsTrue, refl, sym, subst, arith}
 use Rattle.fort_theory.specs.Logic.{Connective, And}
 use Rattle.fort_theory.specs.Signatures.{Signature}
 use Rattle.fort_tables.specs.Tuples.{Tuple, IsTuple}
 use Rattle.fort_tables.specs.Tables.{Table}
+use Rattle.fort_tables.specs.Labels.{HaveLabels}
 use Rattle.fort_tables.specs.LabelRules.{label_of, IsTableBy}
 use Rattle.fort_operations.specs.Selections.{selected}
 use Rattle.fort_operations.specs.Products.{Operand, OfTable, product_rule, product_accepts}
@@ -26,6 +27,11 @@ pub product_of_parts : (s z : Signature) (n m : ℕ) (op or : Connective) (f x q
     → IsProduct s n op f q table → IsProduct z m or x y table
 product_of_parts s z n m op or f x q y table e made =
     subst (λ (T : Type 0). T) (λ i. IsProduct (e.signature_is i) (e.columns_are i) (e.connective i) (e.first_is i) (e.second_is i) table) made
+
+pub labels_of_parts : (s z : Signature) (n m : ℕ) (op or : Connective) (f x q y : Operand) (count : ℕ) (ts : List Tuple) → AreParts s z n m op or f x q y
+    → HaveLabels s n (label_of (product_rule n f q)) count ts → HaveLabels z m (label_of (product_rule m x y)) count ts
+labels_of_parts s z n m op or f x q y count ts e have =
+    subst (λ (T : Type 0). T) (λ i. HaveLabels (e.signature_is i) (e.columns_are i) (label_of (product_rule (e.columns_are i) (e.first_is i) (e.second_is i))) count ts) have
 
 one_column : (t : Tuple) → length t ≡ 1 → selected (0 ∷ []) t ≡ t
 one_column [] e = absurd (omega arith)

@@ -1,4 +1,5 @@
 pub mod OneRule
 pub mod AllNormal
 pub mod NodeStates
+pub mod Differences
 pub mod DecideWords

@@ -1,10 +1,13 @@
 //! The table of the normal forms.
-ghost use Rattle.std.specs.Prelude.{IfOk};
+ghost use Rattle.std.specs.Prelude.{IfOk, IfErr};
 ghost use Rattle.fort_theory.specs.Sides.{IsIndexOf};
 ghost use Rattle.fort_cores.specs.Cores.{Leaf, Normal};
 ghost use Rattle.fort_cores.specs.PatternStructures.{pattern_structure};
 ghost use Rattle.fort_tables.specs.Tables.{IsListed, listed_table};
+ghost use Rattle.fort_parts.specs.AlikeParts.{AlikeAt};
 ghost use Rattle.fort_parts.specs.PartAnswers.{OfTable, IsAnswerTo};
+ghost use Rattle.fort_parts.specs.RightAnswers.{HasTooManyBy};
+ghost use Rattle.fort_explore.specs.Answer.{IfOver};
 
 use fort_context_closure::{AtomLabels, SignedAtom};
 use fort_explore::{ByRule, ExploreFault, explore};
@@ -23,6 +26,8 @@ pub fn normal_forms(
     ensures answer { IfOk result (λ t. IsAnswerTo (pattern_structure system.now)
         (Leaf (Normal index 0)) (OfTable (listed_table t))) }
     ensures listed { IfOk result IsListed }
+    ensures over { IfErr result (λ e. IfOver e (HasTooManyBy system.now (AlikeAt system.now)
+        (Leaf (Normal index 0)) cap)) }
 {
     let normal = AtomLabels::nf(alloc, system, index)?;
     let signature = system.signature();

@@ -1,7 +1,10 @@
 //! Operations on tables of one column.
-ghost use Rattle.std.specs.Prelude.{◌≡◌, IfOk, IsTrue};
+ghost use Rattle.std.specs.Prelude.{◌≡◌, ◌+◌, IfOk, IfErr, IsTrue};
 ghost use Rattle.fort_tables.specs.Tables.{IsListed, listed_table};
+ghost use Rattle.fort_tables.specs.Entries.{tuples_of};
 ghost use Rattle.fort_operations.specs.OperationTruth.{TestsRelation, accepts};
+ghost use Rattle.fort_explore.specs.Answer.{IfOver};
+ghost use Rattle.fort_callers.specs.Differences.{HaveDifferenceLabels};
 
 use fort_connectives::Op;
 use fort_explore::{ByRule, ExploreFault, explore};
@@ -19,6 +22,8 @@ pub fn difference(alloc: Global, first: &Dta, second: &Dta, cap: u32) -> Result<
         (accepts (listed_table t)) (λ s. IsTrue (accepts (listed_table first.now) s)
         × (IsTrue (accepts (listed_table second.now) s) → ⊥))) }
     ensures listed { IfOk result IsListed }
+    ensures over { IfErr result (λ e. IfOver e (λ tuples. HaveDifferenceLabels
+        (listed_table first.now) (listed_table second.now) (cap + 1) (tuples_of tuples))) }
 {
     let complement = negate(alloc, second)?;
     // Column 0 of either table is column 0 of the product.

@@ -26,8 +26,8 @@ fn words(alloc: Global, formula: &str) -> Result<Vec<String>, AllocError>
     Ok(words)
 }
 
-/// What `fort decide FORMULA` answers to a problem. A status above 4 is no answer: 7 comes where the
-/// text has more than 1,000 bytes.
+/// What `fort decide FORMULA` answers to a problem. A status above 4 is no answer: 7 comes where
+/// the text has more than 1,000 bytes.
 pub fn decide(alloc: Global, formula: &str, problem: &[u8]) -> Result<Printed, AllocError>
     ensures { IfOk result (λ p. p.status ≤ last_answer
         → Answer (decide_words formula.now) problem.now p.status p.text.items) }
