@@ -14,14 +14,14 @@ use Rattle.fort_io.specs.Devices.{Takes}
 
 -- ---- words
 
--- flags, and settings with their values
+-- flags, and settings with their values; `--certificate` is none of them, since it asks for another text
 pub data AreOptions : List (List ℕ) → Type 0 where
   NoOption : AreOptions []
   Reduce : {ws : List (List ℕ)} → AreOptions ws → AreOptions (codes "--reduce" ∷ ws)
   States : {n : List ℕ} {ws : List (List ℕ)} → AreOptions ws → AreOptions (codes "--states" ∷ n ∷ ws)
   Most : {n : List ℕ} {ws : List (List ℕ)} → AreOptions ws → AreOptions (codes "--most" ∷ n ∷ ws)
 
--- the words are the program's own name, a command's, options, and what it is asked about
+-- the words are the program's own name, the name of a command, options, and what it is asked about
 pub record Asks (command : List ℕ) (about words : List (List ℕ)) : Type 0 where
   pub name : List ℕ
   pub options : List (List ℕ)
@@ -30,7 +30,7 @@ pub record Asks (command : List ℕ) (about words : List (List ℕ)) : Type 0 wh
 
 -- ---- a formula over the system of a problem
 
--- the first forms of the bytes are the system
+-- the first forms of the bytes are the system; for `check` and `confirm` the certificate stands behind them
 pub record BeginsWith (bytes : List ℕ) (system : System) : Type 0 where
   pub forms : Forms
   pub are_forms : AreFormsOf bytes forms
@@ -56,7 +56,8 @@ pub record IsSaid (formula bytes : List ℕ) (P : System → List Tree → Formu
   pub are_terms : AreTermsOf system.signature grounds terms
   pub holds : P system terms f
 
--- from old to new the sink took a text, of which P holds over the bytes that the source told, or where it told none, over some bytes
+-- from old to new the sink took a text, any where it tells nothing, and P holds of it over the bytes that the source told, or where it told none,
+-- over some bytes
 pub record Says (formula : List ℕ) (told old new : Option (List ℕ)) (P : List ℕ → System → List Tree → Formula → Type 0) : Type 0 where
   pub text : List ℕ
   pub taken : Takes old new text

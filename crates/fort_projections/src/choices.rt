@@ -1,16 +1,18 @@
 //! The search through the choices of states for the children under a symbol in the projected column.
-ghost use Rattle.std.specs.Prelude.{◌≡◌, ◌<◌, ◌≤◌, ◌+◌, ◌||◌, ◌==◌, ◌^◌, ℕ, Bool, false, take, length, slice_index, slice_index_or, IfSome, IfNone, IsTrue};
+ghost use Rattle.std.specs.Prelude.{◌≡◌, ◌<◌, ◌≤◌, ◌+◌, ◌||◌, ◌==◌, ◌^◌, ◌&&◌, ◌++◌, ◌∷◌, [], ℕ, Bool, false, true, take, length, slice_index, slice_index_or, IfSome, IfNone, IsTrue};
 ghost use Rattle.fort_tables.specs.Tuples.{symbol_kids};
+ghost use Rattle.fort_tables.specs.Entries.{entry};
 ghost use Rattle.fort_tables.specs.BitRows.{words_for};
 ghost use Rattle.fort_tables.proofs.TableLaws.{IsKidState};
-ghost use Rattle.fort_operations.specs.Projections.{absent_state, has_state};
+ghost use Rattle.fort_operations.specs.Projections.{absent_state, has_state, some_below};
 ghost use Rattle.fort_projections.specs.Choices.{IsNext, IsNextChoice, AreNoChoices, AreChoices, may_choose, is_reachable, symbol_under};
+ghost use Rattle.fort_projections.specs.Strides.{IsReadable, read_at};
 ghost use Rattle.fort_target_lists.specs.LookUps.{FindsUnder};
 ghost use Rattle.fort_target_lists.specs.LabelLists.{labels_at};
 ghost use Rattle.fort_projections.specs.Scopes.{may_in, IsScoped};
 
 use crate::bits::next_bit;
-use crate::marks::mark_set;
+use crate::marks::{Stride, mark_set};
 use crate::pure::next_pure;
 use crate::scope::Scope;
 use fort_explore::{Rows, set_bit};
@@ -128,6 +130,64 @@ impl<'a, T: Table> Choices<'a, T> {
         j < self.arity && j < self.row.kids().len() && self.scope.state_at(j).is_none()
     }
 
+    /// The one state that may stand as child `j`, where there is one alone whatever the labels are.
+    fn only_state(&self, j: usize) -> Option<usize>
+        requires choices { AreChoices (T.table self.now.body.now) self.now.column
+            self.now.alone.now self.now.rows.now.labels self.now.row.now self.now.sym.0
+            (symbol_under self.now.row.now self.now.column self.now.sym.0) self.now.arity }
+        requires child { j < symbol_kids (T.table self.now.body.now).signature
+            (symbol_under self.now.row.now self.now.column self.now.sym.0) }
+        ensures { IfSome result (λ s. (k : ℕ) → may_in self.now.scope (may_choose
+            (T.table self.now.body.now) self.now.column self.now.rows.now.labels self.now.row.now
+            self.now.arity) j k ≡ (s == k)) }
+    {
+        // its clause says that the table is lawful
+        let _states = self.body.states();
+        match self.scope.state_at(j) {
+            Some(state) => Some(state as usize),
+            None => {
+                if self.arity <= j {
+                    let kids = self.row.kids();
+                    next_absent(self.rows.label(kids[j]), 0)
+                } else {
+                    None
+                }
+            }
+        }
+    }
+
+    /// Marks the targets that stand in this stride at the states of the own child `j`'s set.
+    fn mark_own(&self, stride: &Stride<'_>, j: usize, out: &mut [u64])
+        requires choices { AreChoices (T.table self.now.body.now) self.now.column
+            self.now.alone.now self.now.rows.now.labels self.now.row.now self.now.sym.0
+            (symbol_under self.now.row.now self.now.column self.now.sym.0) self.now.arity }
+        requires in_set { j < self.now.arity }
+        requires own { j < length self.now.row.now.kids }
+        requires readable { (k : ℕ) → may_choose (T.table self.now.body.now) self.now.column
+            self.now.rows.now.labels self.now.row.now self.now.arity j k ≡ true
+            → IsReadable stride.now k }
+        requires small { (k : ℕ) → may_choose (T.table self.now.body.now) self.now.column
+            self.now.rows.now.labels self.now.row.now self.now.arity j k ≡ true
+            → read_at stride.now k < length (T.table self.now.body.now).presences }
+        requires kid { (k : ℕ) → may_choose (T.table self.now.body.now) self.now.column
+            self.now.rows.now.labels self.now.row.now self.now.arity j k ≡ true
+            → k < length (T.table self.now.body.now).presences }
+        requires room { length out.old ≡ words_for (length (T.table self.now.body.now).presences)
+            + 2 }
+        ensures first { slice_index out.new 0 ≡ slice_index out.old 0 }
+        ensures second { slice_index out.new 1 ≡ slice_index out.old 1 }
+        ensures marked { (q : ℕ) → has_state out.new q ≡ (some_below
+            (length (T.table self.now.body.now).presences) (λ k. may_choose
+            (T.table self.now.body.now) self.now.column self.now.rows.now.labels self.now.row.now
+            self.now.arity j k && (read_at stride.now k == q)) || has_state out.old q) }
+    {
+        // its clause says that the table is lawful
+        let _states = self.body.states();
+        let kids = self.row.kids();
+        let set = self.rows.label(kids[j]);
+        mark_set(stride, set, out);
+    }
+
     /// Marks the states that the states of an own child's set give as the last child, behind these.
     fn mark_last(&self, flat: &FlatTargets, start: usize, before: &[u32], out: &mut [u64])
         requires choices { AreChoices (T.table self.now.body.now) self.now.column
@@ -156,11 +216,65 @@ impl<'a, T: Table> Choices<'a, T> {
         // its clause says that the table is lawful
         let _states = self.body.states();
         let _count = flat.listing.targets.len();
-        let j = before.len();
-        let kids = self.row.kids();
-        let set = self.rows.label(kids[j]);
         let place = flat.spots.place_of(before);
-        mark_set(flat, start, place, set, out);
+        let stride = Stride {
+            flat,
+            start,
+            place,
+            times: 1,
+            plus: 0,
+        };
+        self.mark_own(&stride, before.len(), out);
+    }
+
+    /// The same as the last child but one, where the last one has this state.
+    fn mark_before(
+        &self,
+        flat: &FlatTargets,
+        start: usize,
+        before: &[u32],
+        last: usize,
+        out: &mut [u64],
+    )
+        requires choices { AreChoices (T.table self.now.body.now) self.now.column
+            self.now.alone.now self.now.rows.now.labels self.now.row.now self.now.sym.0
+            (symbol_under self.now.row.now self.now.column self.now.sym.0) self.now.arity }
+        requires flat { FindsUnder (T.table self.now.body.now)
+            (symbol_under self.now.row.now self.now.column self.now.sym.0)
+            (LookUp.Flat flat start) }
+        requires count { length before.now + 2 ≡ symbol_kids (T.table self.now.body.now).signature
+            (symbol_under self.now.row.now self.now.column self.now.sym.0) }
+        requires in_set { length before.now < self.now.arity }
+        requires own { length before.now < length self.now.row.now.kids }
+        requires before { (i : ℕ) → i < length before.now → IsKidState (T.table self.now.body.now)
+            (symbol_under self.now.row.now self.now.column self.now.sym.0) i
+            (slice_index_or before.now i 0) }
+        requires last { IsKidState (T.table self.now.body.now)
+            (symbol_under self.now.row.now self.now.column self.now.sym.0) (length before.now + 1)
+            last }
+        requires room { length out.old ≡ words_for (length (T.table self.now.body.now).presences)
+            + 2 }
+        ensures first { slice_index out.new 0 ≡ slice_index out.old 0 }
+        ensures second { slice_index out.new 1 ≡ slice_index out.old 1 }
+        ensures marked { (q : ℕ) → has_state out.new q ≡ (some_below
+            (length (T.table self.now.body.now).presences) (λ k. may_choose
+            (T.table self.now.body.now) self.now.column self.now.rows.now.labels self.now.row.now
+            self.now.arity (length before.now) k && ((T.table self.now.body.now).target (entry
+            (symbol_under self.now.row.now self.now.column self.now.sym.0)
+            (before.now ++ k ∷ last ∷ [])) == q)) || has_state out.old q) }
+    {
+        // its clause says that the table is lawful
+        let _states = self.body.states();
+        let _count = flat.listing.targets.len();
+        let place = flat.spots.place_of(before);
+        let stride = Stride {
+            flat,
+            start,
+            place,
+            times: flat.spots.alike[last] as usize,
+            plus: flat.spots.ranks[last] as usize,
+        };
+        self.mark_own(&stride, before.len(), out);
     }
 
     /// Marks the states that some choice of states gives: `j` children have theirs, and `rest` have not.
@@ -207,6 +321,14 @@ impl<'a, T: Table> Choices<'a, T> {
             if let LookUp::Flat(flat, start) = look_up {
                 self.mark_last(*flat, *start, &chosen[..j], out);
                 return;
+            }
+        }
+        if rest == 2 && self.is_in_set(j) {
+            if let LookUp::Flat(flat, start) = look_up {
+                if let Some(last) = self.only_state(j + 1) {
+                    self.mark_before(*flat, *start, &chosen[..j], last, out);
+                    return;
+                }
             }
         }
         let mut from = 0;

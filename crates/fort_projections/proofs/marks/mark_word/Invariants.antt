@@ -1,6 +1,6 @@
 use Rattle.std.proofs.Common.{◌≡◌, ℕ, ◌-◌, ◌*◌, ◌&&◌, ◌||◌, ◌==◌, Bool, get_or}
 use Rattle.fort_operations.specs.Projections.{has_state, some_below}
-use Rattle.fort_target_lists.specs.Places.{read_at}
+use Rattle.fort_projections.specs.Strides.{read_at}
 use Rattle.fort_projections.proofs.FlatSearch.{IsRestOf}
 use Rattle.fort_projections.proofs.marks.mark_word.Given as goal
 
@@ -12,5 +12,5 @@ invariant-bits l = record {
   rest_of : IsRestOf l.set l.i l.state l.rest;
   first : get_or l.out 0 0 ≡ get_or l.initial.out 0 0;
   second : get_or l.out 1 0 ≡ get_or l.initial.out 1 0;
-  marked : (q : ℕ) (before : Bool) → has_state l.initial.out q ≡ (some_below (64 * (l.i - 2)) (λ k. has_state l.set k && (read_at l.flat l.start l.place k == q)) || before) → has_state l.out q ≡ (some_below l.state (λ k. has_state l.set k && (read_at l.flat l.start l.place k == q)) || before);
+  marked : (q : ℕ) (before : Bool) → has_state l.initial.out q ≡ (some_below (64 * (l.i - 2)) (λ k. has_state l.set k && (read_at l.stride k == q)) || before) → has_state l.out q ≡ (some_below l.state (λ k. has_state l.set k && (read_at l.stride k == q)) || before);
 }
