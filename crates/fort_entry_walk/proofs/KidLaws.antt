@@ -114,3 +114,53 @@ pub no_list : (ps : List ℕ) (want m : ℕ) → (get_or ps m 0 ≡ want → ⊥
 no_list ps want m ne =
     let apart : (want == get_or ps m 0) ≡ false = test_from_apart want (get_or ps m 0) (λ e. ne (sym e)) in
     nothing_left ps m (want ∷ []) (ap (λ b. b || false) apart)
+
+-- behind one state there is the next one alone
+pub after_one : (ps : List ℕ) (want q m : ℕ) (has_greatest : Bool) → kids_after ps m (want ∷ []) has_greatest (q ∷ []) ≡ kid_lists_from ps m [] has_greatest (states_with ps want (q + 1) (m + 1 - (q + 1)))
+after_one ps want q m has_greatest = ap (λ ks. ks ++ kid_lists_from ps m [] has_greatest (states_with ps want (q + 1) (m + 1 - (q + 1)))) (if_same (get_or ps q 0 == want) [])
+
+tried : (ps : List ℕ) (q from m : ℕ) (has_greatest : Bool) → q ≤ m → first_tried ps has_greatest [] from m ≤ q → (has_greatest || (q == m)) ≡ true
+tried ps q from m true h l = refl
+tried ps q from m false h l = eq-eqb q m (omega arith)
+
+-- the first state of a last child
+pub last_here : (ps : List ℕ) (want q from m : ℕ) (has_greatest : Bool) (all : List (List ℕ)) → q ≤ m → get_or ps q 0 ≡ want → first_tried ps has_greatest [] from m ≤ q → kid_lists_from ps m [] has_greatest (states_with ps want q (m + 1 - q)) ≡ all → all ≡ (q ∷ []) ∷ kids_after ps m (want ∷ []) has_greatest (q ∷ [])
+last_here ps want q from m has_greatest all h e l r =
+    let tail = kid_lists_from ps m [] has_greatest (states_with ps want (q + 1) (m + 1 - (q + 1))) in
+    let here = ap (kid_lists_from ps m [] has_greatest) (states_here ps want q m h e) in
+    let there = ap (λ b. map (λ ks. q ∷ ks) (kid_lists ps m [] b) ++ tail) (tried ps q from m has_greatest h l) in
+    sym r ∙ (here ∙ (there ∙ ap (λ ls. (q ∷ []) ∷ ls) (sym (after_one ps want q m has_greatest))))
+
+-- the lists of two after a list of two whose first state may stand there
+two_behind : (ps : List ℕ) (want last q other m : ℕ) → get_or ps q 0 ≡ want → kids_after ps m (want ∷ last ∷ []) false (q ∷ other ∷ []) ≡ map (λ ks. q ∷ ks) (kids_after ps m (last ∷ []) (q == m) (other ∷ [])) ++ kid_lists_from ps m (last ∷ []) false (states_with ps want (q + 1) (m + 1 - (q + 1)))
+two_behind ps want last q other m e =
+    let tail = kid_lists_from ps m (last ∷ []) false (states_with ps want (q + 1) (m + 1 - (q + 1))) in
+    ap (λ ks. ks ++ tail) (if_equal (get_or ps q 0) want (map (λ ks. q ∷ ks) (kids_after ps m (last ∷ []) (q == m) (other ∷ []))) [] e)
+
+-- the first list of two with this first state
+pub pair_here : (ps : List ℕ) (want last q other m : ℕ) (all : List (List ℕ)) → q ≤ m → get_or ps q 0 ≡ want → kid_lists_from ps m [] (q == m) (states_with ps last 0 (m + 1 - 0)) ≡ (other ∷ []) ∷ kids_after ps m (last ∷ []) (q == m) (other ∷ []) → kid_lists_from ps m (last ∷ []) false (states_with ps want q (m + 1 - q)) ≡ all → all ≡ (q ∷ other ∷ []) ∷ kids_after ps m (want ∷ last ∷ []) false (q ∷ other ∷ [])
+pair_here ps want last q other m all h e first r =
+    let tail = kid_lists_from ps m (last ∷ []) false (states_with ps want (q + 1) (m + 1 - (q + 1))) in
+    let front : List (List ℕ) → List (List ℕ) = λ ls. map (λ ks. q ∷ ks) ls ++ tail in
+    let start : m + 1 ≡ m + 1 - 0 = omega arith in
+    let lasts : ℕ → List (List ℕ) = λ n. kid_lists_from ps m [] (q == m) (states_with ps last 0 n) in
+    let here = ap (kid_lists_from ps m (last ∷ []) false) (states_here ps want q m h e) in
+    sym r ∙ (here ∙ (ap front (ap lasts start ∙ first) ∙ ap (λ ls. (q ∷ other ∷ []) ∷ ls) (sym (two_behind ps want last q other m e))))
+
+pub pair_none : (ps : List ℕ) (want last q m : ℕ) (all : List (List ℕ)) → q ≤ m → get_or ps q 0 ≡ want → kid_lists_from ps m [] (q == m) (states_with ps last 0 (m + 1 - 0)) ≡ [] → kid_lists_from ps m (last ∷ []) false (states_with ps want q (m + 1 - q)) ≡ all → kid_lists_from ps m (last ∷ []) false (states_with ps want (q + 1) (m + 1 - (q + 1))) ≡ all
+pair_none ps want last q m all h e none r =
+    let start : m + 1 ≡ m + 1 - 0 = omega arith in
+    let lasts : ℕ → List (List ℕ) = λ n. kid_lists_from ps m [] (q == m) (states_with ps last 0 n) in
+    lists_none ps want q m (last ∷ []) false all h e (ap lasts start ∙ none) r
+
+-- states of which none has the presence may be left out
+pub states_none : (ps : List ℕ) (want m n q : ℕ) → states_with ps want q n ≡ [] → q + n ≤ m + 1 → states_with ps want (q + n) (m + 1 - (q + n)) ≡ states_with ps want q (m + 1 - q)
+states_none ps want m zero q e h = let s : q + 0 ≡ q = omega arith in ap (λ i. states_with ps want i (m + 1 - i)) s
+states_none ps want m (suc n) q e h =
+    ⊎_elim
+    (λ s. let here = if_equal (get_or ps q 0) want (q ∷ states_with ps want (q + 1) n) (states_with ps want (q + 1) n) s in let no : q ∷ states_with ps want (q + 1) n ≡ [] = sym here ∙ e in absurd (cc no))
+    (λ s.
+    let past = if_apart (get_or ps q 0) want (q ∷ states_with ps want (q + 1) n) (states_with ps want (q + 1) n) s in
+    let there : q + suc n ≡ q + 1 + n = omega arith in
+    ap (λ i. states_with ps want i (m + 1 - i)) there ∙ (states_none ps want m n (q + 1) (sym past ∙ e) (omega arith) ∙ sym (states_past ps want q m (omega arith) s)))
+    (cases_eq (get_or ps q 0) want)

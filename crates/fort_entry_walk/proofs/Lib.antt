@@ -7,5 +7,6 @@ pub mod AfterMembers
 pub mod CandidateLaws
 pub mod CandidateEntries
 pub mod EntryMembers
+pub mod StageLaws
 pub mod StepLaws
 pub mod RaiseLaws

@@ -7,7 +7,7 @@ use Rattle.fort_tuple_symbols.specs.Columns.{symbol_of}
 use Rattle.fort_tuple_symbols.specs.DigitNumbers.{AreUpTo}
 use Rattle.fort_entry_walk.specs.WalkPlaces.{wants, Place, place, entry_at, IsPlace}
 use Rattle.fort_entry_walk.specs.Walks.{stage_kids_after, entries_after}
-use Rattle.fort_entry_walk.specs.WalkFacts.{IsFound, IsSameButDigits, later_entries}
+use Rattle.fort_entry_walk.specs.WalkFacts.{IsFound, IsSameButDigits, IsNextKids, later_entries}
 use Rattle.fort_entry_walk.specs.declared.walk.Walk.{Walk}
 use Rattle.fort_entry_walk.proofs.InLaws.{In}
 use Rattle.fort_entry_walk.proofs.EntryMembers.{In-after, from_after}
@@ -35,6 +35,17 @@ pub next_same_symbol : (sig : Signature) (ps : List ℕ) (pl : Place) (ks : List
 next_same_symbol sig ps pl ks p l s u e =
     let new : Place = record { stage = pl.stage; digits = pl.digits; kids = ks; wanted = pl.wanted } in
     next_there sig ps pl new p (record { stage = s; digits = p.digits; kids = u; wanted = p.wanted }) refl l l (ap (λ ls. map (entry (symbol_of pl.digits)) ls ++ later_entries sig ps pl.stage pl.digits) e)
+
+-- a walk that only went on to its symbol's next child states goes to the next entry
+pub kids_next : (sig : Signature) (ps : List ℕ) (old new : Walk) → IsPlace sig (place old) → IsNextKids ps old new → IsNextEntry sig (length old.digits) ps (entry_at (place old)) (entry_at (place new))
+kids_next sig ps old new p h =
+    let next = subst (λ (ws : List ℕ). stage_kids_after ps old.stage ws old.kids ≡ new.kids ∷ stage_kids_after ps old.stage ws new.kids) p.wanted h.next in
+    subst (λ (ds : List ℕ). IsNextEntry sig (length old.digits) ps (entry_at (place old)) (entry (symbol_of ds) new.kids)) (sym h.digits)
+    (next_same_symbol sig ps (place old) new.kids p h.within h.at_stage h.states next)
+
+-- no other child states of its symbol, at the symbol's own presences
+pub last_kids : (sig : Signature) (ps : List ℕ) (pl : Place) → IsPlace sig pl → stage_kids_after ps pl.stage pl.wanted pl.kids ≡ [] → stage_kids_after ps pl.stage (wants sig (symbol_of pl.digits)) pl.kids ≡ []
+last_kids sig ps pl p h = subst (λ (ws : List ℕ). stage_kids_after ps pl.stage ws pl.kids ≡ []) p.wanted h
 
 -- the next one has a later symbol
 pub next_found : (sig : Signature) (ps : List ℕ) (pl new : Place) → IsPlace sig pl → pl.stage ≤ length ps → stage_kids_after ps pl.stage (wants sig (symbol_of pl.digits)) pl.kids ≡ [] → IsFound sig ps pl.stage pl.digits new → IsNextEntry sig (length pl.digits) ps (entry_at pl) (entry_at new)

@@ -1,4 +1,5 @@
 pub mod Walks
+pub mod KidPairs
 pub mod WalkPlaces
 pub mod Candidates
 pub mod WalkFacts

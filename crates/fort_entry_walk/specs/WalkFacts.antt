@@ -1,8 +1,9 @@
 -- Inside: what one step of the search for the next entry finds.
 use Rattle.std.specs.Prelude.{◌≡◌, ℕ, ◌+◌, ◌-◌, ◌<◌, ◌≤◌, List, [], ◌∷◌, ◌++◌, map, length, Option, None, Some}
 use Rattle.fort_theory.specs.Signatures.{Signature}
-use Rattle.fort_tables.specs.Entries.{Entry, entry}
+use Rattle.fort_tables.specs.Entries.{Entry, entry, stage}
 use Rattle.fort_tuple_symbols.specs.Columns.{symbol_of}
+use Rattle.fort_tuple_symbols.specs.DigitNumbers.{AreUpTo}
 use Rattle.fort_entry_walk.specs.WalkPlaces.{Place, wants, place, entry_at, IsPlace}
 use Rattle.fort_entry_walk.specs.Walks.{digits_after, entries_after, stage_kids, stage_kids_after, stage_entries, stages}
 use Rattle.fort_entry_walk.specs.declared.walk.Walk.{Walk}
@@ -40,6 +41,21 @@ pub record IsRaised (ps : List ℕ) (old new : Walk) : Type 0 where
   pub alone : IsAlone ps (place old)
   pub same : IsSameButDigits old new
   pub arities : new.arities ≡ old.arities
+
+-- a walk that only went on to its symbol's next list of child states
+pub record IsNextKids (ps : List ℕ) (old new : Walk) : Type 0 where
+  pub within : old.stage ≤ length ps
+  pub at_stage : stage new.kids ≡ old.stage
+  pub states : AreUpTo (old.stage - 1) new.kids
+  pub next : stage_kids_after ps old.stage old.wanted old.kids ≡ new.kids ∷ stage_kids_after ps old.stage old.wanted new.kids
+  pub stays : new.stage ≡ old.stage
+  pub digits : new.digits ≡ old.digits
+  pub wanted : new.wanted ≡ old.wanted
+  pub arities : new.arities ≡ old.arities
+
+-- a place whose child states are its symbol's last ones at its stage
+abbrev pub IsLastKids : List ℕ → Place → Type 0
+IsLastKids ps p = p.stage ≤ length ps → stage_kids_after ps p.stage p.wanted p.kids ≡ []
 
 abbrev pub IsNextInStage : Signature → List ℕ → ℕ → List ℕ → Option Walk → Type 0
 IsNextInStage sig ps s from None = stage_entries sig ps s (digits_after (length sig) from) ≡ []

@@ -48,6 +48,11 @@ abbrev pub some_if : {A : Type 0} → Bool → A → Option A
 some_if true x = Some x
 some_if false x = None
 
+-- a child as a list of its own
+abbrev pub one_kid : Option ℕ → Option (List ℕ)
+one_kid None = None
+one_kid (Some k) = Some (k ∷ [])
+
 -- a first digit with the others
 abbrev pub with_others : List ℕ → Option ℕ → Option (List ℕ)
 with_others ds None = None

@@ -5,12 +5,13 @@ ghost use Rattle.fort_entry_walk.specs.WalkPlaces.{AreArities, wants, place, ent
 ghost use Rattle.fort_tuple_symbols.specs.Columns.{symbol_of};
 ghost use Rattle.fort_entry_walk.specs.Walks.{digits_after, stage_kids, stage_kids_after, stage_entries, GivesFirst, some_if};
 ghost use Rattle.fort_tuple_symbols.specs.DigitNumbers.{AreUpTo};
-ghost use Rattle.fort_entry_walk.specs.WalkFacts.{IsFound, IsFirstAfter, IsNextInStage, IsAlone, IsRaised, IsSameButDigits};
+ghost use Rattle.fort_entry_walk.specs.WalkFacts.{IsFound, IsFirstAfter, IsNextInStage, IsAlone, IsRaised, IsSameButDigits, IsNextKids, IsLastKids};
+ghost use Rattle.fort_entry_walk.specs.KidPairs.{pair_list, two_kids};
 
 use crate::candidates::{Arities, has_next_constant, stage_range, to_next_candidate};
 use crate::digit_row::DigitRow;
-use crate::kid_lists::{first_kids, next_kids, only_kid};
-use crate::kid_row::KidRow;
+use crate::kid_lists::{first_kids, next_kids, next_pair, only_kid};
+use crate::kid_row::{KidPair, KidRow};
 use fort_terms::Signature;
 use fort_tuple_symbols::{Row, TupleSym, most_kids, presence_at};
 
@@ -61,6 +62,22 @@ fn stage_next(wanted: &[u32], presences: &[u16], stage: u32, kids: &[u32]) -> Op
     } else {
         next_kids(wanted, presences, stage - 1, false, kids)
     }
+}
+
+/// The same for two child states.
+fn stage_next_pair(wanted: &[u32], presences: &[u16], stage: u32, kids: &[u32]) -> Option<KidPair>
+    requires wanted { length wanted.now ≡ 2 }
+    requires kids { length kids.now ≡ 2 }
+    requires within { stage ≤ length presences.now }
+    requires numbers { length presences.now < 2 ^ 32 }
+    requires stage_is { stage_of kids.now ≡ stage }
+    requires states { AreUpTo (stage - 1) kids.now }
+    ensures states { IfSome result (λ p. AreUpTo (stage - 1) (pair_list p)) }
+    ensures stage_is { IfSome result (λ p. stage_of (pair_list p) ≡ stage) }
+    ensures next { GivesFirst (stage_kids_after presences.now stage wanted.now kids.now)
+        (stage_kids_after presences.now stage wanted.now) (two_kids result) }
+{
+    next_pair(wanted[0], wanted[1], presences, stage - 1, kids[0], kids[1])
 }
 
 /// A walk through all entries in their order.
@@ -228,7 +245,40 @@ impl Walk {
         true
     }
 
-    /// Goes to the next entry, where there is one, and else stays.
+    /// Goes to the next list of child states of its symbol at its stage, where there is one, and else stays.
+    fn advance_kids(&mut self, presences: &[u16]) -> bool
+        requires stage_is { stage_of self.old.kids ≡ self.old.stage }
+        requires states { AreUpTo (self.old.stage - 1) self.old.kids }
+        requires numbers { length presences.now < 2 ^ 32 }
+        ensures next { result ≡ true → IsNextKids presences.now self.old self.new }
+        ensures none { result ≡ false → IsLastKids presences.now (place self.old) }
+        ensures stays { result ≡ false → self.new ≡ self.old }
+    {
+        if self.stage as usize > presences.len() {
+            return false;
+        }
+        let wanted = self.wanted.states();
+        let kids = self.kids.states();
+        if kids.len() == 2 && wanted.len() == 2 {
+            match stage_next_pair(wanted, presences, self.stage, kids) {
+                Some(pair) => {
+                    self.kids = KidRow::pair(pair);
+                    true
+                }
+                None => false,
+            }
+        } else {
+            match stage_next(wanted, presences, self.stage, kids) {
+                Some(kids) => {
+                    self.kids = kids;
+                    true
+                }
+                None => false,
+            }
+        }
+    }
+
+    /// Goes to the next entry with a later symbol or at a later stage, where there is one, and else stays.
     // its frame is large, and most entries don't need it
     #[inline(never)]
     fn advance(&mut self, sig: &Signature, presences: &[u16]) -> bool
@@ -236,6 +286,7 @@ impl Walk {
         requires arities { AreArities sig.now self.old.arities }
         requires few { length self.old.digits ≤ 16 }
         requires numbers { length presences.now < 2 ^ 32 }
+        requires last { IsLastKids presences.now (place self.old) }
         ensures place { IsPlace sig.now (place self.new) }
         ensures width { length self.new.digits ≡ length self.old.digits }
         ensures arities { self.new.arities ≡ self.old.arities }
@@ -243,18 +294,6 @@ impl Walk {
     {
         if self.stage as usize > presences.len() {
             return false;
-        }
-        match stage_next(
-            self.wanted.states(),
-            presences,
-            self.stage,
-            self.kids.states(),
-        ) {
-            Some(kids) => {
-                self.kids = kids;
-                return true;
-            }
-            None => {}
         }
         if self.raise_last(sig, presences) {
             return true;
@@ -265,6 +304,19 @@ impl Walk {
         } else {
             self.digits = digits;
             false
+        }
+    }
+
+    /// Writes the child states over those of a row.
+    fn write_kids(&self, row: &mut Row)
+        ensures symbol { row.new.symbol ≡ row.old.symbol }
+        ensures kids { row.new.kids ≡ self.now.kids }
+    {
+        let kids = self.kids.states();
+        if kids.len() == 2 {
+            row.put_pair(kids[0], kids[1]);
+        } else {
+            row.put_kids(kids);
         }
     }
 
@@ -285,6 +337,10 @@ impl Walk {
         let _symbols = sig.len();
         if self.raise_constant(presences) {
             row.raise_last();
+            return true;
+        }
+        if self.advance_kids(presences) {
+            self.write_kids(row);
             return true;
         }
         let is_next = self.advance(sig, presences);

@@ -108,6 +108,8 @@ fn halfway(low: usize, high: usize) -> usize
 }
 
 /// The target beside child states, by bisection.
+// its frame is large, and where states are counted it isn't needed
+#[inline(never)]
 pub fn target_among<C: Comparisons>(
     width: usize,
     words: &[u32],

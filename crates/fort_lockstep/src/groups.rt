@@ -38,6 +38,8 @@ impl Groups {
     }
 
     /// The first entry of a tuple symbol.
+    // its frame is large, and most entries don't need it
+    #[inline(never)]
     fn push_group(
         &mut self,
         alloc: Global,

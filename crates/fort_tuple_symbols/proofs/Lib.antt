@@ -4,4 +4,5 @@ pub mod SymbolLaws
 pub mod SymbolNumberLaws
 pub mod SymbolSetLaws
 pub mod Bounds
+pub mod RowRoom
 pub mod SetLaws

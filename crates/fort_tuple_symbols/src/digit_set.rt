@@ -41,6 +41,8 @@ impl DigitSet {
     }
 
     /// The place of the digits.
+    // its frame is large, and where tuple symbols have few numbers it isn't needed
+    #[inline(never)]
     pub fn find(&self, digits: &[u32]) -> Option<usize>
         ensures { MatchOption result
             ((q : ℕ) → q < length self.now → slice_index_or self.now q [] ≡ digits.now → ⊥)

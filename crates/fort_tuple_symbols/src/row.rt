@@ -67,6 +67,26 @@ impl Row {
         self.kids[..kids.len()].copy_from_slice(kids);
     }
 
+    /// Keeps its symbol.
+    pub fn put_kids(&mut self, kids: &[u32])
+        requires { length kids.now ≤ 8 }
+        ensures symbol { self.new.symbol ≡ self.old.symbol }
+        ensures kids { self.new.kids ≡ kids.now }
+    {
+        self.count = kids.len();
+        self.kids = [0; 8];
+        self.kids[..kids.len()].copy_from_slice(kids);
+    }
+
+    /// Keeps its symbol; two states are written without a call that copies.
+    pub fn put_pair(&mut self, first: u32, second: u32)
+        ensures symbol { self.new.symbol ≡ self.old.symbol }
+        ensures kids { self.new.kids ≡ first ∷ second ∷ [] }
+    {
+        self.count = 2;
+        self.kids = [first, second, 0, 0, 0, 0, 0, 0];
+    }
+
     /// The last column's digit is one more.
     pub fn raise_last(&mut self)
         requires { (ds : List ℕ) × (d : ℕ) × (self.old.symbol ≡ symbol_of (ds ++ d ∷ []))
