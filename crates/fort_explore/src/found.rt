@@ -1,5 +1,5 @@
 //! The labels that were found, and the entries that gave them.
-ghost use Rattle.std.specs.Prelude.{◌≡◌, ℕ, ◌+◌, ◌<◌, ◌≤◌, List, [], ◌∷◌, ◌++◌, Bool, map, length, slice_index_or, IfOk, OnOk};
+ghost use Rattle.std.specs.Prelude.{◌≡◌, ℕ, ◌+◌, ◌<◌, ◌≤◌, List, [], ◌∷◌, ◌++◌, Bool, map, length, slice_index_or, IfOk, OnOk, MatchOption};
 ghost use Rattle.fort_theory.specs.Signatures as theory;
 ghost use Rattle.fort_tables.specs.Entries.{AreNodes};
 ghost use Rattle.fort_explore.specs.Exploring.{IsReady, IsPlaced};
@@ -22,6 +22,8 @@ pub struct Found {
     /// The same labels, by which a label's number is found.
     pub numbers: LabelSet,
     pub firsts: Dag,
+    /// The number that was found last.
+    last: u32,
 }
 
 impl Drop for Found {
@@ -31,6 +33,7 @@ impl Drop for Found {
             labels: _labels,
             numbers: _numbers,
             firsts: _firsts,
+            last: _last,
         } = self;
     }
 }
@@ -48,6 +51,7 @@ impl Found {
             labels: Rows::new(alloc, width, FIRST_ROOM / width)?,
             numbers: LabelSet::new(alloc),
             firsts: Dag::new(alloc),
+            last: 0,
         })
     }
 
@@ -70,6 +74,28 @@ impl Found {
         self.firsts.push(*row)?;
         self.labels.push(label);
         Ok(())
+    }
+
+    /// The number of a label. The one found last is tried first: entries that stand side by side often give one label.
+    fn find(&mut self, label: &[u64]) -> Option<usize>
+        requires same { self.old.numbers ≡ self.old.labels.labels }
+        ensures labels { self.new.labels ≡ self.old.labels }
+        ensures numbers { self.new.numbers ≡ self.old.numbers }
+        ensures firsts { self.new.firsts ≡ self.old.firsts }
+        ensures found { MatchOption result
+            ((q : ℕ) → q < length self.old.numbers → slice_index_or self.old.numbers q []
+            ≡ label.now → ⊥)
+            (λ q. (q < length self.old.numbers)
+            × (slice_index_or self.old.numbers q [] ≡ label.now)) }
+    {
+        if (self.last as usize) < self.labels.len() && self.labels.label(self.last) == label {
+            return Some(self.last as usize);
+        }
+        let q = self.numbers.find(label)?;
+        if let Ok(last) = u32::try_from(q) {
+            self.last = last;
+        }
+        Some(q)
     }
 
     /// Takes the entries out.
@@ -110,7 +136,7 @@ pub fn place_of<G: Ledger, L: Labeller>(
 {
     steps.tick();
     labeller.step(row, &found.labels, memo, out);
-    match found.numbers.find(out) {
+    match found.find(out) {
         Some(q) => Ok(q),
         None => {
             let q = found.labels.len();

@@ -41,6 +41,8 @@ impl LongLabels {
     }
 
     /// The number of a label.
+    // its frame is large, and short labels don't need it
+    #[inline(never)]
     pub fn find(&self, label: &[u64]) -> Option<usize>
         ensures { MatchOption result
             ((q : ℕ) → q < length self.now → slice_index_or self.now q [] ≡ label.now → ⊥)
