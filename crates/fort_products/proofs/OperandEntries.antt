@@ -37,12 +37,18 @@ over_second sig n first second labels e o over = record {
   words = λ q l. let r = tells sig n first second labels e o over q l in (r.0, r.1, record { first = ap (λ w. get_or w 0 0) r.2; word = ap (λ w. get_or w 2 0) r.2 });
 }
 
-pub three_words : (out : List ℕ) (a b d : ℕ) → length out ≡ 3 → slice_set (slice_set (slice_set out 0 a) 1 b) 2 d ≡ a ∷ b ∷ d ∷ []
+pub three_long : (sig : Signature) (n : ℕ) (first second : Operand) (labels : List (List ℕ)) (e : Entry) → AreOperands sig n first second → IsOverLabels sig n (label_of (product_rule n first second)) labels e → (q : ℕ) → q < length labels → length (get_or labels q []) ≡ 3
+three_long sig n first second labels e o over q l = ap length (tells sig n first second labels e o over q l).2
+
+three_words : (out : List ℕ) (a b d : ℕ) → length out ≡ 3 → slice_set (slice_set (slice_set out 0 a) 1 b) 2 d ≡ a ∷ b ∷ d ∷ []
 three_words [] a b d h = absurd (omega arith)
 three_words (x ∷ []) a b d h = absurd (omega arith)
 three_words (x ∷ y ∷ []) a b d h = absurd (omega arith)
 three_words (x ∷ y ∷ z ∷ []) a b d h = refl
 three_words (x ∷ y ∷ z ∷ w ∷ out) a b d h = absurd (omega arith)
+
+pub words_written : (out : List ℕ) (a b d x y z : ℕ) → length out ≡ 3 → a ≡ x → b ≡ y → d ≡ z → slice_set (slice_set (slice_set out 0 a) 1 b) 2 d ≡ x ∷ y ∷ z ∷ []
+words_written out a b d x y z h p q r = three_words out a b d h ∙ (λ i. p i ∷ q i ∷ r i ∷ [])
 
 -- over the operand's own signature
 pub own_signature : (sig : Signature) (n : ℕ) (table : Table) (places : List ℕ) (i : ℕ) (labels : List (List ℕ)) (e : Entry) → IsOverWords sig n (OfTable table places) i labels e → IsOverWords table.signature n (OfTable table places) i labels e

@@ -1,9 +1,9 @@
 -- Inside: what the labels of a product's entries are found by, for one tuple symbol.
-use Rattle.std.specs.Prelude.{◌≡◌, ℕ, suc, ◌+◌, ◌<◌, ◌≤◌, List, [], map, take, length, get_or, Option, None, Some, true}
-use Rattle.fort_tables.specs.Tuples.{TupleSymbol, presence, symbol_kids}
+use Rattle.std.specs.Prelude.{◌≡◌, ℕ, zero, suc, ◌+◌, ◌<◌, List, [], ◌∷◌, length, get_or, Option, None, Some, true}
+use Rattle.fort_tables.specs.Tuples.{TupleSymbol, presence}
 use Rattle.fort_tables.specs.Tables.{Table, IsTable}
 use Rattle.fort_operations.specs.Selections.{selected, is_present}
-use Rattle.fort_operations.specs.Products.{Operand, OfTable, OfTruth, operand_step, state_at}
+use Rattle.fort_operations.specs.Products.{Operand, OfTable, OfTruth, operand_step}
 use Rattle.fort_target_lists.specs.LabelLists.{labels_at}
 use Rattle.fort_target_lists.specs.Places.{number_of, place_from, is_state_in}
 use Rattle.fort_target_lists.specs.Flats.{IsFlatOf}
@@ -11,13 +11,12 @@ use Rattle.fort_target_lists.specs.declared.flat.FlatTargets.{FlatTargets}
 use Rattle.fort_products.specs.declared.joint.Under.{Under}
 use Rattle.fort_products.specs.declared.joint.Joint.{Joint}
 
--- the list is the table's, which has some of the tuple symbol's columns; its targets under these start there, one for each choice of so many first children's states
+-- the list is the table's, which has some of the tuple symbol's columns; its targets under these start there
 pub record IsListUnder (table : Table) (places : List ℕ) (i : ℕ) (f : TupleSymbol) (u : Under) (list : FlatTargets) : Type 0 where
   pub lawful : IsTable table
   pub list_is : IsFlatOf table list
   pub there : is_present (selected places f) ≡ true
   pub start_is : u.start ≡ get_or list.listing.starts.items (number_of list.base (selected places f)) 0
-  pub count_is : u.count ≡ symbol_kids table.signature (selected places f)
   pub at_is : u.at ≡ i
 
 -- the operand's words under the tuple symbol: by the list, where there is one; else each is 0
@@ -36,25 +35,42 @@ pub record IsJointOf (first second : Operand) (f : TupleSymbol) (j : Joint) : Ty
   pub first_is : IsUnderOf first 1 f j.first
   pub second_is : IsUnderOf second 2 f j.second
 
--- the states that the labels of the first children tell
-abbrev pub states_under : Under → List (List ℕ) → List ℕ → List ℕ
-states_under u labels kids = map (state_at u.at) (take u.count (labels_at labels kids))
+-- one state more in front, by its word; where that is 0, no state follows
+abbrev pub states_behind : ℕ → List ℕ → List ℕ
+states_behind zero qs = []
+states_behind (suc q) qs = q ∷ qs
 
--- a child's label has the operand's word, and it tells a state that the list knows
-pub record IsStateUnder (list : FlatTargets) (u : Under) (labels : List (List ℕ)) (q : ℕ) : Type 0 where
-  pub label : q < length labels
-  pub word : u.at < length (get_or labels q [])
-  pub state : is_state_in list.spots (state_at u.at (get_or labels q []))
+-- the states that word i of these labels tells, up to the first label in which it is 0
+abbrev pub states_told : ℕ → List (List ℕ) → List ℕ
+states_told i [] = []
+states_told i (w ∷ ws) = states_behind (get_or w i 0) (states_told i ws)
+
+-- the states of the operand that the children's labels tell
+abbrev pub states_under : Under → List (List ℕ) → List ℕ → List ℕ
+states_under u labels kids = states_told u.at (labels_at labels kids)
 
 -- where their target stands among those of the tuple symbol
 abbrev pub place_under : FlatTargets → List ℕ → ℕ
 place_under list states = place_from list.spots.ranks.items list.spots.alike.items 0 states
 
--- there are so many first children; each tells a state, and no part of their place is past the list
+-- a child's label has word i
+pub record HasWordAt (i : ℕ) (labels : List (List ℕ)) (q : ℕ) : Type 0 where
+  pub label : q < length labels
+  pub word : i < length (get_or labels q [])
+
+-- the list has the state's rank, and some state is of its presence
+pub record IsKnown (list : FlatTargets) (q : ℕ) : Type 0 where
+  pub state : is_state_in list.spots q
+  pub some : 0 < get_or list.spots.alike.items q 0
+
+abbrev pub AreKnown : FlatTargets → List ℕ → Type 0
+AreKnown list qs = (i : ℕ) → i < length qs → IsKnown list (get_or qs i 0)
+
+-- each child's label has the operand's word; the list knows the states that they tell, and has the target there
 pub record AreStatesUnder (list : FlatTargets) (u : Under) (labels : List (List ℕ)) (kids : List ℕ) : Type 0 where
-  pub count : u.count ≤ length kids
-  pub states : (j : ℕ) → j < u.count → IsStateUnder list u labels (get_or kids j 0)
-  pub within : (j : ℕ) → u.start + place_under list (take j (states_under u labels kids)) < length list.listing.targets.items
+  pub words : (j : ℕ) → j < length kids → HasWordAt u.at labels (get_or kids j 0)
+  pub known : AreKnown list (states_under u labels kids)
+  pub within : u.start + place_under list (states_under u labels kids) < length list.listing.targets.items
 
 -- the word can be read: by the list, where there is one
 abbrev pub IsWordIn : {A : Type 0} → Option A → (A → FlatTargets) → Under → List (List ℕ) → List ℕ → Type 0

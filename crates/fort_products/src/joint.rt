@@ -1,22 +1,23 @@
 //! The labels of a product's entries, one tuple symbol at a time.
-ghost use Rattle.std.specs.Prelude.{◌≡◌, [], ◌∷◌, length, IfSome, IsTrue};
+ghost use Rattle.std.specs.Prelude.{◌≡◌, ◌^◌, ◌<◌, [], ◌∷◌, length, IfSome, IsTrue};
 ghost use Rattle.fort_theory.specs.Signatures as theory;
 ghost use Rattle.fort_tables.specs.Tuples.{TupleSymbol, AreSymbols, presence as presence_lem};
 ghost use Rattle.fort_tables.specs.Entries.{entry};
 ghost use Rattle.fort_tables.specs.Labels.{IsOverLabels};
 ghost use Rattle.fort_tables.specs.LabelRules.{label_of, entry_label};
-ghost use Rattle.fort_tuple_symbols.specs.Columns.{as_column};
+ghost use Rattle.fort_tuple_symbols.specs.Columns.{as_column, symbol_of};
 ghost use Rattle.fort_operations.specs.Products as products;
+ghost use Rattle.fort_operations.specs.Selections.{selected, ArePlaces};
 ghost use Rattle.fort_products.specs.Operands.{operand_of};
-ghost use Rattle.fort_target_lists.specs.Places.{place_from};
+ghost use Rattle.fort_target_lists.specs.Places.{number_of};
 ghost use Rattle.fort_target_lists.specs.Flats.{IsFlatOf};
 ghost use Rattle.fort_target_lists.specs.ListedOperands.{IsListOf};
-ghost use Rattle.fort_products.specs.Joints.{IsUnderOf, IsJointOf, states_under, AreStatesUnder, IsWordThere, word_under};
+ghost use Rattle.fort_products.specs.Joints.{IsUnderOf, IsJointOf, states_under, place_under, AreStatesUnder, IsWordThere, word_under};
 
 use crate::operand::Operand;
 use fort_explore::Rows;
 use fort_lockstep::{Table, TupleSym};
-use fort_target_lists::{FlatTargets, selected_kids, selected_number};
+use fort_target_lists::FlatTargets;
 use fort_terms::Sym;
 
 /// What an operand's words under one tuple symbol of a product are read by.
@@ -26,8 +27,6 @@ pub(crate) struct Under<'a> {
     list: Option<&'a FlatTargets>,
     /// Where those of the tuple symbol start.
     start: usize,
-    /// How many children count, which are the first ones.
-    count: usize,
     /// Which word of the labels is the operand's.
     at: usize,
 }
@@ -61,59 +60,72 @@ fn presence(symbol: &TupleSym) -> u64
     presence
 }
 
+/// The number of the columns at these places, by the digits of all columns.
+fn number_in(base: usize, digits: &[u32], places: &[usize]) -> usize
+    requires some { 0 < base }
+    requires within { ArePlaces (length digits.now) places.now }
+    requires small { number_of base (selected places.now (symbol_of digits.now)) < 2 ^ 64 }
+    ensures { result ≡ number_of base (selected places.now (symbol_of digits.now)) }
+{
+    let mut number = 0;
+    for k in 0..places.len() {
+        number = number * base + digits[places[k]] as usize;
+    }
+    number
+}
+
 /// What a table's words are read by.
 fn table_under<'a, T: Table>(
     table: &T,
     list: &'a FlatTargets,
     places: &[usize],
     at: usize,
-    symbol: &TupleSym,
+    digits: &[u32],
 ) -> Under<'a>
     requires list { IsFlatOf (T.table table.now) list.now }
-    requires operand { (sig : theory.Signature) × products.IsOperand sig (length symbol.now)
-        (products.OfTable (T.table table.now) places.now) × AreSymbols sig symbol.now }
-    ensures { IsUnderOf (products.OfTable (T.table table.now) places.now) at symbol.now result }
+    requires operand { (sig : theory.Signature) × products.IsOperand sig (length digits.now)
+        (products.OfTable (T.table table.now) places.now) × AreSymbols sig (symbol_of digits.now) }
+    ensures { IsUnderOf (products.OfTable (T.table table.now) places.now) at
+        (symbol_of digits.now) result }
 {
     // its clause says that the table is lawful
     let _columns = table.columns();
-    let number = selected_number(list.base, symbol, places);
+    let number = number_in(list.base, digits, places);
     if number == 0 {
         return Under {
             list: None,
             start: 0,
-            count: 0,
             at,
         };
     }
     Under {
         list: Some(list),
         start: list.start(number),
-        count: selected_kids(table.signature(), symbol, places),
         at,
     }
 }
 
 /// What an operand's words are read by, unless it is a table without a list.
-fn under_of<'a, T: Table>(
+pub(crate) fn under_of<'a, T: Table>(
     operand: &Operand<'_, T>,
     list: Option<&'a FlatTargets>,
     at: usize,
-    symbol: &TupleSym,
+    digits: &[u32],
 ) -> Option<Under<'a>>
     requires list { IfSome list (λ l. IsListOf (operand_of T.table operand.now) l.now) }
-    requires operand { (sig : theory.Signature) × products.IsOperand sig (length symbol.now)
-        (operand_of T.table operand.now) × AreSymbols sig symbol.now }
-    ensures { IfSome result (IsUnderOf (operand_of T.table operand.now) at symbol.now) }
+    requires operand { (sig : theory.Signature) × products.IsOperand sig (length digits.now)
+        (operand_of T.table operand.now) × AreSymbols sig (symbol_of digits.now) }
+    ensures { IfSome result (IsUnderOf (operand_of T.table operand.now) at
+        (symbol_of digits.now)) }
 {
     match operand {
         Operand::Auto(table, places) => match list {
-            Some(list) => Some(table_under(*table, list, places, at, symbol)),
+            Some(list) => Some(table_under(*table, list, places, at, digits)),
             None => None,
         },
         Operand::Truth(_) => Some(Under {
             list: None,
             start: 0,
-            count: 0,
             at,
         }),
     }
@@ -138,8 +150,9 @@ pub(crate) fn joint_of<'a, T: Table>(
     ensures { IfSome result (IsJointOf (operand_of T.table first.now)
         (operand_of T.table second.now) symbol.now) }
 {
-    let first = under_of(first, first_list, 1, symbol)?;
-    let second = under_of(second, second_list, 2, symbol)?;
+    let digits = symbol.digits();
+    let first = under_of(first, first_list, 1, digits)?;
+    let second = under_of(second, second_list, 2, digits)?;
     Some(Joint {
         presence: presence(symbol),
         first,
@@ -148,24 +161,27 @@ pub(crate) fn joint_of<'a, T: Table>(
 }
 
 impl Under<'_> {
-    /// The place of the first children's states.
+    /// The place of the states that the children's labels tell. From the first child without a word on, none of them counts.
     fn place(&self, list: &FlatTargets, rows: &Rows, kids: &[u32]) -> usize
         requires { AreStatesUnder list.now self.now rows.now.labels kids.now }
-        ensures { result ≡ place_from list.now.spots.ranks.items list.now.spots.alike.items 0
-            (states_under self.now rows.now.labels kids.now) }
+        ensures { result ≡ place_under list.now (states_under self.now rows.now.labels kids.now) }
     {
         // its clause bounds the length
         let _count = list.listing.targets.len();
         let mut place = 0usize;
-        for j in 0..self.count {
-            let state = rows.label(kids[j])[self.at].saturating_sub(1) as usize;
+        for j in 0..kids.len() {
+            let word = rows.label(kids[j])[self.at];
+            if word == 0 {
+                return place;
+            }
+            let state = (word - 1) as usize;
             place = place * list.spots.alike[state] as usize + list.spots.ranks[state] as usize;
         }
         place
     }
 
     /// The operand's word in the label of the entry over these child states.
-    fn word(&self, rows: &Rows, kids: &[u32]) -> u64
+    pub(crate) fn word(&self, rows: &Rows, kids: &[u32]) -> u64
         requires { IsWordThere self.now rows.now.labels kids.now }
         ensures { result ≡ word_under self.now rows.now.labels kids.now }
     {

@@ -48,7 +48,7 @@ fn table_word<T: Table>(table: &T, places: &[usize], at: usize, row: &Row, rows:
 }
 
 /// The states that word `at` of the first children's labels tells.
-pub(crate) fn states_at(row: &Row, rows: &Rows, at: usize, count: usize) -> [u32; 8]
+fn states_at(row: &Row, rows: &Rows, at: usize, count: usize) -> [u32; 8]
     requires few { count ≤ 8 }
     requires there { count ≤ length row.now.kids }
     requires kids { (j : ℕ) → j < length row.now.kids

@@ -3,7 +3,6 @@ ghost use Rattle.std.specs.Prelude.{◌≡◌, ◌<◌, ◌≤◌, ◌^◌, ◌+
 ghost use Rattle.fort_tuple_symbols.specs.Columns.{as_column, digit_of};
 ghost use Rattle.fort_tables.specs.Tuples.{AreSymbols, symbol_kids, kid_presence as kid_presence_lem};
 ghost use Rattle.fort_operations.specs.Selections.{selected as selected_lem, is_present as is_present_lem, ArePlaces};
-ghost use Rattle.fort_target_lists.specs.Places.{number_of};
 
 use fort_lockstep::TupleSym;
 use fort_terms::{Signature, Sym};
@@ -30,41 +29,6 @@ pub(crate) fn number_behind(column: Option<Sym>, base: usize, number: usize) -> 
         None => number * base,
         Some(symbol) => number * base + symbol.0 as usize + 1,
     }
-}
-
-/// The number of the columns at these places.
-pub fn selected_number(base: usize, symbol: &TupleSym, places: &[usize]) -> usize
-    requires some { 0 < base }
-    requires within { ArePlaces (length symbol.now) places.now }
-    requires small { number_of base (selected_lem places.now symbol.now) < 2 ^ 64 }
-    ensures { result ≡ number_of base (selected_lem places.now symbol.now) }
-{
-    let mut number = 0;
-    for k in 0..places.len() {
-        number = number_behind(symbol.symbol(places[k]), base, number);
-    }
-    number
-}
-
-/// How many children the columns at these places have.
-pub fn selected_kids(sig: &Signature, symbol: &TupleSym, places: &[usize]) -> usize
-    requires within { ArePlaces (length symbol.now) places.now }
-    requires symbols { AreSymbols sig.now (selected_lem places.now symbol.now) }
-    ensures count { result ≡ symbol_kids sig.now (selected_lem places.now symbol.now) }
-    ensures few { result ≤ 8 }
-{
-    // its clause says that the signature is lawful
-    let _symbols = sig.len();
-    let mut count = 0;
-    for k in 0..places.len() {
-        if let Some(own) = symbol.symbol(places[k]) {
-            let arity = sig.arity(own) as usize;
-            if count < arity {
-                count = arity;
-            }
-        }
-    }
-    count
 }
 
 /// Whether the tuple symbol has some column.

@@ -13,7 +13,7 @@ mod target_list;
 mod walk;
 
 pub use chains::Chains;
-pub use columns::{is_present, kid_count, kid_presence, selected, selected_kids, selected_number};
+pub use columns::{is_present, kid_count, kid_presence, selected};
 pub use entry_count::has_entries;
 pub use flat::{FlatTargets, Listing, Spots};
 pub use look_up::{Finder, LookUp};
