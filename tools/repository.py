@@ -31,14 +31,19 @@ def is_ours(crate: str) -> bool:
     return os.path.isdir(os.path.join(HERE, "crates", crate))
 
 
-def crates() -> dict:
-    """The crates of crates.txt, each with those of the repository on which it stands."""
+def listed() -> dict:
+    """The crates of crates.txt, each with all on which it stands, those of the kit among them."""
     found = {}
     for line in text_of("crates.txt").splitlines():
         name, _, deps = line.partition("#")[0].partition(":")
         if name.strip():
-            found[name.split()[0]] = list(filter(is_ours, deps.split()))
+            found[name.split()[0]] = deps.split()
     return found
+
+
+def crates() -> dict:
+    """The crates of crates.txt, each with those of the repository on which it stands."""
+    return {crate: list(filter(is_ours, deps)) for crate, deps in listed().items()}
 
 
 def has_code(crate: str) -> bool:
@@ -76,15 +81,17 @@ def write(path: str, text: str) -> None:
         file.write(text)
 
 
-def run(doc: str, make) -> int:
-    """Writes the files that `make` gives, or with --check says what differs from them, and returns the status."""
+def run(doc: str, make, faults=list) -> int:
+    """Writes the files that `make` gives, or with --check says what differs from them, and the lines of `faults`, and returns the
+    status."""
     parser = argparse.ArgumentParser(description=doc, formatter_class=argparse.RawDescriptionHelpFormatter)
-    parser.add_argument("--check", action="store_true", help="write nothing; status 1 where something is stale")
+    parser.add_argument("--check", action="store_true", help="write nothing; status 1 where something is stale or wrong")
     check = parser.parse_args().check
     try:
         made = make()
         exists = {path: os.path.exists(os.path.join(HERE, path)) for path in made}
         old = {path: text_of(path) if exists[path] else "" for path in made}
+        wrong = faults() if check else []
     except Wrong as why:
         print(f"{parser.prog}: {why}", file=sys.stderr)
         return 2
@@ -94,4 +101,6 @@ def run(doc: str, make) -> int:
             print(*differences(path, old[path], made[path]), sep="\n")
         else:
             write(path, made[path])
-    return 1 if check and stale else 0
+    for line in wrong:
+        print(line)
+    return 1 if wrong or check and stale else 0
