@@ -8,8 +8,8 @@ use Rattle.fort_certificate_grammar.specs.Certificates as theory
 use Rattle.fort_in_order.specs.Dues.{DueStep, OfPart, OfMerge, due_of}
 use Rattle.fort_steps.specs.declared.step.Step.{Step}
 use Rattle.fort_steps.specs.StepView.{as_step}
-use Rattle.fort_check_steps.specs.SameDue.{same_due}
-use Rattle.fort_check_steps.proofs.DueTests.{Decides-same_due}
+use Rattle.fort_cert_checker.specs.SameDue.{same_due}
+use Rattle.fort_cert_checker.proofs.DueTests.{Decides-same_due}
 use Rattle.fort_cert_checker.specs.Abouts.{IsFirstAbout, targets_in, classes_in}
 use Rattle.fort_cert_checker.specs.Fronts.{HasFewTargets}
 use Rattle.fort_cert_checker.proofs.FrontLaws.{part_of, merge_of}

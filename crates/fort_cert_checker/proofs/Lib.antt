@@ -4,6 +4,7 @@ pub mod PartStateLaws
 pub mod FrontTells
 pub mod FrontKnows
 pub mod SourceLaws
+pub mod DueTests
 pub mod AboutLaws
 pub mod JoinFits
 pub mod LastValues

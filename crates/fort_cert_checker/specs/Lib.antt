@@ -1,3 +1,4 @@
+pub mod SameDue
 pub mod Abouts
 pub mod PartStates
 pub mod KnownMarks

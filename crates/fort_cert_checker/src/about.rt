@@ -3,18 +3,62 @@ ghost use Rattle.std.specs.Prelude.{◌≡◌, ℕ, ◌<◌, ◌^◌, List, Bool
 ghost use Rattle.fort_counts.specs.Counts as counts;
 ghost use Rattle.fort_certificate_grammar.specs.Certificates as theory;
 ghost use Rattle.fort_in_order.specs.Dues as definitions;
+ghost use Rattle.fort_in_order.specs.Made.{same_which};
 ghost use Rattle.fort_steps.specs.StepView.{as_step, as_which, as_count, as_pair};
 ghost use Rattle.fort_outline.specs.DueView.{as_due};
 ghost use Rattle.fort_cert_checker.specs.Abouts as abouts;
 ghost use Rattle.fort_cert_checker.specs.Abouts.{IsFirstAbout, IsOnlyAbout};
 ghost use Rattle.fort_cert_checker.specs.Fronts.{HasFewTargets};
 ghost use Rattle.fort_cert_checker.specs.Makings.{AreMergesMade};
+ghost use Rattle.fort_cert_checker.specs.SameDue.{same_due};
 
-use fort_check_steps::is_about;
 use fort_outline::DueStep;
 use fort_steps::{ClosureEntry, Count, Step, Which};
 use fort_terms::Memory;
 use std::alloc::Global;
+
+fn is_which(which: Which, other: Which) -> bool
+    ensures { result ≡ same_which (as_which which) (as_which other) }
+{
+    match which {
+        Which::Star => match other {
+            Which::Star => true,
+            Which::Conv => false,
+        },
+        Which::Conv => match other {
+            Which::Star => false,
+            Which::Conv => true,
+        },
+    }
+}
+
+/// Whether a step is about this.
+pub(crate) fn is_about(step: &Step, due: DueStep) -> bool
+    ensures { result ≡ same_due (definitions.due_of (as_step step.now)) (as_due due) }
+{
+    match step {
+        Step::Closure(which, index, _) => match due {
+            DueStep::Closure(other, at) => is_which(*which, other) && *index == at,
+            _ => false,
+        },
+        Step::Part(part, _) => match due {
+            DueStep::Part(number) => *part == number,
+            _ => false,
+        },
+        Step::Merge(part, _) => match due {
+            DueStep::Merge(number) => *part == number,
+            _ => false,
+        },
+        Step::Counts(part, _) => match due {
+            DueStep::Counts(number) => *part == number,
+            _ => false,
+        },
+        Step::Value(part, _) => match due {
+            DueStep::Value(number) => *part == number,
+            _ => false,
+        },
+    }
+}
 
 /// The first step about this.
 fn step_about<'a>(steps: &'a [Step], due: DueStep) -> Option<&'a Step>

@@ -25,7 +25,7 @@ use fort_check_steps::{
 };
 use fort_infinity::local::many_width;
 use fort_outline::{DueStep, Outline};
-use fort_rrn_algebra::local::project_width;
+use fort_projections::local::project_width;
 use fort_steps::{Step, Which};
 use fort_terms::{Memory, System};
 use std::alloc::{AllocError, Global};

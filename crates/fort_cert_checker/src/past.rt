@@ -17,8 +17,9 @@ use crate::about::{targets_of, value_of};
 use crate::plan::{Plan, Source};
 use fort_check_steps::{PartRoom, PartTable};
 use fort_lockstep::Table;
-use fort_rrn_algebra::{LayRoom, Operand, TargetList};
+use fort_products::Operand;
 use fort_steps::Step;
+use fort_target_lists::{LayRoom, TargetList};
 use fort_terms::Signature;
 
 /// The steps, the plans of parts, and the rooms of those before some part.

@@ -20,11 +20,13 @@ ghost use Rattle.fort_cert_checker.specs.Pasts.{steps_of, IsAnswerAt, IsTableAt,
 
 use crate::past::{Past, factor, laid_list, lay};
 use crate::plan::{OperandPlan, Plan, Source, Work};
-use fort_check_steps::{Failure, LabelRoom, MarkRoom, PartRoom, Projected, check_part, put_pure};
+use fort_check_steps::{
+    ByEntry, Failure, LabelRoom, MarkRoom, PartRoom, Projected, check_part, put_pure,
+};
 use fort_connectives::Op;
 use fort_context_closure::{AtomLabels, SignedAtom};
 use fort_infinity::Many;
-use fort_rrn_algebra::Both;
+use fort_products::Both;
 use fort_steps::Count;
 use fort_terms::System;
 
@@ -45,8 +47,9 @@ fn check_atom(
     ensures scratch { IsAsRoomy scratch.old scratch.new }
 {
     let signature = system.signature();
+    let atom = SignedAtom { signature, labels };
     check_part(
-        &SignedAtom { signature, labels },
+        &ByEntry(&atom),
         signature,
         targets,
         room,
@@ -186,7 +189,7 @@ fn check_many(
     let listed = body.listed(&scratch.lists.first);
     let rule = Many::new(&listed, column, &marks.states, counts);
     check_part(
-        &rule,
+        &ByEntry(&rule),
         past.signature,
         targets,
         room,

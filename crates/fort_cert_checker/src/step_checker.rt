@@ -15,7 +15,7 @@ ghost use Rattle.fort_cert_checker.specs.StepCheckers.{IsStepCheckerOf, IsStepCh
 ghost use Rattle.fort_target_lists.specs.declared.states.LayRoom.{LayRoom};
 ghost use Rattle.fort_target_lists.specs.declared.target_list.TargetList.{TargetList};
 
-use crate::about::merged_parts;
+use crate::about::{is_about, merged_parts};
 use crate::making::{
     ClosurePlan, closure_plans, list_of, mark_rooms, plans_of, rooms_of, scratch_for,
 };
@@ -24,13 +24,11 @@ use crate::past::Past;
 use crate::plan::{Plan, Source, source_of};
 use crate::rejected::{Rejected, rejected_at};
 use crate::steps::{Given, check_step};
-use fort_check_steps::{
-    Failure, LabelRoom, MarkRoom, PartRoom, PartTable, Reason, failed, is_about,
-};
+use fort_check_steps::{Failure, LabelRoom, MarkRoom, PartRoom, PartTable, Reason, failed};
 use fort_formulas::Core;
 use fort_outline::{DueStep, Outline, steps_due};
-use fort_rrn_algebra::{LayRoom, TargetList};
 use fort_steps::Step;
+use fort_target_lists::{LayRoom, TargetList};
 use fort_terms::{Memory, System};
 use std::alloc::{AllocError, Global};
 

@@ -8,7 +8,6 @@ pub mod PairStepLaws
 pub mod MarkLaws
 pub mod ListedWalks
 pub mod MarkSearch
-pub mod DueTests
 pub mod PureStates
 mod SparseLaws
 mod LeftWords

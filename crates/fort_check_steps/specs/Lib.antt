@@ -9,7 +9,6 @@ pub mod TableInside
 pub mod PairTests
 pub mod PairSteps
 pub mod Marks
-pub mod SameDue
 pub mod SparseWords
 pub mod SparseRowsView
 pub mod SparseRowsInside

@@ -1,7 +1,7 @@
 //! Checks the steps of certificates one by one, by the definition of one in order: closures, the tables of parts, the marks of states.
 #![tactic(auto)]
 
-mod about;
+mod by_entry;
 mod closure;
 mod failure;
 mod finals;
@@ -18,7 +18,7 @@ mod state_labels;
 mod table;
 mod targets;
 
-pub use about::is_about;
+pub use by_entry::ByEntry;
 pub use closure::check_closure;
 pub use failure::{Failure, Reason, failed};
 pub use marks::{MarkRoom, check_marks, put_pure};

@@ -18,7 +18,7 @@ use crate::quick::are_quickly_right;
 use crate::room::PartRoom;
 use crate::state_labels::{StateLabels, put_zeros};
 use crate::targets::check_targets;
-use fort_rrn_algebra::LayRoom;
+use fort_target_lists::LayRoom;
 use fort_terms::Signature;
 
 /// Holds the targets against the entries: by the rule's own means, or else one by one, which finds the first failure.

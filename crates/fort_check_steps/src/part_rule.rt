@@ -5,11 +5,10 @@ ghost use Rattle.fort_tables.specs.LabelRules.{label_of};
 ghost use Rattle.fort_target_lists.specs.LayRooms.{HasLayRoom};
 ghost use Rattle.fort_products.specs.HeldTargets.{AreHeldFrom};
 
-use fort_context_closure::SignedAtom;
 use fort_explore::{LocalRule, Rows};
-use fort_infinity::Many;
 use fort_lockstep::Table;
-use fort_rrn_algebra::{Both, LayRoom};
+use fort_products::Both;
+use fort_target_lists::LayRoom;
 use fort_terms::Signature;
 
 /// A rule whose part's targets may be held against the labels by other means than entry by entry.
@@ -62,7 +61,3 @@ impl<'a, T: Table> PartRule for Both<'a, T> {
         Both::are_targets(self, lay, sig, presences, labels, targets, from)
     }
 }
-
-impl<'a, T: Table> PartRule for Many<'a, T> {}
-
-impl<'a> PartRule for SignedAtom<'a> {}

@@ -7,8 +7,8 @@ ghost use Rattle.fort_target_lists.specs.TargetLists.{IsTargetListOf, IfTargetLi
 use crate::part_rule::PartRule;
 use fort_explore::{LocalRule, Rows};
 use fort_lockstep::{Row, Table};
-use fort_rrn_algebra::TargetList;
-use fort_rrn_algebra::local::{project_accepts, project_label, project_width};
+use fort_projections::local::{project_accepts, project_label, project_width};
+use fort_target_lists::TargetList;
 
 /// The labels of a projection: of a tuple of the other columns, the presence, the body's state with the column absent, and the set of
 /// states that the terms of the column give.

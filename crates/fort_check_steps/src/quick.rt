@@ -15,7 +15,7 @@ use crate::part_rule::PartRule;
 use crate::state_labels::StateLabels;
 use fort_explore::LocalRule;
 use fort_lockstep::{Entries, Row};
-use fort_rrn_algebra::LayRoom;
+use fort_target_lists::LayRoom;
 use fort_terms::Signature;
 
 /// The place behind the last target that is as great as the number of states before it: no target from there on is a new state.

@@ -5,7 +5,7 @@ ghost use Rattle.fort_target_lists.specs.TargetLists.{HasListRoom};
 ghost use Rattle.fort_check_steps.specs.Room.{HasRoom, HasMergeRoom, IsAsLong, IsSpaceFor, IsAsNeedy, HasNeeds, most_states as most_states_lem};
 
 use crate::state_labels::{NARROW, StateLabels};
-use fort_rrn_algebra::{LayRoom, TargetList};
+use fort_target_lists::{LayRoom, TargetList};
 use fort_terms::Memory;
 use std::alloc::{AllocError, Global};
 

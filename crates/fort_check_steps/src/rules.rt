@@ -6,7 +6,7 @@ ghost use Rattle.fort_steps.specs.StepView.{as_which};
 ghost use Rattle.fort_check_steps.specs.PairSteps.{HasPairRules, HasClosureRules};
 
 use crate::pairs::PairRules;
-use fort_context_closure::{number_patterns, places_of_rules};
+use fort_label_bits::{number_patterns, places_of_rules};
 use fort_steps::Which;
 use fort_terms::{Memory, System};
 use std::alloc::{AllocError, Global};

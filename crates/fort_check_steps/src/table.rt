@@ -9,7 +9,7 @@ ghost use Rattle.fort_check_steps.specs.Held.{IsRoomTable, own_targets as own_ta
 
 use crate::room::PartRoom;
 use fort_lockstep::{Entries, Table, TupleSym};
-use fort_rrn_algebra::{LayRoom, TargetList};
+use fort_target_lists::{LayRoom, TargetList};
 use fort_terms::Signature;
 use std::marker::Model;
 

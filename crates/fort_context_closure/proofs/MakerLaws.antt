@@ -1,11 +1,9 @@
 -- What is made of the rules of a system's index is the atom of that index.
-use Rattle.std.specs.Prelude.{◌≡◌, ℕ, List, [], map, length, Contains, refl}
+use Rattle.std.specs.Prelude.{◌≡◌, ℕ, List, [], map, length, refl}
 use Rattle.std.proofs.Common.{sym, subst, ◌∙◌, arith}
 use Rattle.fort_theory.specs.Patterns.{Pattern, Pair, PatternSystem, IsSystem}
 use Rattle.fort_theory.specs.PatternOrder.{AreSubpatternsInOrder}
 use Rattle.fort_theory.specs.Sides.{at_index}
-use Rattle.fort_theory.proofs.ClosedPatterns.{subpatterns-self}
-use Rattle.fort_theory.proofs.Lists.{Contains-map}
 use Rattle.fort_theory.proofs.Members.{Contains-none}
 use Rattle.fort_cores.specs.Cores.{Rel, Leaf, Related}
 use Rattle.fort_terms.specs.PatternView.{as_pair, as_pattern}
@@ -21,13 +19,6 @@ use Rattle.fort_context_closure.specs.ClosedAtoms.{ClosedAtom, ListsPasses, numb
 use Rattle.fort_context_closure.specs.declared.rule_list.RuleList.{RuleList}
 use Rattle.fort_context_closure.specs.RuleLists.{ListsRules}
 use Rattle.fort_context_closure.proofs.ClosureLaws.{ListsClosure-passes}
-
--- lists in order
-pub Contains-left_side : (pairs : List Pair) (ps : List Pattern) → AreSubpatternsInOrder (map (λ (pair : Pair). pair.0) pairs) ps → (pair : Pair) → Contains pairs pair → Contains ps pair.0
-Contains-left_side pairs ps h pair c = (h.same pair.0).1 (pair.0, Contains-map (λ (pair : Pair). pair.0) pairs pair c, subpatterns-self pair.0)
-
-pub Contains-right_side : (pairs : List Pair) (ps : List Pattern) → AreSubpatternsInOrder (map (λ (pair : Pair). pair.1) pairs) ps → (pair : Pair) → Contains pairs pair → Contains ps pair.1
-Contains-right_side pairs ps h pair c = (h.same pair.1).1 (pair.1, Contains-map (λ (pair : Pair). pair.1) pairs pair c, subpatterns-self pair.1)
 
 pub AreSubpatternsInOrder-none : AreSubpatternsInOrder [] []
 AreSubpatternsInOrder-none = record {

@@ -16,7 +16,6 @@ mod term_labels;
 
 pub use atom_labels::AtomLabels;
 pub use closures::closure;
-pub use fort_label_bits::{Numbered, RulePlaces, number_patterns, places_of_rules};
 pub use normal::NormalBits;
 pub use relation::RelationBits;
 pub use signed::SignedAtom;

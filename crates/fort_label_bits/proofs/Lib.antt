@@ -4,4 +4,5 @@ pub mod SkippedBits
 pub mod RootPlaceLaws
 pub mod BitRowListLaws
 pub mod RulePlaceLaws
+pub mod SidesListed
 pub mod RuleLeftLaws

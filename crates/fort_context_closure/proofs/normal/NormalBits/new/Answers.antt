@@ -7,7 +7,8 @@ use Rattle.fort_atom_labels.proofs.SystemAtoms.{IsListedAtom-normal}
 use Rattle.fort_context_closure.specs.declared.normal.NormalBits.TheInside.{Inside}
 use Rattle.fort_context_closure.specs.NormalView.{normal_seen}
 use Rattle.fort_context_closure.specs.SidePlaces.{AreSidesOf}
-use Rattle.fort_context_closure.proofs.MakerLaws.{Contains-left_side, AreSubpatternsInOrder-none}
+use Rattle.fort_label_bits.proofs.SidesListed.{Contains-left_side}
+use Rattle.fort_context_closure.proofs.MakerLaws.{AreSubpatternsInOrder-none}
 use Rattle.fort_context_closure.proofs.NormalMakerLaws.{sides-made}
 use Rattle.fort_context_closure.proofs.normal.NormalBits.new.Goals as goal
 

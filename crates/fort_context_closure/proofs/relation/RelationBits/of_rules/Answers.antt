@@ -12,7 +12,7 @@ use Rattle.fort_label_bits.specs.NumberedView.{AreNumbersOf}
 use Rattle.fort_context_closure.specs.ReachRows.{IsReach}
 use Rattle.fort_context_closure.specs.RelationView.{listed_seen}
 use Rattle.fort_label_bits.specs.RulePlaces.{ArePlacesOf}
-use Rattle.fort_context_closure.proofs.MakerLaws.{Contains-left_side, Contains-right_side}
+use Rattle.fort_label_bits.proofs.SidesListed.{Contains-left_side, Contains-right_side}
 use Rattle.fort_context_closure.proofs.ReachLaws.{NoPatternTwice-ordered}
 use Rattle.fort_context_closure.proofs.relation.RelationBits.of_rules.Goals as goal
 

@@ -6,7 +6,7 @@ use Rattle.fort_atom_labels.proofs.Bits.{Decides-true, Decides-false, Decides-an
 use Rattle.fort_certificate_grammar.specs.Certificates.{Which, Star, Conv}
 use Rattle.fort_in_order.specs.Dues.{DueStep, OfClosure, OfPart, OfMerge, OfCounts, OfValue}
 use Rattle.fort_in_order.specs.Made.{same_which}
-use Rattle.fort_check_steps.specs.SameDue.{same_due}
+use Rattle.fort_cert_checker.specs.SameDue.{same_due}
 
 Decides-which : (v w : Which) → Decides (same_which v w) (v ≡ w)
 Decides-which Star Star = Decides-true refl
