@@ -9,7 +9,7 @@ use Rattle.fort_check_steps.specs.declared.room.LabelRoom.{LabelRoom}
 use Rattle.fort_check_steps.specs.declared.marks.MarkRoom.{MarkRoom}
 use Rattle.fort_cert_checker.specs.declared.plan.Plan.{Plan}
 use Rattle.fort_cert_checker.specs.declared.making.ClosurePlan.{ClosurePlan}
-use Rattle.fort_cert_checker.specs.declared.steps.Given.{Given}
+use Rattle.fort_cert_checker.specs.declared.one_step.Given.{Given}
 use Rattle.fort_cert_checker.specs.Fronts.{IsLoopAt, IsStepDue, IsDueBehind}
 
 -- a step of part f, behind the parts in front

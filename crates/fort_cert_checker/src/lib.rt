@@ -5,12 +5,12 @@ mod about;
 mod checker;
 mod making;
 mod numbers;
+mod one_step;
+mod part_tables;
 mod past;
 mod plan;
 mod rejected;
-mod step;
 mod step_checker;
-mod steps;
 mod value;
 
 pub use checker::Checker;

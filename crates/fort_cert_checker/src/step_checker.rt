@@ -20,10 +20,10 @@ use crate::making::{
     ClosurePlan, closure_plans, list_of, mark_rooms, plans_of, rooms_of, scratch_for,
 };
 use crate::numbers::has_all_numbers;
+use crate::one_step::{Given, check_step};
 use crate::past::Past;
 use crate::plan::{Plan, Source, source_of};
 use crate::rejected::{Rejected, rejected_at};
-use crate::steps::{Given, check_step};
 use fort_check_steps::{Failure, LabelRoom, MarkRoom, PartRoom, PartTable, Reason, failed};
 use fort_formulas::Core;
 use fort_outline::{DueStep, Outline, steps_due};

@@ -4,7 +4,7 @@ use Rattle.fort_steps.specs.StepView.{as_step, as_count, as_pair, as_which}
 use Rattle.fort_steps.specs.declared.count.Count.{Count}
 use Rattle.fort_cert_checker.proofs.OwnSteps as own
 use Rattle.fort_cert_checker.proofs.OwnSteps.{on_ok, if_err}
-use Rattle.fort_cert_checker.proofs.steps.check_own.Goals as goal
+use Rattle.fort_cert_checker.proofs.one_step.check_own.Goals as goal
 
 pub check_table-requires : goal.check_table-requires
 check_table-requires c = let d = c.requires.due in record { due = (d.0, c.in-Part.field-0, d.2, d.1, own.part_due c.args.given.now.system.now d.0 (map as_step c.args.given.now.steps.now) c.args.given.now.plans.now c.args.front.now d.1 c.args.plan.now (record { signature = c.signature.result; steps = c.args.given.now.steps; plans = c.args.given.now.plans; rooms = c.args.front }) (record { signature = c.signature.ensures.same; steps = refl; plans_are = refl; rooms_are = refl }) c.args.room.now c.args.scratch.now c.args.marks.now (as_step c.args.step.now) c.in-Part.field-0 c.deref.result.now (ap as_step c.in-Part.is ∙ ap (certificates.Part c.in-Part.field-0) (sym c.deref.ensures.value)) d.2 d.3) }

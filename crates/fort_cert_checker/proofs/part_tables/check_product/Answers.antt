@@ -8,7 +8,7 @@ use Rattle.fort_check_steps.specs.Turned.{turned_table}
 use Rattle.fort_cert_checker.specs.Pasts.{steps_of, IsPartStep}
 use Rattle.fort_cert_checker.specs.OperandLists.{IsLaidListOf}
 use Rattle.fort_cert_checker.proofs.ListLaws.{fits_on, laid_operand}
-use Rattle.fort_cert_checker.proofs.step.check_product.Goals as goal
+use Rattle.fort_cert_checker.proofs.part_tables.check_product.Goals as goal
 
 pub lay-requires : goal.lay-requires
 lay-requires c =

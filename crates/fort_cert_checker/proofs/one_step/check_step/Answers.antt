@@ -12,7 +12,7 @@ use Rattle.fort_cert_checker.specs.Pasts.{IsMarkRoomFor}
 use Rattle.fort_cert_checker.specs.Fronts.{IsDueBehind, IsFineStep, IsReady, IsLoopAt}
 use Rattle.fort_cert_checker.proofs.LoopSteps as loop
 use Rattle.fort_cert_checker.proofs.OwnSteps.{on_ok, if_err}
-use Rattle.fort_cert_checker.proofs.steps.check_step.Goals as goal
+use Rattle.fort_cert_checker.proofs.one_step.check_step.Goals as goal
 
 pub check_pairs-requires : goal.check_pairs-requires
 check_pairs-requires c = let d = c.requires.due in record { due = (c.args.given.now.system.now, as_which c.in-Closure.field-0, c.in-Closure.field-1, loop.closure_for c.args.given.now.system.now d.1 d.0 d.2 c.args.given.now.plans.now c.args.closures.now c.args.rooms.now c.args.scratch.now c.args.marks.now c.args.place d.3 d.4.1 d.4.2 (as_step (get_or c.args.given.now.steps.now c.args.place c.index-given-place.result)) (loop.step_at c.args.given.now.steps.now d.2 c.args.place c.index-given-place.result (as_step (get_or c.args.given.now.steps.now c.args.place c.index-given-place.result)) d.4.0 d.4.2.low) (as_which c.in-Closure.field-0) c.in-Closure.field-1 (map as_pair c.deref.result.now) (ap as_step c.in-Closure.is ∙ ap (λ (xs : List ClosureEntry). certificates.Closure (as_which c.in-Closure.field-0) c.in-Closure.field-1 (map as_pair xs)) (sym c.deref.ensures.value)) (get_or c.args.closures.now c.args.place c.index-closures-place.result) ((loop.element_at c.args.closures.now c.args.place c.index-closures-place.result (let l = d.4.2.due_low in let m = d.4.1.ready.closures_made.count in omega (arith, l, m))).1 (get_or c.args.closures.now c.args.place c.index-closures-place.result))) }

@@ -1,6 +1,6 @@
 use Rattle.std.proofs.Common.{refl}
 use Rattle.fort_cert_checker.proofs.TableArms as arms
-use Rattle.fort_cert_checker.proofs.step.check_table.Goals as goal
+use Rattle.fort_cert_checker.proofs.part_tables.check_table.Goals as goal
 
 pub check_atom-requires-clause-few : goal.check_atom-requires-clause-few
 check_atom-requires-clause-few c = let d = c.requires.due in d.4.few

@@ -5,7 +5,7 @@ use Rattle.fort_in_order.specs.PartRules.{project_local}
 use Rattle.fort_check_steps.specs.Turned.{turned_table}
 use Rattle.fort_check_steps.specs.Room.{HasLabelRoom}
 use Rattle.fort_cert_checker.specs.Pasts.{IsPartStep}
-use Rattle.fort_cert_checker.proofs.step.check_projection.Goals as goal
+use Rattle.fort_cert_checker.proofs.part_tables.check_projection.Goals as goal
 
 pub put_pure-requires-clause-column : goal.put_pure-requires-clause-column
 put_pure-requires-clause-column c =

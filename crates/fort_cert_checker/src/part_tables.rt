@@ -1,4 +1,4 @@
-//! The checks of a part's steps.
+//! The checks of the tables of parts, by what the parts are.
 ghost use Rattle.std.specs.Prelude.{◌≡◌, ℕ, ◌+◌, ◌*◌, ◌<◌, ◌^◌, List, map, length};
 ghost use Rattle.fort_cores.specs.Cores as theory;
 ghost use Rattle.fort_tables.specs.BitRows.{words_for};

@@ -3,7 +3,7 @@ use Rattle.fort_theory.specs.Signatures.{Signature}
 use Rattle.fort_context_closure.specs.AtomLabelsView.{rule_by, accepted_by}
 use Rattle.fort_context_closure.specs.SignedAtoms.{signature_by}
 use Rattle.fort_cert_checker.specs.Pasts.{IsPartStep}
-use Rattle.fort_cert_checker.proofs.step.check_atom.Goals as goal
+use Rattle.fort_cert_checker.proofs.part_tables.check_atom.Goals as goal
 
 pub check_part-requires-clause-signature : goal.check_part-requires-clause-signature
 check_part-requires-clause-signature c = signature_by c.signature-signature.result.now c.args.labels.now

@@ -11,7 +11,7 @@ use Rattle.fort_infinity.specs.ManyCounts.{is_many}
 use Rattle.fort_check_steps.specs.Turned.{turned_table}
 use Rattle.fort_check_steps.specs.Room.{HasLabelRoom}
 use Rattle.fort_cert_checker.specs.Pasts.{IsPartStep}
-use Rattle.fort_cert_checker.proofs.step.check_many.Goals as goal
+use Rattle.fort_cert_checker.proofs.part_tables.check_many.Goals as goal
 
 pub put_pure-requires-clause-column : goal.put_pure-requires-clause-column
 put_pure-requires-clause-column c =

@@ -17,9 +17,9 @@ ghost use Rattle.fort_cert_checker.specs.GivenSteps.{IsPartDue, WherePartDue, Is
 
 use crate::about::targets_of;
 use crate::making::ClosurePlan;
+use crate::part_tables::check_table;
 use crate::past::Past;
 use crate::plan::Plan;
-use crate::step::check_table;
 use crate::value::{check_counts, check_value};
 use fort_check_merges::check_merge;
 use fort_check_steps::{Failure, LabelRoom, MarkRoom, PartRoom, check_closure};
