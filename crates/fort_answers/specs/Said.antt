@@ -30,7 +30,8 @@ pub record Asks (command : List ℕ) (about words : List (List ℕ)) : Type 0 wh
 
 -- ---- a formula over the system of a problem
 
--- the first forms of the bytes are the system; for `check` and `confirm` the certificate stands behind them
+-- the first forms of the bytes are the system; for `check` and `confirm` the certificate stands behind them. That for `decide` no form
+-- does is said by `answered` of fort_run alone
 pub record BeginsWith (bytes : List ℕ) (system : System) : Type 0 where
   pub forms : Forms
   pub are_forms : AreFormsOf bytes forms

@@ -21,7 +21,7 @@ EitherOf r q s t = r s t ⊎ q s t
 abbrev pub Composes : Relation → Relation → Relation
 Composes r q s t = ((u : Tree) × r s u × RewritesInParallel q u t) ⊎ ((u : Tree) × RewritesInParallel r s u × q u t)
 
--- a closure is a pair of the relation with steps of it, at any positions, before and behind
+-- a closure is a pair of the relation, with any number of steps of it, at any positions, before it and behind it
 abbrev pub Means : (ℕ → Relation) → Expression → Relation
 Means roots (RootSteps index) = roots index
 Means roots (Inverse e) = Converse (Means roots e)

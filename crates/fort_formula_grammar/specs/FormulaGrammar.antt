@@ -1,5 +1,4 @@
--- To believe: which tokens are which formula, one rule for each production. Each relation says that the tokens begin with
--- a formula of its kind, and what tokens follow it; so the rules can be read from left to right.
+-- To believe: which tokens are which formula, one relation for each production, which says that the tokens begin with a formula of its kind, and which tokens follow it.
 use Rattle.std.specs.Prelude.{◌≡◌, ℕ, Bool, true, false, List, [], ◌∷◌}
 use Rattle.fort_logic.specs.Formulas as theory
 use Rattle.fort_logic.specs.Formulas.{Name, Argument, Formula, Property, SurfaceRel}

@@ -25,7 +25,7 @@ open_behind n (t ∷ ts) = open_behind n ts
 abbrev pub AreShallow : List Token → Type 0
 AreShallow tokens = (k : ℕ) → open_behind 0 (take k tokens) ≤ deepest_formula
 
--- at the offset stands the first ( that opens one too many
+-- where a text is refused as too deep: at the offset stands the first ( that opens one too many
 pub record OpensTooMany (text : List ℕ) (offset : ℕ) : Type 0 where
   pub tokens : List Token
   pub behind : List ℕ
@@ -55,6 +55,8 @@ pub record IsGroundAt (text : List ℕ) (place : ℕ) (g : Ground) : Type 0 wher
 -- these are the ground terms that are written in the text, in their order
 abbrev pub AreGroundsOf : List ℕ → List Ground → Type 0
 AreGroundsOf text grounds = (place : ℕ) (g : Ground) → slice_get grounds place ≡ Some g ↔ IsGroundAt text place g
+
+-- what follows says what is told of a text that is no formula; which text is which formula doesn't rest on it
 
 -- with some tokens behind them these are a formula, however many they are and however deep it is
 abbrev pub BeginsFormula : List Token → Type 0

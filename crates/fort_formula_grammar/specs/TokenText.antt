@@ -50,7 +50,7 @@ pub record StandsAt (text : List ℕ) (before : List Token) (token : Token) (off
   pub numbered : HasPlace (grounds_behind 0 before) token
   pub place : offset + length here ≡ length text
 
--- at the offset stands the first byte that is no blank and with which no token begins, where one should
+-- where a text is refused for a byte: at the offset stands the first one that is no blank and with which no token begins, where one should
 pub record IsBadByte (text : List ℕ) (offset : ℕ) : Type 0 where
   pub tokens : List Token
   pub byte : ℕ

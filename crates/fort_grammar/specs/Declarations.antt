@@ -68,7 +68,8 @@ pub record AreDeclarations (bytes : List ℕ) (forms : List Form) (signature : S
   pub distinct : IsDistinct bytes_eq (names_of signature)
   pub few : length signature ≤ most_functions
 
--- why a text of forms is no problem; the number is the form's
+-- why a text of forms is no problem; the number is the form's. From here on it is said what is told of forms that declare nothing;
+-- which forms are declarations doesn't rest on it
 pub data ProblemFault : Type 0 where
   NoFormat : ProblemFault
   BadForm : ℕ → ProblemFault

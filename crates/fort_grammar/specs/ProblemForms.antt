@@ -20,7 +20,8 @@ pub record FallsInto (bytes : List ℕ) (forms : List Form) (first : Form) (decl
   pub rule : AllByRecursion (IsHeaded bytes (codes "rule")) rules
   pub ruled : BeginsOtherwise bytes (codes "rule") behind
 
--- the forms are this system, which has at each index its rules in their order, and the next form is the first behind the problem
+-- the forms begin with this system, which has at each index its rules in their order; form `next` is the first behind the problem.
+-- Of that one nothing matters but that it is no rule, and what stands behind it isn't looked at
 pub record IsProblem (bytes : List ℕ) (forms : List Form) (system : System) (next : ℕ) : Type 0 where
   pub first : Form
   pub declarations : List Form
@@ -36,7 +37,8 @@ pub record IsProblem (bytes : List ℕ) (forms : List Form) (system : System) (n
   pub few : length rules ≤ most_rules
   pub next_is : next ≡ length declarations + length rules + 1
 
--- the first fault of the forms, in the order in which a problem is written
+-- the first fault of the forms, in the order in which a problem is written; it is what is told, and which forms are a problem doesn't
+-- rest on it
 pub data IsFirstProblemFault (bytes : List ℕ) (forms : List Form) : ProblemFault → Type 0 where
   WithoutForms : forms ≡ [] → IsFirstProblemFault bytes forms NoFormat
   WithoutFormat : (first : Form) (others : List Form) → forms ≡ first ∷ others → IsNoFormat bytes first → IsFirstProblemFault bytes forms NoFormat

@@ -9,7 +9,7 @@ use Rattle.fort_grammar.specs.Declarations.{as_list, word_of, elements_of, Probl
 abbrev pub most_rules : ℕ
 most_rules = 4096
 
--- `(rule LEFT RIGHT)`, of index 1, or `(rule LEFT RIGHT :index I)`, where there are this many systems
+-- `(rule LEFT RIGHT)`, of index 1 however many systems there are, or `(rule LEFT RIGHT :index I)`, where there are this many systems
 pub data HasSides (bytes : List ℕ) (number : ℕ) (f left right : Form) : (index : ℕ) → Type 0 where
   OfFirst : (head : Form) → elements_of f ≡ Some (head ∷ left ∷ right ∷ []) → word_of bytes head ≡ Some (codes "rule")
       → HasSides bytes number f left right 1
@@ -17,7 +17,8 @@ pub data HasSides (bytes : List ℕ) (number : ℕ) (f left right : Form) : (ind
       → word_of bytes head ≡ Some (codes "rule") → word_of bytes key ≡ Some (codes ":index") → word_of bytes value ≡ Some (decimal index)
       → 1 ≤ index → index ≤ number → HasSides bytes number f left right index
 
--- the form is a word that is the name of a variable: no function has it
+-- the form is a word that is the name of a variable: no function has it. So a name that no `fun` declares is a variable, on a left side
+-- too, and a misspelt constant changes the system
 pub record IsVariableNamed (bytes : List ℕ) (signature : Signature) (f : Form) (name : List ℕ) : Type 0 where
   pub word : word_of bytes f ≡ Some name
   pub named : IsName name
@@ -70,6 +71,8 @@ AreRules bytes number signature (f ∷ fs) (r ∷ rs) = IsRule bytes number sign
 -- those of one index, in their order
 abbrev pub rules_of : ℕ → List IndexedRule → List Rule
 rules_of index given = map (λ (r : IndexedRule). r.rule) (filter (λ (r : IndexedRule). r.index == index) given)
+
+-- what follows says what is told of a form that is no rule; which forms are rules doesn't rest on it
 
 -- what is first wrong with a side of form i, each form before its arguments, these from left to right
 mutual

@@ -4,7 +4,7 @@ use Rattle.std.specs.Prelude.{◌≡◌, ℕ, ◌+◌, ◌-◌, ◌<◌, ◌≤�
 use Rattle.std.specs.List.{after_last, list_any, range_with_len}
 use Rattle.fort_theory.specs.Signatures.{is_word_byte}
 
--- the line of an offset up to it; lines end at LF, which belongs to none
+-- the line of an offset up to it; lines end at LF, which belongs to none, and a CR ends no line and no comment
 abbrev pub line_up_to : List ℕ → ℕ → List ℕ
 line_up_to bytes i = after_last (λ b. b == 10) (take (i + 1) bytes)
 
@@ -35,7 +35,7 @@ is_text_byte b = is_blank b || is_word_byte b || (b == 40) || (b == 41)
 abbrev pub deepest : ℕ
 deepest = 200
 
--- a fault and its offset
+-- a fault and its offset; which fault it is matters where a text is refused, and nowhere else
 pub data TextFault : Type 0 where
   BadByte : ℕ → TextFault
   ExtraClose : ℕ → TextFault
@@ -58,7 +58,7 @@ pub record StaysOpen (bytes : List ℕ) (i : ℕ) : Type 0 where
   pub opens : stands_at 40 bytes i ≡ true
   pub stays : (k : ℕ) → i < k → k ≤ length bytes → depth bytes i < depth bytes k
 
--- the first fault of a text: at the first faulty offset; or, where none is, the last parenthesis that stays open
+-- the first fault of a text, the one that is told: at the first faulty offset; or, where none is, the last parenthesis that stays open
 pub data IsFirstFault (bytes : List ℕ) : TextFault → Type 0 where
   First : (i : ℕ) (fault : TextFault) → IsFaultyAt bytes i fault → IsFaultlessBelow bytes i → IsFirstFault bytes fault
   Open : (i : ℕ) → IsFaultlessBelow bytes (length bytes) → StaysOpen bytes i → ((k : ℕ) → StaysOpen bytes k → k ≤ i)

@@ -102,6 +102,7 @@ GivesTerms terms m = (k : ℕ) (t : Tree) → slice_get terms k ≡ Some t → m
 
 -- a formula in which these terms are written is true of a system, or false of it, whichever ground terms its variables have;
 -- for a closed formula it doesn't matter which. Where the signature has a constant and the terms are ground, no formula is both.
+-- An index that the system doesn't have has no rules here; that a formula with one is refused is said by `answered` of fort_run.
 abbrev pub IsTrueOf : System → List Tree → Formula → Type 0
 IsTrueOf system terms f =
     (m : Assignment) → IsGroundAssignment (structure_of system) m → GivesTerms terms m → Holds (structure_of system) f m

@@ -19,6 +19,7 @@ HasSome {A} P = ((x : A) → P x → ⊥) → ⊥
 abbrev pub HasInfinitelyMany : {A : Type 0} → (A → Type 0) → Type 0
 HasInfinitelyMany {A} P = (xs : List A) → HasSome (λ (x : A). (Contains xs x → ⊥) × P x)
 
+-- those of core formulas, into which formulas are translated: what is refused and certificates rest on them, and no truth of a formula
 pub data Connective : Type 0 where
   And : Connective
   Or : Connective

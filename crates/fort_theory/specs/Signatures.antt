@@ -15,7 +15,8 @@ longest_name = 255
 abbrev pub most_indices : ℕ
 most_indices = 9
 
--- how many trees a tuple may have; a tuple has one for each free variable of a part of a formula
+-- how many trees a tuple may have; a tuple has one for each free variable of a part of a formula. What is refused and certificates
+-- rest on it, and no term, rule or truth of a formula
 abbrev pub most_columns : ℕ
 most_columns = 16
 
