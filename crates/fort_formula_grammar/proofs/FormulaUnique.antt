@@ -1,5 +1,5 @@
 -- Tokens begin with one formula of each kind at most, and what follows it is determined, where the reading can't go on.
-use Rattle.std.proofs.Common.{◌≡◌, false, List, [], ◌∷◌, refl, sym, ap, ◌∙◌, subst, inl, inr}
+use Rattle.std.proofs.Common.{◌≡◌, false, List, [], ◌∷◌, None, refl, sym, ap, ◌∙◌, subst, inl, inr}
 use Rattle.std.proofs.lemmas.Bool.{true≢false}
 use Rattle.fort_logic.specs.Formulas as theory
 use Rattle.fort_logic.specs.Formulas.{Argument, Formula}
@@ -111,7 +111,7 @@ mutual
   unary-unique Falsity Falsity = (refl, refl)
   unary-unique (Named {p = p} i) (Named j) = let same = IsIndex-unique i j in (ap (theory.Has p) same.0, same.1)
   unary-unique Commuting Commuting = (refl, refl)
-  unary-unique (AllTerminating i none) (AllTerminating j none') = let same = IsIndex-unique i j in (ap theory.AllSn same.0, same.1)
+  unary-unique (AllTerminating i none) (AllTerminating j none') = let same = IsIndex-unique i j in (ap (theory.Sn None) same.0, same.1)
   unary-unique (AllTerminating i none) (Terminating j b) = absurd (true≢false (sym (ap begins_with_open (IsIndex-unique i j).1) ∙ none))
   unary-unique (Terminating i a) (AllTerminating j none) = absurd (true≢false (ap begins_with_open (IsIndex-unique i j).1 ∙ none))
   unary-unique (Terminating i a) (Terminating j b) =

@@ -1,4 +1,5 @@
 -- To believe: which tokens are which formula, one relation for each production, which says that the tokens begin with a formula of its kind, and which tokens follow it.
+use Rattle.std.specs.Prelude as option
 use Rattle.std.specs.Prelude.{◌≡◌, ℕ, Bool, true, false, List, [], ◌∷◌}
 use Rattle.fort_logic.specs.Formulas as theory
 use Rattle.fort_logic.specs.Formulas.{Name, Argument, Formula, Property, SurfaceRel}
@@ -89,9 +90,9 @@ mutual
     Named : {p : Property} {index : ℕ} {ts us : List Token} → IsIndex ts index us → IsUnary (Has p ∷ ts) (theory.Has p index) us
     Commuting : {us : List Token} → IsUnary (Com ∷ us) theory.Com us
     -- that no ( stands there makes readings from the left unique; which tokens are a whole formula doesn't rest on it
-    AllTerminating : {index : ℕ} {ts us : List Token} → IsIndex ts index us → begins_with_open us ≡ false → IsUnary (Sn ∷ ts) (theory.AllSn index) us
+    AllTerminating : {index : ℕ} {ts us : List Token} → IsIndex ts index us → begins_with_open us ≡ false → IsUnary (Sn ∷ ts) (theory.Sn option.None index) us
     Terminating : {a : Argument} {index : ℕ} {ts us vs : List Token} → IsIndex ts index (Open ∷ us) → IsArgument us a (Close ∷ vs)
-        → IsUnary (Sn ∷ ts) (theory.Sn a index) vs
+        → IsUnary (Sn ∷ ts) (theory.Sn (option.Some a) index) vs
     NormalForm : {a : Argument} {index : ℕ} {ts us vs : List Token} → IsIndex ts index (Open ∷ us) → IsArgument us a (Close ∷ vs)
         → IsUnary (Nf ∷ ts) (theory.Nf a index) vs
     Joinable : {a b : Argument} {index : ℕ} {ts us vs ws : List Token} → IsIndex ts index (Open ∷ us) → IsArgument us a (Comma ∷ vs)

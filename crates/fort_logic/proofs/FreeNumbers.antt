@@ -1,5 +1,5 @@
 -- The core formula of a formula binds numbers that are free, and its free numbers are those of free names.
-use Rattle.std.specs.Prelude.{◌≡◌, ◌==◌, ℕ, ◌+◌, ◌<◌, Bool, true, false, not, ◌||◌, ◌&&◌, if◌then◌else◌, List, [], ◌∷◌, ◌++◌, ◌⊎◌, length, reverse, bytes_eq, Contains, refl}
+use Rattle.std.specs.Prelude.{◌≡◌, ◌==◌, ℕ, ◌+◌, ◌<◌, Bool, true, false, not, ◌||◌, ◌&&◌, if◌then◌else◌, List, [], ◌∷◌, ◌++◌, ◌⊎◌, Some, None, length, reverse, bytes_eq, Contains, refl}
 use Rattle.std.proofs.Common.{ap, sym, ◌∙◌, subst, arith, inl, inr}
 use Rattle.std.proofs.lemmas.Bool.{or_cases, or_left, and_parts}
 use Rattle.std.proofs.lemmas.Bool.Decides.{Decides-eqb}
@@ -115,8 +115,8 @@ BindsFree-core_in terms scope (surface.InContext e number place a b) =
 BindsFree-core_in terms scope (surface.Nf a index) = BindsFree-about terms scope (length scope) a (λ n x. Leaf (Normal index x)) (λ n x. tt)
 BindsFree-core_in terms scope (surface.Join a b index) =
     BindsFree-about_both terms scope (length scope) a b (λ n x y. joins index n x y) (λ n x y. BindsFree-joins index n x y)
-BindsFree-core_in terms scope (surface.AllSn index) = BindsFree-all_terminate index (length scope)
-BindsFree-core_in terms scope (surface.Sn a index) =
+BindsFree-core_in terms scope (surface.Sn None index) = BindsFree-all_terminate index (length scope)
+BindsFree-core_in terms scope (surface.Sn (Some a) index) =
     BindsFree-about terms scope (length scope) a (λ n x. terminates index n x) (λ n x. BindsFree-terminates index n x)
 BindsFree-core_in terms scope (surface.Has p index) = BindsFree-property p index (length scope)
 BindsFree-core_in terms scope surface.Com = BindsFree-commutes (length scope)
@@ -375,8 +375,8 @@ module _ (terms : List Tree) where
   AllFree-core_in (surface.Join a b index) scope =
       AllFree-about_both terms scope (IsNumberOf scope (names_in a ++ names_in b)) (length scope) a b (λ n x y. joins index n x y)
       (first_names scope a b) (second_names scope a b) (λ Q n x y at_x at_y. AllFree-joins Q index n x y at_x at_y)
-  AllFree-core_in (surface.AllSn index) scope = λ k free. absurd (AllFree-all_terminate index (length scope) k free)
-  AllFree-core_in (surface.Sn a index) scope =
+  AllFree-core_in (surface.Sn None index) scope = λ k free. absurd (AllFree-all_terminate index (length scope) k free)
+  AllFree-core_in (surface.Sn (Some a) index) scope =
       AllFree-about terms scope (IsNumberOf scope (names_in a)) (length scope) a (λ n x. terminates index n x)
       (λ x among. (x, among, refl)) (λ Q n x kept at_x. AllFree-terminates Q index n x at_x)
   AllFree-core_in (surface.Has p index) scope = λ k free. absurd (AllFree-property p index (length scope) k free)

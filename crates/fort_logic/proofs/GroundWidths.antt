@@ -1,5 +1,5 @@
 -- Which ground terms are written in a formula doesn't matter for its width: a core formula in which each term is replaced by one tree has the same free numbers, part for part.
-use Rattle.std.specs.Prelude.{◌≡◌, ◌↔◌, ◌==◌, ℕ, ◌+◌, Bool, true, false, not, ◌&&◌, if◌then◌else◌, List, [], ◌∷◌, ◌++◌, ◌⊎◌, length, map, reverse, Contains, refl}
+use Rattle.std.specs.Prelude.{◌≡◌, ◌↔◌, ◌==◌, ℕ, ◌+◌, Bool, true, false, not, ◌&&◌, if◌then◌else◌, List, [], ◌∷◌, ◌++◌, ◌⊎◌, Some, None, length, map, reverse, Contains, refl}
 use Rattle.std.proofs.Common.{inl, inr, ap, sym, ◌∙◌, subst}
 use Rattle.std.proofs.lemmas.List.{map-append}
 use Rattle.fort_theory.specs.Trees.{Tree, Node, Nil}
@@ -211,8 +211,8 @@ module _ (terms : List Tree) where
   blank-core_in scope (surface.Nf a index) = blank-about scope (length scope) a (λ n x. Leaf (Normal index x)) (λ n x. Leaf (Normal index x)) (λ n x. refl)
   blank-core_in scope (surface.Join a b index) =
       blank-about_both scope (length scope) a b (λ n x y. joins index n x y) (λ n x y. blank-joins index n x y)
-  blank-core_in scope (surface.AllSn index) = blank-all_terminate index (length scope)
-  blank-core_in scope (surface.Sn a index) =
+  blank-core_in scope (surface.Sn None index) = blank-all_terminate index (length scope)
+  blank-core_in scope (surface.Sn (Some a) index) =
       blank-about scope (length scope) a (λ n x. terminates index n x) (λ n x. terminates index n x) (λ n x. blank-terminates index n x)
   blank-core_in scope (surface.Has p index) = blank-property p index (length scope)
   blank-core_in scope surface.Com = blank-commutes (length scope)

@@ -1,5 +1,5 @@
 -- Structures over one signature whose root steps relate the same trees have the same formulas true.
-use Rattle.std.specs.Prelude.{◌↔◌, ℕ, All}
+use Rattle.std.specs.Prelude.{◌↔◌, ℕ, All, Some, None}
 use Rattle.fort_theory.specs.Trees.{Tree}
 use Rattle.fort_theory.specs.Signatures.{Signature, HasConstant}
 use Rattle.fort_theory.specs.Sides.{at_index, System, IsLinearSeparated}
@@ -13,7 +13,7 @@ use Rattle.fort_termination.proofs.TerminationWithin.{IsTerminating-within}
 use Rattle.fort_expressions.specs.Expressions.{Means}
 use Rattle.fort_expressions.proofs.MeaningLaws.{Means-within, HoldsInContext-within}
 use Rattle.fort_cores.proofs.SameCoreRoots.{over}
-use Rattle.fort_logic.specs.Formulas.{SurfaceRel, Eq, Step, Star, Plus, Reflexive, Normal, Root, Below, Par, Either, Conv, Property, Cr, Wcr, Scr, Wn, Unr, Unc, Nfp, Formula, True, False, Related, InContext, Nf, Join, Sn, AllSn, Has, Com, Not, And, Or, Imp, Iff, Exists, Forall, Infinite}
+use Rattle.fort_logic.specs.Formulas.{SurfaceRel, Eq, Step, Star, Plus, Reflexive, Normal, Root, Below, Par, Either, Conv, Property, Cr, Wcr, Scr, Wn, Unr, Unc, Nfp, Formula, True, False, Related, InContext, Nf, Join, Sn, Has, Com, Not, And, Or, Imp, Iff, Exists, Forall, Infinite}
 use Rattle.fort_cores.specs.Structures.{structure_of}
 use Rattle.fort_cores.specs.PatternStructures.{pattern_structure}
 use Rattle.fort_logic.specs.Truth.{Assignment, with_name, Relates, AreJoinable, HasProperty, Commute, Holds}
@@ -74,8 +74,8 @@ Holds-same_root signature r q w back (InContext e number place a b) m = (
 Holds-same_root signature r q w back (Nf a i) m = (IsNormalForm-within (q i) (r i) (back i) (m a), IsNormalForm-within (r i) (q i) (w i) (m a))
 Holds-same_root signature r q w back (Join a b i) m =
     (AreJoinable-same_root signature r q w back i (m a) (m b), AreJoinable-same_root signature q r back w i (m a) (m b))
-Holds-same_root signature r q w back (Sn a i) m = (IsTerminating-within (q i) (r i) (back i) (m a), IsTerminating-within (r i) (q i) (w i) (m a))
-Holds-same_root signature r q w back (AllSn i) m = (
+Holds-same_root signature r q w back (Sn (Some a) i) m = (IsTerminating-within (q i) (r i) (back i) (m a), IsTerminating-within (r i) (q i) (w i) (m a))
+Holds-same_root signature r q w back (Sn None i) m = (
   (λ all s gs. IsTerminating-within (q i) (r i) (back i) s (all s gs)),
   (λ all s gs. IsTerminating-within (r i) (q i) (w i) s (all s gs)),
 )

@@ -1,9 +1,9 @@
 -- Truth is stable: a formula that is not false is true. So "for all" and "not for some not" are one.
-use Rattle.std.specs.Prelude.{ℕ}
+use Rattle.std.specs.Prelude.{ℕ, Some, None}
 use Rattle.fort_theory.specs.Logic.{Surely}
 use Rattle.fort_cores.specs.Structures.{Structure}
 use Rattle.fort_logic.specs.Truth.{Assignment, with_name, HasProperty, Holds}
-use Rattle.fort_logic.specs.Formulas.{Property, Cr, Wcr, Scr, Wn, Unr, Unc, Nfp, Formula, True, False, Related, InContext, Nf, Join, Sn, AllSn, Has, Com, Not, And, Or, Imp, Iff, Exists, Forall, Infinite}
+use Rattle.fort_logic.specs.Formulas.{Property, Cr, Wcr, Scr, Wn, Unr, Unc, Nfp, Formula, True, False, Related, InContext, Nf, Join, Sn, Has, Com, Not, And, Or, Imp, Iff, Exists, Forall, Infinite}
 
 pub HasProperty-stable : (structure : Structure) (index : ℕ) (p : Property) → Surely (HasProperty structure index p) → HasProperty structure index p
 HasProperty-stable structure index Cr h = λ s t u gs gt gu st su none. h (λ p. p s t u gs gt gu st su none)
@@ -21,8 +21,8 @@ Holds-stable structure (Related rel a b index) m h = λ no. h (λ yes. yes no)
 Holds-stable structure (InContext e number place a b) m h = λ no. h (λ yes. yes no)
 Holds-stable structure (Nf a index) m h = λ t s. h (λ n. n t s)
 Holds-stable structure (Join a b index) m h = λ none. h (λ some. some none)
-Holds-stable structure (Sn a index) m h = λ none. h (λ ends. ends none)
-Holds-stable structure (AllSn index) m h = λ s gs none. h (λ all. all s gs none)
+Holds-stable structure (Sn (Some a) index) m h = λ none. h (λ ends. ends none)
+Holds-stable structure (Sn None index) m h = λ s gs none. h (λ all. all s gs none)
 Holds-stable structure (Has p index) m h = HasProperty-stable structure index p h
 Holds-stable structure Com m h = λ s t u gs gt gu st su none. h (λ p. p s t u gs gt gu st su none)
 Holds-stable structure (Not f) m h = λ yes. h (λ no. no yes)

@@ -1,5 +1,5 @@
 -- SN of a variable is true exactly where the formula is that it stands for, in the user's own words, over right-ground rules.
-use Rattle.std.specs.Prelude.{◌≡◌, ◌↔◌, ℕ, false, if◌then◌else◌, bytes_eq}
+use Rattle.std.specs.Prelude.{◌≡◌, ◌↔◌, ℕ, false, if◌then◌else◌, Some, bytes_eq}
 use Rattle.std.proofs.Common.{ap, sym}
 use Rattle.fort_theory.specs.Logic.{Surely}
 use Rattle.fort_theory.specs.Trees.{Tree}
@@ -63,7 +63,7 @@ module _ (system : System) (index : ℕ) (right : IsRightGroundAt system index) 
 
   -- Result
   pub Holds-Sn : IsGround system.signature (m (Var x))
-      → Holds (structure_of system) (Sn (Var x) index) m ↔ Holds (structure_of system) (abbreviated x y index) m
+      → Holds (structure_of system) (Sn (Some (Var x)) index) m ↔ Holds (structure_of system) (abbreviated x y index) m
   Holds-Sn is_ground =
       let exact = IsTerminating-right_ground system index right (m (Var x)) is_ground in (
         (λ ends. ((λ h. (exact.0 ends).0 (many.0 h)), (λ h. (exact.0 ends).1 (cycle.0 h)))),

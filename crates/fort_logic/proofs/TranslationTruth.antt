@@ -1,5 +1,5 @@
 -- The translation keeps truth: over a signature with a constant a formula is true exactly where its core formula is.
-use Rattle.std.specs.Prelude.{◌≡◌, ◌↔◌, ℕ, ◌<◌, ◌++◌, All, suc, Bool, true, false, if◌then◌else◌, List, [], ◌∷◌, length, reverse, slice_get, bytes_eq, Contains, refl}
+use Rattle.std.specs.Prelude.{◌≡◌, ◌↔◌, ℕ, ◌<◌, ◌++◌, All, suc, Bool, true, false, if◌then◌else◌, List, [], ◌∷◌, Some, None, length, reverse, slice_get, bytes_eq, Contains, refl}
 use Rattle.std.proofs.Common.{sym, ap, subst, ◌∙◌, arith}
 use Rattle.std.proofs.lemmas.List.{reverse-reverse}
 use Rattle.std.proofs.lemmas.List.Elements.{All-get_or, Contains-append_left, Contains-append_right}
@@ -14,7 +14,7 @@ use Rattle.fort_expressions.specs.Expressions.{Means}
 use Rattle.fort_expressions.specs.Contexts.{HoldsInContext}
 use Rattle.fort_cores.specs.Structures.{Structure, structure_of}
 use Rattle.fort_logic.specs.Truth.{Assignment, with_name, IsGroundAssignment, GivesTerms, Relates, AreJoinable, Holds}
-use Rattle.fort_logic.specs.Formulas.{Name, Argument, Var, Ground, Formula, True, False, Related, InContext, Nf, Join, Sn, AllSn, Has, Com, Not, And, Or, Imp, Iff, Exists, Forall, Infinite}
+use Rattle.fort_logic.specs.Formulas.{Name, Argument, Var, Ground, Formula, True, False, Related, InContext, Nf, Join, Sn, Has, Com, Not, And, Or, Imp, Iff, Exists, Forall, Infinite}
 use Rattle.fort_logic.specs.FreeNames.{names_in, occurrences, free_names}
 use Rattle.fort_logic.specs.Mentions.{places_in, places, HasTermsFor}
 use Rattle.fort_logic.specs.Terminations.{terminations}
@@ -159,14 +159,14 @@ module _ (structure : Structure) (constant : HasConstant structure.signature) (t
       (λ n x y w below under at_x at_y.
       Met-joins structure index constant n x y w (m a) (m b) (λ e. omega arith) (λ e. omega arith) at_x at_y) in
       (means.1, means.0)
-  Holds-core_in (Sn a index) scope m v gives has fits agree =
+  Holds-core_in (Sn (Some a) index) scope m v gives has fits agree =
       let fit = fits index (Contains-head index []) in
       let means =
       Met-about structure terms scope (length scope) a (λ n x. terminates index n x) v (m a) (IsTerminating (structure.root index) (m a))
       (argument scope m v a gives has agree)
       (λ n x w more below same at_x. Met-terminates structure constant index n x w (m a) (λ e. omega arith) at_x fit.0 (fit.1 a)) in
       (means.1, means.0)
-  Holds-core_in (AllSn index) scope m v gives has fits agree =
+  Holds-core_in (Sn None index) scope m v gives has fits agree =
       let means = Met-all_terminate structure constant index (fits index (Contains-head index [])).0 (length scope) v in
       (means.1, means.0)
   Holds-core_in (Has p index) scope m v gives has fits agree =

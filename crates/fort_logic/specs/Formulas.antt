@@ -1,5 +1,5 @@
 -- To believe: the formulas that a user can write, as trees with names for variables; relations, NF, JOIN, SN and properties have the index of the rules that they are about, an expression those of its root steps.
-use Rattle.std.specs.Prelude.{ℕ, List}
+use Rattle.std.specs.Prelude.{ℕ, List, Option}
 use Rattle.fort_expressions.specs.Expressions.{Expression}
 use Rattle.fort_expressions.specs.Contexts.{HoleNumber, HolePlace}
 
@@ -38,8 +38,8 @@ pub data Argument : Type 0 where
   Var : Name → Argument
   Ground : (place : ℕ) → Argument
 
--- InContext: by an expression, in a context with so many holes at such places. Sn says that the argument terminates, AllSn
--- that every ground term does, and Com that the rules of index 1 and those of index 2 commute
+-- InContext: by an expression, in a context with so many holes at such places. Sn says that the argument terminates, and with
+-- no argument that every ground term does; Com that the rules of index 1 and those of index 2 commute
 pub data Formula : Type 0 where
   True : Formula
   False : Formula
@@ -47,8 +47,7 @@ pub data Formula : Type 0 where
   InContext : Expression → HoleNumber → HolePlace → Argument → Argument → Formula
   Nf : Argument → (index : ℕ) → Formula
   Join : Argument → Argument → (index : ℕ) → Formula
-  Sn : Argument → (index : ℕ) → Formula
-  AllSn : (index : ℕ) → Formula
+  Sn : Option Argument → (index : ℕ) → Formula
   Has : Property → (index : ℕ) → Formula
   Com : Formula
   Not : Formula → Formula

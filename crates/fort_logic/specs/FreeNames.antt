@@ -1,6 +1,6 @@
 -- To believe: which variables are free in a formula, in the order of their first free occurrences.
-use Rattle.std.specs.Prelude.{not, List, [], ◌∷◌, ◌++◌, filter, bytes_eq}
-use Rattle.fort_logic.specs.Formulas.{Name, Argument, Var, Ground, Formula, True, False, Related, InContext, Nf, Join, Sn, AllSn, Has, Com, Not, And, Or, Imp, Iff, Exists, Forall, Infinite}
+use Rattle.std.specs.Prelude.{not, List, [], ◌∷◌, ◌++◌, Some, None, filter, bytes_eq}
+use Rattle.fort_logic.specs.Formulas.{Name, Argument, Var, Ground, Formula, True, False, Related, InContext, Nf, Join, Sn, Has, Com, Not, And, Or, Imp, Iff, Exists, Forall, Infinite}
 
 -- the names other than x
 abbrev pub without : Name → List Name → List Name
@@ -19,8 +19,8 @@ occurrences (Related rel a b index) = names_in a ++ names_in b
 occurrences (InContext e number place a b) = names_in a ++ names_in b
 occurrences (Nf a index) = names_in a
 occurrences (Join a b index) = names_in a ++ names_in b
-occurrences (Sn a index) = names_in a
-occurrences (AllSn index) = []
+occurrences (Sn (Some a) index) = names_in a
+occurrences (Sn None index) = []
 occurrences (Has property index) = []
 occurrences Com = []
 occurrences (Not f) = occurrences f

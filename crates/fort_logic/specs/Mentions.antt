@@ -1,8 +1,8 @@
 -- To believe: which indices of rules, and which places of ground terms, a formula mentions, from left to right; whether it has an expression.
-use Rattle.std.specs.Prelude.{◌≡◌, Bool, true, false, ◌||◌, ℕ, ◌<◌, ◌≤◌, List, [], ◌∷◌, ◌++◌, length, Contains}
+use Rattle.std.specs.Prelude.{◌≡◌, Bool, true, false, ◌||◌, ℕ, ◌<◌, ◌≤◌, List, [], ◌∷◌, ◌++◌, length, Some, None, Contains}
 use Rattle.fort_theory.specs.Trees.{Tree}
 use Rattle.fort_expressions.specs.Expressions.{root_indices}
-use Rattle.fort_logic.specs.Formulas.{Argument, Var, Ground, Formula, True, False, Related, InContext, Nf, Join, Sn, AllSn, Has, Com, Not, And, Or, Imp, Iff, Exists, Forall, Infinite}
+use Rattle.fort_logic.specs.Formulas.{Argument, Var, Ground, Formula, True, False, Related, InContext, Nf, Join, Sn, Has, Com, Not, And, Or, Imp, Iff, Exists, Forall, Infinite}
 
 -- the indices; one that is left out counts as 1, COM as 1 and 2
 abbrev pub indices : Formula → List ℕ
@@ -13,7 +13,6 @@ indices (InContext e number place a b) = root_indices e
 indices (Nf a index) = index ∷ []
 indices (Join a b index) = index ∷ []
 indices (Sn a index) = index ∷ []
-indices (AllSn index) = index ∷ []
 indices (Has property index) = index ∷ []
 indices Com = 1 ∷ 2 ∷ []
 indices (Not f) = indices f
@@ -37,8 +36,8 @@ places (Related rel a b index) = places_in a ++ places_in b
 places (InContext e number place a b) = places_in a ++ places_in b
 places (Nf a index) = places_in a
 places (Join a b index) = places_in a ++ places_in b
-places (Sn a index) = places_in a
-places (AllSn index) = []
+places (Sn (Some a) index) = places_in a
+places (Sn None index) = []
 places (Has property index) = []
 places Com = []
 places (Not f) = places f
@@ -79,7 +78,6 @@ has_expression (InContext e number place a b) = true
 has_expression (Nf a index) = false
 has_expression (Join a b index) = false
 has_expression (Sn a index) = false
-has_expression (AllSn index) = false
 has_expression (Has property index) = false
 has_expression Com = false
 has_expression (Not f) = has_expression f

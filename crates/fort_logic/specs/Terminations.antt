@@ -2,7 +2,7 @@
 use Rattle.std.specs.Prelude.{◌≡◌, ℕ, List, [], ◌∷◌, ◌++◌, Contains}
 use Rattle.fort_theory.specs.Sides.{System}
 use Rattle.fort_termination.specs.RightGround.{IsRightGroundAt}
-use Rattle.fort_logic.specs.Formulas.{Formula, True, False, Related, InContext, Nf, Join, Sn, AllSn, Has, Com, Not, And, Or, Imp, Iff, Exists, Forall, Infinite}
+use Rattle.fort_logic.specs.Formulas.{Formula, True, False, Related, InContext, Nf, Join, Sn, Has, Com, Not, And, Or, Imp, Iff, Exists, Forall, Infinite}
 
 abbrev pub terminations : Formula → List ℕ
 terminations True = []
@@ -12,7 +12,6 @@ terminations (InContext e number place a b) = []
 terminations (Nf a index) = []
 terminations (Join a b index) = []
 terminations (Sn a index) = index ∷ []
-terminations (AllSn index) = index ∷ []
 terminations (Has property index) = []
 terminations Com = []
 terminations (Not f) = terminations f

@@ -1,5 +1,5 @@
 -- To believe: which core formula a formula is turned into, with the ground terms that are written in it. That it is true exactly where the formula is, over right-ground rules where that says SN, is proved.
-use Rattle.std.specs.Prelude.{ℕ, ◌+◌, if◌then◌else◌, List, [], ◌∷◌, length, reverse, bytes_eq, slice_index_or}
+use Rattle.std.specs.Prelude.{ℕ, ◌+◌, if◌then◌else◌, List, [], ◌∷◌, Some, None, length, reverse, bytes_eq, slice_index_or}
 use Rattle.fort_theory.specs.Trees.{Tree, Node, Nil}
 use Rattle.fort_logic.specs.Formulas as surface
 use Rattle.fort_logic.specs.Formulas.{Name, Argument, Formula, SurfaceRel, Property}
@@ -113,8 +113,8 @@ core_in terms scope (surface.InContext e number place a b) =
     about_both terms scope (length scope) a b (λ n x y. Leaf (InContext e number place x y))
 core_in terms scope (surface.Nf a index) = about terms scope (length scope) a (λ n x. Leaf (Normal index x))
 core_in terms scope (surface.Join a b index) = about_both terms scope (length scope) a b (λ n x y. joins index n x y)
-core_in terms scope (surface.Sn a index) = about terms scope (length scope) a (λ n x. terminates index n x)
-core_in terms scope (surface.AllSn index) = all_terminate index (length scope)
+core_in terms scope (surface.Sn (Some a) index) = about terms scope (length scope) a (λ n x. terminates index n x)
+core_in terms scope (surface.Sn None index) = all_terminate index (length scope)
 core_in terms scope (surface.Has property index) = property_core property index (length scope)
 core_in terms scope surface.Com = commutes (length scope)
 core_in terms scope (surface.Not f) = Not (core_in terms scope f)

@@ -1,5 +1,5 @@
 -- To believe: when a formula is true, its variables ranging over all ground terms of a signature, for any relations between trees as the root steps.
-use Rattle.std.specs.Prelude.{◌≡◌, ℕ, if◌then◌else◌, bytes_eq, List, Some, slice_get}
+use Rattle.std.specs.Prelude.{◌≡◌, ℕ, if◌then◌else◌, bytes_eq, List, Some, None, slice_get}
 use Rattle.fort_theory.specs.Logic.{Surely, OneOf, HasSome, HasInfinitelyMany}
 use Rattle.fort_theory.specs.Trees.{Tree}
 use Rattle.fort_theory.specs.Signatures.{IsGround}
@@ -9,7 +9,7 @@ use Rattle.fort_expressions.specs.Expressions.{Means}
 use Rattle.fort_expressions.specs.Contexts.{HoldsInContext}
 use Rattle.fort_cores.specs.Structures.{Structure, structure_of}
 use Rattle.fort_termination.specs.Termination.{IsTerminating, AllTerminate}
-use Rattle.fort_logic.specs.Formulas.{Name, Argument, Var, Ground, SurfaceRel, Eq, Step, Star, Plus, Reflexive, Normal, Root, Below, Par, Either, Conv, Property, Cr, Wcr, Scr, Wn, Unr, Unc, Nfp, Formula, True, False, Related, InContext, Nf, Join, Sn, AllSn, Has, Com, Not, And, Or, Imp, Iff, Exists, Forall, Infinite}
+use Rattle.fort_logic.specs.Formulas.{Name, Argument, Var, Ground, SurfaceRel, Eq, Step, Star, Plus, Reflexive, Normal, Root, Below, Par, Either, Conv, Property, Cr, Wcr, Scr, Wn, Unr, Unc, Nfp, Formula, True, False, Related, InContext, Nf, Join, Sn, Has, Com, Not, And, Or, Imp, Iff, Exists, Forall, Infinite}
 
 -- a tree for each variable, and for each ground term that is written in a formula
 abbrev pub Assignment : Type 0
@@ -79,8 +79,8 @@ Holds structure (Related rel a b index) m = Surely (Relates (structure.root inde
 Holds structure (InContext e number place a b) m = Surely (HoldsInContext (Means structure.root e) number place (m a) (m b))
 Holds structure (Nf a index) m = IsNormalForm (structure.root index) (m a)
 Holds structure (Join a b index) m = AreJoinable structure index (m a) (m b)
-Holds structure (Sn a index) m = IsTerminating (structure.root index) (m a)
-Holds structure (AllSn index) m = AllTerminate structure.signature (structure.root index)
+Holds structure (Sn (Some a) index) m = IsTerminating (structure.root index) (m a)
+Holds structure (Sn None index) m = AllTerminate structure.signature (structure.root index)
 Holds structure (Has property index) m = HasProperty structure index property
 Holds structure Com m = Commute structure
 Holds structure (Not f) m = Holds structure f m → ⊥
