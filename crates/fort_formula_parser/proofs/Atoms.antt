@@ -1,5 +1,5 @@
 -- The tokens of an atom, one after another, are that atom; and where reading them is stuck.
-use Rattle.std.proofs.Common.{◌≡◌, ℕ, ◌+◌, ◌<◌, ◌≤◌, false, List, [], ◌∷◌, length, refl, sym, ap, ◌∙◌, subst, arith}
+use Rattle.std.proofs.Common.{◌≡◌, ℕ, ◌+◌, ◌<◌, ◌≤◌, false, List, [], ◌∷◌, Some, None, length, refl, sym, ap, ◌∙◌, subst, arith}
 use Rattle.fort_expressions.specs.Expressions.{Expression}
 use Rattle.fort_logic.specs.Formulas as theory
 use Rattle.fort_logic.specs.Formulas.{Argument, Property}
@@ -79,19 +79,19 @@ module _ (lexemes : List Lexeme) (at : ℕ) (found : Indexed) (i : IsIndexAt lex
       (argument_then lexemes (found.next + 1) (found.next + 2) parsed.next a Close x (omega arith) closes (omega arith)))
 
   pub IsParsed-all_terminating : (parsed : Reading) → IsTokenAt lexemes at Sn → HasNoNext Open (rest_of lexemes found.next) → parsed.next ≡ found.next
-      → IsMade parsed.made (theory.AllSn found.index) → IsParsed IsUnary lexemes at parsed
+      → IsMade parsed.made (theory.Sn None found.index) → IsParsed IsUnary lexemes at parsed
   IsParsed-all_terminating parsed n none e is =
       let last : found.next ≤ length lexemes = i.within in
-      IsParsed-unary lexemes at _ (theory.AllSn found.index) parsed (omega (arith, further)) (omega arith) n.next is
-      (subst (λ k. IsUnary (Sn ∷ rest_of lexemes (at + 1)) (theory.AllSn found.index) (rest_of lexemes k)) (sym e)
+      IsParsed-unary lexemes at _ (theory.Sn None found.index) parsed (omega (arith, further)) (omega arith) n.next is
+      (subst (λ k. IsUnary (Sn ∷ rest_of lexemes (at + 1)) (theory.Sn None found.index) (rest_of lexemes k)) (sym e)
       (AllTerminating i.reads (unopened (rest_of lexemes found.next) none)))
 
   pub IsParsed-terminating : (a : Argument) (parsed : Reading) → IsTokenAt lexemes at Sn → IsTokenAt lexemes found.next Open
       → IsArgumentAt lexemes (found.next + 1) a → IsTokenAt lexemes (found.next + 2) Close → parsed.next ≡ found.next + 3
-      → IsMade parsed.made (theory.Sn a found.index) → IsParsed IsUnary lexemes at parsed
+      → IsMade parsed.made (theory.Sn (Some a) found.index) → IsParsed IsUnary lexemes at parsed
   IsParsed-terminating a parsed n opens x closes e is =
       let last : found.next + 2 < length lexemes = closes.within in
-      IsParsed-unary lexemes at _ (theory.Sn a found.index) parsed (omega (arith, further)) (omega arith) n.next is
+      IsParsed-unary lexemes at _ (theory.Sn (Some a) found.index) parsed (omega (arith, further)) (omega arith) n.next is
       (Terminating (index_then lexemes (at + 1) (found.next + 1) found Open i opens (omega arith))
       (argument_then lexemes (found.next + 1) (found.next + 2) parsed.next a Close x (omega arith) closes (omega arith)))
 

@@ -1,6 +1,6 @@
 //! Formulas without operands.
 
-ghost use Rattle.std.specs.Prelude.{◌≡◌, ◌+◌, ◌<◌, length, IfOk, IfErr};
+ghost use Rattle.std.specs.Prelude.{◌≡◌, ◌+◌, ◌<◌, Some, length, IfOk, IfErr};
 ghost use Rattle.fort_formula_grammar.specs.Tokens as grammar;
 ghost use Rattle.fort_formula_grammar.specs.FormulaGrammar.{IsUnary};
 ghost use Rattle.fort_logic.specs.Formulas as theory;
@@ -63,9 +63,9 @@ pub(crate) fn normal_form(alloc: Global, lexemes: &[Lexeme], at: usize) -> Resul
 }
 
 fn sn(alloc: Global, x: Argument, index: u32) -> Result<Formula, AllocError>
-    ensures { IsMade result (theory.Sn (argument_of x.entry) index) }
+    ensures { IsMade result (theory.Sn (Some (argument_of x.entry)) index) }
 {
-    Ok(Formula::Sn(arg_of(alloc, x)?, index))
+    Ok(Formula::Sn(Some(arg_of(alloc, x)?), index))
 }
 
 /// `SN` or `SN ( x )`, at whose first token it is.
@@ -78,7 +78,7 @@ pub(crate) fn terminating(alloc: Global, lexemes: &[Lexeme], at: usize) -> Resul
     let Indexed { index, next } = index_at(lexemes, at + 1);
     if !is_next(lexemes, next, Mark::Open) {
         return Ok(Reading {
-            made: Ok(Formula::AllSn(index)),
+            made: Ok(Formula::Sn(None, index)),
             next,
         });
     }

@@ -11,20 +11,19 @@ use Rattle.fort_formulas.specs.declared.surface.SurfaceRel.{SurfaceRel}
 use Rattle.fort_formulas.specs.declared.surface.Macro as property
 use Rattle.fort_formulas.specs.declared.surface.Arg.{Arg}
 use Rattle.fort_formulas.specs.declared.surface.Formula.{Formula}
-use Rattle.fort_formulas.specs.declared.surface.Formula.TheVariants.{Rel, Nf, Join, Sn, AllSn, Macro, Not, And, Or, Imp, Iff, Exists, Forall, Infinite}
+use Rattle.fort_formulas.specs.declared.surface.Formula.TheVariants.{Rel, Nf, Join, Sn, Macro, Not, And, Or, Imp, Iff, Exists, Forall, Infinite}
 use Rattle.fort_formulas.specs.FormulaView.{as_formula}
 
 pub indices-atom : (c : Formula) (index : ℕ)
     → ((rel : SurfaceRel) × (a : Arg) × (b : Arg) × (c ≡ Rel rel a b index))
     ⊎ (((a : Arg) × (c ≡ Nf a index)) ⊎ (((a : Arg) × (b : Arg) × (c ≡ Join a b index))
-    ⊎ (((a : Arg) × (c ≡ Sn a index)) ⊎ ((c ≡ AllSn index) ⊎ ((m : property.Macro) × (c ≡ Macro m index))))))
+    ⊎ (((a : Option Arg) × (c ≡ Sn a index)) ⊎ ((m : property.Macro) × (c ≡ Macro m index)))))
     → indices (as_formula c) ≡ index ∷ []
 indices-atom c index (inl (rel, a, b, e)) = rw e refl
 indices-atom c index (inr (inl (a, e))) = rw e refl
 indices-atom c index (inr (inr (inl (a, b, e)))) = rw e refl
 indices-atom c index (inr (inr (inr (inl (a, e))))) = rw e refl
-indices-atom c index (inr (inr (inr (inr (inl e))))) = rw e refl
-indices-atom c index (inr (inr (inr (inr (inr (m, e)))))) = rw e refl
+indices-atom c index (inr (inr (inr (inr (m, e))))) = rw e refl
 
 pub indices-one : (c : Formula) (f : theory.Formula)
     → (c ≡ Not f) ⊎ (((x : theory.Name) × (c ≡ Exists x f)) ⊎ (((x : theory.Name) × (c ≡ Forall x f)) ⊎ ((x : theory.Name) × (c ≡ Infinite x f))))

@@ -1,10 +1,10 @@
 -- Inside: a formula as a list of marks, from which it is read again.
-use Rattle.std.specs.Prelude.{◌≡◌, ℕ, zero, suc, List, [], ◌∷◌, ◌++◌, drop, slice_index_or, refl}
+use Rattle.std.specs.Prelude.{◌≡◌, ℕ, zero, suc, List, [], ◌∷◌, ◌++◌, drop, Some, None, slice_index_or, refl}
 use Rattle.std.proofs.Common.{ap, sym, ◌∙◌, append_assoc, append-nil}
 use Rattle.fort_relations.specs.ExpressionCode as expression
 use Rattle.fort_relations.specs.HolesCode.{hole_number_code, hole_place_code, hole_number_at, hole_place_at, hole_number_again, hole_place_again}
 use Rattle.std.specs.Coded.{Coded, code_by, coded_list, coded_ℕ, coded×}
-use Rattle.fort_logic.specs.Formulas.{Name, Argument, Var, Ground, SurfaceRel, Eq, Step, Star, Plus, Reflexive, Normal, Root, Below, Par, Either, Conv, Property, Cr, Wcr, Scr, Wn, Unr, Unc, Nfp, Formula, True, False, Related, InContext, Nf, Join, Sn, AllSn, Has, Com, Not, And, Or, Imp, Iff, Exists, Forall, Infinite}
+use Rattle.fort_logic.specs.Formulas.{Name, Argument, Var, Ground, SurfaceRel, Eq, Step, Star, Plus, Reflexive, Normal, Root, Below, Par, Either, Conv, Property, Cr, Wcr, Scr, Wn, Unr, Unc, Nfp, Formula, True, False, Related, InContext, Nf, Join, Sn, Has, Com, Not, And, Or, Imp, Iff, Exists, Forall, Infinite}
 
 abbrev pub surface_rel_place : SurfaceRel → ℕ
 surface_rel_place Eq = 0
@@ -99,8 +99,8 @@ spelled (Iff f g) = mark 11 [] [] ∷ (spelled f ++ spelled g)
 spelled (Exists x f) = mark 12 [] (x ∷ []) ∷ spelled f
 spelled (Forall x f) = mark 13 [] (x ∷ []) ∷ spelled f
 spelled (Infinite x f) = mark 14 [] (x ∷ []) ∷ spelled f
-spelled (Sn a index) = mark 15 (index ∷ argument_number a ∷ []) (argument_name a ∷ []) ∷ []
-spelled (AllSn index) = mark 16 (index ∷ []) [] ∷ []
+spelled (Sn (Some a) index) = mark 15 (index ∷ argument_number a ∷ []) (argument_name a ∷ []) ∷ []
+spelled (Sn None index) = mark 16 (index ∷ []) [] ∷ []
 spelled (InContext e number place a b) =
     mark 17 (hole_number_code number ∷ hole_place_code place ∷ argument_number a ∷ argument_number b ∷ expression.spelled e)
     (argument_name a ∷ argument_name b ∷ []) ∷ []
@@ -144,8 +144,8 @@ readers =
     ∷ (λ ns xs fs. one_read (Exists (name_at xs 0)) fs)
     ∷ (λ ns xs fs. one_read (Forall (name_at xs 0)) fs)
     ∷ (λ ns xs fs. one_read (Infinite (name_at xs 0)) fs)
-    ∷ (λ ns xs fs. Sn (argument_at (number_at ns 1) (name_at xs 0)) (number_at ns 0) ∷ fs)
-    ∷ (λ ns xs fs. AllSn (number_at ns 0) ∷ fs)
+    ∷ (λ ns xs fs. Sn (Some (argument_at (number_at ns 1) (name_at xs 0))) (number_at ns 0) ∷ fs)
+    ∷ (λ ns xs fs. Sn None (number_at ns 0) ∷ fs)
     ∷ (λ ns xs fs.
     InContext (expression.expression_of_code (drop 4 ns)) (hole_number_at (number_at ns 0)) (hole_place_at (number_at ns 1))
     (argument_at (number_at ns 2) (name_at xs 0)) (argument_at (number_at ns 3) (name_at xs 1)) ∷ fs)
@@ -190,8 +190,8 @@ read_back-spelled (Iff f g) ms = read_back-two Iff f g ms (λ ns. read_back-spel
 read_back-spelled (Exists x f) ms = ap (one_read (Exists x)) (read_back-spelled f ms)
 read_back-spelled (Forall x f) ms = ap (one_read (Forall x)) (read_back-spelled f ms)
 read_back-spelled (Infinite x f) ms = ap (one_read (Infinite x)) (read_back-spelled f ms)
-read_back-spelled (Sn a index) ms = ap (λ c. Sn c index ∷ read_back ms) (argument_again a)
-read_back-spelled (AllSn index) ms = refl
+read_back-spelled (Sn (Some a) index) ms = ap (λ c. Sn (Some c) index ∷ read_back ms) (argument_again a)
+read_back-spelled (Sn None index) ms = refl
 read_back-spelled (InContext e number place a b) ms =
     let first = argument_at (argument_number a) (argument_name a) in
     let second = argument_at (argument_number b) (argument_name b) in

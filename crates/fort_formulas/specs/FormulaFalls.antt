@@ -2,7 +2,7 @@
 use Rattle.std.specs.Prelude.{◌≤◌}
 use Rattle.std.proofs.Common.{arith}
 use Rattle.fort_formulas.specs.declared.surface.Formula.{Formula}
-use Rattle.fort_formulas.specs.declared.surface.Formula.TheVariants.{True, False, Rel, Rex, Nf, Join, Sn, AllSn, Macro, Com, Not, And, Or, Imp, Iff, Exists, Forall, Infinite}
+use Rattle.fort_formulas.specs.declared.surface.Formula.TheVariants.{True, False, Rel, Rex, Nf, Join, Sn, Macro, Com, Not, And, Or, Imp, Iff, Exists, Forall, Infinite}
 use Rattle.fort_formulas.specs.declared.surface.Operand.TheDeep.{deep-Formula}
 use Rattle.fort_formulas.specs.FormulaView.{as_formula, node_count}
 
@@ -14,7 +14,6 @@ deep_below (Rex e holes place a b) = omega arith
 deep_below (Nf a index) = omega arith
 deep_below (Join a b index) = omega arith
 deep_below (Sn a index) = omega arith
-deep_below (AllSn index) = omega arith
 deep_below (Macro m index) = omega arith
 deep_below Com = omega arith
 deep_below (Not f) = omega arith

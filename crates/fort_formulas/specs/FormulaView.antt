@@ -1,5 +1,5 @@
 -- To believe: which formula of the definitions a formula of the program is.
-use Rattle.std.specs.Prelude.{ℕ, suc, ◌+◌}
+use Rattle.std.specs.Prelude.{ℕ, suc, ◌+◌, option_map}
 use Rattle.fort_logic.specs.Formulas as theory
 use Rattle.fort_relations.specs.HolesView.{as_hole_number, as_hole_place}
 use Rattle.fort_relations.specs.RexView.{as_expression}
@@ -10,7 +10,7 @@ use Rattle.fort_formulas.specs.declared.surface.Macro.TheVariants.{Cr, Wcr, Scr,
 use Rattle.fort_formulas.specs.declared.surface.Arg.{Arg}
 use Rattle.fort_formulas.specs.declared.surface.Arg.TheVariants.{Var, Ground}
 use Rattle.fort_formulas.specs.declared.surface.Formula.{Formula}
-use Rattle.fort_formulas.specs.declared.surface.Formula.TheVariants.{True, False, Rel, Rex, Nf, Join, Sn, AllSn, Macro, Com, Not, And, Or, Imp, Iff, Exists, Forall, Infinite}
+use Rattle.fort_formulas.specs.declared.surface.Formula.TheVariants.{True, False, Rel, Rex, Nf, Join, Sn, Macro, Com, Not, And, Or, Imp, Iff, Exists, Forall, Infinite}
 
 abbrev pub as_surface_rel : SurfaceRel → theory.SurfaceRel
 as_surface_rel Eq = theory.Eq
@@ -45,8 +45,7 @@ as_formula (Rel rel a b index) = theory.Related (as_surface_rel rel) (as_argumen
 as_formula (Rex e holes place a b) = theory.InContext (as_expression e) (as_hole_number holes) (as_hole_place place) (as_argument a) (as_argument b)
 as_formula (Nf a index) = theory.Nf (as_argument a) index
 as_formula (Join a b index) = theory.Join (as_argument a) (as_argument b) index
-as_formula (Sn a index) = theory.Sn (as_argument a) index
-as_formula (AllSn index) = theory.AllSn index
+as_formula (Sn a index) = theory.Sn (option_map as_argument a) index
 as_formula (Macro m index) = theory.Has (as_property m) index
 as_formula Com = theory.Com
 as_formula (Not f) = theory.Not f
@@ -67,7 +66,6 @@ node_count (theory.InContext e number place a b) = 1
 node_count (theory.Nf a index) = 1
 node_count (theory.Join a b index) = 1
 node_count (theory.Sn a index) = 1
-node_count (theory.AllSn index) = 1
 node_count (theory.Has p index) = 1
 node_count theory.Com = 1
 node_count (theory.Not f) = suc (node_count f)

@@ -1,6 +1,6 @@
 -- To believe: how many numbers the translation of a formula sets aside: those of the free names, and of binders, ground terms, JOIN, SN, COM and properties.
-use Rattle.std.specs.Prelude.{ℕ, ◌+◌, max, length}
-use Rattle.fort_logic.specs.Formulas.{Argument, Var, Ground, Formula, True, False, Related, InContext, Nf, Join, Sn, AllSn, Has, Com, Not, And, Or, Imp, Iff, Exists, Forall, Infinite}
+use Rattle.std.specs.Prelude.{ℕ, ◌+◌, Some, None, max, length}
+use Rattle.fort_logic.specs.Formulas.{Argument, Var, Ground, Formula, True, False, Related, InContext, Nf, Join, Sn, Has, Com, Not, And, Or, Imp, Iff, Exists, Forall, Infinite}
 use Rattle.fort_logic.specs.FreeNames.{free_names}
 
 -- one for a ground term
@@ -17,8 +17,8 @@ binder_numbers (Related rel a b index) = argument_numbers a + argument_numbers b
 binder_numbers (InContext e number place a b) = argument_numbers a + argument_numbers b
 binder_numbers (Nf a index) = argument_numbers a
 binder_numbers (Join a b index) = argument_numbers a + argument_numbers b + 1
-binder_numbers (Sn a index) = argument_numbers a + 1
-binder_numbers (AllSn index) = 2
+binder_numbers (Sn (Some a) index) = argument_numbers a + 1
+binder_numbers (Sn None index) = 2
 binder_numbers (Has property index) = 3
 binder_numbers Com = 3
 binder_numbers (Not f) = binder_numbers f

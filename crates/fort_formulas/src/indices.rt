@@ -18,7 +18,6 @@ pub fn index_above(formula: &Formula, number: u32) -> Option<u32>
         | Formula::Nf(_, index)
         | Formula::Join(_, _, index)
         | Formula::Sn(_, index)
-        | Formula::AllSn(index)
         | Formula::Macro(_, index) => above(*index, number),
         Formula::Rex(rex, _, _, _, _) => rex.index_above(number),
         Formula::Com => match above(1, number) {

@@ -13,13 +13,12 @@ pub fn free_names(alloc: Global, formula: &Formula) -> Result<Vec<Name>, AllocEr
     ensures { IfOk result (λ names. names.items ≡ free_names (as_formula formula.now)) }
 {
     match formula {
-        Formula::True | Formula::False | Formula::AllSn(_) | Formula::Macro(_, _) | Formula::Com =>
-            Ok(Vec::new(alloc)),
-        Formula::Nf(a, _) | Formula::Sn(a, _) => {
-            let mut names = Vec::new(alloc);
-            push_variable(alloc, &mut names, a)?;
-            Ok(names)
-        }
+        Formula::True
+        | Formula::False
+        | Formula::Sn(None, _)
+        | Formula::Macro(_, _)
+        | Formula::Com => Ok(Vec::new(alloc)),
+        Formula::Nf(a, _) | Formula::Sn(Some(a), _) => variable_of(alloc, a),
         Formula::Rel(_, a, b, _) | Formula::Rex(_, _, _, a, b) | Formula::Join(a, b, _) => {
             let mut names = Vec::new(alloc);
             push_variable(alloc, &mut names, a)?;
@@ -39,6 +38,15 @@ pub fn free_names(alloc: Global, formula: &Formula) -> Result<Vec<Name>, AllocEr
             Ok(names)
         }
     }
+}
+
+/// The name of the variable that the argument is, if it is one.
+fn variable_of(alloc: Global, arg: &Arg) -> Result<Vec<Name>, AllocError>
+    ensures { IfOk result (λ names. names.items ≡ once (names_in (as_argument arg.now))) }
+{
+    let mut names = Vec::new(alloc);
+    push_variable(alloc, &mut names, arg)?;
+    Ok(names)
 }
 
 /// Puts the name of a variable behind the others, unless it is among them.

@@ -38,8 +38,8 @@ pub fn fits(formula: &Formula, used: usize) -> bool
             <= NUMBERS - both_numbers(a, b),
         Formula::Nf(a, _) => used <= NUMBERS - argument_numbers(a) as usize,
         Formula::Join(a, b, _) => used < NUMBERS - both_numbers(a, b),
-        Formula::Sn(a, _) => used < NUMBERS - argument_numbers(a) as usize,
-        Formula::AllSn(_) => used <= NUMBERS - 2,
+        Formula::Sn(Some(a), _) => used < NUMBERS - argument_numbers(a) as usize,
+        Formula::Sn(None, _) => used <= NUMBERS - 2,
         Formula::Macro(_, _) | Formula::Com => used <= NUMBERS - 3,
         Formula::Not(f) => fits(f.as_formula(), used),
         Formula::And(f, g) | Formula::Or(f, g) | Formula::Imp(f, g) | Formula::Iff(f, g) => {

@@ -117,10 +117,8 @@ pub enum Formula {
     Nf(Arg, u32),
     /// These two have a common reduct by the rules of this index.
     Join(Arg, Arg, u32),
-    /// This terminates by the rules of this index.
-    Sn(Arg, u32),
-    /// Every ground term terminates by the rules of this index.
-    AllSn(u32),
+    /// This terminates by the rules of this index; without an argument every ground term does.
+    Sn(Option<Arg>, u32),
     /// The rules of this index have this property.
     Macro(Macro, u32),
     /// The rules of index 1 and those of index 2 commute.

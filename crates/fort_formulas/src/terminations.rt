@@ -25,7 +25,7 @@ pub fn not_right_ground(formula: &Formula, system: &System) -> Option<u32>
         | Formula::Join(_, _, _)
         | Formula::Macro(_, _)
         | Formula::Com => None,
-        Formula::Sn(_, index) | Formula::AllSn(index) => not_right_ground_at(*index, system),
+        Formula::Sn(_, index) => not_right_ground_at(*index, system),
         Formula::Not(f) | Formula::Exists(_, f) | Formula::Forall(_, f) | Formula::Infinite(_, f) =>
             not_right_ground(f.as_formula(), system),
         Formula::And(f, g) | Formula::Or(f, g) | Formula::Imp(f, g) | Formula::Iff(f, g) => {

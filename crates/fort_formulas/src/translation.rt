@@ -140,8 +140,8 @@ fn atom_in(
         }
         Formula::Nf(a, index) => normal_in(alloc, terms, scope, *index, a),
         Formula::Join(a, b, index) => joins_in(alloc, terms, scope, *index, a, b),
-        Formula::Sn(a, index) => terminates_in(alloc, terms, scope, *index, a),
-        Formula::AllSn(index) => all_terminate(alloc, *index, scope.depth()),
+        Formula::Sn(Some(a), index) => terminates_in(alloc, terms, scope, *index, a),
+        Formula::Sn(None, index) => all_terminate(alloc, *index, scope.depth()),
         Formula::Macro(property, index) => {
             property_core(alloc, *property, *index, scope.depth())
         }

@@ -1,5 +1,5 @@
 -- The columns of a formula's core formula are the numbers of its free names, all of them.
-use Rattle.std.specs.Prelude.{◌≡◌, ℕ, zero, suc, ◌+◌, ◌<◌, ◌≤◌, ◌||◌, ◌&&◌, ◌==◌, Bool, true, false, not, if◌then◌else◌, List, [], ◌∷◌, ◌++◌, length, reverse, Some, slice_get, get_or, bytes_eq, Contains, refl}
+use Rattle.std.specs.Prelude.{◌≡◌, ℕ, zero, suc, ◌+◌, ◌<◌, ◌≤◌, ◌||◌, ◌&&◌, ◌==◌, Bool, true, false, not, if◌then◌else◌, List, [], ◌∷◌, ◌++◌, length, reverse, Some, None, slice_get, get_or, bytes_eq, Contains, refl}
 use Rattle.std.specs.List.{range_with_len}
 use Rattle.std.proofs.Common.{sym, ap, subst, ◌∙◌, arith, ⊎_elim, eq-eqb}
 use Rattle.std.proofs.lemmas.Bool.{or_left, or_right}
@@ -160,9 +160,9 @@ module _ (terms : List Tree) where
   free-core_in scope (surface.Join a b index) x c s =
       free-about_both terms scope (length scope) a b (λ n y z. joins index n y z) x c (number_in-below scope x s)
       (λ m k y l. free-joins_first index m k y l) (λ m y k l. free-joins_second index m y k l)
-  free-core_in scope (surface.Sn a index) x c s =
+  free-core_in scope (surface.Sn (Some a) index) x c s =
       free-own terms scope (length scope) a (λ n y. terminates index n y) x c (number_in-below scope x s) (λ m k low l. free-terminates index m k l)
-  free-core_in scope (surface.AllSn index) x c s = absurd (Contains-none x c)
+  free-core_in scope (surface.Sn None index) x c s = absurd (Contains-none x c)
   free-core_in scope (surface.Has p index) x c s = absurd (Contains-none x c)
   free-core_in scope surface.Com x c s = absurd (Contains-none x c)
   free-core_in scope (surface.Not f) x c s = free-core_in scope f x c s

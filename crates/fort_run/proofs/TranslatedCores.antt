@@ -1,5 +1,5 @@
 -- The core formula of a formula whose indices are the system's, each with few rules if it has an expression, and in which ground terms are written, is over the system.
-use Rattle.std.specs.Prelude.{◌≡◌, ◌||◌, refl, ℕ, ◌+◌, ◌<◌, List, [], ◌∷◌, ◌++◌, length, reverse, Contains, All, Bool, true, false, if◌then◌else◌}
+use Rattle.std.specs.Prelude.{◌≡◌, ◌||◌, refl, ℕ, ◌+◌, ◌<◌, List, [], ◌∷◌, ◌++◌, Some, None, length, reverse, Contains, All, Bool, true, false, if◌then◌else◌}
 use Rattle.std.proofs.lemmas.Bool.{or_left, or_right}
 use Rattle.std.proofs.lemmas.List.Elements.{All-get_or, Contains-append_left, Contains-append_right}
 use Rattle.fort_theory.specs.Trees.{Tree, Node, Nil}
@@ -136,9 +136,9 @@ module _ (system : PatternSystem) (first : IsIndexOf system.rules 1) (terms : Li
   over-core_in scope (surface.Nf a index) m = over-about scope (length scope) a (λ n x. Leaf (Normal index x)) m.1 (λ n x. m.0 index (Contains-head index []))
   over-core_in scope (surface.Join a b index) m =
       over-about_both scope (length scope) a b (λ n x y. joins index n x y) m.1 (λ n x y. over-joins index n x y (m.0 index (Contains-head index [])))
-  over-core_in scope (surface.Sn a index) m =
+  over-core_in scope (surface.Sn (Some a) index) m =
       over-about scope (length scope) a (λ n x. terminates index n x) m.1 (λ n x. over-terminates index n x (m.0 index (Contains-head index [])))
-  over-core_in scope (surface.AllSn index) m = over-all_terminate index (length scope) (m.0 index (Contains-head index []))
+  over-core_in scope (surface.Sn None index) m = over-all_terminate index (length scope) (m.0 index (Contains-head index []))
   over-core_in scope (surface.Has p index) m = over-property p index (length scope) (m.0 index (Contains-head index []))
   over-core_in scope surface.Com m = over-commutes (length scope) (m.0 2 (Contains-behind 1 (2 ∷ []) 2 (Contains-head 2 [])))
   over-core_in scope (surface.Not f) m = over-core_in scope f m

@@ -75,7 +75,7 @@ fn a_root_step_in_any_context(rt: HostRuntime) -> Result<(), Fail> {
 fn confluent_and_terminating(rt: HostRuntime) -> Result<(), Fail> {
     let alloc = rt.alloc();
     let confluent = Operand::new(alloc, Formula::Macro(Macro::Cr, 1))?;
-    let terminating = Operand::new(alloc, Formula::AllSn(1))?;
+    let terminating = Operand::new(alloc, Formula::Sn(None, 1))?;
     let core = core_of(alloc, &Formula::And(confluent, terminating))?;
     let found = parts(alloc, &core)?;
     assert_eq!(rt; found.len(), CONFLUENT_AND_TERMINATING.len());

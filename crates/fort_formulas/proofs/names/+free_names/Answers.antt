@@ -14,11 +14,6 @@ returns-in_ok-names-in-Exists t c =
       | inr other ↦ elim other [ inl forall ↦ rw forall whole | inr infinite ↦ rw infinite whole ]
     ]
 
-pub returns-in_ok-push_variable-in-Nf : goal.returns-in_ok-push_variable-in-Nf
-returns-in_ok-push_variable-in-Nf t c =
-    let whole = c.in_ok-push_variable-in-Nf.ensures [] c.new-names-in-Nf.ensures.items in
-    elim c.in-Nf.is [ inl nf ↦ rw nf.1 whole | inr sn ↦ rw sn.1 whole ]
-
 pub returns-in_ok-push_variable-in-Rel-2 : goal.returns-in_ok-push_variable-in-Rel-2
 returns-in_ok-push_variable-in-Rel-2 t c =
     let arm = c.in-Rel in
