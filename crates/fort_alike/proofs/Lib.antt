@@ -1,1 +1,2 @@
 pub mod OverLabels
+pub mod OneInOrder

@@ -1,4 +1,5 @@
 pub mod Atoms
+pub mod ListedClosures
 pub mod Alike
 pub mod AlikeAtTerm
 pub mod UnlikeTuples

@@ -8,9 +8,10 @@ use Rattle.fort_theory.proofs.Members.{Contains-cons_cases, Contains-none}
 use Rattle.fort_cores.specs.Cores as core
 use Rattle.fort_cores.specs.Cores.{Core, Rel}
 use Rattle.fort_counts.specs.Counts.{Count}
-use Rattle.fort_certificate_grammar.specs.Certificates as certificates
-use Rattle.fort_certificate_grammar.specs.Certificates.{Which, Pair as Item, Step, Closure, Part, Merge, Counts, Value}
-use Rattle.fort_in_order.specs.Dues.{DueStep, OfClosure, OfPart, OfMerge, OfCounts, OfValue as OfValueOf, due_of, reads, asks, closures_due, has_columns, is_turned, parts_due, is_merged_in, dues_of}
+use Rattle.fort_alike.specs.ListedClosures as listed_closures
+use Rattle.fort_alike.specs.ListedClosures.{Which, Pair as Item, reads, asks}
+use Rattle.fort_certificate_grammar.specs.Certificates.{Step, Closure, Part, Merge, Counts, Value}
+use Rattle.fort_in_order.specs.Dues.{DueStep, OfClosure, OfPart, OfMerge, OfCounts, OfValue as OfValueOf, due_of, closures_due, has_columns, is_turned, parts_due, is_merged_in, dues_of}
 use Rattle.fort_in_order.specs.Made.{Made, nothing_made}
 use Rattle.fort_in_order.specs.Checked.{IsFine, IsUpTo}
 use Rattle.fort_in_order_laws.proofs.FineSteps.{chosen, passed_over}
@@ -137,5 +138,5 @@ module _ (system : PatternSystem) (parts : List Core) (ss : List Step) (front re
         (items_in t.0, subst (Contains front) (closure_of t.0 w index t.2) t.1)
       where
         small_key : (v : Which) → key (length system.rules) (OfClosure v index) < key (length system.rules) d
-        small_key certificates.Star = omega (arith, own, high)
-        small_key certificates.Conv = omega (arith, own, high)
+        small_key listed_closures.Star = omega (arith, own, high)
+        small_key listed_closures.Conv = omega (arith, own, high)

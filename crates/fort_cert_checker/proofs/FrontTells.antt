@@ -14,7 +14,8 @@ use Rattle.fort_parts.specs.PartColumns.{columns_of, place_in}
 use Rattle.fort_parts.specs.PartAnswers.{Answer, OfValue, OfTable}
 use Rattle.fort_parts.proofs.PartOrder.{operand_earlier}
 use Rattle.fort_parts.specs.DecidedCores.{IsOperandOf}
-use Rattle.fort_certificate_grammar.specs.Certificates.{Which, Star, Conv, Pair as Item, Step, Closure, Part, Merge, Counts, Value}
+use Rattle.fort_alike.specs.ListedClosures.{Which, Star, Conv, Pair as Item}
+use Rattle.fort_certificate_grammar.specs.Certificates.{Step, Closure, Part, Merge, Counts, Value}
 use Rattle.fort_in_order.specs.Outcomes.{StepOutcome, Fine}
 use Rattle.fort_in_order.specs.CountSteps.{IsCountOutcome, IsRight, NotAsMany, NotRanked, NotFed}
 use Rattle.fort_in_order.specs.Dues.{OfClosure, OfPart, OfMerge, OfValue, due_of}

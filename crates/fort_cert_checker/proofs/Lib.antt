@@ -24,3 +24,4 @@ pub mod NewLaws
 pub mod StepCheckLaws
 pub mod WholeLaws
 pub mod CheckLaws
+pub mod ReadPairs

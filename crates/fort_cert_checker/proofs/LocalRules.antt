@@ -24,9 +24,9 @@ use Rattle.fort_context_closure.specs.declared.atom_labels.AtomLabels.TheVariant
 use Rattle.fort_context_closure.proofs.NormalLaws.{normal, normal-step}
 use Rattle.fort_parts.specs.PartColumns.{columns_of}
 use Rattle.fort_parts.proofs.PartColumnLaws.{AreColumns-columns_of}
-use Rattle.fort_certificate_grammar.specs.Certificates.{Pair as Item}
-use Rattle.fort_steps.specs.declared.closure.ClosureEntry.{ClosureEntry}
-use Rattle.fort_steps.specs.StepView.{as_pair}
+use Rattle.fort_alike.specs.ListedClosures.{Pair as Item}
+use Rattle.fort_findings.specs.declared.closure.ClosureEntry.{ClosureEntry}
+use Rattle.fort_findings.specs.FindingView.{as_pair}
 use Rattle.fort_in_order.specs.ClosureSteps.{numbers_of}
 use Rattle.fort_in_order.specs.PartRules.{Local, relation_local, normal_local, IsExpressionLocal}
 use Rattle.fort_in_order.proofs.RuleLaws.{IsExpressionLocal-decided}

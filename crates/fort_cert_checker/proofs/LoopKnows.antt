@@ -12,8 +12,9 @@ use Rattle.fort_cores.specs.PartLists.{AreParts}
 use Rattle.fort_parts.specs.PartColumns.{columns_of}
 use Rattle.fort_parts.specs.DecidedCores.{IsDecided, IsOverSystem}
 use Rattle.fort_parts.proofs.PartFacts.{IsOverSystem-part, BindsFree-part, columns_of-few}
-use Rattle.fort_certificate_grammar.specs.Certificates.{Which, Star, Conv, Pair as Item, Step, Closure, Part, Merge, Counts, Value}
-use Rattle.fort_in_order.specs.Dues.{DueStep, OfClosure, OfPart, OfMerge, OfCounts, OfValue, due_of, reads, asks, closure_due, closures_due, has_columns, is_turned, parts_due, dues, is_merged_in, dues_of}
+use Rattle.fort_alike.specs.ListedClosures.{Which, Star, Conv, Pair as Item, reads, asks}
+use Rattle.fort_certificate_grammar.specs.Certificates.{Step, Closure, Part, Merge, Counts, Value}
+use Rattle.fort_in_order.specs.Dues.{DueStep, OfClosure, OfPart, OfMerge, OfCounts, OfValue, due_of, closure_due, closures_due, has_columns, is_turned, parts_due, dues, is_merged_in, dues_of}
 use Rattle.fort_in_order.specs.Made.{Made}
 use Rattle.fort_in_order.specs.Checked.{IsUpTo}
 use Rattle.fort_check_steps.specs.declared.room.PartRoom.{PartRoom}

@@ -7,14 +7,15 @@ use Rattle.std.proofs.lemmas.List.Elements.{Contains-append_left, Contains-get_o
 use Rattle.fort_theory.specs.Patterns.{PatternSystem}
 use Rattle.fort_cores.specs.Cores as core
 use Rattle.fort_cores.specs.Cores.{Core}
-use Rattle.fort_certificate_grammar.specs.Certificates.{Which, Pair as Item, Step, Closure, Part, Merge, Counts, Value}
+use Rattle.fort_alike.specs.ListedClosures.{Which, Pair as Item}
+use Rattle.fort_certificate_grammar.specs.Certificates.{Step, Closure, Part, Merge, Counts, Value}
 use Rattle.fort_in_order.specs.Dues.{DueStep, OfClosure, OfPart, OfMerge, due_of, dues_of}
 use Rattle.fort_in_order.specs.Outcomes.{Reason, StepOutcome, Fine, Fails}
 use Rattle.fort_in_order.specs.Made.{Made, with_closure}
 use Rattle.fort_in_order.specs.Checked.{IsClosureJudged, IsFine, FineClosure, IsFailing, FailingClosure, IsUpTo}
 use Rattle.fort_check_steps.specs.declared.failure.Failure.{Failure}
 use Rattle.fort_check_steps.specs.StepAnswers.{as_reason, outcome_of}
-use Rattle.fort_steps.specs.declared.count.Count.{Count}
+use Rattle.fort_findings.specs.declared.count.Count.{Count}
 use Rattle.fort_steps.specs.declared.step.Step as steps
 use Rattle.fort_steps.specs.declared.step.Step.TheVariants as variants
 use Rattle.fort_steps.specs.StepView.{as_step}

@@ -18,7 +18,8 @@ use Rattle.fort_interchange.specs.MergeOutcomes.{MergeOutcome, AreEntriesOf, IsM
 use Rattle.fort_counts.specs.Counts as counts
 use Rattle.fort_parts.specs.PartColumns.{columns_of}
 use Rattle.fort_parts.specs.PartAnswers.{OfTable, OfValue}
-use Rattle.fort_certificate_grammar.specs.Certificates.{Which, Pair as Item, Step, Closure, Part, Merge, Counts, Value}
+use Rattle.fort_alike.specs.ListedClosures.{Which, Pair as Item}
+use Rattle.fort_certificate_grammar.specs.Certificates.{Step, Closure, Part, Merge, Counts, Value}
 use Rattle.fort_in_order.specs.Outcomes as outcomes
 use Rattle.fort_in_order.specs.Outcomes.{StepOutcome, Fails}
 use Rattle.fort_in_order.specs.PartSteps.{IsPartOutcome, IsRight, IsFailed, IsPartFailure}

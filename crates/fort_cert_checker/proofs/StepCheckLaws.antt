@@ -15,8 +15,8 @@ use Rattle.fort_in_order.specs.Made.{Made, nothing_made}
 use Rattle.fort_in_order.specs.Checked.{IsFailing, IsFirstFailure}
 use Rattle.fort_steps.specs.StepView.{as_step}
 use Rattle.fort_steps.specs.declared.step.Step.{Step}
-use Rattle.fort_outline.specs.DueView.{as_due}
-use Rattle.fort_outline.specs.declared.dues.DueStep as due_program
+use Rattle.fort_dues.specs.DueView.{as_due}
+use Rattle.fort_dues.specs.declared.dues.DueStep as due_program
 use Rattle.fort_cert_checker.specs.SameDue.{same_due}
 use Rattle.fort_cert_checker.proofs.DueTests.{Decides-same_due}
 use Rattle.fort_check_steps.specs.declared.room.PartRoom.{PartRoom}

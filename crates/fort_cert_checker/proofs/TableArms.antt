@@ -29,9 +29,9 @@ use Rattle.fort_in_order_laws.proofs.RightParts.{some_columns}
 use Rattle.fort_in_order_laws.proofs.JoinedTables.{bound_within, bound_many}
 use Rattle.fort_connectives.specs.declared.connective.Op.{Op}
 use Rattle.fort_connectives.specs.ConnectiveView.{connective_of}
-use Rattle.fort_steps.specs.declared.closure.ClosureEntry.{ClosureEntry}
-use Rattle.fort_steps.specs.declared.count.Count.{Count}
-use Rattle.fort_steps.specs.StepView.{as_count, as_pair}
+use Rattle.fort_findings.specs.declared.closure.ClosureEntry.{ClosureEntry}
+use Rattle.fort_findings.specs.declared.count.Count.{Count}
+use Rattle.fort_findings.specs.FindingView.{as_count, as_pair}
 use Rattle.fort_check_steps.specs.declared.failure.Failure.{Failure}
 use Rattle.fort_check_steps.specs.declared.room.PartRoom.{PartRoom}
 use Rattle.fort_check_steps.specs.declared.room.LabelRoom.{LabelRoom}

@@ -9,7 +9,8 @@ use Rattle.fort_counts.specs.Counts.{Count}
 use Rattle.fort_parts.specs.PartColumns.{columns_of}
 use Rattle.fort_parts.specs.PartAnswers.{OfValue, OfTable}
 use Rattle.fort_parts.specs.DecidedCores.{IsDecided}
-use Rattle.fort_certificate_grammar.specs.Certificates.{Which, Pair as Item, Step, Closure, Part, Merge, Counts, Value}
+use Rattle.fort_alike.specs.ListedClosures.{Which, Pair as Item}
+use Rattle.fort_certificate_grammar.specs.Certificates.{Step, Closure, Part, Merge, Counts, Value}
 use Rattle.fort_in_order.specs.Dues.{DueStep, due_of, dues_of}
 use Rattle.fort_in_order.specs.Made.{Made}
 use Rattle.fort_in_order.specs.Checked.{IsFine, IsUpTo}

@@ -3,7 +3,8 @@ use Rattle.std.specs.Prelude.{◌≡◌, ℕ, ◌*◌, ◌^◌, ◌<◌, ◌≤�
 use Rattle.fort_theory.specs.Patterns.{PatternSystem}
 use Rattle.fort_cores.specs.Cores as core
 use Rattle.fort_cores.specs.Cores.{Core}
-use Rattle.fort_certificate_grammar.specs.Certificates.{Which, Step, Part}
+use Rattle.fort_alike.specs.ListedClosures.{Which}
+use Rattle.fort_certificate_grammar.specs.Certificates.{Step, Part}
 use Rattle.fort_in_order.specs.Dues.{DueStep, OfClosure, OfPart, OfMerge, OfCounts, OfValue, is_merged_in}
 use Rattle.fort_check_steps.specs.PairSteps.{HasClosureRules}
 use Rattle.fort_check_steps.specs.declared.room.PartRoom.{PartRoom}

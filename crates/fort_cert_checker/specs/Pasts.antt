@@ -8,7 +8,8 @@ use Rattle.fort_tables.specs.Tables.{Table, listed_table}
 use Rattle.fort_counts.specs.Counts.{Count}
 use Rattle.fort_parts.specs.PartColumns.{columns_of}
 use Rattle.fort_parts.specs.PartAnswers.{Answer, OfValue, OfTable}
-use Rattle.fort_certificate_grammar.specs.Certificates.{Star, Conv, Pair as Item, Step, Closure, Part, Counts, Value}
+use Rattle.fort_alike.specs.ListedClosures.{Star, Conv, Pair as Item}
+use Rattle.fort_certificate_grammar.specs.Certificates.{Step, Closure, Part, Counts, Value}
 use Rattle.fort_in_order.specs.PartSteps.{IsPartOutcome}
 use Rattle.fort_in_order.specs.Dues.{has_columns, is_turned}
 use Rattle.fort_in_order.specs.Made.{Made}

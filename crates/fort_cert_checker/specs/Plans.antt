@@ -21,10 +21,11 @@ use Rattle.fort_relation_exprs.specs.RexSeen.{RexSeen}
 use Rattle.fort_relation_exprs.specs.RexView.{AreRexLabels}
 use Rattle.fort_parts.specs.PartColumns.{columns_of, place_in, places_in}
 use Rattle.fort_parts.specs.DecidedCores.{IsOverSystem}
-use Rattle.fort_certificate_grammar.specs.Certificates.{Star, Conv, Pair as Item, Step, Closure, Counts}
-use Rattle.fort_steps.specs.declared.closure.ClosureEntry.{ClosureEntry}
-use Rattle.fort_steps.specs.declared.count.Count.{Count}
-use Rattle.fort_steps.specs.StepView.{as_count, as_pair}
+use Rattle.fort_alike.specs.ListedClosures.{Star, Conv, Pair as Item}
+use Rattle.fort_certificate_grammar.specs.Certificates.{Step, Closure, Counts}
+use Rattle.fort_findings.specs.declared.closure.ClosureEntry.{ClosureEntry}
+use Rattle.fort_findings.specs.declared.count.Count.{Count}
+use Rattle.fort_findings.specs.FindingView.{as_count, as_pair}
 use Rattle.fort_connectives.specs.declared.connective.Op.{Op}
 use Rattle.fort_connectives.specs.ConnectiveView.{connective_of}
 use Rattle.fort_cert_checker.specs.Abouts.{IsOnlyAbout}

@@ -12,7 +12,7 @@ use Rattle.fort_in_order.specs.Made.{Made, IsAnswerOf}
 use Rattle.fort_in_order.specs.Dues.{dues_of}
 use Rattle.fort_in_order.specs.Checked.{AreAllFine, IsFirstFailure}
 use Rattle.fort_steps.specs.StepView.{as_step}
-use Rattle.fort_outline.specs.DueView.{as_due}
+use Rattle.fort_dues.specs.DueView.{as_due}
 use Rattle.fort_target_lists.specs.declared.states.LayRoom.{LayRoom}
 use Rattle.fort_target_lists.specs.declared.target_list.TargetList.{TargetList}
 use Rattle.fort_cert_checker.specs.Sources.{IsSourceOf}

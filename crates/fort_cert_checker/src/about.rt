@@ -1,19 +1,22 @@
 //! The steps of a certificate, by what they are about.
 ghost use Rattle.std.specs.Prelude.{◌≡◌, ℕ, ◌<◌, ◌^◌, List, Bool, map, length, slice_index_or, IfSome, IfNone, IfOk};
 ghost use Rattle.fort_counts.specs.Counts as counts;
+ghost use Rattle.fort_alike.specs.ListedClosures as closures;
 ghost use Rattle.fort_certificate_grammar.specs.Certificates as theory;
 ghost use Rattle.fort_in_order.specs.Dues as definitions;
 ghost use Rattle.fort_in_order.specs.Made.{same_which};
-ghost use Rattle.fort_steps.specs.StepView.{as_step, as_which, as_count, as_pair};
-ghost use Rattle.fort_outline.specs.DueView.{as_due};
+ghost use Rattle.fort_findings.specs.FindingView.{as_which, as_count, as_pair};
+ghost use Rattle.fort_steps.specs.StepView.{as_step};
+ghost use Rattle.fort_dues.specs.DueView.{as_due};
 ghost use Rattle.fort_cert_checker.specs.Abouts as abouts;
 ghost use Rattle.fort_cert_checker.specs.Abouts.{IsFirstAbout, IsOnlyAbout};
 ghost use Rattle.fort_cert_checker.specs.Fronts.{HasFewTargets};
 ghost use Rattle.fort_cert_checker.specs.Makings.{AreMergesMade};
 ghost use Rattle.fort_cert_checker.specs.SameDue.{same_due};
 
-use fort_outline::DueStep;
-use fort_steps::{ClosureEntry, Count, Step, Which};
+use fort_dues::DueStep;
+use fort_findings::{ClosureEntry, Count, Which};
+use fort_steps::Step;
 use fort_terms::Memory;
 use std::alloc::Global;
 
@@ -206,7 +209,7 @@ fn pairs_in<'a>(step: &'a Step) -> &'a [ClosureEntry]
 
 /// The pairs of a closure, by its first step.
 pub(crate) fn closure_pairs<'a>(steps: &'a [Step], which: Which, index: u32) -> &'a [ClosureEntry]
-    ensures { (items : List theory.Pair) → IsOnlyAbout (map as_step steps.now)
+    ensures { (items : List closures.Pair) → IsOnlyAbout (map as_step steps.now)
         (theory.Closure (as_which which) index items) → map as_pair result.now ≡ items }
 {
     match step_about(steps, DueStep::Closure(which, index)) {

@@ -2,12 +2,13 @@
 ghost use Rattle.std.specs.Prelude.{◌≡◌, ℕ, ◌<◌, ◌^◌, List, map, length, Contains, Option, true, IfOk, IfSome, IfNone};
 ghost use Rattle.fort_theory.specs.Sides.{IsIndexOf};
 ghost use Rattle.fort_cores.specs.Cores as theory;
-ghost use Rattle.fort_certificate_grammar.specs.Certificates as theory_steps;
+ghost use Rattle.fort_alike.specs.ListedClosures as listed_closures;
 ghost use Rattle.fort_certificate_grammar.specs.Certificates.{Part};
 ghost use Rattle.fort_in_order.specs.Dues as definitions;
 ghost use Rattle.fort_outline.specs.Outlines.{IsOutlineOf, parts_in};
-ghost use Rattle.fort_steps.specs.StepView.{as_step, as_which};
-ghost use Rattle.fort_outline.specs.DueView.{as_due};
+ghost use Rattle.fort_findings.specs.FindingView.{as_which};
+ghost use Rattle.fort_steps.specs.StepView.{as_step};
+ghost use Rattle.fort_dues.specs.DueView.{as_due};
 ghost use Rattle.fort_check_steps.specs.Room.{HasNeeds, HasLeaderRoom, IsListFor};
 ghost use Rattle.fort_cert_checker.specs.OperandLists.{AreNeedsOf};
 ghost use Rattle.fort_check_steps.specs.Marks.{HasMarkRoom};
@@ -23,10 +24,12 @@ use crate::plan::{Plan, Source, Work};
 use fort_check_steps::{
     LabelNeeds, LabelRoom, ListNeeds, MarkRoom, PairRules, PartRoom, closure_rules, most_states,
 };
+use fort_dues::DueStep;
+use fort_findings::Which;
 use fort_infinity::local::many_width;
-use fort_outline::{DueStep, Outline};
-use fort_projections::local::project_width;
-use fort_steps::{Step, Which};
+use fort_outline::Outline;
+use fort_rrn_algebra::local::project_width;
+use fort_steps::Step;
 use fort_terms::{Memory, System};
 use std::alloc::{AllocError, Global};
 
@@ -53,7 +56,7 @@ fn closure_plan(
 }
 
 fn plan_for(alloc: Global, system: &System, due: DueStep) -> Result<Option<ClosurePlan>, Memory>
-    requires { (which : theory_steps.Which) (index : ℕ)
+    requires { (which : listed_closures.Which) (index : ℕ)
         → as_due due ≡ definitions.OfClosure which index → IsIndexOf system.now.rules index }
     ensures { IfOk result (IsClosureFor system.now (as_due due)) }
 {
@@ -72,7 +75,7 @@ pub(crate) fn closure_plans(
     system: &System,
     dues: &[DueStep],
 ) -> Result<Vec<Option<ClosurePlan>>, Memory>
-    requires { (which : theory_steps.Which) (index : ℕ)
+    requires { (which : listed_closures.Which) (index : ℕ)
         → Contains (map as_due dues.now) (definitions.OfClosure which index)
         → IsIndexOf system.now.rules index }
     ensures { IfOk result (λ plans. AreClosuresMade system.now (map as_due dues.now)

@@ -2,8 +2,10 @@
 ghost use Rattle.std.specs.Prelude.{◌≡◌, ℕ, ◌+◌, List, map, slice_index_or, OnOk, IfErr};
 ghost use Rattle.fort_theory.specs.Patterns.{PatternSystem};
 ghost use Rattle.fort_cores.specs.Cores as theory;
+ghost use Rattle.fort_alike.specs.ListedClosures as listed_closures;
 ghost use Rattle.fort_certificate_grammar.specs.Certificates as certificates;
-ghost use Rattle.fort_steps.specs.StepView.{as_step, as_pair};
+ghost use Rattle.fort_findings.specs.FindingView.{as_pair};
+ghost use Rattle.fort_steps.specs.StepView.{as_step};
 ghost use Rattle.fort_in_order.specs.Dues as definitions;
 ghost use Rattle.fort_in_order.specs.Made.{Made};
 ghost use Rattle.fort_in_order.specs.Checked.{IsClosureJudged, IsFailing};
@@ -23,7 +25,8 @@ use crate::plan::Plan;
 use crate::value::{check_counts, check_value};
 use fort_check_merges::check_merge;
 use fort_check_steps::{Failure, LabelRoom, MarkRoom, PartRoom, check_closure};
-use fort_steps::{ClosureEntry, Step};
+use fort_findings::ClosureEntry;
+use fort_steps::Step;
 use fort_terms::System;
 
 /// What a check reads.
@@ -35,9 +38,9 @@ pub(crate) struct Given<'a> {
 }
 
 fn check_pairs(plan: &mut Option<ClosurePlan>, entries: &[ClosureEntry]) -> Result<(), Failure>
-    requires due { (system : PatternSystem) × (which : certificates.Which) × (index : ℕ)
+    requires due { (system : PatternSystem) × (which : listed_closures.Which) × (index : ℕ)
         × IsClosureFor system (definitions.OfClosure which index) plan.old }
-    ensures judged { (system : PatternSystem) (which : certificates.Which) (index : ℕ)
+    ensures judged { (system : PatternSystem) (which : listed_closures.Which) (index : ℕ)
         → IsClosureFor system (definitions.OfClosure which index) plan.old
         → IsClosureJudged system which index (map as_pair entries.now) (outcome_of result) }
     ensures kept { (system : PatternSystem) (d : definitions.DueStep)

@@ -7,7 +7,7 @@ ghost use Rattle.fort_counts.specs.Counts.{KeepRules, count_at, is_infinite};
 ghost use Rattle.fort_operations.specs.Projections.{ArePure};
 ghost use Rattle.fort_parts.specs.PartAnswers as answers;
 ghost use Rattle.fort_connectives.specs.ConnectiveView.{connective_of};
-ghost use Rattle.fort_steps.specs.StepView.{as_count};
+ghost use Rattle.fort_findings.specs.FindingView.{as_count};
 ghost use Rattle.fort_in_order.specs.PartRules.{project_local, many_local};
 ghost use Rattle.fort_context_closure.specs.AtomLabelsView.{word_count};
 ghost use Rattle.fort_check_steps.specs.Room.{HasRoom, HasMergeRoom, HasLabelRoom, IsAsRoomy};
@@ -25,9 +25,9 @@ use fort_check_steps::{
 };
 use fort_connectives::Op;
 use fort_context_closure::{AtomLabels, SignedAtom};
+use fort_findings::Count;
 use fort_infinity::Many;
-use fort_products::Both;
-use fort_steps::Count;
+use fort_rrn_algebra::Both;
 use fort_terms::System;
 
 /// Holds the targets of an atom.

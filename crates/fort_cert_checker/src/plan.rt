@@ -20,9 +20,10 @@ ghost use Rattle.fort_cert_checker.specs.Plans.{IsFitPart, IsOperandPlan, IsClos
 use crate::about::{closure_pairs, marks_of};
 use fort_connectives::Op;
 use fort_context_closure::AtomLabels;
+use fort_findings::{ClosureEntry, Count, Which};
 use fort_outline::{Leaf, Outline, Root, column_of, places_among};
 use fort_relations::Rel;
-use fort_steps::{ClosureEntry, Count, Step, Which};
+use fort_steps::Step;
 use fort_terms::{Memory, System};
 use std::alloc::Global;
 
@@ -157,10 +158,9 @@ fn product_work(
 fn pairs_read<'a>(steps: &'a [Step], rel: Rel, index: u32) -> &'a [ClosureEntry]
     ensures { IsClosureRead (map as_step steps.now) (as_rel rel) index result.now }
 {
-    match rel {
-        Rel::Star | Rel::Plus => closure_pairs(steps, Which::Star, index),
-        Rel::Conv => closure_pairs(steps, Which::Conv, index),
-        _ => &[],
+    match Which::of(rel) {
+        Some(which) => closure_pairs(steps, which, index),
+        None => &[],
     }
 }
 

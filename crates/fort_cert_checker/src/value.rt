@@ -6,7 +6,7 @@ ghost use Rattle.fort_tables.specs.Tables as tables;
 ghost use Rattle.fort_counts.specs.Counts.{count_at, is_infinite};
 ghost use Rattle.fort_counts.specs.ManyLabels.{many_value as many_value_lem};
 ghost use Rattle.fort_operations.specs.Projections.{ArePure};
-ghost use Rattle.fort_steps.specs.StepView.{as_count};
+ghost use Rattle.fort_findings.specs.FindingView.{as_count};
 ghost use Rattle.fort_in_order.specs.Made.{Made};
 ghost use Rattle.fort_in_order.specs.PartRules.{IsValueOf};
 ghost use Rattle.fort_in_order.specs.Checked.{IsCountJudged};
@@ -18,8 +18,8 @@ ghost use Rattle.fort_cert_checker.specs.Values.{IsValueDue, AreCountsDue, IsOth
 use crate::past::{Past, accepts_some};
 use crate::plan::{Plan, Source, Work};
 use fort_check_steps::{Failure, MarkRoom, Reason, check_marks, failed, put_pure};
+use fort_findings::Count;
 use fort_infinity::local::many_value;
-use fort_steps::Count;
 
 /// Whether infinitely many values of its only column are accepted.
 fn accepts_many(

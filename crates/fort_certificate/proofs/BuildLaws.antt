@@ -7,7 +7,8 @@ use Rattle.std.proofs.lemmas.Slice.Zip.{all_zipped_more}
 use Rattle.fort_grammar.specs.Forms.{Form}
 use Rattle.fort_grammar.specs.Declarations.{word_of, elements_of, IsHeaded}
 use Rattle.fort_counts.specs.Counts.{Count}
-use Rattle.fort_certificate_grammar.specs.Certificates.{Which, Pair, Closure, Part, Merge, Counts, Value}
+use Rattle.fort_alike.specs.ListedClosures.{Which, Pair}
+use Rattle.fort_certificate_grammar.specs.Certificates.{Closure, Part, Merge, Counts, Value}
 use Rattle.fort_certificate_grammar.specs.CertificateForms.{Version, tells_index, has_merges, which_word, verdict_word, IsNumberForm, IsPairForm, IsCountForm, IsStepForm, ClosureForm, IndexedForm, PartForm, MergeForm, CountsForm, ValueForm}
 use Rattle.fort_certificate_grammar.specs.CertificateFaults.{ClosureHead, PartHead, MergeHead, CountsHead, ValueHead, head_word}
 use Rattle.fort_certificate_grammar.proofs.StepSlots.{same_parts}

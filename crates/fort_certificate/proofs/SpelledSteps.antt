@@ -6,7 +6,8 @@ use Rattle.fort_grammar.specs.Forms.{Form}
 use Rattle.fort_grammar.specs.Declarations.{word_of, elements_of, AreWords, IsListOfWords}
 use Rattle.fort_tables.specs.Tuples.{TupleSymbol}
 use Rattle.fort_tables.specs.Entries.{Entry}
-use Rattle.fort_certificate_grammar.specs.Certificates.{Why, Any, Kids, Rule, Pair, Step, Closure, Part, Merge, Counts, Value}
+use Rattle.fort_alike.specs.ListedClosures.{Why, Any, Kids, Rule, Pair}
+use Rattle.fort_certificate_grammar.specs.Certificates.{Step, Closure, Part, Merge, Counts, Value}
 use Rattle.fort_certificate_grammar.specs.CertificateForms.{IsNumberForm, IsWhyWord, AnyWord, KidsWord, RuleWord, IsPairForm, IsCountForm, FiniteForm, InfiniteForm, IsStepForm, IndexedForm, PartForm, MergeForm, CountsForm, ValueForm}
 use Rattle.fort_certificate_grammar.specs.CertificateText.{Element, number_element, why_word, pair_element, count_element, step_elements, IsSmall, IsSmallWhy, IsSmallPair, IsSmallCount}
 use Rattle.fort_certificate_grammar.proofs.Spelled.{SpellsElement, Spells}

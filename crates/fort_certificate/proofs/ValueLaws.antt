@@ -3,7 +3,7 @@ use Rattle.std.proofs.Common.{◌≡◌, ℕ, List, [], ◌∷◌, Some, codes, 
 use Rattle.fort_grammar.specs.Forms.{Form}
 use Rattle.fort_grammar.specs.Declarations.{elements_of, AreWords, IsListOfWords}
 use Rattle.fort_counts.specs.Counts.{Finite, Infinite}
-use Rattle.fort_certificate_grammar.specs.Certificates.{Pair}
+use Rattle.fort_alike.specs.ListedClosures.{Pair}
 use Rattle.fort_certificate_grammar.specs.CertificateForms.{IsNumberWord, IsWhyWord, IsPairForm, IsCountForm, FiniteForm, InfiniteForm}
 use Rattle.fort_certificate_grammar.specs.CertificateFaults.{CountSlot, IsNoNumber, AsNumber, IsBadAt, FiniteNumber, InfiniteNumber}
 use Rattle.fort_certificate_grammar.proofs.OneCertificate.{list_words_one}

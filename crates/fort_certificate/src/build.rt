@@ -6,7 +6,8 @@ ghost use Rattle.fort_grammar.specs.Forms as grammar;
 ghost use Rattle.fort_certificate_grammar.specs.CertificateForms.{Version as GrammarVersion, IsNumberForm, IsPairForm, IsCountForm, IsStepForm};
 ghost use Rattle.fort_certificate_grammar.specs.CertificateFaults.{NumberSlot, PairSlot, CountSlot, ClosureHead, PartHead, MergeHead, CountsHead, ValueHead, fault_of, AreBad, IsBadAt, IsBadStep};
 ghost use Rattle.fort_sexpr.specs.FormView.{form_count};
-ghost use Rattle.fort_steps.specs.StepView.{as_pair, as_count, as_step};
+ghost use Rattle.fort_findings.specs.FindingView.{as_pair, as_count};
+ghost use Rattle.fort_steps.specs.StepView.{as_step};
 ghost use Rattle.fort_certificate.specs.declared.build.Unread.TheVariants as unread;
 ghost use Rattle.fort_certificate.specs.Checking.{AreElementsOf, AreBadElementsOf, HasBadStep, between};
 ghost use Rattle.fort_certificate.specs.Faults.{as_fault};
@@ -19,8 +20,9 @@ use crate::slot::{Head, head_of};
 use crate::value::{Wrong, count_in, entry_in, number_in, verdict_in, which_in};
 use crate::version::Version;
 use crate::word::number_of;
+use fort_findings::{ClosureEntry, Count};
 use fort_sexpr::{Form, FormList, Forms};
-use fort_steps::{ClosureEntry, Count, Step};
+use fort_steps::Step;
 use std::alloc::{AllocError, Global};
 
 /// Why a step was not read.

@@ -1,16 +1,16 @@
 //! Reads the elements of a step, each by itself, or says what is wrong with it.
 ghost use Rattle.std.specs.Prelude.{◌≡◌, ℕ, Bool, List, [], ◌∷◌, Some, IfSome, IfNone, IfOk, IfErr};
 ghost use Rattle.fort_grammar.specs.Declarations.{word_of, IsListOfWords};
-ghost use Rattle.fort_certificate_grammar.specs.Certificates as certificates;
+ghost use Rattle.fort_alike.specs.ListedClosures as closures;
 ghost use Rattle.fort_certificate_grammar.specs.CertificateForms.{which_word, verdict_word, IsNumberForm, IsWhyWord, IsPairForm, IsCountForm};
 ghost use Rattle.fort_certificate_grammar.specs.CertificateFaults.{WhichSlot, NumberSlot, VerdictSlot, PairSlot, CountSlot, Fits, IsBadAt};
 ghost use Rattle.fort_sexpr.specs.FormView.{word_ahead};
-ghost use Rattle.fort_steps.specs.StepView.{as_which, as_why, as_pair, as_count};
+ghost use Rattle.fort_findings.specs.FindingView.{as_which, as_why, as_pair, as_count};
 ghost use Rattle.fort_certificate.specs.ReadView.{as_kind};
 
 use crate::word::number_ahead;
+use fort_findings::{ClosureEntry, Count, Reason, Which};
 use fort_sexpr::{Form, is_ahead};
-use fort_steps::{ClosureEntry, Count, Reason, Which};
 
 /// What is wrong with an element.
 #[derive(Clone, Copy, Debug, PartialEq, Eq)]
@@ -120,7 +120,7 @@ pub(crate) fn three_words<'a>(form: &Form<'a>) -> Option<ThreeWords<'a>>
 /// The reason that a word is, by the bytes from its first one on.
 fn reason_ahead(bytes: &[u8]) -> Option<Reason>
     ensures some { IfSome result (λ why. IsWhyWord (word_ahead bytes.now) (as_why why)) }
-    ensures none { IfNone result ((why : certificates.Why) →
+    ensures none { IfNone result ((why : closures.Why) →
         IsWhyWord (word_ahead bytes.now) why → ⊥) }
 {
     if is_ahead(bytes, b"any") {

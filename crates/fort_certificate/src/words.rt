@@ -2,11 +2,11 @@
 ghost use Rattle.std.specs.Prelude.{◌≡◌, ◌∷◌, ◌++◌, decimal, OnOk};
 ghost use Rattle.fort_certificate_grammar.specs.CertificateForms.{version_word, verdict_word, which_word};
 ghost use Rattle.fort_certificate_grammar.specs.CertificateText.{why_word, IsSmall, IsSmallWhy};
-ghost use Rattle.fort_steps.specs.StepView.{as_which, as_why};
+ghost use Rattle.fort_findings.specs.FindingView.{as_which, as_why};
 ghost use Rattle.fort_certificate.specs.VersionView.{as_version};
 
 use crate::version::Version;
-use fort_steps::{Reason, Which};
+use fort_findings::{Reason, Which};
 use itoa::Buffer;
 use std::alloc::AllocError;
 

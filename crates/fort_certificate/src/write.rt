@@ -3,14 +3,16 @@ ghost use Rattle.std.specs.Prelude.{◌≡◌, ◌++◌, ◌∷◌, map, decimal
 ghost use Rattle.fort_certificate_grammar.specs.Certificates as certificates;
 ghost use Rattle.fort_certificate_grammar.specs.CertificateText.{line_of, element_text, pair_element, count_element, index_elements, step_elements, header_elements, steps_text, certificate_text, IsSmall, IsSmallPair, IsSmallCount};
 ghost use Rattle.std.specs.List.{AllByRecursion};
-ghost use Rattle.fort_steps.specs.StepView.{as_which, as_pair, as_count, as_step};
+ghost use Rattle.fort_findings.specs.FindingView.{as_which, as_pair, as_count};
+ghost use Rattle.fort_steps.specs.StepView.{as_step};
 ghost use Rattle.fort_certificate.specs.Again.{IsReadBehind, HasSmallNumbers};
 ghost use Rattle.fort_certificate.specs.Lines.{tails};
 ghost use Rattle.fort_certificate.specs.VersionView.{as_version};
 
 use crate::version::Version;
 use crate::words::{push_digits, push_number, push_reason, push_verdict, push_version, push_which};
-use fort_steps::{ClosureEntry, Count, Step, Which};
+use fort_findings::{ClosureEntry, Count, Which};
+use fort_steps::Step;
 use std::alloc::{AllocError, Global};
 
 fn push_entry(out: &mut Vec<u8>, entry: &ClosureEntry) -> Result<(), AllocError>

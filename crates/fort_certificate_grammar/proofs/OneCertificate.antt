@@ -4,7 +4,8 @@ use Rattle.std.specs.List.{AllZip}
 use Rattle.fort_counts.specs.Counts.{Count, Finite, Infinite}
 use Rattle.fort_grammar.specs.Forms.{Form}
 use Rattle.fort_grammar.specs.Declarations.{word_of, elements_of, AreWords, IsListOfWords}
-use Rattle.fort_certificate_grammar.specs.Certificates.{Which, Star, Conv, Why, Rule, Pair, Step, Closure, Part, Merge, Counts, Value, Certificate}
+use Rattle.fort_alike.specs.ListedClosures.{Which, Star, Conv, Why, Rule, Pair}
+use Rattle.fort_certificate_grammar.specs.Certificates.{Step, Closure, Part, Merge, Counts, Value, Certificate}
 use Rattle.fort_certificate_grammar.specs.CertificateForms.{Version, version_word, IsNumberWord, IsNumberForm, verdict_word, which_word, IsWhyWord, AnyWord, KidsWord, RuleWord, IsPairForm, IsCountForm, FiniteForm, InfiniteForm, IsStepForm, ClosureForm, IndexedForm, PartForm, MergeForm, CountsForm, ValueForm, IsHeaderForm, IsCertificate}
 use Rattle.fort_certificate_grammar.proofs.NumberWords.{number_digit, number_one, version_one}
 

@@ -4,7 +4,8 @@ use Rattle.std.specs.List.{AllByRecursion, AllZip}
 use Rattle.fort_counts.specs.Counts.{Count, Finite, Infinite}
 use Rattle.fort_grammar.specs.Forms.{Form}
 use Rattle.fort_grammar.specs.Declarations.{word_of, elements_of, IsListOfWords}
-use Rattle.fort_certificate_grammar.specs.Certificates.{Which, Why, Any, Kids, Rule, Pair, Step, Closure, Part, Merge, Counts, Value, Certificate}
+use Rattle.fort_alike.specs.ListedClosures.{Which, Why, Any, Kids, Rule, Pair}
+use Rattle.fort_certificate_grammar.specs.Certificates.{Step, Closure, Part, Merge, Counts, Value, Certificate}
 use Rattle.fort_certificate_grammar.specs.CertificateForms.{Version, tells_index, IsVersionOf, which_word, IsNumberForm, IsWhyWord, AnyWord, KidsWord, RuleWord, IsPairForm, IsCountForm, FiniteForm, InfiniteForm, IsStepForm, ClosureForm, IndexedForm, PartForm, MergeForm, CountsForm, ValueForm, IsHeaderForm, IsCertificate}
 use Rattle.fort_certificate_grammar.specs.CertificateText.{Element, Word, Group, number_element, why_word, pair_element, count_element, step_elements, header_elements, IsSmall, IsSmallWhy, IsSmallPair, IsSmallCount, CanBeWritten}
 

@@ -4,7 +4,8 @@ use Rattle.std.specs.List.{AllZip}
 use Rattle.fort_counts.specs.Counts.{Count}
 use Rattle.fort_grammar.specs.Forms.{Form}
 use Rattle.fort_grammar.specs.Declarations.{word_of, elements_of, IsListOfWords, IsHeaded}
-use Rattle.fort_certificate_grammar.specs.Certificates.{Which, Pair, Step}
+use Rattle.fort_alike.specs.ListedClosures.{Which, Pair}
+use Rattle.fort_certificate_grammar.specs.Certificates.{Step}
 use Rattle.fort_certificate_grammar.specs.CertificateForms.{Version, version_word, tells_index, has_merges, IsVersionOf, IsNumberWord, IsNumberForm, verdict_word, which_word, IsPairForm, IsCountForm, IsStepForm, IsHeaderForm}
 
 -- the number is the form's

@@ -4,7 +4,8 @@ use Rattle.std.specs.List.{AllZip}
 use Rattle.fort_counts.specs.Counts.{Count, Finite, Infinite}
 use Rattle.fort_grammar.specs.Forms.{Form}
 use Rattle.fort_grammar.specs.Declarations.{word_of, elements_of, IsListOfWords}
-use Rattle.fort_certificate_grammar.specs.Certificates.{Which, Star, Conv, Why, Any, Kids, Rule, Pair, Step, Closure, Part, Merge, Counts, Value, Certificate}
+use Rattle.fort_alike.specs.ListedClosures.{Which, Star, Conv, Why, Any, Kids, Rule, Pair}
+use Rattle.fort_certificate_grammar.specs.Certificates.{Step, Closure, Part, Merge, Counts, Value, Certificate}
 
 -- without merges version 1 is that of problems of one system and version 2 that of problems of several; version 3 is that with merges, of any
 -- problem

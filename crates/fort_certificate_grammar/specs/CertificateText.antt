@@ -2,7 +2,8 @@
 use Rattle.std.specs.Prelude.{◌≡◌, ℕ, ◌≤◌, Bool, true, false, if◌then◌else◌, List, [], ◌∷◌, ◌++◌, map, codes, decimal}
 use Rattle.std.specs.List.{AllByRecursion}
 use Rattle.fort_counts.specs.Counts.{Count, Finite, Infinite}
-use Rattle.fort_certificate_grammar.specs.Certificates.{Why, Any, Kids, Rule, Pair, Step, Closure, Part, Merge, Counts, Value}
+use Rattle.fort_alike.specs.ListedClosures.{Why, Any, Kids, Rule, Pair}
+use Rattle.fort_certificate_grammar.specs.Certificates.{Step, Closure, Part, Merge, Counts, Value}
 use Rattle.fort_certificate_grammar.specs.CertificateForms.{Version, version_word, tells_index, has_merges, most_number, verdict_word, which_word}
 
 -- an element of a line: a word, or words in parentheses

@@ -1,23 +1,7 @@
 -- To believe: what a certificate is made of.
 use Rattle.std.specs.Prelude.{ℕ, Bool, List}
+use Rattle.fort_alike.specs.ListedClosures.{Which, Pair}
 use Rattle.fort_counts.specs.Counts.{Count}
-
--- of the rules as they are, or with each rule also reversed
-pub data Which : Type 0 where
-  Star : Which
-  Conv : Which
-
--- why a pair of patterns is in a closure: one of them is that of all terms; by the pairs of their children; by the rule of this number
-pub data Why : Type 0 where
-  Any : Why
-  Kids : Why
-  Rule : ℕ → Why
-
--- the numbers of a right and a left pattern
-pub record Pair : Type 0 where
-  pub p : ℕ
-  pub q : ℕ
-  pub why : Why
 
 -- the pairs of a closure of the system of an index; the targets of a part's entries; the classes of the states of a part's table; the counts
 -- of the pure states of a part's body; the value of a part without columns

@@ -10,8 +10,8 @@ use Rattle.fort_tables.proofs.EqualTests.{test_from_apart}
 use Rattle.fort_counts.specs.Counts as counts
 use Rattle.fort_counts.specs.Counts.{count_at}
 use Rattle.fort_counts.proofs.CountPlaces.{count_at-ascending, count_at-none}
-use Rattle.fort_steps.specs.declared.count.Count.{Count}
-use Rattle.fort_steps.specs.StepView.{as_count}
+use Rattle.fort_findings.specs.declared.count.Count.{Count}
+use Rattle.fort_findings.specs.FindingView.{as_count}
 use Rattle.fort_check_steps.specs.Marks.{starts, held_next, entry_next}
 
 abbrev pub Ascends : List ℕ → Type 0

@@ -10,10 +10,10 @@ use Rattle.fort_theory.specs.Patterns.{Pattern, Patterns, Any, At, NoPattern, Mo
 use Rattle.fort_theory.specs.PatternOrder.{PatternBefore, AreSubpatternsInOrder}
 use Rattle.fort_atom_labels.specs.PatternNumbers.{PatternNumber, AreAt, IsNumberOf}
 use Rattle.fort_atom_labels.proofs.Bits.{Decides-true, Decides-false, Decides-and_then}
-use Rattle.fort_certificate_grammar.specs.Certificates as certificates
-use Rattle.fort_certificate_grammar.specs.Certificates.{Why, Pair as Item}
+use Rattle.fort_alike.specs.ListedClosures as closures
+use Rattle.fort_alike.specs.ListedClosures.{Why, Pair as Item}
 use Rattle.fort_in_order.specs.ClosureSteps.{ClosureRules, IsPatternAt, IsListed, AreListed, AllListed, Follows, AnyRight, AnyLeft, ByArguments, ByRule, FollowsBy, FollowsAt}
-use Rattle.fort_in_order.proofs.OrderedLists.{before_asymmetric}
+use Rattle.fort_alike.proofs.OneInOrder.{before_asymmetric}
 use Rattle.fort_label_bits.specs.declared.rule_places.RulePlaces.{RulePlaces}
 use Rattle.fort_label_bits.specs.RulePlaces.{pair_at, no_rule}
 use Rattle.fort_check_steps.specs.declared.pairs.PairRules.{PairRules}
@@ -38,16 +38,16 @@ module _ (c : ClosureRules) (r : PairRules) (rules : IsPairRules c r) (items : L
     (tells : (p q : ℕ) → p < length c.rights → q < length c.lefts → Decides (has p q) (IsListed items p q)) where
   -- what each reason says of two patterns
   abbrev Says : Why → Pattern → Pattern → Type 0
-  Says certificates.Any Any y = Unit {0}
-  Says certificates.Any (At f xs) Any = Unit {0}
-  Says certificates.Any (At f xs) (At g ys) = ⊥
-  Says certificates.Kids Any y = ⊥
-  Says certificates.Kids (At f xs) Any = ⊥
-  Says certificates.Kids (At f xs) (At g ys) = (f ≡ g) × AllListed c items xs ys
-  Says (certificates.Rule k) x y =
+  Says closures.Any Any y = Unit {0}
+  Says closures.Any (At f xs) Any = Unit {0}
+  Says closures.Any (At f xs) (At g ys) = ⊥
+  Says closures.Kids Any y = ⊥
+  Says closures.Kids (At f xs) Any = ⊥
+  Says closures.Kids (At f xs) (At g ys) = (f ≡ g) × AllListed c items xs ys
+  Says (closures.Rule k) x y =
       (pair : Pair) × (k < length c.pairs) × (get_or c.pairs k pair ≡ pair) × AreListed c items x pair.0 × AreListed c items pair.1 y
 
-  any_left : (x : Pattern) → Says certificates.Any x Any
+  any_left : (x : Pattern) → Says closures.Any x Any
   any_left Any = tt
   any_left (At f xs) = tt
 
@@ -57,17 +57,17 @@ module _ (c : ClosureRules) (r : PairRules) (rules : IsPairRules c r) (items : L
   says why x y (ByArguments h) = (refl, h)
   says why x y (ByRule pair l e a b) = (pair, l, e, a, b)
 
-  by_arguments : (f g : ℕ) (xs ys : Patterns) → f ≡ g → AllListed c items xs ys → Follows c items certificates.Kids (At f xs) (At g ys)
-  by_arguments f g xs ys e h = subst (λ (z : ℕ). Follows c items certificates.Kids (At f xs) (At z ys)) e (ByArguments h)
+  by_arguments : (f g : ℕ) (xs ys : Patterns) → f ≡ g → AllListed c items xs ys → Follows c items closures.Kids (At f xs) (At g ys)
+  by_arguments f g xs ys e h = subst (λ (z : ℕ). Follows c items closures.Kids (At f xs) (At z ys)) e (ByArguments h)
 
   from_says : (why : Why) (x y : Pattern) → Says why x y → Follows c items why x y
-  from_says certificates.Any Any y s = AnyRight
-  from_says certificates.Any (At f xs) Any s = AnyLeft
-  from_says certificates.Any (At f xs) (At g ys) s = absurd s
-  from_says certificates.Kids Any y s = absurd s
-  from_says certificates.Kids (At f xs) Any s = absurd s
-  from_says certificates.Kids (At f xs) (At g ys) s = by_arguments f g xs ys s.0 s.1
-  from_says (certificates.Rule k) x y s = ByRule s.0 s.1 s.2 s.3 s.4
+  from_says closures.Any Any y s = AnyRight
+  from_says closures.Any (At f xs) Any s = AnyLeft
+  from_says closures.Any (At f xs) (At g ys) s = absurd s
+  from_says closures.Kids Any y s = absurd s
+  from_says closures.Kids (At f xs) Any s = absurd s
+  from_says closures.Kids (At f xs) (At g ys) s = by_arguments f g xs ys s.0 s.1
+  from_says (closures.Rule k) x y s = ByRule s.0 s.1 s.2 s.3 s.4
 
   Decides-listed : (p q : ℕ) (x y : Pattern) → IsPatternAt c.rights p x → IsPatternAt c.lefts q y → Decides (has p q) (AreListed c items x y)
   Decides-listed p q x y a b = Decides-like (has p q)
@@ -89,7 +89,7 @@ module _ (c : ClosureRules) (r : PairRules) (rules : IsPairRules c r) (items : L
   Decides-all (p ∷ ps) (q ∷ qs) (MorePatterns x xs) (MorePatterns y ys) a b =
       Decides-and_then (has p q) (all_pairs has ps qs) (Decides-listed p q x y (a.0, a.1) (b.0, b.1)) (λ h. Decides-all ps qs xs ys a.2 b.2)
 
-  Decides-any : (w v : PatternNumber) (x y : Pattern) → IsNumberOf c.rights w x → IsNumberOf c.lefts v y → Decides (by_any w v) (Says certificates.Any x y)
+  Decides-any : (w v : PatternNumber) (x y : Pattern) → IsNumberOf c.rights w x → IsNumberOf c.lefts v y → Decides (by_any w v) (Says closures.Any x y)
   Decides-any None v Any y a b = Decides-true tt
   Decides-any None v (At f xs) y a b = absurd a
   Decides-any (Some w) v Any y a b = absurd a
@@ -98,7 +98,7 @@ module _ (c : ClosureRules) (r : PairRules) (rules : IsPairRules c r) (items : L
   Decides-any (Some w) (Some v) (At f xs) Any a b = absurd b
   Decides-any (Some w) (Some v) (At f xs) (At g ys) a b = Decides-false (λ h. h)
 
-  Decides-kids : (w v : PatternNumber) (x y : Pattern) → IsNumberOf c.rights w x → IsNumberOf c.lefts v y → Decides (by_kids has w v) (Says certificates.Kids x y)
+  Decides-kids : (w v : PatternNumber) (x y : Pattern) → IsNumberOf c.rights w x → IsNumberOf c.lefts v y → Decides (by_kids has w v) (Says closures.Kids x y)
   Decides-kids None v Any y a b = Decides-false (λ h. h)
   Decides-kids None v (At f xs) y a b = absurd a
   Decides-kids (Some w) v Any y a b = absurd a
@@ -135,7 +135,7 @@ module _ (c : ClosureRules) (r : PairRules) (rules : IsPairRules c r) (items : L
       }
 
   Decides-rule : (k p q : ℕ) (x y : Pattern) → IsPatternAt c.rights p x → IsPatternAt c.lefts q y → k < length r.rules.items
-      → Decides (by_rule has p q (get_or r.rules.items k no_rule)) (Says (certificates.Rule k) x y)
+      → Decides (by_rule has p q (get_or r.rules.items k no_rule)) (Says (closures.Rule k) x y)
   Decides-rule k p q x y a b l =
       let rule = get_or r.rules.items k no_rule in
       let at = rule_at k l in
@@ -148,9 +148,9 @@ module _ (c : ClosureRules) (r : PairRules) (rules : IsPairRules c r) (items : L
   -- a pair of numbers by a reason
   Decides-says : (p q : ℕ) → p < length c.rights → q < length c.lefts → (why : Why)
       → Decides (by_reason has (get_or r.rights.items p None) (get_or r.lefts.items q None) r.rules.items p q why) (Says why (get_or c.rights p Any) (get_or c.lefts q Any))
-  Decides-says p q l m certificates.Any = Decides-any (get_or r.rights.items p None) (get_or r.lefts.items q None) (get_or c.rights p Any) (get_or c.lefts q Any) (rules.rights.each p l) (rules.lefts.each q m)
-  Decides-says p q l m certificates.Kids = Decides-kids (get_or r.rights.items p None) (get_or r.lefts.items q None) (get_or c.rights p Any) (get_or c.lefts q Any) (rules.rights.each p l) (rules.lefts.each q m)
-  Decides-says p q l m (certificates.Rule k) =
+  Decides-says p q l m closures.Any = Decides-any (get_or r.rights.items p None) (get_or r.lefts.items q None) (get_or c.rights p Any) (get_or c.lefts q Any) (rules.rights.each p l) (rules.lefts.each q m)
+  Decides-says p q l m closures.Kids = Decides-kids (get_or r.rights.items p None) (get_or r.lefts.items q None) (get_or c.rights p Any) (get_or c.lefts q Any) (rules.rights.each p l) (rules.lefts.each q m)
+  Decides-says p q l m (closures.Rule k) =
       let x = get_or c.rights p Any in
       let y = get_or c.lefts q Any in
       Decides-like (nat_lt k (length r.rules.items) && by_rule has p q (get_or r.rules.items k no_rule))
@@ -169,7 +169,7 @@ module _ (c : ClosureRules) (r : PairRules) (rules : IsPairRules c r) (items : L
       let w = Any-from_list_any (by_rule has p q) r.rules.items h in
       let is : by_rule has p q (get_or r.rules.items w.0 no_rule) ≡ true = ap (by_rule has p q) (get_or_default r.rules.items w.0 no_rule w.1 w.2 ∙ w.3) ∙ w.4 in
       let s = (Decides-rule w.0 p q (get_or c.rights p Any) (get_or c.lefts q Any) (l, refl) (m, refl) w.2).0 is in
-      (certificates.Rule w.0, from_says (certificates.Rule w.0) (get_or c.rights p Any) (get_or c.lefts q Any) s)
+      (closures.Rule w.0, from_says (closures.Rule w.0) (get_or c.rights p Any) (get_or c.lefts q Any) s)
 
   test_from : (p q : ℕ) → p < length c.rights → q < length c.lefts → (why : Why) → FollowsBy c items p q why
       → follows has (get_or r.rights.items p None) (get_or r.lefts.items q None) r.rules.items p q ≡ true
@@ -199,9 +199,9 @@ module _ (c : ClosureRules) (r : PairRules) (rules : IsPairRules c r) (items : L
       third false false z e = e
 
       by : (w : Why) → by_reason has (get_or r.rights.items p None) (get_or r.lefts.items q None) r.rules.items p q w ≡ true → ((a || b) || d) ≡ true
-      by certificates.Any e = first a b d e
-      by certificates.Kids e = second a b d e
-      by (certificates.Rule k) e =
+      by closures.Any e = first a b d e
+      by closures.Kids e = second a b d e
+      by (closures.Rule k) e =
           let w = (Decides-and_then (nat_lt k (length r.rules.items)) (by_rule has p q (get_or r.rules.items k no_rule)) (Decides-ltb k (length r.rules.items)) (λ n. ((λ (u : by_rule has p q (get_or r.rules.items k no_rule) ≡ true). u), (λ u. u)))).0 e in
           third a b d (list_any_at (by_rule has p q) r.rules.items k no_rule w.0 w.1)
 
@@ -209,7 +209,7 @@ module _ (c : ClosureRules) (r : PairRules) (rules : IsPairRules c r) (items : L
       → follows has (get_or r.rights.items p None) (get_or r.lefts.items q None) r.rules.items p q ≡ true → FollowsAt c items p q
   from_test p q l m h =
       cases (by_any (get_or r.rights.items p None) (get_or r.lefts.items q None)) (by_kids has (get_or r.rights.items p None) (get_or r.lefts.items q None)) (list_any (by_rule has p q) r.rules.items)
-      (λ e. (certificates.Any, (Decides-reason p q l m certificates.Any).0 e)) (λ e. (certificates.Kids, (Decides-reason p q l m certificates.Kids).0 e)) (some_rule_from p q l m) h
+      (λ e. (closures.Any, (Decides-reason p q l m closures.Any).0 e)) (λ e. (closures.Kids, (Decides-reason p q l m closures.Kids).0 e)) (some_rule_from p q l m) h
     where
       cases : (x y z : Bool) → (x ≡ true → FollowsAt c items p q) → (y ≡ true → FollowsAt c items p q) → (z ≡ true → FollowsAt c items p q) → ((x || y) || z) ≡ true → FollowsAt c items p q
       cases true y z a b d e = a refl

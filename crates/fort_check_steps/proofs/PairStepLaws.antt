@@ -12,8 +12,8 @@ use Rattle.std.proofs.lemmas.List.Elements.{Contains-append_left, Contains-push,
 use Rattle.fort_theory.proofs.Members.{Contains-none}
 use Rattle.fort_tables.specs.BitRows.{has_bit}
 use Rattle.fort_atom_labels.proofs.Bits.{Decides-true, Decides-false, Decides-and_then}
-use Rattle.fort_certificate_grammar.specs.Certificates as certificates
-use Rattle.fort_certificate_grammar.specs.Certificates.{Why, Pair as Item}
+use Rattle.fort_alike.specs.ListedClosures as closures
+use Rattle.fort_alike.specs.ListedClosures.{Why, Pair as Item}
 use Rattle.fort_in_order.specs.Outcomes as outcomes
 use Rattle.fort_in_order.specs.Outcomes.{Fine, Fails}
 use Rattle.fort_in_order.specs.ClosureSteps.{ClosureRules, numbers_of, IsListed, IsRuleBelow, IsWithin, FollowsAt, IsFounded, number, IsClosureOutcome, IsRight, NotWithin, NotFounded, NotClosed}
@@ -66,9 +66,9 @@ module _ (c : ClosureRules) (r : PairRules) (rules : IsPairRules c r) (items : L
   tells_by words listed h p q l m = subst (λ (n : ℕ). Decides (has_pair n words p q) (IsListed listed p q)) (sym left_count) (h p q l m)
 
   Decides-rule_below : (n : ℕ) (why : Why) → Decides (rule_test n why) (IsRuleBelow n why)
-  Decides-rule_below n certificates.Any = Decides-true tt
-  Decides-rule_below n certificates.Kids = Decides-true tt
-  Decides-rule_below n (certificates.Rule k) = Decides-ltb k n
+  Decides-rule_below n closures.Any = Decides-true tt
+  Decides-rule_below n closures.Kids = Decides-true tt
+  Decides-rule_below n (closures.Rule k) = Decides-ltb k n
 
   Decides-within : (e : Item) → Decides (within_test r e) (IsWithin c e)
   Decides-within e = Decides-like (within_test r e)

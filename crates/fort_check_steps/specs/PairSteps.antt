@@ -4,8 +4,8 @@ use Rattle.fort_theory.specs.Patterns.{Pair, PatternSystem}
 use Rattle.fort_tables.specs.BitRows.{has_bit}
 use Rattle.fort_label_bits.specs.NumberedView.{AreNumbersOf}
 use Rattle.fort_label_bits.specs.RulePlaces.{ArePlacesOf}
-use Rattle.fort_certificate_grammar.specs.Certificates as certificates
-use Rattle.fort_certificate_grammar.specs.Certificates.{Which, Why, Pair as Item}
+use Rattle.fort_alike.specs.ListedClosures as closures
+use Rattle.fort_alike.specs.ListedClosures.{Which, Why, Pair as Item}
 use Rattle.fort_in_order.specs.Outcomes.{Fails}
 use Rattle.fort_in_order.specs.ClosureSteps.{ClosureRules, AreSidePatterns, AreClosureRules, IsListed, AreFounded, IsClosureOutcome}
 use Rattle.fort_check_steps.specs.PairTests.{has_pair, by_reason, follows}
@@ -23,9 +23,9 @@ pub record IsPairRules (c : ClosureRules) (r : PairRules) : Type 0 where
   pub rules : ArePlacesOf c.lefts c.rights c.pairs r.rules.items
 
 abbrev pub rule_test : ℕ → Why → Bool
-rule_test n certificates.Any = true
-rule_test n certificates.Kids = true
-rule_test n (certificates.Rule k) = nat_lt k n
+rule_test n closures.Any = true
+rule_test n closures.Kids = true
+rule_test n (closures.Rule k) = nat_lt k n
 
 abbrev pub within_test : PairRules → Item → Bool
 within_test r e = (nat_lt e.p (length r.rights.items) && nat_lt e.q (length r.lefts.items)) && rule_test (length r.rules.items) e.why

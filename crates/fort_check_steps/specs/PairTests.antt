@@ -5,7 +5,7 @@ use Rattle.fort_tables.specs.BitRows.{has_bit}
 use Rattle.fort_atom_labels.specs.PatternNumbers.{PatternNumber}
 use Rattle.fort_label_bits.specs.declared.rule_places.RulePlaces.{RulePlaces}
 use Rattle.fort_label_bits.specs.RulePlaces.{no_rule}
-use Rattle.fort_certificate_grammar.specs.Certificates.{Why, Any, Kids, Rule}
+use Rattle.fort_alike.specs.ListedClosures.{Why, Any, Kids, Rule}
 
 -- whether the bit of the pair is set, among pairs with so many left patterns
 abbrev pub has_pair : ℕ → List ℕ → ℕ → ℕ → Bool

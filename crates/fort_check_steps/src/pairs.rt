@@ -1,12 +1,12 @@
 //! The reasons by which a pair of patterns follows from listed ones, by numbers.
 ghost use Rattle.std.specs.Prelude.{◌≡◌, ◌<◌, ◌^◌, length, get_or, None};
 ghost use Rattle.std.specs.List.{list_any};
-ghost use Rattle.fort_steps.specs.StepView.{as_why};
+ghost use Rattle.fort_findings.specs.FindingView.{as_why};
 ghost use Rattle.fort_check_steps.specs.PairTests.{has_pair as has_pair_lem, all_pairs, by_any, by_kids, by_rule, by_reason, follows as follows_lem};
 
 use fort_explore::has_bit;
+use fort_findings::Reason;
 use fort_label_bits::{Numbered, RulePlaces};
-use fort_steps::Reason;
 
 /// Rules and the patterns of their sides, by numbers.
 #[derive(Drop)]

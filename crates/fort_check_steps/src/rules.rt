@@ -2,12 +2,12 @@
 ghost use Rattle.std.specs.Prelude.{◌≡◌, ◌↔◌, ◌<◌, IsTrue, IfOk};
 ghost use Rattle.fort_theory.specs.Sides.{IsIndexOf, at_index};
 ghost use Rattle.fort_terms.specs.BothWays.{both_ways as both_ways_lem};
-ghost use Rattle.fort_steps.specs.StepView.{as_which};
+ghost use Rattle.fort_findings.specs.FindingView.{as_which};
 ghost use Rattle.fort_check_steps.specs.PairSteps.{HasPairRules, HasClosureRules};
 
 use crate::pairs::PairRules;
-use fort_label_bits::{number_patterns, places_of_rules};
-use fort_steps::Which;
+use fort_context_closure::{number_patterns, places_of_rules};
+use fort_findings::Which;
 use fort_terms::{Memory, System};
 use std::alloc::{AllocError, Global};
 

@@ -21,25 +21,25 @@ use Rattle.fort_transducers.specs.RootSteps.{ArePlaces, HasRootSteps}
 use Rattle.fort_transducers.proofs.RootStepsLaws.{IsPatternTransducer-rules, NamesItsStates-rules}
 use Rattle.fort_gtt_closure.specs.declared.entry.Entry.{Entry}
 use Rattle.fort_gtt_closure.proofs.TableLaws.{listed-InClosure}
-use Rattle.fort_certificate_grammar.specs.Certificates.{Pair as Item}
-use Rattle.fort_steps.specs.declared.closure.ClosureEntry.{ClosureEntry}
-use Rattle.fort_steps.specs.StepView as steps
+use Rattle.fort_alike.specs.ListedClosures.{Pair as Item}
+use Rattle.fort_findings.specs.declared.closure.ClosureEntry.{ClosureEntry}
+use Rattle.fort_findings.specs.FindingView as findings
 use Rattle.fort_context_closure.specs.ItemView.{as_item, as_items}
 use Rattle.fort_alike.specs.Atoms.{Atom}
 use Rattle.fort_atom_labels.specs.ListedAtoms.{ListedAtom, listed, IsListedAtom}
 use Rattle.fort_atom_labels.specs.ClosureTests.{ListsClosure}
 use Rattle.fort_atom_labels.proofs.ClosedLists.{ArePatterns, ArePatterns-lefts, ArePatterns-rights}
-use Rattle.fort_in_order.proofs.OrderedLists.{subpatterns_one}
+use Rattle.fort_alike.proofs.OneInOrder.{subpatterns_one}
 use Rattle.fort_context_closure.specs.ClosedAtoms.{ArePassed, numbers_of}
 use Rattle.fort_context_closure.specs.Closures.{IsTransducerOf}
 use Rattle.fort_context_closure.specs.declared.rule_list.RuleList.{RuleList}
 use Rattle.fort_context_closure.specs.RuleLists.{ListsRules}
 
 -- written entries have the numbers of those that were found
-numbers_written : (es : List ClosureEntry) (found : List Entry) → map steps.as_pair es ≡ as_items found → numbers_of es ≡ map (λ (e : Entry). (e.p, e.q)) found
+numbers_written : (es : List ClosureEntry) (found : List Entry) → map findings.as_pair es ≡ as_items found → numbers_of es ≡ map (λ (e : Entry). (e.p, e.q)) found
 numbers_written es found written =
     let number : Item → ℕ × ℕ = λ (i : Item). (i.p, i.q) in
-    sym (map-map number steps.as_pair es) ∙ (ap (map number) written ∙ map-map number as_item found)
+    sym (map-map number findings.as_pair es) ∙ (ap (map number) written ∙ map-map number as_item found)
 
 abbrev lefts_of : RuleList → List Pattern
 lefts_of list = map as_pattern list.lefts.items

@@ -11,6 +11,7 @@ pub mod AtomLabelsLaws
 pub mod MarkCounts
 pub mod ReachLaws
 pub mod RuleRootLaws
+pub mod ClosureReads
 pub mod ClosureLaws
 pub mod ReachRowLaws
 pub mod RuleListLaws

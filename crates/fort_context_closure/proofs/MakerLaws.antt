@@ -13,7 +13,7 @@ use Rattle.fort_atom_labels.specs.ListedAtoms.{ListedAtom, listed, IsListedAtom}
 use Rattle.fort_atom_labels.specs.ClosureTests.{IsClosure, closure_test}
 use Rattle.fort_atom_labels.proofs.ClosureTestLaws.{IsClosure-listed}
 use Rattle.fort_atom_labels.proofs.SystemAtoms.{IsListedAtom-relation}
-use Rattle.fort_steps.specs.declared.closure.ClosureEntry.{ClosureEntry}
+use Rattle.fort_findings.specs.declared.closure.ClosureEntry.{ClosureEntry}
 use Rattle.fort_context_closure.specs.PlainAtoms.{IsAtomOf, IsOfRules, IsRelationAtomOf, IsByPairs}
 use Rattle.fort_context_closure.specs.ClosedAtoms.{ClosedAtom, ListsPasses, numbers_of}
 use Rattle.fort_context_closure.specs.declared.rule_list.RuleList.{RuleList}

@@ -11,8 +11,8 @@ use Rattle.fort_transducers.specs.declared.agtt.Agtt.{Agtt}
 use Rattle.fort_transducers.specs.RootSteps.{HasRootSteps}
 use Rattle.fort_gtt_closure.specs.declared.entry.Entry.{Entry}
 use Rattle.fort_gtt_closure.specs.Passes.{IsListOfPasses}
-use Rattle.fort_steps.specs.declared.closure.ClosureEntry.{ClosureEntry}
-use Rattle.fort_steps.specs.StepView.{as_pair}
+use Rattle.fort_findings.specs.declared.closure.ClosureEntry.{ClosureEntry}
+use Rattle.fort_findings.specs.FindingView.{as_pair}
 use Rattle.fort_context_closure.specs.ItemView.{as_items}
 
 pub record ClosedAtom : Type 0 where

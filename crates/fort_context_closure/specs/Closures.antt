@@ -3,7 +3,7 @@ use Rattle.std.specs.Prelude.{List, map}
 use Rattle.fort_terms.specs.PatternView.{as_pair, as_pattern}
 use Rattle.fort_transducers.specs.declared.agtt.Agtt.{Agtt}
 use Rattle.fort_transducers.specs.RootSteps.{HasPatternStates, ArePlaces}
-use Rattle.fort_steps.specs.declared.closure.ClosureEntry.{ClosureEntry}
+use Rattle.fort_findings.specs.declared.closure.ClosureEntry.{ClosureEntry}
 use Rattle.fort_context_closure.specs.ClosedAtoms.{ArePassed}
 use Rattle.fort_context_closure.specs.declared.rule_list.RuleList.{RuleList}
 

@@ -10,7 +10,7 @@ use Rattle.fort_cores.specs.Parts.{AreColumns}
 use Rattle.fort_alike.specs.Atoms.{Atom, NfKind, kind_for, pairs_for, relation_atom, normal_atom}
 use Rattle.fort_atom_labels.specs.ListedAtoms.{ListedAtom, listed, IsListedAtom}
 use Rattle.fort_atom_labels.specs.ClosureTests.{IsClosure}
-use Rattle.fort_steps.specs.declared.closure.ClosureEntry.{ClosureEntry}
+use Rattle.fort_findings.specs.declared.closure.ClosureEntry.{ClosureEntry}
 use Rattle.fort_context_closure.specs.ClosedAtoms.{ClosedAtom, test_of}
 
 -- of the kinds of single steps, whose rule asks none

@@ -5,7 +5,7 @@ use Rattle.fort_tables.specs.BitRows.{words_for}
 use Rattle.fort_atom_labels.specs.PatternNumbers.{PatternNumber, number_inside}
 use Rattle.fort_label_bits.specs.RowBits.{bit_of}
 use Rattle.fort_label_bits.specs.BitRowLists.{row_in}
-use Rattle.fort_steps.specs.declared.closure.ClosureEntry.{ClosureEntry}
+use Rattle.fort_findings.specs.declared.closure.ClosureEntry.{ClosureEntry}
 use Rattle.fort_context_closure.specs.declared.reach.Reach.{Reach}
 use Rattle.fort_label_bits.specs.declared.rule_places.RulePlaces.{RulePlaces}
 

@@ -22,9 +22,9 @@ ghost use Rattle.fort_context_closure.specs.PlainAtoms.{IsByPairs, IsNormalAtomO
 use crate::normal::NormalBits;
 use crate::relation::RelationBits;
 use crate::term_labels::TermLabels;
+use fort_findings::ClosureEntry;
 use fort_relation_exprs::RexLabels;
 use fort_relations::{Holes, Place, Rel, Rex};
-use fort_steps::ClosureEntry;
 use fort_terms::{Memory, System, Term};
 use std::alloc::Global;
 

@@ -8,7 +8,7 @@ ghost use Rattle.fort_tree_automata.specs.PatternMoves.{IsClosedInOrder};
 ghost use Rattle.fort_transducers.specs.AgttView.{NamesItsStates};
 ghost use Rattle.fort_transducers.specs.RootSteps.{ArePlaces};
 ghost use Rattle.fort_gtt_closure.specs.Reasons.{IsNumbered};
-ghost use Rattle.fort_steps.specs.StepView as steps;
+ghost use Rattle.fort_findings.specs.FindingView as findings;
 ghost use Rattle.fort_context_closure.specs.ClosedAtoms.{ListsNone, ListsPasses};
 ghost use Rattle.fort_context_closure.specs.ItemView.{as_items, as_why};
 ghost use Rattle.fort_context_closure.specs.RuleLists.{ListsRules};
@@ -16,9 +16,9 @@ ghost use Rattle.fort_context_closure.specs.Closures.{IsClosureOf, IsTransducerO
 
 use crate::relation::is_reduction;
 use crate::rule_list::{RuleList, rules_of};
+use fort_findings::{ClosureEntry, Reason};
 use fort_gtt_closure::{Entry, Why, close};
 use fort_relations::Rel;
-use fort_steps::{ClosureEntry, Reason};
 use fort_terms::{Memory, Pattern, System, has_numbers};
 use fort_transducers::Agtt;
 use fort_tree_automata::{pattern_automaton, place};
@@ -56,7 +56,7 @@ fn closure_of(alloc: Global, list: &RuleList) -> Result<Vec<ClosureEntry>, Memor
 
 /// The pairs of states as pairs of patterns.
 fn listed(alloc: Global, entries: &[Entry]) -> Result<Vec<ClosureEntry>, Memory>
-    ensures { IfOk result (λ list. map steps.as_pair list.items ≡ as_items entries.now) }
+    ensures { IfOk result (λ list. map findings.as_pair list.items ≡ as_items entries.now) }
 {
     let mut list = Vec::with_capacity(alloc, entries.len())?;
     for entry in entries {
@@ -71,7 +71,7 @@ fn listed(alloc: Global, entries: &[Entry]) -> Result<Vec<ClosureEntry>, Memory>
 
 /// The reason in a certificate. An automaton of patterns has no silent moves.
 fn reason(why: Why) -> Reason
-    ensures { steps.as_why result ≡ as_why why }
+    ensures { findings.as_why result ≡ as_why why }
 {
     match why {
         Why::Any => Reason::Any,

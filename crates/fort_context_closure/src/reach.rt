@@ -5,8 +5,8 @@ ghost use Rattle.fort_context_closure.specs.ClosedAtoms.{numbers_of};
 ghost use Rattle.fort_context_closure.specs.ReachRows.{HasRows, IsReach, MarksEntry};
 ghost use Rattle.fort_label_bits.specs.BitRowLists.{AreClear, SetsBit, row_in};
 
+use fort_findings::ClosureEntry;
 use fort_label_bits::{clear_rows, mark};
-use fort_steps::ClosureEntry;
 use fort_terms::Memory;
 use std::alloc::Global;
 

@@ -20,6 +20,7 @@ use crate::reach::{Reach, reach_of};
 use crate::reached::{Node, RuleRoots, add_reached, root_rules};
 use crate::rule_list::{RuleList, rules_of};
 use fort_explore::Rows;
+use fort_findings::{ClosureEntry, Which};
 use fort_label_bits::{
     Arguments, Numbered, Rooted, RulePlaces, arguments_of, clear, has_mark, number_patterns,
     places_of_rules, put_first, root_patterns, rules_under, same_roots, some_marked, some_rule,
@@ -27,7 +28,6 @@ use fort_label_bits::{
 };
 use fort_lockstep::Row;
 use fort_relations::Rel;
-use fort_steps::ClosureEntry;
 use fort_terms::{Memory, Pattern, Sym, System};
 use std::alloc::Global;
 use std::marker::Model;
@@ -234,7 +234,7 @@ impl RelationBits {
 pub(crate) fn is_reduction(rel: Rel) -> bool
     ensures { result ≡ is_reaching (kind_for (as_rel rel)) }
 {
-    matches!(rel, Rel::Plus | Rel::Star | Rel::Conv)
+    Which::of(rel).is_some()
 }
 
 /// The closure's rows where the relation is about reductions.

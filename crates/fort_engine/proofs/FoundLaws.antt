@@ -9,8 +9,8 @@ use Rattle.fort_tables.specs.Tables.{Table, Listed, listed_table}
 use Rattle.fort_operations.specs.Projections.{ArePure}
 use Rattle.fort_counts.specs.Counts as counts
 use Rattle.fort_counts.specs.Counts.{AreCounts}
-use Rattle.fort_steps.specs.declared.count.Count.{Count}
-use Rattle.fort_steps.specs.StepView.{as_count}
+use Rattle.fort_findings.specs.declared.count.Count.{Count}
+use Rattle.fort_findings.specs.FindingView.{as_count}
 use Rattle.fort_parts.specs.DecidedCores.{IsOperandOf}
 use Rattle.fort_parts.specs.PartAnswers.{OfTable}
 use Rattle.fort_parts.specs.PartColumns.{place_in}

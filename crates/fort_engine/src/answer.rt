@@ -2,8 +2,8 @@
 ghost use Rattle.std.specs.Prelude.{◌≡◌, None};
 ghost use Rattle.fort_engine.specs.declared.answer.Last.TheVariants.{Truth};
 
+use fort_findings::Count;
 use fort_formulas::Kind;
-use fort_infinity::Count;
 use fort_lockstep::{Dag, Dta};
 use std::alloc::{AllocError, AllocFailed};
 

@@ -20,9 +20,9 @@ use crate::explored::explored;
 use crate::options::Options;
 use fort_context_closure::{AtomLabels, SignedAtom};
 use fort_explore::{ByRule, ExploreFault};
+use fort_findings::ClosureEntry;
 use fort_outline::Leaf;
 use fort_relations::{Holes, Place, Rel, Rex};
-use fort_steps::ClosureEntry;
 use fort_terms::{System, Term};
 use std::alloc::Global;
 

@@ -5,19 +5,17 @@ ghost use Rattle.fort_theory.specs.Patterns.{PatternSystem};
 ghost use Rattle.fort_theory.specs.Sides.{IsIndexOf, at_index};
 ghost use Rattle.fort_cores.specs.Cores as theory;
 ghost use Rattle.fort_relations.specs.RelView.{as_rel};
-ghost use Rattle.fort_certificate_grammar.specs.Certificates as certificates;
-ghost use Rattle.fort_in_order.specs.ClosureSteps.{relation_of};
-ghost use Rattle.fort_in_order.specs.Dues as dues;
-ghost use Rattle.fort_in_order.specs.Dues.{closure_due};
-ghost use Rattle.fort_steps.specs.StepView.{as_which};
+ghost use Rattle.fort_alike.specs.ListedClosures as definitions;
+ghost use Rattle.fort_alike.specs.ListedClosures.{relation_of};
+ghost use Rattle.fort_findings.specs.FindingView.{as_which};
 ghost use Rattle.fort_outline.specs.Roots.{cores_of};
 ghost use Rattle.fort_context_closure.specs.ClosedAtoms.{ListsNone, ListsPasses};
-ghost use Rattle.fort_engine.specs.Closures.{due_of, ListsItsPasses, AreClosuresOf, AreClosures};
+ghost use Rattle.fort_engine.specs.Closures.{name_of, closure_asked, ListsItsPasses, AreClosuresOf, AreClosures};
 
 use fort_context_closure::closure;
-use fort_outline::{Root, is_closure_due};
+use fort_findings::{ClosureEntry, Which};
+use fort_outline::{Root, is_closure_asked};
 use fort_relations::Rel;
-use fort_steps::{ClosureEntry, Which};
 use fort_terms::{Memory, System};
 use std::alloc::Global;
 
@@ -55,12 +53,12 @@ fn push_closure(
     list: &mut Vec<IndexClosure>,
 ) -> Result<(), Memory>
     requires { IsIndexOf system.now.rules index }
-    ensures { OnOk result ((due : List dues.DueStep)
-        → AreClosuresOf system.now due list.old.items
+    ensures { OnOk result ((names : List (definitions.Which × ℕ))
+        → AreClosuresOf system.now names list.old.items
         → AreClosuresOf system.now
-        (due ++ closure_due (cores_of roots.now) index (as_which which)) list.new.items) }
+        (names ++ closure_asked (cores_of roots.now) index (as_which which)) list.new.items) }
 {
-    if !is_closure_due(which, index, roots) {
+    if !is_closure_asked(which, index, roots) {
         return Ok(());
     }
     let entries = closure(alloc, system, index, relation(which))?;
@@ -81,10 +79,10 @@ fn push_both(
     list: &mut Vec<IndexClosure>,
 ) -> Result<(), Memory>
     requires { IsIndexOf system.now.rules index }
-    ensures { OnOk result ((due : List dues.DueStep)
-        → AreClosuresOf system.now due list.old.items
-        → AreClosuresOf system.now (due ++ (closure_due (cores_of roots.now) index certificates.Star
-        ++ closure_due (cores_of roots.now) index certificates.Conv)) list.new.items) }
+    ensures { OnOk result ((names : List (definitions.Which × ℕ))
+        → AreClosuresOf system.now names list.old.items
+        → AreClosuresOf system.now (names ++ (closure_asked (cores_of roots.now) index definitions.Star
+        ++ closure_asked (cores_of roots.now) index definitions.Conv)) list.new.items) }
 {
     push_closure(alloc, system, roots, Which::Star, index, list)?;
     push_closure(alloc, system, roots, Which::Conv, index, list)?;
@@ -94,7 +92,7 @@ fn push_both(
 impl IndexClosure {
     /// Whether it is this closure of this index.
     fn is_of(&self, which: Which, index: u32) -> bool
-        ensures { IsTrue result ↔ (due_of self.now ≡ dues.OfClosure (as_which which) index) }
+        ensures { IsTrue result ↔ (name_of self.now ≡ (as_which which, index)) }
     {
         self.which == which && self.index == index
     }
@@ -115,7 +113,7 @@ impl Closures {
     /// The entries of a closure that is there.
     fn entries(&self, which: Which, index: u32) -> &[ClosureEntry]
         ensures { (system : PatternSystem) → All (ListsItsPasses system) self.now.list.items
-            → Contains (map due_of self.now.list.items) (dues.OfClosure (as_which which) index)
+            → Contains (map name_of self.now.list.items) (as_which which, index)
             → ListsPasses (relation_of (as_which which)) (at_index index system.rules)
             result.now }
     {
@@ -135,10 +133,9 @@ impl Closures {
             → ListsPasses (as_rel rel) (at_index index system.rules) result.now }
         ensures none { ListsNone (as_rel rel) result.now }
     {
-        match rel {
-            Rel::Star | Rel::Plus => self.entries(Which::Star, index),
-            Rel::Conv => self.entries(Which::Conv, index),
-            _ => &[],
+        match Which::of(rel) {
+            Some(which) => self.entries(which, index),
+            None => &[],
         }
     }
 }

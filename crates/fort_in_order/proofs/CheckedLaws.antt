@@ -15,7 +15,8 @@ use Rattle.fort_interchange.specs.MergeOutcomes.{AreEntriesOf, IsMergeOutcome}
 use Rattle.fort_interchange.proofs.MergeOutcomeLaws.{merge_outcome}
 use Rattle.fort_parts.specs.PartColumns.{columns_of, place_in}
 use Rattle.fort_parts.specs.PartAnswers.{OfTable}
-use Rattle.fort_certificate_grammar.specs.Certificates.{Which, Pair as Item, Step, Certificate}
+use Rattle.fort_alike.specs.ListedClosures.{Which, Pair as Item}
+use Rattle.fort_certificate_grammar.specs.Certificates.{Step, Certificate}
 use Rattle.fort_in_order.specs.Outcomes.{Reason, Due, Verdict, StepOutcome, Fine, Fails}
 use Rattle.fort_in_order.specs.PartSteps as part
 use Rattle.fort_in_order.specs.PartSteps.{IsRightPart, part_table}
@@ -31,7 +32,7 @@ use Rattle.fort_in_order.proofs.PartOutcomes.{outcome_one}
 use Rattle.fort_in_order.proofs.ClosureOutcomes.{closure_one}
 use Rattle.fort_in_order.proofs.CountOutcomes.{counts_one}
 use Rattle.fort_in_order.proofs.MergeOutcomeLaws.{entries_one, merge_outcome_one}
-use Rattle.fort_in_order.proofs.OrderedLists.{subpatterns_one}
+use Rattle.fort_alike.proofs.OneInOrder.{subpatterns_one}
 use Rattle.fort_in_order.proofs.SameLabels.{AreOneOrSame, part_moved, failure_moved}
 use Rattle.fort_in_order.proofs.RuleLaws.{table_same, counted_one, local_one, value_one}
 

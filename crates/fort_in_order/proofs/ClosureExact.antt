@@ -9,8 +9,8 @@ use Rattle.fort_theory.proofs.ClosedPatterns.{HaveArguments-subpatterns, subpatt
 use Rattle.fort_theory.proofs.Lists.{Contains-map}
 use Rattle.fort_reachability.specs.PatternClosures as closures
 use Rattle.fort_reachability.specs.PatternClosures.{InPatternClosure, AllInPatternClosure, NoneIn, MoreIn}
-use Rattle.fort_certificate_grammar.specs.Certificates as certificates
-use Rattle.fort_certificate_grammar.specs.Certificates.{Why, Pair as Item}
+use Rattle.fort_alike.specs.ListedClosures as listed_closures
+use Rattle.fort_alike.specs.ListedClosures.{Why, Pair as Item}
 use Rattle.fort_in_order.specs.ClosureSteps.{ClosureRules, AreSidePatterns, IsPatternAt, IsListed, AreListed, AllListed, Follows, AnyRight, AnyLeft, ByArguments, ByRule, FollowsAt, AreFounded, IsClosed}
 
 abbrev number_pair : Item → ℕ × ℕ
@@ -75,15 +75,15 @@ module _ (c : ClosureRules) (items : List Item) (closed : IsClosed c items) (sid
 
   mutual
     closure_listed : (x y : Pattern) → InPatternClosure c.pairs x y → (p q : ℕ) → IsPatternAt c.rights p x → IsPatternAt c.lefts q y → IsListed items p q
-    closure_listed x y closures.AnyRight p q a b = closed p q a.0 b.0 (follows_at c items p q x y certificates.Any a b AnyRight)
-    closure_listed x y closures.AnyLeft p q a b = closed p q a.0 b.0 (follows_at c items p q x y certificates.Any a b AnyLeft)
+    closure_listed x y closures.AnyRight p q a b = closed p q a.0 b.0 (follows_at c items p q x y listed_closures.Any a b AnyRight)
+    closure_listed x y closures.AnyLeft p q a b = closed p q a.0 b.0 (follows_at c items p q x y listed_closures.Any a b AnyLeft)
     closure_listed x y (closures.ByArguments {f = f} {ps = xs} {qs = ys} h) p q a b =
-        closed p q a.0 b.0 (follows_at c items p q x y certificates.Kids a b (ByArguments (each_listed xs ys h
+        closed p q a.0 b.0 (follows_at c items p q x y listed_closures.Kids a b (ByArguments (each_listed xs ys h
         (HaveArguments-subpatterns _ c.rights sides.right f xs (at_pattern c.rights p x a)) (HaveArguments-subpatterns _ c.lefts sides.left f ys (at_pattern c.lefts q y b)))))
     closure_listed x y (closures.ThroughPair pair h s t) p q a b =
         let i = pattern_at c.lefts pair.0 (left_side pair h) in
         let j = pattern_at c.rights pair.1 (right_side pair h) in
-        closed p q a.0 b.0 (follows_at c items p q x y (certificates.Rule h.0) a b (ByRule pair h.1 h.2
+        closed p q a.0 b.0 (follows_at c items p q x y (listed_closures.Rule h.0) a b (ByRule pair h.1 h.2
         (record { p = p; q = i.0; right = a; left = i.1; listed = closure_listed x pair.0 s p i.0 a i.1 })
         (record { p = j.0; q = q; right = j.1; left = b; listed = closure_listed pair.1 y t j.0 q j.1 b })))
 
@@ -99,7 +99,7 @@ pub closure_exact : (c : ClosureRules) (items : List Item) → AreSidePatterns c
     → (p q : ℕ) → p < length c.rights → q < length c.lefts → IsListed items p q ↔ InPatternClosure c.pairs (get_or c.rights p Any) (get_or c.lefts q Any)
 closure_exact c items sides founded closed p q l m = (
   (λ h.
-      let d : Item = record { p = 0; q = 0; why = certificates.Any } in
+      let d : Item = record { p = 0; q = 0; why = listed_closures.Any } in
       let k = h.0 in
       let b : k < length items = omega (arith, h.1, length-map items number_pair) in
       let is : number_pair (get_or items k d) ≡ (p, q) = sym (get_or-map number_pair items k d (p, q) b) ∙ h.2 in

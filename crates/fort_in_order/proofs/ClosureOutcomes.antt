@@ -2,7 +2,7 @@
 use Rattle.std.proofs.Common.{◌≡◌, ℕ, ◌<◌, List, length, take, get_or, refl, ap, arith, subst, ⊎_elim}
 use Rattle.std.proofs.lemmas.Bool.{cases_lt}
 use Rattle.std.proofs.lemmas.List.{get_or_default}
-use Rattle.fort_certificate_grammar.specs.Certificates.{Pair as Item}
+use Rattle.fort_alike.specs.ListedClosures.{Pair as Item}
 use Rattle.fort_in_order.specs.Outcomes.{StepOutcome, Fine, Fails, Range, Unfounded, Open}
 use Rattle.fort_in_order.specs.ClosureSteps.{ClosureRules, IsListed, FollowsAt, IsWithin, IsFounded, AreFounded, number, IsClosedBelow, IsClosed, IsClosureOutcome, IsRight, NotWithin, NotFounded, NotClosed}
 

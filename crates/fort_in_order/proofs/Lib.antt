@@ -5,7 +5,7 @@ pub mod PartTables
 pub mod PartByLabels
 pub mod ClosureOutcomes
 pub mod ClosureExact
-pub mod OrderedLists
+pub mod PureLists
 pub mod CountOutcomes
 pub mod SameLabels
 pub mod RuleLaws

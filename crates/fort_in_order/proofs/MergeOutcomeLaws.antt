@@ -8,7 +8,7 @@ use Rattle.fort_tables.specs.Tables.{Table, IsTableEntry}
 use Rattle.fort_tables.proofs.OrderLaws.{before_irrefl, before_trans}
 use Rattle.fort_interchange.specs.MergeOutcomes.{MergeOutcome, WrongClass, IsSplitAt, AreClassesTo, IsClassAt, IsWholeAt, AreEntriesOf, IsMergeOutcome, IsRight, NotAsMany, NotOfClass, NotWhole}
 use Rattle.fort_interchange.proofs.MergeOutcomeLaws.{merge_outcome}
-use Rattle.fort_in_order.proofs.OrderedLists.{ordered_same}
+use Rattle.fort_alike.proofs.OneInOrder.{ordered_same}
 
 entry_in : (table : Table) (es : List Entry) (x : Entry) → AreEntriesOf table es → Contains es x → IsTableEntry table x
 entry_in table es x h c = subst (IsTableEntry table) c.2 (h.order.are c.0 x c.1)

@@ -4,8 +4,9 @@ use Rattle.std.specs.List.{list_any}
 use Rattle.fort_cores.specs.Cores as core
 use Rattle.fort_cores.specs.Cores.{Core}
 use Rattle.fort_tables.proofs.EqualTests.{if_equal, if_apart}
-use Rattle.fort_certificate_grammar.specs.Certificates.{Which, Star, Conv, Step, Closure, Part, Merge, Counts, Value}
-use Rattle.fort_in_order.specs.Dues.{DueStep, OfClosure, OfPart, OfMerge, OfValue, due_of, asks, has_columns, is_turned, table_due, closure_due, closures_due, counts_due, answer_due, parts_due, dues, begins_with_merge, is_merged_in, dues_of}
+use Rattle.fort_alike.specs.ListedClosures.{Which, Star, Conv, asks}
+use Rattle.fort_certificate_grammar.specs.Certificates.{Step, Closure, Part, Merge, Counts, Value}
+use Rattle.fort_in_order.specs.Dues.{DueStep, OfClosure, OfPart, OfMerge, OfValue, due_of, has_columns, is_turned, table_due, closure_due, closures_due, counts_due, answer_due, parts_due, dues, begins_with_merge, is_merged_in, dues_of}
 use Rattle.fort_in_order.specs.Made.{Made}
 use Rattle.fort_in_order.specs.Checked.{AreSteps, NoSteps, MoreSteps}
 

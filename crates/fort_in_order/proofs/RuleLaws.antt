@@ -26,7 +26,8 @@ use Rattle.fort_parts.specs.PartColumns.{columns_of, place_in}
 use Rattle.fort_parts.specs.PartAnswers.{Answer, OfValue, OfTable}
 use Rattle.fort_in_order.specs.Made.{Made, IsPartAt, IsAnswerOf, OfStep, Turned}
 use Rattle.fort_in_order.specs.PartRules.{Local, closure_for, relation_local, normal_local, product_local, project_local, many_local, IsRelationLocal, IsNormalLocal, IsProductLocal, IsProjectLocal, IsCounted, is_many, IsManyLocal, IsLocalOf, IsConnectedValue, IsManyValue, IsValueOf, IsAtomLocal, IsExpressionLocal}
-use Rattle.fort_in_order.proofs.OrderedLists.{subpatterns_one, pure_one}
+use Rattle.fort_alike.proofs.OneInOrder.{subpatterns_one}
+use Rattle.fort_in_order.proofs.PureLists.{pure_one}
 use Rattle.fort_in_order.proofs.SameLabels.{TellTheSame, AreOneOrSame}
 
 stands_before : {A : Type 0} (xs : List A) (j k : ℕ) (d x y : A) → j < k → k < length xs → get_or xs j d ≡ x → get_or xs k d ≡ y → StandsBefore xs x y

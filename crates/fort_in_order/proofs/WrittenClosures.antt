@@ -7,8 +7,8 @@ use Rattle.std.proofs.lemmas.List.{take_all}
 use Rattle.std.proofs.Math.Seq.{take-suc}
 use Rattle.fort_theory.specs.Patterns.{Pattern, Any}
 use Rattle.fort_theory.proofs.Members.{Contains-head, Contains-behind, Contains-cons_cases, Contains-none}
-use Rattle.fort_certificate_grammar.specs.Certificates as certificates
-use Rattle.fort_certificate_grammar.specs.Certificates.{Why, Pair as Item}
+use Rattle.fort_alike.specs.ListedClosures as closures
+use Rattle.fort_alike.specs.ListedClosures.{Why, Pair as Item}
 use Rattle.fort_in_order.specs.Outcomes.{Fine}
 use Rattle.fort_in_order.specs.ClosureSteps.{ClosureRules, numbers_of, Follows, AnyRight, AnyLeft, ByArguments, ByRule, IsRuleBelow, number, IsClosureOutcome, IsRight}
 use Rattle.fort_in_order.specs.Passes.{rank, IsFirstReason, last_number, IsPassed, IsNextItem, IsListOfPasses}
@@ -29,15 +29,15 @@ passed_one (Some last) m n other =
     (cases_lt last m)
 
 rank_one : (v w : Why) → rank v ≡ rank w → v ≡ w
-rank_one certificates.Any certificates.Any h = refl
-rank_one certificates.Any certificates.Kids h = absurd (omega arith)
-rank_one certificates.Any (certificates.Rule k) h = absurd (omega arith)
-rank_one certificates.Kids certificates.Any h = absurd (omega arith)
-rank_one certificates.Kids certificates.Kids h = refl
-rank_one certificates.Kids (certificates.Rule k) h = absurd (omega arith)
-rank_one (certificates.Rule k) certificates.Any h = absurd (omega arith)
-rank_one (certificates.Rule k) certificates.Kids h = absurd (omega arith)
-rank_one (certificates.Rule k) (certificates.Rule j) h = let e : k ≡ j = omega arith in ap certificates.Rule e
+rank_one closures.Any closures.Any h = refl
+rank_one closures.Any closures.Kids h = absurd (omega arith)
+rank_one closures.Any (closures.Rule k) h = absurd (omega arith)
+rank_one closures.Kids closures.Any h = absurd (omega arith)
+rank_one closures.Kids closures.Kids h = refl
+rank_one closures.Kids (closures.Rule k) h = absurd (omega arith)
+rank_one (closures.Rule k) closures.Any h = absurd (omega arith)
+rank_one (closures.Rule k) closures.Kids h = absurd (omega arith)
+rank_one (closures.Rule k) (closures.Rule j) h = let e : k ≡ j = omega arith in ap closures.Rule e
 
 module _ (c : ClosureRules) where
   first_one : (items : List Item) (p q : ℕ) (v w : Why) → IsFirstReason c items p q v → IsFirstReason c items p q w → v ≡ w
@@ -57,7 +57,7 @@ module _ (c : ClosureRules) where
       λ i. record { p = p i; q = q i; why = why i }
 
   no_item : Item
-  no_item = record { p = 0; q = 0; why = certificates.Any }
+  no_item = record { p = 0; q = 0; why = closures.Any }
 
   passes_to : (items others : List Item) → IsListOfPasses c items → IsListOfPasses c others → (n : ℕ) → n ≤ length items → n ≤ length others → take n items ≡ take n others
   passes_to items others h k zero l m = refl

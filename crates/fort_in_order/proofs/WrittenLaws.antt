@@ -14,7 +14,8 @@ use Rattle.fort_counts.specs.Counts.{Finite, Infinite, IsCountOf}
 use Rattle.fort_counts.specs.PureStates.{GivesAlone}
 use Rattle.fort_counts.proofs.HeightLaws.{not_many_from_heights}
 use Rattle.fort_parts.specs.PartColumns.{columns_of, place_in}
-use Rattle.fort_certificate_grammar.specs.Certificates.{Which, Pair as Item, Step, Closure, Part, Merge, Counts, Value, Certificate}
+use Rattle.fort_alike.specs.ListedClosures.{Which, Pair as Item}
+use Rattle.fort_certificate_grammar.specs.Certificates.{Step, Closure, Part, Merge, Counts, Value, Certificate}
 use Rattle.fort_in_order.specs.ClosureSteps.{ClosureRules}
 use Rattle.fort_in_order.specs.Dues.{DueStep, OfClosure, OfPart, OfMerge, OfCounts, OfValue, due_of, dues, dues_of}
 use Rattle.fort_in_order.specs.Made.{Made, nothing_made}

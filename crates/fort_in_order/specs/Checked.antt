@@ -12,7 +12,8 @@ use Rattle.fort_interchange.specs.MergeOutcomes.{MergeOutcome, AreEntriesOf, IsM
 use Rattle.fort_parts.specs.PartColumns.{columns_of, place_in}
 use Rattle.fort_parts.specs.PartAnswers.{OfValue, OfTable}
 use Rattle.fort_certificate_grammar.specs.Certificates as certificates
-use Rattle.fort_certificate_grammar.specs.Certificates.{Which, Pair as Item, Step, Closure, Part, Merge, Counts, Certificate}
+use Rattle.fort_alike.specs.ListedClosures.{Which, Pair as Item}
+use Rattle.fort_certificate_grammar.specs.Certificates.{Step, Closure, Part, Merge, Counts, Certificate}
 use Rattle.fort_in_order.specs.Outcomes.{Reason, Due, Value, Verdict, StepOutcome, Fine, Fails}
 use Rattle.fort_in_order.specs.PartSteps.{IsRightPart, IsPartFailure, part_table}
 use Rattle.fort_in_order.specs.ClosureSteps.{ClosureRules, AreClosureRules, IsClosureOutcome}

@@ -3,10 +3,9 @@ use Rattle.std.specs.Prelude.{◌≡◌, ℕ, ◌+◌, ◌*◌, ◌<◌, ◌≤�
 use Rattle.fort_theory.specs.Sides.{at_index}
 use Rattle.fort_theory.specs.Patterns.{Pattern, Any, At, Patterns, NoPattern, MorePatterns, Pair, PatternSystem}
 use Rattle.fort_theory.specs.PatternOrder.{AreSubpatternsInOrder}
-use Rattle.fort_cores.specs.Cores as core
 use Rattle.fort_alike.specs.Atoms.{pairs_for}
-use Rattle.fort_certificate_grammar.specs.Certificates as certificates
-use Rattle.fort_certificate_grammar.specs.Certificates.{Which, Star, Conv, Why, Pair as Item}
+use Rattle.fort_alike.specs.ListedClosures as closures
+use Rattle.fort_alike.specs.ListedClosures.{Which, Why, Pair as Item, relation_of}
 use Rattle.fort_in_order.specs.Outcomes.{StepOutcome, Fine, Fails, Range, Unfounded, Open}
 
 -- the two patterns of each rule, and the patterns within right sides and those within left sides, in their order
@@ -14,10 +13,6 @@ pub record ClosureRules : Type 0 where
   pub pairs : List Pair
   pub rights : List Pattern
   pub lefts : List Pattern
-
-abbrev pub relation_of : Which → core.Rel
-relation_of Star = core.Star
-relation_of Conv = core.Conv
 
 -- the patterns within the sides of some pairs, each once and in order
 pub record AreSidePatterns (pairs : List Pair) (lefts rights : List Pattern) : Type 0 where
@@ -57,16 +52,16 @@ AllListed c items (MorePatterns x xs) (MorePatterns y ys) = AreListed c items x 
 -- why a pair follows from those listed
 pub data Follows (c : ClosureRules) (items : List Item) : Why → Pattern → Pattern → Type 0 where
   -- one of the two is Any
-  AnyRight : {y : Pattern} → Follows c items certificates.Any Any y
-  AnyLeft : {x : Pattern} → Follows c items certificates.Any x Any
+  AnyRight : {y : Pattern} → Follows c items closures.Any Any y
+  AnyLeft : {x : Pattern} → Follows c items closures.Any x Any
   -- two patterns of one symbol, whose arguments are listed one by one
-  ByArguments : {f : ℕ} {xs ys : Patterns} → AllListed c items xs ys → Follows c items certificates.Kids (At f xs) (At f ys)
+  ByArguments : {f : ℕ} {xs ys : Patterns} → AllListed c items xs ys → Follows c items closures.Kids (At f xs) (At f ys)
   -- to the left side of a rule, and on from its right side
   ByRule : {k : ℕ} {x y : Pattern} (pair : Pair) → k < length c.pairs → get_or c.pairs k pair ≡ pair → AreListed c items x pair.0
-      → AreListed c items pair.1 y → Follows c items (certificates.Rule k) x y
+      → AreListed c items pair.1 y → Follows c items (closures.Rule k) x y
 
 abbrev pub IsRuleBelow : ℕ → Why → Type 0
-IsRuleBelow n (certificates.Rule k) = k < n
+IsRuleBelow n (closures.Rule k) = k < n
 IsRuleBelow n other = Unit {0}
 
 -- the numbers of the item are those of patterns and rules

@@ -1,10 +1,11 @@
 -- To believe: which steps a certificate of a formula has to have, and in which order; a merge may stand behind the step of its part.
-use Rattle.std.specs.Prelude.{ℕ, zero, suc, Bool, true, false, ◌&&◌, ◌==◌, nat_lt, List, [], ◌∷◌, ◌++◌, length, if◌then◌else◌}
+use Rattle.std.specs.Prelude.{ℕ, zero, suc, Bool, true, false, ◌==◌, nat_lt, List, [], ◌∷◌, ◌++◌, length, if◌then◌else◌}
 use Rattle.std.specs.List.{list_any}
 use Rattle.fort_cores.specs.Cores as core
-use Rattle.fort_cores.specs.Cores.{Atom, Core}
+use Rattle.fort_cores.specs.Cores.{Core}
 use Rattle.fort_parts.specs.PartColumns.{columns_of}
-use Rattle.fort_certificate_grammar.specs.Certificates.{Which, Star, Conv, Step, Closure, Part, Merge, Counts, Value}
+use Rattle.fort_alike.specs.ListedClosures.{Which, Star, Conv, asks}
+use Rattle.fort_certificate_grammar.specs.Certificates.{Step, Closure, Part, Merge, Counts, Value}
 
 -- what a step is about
 pub data DueStep : Type 0 where
@@ -20,25 +21,6 @@ due_of (Part k targets) = OfPart k
 due_of (Merge k classes) = OfMerge k
 due_of (Counts k counts) = OfCounts k
 due_of (Value k value) = OfValue k
-
--- whether a relation is told by the closure of an index
-abbrev pub reads : Which → core.Rel → Bool
-reads Star core.Star = true
-reads Star core.Plus = true
-reads Conv core.Conv = true
-reads which other = false
-
--- whether an atom asks for the closure of this index
-abbrev pub atom_asks : Which → ℕ → Atom → Bool
-atom_asks which i (core.Related rel index x y) = reads which rel && (index == i)
-atom_asks which i (core.InContext e number place x y) = false
-atom_asks which i (core.Normal index x) = false
-atom_asks which i (core.IsTerm x t) = false
-
--- whether a formula does
-abbrev pub asks : Which → ℕ → Core → Bool
-asks which i (core.Leaf a) = atom_asks which i a
-asks which i other = false
 
 abbrev pub closure_due : List Core → ℕ → Which → List DueStep
 closure_due parts i which = if list_any (asks which i) parts then (OfClosure which i ∷ []) else []

@@ -6,7 +6,7 @@ use Rattle.fort_tables.specs.Tables.{Table}
 use Rattle.fort_operations.specs.OperationTruth.{complemented}
 use Rattle.fort_counts.specs.Counts.{Count}
 use Rattle.fort_parts.specs.PartAnswers.{Answer, OfValue, OfTable}
-use Rattle.fort_certificate_grammar.specs.Certificates.{Which, Star, Conv, Pair as Item}
+use Rattle.fort_alike.specs.ListedClosures.{Which, Star, Conv, Pair as Item}
 use Rattle.fort_in_order.specs.Dues.{has_columns, is_turned}
 
 -- the items of closures by their index; counts and answers by the numbers of parts

@@ -25,7 +25,7 @@ use Rattle.fort_counts.specs.ManyLabels.{many_rule, many_accepts, many_value}
 use Rattle.fort_parts.specs.PartColumns.{columns_of, place_in, places_in}
 use Rattle.fort_parts.specs.PartAnswers.{Answer, OfValue, OfTable}
 use Rattle.fort_parts.specs.PartSteps.{operand_of}
-use Rattle.fort_certificate_grammar.specs.Certificates.{Star, Conv, Pair as Item}
+use Rattle.fort_alike.specs.ListedClosures.{Star, Conv, Pair as Item}
 use Rattle.fort_in_order.specs.ClosureSteps.{AreSidePatterns, numbers_of}
 use Rattle.fort_in_order.specs.Made.{Made, IsAnswerOf}
 

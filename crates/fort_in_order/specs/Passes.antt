@@ -1,8 +1,8 @@
 -- To believe: the closure that is written: passes over all pairs in their numbering, each of which lists a pair as soon as it follows from those listed so far, with the first reason, until a pass lists nothing.
 use Rattle.std.specs.Prelude.{◌⊎◌, ℕ, ◌+◌, ◌<◌, ◌≤◌, List, map, take, Option, None, Some, get_or, length}
 use Rattle.std.specs.List.{last_or}
-use Rattle.fort_certificate_grammar.specs.Certificates as certificates
-use Rattle.fort_certificate_grammar.specs.Certificates.{Why, Pair as Item}
+use Rattle.fort_alike.specs.ListedClosures as closures
+use Rattle.fort_alike.specs.ListedClosures.{Why, Pair as Item}
 use Rattle.fort_in_order.specs.ClosureSteps.{ClosureRules, IsListed, FollowsBy, FollowsAt, number}
 
 -- the pair follows and isn't listed
@@ -14,9 +14,9 @@ pub record IsDuePair (c : ClosureRules) (items : List Item) (p q : ℕ) : Type 0
 
 -- Any, then the arguments, then the rules by number
 abbrev pub rank : Why → ℕ
-rank certificates.Any = 0
-rank certificates.Kids = 1
-rank (certificates.Rule k) = 2 + k
+rank closures.Any = 0
+rank closures.Kids = 1
+rank (closures.Rule k) = 2 + k
 
 pub record IsFirstReason (c : ClosureRules) (items : List Item) (p q : ℕ) (why : Why) : Type 0 where
   pub follows : FollowsBy c items p q why

@@ -11,7 +11,8 @@ use Rattle.fort_counts.specs.Counts.{Finite, IsCountOf}
 use Rattle.fort_interchange.specs.Merges.{IsCoarsest}
 use Rattle.fort_parts.specs.PartAnswers.{OfTable}
 use Rattle.fort_parts.specs.PartColumns.{columns_of, place_in}
-use Rattle.fort_certificate_grammar.specs.Certificates.{Which, Pair as Item, Step, Closure, Part, Merge, Counts, Value, Certificate}
+use Rattle.fort_alike.specs.ListedClosures.{Which, Pair as Item}
+use Rattle.fort_certificate_grammar.specs.Certificates.{Step, Closure, Part, Merge, Counts, Value, Certificate}
 use Rattle.fort_in_order.specs.PartSteps.{IsRightPart}
 use Rattle.fort_in_order.specs.ClosureSteps.{ClosureRules, AreClosureRules}
 use Rattle.fort_in_order.specs.Dues.{dues}

@@ -30,11 +30,10 @@ use Rattle.fort_parts.proofs.PartColumnLaws.{AreColumns-columns_of, columns_of-N
 use Rattle.fort_parts.proofs.StepTables.{IsTableOver-labels}
 use Rattle.fort_parts.proofs.AtomAnswers.{TellsTruth-Atom, TellsTruth-Nf, TellsTruth-Is}
 use Rattle.fort_parts.proofs.AtomResults.{IsAnswerTo-Expression_surely}
-use Rattle.fort_certificate_grammar.specs.Certificates.{Which, Star, Conv, Pair as Item}
+use Rattle.fort_alike.specs.ListedClosures.{Which, Star, Conv, Pair as Item, relation_of, asks}
 use Rattle.fort_in_order.specs.Outcomes.{StepOutcome, Fine}
 use Rattle.fort_in_order.specs.ClosureSteps as closures
-use Rattle.fort_in_order.specs.ClosureSteps.{ClosureRules, relation_of, AreSidePatterns, AreClosureRules, numbers_of, AreFounded, IsClosed, IsClosureOutcome}
-use Rattle.fort_in_order.specs.Dues.{asks}
+use Rattle.fort_in_order.specs.ClosureSteps.{ClosureRules, AreSidePatterns, AreClosureRules, numbers_of, AreFounded, IsClosed, IsClosureOutcome}
 use Rattle.fort_in_order.specs.Made.{Made}
 use Rattle.fort_in_order.specs.PartRules.{Local, closure_for, relation_local, normal_local, term_local, IsRelationLocal, IsNormalLocal, IsExpressionLocal}
 use Rattle.fort_in_order.specs.Checked.{IsClosureJudged}

@@ -22,11 +22,13 @@ use Rattle.fort_parts.specs.DecidedCores.{IsDecided, IsOverSystem, IsOperandOf, 
 use Rattle.fort_parts.proofs.PartColumnLaws.{is_free-from_column}
 use Rattle.fort_parts.proofs.PartFacts.{IsOverSystem-part}
 use Rattle.fort_parts.proofs.PartOrder.{Contains-postorder, operand_earlier}
+use Rattle.fort_alike.specs.ListedClosures as listed_closures
 use Rattle.fort_certificate_grammar.specs.Certificates as certificates
-use Rattle.fort_certificate_grammar.specs.Certificates.{Which, Star, Conv, Step, Closure, Part, Merge, Counts, Certificate}
+use Rattle.fort_alike.specs.ListedClosures.{Which, Star, Conv, reads, asks, atom_asks}
+use Rattle.fort_certificate_grammar.specs.Certificates.{Step, Closure, Part, Merge, Counts, Certificate}
 use Rattle.fort_in_order.specs.Outcomes.{Fine}
 use Rattle.fort_in_order.specs.MergeSteps.{listed_merge}
-use Rattle.fort_in_order.specs.Dues.{DueStep, OfPart, OfMerge, OfCounts, OfValue, due_of, reads, asks, closures_due, has_columns, is_turned, counts_due, table_due, answer_due, parts_due, is_merged_in, dues_of, atom_asks}
+use Rattle.fort_in_order.specs.Dues.{DueStep, OfPart, OfMerge, OfCounts, OfValue, due_of, closures_due, has_columns, is_turned, counts_due, table_due, answer_due, parts_due, is_merged_in, dues_of}
 use Rattle.fort_in_order.specs.Made.{Made, nothing_made, with_counts, with_answer, IsAnswerOf, OfStep, Turned}
 use Rattle.fort_in_order.specs.PartRules.{IsCounted, IsLocalOf, IsValueOf}
 use Rattle.fort_in_order.specs.Checked.{IsClosureJudged, IsFine, FineValue, AreSteps, NoSteps, MoreSteps, last_value, AreAllFine, IsChecked, InOrder, OtherVerdict, FailingStep, Outcome, Certified, IsInOrder}
@@ -195,7 +197,7 @@ module _ (system : PatternSystem) (root : Core) (parts : List Core) (are : ArePa
     -- ---- all parts
 
     -- the same of the closures alone
-    abbrev AreRightBelow : ℕ → (Which → ℕ → List certificates.Pair) → Type 0
+    abbrev AreRightBelow : ℕ → (Which → ℕ → List listed_closures.Pair) → Type 0
     AreRightBelow i made = (which : Which) (j : ℕ) → 1 ≤ j → j < i → list_any (asks which j) parts ≡ true → IsClosureJudged system which j (made which j) Fine
 
     pub asked_closures : (k : ℕ) (made : Made) → k < length parts → HasClosures system parts (1 + length system.rules) made → HasClosuresFor system made (get_or parts k core.True)
@@ -219,7 +221,7 @@ module _ (system : PatternSystem) (root : Core) (parts : List Core) (are : ArePa
         let d = cut_steps (IsFine system parts) c.mid (answer_due merges k f) (parts_due merges (suc k) fs) c.rest last c.second in
         let counts = counts_done k f made c.mid c.front own c.first in
         let has_mid : Has k c.mid = λ j m n t. subst (λ (g : ℕ → Answer). Right (get_or parts j core.True) (g j)) (sym counts.answers) (has j m n t) in
-        let closures_mid : HasClosures system parts (1 + length system.rules) c.mid = subst (λ (g : Which → ℕ → List certificates.Pair). AreRightBelow (1 + length system.rules) g) (sym counts.closures) closures in
+        let closures_mid : HasClosures system parts (1 + length system.rules) c.mid = subst (λ (g : Which → ℕ → List listed_closures.Pair). AreRightBelow (1 + length system.rules) g) (sym counts.closures) closures in
         let asked : HasClosuresFor system c.mid f = subst (HasClosuresFor system c.mid) own (asked_closures k c.mid l closures_mid) in
         let answer = answer_done merges k f c.mid d.mid d.front l own has_mid asked counts.counts d.first in
         let has_next : Has (suc k) d.mid =
@@ -230,7 +232,7 @@ module _ (system : PatternSystem) (root : Core) (parts : List Core) (are : ArePa
         let turned : is_turned f ≡ false = ap is_turned (sym own ∙ ap (λ i. get_or parts i core.True) z) ∙ t in
         subst (λ (i : ℕ). Right (get_or parts i core.True) (d.mid.answers i)) z (subst (λ (g : Core). Right g (d.mid.answers k)) (sym own) (answer.right turned)))
         (cases_lt j k) in
-        let closures_next : HasClosures system parts (1 + length system.rules) d.mid = subst (λ (g : Which → ℕ → List certificates.Pair). AreRightBelow (1 + length system.rules) g) (sym answer.closures) closures_mid in
+        let closures_next : HasClosures system parts (1 + length system.rules) d.mid = subst (λ (g : Which → ℕ → List listed_closures.Pair). AreRightBelow (1 + length system.rules) g) (sym answer.closures) closures_mid in
         parts_done merges fs (suc k) d.mid last d.rest (omega arith) (λ j. let i : k + suc j ≡ suc k + j = omega arith in at (suc j) ∙ ap (λ z. get_or parts z core.True) i) has_next closures_next d.second
 
 -- ---- the last answer

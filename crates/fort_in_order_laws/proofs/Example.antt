@@ -16,7 +16,8 @@ use Rattle.fort_interchange.specs.Merges.{class_of, count_of, leader, led, merge
 use Rattle.fort_interchange.specs.MergeOutcomes.{AreEntriesOf}
 use Rattle.fort_operations.specs.OperationTruth.{complemented}
 use Rattle.fort_parts.specs.PartAnswers.{OfValue, OfTable}
-use Rattle.fort_certificate_grammar.specs.Certificates.{Star, Conv, Why, Kids, Pair as Item, Step, Part, Merge, Value, Certificate}
+use Rattle.fort_alike.specs.ListedClosures.{Star, Conv, Why, Kids, Pair as Item}
+use Rattle.fort_certificate_grammar.specs.Certificates.{Step, Part, Merge, Value, Certificate}
 use Rattle.fort_in_order.specs.Outcomes.{Fine, Fails, Open, Verdict}
 use Rattle.fort_in_order.specs.ClosureSteps.{ClosureRules, IsListed, AreListed, Follows, AnyRight, AnyLeft, ByArguments, ByRule, FollowsAt, IsWithin, IsFounded, IsClosureOutcome, IsRight, NotClosed}
 use Rattle.fort_in_order.specs.PartSteps.{IsRightAt, IsRightPart, part_table}

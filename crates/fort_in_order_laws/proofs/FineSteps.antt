@@ -12,11 +12,12 @@ use Rattle.fort_interchange.specs.Merges.{merged, IsMerge}
 use Rattle.fort_interchange.specs.MergeOutcomes.{AreEntriesOf}
 use Rattle.fort_counts.specs.Counts.{Count}
 use Rattle.fort_parts.specs.PartAnswers.{OfValue, OfTable}
-use Rattle.fort_certificate_grammar.specs.Certificates.{Which, Star, Conv, Pair as Item, Step}
+use Rattle.fort_alike.specs.ListedClosures.{Which, Star, Conv, Pair as Item, asks}
+use Rattle.fort_certificate_grammar.specs.Certificates.{Step}
 use Rattle.fort_in_order.specs.Outcomes.{Fine}
 use Rattle.fort_in_order.specs.PartSteps.{part_table}
 use Rattle.fort_in_order.specs.MergeSteps.{listed_merge}
-use Rattle.fort_in_order.specs.Dues.{DueStep, OfClosure, OfPart, OfMerge, OfCounts, OfValue, due_of, asks, closure_due, closures_due}
+use Rattle.fort_in_order.specs.Dues.{DueStep, OfClosure, OfPart, OfMerge, OfCounts, OfValue, due_of, closure_due, closures_due}
 use Rattle.fort_in_order.specs.Made.{Made, same_which, with_closure, with_counts, with_answer}
 use Rattle.fort_in_order.specs.PartRules.{Local, IsLocalOf, IsValueOf}
 use Rattle.fort_in_order.specs.Checked.{IsClosureJudged, IsCountJudged, IsFine, FineClosure, FinePart, FineMerge, FineCounts, FineValue, AreSteps, NoSteps, MoreSteps}

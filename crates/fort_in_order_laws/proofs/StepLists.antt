@@ -2,7 +2,8 @@
 use Rattle.std.proofs.Common.{◌≡◌, ℕ, zero, suc, ◌+◌, Bool, List, [], ◌∷◌, ◌++◌, length, refl, ap, sym, ◌∙◌, arith, subst, append_assoc, append-nil}
 use Rattle.fort_theory.specs.Patterns.{PatternSystem}
 use Rattle.fort_cores.specs.Cores.{Core}
-use Rattle.fort_certificate_grammar.specs.Certificates.{Star, Conv, Step}
+use Rattle.fort_alike.specs.ListedClosures.{Star, Conv}
+use Rattle.fort_certificate_grammar.specs.Certificates.{Step}
 use Rattle.fort_in_order.specs.Dues.{DueStep, due_of, closure_due, closures_due, counts_due, answer_due, parts_due, dues_of}
 use Rattle.fort_in_order.specs.Made.{Made, nothing_made}
 use Rattle.fort_in_order.specs.Checked.{IsFine, AreSteps, NoSteps, MoreSteps, IsUpTo, AreAllFine}

@@ -12,7 +12,8 @@ use Rattle.fort_counts.specs.Counts.{AreCounts}
 use Rattle.fort_parts.specs.PartColumns.{columns_of, place_in}
 use Rattle.fort_parts.specs.PartAnswers.{OfValue, OfTable}
 use Rattle.fort_certificate_grammar.specs.Certificates as certificates
-use Rattle.fort_certificate_grammar.specs.Certificates.{Which, Pair as Item, Step, Closure, Part, Merge, Counts}
+use Rattle.fort_alike.specs.ListedClosures.{Which, Pair as Item}
+use Rattle.fort_certificate_grammar.specs.Certificates.{Step, Closure, Part, Merge, Counts}
 use Rattle.fort_in_order.specs.ClosureSteps.{ClosureRules, AreClosureRules}
 use Rattle.fort_in_order.specs.MergeSteps.{listed_merge}
 use Rattle.fort_in_order.specs.Made.{Made, with_closure, with_counts, with_answer}

@@ -22,9 +22,9 @@ use Rattle.fort_counts.specs.Counts as counts
 use Rattle.fort_counts.specs.ManyLabels.{has_many, many_bit, gives_many}
 use Rattle.fort_counts.specs.ManyEntries.{IsManyEntry, AreManyChoices}
 use Rattle.fort_counts.proofs.CountPlaces.{count_at-ascending, count_at-none}
-use Rattle.fort_steps.specs.StepView.{as_count}
+use Rattle.fort_findings.specs.FindingView.{as_count}
 use Rattle.fort_infinity.specs.ManyCounts.{is_many}
-use Rattle.fort_steps.specs.declared.count.Count.{Count}
+use Rattle.fort_findings.specs.declared.count.Count.{Count}
 
 -- equal places are equal numbers
 shifted : (n a b : ℕ) → (n + a == n + b) ≡ (a == b)

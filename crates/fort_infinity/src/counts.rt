@@ -4,14 +4,14 @@ ghost use Rattle.fort_operations.specs.Projections.{ArePure};
 ghost use Rattle.fort_counts.specs.Counts.{AreCounts};
 ghost use Rattle.fort_counts.specs.Ranks.{count_by};
 ghost use Rattle.fort_counts.proofs.CountLaws.{marks_by};
-ghost use Rattle.fort_steps.specs.StepView.{as_count};
+ghost use Rattle.fort_findings.specs.FindingView.{as_count};
 ghost use Rattle.fort_infinity.specs.LeastUnranked.{least_from, greatest_number, least_child};
 
 use crate::children::pure_children;
 use crate::lists::StateLists;
 use crate::ranks::settled_ranks;
+use fort_findings::Count;
 use fort_lockstep::Table;
-use fort_steps::Count;
 use fort_terms::Memory;
 use std::alloc::Global;
 

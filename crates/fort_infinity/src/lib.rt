@@ -11,5 +11,4 @@ mod many_entry;
 mod ranks;
 
 pub use counts::pure_counts;
-pub use fort_steps::Count;
 pub use many::Many;

@@ -12,8 +12,8 @@ ghost use Rattle.fort_infinity.specs.ManyCounts.{is_many};
 
 use crate::local::{many_accepts, many_label, many_width};
 use fort_explore::{LocalRule, Rows};
+use fort_findings::Count;
 use fort_lockstep::{Row, Table};
-use fort_steps::Count;
 
 /// The labels of "infinitely many": of a tuple of the other columns, those of the projection, and the set of states that infinitely
 /// many terms of the column give.
@@ -32,7 +32,7 @@ pub struct Many<'a, T: Table> {
 
 impl<'a, T: Table> Many<'a, T> {
     ghost use Rattle.fort_counts.specs.Counts.{KeepRules, count_at};
-    ghost use Rattle.fort_steps.specs.StepView.{as_count};
+    ghost use Rattle.fort_findings.specs.FindingView.{as_count};
 
     /// "Infinitely many" of a body that has another column. `alone` are the body's pure states in the column; the counts beside them
     /// hold by their rules, whoever counted them. It takes no memory.

@@ -11,9 +11,9 @@ ghost use Rattle.fort_projections.specs.Choices.{IsNext, IsNextChoice, AreNoChoi
 ghost use Rattle.fort_infinity.specs.ManyCounts.{is_many};
 
 use fort_explore::{Rows, has_bit, set_bit};
+use fort_findings::Count;
 use fort_lockstep::{Row, Table, TupleSym};
 use fort_rrn_algebra::{next_absent, next_in_set, next_pure};
-use fort_steps::Count;
 use fort_terms::Sym;
 
 /// A symbol in the column above an entry over labels of "infinitely many".

@@ -10,8 +10,8 @@ ghost use Rattle.fort_infinity.specs.ManyCounts.{is_many};
 
 use crate::many_choices::ManyChoices;
 use fort_explore::Rows;
+use fort_findings::Count;
 use fort_lockstep::{Row, Table};
-use fort_steps::Count;
 use fort_terms::Sym;
 
 /// The children's states with the column absent.

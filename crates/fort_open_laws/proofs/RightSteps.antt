@@ -12,7 +12,8 @@ use Rattle.fort_counts.specs.Counts.{Count, KeepRules, count_at}
 use Rattle.fort_parts.specs.PartColumns.{columns_of, place_in}
 use Rattle.fort_parts.specs.PartAnswers.{Answer, OfValue, OfTable, IsAnswerTo}
 use Rattle.fort_parts.specs.DecidedCores.{IsDecided}
-use Rattle.fort_certificate_grammar.specs.Certificates.{Which, Pair as Item, Step}
+use Rattle.fort_alike.specs.ListedClosures.{Which, Pair as Item}
+use Rattle.fort_certificate_grammar.specs.Certificates.{Step}
 use Rattle.fort_in_order.specs.MergeSteps.{listed_merge}
 use Rattle.fort_in_order.specs.Dues as dues
 use Rattle.fort_in_order.specs.Dues.{DueStep, OfPart, OfMerge, OfCounts, closures_due, has_columns, is_turned, counts_due, table_due, answer_due, parts_due}

@@ -5,5 +5,4 @@ pub mod RootLaws
 pub mod UseLaws
 pub mod NumberLaws
 pub mod OutlineLaws
-pub mod DueLists
 pub mod JoinedOperands

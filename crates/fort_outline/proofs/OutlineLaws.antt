@@ -6,8 +6,7 @@ use Rattle.std.proofs.lemmas.List.{get_or_default}
 use Rattle.fort_cores.specs.Cores as core
 use Rattle.fort_cores.specs.Cores.{Core, Rel}
 use Rattle.fort_parts.specs.PartColumns.{columns_of}
-use Rattle.fort_certificate_grammar.specs.Certificates.{Which}
-use Rattle.fort_in_order.specs.Dues.{reads, asks, is_turned}
+use Rattle.fort_alike.specs.ListedClosures.{Which, reads, asks}
 use Rattle.fort_outline.specs.declared.root.Root.{Root}
 use Rattle.fort_outline.specs.declared.root.Root.TheVariants.{True, Leaf, Not, Binary, Exists, Infinite}
 use Rattle.fort_outline.specs.declared.outline.Outline.{Outline}
@@ -69,15 +68,6 @@ any_behind which index parts (r ∷ rs) =
 -- Result
 pub some_part_asks : (which : Which) (index : ℕ) (rs : List Root) → list_any (asks which index) (cores_of rs) ≡ list_any (root_asks which index) rs
 some_part_asks which index rs = any_behind which index [] rs
-
--- a root that is no negation isn't turned
-pub plain_root : (parts : List Core) (r : Root) → ((f : ℕ) → r ≡ Not f → ⊥) → is_turned (root_core parts r) ≡ false
-plain_root parts True other = refl
-plain_root parts (Leaf a) other = refl
-plain_root parts (Not f) other = absurd (other f refl)
-plain_root parts (Binary op f g) other = refl
-plain_root parts (Exists n f) other = refl
-plain_root parts (Infinite n f) other = refl
 
 -- what an atom asks for, and what another formula does
 

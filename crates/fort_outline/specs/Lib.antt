@@ -2,4 +2,3 @@ pub mod LeafView
 pub mod Roots
 pub mod Numbered
 pub mod Outlines
-pub mod DueView

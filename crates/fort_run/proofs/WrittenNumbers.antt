@@ -6,11 +6,12 @@ use Rattle.std.specs.List.{AllByRecursion, list_any}
 use Rattle.fort_theory.specs.Patterns.{PatternSystem}
 use Rattle.fort_cores.specs.Cores as core
 use Rattle.fort_cores.specs.Cores.{Core}
-use Rattle.fort_certificate_grammar.specs.Certificates.{Which, Star, Conv, Step, Closure, Part, Merge, Counts, Value, Certificate}
+use Rattle.fort_alike.specs.ListedClosures.{Which, Star, Conv, asks}
+use Rattle.fort_certificate_grammar.specs.Certificates.{Step, Closure, Part, Merge, Counts, Value, Certificate}
 use Rattle.fort_certificate_grammar.specs.CertificateForms.{OfOne, OfSeveral, version_for, tells_index, has_merges}
 use Rattle.fort_certificate_grammar.specs.CertificateText.{CanBeWritten}
 use Rattle.fort_certificate.specs.Again.{HasSmallNumbers}
-use Rattle.fort_in_order.specs.Dues.{DueStep, OfClosure, OfPart, OfMerge, OfCounts, OfValue, due_of, asks, has_columns, is_turned, closure_due, closures_due, counts_due, table_due, answer_due, parts_due, dues}
+use Rattle.fort_in_order.specs.Dues.{DueStep, OfClosure, OfPart, OfMerge, OfCounts, OfValue, due_of, has_columns, is_turned, closure_due, closures_due, counts_due, table_due, answer_due, parts_due, dues}
 use Rattle.fort_in_order.specs.Made.{Made, nothing_made}
 use Rattle.fort_in_order.specs.Checked.{AreSteps, NoSteps, MoreSteps}
 use Rattle.fort_in_order.specs.Written.{IsWrittenStep, IsWritten}

@@ -2,11 +2,7 @@
 #![tactic(auto)]
 
 mod certificate;
-mod closure;
-mod count;
 mod step;
 
 pub use certificate::Certificate;
-pub use closure::{ClosureEntry, Reason, Which};
-pub use count::Count;
 pub use step::Step;

@@ -1,6 +1,5 @@
 //! The steps of a certificate.
-use crate::closure::{ClosureEntry, Which};
-use crate::count::Count;
+use fort_findings::{ClosureEntry, Count, Which};
 
 /// A step of a certificate. The numbers that come first are those of parts, but the index of a closure.
 #[derive(Debug, PartialEq, Eq, Drop)]

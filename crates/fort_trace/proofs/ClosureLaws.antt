@@ -1,29 +1,60 @@
 -- The steps of the closures, one by one.
-use Rattle.std.proofs.Common.{◌≡◌, ℕ, ◌+◌, ◌<◌, List, [], ◌∷◌, ◌++◌, map, take, length, get_or, true, refl, ap, sym, ◌∙◌, subst, append_assoc, append-nil}
+use Rattle.std.proofs.Common.{◌≡◌, ℕ, zero, suc, ◌+◌, ◌<◌, Bool, false, if◌then◌else◌, List, [], ◌∷◌, ◌++◌, map, take, length, get_or, true, refl, ap, sym, ◌∙◌, subst, append_assoc, append-nil}
 use Rattle.std.specs.declared.alloc.Global.{Global}
 use Rattle.std.specs.declared.vec.Vec.{Vec}
+use Rattle.std.specs.List.{list_any}
 use Rattle.std.proofs.lemmas.List.{map-append, take_more}
+use Rattle.std.proofs.lemmas.Simd.{map-map}
 use Rattle.fort_theory.specs.Patterns.{PatternSystem, IsSystem}
 use Rattle.fort_cores.specs.Cores.{Core}
 use Rattle.fort_alike.specs.Atoms.{kind_for}
 use Rattle.fort_alike.specs.Alike.{is_reaching}
 use Rattle.fort_certificate_grammar.specs.Certificates as certificates
-use Rattle.fort_certificate_grammar.specs.Certificates.{Which, Star, Conv}
-use Rattle.fort_in_order.specs.ClosureSteps.{relation_of}
-use Rattle.fort_in_order.specs.Dues.{DueStep, OfClosure}
+use Rattle.fort_alike.specs.ListedClosures.{Which, Star, Conv, Pair as Item, relation_of, asks}
+use Rattle.fort_in_order.specs.Dues.{DueStep, OfClosure, closure_due, closures_due}
 use Rattle.fort_in_order.specs.Made.{Made, with_closure}
 use Rattle.fort_in_order.specs.Checked.{AreSteps, NoSteps, MoreSteps}
 use Rattle.fort_in_order.specs.Written.{IsWrittenClosure, IsWrittenStep}
 use Rattle.fort_in_order_laws.proofs.StepLists.{steps_append}
 use Rattle.fort_in_order_laws.proofs.WrittenSteps.{written_closure}
-use Rattle.fort_steps.specs.declared.closure.ClosureEntry.{ClosureEntry}
+use Rattle.fort_findings.specs.declared.closure.ClosureEntry.{ClosureEntry}
 use Rattle.fort_steps.specs.declared.step.Step.{Step}
 use Rattle.fort_steps.specs.declared.step.Step.TheVariants.{Closure}
-use Rattle.fort_steps.specs.StepView.{as_which, as_pair, as_step}
+use Rattle.fort_findings.specs.FindingView.{as_which, as_pair}
+use Rattle.fort_steps.specs.StepView.{as_step}
 use Rattle.fort_written_closures.proofs.PassesLaws.{closure_items}
 use Rattle.fort_engine.specs.declared.closures.IndexClosure.{IndexClosure}
-use Rattle.fort_engine.specs.Closures.{due_of, ListsItsPasses, AreClosures}
+use Rattle.fort_engine.specs.Closures.{name_of, closure_asked, closures_asked, ListsItsPasses, AreClosures}
 use Rattle.fort_trace.specs.Recording.{AddsSteps, IsOneMore}
+
+-- what the step of a closure is about
+abbrev pub step_for : IndexClosure → DueStep
+step_for c = OfClosure (as_which c.which) c.index
+
+abbrev named_step : Which × ℕ → DueStep
+named_step name = OfClosure name.0 name.1
+
+one_asked : (parts : List Core) (i : ℕ) (which : Which) → map named_step (closure_asked parts i which) ≡ closure_due parts i which
+one_asked parts i which = by (list_any (asks which i) parts)
+  where
+    by : (b : Bool) → map named_step (if b then ((which, i) ∷ []) else []) ≡ (if b then (OfClosure which i ∷ []) else [])
+    by true = refl
+    by false = refl
+
+-- the closures that are asked for are those whose steps are due
+asked_due : (parts : List Core) (n i : ℕ) → map named_step (closures_asked parts n i) ≡ closures_due parts n i
+asked_due parts zero i = refl
+asked_due parts (suc n) i =
+    let rest = closures_asked parts n (suc i) in
+    let conv = closure_asked parts i Conv in
+    map-append named_step (closure_asked parts i Star) (conv ++ rest)
+    ∙ (ap (λ ds. ds ++ map named_step (conv ++ rest)) (one_asked parts i Star)
+    ∙ ap (λ ds. closure_due parts i Star ++ ds) (map-append named_step conv rest
+    ∙ (ap (λ ds. ds ++ map named_step rest) (one_asked parts i Conv) ∙ ap (λ ds. closure_due parts i Conv ++ ds) (asked_due parts n (suc i)))))
+
+pub closures_are_due : (system : PatternSystem) (parts : List Core) (cs : List IndexClosure) → AreClosures system parts cs → map step_for cs ≡ closures_due parts (length system.rules) 1
+closures_are_due system parts cs are =
+    sym (map-map named_step name_of cs) ∙ (ap (map named_step) are.names_are ∙ asked_due parts (length system.rules) 1)
 
 -- a closure tells a reduction
 reading : (which : Which) → is_reaching (kind_for (relation_of which)) ≡ true
@@ -61,7 +92,7 @@ module _ (system : PatternSystem) (parts : List Core) where
         done = steps_append (IsWrittenStep system parts) made h.last n.last ds es h.added n.added h.done n.done;
       }
 
-  AddsSteps-closure : (made : Made) (which : Which) (index : ℕ) (items : List certificates.Pair) (old new : List Step) → IsWrittenClosure system which index items
+  AddsSteps-closure : (made : Made) (which : Which) (index : ℕ) (items : List Item) (old new : List Step) → IsWrittenClosure system which index items
       → IsOneMore old (certificates.Closure which index items) new → AddsSteps system parts made (OfClosure which index ∷ []) old new
   AddsSteps-closure made which index items old new written more = record {
     added = certificates.Closure which index items ∷ [];
@@ -73,15 +104,15 @@ module _ (system : PatternSystem) (parts : List Core) where
   -- one more closure
   pub AddsSteps-more : IsSystem system → (made : Made) (cs : List IndexClosure) (i : ℕ) (c : IndexClosure) (copied : Vec ClosureEntry Global) (old mid new : List Step)
       → i < length cs → c ≡ get_or cs i c → copied.items ≡ c.entries.items → new ≡ mid ++ Closure c.which c.index copied ∷ [] → AreClosures system parts cs
-      → AddsSteps system parts made (map due_of (take i cs)) old mid → AddsSteps system parts made (map due_of (take (i + 1) cs)) old new
+      → AddsSteps system parts made (map step_for (take i cs)) old mid → AddsSteps system parts made (map step_for (take (i + 1) cs)) old new
   AddsSteps-more is made cs i c copied old mid new low at same more are h =
-      let grown : map due_of (take (i + 1) cs) ≡ map due_of (take i cs) ++ due_of c ∷ [] =
-      ap (map due_of) (take_more cs i c low ∙ ap (λ x. take i cs ++ x ∷ []) (sym at)) ∙ map-append due_of (take i cs) (c ∷ []) in
+      let grown : map step_for (take (i + 1) cs) ≡ map step_for (take i cs) ++ step_for c ∷ [] =
+      ap (map step_for) (take_more cs i c low ∙ ap (λ x. take i cs ++ x ∷ []) (sym at)) ∙ map-append step_for (take i cs) (c ∷ []) in
       let passes : ListsItsPasses system c = subst (ListsItsPasses system) (sym at) (are.passed i c low) in
       let written : IsWrittenClosure system (as_which c.which) c.index (map as_pair copied.items) =
       subst (λ (es : List ClosureEntry). IsWrittenClosure system (as_which c.which) c.index (map as_pair es)) (sym same) (IsWrittenClosure-entries system is c passes) in
       let one : IsOneMore mid (certificates.Closure (as_which c.which) c.index (map as_pair copied.items)) new =
       one_more mid new (Closure c.which c.index copied) more in
       subst (λ (ds : List DueStep). AddsSteps system parts made ds old new) (sym grown)
-      (AddsSteps-append made (map due_of (take i cs)) (due_of c ∷ []) old mid new h
+      (AddsSteps-append made (map step_for (take i cs)) (step_for c ∷ []) old mid new h
       (λ m. AddsSteps-closure m (as_which c.which) c.index (map as_pair copied.items) mid new written one))

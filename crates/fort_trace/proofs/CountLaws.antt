@@ -9,9 +9,9 @@ use Rattle.fort_in_order.specs.Made.{Made}
 use Rattle.fort_engine.specs.declared.answer.Last.{Last}
 use Rattle.fort_engine.specs.declared.answer.Last.TheVariants.{Auto}
 use Rattle.fort_engine.specs.Found.{AreItsCounts}
-use Rattle.fort_steps.specs.declared.count.Count.{Count}
+use Rattle.fort_findings.specs.declared.count.Count.{Count}
 use Rattle.fort_steps.specs.declared.step.Step.{Step}
-use Rattle.fort_steps.specs.StepView.{as_count}
+use Rattle.fort_findings.specs.FindingView.{as_count}
 use Rattle.fort_trace.specs.Recording.{AreOperandsMade, CountsPushed, CountsAdded}
 
 pub CountsPushed-none : (k : ℕ) (own : Option (Vec Count Global)) (steps : List Step) → ((list : Vec Count Global) → own ≡ Some list → ⊥) → CountsPushed k own steps steps

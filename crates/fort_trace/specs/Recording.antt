@@ -25,9 +25,10 @@ use Rattle.fort_engine.specs.declared.answer.Last.TheVariants.{Truth, Auto}
 use Rattle.fort_engine.specs.declared.options.Options.{Options}
 use Rattle.fort_engine.specs.AnswerView.{as_answer}
 use Rattle.fort_engine.specs.Found.{AreMarks, is_negation}
-use Rattle.fort_steps.specs.declared.count.Count.{Count}
+use Rattle.fort_findings.specs.declared.count.Count.{Count}
 use Rattle.fort_steps.specs.declared.step.Step.{Step}
-use Rattle.fort_steps.specs.StepView.{as_count, as_step}
+use Rattle.fort_findings.specs.FindingView.{as_count}
+use Rattle.fort_steps.specs.StepView.{as_step}
 
 -- how a formula is decided whose steps are recorded: with the targets of its tables
 abbrev pub recorded_with : (cap : ℕ) (reduces : Bool) → Options

@@ -2,7 +2,8 @@
 ghost use Rattle.std.specs.Prelude.{OnOk};
 ghost use Rattle.fort_trace.specs.Recording.{CountsPushed};
 
-use fort_steps::{Count, Step};
+use fort_findings::Count;
+use fort_steps::Step;
 use fort_terms::Memory;
 
 /// The step of the counts of part k, where it has any.

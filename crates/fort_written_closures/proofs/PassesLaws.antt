@@ -31,12 +31,12 @@ use Rattle.fort_gtt_closure.specs.declared.entry.Why as reasons
 use Rattle.fort_gtt_closure.specs.declared.entry.Why.TheVariants as variants
 use Rattle.fort_gtt_closure.specs.Reasons as closure
 use Rattle.fort_gtt_closure.specs.Passes as passes
-use Rattle.fort_certificate_grammar.specs.Certificates as certificates
-use Rattle.fort_certificate_grammar.specs.Certificates.{Which, Pair as Item}
-use Rattle.fort_in_order.specs.ClosureSteps.{ClosureRules, relation_of, IsPatternAt, numbers_of, IsListed, AreListed, AllListed, Follows, AnyRight, AnyLeft, ByArguments, ByRule, FollowsBy, number}
+use Rattle.fort_alike.specs.ListedClosures as closures
+use Rattle.fort_alike.specs.ListedClosures.{Which, Pair as Item, relation_of}
+use Rattle.fort_in_order.specs.ClosureSteps.{ClosureRules, IsPatternAt, numbers_of, IsListed, AreListed, AllListed, Follows, AnyRight, AnyLeft, ByArguments, ByRule, FollowsBy, number}
 use Rattle.fort_in_order.specs.Passes.{IsDuePair, rank, IsFirstReason, last_number, IsPassed, IsNextItem, IsListOfPasses}
 use Rattle.fort_in_order.specs.Written.{IsWrittenClosure}
-use Rattle.fort_in_order.proofs.OrderedLists.{before_asymmetric}
+use Rattle.fort_alike.proofs.OneInOrder.{before_asymmetric}
 use Rattle.fort_context_closure.specs.ItemView.{as_why, as_item, as_items}
 
 -- an element by its place, in both ways of saying it
@@ -188,8 +188,8 @@ module _ (rules : List Pair) (agtt : Agtt) (has : HasRootSteps rules agtt) (sign
   follows_on : (es : List Entry) (p q : ℕ) (why : reasons.Why) → p < length has.rights → q < length has.lefts → closure.Follows agtt es p q why → FollowsBy own_rules (as_items es) p q (as_why why)
   follows_on es p q variants.Any l m h =
       ⊎_elim
-      (λ a. let e = from_slice has.rights p Any Any ((has.right_states.any p).0 a.0) in subst (λ (x : Pattern). Follows own_rules (as_items es) certificates.Any x (get_or has.lefts q Any)) (sym e) AnyRight)
-      (λ a. let e = from_slice has.lefts q Any Any ((has.left_states.any q).0 a.0) in subst (λ (x : Pattern). Follows own_rules (as_items es) certificates.Any (get_or has.rights p Any) x) (sym e) AnyLeft)
+      (λ a. let e = from_slice has.rights p Any Any ((has.right_states.any p).0 a.0) in subst (λ (x : Pattern). Follows own_rules (as_items es) closures.Any x (get_or has.lefts q Any)) (sym e) AnyRight)
+      (λ a. let e = from_slice has.lefts q Any Any ((has.left_states.any q).0 a.0) in subst (λ (x : Pattern). Follows own_rules (as_items es) closures.Any (get_or has.rights p Any) x) (sym e) AnyLeft)
       h
   follows_on es p q (variants.Kids k j) l m h =
       let is = IsPatternTransducer-rules rules agtt has in
@@ -197,8 +197,8 @@ module _ (rules : List Pair) (agtt : Agtt) (has : HasRootSteps rules agtt) (sign
       let b = is.left.moves h.symbol h.lefts q (slice_among (moves_of agtt.left) j (h.symbol, h.lefts, q) h.left_move) in
       let x = from_slice has.rights p (At h.symbol a.0) Any a.1 in
       let y = from_slice has.lefts q (At h.symbol b.0) Any b.1 in
-      subst (λ (z : Pattern). Follows own_rules (as_items es) certificates.Kids z (get_or has.lefts q Any)) (sym x)
-      (subst (λ (z : Pattern). Follows own_rules (as_items es) certificates.Kids (At h.symbol a.0) z) (sym y) (ByArguments (all_on es h.rights h.lefts a.0 b.0 h.listed a.2 b.2)))
+      subst (λ (z : Pattern). Follows own_rules (as_items es) closures.Kids z (get_or has.lefts q Any)) (sym x)
+      (subst (λ (z : Pattern). Follows own_rules (as_items es) closures.Kids (At h.symbol a.0) z) (sym y) (ByArguments (all_on es h.rights h.lefts a.0 b.0 h.listed a.2 b.2)))
   follows_on es p q (variants.SilentRight k) l m h = absurd (none-some (ap (λ (xs : List (ℕ × ℕ)). slice_get xs k) (sym has.right_states.silent) ∙ h.1))
   follows_on es p q (variants.SilentLeft k) l m h = absurd (none-some (ap (λ (xs : List (ℕ × ℕ)). slice_get xs k) (sym has.left_states.silent) ∙ h.1))
   follows_on es p q (variants.Pair k) l m h =
@@ -241,12 +241,12 @@ module _ (rules : List Pair) (agtt : Agtt) (has : HasRootSteps rules agtt) (sign
       let t = some-instance signature constant x (fits_left x (slice_among has.lefts q x at)) in
       record { tree = t.0; taken = (Takes-IsInstance (automaton_of agtt.left) (StandsAt has.lefts) (IsPatternTransducer-rules rules agtt has).left q x at t.0).1 t.2 }
 
-  record HasReason (es : List Entry) (p q : ℕ) (w : certificates.Why) : Type 0 where
+  record HasReason (es : List Entry) (p q : ℕ) (w : closures.Why) : Type 0 where
     why : reasons.Why
     is : as_why why ≡ w
     follows : closure.Follows agtt es p q why
 
-  follows_back : (es : List Entry) (p q : ℕ) (w : certificates.Why) (x y : Pattern) → StandsAt has.rights p x → StandsAt has.lefts q y → Follows own_rules (as_items es) w x y → HasReason es p q w
+  follows_back : (es : List Entry) (p q : ℕ) (w : closures.Why) (x y : Pattern) → StandsAt has.rights p x → StandsAt has.lefts q y → Follows own_rules (as_items es) w x y → HasReason es p q w
   follows_back es p q w x y a b AnyRight = record { why = variants.Any; is = refl; follows = inl ((has.right_states.any p).1 a, left_inhabited q (slice_below has.lefts q y b)) }
   follows_back es p q w x y a b AnyLeft = record { why = variants.Any; is = refl; follows = inr ((has.left_states.any q).1 b, right_inhabited p (slice_below has.rights p x a)) }
   follows_back es p q w x y a b (ByArguments {f = f} {xs = xs} {ys = ys} h) =
@@ -273,7 +273,7 @@ module _ (rules : List Pair) (agtt : Agtt) (has : HasRootSteps rules agtt) (sign
         follows = (h.a, h.b, h.at, listed_between es p h.a x pair.0 a h.stand.left s, listed_between es h.b q pair.1 y h.stand.right b t);
       }
 
-  reason_at : (es : List Entry) (p q : ℕ) (w : certificates.Why) → p < length has.rights → q < length has.lefts → FollowsBy own_rules (as_items es) p q w → HasReason es p q w
+  reason_at : (es : List Entry) (p q : ℕ) (w : closures.Why) → p < length has.rights → q < length has.lefts → FollowsBy own_rules (as_items es) p q w → HasReason es p q w
   reason_at es p q w l m h =
       follows_back es p q w (get_or has.rights p Any) (get_or has.lefts q Any) (stands_there has.rights p (get_or has.rights p Any) l refl) (stands_there has.lefts q (get_or has.lefts q Any) m refl) h
 
@@ -300,7 +300,7 @@ module _ (rules : List Pair) (agtt : Agtt) (has : HasRootSteps rules agtt) (sign
     first = λ w f.
         let r = reason_at es p q w l m f in
         ⊎_elim
-        (λ (low : rank w < rank (as_why why)). absurd (h.first r.why r.follows (smaller r.why why (subst (λ (z : certificates.Why). rank z < rank (as_why why)) (sym r.is) low))))
+        (λ (low : rank w < rank (as_why why)). absurd (h.first r.why r.follows (smaller r.why why (subst (λ (z : closures.Why). rank z < rank (as_why why)) (sym r.is) low))))
         (λ (high : rank (as_why why) ≤ rank w). high)
         (cases_lt (rank w) (rank (as_why why)));
   }

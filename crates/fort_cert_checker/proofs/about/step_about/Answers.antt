@@ -1,7 +1,7 @@
 use Rattle.std.proofs.Common.{arith}
 use Rattle.std.proofs.lemmas.List.{length-map}
 use Rattle.fort_steps.specs.StepView.{as_step}
-use Rattle.fort_outline.specs.DueView.{as_due}
+use Rattle.fort_dues.specs.DueView.{as_due}
 use Rattle.fort_cert_checker.proofs.AboutLaws.{first_found, none_more}
 use Rattle.fort_cert_checker.proofs.about.step_about.Goals as goal
 

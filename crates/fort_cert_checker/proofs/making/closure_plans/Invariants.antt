@@ -1,5 +1,5 @@
 use Rattle.std.proofs.Common.{map}
-use Rattle.fort_outline.specs.DueView.{as_due}
+use Rattle.fort_dues.specs.DueView.{as_due}
 use Rattle.fort_cert_checker.specs.Makings.{AreClosuresMade}
 use Rattle.fort_cert_checker.proofs.making.closure_plans.Given as goal
 

@@ -1,5 +1,5 @@
 use Rattle.std.proofs.Common.{ap}
-use Rattle.fort_outline.specs.DueView.{as_due}
+use Rattle.fort_dues.specs.DueView.{as_due}
 use Rattle.fort_cert_checker.proofs.making.plan_for.Goals as goal
 
 pub closure_plan-requires : goal.closure_plan-requires

@@ -1,7 +1,8 @@
 use Rattle.std.proofs.Common.{List, map, sym, ap, ◌∙◌, refl}
 use Rattle.fort_certificate_grammar.specs.Certificates as certificates
-use Rattle.fort_steps.specs.StepView.{as_step, as_count, as_pair, as_which}
-use Rattle.fort_steps.specs.declared.count.Count.{Count}
+use Rattle.fort_findings.specs.FindingView.{as_count, as_pair, as_which}
+use Rattle.fort_steps.specs.StepView.{as_step}
+use Rattle.fort_findings.specs.declared.count.Count.{Count}
 use Rattle.fort_cert_checker.proofs.OwnSteps as own
 use Rattle.fort_cert_checker.proofs.OwnSteps.{on_ok, if_err}
 use Rattle.fort_cert_checker.proofs.one_step.check_own.Goals as goal

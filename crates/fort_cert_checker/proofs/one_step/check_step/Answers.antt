@@ -3,8 +3,9 @@ use Rattle.fort_cores.specs.Cores as core
 use Rattle.fort_certificate_grammar.specs.Certificates as certificates
 use Rattle.fort_certificate_grammar.specs.Certificates.{Step}
 use Rattle.fort_in_order.specs.Made.{Made}
-use Rattle.fort_steps.specs.StepView.{as_step, as_which, as_pair}
-use Rattle.fort_steps.specs.declared.closure.ClosureEntry.{ClosureEntry}
+use Rattle.fort_findings.specs.FindingView.{as_which, as_pair}
+use Rattle.fort_steps.specs.StepView.{as_step}
+use Rattle.fort_findings.specs.declared.closure.ClosureEntry.{ClosureEntry}
 use Rattle.fort_check_steps.specs.StepAnswers.{as_reason, outcome_of}
 use Rattle.fort_check_steps.specs.declared.room.PartRoom.{PartRoom}
 use Rattle.fort_in_order.specs.Checked.{IsFailing}

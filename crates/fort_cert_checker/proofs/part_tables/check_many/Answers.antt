@@ -4,9 +4,9 @@ use Rattle.fort_tables.specs.Tables.{Table}
 use Rattle.fort_operations.specs.Projections.{ArePure}
 use Rattle.fort_counts.specs.Counts.{KeepRules, count_at}
 use Rattle.fort_in_order.specs.PartRules.{many_local}
-use Rattle.fort_in_order.proofs.OrderedLists.{pure_one}
-use Rattle.fort_steps.specs.declared.count.Count.{Count}
-use Rattle.fort_steps.specs.StepView.{as_count}
+use Rattle.fort_in_order.proofs.PureLists.{pure_one}
+use Rattle.fort_findings.specs.declared.count.Count.{Count}
+use Rattle.fort_findings.specs.FindingView.{as_count}
 use Rattle.fort_infinity.specs.ManyCounts.{is_many}
 use Rattle.fort_check_steps.specs.Turned.{turned_table}
 use Rattle.fort_check_steps.specs.Room.{HasLabelRoom}

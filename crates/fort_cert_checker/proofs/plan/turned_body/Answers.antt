@@ -1,8 +1,8 @@
 use Rattle.std.proofs.Common.{◌≡◌, length, vec_len, not, ◌==◌, arith, sym, ap, ◌∙◌}
 use Rattle.fort_in_order.specs.Dues.{has_columns, is_turned}
 use Rattle.fort_outline.specs.Outlines.{parts_in, core_at}
-use Rattle.fort_outline.proofs.DueLists.{columns_there}
-use Rattle.fort_outline.proofs.OutlineLaws.{part_root, part_is, over_is, columns_at, plain_root}
+use Rattle.fort_dues.proofs.DueLists.{columns_there, plain_root}
+use Rattle.fort_outline.proofs.OutlineLaws.{part_root, part_is, over_is, columns_at}
 use Rattle.fort_cert_checker.proofs.SourceLaws.{plain_negation}
 use Rattle.fort_cert_checker.proofs.plan.turned_body.Goals as goal
 

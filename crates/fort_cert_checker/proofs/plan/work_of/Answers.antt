@@ -5,7 +5,8 @@ use Rattle.fort_cores.specs.Parts.{BindsFree, HasManyRootsAt}
 use Rattle.fort_parts.specs.DecidedCores.{IsOverSystem}
 use Rattle.fort_parts.proofs.PartColumnLaws.{column-from_free}
 use Rattle.fort_outline.specs.Outlines.{core_at}
-use Rattle.fort_steps.specs.StepView.{as_step, as_count}
+use Rattle.fort_findings.specs.FindingView.{as_count}
+use Rattle.fort_steps.specs.StepView.{as_step}
 use Rattle.fort_outline.proofs.OutlineLaws.{part_is, over_is}
 use Rattle.fort_cert_checker.specs.Plans.{IsAtomPlan}
 use Rattle.fort_cert_checker.proofs.plan.work_of.Goals as goal

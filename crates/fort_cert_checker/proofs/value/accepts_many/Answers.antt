@@ -3,8 +3,8 @@ use Rattle.fort_tables.specs.Tables.{Table}
 use Rattle.fort_operations.specs.Projections.{ArePure}
 use Rattle.fort_counts.specs.Counts.{count_at, is_infinite}
 use Rattle.fort_counts.specs.ManyLabels.{many_value}
-use Rattle.fort_in_order.proofs.OrderedLists.{pure_one}
-use Rattle.fort_steps.specs.StepView.{as_count}
+use Rattle.fort_in_order.proofs.PureLists.{pure_one}
+use Rattle.fort_findings.specs.FindingView.{as_count}
 use Rattle.fort_check_steps.specs.Turned.{turned_table}
 use Rattle.fort_cert_checker.proofs.value.accepts_many.Goals as goal
 

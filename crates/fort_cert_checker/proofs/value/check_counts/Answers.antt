@@ -1,6 +1,6 @@
 use Rattle.std.proofs.Common.{map, sym}
 use Rattle.std.proofs.lemmas.List.{length-map}
-use Rattle.fort_steps.specs.StepView.{as_count}
+use Rattle.fort_findings.specs.FindingView.{as_count}
 use Rattle.fort_check_steps.specs.Turned.{turned_table}
 use Rattle.fort_check_steps.specs.StepAnswers.{outcome_of}
 use Rattle.fort_cert_checker.proofs.ValueArms as arms

@@ -1,6 +1,6 @@
 use Rattle.std.proofs.Common.{◌≡◌, ◌+◌, ◌≤◌, length, vec_len, vec_capacity}
 use Rattle.fort_certificate_grammar.specs.CertificateForms.{IsCountForm}
-use Rattle.fort_steps.specs.StepView.{as_count}
+use Rattle.fort_findings.specs.FindingView.{as_count}
 use Rattle.fort_certificate_grammar.specs.CertificateFaults.{CountSlot}
 use Rattle.fort_certificate.proofs.BuildLaws.{IsReadTo}
 use Rattle.fort_certificate.proofs.WrongLaws.{IsBadAlong}

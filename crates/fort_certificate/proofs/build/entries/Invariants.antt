@@ -1,6 +1,6 @@
 use Rattle.std.proofs.Common.{◌≡◌, ◌+◌, ◌≤◌, length, vec_len, vec_capacity}
 use Rattle.fort_certificate_grammar.specs.CertificateForms.{IsPairForm}
-use Rattle.fort_steps.specs.StepView.{as_pair}
+use Rattle.fort_findings.specs.FindingView.{as_pair}
 use Rattle.fort_certificate_grammar.specs.CertificateFaults.{PairSlot}
 use Rattle.fort_certificate.proofs.BuildLaws.{IsReadTo}
 use Rattle.fort_certificate.proofs.WrongLaws.{IsBadAlong}

@@ -2,9 +2,9 @@ use Rattle.std.proofs.Common.{◌++◌, ◌∷◌, List, ℕ, map, get_or, ap, �
 use Rattle.std.specs.List.{AllByRecursion}
 use Rattle.std.proofs.lemmas.List.{take_all}
 use Rattle.fort_certificate_grammar.specs.CertificateText.{IsSmallCount, element_text, count_element}
-use Rattle.fort_steps.specs.declared.count.Count.{Count}
-use Rattle.fort_steps.specs.declared.count.Count.TheVariants.{Finite}
-use Rattle.fort_steps.specs.StepView.{as_count}
+use Rattle.fort_findings.specs.declared.count.Count.{Count}
+use Rattle.fort_findings.specs.declared.count.Count.TheVariants.{Finite}
+use Rattle.fort_findings.specs.FindingView.{as_count}
 use Rattle.fort_certificate.specs.Lines.{tails}
 use Rattle.fort_certificate.proofs.SmallLaws.{small_more}
 use Rattle.fort_certificate.proofs.LineLaws.{tails_more}

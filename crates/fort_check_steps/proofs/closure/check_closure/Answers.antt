@@ -1,5 +1,5 @@
 use Rattle.std.proofs.Common.{map, sym, subst}
-use Rattle.fort_steps.specs.StepView.{as_pair}
+use Rattle.fort_findings.specs.FindingView.{as_pair}
 use Rattle.fort_in_order.specs.ClosureSteps.{IsClosureOutcome}
 use Rattle.fort_check_steps.specs.StepAnswers.{outcome_of}
 use Rattle.fort_check_steps.proofs.PairStepLaws.{IsClosureOutcome-closed, IsClosureOutcome-open}

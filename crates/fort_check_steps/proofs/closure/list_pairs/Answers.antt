@@ -1,7 +1,7 @@
 use Rattle.std.proofs.Common.{◌≡◌, ℕ, map, length, get_or, refl, sym, ◌∙◌, arith, subst}
 use Rattle.std.proofs.lemmas.List.{length-map, get_or-map}
-use Rattle.fort_steps.specs.declared.closure.Reason.TheVariants.{Any}
-use Rattle.fort_steps.specs.StepView.{as_pair}
+use Rattle.fort_findings.specs.declared.closure.Reason.TheVariants.{Any}
+use Rattle.fort_findings.specs.FindingView.{as_pair}
 use Rattle.fort_check_steps.specs.PairSteps.{IsPairsOutcome, AreTaken}
 use Rattle.fort_check_steps.proofs.PairStepLaws.{AreTaken-none, AreTaken-more, IsClosureOutcome-refused}
 use Rattle.fort_check_steps.proofs.closure.list_pairs.Goals as goal

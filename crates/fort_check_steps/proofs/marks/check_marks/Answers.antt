@@ -4,8 +4,8 @@ use Rattle.fort_counts.specs.Counts as counts
 use Rattle.fort_in_order.specs.Outcomes as outcomes
 use Rattle.fort_in_order.specs.Outcomes.{Fails}
 use Rattle.fort_in_order.specs.CountSteps.{IsCountOutcome, NotAsMany}
-use Rattle.fort_steps.specs.declared.count.Count.TheVariants.{Finite}
-use Rattle.fort_steps.specs.StepView.{as_count}
+use Rattle.fort_findings.specs.declared.count.Count.TheVariants.{Finite}
+use Rattle.fort_findings.specs.FindingView.{as_count}
 use Rattle.fort_check_steps.specs.StepAnswers.{outcome_of}
 use Rattle.fort_check_steps.specs.Turned.{turned_table}
 use Rattle.fort_check_steps.specs.Marks.{IsSeenTo, AreAllHeld, IsFirstWrong, wrong_reason}

@@ -1,5 +1,5 @@
 use Rattle.std.proofs.Common.{get_or, refl}
-use Rattle.fort_steps.specs.declared.count.Count.TheVariants.{Finite}
+use Rattle.fort_findings.specs.declared.count.Count.TheVariants.{Finite}
 use Rattle.fort_check_steps.proofs.MarkSearch.{search_found, search_missed, mark_found, mark_missed}
 use Rattle.fort_check_steps.proofs.marks.mark_of.Goals as goal
 

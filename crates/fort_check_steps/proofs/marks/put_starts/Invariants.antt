@@ -1,5 +1,5 @@
 use Rattle.std.proofs.Common.{◌≡◌, map, take, vec_capacity}
-use Rattle.fort_steps.specs.StepView.{as_count}
+use Rattle.fort_findings.specs.FindingView.{as_count}
 use Rattle.fort_check_steps.specs.Marks.{starts}
 use Rattle.fort_check_steps.proofs.marks.put_starts.Given as goal
 

@@ -1,5 +1,5 @@
 use Rattle.std.proofs.Common.{◌≡◌, map}
-use Rattle.fort_steps.specs.StepView.{as_count}
+use Rattle.fort_findings.specs.FindingView.{as_count}
 use Rattle.fort_check_steps.specs.Marks.{IsSeenTo}
 use Rattle.fort_check_steps.proofs.ListedWalks.{entry_before}
 use Rattle.fort_check_steps.proofs.marks.see_entries.Given as goal

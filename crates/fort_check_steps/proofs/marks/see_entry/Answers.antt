@@ -2,8 +2,8 @@ use Rattle.std.proofs.Common.{◌<◌, map, length, get_or, false, sym, ◌∙�
 use Rattle.std.proofs.lemmas.List.{get_or-map}
 use Rattle.fort_counts.specs.Counts as counts
 use Rattle.fort_counts.specs.Counts.{count_at}
-use Rattle.fort_steps.specs.declared.count.Count.TheVariants.{Finite}
-use Rattle.fort_steps.specs.StepView.{as_count}
+use Rattle.fort_findings.specs.declared.count.Count.TheVariants.{Finite}
+use Rattle.fort_findings.specs.FindingView.{as_count}
 use Rattle.fort_check_steps.specs.Marks.{held_next}
 use Rattle.fort_check_steps.proofs.MarkSearch.{search_found, search_missed, see_found, see_missed}
 use Rattle.fort_check_steps.proofs.marks.see_entry.Goals as goal

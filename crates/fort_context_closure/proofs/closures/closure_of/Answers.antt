@@ -1,8 +1,8 @@
 use Rattle.std.specs.Prelude.{◌≡◌, List, map}
 use Rattle.std.proofs.Common.{ap, ◌∙◌}
 use Rattle.fort_gtt_closure.specs.declared.entry.Entry.{Entry}
-use Rattle.fort_steps.specs.declared.closure.ClosureEntry.{ClosureEntry}
-use Rattle.fort_steps.specs.StepView.{as_pair}
+use Rattle.fort_findings.specs.declared.closure.ClosureEntry.{ClosureEntry}
+use Rattle.fort_findings.specs.FindingView.{as_pair}
 use Rattle.fort_context_closure.specs.ItemView.{as_items}
 use Rattle.fort_context_closure.proofs.closures.closure_of.Goals as goal
 

@@ -1,5 +1,5 @@
 use Rattle.std.proofs.Common.{◌≡◌, map, take}
-use Rattle.fort_steps.specs.StepView.{as_pair}
+use Rattle.fort_findings.specs.FindingView.{as_pair}
 use Rattle.fort_context_closure.specs.ItemView.{as_items}
 use Rattle.fort_context_closure.proofs.closures.listed.Given as goal
 

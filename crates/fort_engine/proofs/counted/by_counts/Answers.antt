@@ -3,7 +3,7 @@ use Rattle.fort_cores.specs.Cores as core
 use Rattle.fort_tables.specs.Tables.{listed_table}
 use Rattle.fort_counts.specs.Counts.{count_at}
 use Rattle.fort_counts.proofs.TellsLaws.{TellsMany-marks}
-use Rattle.fort_steps.specs.StepView.{as_count}
+use Rattle.fort_findings.specs.FindingView.{as_count}
 use Rattle.fort_infinity.specs.ManyCounts.{is_many}
 use Rattle.fort_parts.specs.PartColumns.{columns_of}
 use Rattle.fort_engine.proofs.AnswerLaws.{bound_within, IsDecision-many_closed, AreLabelsFor-Infinite}

@@ -1,6 +1,6 @@
 use Rattle.std.proofs.Common.{◌≡◌, ◌<◌, map, subst, sym}
 use Rattle.fort_tables.specs.Tables.{listed_table}
-use Rattle.fort_steps.specs.StepView.{as_count}
+use Rattle.fort_findings.specs.FindingView.{as_count}
 use Rattle.fort_engine.specs.Found.{IsCounted}
 use Rattle.fort_engine.proofs.AnswerLaws.{bound_column, bound_within}
 use Rattle.fort_engine.proofs.FoundLaws.{IsCounted-body, IsDecidedBy-many}

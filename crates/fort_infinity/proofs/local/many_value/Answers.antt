@@ -5,7 +5,7 @@ use borrow.Author.Count.{below_more}
 use Rattle.fort_counts.specs.Counts.{Finite, is_infinite, count_at}
 use Rattle.fort_counts.proofs.CountPlaces.{many_value-some, many_value-none}
 use Rattle.fort_counts.proofs.ManyTruth.{many_value_by_marks}
-use Rattle.fort_steps.specs.StepView.{as_count}
+use Rattle.fort_findings.specs.FindingView.{as_count}
 use Rattle.fort_infinity.proofs.ManyMarks.{infinite_listed}
 use Rattle.fort_infinity.proofs.local.many_value.Goals as goal
 use Rattle.fort_infinity.proofs.local.many_value.Goals.{else-is_infinite-via-then-is_infinite+else-is_final, else-is_infinite-via-else-is_infinite}

@@ -1,6 +1,6 @@
 use Rattle.std.proofs.Common.{◌≡◌, ℕ, ◌<◌, map, get_or, true}
 use Rattle.fort_counts.specs.Counts.{Finite, is_infinite}
-use Rattle.fort_steps.specs.StepView.{as_count}
+use Rattle.fort_findings.specs.FindingView.{as_count}
 use Rattle.fort_infinity.proofs.local.many_value.Given as goal
 
 abbrev pub invariant-loop-i : goal.invariant-loop-i

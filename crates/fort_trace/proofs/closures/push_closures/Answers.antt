@@ -2,13 +2,12 @@ use Rattle.std.proofs.Common.{◌≡◌, ◌<◌, ◌≤◌, List, map, length, 
 use Rattle.std.proofs.lemmas.List.{take_all}
 use Rattle.fort_in_order.specs.Dues.{DueStep}
 use Rattle.fort_engine.specs.declared.closures.IndexClosure.{IndexClosure}
-use Rattle.fort_engine.specs.Closures.{due_of}
 use Rattle.fort_trace.specs.Recording.{AddsSteps}
-use Rattle.fort_trace.proofs.ClosureLaws.{AddsSteps-none, AddsSteps-more}
+use Rattle.fort_trace.proofs.ClosureLaws.{step_for, closures_are_due, AddsSteps-none, AddsSteps-more}
 use Rattle.fort_trace.proofs.closures.push_closures.Goals as goal
 
 pub loop-closure-init : goal.loop-closure-init
-loop-closure-init c parts made are = AddsSteps-none c.args.system.now parts made (map due_of (take 0 c.args.closures.now.list.items)) c.args.steps.now.items refl
+loop-closure-init c parts made are = AddsSteps-none c.args.system.now parts made (map step_for (take 0 c.args.closures.now.list.items)) c.args.steps.now.items refl
 
 pub loop-closure-preserved : goal.loop-closure-preserved
 loop-closure-preserved c parts made are =
@@ -25,4 +24,4 @@ returns c parts made are =
     let cs : List IndexClosure = c.args.closures.now.list.items in
     let end : length cs ≤ c.loop-closure.closure-index = omega (arith, c.loop-closure-test.false, ap length c.deref-closure-items.ensures.value) in
     subst (λ (ds : List DueStep). AddsSteps c.args.system.now parts made ds c.args.steps.now.items c.loop-closure.steps.items)
-    (ap (map due_of) (take_all c.loop-closure.closure-index cs end) ∙ are.due_are) (c.loop-closure.invariant parts made are)
+    (ap (map step_for) (take_all c.loop-closure.closure-index cs end) ∙ closures_are_due c.args.system.now parts cs are) (c.loop-closure.invariant parts made are)

@@ -6,7 +6,7 @@ use Rattle.fort_outline.proofs.RootLaws.{length-cores_of}
 use Rattle.fort_in_order.specs.Dues.{DueStep, OfClosure, dues, is_merged_in, dues_of}
 use Rattle.fort_formulas.specs.CoreView.{as_core}
 use Rattle.fort_steps.specs.StepView.{as_step}
-use Rattle.fort_outline.specs.DueView.{as_due}
+use Rattle.fort_dues.specs.DueView.{as_due}
 use Rattle.fort_cert_checker.specs.Sources.{IsSourceOf}
 use Rattle.fort_cert_checker.specs.Makings.{AreClosuresMade, ArePlansMade, AreRoomsMade, IsScratchMade, AreMarksMade}
 use Rattle.fort_cert_checker.proofs.NewLaws.{index_due, dues_same}

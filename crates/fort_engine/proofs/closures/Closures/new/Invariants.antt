@@ -1,7 +1,6 @@
-use Rattle.fort_in_order.specs.Dues.{closures_due}
 use Rattle.fort_outline.specs.Roots.{cores_of}
-use Rattle.fort_engine.specs.Closures.{AreClosuresOf}
+use Rattle.fort_engine.specs.Closures.{closures_asked, AreClosuresOf}
 use Rattle.fort_engine.proofs.closures.Closures.new.Given as goal
 
 abbrev pub invariant-loop-i : goal.invariant-loop-i
-invariant-loop-i l = AreClosuresOf l.system (closures_due (cores_of l.roots) l.i 1) l.list.items
+invariant-loop-i l = AreClosuresOf l.system (closures_asked (cores_of l.roots) l.i 1) l.list.items

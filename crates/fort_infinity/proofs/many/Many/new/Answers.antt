@@ -4,7 +4,7 @@ use Rattle.fort_counts.specs.Counts.{count_at}
 use Rattle.fort_counts.proofs.TellsLaws.{TellsMany-marks}
 use Rattle.fort_counts.proofs.ManyAgreementLaws.{many_by_states}
 use Rattle.fort_counts.proofs.ManyTruth.{many_decides}
-use Rattle.fort_steps.specs.StepView.{as_count}
+use Rattle.fort_findings.specs.FindingView.{as_count}
 use Rattle.fort_infinity.specs.ManyCounts.{is_many}
 use Rattle.fort_infinity.proofs.many.Many.new.Goals as goal
 
