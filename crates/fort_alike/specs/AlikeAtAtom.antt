@@ -1,7 +1,7 @@
 -- To believe: when two optional tuples over the columns of an atom of a formula are alike at it.
 use Rattle.std.specs.Prelude.{ℕ, List}
 use Rattle.fort_theory.specs.Patterns.{PatternSystem}
-use Rattle.fort_cores.specs.Cores.{Atom, Related, InContext, Normal, IsTerm}
+use Rattle.fort_theory.specs.Cores.{Atom, Related, InContext, Normal, IsTerm}
 use Rattle.fort_tables.specs.Tuples.{Tuple}
 use Rattle.fort_alike.specs.Atoms.{relation_atom, normal_atom}
 use Rattle.fort_alike.specs.Alike.{Alike}

@@ -7,7 +7,7 @@ use Rattle.fort_theory.specs.Sides.{at_index}
 use Rattle.fort_theory.specs.Patterns.{Pair, PatternSystem}
 use Rattle.fort_theory.specs.PatternSteps.{PatternStep}
 use Rattle.fort_theory.specs.Rewriting.{Relation, Rewrites, RewritesBelow, Reduces, ReducesStrictly, RewritesInParallel, IsNormalForm}
-use Rattle.fort_cores.specs.Cores.{Rel, Eq, Root, Below, Step, Par, Plus, Star, Conv}
+use Rattle.fort_theory.specs.Cores.{Rel, Eq, Root, Below, Step, Par, Plus, Star, Conv}
 use Rattle.fort_tables.specs.Tuples.{Tuple}
 
 -- a conversion is a reduction by the rules both ways, and has no kind of its own
@@ -34,15 +34,15 @@ abbrev pub root_of : Atom → Relation
 root_of a = PatternStep a.signature a.pairs
 
 -- what the atom says of two terms; of a normal form it is said of the first
-abbrev pub Says : Relation → AtomKind → Relation
-Says root EqKind s t = s ≡ t
-Says root RootKind s t = root s t
-Says root StepKind s t = Rewrites root s t
-Says root BelowKind s t = RewritesBelow root s t
-Says root ParKind s t = RewritesInParallel root s t
-Says root NfKind s t = IsNormalForm root s
-Says root StarKind s t = Reduces root s t
-Says root PlusKind s t = ReducesStrictly root s t
+abbrev pub HoldsBy : Relation → AtomKind → Relation
+HoldsBy root EqKind s t = s ≡ t
+HoldsBy root RootKind s t = root s t
+HoldsBy root StepKind s t = Rewrites root s t
+HoldsBy root BelowKind s t = RewritesBelow root s t
+HoldsBy root ParKind s t = RewritesInParallel root s t
+HoldsBy root NfKind s t = IsNormalForm root s
+HoldsBy root StarKind s t = Reduces root s t
+HoldsBy root PlusKind s t = ReducesStrictly root s t
 
 -- of a term that is there; of two that are
 abbrev pub OfOne : (Tree → Type 0) → Option Tree → Type 0
@@ -61,8 +61,8 @@ abbrev pub second_of : Atom → Tuple → Option Tree
 second_of a t = get_or t a.second None
 
 -- both arguments are there, and the atom's relation holds of them
-abbrev pub IsTrueOf : Atom → Tuple → Type 0
-IsTrueOf a t = OfTwo (Says (root_of a) a.kind) (first_of a t) (second_of a t)
+abbrev pub IsTrueOfTuple : Atom → Tuple → Type 0
+IsTrueOfTuple a t = OfTwo (HoldsBy (root_of a) a.kind) (first_of a t) (second_of a t)
 
 -- each pair, and then each pair exchanged
 abbrev pub both_ways : List Pair → List Pair

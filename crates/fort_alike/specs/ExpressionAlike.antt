@@ -6,9 +6,9 @@ use Rattle.fort_theory.specs.Patterns.{PatternSystem}
 use Rattle.fort_theory.specs.Rewriting.{Relation}
 use Rattle.fort_tables.specs.Tuples.{Tuple, presence}
 use Rattle.fort_alike.specs.Atoms.{OfOne, OfTwo}
-use Rattle.fort_expressions.specs.Expressions.{Expression}
-use Rattle.fort_expressions.specs.Contexts.{HoleNumber, OneHole, SomeHoles, AnyHoles, HolePlace, AtTheRoot, BelowTheRoot, AnyPlace, HoldsInContext}
-use Rattle.fort_expressions.specs.Conditions.{LeftCondition, RightCondition, MeansIn, MeetsLeft, MeetsRight}
+use Rattle.fort_theory.specs.Expressions.{Expression}
+use Rattle.fort_theory.specs.Contexts.{HoleNumber, OneHole, SomeHoles, AnyHoles, HolePlace, AtTheRoot, BelowTheRoot, AnyPlace, HoldsInContext}
+use Rattle.fort_theory.specs.Conditions.{LeftCondition, RightCondition, MeansIn, MeetsLeft, MeetsRight}
 
 -- the arguments are columns, from 0: one and the same column where both are one variable
 pub record ExpressionAtom : Type 0 where

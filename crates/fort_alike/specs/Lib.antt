@@ -5,3 +5,15 @@ pub mod AlikeAtTerm
 pub mod UnlikeTuples
 pub mod ExpressionAlike
 pub mod AlikeAtAtom
+pub mod ListedAtoms
+pub mod AtomRules
+pub mod ClosureTests
+pub mod PatternNumbers
+pub mod AssignedTuples
+pub mod Subterms
+pub mod TermRule
+pub mod ExpressionStates
+pub mod ExpressionRules
+pub mod MoveStates
+pub mod ConditionStates
+pub mod AutomatonMoves

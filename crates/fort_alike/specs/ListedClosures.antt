@@ -1,7 +1,7 @@
 -- To believe: what the list of a closure is made of, which relation a closure is of, and which relations, atoms and formulas are told by it.
 use Rattle.std.specs.Prelude.{ℕ, Bool, true, false, ◌&&◌, ◌==◌}
-use Rattle.fort_cores.specs.Cores as core
-use Rattle.fort_cores.specs.Cores.{Atom, Core}
+use Rattle.fort_theory.specs.Cores as core
+use Rattle.fort_theory.specs.Cores.{Atom, Core}
 
 -- of the rules as they are, or with each rule also reversed
 pub data Which : Type 0 where

@@ -1,2 +1,3 @@
-//! Definitions: the atoms of a formula over optional tuples, and when two optional tuples are alike at one. It has no code.
+//! Definitions: when two optional tuples are alike at an atom, and the labels of atoms, expressions among them, that tell it. It has no
+//! code.
 #![tactic(auto)]

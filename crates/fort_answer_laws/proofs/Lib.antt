@@ -8,3 +8,6 @@ pub mod OneSynth
 pub mod OneAnswer
 pub mod OneOwed
 pub mod SaidAnswers
+pub mod LongerTexts
+pub mod PlacesWritten
+pub mod NamedColumns

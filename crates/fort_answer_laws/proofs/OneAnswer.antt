@@ -5,14 +5,14 @@ use Rattle.fort_theory.specs.Trees.{Tree}
 use Rattle.fort_theory.specs.Signatures.{IsGround, HasConstant}
 use Rattle.fort_theory.specs.Sides.{System}
 use Rattle.fort_theory.proofs.Lists.{some-injective}
-use Rattle.fort_cores.specs.Kinds.{Kind}
+use Rattle.fort_theory.specs.Kinds.{Kind}
 use Rattle.fort_logic.specs.Formulas.{Formula}
 use Rattle.fort_answers.specs.Requests.{Text, Options}
 use Rattle.fort_answers.specs.Lines.{negative, refused, limited, limit_line}
 use Rattle.fort_answers.specs.FormulaAnswer.{IsAcceptedAs}
 use Rattle.fort_answers.specs.InputAnswer.{Behind, IsInputWith, IsInputRefused}
 use Rattle.fort_answers.specs.FitAnswer.{FitsSystem, IsUnfit}
-use Rattle.fort_answers.specs.SystemAnswer.{Are, PassesCap, KeepsCap, KeepsCapOf, Inquiry, IsRefusedEarly, IsAnswerTo, FormulaRefused, InputRefused, FormulaUnfit, Limited, Says}
+use Rattle.fort_answers.specs.SystemAnswer.{Are, PassesCap, KeepsCap, KeepsCapOf, Inquiry, IsRefusedEarly, IsOwedTo, FormulaRefused, InputRefused, FormulaUnfit, Limited, Says}
 use Rattle.fort_answers.proofs.OneFit.{IsUnfit-unique, FitsSystem-not_unfit, FitsSystem-one, FitsSystem-ground}
 use Rattle.fort_answers.proofs.OneRequest.{Are-unique, IsAcceptedAs-unique, IsRefusedEarly-unique, early-without_input}
 use Rattle.fort_answers.proofs.OneCap.{PassesCap-unique, PassesCap-not_kept}
@@ -53,7 +53,7 @@ module _ (inquiry : Inquiry) (bytes : Text) where
     Early : IsRefusedEarly inquiry status text → AtFormula status text
     Accepted : (f : Formula) → IsAcceptedAs inquiry.openness inquiry.formula f → AtInput f status text → AtFormula status text
 
-  staged : (s : ℕ) (t : Text) → IsAnswerTo inquiry bytes s t → AtFormula s t
+  staged : (s : ℕ) (t : Text) → IsOwedTo inquiry bytes s t → AtFormula s t
   staged s t (FormulaRefused early) = Early early
   staged s t (InputRefused f accepted line says are) = Accepted f accepted (Refused line says are)
   staged s t (FormulaUnfit f accepted system behind is line says are) = Accepted f accepted (Read system behind is (Unfit line says are))
@@ -112,7 +112,7 @@ module _ (inquiry : Inquiry) (bytes : Text) where
         AtInput-unique f s s' t t' rest
         (subst (λ h. AtInput h s' t') (IsAcceptedAs-unique inquiry.openness inquiry.formula g f accepted' accepted) rest')
 
-    pub IsAnswerTo-unique : (s s' : ℕ) (t t' : Text) → IsAnswerTo inquiry bytes s t → IsAnswerTo inquiry bytes s' t' → Are s t s' t'
+    pub IsAnswerTo-unique : (s s' : ℕ) (t t' : Text) → IsOwedTo inquiry bytes s t → IsOwedTo inquiry bytes s' t' → Are s t s' t'
     IsAnswerTo-unique s s' t t' one other = AtFormula-unique s s' t t' (staged s t one) (staged s' t' other)
 
   -- ---- over a system with all that the formula speaks of, what is said has some property, or a part is over the cap
@@ -145,12 +145,12 @@ module _ (inquiry : Inquiry) (bytes : Text) where
     formula_holds (Accepted g accepted' rest) =
         input_holds (subst (λ h. AtInput h s t) (IsAcceptedAs-unique inquiry.openness inquiry.formula g f accepted' accepted) rest)
 
-    pub IsAnswerTo-or_over : IsAnswerTo inquiry bytes s t → HoldsOrOver
+    pub IsAnswerTo-or_over : IsOwedTo inquiry bytes s t → HoldsOrOver
     IsAnswerTo-or_over answer = formula_holds (staged s t answer)
 
   -- where what is said has a low status
   pub IsAnswerTo-low : SaysLow inquiry → (f : Formula) (system : System) (behind : Behind inquiry.tail) (terms : List Tree) (s : ℕ) (t : Text)
       → IsAcceptedAs inquiry.openness inquiry.formula f → IsInputWith inquiry.tail bytes system behind → FitsSystem inquiry.formula f system terms
-      → IsAnswerTo inquiry bytes s t → (s ≤ negative) ⊎ ((s ≡ limited) × ((options : Options) × (inquiry.options ≡ Some options) × (KeepsCap system terms f options → ⊥)))
+      → IsOwedTo inquiry bytes s t → (s ≤ negative) ⊎ ((s ≡ limited) × ((options : Options) × (inquiry.options ≡ Some options) × (KeepsCap system terms f options → ⊥)))
   IsAnswerTo-low low f system behind terms s t accepted is fits answer =
       IsAnswerTo-or_over (s ≤ negative) f system behind terms s t accepted is fits (low system behind terms f s t) answer

@@ -8,12 +8,12 @@ use Rattle.fort_logic.specs.Formulas.{Formula}
 use Rattle.fort_logic.specs.FreeNames.{free_names}
 use Rattle.fort_logic.specs.Translation.{core_of}
 use Rattle.fort_tables.specs.Entries.{Entry}
-use Rattle.fort_certificate_grammar.specs.Certificates.{Step}
-use Rattle.fort_open_certificates.specs.OpenCertificates.{Claim, Found, Empty, OpenCertificate}
-use Rattle.fort_open_certificates.specs.OpenChecked.{OpenOutcome, Confirmed, Rejected, NoEntry}
-use Rattle.fort_open_certificates.specs.OpenText.{open_text}
-use Rattle.fort_open_certificates.proofs.OneOpenOutcome.{HasOpenOutcome-one}
-use Rattle.fort_open_certificates.proofs.OneOpenWritten.{IsOpenWritten-one}
+use Rattle.fort_certificate_theory.specs.Certificates.{Step}
+use Rattle.fort_certificate_theory.specs.OpenCertificates.{Claim, Found, Empty, OpenCertificate}
+use Rattle.fort_certificate_theory.specs.OpenChecked.{OpenOutcome, Confirmed, Rejected, NoEntry}
+use Rattle.fort_certificate_theory.specs.OpenText.{open_text}
+use Rattle.fort_certificate_theory.proofs.OneOpenOutcome.{HasOpenOutcome-one}
+use Rattle.fort_certificate_theory.proofs.OneOpenWritten.{IsOpenWritten-one}
 use Rattle.fort_answers.specs.Requests.{Text}
 use Rattle.fort_answers.specs.Lines.{positive, negative}
 use Rattle.fort_answers.specs.SystemAnswer.{Are}

@@ -8,13 +8,13 @@ use Rattle.fort_grammar.proofs.OneReading.{same_forms}
 use Rattle.fort_ari.proofs.OneAnswer.{problem_without_fault}
 use Rattle.fort_ari.proofs.OneFault.{first_fault_unique}
 use Rattle.fort_ari.proofs.OneProblem.{IsProblem-unique}
-use Rattle.fort_certificate_grammar.specs.Certificates.{Certificate}
-use Rattle.fort_certificate_grammar.specs.CertificateForms.{IsCertificate}
-use Rattle.fort_certificate_grammar.proofs.OneCertificate.{certificate_one}
-use Rattle.fort_certificate_grammar.proofs.OneFault.{certificate_not_bad, first_fault_one}
-use Rattle.fort_open_certificates.specs.OpenCertificates.{OpenCertificate}
-use Rattle.fort_open_certificates.specs.OpenForms.{IsOpenCertificate}
-use Rattle.fort_open_certificates.proofs.OneOpenCertificate.{IsOpenCertificate-one, IsFirstOpenFault-one, IsOpenCertificate-not_bad}
+use Rattle.fort_certificate_theory.specs.Certificates.{Certificate}
+use Rattle.fort_certificate_theory.specs.CertificateForms.{IsCertificate}
+use Rattle.fort_certificate_theory.proofs.OneCertificate.{certificate_one}
+use Rattle.fort_certificate_theory.proofs.OneFault.{certificate_not_bad, first_fault_one}
+use Rattle.fort_certificate_theory.specs.OpenCertificates.{OpenCertificate}
+use Rattle.fort_certificate_theory.specs.OpenForms.{IsOpenCertificate}
+use Rattle.fort_certificate_theory.proofs.OneOpenCertificate.{IsOpenCertificate-one, IsFirstOpenFault-one, IsOpenCertificate-not_bad}
 use Rattle.fort_answers.specs.Said.{BeginsWith}
 use Rattle.fort_answers.specs.Lines.{problem_fault_line, certificate_fault_line}
 use Rattle.fort_answers.specs.InputAnswer.{input_limit, Tail, Behind, Nothing, ACertificate, AnOpenCertificate, NoRules, BeginsPlainly, IsCertifiedInput, IsOpenCertifiedInput, IsInputWith, IsFirstPlainFault, NotPlain, Plain, IsProblemRefused, IsTailRefused, IsInputRefused, TooLong, NoForms, NoProblem, BadTail}

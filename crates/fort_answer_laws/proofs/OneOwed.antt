@@ -5,8 +5,8 @@ use Rattle.fort_theory.specs.Trees.{Tree}
 use Rattle.fort_theory.specs.Sides.{System}
 use Rattle.fort_theory.proofs.Lists.{some-injective}
 use Rattle.fort_logic.specs.Formulas.{Formula}
-use Rattle.fort_certificate_grammar.specs.Certificates.{Certificate}
-use Rattle.fort_open_certificates.specs.OpenCertificates.{OpenCertificate}
+use Rattle.fort_certificate_theory.specs.Certificates.{Certificate}
+use Rattle.fort_certificate_theory.specs.OpenCertificates.{OpenCertificate}
 use Rattle.fort_answers.specs.Requests.{Text, Request, Decide, Witness, Check, Sample, Solutions, Confirm, Synth, Options, Bounds, Family}
 use Rattle.fort_answers.specs.Lines.{negative, usage, usage_text, limited}
 use Rattle.fort_answers.specs.FormulaAnswer.{Open, IsAcceptedAs, IsAcceptedClosed}
@@ -19,8 +19,8 @@ use Rattle.fort_answers.specs.CheckAnswer.{check_inquiry}
 use Rattle.fort_answers.specs.SolutionsAnswer.{solutions_inquiry}
 use Rattle.fort_answers.specs.ConfirmAnswer.{confirm_inquiry}
 use Rattle.fort_answers.specs.SynthAnswer.{IsOfFamily, SynthVerdict, TooLarge, Found, Over, NotFound, synth_inquiry}
-use Rattle.fort_families.specs.FamilyRules.{FamilyRule, IsTooLarge}
-use Rattle.fort_families.specs.FamilySystems.{system_of}
+use Rattle.fort_answers.specs.FamilyRules.{FamilyRule, IsTooLarge}
+use Rattle.fort_answers.specs.FamilySystems.{system_of}
 use Rattle.fort_theory.specs.Signatures.{Signature}
 use Rattle.fort_answers.specs.Answer.{Owing, WithoutInput, About, owing, IsOwedEarly, IsOwed, owed_early, owed, OwesTold, IsAbout}
 use Rattle.fort_answers.specs.PossibleRequests.{IsPossible}

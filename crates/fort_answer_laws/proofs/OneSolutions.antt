@@ -6,8 +6,8 @@ use Rattle.fort_theory.specs.Signatures.{Signature, IsGround}
 use Rattle.fort_theory.specs.Sides.{System}
 use Rattle.fort_logic.specs.Formulas.{Formula}
 use Rattle.fort_logic.specs.FreeNames.{free_names}
-use Rattle.fort_order.proofs.TupleOrderLaws.{tuple_irrefl, tuple_trans, tuple_total}
-use Rattle.fort_order.proofs.FirstLaws.{AreFirstInOrder-unique}
+use Rattle.fort_tables.proofs.TupleOrderLaws.{tuple_irrefl, tuple_trans, tuple_total}
+use Rattle.fort_tables.proofs.FirstLaws.{AreFirstInOrder-unique}
 use Rattle.fort_answers.specs.Requests.{Text, Bounds}
 use Rattle.fort_answers.specs.Lines.{negative}
 use Rattle.fort_answers.specs.SystemAnswer.{Are}

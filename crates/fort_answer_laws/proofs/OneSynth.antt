@@ -4,14 +4,14 @@ use Rattle.std.specs.Prelude.{All}
 use Rattle.fort_theory.specs.Trees.{Tree}
 use Rattle.fort_theory.specs.Signatures.{IsGround, HasConstant}
 use Rattle.fort_theory.specs.Sides.{System}
-use Rattle.fort_cores.specs.Kinds.{Kind}
+use Rattle.fort_theory.specs.Kinds.{Kind}
 use Rattle.fort_logic.specs.Formulas.{Formula}
 use Rattle.fort_logic.specs.Truth.{IsTrueOf}
 use Rattle.fort_logic.proofs.Verdicts.{IsTrueOf-not_false}
-use Rattle.fort_families.specs.FamilyRules.{FamilyRule}
-use Rattle.fort_families.specs.FamilySystems.{system_of}
-use Rattle.fort_families.specs.RuleText.{rule_lines}
-use Rattle.fort_families.proofs.FamilyOrderLaws.{CandidateBefore-total}
+use Rattle.fort_answers.specs.FamilyRules.{FamilyRule}
+use Rattle.fort_answers.specs.FamilySystems.{system_of}
+use Rattle.fort_answers.specs.RuleText.{rule_lines}
+use Rattle.fort_answers.proofs.FamilyOrderLaws.{CandidateBefore-total}
 use Rattle.fort_answers.specs.Requests.{Text, Options, Family}
 use Rattle.fort_answers.specs.Lines.{positive, negative, refused, limited, limit_line}
 use Rattle.fort_answers.specs.SystemAnswer.{Are, PassesCap}

@@ -10,13 +10,13 @@ use Rattle.fort_logic.specs.FreeNames.{free_names}
 use Rattle.fort_logic.specs.Translation.{core_of}
 use Rattle.fort_logic.specs.Truth.{IsFalseOf}
 use Rattle.fort_logic.proofs.Verdicts.{IsTrueOf-not_false}
-use Rattle.fort_certificate_grammar.specs.Certificates.{Step, Certificate}
-use Rattle.fort_certificate_grammar.specs.CertificateForms.{version_for}
-use Rattle.fort_certificate_grammar.specs.CertificateText.{certificate_text}
-use Rattle.fort_in_order.specs.Checked.{Outcome, Certified, Rejected}
-use Rattle.fort_in_order.proofs.CheckedLaws.{HasOutcome-one}
-use Rattle.fort_in_order.proofs.WrittenLaws.{IsWritten-one}
-use Rattle.fort_order.proofs.TupleOrderLaws.{not_after_none}
+use Rattle.fort_certificate_theory.specs.Certificates.{Step, Certificate}
+use Rattle.fort_certificate_theory.specs.CertificateForms.{version_for}
+use Rattle.fort_certificate_theory.specs.CertificateText.{certificate_text}
+use Rattle.fort_certificate_theory.specs.Checked.{Outcome, Certified, Rejected}
+use Rattle.fort_certificate_theory.proofs.CheckedLaws.{HasOutcome-one}
+use Rattle.fort_certificate_theory.proofs.WrittenLaws.{IsWritten-one}
+use Rattle.fort_tables.proofs.TupleOrderLaws.{not_after_none}
 use Rattle.fort_answers.specs.Requests.{Text}
 use Rattle.fort_answers.specs.Lines.{positive, negative, yes_line, no_line, witness_line, none_line}
 use Rattle.fort_answers.specs.SystemAnswer.{Are}

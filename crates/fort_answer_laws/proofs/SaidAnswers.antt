@@ -11,7 +11,7 @@ use Rattle.fort_answers.specs.InputAnswer.{Behind}
 use Rattle.fort_answers.specs.Said.{IsSaid, Says, SaysTrue, SaysFalse}
 use Rattle.fort_answers.specs.SaidTerms.{SaysLeastTerms, SaysFirstTerms}
 use Rattle.fort_answers.specs.SaidSystems.{SaysSystem, SaysNoSystem}
-use Rattle.fort_answers.specs.SystemAnswer.{Inquiry, IsAnswerTo, FormulaRefused, InputRefused, FormulaUnfit, Limited, Says as Verdict}
+use Rattle.fort_answers.specs.SystemAnswer.{Inquiry, IsOwedTo, FormulaRefused, InputRefused, FormulaUnfit, Limited, Says as Verdict}
 use Rattle.fort_answers.specs.DecideAnswer.{TruthVerdict, Yes, No, decide_inquiry}
 use Rattle.fort_answers.specs.WitnessAnswer.{WitnessVerdict, Found, NotFound, witness_inquiry}
 use Rattle.fort_answers.specs.SolutionsAnswer.{SolutionsVerdict, solutions_inquiry}
@@ -24,7 +24,7 @@ use Rattle.fort_answer_laws.proofs.OneInput.{begins_with}
 -- what follows from what the command says holds of the system with which the bytes begin
 said_by : (inquiry : Inquiry) (bytes : Text) (s : ℕ) (t : Text) (P : System → List Tree → Formula → Type 0)
     → ((system : System) (behind : Behind inquiry.tail) (terms : List Tree) (f : Formula) → inquiry.says system behind terms f s t → P system terms f)
-    → s ≤ negative → IsAnswerTo inquiry bytes s t → IsSaid inquiry.formula bytes P
+    → s ≤ negative → IsOwedTo inquiry bytes s t → IsSaid inquiry.formula bytes P
 said_by inquiry bytes s t P use_it low (FormulaRefused early) = let e = early.are.same_status in absurd (omega (arith, e, low))
 said_by inquiry bytes s t P use_it low (InputRefused f accepted line is are) = let e = are.same_status in absurd (omega (arith, e, low))
 said_by inquiry bytes s t P use_it low (FormulaUnfit f accepted system behind is line unfit are) =
@@ -118,8 +118,8 @@ module _ (told old new : Option Text) (s : ℕ) (t : Text) (taken : Takes old ne
   -- what is said of all bytes to which the answer is owed
   told_says : (request : Option Request) (P : Text → System → List Tree → Formula → Type 0) → ((bytes : Text) → owed request bytes s t → IsSaid formula bytes (P t))
       → (source : Option Text) → OwesTold request source s t → Says formula source old new P
-  told_says request P said None owes = record { text = t; taken = taken; bytes = owes.0; told_are = tt; said = said owes.0 owes.1 }
-  told_says request P said (Some bytes) owes = record { text = t; taken = taken; bytes = bytes; told_are = refl; said = said bytes owes }
+  told_says request P said None owes = record { text = t; taken = taken; said = record { bytes = owes.0; told_are = tt; holds = said owes.0 owes.1 } }
+  told_says request P said (Some bytes) owes = record { text = t; taken = taken; said = record { bytes = bytes; told_are = refl; holds = said bytes owes } }
 
   pub owed_yes : (o : Options) → s ≡ positive → OwesTold (Some (Decide o false formula)) told s t → Says formula told old new (SaysTrue (codes "YES"))
   owed_yes o e owes =

@@ -5,11 +5,11 @@ use Rattle.std.proofs.lemmas.List.Elements.{All-nil, All-from_recursion}
 use Rattle.fort_theory.specs.Signatures.{Signature, IsGround}
 use Rattle.fort_theory.specs.Sides.{IsIndexOf, IsLinearSeparated, Rule, at_index}
 use Rattle.fort_theory.specs.Patterns.{PatternSystem}
-use Rattle.fort_termination.specs.RightGround.{IsRightGround, IsRightGroundAt}
-use Rattle.fort_cores.specs.Cores.{Atom, Related, InContext, Normal, IsTerm, Core, True, Leaf, Not, Binary, Exists, Infinite}
-use Rattle.fort_families.specs.FamilyRules.{FamilyRule}
-use Rattle.fort_families.specs.FamilySystems.{rule_of, system_of}
-use Rattle.fort_families.proofs.FamilyVariables.{variables-ground_side, rule_of-separated}
+use Rattle.fort_theory.specs.RightGround.{IsRightGround, IsRightGroundAt}
+use Rattle.fort_theory.specs.Cores.{Atom, Related, InContext, Normal, IsTerm, Core, True, Leaf, Not, Binary, Exists, Infinite}
+use Rattle.fort_answers.specs.FamilyRules.{FamilyRule}
+use Rattle.fort_answers.specs.FamilySystems.{rule_of, system_of}
+use Rattle.fort_answers.proofs.FamilyVariables.{variables-ground_side, rule_of-separated}
 use Rattle.fort_parts.specs.DecidedCores.{AreFewRules, IsAtomOver, IsOverSystem, IsDecided}
 
 -- ---- its rules

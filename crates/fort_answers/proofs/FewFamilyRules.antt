@@ -8,10 +8,10 @@ use Rattle.fort_theory.specs.Signatures.{Signature, arity_of}
 use Rattle.fort_theory.specs.Sides.{at_index}
 use Rattle.fort_theory.specs.Patterns.{Pattern, Pair, pattern_of, pattern_pair, pattern_system}
 use Rattle.fort_theory.specs.PatternOrder.{subpatterns}
-use Rattle.fort_families.specs.FamilyRules.{FamilyRule, IsFamilyRule}
-use Rattle.fort_families.specs.FamilySystems.{ground_side, rule_of, system_of, IsCandidate}
-use Rattle.fort_families.proofs.FamilySides.{pattern_of-side_from}
-use Rattle.fort_families.proofs.FamilySizes.{subpatterns-few, fits_ground, height_ground}
+use Rattle.fort_answers.specs.FamilyRules.{FamilyRule, IsFamilyRule}
+use Rattle.fort_answers.specs.FamilySystems.{ground_side, rule_of, system_of, IsCandidate}
+use Rattle.fort_answers.proofs.FamilySides.{pattern_of-side_from}
+use Rattle.fort_answers.proofs.FamilySizes.{subpatterns-few, fits_ground, height_ground}
 use Rattle.fort_parts.specs.DecidedCores.{AreFewRules}
 use Rattle.fort_answers.proofs.FewPatterns.{few_subpatterns}
 

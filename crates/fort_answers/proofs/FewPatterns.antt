@@ -19,7 +19,7 @@ use Rattle.fort_grammar.specs.RuleForms.{HasSides, OfFirst, OfIndex, IsSide, Are
 use Rattle.fort_grammar.specs.ProblemForms.{IsProblem}
 use Rattle.fort_parts.specs.DecidedCores.{AreFewRules}
 use Rattle.fort_answers.specs.InputAnswer.{Tail, Behind, Nothing, ACertificate, AnOpenCertificate, NoRules, IsInput, IsCertifiedInput, IsInputWith, input_limit}
-use Rattle.fort_certificate_grammar.specs.Certificates.{Certificate}
+use Rattle.fort_certificate_theory.specs.Certificates.{Certificate}
 
 -- ---- different elements of a list are no more than its elements
 

@@ -1,3 +1,8 @@
+pub mod FamilyOrderLaws
+pub mod FamilySides
+pub mod FamilySizes
+pub mod FamilyVariables
+pub mod VariableNames
 pub mod OneVerdict
 pub mod OneRefusal
 pub mod OneRequest

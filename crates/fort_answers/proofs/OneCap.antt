@@ -6,13 +6,13 @@ use Rattle.fort_theory.specs.Trees.{Tree}
 use Rattle.fort_theory.specs.Sides.{System}
 use Rattle.fort_theory.specs.Patterns.{PatternSystem, pattern_system}
 use Rattle.fort_logic.specs.Formulas.{Formula}
-use Rattle.fort_cores.specs.Cores as core
-use Rattle.fort_cores.specs.Cores.{Core}
-use Rattle.fort_cores.specs.Kinds.{Kind, kind_of}
-use Rattle.fort_cores.specs.Parts.{postorder}
+use Rattle.fort_theory.specs.Cores as core
+use Rattle.fort_theory.specs.Cores.{Core}
+use Rattle.fort_theory.specs.Kinds.{Kind, kind_of}
+use Rattle.fort_theory.specs.Parts.{postorder}
 use Rattle.fort_logic.specs.Translation.{core_of}
-use Rattle.fort_cores.proofs.EachOnceUnique.{AreEachOnce-unique}
-use Rattle.fort_operations.specs.Agreement.{Agreement}
+use Rattle.fort_theory.proofs.EachOnceUnique.{AreEachOnce-unique}
+use Rattle.fort_tables.specs.Agreement.{Agreement}
 use Rattle.fort_parts.specs.AlikeParts.{IsFirstOverBy}
 use Rattle.fort_answers.specs.Requests.{Options}
 use Rattle.fort_answers.specs.Lines.{limit_line}

@@ -9,7 +9,7 @@ use Rattle.fort_theory.specs.Sides.{System}
 use Rattle.fort_logic.specs.Formulas.{Formula}
 use Rattle.fort_logic.specs.Mentions.{indices}
 use Rattle.fort_logic.proofs.MentionLaws.{IsFirstAbove-unique, IsFirstAbove-not_within}
-use Rattle.fort_termination.specs.RightGround.{IsRightGroundAt}
+use Rattle.fort_theory.specs.RightGround.{IsRightGroundAt}
 use Rattle.fort_logic.specs.Terminations.{terminations}
 use Rattle.fort_logic.proofs.TerminationMentions.{IsFirstWithout-unique, IsFirstWithout-not_all}
 use Rattle.fort_grammar.specs.GroundForms.{IsGroundText}

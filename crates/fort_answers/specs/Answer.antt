@@ -5,7 +5,7 @@ use Rattle.fort_answers.specs.Requests.{Text, Options, Request, Decide, Witness,
 use Rattle.fort_answers.specs.CommandGrammar.{request_of}
 use Rattle.fort_answers.specs.Lines.{usage, usage_text}
 use Rattle.fort_answers.specs.FormulaAnswer.{IsAcceptedAs}
-use Rattle.fort_answers.specs.SystemAnswer.{Are, Inquiry, IsRefusedEarly, IsAnswerTo}
+use Rattle.fort_answers.specs.SystemAnswer.{Are, Inquiry, IsRefusedEarly, IsOwedTo}
 use Rattle.fort_answers.specs.DecideAnswer.{decide_inquiry}
 use Rattle.fort_answers.specs.WitnessAnswer.{witness_inquiry}
 use Rattle.fort_answers.specs.SolutionsAnswer.{solutions_inquiry}
@@ -44,7 +44,7 @@ IsOwedEarly (About inquiry) status text = IsRefusedEarly inquiry status text
 -- they are owed for these bytes
 abbrev pub IsOwed : Owing → (bytes : Text) → ℕ → Text → Type 0
 IsOwed (WithoutInput answer) bytes status text = answer status text
-IsOwed (About inquiry) bytes status text = IsAnswerTo inquiry bytes status text
+IsOwed (About inquiry) bytes status text = IsOwedTo inquiry bytes status text
 
 -- the input is read
 abbrev pub ReadsInput : Owing → Type 0
@@ -78,11 +78,11 @@ abbrev pub Answer : List Text → Text → ℕ → Text → Type 0
 Answer words bytes status text = owed (request_of words) bytes status text
 
 -- the words ask something for which the input is read
-abbrev pub AsksSomething : List Text → Type 0
-AsksSomething words = needed (request_of words)
+abbrev pub NeedsInput : List Text → Type 0
+NeedsInput words = needed (request_of words)
 
-abbrev pub AsksNothing : List Text → Type 0
-AsksNothing words = AsksSomething words → ⊥
+abbrev pub NeedsNoInput : List Text → Type 0
+NeedsNoInput words = NeedsInput words → ⊥
 
 -- what is owed for the bytes that a source tells; for one that tells none, for some bytes
 

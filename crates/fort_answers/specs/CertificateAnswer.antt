@@ -6,10 +6,10 @@ use Rattle.fort_theory.specs.Sides.{System}
 use Rattle.fort_theory.specs.Patterns.{pattern_system}
 use Rattle.fort_logic.specs.Formulas.{Formula}
 use Rattle.fort_logic.specs.Translation.{core_of}
-use Rattle.fort_certificate_grammar.specs.Certificates.{Certificate}
-use Rattle.fort_certificate_grammar.specs.CertificateForms.{version_for}
-use Rattle.fort_certificate_grammar.specs.CertificateText.{certificate_text, CanBeWritten}
-use Rattle.fort_in_order.specs.Written.{IsWritten}
+use Rattle.fort_certificate_theory.specs.Certificates.{Certificate}
+use Rattle.fort_certificate_theory.specs.CertificateForms.{version_for}
+use Rattle.fort_certificate_theory.specs.CertificateText.{certificate_text, CanBeWritten}
+use Rattle.fort_certificate_theory.specs.Written.{IsWritten}
 use Rattle.fort_answers.specs.Requests.{Text}
 use Rattle.fort_answers.specs.Lines.{positive}
 use Rattle.fort_answers.specs.SystemAnswer.{Are}

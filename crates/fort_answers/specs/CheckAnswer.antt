@@ -5,10 +5,10 @@ use Rattle.fort_theory.specs.Sides.{System}
 use Rattle.fort_theory.specs.Patterns.{pattern_system}
 use Rattle.fort_logic.specs.Formulas.{Formula}
 use Rattle.fort_logic.specs.Translation.{core_of}
-use Rattle.fort_certificate_grammar.specs.Certificates.{Certificate}
-use Rattle.fort_in_order.specs.Outcomes as outcomes
-use Rattle.fort_in_order.specs.Outcomes.{Reason}
-use Rattle.fort_in_order.specs.Checked.{Outcome, Certified, Rejected, HasOutcome}
+use Rattle.fort_certificate_theory.specs.Certificates.{Certificate}
+use Rattle.fort_certificate_theory.specs.Outcomes as outcomes
+use Rattle.fort_certificate_theory.specs.Outcomes.{Reason}
+use Rattle.fort_certificate_theory.specs.Checked.{Outcome, Certified, Rejected, HasOutcome}
 use Rattle.fort_answers.specs.Requests.{Text}
 use Rattle.fort_answers.specs.Lines.{positive, negative, line}
 use Rattle.fort_answers.specs.FormulaAnswer.{Closed}

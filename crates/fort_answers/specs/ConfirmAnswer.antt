@@ -6,9 +6,9 @@ use Rattle.fort_theory.specs.Patterns.{pattern_system}
 use Rattle.fort_logic.specs.Formulas.{Formula}
 use Rattle.fort_logic.specs.FreeNames.{free_names}
 use Rattle.fort_logic.specs.Translation.{core_of}
-use Rattle.fort_in_order.specs.Outcomes.{Reason}
-use Rattle.fort_open_certificates.specs.OpenCertificates.{Found, Empty, OpenCertificate}
-use Rattle.fort_open_certificates.specs.OpenChecked.{OpenOutcome, Confirmed, Rejected, NoEntry, last_of, HasOpenOutcome}
+use Rattle.fort_certificate_theory.specs.Outcomes.{Reason}
+use Rattle.fort_certificate_theory.specs.OpenCertificates.{Found, Empty, OpenCertificate}
+use Rattle.fort_certificate_theory.specs.OpenChecked.{OpenOutcome, Confirmed, Rejected, NoEntry, last_of, HasOpenOutcome}
 use Rattle.fort_answers.specs.Requests.{Text}
 use Rattle.fort_answers.specs.Lines.{positive, negative, line}
 use Rattle.fort_answers.specs.FormulaAnswer.{Open}

@@ -5,12 +5,12 @@ use Rattle.fort_grammar.specs.Text.{TextFault, IsFirstFault}
 use Rattle.fort_grammar.specs.Forms.{Form, Forms, AreFormsOf}
 use Rattle.fort_grammar.specs.Declarations.{ProblemFault, NoFormat, BadForm, as_list, IsListOfWords}
 use Rattle.fort_grammar.specs.ProblemForms.{IsProblem, IsFirstProblemFault, IsProblemText}
-use Rattle.fort_certificate_grammar.specs.Certificates.{Certificate}
-use Rattle.fort_certificate_grammar.specs.CertificateForms.{IsCertificate}
-use Rattle.fort_certificate_grammar.specs.CertificateFaults.{CertificateFault, IsFirstCertificateFault}
-use Rattle.fort_open_certificates.specs.OpenCertificates.{OpenCertificate}
-use Rattle.fort_open_certificates.specs.OpenForms.{IsOpenCertificate}
-use Rattle.fort_open_certificates.specs.OpenFaults.{IsFirstOpenFault}
+use Rattle.fort_certificate_theory.specs.Certificates.{Certificate}
+use Rattle.fort_certificate_theory.specs.CertificateForms.{IsCertificate}
+use Rattle.fort_certificate_theory.specs.CertificateFaults.{CertificateFault, IsFirstCertificateFault}
+use Rattle.fort_certificate_theory.specs.OpenCertificates.{OpenCertificate}
+use Rattle.fort_certificate_theory.specs.OpenForms.{IsOpenCertificate}
+use Rattle.fort_certificate_theory.specs.OpenFaults.{IsFirstOpenFault}
 use Rattle.fort_answers.specs.Lines.{input_too_long, text_fault_line, problem_fault_line, certificate_fault_line}
 
 -- the most bytes of an input

@@ -1,9 +1,13 @@
+pub mod FamilyRules
+pub mod FamilySystems
+pub mod RuleText
 pub mod Requests
 pub mod Commands
 pub mod CommandGrammar
 pub mod Lines
 pub mod FormulaAnswer
 pub mod InputAnswer
+pub mod Told
 pub mod Said
 pub mod FitAnswer
 pub mod SystemAnswer

@@ -1,13 +1,13 @@
 -- To believe: the texts that the program prints, and the statuses with which it ends.
 use Rattle.std.specs.Prelude.{ℕ, List, [], ◌∷◌, ◌++◌, codes, decimal}
 use Rattle.fort_logic.specs.Formulas.{Name}
-use Rattle.fort_cores.specs.Kinds as kinds
-use Rattle.fort_cores.specs.Kinds.{Kind}
+use Rattle.fort_theory.specs.Kinds as kinds
+use Rattle.fort_theory.specs.Kinds.{Kind}
 use Rattle.fort_formula_grammar.specs.FormulaText as formula
 use Rattle.fort_formula_grammar.specs.FormulaText.{FormulaFault}
 use Rattle.fort_grammar.specs.Text.{TextFault, BadByte, ExtraClose, Unclosed, TooDeep}
-use Rattle.fort_certificate_grammar.specs.CertificateFaults as certificate
-use Rattle.fort_certificate_grammar.specs.CertificateFaults.{CertificateFault}
+use Rattle.fort_certificate_theory.specs.CertificateFaults as certificate
+use Rattle.fort_certificate_theory.specs.CertificateFaults.{CertificateFault}
 use Rattle.fort_grammar.specs.Declarations.{ProblemFault, NoFormat, BadForm, BadName, BadArity, Duplicate, TooManyFunctions, TooManyRules, NoConstant, WrongCount, VariableApplied, LeftRepeats, RightRepeats, Shares}
 
 -- a text and the end of its line

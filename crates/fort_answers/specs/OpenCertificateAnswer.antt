@@ -6,11 +6,11 @@ use Rattle.fort_theory.specs.Sides.{System}
 use Rattle.fort_theory.specs.Patterns.{pattern_system}
 use Rattle.fort_logic.specs.Formulas.{Formula}
 use Rattle.fort_logic.specs.Translation.{core_of}
-use Rattle.fort_certificate_grammar.specs.CertificateText.{CanBeWritten}
-use Rattle.fort_open_certificates.specs.OpenCertificates.{OpenCertificate}
-use Rattle.fort_open_certificates.specs.OpenForms.{step_version}
-use Rattle.fort_open_certificates.specs.OpenText.{open_text, CanNodeBeWritten}
-use Rattle.fort_open_certificates.specs.OpenWritten.{IsOpenWritten}
+use Rattle.fort_certificate_theory.specs.CertificateText.{CanBeWritten}
+use Rattle.fort_certificate_theory.specs.OpenCertificates.{OpenCertificate}
+use Rattle.fort_certificate_theory.specs.OpenForms.{step_version}
+use Rattle.fort_certificate_theory.specs.OpenText.{open_text, CanNodeBeWritten}
+use Rattle.fort_certificate_theory.specs.OpenWritten.{IsOpenWritten}
 use Rattle.fort_answers.specs.Requests.{Text}
 use Rattle.fort_answers.specs.Lines.{positive}
 use Rattle.fort_answers.specs.SystemAnswer.{Are}

@@ -1,5 +1,5 @@
 -- To believe: what is said of a formula's text over the bytes of a problem: the text is a formula, the bytes begin with a system, and the formula is true of this system, or false of it; and the words that plainly ask for it.
-use Rattle.std.specs.Prelude.{◌≡◌, ◌⊎◌, ℕ, List, [], ◌∷◌, ◌++◌, Option, IfSome, codes}
+use Rattle.std.specs.Prelude.{◌≡◌, ◌⊎◌, ℕ, List, [], ◌∷◌, ◌++◌, Option, codes}
 use Rattle.fort_theory.specs.Trees.{Tree}
 use Rattle.fort_theory.specs.Signatures.{Signature}
 use Rattle.fort_theory.specs.Sides.{System}
@@ -11,6 +11,7 @@ use Rattle.fort_grammar.specs.ProblemForms.{IsProblem}
 use Rattle.fort_grammar.specs.GroundForms.{IsGroundText}
 use Rattle.fort_formula_grammar.specs.FormulaText.{IsFormulaText, Ground, AreGroundsOf}
 use Rattle.fort_io.specs.Devices.{Takes}
+use Rattle.fort_answers.specs.Told.{HoldsForTold}
 
 -- ---- words
 
@@ -62,9 +63,7 @@ pub record IsSaid (formula bytes : List ℕ) (P : System → List Tree → Formu
 pub record Says (formula : List ℕ) (told old new : Option (List ℕ)) (P : List ℕ → System → List Tree → Formula → Type 0) : Type 0 where
   pub text : List ℕ
   pub taken : Takes old new text
-  pub bytes : List ℕ
-  pub told_are : IfSome told (λ b. b ≡ bytes)
-  pub said : IsSaid formula bytes (P text)
+  pub said : HoldsForTold told (λ bytes. IsSaid formula bytes (P text))
 
 -- ---- truth
 

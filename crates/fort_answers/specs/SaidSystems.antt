@@ -4,9 +4,9 @@ use Rattle.fort_theory.specs.Trees.{Tree}
 use Rattle.fort_theory.specs.Sides.{System}
 use Rattle.fort_logic.specs.Formulas.{Formula}
 use Rattle.fort_logic.specs.Truth.{IsTrueOf, IsFalseOf}
-use Rattle.fort_families.specs.FamilyRules.{FamilyRule}
-use Rattle.fort_families.specs.FamilySystems.{IsCandidate, CandidateBefore, system_of}
-use Rattle.fort_families.specs.RuleText.{rule_lines}
+use Rattle.fort_answers.specs.FamilyRules.{FamilyRule}
+use Rattle.fort_answers.specs.FamilySystems.{IsCandidate, CandidateBefore, system_of}
+use Rattle.fort_answers.specs.RuleText.{rule_lines}
 
 -- the text has the rules of the first system of the family, over the signature with which the bytes begin, of which the formula is true: it
 -- is false of all that come before; the digits write how many rules a system has, and how high their sides are at most

@@ -4,7 +4,7 @@ use Rattle.fort_theory.specs.Trees.{Tree}
 use Rattle.fort_theory.specs.Sides.{System}
 use Rattle.fort_logic.specs.Formulas.{Formula}
 use Rattle.fort_logic.specs.FreeNames.{free_names}
-use Rattle.fort_order.specs.FirstInOrder.{AreFirstInOrder}
+use Rattle.fort_tables.specs.FirstInOrder.{AreFirstInOrder}
 use Rattle.fort_answers.specs.Said.{SaysFalse}
 use Rattle.fort_answers.specs.Witnesses.{AreWitnesses, AreLeastWitnesses, bindings}
 use Rattle.fort_answers.specs.SolutionTerms.{AreSolutionTerms, TermsBefore, count_line, solution_lines}

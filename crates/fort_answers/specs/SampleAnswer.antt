@@ -2,7 +2,7 @@
 use Rattle.std.specs.Prelude.{◌≡◌, ℕ, false, List, [], ◌∷◌, ◌++◌, codes, decimal}
 use Rattle.fort_theory.specs.Sides.{System}
 use Rattle.fort_logic.specs.Formulas.{Property, Cr, Wcr, Scr, Wn, Unr, Unc, Nfp, Has}
-use Rattle.fort_cores.specs.Kinds.{Kind}
+use Rattle.fort_theory.specs.Kinds.{Kind}
 use Rattle.fort_logic.specs.Truth.{IsTrueOf, IsFalseOf}
 use Rattle.fort_formula_grammar.specs.Tokens.{property_text}
 use Rattle.fort_answers.specs.Requests.{Text, Options}

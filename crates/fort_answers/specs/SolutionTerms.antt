@@ -5,7 +5,7 @@ use Rattle.fort_theory.specs.Trees as trees
 use Rattle.fort_theory.specs.Signatures.{Signature}
 use Rattle.fort_theory.specs.Sides.{System}
 use Rattle.fort_logic.specs.Formulas.{Name, Formula}
-use Rattle.fort_order.specs.TupleOrder.{TupleBefore}
+use Rattle.fort_tables.specs.TupleOrder.{TupleBefore}
 use Rattle.fort_answers.specs.Witnesses.{AreWitnesses, binding}
 
 -- terms that satisfy the formula, none of them higher than this

@@ -2,12 +2,12 @@
 use Rattle.std.specs.Prelude.{ℕ, List, ◌++◌, None, codes}
 use Rattle.fort_theory.specs.Trees.{Tree}
 use Rattle.fort_theory.specs.Signatures.{Signature}
-use Rattle.fort_cores.specs.Kinds.{Kind}
+use Rattle.fort_theory.specs.Kinds.{Kind}
 use Rattle.fort_logic.specs.Formulas.{Formula}
 use Rattle.fort_logic.specs.Truth.{IsTrueOf, IsFalseOf}
-use Rattle.fort_families.specs.FamilyRules.{FamilyRule, IsTooLarge}
-use Rattle.fort_families.specs.FamilySystems.{IsCandidate, CandidateBefore, system_of}
-use Rattle.fort_families.specs.RuleText.{rule_lines}
+use Rattle.fort_answers.specs.FamilyRules.{FamilyRule, IsTooLarge}
+use Rattle.fort_answers.specs.FamilySystems.{IsCandidate, CandidateBefore, system_of}
+use Rattle.fort_answers.specs.RuleText.{rule_lines}
 use Rattle.fort_answers.specs.Requests.{Text, Options, Family}
 use Rattle.fort_answers.specs.Lines.{positive, negative, refused, limited, line, limit_line}
 use Rattle.fort_answers.specs.FormulaAnswer.{Closed}

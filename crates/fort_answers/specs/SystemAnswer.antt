@@ -4,14 +4,14 @@ use Rattle.fort_theory.specs.Trees.{Tree}
 use Rattle.fort_theory.specs.Sides.{System}
 use Rattle.fort_theory.specs.Patterns.{pattern_system}
 use Rattle.fort_logic.specs.Formulas.{Formula}
-use Rattle.fort_cores.specs.Cores as core
-use Rattle.fort_cores.specs.Cores.{Core}
-use Rattle.fort_cores.specs.Kinds.{Kind, kind_of}
-use Rattle.fort_cores.specs.PartLists.{AreParts}
+use Rattle.fort_theory.specs.Cores as core
+use Rattle.fort_theory.specs.Cores.{Core}
+use Rattle.fort_theory.specs.Kinds.{Kind, kind_of}
+use Rattle.fort_theory.specs.PartLists.{AreParts}
 use Rattle.fort_logic.specs.Translation.{core_of}
-use Rattle.fort_operations.specs.Agreement.{Agreement}
+use Rattle.fort_tables.specs.Agreement.{Agreement}
 use Rattle.fort_parts.specs.AlikeParts.{IsOverBy, IsFirstOverBy}
-use Rattle.fort_reduced_parts.specs.ReducedParts.{AlikeWith}
+use Rattle.fort_parts.specs.ReducedParts.{AlikeWith}
 use Rattle.fort_answers.specs.Requests.{Text, Options}
 use Rattle.fort_answers.specs.Lines.{refused, limited, limit_line}
 use Rattle.fort_answers.specs.FormulaAnswer.{Openness, IsAcceptedAs, IsRefusedAs}
@@ -68,17 +68,17 @@ pub record IsRefusedEarly (inquiry : Inquiry) (status : ℕ) (text : Text) : Typ
   pub are : Are status text refused refusal
 
 -- the cases in their order, each with what the earlier ones leave
-pub data IsAnswerTo (inquiry : Inquiry) (bytes : Text) (status : ℕ) (text : Text) : Type 0 where
-  FormulaRefused : IsRefusedEarly inquiry status text → IsAnswerTo inquiry bytes status text
+pub data IsOwedTo (inquiry : Inquiry) (bytes : Text) (status : ℕ) (text : Text) : Type 0 where
+  FormulaRefused : IsRefusedEarly inquiry status text → IsOwedTo inquiry bytes status text
   InputRefused : (f : Formula) → IsAcceptedAs inquiry.openness inquiry.formula f → (line : Text) → IsInputRefused inquiry.tail bytes line
-      → Are status text refused line → IsAnswerTo inquiry bytes status text
+      → Are status text refused line → IsOwedTo inquiry bytes status text
   FormulaUnfit : (f : Formula) → IsAcceptedAs inquiry.openness inquiry.formula f → (system : System) (behind : Behind inquiry.tail)
       → IsInputWith inquiry.tail bytes system behind → (line : Text) → IsUnfit inquiry.formula f system line → Are status text refused line
-      → IsAnswerTo inquiry bytes status text
+      → IsOwedTo inquiry bytes status text
   Limited : (f : Formula) → IsAcceptedAs inquiry.openness inquiry.formula f → (system : System) (behind : Behind inquiry.tail)
       → IsInputWith inquiry.tail bytes system behind → (terms : List Tree) → FitsSystem inquiry.formula f system terms
       → (options : Options) → inquiry.options ≡ Some options → (k : ℕ) (kind : Kind) → PassesCap system terms f options k kind
-      → Are status text limited (limit_line k kind options.states) → IsAnswerTo inquiry bytes status text
+      → Are status text limited (limit_line k kind options.states) → IsOwedTo inquiry bytes status text
   Says : (f : Formula) → IsAcceptedAs inquiry.openness inquiry.formula f → (system : System) (behind : Behind inquiry.tail)
       → IsInputWith inquiry.tail bytes system behind → (terms : List Tree) → FitsSystem inquiry.formula f system terms
-      → KeepsCapOf inquiry.options system terms f → inquiry.says system behind terms f status text → IsAnswerTo inquiry bytes status text
+      → KeepsCapOf inquiry.options system terms f → inquiry.says system behind terms f status text → IsOwedTo inquiry bytes status text

@@ -5,10 +5,10 @@ use Rattle.fort_theory.specs.Signatures.{Signature}
 use Rattle.fort_theory.specs.Sides.{System}
 use Rattle.fort_logic.specs.Formulas.{Name, Formula, Var}
 use Rattle.fort_logic.specs.FreeNames.{free_names}
-use Rattle.fort_cores.specs.Structures.{structure_of}
+use Rattle.fort_theory.specs.Structures.{structure_of}
 use Rattle.fort_logic.specs.Truth.{Assignment, IsGroundAssignment, GivesTerms, Holds}
-use Rattle.fort_order.specs.TupleOrder.{NotAfter}
-use Rattle.fort_order.specs.TermText.{term_text}
+use Rattle.fort_tables.specs.TupleOrder.{NotAfter}
+use Rattle.fort_tables.specs.TermText.{term_text}
 
 -- the trees of the free names, in the order of their first free occurrences
 abbrev pub free_trees : Formula → Assignment → List Tree

@@ -1,2 +1,2 @@
-//! Definitions of what the program is asked and what it answers. It has no code.
+//! Definitions of what the program is asked and what it answers, families of systems among it. It has no code.
 #![tactic(auto)]

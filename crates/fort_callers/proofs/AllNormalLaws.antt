@@ -1,7 +1,7 @@
 -- The formula that every ground term is a normal form is not too wide, so that its core formula fails for want of memory alone.
 use Rattle.std.proofs.Common.{◌≡◌, ◌<◌, ◌^◌, [], Result, Ok, Err, IfErr, refl, arith}
 use Rattle.std.specs.Result.{IsErrOf}
-use Rattle.fort_cores.specs.Parts.{IsWellFormed}
+use Rattle.fort_theory.specs.Parts.{IsWellFormed}
 use Rattle.fort_logic.specs.Translation.{core_of, IsFormulaTooWide}
 use Rattle.fort_parts.proofs.PartFacts.{IsWellFormed-few}
 use Rattle.fort_formulas.specs.NumbersNeeded.{numbers_needed}

@@ -6,10 +6,10 @@ use Rattle.fort_tables.specs.Tuples.{Tuple, IsTuple}
 use Rattle.fort_tables.specs.Tables.{Table}
 use Rattle.fort_tables.specs.Labels.{HaveLabels}
 use Rattle.fort_tables.specs.LabelRules.{label_of, IsTableBy}
-use Rattle.fort_operations.specs.Selections.{selected}
-use Rattle.fort_operations.specs.Products.{Operand, OfTable, product_rule, product_accepts}
-use Rattle.fort_operations.specs.OperationTruth.{TestsRelation, Complement, accepts, said_by}
-use Rattle.fort_operations.proofs.TableTruth.{tests_by_label}
+use Rattle.fort_tables.specs.Selections.{selected}
+use Rattle.fort_tables.specs.Products.{Operand, OfTable, product_rule, product_accepts}
+use Rattle.fort_tables.specs.OperationTruth.{TestsRelation, Complement, accepts, said_by}
+use Rattle.fort_tables.proofs.TableTruth.{tests_by_label}
 
 -- the table of a product
 abbrev pub IsProduct : Signature → ℕ → Connective → Operand → Operand → Table → Type 0

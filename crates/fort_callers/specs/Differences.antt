@@ -4,8 +4,8 @@ use Rattle.fort_tables.specs.Tuples.{Tuple}
 use Rattle.fort_tables.specs.Tables.{Table}
 use Rattle.fort_tables.specs.Labels.{HaveLabels}
 use Rattle.fort_tables.specs.LabelRules.{label_of}
-use Rattle.fort_operations.specs.Products.{OfTable, product_rule}
-use Rattle.fort_operations.specs.OperationTruth.{complemented}
+use Rattle.fort_tables.specs.Products.{OfTable, product_rule}
+use Rattle.fort_tables.specs.OperationTruth.{complemented}
 
 abbrev pub HaveDifferenceLabels : Table → Table → ℕ → List Tuple → Type 0
 HaveDifferenceLabels first second count ts =

@@ -1,9 +1,9 @@
 //! What a certificate proves.
 ghost use Rattle.std.specs.Prelude.{IfOk};
-ghost use Rattle.fort_cores.specs.Parts.{IsClosed};
-ghost use Rattle.fort_cores.specs.PatternStructures.{pattern_structure};
+ghost use Rattle.fort_theory.specs.Parts.{IsClosed};
+ghost use Rattle.fort_theory.specs.PatternStructures.{pattern_structure};
 ghost use Rattle.fort_formulas.specs.CoreView.{as_core};
-ghost use Rattle.fort_in_order.specs.Checked.{HasOutcome};
+ghost use Rattle.fort_certificate_theory.specs.Checked.{HasOutcome};
 ghost use Rattle.fort_parts.specs.DecidedCores.{IsDecided};
 ghost use Rattle.fort_parts.specs.PartAnswers.{OfValue, IsAnswerTo};
 ghost use Rattle.fort_steps.specs.CertificateView.{as_certificate};

@@ -1,8 +1,8 @@
 //! Whether a closed core formula is true.
 ghost use Rattle.std.specs.Prelude.{false, Decides, IfOk, IfErr};
-ghost use Rattle.fort_cores.specs.CoreTruth.{Places, IsMetBy};
-ghost use Rattle.fort_cores.specs.Parts.{IsClosed};
-ghost use Rattle.fort_cores.specs.PatternStructures.{pattern_structure};
+ghost use Rattle.fort_theory.specs.CoreTruth.{Places, IsMetBy};
+ghost use Rattle.fort_theory.specs.Parts.{IsClosed};
+ghost use Rattle.fort_theory.specs.PatternStructures.{pattern_structure};
 ghost use Rattle.fort_formulas.specs.CoreView.{as_core};
 ghost use Rattle.fort_parts.specs.DecidedCores.{IsDecided};
 ghost use Rattle.fort_parts.specs.PartAnswers.{AreGround};

@@ -1,8 +1,8 @@
 //! The table of the normal forms.
 ghost use Rattle.std.specs.Prelude.{IfOk, IfErr};
 ghost use Rattle.fort_theory.specs.Sides.{IsIndexOf};
-ghost use Rattle.fort_cores.specs.Cores.{Leaf, Normal};
-ghost use Rattle.fort_cores.specs.PatternStructures.{pattern_structure};
+ghost use Rattle.fort_theory.specs.Cores.{Leaf, Normal};
+ghost use Rattle.fort_theory.specs.PatternStructures.{pattern_structure};
 ghost use Rattle.fort_tables.specs.Tables.{IsListed, listed_table};
 ghost use Rattle.fort_parts.specs.AlikeParts.{AlikeAt};
 ghost use Rattle.fort_parts.specs.PartAnswers.{OfTable, IsAnswerTo};
@@ -10,7 +10,8 @@ ghost use Rattle.fort_parts.specs.RightAnswers.{HasTooManyBy};
 ghost use Rattle.fort_explore.specs.Answer.{IfOver};
 
 use fort_context_closure::{AtomLabels, SignedAtom};
-use fort_explore::{ByRule, ExploreFault, explore};
+use fort_explore::{ExploreFault, explore};
+use fort_labels::ByRule;
 use fort_lockstep::Dta;
 use fort_terms::System;
 use std::alloc::Global;

@@ -4,8 +4,10 @@ ghost use Rattle.fort_tables.specs.Entries.{AreNodes, tuples_of};
 ghost use Rattle.fort_tables.specs.Tables.{IsTableEntry, listed_table, state_of};
 ghost use Rattle.fort_callers.specs.NodeStates.{over_states};
 
-use fort_lockstep::{Dag, Dta, Row, Table};
+use fort_lockstep::Dta;
+use fort_table::{Dag, Table};
 use fort_terms::Memory;
+use fort_tuple_symbols::Row;
 use std::alloc::Global;
 
 /// The state of a node's tuple, where the nodes before it have these states.

@@ -2,14 +2,17 @@
 ghost use Rattle.std.specs.Prelude.{◌≡◌, ◌+◌, IfOk, IfErr, IsTrue};
 ghost use Rattle.fort_tables.specs.Tables.{IsListed, listed_table};
 ghost use Rattle.fort_tables.specs.Entries.{tuples_of};
-ghost use Rattle.fort_operations.specs.OperationTruth.{TestsRelation, accepts};
+ghost use Rattle.fort_tables.specs.OperationTruth.{TestsRelation, accepts};
 ghost use Rattle.fort_explore.specs.Answer.{IfOver};
 ghost use Rattle.fort_callers.specs.Differences.{HaveDifferenceLabels};
 
 use fort_connectives::Op;
-use fort_explore::{ByRule, ExploreFault, explore};
-use fort_lockstep::{Dta, Table};
-use fort_rrn_algebra::{Both, Operand, negate};
+use fort_explore::{ExploreFault, explore};
+use fort_labels::ByRule;
+use fort_lockstep::Dta;
+use fort_products::{Both, Operand};
+use fort_rrn_algebra::negate;
+use fort_table::Table;
 use std::alloc::Global;
 
 /// The table that accepts the terms that the first one accepts and the second one doesn't, with at

@@ -4,8 +4,8 @@ use Rattle.std.proofs.Common.{sym, ap, ◌∙◌, subst, arith, ⊎_elim}
 use Rattle.std.proofs.lemmas.Bool.{cases_lt}
 use Rattle.std.proofs.lemmas.Bool.Decides.{not_from_Decides}
 use Rattle.std.proofs.lemmas.List.{get_or-map}
-use Rattle.fort_certificate_grammar.specs.Certificates as theory
-use Rattle.fort_in_order.specs.Dues.{DueStep, OfPart, OfMerge, due_of}
+use Rattle.fort_certificate_theory.specs.Certificates as theory
+use Rattle.fort_certificate_theory.specs.Dues.{DueStep, OfPart, OfMerge, due_of}
 use Rattle.fort_steps.specs.declared.step.Step.{Step}
 use Rattle.fort_steps.specs.StepView.{as_step}
 use Rattle.fort_cert_checker.specs.SameDue.{same_due}

@@ -4,15 +4,15 @@ use Rattle.std.proofs.Common.{sym, ap, ◌∙◌, subst, arith}
 use Rattle.std.proofs.lemmas.Option.{slice_get-get_or}
 use mathlib.Core.Bool.{beq}
 use Rattle.fort_theory.specs.Patterns.{PatternSystem}
-use Rattle.fort_cores.specs.Cores.{Core}
-use Rattle.fort_cores.specs.PatternStructures.{pattern_structure}
-use Rattle.fort_certificate_grammar.specs.Certificates.{Certificate}
+use Rattle.fort_theory.specs.Cores.{Core}
+use Rattle.fort_theory.specs.PatternStructures.{pattern_structure}
+use Rattle.fort_certificate_theory.specs.Certificates.{Certificate}
 use Rattle.fort_parts.specs.PartAnswers.{OfValue, IsAnswerTo}
-use Rattle.fort_in_order.specs.Outcomes.{Verdict}
-use Rattle.fort_in_order.specs.Dues.{is_merged_in}
-use Rattle.fort_in_order.specs.Made.{Made}
-use Rattle.fort_in_order.specs.Checked.{IsFine, HasOutcome, InOrder, OtherVerdict, FailingStep, Certified, Rejected, last_value}
-use Rattle.fort_in_order_laws.proofs.CertifiedTruth.{certified_truth}
+use Rattle.fort_certificate_theory.specs.Outcomes.{Verdict}
+use Rattle.fort_certificate_theory.specs.Dues.{is_merged_in}
+use Rattle.fort_certificate_theory.specs.Made.{MadeSoFar}
+use Rattle.fort_certificate_theory.specs.Checked.{IsFine, HasOutcome, InOrder, OtherVerdict, FailingStep, Certified, Rejected, last_value}
+use Rattle.fort_certificate_theory.proofs.CertifiedTruth.{certified_truth}
 use Rattle.fort_steps.specs.CertificateView.{as_certificate}
 use Rattle.fort_steps.specs.StepView.{as_step}
 use Rattle.fort_steps.specs.declared.step.Step.{Step}
@@ -85,7 +85,7 @@ module _ (system : PatternSystem) (f : Core) (c : Certificate) (old : Checker) (
   verdict_is : c.verdict ≡ old.certificate.now.verdict
   verdict_is = ap (λ (d : Certificate). d.verdict) (sym h.certificate_is)
 
-  module _ (a : StepChecker) (made : Made) (d : IsStepCheckDone system f c.first c.steps a made) where
+  module _ (a : StepChecker) (made : MadeSoFar) (d : IsStepCheckDone system f c.first c.steps a made) where
     value : (v : Bool) × (last_value c.steps ≡ Some v)
     value = last_is_value (IsFine system d.checker.parts) (is_merged_in c.steps) (length system.rules) f d.checker.parts c.steps made d.checker.ready.are h.closed d.fine
 

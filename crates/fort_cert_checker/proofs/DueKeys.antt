@@ -5,10 +5,10 @@ use Rattle.std.proofs.Common.{sym, ap, ◌∙◌, subst, arith, ⊎_elim}
 use Rattle.std.proofs.lemmas.Bool.{cases_lt}
 use Rattle.std.proofs.lemmas.List.Elements.{Contains-append_cases, Contains-append_left, Contains-append_right}
 use Rattle.fort_theory.proofs.Members.{Contains-cons_cases, Contains-none, Contains-head, Contains-behind}
-use Rattle.fort_cores.specs.Cores as core
-use Rattle.fort_cores.specs.Cores.{Core}
+use Rattle.fort_theory.specs.Cores as core
+use Rattle.fort_theory.specs.Cores.{Core}
 use Rattle.fort_alike.specs.ListedClosures.{Which, Star, Conv, asks}
-use Rattle.fort_in_order.specs.Dues.{DueStep, OfClosure, OfPart, OfMerge, OfCounts, OfValue, closure_due, closures_due, has_columns, is_turned, counts_due, table_due, answer_due, parts_due, dues}
+use Rattle.fort_certificate_theory.specs.Dues.{DueStep, OfClosure, OfPart, OfMerge, OfCounts, OfValue, closure_due, closures_due, has_columns, is_turned, counts_due, table_due, answer_due, parts_due, dues}
 
 -- over a system of n indices
 abbrev pub key : ℕ → DueStep → ℕ

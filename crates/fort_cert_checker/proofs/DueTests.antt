@@ -2,10 +2,10 @@
 use Rattle.std.specs.Prelude.{◌≡◌, ◌==◌, Decides, refl}
 use Rattle.std.proofs.Common.{ap}
 use Rattle.std.proofs.lemmas.Bool.Decides.{Decides-eqb, Decides-like}
-use Rattle.fort_atom_labels.proofs.Bits.{Decides-true, Decides-false, Decides-and_then}
+use Rattle.fort_alike.proofs.Bits.{Decides-true, Decides-false, Decides-and_then}
 use Rattle.fort_alike.specs.ListedClosures.{Which, Star, Conv}
-use Rattle.fort_in_order.specs.Dues.{DueStep, OfClosure, OfPart, OfMerge, OfCounts, OfValue}
-use Rattle.fort_in_order.specs.Made.{same_which}
+use Rattle.fort_certificate_theory.specs.Dues.{DueStep, OfClosure, OfPart, OfMerge, OfCounts, OfValue}
+use Rattle.fort_certificate_theory.specs.Made.{same_which}
 use Rattle.fort_cert_checker.specs.SameDue.{same_due}
 
 Decides-which : (v w : Which) → Decides (same_which v w) (v ≡ w)

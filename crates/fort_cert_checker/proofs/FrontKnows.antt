@@ -5,16 +5,16 @@ use Rattle.std.proofs.Common.{sym, ap, ◌∙◌, subst, arith, eq-eqb, true≢f
 use Rattle.std.proofs.lemmas.List.Elements.{Contains-append_left, Contains-append_right, Contains-get_or}
 use Rattle.fort_theory.specs.Patterns.{PatternSystem}
 use Rattle.fort_theory.proofs.Members.{Contains-cons_cases, Contains-none}
-use Rattle.fort_cores.specs.Cores as core
-use Rattle.fort_cores.specs.Cores.{Core, Rel}
-use Rattle.fort_counts.specs.Counts.{Count}
+use Rattle.fort_theory.specs.Cores as core
+use Rattle.fort_theory.specs.Cores.{Core, Rel}
+use Rattle.fort_tables.specs.Counts.{Count}
 use Rattle.fort_alike.specs.ListedClosures as listed_closures
 use Rattle.fort_alike.specs.ListedClosures.{Which, Pair as Item, reads, asks}
-use Rattle.fort_certificate_grammar.specs.Certificates.{Step, Closure, Part, Merge, Counts, Value}
-use Rattle.fort_in_order.specs.Dues.{DueStep, OfClosure, OfPart, OfMerge, OfCounts, OfValue as OfValueOf, due_of, closures_due, has_columns, is_turned, parts_due, is_merged_in, dues_of}
-use Rattle.fort_in_order.specs.Made.{Made, nothing_made}
-use Rattle.fort_in_order.specs.Checked.{IsFine, IsUpTo}
-use Rattle.fort_in_order_laws.proofs.FineSteps.{chosen, passed_over}
+use Rattle.fort_certificate_theory.specs.Certificates.{Step, Closure, Part, Merge, Counts, Value}
+use Rattle.fort_certificate_theory.specs.Dues.{DueStep, OfClosure, OfPart, OfMerge, OfCounts, OfValue as OfValueOf, due_of, closures_due, has_columns, is_turned, parts_due, is_merged_in, dues_of}
+use Rattle.fort_certificate_theory.specs.Made.{MadeSoFar, nothing_made}
+use Rattle.fort_certificate_theory.specs.Checked.{IsFine, IsUpTo}
+use Rattle.fort_certificate_theory.proofs.FineSteps.{chosen, passed_over}
 use Rattle.fort_cert_checker.specs.Abouts.{IsOnlyAbout, targets_in, classes_in, marks_in, items_in, value_in}
 use Rattle.fort_cert_checker.proofs.DueKeys.{key, GoesUp, dues_up, up_front, key_before, due_before, answer_due_at, merge_due_at, counts_due_at, closure_due_at}
 use Rattle.fort_cert_checker.proofs.FrontLaws.{step_of, due_in, only_in_front, only_next, part_of, merge_of, counts_of, value_of, closure_of}
@@ -31,7 +31,7 @@ both_true : (a b : Bool) → a ≡ true → b ≡ true → (a && b) ≡ true
 both_true true b e h = h
 both_true false b e h = absurd (true≢false (sym e))
 
-module _ (system : PatternSystem) (parts : List Core) (ss : List Step) (front rest : List Step) (s : Step) (d : DueStep) (wanted : List DueStep) (made : Made)
+module _ (system : PatternSystem) (parts : List Core) (ss : List Step) (front rest : List Step) (s : Step) (d : DueStep) (wanted : List DueStep) (made : MadeSoFar)
     (up : IsUpTo system parts ss front (d ∷ wanted) (s ∷ rest) made) where
   indices : ℕ
   indices = length system.rules

@@ -5,17 +5,17 @@ use Rattle.std.proofs.lemmas.Bool.{cases_lt}
 use Rattle.std.proofs.lemmas.List.{get_or_append_left}
 use Rattle.std.proofs.lemmas.List.Elements.{Contains-push, Contains-push_cases}
 use Rattle.fort_theory.proofs.Members.{Contains-cons_cases, Contains-none, Contains-head, Contains-behind}
-use Rattle.fort_counts.specs.Counts.{Count}
+use Rattle.fort_tables.specs.Counts.{Count}
 use Rattle.fort_alike.specs.ListedClosures.{Which}
-use Rattle.fort_certificate_grammar.specs.Certificates.{Step, Closure, Part, Merge, Counts, Value}
-use Rattle.fort_in_order.specs.Dues.{DueStep, OfClosure, OfPart, OfMerge, OfCounts, OfValue, due_of}
-use Rattle.fort_in_order.specs.Made.{Made}
-use Rattle.fort_in_order.specs.Checked.{AreSteps, NoSteps, MoreSteps}
+use Rattle.fort_certificate_theory.specs.Certificates.{Step, Closure, Part, Merge, Counts, Value}
+use Rattle.fort_certificate_theory.specs.Dues.{DueStep, OfClosure, OfPart, OfMerge, OfCounts, OfValue, due_of}
+use Rattle.fort_certificate_theory.specs.Made.{MadeSoFar}
+use Rattle.fort_certificate_theory.specs.Checked.{AreSteps, NoSteps, MoreSteps}
 use Rattle.fort_cert_checker.specs.Abouts.{IsFirstAbout, IsOnlyAbout, targets_in, classes_in, marks_in, items_in, value_in}
 use Rattle.fort_cert_checker.proofs.DueKeys.{key, GoesUp, low_member, key_before}
 
 -- the step of a due
-pub step_of : (IsStep : Made → Step → Made → Type 0) (made last : Made) (ds : List DueStep) (ss : List Step) (d : DueStep) → AreSteps IsStep made ds ss last → Contains ds d
+pub step_of : (IsStep : MadeSoFar → Step → MadeSoFar → Type 0) (made last : MadeSoFar) (ds : List DueStep) (ss : List Step) (d : DueStep) → AreSteps IsStep made ds ss last → Contains ds d
     → (s : Step) × Contains ss s × (due_of s ≡ d)
 step_of IsStep made last ds ss d NoSteps c = absurd (Contains-none d c)
 step_of IsStep made last ds ss d (MoreSteps {next = next} {s = s} {d = e} {ds = es} {ss = ts} same h more) c =
@@ -24,7 +24,7 @@ step_of IsStep made last ds ss d (MoreSteps {next = next} {s = s} {d = e} {ds = 
     (λ later. let w = step_of IsStep next last es ts d more later in (w.0, Contains-behind s ts w.0 w.1, w.2))
     (Contains-cons_cases e es d c)
 
-pub due_in : (IsStep : Made → Step → Made → Type 0) (made last : Made) (ds : List DueStep) (ss : List Step) (s : Step) → AreSteps IsStep made ds ss last → Contains ss s → Contains ds (due_of s)
+pub due_in : (IsStep : MadeSoFar → Step → MadeSoFar → Type 0) (made last : MadeSoFar) (ds : List DueStep) (ss : List Step) (s : Step) → AreSteps IsStep made ds ss last → Contains ss s → Contains ds (due_of s)
 due_in IsStep made last ds ss s NoSteps c = absurd (Contains-none s c)
 due_in IsStep made last ds ss s (MoreSteps {next = next} {s = t} {d = e} {ds = es} {ss = ts} same h more) c =
     ⊎_elim
@@ -33,7 +33,7 @@ due_in IsStep made last ds ss s (MoreSteps {next = next} {s = t} {d = e} {ds = e
     (Contains-cons_cases t ts s c)
 
 -- one step for each due
-pub step_one : (IsStep : Made → Step → Made → Type 0) (n lo hi : ℕ) (made last : Made) (ds : List DueStep) (ss : List Step) (s t : Step) → GoesUp n lo hi ds → AreSteps IsStep made ds ss last
+pub step_one : (IsStep : MadeSoFar → Step → MadeSoFar → Type 0) (n lo hi : ℕ) (made last : MadeSoFar) (ds : List DueStep) (ss : List Step) (s t : Step) → GoesUp n lo hi ds → AreSteps IsStep made ds ss last
     → Contains ss s → Contains ss t → due_of s ≡ due_of t → s ≡ t
 step_one IsStep n lo hi made last ds ss s t up NoSteps a b e = absurd (Contains-none s a)
 step_one IsStep n lo hi made last ds ss s t up (MoreSteps {next = next} {s = x} {d = d} {ds = es} {ss = ts} same h more) a b e =
@@ -78,7 +78,7 @@ only_some ss s o none =
     none k.0 s (omega (arith, size, length-append o.front o.rest, k.1)) (ap due_of here)
 
 -- a step in front is the only one about its due
-pub only_in_front : (IsStep : Made → Step → Made → Type 0) (n lo hi : ℕ) (made last : Made) (ds : List DueStep) (ss front rest : List Step) (s : Step) → GoesUp n lo hi ds
+pub only_in_front : (IsStep : MadeSoFar → Step → MadeSoFar → Type 0) (n lo hi : ℕ) (made last : MadeSoFar) (ds : List DueStep) (ss front rest : List Step) (s : Step) → GoesUp n lo hi ds
     → AreSteps IsStep made ds front last → ss ≡ front ++ rest → Contains front s → IsOnlyAbout ss s
 only_in_front IsStep n lo hi made last ds ss front rest s up h e c = record {
   front = front;
@@ -89,7 +89,7 @@ only_in_front IsStep n lo hi made last ds ss front rest s up h e c = record {
 }
 
 -- and so is the one that is due behind them
-pub only_next : (IsStep : Made → Step → Made → Type 0) (n lo hi : ℕ) (made last : Made) (done wanted : List DueStep) (ss front rest : List Step) (d : DueStep) (s : Step)
+pub only_next : (IsStep : MadeSoFar → Step → MadeSoFar → Type 0) (n lo hi : ℕ) (made last : MadeSoFar) (done wanted : List DueStep) (ss front rest : List Step) (d : DueStep) (s : Step)
     → GoesUp n lo hi (done ++ d ∷ wanted) → AreSteps IsStep made done front last → ss ≡ front ++ s ∷ rest → due_of s ≡ d → IsOnlyAbout ss s
 only_next IsStep n lo hi made last done wanted ss front rest d s up h e about = record {
   front = front ++ s ∷ [];

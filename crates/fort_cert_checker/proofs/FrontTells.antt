@@ -4,30 +4,30 @@ use Rattle.std.proofs.Common.{sym, ap, ◌∙◌, subst, arith, eq-eqb, ⊎_elim
 use Rattle.std.proofs.lemmas.List.Elements.{Contains-push_cases}
 use Rattle.fort_theory.specs.Patterns.{PatternSystem}
 use Rattle.fort_theory.proofs.Members.{Contains-none}
-use Rattle.fort_cores.specs.Cores as core
-use Rattle.fort_cores.specs.Cores.{Core}
-use Rattle.fort_cores.specs.PartLists.{AreParts}
+use Rattle.fort_theory.specs.Cores as core
+use Rattle.fort_theory.specs.Cores.{Core}
+use Rattle.fort_theory.specs.PartLists.{AreParts}
 use Rattle.fort_tables.specs.Tables.{Table}
 use Rattle.fort_tables.proofs.EqualTests.{test_from_apart}
-use Rattle.fort_counts.specs.Counts.{Count, KeepRules, count_at}
+use Rattle.fort_tables.specs.Counts.{Count, KeepRules, count_at}
 use Rattle.fort_parts.specs.PartColumns.{columns_of, place_in}
 use Rattle.fort_parts.specs.PartAnswers.{Answer, OfValue, OfTable}
 use Rattle.fort_parts.proofs.PartOrder.{operand_earlier}
 use Rattle.fort_parts.specs.DecidedCores.{IsOperandOf}
 use Rattle.fort_alike.specs.ListedClosures.{Which, Star, Conv, Pair as Item}
-use Rattle.fort_certificate_grammar.specs.Certificates.{Step, Closure, Part, Merge, Counts, Value}
-use Rattle.fort_in_order.specs.Outcomes.{StepOutcome, Fine}
-use Rattle.fort_in_order.specs.CountSteps.{IsCountOutcome, IsRight, NotAsMany, NotRanked, NotFed}
-use Rattle.fort_in_order.specs.Dues.{OfClosure, OfPart, OfMerge, OfValue, due_of}
-use Rattle.fort_in_order.specs.Made.{Made, nothing_made, same_which, with_closure, with_counts, with_answer, IsAnswerOf}
-use Rattle.fort_in_order.specs.PartRules.{IsCounted}
-use Rattle.fort_in_order.specs.Checked.{IsCountJudged, IsFine, FineClosure, FinePart, FineMerge, FineCounts, FineValue}
-use Rattle.fort_in_order.proofs.CountOutcomes.{KeepRules-right}
-use Rattle.fort_in_order.proofs.RuleLaws.{counted_one}
-use Rattle.fort_in_order.proofs.CheckedLaws.{number_same, under_same}
-use Rattle.fort_in_order_laws.proofs.FineSteps.{chosen, passed_over, itself}
-use Rattle.fort_in_order_laws.proofs.CertifiedTruth.{moved_counted}
-use Rattle.fort_in_order_laws.proofs.StepsOfParts.{kept_answer}
+use Rattle.fort_certificate_theory.specs.Certificates.{Step, Closure, Part, Merge, Counts, Value}
+use Rattle.fort_certificate_theory.specs.Outcomes.{StepOutcome, Fine}
+use Rattle.fort_certificate_theory.specs.CountSteps.{IsCountOutcome, IsRight, NotAsMany, NotRanked, NotFed}
+use Rattle.fort_certificate_theory.specs.Dues.{OfClosure, OfPart, OfMerge, OfValue, due_of}
+use Rattle.fort_certificate_theory.specs.Made.{MadeSoFar, nothing_made, same_which, with_closure, with_counts, with_answer, IsAnswerOf}
+use Rattle.fort_certificate_theory.specs.PartRules.{IsCounted}
+use Rattle.fort_certificate_theory.specs.Checked.{IsCountJudged, IsFine, FineClosure, FinePart, FineMerge, FineCounts, FineValue}
+use Rattle.fort_certificate_theory.proofs.CountOutcomes.{KeepRules-right}
+use Rattle.fort_certificate_theory.proofs.RuleLaws.{counted_one}
+use Rattle.fort_certificate_theory.proofs.CheckedLaws.{number_same, under_same}
+use Rattle.fort_certificate_theory.proofs.FineSteps.{chosen, passed_over, itself}
+use Rattle.fort_certificate_theory.proofs.CertifiedTruth.{moved_counted}
+use Rattle.fort_certificate_theory.proofs.StepsOfParts.{kept_answer}
 use Rattle.fort_cert_checker.specs.KnownMarks.{HasMarksFor}
 use Rattle.fort_cert_checker.specs.Fronts.{Tells}
 use Rattle.fort_cert_checker.proofs.DueKeys.{key}
@@ -70,7 +70,7 @@ no_table table value e = cc
 
 module _ (n : ℕ) (system : PatternSystem) (root : Core) (parts : List Core) (are : AreParts root parts) where
   -- an answer stays, where a later step is done, which isn't its merge
-  pub answer_kept : (k : ℕ) (s : Step) (made next : Made) → key n (OfPart k) < key n (due_of s) → (due_of s ≡ OfMerge k → ⊥) → IsFine system parts made s next → next.answers k ≡ made.answers k
+  pub answer_kept : (k : ℕ) (s : Step) (made next : MadeSoFar) → key n (OfPart k) < key n (due_of s) → (due_of s ≡ OfMerge k → ⊥) → IsFine system parts made s next → next.answers k ≡ made.answers k
   answer_kept k s made next l other (FineClosure h) = refl
   answer_kept k s made next l other (FinePart {k = i} local es ws h r) = passed_over (k == i) _ (made.answers k) (test_from_apart k i (λ e. omega (arith, l, e)))
   answer_kept k s made next l other (FineMerge {k = i} table es is h r) = passed_over (k == i) _ (made.answers k) (test_from_apart k i (λ e. other (ap OfMerge (sym e))))
@@ -78,7 +78,7 @@ module _ (n : ℕ) (system : PatternSystem) (root : Core) (parts : List Core) (a
   answer_kept k s made next l other (FineValue {k = i} h) = passed_over (k == i) _ (made.answers k) (test_from_apart k i (λ e. omega (arith, l, e)))
 
   -- the rules of counts stay, where an answer of this part or a later one comes
-  rules_kept : (j k : ℕ) (a : Answer) (made : Made) → j ≤ k → HasMarksFor parts made j (get_or parts j core.True) → HasMarksFor parts (with_answer made k a) j (get_or parts j core.True)
+  rules_kept : (j k : ℕ) (a : Answer) (made : MadeSoFar) → j ≤ k → HasMarksFor parts made j (get_or parts j core.True) → HasMarksFor parts (with_answer made k a) j (get_or parts j core.True)
   rules_kept j k a made l h = λ m g body states e c.
       let within = part_within parts j m g e in
       let o : IsOperandOf g (get_or parts j core.True) = subst (IsOperandOf g) (sym e) refl in
@@ -88,7 +88,7 @@ module _ (n : ℕ) (system : PatternSystem) (root : Core) (parts : List Core) (a
       g (OfTable body) before.place (omega (arith, before.before)) (omega (arith, before.before, within)) before.is c.body_is in
       h m g body states e (record { body_is = back; pure = c.pure })
 
-  rules_new : (k : ℕ) (marks : List Count) (made : Made) → IsCountJudged parts made k marks Fine → HasMarksFor parts (with_counts made k marks) k (get_or parts k core.True)
+  rules_new : (k : ℕ) (marks : List Count) (made : MadeSoFar) → IsCountJudged parts made k marks Fine → HasMarksFor parts (with_counts made k marks) k (get_or parts k core.True)
   rules_new k marks made j = λ i g body states e c.
       let other = with_counts made k marks in
       let same : core.Infinite j.number j.body ≡ core.Infinite i g = sym j.part ∙ e in
@@ -105,14 +105,14 @@ module _ (n : ℕ) (system : PatternSystem) (root : Core) (parts : List Core) (a
       let count : length marks ≡ length states = right_count j.table (place_in (columns_of j.body) j.number) j.states marks Fine j.is refl ∙ ap length one.states in
       subst (λ (z : List Count). KeepRules body (place_in (columns_of g) i) (count_at states z) × (length z ≡ length states)) (sym (chosen (k == k) marks (made.counts k) (itself k))) (there, count)
 
-  rules_old : (j k : ℕ) (marks : List Count) (made : Made) → (j ≡ k → ⊥) → HasMarksFor parts made j (get_or parts j core.True) → HasMarksFor parts (with_counts made k marks) j (get_or parts j core.True)
+  rules_old : (j k : ℕ) (marks : List Count) (made : MadeSoFar) → (j ≡ k → ⊥) → HasMarksFor parts made j (get_or parts j core.True) → HasMarksFor parts (with_counts made k marks) j (get_or parts j core.True)
   rules_old j k marks made apart h = λ i g body states e c.
       subst (λ (z : List Count). KeepRules body (place_in (columns_of g) i) (count_at states z) × (length z ≡ length states)) (sym (passed_over (j == k) marks (made.counts j) (test_from_apart j k apart)))
       (h i g body states e (moved_counted parts (with_counts made k marks) made i g body states refl c))
 
   -- ---- one more step
 
-  module _ (front : List Step) (made : Made) (h : Tells parts front made) where
+  module _ (front : List Step) (made : MadeSoFar) (h : Tells parts front made) where
     abbrev IsLater : Step → Type 0
     IsLater s = (t : Step) → Contains front t → key n (due_of t) < key n (due_of s)
 
@@ -199,7 +199,7 @@ module _ (n : ℕ) (system : PatternSystem) (root : Core) (parts : List Core) (a
     }
 
     -- Result
-    pub tells_next : (s : Step) (next : Made) → ((t : Step) → Contains front t → key n (due_of t) < key n (due_of s)) → IsFine system parts made s next → Tells parts (front ++ s ∷ []) next
+    pub tells_next : (s : Step) (next : MadeSoFar) → ((t : Step) → Contains front t → key n (due_of t) < key n (due_of s)) → IsFine system parts made s next → Tells parts (front ++ s ∷ []) next
     tells_next s next later (FineClosure {which = v} {index = j} {items = items} g) = tells_closure v j items later
     tells_next s next later (FinePart {k = k} {targets = targets} local es ws g r) = tells_part k targets _ later
     tells_next s next later (FineMerge {k = k} {classes = classes} table es is g r) = tells_merge k classes table _ is later

@@ -5,10 +5,10 @@ use Rattle.std.proofs.lemmas.Bool.{or_cases}
 use Rattle.std.proofs.lemmas.List.Elements.{Contains-get_or}
 use Rattle.fort_theory.specs.Signatures.{Signature}
 use Rattle.fort_theory.proofs.Members.{Contains-none}
-use Rattle.fort_cores.specs.Cores.{Core, Binary}
-use Rattle.fort_cores.specs.Parts.{is_free}
+use Rattle.fort_theory.specs.Cores.{Core, Binary}
+use Rattle.fort_theory.specs.Parts.{is_free}
 use Rattle.fort_theory.specs.Logic.{Connective}
-use Rattle.fort_operations.specs.Products.{AreOperands, signature_of}
+use Rattle.fort_tables.specs.Products.{AreOperands, signature_of}
 use Rattle.fort_parts.specs.PartColumns.{columns_of, places_in}
 use Rattle.fort_parts.specs.PartAnswers.{Answer, OfValue, OfTable, FitsColumns}
 use Rattle.fort_parts.specs.PartSteps.{operand_of}

@@ -3,15 +3,15 @@ use Rattle.std.specs.Prelude.{◌≡◌, ℕ, zero, suc, ◌<◌, List, [], ◌�
 use Rattle.std.proofs.Common.{sym, ap, ◌∙◌, subst, arith}
 use Rattle.fort_theory.specs.Signatures.{Signature}
 use Rattle.fort_theory.specs.Patterns.{PatternSystem}
-use Rattle.fort_cores.specs.Cores as core
-use Rattle.fort_cores.specs.Cores.{Core}
+use Rattle.fort_theory.specs.Cores as core
+use Rattle.fort_theory.specs.Cores.{Core}
 use Rattle.fort_tables.specs.Tables.{Table, IsTable, IsReached}
 use Rattle.fort_parts.specs.PartColumns.{columns_of}
 use Rattle.fort_parts.specs.PartAnswers.{Answer, OfValue, OfTable, IsTableOver, FitsColumns}
 use Rattle.fort_parts.specs.DecidedCores.{IsOperandOf}
-use Rattle.fort_in_order.specs.Dues.{has_columns, is_turned}
-use Rattle.fort_in_order.specs.Made.{Made, IsAnswerOf}
-use Rattle.fort_in_order_laws.proofs.RightParts.{some_columns, none_columns}
+use Rattle.fort_certificate_theory.specs.Dues.{has_columns, is_turned}
+use Rattle.fort_certificate_theory.specs.Made.{MadeSoFar, IsAnswerOf}
+use Rattle.fort_certificate_theory.proofs.RightParts.{some_columns, none_columns}
 use Rattle.fort_check_steps.specs.declared.room.PartRoom.{PartRoom}
 use Rattle.fort_cert_checker.specs.declared.plan.Source.{Source}
 use Rattle.fort_cert_checker.specs.declared.past.Past.{Past}
@@ -38,7 +38,7 @@ held_over sig columns targets room table some h = record {
   reached = subst IsReached h.is h.holds.listed.reached;
 }
 
-module _ (system : PatternSystem) (parts : List Core) (past : Past) (k : ℕ) (made : Made) (known : KnowsPast system parts past k made) where
+module _ (system : PatternSystem) (parts : List Core) (past : Past) (k : ℕ) (made : MadeSoFar) (known : KnowsPast system parts past k made) where
   -- what is known of an operand
   pub record IsKnown (g : Core) (s : Source) : Type 0 where
     pub answer : Answer

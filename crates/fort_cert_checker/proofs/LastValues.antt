@@ -2,19 +2,19 @@
 use Rattle.std.specs.Prelude.{◌≡◌, ℕ, zero, suc, ◌+◌, ◌<◌, List, [], ◌∷◌, ◌++◌, take, length, get_or, Bool, Some, refl}
 use Rattle.std.proofs.Common.{sym, ap, ◌∙◌, subst, arith, append_assoc}
 use Rattle.std.proofs.lemmas.List.{take_more, take_all, length-take-le}
-use Rattle.fort_cores.specs.Cores as core
-use Rattle.fort_cores.specs.Cores.{Core}
-use Rattle.fort_cores.specs.Parts.{IsClosed}
-use Rattle.fort_cores.specs.PartLists.{AreParts}
+use Rattle.fort_theory.specs.Cores as core
+use Rattle.fort_theory.specs.Cores.{Core}
+use Rattle.fort_theory.specs.Parts.{IsClosed}
+use Rattle.fort_theory.specs.PartLists.{AreParts}
 use Rattle.fort_parts.proofs.PartOrder.{Contains-postorder}
-use Rattle.fort_certificate_grammar.specs.Certificates.{Step, Value}
-use Rattle.fort_in_order.specs.Dues.{DueStep, OfValue, due_of, closures_due, has_columns, counts_due, answer_due, parts_due, dues}
-use Rattle.fort_in_order.specs.Made.{Made, nothing_made}
-use Rattle.fort_in_order.specs.Checked.{AreSteps, NoSteps, MoreSteps, last_value}
-use Rattle.fort_in_order_laws.proofs.FineSteps.{cut_steps, passed_over}
-use Rattle.fort_in_order_laws.proofs.StepLists.{parts_due-push}
-use Rattle.fort_in_order_laws.proofs.StepsOfParts.{last_value-push}
-use Rattle.fort_in_order_laws.proofs.CertifiedTruth.{last_part, no_columns_closed}
+use Rattle.fort_certificate_theory.specs.Certificates.{Step, Value}
+use Rattle.fort_certificate_theory.specs.Dues.{DueStep, OfValue, due_of, closures_due, has_columns, counts_due, answer_due, parts_due, dues}
+use Rattle.fort_certificate_theory.specs.Made.{MadeSoFar, nothing_made}
+use Rattle.fort_certificate_theory.specs.Checked.{AreSteps, NoSteps, MoreSteps, last_value}
+use Rattle.fort_certificate_theory.proofs.FineSteps.{cut_steps, passed_over}
+use Rattle.fort_certificate_theory.proofs.StepLists.{parts_due-push}
+use Rattle.fort_certificate_theory.proofs.StepsOfParts.{last_value-push}
+use Rattle.fort_certificate_theory.proofs.CertifiedTruth.{last_part, no_columns_closed}
 use Rattle.fort_cert_checker.specs.Abouts.{value_in}
 use Rattle.fort_cert_checker.proofs.FrontLaws.{value_of}
 
@@ -48,11 +48,11 @@ ends_in_value merges n f parts are closed = by (length parts) refl
               ∙ sym (append_assoc (closures_due parts n 1) (parts_due merges 0 (take m parts) ++ counts_due m f) (OfValue m ∷ []));
         }
 
-one_of : (IsStep : Made → Step → Made → Type 0) (made last : Made) (d : DueStep) (ss : List Step) → AreSteps IsStep made (d ∷ []) ss last → (s : Step) × (ss ≡ s ∷ []) × (due_of s ≡ d)
+one_of : (IsStep : MadeSoFar → Step → MadeSoFar → Type 0) (made last : MadeSoFar) (d : DueStep) (ss : List Step) → AreSteps IsStep made (d ∷ []) ss last → (s : Step) × (ss ≡ s ∷ []) × (due_of s ≡ d)
 one_of IsStep made last d ss (MoreSteps {s = s} e h NoSteps) = (s, refl, e)
 
 -- Result
-pub last_is_value : (IsStep : Made → Step → Made → Type 0) (merges : ℕ → Bool) (n : ℕ) (f : Core) (parts : List Core) (ss : List Step) (last : Made) → AreParts f parts → IsClosed f
+pub last_is_value : (IsStep : MadeSoFar → Step → MadeSoFar → Type 0) (merges : ℕ → Bool) (n : ℕ) (f : Core) (parts : List Core) (ss : List Step) (last : MadeSoFar) → AreParts f parts → IsClosed f
     → AreSteps IsStep nothing_made (dues merges n parts) ss last → (value : Bool) × (last_value ss ≡ Some value)
 last_is_value IsStep merges n f parts ss last are closed h =
     let w = ends_in_value merges n f parts are closed in

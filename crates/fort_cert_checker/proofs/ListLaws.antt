@@ -1,8 +1,8 @@
 -- The room for the lists of operands: from what is taken before a check, and through a check. Laid lists.
 use Rattle.std.specs.Prelude.{◌≡◌, ℕ, ◌*◌, ◌^◌, ◌<◌, ◌≤◌, List, [], ◌∷◌, length, Option, None, Some, IfSome}
 use Rattle.std.proofs.Common.{ap, arith}
-use Rattle.fort_operations.specs.Products.{Operand, OfTable, OfTruth}
-use Rattle.fort_certificate_grammar.specs.Certificates.{Step}
+use Rattle.fort_tables.specs.Products.{Operand, OfTable, OfTruth}
+use Rattle.fort_certificate_theory.specs.Certificates.{Step}
 use Rattle.fort_target_lists.specs.LayRooms.{HasLayRoom}
 use Rattle.fort_target_lists.specs.TargetLists.{HasListRoom, IsOperandList}
 use Rattle.fort_target_lists.specs.declared.states.LayRoom.{LayRoom}

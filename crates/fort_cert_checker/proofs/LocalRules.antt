@@ -5,16 +5,16 @@ use Rattle.std.proofs.lemmas.Simd.{map-map}
 use Rattle.fort_theory.specs.Signatures.{Signature}
 use Rattle.fort_theory.specs.Sides.{at_index}
 use Rattle.fort_theory.specs.Patterns.{Pattern, Pair, PatternSystem}
-use Rattle.fort_expressions.specs.Expressions as expressions
-use Rattle.fort_expressions.specs.Contexts.{HoleNumber, HolePlace}
-use Rattle.fort_cores.specs.Cores.{Rel, Leaf, Related, InContext}
+use Rattle.fort_theory.specs.Expressions as expressions
+use Rattle.fort_theory.specs.Contexts.{HoleNumber, HolePlace}
+use Rattle.fort_theory.specs.Cores.{Rel, Leaf, Related, InContext}
 use Rattle.fort_alike.specs.Atoms as kinds
 use Rattle.fort_alike.specs.Atoms.{relation_atom}
 use Rattle.fort_alike.specs.ExpressionAlike.{expression_atom}
-use Rattle.fort_atom_labels.specs.ListedAtoms.{ListedAtom, listed}
-use Rattle.fort_atom_labels.specs.AtomRules.{atom_rule, atom_accepts}
-use Rattle.fort_atom_labels.specs.ClosureTests.{closure_test}
-use Rattle.fort_expression_labels.proofs.LabelMeans.{IsLabelRule-expression}
+use Rattle.fort_alike.specs.ListedAtoms.{ListedAtom, listed}
+use Rattle.fort_alike.specs.AtomRules.{atom_rule, atom_accepts}
+use Rattle.fort_alike.specs.ClosureTests.{closure_test}
+use Rattle.fort_alike.proofs.LabelMeans.{IsLabelRule-expression}
 use Rattle.fort_relation_exprs.specs.RexSeen.{RexSeen, states_of}
 use Rattle.fort_relation_exprs.specs.RexView.{AreRexLabels}
 use Rattle.fort_context_closure.specs.ClosedAtoms as closures
@@ -27,9 +27,9 @@ use Rattle.fort_parts.proofs.PartColumnLaws.{AreColumns-columns_of}
 use Rattle.fort_alike.specs.ListedClosures.{Pair as Item}
 use Rattle.fort_findings.specs.declared.closure.ClosureEntry.{ClosureEntry}
 use Rattle.fort_findings.specs.FindingView.{as_pair}
-use Rattle.fort_in_order.specs.ClosureSteps.{numbers_of}
-use Rattle.fort_in_order.specs.PartRules.{Local, relation_local, normal_local, IsExpressionLocal}
-use Rattle.fort_in_order.proofs.RuleLaws.{IsExpressionLocal-decided}
+use Rattle.fort_certificate_theory.specs.ClosureSteps.{numbers_of}
+use Rattle.fort_certificate_theory.specs.PartRules.{Local, relation_local, normal_local, IsExpressionLocal}
+use Rattle.fort_certificate_theory.proofs.RuleLaws.{IsExpressionLocal-decided}
 use Rattle.fort_cert_checker.specs.AtomPlans as own
 
 abbrev normal_by : Signature → List Pair → List Pattern → Local

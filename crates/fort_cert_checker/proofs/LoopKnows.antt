@@ -6,17 +6,17 @@ use Rattle.std.proofs.lemmas.List.Elements.{Contains-append_cases, Contains-appe
 use Rattle.fort_theory.specs.Patterns.{PatternSystem}
 use Rattle.fort_theory.specs.Sides.{IsIndexOf}
 use Rattle.fort_theory.proofs.Members.{Contains-head, Contains-none, Contains-cons_cases}
-use Rattle.fort_cores.specs.Cores as core
-use Rattle.fort_cores.specs.Cores.{Core}
-use Rattle.fort_cores.specs.PartLists.{AreParts}
+use Rattle.fort_theory.specs.Cores as core
+use Rattle.fort_theory.specs.Cores.{Core}
+use Rattle.fort_theory.specs.PartLists.{AreParts}
 use Rattle.fort_parts.specs.PartColumns.{columns_of}
 use Rattle.fort_parts.specs.DecidedCores.{IsDecided, IsOverSystem}
 use Rattle.fort_parts.proofs.PartFacts.{IsOverSystem-part, BindsFree-part, columns_of-few}
 use Rattle.fort_alike.specs.ListedClosures.{Which, Star, Conv, Pair as Item, reads, asks}
-use Rattle.fort_certificate_grammar.specs.Certificates.{Step, Closure, Part, Merge, Counts, Value}
-use Rattle.fort_in_order.specs.Dues.{DueStep, OfClosure, OfPart, OfMerge, OfCounts, OfValue, due_of, closure_due, closures_due, has_columns, is_turned, parts_due, dues, is_merged_in, dues_of}
-use Rattle.fort_in_order.specs.Made.{Made}
-use Rattle.fort_in_order.specs.Checked.{IsUpTo}
+use Rattle.fort_certificate_theory.specs.Certificates.{Step, Closure, Part, Merge, Counts, Value}
+use Rattle.fort_certificate_theory.specs.Dues.{DueStep, OfClosure, OfPart, OfMerge, OfCounts, OfValue, due_of, closure_due, closures_due, has_columns, is_turned, parts_due, dues, is_merged_in, dues_of}
+use Rattle.fort_certificate_theory.specs.Made.{MadeSoFar}
+use Rattle.fort_certificate_theory.specs.Checked.{IsUpTo}
 use Rattle.fort_check_steps.specs.declared.room.PartRoom.{PartRoom}
 use Rattle.fort_check_steps.specs.declared.room.LabelRoom.{LabelRoom}
 use Rattle.fort_check_steps.specs.declared.marks.MarkRoom.{MarkRoom}
@@ -87,7 +87,7 @@ is_false false h = refl
 
 -- ---- at a place
 
-module _ (system : PatternSystem) (root : Core) (parts : List Core) (ss : List Step) (plans : List Plan) (rooms : List PartRoom) (front rest : List Step) (s : Step) (d : DueStep) (wanted : List DueStep) (made : Made)
+module _ (system : PatternSystem) (root : Core) (parts : List Core) (ss : List Step) (plans : List Plan) (rooms : List PartRoom) (front rest : List Step) (s : Step) (d : DueStep) (wanted : List DueStep) (made : MadeSoFar)
     (up : IsUpTo system parts ss front (d ∷ wanted) (s ∷ rest) made) (are : AreParts root parts) (decided : IsDecided system root) (tells : Tells parts front made) (held : AreHeld system parts rooms front made)
     (planned : ArePlansMade system parts ss (length parts) plans) (few : HasFewTargets ss) where
   at_due : Contains (dues_of ss (length system.rules) parts) d

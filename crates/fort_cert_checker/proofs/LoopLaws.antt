@@ -4,14 +4,14 @@ use Rattle.std.proofs.Common.{sym, ap, ◌∙◌, subst, arith}
 use Rattle.std.proofs.lemmas.List.{take_more, length-take-le, drop_all}
 use Rattle.std.proofs.Math.Seq.{drop-cons}
 use Rattle.fort_theory.specs.Patterns.{PatternSystem}
-use Rattle.fort_cores.specs.Cores.{Core}
-use Rattle.fort_cores.specs.PartLists.{AreParts}
-use Rattle.fort_certificate_grammar.specs.Certificates.{Step}
-use Rattle.fort_in_order.specs.Outcomes.{Reason, Due}
-use Rattle.fort_in_order.specs.Dues.{DueStep, due_of, dues_of}
-use Rattle.fort_in_order.specs.Made.{Made, nothing_made}
-use Rattle.fort_in_order.specs.Checked.{IsFine, IsFailing, IsUpTo, AreAllFine, IsFirstFailure, Failing, NotDue, OneTooMany, Missing}
-use Rattle.fort_in_order_laws.proofs.StepLists.{up_to_none, up_to_next, up_to_all}
+use Rattle.fort_theory.specs.Cores.{Core}
+use Rattle.fort_theory.specs.PartLists.{AreParts}
+use Rattle.fort_certificate_theory.specs.Certificates.{Step}
+use Rattle.fort_certificate_theory.specs.Outcomes.{Reason, Due}
+use Rattle.fort_certificate_theory.specs.Dues.{DueStep, due_of, dues_of}
+use Rattle.fort_certificate_theory.specs.Made.{MadeSoFar, nothing_made}
+use Rattle.fort_certificate_theory.specs.Checked.{IsFine, IsFailing, IsUpTo, AreAllFine, IsFirstFailure, Failing, NotDue, OneTooMany, Missing}
+use Rattle.fort_certificate_theory.proofs.StepLists.{up_to_none, up_to_next, up_to_all}
 use Rattle.fort_cert_checker.specs.Fronts.{Tells, IsAtPlace}
 use Rattle.fort_cert_checker.proofs.FrontTells.{tells_none, tells_next}
 use Rattle.fort_cert_checker.proofs.FrontKnows.{later_key}
@@ -31,7 +31,7 @@ module _ (system : PatternSystem) (parts : List Core) (ss : List Step) where
   pub at_start : IsAtPlace system parts ss 0 nothing_made
   at_start = record { within = omega arith; up = up_to_none system parts ss; tells = tells_none parts }
 
-  module _ (n : ℕ) (made : Made) (h : IsAtPlace system parts ss n made) where
+  module _ (n : ℕ) (made : MadeSoFar) (h : IsAtPlace system parts ss n made) where
     -- Result
     pub front_count : length (take n ss) ≡ n
     front_count = length-take-le n ss h.within
@@ -62,7 +62,7 @@ module _ (system : PatternSystem) (parts : List Core) (ss : List Step) where
         at_failing e place reason f = Failing (take n ss) (drop (n + 1) ss) s d (drop (n + 1) all_due) made at_step e f
 
         -- Result
-        pub at_next : (root : Core) → AreParts root parts → due_of s ≡ d → (next : Made) → IsFine system parts made s next → IsAtPlace system parts ss (n + 1) next
+        pub at_next : (root : Core) → AreParts root parts → due_of s ≡ d → (next : MadeSoFar) → IsFine system parts made s next → IsAtPlace system parts ss (n + 1) next
         at_next root are e next fine =
             let more = more_is ss n s low is in
             record {

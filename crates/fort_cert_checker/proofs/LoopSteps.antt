@@ -5,14 +5,14 @@ use Rattle.std.proofs.lemmas.Bool.{cases_eq}
 use Rattle.std.proofs.lemmas.List.{length-set, length-take-le, take_more}
 use Rattle.std.proofs.lemmas.List.Elements.{Contains-append_left, Contains-get_or, Contains-push, Contains-push_cases}
 use Rattle.fort_theory.specs.Patterns.{PatternSystem}
-use Rattle.fort_cores.specs.Cores as core
-use Rattle.fort_cores.specs.Cores.{Core}
+use Rattle.fort_theory.specs.Cores as core
+use Rattle.fort_theory.specs.Cores.{Core}
 use Rattle.fort_alike.specs.ListedClosures.{Which, Pair as Item}
-use Rattle.fort_certificate_grammar.specs.Certificates.{Step, Closure, Part, Merge, Counts, Value}
-use Rattle.fort_in_order.specs.Dues.{DueStep, OfClosure, OfPart, OfMerge, due_of, dues_of}
-use Rattle.fort_in_order.specs.Outcomes.{Reason, StepOutcome, Fine, Fails}
-use Rattle.fort_in_order.specs.Made.{Made, with_closure}
-use Rattle.fort_in_order.specs.Checked.{IsClosureJudged, IsFine, FineClosure, IsFailing, FailingClosure, IsUpTo}
+use Rattle.fort_certificate_theory.specs.Certificates.{Step, Closure, Part, Merge, Counts, Value}
+use Rattle.fort_certificate_theory.specs.Dues.{DueStep, OfClosure, OfPart, OfMerge, due_of, dues_of}
+use Rattle.fort_certificate_theory.specs.Outcomes.{Reason, StepOutcome, Fine, Fails}
+use Rattle.fort_certificate_theory.specs.Made.{MadeSoFar, with_closure}
+use Rattle.fort_certificate_theory.specs.Checked.{IsClosureJudged, IsFine, FineClosure, IsFailing, FailingClosure, IsUpTo}
 use Rattle.fort_check_steps.specs.declared.failure.Failure.{Failure}
 use Rattle.fort_check_steps.specs.StepAnswers.{as_reason, outcome_of}
 use Rattle.fort_findings.specs.declared.count.Count.{Count}
@@ -146,7 +146,7 @@ merge_or_other (Merge k classes) j = ⊎_elim (λ (e : k ≡ j). inl (ap OfMerge
 merge_or_other (Counts k marks) j = inr (λ e. cc)
 merge_or_other (Value k value) j = inr (λ e. cc)
 
-module _ (system : PatternSystem) (root : Core) (parts : List Core) (ss : List Step) (plans : List Plan) (closures : List (Option ClosurePlan)) (rooms : List PartRoom) (scratch : LabelRoom) (marks : List MarkRoom) (n : ℕ) (made : Made)
+module _ (system : PatternSystem) (root : Core) (parts : List Core) (ss : List Step) (plans : List Plan) (closures : List (Option ClosurePlan)) (rooms : List PartRoom) (scratch : LabelRoom) (marks : List MarkRoom) (n : ℕ) (made : MadeSoFar)
     (h : IsLoopAt system root parts ss plans closures rooms scratch marks n made) (due : IsStepDue system parts ss n) (s : Step) (is : get_or ss n s ≡ s) where
   due_is : get_or (dues_of ss (length system.rules) parts) n (due_of s) ≡ due_of s
   due_is = sym (due.about s (due_of s)) ∙ ap due_of is
@@ -163,7 +163,7 @@ module _ (system : PatternSystem) (root : Core) (parts : List Core) (ss : List S
   before : (t : Step) → Contains (take n ss) t → key (length system.rules) (due_of t) < key (length system.rules) (due_of s)
   before = later_key system parts ss (take n ss) (drop (n + 1) ss) s (due_of s) (drop (n + 1) (dues_of ss (length system.rules) parts)) made up refl
 
-  place_next : (next : Made) → IsFine system parts made s next → IsAtPlace system parts ss (n + 1) next
+  place_next : (next : MadeSoFar) → IsFine system parts made s next → IsAtPlace system parts ss (n + 1) next
   place_next next fine = at_next system parts ss n made h.place (due_of s) due.due_low due_is s due.low is root h.ready.are refl next fine
 
   more : take (n + 1) ss ≡ take n ss ++ s ∷ []
@@ -180,7 +180,7 @@ module _ (system : PatternSystem) (root : Core) (parts : List Core) (ss : List S
   step_in_front = subst (λ (xs : List Step). Contains xs s) (sym more) (Contains-push (take n ss) s)
 
   -- a part whose merge this isn't
-  held_on : (others : List PartRoom) (next : Made) → IsFine system parts made s next → (j : ℕ) (targets : List ℕ) → Contains (take n ss) (Part j targets) → (due_of s ≡ OfMerge j → ⊥)
+  held_on : (others : List PartRoom) (next : MadeSoFar) → IsFine system parts made s next → (j : ℕ) (targets : List ℕ) → Contains (take n ss) (Part j targets) → (due_of s ≡ OfMerge j → ⊥)
       → ((r : PartRoom) → IsElement rooms j r → IsElement others j r) → IsRoomHeld system parts others (take (n + 1) ss) next j targets
   held_on others next fine j targets m other keep =
       let r = h.held j targets m in
@@ -198,7 +198,7 @@ module _ (system : PatternSystem) (root : Core) (parts : List Core) (ss : List S
       }
 
   -- the rooms hold on
-  held_next : (others : List PartRoom) (next : Made) → IsFine system parts made s next
+  held_next : (others : List PartRoom) (next : MadeSoFar) → IsFine system parts made s next
       → ((j : ℕ) (r : PartRoom) → key (length system.rules) (OfPart j) < key (length system.rules) (due_of s) → (due_of s ≡ OfMerge j → ⊥) → IsElement rooms j r → IsElement others j r)
       → ((j : ℕ) (targets : List ℕ) → s ≡ Part j targets → IsRoomHeld system parts others (take (n + 1) ss) next j targets)
       → ((j : ℕ) (targets : List ℕ) → Contains (take n ss) (Part j targets) → due_of s ≡ OfMerge j → IsRoomHeld system parts others (take (n + 1) ss) next j targets)
@@ -274,7 +274,7 @@ module _ (system : PatternSystem) (root : Core) (parts : List Core) (ss : List S
         new_at j e = subst (λ (i : ℕ). IsElement (set rooms k new_room) i new_room) (sym e) (omega (arith, length-set rooms k new_room, room_low), λ d. set_own rooms k new_room d room_low)
 
         -- behind the targets of part j
-        part_held : (next : Made) (j : ℕ) (targets : List ℕ) → s ≡ Part j targets → IsNewlyHeld system parts next j targets (most_states targets) new_room × IsFalse new_room.is_merged
+        part_held : (next : MadeSoFar) (j : ℕ) (targets : List ℕ) → s ≡ Part j targets → IsNewlyHeld system parts next j targets (most_states targets) new_room × IsFalse new_room.is_merged
             → IsRoomHeld system parts (set rooms k new_room) (take (n + 1) ss) next j targets
         part_held next j targets e w =
             let none : (classes : List ℕ) → Contains (take (n + 1) ss) (Merge j classes) → ⊥ =
@@ -294,7 +294,7 @@ module _ (system : PatternSystem) (root : Core) (parts : List Core) (ss : List S
             }
 
         -- behind the classes of part j
-        merge_held : (next : Made) (j : ℕ) (targets classes : List ℕ) → s ≡ Merge j classes → IsNewlyHeld system parts next j targets (most_states classes) new_room
+        merge_held : (next : MadeSoFar) (j : ℕ) (targets classes : List ℕ) → s ≡ Merge j classes → IsNewlyHeld system parts next j targets (most_states classes) new_room
             → IsRoomHeld system parts (set rooms k new_room) (take (n + 1) ss) next j targets
         merge_held next j targets classes e w =
             let there_is : Contains (take (n + 1) ss) (Merge j classes) = subst (λ (t : Step). Contains (take (n + 1) ss) t) e step_in_front in
@@ -314,7 +314,7 @@ module _ (system : PatternSystem) (root : Core) (parts : List Core) (ss : List S
               merged_states = λ others x. w.states_are ∙ ap most_states (only_one others x);
             }
 
-        pub part_next : IsFineStep system parts ss made s new_room → (next : Made) × IsLoopAt system root parts ss plans closures (set rooms k new_room) new_scratch (set marks k new_mark) (n + 1) next
+        pub part_next : IsFineStep system parts ss made s new_room → (next : MadeSoFar) × IsLoopAt system root parts ss plans closures (set rooms k new_room) new_scratch (set marks k new_mark) (n + 1) next
         part_next fine = (
           fine.next,
           record {
@@ -358,7 +358,7 @@ module _ (system : PatternSystem) (root : Core) (parts : List Core) (ss : List S
             (subst (λ (d : DueStep). IsClosureFor system d new) (sym at_own) (keeps (OfClosure which index) closure_for));
       }
 
-      pub closure_next : (next : Made) → IsFine system parts made s next → IsLoopAt system root parts ss plans (set closures n new) rooms scratch marks (n + 1) next
+      pub closure_next : (next : MadeSoFar) → IsFine system parts made s next → IsLoopAt system root parts ss plans (set closures n new) rooms scratch marks (n + 1) next
       closure_next next fine = record {
         ready = closure_ready;
         place = place_next next fine;
@@ -366,7 +366,7 @@ module _ (system : PatternSystem) (root : Core) (parts : List Core) (ss : List S
             (λ j targets m f. let z : OfClosure which index ≡ OfMerge j = sym (ap due_of e) ∙ f in absurd cc);
       }
 
-      pub closure_done : (o : StepOutcome) → IsClosureJudged system which index items o → o ≡ Fine → (next : Made) × IsLoopAt system root parts ss plans (set closures n new) rooms scratch marks (n + 1) next
+      pub closure_done : (o : StepOutcome) → IsClosureJudged system which index items o → o ≡ Fine → (next : MadeSoFar) × IsLoopAt system root parts ss plans (set closures n new) rooms scratch marks (n + 1) next
       closure_done o judged fine =
           let next = with_closure made which index items in
           (next, closure_next next (subst (λ (x : Step). IsFine system parts made x next) (sym e) (FineClosure (subst (IsClosureJudged system which index items) fine judged))))

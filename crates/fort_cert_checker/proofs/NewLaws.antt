@@ -5,9 +5,9 @@ use Rattle.std.specs.List.{list_any}
 use Rattle.std.proofs.lemmas.List.Elements.{Contains-append_cases}
 use Rattle.fort_theory.specs.Sides.{IsIndexOf}
 use Rattle.fort_theory.proofs.Members.{Contains-none, Contains-cons_cases}
-use Rattle.fort_cores.specs.Cores.{Core}
+use Rattle.fort_theory.specs.Cores.{Core}
 use Rattle.fort_alike.specs.ListedClosures.{Which, Star, Conv, asks}
-use Rattle.fort_in_order.specs.Dues.{DueStep, OfClosure, OfPart, OfMerge, OfValue, closure_due, closures_due, has_columns, is_turned, counts_due, parts_due, dues}
+use Rattle.fort_certificate_theory.specs.Dues.{DueStep, OfClosure, OfPart, OfMerge, OfValue, closure_due, closures_due, has_columns, is_turned, counts_due, parts_due, dues}
 use Rattle.fort_cert_checker.proofs.DueKeys.{parts_for}
 
 abbrev IsAmong : (i n j : ℕ) → Type 0

@@ -5,30 +5,30 @@ use Rattle.std.proofs.Math.Seq.{take-length}
 use Rattle.std.proofs.lemmas.List.{length-map}
 use Rattle.fort_theory.specs.Signatures.{Signature}
 use Rattle.fort_theory.specs.Patterns.{PatternSystem}
-use Rattle.fort_cores.specs.Cores as core
-use Rattle.fort_cores.specs.Cores.{Core}
+use Rattle.fort_theory.specs.Cores as core
+use Rattle.fort_theory.specs.Cores.{Core}
 use Rattle.fort_tables.specs.LabelRules.{LabelRule}
 use Rattle.fort_tables.specs.Entries.{stage}
 use Rattle.fort_tables.specs.Labels.{first_word}
 use Rattle.fort_tables.specs.Tables.{Table, Listed, listed_table}
 use Rattle.fort_tables.proofs.TupleLaws.{length-tabulate}
-use Rattle.fort_laid_entries.specs.Laid.{all_entries}
-use Rattle.fort_interchange.specs.Merges.{first_of, count_of, merged, IsMerge}
-use Rattle.fort_interchange.specs.MergeOutcomes.{MergeOutcome, AreEntriesOf, IsMergeOutcome}
-use Rattle.fort_counts.specs.Counts as counts
+use Rattle.fort_tables.specs.Laid.{all_entries}
+use Rattle.fort_tables.specs.Merges.{first_of, count_of, merged, IsMerge}
+use Rattle.fort_tables.specs.MergeOutcomes.{MergeOutcome, AreEntriesOf, IsMergeOutcome}
+use Rattle.fort_tables.specs.Counts as counts
 use Rattle.fort_parts.specs.PartColumns.{columns_of}
 use Rattle.fort_parts.specs.PartAnswers.{OfTable, OfValue}
 use Rattle.fort_alike.specs.ListedClosures.{Which, Pair as Item}
-use Rattle.fort_certificate_grammar.specs.Certificates.{Step, Closure, Part, Merge, Counts, Value}
-use Rattle.fort_in_order.specs.Outcomes as outcomes
-use Rattle.fort_in_order.specs.Outcomes.{StepOutcome, Fails}
-use Rattle.fort_in_order.specs.PartSteps.{IsPartOutcome, IsRight, IsFailed, IsPartFailure}
-use Rattle.fort_in_order.specs.Made.{Made, with_answer, with_counts}
-use Rattle.fort_in_order.specs.PartRules.{IsLocalOf, IsValueOf}
-use Rattle.fort_in_order.specs.Checked.{IsCountJudged, IsFine, FinePart, FineMerge, FineCounts, FineValue, IsFailing, FailingPart, FailingMerge, FailingCounts, FailingValue}
-use Rattle.fort_in_order.specs.MergeSteps.{step_outcome, listed_merge}
-use Rattle.fort_in_order_laws.proofs.EntryWalks.{right_few}
-use Rattle.fort_in_order_laws.proofs.FineSteps.{chosen, itself}
+use Rattle.fort_certificate_theory.specs.Certificates.{Step, Closure, Part, Merge, Counts, Value}
+use Rattle.fort_certificate_theory.specs.Outcomes as outcomes
+use Rattle.fort_certificate_theory.specs.Outcomes.{StepOutcome, Fails}
+use Rattle.fort_certificate_theory.specs.PartSteps.{IsPartOutcome, IsRight, IsFailed, IsPartFailure}
+use Rattle.fort_certificate_theory.specs.Made.{MadeSoFar, with_answer, with_counts}
+use Rattle.fort_certificate_theory.specs.PartRules.{IsLocalOf, IsValueOf}
+use Rattle.fort_certificate_theory.specs.Checked.{IsCountJudged, IsFine, FinePart, FineMerge, FineCounts, FineValue, IsFailing, FailingPart, FailingMerge, FailingCounts, FailingValue}
+use Rattle.fort_certificate_theory.specs.MergeSteps.{step_outcome, listed_merge}
+use Rattle.fort_certificate_theory.proofs.EntryWalks.{right_few}
+use Rattle.fort_certificate_theory.proofs.FineSteps.{chosen, itself}
 use Rattle.fort_check_steps.specs.declared.room.PartRoom.{PartRoom}
 use Rattle.fort_check_steps.specs.declared.room.LabelRoom.{LabelRoom}
 use Rattle.fort_check_steps.specs.declared.marks.MarkRoom.{MarkRoom}
@@ -98,27 +98,27 @@ failure_of r targets o place reason (IsFailed at why h) e =
 -- for any parts and formula
 module _ (system : PatternSystem) (ss : List Step) (plans : List Plan) (rooms : List PartRoom) (p : Plan) (s : Step) (room : PartRoom) (scratch : LabelRoom) (marks : MarkRoom) where
   pub all_fine : {U : Type 0} (new : PartRoom) (result : Result U Failure)
-      → ((parts : List Core) (f : Core) → OnOk result ((made : Made) → IsDueBehind system parts ss plans rooms made f p s room scratch marks → IsFineStep system parts ss made s new))
-      → OnOk result ((parts : List Core) (f : Core) (made : Made) → IsDueBehind system parts ss plans rooms made f p s room scratch marks → IsFineStep system parts ss made s new)
+      → ((parts : List Core) (f : Core) → OnOk result ((made : MadeSoFar) → IsDueBehind system parts ss plans rooms made f p s room scratch marks → IsFineStep system parts ss made s new))
+      → OnOk result ((parts : List Core) (f : Core) (made : MadeSoFar) → IsDueBehind system parts ss plans rooms made f p s room scratch marks → IsFineStep system parts ss made s new)
   all_fine new (Ok u) h = h
   all_fine new (Err e) h = tt
 
   pub all_failing : {U : Type 0} (result : Result U Failure)
-      → ((parts : List Core) (f : Core) → IfErr result (λ e. (made : Made) → IsDueBehind system parts ss plans rooms made f p s room scratch marks → IsFailing system parts made s e.place (as_reason e.reason)))
-      → IfErr result (λ e. (parts : List Core) (f : Core) (made : Made) → IsDueBehind system parts ss plans rooms made f p s room scratch marks → IsFailing system parts made s e.place (as_reason e.reason))
+      → ((parts : List Core) (f : Core) → IfErr result (λ e. (made : MadeSoFar) → IsDueBehind system parts ss plans rooms made f p s room scratch marks → IsFailing system parts made s e.place (as_reason e.reason)))
+      → IfErr result (λ e. (parts : List Core) (f : Core) (made : MadeSoFar) → IsDueBehind system parts ss plans rooms made f p s room scratch marks → IsFailing system parts made s e.place (as_reason e.reason))
   all_failing (Ok u) h = tt
   all_failing (Err e) h = h
 
 module _ (system : PatternSystem) (parts : List Core) (ss : List Step) (plans : List Plan) (rooms : List PartRoom) (f : Core) (p : Plan) (past : Past) (is : IsPastOf system ss plans rooms past) (room : PartRoom) (scratch : LabelRoom)
     (marks : MarkRoom) (s : Step) where
-  pub not_closure : (which : Which) (index : ℕ) (items : List Item) → s ≡ Closure which index items → (made : Made) → IsDueBehind system parts ss plans rooms made f p s room scratch marks → ⊥
+  pub not_closure : (which : Which) (index : ℕ) (items : List Item) → s ≡ Closure which index items → (made : MadeSoFar) → IsDueBehind system parts ss plans rooms made f p s room scratch marks → ⊥
   not_closure which index items e made h = subst (λ (x : Step). IsOwnDue system parts past made f p x room scratch marks) e (h past is)
 
   module _ (k : ℕ) (targets : List ℕ) (e : s ≡ Part k targets) where
-    pub part_due : (made : Made) → IsDueBehind system parts ss plans rooms made f p s room scratch marks → IsTableDue system parts past k made f p targets room scratch marks
+    pub part_due : (made : MadeSoFar) → IsDueBehind system parts ss plans rooms made f p s room scratch marks → IsTableDue system parts past k made f p targets room scratch marks
     part_due made h = subst (λ (x : Step). IsOwnDue system parts past made f p x room scratch marks) e (h past is)
 
-    table_fine : {U : Type 0} (u : U) (made : Made) (new : PartRoom) → IsTableDue system parts past k made f p targets room scratch marks → IsTableStep {U = U} system parts k made f targets new (Ok u)
+    table_fine : {U : Type 0} (u : U) (made : MadeSoFar) (new : PartRoom) → IsTableDue system parts past k made f p targets room scratch marks → IsTableStep {U = U} system parts k made f targets new (Ok u)
         → IsFineStep system parts ss made (Part k targets) new
     table_fine u made new d t =
         let own : IsLocalOf system parts made k (get_or parts k core.True) t.local = subst (λ (g : Core). IsLocalOf system parts made k g t.local) (sym d.due.part) t.local_is in
@@ -140,15 +140,15 @@ module _ (system : PatternSystem) (parts : List Core) (ss : List Step) (plans : 
           );
         }
 
-    pub part_fine : {U : Type 0} (result : Result U Failure) (new : PartRoom) → ((made : Made) → IsTableDue system parts past k made f p targets room scratch marks → IsTableStep system parts k made f targets new result)
-        → OnOk result ((made : Made) → IsDueBehind system parts ss plans rooms made f p s room scratch marks → IsFineStep system parts ss made s new)
+    pub part_fine : {U : Type 0} (result : Result U Failure) (new : PartRoom) → ((made : MadeSoFar) → IsTableDue system parts past k made f p targets room scratch marks → IsTableStep system parts k made f targets new result)
+        → OnOk result ((made : MadeSoFar) → IsDueBehind system parts ss plans rooms made f p s room scratch marks → IsFineStep system parts ss made s new)
     part_fine (Ok u) new step = λ made h.
         let d = part_due made h in
         subst (λ (x : Step). IsFineStep system parts ss made x new) (sym e) (table_fine u made new d (step made d))
     part_fine (Err x) new step = tt
 
-    pub part_failing : {U : Type 0} (result : Result U Failure) (new : PartRoom) → ((made : Made) → IsTableDue system parts past k made f p targets room scratch marks → IsTableStep system parts k made f targets new result)
-        → IfErr result (λ x. (made : Made) → IsDueBehind system parts ss plans rooms made f p s room scratch marks → IsFailing system parts made s x.place (as_reason x.reason))
+    pub part_failing : {U : Type 0} (result : Result U Failure) (new : PartRoom) → ((made : MadeSoFar) → IsTableDue system parts past k made f p targets room scratch marks → IsTableStep system parts k made f targets new result)
+        → IfErr result (λ x. (made : MadeSoFar) → IsDueBehind system parts ss plans rooms made f p s room scratch marks → IsFailing system parts made s x.place (as_reason x.reason))
     part_failing (Ok u) new step = tt
     part_failing (Err x) new step = λ made h.
         let d = part_due made h in
@@ -162,16 +162,16 @@ module _ (system : PatternSystem) (parts : List Core) (ss : List Step) (plans : 
         subst (λ (x : Step). IsRoomFor all (part_in x) new) (sym e)
         (room_kept all k targets room new (subst (IsOnlyAbout all) e only) sized keeps (subst (λ (x : Step). IsRoomFor all (part_in x) room) e h))
 
-    pub part_marks : (new : MarkRoom) → ((states count : ℕ) → HasMarkRoom states count marks → HasMarkRoom states count new) → (made : Made) → IsDueBehind system parts ss plans rooms made f p s room scratch marks
+    pub part_marks : (new : MarkRoom) → ((states count : ℕ) → HasMarkRoom states count marks → HasMarkRoom states count new) → (made : MadeSoFar) → IsDueBehind system parts ss plans rooms made f p s room scratch marks
         → IsMarkRoomFor ss p.work new
     part_marks new keep made h = marks_kept ss p.work marks new (subst (λ (xs : List Step). IsMarkRoomFor xs p.work marks) is.steps (part_due made h).marks_sized) keep
 
   module _ (k : ℕ) (classes : List ℕ) (e : s ≡ Merge k classes) where
-    pub merge_due : (made : Made) → IsDueBehind system parts ss plans rooms made f p s room scratch marks → IsMergeDue system parts past k made p room scratch marks
+    pub merge_due : (made : MadeSoFar) → IsDueBehind system parts ss plans rooms made f p s room scratch marks → IsMergeDue system parts past k made p room scratch marks
     merge_due made h = subst (λ (x : Step). IsOwnDue system parts past made f p x room scratch marks) e (h past is)
 
     -- what is read for it
-    module _ (made : Made) (d : IsMergeDue system parts past k made p room scratch marks) (targets : List ℕ) (columns : ℕ) (targets_are : targets ≡ d.targets) (columns_are : columns ≡ p.columns) where
+    module _ (made : MadeSoFar) (d : IsMergeDue system parts past k made p room scratch marks) (targets : List ℕ) (columns : ℕ) (targets_are : targets ≡ d.targets) (columns_are : columns ≡ p.columns) where
       columns_meant : columns ≡ length (columns_of (get_or parts k core.True))
       columns_meant = columns_are ∙ d.columns
 
@@ -257,24 +257,24 @@ module _ (system : PatternSystem) (parts : List Core) (ss : List Step) (plans : 
       pub merge_fine : OnOk result (IsMerge (listed_table (room_table past.signature.now columns targets room)) classes)
           → OnOk result (room_table past.signature.now columns targets new ≡ listed_merge (listed_table (room_table past.signature.now columns targets room)) classes (all_entries past.signature.now columns new.presences.items))
           → OnOk result (AreEntriesOf (merged (listed_table (room_table past.signature.now columns targets room)) classes) (all_entries past.signature.now columns new.presences.items)) → OnOk result (IsRoomTable past.signature.now columns targets new)
-          → OnOk result (length (own_targets targets new) ≤ length targets) → OnOk result ((made : Made) → IsDueBehind system parts ss plans rooms made f p s room scratch marks → IsFineStep system parts ss made s new)
+          → OnOk result (length (own_targets targets new) ≤ length targets) → OnOk result ((made : MadeSoFar) → IsDueBehind system parts ss plans rooms made f p s room scratch marks → IsFineStep system parts ss made s new)
       merge_fine right left are held fewer = by result right left are held fewer
         where
           by : (r : Result U Failure) → OnOk r (IsMerge (listed_table (room_table past.signature.now columns targets room)) classes)
               → OnOk r (room_table past.signature.now columns targets new ≡ listed_merge (listed_table (room_table past.signature.now columns targets room)) classes (all_entries past.signature.now columns new.presences.items))
               → OnOk r (AreEntriesOf (merged (listed_table (room_table past.signature.now columns targets room)) classes) (all_entries past.signature.now columns new.presences.items)) → OnOk r (IsRoomTable past.signature.now columns targets new)
-              → OnOk r (length (own_targets targets new) ≤ length targets) → OnOk r ((made : Made) → IsDueBehind system parts ss plans rooms made f p s room scratch marks → IsFineStep system parts ss made s new)
+              → OnOk r (length (own_targets targets new) ≤ length targets) → OnOk r ((made : MadeSoFar) → IsDueBehind system parts ss plans rooms made f p s room scratch marks → IsFineStep system parts ss made s new)
           by (Ok u) a b c h l = λ made due.
               let d = merge_due made due in
               subst (λ (x : Step). IsFineStep system parts ss made x new) (sym e) (merge_done made d targets columns (targets_are d.targets d.only) columns_are new a b c h l)
           by (Err x) a b c h l = tt
 
       pub merge_failing : ((o : MergeOutcome) × IsMergeOutcome (listed_table (room_table past.signature.now columns targets room)) classes o × (step_outcome o ≡ outcome_of result))
-          → IfErr result (λ x. (made : Made) → IsDueBehind system parts ss plans rooms made f p s room scratch marks → IsFailing system parts made s x.place (as_reason x.reason))
+          → IfErr result (λ x. (made : MadeSoFar) → IsDueBehind system parts ss plans rooms made f p s room scratch marks → IsFailing system parts made s x.place (as_reason x.reason))
       merge_failing told = by result told
         where
           by : (r : Result U Failure) → ((o : MergeOutcome) × IsMergeOutcome (listed_table (room_table past.signature.now columns targets room)) classes o × (step_outcome o ≡ outcome_of r))
-              → IfErr r (λ x. (made : Made) → IsDueBehind system parts ss plans rooms made f p s room scratch marks → IsFailing system parts made s x.place (as_reason x.reason))
+              → IfErr r (λ x. (made : MadeSoFar) → IsDueBehind system parts ss plans rooms made f p s room scratch marks → IsFailing system parts made s x.place (as_reason x.reason))
           by (Ok u) o = tt
           by (Err x) o = λ made due.
               let d = merge_due made due in
@@ -288,43 +288,43 @@ module _ (system : PatternSystem) (parts : List Core) (ss : List Step) (plans : 
       classes_fit = λ qs only is. stays qs (h.classes_fit qs only is);
     }
 
-    pub merge_marks : (made : Made) → IsDueBehind system parts ss plans rooms made f p s room scratch marks → IsMarkRoomFor ss p.work marks
+    pub merge_marks : (made : MadeSoFar) → IsDueBehind system parts ss plans rooms made f p s room scratch marks → IsMarkRoomFor ss p.work marks
     merge_marks made h = subst (λ (xs : List Step). IsMarkRoomFor xs p.work marks) is.steps (merge_due made h).marks_sized
 
   module _ (k : ℕ) (own : List counts.Count) (e : s ≡ Counts k own) where
-    pub counts_due : (made : Made) → IsDueBehind system parts ss plans rooms made f p s room scratch marks → AreCountsDue system parts past k made f p own marks
+    pub counts_due : (made : MadeSoFar) → IsDueBehind system parts ss plans rooms made f p s room scratch marks → AreCountsDue system parts past k made f p own marks
     counts_due made h = subst (λ (x : Step). IsOwnDue system parts past made f p x room scratch marks) e (h past is)
 
-    pub counts_fine : {U : Type 0} (result : Result U Failure) (new : PartRoom) → ((made : Made) → AreCountsDue system parts past k made f p own marks → IsCountJudged parts made k own (outcome_of result))
-        → OnOk result ((made : Made) → IsDueBehind system parts ss plans rooms made f p s room scratch marks → IsFineStep system parts ss made s new)
+    pub counts_fine : {U : Type 0} (result : Result U Failure) (new : PartRoom) → ((made : MadeSoFar) → AreCountsDue system parts past k made f p own marks → IsCountJudged parts made k own (outcome_of result))
+        → OnOk result ((made : MadeSoFar) → IsDueBehind system parts ss plans rooms made f p s room scratch marks → IsFineStep system parts ss made s new)
     counts_fine (Ok u) new judged = λ made h.
         subst (λ (x : Step). IsFineStep system parts ss made x new) (sym e) (record { next = with_counts made k own; fine = FineCounts (judged made (counts_due made h)); after = tt })
     counts_fine (Err x) new judged = tt
 
-    pub counts_failing : {U : Type 0} (result : Result U Failure) → ((made : Made) → AreCountsDue system parts past k made f p own marks → IsCountJudged parts made k own (outcome_of result))
-        → IfErr result (λ x. (made : Made) → IsDueBehind system parts ss plans rooms made f p s room scratch marks → IsFailing system parts made s x.place (as_reason x.reason))
+    pub counts_failing : {U : Type 0} (result : Result U Failure) → ((made : MadeSoFar) → AreCountsDue system parts past k made f p own marks → IsCountJudged parts made k own (outcome_of result))
+        → IfErr result (λ x. (made : MadeSoFar) → IsDueBehind system parts ss plans rooms made f p s room scratch marks → IsFailing system parts made s x.place (as_reason x.reason))
     counts_failing (Ok u) judged = tt
     counts_failing (Err x) judged = λ made h.
         subst (λ (y : Step). IsFailing system parts made y x.place (as_reason x.reason)) (sym e) (FailingCounts (judged made (counts_due made h)))
 
-    pub counts_marks : (new : MarkRoom) → ((made : Made) → AreCountsDue system parts past k made f p own marks → IsMarkRoomFor (steps_of past) p.work new) → (made : Made)
+    pub counts_marks : (new : MarkRoom) → ((made : MadeSoFar) → AreCountsDue system parts past k made f p own marks → IsMarkRoomFor (steps_of past) p.work new) → (made : MadeSoFar)
         → IsDueBehind system parts ss plans rooms made f p s room scratch marks → IsMarkRoomFor ss p.work new
     counts_marks new keep made h = subst (λ (xs : List Step). IsMarkRoomFor xs p.work new) is.steps (keep made (counts_due made h))
 
   module _ (k : ℕ) (value : Bool) (e : s ≡ Value k value) where
-    pub value_due : (made : Made) → IsDueBehind system parts ss plans rooms made f p s room scratch marks → IsValueDue system parts past k made f p marks
+    pub value_due : (made : MadeSoFar) → IsDueBehind system parts ss plans rooms made f p s room scratch marks → IsValueDue system parts past k made f p marks
     value_due made h = subst (λ (x : Step). IsOwnDue system parts past made f p x room scratch marks) e (h past is)
 
-    pub value_fine : {U : Type 0} (result : Result U Failure) (new : PartRoom) → OnOk result ((made : Made) → IsValueDue system parts past k made f p marks → IsValueOf parts made k f value)
-        → OnOk result ((made : Made) → IsDueBehind system parts ss plans rooms made f p s room scratch marks → IsFineStep system parts ss made s new)
+    pub value_fine : {U : Type 0} (result : Result U Failure) (new : PartRoom) → OnOk result ((made : MadeSoFar) → IsValueDue system parts past k made f p marks → IsValueOf parts made k f value)
+        → OnOk result ((made : MadeSoFar) → IsDueBehind system parts ss plans rooms made f p s room scratch marks → IsFineStep system parts ss made s new)
     value_fine (Ok u) new right = λ made h.
         let d = value_due made h in
         subst (λ (x : Step). IsFineStep system parts ss made x new) (sym e)
         (record { next = with_answer made k (OfValue value); fine = FineValue (subst (λ (g : Core). IsValueOf parts made k g value) (sym d.due.part) (right made d)); after = tt })
     value_fine (Err x) new right = tt
 
-    pub value_failing : {U : Type 0} (result : Result U Failure) → IfErr result (λ x. (made : Made) → IsValueDue system parts past k made f p marks → IsOtherValue parts made k f value x)
-        → IfErr result (λ x. (made : Made) → IsDueBehind system parts ss plans rooms made f p s room scratch marks → IsFailing system parts made s x.place (as_reason x.reason))
+    pub value_failing : {U : Type 0} (result : Result U Failure) → IfErr result (λ x. (made : MadeSoFar) → IsValueDue system parts past k made f p marks → IsOtherValue parts made k f value x)
+        → IfErr result (λ x. (made : MadeSoFar) → IsDueBehind system parts ss plans rooms made f p s room scratch marks → IsFailing system parts made s x.place (as_reason x.reason))
     value_failing (Ok u) other = tt
     value_failing (Err x) other = λ made h.
         let d = value_due made h in
@@ -334,6 +334,6 @@ module _ (system : PatternSystem) (parts : List Core) (ss : List Step) (plans : 
         (subst (λ (n : ℕ). IsFailing system parts made (Value k value) n outcomes.Value) (sym w.place)
         (FailingValue w.own (subst (λ (g : Core). IsValueOf parts made k g w.own) (sym d.due.part) w.is) w.other)))
 
-    pub value_marks : (new : MarkRoom) → ((states count : ℕ) → HasMarkRoom states count marks → HasMarkRoom states count new) → (made : Made) → IsDueBehind system parts ss plans rooms made f p s room scratch marks
+    pub value_marks : (new : MarkRoom) → ((states count : ℕ) → HasMarkRoom states count marks → HasMarkRoom states count new) → (made : MadeSoFar) → IsDueBehind system parts ss plans rooms made f p s room scratch marks
         → IsMarkRoomFor ss p.work new
     value_marks new keep made h = marks_kept ss p.work marks new (subst (λ (xs : List Step). IsMarkRoomFor xs p.work marks) is.steps (value_due made h).marks_sized) keep

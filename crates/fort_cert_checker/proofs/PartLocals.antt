@@ -3,23 +3,23 @@ use Rattle.std.specs.Prelude.{◌≡◌, ℕ, ◌<◌, ◌≤◌, List, length, 
 use Rattle.std.proofs.Common.{sym, ap, ◌∙◌, subst, arith}
 use Rattle.fort_theory.specs.Signatures.{Signature}
 use Rattle.fort_theory.specs.Patterns.{PatternSystem}
-use Rattle.fort_cores.specs.Cores as core
-use Rattle.fort_cores.specs.Cores.{Core, Binary}
+use Rattle.fort_theory.specs.Cores as core
+use Rattle.fort_theory.specs.Cores.{Core, Binary}
 use Rattle.fort_tables.specs.Tables.{Table}
 use Rattle.fort_theory.specs.Logic.{Connective}
-use Rattle.fort_operations.specs.Products.{AreOperands, connected}
-use Rattle.fort_operations.specs.Projections.{ArePure, some_below}
-use Rattle.fort_counts.specs.Counts.{Count}
-use Rattle.fort_counts.specs.ManyLabels.{many_value}
+use Rattle.fort_tables.specs.Products.{AreOperands, connected}
+use Rattle.fort_tables.specs.Projections.{ArePure, some_below}
+use Rattle.fort_tables.specs.Counts.{Count}
+use Rattle.fort_tables.specs.ManyLabels.{many_value}
 use Rattle.fort_parts.specs.PartColumns.{columns_of, place_in, places_in}
 use Rattle.fort_parts.specs.PartAnswers.{Answer, OfValue, OfTable, FitsColumns}
 use Rattle.fort_parts.specs.PartSteps.{operand_of}
-use Rattle.fort_in_order.specs.Made.{Made, IsAnswerOf}
-use Rattle.fort_in_order.specs.PartRules.{Local, product_local, project_local, many_local, is_many, IsLocalOf, IsProductLocal, IsConnectedValue, IsValueOf}
+use Rattle.fort_certificate_theory.specs.Made.{MadeSoFar, IsAnswerOf}
+use Rattle.fort_certificate_theory.specs.PartRules.{Local, product_local, project_local, many_local, is_many, IsLocalOf, IsProductLocal, IsConnectedValue, IsValueOf}
 use Rattle.fort_cert_checker.specs.Joins.{joined_local, AreJoined}
 use Rattle.fort_cert_checker.proofs.JoinFits.{signature_joined, operands_joined}
 
-module _ (system : PatternSystem) (parts : List Core) (k : ℕ) (made : Made) where
+module _ (system : PatternSystem) (parts : List Core) (k : ℕ) (made : MadeSoFar) where
   product_of : (op : Connective) (f g : Core) (local : Local) → IsProductLocal parts made op (Binary op f g) f g local → IsLocalOf system parts made k (Binary op f g) local
   product_of op f g local h = h
 

@@ -1,10 +1,10 @@
 -- How many states a part's table has: one number by the steps, and for classes that are numbered as many as there are.
 use Rattle.std.specs.Prelude.{◌≡◌, ℕ, zero, suc, ◌≤◌, max, List, length, take, true, false, refl}
 use Rattle.std.proofs.Common.{sym, ap, ◌∙◌, arith, true≢false, take_all, take-suc, le_of_eq}
-use Rattle.fort_certificate_grammar.specs.Certificates.{Step, Part, Merge}
-use Rattle.fort_in_order.specs.Dues.{is_merged_in}
-use Rattle.fort_interchange.specs.Merges.{class_of, count_of, AreNumbered}
-use Rattle.fort_interchange.proofs.NumberedClasses.{stage-push}
+use Rattle.fort_certificate_theory.specs.Certificates.{Step, Part, Merge}
+use Rattle.fort_certificate_theory.specs.Dues.{is_merged_in}
+use Rattle.fort_tables.specs.Merges.{class_of, count_of, AreNumbered}
+use Rattle.fort_tables.proofs.NumberedClasses.{stage-push}
 use Rattle.fort_check_steps.specs.Room.{most_states}
 use Rattle.fort_cert_checker.specs.Abouts.{IsOnlyAbout, classes_in}
 use Rattle.fort_cert_checker.specs.PartStates.{IsStatesOf, OfTargets, OfClasses}

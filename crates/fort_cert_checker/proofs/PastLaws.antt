@@ -2,7 +2,7 @@
 use Rattle.std.specs.Prelude.{◌≡◌, ℕ, zero, suc, List, length, get_or, Bool, refl}
 use Rattle.std.proofs.Common.{sym, ap, ◌∙◌, subst, arith}
 use Rattle.fort_tables.specs.Tables.{Table, Listed, listed_table}
-use Rattle.fort_operations.specs.OperationTruth.{complemented}
+use Rattle.fort_tables.specs.OperationTruth.{complemented}
 use Rattle.fort_check_steps.specs.declared.room.PartRoom.{PartRoom}
 use Rattle.fort_check_steps.specs.Held.{room_table, own_targets, IsRoomTable}
 use Rattle.fort_check_steps.specs.Turned.{TurnedTable, turned_table}

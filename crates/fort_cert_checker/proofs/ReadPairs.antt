@@ -1,10 +1,10 @@
 -- The pairs that a relation reads are those of the closure that it is told by, or none.
 use Rattle.std.specs.Prelude.{◌≡◌, ℕ, List, [], map, true, false}
 use Rattle.std.proofs.Common.{sym, true≢false}
-use Rattle.fort_cores.specs.Cores as core
-use Rattle.fort_cores.specs.Cores.{Rel}
+use Rattle.fort_theory.specs.Cores as core
+use Rattle.fort_theory.specs.Cores.{Rel}
 use Rattle.fort_alike.specs.ListedClosures.{Which, Star, Conv, Pair as Item, reads}
-use Rattle.fort_certificate_grammar.specs.Certificates.{Step, Closure}
+use Rattle.fort_certificate_theory.specs.Certificates.{Step, Closure}
 use Rattle.fort_findings.specs.declared.closure.ClosureEntry.{ClosureEntry}
 use Rattle.fort_findings.specs.FindingView.{as_pair}
 use Rattle.fort_cert_checker.specs.Abouts.{IsOnlyAbout}

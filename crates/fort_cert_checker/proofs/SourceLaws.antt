@@ -2,20 +2,20 @@
 use Rattle.std.specs.Prelude.{◌≡◌, ℕ, zero, suc, ◌<◌, List, length, get_or, Bool, nat_lt, true, false, refl}
 use Rattle.std.proofs.Common.{sym, ap, ◌∙◌, subst, arith, true≢false}
 use Rattle.fort_theory.specs.Signatures.{Signature}
-use Rattle.fort_cores.specs.Cores as core
-use Rattle.fort_cores.specs.Cores.{Core}
-use Rattle.fort_cores.specs.PartLists.{AreParts}
+use Rattle.fort_theory.specs.Cores as core
+use Rattle.fort_theory.specs.Cores.{Core}
+use Rattle.fort_theory.specs.PartLists.{AreParts}
 use Rattle.fort_tables.specs.Tables.{Table}
-use Rattle.fort_operations.specs.OperationTruth.{complemented}
+use Rattle.fort_tables.specs.OperationTruth.{complemented}
 use Rattle.fort_parts.specs.PartColumns.{columns_of}
 use Rattle.fort_parts.specs.PartAnswers.{OfValue, OfTable, IsTableOver}
 use Rattle.fort_parts.specs.DecidedCores.{IsOperandOf}
 use Rattle.fort_parts.proofs.StepTables.{IsTableOver-complemented}
 use Rattle.fort_parts.proofs.PartOrder.{operand_earlier}
-use Rattle.fort_in_order.specs.Dues.{has_columns, is_turned}
-use Rattle.fort_in_order.specs.Made.{Made, IsAnswerOf, OfStep, Turned}
+use Rattle.fort_certificate_theory.specs.Dues.{has_columns, is_turned}
+use Rattle.fort_certificate_theory.specs.Made.{MadeSoFar, IsAnswerOf, OfStep, Turned}
 use Rattle.fort_cert_checker.specs.Sources.{IsSourceOf, IsTurnedBody, turned}
-use Rattle.fort_in_order.proofs.RuleLaws.{part_one}
+use Rattle.fort_certificate_theory.proofs.RuleLaws.{part_one}
 
 under : (parts : List Core) (f : Core) (k n : ℕ) → IsSourceOf parts f k (suc n) → (g : Core) × (f ≡ core.Not g) × (has_columns g ≡ true) × IsSourceOf parts g k n
 under parts core.True k n h = absurd h
@@ -26,7 +26,7 @@ under parts (core.Exists m f) k n h = absurd h
 under parts (core.Infinite m f) k n h = absurd h
 
 -- the table
-pub source_table : (parts : List Core) (made : Made) (f : Core) (k turns : ℕ) (table : Table) → IsSourceOf parts f k turns → made.answers k ≡ OfTable table → IsAnswerOf parts made f (OfTable (turned turns table))
+pub source_table : (parts : List Core) (made : MadeSoFar) (f : Core) (k turns : ℕ) (table : Table) → IsSourceOf parts f k turns → made.answers k ≡ OfTable table → IsAnswerOf parts made f (OfTable (turned turns table))
 source_table parts made f k zero table h e = OfStep k h.0 h.1 e
 source_table parts made f k (suc n) table h e =
     let w = under parts f k n h in
@@ -71,7 +71,7 @@ turned_over sig columns zero table h = h
 turned_over sig columns (suc n) table h = IsTableOver-complemented sig columns (turned n table) (turned_over sig columns n table h)
 
 -- a part without columns is its own source
-pub source_value : (parts : List Core) (made : Made) (f : Core) (k turns : ℕ) (value : Bool) → IsSourceOf parts f k turns → has_columns (get_or parts k core.True) ≡ false → made.answers k ≡ OfValue value
+pub source_value : (parts : List Core) (made : MadeSoFar) (f : Core) (k turns : ℕ) (value : Bool) → IsSourceOf parts f k turns → has_columns (get_or parts k core.True) ≡ false → made.answers k ≡ OfValue value
     → IsAnswerOf parts made f (OfValue value)
 source_value parts made f k zero value h none e = OfStep k h.0 h.1 e
 source_value parts made f k (suc n) value h none e =

@@ -6,13 +6,13 @@ use Rattle.std.proofs.lemmas.Bool.Decides.{nat_tests}
 use Rattle.std.specs.Vec.{with_items}
 use Rattle.fort_theory.specs.Patterns.{PatternSystem}
 use Rattle.fort_theory.proofs.Members.{Contains-none}
-use Rattle.fort_cores.specs.Cores.{Core}
-use Rattle.fort_certificate_grammar.specs.Certificates.{Part}
-use Rattle.fort_certificate_grammar.specs.Certificates as certificates
-use Rattle.fort_in_order.specs.Outcomes.{Reason, Due}
-use Rattle.fort_in_order.specs.Dues.{DueStep, OfPart, due_of, dues_of}
-use Rattle.fort_in_order.specs.Made.{Made, nothing_made}
-use Rattle.fort_in_order.specs.Checked.{IsFailing, IsFirstFailure}
+use Rattle.fort_theory.specs.Cores.{Core}
+use Rattle.fort_certificate_theory.specs.Certificates.{Part}
+use Rattle.fort_certificate_theory.specs.Certificates as certificates
+use Rattle.fort_certificate_theory.specs.Outcomes.{Reason, Due}
+use Rattle.fort_certificate_theory.specs.Dues.{DueStep, OfPart, due_of, dues_of}
+use Rattle.fort_certificate_theory.specs.Made.{MadeSoFar, nothing_made}
+use Rattle.fort_certificate_theory.specs.Checked.{IsFailing, IsFirstFailure}
 use Rattle.fort_steps.specs.StepView.{as_step}
 use Rattle.fort_steps.specs.declared.step.Step.{Step}
 use Rattle.fort_dues.specs.DueView.{as_due}
@@ -107,7 +107,7 @@ module _ (system : PatternSystem) (f : Core) (first : ℕ) (ss : List certificat
     from_given P x = subst (λ ps. P system ps) plans_are (subst (λ s. P s plans) h.system_is x)
 
     -- Result
-    pub loop_given : (closures : List (Option ClosurePlan)) (rooms : List PartRoom) (marks : List MarkRoom) (n : ℕ) (made : Made) → closures ≡ a.closures.items → rooms ≡ a.rooms.items → marks ≡ a.marks.items
+    pub loop_given : (closures : List (Option ClosurePlan)) (rooms : List PartRoom) (marks : List MarkRoom) (n : ℕ) (made : MadeSoFar) → closures ≡ a.closures.items → rooms ≡ a.rooms.items → marks ≡ a.marks.items
         → IsLoopAt system f h.parts ss a.plans.items a.closures.items a.rooms.items a.scratch a.marks.items n made → IsLoopAt a.system.now f h.parts ss plans closures rooms a.scratch marks n made
     loop_given closures rooms marks n made closures_are rooms_are marks_are at =
         to_given (λ s ws. IsLoopAt s f h.parts ss ws closures rooms a.scratch marks n made)
@@ -120,7 +120,7 @@ module _ (system : PatternSystem) (f : Core) (first : ℕ) (ss : List certificat
     due_given n d = to_given (λ s ws. IsStepDue s h.parts ss n) d
 
     -- Result
-    pub failing_given : (made : Made) (s : certificates.Step) (place : ℕ) (reason : Reason) → IsFailing a.system.now h.parts made s place reason → IsFailing system h.parts made s place reason
+    pub failing_given : (made : MadeSoFar) (s : certificates.Step) (place : ℕ) (reason : Reason) → IsFailing a.system.now h.parts made s place reason → IsFailing system h.parts made s place reason
     failing_given made s place reason k = from_given (λ t ws. IsFailing t h.parts made s place reason) k
 
     module _ (closures : List (Option ClosurePlan)) (rooms : List PartRoom) (scratch : LabelRoom) (marks : List MarkRoom) (closures_in : (with_items a.closures closures).items ≡ closures)
@@ -147,7 +147,7 @@ module _ (system : PatternSystem) (f : Core) (first : ℕ) (ss : List certificat
       }
 
       -- Result
-      pub loop_after : (n : ℕ) (made : Made) → IsLoopAt a.system.now f h.parts ss plans closures rooms scratch marks n made → IsStepCheckAt system f first ss (with_rooms closures rooms scratch marks) n made
+      pub loop_after : (n : ℕ) (made : MadeSoFar) → IsLoopAt a.system.now f h.parts ss plans closures rooms scratch marks n made → IsStepCheckAt system f first ss (with_rooms closures rooms scratch marks) n made
       unfolding ready_after
       loop_after n made l = record {
         checker = ready_after l.ready;
@@ -155,7 +155,7 @@ module _ (system : PatternSystem) (f : Core) (first : ℕ) (ss : List certificat
             (from_given (λ s ws. IsLoopAt s f h.parts ss ws closures rooms scratch marks n made) l);
       }
 
-  module _ (n : ℕ) (made : Made) (at : IsLoopAt system f h.parts ss a.plans.items a.closures.items a.rooms.items a.scratch a.marks.items n made) where
+  module _ (n : ℕ) (made : MadeSoFar) (at : IsLoopAt system f h.parts ss a.plans.items a.closures.items a.rooms.items a.scratch a.marks.items n made) where
     fails_there : (place : ℕ) (reason : Reason) → IsFirstFailure system h.parts ss (take n ss) place reason → IsFailureAt system f ss n place reason
     fails_there place reason k = record { parts = h.parts; parts_are = h.ready.are; front = take n ss; count = front_count system h.parts ss n made at.place; failure = k }
 

@@ -5,14 +5,14 @@ use Rattle.std.proofs.lemmas.Bool.{lt-ltb}
 use Rattle.std.proofs.lemmas.List.{length-map}
 use Rattle.fort_theory.specs.Signatures.{Signature}
 use Rattle.fort_theory.specs.Patterns.{PatternSystem}
-use Rattle.fort_cores.specs.Cores as core
-use Rattle.fort_cores.specs.Cores.{Core, Binary}
-use Rattle.fort_cores.specs.Parts.{is_free, BindsFree}
+use Rattle.fort_theory.specs.Cores as core
+use Rattle.fort_theory.specs.Cores.{Core, Binary}
+use Rattle.fort_theory.specs.Parts.{is_free, BindsFree}
 use Rattle.fort_tables.specs.BitRows.{words_for}
 use Rattle.fort_tables.specs.Tables.{Table}
-use Rattle.fort_operations.specs.Projections.{ArePure, ArePureBelow, is_pure}
-use Rattle.fort_counts.specs.Counts as counts
-use Rattle.fort_counts.specs.Counts.{KeepRules, count_at}
+use Rattle.fort_tables.specs.Projections.{ArePure, ArePureBelow, is_pure}
+use Rattle.fort_tables.specs.Counts as counts
+use Rattle.fort_tables.specs.Counts.{KeepRules, count_at}
 use Rattle.fort_context_closure.specs.declared.atom_labels.AtomLabels.{AtomLabels}
 use Rattle.fort_context_closure.specs.declared.atom_labels.AtomLabels.TheVariants.{Relation, Expression, Normal, Is}
 use Rattle.fort_context_closure.specs.AtomLabelsView.{word_count}
@@ -21,12 +21,12 @@ use Rattle.fort_parts.specs.PartColumns.{columns_of, place_in}
 use Rattle.fort_parts.specs.PartAnswers.{Answer}
 use Rattle.fort_parts.specs.DecidedCores.{IsOperandOf}
 use Rattle.fort_parts.proofs.PartColumnLaws.{columns_of-Normal, columns_of-IsTerm}
-use Rattle.fort_certificate_grammar.specs.Certificates.{Step, Counts}
-use Rattle.fort_in_order.specs.Dues.{has_columns, is_turned}
-use Rattle.fort_in_order.specs.Made.{Made}
-use Rattle.fort_in_order.specs.PartRules.{Local, closure_for, IsLocalOf, project_local, many_local, is_many, IsCounted}
-use Rattle.fort_in_order_laws.proofs.RightParts.{some_columns}
-use Rattle.fort_in_order_laws.proofs.JoinedTables.{bound_within, bound_many}
+use Rattle.fort_certificate_theory.specs.Certificates.{Step, Counts}
+use Rattle.fort_certificate_theory.specs.Dues.{has_columns, is_turned}
+use Rattle.fort_certificate_theory.specs.Made.{MadeSoFar}
+use Rattle.fort_certificate_theory.specs.PartRules.{Local, closure_for, IsLocalOf, project_local, many_local, is_many, IsCounted}
+use Rattle.fort_certificate_theory.proofs.RightParts.{some_columns}
+use Rattle.fort_certificate_theory.proofs.JoinedTables.{bound_within, bound_many}
 use Rattle.fort_connectives.specs.declared.connective.Op.{Op}
 use Rattle.fort_connectives.specs.ConnectiveView.{connective_of}
 use Rattle.fort_findings.specs.declared.closure.ClosureEntry.{ClosureEntry}
@@ -73,7 +73,7 @@ some_pure body c (suc n) =
     by true e w = (w.0 ++ n ∷ [], pure_push body c n w.0 w.1 e)
     by false e w = (w.0, pure_left body c n w.0 w.1 e)
 
-closure_is : (ss : List Step) (made : Made) (rel : core.Rel) (index : ℕ) (pairs : List ClosureEntry) → IsClosureRead ss rel index pairs → IsClosureKnown ss made rel index → map as_pair pairs ≡ closure_for made rel index
+closure_is : (ss : List Step) (made : MadeSoFar) (rel : core.Rel) (index : ℕ) (pairs : List ClosureEntry) → IsClosureRead ss rel index pairs → IsClosureKnown ss made rel index → map as_pair pairs ≡ closure_for made rel index
 closure_is ss made core.Eq index pairs r k = ap (map as_pair) r
 closure_is ss made core.Root index pairs r k = ap (map as_pair) r
 closure_is ss made core.Below index pairs r k = ap (map as_pair) r
@@ -83,7 +83,7 @@ closure_is ss made core.Plus index pairs r k = r k.0 k.1 ∙ sym k.2
 closure_is ss made core.Star index pairs r k = r k.0 k.1 ∙ sym k.2
 closure_is ss made core.Conv index pairs r k = r k.0 k.1 ∙ sym k.2
 
-module _ (system : PatternSystem) (parts : List Core) (past : Past) (k : ℕ) (made : Made) (f : Core) (p : Plan) (targets : List ℕ) (room : PartRoom) (scratch : LabelRoom)
+module _ (system : PatternSystem) (parts : List Core) (past : Past) (k : ℕ) (made : MadeSoFar) (f : Core) (p : Plan) (targets : List ℕ) (room : PartRoom) (scratch : LabelRoom)
     (marks : MarkRoom) (due : IsTableDue system parts past k made f p targets room scratch marks) where
   abbrev ss : List Step
   ss = steps_of past

@@ -5,26 +5,26 @@ use Rattle.std.proofs.lemmas.Bool.{lt-ltb}
 use Rattle.std.proofs.lemmas.List.{length-map}
 use Rattle.std.proofs.lemmas.List.Elements.{Contains-get_or}
 use Rattle.fort_theory.specs.Patterns.{PatternSystem}
-use Rattle.fort_cores.specs.Cores as core
-use Rattle.fort_cores.specs.Cores.{Core, Binary}
-use Rattle.fort_cores.specs.Parts.{is_free, BindsFree}
+use Rattle.fort_theory.specs.Cores as core
+use Rattle.fort_theory.specs.Cores.{Core, Binary}
+use Rattle.fort_theory.specs.Parts.{is_free, BindsFree}
 use Rattle.fort_tables.specs.Tables.{Table}
 use Rattle.fort_theory.specs.Logic.{Connective}
-use Rattle.fort_operations.specs.Products.{connected}
-use Rattle.fort_operations.specs.Projections.{ArePure, some_below}
-use Rattle.fort_counts.specs.Counts as counts
-use Rattle.fort_counts.specs.ManyLabels.{many_value}
+use Rattle.fort_tables.specs.Products.{connected}
+use Rattle.fort_tables.specs.Projections.{ArePure, some_below}
+use Rattle.fort_tables.specs.Counts as counts
+use Rattle.fort_tables.specs.ManyLabels.{many_value}
 use Rattle.fort_parts.specs.PartColumns.{columns_of, place_in}
 use Rattle.fort_parts.specs.DecidedCores.{IsOperandOf}
 use Rattle.fort_parts.proofs.PartColumnLaws.{columns_of-Normal, columns_of-IsTerm, column-from_free}
-use Rattle.fort_in_order.specs.CountSteps.{IsCountOutcome}
-use Rattle.fort_in_order.specs.Dues.{has_columns}
-use Rattle.fort_in_order.specs.Made.{Made}
-use Rattle.fort_in_order.specs.Outcomes.{StepOutcome}
-use Rattle.fort_in_order.specs.PartRules.{IsValueOf, IsCounted, is_many}
-use Rattle.fort_in_order.specs.Checked.{IsCountJudged}
-use Rattle.fort_in_order_laws.proofs.RightParts.{some_columns, none_columns}
-use Rattle.fort_in_order_laws.proofs.JoinedTables.{bound_within}
+use Rattle.fort_certificate_theory.specs.CountSteps.{IsCountOutcome}
+use Rattle.fort_certificate_theory.specs.Dues.{has_columns}
+use Rattle.fort_certificate_theory.specs.Made.{MadeSoFar}
+use Rattle.fort_certificate_theory.specs.Outcomes.{StepOutcome}
+use Rattle.fort_certificate_theory.specs.PartRules.{IsValueOf, IsCounted, is_many}
+use Rattle.fort_certificate_theory.specs.Checked.{IsCountJudged}
+use Rattle.fort_certificate_theory.proofs.RightParts.{some_columns, none_columns}
+use Rattle.fort_certificate_theory.proofs.JoinedTables.{bound_within}
 use Rattle.fort_connectives.specs.declared.connective.Op.{Op}
 use Rattle.fort_connectives.specs.ConnectiveView.{connective_of}
 use Rattle.fort_findings.specs.declared.count.Count.{Count}
@@ -64,7 +64,7 @@ none_within f g within none = by (has_columns g) refl
 has_some : (n : ℕ) → 0 < n → nat_lt 0 n ≡ true
 has_some n l = lt-ltb 0 n l
 
-module _ (system : PatternSystem) (parts : List Core) (past : Past) (k : ℕ) (made : Made) (f : Core) (p : Plan) (due : IsPartDue system parts past k made f p) where
+module _ (system : PatternSystem) (parts : List Core) (past : Past) (k : ℕ) (made : MadeSoFar) (f : Core) (p : Plan) (due : IsPartDue system parts past k made f p) where
   at_work : (w : Work) → p.work ≡ w → IsWorkOf system parts (steps_of past) k f w
   at_work w e = subst (IsWorkOf system parts (steps_of past) k f) e due.plan.work
 
@@ -114,7 +114,7 @@ module _ (system : PatternSystem) (parts : List Core) (past : Past) (k : ℕ) (m
       is = subst (λ (d : ℕ). IsCountOutcome many_body.table d states marks o) many_plan.column outcome;
     }
 
-module _ (system : PatternSystem) (parts : List Core) (past : Past) (k : ℕ) (made : Made) (f : Core) (p : Plan) (marks : MarkRoom) (due : IsValueDue system parts past k made f p marks) where
+module _ (system : PatternSystem) (parts : List Core) (past : Past) (k : ℕ) (made : MadeSoFar) (f : Core) (p : Plan) (marks : MarkRoom) (due : IsValueDue system parts past k made f p marks) where
   work_is : (w : Work) → p.work ≡ w → IsWorkOf system parts (steps_of past) k f w
   work_is w e = subst (IsWorkOf system parts (steps_of past) k f) e due.due.plan.work
 
@@ -217,7 +217,7 @@ module _ (system : PatternSystem) (parts : List Core) (past : Past) (k : ℕ) (m
 joined_apart : (op : Connective) (g h : Core) (n : ℕ) (b : Core) → core.Infinite n b ≡ Binary op g h → ⊥
 joined_apart op g h n b e = cc
 
-module _ (system : PatternSystem) (parts : List Core) (past : Past) (k : ℕ) (made : Made) (f : Core) (p : Plan) (own_marks : List counts.Count) (room : MarkRoom) (due : AreCountsDue system parts past k made f p own_marks room) where
+module _ (system : PatternSystem) (parts : List Core) (past : Past) (k : ℕ) (made : MadeSoFar) (f : Core) (p : Plan) (own_marks : List counts.Count) (room : MarkRoom) (due : AreCountsDue system parts past k made f p own_marks room) where
   pub only_many : ((s : Source) (c : ℕ) (ns : Vec Count Global) → p.work ≡ Many s c ns → ⊥) → ⊥
   only_many other = by p.work refl due.due.plan.work
     where

@@ -6,17 +6,17 @@ use Rattle.std.proofs.lemmas.List.{take_all}
 use Rattle.std.proofs.lemmas.List.Elements.{Contains-append_right}
 use Rattle.fort_theory.specs.Patterns.{PatternSystem}
 use Rattle.fort_theory.specs.Signatures.{Signature}
-use Rattle.fort_cores.specs.Cores as core
-use Rattle.fort_cores.specs.Cores.{Core}
+use Rattle.fort_theory.specs.Cores as core
+use Rattle.fort_theory.specs.Cores.{Core}
 use Rattle.fort_tables.specs.Tables.{Table}
 use Rattle.fort_parts.specs.PartColumns.{columns_of}
 use Rattle.fort_parts.specs.PartAnswers.{IsTableOver}
-use Rattle.fort_certificate_grammar.specs.Certificates.{Step, Part}
-use Rattle.fort_in_order.specs.Dues.{OfPart, OfValue, has_columns, is_turned, closures_due, parts_due, is_merged_in, dues_of}
-use Rattle.fort_in_order.specs.Made.{Made, nothing_made}
-use Rattle.fort_in_order.specs.Checked.{IsFine}
-use Rattle.fort_in_order_laws.proofs.FineSteps.{chosen}
-use Rattle.fort_in_order_laws.proofs.RightParts.{some_columns}
+use Rattle.fort_certificate_theory.specs.Certificates.{Step, Part}
+use Rattle.fort_certificate_theory.specs.Dues.{OfPart, OfValue, has_columns, is_turned, closures_due, parts_due, is_merged_in, dues_of}
+use Rattle.fort_certificate_theory.specs.Made.{MadeSoFar, nothing_made}
+use Rattle.fort_certificate_theory.specs.Checked.{IsFine}
+use Rattle.fort_certificate_theory.proofs.FineSteps.{chosen}
+use Rattle.fort_certificate_theory.proofs.RightParts.{some_columns}
 use Rattle.fort_check_steps.specs.Room.{IsListFor}
 use Rattle.fort_check_steps.proofs.RoomLaws.{list_fewer, lay_fewer}
 use Rattle.fort_check_steps.specs.declared.room.ListNeeds.{ListNeeds}
@@ -42,7 +42,7 @@ use Rattle.fort_cert_checker.proofs.LoopKnows.{element_of}
 pub has_some : (f : Core) → 0 < length (columns_of f) → has_columns f ≡ true
 has_some f some = lt-ltb 0 (length (columns_of f)) some
 
-module _ (system : PatternSystem) (f : Core) (first : ℕ) (ss : List Step) (a : StepChecker) (made : Made) (d : IsStepCheckDone system f first ss a made) (some : 0 < length (columns_of f)) where
+module _ (system : PatternSystem) (f : Core) (first : ℕ) (ss : List Step) (a : StepChecker) (made : MadeSoFar) (d : IsStepCheckDone system f first ss a made) (some : 0 < length (columns_of f)) where
   abbrev pub parts : List Core
   parts = d.checker.parts
 

@@ -1,9 +1,9 @@
 -- Inside: the first step of a certificate about a due, and the only one in front; what a step holds.
 use Rattle.std.specs.Prelude.{◌≡◌, ℕ, ◌<◌, List, [], ◌++◌, length, get_or, Contains, Bool, false}
-use Rattle.fort_counts.specs.Counts.{Count}
+use Rattle.fort_tables.specs.Counts.{Count}
 use Rattle.fort_alike.specs.ListedClosures.{Pair as Item}
-use Rattle.fort_certificate_grammar.specs.Certificates.{Step, Closure, Part, Merge, Counts, Value}
-use Rattle.fort_in_order.specs.Dues.{DueStep, due_of}
+use Rattle.fort_certificate_theory.specs.Certificates.{Step, Closure, Part, Merge, Counts, Value}
+use Rattle.fort_certificate_theory.specs.Dues.{DueStep, due_of}
 
 pub record IsFirstAbout (ss : List Step) (d : DueStep) (s : Step) : Type 0 where
   pub place : ℕ

@@ -1,9 +1,9 @@
 -- Inside: what a checker has, and what is known of it.
 use Rattle.std.specs.Prelude.{◌≡◌}
 use Rattle.fort_theory.specs.Patterns.{PatternSystem}
-use Rattle.fort_cores.specs.Cores.{Core}
-use Rattle.fort_cores.specs.Parts.{IsClosed}
-use Rattle.fort_certificate_grammar.specs.Certificates.{Certificate}
+use Rattle.fort_theory.specs.Cores.{Core}
+use Rattle.fort_theory.specs.Parts.{IsClosed}
+use Rattle.fort_certificate_theory.specs.Certificates.{Certificate}
 use Rattle.fort_steps.specs.CertificateView.{as_certificate}
 use Rattle.fort_cert_checker.specs.StepCheckers.{IsStepCheckerOf}
 use Rattle.fort_cert_checker.specs.declared.checker.Checker.{Checker}

@@ -1,19 +1,19 @@
 -- Inside: where a check stands: the first steps are fine, and the rooms hold their tables; what comes of the step behind them.
 use Rattle.std.specs.Prelude.{◌≡◌, ℕ, ◌^◌, ◌<◌, ◌≤◌, List, length, take, drop, get_or, Contains, Bool, Option, IsTrue, IsFalse}
 use Rattle.fort_theory.specs.Patterns.{PatternSystem}
-use Rattle.fort_cores.specs.Cores as core
-use Rattle.fort_cores.specs.Cores.{Core}
-use Rattle.fort_cores.specs.PartLists.{AreParts}
+use Rattle.fort_theory.specs.Cores as core
+use Rattle.fort_theory.specs.Cores.{Core}
+use Rattle.fort_theory.specs.PartLists.{AreParts}
 use Rattle.fort_tables.specs.Tables.{Table}
-use Rattle.fort_counts.specs.Counts.{Count}
+use Rattle.fort_tables.specs.Counts.{Count}
 use Rattle.fort_parts.specs.PartColumns.{columns_of}
 use Rattle.fort_parts.specs.PartAnswers.{OfValue, OfTable}
 use Rattle.fort_parts.specs.DecidedCores.{IsDecided}
 use Rattle.fort_alike.specs.ListedClosures.{Which, Pair as Item}
-use Rattle.fort_certificate_grammar.specs.Certificates.{Step, Closure, Part, Merge, Counts, Value}
-use Rattle.fort_in_order.specs.Dues.{DueStep, due_of, dues_of}
-use Rattle.fort_in_order.specs.Made.{Made}
-use Rattle.fort_in_order.specs.Checked.{IsFine, IsUpTo}
+use Rattle.fort_certificate_theory.specs.Certificates.{Step, Closure, Part, Merge, Counts, Value}
+use Rattle.fort_certificate_theory.specs.Dues.{DueStep, due_of, dues_of}
+use Rattle.fort_certificate_theory.specs.Made.{MadeSoFar}
+use Rattle.fort_certificate_theory.specs.Checked.{IsFine, IsUpTo}
 use Rattle.fort_check_steps.specs.Room.{most_states}
 use Rattle.fort_check_steps.specs.declared.room.PartRoom.{PartRoom}
 use Rattle.fort_check_steps.specs.declared.room.LabelRoom.{LabelRoom}
@@ -28,20 +28,20 @@ use Rattle.fort_cert_checker.specs.Values.{IsValueDue, AreCountsDue}
 use Rattle.fort_cert_checker.specs.Makings.{ArePlansMade, AreRoomsMade, IsScratchMade, AreMarksMade, AreClosuresMade}
 
 -- what the steps in front have made
-pub record Tells (parts : List Core) (front : List Step) (made : Made) : Type 0 where
+pub record Tells (parts : List Core) (front : List Step) (made : MadeSoFar) : Type 0 where
   pub closures : (which : Which) (index : ℕ) (items : List Item) → Contains front (Closure which index items) → made.closures which index ≡ items
   pub counts : (k : ℕ) (marks : List Count) → Contains front (Counts k marks) → made.counts k ≡ marks
   pub values : (k : ℕ) (value : Bool) → Contains front (Value k value) → made.answers k ≡ OfValue value
   pub rules : (k : ℕ) (marks : List Count) → Contains front (Counts k marks) → HasMarksFor parts made k (get_or parts k core.True)
 
 -- the first n steps are fine
-pub record IsAtPlace (system : PatternSystem) (parts : List Core) (ss : List Step) (n : ℕ) (made : Made) : Type 0 where
+pub record IsAtPlace (system : PatternSystem) (parts : List Core) (ss : List Step) (n : ℕ) (made : MadeSoFar) : Type 0 where
   pub within : n ≤ length ss
   pub up : IsUpTo system parts ss (take n ss) (drop n (dues_of ss (length system.rules) parts)) (drop n ss) made
   pub tells : Tells parts (take n ss) made
 
 -- a room holds the table of part j, which was made, and is merged only behind a merge of it
-pub record IsRoomHeld (system : PatternSystem) (parts : List Core) (rooms : List PartRoom) (front : List Step) (made : Made) (j : ℕ) (targets : List ℕ) : Type 0 where
+pub record IsRoomHeld (system : PatternSystem) (parts : List Core) (rooms : List PartRoom) (front : List Step) (made : MadeSoFar) (j : ℕ) (targets : List ℕ) : Type 0 where
   pub room : PartRoom
   pub table : Table
   pub room_at : IsElement rooms j room
@@ -51,7 +51,7 @@ pub record IsRoomHeld (system : PatternSystem) (parts : List Core) (rooms : List
   pub plain_states : ((classes : List ℕ) → Contains front (Merge j classes) → ⊥) → length table.presences ≡ most_states targets
   pub merged_states : (classes : List ℕ) → Contains front (Merge j classes) → length table.presences ≡ most_states classes
 
-abbrev pub AreHeld : PatternSystem → List Core → List PartRoom → List Step → Made → Type 0
+abbrev pub AreHeld : PatternSystem → List Core → List PartRoom → List Step → MadeSoFar → Type 0
 AreHeld system parts rooms front made = (j : ℕ) (targets : List ℕ) → Contains front (Part j targets) → IsRoomHeld system parts rooms front made j targets
 
 -- no part has more targets or classes than there are numbers for
@@ -72,7 +72,7 @@ pub record IsReady (system : PatternSystem) (root : Core) (parts : List Core) (s
 
 -- the first n steps are fine, and the rooms hold their tables
 pub record IsLoopAt (system : PatternSystem) (root : Core) (parts : List Core) (ss : List Step) (plans : List Plan) (closures : List (Option ClosurePlan)) (rooms : List PartRoom) (scratch : LabelRoom) (marks : List MarkRoom) (n : ℕ)
-    (made : Made) : Type 0 where
+    (made : MadeSoFar) : Type 0 where
   pub ready : IsReady system root parts ss plans closures rooms scratch marks
   pub place : IsAtPlace system parts ss n made
   pub held : AreHeld system parts rooms (take n ss) made
@@ -101,7 +101,7 @@ part_in (Counts k marks) = k
 part_in (Value k value) = k
 
 -- a step that names a part is due
-abbrev pub IsOwnDue : PatternSystem → List Core → Past → Made → Core → Plan → Step → PartRoom → LabelRoom → MarkRoom → Type 0
+abbrev pub IsOwnDue : PatternSystem → List Core → Past → MadeSoFar → Core → Plan → Step → PartRoom → LabelRoom → MarkRoom → Type 0
 IsOwnDue system parts past made f p (Closure which index items) room scratch marks = ⊥
 IsOwnDue system parts past made f p (Part k targets) room scratch marks = IsTableDue system parts past k made f p targets room scratch marks
 IsOwnDue system parts past made f p (Merge k classes) room scratch marks = IsMergeDue system parts past k made p room scratch marks
@@ -109,24 +109,24 @@ IsOwnDue system parts past made f p (Counts k counts) room scratch marks = AreCo
 IsOwnDue system parts past made f p (Value k value) room scratch marks = IsValueDue system parts past k made f p marks
 
 -- the room of part k with these targets holds its table, which was made, of so many states
-pub record IsNewlyHeld (system : PatternSystem) (parts : List Core) (next : Made) (k : ℕ) (targets : List ℕ) (states : ℕ) (room : PartRoom) : Type 0 where
+pub record IsNewlyHeld (system : PatternSystem) (parts : List Core) (next : MadeSoFar) (k : ℕ) (targets : List ℕ) (states : ℕ) (room : PartRoom) : Type 0 where
   pub table : Table
   pub held : IsHeld system.signature (length (columns_of (get_or parts k core.True))) targets room table
   pub made_is : next.answers k ≡ OfTable table
   pub states_are : length table.presences ≡ states
 
 -- after a step of these, a part's room holds its table, or that of its classes
-abbrev pub IsHeldAfter : PatternSystem → List Core → List Step → Made → Step → PartRoom → Type 0
+abbrev pub IsHeldAfter : PatternSystem → List Core → List Step → MadeSoFar → Step → PartRoom → Type 0
 IsHeldAfter system parts ss next (Part k targets) room = IsNewlyHeld system parts next k targets (most_states targets) room × IsFalse room.is_merged
 IsHeldAfter system parts ss next (Merge k classes) room =
     (targets : List ℕ) → IsOnlyAbout ss (Part k targets) → IsNewlyHeld system parts next k targets (most_states classes) room
 IsHeldAfter system parts ss next other room = Unit {0}
 
-pub record IsFineStep (system : PatternSystem) (parts : List Core) (ss : List Step) (made : Made) (s : Step) (room : PartRoom) : Type 0 where
-  pub next : Made
+pub record IsFineStep (system : PatternSystem) (parts : List Core) (ss : List Step) (made : MadeSoFar) (s : Step) (room : PartRoom) : Type 0 where
+  pub next : MadeSoFar
   pub fine : IsFine system parts made s next
   pub after : IsHeldAfter system parts ss next s room
 
 -- with every past that is read of these
-abbrev pub IsDueBehind : PatternSystem → List Core → List Step → List Plan → List PartRoom → Made → Core → Plan → Step → PartRoom → LabelRoom → MarkRoom → Type 0
+abbrev pub IsDueBehind : PatternSystem → List Core → List Step → List Plan → List PartRoom → MadeSoFar → Core → Plan → Step → PartRoom → LabelRoom → MarkRoom → Type 0
 IsDueBehind system parts ss plans rooms made f p s room scratch marks = (past : Past) → IsPastOf system ss plans rooms past → IsOwnDue system parts past made f p s room scratch marks

@@ -1,8 +1,8 @@
 -- Inside: where a step is due, by what a check reads; what holds wherever it is.
 use Rattle.std.specs.Prelude.{◌≡◌, ℕ, List, map, Option}
-use Rattle.fort_cores.specs.Cores.{Core}
-use Rattle.fort_certificate_grammar.specs.Certificates.{Step}
-use Rattle.fort_in_order.specs.Made.{Made}
+use Rattle.fort_theory.specs.Cores.{Core}
+use Rattle.fort_certificate_theory.specs.Certificates.{Step}
+use Rattle.fort_certificate_theory.specs.Made.{MadeSoFar}
 use Rattle.fort_steps.specs.StepView.{as_step}
 use Rattle.fort_check_steps.specs.declared.room.PartRoom.{PartRoom}
 use Rattle.fort_check_steps.specs.declared.room.LabelRoom.{LabelRoom}
@@ -13,23 +13,23 @@ use Rattle.fort_cert_checker.specs.declared.one_step.Given.{Given}
 use Rattle.fort_cert_checker.specs.Fronts.{IsLoopAt, IsStepDue, IsDueBehind}
 
 -- a step of part f, behind the parts in front
-abbrev pub IsPartDue : Given → List Core → List PartRoom → Made → Core → Plan → Step → PartRoom → LabelRoom → MarkRoom → Type 0
+abbrev pub IsPartDue : Given → List Core → List PartRoom → MadeSoFar → Core → Plan → Step → PartRoom → LabelRoom → MarkRoom → Type 0
 IsPartDue given parts front made f plan step room scratch marks =
     IsDueBehind given.system.now parts (map as_step given.steps.now) given.plans.now front made f plan step room scratch marks
 
-abbrev pub WherePartDue : Given → List PartRoom → Plan → Step → PartRoom → LabelRoom → MarkRoom → (List Core → Core → Made → Type 0) → Type 0
+abbrev pub WherePartDue : Given → List PartRoom → Plan → Step → PartRoom → LabelRoom → MarkRoom → (List Core → Core → MadeSoFar → Type 0) → Type 0
 WherePartDue given front plan step room scratch marks P =
-    (parts : List Core) (f : Core) (made : Made) → IsPartDue given parts front made f plan step room scratch marks → P parts f made
+    (parts : List Core) (f : Core) (made : MadeSoFar) → IsPartDue given parts front made f plan step room scratch marks → P parts f made
 
-abbrev pub IsLoopOf : Given → Core → List Core → List Step → List (Option ClosurePlan) → List PartRoom → LabelRoom → List MarkRoom → ℕ → Made → Type 0
+abbrev pub IsLoopOf : Given → Core → List Core → List Step → List (Option ClosurePlan) → List PartRoom → LabelRoom → List MarkRoom → ℕ → MadeSoFar → Type 0
 IsLoopOf given root parts ss closures rooms scratch marks n made = IsLoopAt given.system.now root parts ss given.plans.now closures rooms scratch marks n made
 
 -- the certificate has the steps that are read, the loop stands at a place, and the step there is due
-abbrev pub IsDueAt : Given → List (Option ClosurePlan) → List PartRoom → LabelRoom → List MarkRoom → ℕ → List Core → Core → List Step → Made → Type 0
+abbrev pub IsDueAt : Given → List (Option ClosurePlan) → List PartRoom → LabelRoom → List MarkRoom → ℕ → List Core → Core → List Step → MadeSoFar → Type 0
 IsDueAt given closures rooms scratch marks n parts root ss made =
     (ss ≡ map as_step given.steps.now) × IsLoopOf given root parts ss closures rooms scratch marks n made × IsStepDue given.system.now parts ss n
 
-abbrev pub WhereDue : Given → List (Option ClosurePlan) → List PartRoom → LabelRoom → List MarkRoom → ℕ → (List Core → Core → List Step → Made → Type 0) → Type 0
+abbrev pub WhereDue : Given → List (Option ClosurePlan) → List PartRoom → LabelRoom → List MarkRoom → ℕ → (List Core → Core → List Step → MadeSoFar → Type 0) → Type 0
 WhereDue given closures rooms scratch marks n P =
-    (parts : List Core) (root : Core) (ss : List Step) (made : Made) → ss ≡ map as_step given.steps.now
+    (parts : List Core) (root : Core) (ss : List Step) (made : MadeSoFar) → ss ≡ map as_step given.steps.now
     → IsLoopOf given root parts ss closures rooms scratch marks n made → IsStepDue given.system.now parts ss n → P parts root ss made

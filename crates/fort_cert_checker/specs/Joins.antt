@@ -2,10 +2,10 @@
 use Rattle.std.specs.Prelude.{◌≡◌, ℕ, ◌<◌, ◌≤◌, List}
 use Rattle.fort_theory.specs.Signatures.{Signature}
 use Rattle.fort_theory.specs.Logic.{Connective}
-use Rattle.fort_operations.specs.Products.{AreOperands, signature_of, product_rule, product_accepts}
+use Rattle.fort_tables.specs.Products.{AreOperands, signature_of, product_rule, product_accepts}
 use Rattle.fort_parts.specs.PartAnswers.{Answer}
 use Rattle.fort_parts.specs.PartSteps.{operand_of}
-use Rattle.fort_in_order.specs.PartRules.{Local}
+use Rattle.fort_certificate_theory.specs.PartRules.{Local}
 
 -- over so many columns
 abbrev pub joined_local : Connective → (columns : ℕ) → Answer → List ℕ → Answer → List ℕ → Local

@@ -1,11 +1,11 @@
 -- Inside: what is made before a check, for each step that is due and for each part.
 use Rattle.std.specs.Prelude.{◌≡◌, ℕ, ◌*◌, ◌^◌, ◌<◌, ◌≤◌, List, length, get_or, Bool, true, Option, None, Some}
 use Rattle.fort_theory.specs.Patterns.{PatternSystem}
-use Rattle.fort_cores.specs.Cores as core
-use Rattle.fort_cores.specs.Cores.{Core}
+use Rattle.fort_theory.specs.Cores as core
+use Rattle.fort_theory.specs.Cores.{Core}
 use Rattle.fort_alike.specs.ListedClosures.{Which}
-use Rattle.fort_certificate_grammar.specs.Certificates.{Step, Part}
-use Rattle.fort_in_order.specs.Dues.{DueStep, OfClosure, OfPart, OfMerge, OfCounts, OfValue, is_merged_in}
+use Rattle.fort_certificate_theory.specs.Certificates.{Step, Part}
+use Rattle.fort_certificate_theory.specs.Dues.{DueStep, OfClosure, OfPart, OfMerge, OfCounts, OfValue, is_merged_in}
 use Rattle.fort_check_steps.specs.PairSteps.{HasClosureRules}
 use Rattle.fort_check_steps.specs.declared.room.PartRoom.{PartRoom}
 use Rattle.fort_check_steps.specs.declared.room.LabelRoom.{LabelRoom}

@@ -1,8 +1,8 @@
 -- Inside: lists of operands' targets: the room for them, and that they are laid.
 use Rattle.std.specs.Prelude.{ℕ, List, length}
-use Rattle.fort_operations.specs.Products as products
+use Rattle.fort_tables.specs.Products as products
 use Rattle.fort_parts.specs.PartAnswers.{Answer, OfValue, OfTable}
-use Rattle.fort_certificate_grammar.specs.Certificates.{Step, Part}
+use Rattle.fort_certificate_theory.specs.Certificates.{Step, Part}
 use Rattle.fort_target_lists.specs.LayRooms.{HasLayRoom}
 use Rattle.fort_target_lists.specs.TargetLists.{IsTargetListOf, HasListRoom}
 use Rattle.fort_target_lists.specs.declared.states.LayRoom.{LayRoom}

@@ -1,7 +1,7 @@
 -- Inside: how many states the table of a part has, by its steps: as many as its targets make, or where it is merged as its classes.
 use Rattle.std.specs.Prelude.{◌≡◌, ℕ, List, true, false}
-use Rattle.fort_certificate_grammar.specs.Certificates.{Step, Part, Merge}
-use Rattle.fort_in_order.specs.Dues.{is_merged_in}
+use Rattle.fort_certificate_theory.specs.Certificates.{Step, Part, Merge}
+use Rattle.fort_certificate_theory.specs.Dues.{is_merged_in}
 use Rattle.fort_check_steps.specs.Room.{most_states}
 use Rattle.fort_cert_checker.specs.Abouts.{IsOnlyAbout}
 

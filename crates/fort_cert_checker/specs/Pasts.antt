@@ -2,18 +2,18 @@
 use Rattle.std.specs.Prelude.{◌≡◌, ℕ, ◌^◌, ◌<◌, ◌≤◌, List, IsFalse, map, length, get_or, Bool, true, false, Result, OnOk}
 use Rattle.fort_theory.specs.Patterns.{PatternSystem}
 use Rattle.fort_theory.specs.Signatures.{Signature}
-use Rattle.fort_cores.specs.Cores as core
-use Rattle.fort_cores.specs.Cores.{Core}
+use Rattle.fort_theory.specs.Cores as core
+use Rattle.fort_theory.specs.Cores.{Core}
 use Rattle.fort_tables.specs.Tables.{Table, listed_table}
-use Rattle.fort_counts.specs.Counts.{Count}
+use Rattle.fort_tables.specs.Counts.{Count}
 use Rattle.fort_parts.specs.PartColumns.{columns_of}
 use Rattle.fort_parts.specs.PartAnswers.{Answer, OfValue, OfTable}
 use Rattle.fort_alike.specs.ListedClosures.{Star, Conv, Pair as Item}
-use Rattle.fort_certificate_grammar.specs.Certificates.{Step, Closure, Part, Counts, Value}
-use Rattle.fort_in_order.specs.PartSteps.{IsPartOutcome}
-use Rattle.fort_in_order.specs.Dues.{has_columns, is_turned}
-use Rattle.fort_in_order.specs.Made.{Made}
-use Rattle.fort_in_order.specs.PartRules.{Local, IsLocalOf}
+use Rattle.fort_certificate_theory.specs.Certificates.{Step, Closure, Part, Counts, Value}
+use Rattle.fort_certificate_theory.specs.PartSteps.{IsPartOutcome}
+use Rattle.fort_certificate_theory.specs.Dues.{has_columns, is_turned}
+use Rattle.fort_certificate_theory.specs.Made.{MadeSoFar}
+use Rattle.fort_certificate_theory.specs.PartRules.{Local, IsLocalOf}
 use Rattle.fort_steps.specs.StepView.{as_step}
 use Rattle.fort_check_steps.specs.declared.room.PartRoom.{PartRoom}
 use Rattle.fort_check_steps.specs.declared.room.LabelRoom.{LabelRoom}
@@ -88,13 +88,13 @@ pub record IsPartStep {U : Type 0} (local : Local) (targets : List ℕ) (room : 
   pub held : OnOk result (HoldsPart local.rule local.accepting targets room)
 
 -- the items of the closure that a relation reads
-abbrev pub IsClosureKnown : List Step → Made → core.Rel → ℕ → Type 0
+abbrev pub IsClosureKnown : List Step → MadeSoFar → core.Rel → ℕ → Type 0
 IsClosureKnown ss made core.Star index = (items : List Item) × IsOnlyAbout ss (Closure Star index items) × (made.closures Star index ≡ items)
 IsClosureKnown ss made core.Plus index = (items : List Item) × IsOnlyAbout ss (Closure Star index items) × (made.closures Star index ≡ items)
 IsClosureKnown ss made core.Conv index = (items : List Item) × IsOnlyAbout ss (Closure Conv index items) × (made.closures Conv index ≡ items)
 IsClosureKnown ss made other index = Unit {0}
 
-pub record IsTableKnown (sig : Signature) (parts : List Core) (past : Past) (made : Made) (j : ℕ) : Type 0 where
+pub record IsTableKnown (sig : Signature) (parts : List Core) (past : Past) (made : MadeSoFar) (j : ℕ) : Type 0 where
   pub targets : List ℕ
   pub room : PartRoom
   pub table : Table
@@ -104,19 +104,19 @@ pub record IsTableKnown (sig : Signature) (parts : List Core) (past : Past) (mad
   pub made_is : made.answers j ≡ OfTable table
   pub states : IsStatesOf (steps_of past) j (length table.presences)
 
-pub record IsValueKnown (past : Past) (made : Made) (j : ℕ) : Type 0 where
+pub record IsValueKnown (past : Past) (made : MadeSoFar) (j : ℕ) : Type 0 where
   pub value : Bool
   pub only : IsOnlyAbout (steps_of past) (Value j value)
   pub made_is : made.answers j ≡ OfValue value
 
-pub record AreCountsKnown (parts : List Core) (past : Past) (made : Made) (k : ℕ) : Type 0 where
+pub record AreCountsKnown (parts : List Core) (past : Past) (made : MadeSoFar) (k : ℕ) : Type 0 where
   pub marks : List Count
   pub only : IsOnlyAbout (steps_of past) (Counts k marks)
   pub made_is : made.counts k ≡ marks
   pub rules : HasMarksFor parts made k (get_or parts k core.True)
 
 -- what is known of the answers that part k needs, where this was made
-pub record KnowsPast (system : PatternSystem) (parts : List Core) (past : Past) (k : ℕ) (made : Made) : Type 0 where
+pub record KnowsPast (system : PatternSystem) (parts : List Core) (past : Past) (k : ℕ) (made : MadeSoFar) : Type 0 where
   pub parted : AreParted parts
   pub within : k < length parts
   pub signature : past.signature.now ≡ system.signature
@@ -126,14 +126,14 @@ pub record KnowsPast (system : PatternSystem) (parts : List Core) (past : Past) 
   pub closures : (rel : core.Rel) (index x y : ℕ) → get_or parts k core.True ≡ core.Leaf (core.Related rel index x y) → IsClosureKnown (steps_of past) made rel index
 
 -- part k is this formula, which may be checked by this plan
-pub record IsPartDue (system : PatternSystem) (parts : List Core) (past : Past) (k : ℕ) (made : Made) (f : Core) (p : Plan) : Type 0 where
+pub record IsPartDue (system : PatternSystem) (parts : List Core) (past : Past) (k : ℕ) (made : MadeSoFar) (f : Core) (p : Plan) : Type 0 where
   pub known : KnowsPast system parts past k made
   pub part : get_or parts k core.True ≡ f
   pub plan : IsPlanOf system parts (steps_of past) k f p
   pub fit : IsFitPart system f
 
 -- the counts of an "infinitely many" are known before its answer
-abbrev pub KnowsCounts : List Core → Past → ℕ → Made → Type 0
+abbrev pub KnowsCounts : List Core → Past → ℕ → MadeSoFar → Type 0
 KnowsCounts parts past k made = (n : ℕ) (g : Core) → get_or parts k core.True ≡ core.Infinite n g → AreCountsKnown parts past made k
 
 -- room for the pure states of a source, and for so many marks
@@ -143,7 +143,7 @@ IsMarkRoomFor ss (Many s c marks) room = (n : ℕ) → IsStatesOf ss s.part n �
 IsMarkRoomFor ss other room = Unit {0}
 
 -- the targets are due, and there is room for them
-pub record IsTableDue (system : PatternSystem) (parts : List Core) (past : Past) (k : ℕ) (made : Made) (f : Core) (p : Plan) (targets : List ℕ) (room : PartRoom) (scratch : LabelRoom) (marks : MarkRoom) : Type 0 where
+pub record IsTableDue (system : PatternSystem) (parts : List Core) (past : Past) (k : ℕ) (made : MadeSoFar) (f : Core) (p : Plan) (targets : List ℕ) (room : PartRoom) (scratch : LabelRoom) (marks : MarkRoom) : Type 0 where
   pub due : IsPartDue system parts past k made f p
   pub columns : has_columns f ≡ true
   pub plain : is_turned f ≡ false
@@ -157,7 +157,7 @@ pub record IsTableDue (system : PatternSystem) (parts : List Core) (past : Past)
   pub marks_sized : IsMarkRoomFor (steps_of past) p.work marks
 
 -- the step of part k by the rule that it is to have
-pub record IsTableStep {U : Type 0} (system : PatternSystem) (parts : List Core) (k : ℕ) (made : Made) (f : Core) (targets : List ℕ) (room : PartRoom) (result : Result U Failure) : Type 0 where
+pub record IsTableStep {U : Type 0} (system : PatternSystem) (parts : List Core) (k : ℕ) (made : MadeSoFar) (f : Core) (targets : List ℕ) (room : PartRoom) (result : Result U Failure) : Type 0 where
   pub local : Local
   pub local_is : IsLocalOf system parts made k f local
   pub signature : local.rule.signature ≡ system.signature
@@ -165,7 +165,7 @@ pub record IsTableStep {U : Type 0} (system : PatternSystem) (parts : List Core)
   pub step : IsPartStep local targets room result
 
 -- the classes of part k are due, whose room holds the table of its targets
-pub record IsMergeDue (system : PatternSystem) (parts : List Core) (past : Past) (k : ℕ) (made : Made) (p : Plan) (room : PartRoom) (scratch : LabelRoom) (marks : MarkRoom) : Type 0 where
+pub record IsMergeDue (system : PatternSystem) (parts : List Core) (past : Past) (k : ℕ) (made : MadeSoFar) (p : Plan) (room : PartRoom) (scratch : LabelRoom) (marks : MarkRoom) : Type 0 where
   pub targets : List ℕ
   pub table : Table
   pub signature : past.signature.now ≡ system.signature

@@ -3,15 +3,15 @@ use Rattle.std.specs.Prelude.{◌≡◌, ℕ, ◌+◌, ◌*◌, ◌≤◌, List,
 use Rattle.fort_theory.specs.Trees.{Tree}
 use Rattle.fort_theory.specs.Signatures.{most_columns}
 use Rattle.fort_theory.specs.Patterns.{PatternSystem}
-use Rattle.fort_cores.specs.Cores as core
-use Rattle.fort_cores.specs.Cores.{Core, Binary}
-use Rattle.fort_expressions.specs.Expressions as expressions
-use Rattle.fort_expressions.specs.Contexts.{HoleNumber, HolePlace}
-use Rattle.fort_cores.specs.Parts.{BindsFree, HasManyRootsAt}
-use Rattle.fort_cores.specs.PartLists.{AreParts}
+use Rattle.fort_theory.specs.Cores as core
+use Rattle.fort_theory.specs.Cores.{Core, Binary}
+use Rattle.fort_theory.specs.Expressions as expressions
+use Rattle.fort_theory.specs.Contexts.{HoleNumber, HolePlace}
+use Rattle.fort_theory.specs.Parts.{BindsFree, HasManyRootsAt}
+use Rattle.fort_theory.specs.PartLists.{AreParts}
 use Rattle.fort_tables.specs.BitRows.{words_for}
-use Rattle.fort_counts.specs.Counts as counts
-use Rattle.fort_atom_labels.specs.ListedAtoms.{ListedAtom}
+use Rattle.fort_tables.specs.Counts as counts
+use Rattle.fort_alike.specs.ListedAtoms.{ListedAtom}
 use Rattle.fort_context_closure.specs.ClosedAtoms.{ClosedAtom}
 use Rattle.fort_context_closure.specs.declared.atom_labels.AtomLabels.{AtomLabels}
 use Rattle.fort_context_closure.specs.declared.atom_labels.AtomLabels.TheVariants.{Relation, Expression, Normal, Is}
@@ -22,7 +22,7 @@ use Rattle.fort_relation_exprs.specs.RexView.{AreRexLabels}
 use Rattle.fort_parts.specs.PartColumns.{columns_of, place_in, places_in}
 use Rattle.fort_parts.specs.DecidedCores.{IsOverSystem}
 use Rattle.fort_alike.specs.ListedClosures.{Star, Conv, Pair as Item}
-use Rattle.fort_certificate_grammar.specs.Certificates.{Step, Closure, Counts}
+use Rattle.fort_certificate_theory.specs.Certificates.{Step, Closure, Counts}
 use Rattle.fort_findings.specs.declared.closure.ClosureEntry.{ClosureEntry}
 use Rattle.fort_findings.specs.declared.count.Count.{Count}
 use Rattle.fort_findings.specs.FindingView.{as_count, as_pair}

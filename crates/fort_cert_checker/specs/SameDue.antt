@@ -1,7 +1,7 @@
 -- To believe: a test whether two steps that are due are one.
 use Rattle.std.specs.Prelude.{Bool, false, ◌&&◌, ◌==◌}
-use Rattle.fort_in_order.specs.Dues as definitions
-use Rattle.fort_in_order.specs.Made.{same_which}
+use Rattle.fort_certificate_theory.specs.Dues as definitions
+use Rattle.fort_certificate_theory.specs.Made.{same_which}
 
 abbrev pub same_due : definitions.DueStep → definitions.DueStep → Bool
 same_due (definitions.OfClosure which i) (definitions.OfClosure other j) = same_which which other && (i == j)

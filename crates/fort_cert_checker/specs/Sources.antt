@@ -1,11 +1,11 @@
 -- Inside: the part whose answer a formula has, under negations with columns, each of which turns the table.
 use Rattle.std.specs.Prelude.{◌≡◌, ℕ, zero, suc, ◌<◌, List, get_or, true, false}
-use Rattle.fort_cores.specs.Cores as core
-use Rattle.fort_cores.specs.Cores.{Core}
+use Rattle.fort_theory.specs.Cores as core
+use Rattle.fort_theory.specs.Cores.{Core}
 use Rattle.fort_tables.specs.Tables.{Table}
-use Rattle.fort_operations.specs.OperationTruth.{complemented}
-use Rattle.fort_in_order.specs.Dues.{has_columns, is_turned}
-use Rattle.fort_in_order.specs.Made.{IsPartAt}
+use Rattle.fort_tables.specs.OperationTruth.{complemented}
+use Rattle.fort_certificate_theory.specs.Dues.{has_columns, is_turned}
+use Rattle.fort_certificate_theory.specs.Made.{IsPartAt}
 
 -- part k is a negation with columns, of this earlier part
 pub record IsTurnedBody (parts : List Core) (k body : ℕ) : Type 0 where

@@ -1,16 +1,16 @@
 -- Inside: what a checker of steps has, and what is known of it; what it tells of the steps.
 use Rattle.std.specs.Prelude.{◌≡◌, ℕ, ◌+◌, ◌^◌, ◌<◌, List, map, length}
 use Rattle.fort_theory.specs.Patterns.{PatternSystem, IsSystem}
-use Rattle.fort_cores.specs.Cores.{Core}
-use Rattle.fort_cores.specs.PartLists.{AreParts}
+use Rattle.fort_theory.specs.Cores.{Core}
+use Rattle.fort_theory.specs.PartLists.{AreParts}
 use Rattle.fort_tables.specs.Tables.{Table}
 use Rattle.fort_parts.specs.PartColumns.{columns_of}
 use Rattle.fort_parts.specs.PartAnswers.{OfTable, IsTableOver}
-use Rattle.fort_certificate_grammar.specs.Certificates.{Step}
-use Rattle.fort_in_order.specs.Outcomes.{Reason}
-use Rattle.fort_in_order.specs.Made.{Made, IsAnswerOf}
-use Rattle.fort_in_order.specs.Dues.{dues_of}
-use Rattle.fort_in_order.specs.Checked.{AreAllFine, IsFirstFailure}
+use Rattle.fort_certificate_theory.specs.Certificates.{Step}
+use Rattle.fort_certificate_theory.specs.Outcomes.{Reason}
+use Rattle.fort_certificate_theory.specs.Made.{MadeSoFar, IsAnswerOf}
+use Rattle.fort_certificate_theory.specs.Dues.{dues_of}
+use Rattle.fort_certificate_theory.specs.Checked.{AreAllFine, IsFirstFailure}
 use Rattle.fort_steps.specs.StepView.{as_step}
 use Rattle.fort_dues.specs.DueView.{as_due}
 use Rattle.fort_target_lists.specs.declared.states.LayRoom.{LayRoom}
@@ -35,12 +35,12 @@ pub record IsStepCheckerOf (system : PatternSystem) (f : Core) (first : ℕ) (ss
   pub root : IsSourceOf parts f a.root.part a.root.turns
 
 -- its first n steps are fine, and the rooms hold their tables
-pub record IsStepCheckAt (system : PatternSystem) (f : Core) (first : ℕ) (ss : List Step) (a : StepChecker) (n : ℕ) (made : Made) : Type 0 where
+pub record IsStepCheckAt (system : PatternSystem) (f : Core) (first : ℕ) (ss : List Step) (a : StepChecker) (n : ℕ) (made : MadeSoFar) : Type 0 where
   pub checker : IsStepCheckerOf system f first ss a
   pub loop : IsLoopAt system f checker.parts ss a.plans.items a.closures.items a.rooms.items a.scratch a.marks.items n made
 
 -- all its steps are fine
-pub record IsStepCheckDone (system : PatternSystem) (f : Core) (first : ℕ) (ss : List Step) (a : StepChecker) (made : Made) : Type 0 where
+pub record IsStepCheckDone (system : PatternSystem) (f : Core) (first : ℕ) (ss : List Step) (a : StepChecker) (made : MadeSoFar) : Type 0 where
   pub checker : IsStepCheckerOf system f first ss a
   pub loop : IsLoopAt system f checker.parts ss a.plans.items a.closures.items a.rooms.items a.scratch a.marks.items (length ss) made
   pub fine : AreAllFine system checker.parts ss made
@@ -60,7 +60,7 @@ pub record HasFailure (system : PatternSystem) (f : Core) (first : ℕ) (ss : Li
   pub failure : IsFailureAt system f ss behind r.place (as_reason r.reason)
 
 -- the table that is made of a formula
-pub record IsWholeTable (system : PatternSystem) (f : Core) (parts : List Core) (made : Made) (table : Table) : Type 0 where
+pub record IsWholeTable (system : PatternSystem) (f : Core) (parts : List Core) (made : MadeSoFar) (table : Table) : Type 0 where
   pub answer : IsAnswerOf parts made f (OfTable table)
   pub over : IsTableOver system.signature (columns_of f) table
 

@@ -1,10 +1,10 @@
 //! The steps of a certificate, by what they are about.
 ghost use Rattle.std.specs.Prelude.{◌≡◌, ℕ, ◌<◌, ◌^◌, List, Bool, map, length, slice_index_or, IfSome, IfNone, IfOk};
-ghost use Rattle.fort_counts.specs.Counts as counts;
+ghost use Rattle.fort_tables.specs.Counts as counts;
 ghost use Rattle.fort_alike.specs.ListedClosures as closures;
-ghost use Rattle.fort_certificate_grammar.specs.Certificates as theory;
-ghost use Rattle.fort_in_order.specs.Dues as definitions;
-ghost use Rattle.fort_in_order.specs.Made.{same_which};
+ghost use Rattle.fort_certificate_theory.specs.Certificates as theory;
+ghost use Rattle.fort_certificate_theory.specs.Dues as definitions;
+ghost use Rattle.fort_certificate_theory.specs.Made.{same_which};
 ghost use Rattle.fort_findings.specs.FindingView.{as_which, as_count, as_pair};
 ghost use Rattle.fort_steps.specs.StepView.{as_step};
 ghost use Rattle.fort_dues.specs.DueView.{as_due};

@@ -1,16 +1,16 @@
 //! The check of a certificate.
 ghost use Rattle.std.specs.Prelude.{◌≡◌, Bool, map, Some, Err, IfOk, OnOk, IfErr};
 ghost use Rattle.fort_theory.specs.Patterns.{PatternSystem};
-ghost use Rattle.fort_cores.specs.Cores as theory;
-ghost use Rattle.fort_cores.specs.Parts as logic;
-ghost use Rattle.fort_cores.specs.PatternStructures.{pattern_structure};
-ghost use Rattle.fort_certificate_grammar.specs.Certificates as certificates;
+ghost use Rattle.fort_theory.specs.Cores as theory;
+ghost use Rattle.fort_theory.specs.Parts as logic;
+ghost use Rattle.fort_theory.specs.PatternStructures.{pattern_structure};
+ghost use Rattle.fort_certificate_theory.specs.Certificates as certificates;
 ghost use Rattle.fort_formulas.specs.CoreView.{as_core};
 ghost use Rattle.fort_parts.specs.DecidedCores.{IsDecided};
 ghost use Rattle.fort_parts.specs.PartAnswers.{OfValue, IsAnswerTo};
-ghost use Rattle.fort_in_order.specs.Outcomes.{Verdict};
-ghost use Rattle.fort_in_order.specs.Checked as outcomes;
-ghost use Rattle.fort_in_order.specs.Checked.{HasOutcome, last_value};
+ghost use Rattle.fort_certificate_theory.specs.Outcomes.{Verdict};
+ghost use Rattle.fort_certificate_theory.specs.Checked as outcomes;
+ghost use Rattle.fort_certificate_theory.specs.Checked.{HasOutcome, last_value};
 ghost use Rattle.fort_steps.specs.CertificateView.{as_certificate};
 ghost use Rattle.fort_steps.specs.StepView.{as_step};
 ghost use Rattle.fort_cert_checker.specs.OutcomeView.{as_outcome};

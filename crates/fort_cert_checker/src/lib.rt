@@ -14,7 +14,6 @@ mod step_checker;
 mod value;
 
 pub use checker::Checker;
-pub use fort_check_steps::Reason;
 pub use past::accepts_some;
 pub use rejected::Rejected;
 pub use step_checker::{StepChecker, WholeRoom};

@@ -1,10 +1,10 @@
 //! What a check needs, taken before it: the rules of closures, the plans of parts, and room.
 ghost use Rattle.std.specs.Prelude.{◌≡◌, ℕ, ◌<◌, ◌^◌, List, map, length, Contains, Option, true, IfOk, IfSome, IfNone};
 ghost use Rattle.fort_theory.specs.Sides.{IsIndexOf};
-ghost use Rattle.fort_cores.specs.Cores as theory;
+ghost use Rattle.fort_theory.specs.Cores as theory;
 ghost use Rattle.fort_alike.specs.ListedClosures as listed_closures;
-ghost use Rattle.fort_certificate_grammar.specs.Certificates.{Part};
-ghost use Rattle.fort_in_order.specs.Dues as definitions;
+ghost use Rattle.fort_certificate_theory.specs.Certificates.{Part};
+ghost use Rattle.fort_certificate_theory.specs.Dues as definitions;
 ghost use Rattle.fort_outline.specs.Outlines.{IsOutlineOf, parts_in};
 ghost use Rattle.fort_findings.specs.FindingView.{as_which};
 ghost use Rattle.fort_steps.specs.StepView.{as_step};
@@ -28,7 +28,7 @@ use fort_dues::DueStep;
 use fort_findings::Which;
 use fort_infinity::local::many_width;
 use fort_outline::Outline;
-use fort_rrn_algebra::local::project_width;
+use fort_projections::local::project_width;
 use fort_steps::Step;
 use fort_terms::{Memory, System};
 use std::alloc::{AllocError, Global};

@@ -1,6 +1,6 @@
 //! Whether there are numbers of 32 bits for what a check counts.
 ghost use Rattle.std.specs.Prelude.{◌≡◌, ◌↔◌, ℕ, ◌+◌, ◌<◌, ◌^◌, List, map, length, IsTrue};
-ghost use Rattle.fort_certificate_grammar.specs.Certificates.{Part, Merge};
+ghost use Rattle.fort_certificate_theory.specs.Certificates.{Part, Merge};
 ghost use Rattle.fort_steps.specs.StepView.{as_step};
 ghost use Rattle.fort_cert_checker.specs.Fronts.{HasFewTargets};
 

@@ -1,14 +1,14 @@
 //! The check of one step, which is the one due at its place.
 ghost use Rattle.std.specs.Prelude.{◌≡◌, ℕ, ◌+◌, List, map, slice_index_or, OnOk, IfErr};
 ghost use Rattle.fort_theory.specs.Patterns.{PatternSystem};
-ghost use Rattle.fort_cores.specs.Cores as theory;
+ghost use Rattle.fort_theory.specs.Cores as theory;
 ghost use Rattle.fort_alike.specs.ListedClosures as listed_closures;
-ghost use Rattle.fort_certificate_grammar.specs.Certificates as certificates;
+ghost use Rattle.fort_certificate_theory.specs.Certificates as certificates;
 ghost use Rattle.fort_findings.specs.FindingView.{as_pair};
 ghost use Rattle.fort_steps.specs.StepView.{as_step};
-ghost use Rattle.fort_in_order.specs.Dues as definitions;
-ghost use Rattle.fort_in_order.specs.Made.{Made};
-ghost use Rattle.fort_in_order.specs.Checked.{IsClosureJudged, IsFailing};
+ghost use Rattle.fort_certificate_theory.specs.Dues as definitions;
+ghost use Rattle.fort_certificate_theory.specs.Made.{MadeSoFar};
+ghost use Rattle.fort_certificate_theory.specs.Checked.{IsClosureJudged, IsFailing};
 ghost use Rattle.fort_check_steps.specs.StepAnswers.{outcome_of, as_reason};
 ghost use Rattle.fort_check_steps.specs.Room.{IsAsRoomy};
 ghost use Rattle.fort_cert_checker.specs.Abouts.{IsOnlyAbout};
@@ -62,7 +62,7 @@ fn check_own(
     scratch: &mut LabelRoom,
     marks: &mut MarkRoom,
 ) -> Result<(), Failure>
-    requires due { (parts : List theory.Core) × (f : theory.Core) × (made : Made)
+    requires due { (parts : List theory.Core) × (f : theory.Core) × (made : MadeSoFar)
         × IsPartDue given.now parts front.now made f plan.now (as_step step.now) room.old
         scratch.old marks.old }
     ensures fine { OnOk result (WherePartDue given.now front.now plan.now (as_step step.now)
@@ -120,10 +120,10 @@ pub(crate) fn check_step(
     marks: &mut [MarkRoom],
 ) -> Result<(), Failure>
     requires due { (parts : List theory.Core) × (root : theory.Core)
-        × (ss : List certificates.Step) × (made : Made) × IsDueAt given.now closures.old rooms.old
+        × (ss : List certificates.Step) × (made : MadeSoFar) × IsDueAt given.now closures.old rooms.old
         scratch.old marks.old place parts root ss made }
     ensures fine { OnOk result (WhereDue given.now closures.old rooms.old scratch.old marks.old
-        place (λ parts root ss made. (next : Made) × IsLoopOf given.now root parts ss closures.new
+        place (λ parts root ss made. (next : MadeSoFar) × IsLoopOf given.now root parts ss closures.new
         rooms.new scratch.new marks.new (place + 1) next)) }
     ensures failing { IfErr result (λ e. WhereDue given.now closures.old rooms.old scratch.old
         marks.old place (λ parts root ss made. (s : certificates.Step)

@@ -1,18 +1,18 @@
 //! The checks of the tables of parts, by what the parts are.
 ghost use Rattle.std.specs.Prelude.{◌≡◌, ℕ, ◌+◌, ◌*◌, ◌<◌, ◌^◌, List, map, length};
-ghost use Rattle.fort_cores.specs.Cores as theory;
+ghost use Rattle.fort_theory.specs.Cores as theory;
 ghost use Rattle.fort_tables.specs.BitRows.{words_for};
 ghost use Rattle.fort_tables.specs.Tables as tables;
-ghost use Rattle.fort_counts.specs.Counts.{KeepRules, count_at, is_infinite};
-ghost use Rattle.fort_operations.specs.Projections.{ArePure};
+ghost use Rattle.fort_tables.specs.Counts.{KeepRules, count_at, is_infinite};
+ghost use Rattle.fort_tables.specs.Projections.{ArePure};
 ghost use Rattle.fort_parts.specs.PartAnswers as answers;
 ghost use Rattle.fort_connectives.specs.ConnectiveView.{connective_of};
 ghost use Rattle.fort_findings.specs.FindingView.{as_count};
-ghost use Rattle.fort_in_order.specs.PartRules.{project_local, many_local};
+ghost use Rattle.fort_certificate_theory.specs.PartRules.{project_local, many_local};
 ghost use Rattle.fort_context_closure.specs.AtomLabelsView.{word_count};
 ghost use Rattle.fort_check_steps.specs.Room.{HasRoom, HasMergeRoom, HasLabelRoom, IsAsRoomy};
 ghost use Rattle.fort_check_steps.specs.Marks.{HasMarkRoom};
-ghost use Rattle.fort_in_order.specs.Made.{Made};
+ghost use Rattle.fort_certificate_theory.specs.Made.{MadeSoFar};
 ghost use Rattle.fort_cert_checker.specs.AtomPlans.{atom_local};
 ghost use Rattle.fort_cert_checker.specs.Joins.{AreJoined, joined_local};
 ghost use Rattle.fort_cert_checker.specs.OperandLists.{FitsList};
@@ -27,7 +27,7 @@ use fort_connectives::Op;
 use fort_context_closure::{AtomLabels, SignedAtom};
 use fort_findings::Count;
 use fort_infinity::Many;
-use fort_rrn_algebra::Both;
+use fort_products::Both;
 use fort_terms::System;
 
 /// Holds the targets of an atom.
@@ -209,10 +209,10 @@ pub(crate) fn check_table(
     scratch: &mut LabelRoom,
     marks: &mut MarkRoom,
 ) -> Result<(), Failure>
-    requires due { (parts : List theory.Core) × (k : ℕ) × (made : Made) × (f : theory.Core)
+    requires due { (parts : List theory.Core) × (k : ℕ) × (made : MadeSoFar) × (f : theory.Core)
         × IsTableDue system.now parts past.now k made f plan.now targets.now room.old scratch.old
         marks.old }
-    ensures step { (parts : List theory.Core) (k : ℕ) (made : Made) (f : theory.Core)
+    ensures step { (parts : List theory.Core) (k : ℕ) (made : MadeSoFar) (f : theory.Core)
         → IsTableDue system.now parts past.now k made f plan.now targets.now room.old scratch.old
         marks.old → IsTableStep system.now parts k made f targets.now room.new result }
     ensures room { HasRoom targets.now room.new }

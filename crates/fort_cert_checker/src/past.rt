@@ -1,7 +1,7 @@
 //! The answers of earlier parts.
 ghost use Rattle.std.specs.Prelude.{◌≡◌, ℕ, Bool, List, length, IfSome, IfNone};
 ghost use Rattle.fort_tables.specs.Tables as tables;
-ghost use Rattle.fort_operations.specs.Projections.{some_below};
+ghost use Rattle.fort_tables.specs.Projections.{some_below};
 ghost use Rattle.fort_parts.specs.PartAnswers as parts;
 ghost use Rattle.fort_parts.specs.PartSteps.{operand_of};
 ghost use Rattle.fort_target_lists.specs.LayRooms.{HasLayRoom};
@@ -16,9 +16,9 @@ ghost use Rattle.fort_target_lists.specs.declared.target_list.TargetList.{Target
 use crate::about::{targets_of, value_of};
 use crate::plan::{Plan, Source};
 use fort_check_steps::{PartRoom, PartTable};
-use fort_lockstep::Table;
 use fort_products::Operand;
 use fort_steps::Step;
+use fort_table::Table;
 use fort_target_lists::{LayRoom, TargetList};
 use fort_terms::Signature;
 

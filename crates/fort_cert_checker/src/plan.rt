@@ -1,19 +1,19 @@
 //! What each part is checked by, taken from the formula and the certificate before the check.
 ghost use Rattle.std.specs.Prelude.{◌≡◌, ℕ, ◌<◌, ◌^◌, false, List, map, length, Contains, IfOk, IfSome, IfNone};
-ghost use Rattle.fort_cores.specs.Cores.{Binary};
+ghost use Rattle.fort_theory.specs.Cores.{Binary};
 ghost use Rattle.fort_theory.specs.Patterns.{PatternSystem};
 ghost use Rattle.fort_theory.specs.Sides.{IsIndexOf};
-ghost use Rattle.fort_certificate_grammar.specs.Certificates as theory_steps;
-ghost use Rattle.fort_cores.specs.Cores as theory;
+ghost use Rattle.fort_certificate_theory.specs.Certificates as theory_steps;
+ghost use Rattle.fort_theory.specs.Cores as theory;
 ghost use Rattle.fort_relations.specs.RelView.{as_rel};
 ghost use Rattle.fort_outline.specs.LeafView.{as_atom};
-ghost use Rattle.fort_cores.specs.Parts.{HasManyRootsIn};
+ghost use Rattle.fort_theory.specs.Parts.{HasManyRootsIn};
 ghost use Rattle.fort_parts.specs.DecidedCores.{IsAtomOver};
 ghost use Rattle.fort_outline.specs.Outlines.{IsOutlineOf, parts_in, core_at};
 ghost use Rattle.fort_parts.specs.PartColumns.{columns_of, place_in};
 ghost use Rattle.fort_steps.specs.StepView.{as_step};
 ghost use Rattle.fort_connectives.specs.ConnectiveView.{connective_of};
-ghost use Rattle.fort_in_order.specs.Dues as definitions;
+ghost use Rattle.fort_certificate_theory.specs.Dues as definitions;
 ghost use Rattle.fort_cert_checker.specs.Sources.{IsSourceOf, IsTurnedBody};
 ghost use Rattle.fort_cert_checker.specs.Plans.{IsFitPart, IsOperandPlan, IsClosureRead, IsAtomPlan, IsWorkOf, IsPlanOf};
 

@@ -1,12 +1,12 @@
 //! The check of a certificate's steps, which makes the table of the formula where it has columns.
 ghost use Rattle.std.specs.Prelude.{◌≡◌, ℕ, ◌+◌, ◌<◌, List, map, length, IfOk, OnOk, IfErr};
 ghost use Rattle.fort_theory.specs.Patterns.{PatternSystem};
-ghost use Rattle.fort_cores.specs.Cores as theory;
-ghost use Rattle.fort_certificate_grammar.specs.Certificates as certificates;
+ghost use Rattle.fort_theory.specs.Cores as theory;
+ghost use Rattle.fort_certificate_theory.specs.Certificates as certificates;
 ghost use Rattle.fort_formulas.specs.CoreView.{as_core};
 ghost use Rattle.fort_parts.specs.PartColumns.{columns_of};
 ghost use Rattle.fort_parts.specs.DecidedCores.{IsDecided};
-ghost use Rattle.fort_in_order.specs.Made.{Made};
+ghost use Rattle.fort_certificate_theory.specs.Made.{MadeSoFar};
 ghost use Rattle.fort_steps.specs.StepView.{as_step};
 ghost use Rattle.fort_check_steps.specs.Turned.{turned_table};
 ghost use Rattle.fort_cert_checker.specs.OutcomeView.{as_reason};
@@ -101,19 +101,19 @@ impl<'a> StepChecker<'a> {
     /// The step that is due at a place.
     fn check_due(&mut self, place: usize) -> Result<(), Failure>
         requires due { (system : PatternSystem) × (f : theory.Core) × (first : ℕ)
-            × (ss : List certificates.Step) × (made : Made)
+            × (ss : List certificates.Step) × (made : MadeSoFar)
             × IsStepCheckAt system f first ss self.old place made
             × (place < length self.old.dues.items) }
         ensures fine { OnOk result ((system : PatternSystem) (f : theory.Core) (first : ℕ)
-            (ss : List certificates.Step) (made : Made)
+            (ss : List certificates.Step) (made : MadeSoFar)
             → IsStepCheckAt system f first ss self.old place made
-            → (next : Made) × IsStepCheckAt system f first ss self.new (place + 1) next) }
+            → (next : MadeSoFar) × IsStepCheckAt system f first ss self.new (place + 1) next) }
         ensures failing { IfErr result (λ e. (system : PatternSystem) (f : theory.Core) (first : ℕ)
-            (ss : List certificates.Step) (made : Made)
+            (ss : List certificates.Step) (made : MadeSoFar)
             → IsStepCheckAt system f first ss self.old place made
             → IsFailureAt system f ss place e.place (as_reason e.reason)) }
         ensures same { (system : PatternSystem) (f : theory.Core) (first : ℕ)
-            (ss : List certificates.Step) (made : Made)
+            (ss : List certificates.Step) (made : MadeSoFar)
             → IsStepCheckAt system f first ss self.old place made
             → IsStepCheckerOf system f first ss self.new }
         ensures first { self.new.first ≡ self.old.first }
@@ -148,7 +148,7 @@ impl<'a> StepChecker<'a> {
             × (ss : List certificates.Step) × IsStepCheckerOf system f first ss self.old }
         ensures fine { OnOk result ((system : PatternSystem) (f : theory.Core) (first : ℕ)
             (ss : List certificates.Step) → IsStepCheckerOf system f first ss self.old
-            → (made : Made) × IsStepCheckDone system f first ss self.new made) }
+            → (made : MadeSoFar) × IsStepCheckDone system f first ss self.new made) }
         ensures failing { IfErr result (λ r. (system : PatternSystem) (f : theory.Core) (first : ℕ)
             (ss : List certificates.Step) → IsStepCheckerOf system f first ss self.old
             → HasFailure system f first ss r) }
@@ -177,10 +177,10 @@ impl<'a> StepChecker<'a> {
     /// The table of the formula, which has columns, behind a check that found no failure.
     pub fn whole(&self) -> PartTable<'_>
         requires { (system : PatternSystem) × (f : theory.Core) × (first : ℕ)
-            × (ss : List certificates.Step) × (made : Made)
+            × (ss : List certificates.Step) × (made : MadeSoFar)
             × IsStepCheckDone system f first ss self.now made × (0 < length (columns_of f)) }
         ensures table { (system : PatternSystem) (f : theory.Core) (first : ℕ)
-            (ss : List certificates.Step) (made : Made)
+            (ss : List certificates.Step) (made : MadeSoFar)
             → (done : IsStepCheckDone system f first ss self.now made) → 0 < length (columns_of f)
             → IsWholeTable system f done.checker.parts made (turned_table result) }
         ensures room { (list : TargetList) (lay : LayRoom) → FitsWhole self.now list lay

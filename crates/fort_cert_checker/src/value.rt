@@ -1,15 +1,15 @@
 //! The checks of a part's value and of its marks.
 ghost use Rattle.std.specs.Prelude.{◌≡◌, ℕ, ◌<◌, List, map, length, OnOk, IfErr};
 ghost use Rattle.fort_theory.specs.Patterns.{PatternSystem};
-ghost use Rattle.fort_cores.specs.Cores as theory;
+ghost use Rattle.fort_theory.specs.Cores as theory;
 ghost use Rattle.fort_tables.specs.Tables as tables;
-ghost use Rattle.fort_counts.specs.Counts.{count_at, is_infinite};
-ghost use Rattle.fort_counts.specs.ManyLabels.{many_value as many_value_lem};
-ghost use Rattle.fort_operations.specs.Projections.{ArePure};
+ghost use Rattle.fort_tables.specs.Counts.{count_at, is_infinite};
+ghost use Rattle.fort_tables.specs.ManyLabels.{many_value as many_value_lem};
+ghost use Rattle.fort_tables.specs.Projections.{ArePure};
 ghost use Rattle.fort_findings.specs.FindingView.{as_count};
-ghost use Rattle.fort_in_order.specs.Made.{Made};
-ghost use Rattle.fort_in_order.specs.PartRules.{IsValueOf};
-ghost use Rattle.fort_in_order.specs.Checked.{IsCountJudged};
+ghost use Rattle.fort_certificate_theory.specs.Made.{MadeSoFar};
+ghost use Rattle.fort_certificate_theory.specs.PartRules.{IsValueOf};
+ghost use Rattle.fort_certificate_theory.specs.Checked.{IsCountJudged};
 ghost use Rattle.fort_check_steps.specs.StepAnswers.{outcome_of};
 ghost use Rattle.fort_check_steps.specs.Marks.{HasMarkRoom};
 ghost use Rattle.fort_cert_checker.specs.Pasts.{IsTableAt, IsMarkRoomFor, steps_of};
@@ -48,9 +48,9 @@ fn accepts_many(
 /// The value of a part without columns.
 fn own_value(plan: &Plan, past: &Past<'_>, marks: &mut MarkRoom) -> bool
     requires due { (system : PatternSystem) × (parts : List theory.Core) × (k : ℕ)
-        × (made : Made) × (f : theory.Core) × IsValueDue system parts past.now k made f plan.now
+        × (made : MadeSoFar) × (f : theory.Core) × IsValueDue system parts past.now k made f plan.now
         marks.old }
-    ensures value { (system : PatternSystem) (parts : List theory.Core) (k : ℕ) (made : Made)
+    ensures value { (system : PatternSystem) (parts : List theory.Core) (k : ℕ) (made : MadeSoFar)
         (f : theory.Core) → IsValueDue system parts past.now k made f plan.now marks.old
         → IsValueOf parts made k f result }
     ensures marks { (states count : ℕ) → HasMarkRoom states count marks.old
@@ -83,13 +83,13 @@ pub(crate) fn check_value(
     marks: &mut MarkRoom,
 ) -> Result<(), Failure>
     requires due { (system : PatternSystem) × (parts : List theory.Core) × (k : ℕ)
-        × (made : Made) × (f : theory.Core) × IsValueDue system parts past.now k made f plan.now
+        × (made : MadeSoFar) × (f : theory.Core) × IsValueDue system parts past.now k made f plan.now
         marks.old }
     ensures fine { OnOk result ((system : PatternSystem) (parts : List theory.Core) (k : ℕ)
-        (made : Made) (f : theory.Core) → IsValueDue system parts past.now k made f plan.now
+        (made : MadeSoFar) (f : theory.Core) → IsValueDue system parts past.now k made f plan.now
         marks.old → IsValueOf parts made k f value) }
     ensures failing { IfErr result (λ e. (system : PatternSystem) (parts : List theory.Core)
-        (k : ℕ) (made : Made) (f : theory.Core) → IsValueDue system parts past.now k made f
+        (k : ℕ) (made : MadeSoFar) (f : theory.Core) → IsValueDue system parts past.now k made f
         plan.now marks.old → IsOtherValue parts made k f value e) }
     ensures marks { (states count : ℕ) → HasMarkRoom states count marks.old
         → HasMarkRoom states count marks.new }
@@ -110,13 +110,13 @@ pub(crate) fn check_counts(
     marks: &mut MarkRoom,
 ) -> Result<(), Failure>
     requires due { (system : PatternSystem) × (parts : List theory.Core) × (k : ℕ)
-        × (made : Made) × (f : theory.Core) × AreCountsDue system parts past.now k made f plan.now
+        × (made : MadeSoFar) × (f : theory.Core) × AreCountsDue system parts past.now k made f plan.now
         (map as_count counts.now) marks.old }
-    ensures judged { (system : PatternSystem) (parts : List theory.Core) (k : ℕ) (made : Made)
+    ensures judged { (system : PatternSystem) (parts : List theory.Core) (k : ℕ) (made : MadeSoFar)
         (f : theory.Core) → AreCountsDue system parts past.now k made f plan.now
         (map as_count counts.now) marks.old
         → IsCountJudged parts made k (map as_count counts.now) (outcome_of result) }
-    ensures marks { (system : PatternSystem) (parts : List theory.Core) (k : ℕ) (made : Made)
+    ensures marks { (system : PatternSystem) (parts : List theory.Core) (k : ℕ) (made : MadeSoFar)
         (f : theory.Core) → AreCountsDue system parts past.now k made f plan.now
         (map as_count counts.now) marks.old
         → IsMarkRoomFor (steps_of past.now) plan.now.work marks.new }

@@ -6,12 +6,12 @@ use Rattle.std.proofs.lemmas.Option.{slice_get_within, get_or_from_slice_get}
 use Rattle.std.proofs.lemmas.Slice.Zip.{all_zipped_more}
 use Rattle.fort_grammar.specs.Forms.{Form}
 use Rattle.fort_grammar.specs.Declarations.{word_of, elements_of, IsHeaded}
-use Rattle.fort_counts.specs.Counts.{Count}
+use Rattle.fort_tables.specs.Counts.{Count}
 use Rattle.fort_alike.specs.ListedClosures.{Which, Pair}
-use Rattle.fort_certificate_grammar.specs.Certificates.{Closure, Part, Merge, Counts, Value}
-use Rattle.fort_certificate_grammar.specs.CertificateForms.{Version, tells_index, has_merges, which_word, verdict_word, IsNumberForm, IsPairForm, IsCountForm, IsStepForm, ClosureForm, IndexedForm, PartForm, MergeForm, CountsForm, ValueForm}
-use Rattle.fort_certificate_grammar.specs.CertificateFaults.{ClosureHead, PartHead, MergeHead, CountsHead, ValueHead, head_word}
-use Rattle.fort_certificate_grammar.proofs.StepSlots.{same_parts}
+use Rattle.fort_certificate_theory.specs.Certificates.{Closure, Part, Merge, Counts, Value}
+use Rattle.fort_certificate_theory.specs.CertificateForms.{Version, tells_index, has_merges, which_word, verdict_word, IsNumberForm, IsPairForm, IsCountForm, IsStepForm, ClosureForm, IndexedForm, PartForm, MergeForm, CountsForm, ValueForm}
+use Rattle.fort_certificate_theory.specs.CertificateFaults.{ClosureHead, PartHead, MergeHead, CountsHead, ValueHead, head_word}
+use Rattle.fort_certificate_theory.proofs.StepSlots.{same_parts}
 use Rattle.fort_certificate.specs.Checking.{between}
 
 pub between_none : {A : Type 0} (from : ℕ) (xs : List A) → between from from xs ≡ []

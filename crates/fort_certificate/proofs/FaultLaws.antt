@@ -1,6 +1,6 @@
 -- Faults of the program, and those of the definitions that they are.
 use Rattle.std.proofs.Common.{◌≡◌, None, Some, IfSome, sym, subst}
-use Rattle.fort_certificate_grammar.specs.CertificateFaults as grammar
+use Rattle.fort_certificate_theory.specs.CertificateFaults as grammar
 use Rattle.fort_certificate.specs.declared.fault.CertificateFault.{CertificateFault}
 use Rattle.fort_certificate.specs.declared.fault.CertificateFault.TheVariants.{Memory, BadForm, BadNumber, Version}
 use Rattle.fort_certificate.specs.Faults.{as_fault, IsFault}

@@ -2,9 +2,9 @@
 use Rattle.std.proofs.Common.{◌≡◌, ℕ, Bool, List, [], ◌∷◌, codes, subst}
 use Rattle.fort_grammar.specs.Forms.{Form}
 use Rattle.fort_grammar.specs.Declarations.{IsListOfWords}
-use Rattle.fort_certificate_grammar.specs.CertificateForms.{Version, version_word, IsVersionOf, verdict_word, IsNumberWord}
-use Rattle.fort_certificate_grammar.specs.CertificateFaults.{BadForm, BadNumber, OtherVersion, IsNoNumber, IsBadHeader, NoHeader, NoVersion, WrongVersion, WrongVerdict}
-use Rattle.fort_certificate_grammar.proofs.OneCertificate.{list_words_one}
+use Rattle.fort_certificate_theory.specs.CertificateForms.{Version, version_word, IsVersionOf, verdict_word, IsNumberWord}
+use Rattle.fort_certificate_theory.specs.CertificateFaults.{BadForm, BadNumber, OtherVersion, IsNoNumber, IsBadHeader, NoHeader, NoVersion, WrongVersion, WrongVerdict}
+use Rattle.fort_certificate_theory.proofs.OneCertificate.{list_words_one}
 
 first_of_three : {A : Type 0} (a b c x y z : A) → a ∷ b ∷ c ∷ [] ≡ x ∷ y ∷ z ∷ [] → a ≡ x
 first_of_three a b c x y z h = cc

@@ -4,17 +4,17 @@ use Rattle.std.proofs.lemmas.List.{map_more, take_more, length-map, length-take-
 use Rattle.std.proofs.lemmas.Option.{slice_get_within, get_or_from_slice_get}
 use Rattle.fort_tables.specs.Entries.{Entry}
 use Rattle.fort_alike.specs.ListedClosures.{Which}
-use Rattle.fort_certificate_grammar.specs.Certificates.{Step, Closure, Part, Merge, Counts}
-use Rattle.fort_certificate_grammar.specs.CertificateForms.{Version, tells_index, which_word}
-use Rattle.fort_certificate_grammar.specs.CertificateText.{Element, spaced, in_parentheses, element_text, number_element, pair_element, count_element, index_elements, line_of, step_elements, steps_text}
+use Rattle.fort_certificate_theory.specs.Certificates.{Step, Closure, Part, Merge, Counts}
+use Rattle.fort_certificate_theory.specs.CertificateForms.{Version, tells_index, which_word}
+use Rattle.fort_certificate_theory.specs.CertificateText.{Element, spaced, in_parentheses, element_text, number_element, pair_element, count_element, index_elements, line_of, step_elements, steps_text}
 use Rattle.fort_findings.specs.declared.closure.ClosureEntry.{ClosureEntry}
 use Rattle.fort_findings.specs.declared.count.Count.{Count}
 use Rattle.fort_steps.specs.declared.step.Step as step
 use Rattle.fort_findings.specs.FindingView.{as_pair, as_count}
 use Rattle.fort_steps.specs.StepView.{as_step}
-use Rattle.fort_open_certificates.specs.OpenCertificates.{Claim, Found, Empty}
-use Rattle.fort_open_certificates.specs.OpenForms.{claim_word, step_version}
-use Rattle.fort_open_certificates.specs.OpenText.{symbol_word, node_elements, open_header_elements, nodes_text, open_text}
+use Rattle.fort_certificate_theory.specs.OpenCertificates.{Claim, Found, Empty}
+use Rattle.fort_certificate_theory.specs.OpenForms.{claim_word, step_version}
+use Rattle.fort_certificate_theory.specs.OpenText.{symbol_word, node_elements, open_header_elements, nodes_text, open_text}
 use Rattle.fort_certificate.specs.Lines.{tails, gap}
 
 spaced_tails : (w : List ℕ) (ws : List (List ℕ)) → spaced (w ∷ ws) ≡ w ++ tails ws

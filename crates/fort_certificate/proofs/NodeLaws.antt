@@ -6,14 +6,14 @@ use Rattle.fort_grammar.specs.Forms.{Form}
 use Rattle.fort_grammar.specs.Declarations.{word_of, elements_of, IsHeaded}
 use Rattle.fort_tables.specs.Tuples.{TupleSymbol}
 use Rattle.fort_tables.specs.Entries.{Entry, entry}
-use Rattle.fort_certificate_grammar.specs.CertificateForms.{IsNumberForm}
-use Rattle.fort_certificate_grammar.specs.CertificateFaults as grammar
-use Rattle.fort_certificate_grammar.specs.CertificateFaults.{FaultKind, fault_of, IsBadAt, NumberSlot, AreBad, HereOfRest, LaterOfRest}
-use Rattle.fort_certificate_grammar.specs.FilledSlots.{FitAll}
-use Rattle.fort_certificate_grammar.proofs.StepSlots.{same_parts}
-use Rattle.fort_open_certificates.specs.OpenForms.{absent_word, node_word, AbsentWord, SymbolWord, IsSymbolForm, IsTupleSymbolForm, IsNodeForm}
-use Rattle.fort_open_certificates.specs.OpenFaults.{IsBadSymbol, NoWord, NoSymbol, IsBadTupleSymbol, BadColumn, IsBadNode, WithoutSymbol, InSymbol, InKids}
-use Rattle.fort_open_certificates.proofs.NodeForms.{node_headed, node_not_bad}
+use Rattle.fort_certificate_theory.specs.CertificateForms.{IsNumberForm}
+use Rattle.fort_certificate_theory.specs.CertificateFaults as grammar
+use Rattle.fort_certificate_theory.specs.CertificateFaults.{FaultKind, fault_of, IsBadAt, NumberSlot, AreBad, HereOfRest, LaterOfRest}
+use Rattle.fort_certificate_theory.specs.FilledSlots.{FitAll}
+use Rattle.fort_certificate_theory.proofs.StepSlots.{same_parts}
+use Rattle.fort_certificate_theory.specs.OpenForms.{absent_word, node_word, AbsentWord, SymbolWord, IsSymbolForm, IsTupleSymbolForm, IsNodeForm}
+use Rattle.fort_certificate_theory.specs.OpenFaults.{IsBadSymbol, NoWord, NoSymbol, IsBadTupleSymbol, BadColumn, IsBadNode, WithoutSymbol, InSymbol, InKids}
+use Rattle.fort_certificate_theory.proofs.NodeForms.{node_headed, node_not_bad}
 use Rattle.fort_certificate.specs.Checking.{between}
 use Rattle.fort_certificate.proofs.BuildLaws.{between_more}
 use Rattle.fort_certificate.proofs.SmallLaws.{all_push}

@@ -3,7 +3,7 @@ use Rattle.std.proofs.Common.{◌≡◌, ℕ, zero, suc, ◌<◌, ◌^◌, List,
 use Rattle.std.specs.Str.Parse.{AllDigits, digits_value}
 use Rattle.std.proofs.lemmas.Str.Parse.{IsNumeralModel, numerals_by_value, tells_digits}
 use Rattle.std.proofs.lemmas.Fmt.{decimal-digits_value, digits_decimal, digits_value-decimal, decimal_nonempty, decimal_digit, first_decimal}
-use Rattle.fort_certificate_grammar.specs.CertificateForms.{IsNumberWord}
+use Rattle.fort_certificate_theory.specs.CertificateForms.{IsNumberWord}
 use Rattle.fort_sexpr.specs.FormView.{IsDigitWord}
 
 own : IsNumeralModel (AllDigits 10) (digits_value 10)

@@ -11,18 +11,18 @@ use Rattle.fort_tables.specs.Entries.{Entry}
 use Rattle.fort_sexpr.specs.Progress.{IsReadUpTo}
 use Rattle.fort_sexpr.proofs.FormLists.{joined, joined-none}
 use Rattle.fort_sexpr.proofs.Ends.{AreFormsOf-read}
-use Rattle.fort_certificate_grammar.specs.Certificates.{Step, Closure, Part, Merge, Counts, Value}
-use Rattle.fort_certificate_grammar.specs.CertificateForms.{IsStepForm}
-use Rattle.fort_certificate_grammar.specs.CertificateText.{Element, line_of, number_element, step_elements, steps_text, IsSmall, CanBeWritten}
-use Rattle.fort_certificate_grammar.proofs.Spelled.{Spells}
+use Rattle.fort_certificate_theory.specs.Certificates.{Step, Closure, Part, Merge, Counts, Value}
+use Rattle.fort_certificate_theory.specs.CertificateForms.{IsStepForm}
+use Rattle.fort_certificate_theory.specs.CertificateText.{Element, line_of, number_element, step_elements, steps_text, IsSmall, CanBeWritten}
+use Rattle.fort_certificate_theory.proofs.Spelled.{Spells}
 use Rattle.fort_certificate_texts.proofs.TextWords.{IsWritten, IsAt, at_length, at_past, written_number}
 use Rattle.fort_certificate_texts.proofs.TextLines.{IsWrittenElement, joined-one, line_at}
 use Rattle.fort_certificate_texts.proofs.WrittenWords.{step_written}
 use Rattle.fort_certificate_texts.proofs.Fronts.{front_read}
-use Rattle.fort_open_certificates.specs.OpenAgain.{IsOpenReadAgain}
-use Rattle.fort_open_certificates.specs.OpenCertificates.{Claim, Found, Empty}
-use Rattle.fort_open_certificates.specs.OpenForms.{step_version, claim_word, IsNodeForm}
-use Rattle.fort_open_certificates.specs.OpenText.{symbol_word, node_elements, open_header_elements, nodes_text, open_text, IsSmallSymbol, CanNodeBeWritten}
+use Rattle.fort_certificate_theory.specs.OpenAgain.{IsOpenReadAgain}
+use Rattle.fort_certificate_theory.specs.OpenCertificates.{Claim, Found, Empty}
+use Rattle.fort_certificate_theory.specs.OpenForms.{step_version, claim_word, IsNodeForm}
+use Rattle.fort_certificate_theory.specs.OpenText.{symbol_word, node_elements, open_header_elements, nodes_text, open_text, IsSmallSymbol, CanNodeBeWritten}
 use Rattle.fort_certificate.specs.Again.{HasSmallNumbers}
 use Rattle.fort_certificate.specs.OpenWriting.{IsOpenReadBehind, IsTextFor}
 use Rattle.fort_certificate.proofs.SpelledSteps.{step_again, node_again, header_again}

@@ -2,12 +2,12 @@
 use Rattle.std.proofs.Common.{◌≡◌, ℕ, List, [], ◌∷◌, codes, subst}
 use Rattle.fort_grammar.specs.Forms.{Form}
 use Rattle.fort_grammar.specs.Declarations.{IsListOfWords}
-use Rattle.fort_certificate_grammar.specs.CertificateForms.{IsNumberWord}
-use Rattle.fort_certificate_grammar.specs.CertificateFaults.{BadForm, BadNumber, OtherVersion, IsNoNumber}
-use Rattle.fort_certificate_grammar.proofs.OneCertificate.{list_words_one}
-use Rattle.fort_open_certificates.specs.OpenCertificates.{Claim}
-use Rattle.fort_open_certificates.specs.OpenForms.{claim_word, open_version_word}
-use Rattle.fort_open_certificates.specs.OpenFaults.{IsBadOpenHeader, NoHeader, NoVersion, WrongVersion, WrongClaim}
+use Rattle.fort_certificate_theory.specs.CertificateForms.{IsNumberWord}
+use Rattle.fort_certificate_theory.specs.CertificateFaults.{BadForm, BadNumber, OtherVersion, IsNoNumber}
+use Rattle.fort_certificate_theory.proofs.OneCertificate.{list_words_one}
+use Rattle.fort_certificate_theory.specs.OpenCertificates.{Claim}
+use Rattle.fort_certificate_theory.specs.OpenForms.{claim_word, open_version_word}
+use Rattle.fort_certificate_theory.specs.OpenFaults.{IsBadOpenHeader, NoHeader, NoVersion, WrongVersion, WrongClaim}
 
 first_of_three : {A : Type 0} (a b c x y z : A) → a ∷ b ∷ c ∷ [] ≡ x ∷ y ∷ z ∷ [] → a ≡ x
 first_of_three a b c x y z h = cc

@@ -5,13 +5,13 @@ use Rattle.std.proofs.lemmas.List.{drop-drop, drop_all, length-drop, length-take
 use Rattle.fort_grammar.specs.Forms.{Form}
 use Rattle.fort_grammar.specs.Declarations.{IsHeaded}
 use Rattle.fort_tables.specs.Entries.{Entry}
-use Rattle.fort_certificate_grammar.specs.Certificates.{Step}
-use Rattle.fort_certificate_grammar.specs.CertificateForms.{IsStepForm}
-use Rattle.fort_certificate_grammar.specs.CertificateFaults as grammar
-use Rattle.fort_certificate_grammar.specs.CertificateFaults.{CertificateFault}
-use Rattle.fort_open_certificates.specs.OpenCertificates.{Claim}
-use Rattle.fort_open_certificates.specs.OpenForms.{step_version, node_word, IsNodeForm, IsOpenHeaderForm, IsOpenCertificate}
-use Rattle.fort_open_certificates.specs.OpenFaults.{IsBadNode, IsBadOpenHeader, IsFirstOpenFault, WithoutHeader, InHeader, InStep, InNode}
+use Rattle.fort_certificate_theory.specs.Certificates.{Step}
+use Rattle.fort_certificate_theory.specs.CertificateForms.{IsStepForm}
+use Rattle.fort_certificate_theory.specs.CertificateFaults as grammar
+use Rattle.fort_certificate_theory.specs.CertificateFaults.{CertificateFault}
+use Rattle.fort_certificate_theory.specs.OpenCertificates.{Claim}
+use Rattle.fort_certificate_theory.specs.OpenForms.{step_version, node_word, IsNodeForm, IsOpenHeaderForm, IsOpenCertificate}
+use Rattle.fort_certificate_theory.specs.OpenFaults.{IsBadNode, IsBadOpenHeader, IsFirstOpenFault, WithoutHeader, InHeader, InStep, InNode}
 use Rattle.fort_certificate.specs.Checking.{AreSomeSteps, HasBadStep, between}
 use Rattle.fort_certificate.specs.NodeChecking.{HasBadNode}
 use Rattle.fort_certificate.proofs.StepsLaws.{header_split}

@@ -2,9 +2,9 @@
 use Rattle.std.proofs.Common.{◌≡◌, ℕ, zero, suc, ◌+◌, ◌<◌, ◌≤◌, List, [], ◌∷◌, map, length, get_or, drop, Option, None, Some, refl, ap, sym, ◌∙◌, subst, arith}
 use Rattle.std.proofs.lemmas.List.{drop_more, drop_all, nil_from_length}
 use Rattle.fort_grammar.specs.Forms.{Form}
-use Rattle.fort_certificate_grammar.specs.CertificateFaults as grammar
-use Rattle.fort_certificate_grammar.specs.CertificateFaults.{Fits, IsBadAt, AreBad, Absent, Here, Later, Extra, HereOfRest, LaterOfRest}
-use Rattle.fort_certificate_grammar.specs.FilledSlots.{FitAll}
+use Rattle.fort_certificate_theory.specs.CertificateFaults as grammar
+use Rattle.fort_certificate_theory.specs.CertificateFaults.{Fits, IsBadAt, AreBad, Absent, Here, Later, Extra, HereOfRest, LaterOfRest}
+use Rattle.fort_certificate_theory.specs.FilledSlots.{FitAll}
 use Rattle.fort_certificate.specs.declared.slot.Slot.{Slot}
 use Rattle.fort_certificate.specs.ReadView.{as_slot, slot_at}
 

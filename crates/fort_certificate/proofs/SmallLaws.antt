@@ -3,7 +3,7 @@ use Rattle.std.proofs.Common.{ℕ, suc, ◌+◌, ◌<◌, ◌^◌, List, [], ◌
 use Rattle.std.specs.List.{AllByRecursion}
 use Rattle.std.proofs.lemmas.List.{map_more, take_more}
 use Rattle.std.proofs.lemmas.Option.{slice_get_within, get_or_from_slice_get}
-use Rattle.fort_certificate_grammar.specs.CertificateText.{IsSmall}
+use Rattle.fort_certificate_theory.specs.CertificateText.{IsSmall}
 
 pub all_small : (ns : List ℕ) → ((i : ℕ) → get_or ns i 0 < 2 ^ 32) → AllByRecursion IsSmall ns
 all_small [] h = tt

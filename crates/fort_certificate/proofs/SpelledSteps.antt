@@ -1,19 +1,19 @@
 -- Forms that spell the elements of steps with merges, or of nodes, are these.
 use Rattle.std.proofs.Common.{◌≡◌, ℕ, List, [], ◌∷◌, map, Option, None, Some, decimal, refl}
 use Rattle.std.specs.List.{AllByRecursion, AllZip}
-use Rattle.fort_counts.specs.Counts.{Count, Finite, Infinite}
+use Rattle.fort_tables.specs.Counts.{Count, Finite, Infinite}
 use Rattle.fort_grammar.specs.Forms.{Form}
 use Rattle.fort_grammar.specs.Declarations.{word_of, elements_of, AreWords, IsListOfWords}
 use Rattle.fort_tables.specs.Tuples.{TupleSymbol}
 use Rattle.fort_tables.specs.Entries.{Entry}
 use Rattle.fort_alike.specs.ListedClosures.{Why, Any, Kids, Rule, Pair}
-use Rattle.fort_certificate_grammar.specs.Certificates.{Step, Closure, Part, Merge, Counts, Value}
-use Rattle.fort_certificate_grammar.specs.CertificateForms.{IsNumberForm, IsWhyWord, AnyWord, KidsWord, RuleWord, IsPairForm, IsCountForm, FiniteForm, InfiniteForm, IsStepForm, IndexedForm, PartForm, MergeForm, CountsForm, ValueForm}
-use Rattle.fort_certificate_grammar.specs.CertificateText.{Element, number_element, why_word, pair_element, count_element, step_elements, IsSmall, IsSmallWhy, IsSmallPair, IsSmallCount}
-use Rattle.fort_certificate_grammar.proofs.Spelled.{SpellsElement, Spells}
-use Rattle.fort_open_certificates.specs.OpenCertificates.{Claim}
-use Rattle.fort_open_certificates.specs.OpenForms.{step_version, AbsentWord, SymbolWord, IsSymbolForm, IsTupleSymbolForm, IsNodeForm, IsOpenHeaderForm}
-use Rattle.fort_open_certificates.specs.OpenText.{symbol_word, node_elements, open_header_elements, IsSmallSymbol, CanNodeBeWritten}
+use Rattle.fort_certificate_theory.specs.Certificates.{Step, Closure, Part, Merge, Counts, Value}
+use Rattle.fort_certificate_theory.specs.CertificateForms.{IsNumberForm, IsWhyWord, AnyWord, KidsWord, RuleWord, IsPairForm, IsCountForm, FiniteForm, InfiniteForm, IsStepForm, IndexedForm, PartForm, MergeForm, CountsForm, ValueForm}
+use Rattle.fort_certificate_theory.specs.CertificateText.{Element, number_element, why_word, pair_element, count_element, step_elements, IsSmall, IsSmallWhy, IsSmallPair, IsSmallCount}
+use Rattle.fort_certificate_theory.proofs.Spelled.{SpellsElement, Spells}
+use Rattle.fort_certificate_theory.specs.OpenCertificates.{Claim}
+use Rattle.fort_certificate_theory.specs.OpenForms.{step_version, AbsentWord, SymbolWord, IsSymbolForm, IsTupleSymbolForm, IsNodeForm, IsOpenHeaderForm}
+use Rattle.fort_certificate_theory.specs.OpenText.{symbol_word, node_elements, open_header_elements, IsSmallSymbol, CanNodeBeWritten}
 use Rattle.fort_certificate.specs.Again.{HasSmallNumbers}
 
 -- forms that spell elements, each as what it stands for

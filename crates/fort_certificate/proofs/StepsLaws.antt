@@ -10,12 +10,12 @@ use Rattle.fort_grammar.specs.Declarations.{as_list, elements_of, IsHeaded}
 use Rattle.fort_sexpr.specs.FormCode.{node_count, node_counts}
 use Rattle.fort_sexpr.specs.FormView.{form_count, form_at}
 use Rattle.fort_sexpr.proofs.FormLists.{node_counts-AreForms}
-use Rattle.fort_certificate_grammar.specs.Certificates.{Step}
-use Rattle.fort_certificate_grammar.specs.CertificateForms.{Version, IsVersionOf, IsStepForm, IsHeaderForm, IsCertificate}
-use Rattle.fort_certificate_grammar.specs.CertificateFaults as grammar
-use Rattle.fort_certificate_grammar.specs.CertificateFaults.{CertificateFault, FaultKind, fault_of, StepHead, head_word, is_head_of, slots_of, rest_of, AreBad, IsBadStep, BadElement, IsBadHeader, IsFirstCertificateFault, WithoutHeader, InHeader, InStep}
-use Rattle.fort_certificate_grammar.specs.FilledSlots.{FitAll}
-use Rattle.fort_certificate_grammar.proofs.StepSlots.{step_from_filled}
+use Rattle.fort_certificate_theory.specs.Certificates.{Step}
+use Rattle.fort_certificate_theory.specs.CertificateForms.{Version, IsVersionOf, IsStepForm, IsHeaderForm, IsCertificate}
+use Rattle.fort_certificate_theory.specs.CertificateFaults as grammar
+use Rattle.fort_certificate_theory.specs.CertificateFaults.{CertificateFault, FaultKind, fault_of, StepHead, head_word, is_head_of, slots_of, rest_of, AreBad, IsBadStep, BadElement, IsBadHeader, IsFirstCertificateFault, WithoutHeader, InHeader, InStep}
+use Rattle.fort_certificate_theory.specs.FilledSlots.{FitAll}
+use Rattle.fort_certificate_theory.proofs.StepSlots.{step_from_filled}
 use Rattle.fort_certificate.specs.Checking.{IsSomeStep, HasFirstBad, HasBadStep, between}
 
 -- the forms of a text as a list

@@ -2,11 +2,11 @@
 use Rattle.std.proofs.Common.{◌≡◌, ℕ, List, [], ◌∷◌, Some, codes, subst}
 use Rattle.fort_grammar.specs.Forms.{Form}
 use Rattle.fort_grammar.specs.Declarations.{elements_of, AreWords, IsListOfWords}
-use Rattle.fort_counts.specs.Counts.{Finite, Infinite}
+use Rattle.fort_tables.specs.Counts.{Finite, Infinite}
 use Rattle.fort_alike.specs.ListedClosures.{Pair}
-use Rattle.fort_certificate_grammar.specs.CertificateForms.{IsNumberWord, IsWhyWord, IsPairForm, IsCountForm, FiniteForm, InfiniteForm}
-use Rattle.fort_certificate_grammar.specs.CertificateFaults.{CountSlot, IsNoNumber, AsNumber, IsBadAt, FiniteNumber, InfiniteNumber}
-use Rattle.fort_certificate_grammar.proofs.OneCertificate.{list_words_one}
+use Rattle.fort_certificate_theory.specs.CertificateForms.{IsNumberWord, IsWhyWord, IsPairForm, IsCountForm, FiniteForm, InfiniteForm}
+use Rattle.fort_certificate_theory.specs.CertificateFaults.{CountSlot, IsNoNumber, AsNumber, IsBadAt, FiniteNumber, InfiniteNumber}
+use Rattle.fort_certificate_theory.proofs.OneCertificate.{list_words_one}
 
 pub two_elements : (bytes : List ℕ) (f : Form) (u v : List ℕ) → IsListOfWords bytes f (u ∷ v ∷ [])
     → (a : Form) × (b : Form) × (elements_of f ≡ Some (a ∷ b ∷ []))

@@ -2,10 +2,10 @@
 use Rattle.std.proofs.Common.{◌≡◌, ℕ, Bool, true, if◌then◌else◌, List, [], ◌∷◌, Option, None, Some, refl, ap, sym, ◌∙◌, subst}
 use Rattle.fort_grammar.specs.Forms.{Form}
 use Rattle.fort_grammar.specs.Declarations.{word_of, elements_of, IsHeaded}
-use Rattle.fort_certificate_grammar.specs.CertificateForms.{Version, tells_index}
-use Rattle.fort_certificate_grammar.specs.CertificateFaults as grammar
-use Rattle.fort_certificate_grammar.specs.CertificateFaults.{FaultKind, AsForm, fault_of, WhichSlot, NumberSlot, PairSlot, ClosureHead, Fits, IsBadAt, AreBad, Absent, Here, Later, Extra, HereOfRest, LaterOfRest, head_word, is_head_of, IsBadStep, BadElement}
-use Rattle.fort_certificate_grammar.proofs.StepSlots.{same_parts}
+use Rattle.fort_certificate_theory.specs.CertificateForms.{Version, tells_index}
+use Rattle.fort_certificate_theory.specs.CertificateFaults as grammar
+use Rattle.fort_certificate_theory.specs.CertificateFaults.{FaultKind, AsForm, fault_of, WhichSlot, NumberSlot, PairSlot, ClosureHead, Fits, IsBadAt, AreBad, Absent, Here, Later, Extra, HereOfRest, LaterOfRest, head_word, is_head_of, IsBadStep, BadElement}
+use Rattle.fort_certificate_theory.proofs.StepSlots.{same_parts}
 use Rattle.fort_certificate.specs.declared.slot.Head.{Head}
 use Rattle.fort_certificate.specs.ReadView.{as_head}
 use Rattle.fort_certificate.specs.Checking.{AreBadElementsOf}

@@ -3,10 +3,10 @@ use Rattle.std.specs.Prelude.{ℕ, Bool, List, ◌∷◌, ◌++◌, length}
 use Rattle.std.specs.List.{AllByRecursion}
 use Rattle.fort_grammar.specs.Forms.{Forms, AreFormsOf}
 use Rattle.fort_grammar.specs.Declarations.{as_list}
-use Rattle.fort_certificate_grammar.specs.Certificates.{Step, Closure, Part, Merge, Counts, Value}
-use Rattle.fort_certificate_grammar.specs.CertificateForms.{Version, IsVersionOf}
-use Rattle.fort_certificate_grammar.specs.CertificateText.{CanBeWritten, IsSmall, IsSmallPair, IsSmallCount}
-use Rattle.fort_certificate_grammar.specs.CertificateAgain.{IsReadAgain}
+use Rattle.fort_certificate_theory.specs.Certificates.{Step, Closure, Part, Merge, Counts, Value}
+use Rattle.fort_certificate_theory.specs.CertificateForms.{Version, IsVersionOf}
+use Rattle.fort_certificate_theory.specs.CertificateText.{CanBeWritten, IsSmall, IsSmallPair, IsSmallCount}
+use Rattle.fort_certificate_theory.specs.CertificateAgain.{IsReadAgain}
 
 -- an LF stands between them; behind a problem of any number of systems of which this is a version
 abbrev pub IsReadBehind : Version → Bool → List Step → List ℕ → Type 0

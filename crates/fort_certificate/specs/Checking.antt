@@ -3,9 +3,9 @@ use Rattle.std.specs.Prelude.{◌≡◌, ℕ, ◌+◌, ◌-◌, true, List, ◌�
 use Rattle.std.specs.List.{AllZip}
 use Rattle.fort_grammar.specs.Forms.{Form}
 use Rattle.fort_grammar.specs.Declarations.{elements_of, IsHeaded}
-use Rattle.fort_certificate_grammar.specs.Certificates.{Step}
-use Rattle.fort_certificate_grammar.specs.CertificateForms.{Version, IsStepForm}
-use Rattle.fort_certificate_grammar.specs.CertificateFaults.{CertificateFault, FaultKind, StepHead, head_word, is_head_of, slots_of, rest_of, AreBad, IsBadStep}
+use Rattle.fort_certificate_theory.specs.Certificates.{Step}
+use Rattle.fort_certificate_theory.specs.CertificateForms.{Version, IsStepForm}
+use Rattle.fort_certificate_theory.specs.CertificateFaults.{CertificateFault, FaultKind, StepHead, head_word, is_head_of, slots_of, rest_of, AreBad, IsBadStep}
 
 abbrev pub IsSomeStep : List ℕ → Version → Form → Type 0
 IsSomeStep bytes version f = (s : Step) × IsStepForm bytes version f s

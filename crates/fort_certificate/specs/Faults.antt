@@ -1,6 +1,6 @@
 -- To believe: which fault of the definitions a fault of the program is. Want of memory is none.
 use Rattle.std.specs.Prelude.{Option, None, Some}
-use Rattle.fort_certificate_grammar.specs.CertificateFaults as grammar
+use Rattle.fort_certificate_theory.specs.CertificateFaults as grammar
 use Rattle.fort_certificate.specs.declared.fault.CertificateFault.{CertificateFault}
 use Rattle.fort_certificate.specs.declared.fault.CertificateFault.TheVariants.{Memory, BadForm, BadNumber, Version}
 

@@ -4,9 +4,9 @@ use Rattle.std.specs.List.{AllZip}
 use Rattle.fort_grammar.specs.Forms.{Form}
 use Rattle.fort_tables.specs.Tuples.{TupleSymbol}
 use Rattle.fort_tables.specs.Entries.{Entry}
-use Rattle.fort_certificate_grammar.specs.CertificateFaults.{CertificateFault}
-use Rattle.fort_open_certificates.specs.OpenForms.{IsTupleSymbolForm, IsNodeForm}
-use Rattle.fort_open_certificates.specs.OpenFaults.{IsBadNode}
+use Rattle.fort_certificate_theory.specs.CertificateFaults.{CertificateFault}
+use Rattle.fort_certificate_theory.specs.OpenForms.{IsTupleSymbolForm, IsNodeForm}
+use Rattle.fort_certificate_theory.specs.OpenFaults.{IsBadNode}
 use Rattle.fort_certificate.specs.Checking.{HasFirstBad}
 
 abbrev pub IsSomeTupleSymbol : List ℕ → Form → Type 0

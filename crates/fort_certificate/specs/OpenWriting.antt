@@ -4,10 +4,10 @@ use Rattle.std.specs.List.{AllByRecursion}
 use Rattle.fort_grammar.specs.Forms.{Forms, AreFormsOf}
 use Rattle.fort_grammar.specs.Declarations.{as_list}
 use Rattle.fort_tables.specs.Entries.{Entry}
-use Rattle.fort_certificate_grammar.specs.Certificates.{Step}
-use Rattle.fort_open_certificates.specs.OpenAgain.{IsOpenReadAgain}
-use Rattle.fort_open_certificates.specs.OpenCertificates.{Claim}
-use Rattle.fort_open_certificates.specs.OpenText.{open_text, CanNodeBeWritten}
+use Rattle.fort_certificate_theory.specs.Certificates.{Step}
+use Rattle.fort_certificate_theory.specs.OpenAgain.{IsOpenReadAgain}
+use Rattle.fort_certificate_theory.specs.OpenCertificates.{Claim}
+use Rattle.fort_certificate_theory.specs.OpenText.{open_text, CanNodeBeWritten}
 use Rattle.fort_certificate.specs.Again.{HasSmallNumbers}
 
 -- an LF stands between them

@@ -1,6 +1,6 @@
 -- Inside: which slots, heads and kinds of faults those of the program are.
 use Rattle.std.specs.Prelude.{ℕ, zero, suc, List, [], ◌∷◌, Option, None, Some}
-use Rattle.fort_certificate_grammar.specs.CertificateFaults as grammar
+use Rattle.fort_certificate_theory.specs.CertificateFaults as grammar
 use Rattle.fort_certificate.specs.declared.value.Wrong.{Wrong}
 use Rattle.fort_certificate.specs.declared.value.Wrong.TheVariants.{Form}
 use Rattle.fort_certificate.specs.declared.value.Wrong.TheVariants as wrongs

@@ -1,5 +1,5 @@
 -- To believe: which version of the definitions a version of the program is.
-use Rattle.fort_certificate_grammar.specs.CertificateForms as grammar
+use Rattle.fort_certificate_theory.specs.CertificateForms as grammar
 use Rattle.fort_certificate.specs.declared.version.Version.{Version}
 use Rattle.fort_certificate.specs.declared.version.Version.TheVariants.{OfOne, OfSeveral, OfReduced}
 

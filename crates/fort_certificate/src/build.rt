@@ -3,8 +3,8 @@ ghost use Rattle.std.specs.Prelude.{◌≡◌, ℕ, ◌^◌, ◌≤◌, List, []
 ghost use Rattle.std.specs.List.{AllZip};
 ghost use Rattle.fort_grammar.specs.Declarations.{as_list};
 ghost use Rattle.fort_grammar.specs.Forms as grammar;
-ghost use Rattle.fort_certificate_grammar.specs.CertificateForms.{Version as GrammarVersion, IsNumberForm, IsPairForm, IsCountForm, IsStepForm};
-ghost use Rattle.fort_certificate_grammar.specs.CertificateFaults.{NumberSlot, PairSlot, CountSlot, ClosureHead, PartHead, MergeHead, CountsHead, ValueHead, fault_of, AreBad, IsBadAt, IsBadStep};
+ghost use Rattle.fort_certificate_theory.specs.CertificateForms.{Version as GrammarVersion, IsNumberForm, IsPairForm, IsCountForm, IsStepForm};
+ghost use Rattle.fort_certificate_theory.specs.CertificateFaults.{NumberSlot, PairSlot, CountSlot, ClosureHead, PartHead, MergeHead, CountsHead, ValueHead, fault_of, AreBad, IsBadAt, IsBadStep};
 ghost use Rattle.fort_sexpr.specs.FormView.{form_count};
 ghost use Rattle.fort_findings.specs.FindingView.{as_pair, as_count};
 ghost use Rattle.fort_steps.specs.StepView.{as_step};

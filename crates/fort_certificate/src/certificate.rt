@@ -1,9 +1,9 @@
 //! Reads a certificate.
 ghost use Rattle.std.specs.Prelude.{IfOk, IfErr, IfSome, IsErrOf};
 ghost use Rattle.fort_grammar.specs.Declarations.{as_list};
-ghost use Rattle.fort_certificate_grammar.specs.Certificates as certificates;
-ghost use Rattle.fort_certificate_grammar.specs.CertificateForms.{IsCertificate};
-ghost use Rattle.fort_certificate_grammar.specs.CertificateFaults.{IsFirstCertificateFault};
+ghost use Rattle.fort_certificate_theory.specs.Certificates as certificates;
+ghost use Rattle.fort_certificate_theory.specs.CertificateForms.{IsCertificate};
+ghost use Rattle.fort_certificate_theory.specs.CertificateFaults.{IsFirstCertificateFault};
 ghost use Rattle.fort_steps.specs.CertificateView.{as_certificate};
 ghost use Rattle.fort_certificate.specs.declared.fault.CertificateFault.TheVariants.{Memory};
 ghost use Rattle.fort_certificate.specs.Faults.{as_fault};

@@ -1,9 +1,9 @@
 //! Finds the first fault of forms that are no certificate, without memory.
 ghost use Rattle.std.specs.Prelude.{◌≡◌, ℕ, ◌^◌, ◌<◌, ◌≤◌, Some, map, drop, length, IfSome, IfNone, IfOk, IfErr};
 ghost use Rattle.fort_grammar.specs.Declarations.{as_list};
-ghost use Rattle.fort_certificate_grammar.specs.CertificateForms.{Version as GrammarVersion, version_word, IsVersionOf, IsHeaderForm};
-ghost use Rattle.fort_certificate_grammar.specs.CertificateFaults.{fault_of, AreBad, IsBadStep, IsBadHeader};
-ghost use Rattle.fort_certificate_grammar.specs.FilledSlots.{FitAll};
+ghost use Rattle.fort_certificate_theory.specs.CertificateForms.{Version as GrammarVersion, version_word, IsVersionOf, IsHeaderForm};
+ghost use Rattle.fort_certificate_theory.specs.CertificateFaults.{fault_of, AreBad, IsBadStep, IsBadHeader};
+ghost use Rattle.fort_certificate_theory.specs.FilledSlots.{FitAll};
 ghost use Rattle.fort_sexpr.specs.FormView.{form_count, word_ahead};
 ghost use Rattle.fort_certificate.specs.Faults.{as_fault, IsFault};
 ghost use Rattle.fort_certificate.specs.Checking.{IsSomeStep, AreSomeSteps, HasBadStep, between};

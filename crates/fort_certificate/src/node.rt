@@ -2,10 +2,10 @@
 ghost use Rattle.std.specs.Prelude.{◌≡◌, ℕ, ◌≤◌, map, drop, IfOk, IfErr};
 ghost use Rattle.std.specs.List.{AllZip};
 ghost use Rattle.fort_grammar.specs.Declarations.{as_list};
-ghost use Rattle.fort_certificate_grammar.specs.CertificateFaults.{fault_of};
-ghost use Rattle.fort_open_certificates.specs.OpenForms.{IsSymbolForm, IsTupleSymbolForm, IsNodeForm};
-ghost use Rattle.fort_open_certificates.specs.OpenFaults.{IsBadSymbol, IsBadTupleSymbol, IsBadNode};
-ghost use Rattle.fort_open_steps.specs.OpenView.{as_node};
+ghost use Rattle.fort_certificate_theory.specs.CertificateFaults.{fault_of};
+ghost use Rattle.fort_certificate_theory.specs.OpenForms.{IsSymbolForm, IsTupleSymbolForm, IsNodeForm};
+ghost use Rattle.fort_certificate_theory.specs.OpenFaults.{IsBadSymbol, IsBadTupleSymbol, IsBadNode};
+ghost use Rattle.fort_steps.specs.OpenView.{as_node};
 ghost use Rattle.fort_sexpr.specs.FormView.{form_count};
 ghost use Rattle.fort_certificate.specs.Faults.{IsFault};
 ghost use Rattle.fort_certificate.specs.NodeChecking.{IsSomeTupleSymbol, IsSomeNode, AreSomeNodes, HasBadNode};
@@ -16,8 +16,8 @@ use crate::check::{check_elements, fault_at};
 use crate::fault::CertificateFault;
 use crate::slot::Slot;
 use crate::value::{Wrong, number_in};
-use fort_open_steps::Node;
 use fort_sexpr::{Form, Forms};
+use fort_steps::Node;
 use std::alloc::{AllocError, Global};
 
 /// The symbol of a column, or none where the word is `-`.

@@ -3,10 +3,10 @@ ghost use Rattle.std.specs.Prelude.{◌≡◌, ◌≤◌, Some, slice_get, IfSom
 ghost use Rattle.std.specs.List.{AllByRecursion};
 ghost use Rattle.fort_grammar.specs.Forms as grammar;
 ghost use Rattle.fort_grammar.specs.Declarations.{as_list, IsHeaded};
-ghost use Rattle.fort_open_certificates.specs.OpenCertificates as certificates;
-ghost use Rattle.fort_open_certificates.specs.OpenForms.{claim_word, node_word, IsOpenHeaderForm, IsOpenCertificate};
-ghost use Rattle.fort_open_certificates.specs.OpenFaults.{IsBadOpenHeader, IsFirstOpenFault};
-ghost use Rattle.fort_open_steps.specs.OpenView.{as_claim, as_open};
+ghost use Rattle.fort_certificate_theory.specs.OpenCertificates as certificates;
+ghost use Rattle.fort_certificate_theory.specs.OpenForms.{claim_word, node_word, IsOpenHeaderForm, IsOpenCertificate};
+ghost use Rattle.fort_certificate_theory.specs.OpenFaults.{IsBadOpenHeader, IsFirstOpenFault};
+ghost use Rattle.fort_steps.specs.OpenView.{as_claim, as_open};
 ghost use Rattle.fort_sexpr.specs.FormView.{form_count, word_ahead};
 ghost use Rattle.fort_certificate.specs.declared.fault.CertificateFault.TheVariants.{Memory};
 ghost use Rattle.fort_certificate.specs.Checking.{between};
@@ -19,8 +19,8 @@ use crate::node::{check_nodes, nodes};
 use crate::value::three_words;
 use crate::version::Version;
 use crate::word::number_ahead;
-use fort_open_steps::{Claim, OpenCertificate};
 use fort_sexpr::{Form, Forms, is_ahead};
+use fort_steps::{Claim, OpenCertificate};
 use std::alloc::Global;
 
 /// The claim that a word is, by the bytes from its first one on.

@@ -1,11 +1,11 @@
 //! Writes a certificate of an open formula.
 ghost use Rattle.std.specs.Prelude.{◌≡◌, ◌++◌, ◌<◌, ◌^◌, [], map, length, OnOk, IfOk, IfSome, IfNone};
 ghost use Rattle.std.specs.List.{AllByRecursion};
-ghost use Rattle.fort_certificate_grammar.specs.CertificateText.{spaced, line_of};
-ghost use Rattle.fort_open_certificates.specs.OpenCertificates as certificates;
-ghost use Rattle.fort_open_certificates.specs.OpenForms.{claim_word};
-ghost use Rattle.fort_open_certificates.specs.OpenText.{symbol_word, node_elements, open_header_elements, nodes_text, open_text as open_text_lem, IsSmallSymbol, CanNodeBeWritten};
-ghost use Rattle.fort_open_steps.specs.OpenView.{as_claim};
+ghost use Rattle.fort_certificate_theory.specs.CertificateText.{spaced, line_of};
+ghost use Rattle.fort_certificate_theory.specs.OpenCertificates as certificates;
+ghost use Rattle.fort_certificate_theory.specs.OpenForms.{claim_word};
+ghost use Rattle.fort_certificate_theory.specs.OpenText.{symbol_word, node_elements, open_header_elements, nodes_text, open_text as open_text_lem, IsSmallSymbol, CanNodeBeWritten};
+ghost use Rattle.fort_steps.specs.OpenView.{as_claim};
 ghost use Rattle.fort_steps.specs.StepView.{as_step};
 ghost use Rattle.fort_tuple_symbols.specs.Columns.{as_column};
 ghost use Rattle.fort_certificate.specs.Again.{HasSmallNumbers};
@@ -15,9 +15,8 @@ ghost use Rattle.fort_certificate.specs.OpenWriting.{IsTextFor};
 use crate::version::Version;
 use crate::words::push_digits;
 use crate::write::{push_numbers, push_steps};
-use fort_lockstep::Dag;
-use fort_open_steps::Claim;
-use fort_steps::Step;
+use fort_steps::{Claim, Step};
+use fort_table::Dag;
 use fort_terms::{Memory, Sym};
 use fort_tuple_symbols::Row;
 use std::alloc::{AllocError, Global};

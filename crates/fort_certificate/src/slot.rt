@@ -1,7 +1,7 @@
 //! What stands at which place of a step, and what is wrong there.
 ghost use Rattle.std.specs.Prelude.{◌≡◌, true, map, IfSome, IfNone, IfOk, IfErr};
 ghost use Rattle.fort_grammar.specs.Declarations.{IsHeaded};
-ghost use Rattle.fort_certificate_grammar.specs.CertificateFaults.{StepHead, ClosureHead, head_word, is_head_of, slots_of, rest_of, Fits, IsBadAt};
+ghost use Rattle.fort_certificate_theory.specs.CertificateFaults.{StepHead, ClosureHead, head_word, is_head_of, slots_of, rest_of, Fits, IsBadAt};
 ghost use Rattle.fort_certificate.specs.ReadView.{as_kind, as_slot, as_last, as_head, slot_at};
 ghost use Rattle.fort_certificate.specs.VersionView.{as_version};
 

@@ -2,8 +2,8 @@
 ghost use Rattle.std.specs.Prelude.{◌≡◌, ℕ, Bool, List, [], ◌∷◌, Some, IfSome, IfNone, IfOk, IfErr};
 ghost use Rattle.fort_grammar.specs.Declarations.{word_of, IsListOfWords};
 ghost use Rattle.fort_alike.specs.ListedClosures as closures;
-ghost use Rattle.fort_certificate_grammar.specs.CertificateForms.{which_word, verdict_word, IsNumberForm, IsWhyWord, IsPairForm, IsCountForm};
-ghost use Rattle.fort_certificate_grammar.specs.CertificateFaults.{WhichSlot, NumberSlot, VerdictSlot, PairSlot, CountSlot, Fits, IsBadAt};
+ghost use Rattle.fort_certificate_theory.specs.CertificateForms.{which_word, verdict_word, IsNumberForm, IsWhyWord, IsPairForm, IsCountForm};
+ghost use Rattle.fort_certificate_theory.specs.CertificateFaults.{WhichSlot, NumberSlot, VerdictSlot, PairSlot, CountSlot, Fits, IsBadAt};
 ghost use Rattle.fort_sexpr.specs.FormView.{word_ahead};
 ghost use Rattle.fort_findings.specs.FindingView.{as_which, as_why, as_pair, as_count};
 ghost use Rattle.fort_certificate.specs.ReadView.{as_kind};

@@ -1,6 +1,6 @@
 //! The versions of certificates.
 ghost use Rattle.std.specs.Prelude.{◌≡◌};
-ghost use Rattle.fort_certificate_grammar.specs.CertificateForms.{version_for, version_word, tells_index as tells_index_lem, has_merges as has_merges_lem};
+ghost use Rattle.fort_certificate_theory.specs.CertificateForms.{version_for, version_word, tells_index as tells_index_lem, has_merges as has_merges_lem};
 ghost use Rattle.fort_certificate.specs.VersionView.{as_version};
 
 /// A version of certificates.

@@ -1,7 +1,7 @@
 //! Which words are numbers. A word is told by the bytes of the text from its first one on.
 ghost use Rattle.std.specs.Prelude.{IfSome, IfNone};
-ghost use Rattle.fort_certificate_grammar.specs.CertificateForms.{IsNumberWord};
-ghost use Rattle.fort_certificate_grammar.specs.CertificateFaults.{IsNoNumber};
+ghost use Rattle.fort_certificate_theory.specs.CertificateForms.{IsNumberWord};
+ghost use Rattle.fort_certificate_theory.specs.CertificateFaults.{IsNoNumber};
 ghost use Rattle.fort_sexpr.specs.FormView.{word_ahead, IsWritten};
 
 use fort_sexpr::{Digits, digits_ahead};

@@ -1,7 +1,7 @@
 //! The words of a certificate, each behind a blank.
 ghost use Rattle.std.specs.Prelude.{◌≡◌, ◌∷◌, ◌++◌, decimal, OnOk};
-ghost use Rattle.fort_certificate_grammar.specs.CertificateForms.{version_word, verdict_word, which_word};
-ghost use Rattle.fort_certificate_grammar.specs.CertificateText.{why_word, IsSmall, IsSmallWhy};
+ghost use Rattle.fort_certificate_theory.specs.CertificateForms.{version_word, verdict_word, which_word};
+ghost use Rattle.fort_certificate_theory.specs.CertificateText.{why_word, IsSmall, IsSmallWhy};
 ghost use Rattle.fort_findings.specs.FindingView.{as_which, as_why};
 ghost use Rattle.fort_certificate.specs.VersionView.{as_version};
 

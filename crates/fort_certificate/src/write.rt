@@ -1,7 +1,7 @@
 //! Writes a certificate.
 ghost use Rattle.std.specs.Prelude.{◌≡◌, ◌++◌, ◌∷◌, map, decimal, OnOk, IfOk};
-ghost use Rattle.fort_certificate_grammar.specs.Certificates as certificates;
-ghost use Rattle.fort_certificate_grammar.specs.CertificateText.{line_of, element_text, pair_element, count_element, index_elements, step_elements, header_elements, steps_text, certificate_text, IsSmall, IsSmallPair, IsSmallCount};
+ghost use Rattle.fort_certificate_theory.specs.Certificates as certificates;
+ghost use Rattle.fort_certificate_theory.specs.CertificateText.{line_of, element_text, pair_element, count_element, index_elements, step_elements, header_elements, steps_text, certificate_text, IsSmall, IsSmallPair, IsSmallCount};
 ghost use Rattle.std.specs.List.{AllByRecursion};
 ghost use Rattle.fort_findings.specs.FindingView.{as_which, as_pair, as_count};
 ghost use Rattle.fort_steps.specs.StepView.{as_step};

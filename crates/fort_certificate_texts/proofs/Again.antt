@@ -8,14 +8,14 @@ use Rattle.fort_grammar.specs.Declarations.{as_list}
 use Rattle.fort_sexpr.specs.Progress.{IsReadUpTo}
 use Rattle.fort_sexpr.proofs.FormLists.{joined, joined-none}
 use Rattle.fort_sexpr.proofs.Ends.{read_nothing, AreFormsOf-read}
-use Rattle.fort_certificate_grammar.specs.Certificates.{Step, Certificate}
-use Rattle.fort_certificate_grammar.specs.CertificateForms.{Version, IsVersionOf}
-use Rattle.fort_certificate_grammar.specs.CertificateText.{line_of, step_elements, header_elements, steps_text, certificate_text, CanBeWritten}
-use Rattle.fort_certificate_grammar.specs.CertificateAgain.{IsReadAgain}
+use Rattle.fort_certificate_theory.specs.Certificates.{Step, Certificate}
+use Rattle.fort_certificate_theory.specs.CertificateForms.{Version, IsVersionOf}
+use Rattle.fort_certificate_theory.specs.CertificateText.{line_of, step_elements, header_elements, steps_text, certificate_text, CanBeWritten}
+use Rattle.fort_certificate_theory.specs.CertificateAgain.{IsReadAgain}
 use Rattle.fort_certificate_texts.proofs.TextWords.{IsAt, at_length, at_past}
 use Rattle.fort_certificate_texts.proofs.TextLines.{joined-one, line_at}
 use Rattle.fort_certificate_texts.proofs.WrittenWords.{step_written, header_written}
-use Rattle.fort_certificate_grammar.proofs.Spelled.{SpellSteps, certificate_again}
+use Rattle.fort_certificate_theory.proofs.Spelled.{SpellSteps, certificate_again}
 use Rattle.fort_certificate_texts.proofs.Fronts.{front_read}
 
 list-joined : (fs gs : Forms) → as_list (joined fs gs) ≡ as_list fs ++ as_list gs

@@ -8,10 +8,10 @@ use Rattle.fort_grammar.specs.Declarations.{as_list, word_of, elements_of, AreWo
 use Rattle.fort_sexpr.specs.Progress.{Level, IsReadUpTo}
 use Rattle.fort_sexpr.proofs.FormLists.{joined, joined-none}
 use Rattle.fort_sexpr.proofs.Steps.{read_blank, read_open, read_close}
-use Rattle.fort_certificate_grammar.specs.CertificateText as text
-use Rattle.fort_certificate_grammar.specs.CertificateText.{Element, Group, spaced, in_parentheses, element_text, line_of}
+use Rattle.fort_certificate_theory.specs.CertificateText as text
+use Rattle.fort_certificate_theory.specs.CertificateText.{Element, Group, spaced, in_parentheses, element_text, line_of}
 use Rattle.fort_certificate_texts.proofs.TextWords.{IsWritten, IsBreak, IsAt, at_length, at_past, at_first, at_front, text_word, word_again}
-use Rattle.fort_certificate_grammar.proofs.Spelled.{SpellsElement, Spells}
+use Rattle.fort_certificate_theory.proofs.Spelled.{SpellsElement, Spells}
 
 abbrev pub IsWrittenElement : Element → Type 0
 IsWrittenElement (text.Word w) = IsWritten w

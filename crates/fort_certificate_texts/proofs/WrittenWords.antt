@@ -2,11 +2,11 @@
 use Rattle.std.proofs.Common.{◌≡◌, ℕ, zero, suc, ◌<◌, Bool, true, false, if◌then◌else◌, ◌&&◌, List, [], ◌∷◌, ◌++◌, map, length, get_or, codes, decimal, refl, arith}
 use Rattle.std.specs.List.{AllByRecursion, list_all}
 use Rattle.fort_theory.specs.Signatures.{is_word_byte}
-use Rattle.fort_counts.specs.Counts.{Count, Finite, Infinite}
+use Rattle.fort_tables.specs.Counts.{Count, Finite, Infinite}
 use Rattle.fort_alike.specs.ListedClosures.{Which, Star, Conv, Why, Any, Kids, Rule, Pair}
-use Rattle.fort_certificate_grammar.specs.Certificates.{Step, Closure, Part, Merge, Counts, Value}
-use Rattle.fort_certificate_grammar.specs.CertificateForms.{Version, OfOne, OfSeveral, OfReduced, version_word, tells_index, verdict_word, which_word}
-use Rattle.fort_certificate_grammar.specs.CertificateText.{number_element, why_word, pair_element, count_element, step_elements, header_elements, IsSmall, IsSmallWhy, IsSmallPair, IsSmallCount, CanBeWritten}
+use Rattle.fort_certificate_theory.specs.Certificates.{Step, Closure, Part, Merge, Counts, Value}
+use Rattle.fort_certificate_theory.specs.CertificateForms.{Version, OfOne, OfSeveral, OfReduced, version_word, tells_index, verdict_word, which_word}
+use Rattle.fort_certificate_theory.specs.CertificateText.{number_element, why_word, pair_element, count_element, step_elements, header_elements, IsSmall, IsSmallWhy, IsSmallPair, IsSmallCount, CanBeWritten}
 use Rattle.fort_certificate_texts.proofs.TextWords.{IsWritten, written_number}
 use Rattle.fort_certificate_texts.proofs.TextLines.{IsWrittenElement}
 

@@ -2,7 +2,7 @@
 use Rattle.std.proofs.Common.{◌≡◌, ℕ, ◌<◌, List, length, get_or, Result, Err, OnErr, refl, ap, sym, subst}
 use Rattle.fort_tables.specs.Entries.{Entry}
 use Rattle.fort_tables.specs.Tables.{Table}
-use Rattle.fort_interchange.specs.MergeOutcomes.{IsClassAt, AreClassesTo, IsWholeAt, AreEntriesOf, WrongCount, WrongClass, IsSplitAt, NotAsMany, NotOfClass, NotWhole}
+use Rattle.fort_tables.specs.MergeOutcomes.{IsClassAt, AreClassesTo, IsWholeAt, AreEntriesOf, WrongCount, WrongClass, IsSplitAt, NotAsMany, NotOfClass, NotWhole}
 use Rattle.fort_check_merges.specs.MergeAnswers.{IsAnswer}
 use Rattle.fort_check_steps.specs.StepAnswers.{outcome_of}
 use Rattle.fort_check_steps.specs.declared.failure.Failure.{Failure}

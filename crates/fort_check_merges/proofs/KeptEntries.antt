@@ -12,13 +12,13 @@ use Rattle.fort_tables.specs.Entries.{Entry, entry, stage, LexBefore, ComesBefor
 use Rattle.fort_tables.specs.Tables.{Table, Listed, listed_table, IsListed, IsTableEntry, same_states}
 use Rattle.fort_tables.proofs.EntryLaws.{same_states-itself, states_from_same}
 use Rattle.fort_tables.proofs.OrderLaws.{kid_below}
-use Rattle.fort_laid_entries.proofs.OrderedLists.{All-from_members, AllPairs-weaker, AllPairs-map}
-use Rattle.fort_interchange.specs.Merges.{class_of, first_of, count_of, leader, lifted, AreNumbered, IsMerge, merged}
-use Rattle.fort_interchange.specs.MergeOutcomes.{AreEntriesOf}
-use Rattle.fort_interchange.proofs.NumberedClasses.{first_class, class_within}
-use Rattle.fort_interchange.proofs.CoarsestLaws.{new_class}
-use Rattle.fort_interchange.proofs.MergeLaws.{IsTableEntry-lifted, presence-class, class_count}
-use Rattle.fort_interchange.proofs.ClassOrderLaws.{classed}
+use Rattle.fort_tables.proofs.OrderedLists.{All-from_members, AllPairs-weaker, AllPairs-map}
+use Rattle.fort_tables.specs.Merges.{class_of, first_of, count_of, leader, lifted, AreNumbered, IsMerge, merged}
+use Rattle.fort_tables.specs.MergeOutcomes.{AreEntriesOf}
+use Rattle.fort_tables.proofs.NumberedClasses.{first_class, class_within}
+use Rattle.fort_tables.proofs.CoarsestLaws.{new_class}
+use Rattle.fort_tables.proofs.MergeLaws.{IsTableEntry-lifted, presence-class, class_count}
+use Rattle.fort_tables.proofs.ClassOrderLaws.{classed}
 use Rattle.fort_check_merges.specs.KeptTargets.{is_led, kept_target, kept_targets}
 
 -- the entries over first states, as entries over classes

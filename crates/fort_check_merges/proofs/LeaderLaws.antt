@@ -5,9 +5,9 @@ use Rattle.std.proofs.lemmas.List.{length_push, get_or_push, get_or_append_left,
 use Rattle.fort_tables.specs.Entries.{stage}
 use Rattle.fort_tables.specs.Tables.{Table}
 use Rattle.fort_tables.proofs.OrderLaws.{kid_below}
-use Rattle.fort_interchange.specs.Merges.{class_of, first_of, count_of, leader}
-use Rattle.fort_interchange.specs.MergeOutcomes.{IsClassAt}
-use Rattle.fort_interchange.proofs.NumberedClasses.{stage-push, first_below, class_of-leader, class_within}
+use Rattle.fort_tables.specs.Merges.{class_of, first_of, count_of, leader}
+use Rattle.fort_tables.specs.MergeOutcomes.{IsClassAt}
+use Rattle.fort_tables.proofs.NumberedClasses.{stage-push, first_below, class_of-leader, class_within}
 use Rattle.fort_check_merges.specs.Leaders.{AreLeadersTo, ArePlaces}
 
 pub leaders_none : (classes : List ℕ) → AreLeadersTo classes 0 []

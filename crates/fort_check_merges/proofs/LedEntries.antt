@@ -4,9 +4,9 @@ use Rattle.std.proofs.lemmas.List.{length-map, get_or-map, get_or-take, length-t
 use Rattle.fort_tables.specs.Tuples.{TupleSymbol}
 use Rattle.fort_tables.specs.Entries.{Entry, entry}
 use Rattle.fort_tables.specs.Tables.{Table, IsTableEntry}
-use Rattle.fort_interchange.specs.Merges.{class_of, leader, led}
-use Rattle.fort_interchange.specs.MergeOutcomes.{AreClassesTo}
-use Rattle.fort_interchange.proofs.NumberedClasses.{leader_within}
+use Rattle.fort_tables.specs.Merges.{class_of, leader, led}
+use Rattle.fort_tables.specs.MergeOutcomes.{AreClassesTo}
+use Rattle.fort_tables.proofs.NumberedClasses.{leader_within}
 use Rattle.fort_check_merges.specs.KeptTargets.{is_led, kept_target}
 use Rattle.fort_check_merges.proofs.KeptEntries.{led_kids, led_from_kids}
 

@@ -7,12 +7,12 @@ use Rattle.fort_tables.specs.Tables.{Table, Listed, listed_table, IsListed}
 use Rattle.fort_tables.proofs.NumberLaws.{first_before_greater}
 use Rattle.fort_tables.proofs.OrderLaws.{kid_below}
 use Rattle.fort_tables.proofs.TupleLaws.{length-tabulate, get_or-tabulate}
-use Rattle.fort_laid_entries.specs.Laid.{all_entries}
-use Rattle.fort_laid_entries.proofs.AllEntries.{entries_unique}
-use Rattle.fort_interchange.specs.Merges.{class_of, count_of, merged, IsMerge}
-use Rattle.fort_interchange.specs.MergeOutcomes.{AreEntriesOf}
-use Rattle.fort_interchange.proofs.MergeLaws.{presence-class, class_count}
-use Rattle.fort_in_order.specs.MergeSteps.{listed_merge}
+use Rattle.fort_tables.specs.Laid.{all_entries}
+use Rattle.fort_tables.proofs.AllEntries.{entries_unique}
+use Rattle.fort_tables.specs.Merges.{class_of, count_of, merged, IsMerge}
+use Rattle.fort_tables.specs.MergeOutcomes.{AreEntriesOf}
+use Rattle.fort_tables.proofs.MergeLaws.{presence-class, class_count}
+use Rattle.fort_certificate_theory.specs.MergeSteps.{listed_merge}
 use Rattle.fort_check_merges.specs.KeptTargets.{is_led, kept_targets}
 use Rattle.fort_check_merges.specs.Leaders.{AreLeadersTo}
 use Rattle.fort_check_merges.proofs.KeptEntries.{kept, entries_kept, targets_kept}

@@ -13,12 +13,12 @@ use Rattle.fort_tables.proofs.EqualTests.{equal_from_test, apart_from_test}
 use Rattle.fort_tables.proofs.OrderLaws.{before_irrefl, before_trans}
 use Rattle.fort_tables.proofs.TupleLaws.{tuple_induction, fold_tuple-step, IsTuple-kid, length-tabulate, get_or-tabulate}
 use Rattle.fort_tables.proofs.TableLaws.{entry_of}
-use Rattle.fort_interchange.specs.Merges.{count_of, merged, IsMerge}
-use Rattle.fort_interchange.specs.MergeOutcomes.{AreEntriesOf}
-use Rattle.fort_in_order.specs.MergeSteps.{listed_merge}
-use Rattle.fort_interchange.proofs.SeparationLaws.{IsTableEntry-states}
-use Rattle.fort_interchange.proofs.MergeLaws.{IsTable-merged, IsReached-merged, class_count}
-use Rattle.fort_interchange.proofs.ClassOrderLaws.{class_given_before}
+use Rattle.fort_tables.specs.Merges.{count_of, merged, IsMerge}
+use Rattle.fort_tables.specs.MergeOutcomes.{AreEntriesOf}
+use Rattle.fort_certificate_theory.specs.MergeSteps.{listed_merge}
+use Rattle.fort_tables.proofs.SeparationLaws.{IsTableEntry-states}
+use Rattle.fort_tables.proofs.MergeLaws.{IsTable-merged, IsReached-merged, class_count}
+use Rattle.fort_tables.proofs.ClassOrderLaws.{class_given_before}
 
 module _ (l : Listed) (classes : List ℕ) (is : IsListed l) (m : IsMerge (listed_table l) classes) (es : List Entry) (are : AreEntriesOf (merged (listed_table l) classes) es) where
   abbrev over : Table

@@ -2,11 +2,11 @@
 use Rattle.std.proofs.Common.{◌≡◌, ℕ, ◌<◌, ◌≤◌, List, Bool, length, get_or, IsTrue, IsFalse, if◌then◌else◌, ap, sym, ◌∙◌, arith, subst}
 use Rattle.fort_theory.specs.Signatures.{Signature}
 use Rattle.fort_tables.specs.Tables.{Table, Listed, listed_table, IsListed}
-use Rattle.fort_laid_entries.specs.Laid.{all_entries}
-use Rattle.fort_interchange.specs.Merges.{merged, IsMerge}
-use Rattle.fort_interchange.specs.MergeOutcomes.{MergeOutcome, AreEntriesOf, IsMergeOutcome, IsRight, NotAsMany, NotOfClass, NotWhole}
-use Rattle.fort_in_order.specs.Outcomes.{Fine}
-use Rattle.fort_in_order.specs.MergeSteps.{step_outcome, listed_merge}
+use Rattle.fort_tables.specs.Laid.{all_entries}
+use Rattle.fort_tables.specs.Merges.{merged, IsMerge}
+use Rattle.fort_tables.specs.MergeOutcomes.{MergeOutcome, AreEntriesOf, IsMergeOutcome, IsRight, NotAsMany, NotOfClass, NotWhole}
+use Rattle.fort_certificate_theory.specs.Outcomes.{Fine}
+use Rattle.fort_certificate_theory.specs.MergeSteps.{step_outcome, listed_merge}
 use Rattle.fort_check_steps.specs.Held.{own_targets, room_table, IsRoomTable}
 use Rattle.fort_check_steps.specs.Room.{most_states}
 use Rattle.fort_check_steps.specs.declared.room.PartRoom.{PartRoom}

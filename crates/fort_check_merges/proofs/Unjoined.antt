@@ -7,9 +7,9 @@ use Rattle.fort_theory.proofs.Members.{Contains-head, Contains-behind}
 use Rattle.fort_tables.specs.Entries.{Entry, entry, no_entry}
 use Rattle.fort_tables.specs.Tables.{Listed, listed_table, IsListed, IsTableEntry}
 use Rattle.fort_tables.proofs.NumberLaws.{listed_target}
-use Rattle.fort_interchange.specs.Merges.{class_of, first_of, count_of, leader, AreNumbered, IsMerge}
-use Rattle.fort_interchange.proofs.NumberedClasses.{first_within, first_class}
-use Rattle.fort_interchange.proofs.ClassOrderLaws.{first_ascends}
+use Rattle.fort_tables.specs.Merges.{class_of, first_of, count_of, leader, AreNumbered, IsMerge}
+use Rattle.fort_tables.proofs.NumberedClasses.{first_within, first_class}
+use Rattle.fort_tables.proofs.ClassOrderLaws.{first_ascends}
 use Rattle.fort_check_merges.specs.KeptTargets.{is_led, kept_targets}
 use Rattle.fort_check_merges.specs.Leaders.{AreClassed}
 use Rattle.fort_check_merges.proofs.KeptEntries.{led_from_kids}

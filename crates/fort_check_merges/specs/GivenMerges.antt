@@ -1,7 +1,7 @@
 -- Inside: the table of a merge, and what is known of it.
 use Rattle.std.specs.Prelude.{◌≡◌, ◌<◌, ◌^◌, length}
 use Rattle.fort_tables.specs.Tables.{Table, Listed, listed_table, IsListed}
-use Rattle.fort_laid_entries.specs.Laid.{all_entries}
+use Rattle.fort_tables.specs.Laid.{all_entries}
 use Rattle.fort_check_merges.specs.declared.given.Given.{Given}
 
 abbrev pub listed_in : Given → Listed

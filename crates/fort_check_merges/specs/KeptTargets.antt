@@ -2,7 +2,7 @@
 use Rattle.std.specs.Prelude.{ℕ, List, [], ◌∷◌, map, filter, Bool, cond}
 use Rattle.fort_tables.specs.Entries.{Entry}
 use Rattle.fort_tables.specs.Tables.{Table, same_states}
-use Rattle.fort_interchange.specs.Merges.{class_of, leader}
+use Rattle.fort_tables.specs.Merges.{class_of, leader}
 
 -- each child is its class's first state
 abbrev pub is_led : List ℕ → Entry → Bool

@@ -1,8 +1,8 @@
 -- Inside: the first states of the classes of a front of states.
 use Rattle.std.specs.Prelude.{◌≡◌, ℕ, ◌<◌, ◌≤◌, List, take, length, get_or}
 use Rattle.fort_tables.specs.Tables.{Table}
-use Rattle.fort_interchange.specs.Merges.{first_of, count_of}
-use Rattle.fort_interchange.specs.MergeOutcomes.{AreClassesTo}
+use Rattle.fort_tables.specs.Merges.{first_of, count_of}
+use Rattle.fort_tables.specs.MergeOutcomes.{AreClassesTo}
 
 -- the first state of each class of the first q states
 pub record AreLeadersTo (classes : List ℕ) (q : ℕ) (leaders : List ℕ) : Type 0 where

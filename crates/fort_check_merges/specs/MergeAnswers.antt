@@ -1,8 +1,8 @@
 -- To believe: which outcome of a merge an answer of the program tells.
 use Rattle.std.specs.Prelude.{◌≡◌, ℕ, List, Result}
 use Rattle.fort_tables.specs.Tables.{Table}
-use Rattle.fort_interchange.specs.MergeOutcomes.{MergeOutcome, IsMergeOutcome}
-use Rattle.fort_in_order.specs.MergeSteps.{step_outcome}
+use Rattle.fort_tables.specs.MergeOutcomes.{MergeOutcome, IsMergeOutcome}
+use Rattle.fort_certificate_theory.specs.MergeSteps.{step_outcome}
 use Rattle.fort_check_steps.specs.StepAnswers.{outcome_of}
 use Rattle.fort_check_steps.specs.declared.failure.Failure.{Failure}
 

@@ -1,10 +1,10 @@
 //! The check of a merge.
 ghost use Rattle.std.specs.Prelude.{◌≡◌, ℕ, List, ◌≤◌, length, vec_capacity, OnOk, IsFalse};
 ghost use Rattle.fort_tables.specs.Tables.{listed_table};
-ghost use Rattle.fort_laid_entries.specs.Laid.{all_entries};
-ghost use Rattle.fort_interchange.specs.Merges.{merged, IsMerge};
-ghost use Rattle.fort_interchange.specs.MergeOutcomes.{AreEntriesOf};
-ghost use Rattle.fort_in_order.specs.MergeSteps.{listed_merge};
+ghost use Rattle.fort_tables.specs.Laid.{all_entries};
+ghost use Rattle.fort_tables.specs.Merges.{merged, IsMerge};
+ghost use Rattle.fort_tables.specs.MergeOutcomes.{AreEntriesOf};
+ghost use Rattle.fort_certificate_theory.specs.MergeSteps.{listed_merge};
 ghost use Rattle.fort_check_steps.specs.Held.{own_targets, room_table, IsRoomTable};
 ghost use Rattle.fort_check_steps.specs.Room.{HasRoom, HasMergeRoom, HasFirstRoom, HasLeaderRoom, IsAsRoomy};
 ghost use Rattle.fort_check_merges.specs.GivenMerges.{listed_in, table_in, HasTable};

@@ -1,6 +1,6 @@
 //! The check of the classes of states.
 ghost use Rattle.std.specs.Prelude.{◌≡◌, ℕ, ◌+◌, ◌<◌, ◌≤◌, [], length, vec_capacity, OnOk, OnErr, true, false};
-ghost use Rattle.fort_interchange.specs.MergeOutcomes.{IsClassAt, AreClassesTo};
+ghost use Rattle.fort_tables.specs.MergeOutcomes.{IsClassAt, AreClassesTo};
 ghost use Rattle.fort_check_merges.specs.GivenMerges.{table_in, HasTable, HasStates};
 ghost use Rattle.fort_check_merges.specs.MergeAnswers.{IsAnswer};
 ghost use Rattle.fort_check_merges.specs.Leaders.{AreLeadersTo, AreClassed};

@@ -1,8 +1,8 @@
 //! The check of the entries' targets, and the targets of the entries over classes.
 ghost use Rattle.std.specs.Prelude.{◌≡◌, ℕ, ◌<◌, ◌≤◌, ◌++◌, [], length, slice_index_or, vec_len, vec_capacity, OnOk, true, false};
 ghost use Rattle.fort_tables.specs.Tables.{IsTableEntry};
-ghost use Rattle.fort_interchange.specs.Merges.{leader};
-ghost use Rattle.fort_interchange.specs.MergeOutcomes.{IsWholeAt};
+ghost use Rattle.fort_tables.specs.Merges.{leader};
+ghost use Rattle.fort_tables.specs.MergeOutcomes.{IsWholeAt};
 ghost use Rattle.fort_target_lists.specs.TargetLists.{IsTargetListOf};
 ghost use Rattle.fort_check_merges.specs.GivenMerges.{table_in, listed_in, IsGiven};
 ghost use Rattle.fort_check_merges.specs.MergeAnswers.{IsAnswer};
@@ -11,8 +11,9 @@ ghost use Rattle.fort_check_merges.specs.KeptTargets.{kept_target, kept_targets}
 
 use crate::given::Given;
 use fort_check_steps::{Failure, Reason, failed};
-use fort_lockstep::{Entries, Row};
+use fort_entry_walk::Entries;
 use fort_target_lists::TargetList;
+use fort_tuple_symbols::Row;
 
 /// Puts the first states of the children's classes into a buffer.
 fn put_leaders(kids: &[u32], classes: &[u32], leaders: &[u32], states: &mut [u32])

@@ -9,9 +9,9 @@ use Rattle.fort_tables.specs.Entries.{Entry, no_entry, stage, IsEntry, ComesBefo
 use Rattle.fort_tables.specs.Labels.{first_word, AreLabels}
 use Rattle.fort_tables.specs.LabelRules.{LabelRule, IsLabelRule, label_of, entry_label}
 use Rattle.fort_tables.proofs.OrderLaws.{before_trans, none_before, up_to_next, after_all_missing, order_push}
-use Rattle.fort_in_order.specs.PartSteps.{IsDueOver, states_before}
-use Rattle.fort_in_order.proofs.StageLaws.{states_more, states_le, target_states}
-use Rattle.fort_in_order_laws.proofs.EntryWalks.{IsNextOf, labels_push}
+use Rattle.fort_certificate_theory.specs.PartSteps.{IsDueOver, states_before}
+use Rattle.fort_certificate_theory.proofs.StageLaws.{states_more, states_le, target_states}
+use Rattle.fort_certificate_theory.proofs.EntryWalks.{IsNextOf, labels_push}
 use Rattle.fort_check_steps.specs.Room.{most_states}
 use Rattle.fort_check_steps.specs.OnePlace.{IsNewState, IsKnownState, IsMade}
 use Rattle.fort_check_steps.specs.Guesses.{IsGuess, Guessed}

@@ -9,13 +9,13 @@ use Rattle.fort_tables.specs.Entries.{Entry, IsEntry, ComesBefore, IsLastEntry, 
 use Rattle.fort_tables.specs.Labels.{first_word}
 use Rattle.fort_tables.specs.LabelRules.{LabelRule, IsLabelRule}
 use Rattle.fort_tables.proofs.OrderLaws.{before_irrefl, before_trans}
-use Rattle.fort_laid_entries.specs.Laid.{all_entries}
-use Rattle.fort_laid_entries.proofs.OrderedLists.{AllPairs-head, AllPairs-tail}
-use Rattle.fort_laid_entries.proofs.AllEntries.{all_in_order, all_there}
+use Rattle.fort_tables.specs.Laid.{all_entries}
+use Rattle.fort_tables.proofs.OrderedLists.{AllPairs-head, AllPairs-tail}
+use Rattle.fort_tables.proofs.AllEntries.{all_in_order, all_there}
 use Rattle.fort_products.specs.HeldTargets.{IsHeld, AreHeldFrom, entries_with}
-use Rattle.fort_in_order.specs.PartSteps.{states_before, AreRightTo, IsRightPart}
-use Rattle.fort_in_order.proofs.PartTables.{rows_in_order, entry_label_same}
-use Rattle.fort_in_order_laws.proofs.EntryWalks.{Walked, IsNextOf, walked_old}
+use Rattle.fort_certificate_theory.specs.PartSteps.{states_before, AreRightTo, IsRightPart}
+use Rattle.fort_certificate_theory.proofs.PartTables.{rows_in_order, entry_label_same}
+use Rattle.fort_certificate_theory.proofs.EntryWalks.{Walked, IsNextOf, walked_old}
 use Rattle.fort_check_steps.specs.Guesses.{Guessed}
 use Rattle.fort_check_steps.proofs.GuessLaws.{all_before}
 use Rattle.fort_check_steps.proofs.TargetLaws.{right_all}

@@ -2,7 +2,6 @@ pub mod TableLaws
 pub mod TargetLaws
 pub mod GuessLaws
 pub mod HeldTargetLaws
-pub mod PairPlaces
 pub mod PairLaws
 pub mod PairStepLaws
 pub mod MarkLaws

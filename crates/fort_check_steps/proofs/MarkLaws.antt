@@ -11,11 +11,11 @@ use Rattle.fort_tables.specs.Entries.{Entry, no_entry}
 use Rattle.fort_tables.specs.Tables.{Table, Listed, IsListed, target_in}
 use Rattle.fort_tables.proofs.NumberLaws.{listed_target}
 use Rattle.fort_tables.proofs.EqualTests.{test_from_apart}
-use Rattle.fort_atom_labels.proofs.Bits.{Decides-true, Decides-false, Decides-and_then}
-use Rattle.fort_counts.specs.Counts.{Count, Finite, Infinite, is_infinite, IsFiniteBelow, KeepsRule, count_at}
-use Rattle.fort_counts.specs.PureStates.{IsPureChild}
-use Rattle.fort_in_order.specs.Outcomes.{Fine, Fails}
-use Rattle.fort_in_order.specs.CountSteps.{AreRightMarks, IsCountOutcome, IsRight, NotRanked, NotFed}
+use Rattle.fort_alike.proofs.Bits.{Decides-true, Decides-false, Decides-and_then}
+use Rattle.fort_tables.specs.Counts.{Count, Finite, Infinite, is_infinite, IsFiniteBelow, KeepsRule, count_at}
+use Rattle.fort_tables.specs.PureStates.{IsPureChild}
+use Rattle.fort_certificate_theory.specs.Outcomes.{Fine, Fails}
+use Rattle.fort_certificate_theory.specs.CountSteps.{AreRightMarks, IsCountOutcome, IsRight, NotRanked, NotFed}
 use Rattle.fort_check_steps.specs.Turned.{TurnedTable, turned_table}
 use Rattle.fort_check_steps.specs.Marks.{mark_in, is_below, are_below, held_next, entry_next, starts, IsGiver, kids_at, IsAgainst, IsSeen, IsSeenTo, mark_test, right_at, IsFirstWrong, AreAllHeld, wrong_reason}
 

@@ -7,9 +7,9 @@ use Rattle.std.proofs.lemmas.List.Sorted.{searched}
 use Rattle.fort_tables.specs.Tuples.{presence}
 use Rattle.fort_tables.specs.Entries.{Entry}
 use Rattle.fort_tables.proofs.EqualTests.{test_from_apart}
-use Rattle.fort_counts.specs.Counts as counts
-use Rattle.fort_counts.specs.Counts.{count_at}
-use Rattle.fort_counts.proofs.CountPlaces.{count_at-ascending, count_at-none}
+use Rattle.fort_tables.specs.Counts as counts
+use Rattle.fort_tables.specs.Counts.{count_at}
+use Rattle.fort_tables.proofs.CountPlaces.{count_at-ascending, count_at-none}
 use Rattle.fort_findings.specs.declared.count.Count.{Count}
 use Rattle.fort_findings.specs.FindingView.{as_count}
 use Rattle.fort_check_steps.specs.Marks.{starts, held_next, entry_next}

@@ -8,11 +8,11 @@ use Rattle.std.proofs.lemmas.List.{length-map, get_or-map, get_or_default}
 use Rattle.std.proofs.lemmas.List.Folds.{Any-from_list_any, list_any_at}
 use Rattle.fort_theory.specs.Patterns.{Pattern, Patterns, Any, At, NoPattern, MorePatterns, Pair}
 use Rattle.fort_theory.specs.PatternOrder.{PatternBefore, AreSubpatternsInOrder}
-use Rattle.fort_atom_labels.specs.PatternNumbers.{PatternNumber, AreAt, IsNumberOf}
-use Rattle.fort_atom_labels.proofs.Bits.{Decides-true, Decides-false, Decides-and_then}
+use Rattle.fort_alike.specs.PatternNumbers.{PatternNumber, AreAt, IsNumberOf}
+use Rattle.fort_alike.proofs.Bits.{Decides-true, Decides-false, Decides-and_then}
 use Rattle.fort_alike.specs.ListedClosures as closures
 use Rattle.fort_alike.specs.ListedClosures.{Why, Pair as Item}
-use Rattle.fort_in_order.specs.ClosureSteps.{ClosureRules, IsPatternAt, IsListed, AreListed, AllListed, Follows, AnyRight, AnyLeft, ByArguments, ByRule, FollowsBy, FollowsAt}
+use Rattle.fort_certificate_theory.specs.ClosureSteps.{ClosureRules, IsPatternAt, IsListed, AreListed, AllListed, Follows, AnyRight, AnyLeft, ByArguments, ByRule, FollowsBy, FollowsAt}
 use Rattle.fort_alike.proofs.OneInOrder.{before_asymmetric}
 use Rattle.fort_label_bits.specs.declared.rule_places.RulePlaces.{RulePlaces}
 use Rattle.fort_label_bits.specs.RulePlaces.{pair_at, no_rule}

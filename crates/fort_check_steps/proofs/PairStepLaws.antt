@@ -11,12 +11,12 @@ use Rattle.std.proofs.lemmas.List.{length-map, get_or_past, take_all, take_more,
 use Rattle.std.proofs.lemmas.List.Elements.{Contains-append_left, Contains-push, Contains-push_cases}
 use Rattle.fort_theory.proofs.Members.{Contains-none}
 use Rattle.fort_tables.specs.BitRows.{has_bit}
-use Rattle.fort_atom_labels.proofs.Bits.{Decides-true, Decides-false, Decides-and_then}
+use Rattle.fort_alike.proofs.Bits.{Decides-true, Decides-false, Decides-and_then}
 use Rattle.fort_alike.specs.ListedClosures as closures
 use Rattle.fort_alike.specs.ListedClosures.{Why, Pair as Item}
-use Rattle.fort_in_order.specs.Outcomes as outcomes
-use Rattle.fort_in_order.specs.Outcomes.{Fine, Fails}
-use Rattle.fort_in_order.specs.ClosureSteps.{ClosureRules, numbers_of, IsListed, IsRuleBelow, IsWithin, FollowsAt, IsFounded, number, IsClosureOutcome, IsRight, NotWithin, NotFounded, NotClosed}
+use Rattle.fort_certificate_theory.specs.Outcomes as outcomes
+use Rattle.fort_certificate_theory.specs.Outcomes.{Fine, Fails}
+use Rattle.fort_certificate_theory.specs.ClosureSteps.{ClosureRules, numbers_of, IsListed, IsRuleBelow, IsWithin, FollowsAt, IsFounded, number, IsClosureOutcome, IsRight, NotWithin, NotFounded, NotClosed}
 use Rattle.fort_check_steps.specs.StepAnswers.{as_reason}
 use Rattle.fort_check_steps.specs.declared.pairs.PairRules.{PairRules}
 use Rattle.fort_check_steps.specs.declared.failure.Reason.{Reason}

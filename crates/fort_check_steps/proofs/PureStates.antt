@@ -7,7 +7,7 @@ use Rattle.std.proofs.lemmas.List.{length_push, get_or_push, get_or_append_left}
 use Rattle.std.proofs.Math.Pow.{pow-lt}
 use Rattle.fort_tables.specs.Tables.{Table}
 use Rattle.fort_tables.proofs.EqualTests.{test_from_apart}
-use Rattle.fort_operations.specs.Projections.{ArePureBelow, is_pure}
+use Rattle.fort_tables.specs.Projections.{ArePureBelow, is_pure}
 
 true_isnt_false : (A : Type 0) (b : Bool) → b ≡ true → b ≡ false → A
 true_isnt_false A true h k = absurd cc

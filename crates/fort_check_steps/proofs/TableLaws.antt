@@ -8,10 +8,10 @@ use Rattle.fort_tables.specs.Entries.{stage}
 use Rattle.fort_tables.specs.Tables.{Listed, IsTable, IsReached, IsListed, full_presence, listed_table}
 use Rattle.fort_tables.specs.Labels.{first_word, final_by}
 use Rattle.fort_tables.specs.LabelRules.{LabelRule, IsLabelRule, IsTableBy, label_of}
-use Rattle.fort_laid_entries.specs.Laid.{all_entries}
-use Rattle.fort_in_order.specs.PartSteps.{IsRightPart, part_table}
-use Rattle.fort_in_order.proofs.PartByLabels.{part_is_listed, part_by_labels}
-use Rattle.fort_in_order_laws.proofs.EntryWalks.{right_few}
+use Rattle.fort_tables.specs.Laid.{all_entries}
+use Rattle.fort_certificate_theory.specs.PartSteps.{IsRightPart, part_table}
+use Rattle.fort_certificate_theory.proofs.PartByLabels.{part_is_listed, part_by_labels}
+use Rattle.fort_certificate_theory.proofs.EntryWalks.{right_few}
 use Rattle.fort_check_steps.specs.declared.room.PartRoom.{PartRoom}
 use Rattle.fort_check_steps.specs.Held.{HoldsPart, held_entries, held_table, own_targets, room_table, IsRoomTable}
 use Rattle.fort_check_steps.specs.Room.{most_states}

@@ -7,14 +7,14 @@ use Rattle.fort_tables.specs.Tuples.{TupleSymbol, presence}
 use Rattle.fort_tables.specs.Entries.{Entry, no_entry, stage, IsNextEntry, IsLastEntry}
 use Rattle.fort_tables.specs.Labels.{first_word, AreLabels, IsOverLabels}
 use Rattle.fort_tables.specs.LabelRules.{LabelRule, IsLabelRule, label_of, entry_label}
-use Rattle.fort_laid_entries.specs.Laid.{all_entries}
-use Rattle.fort_laid_entries.proofs.AllEntries.{entries_unique}
-use Rattle.fort_in_order.specs.Outcomes as steps
-use Rattle.fort_in_order.specs.Outcomes.{Fails}
-use Rattle.fort_in_order.specs.PartSteps.{IsRightPart, IsPartOutcome, IsFailed, NoState, OtherLabel, TooFew, TooMany}
-use Rattle.fort_in_order.proofs.PartByLabels.{part_is_listed}
-use Rattle.fort_in_order.proofs.StageLaws.{target_states}
-use Rattle.fort_in_order_laws.proofs.EntryWalks.{Walked, IsNextOf, walked_none, walked_due, walked_all, walked_old, walked_new, walked_few, right_few, labels_push}
+use Rattle.fort_tables.specs.Laid.{all_entries}
+use Rattle.fort_tables.proofs.AllEntries.{entries_unique}
+use Rattle.fort_certificate_theory.specs.Outcomes as steps
+use Rattle.fort_certificate_theory.specs.Outcomes.{Fails}
+use Rattle.fort_certificate_theory.specs.PartSteps.{IsRightPart, IsPartOutcome, IsFailed, NoState, OtherLabel, TooFew, TooMany}
+use Rattle.fort_certificate_theory.proofs.PartByLabels.{part_is_listed}
+use Rattle.fort_certificate_theory.proofs.StageLaws.{target_states}
+use Rattle.fort_certificate_theory.proofs.EntryWalks.{Walked, IsNextOf, walked_none, walked_due, walked_all, walked_old, walked_new, walked_few, right_few, labels_push}
 use Rattle.fort_check_steps.specs.Room.{most_states}
 use Rattle.fort_check_steps.specs.StepAnswers.{as_reason}
 use Rattle.fort_check_steps.specs.OnePlace.{IsNewState, IsOldState, IsTaken, IsRefused}

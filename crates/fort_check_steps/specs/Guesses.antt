@@ -3,7 +3,7 @@ use Rattle.std.specs.Prelude.{◌≡◌, ℕ, ◌<◌, ◌≤◌, ◌⊎◌, Lis
 use Rattle.fort_tables.specs.Entries.{Entry, IsEntry, ComesBefore, AreInOrder}
 use Rattle.fort_tables.specs.Labels.{first_word}
 use Rattle.fort_tables.specs.LabelRules.{LabelRule}
-use Rattle.fort_in_order.specs.PartSteps.{IsDueOver, states_before}
+use Rattle.fort_certificate_theory.specs.PartSteps.{IsDueOver, states_before}
 
 -- this entry is due at place k, and the target there is a state that is named before, or the next new one
 pub record IsGuess (r : LabelRule) (targets : List ℕ) (entries : List Entry) (labels : List (List ℕ)) (k : ℕ) (e : Entry) : Type 0 where

@@ -5,8 +5,8 @@ use Rattle.fort_tables.specs.Labels.{first_word, final_by}
 use Rattle.fort_tables.specs.LabelRules.{LabelRule, IsLabelRule}
 use Rattle.fort_theory.specs.Signatures.{Signature}
 use Rattle.fort_tables.specs.Tables.{Listed, IsListed}
-use Rattle.fort_laid_entries.specs.Laid.{all_entries}
-use Rattle.fort_in_order.specs.PartSteps.{IsRightPart}
+use Rattle.fort_tables.specs.Laid.{all_entries}
+use Rattle.fort_certificate_theory.specs.PartSteps.{IsRightPart}
 use Rattle.fort_check_steps.specs.declared.room.PartRoom.{PartRoom}
 
 -- the entries over its states

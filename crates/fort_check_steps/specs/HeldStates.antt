@@ -4,8 +4,8 @@ use Rattle.std.specs.declared.alloc.Global.{Global}
 use Rattle.std.specs.declared.vec.Vec.{Vec}
 use Rattle.fort_tables.specs.Labels.{first_word, AreLabels}
 use Rattle.fort_tables.specs.LabelRules.{LabelRule, label_of}
-use Rattle.fort_laid_entries.specs.Laid.{all_entries}
-use Rattle.fort_in_order.specs.PartSteps.{IsRightPart}
+use Rattle.fort_tables.specs.Laid.{all_entries}
+use Rattle.fort_certificate_theory.specs.PartSteps.{IsRightPart}
 use Rattle.fort_check_steps.specs.Room.{most_states}
 use Rattle.fort_check_steps.specs.StateLabelsView.{KeptLabels, IsAsSpacious}
 

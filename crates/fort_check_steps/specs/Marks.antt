@@ -4,8 +4,8 @@ use Rattle.std.specs.List.{list_any}
 use Rattle.fort_tables.specs.Tuples.{presence}
 use Rattle.fort_tables.specs.Entries.{Entry, no_entry}
 use Rattle.fort_tables.specs.Tables.{Listed}
-use Rattle.fort_counts.specs.Counts.{Count, Finite, Infinite, is_infinite, IsFiniteBelow, count_at}
-use Rattle.fort_in_order.specs.Outcomes.{Reason, Rank, Cycle}
+use Rattle.fort_tables.specs.Counts.{Count, Finite, Infinite, is_infinite, IsFiniteBelow, count_at}
+use Rattle.fort_certificate_theory.specs.Outcomes.{Reason, Rank, Cycle}
 use Rattle.fort_check_steps.specs.declared.marks.MarkRoom.{MarkRoom}
 
 -- for pure states of so many states, and so many marks

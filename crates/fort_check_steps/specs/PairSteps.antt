@@ -6,8 +6,8 @@ use Rattle.fort_label_bits.specs.NumberedView.{AreNumbersOf}
 use Rattle.fort_label_bits.specs.RulePlaces.{ArePlacesOf}
 use Rattle.fort_alike.specs.ListedClosures as closures
 use Rattle.fort_alike.specs.ListedClosures.{Which, Why, Pair as Item}
-use Rattle.fort_in_order.specs.Outcomes.{Fails}
-use Rattle.fort_in_order.specs.ClosureSteps.{ClosureRules, AreSidePatterns, AreClosureRules, IsListed, AreFounded, IsClosureOutcome}
+use Rattle.fort_certificate_theory.specs.Outcomes.{Fails}
+use Rattle.fort_certificate_theory.specs.ClosureSteps.{ClosureRules, AreSidePatterns, AreClosureRules, IsListed, AreFounded, IsClosureOutcome}
 use Rattle.fort_check_steps.specs.PairTests.{has_pair, by_reason, follows}
 use Rattle.fort_check_steps.specs.StepAnswers.{as_reason}
 use Rattle.fort_check_steps.specs.declared.pairs.PairRules.{PairRules}

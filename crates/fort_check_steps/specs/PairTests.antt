@@ -2,7 +2,7 @@
 use Rattle.std.specs.Prelude.{ℕ, ◌+◌, ◌*◌, List, [], ◌∷◌, length, get_or, None, Some, nat_lt, Bool, true, false, ◌==◌, ◌&&◌, ◌||◌}
 use Rattle.std.specs.List.{list_any}
 use Rattle.fort_tables.specs.BitRows.{has_bit}
-use Rattle.fort_atom_labels.specs.PatternNumbers.{PatternNumber}
+use Rattle.fort_alike.specs.PatternNumbers.{PatternNumber}
 use Rattle.fort_label_bits.specs.declared.rule_places.RulePlaces.{RulePlaces}
 use Rattle.fort_label_bits.specs.RulePlaces.{no_rule}
 use Rattle.fort_alike.specs.ListedClosures.{Why, Any, Kids, Rule}

@@ -1,7 +1,7 @@
 -- To believe: which outcome of a step an answer of the program tells.
 use Rattle.std.specs.Prelude.{Result, Ok, Err}
-use Rattle.fort_in_order.specs.Outcomes as outcomes
-use Rattle.fort_in_order.specs.Outcomes.{StepOutcome, Fine, Fails}
+use Rattle.fort_certificate_theory.specs.Outcomes as outcomes
+use Rattle.fort_certificate_theory.specs.Outcomes.{StepOutcome, Fine, Fails}
 use Rattle.fort_check_steps.specs.declared.failure.Failure.{Failure}
 use Rattle.fort_check_steps.specs.declared.failure.Reason.{Reason}
 use Rattle.fort_check_steps.specs.declared.failure.Reason.TheVariants.{Due, Range, Unfounded, Open, Target, Label, Short, Long, Class, Split, Count, Rank, Cycle, Value, Verdict}

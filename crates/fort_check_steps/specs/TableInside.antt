@@ -1,7 +1,7 @@
 -- Inside: what the fields of the table of a part stand for.
 use Rattle.std.specs.Prelude.{◌≡◌, ◌<◌, ◌^◌, length, IfSome}
 use Rattle.fort_tables.specs.Tables.{Listed, listed_table, IsListed}
-use Rattle.fort_laid_entries.specs.Laid.{all_entries}
+use Rattle.fort_tables.specs.Laid.{all_entries}
 use Rattle.fort_target_lists.specs.TargetLists.{IsTargetListOf}
 use Rattle.fort_check_steps.specs.Turned.{TurnedTable}
 use Rattle.fort_check_steps.specs.declared.table.PartTable.TheInside.{Inside}

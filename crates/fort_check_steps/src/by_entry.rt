@@ -1,7 +1,7 @@
 //! Local rules without means of their own to hold a part's targets.
 use crate::part_rule::PartRule;
-use fort_explore::{LocalRule, Rows};
-use fort_lockstep::Row;
+use fort_labels::{LocalRule, Rows};
+use fort_tuple_symbols::Row;
 
 /// A local rule whose part's targets are held entry by entry alone.
 #[derive(Drop)]

@@ -2,14 +2,14 @@
 ghost use Rattle.std.specs.Prelude.{◌≡◌, ℕ, ◌*◌, ◌<◌, ◌≤◌, ◌^◌, length, map, false, OnOk, IfErr, IfSome, IfNone};
 ghost use Rattle.fort_tables.specs.BitRows.{has_bit};
 ghost use Rattle.fort_findings.specs.FindingView.{as_pair, as_why};
-ghost use Rattle.fort_in_order.specs.ClosureSteps.{ClosureRules, IsClosureOutcome};
+ghost use Rattle.fort_certificate_theory.specs.ClosureSteps.{ClosureRules, IsClosureOutcome};
 ghost use Rattle.fort_check_steps.specs.PairSteps.{IsPairRules, rule_test, within_test, IsPairTaken, IsPairRefused, IsPairsOutcome, IsFirstOpen, AreNoneOpen, IsOpenInRow, AreNoneOpenInRow};
 ghost use Rattle.fort_check_steps.specs.StepAnswers.{outcome_of};
 
 use crate::failure::{Failure, Reason, failed};
 use crate::pairs::PairRules;
-use fort_explore::set_bit;
 use fort_findings::{ClosureEntry, Reason as Why};
+use fort_labels::set_bit;
 
 fn clear(words: &mut [u64])
     ensures { (i : ℕ) → has_bit words.new i ≡ false }

@@ -4,7 +4,7 @@ ghost use Rattle.fort_tables.specs.Labels.{IsLabel, AreLabels, final_by};
 ghost use Rattle.fort_tables.specs.LabelRules.{label_of};
 
 use crate::state_labels::StateLabels;
-use fort_explore::LocalRule;
+use fort_labels::LocalRule;
 
 /// Whether a label has all columns present and is accepted.
 fn is_final<R: LocalRule>(rule: &R, label: &[u64]) -> bool

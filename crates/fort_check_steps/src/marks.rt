@@ -3,9 +3,9 @@ ghost use Rattle.std.specs.Prelude.{◌≡◌, ℕ, ◌^◌, ◌<◌, ◌≤◌,
 ghost use Rattle.fort_tables.specs.Tuples.{presence};
 ghost use Rattle.fort_tables.specs.Entries.{Entry};
 ghost use Rattle.fort_tables.specs.Tables.{IsListed};
-ghost use Rattle.fort_operations.specs.Projections.{ArePure};
-ghost use Rattle.fort_counts.specs.Counts.{count_at};
-ghost use Rattle.fort_in_order.specs.CountSteps.{IsCountOutcome};
+ghost use Rattle.fort_tables.specs.Projections.{ArePure};
+ghost use Rattle.fort_tables.specs.Counts.{count_at};
+ghost use Rattle.fort_certificate_theory.specs.CountSteps.{IsCountOutcome};
 ghost use Rattle.fort_findings.specs.FindingView.{as_count};
 ghost use Rattle.fort_check_steps.specs.Marks.{HasMarkRoom, mark_in, is_below as is_below_lem, are_below as are_below_lem, held_next, entry_next, starts, mark_test, IsSeenTo, IsFirstWrong, AreAllHeld, wrong_reason};
 ghost use Rattle.fort_check_steps.specs.StepAnswers.{as_reason, outcome_of};
@@ -13,8 +13,9 @@ ghost use Rattle.fort_check_steps.specs.Turned.{turned_table};
 
 use crate::failure::{Failure, Reason, failed};
 use crate::table::PartTable;
+use fort_entry_walk::Entries;
 use fort_findings::Count;
-use fort_lockstep::{Entries, Table};
+use fort_table::Table;
 
 /// What is read of a part's operand: its pure states, and for each whether its mark holds by what was seen.
 #[derive(Drop)]

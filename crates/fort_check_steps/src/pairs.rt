@@ -4,9 +4,9 @@ ghost use Rattle.std.specs.List.{list_any};
 ghost use Rattle.fort_findings.specs.FindingView.{as_why};
 ghost use Rattle.fort_check_steps.specs.PairTests.{has_pair as has_pair_lem, all_pairs, by_any, by_kids, by_rule, by_reason, follows as follows_lem};
 
-use fort_explore::has_bit;
 use fort_findings::Reason;
 use fort_label_bits::{Numbered, RulePlaces};
+use fort_labels::has_bit;
 
 /// Rules and the patterns of their sides, by numbers.
 #[derive(Drop)]

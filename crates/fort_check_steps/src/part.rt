@@ -3,8 +3,8 @@ ghost use Rattle.std.specs.Prelude.{◌≡◌, ℕ, ◌<◌, ◌≤◌, ◌^◌,
 ghost use Rattle.fort_tables.specs.LabelRules.{IsLabelRule, IsTableBy, label_of};
 ghost use Rattle.fort_tables.specs.Tables.{listed_table};
 ghost use Rattle.fort_target_lists.specs.LayRooms.{HasLayRoom};
-ghost use Rattle.fort_in_order.specs.Outcomes.{StepOutcome};
-ghost use Rattle.fort_in_order.specs.PartSteps.{IsPartOutcome};
+ghost use Rattle.fort_certificate_theory.specs.Outcomes.{StepOutcome};
+ghost use Rattle.fort_certificate_theory.specs.PartSteps.{IsPartOutcome};
 ghost use Rattle.fort_check_steps.specs.Held.{HoldsPart, held_table};
 ghost use Rattle.fort_check_steps.specs.HeldStates.{AreRightStates, IsRoomLeft};
 ghost use Rattle.fort_check_steps.specs.Room.{HasRoom, HasMergeRoom, most_states};

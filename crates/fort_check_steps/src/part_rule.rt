@@ -5,9 +5,9 @@ ghost use Rattle.fort_tables.specs.LabelRules.{label_of};
 ghost use Rattle.fort_target_lists.specs.LayRooms.{HasLayRoom};
 ghost use Rattle.fort_products.specs.HeldTargets.{AreHeldFrom};
 
-use fort_explore::{LocalRule, Rows};
-use fort_lockstep::Table;
+use fort_labels::{LocalRule, Rows};
 use fort_products::Both;
+use fort_table::Table;
 use fort_target_lists::LayRoom;
 use fort_terms::Signature;
 

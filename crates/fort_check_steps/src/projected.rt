@@ -1,14 +1,15 @@
 //! The rule of a projection, over pure states that are handed in.
 ghost use Rattle.std.specs.Prelude.{◌≡◌, ◌<◌, IfSome};
-ghost use Rattle.fort_operations.specs.Projections as projections;
-ghost use Rattle.fort_operations.proofs.OperandFacts.{ArePure-prop};
+ghost use Rattle.fort_tables.specs.Projections as projections;
+ghost use Rattle.fort_tables.proofs.OperandFacts.{ArePure-prop};
 ghost use Rattle.fort_target_lists.specs.TargetLists.{IsTargetListOf, IfTargetList-prop};
 
 use crate::part_rule::PartRule;
-use fort_explore::{LocalRule, Rows};
-use fort_lockstep::{Row, Table};
+use fort_labels::{LocalRule, Rows};
 use fort_projections::local::{project_accepts, project_label, project_width};
+use fort_table::Table;
 use fort_target_lists::TargetList;
+use fort_tuple_symbols::Row;
 
 /// The labels of a projection: of a tuple of the other columns, the presence, the body's state with the column absent, and the set of
 /// states that the terms of the column give.
@@ -61,8 +62,8 @@ impl<'a, T: Table> Projected<'a, T> {
 impl<'a, T: Table> LocalRule for Projected<'a, T> {
     ghost use Rattle.std.specs.Prelude.{◌+◌, length, refl};
     ghost use Rattle.fort_tables.specs.BitRows.{words_for};
-    ghost use Rattle.fort_operations.specs.Projections as projections;
-    ghost use Rattle.fort_operations.proofs.ProjectLabels.{length-project_rule};
+    ghost use Rattle.fort_tables.specs.Projections as projections;
+    ghost use Rattle.fort_tables.proofs.ProjectLabels.{length-project_rule};
 
     ghost rule = { λ p. projections.project_rule (T.table p.body.now) p.column };
 

@@ -13,10 +13,11 @@ ghost use Rattle.fort_check_steps.specs.StateLabelsView.{IsAsSpacious};
 
 use crate::part_rule::PartRule;
 use crate::state_labels::StateLabels;
-use fort_explore::LocalRule;
-use fort_lockstep::{Entries, Row};
+use fort_entry_walk::Entries;
+use fort_labels::LocalRule;
 use fort_target_lists::LayRoom;
 use fort_terms::Signature;
+use fort_tuple_symbols::Row;
 
 /// The place behind the last target that is as great as the number of states before it: no target from there on is a new state.
 fn known_from(targets: &[u32]) -> usize

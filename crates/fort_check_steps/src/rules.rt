@@ -6,8 +6,8 @@ ghost use Rattle.fort_findings.specs.FindingView.{as_which};
 ghost use Rattle.fort_check_steps.specs.PairSteps.{HasPairRules, HasClosureRules};
 
 use crate::pairs::PairRules;
-use fort_context_closure::{number_patterns, places_of_rules};
 use fort_findings::Which;
+use fort_label_bits::{number_patterns, places_of_rules};
 use fort_terms::{Memory, System};
 use std::alloc::{AllocError, Global};
 

@@ -6,9 +6,9 @@ ghost use Rattle.fort_check_steps.specs.StateLabelsView.{HasSpace, IsAsSpacious}
 ghost use Rattle.fort_check_steps.specs.WideKidsInside.{AreWideKids};
 
 use crate::sparse_rows::SparseRows;
-use fort_explore::{LocalRule, Rows};
-use fort_lockstep::Row;
+use fort_labels::{LocalRule, Rows};
 use fort_terms::Memory;
+use fort_tuple_symbols::Row;
 use std::alloc::Global;
 use std::marker::Model;
 

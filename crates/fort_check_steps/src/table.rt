@@ -8,9 +8,11 @@ ghost use Rattle.fort_check_steps.specs.Turned.{turned_by, turned_table};
 ghost use Rattle.fort_check_steps.specs.Held.{IsRoomTable, own_targets as own_targets_lem, room_table};
 
 use crate::room::PartRoom;
-use fort_lockstep::{Entries, Table, TupleSym};
+use fort_entry_walk::Entries;
+use fort_table::Table;
 use fort_target_lists::{LayRoom, TargetList};
 use fort_terms::Signature;
+use fort_tuple_symbols::TupleSym;
 use std::marker::Model;
 
 /// The table of a part that was checked, with so many negations around the part.

@@ -2,7 +2,7 @@
 ghost use Rattle.std.specs.Prelude.{◌≡◌, ◌<◌, ◌^◌, length, vec_len, vec_capacity, OnOk, IfErr};
 ghost use Rattle.fort_tables.specs.Labels.{IsOverLabels};
 ghost use Rattle.fort_tables.specs.LabelRules.{IsLabelRule, label_of};
-ghost use Rattle.fort_in_order.specs.PartSteps.{IsPartOutcome};
+ghost use Rattle.fort_certificate_theory.specs.PartSteps.{IsPartOutcome};
 ghost use Rattle.fort_check_steps.specs.OnePlace.{IsTaken, IsRefused};
 ghost use Rattle.fort_check_steps.specs.HeldStates.{IsReadyFor, AreRightStates, IsRoomLeft};
 ghost use Rattle.fort_check_steps.specs.StateLabelsView.{IsAsSpacious};
@@ -10,9 +10,10 @@ ghost use Rattle.fort_check_steps.specs.StepAnswers.{outcome_of};
 
 use crate::failure::{Failure, Reason, failed};
 use crate::state_labels::StateLabels;
-use fort_explore::LocalRule;
-use fort_lockstep::{Entries, Row};
+use fort_entry_walk::Entries;
+use fort_labels::LocalRule;
 use fort_terms::Signature;
+use fort_tuple_symbols::Row;
 
 /// Holds a target against the entry that is due.
 fn take_target<R: LocalRule>(

@@ -1,6 +1,6 @@
 //! Connectives.
 ghost use Rattle.std.specs.Prelude.{◌≡◌};
-ghost use Rattle.fort_operations.specs.Products.{connected};
+ghost use Rattle.fort_tables.specs.Products.{connected};
 ghost use Rattle.fort_connectives.specs.ConnectiveView.{connective_of};
 
 /// A connective of two relations.

@@ -6,21 +6,21 @@ use Rattle.fort_theory.specs.Patterns.{PatternSystem, pattern_system}
 use Rattle.fort_theory.proofs.Members.{Contains-head}
 use Rattle.fort_theory.specs.PatternSteps.{PatternStepAt}
 use Rattle.fort_theory.specs.Rewriting.{IsNormalForm}
-use Rattle.fort_cores.specs.CoreTruth.{RelatesBy, IsMetBy}
-use Rattle.fort_cores.specs.Structures.{structure_of}
-use Rattle.fort_cores.specs.Cores.{Rel, Leaf, Related, Normal}
-use Rattle.fort_cores.specs.Parts.{AreColumns}
+use Rattle.fort_theory.specs.CoreTruth.{RelatesBy, IsMetBy}
+use Rattle.fort_theory.specs.Structures.{structure_of}
+use Rattle.fort_theory.specs.Cores.{Rel, Leaf, Related, Normal}
+use Rattle.fort_theory.specs.Parts.{AreColumns}
 use Rattle.fort_tables.specs.Tuples.{Tuple}
 use Rattle.fort_tables.specs.LabelRules.{label_of}
-use Rattle.fort_alike.specs.Atoms.{Atom, IsTrueOf, relation_atom, normal_atom}
+use Rattle.fort_alike.specs.Atoms.{Atom, IsTrueOfTuple, relation_atom, normal_atom}
 use Rattle.fort_alike.specs.Alike.{Alike}
-use Rattle.fort_atom_labels.specs.ListedAtoms.{ListedAtom, listed}
-use Rattle.fort_atom_labels.specs.AtomRules.{atom_rule, atom_accepts}
-use Rattle.fort_atom_labels.specs.ClosureTests.{IsClosure}
-use Rattle.fort_atom_labels.specs.AssignedTuples.{tuple_of}
-use Rattle.fort_atom_labels.proofs.AtomMeans.{labels_alike, Decides-atom_accepts}
-use Rattle.fort_atom_labels.proofs.AtomTruth.{Decides-relation, Decides-normal, accepts_truth, accepts_normal_truth}
-use Rattle.fort_atom_labels.proofs.ClosureTestLaws.{IsClosure-unread}
+use Rattle.fort_alike.specs.ListedAtoms.{ListedAtom, listed}
+use Rattle.fort_alike.specs.AtomRules.{atom_rule, atom_accepts}
+use Rattle.fort_alike.specs.ClosureTests.{IsClosure}
+use Rattle.fort_alike.specs.AssignedTuples.{tuple_of}
+use Rattle.fort_alike.proofs.AtomMeans.{labels_alike, Decides-atom_accepts}
+use Rattle.fort_alike.proofs.AtomTruth.{Decides-relation, Decides-normal, accepts_truth, accepts_normal_truth}
+use Rattle.fort_alike.proofs.ClosureTestLaws.{IsClosure-unread}
 use Rattle.fort_context_closure.specs.PlainAtoms.{no_closure, signed, IsAtomOf, IsNormalAtomOf, IsRelationAtomOf}
 use Rattle.fort_context_closure.specs.ClosedAtoms.{ClosedAtom, test_of}
 use Rattle.fort_context_closure.specs.AtomLabelsView.{label_by, accepted_by, TellsAlike, AcceptsTrue, AcceptsRelated, AcceptsNormal, AcceptsMet}
@@ -46,7 +46,7 @@ module _ (atom : Atom) (c : ClosedAtom) (h : IsAtomOf atom c.atom) (closes : IsC
 
   pub AcceptsTrue-relation : AcceptsTrue atom.signature atom (Relation c)
   AcceptsTrue-relation t ti =
-      subst (λ b. Decides b (IsTrueOf atom t)) (sym (accepts-same t)) (Decides-atom_accepts whole (test_of c) h.is_listed closes t ti)
+      subst (λ b. Decides b (IsTrueOfTuple atom t)) (sym (accepts-same t)) (Decides-atom_accepts whole (test_of c) h.is_listed closes t ti)
 
 pub AcceptsRelated-relation : (system : PatternSystem) (rel : Rel) (index x y : ℕ) (columns : List ℕ) → AreColumns (Leaf (Related rel index x y)) columns
     → (c : ClosedAtom) → IsRelationAtomOf system rel index x y c → AcceptsRelated system rel index x y columns (Relation c)
@@ -90,7 +90,7 @@ module _ (system : PatternSystem) (index : ℕ) (a : ListedAtom) (h : IsNormalAt
 
   pub AcceptsTrue-normal : AcceptsTrue system.signature (normal_atom system index) (Normal a)
   AcceptsTrue-normal t ti =
-      subst (λ b. Decides b (IsTrueOf (normal_atom system index) t)) (sym (normal-accepts t))
+      subst (λ b. Decides b (IsTrueOfTuple (normal_atom system index) t)) (sym (normal-accepts t))
       (Decides-atom_accepts normal_whole no_closure h.is_listed (IsClosure-unread normal_whole no_closure refl) t ti)
 
   pub AcceptsNormal-normal : (x : ℕ) → AcceptsNormal system index x (Normal a)

@@ -26,9 +26,9 @@ use Rattle.fort_findings.specs.declared.closure.ClosureEntry.{ClosureEntry}
 use Rattle.fort_findings.specs.FindingView as findings
 use Rattle.fort_context_closure.specs.ItemView.{as_item, as_items}
 use Rattle.fort_alike.specs.Atoms.{Atom}
-use Rattle.fort_atom_labels.specs.ListedAtoms.{ListedAtom, listed, IsListedAtom}
-use Rattle.fort_atom_labels.specs.ClosureTests.{ListsClosure}
-use Rattle.fort_atom_labels.proofs.ClosedLists.{ArePatterns, ArePatterns-lefts, ArePatterns-rights}
+use Rattle.fort_alike.specs.ListedAtoms.{ListedAtom, listed, IsListedAtom}
+use Rattle.fort_alike.specs.ClosureTests.{ListsClosure}
+use Rattle.fort_alike.proofs.ClosedLists.{ArePatterns, ArePatterns-lefts, ArePatterns-rights}
 use Rattle.fort_alike.proofs.OneInOrder.{subpatterns_one}
 use Rattle.fort_context_closure.specs.ClosedAtoms.{ArePassed, numbers_of}
 use Rattle.fort_context_closure.specs.Closures.{IsTransducerOf}

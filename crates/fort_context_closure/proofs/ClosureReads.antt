@@ -2,8 +2,8 @@
 use Rattle.std.specs.Prelude.{◌≡◌, List, true, false, Option, None, Some, is_some, IfSome, IfNone, refl}
 use Rattle.std.proofs.Common.{sym, true≢false}
 use Rattle.fort_theory.specs.Patterns.{Pair}
-use Rattle.fort_cores.specs.Cores as core
-use Rattle.fort_cores.specs.Cores.{Rel}
+use Rattle.fort_theory.specs.Cores as core
+use Rattle.fort_theory.specs.Cores.{Rel}
 use Rattle.fort_alike.specs.Atoms.{kind_for}
 use Rattle.fort_alike.specs.Alike.{is_reaching}
 use Rattle.fort_alike.specs.ListedClosures.{Which, Star, Conv, relation_of, reads}
@@ -47,7 +47,7 @@ reaching_told rel None some none = sym (reaching_none rel none)
 pub ListsPasses-read : (which : Which) (rel : Rel) (pairs : List Pair) (es : List ClosureEntry) → reads which rel ≡ true → ListsPasses (relation_of which) pairs es
     → ListsPasses rel pairs es
 ListsPasses-read Star core.Star pairs es read h = h
-ListsPasses-read Star core.Plus pairs es read h e = h refl
+ListsPasses-read Star core.Plus pairs es read h = λ e. h refl
 ListsPasses-read Conv core.Conv pairs es read h = h
 ListsPasses-read Star core.Conv pairs es read h = absurd (true≢false (sym read))
 ListsPasses-read Star core.Eq pairs es read h = absurd (true≢false (sym read))

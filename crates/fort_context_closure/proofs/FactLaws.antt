@@ -2,11 +2,11 @@
 use Rattle.std.specs.Prelude.{◌≡◌, ℕ, ◌+◌, List, [], ◌∷◌, map, Option, Bool, ◌&&◌, ◌||◌, refl}
 use Rattle.std.proofs.Common.{ap, ◌∙◌, arith}
 use Rattle.fort_theory.specs.Patterns.{Pattern, Pair}
-use Rattle.fort_cores.specs.Cores.{Rel, Eq, Root, Below, Step, Par, Plus, Star, Conv}
+use Rattle.fort_theory.specs.Cores.{Rel, Eq, Root, Below, Step, Par, Plus, Star, Conv}
 use Rattle.fort_alike.specs.Atoms.{EqKind, StepKind, BelowKind, ParKind, StarKind, PlusKind, kind_for}
 use Rattle.fort_alike.specs.Alike.{Fact, facts_of, is_reaching}
-use Rattle.fort_atom_labels.specs.ListedAtoms.{Mark, OfBoth}
-use Rattle.fort_atom_labels.specs.AtomRules.{all_kids, one_kid, some_kid, same_roots, root_test, fact_step}
+use Rattle.fort_alike.specs.ListedAtoms.{Mark, OfBoth}
+use Rattle.fort_alike.specs.AtomRules.{all_kids, one_kid, some_kid, same_roots, root_test, fact_step}
 use Rattle.fort_label_bits.specs.RowBits.{bit_of}
 use Rattle.fort_context_closure.specs.FactTests.{fact_bit, fact_test}
 

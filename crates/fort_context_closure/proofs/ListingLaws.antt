@@ -6,10 +6,10 @@ use Rattle.fort_theory.specs.Signatures.{Signature}
 use Rattle.fort_theory.proofs.Lists.{none-some, some-injective}
 use Rattle.fort_tables.specs.Labels.{AreLabels}
 use Rattle.fort_tables.specs.LabelRules.{label_of}
-use Rattle.fort_atom_labels.specs.Subterms.{subterms}
-use Rattle.fort_atom_labels.specs.TermRule.{number_in, number_of, numbers, numbered, put_first, all_numbered, number_over, number_at, number_word, term_rule}
-use Rattle.fort_atom_labels.proofs.SubtermLaws.{number_in-stands, number_in-none, number_in-zero, number_in-at, AllAmong, ListsSubterms-subterms, children_listed}
-use Rattle.fort_atom_labels.proofs.TermLabels.{HasChildren, TellsNumber-tuple}
+use Rattle.fort_alike.specs.Subterms.{subterms}
+use Rattle.fort_alike.specs.TermRule.{number_in, number_of, numbers, numbered, put_first, all_numbered, number_over, number_at, number_word, term_rule}
+use Rattle.fort_alike.proofs.SubtermLaws.{number_in-stands, number_in-none, number_in-zero, number_in-at, AllAmong, ListsSubterms-subterms, children_listed}
+use Rattle.fort_alike.proofs.TermLabels.{HasChildren, TellsNumber-tuple}
 use Rattle.fort_context_closure.specs.TermNodes.{TermNode, node_for, AreNodesOf, numbers_told, IsNode, AreNoNode, IsNodeNumber}
 
 -- the trees of their numbers are the trees

@@ -5,14 +5,14 @@ use Rattle.fort_theory.specs.Patterns.{Pattern, Pair, PatternSystem, IsSystem}
 use Rattle.fort_theory.specs.PatternOrder.{AreSubpatternsInOrder}
 use Rattle.fort_theory.specs.Sides.{at_index}
 use Rattle.fort_theory.proofs.Members.{Contains-none}
-use Rattle.fort_cores.specs.Cores.{Rel, Leaf, Related}
+use Rattle.fort_theory.specs.Cores.{Rel, Leaf, Related}
 use Rattle.fort_terms.specs.PatternView.{as_pair, as_pattern}
-use Rattle.fort_cores.specs.Parts.{AreColumns}
+use Rattle.fort_theory.specs.Parts.{AreColumns}
 use Rattle.fort_alike.specs.Atoms.{Atom, kind_for, pairs_for, relation_atom}
-use Rattle.fort_atom_labels.specs.ListedAtoms.{ListedAtom, listed, IsListedAtom}
-use Rattle.fort_atom_labels.specs.ClosureTests.{IsClosure, closure_test}
-use Rattle.fort_atom_labels.proofs.ClosureTestLaws.{IsClosure-listed}
-use Rattle.fort_atom_labels.proofs.SystemAtoms.{IsListedAtom-relation}
+use Rattle.fort_alike.specs.ListedAtoms.{ListedAtom, listed, IsListedAtom}
+use Rattle.fort_alike.specs.ClosureTests.{IsClosure, closure_test}
+use Rattle.fort_alike.proofs.ClosureTestLaws.{IsClosure-listed}
+use Rattle.fort_alike.proofs.SystemAtoms.{IsListedAtom-relation}
 use Rattle.fort_findings.specs.declared.closure.ClosureEntry.{ClosureEntry}
 use Rattle.fort_context_closure.specs.PlainAtoms.{IsAtomOf, IsOfRules, IsRelationAtomOf, IsByPairs}
 use Rattle.fort_context_closure.specs.ClosedAtoms.{ClosedAtom, ListsPasses, numbers_of}

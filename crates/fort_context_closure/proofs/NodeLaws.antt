@@ -11,9 +11,9 @@ use Rattle.fort_theory.proofs.Lists.{none-some, some-injective}
 use Rattle.fort_theory.proofs.Members.{Contains-head, Contains-behind}
 use Rattle.fort_terms.specs.TermKeys.{tree_eq}
 use Rattle.fort_terms.specs.TermKeyLaws.{Decides-tree_eq}
-use Rattle.fort_atom_labels.specs.Subterms.{subterms, subterms_among}
-use Rattle.fort_atom_labels.specs.TermRule.{same_tree, one_further, number_in, numbers}
-use Rattle.fort_atom_labels.proofs.SubtermLaws.{Decides-same_tree, number_in-stands, number_in-none}
+use Rattle.fort_alike.specs.Subterms.{subterms, subterms_among}
+use Rattle.fort_alike.specs.TermRule.{same_tree, one_further, number_in, numbers}
+use Rattle.fort_alike.proofs.SubtermLaws.{Decides-same_tree, number_in-stands, number_in-none}
 use Rattle.fort_context_closure.specs.TermNodes.{AreNumbersIn, TermNode, node_for, AreNodesOf}
 
 pub subterms_among-push : (xs : List Tree) (x : Tree) → subterms_among (trees (xs ++ x ∷ [])) ≡ subterms_among (trees xs) ++ subterms x

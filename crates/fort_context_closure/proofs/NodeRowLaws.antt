@@ -9,12 +9,12 @@ use Rattle.fort_tables.specs.BitRows.{words_for}
 use Rattle.fort_tables.specs.LabelRules.{entry_label}
 use Rattle.fort_alike.specs.Atoms.{AtomKind}
 use Rattle.fort_alike.specs.Alike.{Fact, facts_of, is_reaching}
-use Rattle.fort_atom_labels.specs.ListedAtoms.{Mark, OfFirst, OfSecond, OfBoth, ListedAtom, listed}
-use Rattle.fort_atom_labels.specs.AtomRules.{marks_of, inside, first_step, second_step, root_test, mark_step, bit_in, atom_rule, any_pair, place, accepts_by, atom_accepts}
-use Rattle.fort_atom_labels.specs.PatternNumbers.{PatternNumber, number_inside}
-use Rattle.fort_atom_labels.proofs.BitPlaces.{NoneTwice}
-use Rattle.fort_atom_labels.proofs.PatternNumberLaws.{first_bit, second_bit, fact_bit, first_row, second_row}
-use Rattle.fort_atom_labels.proofs.RuleLaws.{row_is}
+use Rattle.fort_alike.specs.ListedAtoms.{Mark, OfFirst, OfSecond, OfBoth, ListedAtom, listed}
+use Rattle.fort_alike.specs.AtomRules.{marks_of, inside, first_step, second_step, root_test, mark_step, bit_in, atom_rule, any_pair, place, accepts_by, atom_accepts}
+use Rattle.fort_alike.specs.PatternNumbers.{PatternNumber, number_inside}
+use Rattle.fort_alike.proofs.BitPlaces.{NoneTwice}
+use Rattle.fort_alike.proofs.PatternNumberLaws.{first_bit, second_bit, fact_bit, first_row, second_row}
+use Rattle.fort_alike.proofs.RuleLaws.{row_is}
 use Rattle.fort_label_bits.specs.declared.rule_places.RulePlaces.{RulePlaces}
 use Rattle.fort_label_bits.specs.NumberedView.{AreNumbersOf}
 use Rattle.fort_label_bits.specs.RowBits.{labels_at, bit_of, HasBits, IsRow}

@@ -9,9 +9,9 @@ use Rattle.fort_tables.specs.Tuples.{Tuple, TupleSymbol, presence, fold_tuple}
 use Rattle.fort_tables.specs.LabelRules.{label_of}
 use Rattle.fort_alike.specs.Atoms.{NfKind}
 use Rattle.fort_alike.specs.Alike.{IsNormal}
-use Rattle.fort_atom_labels.specs.ListedAtoms.{OfFirst, OfBoth, ListedAtom, listed}
-use Rattle.fort_atom_labels.specs.AtomRules.{marks_of, atom_rule, inside, fact_step, bit_in, any_pair, all_kids, is_there}
-use Rattle.fort_atom_labels.proofs.PatternNumberLaws.{fact_bit}
+use Rattle.fort_alike.specs.ListedAtoms.{OfFirst, OfBoth, ListedAtom, listed}
+use Rattle.fort_alike.specs.AtomRules.{marks_of, atom_rule, inside, fact_step, bit_in, any_pair, all_kids, is_there}
+use Rattle.fort_alike.proofs.PatternNumberLaws.{fact_bit}
 use Rattle.fort_tables.specs.BitRows.{bit_row}
 use Rattle.fort_label_bits.specs.RowBits.{bit_of, HasBits}
 use Rattle.fort_context_closure.specs.SidePlaces.{side_at, AreSidesWithin, some_side}

@@ -11,13 +11,13 @@ use Rattle.fort_theory.specs.PatternOrder.{PatternBefore}
 use Rattle.fort_theory.proofs.ClosedPatterns.{PatternBefore-irreflexive}
 use Rattle.fort_theory.proofs.Members.{Contains-none, Contains-cons_cases, Contains-head, Contains-behind}
 use Rattle.fort_alike.specs.Alike.{is_reaching}
-use Rattle.fort_atom_labels.specs.ListedAtoms.{OfFirst, OfSecond}
-use Rattle.fort_atom_labels.specs.AtomRules.{same_pattern, marks_of, any_pair, inside, bit_in, first_step, second_step}
-use Rattle.fort_atom_labels.specs.ClosureTests.{pattern_place, is_listed, closure_test}
-use Rattle.fort_atom_labels.specs.PatternNumbers.{PatternNumber, number_inside}
-use Rattle.fort_atom_labels.proofs.BitPlaces.{NoneTwice}
-use Rattle.fort_atom_labels.proofs.Bits.{Decides-false, Decides-same_pattern, same_from_iff}
-use Rattle.fort_atom_labels.proofs.PatternNumberLaws.{first_row, second_row}
+use Rattle.fort_alike.specs.ListedAtoms.{OfFirst, OfSecond}
+use Rattle.fort_alike.specs.AtomRules.{same_pattern, marks_of, any_pair, inside, bit_in, first_step, second_step}
+use Rattle.fort_alike.specs.ClosureTests.{pattern_place, is_listed, closure_test}
+use Rattle.fort_alike.specs.PatternNumbers.{PatternNumber, number_inside}
+use Rattle.fort_alike.proofs.BitPlaces.{NoneTwice}
+use Rattle.fort_alike.proofs.Bits.{Decides-false, Decides-same_pattern, same_from_iff}
+use Rattle.fort_alike.proofs.PatternNumberLaws.{first_row, second_row}
 use Rattle.fort_label_bits.specs.NumberedView.{AreNumbersOf}
 use Rattle.fort_label_bits.specs.RowBits.{bit_of, HasBits}
 use Rattle.fort_label_bits.specs.declared.rule_places.RulePlaces.{RulePlaces}

@@ -15,7 +15,7 @@ use Rattle.fort_theory.proofs.Members.{Contains-none, Contains-cons_cases, Conta
 use Rattle.fort_tables.specs.BitRows.{has_bit, words_for}
 use Rattle.fort_tables.proofs.BitRowLaws.{has_bit-drop, has_bit-past}
 use Rattle.fort_tables.proofs.EqualTests.{test_from_apart}
-use Rattle.fort_atom_labels.proofs.Bits.{Decides-false, same_from_iff}
+use Rattle.fort_alike.proofs.Bits.{Decides-false, same_from_iff}
 use Rattle.fort_label_bits.proofs.RowBitLaws.{HasBits-none}
 use Rattle.fort_findings.specs.declared.closure.ClosureEntry.{ClosureEntry}
 use Rattle.fort_label_bits.specs.RowBits.{bit_of}

@@ -3,12 +3,12 @@ use Rattle.std.specs.Prelude.{◌≡◌, ℕ, ◌+◌, List, [], ◌∷◌, ◌+
 use Rattle.std.proofs.Common.{sym, ap, ◌∙◌}
 use Rattle.fort_theory.specs.Signatures.{Signature}
 use Rattle.fort_theory.specs.Patterns.{Pattern, Pair}
-use Rattle.fort_cores.specs.Cores.{Rel}
+use Rattle.fort_theory.specs.Cores.{Rel}
 use Rattle.fort_alike.specs.Atoms.{kind_for}
 use Rattle.fort_alike.specs.Alike.{Fact, facts_of, is_reaching}
-use Rattle.fort_atom_labels.specs.ListedAtoms.{Mark, OfFirst, OfSecond, OfBoth, ListedAtom, listed}
-use Rattle.fort_atom_labels.specs.AtomRules.{marks_of, first_step, second_step, same_roots, root_test, bit_in}
-use Rattle.fort_atom_labels.proofs.PatternNumberLaws.{fact_bit}
+use Rattle.fort_alike.specs.ListedAtoms.{Mark, OfFirst, OfSecond, OfBoth, ListedAtom, listed}
+use Rattle.fort_alike.specs.AtomRules.{marks_of, first_step, second_step, same_roots, root_test, bit_in}
+use Rattle.fort_alike.proofs.PatternNumberLaws.{fact_bit}
 use Rattle.fort_context_closure.specs.FactTests as tests
 use Rattle.fort_context_closure.proofs.FactLaws.{facts-are}
 use Rattle.fort_context_closure.proofs.NodeRowLaws.{node_marks}

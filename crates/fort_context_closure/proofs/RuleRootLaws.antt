@@ -4,8 +4,8 @@ use Rattle.std.specs.List.{list_any}
 use Rattle.std.proofs.Common.{ap, sym, ◌∙◌, arith, subst}
 use Rattle.std.proofs.lemmas.List.{get_or-map, get_or_default, length-map}
 use Rattle.std.proofs.lemmas.List.Elements.{Contains-get_or}
-use Rattle.fort_atom_labels.specs.PatternNumbers.{PatternNumber, number_inside}
-use Rattle.fort_atom_labels.proofs.Bits.{same_from_iff}
+use Rattle.fort_alike.specs.PatternNumbers.{PatternNumber, number_inside}
+use Rattle.fort_alike.proofs.Bits.{same_from_iff}
 use Rattle.fort_label_bits.specs.RootPlaces.{IsRooted, places_at, root_of}
 use Rattle.fort_label_bits.specs.RulePlaces.{no_rule}
 use Rattle.fort_context_closure.specs.RuleRootPlaces.{left_roots, right_roots, start_adds, end_adds, starts_at, ends_at}

@@ -7,7 +7,7 @@ use Rattle.fort_theory.specs.SymbolCode.{signature_code}
 use Rattle.fort_theory.specs.Patterns.{Pattern, Pair}
 use Rattle.fort_theory.specs.PatternCode.{pattern_code}
 use Rattle.fort_alike.specs.Atoms.{AtomKind, EqKind, RootKind, StepKind, BelowKind, ParKind, NfKind, StarKind, PlusKind}
-use Rattle.fort_atom_labels.specs.ListedAtoms.{ListedAtom, listed}
+use Rattle.fort_alike.specs.ListedAtoms.{ListedAtom, listed}
 use Rattle.fort_findings.specs.declared.closure.ClosureEntry.{ClosureEntry}
 use Rattle.fort_findings.specs.declared.closure.Reason.{Reason}
 use Rattle.fort_findings.specs.declared.closure.Reason.TheVariants as reasons

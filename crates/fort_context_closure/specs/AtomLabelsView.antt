@@ -6,20 +6,20 @@ use Rattle.fort_theory.specs.Patterns.{PatternSystem}
 use Rattle.fort_theory.specs.PatternSteps.{PatternStepAt}
 use Rattle.fort_theory.specs.Rewriting.{IsNormalForm}
 use Rattle.fort_theory.specs.Sides.{System}
-use Rattle.fort_cores.specs.Cores.{Rel, Core}
-use Rattle.fort_cores.specs.CoreTruth.{Places, RelatesBy, IsMetBy}
-use Rattle.fort_cores.specs.Structures.{structure_of}
+use Rattle.fort_theory.specs.Cores.{Rel, Core}
+use Rattle.fort_theory.specs.CoreTruth.{Places, RelatesBy, IsMetBy}
+use Rattle.fort_theory.specs.Structures.{structure_of}
 use Rattle.fort_tables.specs.Tuples.{Tuple, IsTuple}
 use Rattle.fort_tables.specs.BitRows.{words_for}
 use Rattle.fort_tables.specs.Labels.{Labelling}
 use Rattle.fort_tables.specs.LabelRules.{LabelRule, label_of}
-use Rattle.fort_alike.specs.Atoms.{Atom, IsTrueOf, OfOne}
+use Rattle.fort_alike.specs.Atoms.{Atom, IsTrueOfTuple, OfOne}
 use Rattle.fort_alike.specs.Alike.{Alike}
 use Rattle.fort_alike.specs.AlikeAtTerm.{AlikeAtTerm}
-use Rattle.fort_atom_labels.specs.AtomRules.{marks_of, atom_rule, atom_accepts}
-use Rattle.fort_atom_labels.specs.AssignedTuples.{tuple_of}
-use Rattle.fort_atom_labels.specs.Subterms.{subterms}
-use Rattle.fort_atom_labels.specs.TermRule.{term_rule, term_accepts}
+use Rattle.fort_alike.specs.AtomRules.{marks_of, atom_rule, atom_accepts}
+use Rattle.fort_alike.specs.AssignedTuples.{tuple_of}
+use Rattle.fort_alike.specs.Subterms.{subterms}
+use Rattle.fort_alike.specs.TermRule.{term_rule, term_accepts}
 use Rattle.fort_context_closure.specs.PlainAtoms.{no_closure, signed}
 use Rattle.fort_context_closure.specs.ClosedAtoms.{test_of}
 use Rattle.fort_context_closure.specs.declared.atom_labels.AtomLabels.{AtomLabels}
@@ -62,7 +62,7 @@ TellsAlike sig atom l = (t u : Tuple) → IsTuple sig atom.columns t → IsTuple
 
 -- the label of an optional tuple is accepted exactly where the atom holds of its arguments
 abbrev pub AcceptsTrue : Signature → Atom → AtomLabels → Type 0
-AcceptsTrue sig atom l = (t : Tuple) → IsTuple sig atom.columns t → Decides (accepted_by sig l (label_by sig l t)) (IsTrueOf atom t)
+AcceptsTrue sig atom l = (t : Tuple) → IsTuple sig atom.columns t → Decides (accepted_by sig l (label_by sig l t)) (IsTrueOfTuple atom t)
 
 -- an assignment is accepted exactly where the terms that it gives x and y are related by the steps of the index
 abbrev pub AcceptsRelated : PatternSystem → Rel → (index x y : ℕ) → List ℕ → AtomLabels → Type 0

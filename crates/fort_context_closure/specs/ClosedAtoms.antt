@@ -1,12 +1,12 @@
 -- To believe: an atom with the patterns of its rules' sides and the entries of a closure; the test that the entries make; the entries that passes make.
 use Rattle.std.specs.Prelude.{◌≡◌, ℕ, List, [], ◌++◌, map, Option, true, false, Bool}
 use Rattle.fort_theory.specs.Patterns.{Pattern, Pair}
-use Rattle.fort_cores.specs.Cores.{Rel}
+use Rattle.fort_theory.specs.Cores.{Rel}
 use Rattle.fort_alike.specs.Atoms.{kind_for, pairs_for}
 use Rattle.fort_alike.specs.Alike.{is_reaching}
-use Rattle.fort_atom_labels.specs.ListedAtoms.{ListedAtom}
-use Rattle.fort_atom_labels.specs.AtomRules.{bit_in, first_step, second_step}
-use Rattle.fort_atom_labels.specs.ClosureTests.{closure_test}
+use Rattle.fort_alike.specs.ListedAtoms.{ListedAtom}
+use Rattle.fort_alike.specs.AtomRules.{bit_in, first_step, second_step}
+use Rattle.fort_alike.specs.ClosureTests.{closure_test}
 use Rattle.fort_transducers.specs.declared.agtt.Agtt.{Agtt}
 use Rattle.fort_transducers.specs.RootSteps.{HasRootSteps}
 use Rattle.fort_gtt_closure.specs.declared.entry.Entry.{Entry}

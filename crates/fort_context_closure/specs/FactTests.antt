@@ -2,8 +2,8 @@
 use Rattle.std.specs.Prelude.{ℕ, ◌+◌, List, map, Bool, false, ◌&&◌, ◌||◌}
 use Rattle.fort_alike.specs.Atoms.{AtomKind}
 use Rattle.fort_alike.specs.Alike.{Fact, Same, Steps, StepsBelow, StepsInParallel, IsNormal, Goes, GoesStrictly, facts_of}
-use Rattle.fort_atom_labels.specs.ListedAtoms.{OfBoth}
-use Rattle.fort_atom_labels.specs.AtomRules.{place, all_kids, one_kid, some_kid}
+use Rattle.fort_alike.specs.ListedAtoms.{OfBoth}
+use Rattle.fort_alike.specs.AtomRules.{place, all_kids, one_kid, some_kid}
 use Rattle.fort_label_bits.specs.RowBits.{bit_of}
 
 -- the facts of a kind have the bits from this one on, in their order

@@ -3,9 +3,9 @@ use Rattle.std.specs.Prelude.{◌<◌, ◌^◌, List, [], map, length}
 use Rattle.fort_theory.specs.Patterns.{Pattern}
 use Rattle.fort_terms.specs.PatternView.{as_pattern}
 use Rattle.fort_alike.specs.Atoms.{NfKind}
-use Rattle.fort_atom_labels.specs.ListedAtoms.{ListedAtom, listed}
-use Rattle.fort_atom_labels.specs.AtomRules.{marks_of}
-use Rattle.fort_atom_labels.proofs.BitPlaces.{NoneTwice}
+use Rattle.fort_alike.specs.ListedAtoms.{ListedAtom, listed}
+use Rattle.fort_alike.specs.AtomRules.{marks_of}
+use Rattle.fort_alike.proofs.BitPlaces.{NoneTwice}
 use Rattle.fort_label_bits.specs.NumberedView.{AreNumbersOf}
 use Rattle.fort_context_closure.specs.SidePlaces.{side_at, AreSidesWithin}
 use Rattle.fort_context_closure.specs.declared.normal.NormalBits.TheInside.{Inside}

@@ -5,11 +5,11 @@ use Rattle.fort_theory.specs.Signatures.{Signature}
 use Rattle.fort_theory.specs.Patterns.{Pattern, Pair, PatternSystem}
 use Rattle.fort_theory.specs.PatternOrder.{AreSubpatternsInOrder}
 use Rattle.fort_theory.specs.Sides.{at_index}
-use Rattle.fort_cores.specs.Cores.{Rel, Leaf, Related}
-use Rattle.fort_cores.specs.Parts.{AreColumns}
+use Rattle.fort_theory.specs.Cores.{Rel, Leaf, Related}
+use Rattle.fort_theory.specs.Parts.{AreColumns}
 use Rattle.fort_alike.specs.Atoms.{Atom, NfKind, kind_for, pairs_for, relation_atom, normal_atom}
-use Rattle.fort_atom_labels.specs.ListedAtoms.{ListedAtom, listed, IsListedAtom}
-use Rattle.fort_atom_labels.specs.ClosureTests.{IsClosure}
+use Rattle.fort_alike.specs.ListedAtoms.{ListedAtom, listed, IsListedAtom}
+use Rattle.fort_alike.specs.ClosureTests.{IsClosure}
 use Rattle.fort_findings.specs.declared.closure.ClosureEntry.{ClosureEntry}
 use Rattle.fort_context_closure.specs.ClosedAtoms.{ClosedAtom, test_of}
 

@@ -2,7 +2,7 @@
 use Rattle.std.specs.Prelude.{◌≡◌, ℕ, ◌+◌, ◌<◌, suc, List, [], map, length, get_or, Contains, Option, None, Bool, false, Decides, nat_lt, ◌&&◌, ◌||◌, ◌==◌, vec_items}
 use Rattle.fort_theory.specs.Patterns.{Pattern, Any}
 use Rattle.fort_tables.specs.BitRows.{words_for}
-use Rattle.fort_atom_labels.specs.PatternNumbers.{PatternNumber, number_inside}
+use Rattle.fort_alike.specs.PatternNumbers.{PatternNumber, number_inside}
 use Rattle.fort_label_bits.specs.RowBits.{bit_of}
 use Rattle.fort_label_bits.specs.BitRowLists.{row_in}
 use Rattle.fort_findings.specs.declared.closure.ClosureEntry.{ClosureEntry}

@@ -5,9 +5,9 @@ use Rattle.fort_terms.specs.PatternView.{as_pattern}
 use Rattle.fort_relations.specs.RelView.{as_rel}
 use Rattle.fort_alike.specs.Atoms.{kind_for}
 use Rattle.fort_alike.specs.Alike.{is_reaching}
-use Rattle.fort_atom_labels.specs.ListedAtoms.{ListedAtom, listed, AreArguments}
-use Rattle.fort_atom_labels.specs.AtomRules.{marks_of}
-use Rattle.fort_atom_labels.proofs.BitPlaces.{NoneTwice}
+use Rattle.fort_alike.specs.ListedAtoms.{ListedAtom, listed, AreArguments}
+use Rattle.fort_alike.specs.AtomRules.{marks_of}
+use Rattle.fort_alike.proofs.BitPlaces.{NoneTwice}
 use Rattle.fort_label_bits.specs.NumberedView.{AreNumbersOf}
 use Rattle.fort_label_bits.specs.RulePlaces.{pair_at, AreWithin}
 use Rattle.fort_context_closure.specs.ClosedAtoms.{ClosedAtom, numbers_of}

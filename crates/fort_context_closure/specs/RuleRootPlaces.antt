@@ -1,6 +1,6 @@
 -- Inside: rules by the symbols at the roots of their sides, and what those of one root add to a label.
 use Rattle.std.specs.Prelude.{ℕ, List, map, length, get_or, Option, None, Bool, ◌&&◌}
-use Rattle.fort_atom_labels.specs.PatternNumbers.{PatternNumber, number_inside}
+use Rattle.fort_alike.specs.PatternNumbers.{PatternNumber, number_inside}
 use Rattle.fort_label_bits.specs.RowBits.{bit_of}
 use Rattle.fort_label_bits.specs.RootPlaces.{IsRooted, root_of}
 use Rattle.fort_context_closure.specs.ReachRows.{firsts_of, seconds_of}

@@ -3,8 +3,8 @@ use Rattle.std.specs.Prelude.{◌≡◌, ℕ, List, length, refl}
 use Rattle.fort_theory.specs.Signatures.{Signature}
 use Rattle.fort_tables.specs.Tuples.{TupleSymbol, presence}
 use Rattle.fort_tables.specs.Labels.{first_word}
-use Rattle.fort_atom_labels.specs.AtomRules.{marks_of}
-use Rattle.fort_atom_labels.proofs.Bits.{length-row_of}
+use Rattle.fort_alike.specs.AtomRules.{marks_of}
+use Rattle.fort_alike.proofs.Bits.{length-row_of}
 use Rattle.fort_context_closure.specs.declared.atom_labels.AtomLabels.{AtomLabels}
 use Rattle.fort_context_closure.specs.declared.atom_labels.AtomLabels.TheVariants.{Relation, Expression, Normal, Is}
 use Rattle.fort_relation_exprs.specs.RexWords.{has_rex_words}

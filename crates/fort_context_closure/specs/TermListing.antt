@@ -1,5 +1,5 @@
 -- Inside: what the fields of a term's labels stand for.
-use Rattle.fort_atom_labels.specs.Subterms.{subterms}
+use Rattle.fort_alike.specs.Subterms.{subterms}
 use Rattle.fort_context_closure.specs.TermNodes.{AreNodesOf}
 use Rattle.fort_context_closure.specs.declared.term_labels.TermLabels.TheInside.{Inside}
 

@@ -3,7 +3,7 @@ use Rattle.std.specs.Prelude.{◌≡◌, ◌⊎◌, ℕ, List, [], map, Contains
 use Rattle.std.specs.Map.{lookup, count_at}
 use Rattle.fort_theory.specs.Trees.{Tree, Node}
 use Rattle.fort_terms.specs.TermKeys.{tree_eq}
-use Rattle.fort_atom_labels.specs.TermRule.{number_in, numbers, number_word}
+use Rattle.fort_alike.specs.TermRule.{number_in, numbers, number_word}
 
 -- each tree has its number in the list at it, and those that aren't there have none
 abbrev pub AreNumbersIn : List Tree → List (Tree × ℕ) → Type 0

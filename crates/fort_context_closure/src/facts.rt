@@ -6,10 +6,10 @@ ghost use Rattle.fort_relations.specs.RelView.{as_rel};
 ghost use Rattle.fort_label_bits.specs.RowBits.{HasBits, bit_of, labels_at};
 ghost use Rattle.fort_context_closure.specs.FactTests.{fact_bit, fact_test};
 
-use fort_explore::Rows;
 use fort_label_bits::{all_under, one_under, put_mark, some_under};
-use fort_lockstep::Row;
+use fort_labels::Rows;
 use fort_relations::Rel;
+use fort_tuple_symbols::Row;
 
 /// How many facts the labels of a relation tell.
 pub(crate) fn fact_count(rel: Rel) -> usize

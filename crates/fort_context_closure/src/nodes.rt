@@ -1,9 +1,9 @@
 //! The subterms of a term, and each of them as a node over the others.
 ghost use Rattle.std.specs.Prelude.{◌≡◌, ◌++◌, List, map, IfOk, OnOk};
 ghost use Rattle.fort_theory.specs.Trees.{Tree};
-ghost use Rattle.fort_atom_labels.specs.TermRule.{number_in};
+ghost use Rattle.fort_alike.specs.TermRule.{number_in};
 ghost use Rattle.fort_context_closure.specs.TermNodes.{AreNumbersIn, AreNodesOf, node_for};
-ghost use Rattle.fort_atom_labels.specs.Subterms.{subterms};
+ghost use Rattle.fort_alike.specs.Subterms.{subterms};
 
 use fort_terms::{Memory, Sym, Term};
 use indexmap::IndexMap;

@@ -3,17 +3,17 @@ ghost use Rattle.std.specs.Prelude.{◌≡◌, ℕ, ◌<◌, ◌≤◌, ◌^◌,
 ghost use Rattle.fort_theory.specs.Sides.{IsIndexOf};
 ghost use Rattle.fort_tables.specs.BitRows.{words_for};
 ghost use Rattle.fort_tables.specs.LabelRules.{entry_label};
-ghost use Rattle.fort_atom_labels.specs.AtomRules.{marks_of, atom_rule, atom_accepts};
+ghost use Rattle.fort_alike.specs.AtomRules.{marks_of, atom_rule, atom_accepts};
 ghost use Rattle.fort_context_closure.specs.PlainAtoms.{no_closure, IsNormalAtomOf};
 
 use crate::side_places::{places_of_sides, some_side};
-use fort_explore::Rows;
 use fort_label_bits::{
     Numbered, all_have, clear, has_mark, is_there, number_patterns, put_first, put_mark,
     write_inside,
 };
-use fort_lockstep::Row;
+use fort_labels::Rows;
 use fort_terms::{Memory, Pattern, System};
+use fort_tuple_symbols::Row;
 use std::alloc::Global;
 use std::marker::Model;
 
@@ -28,7 +28,7 @@ pub struct NormalBits {
 }
 
 impl Model for NormalBits {
-    ghost use Rattle.fort_atom_labels.specs.ListedAtoms.{ListedAtom};
+    ghost use Rattle.fort_alike.specs.ListedAtoms.{ListedAtom};
     ghost use Rattle.fort_context_closure.specs.NormalView.{normal_seen, IsNormalBits};
 
     ghost Value = { ListedAtom };

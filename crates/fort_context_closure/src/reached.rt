@@ -10,12 +10,12 @@ ghost use Rattle.fort_context_closure.specs.RuleRootPlaces.{AreRuleRoots, start_
 ghost use Rattle.fort_label_bits.specs.declared.rule_places.RulePlaces as places;
 
 use crate::reach::Reach;
-use fort_explore::Rows;
 use fort_label_bits::{
     Numbered, Rooted, RulePlaces, add_row, is_inside, pattern_at, row_at, rule_at,
 };
-use fort_lockstep::Row;
+use fort_labels::Rows;
 use fort_terms::{Memory, Sym};
+use fort_tuple_symbols::Row;
 use std::alloc::Global;
 
 /// The roots of the two arguments.

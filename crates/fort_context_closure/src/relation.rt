@@ -7,7 +7,7 @@ ghost use Rattle.fort_tables.specs.LabelRules.{entry_label};
 ghost use Rattle.fort_tuple_symbols.specs.Columns.{as_column};
 ghost use Rattle.fort_alike.specs.Atoms.{kind_for};
 ghost use Rattle.fort_alike.specs.Alike.{is_reaching};
-ghost use Rattle.fort_atom_labels.specs.AtomRules.{marks_of, atom_rule, atom_accepts};
+ghost use Rattle.fort_alike.specs.AtomRules.{marks_of, atom_rule, atom_accepts};
 ghost use Rattle.fort_label_bits.specs.RowBits.{HasBits, labels_at};
 ghost use Rattle.fort_context_closure.specs.PlainAtoms.{IsOfRules, IsByPairs};
 ghost use Rattle.fort_context_closure.specs.ClosedAtoms.{numbers_of, pattern_bits, test_of};
@@ -19,16 +19,16 @@ use crate::facts::{fact_count, write_facts};
 use crate::reach::{Reach, reach_of};
 use crate::reached::{Node, RuleRoots, add_reached, root_rules};
 use crate::rule_list::{RuleList, rules_of};
-use fort_explore::Rows;
 use fort_findings::{ClosureEntry, Which};
 use fort_label_bits::{
     Arguments, Numbered, Rooted, RulePlaces, arguments_of, clear, has_mark, number_patterns,
     places_of_rules, put_first, root_patterns, rules_under, same_roots, some_marked, some_rule,
     write_rooted,
 };
-use fort_lockstep::Row;
+use fort_labels::Rows;
 use fort_relations::Rel;
 use fort_terms::{Memory, Pattern, Sym, System};
+use fort_tuple_symbols::Row;
 use std::alloc::Global;
 use std::marker::Model;
 

@@ -1,8 +1,8 @@
 //! The labels of an atom over a signature, as a rule.
 use crate::atom_labels::AtomLabels;
-use fort_explore::{LocalRule, Rows};
-use fort_lockstep::Row;
+use fort_labels::{LocalRule, Rows};
 use fort_terms::Signature;
+use fort_tuple_symbols::Row;
 
 /// The labels of an atom, with the signature of the tuples that they are given to.
 #[derive(Clone, Copy)]

@@ -3,14 +3,14 @@ ghost use Rattle.std.specs.Prelude.{◌≡◌, ◌<◌, ◌↔◌, ℕ, None, le
 ghost use Rattle.fort_theory.specs.Signatures as theory;
 ghost use Rattle.fort_tables.specs.Labels.{IsOverLabels};
 ghost use Rattle.fort_tables.specs.LabelRules.{label_of, entry_label};
-ghost use Rattle.fort_atom_labels.specs.Subterms.{subterms};
-ghost use Rattle.fort_atom_labels.specs.TermRule.{term_rule, term_accepts, number_word as number_word_lem};
+ghost use Rattle.fort_alike.specs.Subterms.{subterms};
+ghost use Rattle.fort_alike.specs.TermRule.{term_rule, term_accepts, number_word as number_word_lem};
 ghost use Rattle.fort_context_closure.specs.TermNodes.{IsNode, IsNumberOver, IsNodeNumber, numbers_told};
 
 use crate::nodes::{Node, nodes_of};
-use fort_explore::Rows;
-use fort_lockstep::Row;
+use fort_labels::Rows;
 use fort_terms::{Memory, Sym, Term};
+use fort_tuple_symbols::Row;
 use std::alloc::Global;
 use std::marker::Model;
 

@@ -3,19 +3,19 @@ use Rattle.std.specs.Prelude.{◌≡◌, ℕ, zero, suc, ◌+◌, ◌<◌, List,
 use Rattle.std.proofs.Common.{map, sym, ap, ◌∙◌, arith, append_assoc, append-nil}
 use Rattle.std.proofs.lemmas.List.{take_more, length-take-le, map-append}
 use Rattle.std.proofs.lemmas.Bool.{lt-ltb}
-use Rattle.fort_cores.specs.Cores as core
-use Rattle.fort_cores.specs.Cores.{Core}
+use Rattle.fort_theory.specs.Cores as core
+use Rattle.fort_theory.specs.Cores.{Core}
 use Rattle.fort_tables.proofs.EqualTests.{test_from_apart}
 use Rattle.fort_parts.specs.PartColumns.{columns_of}
 use Rattle.fort_alike.specs.ListedClosures.{Star, Conv}
-use Rattle.fort_in_order.specs.Dues.{DueStep, OfPart, OfMerge, OfValue, closure_due, closures_due, has_columns, is_turned, counts_due, table_due, answer_due, parts_due}
+use Rattle.fort_certificate_theory.specs.Dues.{DueStep, OfPart, OfMerge, OfValue, closure_due, closures_due, has_columns, is_turned, counts_due, table_due, answer_due, parts_due}
 use Rattle.fort_dues.specs.declared.dues.DueStep as due
 use Rattle.fort_outline.specs.declared.root.Root.{Root}
 use Rattle.fort_outline.specs.declared.root.Root.TheVariants.{True, Leaf, Not, Binary, Exists, Infinite}
 use Rattle.fort_outline.specs.Roots.{root_core}
 use Rattle.fort_dues.specs.DueView.{as_due}
-use Rattle.fort_in_order_laws.proofs.FineSteps.{chosen, passed_over}
-use Rattle.fort_in_order_laws.proofs.StepLists.{closures_due-push, parts_due-push}
+use Rattle.fort_certificate_theory.proofs.FineSteps.{chosen, passed_over}
+use Rattle.fort_certificate_theory.proofs.StepLists.{closures_due-push, parts_due-push}
 
 pub regroup : {A : Type 0} (ds us vs xs ys : List A) → xs ≡ ds ++ us → ys ≡ xs ++ vs → ys ≡ ds ++ (us ++ vs)
 regroup ds us vs xs ys e h = h ∙ (ap (λ zs. zs ++ vs) e ∙ append_assoc ds us vs)

@@ -1,5 +1,5 @@
 -- To believe: which step that is due a value of the program names.
-use Rattle.fort_in_order.specs.Dues as definitions
+use Rattle.fort_certificate_theory.specs.Dues as definitions
 use Rattle.fort_findings.specs.FindingView.{as_which}
 use Rattle.fort_dues.specs.declared.dues.DueStep.{DueStep}
 use Rattle.fort_dues.specs.declared.dues.DueStep.TheVariants.{Closure, Part, Merge, Counts, Value}

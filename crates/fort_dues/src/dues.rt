@@ -1,11 +1,11 @@
 //! The steps that are due for a formula, by its outline.
 ghost use Rattle.std.specs.Prelude.{◌≡◌, ◌<◌, ◌^◌, ◌++◌, List, false, map, length, get_or, IfOk, OnOk};
-ghost use Rattle.fort_cores.specs.Cores as theory;
+ghost use Rattle.fort_theory.specs.Cores as theory;
 ghost use Rattle.fort_parts.specs.PartColumns.{columns_of};
 ghost use Rattle.fort_outline.specs.Roots.{root_core, cores_of};
 ghost use Rattle.fort_outline.specs.Outlines.{IsOutlineOf, parts_in};
-ghost use Rattle.fort_in_order.specs.Dues as definitions;
-ghost use Rattle.fort_in_order.specs.Dues.{counts_due, table_due, answer_due, closure_due, closures_due, parts_due};
+ghost use Rattle.fort_certificate_theory.specs.Dues as definitions;
+ghost use Rattle.fort_certificate_theory.specs.Dues.{counts_due, table_due, answer_due, closure_due, closures_due, parts_due};
 ghost use Rattle.fort_findings.specs.FindingView.{as_which};
 ghost use Rattle.fort_dues.specs.DueView.{as_due};
 

@@ -7,19 +7,19 @@ use Rattle.fort_theory.specs.Trees.{Tree}
 use Rattle.fort_theory.specs.Signatures.{Signature}
 use Rattle.fort_theory.specs.Patterns.{PatternSystem}
 use Rattle.fort_theory.proofs.Members.{Contains-none}
-use Rattle.fort_expressions.specs.Expressions.{Expression}
-use Rattle.fort_expressions.specs.Contexts.{HoleNumber, HolePlace}
-use Rattle.fort_cores.specs.Cores as core
-use Rattle.fort_cores.specs.Parts.{is_free, AreColumns}
-use Rattle.fort_cores.specs.PatternStructures.{pattern_structure}
+use Rattle.fort_theory.specs.Expressions.{Expression}
+use Rattle.fort_theory.specs.Contexts.{HoleNumber, HolePlace}
+use Rattle.fort_theory.specs.Cores as core
+use Rattle.fort_theory.specs.Parts.{is_free, AreColumns}
+use Rattle.fort_theory.specs.PatternStructures.{pattern_structure}
 use Rattle.fort_tables.specs.Tables.{Table, IsListed, listed_table}
 use Rattle.fort_tables.specs.Labels.{Labelling, HasMoreLabels, IsTableOf}
 use Rattle.fort_tables.specs.LabelRules.{label_of, IsTableBy}
 use Rattle.fort_alike.specs.Atoms.{relation_atom, normal_atom}
 use Rattle.fort_alike.specs.ExpressionAlike.{expression_atom}
-use Rattle.fort_operations.specs.Projections.{some_below, project_rule, project_accepts}
-use Rattle.fort_operations.specs.OperationTruth.{complemented}
-use Rattle.fort_counts.specs.ManyLabels.{TellsMany, many_rule, many_accepts, many_value}
+use Rattle.fort_tables.specs.Projections.{some_below, project_rule, project_accepts}
+use Rattle.fort_tables.specs.OperationTruth.{complemented}
+use Rattle.fort_tables.specs.ManyLabels.{TellsMany, many_rule, many_accepts, many_value}
 use Rattle.fort_context_closure.specs.declared.atom_labels.AtomLabels.{AtomLabels}
 use Rattle.fort_context_closure.specs.AtomLabelsView.{column_count, rule_by, label_by, accepted_by, TellsAlike, AcceptsTrue, TellsAlikeAtTerm, AcceptsTerm, TellsAlikeAtExpression, AcceptsExpression}
 use Rattle.fort_context_closure.specs.SignedAtoms.{columns_by}
@@ -32,9 +32,9 @@ use Rattle.fort_parts.specs.RightAnswers.{IsRightBy}
 use Rattle.fort_parts.proofs.PartColumnLaws.{AreColumns-columns_of, columns_of-Normal, columns_of-IsTerm, column-from_free}
 use Rattle.fort_parts.proofs.StepAnswers.{IsRightBy-value, IsRightBy-labels, IsOverBy-closed, IsOverBy-few, place_bound, count_bound, LabelsTell-projected, IsAnswerTo-projected, IsAnswerTo-closed, LabelsTell-many, IsAnswerTo-many, IsAnswerTo-many_closed}
 use Rattle.fort_parts.proofs.AtomResults.{IsAnswerTo-Atom, IsAnswerTo-Expression, IsAnswerTo-Nf, IsAnswerTo-Is, LabelsTellAlike-Nf, LabelsTellAlike-Is}
-use Rattle.fort_reduced_parts.specs.ReducedParts.{AlikeWith}
-use Rattle.fort_reduced_parts.specs.ToldParts.{ToldWith}
-use Rattle.fort_reduced_parts.proofs.ToldLaws.{LabelsTell-with, LabelsTell-Leaf, IsOverBy-told, IsRightBy-Not-value, IsRightBy-Not-table, IsOverBy-Not, IsOverBy-Not-told}
+use Rattle.fort_parts.specs.ReducedParts.{AlikeWith}
+use Rattle.fort_parts.specs.ToldParts.{ToldWith}
+use Rattle.fort_parts.proofs.ToldLaws.{LabelsTell-with, LabelsTell-Leaf, IsOverBy-told, IsRightBy-Not-value, IsRightBy-Not-table, IsOverBy-Not, IsOverBy-Not-told}
 use Rattle.fort_engine.specs.declared.answer.Last.{Last}
 use Rattle.fort_engine.specs.declared.answer.Last.TheVariants.{Truth, Auto}
 use Rattle.fort_engine.specs.declared.answer.Decided.{Decided}

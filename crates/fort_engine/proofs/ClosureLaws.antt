@@ -10,8 +10,8 @@ use Rattle.std.proofs.lemmas.List.Elements.{All-push, Contains-append_left, Cont
 use Rattle.fort_theory.specs.Patterns.{PatternSystem}
 use Rattle.fort_theory.specs.Sides.{IsIndexOf, at_index}
 use Rattle.fort_theory.proofs.Members.{Contains-head}
-use Rattle.fort_cores.specs.Cores as core
-use Rattle.fort_cores.specs.Cores.{Core}
+use Rattle.fort_theory.specs.Cores as core
+use Rattle.fort_theory.specs.Cores.{Core}
 use Rattle.fort_alike.specs.ListedClosures.{Which, Star, Conv, relation_of, reads, asks}
 use Rattle.fort_findings.specs.declared.closure.ClosureEntry.{ClosureEntry}
 use Rattle.fort_findings.specs.FindingView.{as_which}
@@ -83,7 +83,7 @@ module _ (system : PatternSystem) (parts : List Core) where
 
   -- a closure that is asked for is among them
   asked_member : (w : Which) (i : ℕ) → list_any (asks w i) parts ≡ true → Contains (closure_asked parts i w) (w, i)
-  asked_member w i h = subst (λ (b : Bool). Contains (if b then ((w, i) ∷ []) else []) (w, i)) (sym h) (Contains-head (w, i) [])
+  asked_member w i h = subst (λ (b : Bool). Contains {X = Which × ℕ} (if b then ((w, i) ∷ []) else []) (w, i)) (sym h) (Contains-head (w, i) [])
 
   asked_at : (w : Which) (n lo i : ℕ) → lo ≤ i → i < lo + n → list_any (asks w i) parts ≡ true → Contains (closures_asked parts n lo) (w, i)
   asked_at w zero lo i l m h = absurd (omega arith)

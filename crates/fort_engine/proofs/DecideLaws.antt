@@ -6,23 +6,23 @@ use Rattle.std.proofs.lemmas.List.{get_or_push, get_or_append_left}
 use Rattle.std.proofs.lemmas.List.Elements.{Contains-get_or}
 use Rattle.fort_theory.specs.Signatures.{Signature}
 use Rattle.fort_theory.specs.Patterns.{PatternSystem}
-use Rattle.fort_cores.specs.Cores as core
-use Rattle.fort_cores.specs.Cores.{Core}
-use Rattle.fort_cores.specs.PartLists.{AreParts}
-use Rattle.fort_cores.specs.Parts.{postorder}
-use Rattle.fort_cores.specs.Kinds.{kind_of}
-use Rattle.fort_cores.specs.PatternStructures.{pattern_structure}
-use Rattle.fort_cores.proofs.EachOnceUnique.{AreEachOnce-unique}
+use Rattle.fort_theory.specs.Cores as core
+use Rattle.fort_theory.specs.Cores.{Core}
+use Rattle.fort_theory.specs.PartLists.{AreParts}
+use Rattle.fort_theory.specs.Parts.{postorder}
+use Rattle.fort_theory.specs.Kinds.{kind_of}
+use Rattle.fort_theory.specs.PatternStructures.{pattern_structure}
+use Rattle.fort_theory.proofs.EachOnceUnique.{AreEachOnce-unique}
 use Rattle.fort_tables.specs.Tuples.{Tuple, IsTuple}
 use Rattle.fort_tables.specs.Entries.{Entry, tuples_of}
 use Rattle.fort_formulas.specs.KindView.{as_kind}
 use Rattle.fort_parts.specs.PartColumns.{columns_of}
-use Rattle.fort_operations.specs.Agreement.{Agreement}
+use Rattle.fort_tables.specs.Agreement.{Agreement}
 use Rattle.fort_parts.specs.AlikeParts.{IsOverBy, IsFirstOverBy}
 use Rattle.fort_parts.specs.PartAnswers.{IsAnswerTo}
 use Rattle.fort_parts.specs.DecidedCores.{IsDecided, IsOperandOf}
 use Rattle.fort_parts.specs.RightAnswers.{HasTooManyBy}
-use Rattle.fort_reduced_parts.specs.ReducedParts.{AlikeWith}
+use Rattle.fort_parts.specs.ReducedParts.{AlikeWith}
 use Rattle.fort_parts.proofs.PartOrder.{IsEarlier, operand_earlier}
 use Rattle.fort_parts.proofs.PartFacts.{IsOverSystem-part, BindsFree-part, columns_of-few}
 use Rattle.fort_outline.specs.declared.outline.Outline.{Outline}

@@ -4,11 +4,11 @@ use Rattle.std.specs.declared.alloc.Global.{Global}
 use Rattle.std.specs.declared.vec.Vec.{Vec}
 use Rattle.std.proofs.Common.{true≢false, ap, sym, ◌∙◌, subst}
 use Rattle.fort_theory.specs.Patterns.{PatternSystem}
-use Rattle.fort_cores.specs.Cores as core
+use Rattle.fort_theory.specs.Cores as core
 use Rattle.fort_tables.specs.Tables.{Table, Listed, listed_table}
-use Rattle.fort_operations.specs.Projections.{ArePure}
-use Rattle.fort_counts.specs.Counts as counts
-use Rattle.fort_counts.specs.Counts.{AreCounts}
+use Rattle.fort_tables.specs.Projections.{ArePure}
+use Rattle.fort_tables.specs.Counts as counts
+use Rattle.fort_tables.specs.Counts.{AreCounts}
 use Rattle.fort_findings.specs.declared.count.Count.{Count}
 use Rattle.fort_findings.specs.FindingView.{as_count}
 use Rattle.fort_parts.specs.DecidedCores.{IsOperandOf}

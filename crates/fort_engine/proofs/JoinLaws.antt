@@ -3,12 +3,12 @@ use Rattle.std.specs.Prelude.{◌≡◌, ◌<◌, ◌≤◌, ℕ, List, length, 
 use Rattle.std.proofs.Common.{ap, sym, ◌∙◌, subst, arith}
 use Rattle.fort_theory.specs.Signatures.{most_columns}
 use Rattle.fort_theory.specs.Patterns.{PatternSystem}
-use Rattle.fort_cores.specs.Cores.{Core, Binary}
-use Rattle.fort_cores.specs.PatternStructures.{pattern_structure}
+use Rattle.fort_theory.specs.Cores.{Core, Binary}
+use Rattle.fort_theory.specs.PatternStructures.{pattern_structure}
 use Rattle.fort_tables.specs.Tables.{listed_table}
 use Rattle.fort_tables.specs.LabelRules.{label_of}
 use Rattle.fort_theory.specs.Logic.{Connective}
-use Rattle.fort_operations.specs.Products.{Operand, IsOperand, AreOperands, signature_of, connected, product_rule, product_accepts}
+use Rattle.fort_tables.specs.Products.{Operand, IsOperand, AreOperands, signature_of, connected, product_rule, product_accepts}
 use Rattle.fort_lockstep.specs.declared.dta.Dta.{Dta}
 use Rattle.fort_parts.specs.PartColumns.{columns_of, places_in}
 use Rattle.fort_parts.specs.PartAnswers.{Answer, OfValue, OfTable, IsAnswerTo}
@@ -16,8 +16,8 @@ use Rattle.fort_parts.specs.PartSteps.{operand_of}
 use Rattle.fort_parts.proofs.PartColumnLaws.{first_within, second_within}
 use Rattle.fort_parts.proofs.StepTables.{IsOperand-answer}
 use Rattle.fort_parts.proofs.StepAnswers.{is_free-joined, closed-values, some-first, some-second, IsAnswerTo-values, joined_label, LabelsTell-joined, IsAnswerTo-joined}
-use Rattle.fort_reduced_parts.specs.ToldParts.{ToldWith}
-use Rattle.fort_reduced_parts.proofs.ToldLaws.{LabelsTell-with}
+use Rattle.fort_parts.specs.ToldParts.{ToldWith}
+use Rattle.fort_parts.proofs.ToldLaws.{LabelsTell-with}
 use Rattle.fort_engine.specs.declared.answer.Last.{Last}
 use Rattle.fort_engine.specs.declared.answer.Last.TheVariants.{Truth, Auto}
 use Rattle.fort_engine.specs.declared.answer.Decided.{Decided}

@@ -3,9 +3,9 @@ use Rattle.std.specs.Prelude.{◌≡◌, ◌<◌, ℕ, List, length, get_or, Opt
 use Rattle.std.proofs.Common.{sym, ◌∙◌, ap, subst, arith}
 use Rattle.std.proofs.lemmas.List.{get_or_default}
 use Rattle.fort_theory.specs.Patterns.{PatternSystem}
-use Rattle.fort_cores.specs.Cores as core
-use Rattle.fort_cores.specs.Parts.{is_free}
-use Rattle.fort_cores.specs.PatternStructures.{pattern_structure}
+use Rattle.fort_theory.specs.Cores as core
+use Rattle.fort_theory.specs.Parts.{is_free}
+use Rattle.fort_theory.specs.PatternStructures.{pattern_structure}
 use Rattle.fort_theory.specs.Logic.{Connective}
 use Rattle.fort_parts.specs.PartAnswers.{OfValue, IsAnswerTo}
 use Rattle.fort_parts.specs.PartColumns.{columns_of}

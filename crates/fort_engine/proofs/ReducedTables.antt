@@ -3,26 +3,26 @@ use Rattle.std.proofs.Common.{◌≡◌, ℕ, ◌<◌, List, [], map, length, ge
 use Rattle.std.proofs.lemmas.List.{length-map, get_or-map, ext_get_or}
 use Rattle.fort_theory.specs.Signatures.{Signature}
 use Rattle.fort_theory.specs.Patterns.{PatternSystem}
-use Rattle.fort_cores.specs.Cores.{Core}
-use Rattle.fort_cores.specs.PatternStructures.{pattern_structure}
+use Rattle.fort_theory.specs.Cores.{Core}
+use Rattle.fort_theory.specs.PatternStructures.{pattern_structure}
 use Rattle.fort_tables.specs.Tuples.{Tuple, root, kid, kids, kid_count, IsTuple}
 use Rattle.fort_tables.specs.Entries.{entry}
 use Rattle.fort_tables.specs.Tables.{Table, IsTable, IsReached, state_of}
 use Rattle.fort_tables.proofs.TupleLaws.{tuple_induction, fold_tuple-step, IsTuple-kid, length-tabulate, get_or-tabulate}
 use Rattle.fort_tables.proofs.TableLaws.{table_state, entry_of}
-use Rattle.fort_interchange.specs.Merges.{merged, IsCoarsest}
-use Rattle.fort_interchange.proofs.MergeLaws.{class_count, IsTable-merged}
-use Rattle.fort_interchange.proofs.SeparationLaws.{IsTableEntry-states}
-use Rattle.fort_atom_labels.specs.AssignedTuples.{tuple_of}
-use Rattle.fort_operations.specs.Agreement.{Agreement, TellsAgreement}
+use Rattle.fort_tables.specs.Merges.{merged, IsCoarsest}
+use Rattle.fort_tables.proofs.MergeLaws.{class_count, IsTable-merged}
+use Rattle.fort_tables.proofs.SeparationLaws.{IsTableEntry-states}
+use Rattle.fort_alike.specs.AssignedTuples.{tuple_of}
+use Rattle.fort_tables.specs.Agreement.{Agreement, TellsAgreement}
 use Rattle.fort_parts.specs.PartColumns.{columns_of}
 use Rattle.fort_parts.specs.PartAnswers.{Answer, OfTable, IsAnswerTo}
 use Rattle.fort_parts.specs.RightAnswers.{IsRightBy}
 use Rattle.fort_parts.proofs.AssignedColumns.{AreTerms-tuple_of}
 use Rattle.fort_parts.proofs.StepTables.{IsTuple-terms}
-use Rattle.fort_reduced_parts.specs.ReducedParts.{InterchangeableAt, AlikeWith}
-use Rattle.fort_reduced_parts.specs.ToldParts.{ToldWith}
-use Rattle.fort_reduced_parts.proofs.MergedAnswers.{IsAnswerTo-merged, TellsAgreement-merged}
+use Rattle.fort_parts.specs.ReducedParts.{InterchangeableAt, AlikeWith}
+use Rattle.fort_parts.specs.ToldParts.{ToldWith}
+use Rattle.fort_parts.proofs.MergedAnswers.{IsAnswerTo-merged, TellsAgreement-merged}
 use Rattle.fort_reduce.specs.MergedTables.{IsMergedTable}
 use Rattle.fort_engine.specs.declared.options.Options.{Options}
 use Rattle.fort_engine.specs.Kept.{IsRight}

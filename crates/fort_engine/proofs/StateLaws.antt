@@ -4,15 +4,15 @@ use Rattle.std.proofs.Common.{refl, ap, subst, arith, ⊎_elim}
 use Rattle.std.proofs.lemmas.Bool.{cases_lt}
 use Rattle.fort_theory.specs.Signatures.{Signature}
 use Rattle.fort_theory.specs.Patterns.{PatternSystem}
-use Rattle.fort_cores.specs.Cores.{Core}
+use Rattle.fort_theory.specs.Cores.{Core}
 use Rattle.fort_tables.specs.Tuples.{Tuple, IsTuple}
 use Rattle.fort_tables.specs.Tables.{Table, state_of, IsReached, listed_table}
-use Rattle.fort_operations.specs.Agreement.{Agreement}
+use Rattle.fort_tables.specs.Agreement.{Agreement}
 use Rattle.fort_parts.specs.PartColumns.{columns_of}
 use Rattle.fort_parts.specs.AlikeParts.{IsOverBy}
 use Rattle.fort_parts.specs.PartAnswers.{OfTable}
 use Rattle.fort_parts.specs.RightAnswers.{IsRightBy}
-use Rattle.fort_reduced_parts.specs.ToldParts.{ToldWith}
+use Rattle.fort_parts.specs.ToldParts.{ToldWith}
 use Rattle.fort_engine.specs.declared.answer.Last.{Last}
 use Rattle.fort_engine.specs.declared.answer.Last.TheVariants.{Truth, Auto}
 use Rattle.fort_engine.specs.declared.options.Options.{Options}

@@ -1,15 +1,15 @@
 -- To believe: which answer of the definitions an answer of the program is, and how many states its table has; a fault of deciding is want of memory, or a part over the cap with its kind and the tuples that show it, with reduced tables or without.
 use Rattle.std.specs.Prelude.{◌≡◌, ◌<◌, ◌≤◌, ℕ, List, length, get_or, Bool}
 use Rattle.fort_theory.specs.Patterns.{PatternSystem}
-use Rattle.fort_cores.specs.Cores as core
-use Rattle.fort_cores.specs.PartLists.{AreParts}
-use Rattle.fort_cores.specs.Kinds.{kind_of}
+use Rattle.fort_theory.specs.Cores as core
+use Rattle.fort_theory.specs.PartLists.{AreParts}
+use Rattle.fort_theory.specs.Kinds.{kind_of}
 use Rattle.fort_tables.specs.Tables.{listed_table}
 use Rattle.fort_formulas.specs.KindView.{as_kind}
 use Rattle.fort_parts.specs.PartAnswers as parts
 use Rattle.fort_parts.specs.AlikeParts.{IsOverBy, IsFirstOverBy}
 use Rattle.fort_parts.specs.RightAnswers.{HasTooManyBy}
-use Rattle.fort_reduced_parts.specs.ReducedParts.{AlikeWith}
+use Rattle.fort_parts.specs.ReducedParts.{AlikeWith}
 use Rattle.fort_engine.specs.declared.answer.Last.{Last}
 use Rattle.fort_engine.specs.declared.answer.Last.TheVariants.{Truth, Auto}
 use Rattle.fort_engine.specs.declared.answer.Limit.{Limit}

@@ -1,11 +1,11 @@
 -- To believe: what a part meets that is decided, what is known of its operands, what a decision of it is, and which labels are a formula's.
 use Rattle.std.specs.Prelude.{◌≡◌, ℕ, ◌<◌, ◌≤◌, List, length, get_or, Bool, true, Option, None, Result, IfOk, IfErr, OnOk}
-use Rattle.fort_cores.specs.Cores.{Binary}
+use Rattle.fort_theory.specs.Cores.{Binary}
 use Rattle.fort_theory.specs.Signatures.{most_columns}
 use Rattle.fort_theory.specs.Patterns.{PatternSystem}
-use Rattle.fort_cores.specs.Cores as core
-use Rattle.fort_cores.specs.Parts.{BindsFree, HasManyRootsAt, is_free}
-use Rattle.fort_cores.specs.PatternStructures.{pattern_structure}
+use Rattle.fort_theory.specs.Cores as core
+use Rattle.fort_theory.specs.Parts.{BindsFree, HasManyRootsAt, is_free}
+use Rattle.fort_theory.specs.PatternStructures.{pattern_structure}
 use Rattle.fort_tables.specs.Tables.{Table}
 use Rattle.fort_tables.specs.Labels.{Labelling}
 use Rattle.fort_tables.specs.LabelRules.{IsTableBy}
@@ -15,7 +15,7 @@ use Rattle.fort_parts.specs.PartAnswers.{Answer, OfTable, IsAnswerTo}
 use Rattle.fort_parts.specs.PartLabels.{LabelsTell}
 use Rattle.fort_parts.specs.DecidedCores.{IsDecided, IsOverSystem, IsOperandOf}
 use Rattle.fort_parts.specs.RightAnswers.{HasTooManyBy}
-use Rattle.fort_reduced_parts.specs.ReducedParts.{AlikeWith}
+use Rattle.fort_parts.specs.ReducedParts.{AlikeWith}
 use Rattle.fort_parts.proofs.PartOrder.{IsEarlier}
 use Rattle.fort_outline.specs.declared.outline.Outline.{Outline}
 use Rattle.fort_outline.specs.Outlines.{parts_in, core_at, IsOutlineOf}

@@ -3,21 +3,21 @@ use Rattle.std.specs.Prelude.{◌≡◌, ℕ, ◌<◌, List, length, map, get_or
 use Rattle.std.specs.declared.alloc.Global.{Global}
 use Rattle.std.specs.declared.vec.Vec.{Vec}
 use Rattle.fort_theory.specs.Patterns.{PatternSystem}
-use Rattle.fort_cores.specs.Cores as core
-use Rattle.fort_cores.specs.Parts.{is_free}
+use Rattle.fort_theory.specs.Cores as core
+use Rattle.fort_theory.specs.Parts.{is_free}
 use Rattle.fort_tables.specs.Tables.{Table, Listed, IsListed, listed_table}
-use Rattle.fort_interchange.specs.Merges.{IsCoarsest}
+use Rattle.fort_tables.specs.Merges.{IsCoarsest}
 use Rattle.fort_reduce.specs.MergedTables.{IsMergedTable}
-use Rattle.fort_operations.specs.Projections.{ArePure}
-use Rattle.fort_operations.specs.OperationTruth.{complemented}
-use Rattle.fort_counts.specs.Counts as counts
-use Rattle.fort_counts.specs.Counts.{AreCounts}
+use Rattle.fort_tables.specs.Projections.{ArePure}
+use Rattle.fort_tables.specs.OperationTruth.{complemented}
+use Rattle.fort_tables.specs.Counts as counts
+use Rattle.fort_tables.specs.Counts.{AreCounts}
 use Rattle.fort_findings.specs.declared.count.Count.{Count}
 use Rattle.fort_findings.specs.FindingView.{as_count}
 use Rattle.fort_parts.specs.PartColumns.{columns_of, place_in}
 use Rattle.fort_parts.specs.PartAnswers.{OfTable}
 use Rattle.fort_parts.specs.RightAnswers.{IsRightBy, HasTooManyBy}
-use Rattle.fort_reduced_parts.specs.ReducedParts.{AlikeWith}
+use Rattle.fort_parts.specs.ReducedParts.{AlikeWith}
 use Rattle.fort_explore.specs.declared.table.ExploreFault.{ExploreFault}
 use Rattle.fort_explore.specs.Answer.{IfOver}
 use Rattle.fort_engine.specs.declared.answer.Last.{Last}

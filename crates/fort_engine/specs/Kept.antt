@@ -1,12 +1,12 @@
 -- To believe: what is kept of the answers: right ones, whose states tell when tuples are alike, or interchangeable where tables are reduced.
 use Rattle.std.specs.Prelude.{◌≡◌, ℕ, ◌<◌, ◌≤◌, List, length, get_or, Option, None, Some}
 use Rattle.fort_theory.specs.Patterns.{PatternSystem}
-use Rattle.fort_cores.specs.Cores as core
+use Rattle.fort_theory.specs.Cores as core
 use Rattle.fort_parts.specs.AlikeParts.{IsOverBy}
 use Rattle.fort_parts.specs.PartAnswers.{Answer}
 use Rattle.fort_parts.specs.RightAnswers.{IsRightBy}
-use Rattle.fort_reduced_parts.specs.ReducedParts.{AlikeWith}
-use Rattle.fort_reduced_parts.specs.ToldParts.{ToldWith}
+use Rattle.fort_parts.specs.ReducedParts.{AlikeWith}
+use Rattle.fort_parts.specs.ToldParts.{ToldWith}
 use Rattle.fort_engine.specs.declared.answer.Last.{Last}
 use Rattle.fort_engine.specs.declared.options.Options.{Options}
 use Rattle.fort_engine.specs.AnswerView.{as_answer}

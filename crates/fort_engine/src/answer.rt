@@ -4,7 +4,8 @@ ghost use Rattle.fort_engine.specs.declared.answer.Last.TheVariants.{Truth};
 
 use fort_findings::Count;
 use fort_formulas::Kind;
-use fort_lockstep::{Dag, Dta};
+use fort_lockstep::Dta;
+use fort_table::Dag;
 use std::alloc::{AllocError, AllocFailed};
 
 /// The answer to a formula, or to a part of one.

@@ -1,9 +1,9 @@
 //! Atoms, by their labels.
 ghost use Rattle.std.specs.Prelude.{ℕ, List, Contains};
 ghost use Rattle.fort_theory.specs.Sides.{IsIndexOf, at_index};
-ghost use Rattle.fort_expressions.specs.Expressions.{HasManyRoots};
-ghost use Rattle.fort_cores.specs.Cores as theory;
-ghost use Rattle.fort_cores.specs.Parts.{HasManyRootsIn};
+ghost use Rattle.fort_theory.specs.Expressions.{HasManyRoots};
+ghost use Rattle.fort_theory.specs.Cores as theory;
+ghost use Rattle.fort_theory.specs.Parts.{HasManyRootsIn};
 ghost use Rattle.fort_parts.specs.DecidedCores.{IsAtomOver, IsExpressionOver};
 ghost use Rattle.fort_relations.specs.HolesView.{as_hole_number, as_hole_place};
 ghost use Rattle.fort_relations.specs.RelView.{as_rel};
@@ -19,8 +19,9 @@ use crate::closures::Closures;
 use crate::explored::explored;
 use crate::options::Options;
 use fort_context_closure::{AtomLabels, SignedAtom};
-use fort_explore::{ByRule, ExploreFault};
+use fort_explore::ExploreFault;
 use fort_findings::ClosureEntry;
+use fort_labels::ByRule;
 use fort_outline::Leaf;
 use fort_relations::{Holes, Place, Rel, Rex};
 use fort_terms::{System, Term};

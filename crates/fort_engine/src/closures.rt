@@ -3,7 +3,7 @@ ghost use Rattle.std.specs.Prelude.{◌≡◌, ◌++◌, ◌↔◌, ℕ, List, m
 ghost use Rattle.std.specs.List.{All};
 ghost use Rattle.fort_theory.specs.Patterns.{PatternSystem};
 ghost use Rattle.fort_theory.specs.Sides.{IsIndexOf, at_index};
-ghost use Rattle.fort_cores.specs.Cores as theory;
+ghost use Rattle.fort_theory.specs.Cores as theory;
 ghost use Rattle.fort_relations.specs.RelView.{as_rel};
 ghost use Rattle.fort_alike.specs.ListedClosures as definitions;
 ghost use Rattle.fort_alike.specs.ListedClosures.{relation_of};

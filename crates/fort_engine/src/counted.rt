@@ -1,6 +1,6 @@
 //! "Infinitely many" of answers.
 ghost use Rattle.std.specs.Prelude.{◌≡◌, ℕ, map};
-ghost use Rattle.fort_cores.specs.Cores as theory;
+ghost use Rattle.fort_theory.specs.Cores as theory;
 ghost use Rattle.fort_tables.specs.Tables.{listed_table};
 ghost use Rattle.fort_findings.specs.FindingView.{as_count};
 ghost use Rattle.fort_parts.specs.PartAnswers.{OfTable};
@@ -12,13 +12,15 @@ use crate::answer::{Decided, Last};
 use crate::explored::explored;
 use crate::operands::Answered;
 use crate::options::Options;
-use fort_explore::{ByRule, ExploreFault};
+use fort_explore::ExploreFault;
 use fort_findings::Count;
 use fort_infinity::local::many_value;
 use fort_infinity::{Many, pure_counts};
-use fort_lockstep::{Dta, Table};
+use fort_labels::ByRule;
+use fort_lockstep::Dta;
 use fort_outline::column_of;
-use fort_rrn_algebra::pure_states;
+use fort_projections::pure_states;
+use fort_table::Table;
 use fort_terms::System;
 use std::alloc::Global;
 

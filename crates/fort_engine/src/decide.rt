@@ -1,7 +1,7 @@
 //! Decides a formula, each of its parts in turn.
 ghost use Rattle.std.specs.Prelude.{◌≡◌, ℕ, ◌<◌, ◌≤◌, [], length, slice_index_or, false, true, None, IfOk, IfErr, OnOk};
-ghost use Rattle.fort_cores.specs.Cores as theory;
-ghost use Rattle.fort_cores.specs.PatternStructures.{pattern_structure};
+ghost use Rattle.fort_theory.specs.Cores as theory;
+ghost use Rattle.fort_theory.specs.PatternStructures.{pattern_structure};
 ghost use Rattle.fort_formulas.specs.CoreView.{as_core};
 ghost use Rattle.fort_parts.specs.DecidedCores.{IsDecided};
 ghost use Rattle.fort_parts.specs.PartAnswers.{IsAnswerTo};
@@ -151,6 +151,7 @@ pub fn decide_with(
 }
 
 /// `decide_with`, with tables as they are.
+/// Promised to callers: the program itself doesn't call it.
 pub fn decide_core(
     alloc: Global,
     system: &System,

@@ -1,18 +1,19 @@
 //! Tables by a formula's labels, reduced where tables are.
 ghost use Rattle.std.specs.Prelude.{◌≡◌, length, IfOk};
 ghost use Rattle.fort_theory.specs.Patterns.{PatternSystem};
-ghost use Rattle.fort_cores.specs.Cores as theory;
+ghost use Rattle.fort_theory.specs.Cores as theory;
 ghost use Rattle.fort_tables.specs.Tables.{IsListed, listed_table};
 ghost use Rattle.fort_parts.specs.PartAnswers.{OfTable};
 ghost use Rattle.fort_parts.specs.RightAnswers.{IsRightBy};
-ghost use Rattle.fort_reduced_parts.specs.ReducedParts.{AlikeWith};
+ghost use Rattle.fort_parts.specs.ReducedParts.{AlikeWith};
 ghost use Rattle.fort_engine.specs.Kept.{IsRight};
 ghost use Rattle.fort_engine.specs.Found.{IsKeptAs};
 ghost use Rattle.fort_engine.specs.Deciding.{IsDecision, AreLabelsFor};
 
 use crate::answer::{Decided, Last};
 use crate::options::Options;
-use fort_explore::{ExploreFault, Explored, Labeller, explore_listed};
+use fort_explore::{ExploreFault, Explored, explore_listed};
+use fort_labels::Labeller;
 use fort_lockstep::Dta;
 use fort_reduce::reduce;
 use fort_terms::{Memory, System};

@@ -1,6 +1,6 @@
 //! Connectives of answers.
 ghost use Rattle.std.specs.Prelude.{◌≡◌, ◌<◌, length};
-ghost use Rattle.fort_cores.specs.Cores as theory;
+ghost use Rattle.fort_theory.specs.Cores as theory;
 ghost use Rattle.fort_tables.specs.Tables.{listed_table};
 ghost use Rattle.fort_products.specs.Operands as algebra;
 ghost use Rattle.fort_connectives.specs.ConnectiveView.{connective_of};
@@ -13,10 +13,11 @@ use crate::explored::explored;
 use crate::operands::Answered;
 use crate::options::Options;
 use fort_connectives::Op;
-use fort_explore::{ByRule, ExploreFault};
+use fort_explore::ExploreFault;
+use fort_labels::ByRule;
 use fort_lockstep::Dta;
 use fort_outline::places_among;
-use fort_rrn_algebra::{Both, Operand};
+use fort_products::{Both, Operand};
 use fort_terms::System;
 use std::alloc::Global;
 

@@ -1,6 +1,6 @@
 //! The operands of a part: their answers and columns, by their numbers.
 ghost use Rattle.std.specs.Prelude.{◌≡◌, ◌<◌, List, length, slice_index_or, None, Some};
-ghost use Rattle.fort_cores.specs.Cores as theory;
+ghost use Rattle.fort_theory.specs.Cores as theory;
 ghost use Rattle.fort_parts.specs.PartColumns.{columns_of};
 ghost use Rattle.fort_outline.specs.Outlines.{AreColumnsOf};
 

@@ -1,7 +1,7 @@
 //! Decides one part from the answers to its operands.
 ghost use Rattle.std.specs.Prelude.{◌≡◌, None, IfOk};
 ghost use Rattle.fort_theory.specs.Patterns.{PatternSystem};
-ghost use Rattle.fort_cores.specs.Cores as theory;
+ghost use Rattle.fort_theory.specs.Cores as theory;
 ghost use Rattle.fort_connectives.specs.ConnectiveView.{connective_of};
 ghost use Rattle.fort_outline.specs.Outlines.{parts_in, core_at};
 ghost use Rattle.fort_engine.specs.declared.options.Options as asked;

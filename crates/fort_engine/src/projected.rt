@@ -1,8 +1,8 @@
 //! Projections of answers.
 ghost use Rattle.std.specs.Prelude.{◌≡◌, ◌<◌, length};
-ghost use Rattle.fort_cores.specs.Cores as theory;
+ghost use Rattle.fort_theory.specs.Cores as theory;
 ghost use Rattle.fort_tables.specs.Tables.{listed_table};
-ghost use Rattle.fort_operations.specs.Projections.{some_below};
+ghost use Rattle.fort_tables.specs.Projections.{some_below};
 ghost use Rattle.fort_parts.specs.PartAnswers.{OfTable};
 ghost use Rattle.fort_engine.specs.AnswerView.{as_answer};
 ghost use Rattle.fort_engine.specs.Deciding.{IsBody, IsDecision};
@@ -12,9 +12,10 @@ use crate::explored::explored;
 use crate::operands::Answered;
 use crate::options::Options;
 use fort_explore::ExploreFault;
-use fort_lockstep::{Dta, Table};
+use fort_lockstep::Dta;
 use fort_outline::column_of;
-use fort_rrn_algebra::{Project, Projecting};
+use fort_projections::{Project, Projecting};
+use fort_table::Table;
 use fort_terms::System;
 use std::alloc::Global;
 

@@ -4,6 +4,5 @@ pub mod FullLaws
 pub mod KnownLaws
 pub mod PlaceLaws
 pub mod ExploreLaws
-pub mod RowLaws
 pub mod ShortLabelLaws
 pub mod LabelSetLaws

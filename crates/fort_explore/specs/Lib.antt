@@ -1,5 +1,3 @@
-pub mod RowsView
-pub mod RowsInside
 pub mod Exploring
 pub mod Answer
 pub mod ListedTargets

@@ -4,11 +4,12 @@ ghost use Rattle.fort_theory.specs.Signatures as theory;
 ghost use Rattle.fort_tables.specs.Entries.{AreNodes};
 ghost use Rattle.fort_explore.specs.Exploring.{IsReady, IsPlaced};
 
-use crate::labeller::Labeller;
 use crate::labels::LabelSet;
-use crate::rows::Rows;
-use fort_lockstep::{Dag, Row, Steps};
+use fort_labels::{Labeller, Rows};
+use fort_lockstep::Steps;
+use fort_table::Dag;
 use fort_terms::Memory;
+use fort_tuple_symbols::Row;
 use std::alloc::Global;
 use std::sync::ledger::Ledger;
 

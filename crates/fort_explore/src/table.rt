@@ -10,9 +10,9 @@ ghost use Rattle.fort_explore.specs.Answer.{IfOver};
 ghost use Rattle.fort_explore.specs.ListedTargets.{AreListedTargets};
 
 use crate::found::{Found, place_of};
-use crate::labeller::Labeller;
-use crate::rows::Rows;
-use fort_lockstep::{Dag, Dta, Maker, Steps};
+use fort_labels::{Labeller, Rows};
+use fort_lockstep::{Dta, Maker, Steps};
+use fort_table::Dag;
 use fort_terms::{Memory, Signature};
 use std::alloc::{AllocError, Global};
 use std::marker::Brand;

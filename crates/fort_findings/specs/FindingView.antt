@@ -1,5 +1,5 @@
 -- To believe: which count, and which closure and its pairs, of the definitions those of the program are.
-use Rattle.fort_counts.specs.Counts as counts
+use Rattle.fort_tables.specs.Counts as counts
 use Rattle.fort_alike.specs.ListedClosures as closures
 use Rattle.fort_findings.specs.declared.closure.Which.{Which}
 use Rattle.fort_findings.specs.declared.closure.Which.TheVariants.{Star, Conv}

@@ -1,6 +1,6 @@
 //! Counts of states.
 ghost use Rattle.std.specs.Prelude.{◌≡◌};
-ghost use Rattle.fort_counts.specs.Counts.{is_infinite as is_infinite_lem};
+ghost use Rattle.fort_tables.specs.Counts.{is_infinite as is_infinite_lem};
 ghost use Rattle.fort_findings.specs.FindingView.{as_count};
 
 /// How many terms of one column alone give a state.

@@ -1,7 +1,7 @@
 -- Reading an expression is local: what was read as one is read as it too where other tokens follow, unless an index or a ( is the first of them.
 use Rattle.std.proofs.Common.{List, [], ◌∷◌}
-use Rattle.fort_expressions.specs.Expressions.{Expression}
-use Rattle.fort_expressions.specs.Contexts.{HoleNumber, HolePlace}
+use Rattle.fort_theory.specs.Expressions.{Expression}
+use Rattle.fort_theory.specs.Contexts.{HoleNumber, HolePlace}
 use Rattle.fort_formula_grammar.specs.Tokens.{Token, Open, Begin, Variable}
 use Rattle.fort_formula_grammar.specs.ExpressionGrammar.{IsExpression, OfRoot, OfOne, OfTwo, IsEnclosed, Between}
 use Rattle.fort_formula_grammar.proofs.LocalParts.{Local, Local-front, Local-back, Local-then, index-local}

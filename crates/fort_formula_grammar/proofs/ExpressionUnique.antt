@@ -1,7 +1,7 @@
 -- Tokens begin with one expression at most, and what follows it is determined; so it is with an expression in its brackets.
 use Rattle.std.proofs.Common.{◌≡◌, List, ◌∷◌, sym, ap, ◌∙◌, subst}
-use Rattle.fort_expressions.specs.Expressions.{Expression, RootSteps}
-use Rattle.fort_expressions.specs.Contexts.{HoleNumber, HolePlace}
+use Rattle.fort_theory.specs.Expressions.{Expression, RootSteps}
+use Rattle.fort_theory.specs.Contexts.{HoleNumber, HolePlace}
 use Rattle.fort_logic.specs.Formulas.{Name}
 use Rattle.fort_formula_grammar.specs.Tokens.{Token, Close, Comma, End, Variable}
 use Rattle.fort_formula_grammar.specs.ExpressionGrammar.{of_one, of_two, IsExpression, OfRoot, OfOne, OfTwo, IsEnclosed, Between}

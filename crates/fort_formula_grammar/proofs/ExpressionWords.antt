@@ -2,7 +2,7 @@
 use Rattle.std.proofs.Common.{◌≡◌, ℕ, ◌==◌, Bool, [], ◌∷◌, get_or, Contains, refl, sym, ap, inl, inr, arith}
 use Rattle.std.proofs.lemmas.Bool.{false≢true}
 use Rattle.fort_theory.proofs.Members.{Contains-cons_cases, Contains-none}
-use Rattle.fort_expressions.specs.Contexts.{HoleNumber, OneHole, SomeHoles, AnyHoles, HolePlace, AtTheRoot, BelowTheRoot, AnyPlace}
+use Rattle.fort_theory.specs.Contexts.{HoleNumber, OneHole, SomeHoles, AnyHoles, HolePlace, AtTheRoot, BelowTheRoot, AnyPlace}
 use Rattle.fort_logic.specs.Formulas.{Name}
 use Rattle.fort_formula_grammar.specs.ExpressionGrammar.{OneOperand, Inv, Clos, TwoOperands, Uni, Comp, root_word, one_word, two_word, number_word, place_word, expression_words, number_words, place_words}
 

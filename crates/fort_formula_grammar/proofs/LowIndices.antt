@@ -3,7 +3,7 @@ use Rattle.std.proofs.Common.{◌≡◌, ℕ, ◌≤◌, List, [], ◌∷◌, �
 use Rattle.std.specs.Prelude.{Contains}
 use Rattle.std.proofs.lemmas.List.Elements.{Contains-append_right, Contains-append_cases}
 use Rattle.fort_theory.proofs.Members.{Contains-head, Contains-behind, Contains-cons_cases, Contains-none}
-use Rattle.fort_expressions.specs.Expressions.{Expression, root_indices}
+use Rattle.fort_theory.specs.Expressions.{Expression, root_indices}
 use Rattle.fort_logic.specs.Formulas.{Name, Argument, Formula, Com}
 use Rattle.fort_logic.specs.Mentions.{indices}
 use Rattle.fort_formula_grammar.specs.Tokens.{Token, Index, IsToken}

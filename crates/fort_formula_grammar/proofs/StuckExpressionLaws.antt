@@ -2,8 +2,8 @@
 -- expression begins the tokens.
 use Rattle.std.proofs.Common.{◌≡◌, List, [], ◌∷◌, Contains, refl, sym, ◌∙◌, subst}
 use Rattle.fort_theory.proofs.Members.{Contains-head}
-use Rattle.fort_expressions.specs.Expressions.{Expression, RootSteps, Inverse}
-use Rattle.fort_expressions.specs.Contexts.{HoleNumber, OneHole, HolePlace, AtTheRoot}
+use Rattle.fort_theory.specs.Expressions.{Expression, RootSteps, Inverse}
+use Rattle.fort_theory.specs.Contexts.{HoleNumber, OneHole, HolePlace, AtTheRoot}
 use Rattle.fort_logic.specs.Formulas.{Name}
 use Rattle.fort_formula_grammar.specs.Tokens.{Token, Open, Close, Comma, Begin, End, Variable}
 use Rattle.fort_formula_grammar.specs.ExpressionGrammar.{LeftOut, OneOperand, Inv, Clos, TwoOperands, Uni, Comp, root_word, one_word, two_word, number_word, place_word, expression_words, number_words, place_words, IsExpression, OfRoot, OfOne, OfTwo, IsEnclosed, Between}

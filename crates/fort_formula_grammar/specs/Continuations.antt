@@ -1,6 +1,6 @@
 -- Nothing to believe: which tokens go on with a reading that could end before them, and that no reading of a kind begins some tokens.
 use Rattle.std.specs.Prelude.{◌≡◌, Bool, true, false, List, [], ◌∷◌, Contains}
-use Rattle.fort_expressions.specs.Expressions.{Expression}
+use Rattle.fort_theory.specs.Expressions.{Expression}
 use Rattle.fort_logic.specs.Formulas.{Name, Argument, Formula}
 use Rattle.fort_formula_grammar.specs.Tokens.{Token, Close, Comma, And, Or, Imp, Iff, Related, Begin, End, Index, Variable}
 use Rattle.fort_formula_grammar.specs.ExpressionGrammar.{IsExpression}

@@ -1,7 +1,7 @@
 -- Nothing to believe: where reading an expression from left to right is stuck, one rule for each place where a word, a comma or a
 -- bracket is wanted: the tokens are read up to those that follow, with the first of which, or with whose lack, no reading goes on.
 use Rattle.std.specs.Prelude.{◌≡◌, List, ◌∷◌, Contains}
-use Rattle.fort_expressions.specs.Expressions.{Expression}
+use Rattle.fort_theory.specs.Expressions.{Expression}
 use Rattle.fort_logic.specs.Formulas.{Name}
 use Rattle.fort_formula_grammar.specs.Tokens.{Token, Open, Close, Comma, Begin, End, Variable}
 use Rattle.fort_formula_grammar.specs.ExpressionGrammar.{OneOperand, TwoOperands, one_word, two_word, expression_words, number_words, place_words, IsExpression}

@@ -1,6 +1,6 @@
 -- The tokens of an atom, one after another, are that atom; and where reading them is stuck.
 use Rattle.std.proofs.Common.{◌≡◌, ℕ, ◌+◌, ◌<◌, ◌≤◌, false, List, [], ◌∷◌, Some, None, length, refl, sym, ap, ◌∙◌, subst, arith}
-use Rattle.fort_expressions.specs.Expressions.{Expression}
+use Rattle.fort_theory.specs.Expressions.{Expression}
 use Rattle.fort_logic.specs.Formulas as theory
 use Rattle.fort_logic.specs.Formulas.{Argument, Property}
 use Rattle.fort_formula_grammar.specs.Tokens.{Token, Open, Close, Comma, Related, Begin, Nf, Join, Sn, Has}

@@ -1,7 +1,7 @@
 -- The tokens of an expression, one after another, are that expression; and where reading them is stuck.
 use Rattle.std.proofs.Common.{◌≡◌, ℕ, ◌+◌, ◌<◌, ◌≤◌, List, ◌∷◌, length, Contains, refl, sym, ap, ◌∙◌, subst, arith}
-use Rattle.fort_expressions.specs.Expressions.{Expression, RootSteps}
-use Rattle.fort_expressions.specs.Contexts.{HoleNumber, HolePlace}
+use Rattle.fort_theory.specs.Expressions.{Expression, RootSteps}
+use Rattle.fort_theory.specs.Contexts.{HoleNumber, HolePlace}
 use Rattle.fort_logic.specs.Formulas.{Name}
 use Rattle.fort_formula_grammar.specs.Tokens.{Token, Open, Close, Comma, Begin, End, Variable}
 use Rattle.fort_formula_grammar.specs.ExpressionGrammar.{OneOperand, TwoOperands, of_one, of_two, root_word, one_word, two_word, number_word, place_word, expression_words, number_words, place_words, IsExpression, OfRoot, OfOne, OfTwo, IsEnclosed, Between}

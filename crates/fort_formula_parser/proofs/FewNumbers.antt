@@ -4,7 +4,7 @@ use Rattle.std.specs.Prelude.{max}
 use Rattle.std.proofs.Math.Nat.{max-le}
 use Rattle.std.proofs.lemmas.List.{length-append}
 use Rattle.std.proofs.lemmas.List.Filters.{length-filter_both}
-use Rattle.fort_expressions.specs.Expressions.{Expression}
+use Rattle.fort_theory.specs.Expressions.{Expression}
 use Rattle.fort_logic.specs.Formulas as theory
 use Rattle.fort_logic.specs.Formulas.{Name, Argument, Var, Ground, Formula}
 use Rattle.fort_logic.specs.FreeNames.{without, names_in, occurrences, once}

@@ -1,7 +1,7 @@
 -- Inside: what reading an expression gives, seen by the relations of the grammar.
 use Rattle.std.specs.Prelude.{◌≡◌, ℕ, ◌<◌, ◌≤◌, List, length, Result, IfOk}
 use Rattle.std.specs.declared.alloc.AllocError.{AllocError}
-use Rattle.fort_expressions.specs.Expressions.{Expression}
+use Rattle.fort_theory.specs.Expressions.{Expression}
 use Rattle.fort_logic.specs.Formulas.{Name}
 use Rattle.fort_formula_grammar.specs.ExpressionGrammar as grammar
 use Rattle.fort_formula_grammar.specs.ExpressionGrammar.{root_word, one_word, two_word, IsExpression, IsEnclosed}

@@ -6,7 +6,7 @@ ghost use Rattle.fort_formula_grammar.specs.FormulaGrammar.{IsUnary};
 ghost use Rattle.fort_logic.specs.Formulas as theory;
 ghost use Rattle.fort_formulas.specs.FormulaView.{as_property, as_surface_rel};
 ghost use Rattle.fort_formula_grammar.specs.Stuck.{StuckUnary};
-ghost use Rattle.fort_expressions.specs.Expressions.{Expression};
+ghost use Rattle.fort_theory.specs.Expressions.{Expression};
 ghost use Rattle.fort_relations.specs.HolesView.{as_hole_number, as_hole_place};
 ghost use Rattle.fort_formula_parser.specs.ExpressionParsing.{IsRexMade};
 ghost use Rattle.fort_formula_parser.specs.Parsing.{AreFewGrounds, IsTokenAt, IsParsed, IsStuckAt, IsMade, IsArgumentAt, argument_of};

@@ -1,7 +1,7 @@
 //! Relation expressions by recursive descent, one function for each production.
 
 ghost use Rattle.std.specs.Prelude.{◌≡◌, ◌+◌, ◌≤◌, length, IfOk, IfErr, MatchOption};
-ghost use Rattle.fort_expressions.specs.Expressions.{Expression};
+ghost use Rattle.fort_theory.specs.Expressions.{Expression};
 ghost use Rattle.fort_formula_grammar.specs.Tokens as grammar;
 ghost use Rattle.fort_formula_grammar.specs.ExpressionGrammar.{of_one, of_two, root_word, one_word, two_word, number_word, number_words, place_word, place_words};
 ghost use Rattle.fort_formula_grammar.specs.Continuations.{HasNoWord};

@@ -2,7 +2,7 @@
 use Rattle.std.proofs.Common.{◌≡◌, ℕ, ◌+◌, List, refl, ap, ◌∙◌, arith}
 use Rattle.fort_theory.specs.Trees.{Tree}
 use Rattle.fort_logic.specs.Formulas.{Name, Argument, Var, Ground}
-use Rattle.fort_cores.specs.Cores.{Core}
+use Rattle.fort_theory.specs.Cores.{Core}
 use Rattle.fort_logic.specs.Translation.{number_in, about, about_both}
 use Rattle.fort_formulas.specs.ArgumentNumbers.{number_of, bound}
 use Rattle.fort_formulas.specs.NumbersNeeded.{argument_numbers}

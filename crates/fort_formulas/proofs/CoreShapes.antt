@@ -1,9 +1,9 @@
 -- The subformulas of a core formula of the program, by its shape, and that it is no atom of an expression.
 use Rattle.std.proofs.Common.{◌≡◌, ◌↔◌, ℕ, true, false, ◌++◌, ◌∷◌, [], ◌⊎◌, inl, inr, refl, ap}
 use Rattle.fort_theory.specs.Trees.{Tree}
-use Rattle.fort_cores.specs.Cores as theory
+use Rattle.fort_theory.specs.Cores as theory
 use Rattle.fort_theory.specs.Logic as logic
-use Rattle.fort_cores.specs.Parts.{postorder, HasManyRootsAt}
+use Rattle.fort_theory.specs.Parts.{postorder, HasManyRootsAt}
 use Rattle.fort_relations.specs.declared.relation.Rel as relation
 use Rattle.fort_relations.specs.declared.rex.Rex.{Rex}
 use Rattle.fort_relations.specs.declared.holes.Holes.{Holes}

@@ -5,7 +5,7 @@ use Rattle.std.proofs.lemmas.List.Elements.{All-nil}
 use Rattle.std.proofs.lemmas.Option.{IfSome_then}
 use Rattle.fort_theory.specs.Sides.{at_index}
 use Rattle.fort_theory.specs.Patterns.{PatternSystem}
-use Rattle.fort_termination.specs.RightGround.{IsRightGroundPair, HasRightGroundPairsAt}
+use Rattle.fort_theory.specs.RightGround.{IsRightGroundPair, HasRightGroundPairsAt}
 use Rattle.fort_logic.specs.Formulas as theory
 use Rattle.fort_logic.specs.Terminations.{terminations, AreAll, IsFirstWithout}
 use Rattle.fort_logic.proofs.TerminationMentions.{IsFirstWithout-left, IsFirstWithout-right}

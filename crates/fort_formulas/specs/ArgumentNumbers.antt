@@ -2,7 +2,7 @@
 use Rattle.std.specs.Prelude.{ℕ, List}
 use Rattle.fort_theory.specs.Trees.{Tree}
 use Rattle.fort_logic.specs.Formulas.{Name, Argument, Var, Ground}
-use Rattle.fort_cores.specs.Cores.{Core, Leaf, IsTerm, Binary, Exists}
+use Rattle.fort_theory.specs.Cores.{Core, Leaf, IsTerm, Binary, Exists}
 use Rattle.fort_theory.specs.Logic.{And}
 use Rattle.fort_logic.specs.Translation.{number_in, term_at}
 

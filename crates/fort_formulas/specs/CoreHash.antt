@@ -1,7 +1,7 @@
 -- To believe: a hasher is fed the place of a core formula's node, and then its parts from left to right: an index or a context before the numbers, a term or an expression after them.
 use Rattle.std.specs.Prelude.{◌++◌}
 use Rattle.std.specs.Hash as fed
-use Rattle.fort_cores.specs.Cores.{Core, True, Leaf, Related, InContext, Normal, IsTerm, Not, Binary, Exists, Infinite}
+use Rattle.fort_theory.specs.Cores.{Core, True, Leaf, Related, InContext, Normal, IsTerm, Not, Binary, Exists, Infinite}
 use Rattle.fort_terms.specs.TermKeys.{tree_hash}
 use Rattle.fort_relations.specs.HolesCode.{hole_number_code, hole_place_code}
 use Rattle.fort_relations.specs.RexHash.{expression_hash}

@@ -2,7 +2,7 @@
 use Rattle.std.specs.Prelude.{◌≡◌, true}
 use Rattle.std.specs.Ordering.{on}
 use Rattle.std.proofs.Common.{ap}
-use Rattle.fort_cores.specs.Cores as theory
+use Rattle.fort_theory.specs.Cores as theory
 use Rattle.fort_formulas.specs.declared.core_formula.Core.{Core}
 use Rattle.fort_formulas.specs.CoreCode.{spelled}
 use Rattle.fort_formulas.specs.CoreView.{as_core}

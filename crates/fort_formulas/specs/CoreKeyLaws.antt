@@ -10,7 +10,7 @@ use Rattle.fort_theory.specs.Trees.{Tree}
 use Rattle.fort_theory.specs.TreeCode as tree
 use Rattle.fort_terms.specs.TermKeys.{tree_eq}
 use Rattle.fort_terms.specs.TermKeyLaws.{tree_eq-ties, tree_order-spelled}
-use Rattle.fort_cores.specs.Cores as theory
+use Rattle.fort_theory.specs.Cores as theory
 use Rattle.fort_theory.specs.Logic as logic
 use Rattle.fort_relations.specs.declared.relation.Rel as relation
 use Rattle.fort_relations.specs.declared.relation.Rel.TheVariants.{Eq, Root, Below, Step, Par, Plus, Star, Conv}

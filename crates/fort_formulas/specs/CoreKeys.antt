@@ -4,7 +4,7 @@ use Rattle.std.specs.declared.cmp.Ordering.{Ordering}
 use Rattle.std.specs.Ordering.{nat_cmp}
 use Rattle.std.specs.Cmp.Lexicographic.{slice_cmp}
 use lib.Pointwise.{pointwise}
-use Rattle.fort_cores.specs.Cores as theory
+use Rattle.fort_theory.specs.Cores as theory
 use Rattle.fort_formulas.specs.declared.core_formula.Core.{Core}
 use Rattle.fort_formulas.specs.CoreCode.{Mark, connective_place, spelled}
 use Rattle.fort_formulas.specs.CoreView.{as_core}

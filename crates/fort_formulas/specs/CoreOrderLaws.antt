@@ -11,7 +11,7 @@ use lib.Pointwise.{bytes_decides}
 use Rattle.fort_theory.specs.Trees.{Tree}
 use Rattle.fort_terms.specs.TermKeys.{tree_order}
 use Rattle.fort_terms.specs.TermKeyLaws.{tree_order-spelled}
-use Rattle.fort_cores.specs.Cores as theory
+use Rattle.fort_theory.specs.Cores as theory
 use Rattle.fort_formulas.specs.declared.core_formula.Core.{Core}
 use Rattle.fort_formulas.specs.CoreCode.{Mark, spelled}
 use Rattle.fort_formulas.specs.CoreKeys.{core_spelled, same_marks, marks_order}

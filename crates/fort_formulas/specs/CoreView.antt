@@ -1,6 +1,6 @@
 -- To believe: which core formula of the definitions a core formula of the program is.
 use Rattle.std.specs.Prelude.{ℕ, suc, ◌+◌}
-use Rattle.fort_cores.specs.Cores as theory
+use Rattle.fort_theory.specs.Cores as theory
 use Rattle.fort_theory.specs.Logic as logic
 use Rattle.fort_relations.specs.RelView.{as_rel}
 use Rattle.fort_relations.specs.HolesView.{as_hole_number, as_hole_place}

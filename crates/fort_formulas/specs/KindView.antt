@@ -1,5 +1,5 @@
 -- To believe: which kind of the definitions a kind of the program is.
-use Rattle.fort_cores.specs.Kinds as theory
+use Rattle.fort_theory.specs.Kinds as theory
 use Rattle.fort_formulas.specs.declared.kinds.Kind.{Kind}
 use Rattle.fort_formulas.specs.declared.kinds.Kind.TheVariants.{True, Eq, Root, Below, Step, Par, Plus, Star, Conv, Rex, Nf, Is, Not, And, Or, Iff, Exists, Infinite}
 

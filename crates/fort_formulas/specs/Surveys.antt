@@ -1,7 +1,7 @@
 -- Inside: what one walk over a core formula finds.
 use Rattle.std.specs.Prelude.{◌↔◌, IsTrue}
-use Rattle.fort_cores.specs.Cores as theory
-use Rattle.fort_cores.specs.Parts.{AreColumns, IsTooWide}
+use Rattle.fort_theory.specs.Cores as theory
+use Rattle.fort_theory.specs.Parts.{AreColumns, IsTooWide}
 use Rattle.fort_formulas.specs.declared.columns.Survey.{Survey}
 
 pub record IsSurveyOf (f : theory.Core) (survey : Survey) : Type 0 where

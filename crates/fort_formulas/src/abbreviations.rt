@@ -1,7 +1,7 @@
 //! Core formulas for the words that core formulas lack.
 
 ghost use Rattle.std.specs.Prelude.{◌≡◌, ℕ, ◌+◌, ◌^◌, ◌<◌, IfOk};
-ghost use Rattle.fort_cores.specs.Cores as theory;
+ghost use Rattle.fort_theory.specs.Cores as theory;
 ghost use Rattle.fort_theory.specs.Logic as logic;
 ghost use Rattle.fort_logic.specs.Translation.{some, every, equal, infinitely_many, implies, at_most_one_step, normalises, joins, related, forks, property_core, terminates, all_terminate, commutes};
 ghost use Rattle.fort_formulas.specs.CoreView.{as_core};

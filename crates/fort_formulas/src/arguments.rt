@@ -1,7 +1,7 @@
 //! Core formulas about arguments.
 
 ghost use Rattle.std.specs.Prelude.{◌≡◌, ℕ, ◌+◌, ◌^◌, ◌≤◌, length, IfOk};
-ghost use Rattle.fort_cores.specs.Cores as theory;
+ghost use Rattle.fort_theory.specs.Cores as theory;
 ghost use Rattle.fort_logic.specs.Translation.{joins, terminates, related, term_at, about, about_both};
 ghost use Rattle.fort_relations.specs.HolesView.{as_hole_number, as_hole_place};
 ghost use Rattle.fort_relations.specs.RexView.{as_expression};

@@ -2,7 +2,7 @@
 
 ghost use Rattle.std.specs.Prelude.{◌≡◌, ℕ, ◌↔◌, ◌<◌, ◌⊎◌, IsTrue, IfOk, OnOk, Contains, length};
 ghost use Rattle.std.specs.List.Sorted.{IsStrictlyIncreasing};
-ghost use Rattle.fort_cores.specs.Parts.{is_free, AreColumns, IsTooWide};
+ghost use Rattle.fort_theory.specs.Parts.{is_free, AreColumns, IsTooWide};
 ghost use Rattle.fort_theory.specs.Signatures.{most_columns};
 ghost use Rattle.fort_formulas.specs.CoreView.{as_core};
 ghost use Rattle.fort_formulas.specs.Surveys.{IsSurveyOf};

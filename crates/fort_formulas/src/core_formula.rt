@@ -69,7 +69,7 @@ pub struct Arm {
 }
 
 impl Model for Arm {
-    ghost use Rattle.fort_cores.specs.Cores as theory;
+    ghost use Rattle.fort_theory.specs.Cores as theory;
     ghost use Rattle.fort_formulas.specs.CoreCode.{core_code};
 
     ghost Value = { theory.Core };

@@ -21,7 +21,6 @@ mod translation;
 pub use columns::free;
 pub use core_formula::{Arm, Core};
 pub use fault::CoreFault;
-pub use fort_relations::{Holes, Place, Rel, Rex, RexArm};
 pub use indices::index_above;
 pub use kinds::Kind;
 pub use names::free_names;

@@ -1,7 +1,7 @@
 //! The kind of a core formula.
 
 ghost use Rattle.std.specs.Prelude.{◌≡◌};
-ghost use Rattle.fort_cores.specs.Kinds.{kind_of};
+ghost use Rattle.fort_theory.specs.Kinds.{kind_of};
 ghost use Rattle.fort_formulas.specs.CoreView.{as_core};
 ghost use Rattle.fort_formulas.specs.KindView.{as_kind};
 

@@ -1,10 +1,10 @@
 //! The parts of a core formula.
 
 ghost use Rattle.std.specs.Prelude.{◌≡◌, List, [], ◌∷◌, ◌++◌, map, IfOk, OnOk};
-ghost use Rattle.fort_cores.specs.Cores as theory;
-ghost use Rattle.fort_cores.specs.EachOnce.{AreEachOnce};
-ghost use Rattle.fort_cores.specs.Parts.{postorder};
-ghost use Rattle.fort_cores.specs.PartLists.{AreParts};
+ghost use Rattle.fort_theory.specs.Cores as theory;
+ghost use Rattle.fort_theory.specs.EachOnce.{AreEachOnce};
+ghost use Rattle.fort_theory.specs.Parts.{postorder};
+ghost use Rattle.fort_theory.specs.PartLists.{AreParts};
 ghost use Rattle.fort_formulas.specs.CoreView.{as_core};
 
 use crate::core_formula::Core;

@@ -1,7 +1,7 @@
 //! The indices of which a formula says SN.
 
 ghost use Rattle.std.specs.Prelude.{[], ◌∷◌, IfSome, IfNone};
-ghost use Rattle.fort_termination.specs.RightGround.{HasRightGroundPairsAt};
+ghost use Rattle.fort_theory.specs.RightGround.{HasRightGroundPairsAt};
 ghost use Rattle.fort_logic.specs.Terminations.{terminations, AreAll, IsFirstWithout};
 ghost use Rattle.fort_formulas.specs.FormulaView.{as_formula};
 

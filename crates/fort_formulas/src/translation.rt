@@ -3,7 +3,7 @@
 ghost use Rattle.std.specs.Prelude.{◌≡◌, ℕ, ◌+◌, ◌^◌, ◌<◌, ◌≤◌, ◌↔◌, true, length, IsTrue, IfOk, IsErrOf};
 ghost use Rattle.fort_logic.specs.FreeNames.{free_names};
 ghost use Rattle.fort_logic.specs.Mentions.{HasTermsFor};
-ghost use Rattle.fort_cores.specs.Parts.{is_free, IsWellFormed};
+ghost use Rattle.fort_theory.specs.Parts.{is_free, IsWellFormed};
 ghost use Rattle.fort_logic.specs.Translation.{core_in, core_of, IsFormulaTooWide};
 ghost use Rattle.fort_logic.specs.KeepsTruth.{KeepsTruth};
 ghost use Rattle.fort_formulas.specs.Atoms.{IsAtom};

@@ -11,12 +11,12 @@ use Rattle.fort_tables.specs.Tuples.{TupleSymbol, all_absent, symbol_kids, arity
 use Rattle.fort_tables.specs.Entries.{entry}
 use Rattle.fort_tables.specs.Tables.{Table, IsTableEntry}
 use Rattle.fort_tables.proofs.InsertSymbolLaws.{symbol_kids-alone}
-use Rattle.fort_operations.specs.Projections.{some_below, some_choice, is_pure, ArePure}
-use Rattle.fort_operations.proofs.SearchLaws.{found_below, below_found, same_truth, both, left, right}
-use Rattle.fort_counts.specs.PureStates.{IsPureState}
-use Rattle.fort_counts.specs.PureSearch.{lone_symbol, has_number, is_child_after, is_child_under, is_child}
-use Rattle.fort_counts.proofs.PureSearchLaws.{pure_from_test, pure_entry_made, is_child_exactly}
-use Rattle.fort_counts.proofs.ManySearchLaws.{choice_turn}
+use Rattle.fort_tables.specs.Projections.{some_below, some_choice, is_pure, ArePure}
+use Rattle.fort_tables.proofs.SearchLaws.{found_below, below_found, same_truth, both, left, right}
+use Rattle.fort_tables.specs.PureStates.{IsPureState}
+use Rattle.fort_tables.specs.PureSearch.{lone_symbol, has_number, is_child_after, is_child_under, is_child}
+use Rattle.fort_tables.proofs.PureSearchLaws.{pure_from_test, pure_entry_made, is_child_exactly}
+use Rattle.fort_tables.proofs.ManySearchLaws.{choice_turn}
 use Rattle.fort_tuple_symbols.specs.Columns.{as_column, as_symbol}
 use Rattle.fort_terms.specs.declared.sym.Sym.{Sym}
 use Rattle.fort_infinity.specs.Children.{AreChildren, IsPureColumn, IsLone}

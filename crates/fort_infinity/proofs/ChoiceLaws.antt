@@ -3,9 +3,9 @@ use Rattle.std.proofs.Common.{◌≡◌, ℕ, ◌<◌, ◌==◌, List, [], get_o
 use Rattle.std.proofs.lemmas.Bool.{eqb-true}
 use Rattle.fort_tables.specs.Entries.{Entry}
 use Rattle.fort_tables.specs.Tables.{Table, IsTable, IsReached}
-use Rattle.fort_operations.specs.Projections.{absent_state}
-use Rattle.fort_counts.specs.ManyEntries.{IsManyEntry}
-use Rattle.fort_counts.proofs.ManyEntryLaws.{absent_state_small}
+use Rattle.fort_tables.specs.Projections.{absent_state}
+use Rattle.fort_tables.specs.ManyEntries.{IsManyEntry}
+use Rattle.fort_tables.proofs.ManyEntryLaws.{absent_state_small}
 use Rattle.fort_projections.specs.Choices.{IsNext, IsNextChoice, may_choose}
 
 pub next_choice : (body : Table) (c : ℕ) (labels : List (List ℕ)) (e : Entry) (most j from k : ℕ) (p : ℕ → Bool) → ((i : ℕ) → p i ≡ may_choose body c labels e most j i) → k < length body.presences → IsNext p from k → IsNextChoice body (may_choose body c labels e most j) from k

@@ -5,9 +5,9 @@ use Rattle.std.proofs.lemmas.Bool.{cases_Bool, eqb-true, eq-eqb, cases_lt}
 use Rattle.std.proofs.lemmas.List.{drop_more, take_more, map-append}
 use Rattle.fort_theory.proofs.Members.{Contains-head, Contains-behind, Contains-cons_cases, Contains-none}
 use Rattle.fort_tables.specs.Tables.{Table}
-use Rattle.fort_counts.specs.Ranks.{AreSettled}
-use Rattle.fort_counts.proofs.CountLaws.{AreLeast}
-use Rattle.fort_counts.proofs.PureStateLaws.{pure_child}
+use Rattle.fort_tables.specs.Ranks.{AreSettled}
+use Rattle.fort_tables.proofs.CountLaws.{AreLeast}
+use Rattle.fort_tables.proofs.PureStateLaws.{pure_child}
 use Rattle.fort_infinity.specs.Children.{AreChildren}
 use Rattle.fort_infinity.specs.LeastUnranked.{least_from, greatest_number, least_child}
 

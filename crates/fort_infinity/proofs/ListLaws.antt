@@ -5,7 +5,7 @@ use Rattle.std.proofs.lemmas.Bool.{cases_eq}
 use Rattle.std.proofs.lemmas.List.{map-set, length-map, get_or-map, get_or-set_same, get_or-set_other}
 use Rattle.std.proofs.lemmas.List.Folds.{list_any-append}
 use Rattle.fort_tables.proofs.EqualTests.{if_equal, if_apart, test_from_apart}
-use Rattle.fort_counts.specs.PureSearch.{has_number}
+use Rattle.fort_tables.specs.PureSearch.{has_number}
 use Rattle.fort_infinity.specs.StateListsView.{lists_of}
 
 -- more at the end of one list

@@ -15,13 +15,13 @@ use Rattle.fort_tables.specs.BitRows.{AreWords, has_bit, bit_row, words_for}
 use Rattle.fort_tables.proofs.TupleLaws.{arity_from_get}
 use Rattle.fort_tables.proofs.BitRowLaws.{has_bit-drop, bit_row_is}
 use Rattle.fort_tables.proofs.EqualTests.{test_from_apart}
-use Rattle.fort_operations.specs.Projections.{has_state, gives}
-use Rattle.fort_operations.proofs.SearchLaws.{same_truth}
-use Rattle.fort_counts.specs.Counts.{is_infinite, count_at}
-use Rattle.fort_counts.specs.Counts as counts
-use Rattle.fort_counts.specs.ManyLabels.{has_many, many_bit, gives_many}
-use Rattle.fort_counts.specs.ManyEntries.{IsManyEntry, AreManyChoices}
-use Rattle.fort_counts.proofs.CountPlaces.{count_at-ascending, count_at-none}
+use Rattle.fort_tables.specs.Projections.{has_state, gives}
+use Rattle.fort_tables.proofs.SearchLaws.{same_truth}
+use Rattle.fort_tables.specs.Counts.{is_infinite, count_at}
+use Rattle.fort_tables.specs.Counts as counts
+use Rattle.fort_tables.specs.ManyLabels.{has_many, many_bit, gives_many}
+use Rattle.fort_tables.specs.ManyEntries.{IsManyEntry, AreManyChoices}
+use Rattle.fort_tables.proofs.CountPlaces.{count_at-ascending, count_at-none}
 use Rattle.fort_findings.specs.FindingView.{as_count}
 use Rattle.fort_infinity.specs.ManyCounts.{is_many}
 use Rattle.fort_findings.specs.declared.count.Count.{Count}

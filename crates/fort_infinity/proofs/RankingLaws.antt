@@ -7,9 +7,9 @@ use Rattle.std.proofs.lemmas.List.Elements.{Contains-append_left, Contains-push,
 use Rattle.fort_theory.proofs.Members.{Contains-head, Contains-behind, Contains-cons_cases}
 use Rattle.fort_tables.specs.Tables.{Table}
 use Rattle.fort_tables.proofs.EqualTests.{if_equal, if_apart}
-use Rattle.fort_counts.specs.PureStates.{IsPureState, IsPureChild}
-use Rattle.fort_counts.specs.Ranks.{HasOnlyChildren, AreRanks}
-use Rattle.fort_counts.proofs.PureStateLaws.{pure_child}
+use Rattle.fort_tables.specs.PureStates.{IsPureState, IsPureChild}
+use Rattle.fort_tables.specs.Ranks.{HasOnlyChildren, AreRanks}
+use Rattle.fort_tables.proofs.PureStateLaws.{pure_child}
 use Rattle.fort_infinity.specs.Children.{AreChildren}
 use Rattle.fort_infinity.specs.RankTests.{IsEarlier, IsOpen}
 use Rattle.fort_infinity.specs.Rankings.{rank_of, passed_of, waiting_of, child_at, IsHeld, IsRaised, IsAdvanced, IsWaiting, AreTried}

@@ -4,13 +4,13 @@ use Rattle.std.specs.Prelude.{Contains, ◌⊎◌}
 use Rattle.std.proofs.lemmas.List.{get_or_default}
 use Rattle.fort_theory.proofs.Members.{Contains-none}
 use Rattle.fort_tables.specs.Tables.{Table}
-use Rattle.fort_operations.specs.Projections.{ArePure}
-use Rattle.fort_counts.specs.PureStates.{IsPureState}
-use Rattle.fort_counts.specs.Ranks.{AreRanks, IsTurned, IsRound, AreSettled}
-use Rattle.fort_counts.proofs.PureStateLaws.{pure_child}
-use Rattle.fort_counts.proofs.PureSearchLaws.{pure_from_test}
-use Rattle.fort_counts.proofs.CountLaws.{pure_listed}
-use Rattle.fort_counts.proofs.RankLaws.{ranks_at_start, ranks_after, settled_by_round, settled_by_count}
+use Rattle.fort_tables.specs.Projections.{ArePure}
+use Rattle.fort_tables.specs.PureStates.{IsPureState}
+use Rattle.fort_tables.specs.Ranks.{AreRanks, IsTurned, IsRound, AreSettled}
+use Rattle.fort_tables.proofs.PureStateLaws.{pure_child}
+use Rattle.fort_tables.proofs.PureSearchLaws.{pure_from_test}
+use Rattle.fort_tables.proofs.CountLaws.{pure_listed}
+use Rattle.fort_tables.proofs.RankLaws.{ranks_at_start, ranks_after, settled_by_round, settled_by_count}
 use Rattle.fort_infinity.specs.Children.{AreChildren}
 use Rattle.fort_infinity.specs.Rankings.{rank_of, passed_of, waiting_of, child_at, HasRoom, IsWaiting, AreTried, AreReady, AreWoken, HasUnranked}
 use Rattle.fort_infinity.specs.declared.ranks.Ranking.{Ranking}

@@ -5,7 +5,7 @@ use Rattle.std.proofs.lemmas.List.{drop_more, take_more, get_or_default}
 use Rattle.std.proofs.lemmas.List.Elements.{Contains-append_left, Contains-append_right, Contains-append_cases, Contains-push, Contains-push_cases}
 use Rattle.fort_theory.proofs.Members.{Contains-head}
 use Rattle.fort_tables.specs.Tables.{Table}
-use Rattle.fort_counts.proofs.PureStateLaws.{pure_child}
+use Rattle.fort_tables.proofs.PureStateLaws.{pure_child}
 use Rattle.fort_infinity.specs.Children.{AreChildren}
 use Rattle.fort_infinity.specs.Rankings.{rank_of, waiting_of, HasRoom, IsAdvanced, AreTried, AreReady, AreWoken, HasUnranked}
 use Rattle.fort_infinity.specs.declared.ranks.Ranking.{Ranking}

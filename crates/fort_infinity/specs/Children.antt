@@ -2,9 +2,9 @@
 use Rattle.std.specs.Prelude.{◌≡◌, ◌↔◌, ℕ, ◌<◌, List, [], length, get_or, Contains}
 use Rattle.fort_tables.specs.Tuples.{TupleSymbol}
 use Rattle.fort_tables.specs.Tables.{Table}
-use Rattle.fort_operations.specs.Projections.{ArePure}
-use Rattle.fort_counts.specs.PureStates.{IsPureChild}
-use Rattle.fort_counts.specs.PureSearch.{lone_symbol}
+use Rattle.fort_tables.specs.Projections.{ArePure}
+use Rattle.fort_tables.specs.PureStates.{IsPureChild}
+use Rattle.fort_tables.specs.PureSearch.{lone_symbol}
 
 -- for each state a list of exactly its children
 pub record AreChildren (body : Table) (c : ℕ) (children : List (List ℕ)) : Type 0 where

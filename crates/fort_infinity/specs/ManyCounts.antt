@@ -1,6 +1,6 @@
 -- To believe: whether the count beside a state is infinite.
 use Rattle.std.specs.Prelude.{ℕ, List, map, Bool}
-use Rattle.fort_counts.specs.Counts.{is_infinite, count_at}
+use Rattle.fort_tables.specs.Counts.{is_infinite, count_at}
 use Rattle.fort_findings.specs.declared.count.Count.{Count}
 use Rattle.fort_findings.specs.FindingView.{as_count}
 

@@ -1,8 +1,8 @@
 -- Inside: ranks in the making: how far each state has gone through its children, and which states wait for the rank of a state.
 use Rattle.std.specs.Prelude.{◌≡◌, ℕ, suc, ◌+◌, ◌<◌, ◌≤◌, ◌⊎◌, ◌↔◌, ◌==◌, List, [], ◌∷◌, ◌++◌, length, get_or, slice_set, Contains, if◌then◌else◌}
 use Rattle.fort_tables.specs.Tables.{Table}
-use Rattle.fort_counts.specs.PureStates.{IsPureState, IsPureChild}
-use Rattle.fort_counts.specs.Ranks.{HasOnlyChildren, AreRanks}
+use Rattle.fort_tables.specs.PureStates.{IsPureState, IsPureChild}
+use Rattle.fort_tables.specs.Ranks.{HasOnlyChildren, AreRanks}
 use Rattle.fort_infinity.specs.Children.{AreChildren}
 use Rattle.fort_infinity.specs.RankTests.{IsEarlier, IsOpen}
 use Rattle.fort_infinity.specs.declared.ranks.Ranking.{Ranking}

@@ -2,13 +2,14 @@
 ghost use Rattle.std.specs.Prelude.{◌≡◌, ◌<◌, ◌≤◌, ◌+◌, ◌-◌, ◌||◌, ℕ, Some, take, length, slice_index_or, [], OnOk, IfOk};
 ghost use Rattle.std.specs.List.{insert};
 ghost use Rattle.fort_tables.specs.Tuples.{symbol_kids, all_absent};
-ghost use Rattle.fort_counts.specs.PureStates.{IsPureState};
-ghost use Rattle.fort_counts.specs.PureSearch.{has_number, is_child_after, is_child_under};
+ghost use Rattle.fort_tables.specs.PureStates.{IsPureState};
+ghost use Rattle.fort_tables.specs.PureSearch.{has_number, is_child_after, is_child_under};
 ghost use Rattle.fort_infinity.specs.Children.{AreChildren, IsPureColumn, IsLone};
 
 use crate::lists::StateLists;
-use fort_lockstep::{Table, TupleSym};
+use fort_table::Table;
 use fort_terms::{Memory, Sym};
+use fort_tuple_symbols::TupleSym;
 use std::alloc::Global;
 
 /// The entries with one symbol, alone in its column.

@@ -1,9 +1,9 @@
 //! How many terms give each state with one column alone present.
 ghost use Rattle.std.specs.Prelude.{◌≡◌, ℕ, ◌<◌, map, length, slice_index_or, [], IfOk};
-ghost use Rattle.fort_operations.specs.Projections.{ArePure};
-ghost use Rattle.fort_counts.specs.Counts.{AreCounts};
-ghost use Rattle.fort_counts.specs.Ranks.{count_by};
-ghost use Rattle.fort_counts.proofs.CountLaws.{marks_by};
+ghost use Rattle.fort_tables.specs.Projections.{ArePure};
+ghost use Rattle.fort_tables.specs.Counts.{AreCounts};
+ghost use Rattle.fort_tables.specs.Ranks.{count_by};
+ghost use Rattle.fort_tables.proofs.CountLaws.{marks_by};
 ghost use Rattle.fort_findings.specs.FindingView.{as_count};
 ghost use Rattle.fort_infinity.specs.LeastUnranked.{least_from, greatest_number, least_child};
 
@@ -11,7 +11,7 @@ use crate::children::pure_children;
 use crate::lists::StateLists;
 use crate::ranks::settled_ranks;
 use fort_findings::Count;
-use fort_lockstep::Table;
+use fort_table::Table;
 use fort_terms::Memory;
 use std::alloc::Global;
 

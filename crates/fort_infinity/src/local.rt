@@ -3,17 +3,18 @@ ghost use Rattle.std.specs.Prelude.{◌≡◌, ◌<◌, ◌+◌, ◌-◌, ◌*�
 ghost use Rattle.fort_tables.specs.Labels.{IsOverLabels};
 ghost use Rattle.fort_tables.specs.LabelRules.{label_of, entry_label};
 ghost use Rattle.fort_tables.specs.BitRows.{words_for};
-ghost use Rattle.fort_operations.specs.Projections.{ArePure};
-ghost use Rattle.fort_operations.specs.OperationTruth.{accepts as accepts_lem};
-ghost use Rattle.fort_counts.specs.Counts.{KeepRules, count_at};
-ghost use Rattle.fort_counts.specs.ManyLabels.{many_rule, many_accepts as many_accepts_lem, many_value as many_value_lem, ManyComplete};
+ghost use Rattle.fort_tables.specs.Projections.{ArePure};
+ghost use Rattle.fort_tables.specs.OperationTruth.{accepts as accepts_lem};
+ghost use Rattle.fort_tables.specs.Counts.{KeepRules, count_at};
+ghost use Rattle.fort_tables.specs.ManyLabels.{many_rule, many_accepts as many_accepts_lem, many_value as many_value_lem, ManyComplete};
 ghost use Rattle.fort_findings.specs.FindingView.{as_count};
 ghost use Rattle.fort_infinity.specs.ManyCounts.{is_many};
 
 use crate::many_entry::{absent_target, mark};
-use fort_explore::{Rows, has_bit};
 use fort_findings::Count;
-use fort_lockstep::{Row, Table};
+use fort_labels::{Rows, has_bit};
+use fort_table::Table;
+use fort_tuple_symbols::Row;
 
 /// How many words the label has over a body of this many states.
 pub fn many_width(states: usize) -> usize

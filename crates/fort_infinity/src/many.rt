@@ -2,18 +2,19 @@
 ghost use Rattle.std.specs.Prelude.{◌≡◌, ◌<◌, ◌-◌, ◌↔◌, IsTrue, map, length};
 ghost use Rattle.fort_tables.specs.Tuples.{Tuple, IsTuple};
 ghost use Rattle.fort_tables.specs.LabelRules.{label_of};
-ghost use Rattle.fort_operations.specs.Projections as projections;
-ghost use Rattle.fort_operations.proofs.OperandFacts.{ArePure-prop};
-ghost use Rattle.fort_operations.specs.Agreement.{HaveOneState};
-ghost use Rattle.fort_operations.specs.OperationTruth.{TestsRelation, accepts as accepts_lem};
-ghost use Rattle.fort_counts.specs.ManyLabels as labels;
-ghost use Rattle.fort_counts.specs.ManyAgreement.{AgreeAtMany};
+ghost use Rattle.fort_tables.specs.Projections as projections;
+ghost use Rattle.fort_tables.proofs.OperandFacts.{ArePure-prop};
+ghost use Rattle.fort_tables.specs.Agreement.{HaveOneState};
+ghost use Rattle.fort_tables.specs.OperationTruth.{TestsRelation, accepts as accepts_lem};
+ghost use Rattle.fort_tables.specs.ManyLabels as labels;
+ghost use Rattle.fort_tables.specs.ManyAgreement.{AgreeAtMany};
 ghost use Rattle.fort_infinity.specs.ManyCounts.{is_many};
 
 use crate::local::{many_accepts, many_label, many_width};
-use fort_explore::{LocalRule, Rows};
 use fort_findings::Count;
-use fort_lockstep::{Row, Table};
+use fort_labels::{LocalRule, Rows};
+use fort_table::Table;
+use fort_tuple_symbols::Row;
 
 /// The labels of "infinitely many": of a tuple of the other columns, those of the projection, and the set of states that infinitely
 /// many terms of the column give.
@@ -31,7 +32,7 @@ pub struct Many<'a, T: Table> {
 }
 
 impl<'a, T: Table> Many<'a, T> {
-    ghost use Rattle.fort_counts.specs.Counts.{KeepRules, count_at};
+    ghost use Rattle.fort_tables.specs.Counts.{KeepRules, count_at};
     ghost use Rattle.fort_findings.specs.FindingView.{as_count};
 
     /// "Infinitely many" of a body that has another column. `alone` are the body's pure states in the column; the counts beside them
@@ -77,8 +78,8 @@ impl<'a, T: Table> Many<'a, T> {
 impl<'a, T: Table> LocalRule for Many<'a, T> {
     ghost use Rattle.std.specs.Prelude.{◌+◌, ◌*◌, length, refl};
     ghost use Rattle.fort_tables.specs.BitRows.{words_for};
-    ghost use Rattle.fort_counts.specs.ManyLabels as labels;
-    ghost use Rattle.fort_counts.proofs.ManyLabelLaws.{length-many_rule};
+    ghost use Rattle.fort_tables.specs.ManyLabels as labels;
+    ghost use Rattle.fort_tables.proofs.ManyLabelLaws.{length-many_rule};
     ghost use Rattle.fort_infinity.specs.ManyCounts.{is_many};
 
     ghost rule = { λ m. labels.many_rule (T.table m.body.now) m.column (is_many m.alone.now m.counts.now) };

@@ -4,17 +4,18 @@ ghost use Rattle.std.specs.Slice.Scan.{HoldsNowhere};
 ghost use Rattle.fort_tables.specs.Tuples.{symbol_kids};
 ghost use Rattle.fort_tables.specs.BitRows.{words_for};
 ghost use Rattle.fort_tables.proofs.TableLaws.{IsKidState};
-ghost use Rattle.fort_operations.specs.Projections.{ArePure, has_state};
-ghost use Rattle.fort_counts.specs.ManyLabels.{has_many, kid_has_many as kid_has_many_lem};
-ghost use Rattle.fort_counts.specs.ManyEntries.{kid_labels, AreManyChoices, finds, may_be, gives_state, gives_endless, has_endless};
+ghost use Rattle.fort_tables.specs.Projections.{ArePure, has_state};
+ghost use Rattle.fort_tables.specs.ManyLabels.{has_many, kid_has_many as kid_has_many_lem};
+ghost use Rattle.fort_tables.specs.ManyEntries.{kid_labels, AreManyChoices, finds, may_be, gives_state, gives_endless, has_endless};
 ghost use Rattle.fort_projections.specs.Choices.{IsNext, IsNextChoice, AreNoChoices, may_choose};
 ghost use Rattle.fort_infinity.specs.ManyCounts.{is_many};
 
-use fort_explore::{Rows, has_bit, set_bit};
 use fort_findings::Count;
-use fort_lockstep::{Row, Table, TupleSym};
-use fort_rrn_algebra::{next_absent, next_in_set, next_pure};
+use fort_labels::{Rows, has_bit, set_bit};
+use fort_projections::{next_absent, next_in_set, next_pure};
+use fort_table::Table;
 use fort_terms::Sym;
+use fort_tuple_symbols::{Row, TupleSym};
 
 /// A symbol in the column above an entry over labels of "infinitely many".
 #[derive(Drop)]

@@ -3,16 +3,17 @@ ghost use Rattle.std.specs.Prelude.{◌≡◌, ◌<◌, ◌+◌, ◌*◌, ◌||�
 ghost use Rattle.std.specs.List.{insert};
 ghost use Rattle.fort_tables.specs.Entries.{entry};
 ghost use Rattle.fort_tables.specs.BitRows.{words_for};
-ghost use Rattle.fort_operations.specs.Projections.{ArePure, absent_state, has_state, gives, gives_under};
-ghost use Rattle.fort_counts.specs.ManyLabels.{has_many, gives_many, gives_many_under};
-ghost use Rattle.fort_counts.specs.ManyEntries.{kid_labels, IsManyEntry};
+ghost use Rattle.fort_tables.specs.Projections.{ArePure, absent_state, has_state, gives, gives_under};
+ghost use Rattle.fort_tables.specs.ManyLabels.{has_many, gives_many, gives_many_under};
+ghost use Rattle.fort_tables.specs.ManyEntries.{kid_labels, IsManyEntry};
 ghost use Rattle.fort_infinity.specs.ManyCounts.{is_many};
 
 use crate::many_choices::ManyChoices;
-use fort_explore::Rows;
 use fort_findings::Count;
-use fort_lockstep::{Row, Table};
+use fort_labels::Rows;
+use fort_table::Table;
 use fort_terms::Sym;
+use fort_tuple_symbols::Row;
 
 /// The children's states with the column absent.
 fn absent_states(row: &Row, rows: &Rows) -> [u32; 8]

@@ -1,7 +1,7 @@
 //! Ranks of states: one more than the greatest height of their terms, as far as there is one.
 ghost use Rattle.std.specs.Prelude.{◌≡◌, ℕ, ◌<◌, ◌≤◌, ◌^◌, [], length, slice_index_or, Contains, IfOk, OnOk, OnErr, IfSome, IfNone};
 ghost use Rattle.fort_tables.specs.Tables as tables;
-ghost use Rattle.fort_counts.specs.Ranks.{AreSettled};
+ghost use Rattle.fort_tables.specs.Ranks.{AreSettled};
 ghost use Rattle.fort_infinity.specs.Children.{AreChildren, IsPureColumn};
 ghost use Rattle.fort_infinity.specs.RankTests.{IsEarlier, IsOpen};
 

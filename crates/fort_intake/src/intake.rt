@@ -35,7 +35,7 @@ pub fn take_forms<S: Source>(alloc: Global, source: &mut S, limit: usize) -> Res
         GivesPast limit PIECE (S.rest source.old) (S.rest source.new) }
     ensures fault { IsErrOf result Unread.Fault →
         FaultCounted (S.faults source.old) (S.faults source.new) }
-    ensures told { S.faults source.old < S.faults source.new → IsErrOf result Unread.Fault }
+    ensures reported { S.faults source.old < S.faults source.new → IsErrOf result Unread.Fault }
     ensures err { OnErr result
         ((given : List ℕ) × Consumes (S.rest source.old) (S.rest source.new) given) }
     ensures never_falls { S.faults source.old ≤ S.faults source.new }
@@ -70,7 +70,7 @@ fn unread_behind<S: Source>(source: &mut S, piece: &mut [u8], left: usize, fault
         GivesPast left (length piece.old) (S.rest source.old) (S.rest source.new) }
     ensures fault { result ≡ Unread.Fault →
         FaultCounted (S.faults source.old) (S.faults source.new) }
-    ensures told { S.faults source.old < S.faults source.new → result ≡ Unread.Fault }
+    ensures reported { S.faults source.old < S.faults source.new → result ≡ Unread.Fault }
     ensures given { (given : List ℕ) × Consumes (S.rest source.old) (S.rest source.new) given }
     ensures never_falls { S.faults source.old ≤ S.faults source.new }
 {
@@ -92,7 +92,7 @@ fn pass_rest<S: Source>(source: &mut S, piece: &mut [u8], left: usize) -> Result
     ensures only { IfErr result (λ u. (u ≡ Unread.Fault) ⊎ (u ≡ Unread.TooLong)) }
     ensures fault { IsErrOf result Unread.Fault →
         FaultCounted (S.faults source.old) (S.faults source.new) }
-    ensures told { S.faults source.old < S.faults source.new → IsErrOf result Unread.Fault }
+    ensures reported { S.faults source.old < S.faults source.new → IsErrOf result Unread.Fault }
     ensures given { (given : List ℕ) × Consumes (S.rest source.old) (S.rest source.new) given }
     ensures never_falls { S.faults source.old ≤ S.faults source.new }
 {

@@ -70,6 +70,7 @@ const PIECE: usize = 65_536;
 /// All bytes that come from a source, up to `limit` of them.
 ///
 /// After `Fault` and `Memory` the source has given a front of its bytes.
+/// Promised to callers: the program itself doesn't call it.
 pub fn read_all<S: Source>(alloc: Global, source: &mut S, limit: usize) -> Result<Vec<u8>, ReadAll>
     ensures all { IfOk result (λ v. Consumes (S.rest source.old) (S.rest source.new) v.items) }
     ensures end { OnOk result (IsAtEnd (S.rest source.new)) }
@@ -80,7 +81,7 @@ pub fn read_all<S: Source>(alloc: Global, source: &mut S, limit: usize) -> Resul
         GivesPast limit PIECE (S.rest source.old) (S.rest source.new) }
     ensures fault { IsErrOf result ReadAll.Fault →
         FaultCounted (S.faults source.old) (S.faults source.new) }
-    ensures told { S.faults source.old < S.faults source.new → IsErrOf result ReadAll.Fault }
+    ensures reported { S.faults source.old < S.faults source.new → IsErrOf result ReadAll.Fault }
     ensures err { OnErr result
         ((given : List ℕ) × Consumes (S.rest source.old) (S.rest source.new) given) }
     ensures never_falls { S.faults source.old ≤ S.faults source.new }

@@ -13,7 +13,7 @@ use Rattle.std.proofs.lemmas.List.{get_or-set_same, get_or-set_other, length-set
 use Rattle.fort_tables.specs.BitRows.{has_bit}
 use Rattle.fort_tables.proofs.BitRowLaws.{has_bit-drop, has_bit-past}
 use Rattle.fort_tables.proofs.EqualTests.{test_from_apart}
-use Rattle.fort_atom_labels.proofs.Bits.{same_from_iff}
+use Rattle.fort_alike.proofs.Bits.{same_from_iff}
 use Rattle.fort_label_bits.proofs.RowBitLaws.{HasBits-none}
 use Rattle.fort_label_bits.specs.RowBits.{bit_of}
 use Rattle.fort_label_bits.specs.BitRowLists.{row_in, SetsBit, AreClear}

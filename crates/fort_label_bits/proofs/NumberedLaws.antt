@@ -6,7 +6,7 @@ use Rattle.fort_theory.specs.Patterns as theory
 use Rattle.fort_terms.specs.declared.pattern.Pattern.{Pattern}
 use Rattle.fort_terms.specs.PatternView.{as_pattern, as_patterns}
 use Rattle.fort_tables.specs.BitRows.{has_bit}
-use Rattle.fort_atom_labels.specs.PatternNumbers.{AreAt, all_at}
+use Rattle.fort_alike.specs.PatternNumbers.{AreAt, all_at}
 
 pub AreAt-push : (listed : List theory.Pattern) (ks : List ℕ) (ps : List Pattern) (k : ℕ) (p : Pattern) → AreAt listed ks (as_patterns ps)
     → k < length listed → get_or listed k theory.Any ≡ as_pattern p → AreAt listed (ks ++ k ∷ []) (as_patterns (ps ++ p ∷ []))

@@ -9,8 +9,8 @@ use Rattle.std.proofs.lemmas.List.{get_or_append_left, get_or-append-add, get_or
 use Rattle.std.proofs.lemmas.List.Elements.{Contains-append_left, Contains-append_right, Contains-append_cases}
 use Rattle.fort_theory.proofs.Members.{Contains-none, Contains-cons_cases, Contains-head, Contains-behind}
 use Rattle.fort_tables.proofs.EqualTests.{if_equal, if_apart}
-use Rattle.fort_atom_labels.proofs.Bits.{Decides-false, same_from_iff}
-use Rattle.fort_atom_labels.specs.PatternNumbers.{PatternNumber, number_inside}
+use Rattle.fort_alike.proofs.Bits.{Decides-false, same_from_iff}
+use Rattle.fort_alike.specs.PatternNumbers.{PatternNumber, number_inside}
 use Rattle.fort_label_bits.specs.RowBits.{bit_of, HasBits}
 use Rattle.fort_label_bits.specs.RootPlaces.{IsRooted, HasMoreRoots, list_at, places_at, root_of, writes_at}
 use Rattle.fort_label_bits.specs.declared.rooted.Rooted.{Rooted}

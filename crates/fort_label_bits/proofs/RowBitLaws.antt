@@ -8,7 +8,7 @@ use Rattle.std.proofs.lemmas.List.{drop_more, drop_all, get_or_past, get_or_push
 use Rattle.fort_tables.specs.BitRows.{has_bit}
 use Rattle.fort_tables.proofs.BitRowLaws.{has_bit-drop}
 use Rattle.fort_tables.proofs.EqualTests.{test_from_apart}
-use Rattle.fort_atom_labels.specs.AtomRules.{all_kids, one_kid, some_kid}
+use Rattle.fort_alike.specs.AtomRules.{all_kids, one_kid, some_kid}
 use Rattle.fort_label_bits.specs.RowBits.{labels_at, HasBits}
 
 -- bits

@@ -7,7 +7,7 @@ use Rattle.std.proofs.lemmas.Bool.{cases_eq, cases_lt}
 use Rattle.std.proofs.lemmas.List.{get_or-set_same, get_or-set_other, get_or_append_left, get_or_default, get_or_push, length-append, length-take-le, take_more}
 use Rattle.std.proofs.lemmas.List.Elements.{Contains-append_cases, Contains-append_left, Contains-append_right, Contains-get_or}
 use Rattle.fort_theory.proofs.Members.{Contains-none, Contains-cons_cases, Contains-head}
-use Rattle.fort_atom_labels.proofs.Bits.{Decides-false, same_from_iff}
+use Rattle.fort_alike.proofs.Bits.{Decides-false, same_from_iff}
 use Rattle.fort_label_bits.specs.RowBits.{bit_of}
 use Rattle.fort_label_bits.specs.RootPlaces.{list_at}
 use Rattle.fort_label_bits.specs.RulePlaces.{no_rule}

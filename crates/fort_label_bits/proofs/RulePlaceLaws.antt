@@ -8,7 +8,7 @@ use Rattle.fort_theory.specs.Patterns.{Pattern, Any, Pair}
 use Rattle.fort_theory.proofs.Members.{Contains-none, Contains-cons_cases, Contains-head, Contains-behind}
 use Rattle.fort_terms.specs.declared.pattern.Pattern as terms
 use Rattle.fort_terms.specs.PatternView.{as_pair}
-use Rattle.fort_atom_labels.specs.AtomRules.{any_pair}
+use Rattle.fort_alike.specs.AtomRules.{any_pair}
 use Rattle.fort_label_bits.specs.declared.rule_places.RulePlaces.{RulePlaces}
 use Rattle.fort_label_bits.specs.RulePlaces.{pair_at, ArePlacesOf}
 use Rattle.fort_label_bits.specs.RuleLefts.{has_both, some_rule}

@@ -2,7 +2,7 @@
 use Rattle.std.specs.Prelude.{◌≡◌, ℕ, ◌<◌, List, length, get_or, Option, None, Some}
 use Rattle.fort_theory.specs.Patterns.{Pattern, Any}
 use Rattle.fort_terms.specs.declared.sym.Sym.{Sym}
-use Rattle.fort_atom_labels.specs.PatternNumbers.{PatternNumber, IsNumberOf}
+use Rattle.fort_alike.specs.PatternNumbers.{PatternNumber, IsNumberOf}
 
 -- without a symbol it is Any, and has no arguments
 abbrev pub number_seen : Option Sym → List ℕ → PatternNumber

@@ -1,6 +1,6 @@
 -- Inside: places by the symbols at their roots.
 use Rattle.std.specs.Prelude.{◌≡◌, ℕ, ◌<◌, List, [], ◌∷◌, ◌++◌, map, length, get_or, Contains, Option, None, Some, Bool, ◌+◌, ◌&&◌, ◌==◌, if◌then◌else◌, vec_items}
-use Rattle.fort_atom_labels.specs.PatternNumbers.{PatternNumber, number_inside}
+use Rattle.fort_alike.specs.PatternNumbers.{PatternNumber, number_inside}
 use Rattle.fort_label_bits.specs.declared.rooted.Rooted.{Rooted}
 
 abbrev pub list_at : List (List ℕ) → ℕ → List ℕ

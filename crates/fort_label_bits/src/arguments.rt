@@ -1,9 +1,9 @@
 //! The columns of an atom's arguments.
 ghost use Rattle.std.specs.Prelude.{◌≡◌, ◌==◌, ℕ, List, length};
 ghost use Rattle.std.specs.List.{position_or_len};
-ghost use Rattle.fort_cores.specs.Cores as cores;
-ghost use Rattle.fort_cores.specs.Parts as parts;
-ghost use Rattle.fort_atom_labels.specs.ListedAtoms.{AreArguments};
+ghost use Rattle.fort_theory.specs.Cores as cores;
+ghost use Rattle.fort_theory.specs.Parts as parts;
+ghost use Rattle.fort_alike.specs.ListedAtoms.{AreArguments};
 
 /// How many columns there are, and which of them the arguments are.
 #[derive(Clone, Copy)]

@@ -1,13 +1,13 @@
 //! The bits of a label behind its first word, in the row that is written and in the labels of the children.
 ghost use Rattle.std.specs.Prelude.{◌≡◌, ℕ, ◌+◌, ◌*◌, ◌<◌, ◌≤◌, ◌^◌, List, [], ◌∷◌, ◌++◌, Bool, length, drop, ◌-◌, ◌&&◌, ◌||◌, ◌==◌, slice_index, slice_index_or};
 ghost use Rattle.std.specs.Slice.Scan.{HoldsNowhere};
-ghost use Rattle.fort_atom_labels.specs.AtomRules.{all_kids, one_kid, some_kid, same_roots as same_roots_lem, is_there as is_there_lem};
+ghost use Rattle.fort_alike.specs.AtomRules.{all_kids, one_kid, some_kid, same_roots as same_roots_lem, is_there as is_there_lem};
 ghost use Rattle.fort_tuple_symbols.specs.Columns.{as_column};
 ghost use Rattle.fort_label_bits.specs.RowBits.{HasBits, IsRow, bit_of, labels_at};
 
-use fort_explore::{Rows, has_bit, set_bit};
-use fort_lockstep::Row;
+use fort_labels::{Rows, has_bit, set_bit};
 use fort_terms::Sym;
+use fort_tuple_symbols::Row;
 
 /// Whether a label has this bit, counted from its second word.
 pub fn has_mark(label: &[u64], bit: usize) -> bool

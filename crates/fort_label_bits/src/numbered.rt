@@ -5,7 +5,7 @@ ghost use Rattle.fort_theory.specs.PatternOrder.{AllAmong};
 ghost use Rattle.fort_terms.specs.PatternView.{as_pattern, as_patterns};
 ghost use Rattle.fort_tree_automata.specs.PatternMoves.{IsClosedInOrder};
 ghost use Rattle.fort_tuple_symbols.specs.Columns.{as_column};
-ghost use Rattle.fort_atom_labels.specs.PatternNumbers.{AreAt, IsNumberOf, all_at, number_inside};
+ghost use Rattle.fort_alike.specs.PatternNumbers.{AreAt, IsNumberOf, all_at, number_inside};
 ghost use Rattle.fort_label_bits.specs.NumberedView.{AreNumbersOf};
 ghost use Rattle.fort_label_bits.specs.RowBits.{HasBits, bit_of, labels_at};
 ghost use Rattle.fort_label_bits.specs.RootPlaces.{IsRooted, root_of, writes_at};
@@ -13,10 +13,10 @@ ghost use Rattle.std.specs.List.{list_any};
 
 use crate::bits::{add_mark, has_mark, put_mark};
 use crate::rooted::Rooted;
-use fort_explore::Rows;
-use fort_lockstep::Row;
+use fort_labels::Rows;
 use fort_terms::{Memory, Pattern, Sym, has_numbers};
 use fort_tree_automata::place;
+use fort_tuple_symbols::Row;
 use std::alloc::{AllocError, Global};
 use std::marker::Model;
 
@@ -29,7 +29,7 @@ pub struct Numbered {
 }
 
 impl Model for Numbered {
-    ghost use Rattle.fort_atom_labels.specs.PatternNumbers.{PatternNumber};
+    ghost use Rattle.fort_alike.specs.PatternNumbers.{PatternNumber};
     ghost use Rattle.fort_label_bits.specs.NumberedView.{number_seen};
 
     ghost Value = { PatternNumber };

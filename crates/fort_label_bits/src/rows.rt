@@ -4,7 +4,7 @@ ghost use Rattle.fort_tables.specs.BitRows.{has_bit};
 ghost use Rattle.fort_label_bits.specs.RowBits.{bit_of};
 ghost use Rattle.fort_label_bits.specs.BitRowLists.{AreClear, SetsBit, row_in};
 
-use fort_explore::set_bit;
+use fort_labels::set_bit;
 use fort_terms::Memory;
 use std::alloc::Global;
 

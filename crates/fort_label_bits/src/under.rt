@@ -1,11 +1,11 @@
 //! Tests of the children under one root symbol.
 ghost use Rattle.std.specs.Prelude.{◌≡◌, ℕ, ◌<◌, ◌^◌, ◌&&◌, length, slice_index_or};
-ghost use Rattle.fort_atom_labels.specs.AtomRules.{all_kids, one_kid, some_kid};
+ghost use Rattle.fort_alike.specs.AtomRules.{all_kids, one_kid, some_kid};
 ghost use Rattle.fort_label_bits.specs.RowBits.{bit_of, labels_at};
 
 use crate::bits::{all_have, one_has, some_has};
-use fort_explore::Rows;
-use fort_lockstep::Row;
+use fort_labels::Rows;
+use fort_tuple_symbols::Row;
 
 /// Whether the roots are one symbol and all children have the bit.
 pub fn all_under(equal: bool, bit: usize, row: &Row, rows: &Rows) -> bool

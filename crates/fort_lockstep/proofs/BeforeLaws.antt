@@ -2,7 +2,7 @@
 use Rattle.std.proofs.Common.{◌≡◌, Bool, true, false, append_assoc, subst, ℕ, zero, suc, ◌+◌, ◌-◌, ◌*◌, ◌<◌, ◌≤◌, List, [], ◌∷◌, ◌++◌, length, replicate, get_or, ◌==◌, if◌then◌else◌, refl, ap, sym, ◌∙◌, arith, ⊎_elim}
 use Rattle.std.proofs.lemmas.Bool.{cases_lt}
 use Rattle.std.proofs.lemmas.List.{length-replicate, length-append, length_push, get_or_append_left, get_or_push, get_or-append_right}
-use Rattle.fort_lockstep.specs.Ranks.{rank_in}
+use Rattle.fort_tables.specs.StateRanks.{rank_in}
 use Rattle.fort_lockstep.specs.Tallies.{IsBefore, HasRow}
 
 -- the ranks of earlier states stay

@@ -3,9 +3,10 @@ use Rattle.std.proofs.Common.{◌≡◌, ℕ, zero, suc, length-append, ◌*◌,
 use Rattle.std.proofs.lemmas.Bool.{cases_lt}
 use Rattle.std.proofs.lemmas.List.{length-take-le, length-drop, length_push, get_or_push, get_or_append_left}
 use Rattle.fort_lockstep.specs.Transitions.{KidsBefore}
-use Rattle.fort_lockstep.specs.Pieces.{pieces, IsRising}
+use Rattle.fort_tables.specs.Pieces.{pieces}
+use Rattle.fort_lockstep.specs.RisingPieces.{IsRising}
 use Rattle.fort_lockstep.proofs.GroupLaws.{kids_irrefl, kids_trans}
-use Rattle.fort_lockstep.proofs.PieceLaws.{length-pieces, piece_within, get_or-pieces, pieces_push}
+use Rattle.fort_tables.proofs.PieceLaws.{length-pieces, piece_within, get_or-pieces, pieces_push}
 
 -- a list that comes after the middle one stands after it
 pub after_middle : (kss : List (List ℕ)) (ks : List ℕ) (m p : ℕ) → IsRising kss → m < length kss → p < length kss → get_or kss p [] ≡ ks → KidsBefore (get_or kss m []) ks → m < p

@@ -6,7 +6,7 @@ use Rattle.std.proofs.Math.Dec.{eqb}
 use Rattle.std.proofs.lemmas.Bool.{eq-eqb}
 use Rattle.std.proofs.lemmas.List.{length-map, get_or-map}
 use Rattle.std.proofs.lemmas.Map.Steps.{le-length_from_below}
-use Rattle.fort_lockstep.specs.Ranks.{space, place, AreOf}
+use Rattle.fort_tables.specs.StateRanks.{space, place, AreOf}
 use Rattle.fort_lockstep.proofs.RankLaws.{place_all}
 
 any_at : (xs : List ℕ) (q k : ℕ) → k < length xs → get_or xs k 0 ≡ q → list_any (eqb q) xs ≡ true

@@ -4,8 +4,8 @@ use Rattle.std.specs.Prelude.{Contains}
 use Rattle.std.proofs.lemmas.Bool.{cases_lt}
 use Rattle.std.proofs.lemmas.List.{get_or_default}
 use Rattle.fort_tables.specs.Entries.{stage, LexBefore}
-use Rattle.fort_lockstep.specs.Ranks.{rank_in, AreOf}
-use Rattle.fort_lockstep.specs.Pieces.{IsBeside}
+use Rattle.fort_tables.specs.StateRanks.{rank_in, AreOf}
+use Rattle.fort_lockstep.specs.RisingPieces.{IsBeside}
 use Rattle.fort_lockstep.specs.Transitions.{KidsBefore}
 use Rattle.fort_lockstep.specs.InOrder.{box, shell, inner, place_at, place_in_order}
 use Rattle.fort_lockstep.specs.Kept.{AreFirst}

@@ -10,7 +10,7 @@ use Rattle.fort_tables.proofs.EqualTests.{equal_from_test}
 use Rattle.fort_tuple_symbols.specs.DigitNumbers.{AreUpTo}
 use Rattle.fort_entry_walk.specs.Walks.{digit_lists}
 use Rattle.fort_lockstep.specs.Transitions.{KidsBefore}
-use Rattle.fort_lockstep.specs.Ranks.{space, AreOf, wants_at}
+use Rattle.fort_tables.specs.StateRanks.{space, AreOf, wants_at}
 use Rattle.fort_lockstep.specs.InOrder.{place_in_order}
 use Rattle.fort_lockstep.specs.Kept.{are_of, first_with, list_at, first_lists, AreFirst}
 use Rattle.fort_entry_walk.proofs.InLaws.{In}

@@ -5,7 +5,7 @@ use Rattle.fort_tables.specs.Tuples.{TupleSymbol, IsTupleSymbol, symbol_kids, ki
 use Rattle.fort_tables.specs.Entries.{Entry, entry, IsEntry, HasAllEntries, AreInOrder}
 use Rattle.fort_tables.proofs.TupleLaws.{length-tabulate, get_or-tabulate}
 use Rattle.fort_lockstep.specs.Transitions.{Group, in_order, entries_of}
-use Rattle.fort_lockstep.specs.Ranks.{space, AreOf, wants_at}
+use Rattle.fort_tables.specs.StateRanks.{space, AreOf, wants_at}
 use Rattle.fort_lockstep.specs.GroupFacts.{transitions_in, IsFull, IsDue}
 use Rattle.fort_lockstep.specs.Making.{IsStanding}
 use Rattle.fort_lockstep.proofs.FirstListLaws.{are_length, are_wants, are_within}

@@ -11,7 +11,7 @@ use Rattle.fort_lockstep.proofs.OrderedLaws.{transition_in, from_in_order, In-in
 use Rattle.fort_lockstep.proofs.GroupLaws.{kids_irrefl, push_in_group, push_group, InGroup, In-group, from_groups, kids_before}
 use Rattle.fort_tuple_symbols.specs.Columns.{symbol_of, digit_of, digits_again}
 use Rattle.fort_lockstep.specs.KidOrder.{IsGrownGroup}
-use Rattle.fort_lockstep.specs.Ranks.{AreOf, wants_at}
+use Rattle.fort_tables.specs.StateRanks.{AreOf, wants_at}
 use Rattle.fort_lockstep.specs.GroupFacts.{transitions_in, AreApart, IsDue, HasWants}
 use Rattle.fort_lockstep.specs.SymbolCounts.{count_with}
 use Rattle.fort_lockstep.proofs.SymbolCountLaws.{count_in_order, group_within}

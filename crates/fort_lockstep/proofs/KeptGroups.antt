@@ -10,7 +10,7 @@ use Rattle.fort_tables.specs.Entries.{Entry}
 use Rattle.fort_tuple_symbols.specs.Columns.{digit_of}
 use Rattle.fort_lockstep.specs.Transitions.{Group, no_group, KidsBefore, transition, in_order, entries_of, IsPut}
 use Rattle.fort_lockstep.specs.KidOrder.{IsGrownGroup}
-use Rattle.fort_lockstep.specs.Ranks.{AreOf, wants_at}
+use Rattle.fort_tables.specs.StateRanks.{AreOf, wants_at}
 use Rattle.fort_lockstep.specs.Kept.{Kept, no_kept, kids_in, group_in, IsKept, IsNewKept, IsGrownKept, IsFirstKept}
 use Rattle.fort_lockstep.specs.GroupFacts.{transitions_in, groups_in, AreApart, AreKept, IsDue}
 use Rattle.fort_lockstep.proofs.FirstListLaws.{are_wants}

@@ -5,14 +5,15 @@ use Rattle.std.proofs.lemmas.Bool.{cases_lt}
 use Rattle.std.proofs.lemmas.List.{length_push, get_or_push, get_or_append_left, get_or_default}
 use Rattle.fort_tables.proofs.TupleLaws.{length-tabulate}
 use Rattle.fort_lockstep.specs.Transitions.{KidsBefore}
-use Rattle.fort_lockstep.specs.Pieces.{pieces, IsRising, IsBeside}
+use Rattle.fort_tables.specs.Pieces.{pieces}
+use Rattle.fort_lockstep.specs.RisingPieces.{IsRising, IsBeside}
 use Rattle.fort_lockstep.specs.KidOrder.{IsGrownGroup}
-use Rattle.fort_lockstep.specs.Ranks.{count_of, space, AreOf, wants_at}
+use Rattle.fort_tables.specs.StateRanks.{count_of, space, AreOf, wants_at}
 use Rattle.fort_lockstep.specs.InOrder.{place_in_order}
 use Rattle.fort_lockstep.specs.Tallies.{AreBelow}
 use Rattle.fort_lockstep.specs.Kept.{list_at, first_lists, Kept, kids_in, group_in, IsKept, IsNewKept, IsGrownKept}
 use Rattle.fort_lockstep.proofs.InOrderLaws.{times_rises, in_order_below}
-use Rattle.fort_lockstep.proofs.PieceLaws.{pieces_push}
+use Rattle.fort_tables.proofs.PieceLaws.{pieces_push}
 use Rattle.fort_lockstep.proofs.BisectionLaws.{rising_push}
 use Rattle.fort_lockstep.proofs.DueLaws.{due_place, first_beside}
 use Rattle.fort_lockstep.proofs.FirstListLaws.{are_wants, first_lists_are, first_lists_push, first_lists_stay, are_more}

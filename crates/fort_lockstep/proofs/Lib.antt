@@ -1,13 +1,11 @@
 pub mod MakingLaws
 pub mod FinishLaws
 pub mod GiveLaws
-pub mod PieceLaws
 pub mod OrderedLaws
 pub mod GroupLaws
 pub mod BisectionLaws
 pub mod GroupsByDigits
 pub mod FirstEntryLaws
-pub mod SpanLaws
 pub mod RankLaws
 pub mod InOrderLaws
 pub mod CountLaws

@@ -3,7 +3,7 @@ use Rattle.std.proofs.Common.{◌≡◌, ℕ, zero, suc, ◌+◌, ◌*◌, ◌/�
 use Rattle.std.proofs.lemmas.Bool.{cases_lt}
 use Rattle.std.proofs.lemmas.Bool.Decides.{nat_tests}
 use Rattle.std.proofs.Math.Nat.{mul-le-mul_left, div-add-mod, mod-lt}
-use Rattle.fort_lockstep.specs.Ranks.{count_of, rank_in, space, place, AreOf}
+use Rattle.fort_tables.specs.StateRanks.{count_of, rank_in, space, place, AreOf}
 
 abbrev one_if : Bool → ℕ
 one_if b = if b then 1 else 0

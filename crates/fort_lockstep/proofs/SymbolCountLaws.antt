@@ -2,7 +2,8 @@
 use Rattle.std.proofs.Common.{◌≡◌, ℕ, zero, suc, ◌+◌, ◌<◌, ◌≤◌, List, [], ◌∷◌, ◌++◌, length, get_or, Option, None, Some, Bool, true, false, if◌then◌else◌, refl, ap, ◌∙◌, arith, eq-eqb}
 use Rattle.fort_tables.specs.Tuples.{TupleSymbol}
 use Rattle.fort_lockstep.specs.SymbolCounts.{same_column, same_symbol, count_with}
-use Rattle.fort_lockstep.specs.Transitions.{Transition, Group, no_group, entry_test, put_in, in_order, entries_of, group_transitions, transitions}
+use Rattle.fort_lockstep.specs.Transitions.{Transition, Group, no_group, put_in, in_order, entries_of, group_transitions, transitions}
+use Rattle.fort_tables.specs.EntryTests.{entry_test}
 
 abbrev one_if : Bool → ℕ
 one_if b = if b then 1 else 0

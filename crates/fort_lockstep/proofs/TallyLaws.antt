@@ -1,9 +1,10 @@
 -- What a tally of lists of states needs.
 use Rattle.std.proofs.Common.{◌≡◌, ℕ, zero, suc, ◌+◌, ◌-◌, ◌*◌, ◌<◌, ◌≤◌, List, ◌∷◌, Bool, true, false, ◌==◌, if◌then◌else◌, refl, ap, sym, ◌∙◌, arith, subst}
-use Rattle.fort_lockstep.specs.Ranks.{rank_in, AreOf}
+use Rattle.fort_tables.specs.StateRanks.{rank_in, AreOf}
 use Rattle.fort_lockstep.specs.InOrder.{box, shell, inner}
 use Rattle.fort_lockstep.specs.Tallies.{box_to, Fits}
-use Rattle.fort_lockstep.proofs.InOrderLaws.{rank_less, box_rises, shell_sum, inner_below, inner_at_most}
+use Rattle.fort_tables.proofs.StateRankLaws.{rank_less}
+use Rattle.fort_lockstep.proofs.InOrderLaws.{box_rises, shell_sum, inner_below, inner_at_most}
 
 -- what is known of child states, by the first and the rest
 pub record AreParts (ps ws ks : List ℕ) (q : ℕ) : Type 0 where

@@ -7,7 +7,7 @@ use Rattle.fort_tables.specs.Tuples.{TupleSymbol}
 use Rattle.fort_tables.specs.Entries.{Entry, entry, ComesBefore}
 use Rattle.fort_tables.proofs.OrderLaws.{before_irrefl}
 use Rattle.fort_lockstep.specs.Transitions.{Transition, transition, in_order, entries_of, IsPut}
-use Rattle.fort_lockstep.specs.Ranks.{AreOf, wants_at}
+use Rattle.fort_tables.specs.StateRanks.{AreOf, wants_at}
 use Rattle.fort_lockstep.specs.SymbolCounts.{count_with}
 use Rattle.fort_lockstep.specs.GroupFacts.{IsFull, IsDue}
 use Rattle.fort_tuple_symbols.specs.Columns.{symbol_of, digit_of}

@@ -4,7 +4,7 @@ use Rattle.std.proofs.lemmas.Bool.{cases_lt}
 use Rattle.std.proofs.lemmas.Bool.Decides.{nat_tests}
 use Rattle.std.proofs.Math.Nat.{mul-le-mul_left, div-add-mod, mod-lt}
 use Rattle.fort_tables.specs.Entries.{stage}
-use Rattle.fort_lockstep.specs.Ranks.{rank_in, space, AreOf}
+use Rattle.fort_tables.specs.StateRanks.{rank_in, space, AreOf}
 use Rattle.fort_lockstep.specs.InOrder.{box, shell, inner, place_in_order}
 use Rattle.fort_lockstep.specs.Tallies.{Fits}
 use Rattle.fort_lockstep.proofs.InOrderLaws.{bound, shell_sum, box_whole, place_newest}

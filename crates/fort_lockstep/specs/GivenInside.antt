@@ -3,7 +3,7 @@ use Rattle.std.specs.Prelude.{◌≡◌, length}
 use Rattle.fort_lockstep.specs.Transitions.{in_order, entries_of, targets_of}
 use Rattle.fort_lockstep.specs.TargetFacts.{all_transitions, AreTargets}
 use Rattle.fort_lockstep.specs.GivenView.{Parts}
-use Rattle.fort_lockstep.specs.EntryListFacts.{AreSpans}
+use Rattle.fort_table.specs.EntryListFacts.{AreSpans}
 use Rattle.fort_lockstep.specs.StateFacts.{first_entries_in, AreFirsts}
 use Rattle.fort_lockstep.specs.Tallies.{IsBefore}
 use Rattle.fort_lockstep.specs.declared.given.Given.TheInside.{Inside}

@@ -5,7 +5,7 @@ use Rattle.fort_tables.specs.Entries.{Entry, entry}
 use Rattle.fort_lockstep.specs.Transitions.{Transition, Group, transitions, KidsBefore, IsAfterEntries}
 use Rattle.fort_tuple_symbols.specs.Columns.{symbol_of}
 use Rattle.fort_lockstep.specs.Kept.{Kept, no_kept, group_in, IsKept}
-use Rattle.fort_lockstep.specs.Ranks.{AreOf, wants_at}
+use Rattle.fort_tables.specs.StateRanks.{AreOf, wants_at}
 use Rattle.fort_lockstep.specs.declared.groups.Groups.{Groups}
 
 -- the entries of groups, by the digits of their tuple symbols

@@ -1,7 +1,7 @@
 -- Inside: the place of a list of states among all lists of states of these presences, in the order of entries.
 use Rattle.std.specs.Prelude.{ℕ, zero, suc, ◌+◌, ◌*◌, ◌-◌, List, [], ◌∷◌, Bool, true, false, ◌==◌}
 use Rattle.fort_tables.specs.Entries.{stage}
-use Rattle.fort_lockstep.specs.Ranks.{rank_in}
+use Rattle.fort_tables.specs.StateRanks.{rank_in}
 
 -- how many lists of states below s there are
 abbrev pub box : List ℕ → List ℕ → ℕ → ℕ

@@ -3,8 +3,8 @@ use Rattle.std.specs.Prelude.{◌≡◌, ℕ, ◌<◌, ◌≤◌, List, [], ◌�
 use Rattle.fort_tables.specs.Tuples.{tabulate}
 use Rattle.fort_entry_walk.specs.Walks.{digit_lists}
 use Rattle.fort_lockstep.specs.Transitions.{Group}
-use Rattle.fort_lockstep.specs.Pieces.{IsRising}
-use Rattle.fort_lockstep.specs.Ranks.{space, AreOf, wants_at}
+use Rattle.fort_lockstep.specs.RisingPieces.{IsRising}
+use Rattle.fort_tables.specs.StateRanks.{space, AreOf, wants_at}
 use Rattle.fort_lockstep.specs.InOrder.{place_in_order}
 use Rattle.fort_lockstep.specs.Tallies.{AreBelow}
 

@@ -1,7 +1,7 @@
 -- Inside: what the fields of a group of entries with children stand for.
 use Rattle.std.specs.Prelude.{◌≡◌, ◌*◌, length, false}
 use Rattle.fort_lockstep.specs.Kept.{Kept}
-use Rattle.fort_lockstep.specs.Pieces.{pieces}
+use Rattle.fort_tables.specs.Pieces.{pieces}
 use Rattle.fort_lockstep.specs.declared.group.KidGroup.TheInside.{Inside}
 
 abbrev pub kept_in : Inside → Kept

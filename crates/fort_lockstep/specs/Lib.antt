@@ -2,9 +2,8 @@ pub mod Transitions
 pub mod ConstantsView
 pub mod ConstantsInside
 pub mod SymbolCounts
-pub mod Pieces
+pub mod RisingPieces
 pub mod KidOrder
-pub mod Ranks
 pub mod InOrder
 pub mod Tallies
 pub mod Kept
@@ -12,7 +11,6 @@ pub mod KidGroupInside
 pub mod GroupInside
 pub mod GroupFacts
 pub mod TargetFacts
-pub mod EntryListFacts
 pub mod StateFacts
 pub mod GivenView
 pub mod GivenInside

@@ -3,7 +3,7 @@ use Rattle.std.specs.Prelude.{◌≡◌, ℕ, ◌+◌, ◌<◌, ◌≤◌, vec_l
 use Rattle.fort_tables.specs.Tuples.{presence}
 use Rattle.fort_tables.specs.Entries.{Entry}
 use Rattle.fort_lockstep.specs.Tallies.{IsBefore}
-use Rattle.fort_lockstep.specs.EntryListFacts.{entries_in, AreSpans, HasPlace}
+use Rattle.fort_table.specs.EntryListFacts.{entries_in, AreSpans, HasPlace}
 use Rattle.fort_lockstep.specs.declared.states.States.{States}
 
 abbrev pub first_entries_in : States → List Entry

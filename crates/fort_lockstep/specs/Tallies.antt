@@ -1,6 +1,6 @@
 -- Inside: a table of how many of the first states have each presence, and what is counted beside a list of states.
 use Rattle.std.specs.Prelude.{◌≡◌, ℕ, suc, ◌+◌, ◌*◌, ◌<◌, ◌≤◌, List, [], ◌∷◌, ◌++◌, length, get_or, Bool, true, false, ◌==◌, if◌then◌else◌}
-use Rattle.fort_lockstep.specs.Ranks.{rank_in}
+use Rattle.fort_tables.specs.StateRanks.{rank_in}
 use Rattle.fort_lockstep.specs.InOrder.{box}
 
 -- row s of the table has for each presence below the width how many of the first s states have it

@@ -1,7 +1,8 @@
 //! Lists of child states in order, and bisection of them.
 ghost use Rattle.std.specs.Prelude.{◌≡◌, ℕ, ◌+◌, ◌-◌, ◌*◌, ◌^◌, ◌<◌, ◌≤◌, length, Contains, Bool, if◌then◌else◌};
 ghost use Rattle.fort_tables.specs.Entries.{stage as stage_lem};
-ghost use Rattle.fort_lockstep.specs.Pieces.{pieces, IsRising, IsBeside};
+ghost use Rattle.fort_tables.specs.Pieces.{pieces};
+ghost use Rattle.fort_lockstep.specs.RisingPieces.{IsRising, IsBeside};
 ghost use Rattle.fort_lockstep.specs.KidOrder.{IsLexOrder, IsKidOrder};
 
 use crate::steps::Steps;

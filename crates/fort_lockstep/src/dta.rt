@@ -8,8 +8,8 @@ ghost use Rattle.fort_lockstep.specs.OtherFinals.{with_finals};
 use crate::bisect::Uncounted;
 use crate::given::Given;
 use crate::steps::Steps;
-use crate::table::Table;
 use fort_entry_walk::Entries;
+use fort_table::Table;
 use fort_terms::{Memory, Signature};
 use fort_tuple_symbols::{Row, TupleSym};
 use std::marker::Model;
@@ -65,6 +65,7 @@ impl Dta {
     }
 
     /// The state of an entry; each comparison of two lists of child states is one step.
+    /// Promised to callers: the program itself doesn't call it.
     pub fn target_counted<L: Ledger>(
         &self,
         sym: &TupleSym,

@@ -1,7 +1,7 @@
 //! The entries of one tuple symbol.
 ghost use Rattle.std.specs.Prelude.{◌≡◌, ℕ, ◌+◌, ◌-◌, ◌*◌, ◌^◌, ◌<◌, ◌≤◌, ◌++◌, length, vec_len, vec_capacity, Contains, IfOk, OnOk, OnErr, true, false};
-ghost use Rattle.fort_lockstep.specs.Pieces.{IsBeside};
-ghost use Rattle.fort_lockstep.specs.Ranks.{space, AreOf, wants_at};
+ghost use Rattle.fort_lockstep.specs.RisingPieces.{IsBeside};
+ghost use Rattle.fort_tables.specs.StateRanks.{space, AreOf, wants_at};
 ghost use Rattle.fort_lockstep.specs.Tallies.{IsBefore};
 ghost use Rattle.fort_lockstep.specs.Kept.{kids_in, IsKept, IsNewKept, IsGrownKept, IsFirstKept};
 

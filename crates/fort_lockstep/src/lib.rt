@@ -4,9 +4,7 @@
 mod bisect;
 mod constant_targets;
 mod counts;
-mod dag;
 mod dta;
-mod entry_list;
 mod given;
 mod group;
 mod groups;
@@ -14,13 +12,8 @@ mod maker;
 mod place;
 mod states;
 mod steps;
-mod table;
 mod targets;
 
-pub use dag::Dag;
 pub use dta::Dta;
-pub use fort_entry_walk::Entries;
-pub use fort_tuple_symbols::{Row, TupleSym};
 pub use maker::Maker;
 pub use steps::Steps;
-pub use table::Table;

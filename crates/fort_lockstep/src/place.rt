@@ -1,6 +1,6 @@
 //! The place of child states in the order of entries, by counts of states.
 ghost use Rattle.std.specs.Prelude.{◌≡◌, ℕ, ◌+◌, ◌-◌, ◌*◌, ◌<◌, ◌≤◌, ◌^◌, [], ◌∷◌, length, slice_index, true, false, if◌then◌else◌, IsTrue, IfOk};
-ghost use Rattle.fort_lockstep.specs.Ranks.{rank_in, space, AreOf, wants_at};
+ghost use Rattle.fort_tables.specs.StateRanks.{rank_in, space, AreOf, wants_at};
 ghost use Rattle.fort_lockstep.specs.InOrder.{box, inner, place_in_order};
 ghost use Rattle.fort_lockstep.specs.Tallies.{IsBefore, AreBelow, box_to, Fits};
 

@@ -2,10 +2,10 @@
 ghost use Rattle.std.specs.Prelude.{◌≡◌, ◌+◌, ◌<◌, ◌^◌, [], length, IfOk, OnOk};
 ghost use Rattle.fort_lockstep.specs.StateFacts.{IsSameStates, HasRoom, IsNoted};
 ghost use Rattle.fort_lockstep.specs.Tallies.{IsBefore};
-ghost use Rattle.fort_lockstep.specs.EntryListFacts.{AreSpans};
+ghost use Rattle.fort_table.specs.EntryListFacts.{AreSpans};
 
 use crate::counts::Counts;
-use crate::entry_list::EntryList;
+use fort_table::EntryList;
 use fort_terms::Memory;
 use fort_tuple_symbols::Row;
 use std::alloc::Global;

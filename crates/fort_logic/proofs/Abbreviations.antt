@@ -1,19 +1,18 @@
 -- What the abbreviated relations and properties are turned into says of terms what they say.
 use Rattle.std.specs.Prelude.{◌≡◌, ◌↔◌, ◌⊎◌, ℕ, ◌+◌}
 use Rattle.std.proofs.Common.{sym, subst, ◌∙◌, inl, inr, arith}
-use Rattle.fort_theory.specs.Logic.{Surely, OneOf, HasSome}
+use Rattle.fort_theory.specs.Logic.{Surely, OneOf, HasSome, And}
 use Rattle.fort_theory.specs.Trees.{Tree}
 use Rattle.fort_theory.specs.Signatures.{IsGround, HasConstant}
 use Rattle.fort_theory.specs.Rewriting.{Relation, Rewrites, RewritesAtMostOnce, Reduces, ReducesStrictly, IsNormalForm}
-use Rattle.fort_cores.specs.Structures.{Structure}
+use Rattle.fort_theory.specs.Structures.{Structure}
 use Rattle.fort_logic.specs.Truth.{Relates, AreJoinable}
 use Rattle.fort_logic.specs.Formulas as surface
 use Rattle.fort_logic.specs.Formulas.{SurfaceRel, Property}
-use Rattle.fort_cores.specs.Cores.{Core, Binary, Star, Step}
-use Rattle.fort_theory.specs.Logic.{And}
-use Rattle.fort_cores.specs.CoreTruth.{Places, with_number}
+use Rattle.fort_theory.specs.Cores.{Core, Binary, Star, Step}
+use Rattle.fort_theory.specs.CoreTruth.{Places, with_number}
 use Rattle.fort_logic.specs.Translation.{atom, some, every, implies, related, joins, normalises, at_most_one_step}
-use Rattle.fort_cores.proofs.CorePlaces.{with_number-same, with_number-other}
+use Rattle.fort_theory.proofs.CorePlaces.{with_number-same, with_number-other}
 use Rattle.fort_logic.proofs.Binders.{Met, Met-some, Met-every, Met-implies}
 
 -- a relation of the same trees

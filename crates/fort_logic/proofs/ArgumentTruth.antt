@@ -4,12 +4,12 @@ use Rattle.std.proofs.Common.{◌∙◌, sym, arith, subst}
 use Rattle.fort_theory.specs.Trees.{Tree}
 use Rattle.fort_theory.specs.Signatures.{IsGround}
 use Rattle.fort_logic.specs.Formulas.{Name, Argument, Var, Ground}
-use Rattle.fort_cores.specs.Structures.{Structure}
-use Rattle.fort_cores.specs.Cores.{Core, Leaf, IsTerm, Binary, Exists}
+use Rattle.fort_theory.specs.Structures.{Structure}
+use Rattle.fort_theory.specs.Cores.{Core, Leaf, IsTerm, Binary, Exists}
 use Rattle.fort_theory.specs.Logic.{And}
-use Rattle.fort_cores.specs.CoreTruth.{Places, with_number}
+use Rattle.fort_theory.specs.CoreTruth.{Places, with_number}
 use Rattle.fort_logic.specs.Translation.{number_in, term_at, about, about_both}
-use Rattle.fort_cores.proofs.CorePlaces.{with_number-same, with_number-other, IsMetBy-stable}
+use Rattle.fort_theory.proofs.CorePlaces.{with_number-same, with_number-other, IsMetBy-stable}
 use Rattle.fort_logic.proofs.Binders.{Met}
 
 -- these places have the same trees for all numbers below n

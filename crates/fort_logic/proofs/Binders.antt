@@ -1,16 +1,15 @@
 -- The binders of the translation say what they are called, bound or left out: "some", "every", "infinitely many".
 use Rattle.std.specs.Prelude.{◌≡◌, ◌↔◌, ℕ, Bool, true, false, if◌then◌else◌, [], refl}
 use Rattle.std.proofs.Common.{sym, ap, ◌∙◌}
-use Rattle.fort_theory.specs.Logic.{HasSome, HasInfinitelyMany}
+use Rattle.fort_theory.specs.Logic.{HasSome, HasInfinitelyMany, And}
 use Rattle.fort_theory.specs.Trees.{Tree, Node, Nil}
 use Rattle.fort_theory.specs.Signatures.{IsGround, HasConstant}
-use Rattle.fort_cores.specs.Structures.{Structure}
-use Rattle.fort_cores.specs.Cores.{Core, Not, Binary, Exists, Infinite}
-use Rattle.fort_theory.specs.Logic.{And}
-use Rattle.fort_cores.specs.CoreTruth.{Places, with_number, IsMetBy}
-use Rattle.fort_cores.specs.Parts.{is_free}
+use Rattle.fort_theory.specs.Structures.{Structure}
+use Rattle.fort_theory.specs.Cores.{Core, Not, Binary, Exists, Infinite}
+use Rattle.fort_theory.specs.CoreTruth.{Places, with_number, IsMetBy}
+use Rattle.fort_theory.specs.Parts.{is_free}
 use Rattle.fort_logic.specs.Translation.{some, every, equal, infinitely_many, implies}
-use Rattle.fort_cores.proofs.CorePlaces.{IsMetBy-stable, IsMetBy-agree, with_number-other}
+use Rattle.fort_theory.proofs.CorePlaces.{IsMetBy-stable, IsMetBy-agree, with_number-other}
 
 free_elsewhere : (n k : ℕ) (c : Core) → is_free n c ≡ false → is_free k c ≡ true → k ≡ n → ⊥
 free_elsewhere n k c bound free same = let said : is_free n c ≡ true = ap (λ i. is_free i c) (sym same) ∙ free in cc

@@ -1,15 +1,14 @@
 -- That two lists of rules commute is true exactly where the core formula that stands for it is.
 use Rattle.std.specs.Prelude.{◌≡◌, ◌↔◌, ℕ, ◌+◌}
 use Rattle.std.proofs.Common.{arith}
-use Rattle.fort_theory.specs.Logic.{Surely, HasSome}
+use Rattle.fort_theory.specs.Logic.{Surely, HasSome, And}
 use Rattle.fort_theory.specs.Trees.{Tree}
 use Rattle.fort_theory.specs.Signatures.{IsGround, HasConstant}
 use Rattle.fort_theory.specs.Rewriting.{Relation, Reduces}
-use Rattle.fort_cores.specs.Structures.{Structure}
+use Rattle.fort_theory.specs.Structures.{Structure}
 use Rattle.fort_logic.specs.Truth.{Commute}
-use Rattle.fort_cores.specs.Cores.{Core, Binary, Star}
-use Rattle.fort_theory.specs.Logic.{And}
-use Rattle.fort_cores.specs.CoreTruth.{Places}
+use Rattle.fort_theory.specs.Cores.{Core, Binary, Star}
+use Rattle.fort_theory.specs.CoreTruth.{Places}
 use Rattle.fort_logic.specs.Translation.{atom, some, commutes}
 use Rattle.fort_logic.proofs.Binders.{Met}
 use Rattle.fort_logic.proofs.Abbreviations.{Met-meets, Met-fork_property, SurelyReduces, means_star}

@@ -10,9 +10,9 @@ use Rattle.fort_theory.proofs.Members.{Contains-head}
 use Rattle.fort_logic.specs.Formulas as surface
 use Rattle.fort_logic.specs.Formulas.{Name, Argument, Formula, SurfaceRel, Property}
 use Rattle.fort_logic.specs.FreeNames.{without, names_in, occurrences, free_names}
-use Rattle.fort_cores.specs.Cores.{Core, Leaf, InContext, Normal, IsTerm, Not, Binary, Exists, Infinite, Star, Plus, Step, Conv}
+use Rattle.fort_theory.specs.Cores.{Core, Leaf, InContext, Normal, IsTerm, Not, Binary, Exists, Infinite, Star, Plus, Step, Conv}
 use Rattle.fort_theory.specs.Logic.{And}
-use Rattle.fort_cores.specs.Parts.{is_free, BindsFree, IsClosed}
+use Rattle.fort_theory.specs.Parts.{is_free, BindsFree, IsClosed}
 use Rattle.fort_logic.specs.Translation.{atom, number_in, some, every, equal, infinitely_many, implies, joins, forks, normalises, at_most_one_step, terminates, all_terminate, related, property_core, commutes, term_at, about, about_both, core_in, core_of}
 use Rattle.fort_logic.proofs.ScopeNumbers.{Contains-without, Contains-once, Contains-reverse, number_in-below}
 

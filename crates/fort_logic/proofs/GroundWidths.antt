@@ -7,11 +7,11 @@ use Rattle.fort_theory.proofs.Lists.{Contains-map, Contains-map_from}
 use Rattle.fort_logic.specs.Formulas as surface
 use Rattle.fort_logic.specs.Formulas.{Name, Argument, Formula, SurfaceRel, Property}
 use Rattle.fort_logic.specs.FreeNames.{free_names}
-use Rattle.fort_cores.specs.Cores.{Atom, Related, InContext, Normal, IsTerm, Core, True, Leaf, Not, Binary, Exists, Infinite, Star, Plus, Step, Conv}
+use Rattle.fort_theory.specs.Cores.{Atom, Related, InContext, Normal, IsTerm, Core, True, Leaf, Not, Binary, Exists, Infinite, Star, Plus, Step, Conv}
 use Rattle.fort_theory.specs.Logic.{And, Or, Iff}
-use Rattle.fort_cores.specs.Parts.{postorder, stands_in, is_free, HasManyColumns, HasManyRootsIn, HasManyRootsAt, IsTooWide}
+use Rattle.fort_theory.specs.Parts.{postorder, stands_in, is_free, HasManyColumns, HasManyRootsIn, HasManyRootsAt, IsTooWide}
 use Rattle.fort_logic.specs.Translation.{atom, number_in, some, every, equal, infinitely_many, implies, at_most_one_step, normalises, joins, terminates, all_terminate, related, property_core, commutes, about, about_both, core_in, core_of, IsFormulaTooWide}
-use Rattle.fort_cores.proofs.ColumnLaws.{AreColumns-same}
+use Rattle.fort_theory.proofs.ColumnLaws.{AreColumns-same}
 
 -- each term is replaced by the tree that the translation takes where there is no term
 abbrev blank_atom : Atom → Atom

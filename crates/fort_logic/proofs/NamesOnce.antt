@@ -1,8 +1,8 @@
 -- The free names of a formula are the names that occur free in it, each once, in the order of their first places.
 use Rattle.std.specs.Prelude.{◌≡◌, ◌⊎◌, Bool, true, false, not, cond, List, [], ◌∷◌, ◌++◌, bytes_eq, Contains, refl}
 use Rattle.std.proofs.Common.{inl, inr, sym, ap, subst, ◌∙◌, arith}
-use Rattle.fort_cores.specs.EachOnce.{StandsBefore, StandsBeforeAll, AreEachOnce}
-use Rattle.fort_cores.proofs.EachOnceUnique.{StandsBefore-behind, StandsBefore-cases, StandsBefore-Contains}
+use Rattle.fort_theory.specs.EachOnce.{StandsBefore, StandsBeforeAll, AreEachOnce}
+use Rattle.fort_theory.proofs.EachOnceUnique.{StandsBefore-behind, StandsBefore-cases, StandsBefore-Contains}
 use Rattle.fort_logic.specs.Formulas.{Name, Formula}
 use Rattle.fort_logic.specs.FreeNames.{without, occurrences, once, free_names}
 use Rattle.fort_theory.proofs.Members.{Contains-behind, Contains-cons_cases, Contains-from_filter}

@@ -5,13 +5,13 @@ use Rattle.fort_theory.specs.Logic.{Surely, HasSome}
 use Rattle.fort_theory.specs.Trees.{Tree}
 use Rattle.fort_theory.specs.Signatures.{Signature, IsGround, HasConstant}
 use Rattle.fort_theory.specs.Rewriting.{Relation, Rewrites, RewritesAtMostOnce, Reduces, Converts, IsNormalForm}
-use Rattle.fort_cores.specs.Structures.{Structure}
+use Rattle.fort_theory.specs.Structures.{Structure}
 use Rattle.fort_logic.specs.Truth.{AreJoinable, HasProperty}
 use Rattle.fort_logic.specs.Formulas.{Property, Cr, Wcr, Scr, Wn, Unr, Unc, Nfp}
-use Rattle.fort_cores.specs.Cores as core
+use Rattle.fort_theory.specs.Cores as core
 use Rattle.fort_theory.specs.Logic as logic
-use Rattle.fort_cores.specs.Cores.{Core}
-use Rattle.fort_cores.specs.CoreTruth.{Places, with_number}
+use Rattle.fort_theory.specs.Cores.{Core}
+use Rattle.fort_theory.specs.CoreTruth.{Places, with_number}
 use Rattle.fort_logic.specs.Translation.{atom, some, equal as equals, implies, joins, normalises, at_most_one_step, property_core}
 use Rattle.fort_logic.proofs.Binders.{Met, Met-some, Met-every, Met-implies}
 use Rattle.fort_logic.proofs.Abbreviations.{moved, Met-meets, Met-joins, Met-fork_property, Met-every_two, first_of_two, second_of_two, SurelyReduces, SurelySteps, SurelyNormalises, SurelyAtMostOnce, means_star, means_step, means_normalises, means_at_most_one, surely_at_most_once}

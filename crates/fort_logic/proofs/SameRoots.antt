@@ -1,4 +1,4 @@
--- Structures over one signature whose root steps relate the same trees have the same formulas true.
+-- A result, which no proof cites: structures over one signature whose root steps relate the same trees have the same formulas true.
 use Rattle.std.specs.Prelude.{◌↔◌, ℕ, All, Some, None}
 use Rattle.fort_theory.specs.Trees.{Tree}
 use Rattle.fort_theory.specs.Signatures.{Signature, HasConstant}
@@ -9,13 +9,13 @@ use Rattle.fort_theory.specs.PatternSteps.{PatternStepAt}
 use Rattle.fort_theory.proofs.IndexLaws.{at_index-map, All-at_index}
 use Rattle.fort_theory.proofs.WithinRoots.{Within, Rewrites-within, RewritesBelow-within, RewritesAtMostOnce-within, RewritesEitherWay-within, Reduces-within, ReducesStrictly-within, Converts-within, RewritesInParallel-within, IsNormalForm-within}
 use Rattle.fort_theory.proofs.PatternSteps.{PatternStep-from_RootStep, RootStep-from_PatternStep}
-use Rattle.fort_termination.proofs.TerminationWithin.{IsTerminating-within}
-use Rattle.fort_expressions.specs.Expressions.{Means}
-use Rattle.fort_expressions.proofs.MeaningLaws.{Means-within, HoldsInContext-within}
-use Rattle.fort_cores.proofs.SameCoreRoots.{over}
+use Rattle.fort_theory.proofs.TerminationWithin.{IsTerminating-within}
+use Rattle.fort_theory.specs.Expressions.{Means}
+use Rattle.fort_theory.proofs.MeaningLaws.{Means-within, HoldsInContext-within}
+use Rattle.fort_theory.proofs.SameCoreRoots.{over}
 use Rattle.fort_logic.specs.Formulas.{SurfaceRel, Eq, Step, Star, Plus, Reflexive, Normal, Root, Below, Par, Either, Conv, Property, Cr, Wcr, Scr, Wn, Unr, Unc, Nfp, Formula, True, False, Related, InContext, Nf, Join, Sn, Has, Com, Not, And, Or, Imp, Iff, Exists, Forall, Infinite}
-use Rattle.fort_cores.specs.Structures.{structure_of}
-use Rattle.fort_cores.specs.PatternStructures.{pattern_structure}
+use Rattle.fort_theory.specs.Structures.{structure_of}
+use Rattle.fort_theory.specs.PatternStructures.{pattern_structure}
 use Rattle.fort_logic.specs.Truth.{Assignment, with_name, Relates, AreJoinable, HasProperty, Commute, Holds}
 
 module _ (r q : Relation) (w : Within r q) (back : Within q r) where

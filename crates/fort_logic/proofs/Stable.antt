@@ -1,7 +1,7 @@
--- Truth is stable: a formula that is not false is true. So "for all" and "not for some not" are one.
+-- A result, which no proof cites: truth is stable: a formula that is not false is true. So "for all" and "not for some not" are one.
 use Rattle.std.specs.Prelude.{ℕ, Some, None}
 use Rattle.fort_theory.specs.Logic.{Surely}
-use Rattle.fort_cores.specs.Structures.{Structure}
+use Rattle.fort_theory.specs.Structures.{Structure}
 use Rattle.fort_logic.specs.Truth.{Assignment, with_name, HasProperty, Holds}
 use Rattle.fort_logic.specs.Formulas.{Property, Cr, Wcr, Scr, Wn, Unr, Unc, Nfp, Formula, True, False, Related, InContext, Nf, Join, Sn, Has, Com, Not, And, Or, Imp, Iff, Exists, Forall, Infinite}
 

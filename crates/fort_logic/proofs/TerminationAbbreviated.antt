@@ -1,4 +1,4 @@
--- SN of a variable is true exactly where the formula is that it stands for, in the user's own words, over right-ground rules.
+-- A result, which no proof cites: SN of a variable is true exactly where the formula is that it stands for, in the user's own words, over right-ground rules.
 use Rattle.std.specs.Prelude.{◌≡◌, ◌↔◌, ℕ, false, if◌then◌else◌, Some, bytes_eq}
 use Rattle.std.proofs.Common.{ap, sym}
 use Rattle.fort_theory.specs.Logic.{Surely}
@@ -6,11 +6,11 @@ use Rattle.fort_theory.specs.Trees.{Tree}
 use Rattle.fort_theory.specs.Signatures.{IsGround}
 use Rattle.fort_theory.specs.Sides.{System}
 use Rattle.fort_theory.specs.Rewriting.{Reduces, ReducesStrictly, RootStepAt}
-use Rattle.fort_termination.specs.RightGround.{IsRightGroundAt}
-use Rattle.fort_termination.specs.Termination.{ReachesInfinitelyMany, ReachesCycle}
-use Rattle.fort_termination.proofs.RightGroundTargets.{IsTerminating-right_ground}
+use Rattle.fort_theory.specs.RightGround.{IsRightGroundAt}
+use Rattle.fort_theory.specs.Termination.{ReachesInfinitelyMany, ReachesCycle}
+use Rattle.fort_theory.proofs.RightGroundTargets.{IsTerminating-right_ground}
 use Rattle.fort_logic.specs.Formulas.{Name, Var, Formula, Star, Plus, Related, Sn, Not, And, Exists, Infinite}
-use Rattle.fort_cores.specs.Structures.{structure_of}
+use Rattle.fort_theory.specs.Structures.{structure_of}
 use Rattle.fort_logic.specs.Truth.{Assignment, with_name, Holds}
 use Rattle.fort_logic.proofs.ScopeNumbers.{name_itself}
 use Rattle.fort_logic.proofs.Abbreviations.{moved}

@@ -4,7 +4,7 @@ use Rattle.std.proofs.Common.{ap, sym, ◌∙◌, subst, append_assoc, inl, inr}
 use Rattle.std.proofs.lemmas.List.Elements.{Contains-append_right, Contains-append_cases}
 use Rattle.fort_theory.proofs.Members.{Contains-head, Contains-none, Contains-cons_cases}
 use Rattle.fort_logic.specs.Terminations.{AreAll, IsFirstWithout}
-use Rattle.fort_cores.proofs.EachOnceUnique.{same_first_place}
+use Rattle.fort_theory.proofs.EachOnceUnique.{same_first_place}
 
 module _ (P : ℕ → Type 0) where
   pub AreAll-nil : AreAll P []

@@ -5,17 +5,17 @@ use Rattle.fort_theory.specs.Trees.{Tree}
 use Rattle.fort_theory.specs.Signatures.{IsGround, HasConstant}
 use Rattle.fort_theory.specs.Sides.{System, at_index}
 use Rattle.fort_theory.proofs.GroundSteps.{RelatesGround, RelatesGround-RootStep}
-use Rattle.fort_termination.specs.RightGround.{IsRightGroundAt}
-use Rattle.fort_termination.specs.Termination.{IsTerminating, AllTerminate, ReachesInfinitelyMany, ReachesCycle}
-use Rattle.fort_termination.proofs.Successors.{LeadsTo}
-use Rattle.fort_termination.proofs.TerminationExact.{IsTerminating-exact}
-use Rattle.fort_termination.proofs.RightGroundTargets.{targets_of, LeadsTo-RootStep}
-use Rattle.fort_cores.specs.Structures.{Structure, structure_of}
-use Rattle.fort_cores.specs.Cores.{Binary, Star, Plus}
+use Rattle.fort_theory.specs.RightGround.{IsRightGroundAt}
+use Rattle.fort_theory.specs.Termination.{IsTerminating, AllTerminate, ReachesInfinitelyMany, ReachesCycle}
+use Rattle.fort_theory.proofs.Successors.{LeadsTo}
+use Rattle.fort_theory.proofs.TerminationExact.{IsTerminating-exact}
+use Rattle.fort_theory.proofs.RightGroundTargets.{targets_of, LeadsTo-RootStep}
+use Rattle.fort_theory.specs.Structures.{Structure, structure_of}
+use Rattle.fort_theory.specs.Cores.{Binary, Star, Plus}
 use Rattle.fort_theory.specs.Logic.{And}
-use Rattle.fort_cores.specs.CoreTruth.{Places, with_number}
+use Rattle.fort_theory.specs.CoreTruth.{Places, with_number}
 use Rattle.fort_logic.specs.Translation.{atom, some, infinitely_many, terminates, all_terminate}
-use Rattle.fort_cores.proofs.CorePlaces.{with_number-same, with_number-other}
+use Rattle.fort_theory.proofs.CorePlaces.{with_number-same, with_number-other}
 use Rattle.fort_logic.proofs.Binders.{Met, Met-some, Met-every, Met-infinitely_many}
 use Rattle.fort_logic.proofs.Abbreviations.{moved, SurelyReduces, SurelyReducesStrictly}
 

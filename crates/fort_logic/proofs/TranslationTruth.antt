@@ -9,20 +9,20 @@ use Rattle.fort_theory.specs.Logic.{Surely}
 use Rattle.fort_theory.specs.Trees.{Tree, Node, Nil}
 use Rattle.fort_theory.specs.Signatures.{IsGround, HasConstant}
 use Rattle.fort_theory.specs.Rewriting.{IsNormalForm}
-use Rattle.fort_termination.specs.Termination.{IsTerminating}
-use Rattle.fort_expressions.specs.Expressions.{Means}
-use Rattle.fort_expressions.specs.Contexts.{HoldsInContext}
-use Rattle.fort_cores.specs.Structures.{Structure, structure_of}
+use Rattle.fort_theory.specs.Termination.{IsTerminating}
+use Rattle.fort_theory.specs.Expressions.{Means}
+use Rattle.fort_theory.specs.Contexts.{HoldsInContext}
+use Rattle.fort_theory.specs.Structures.{Structure, structure_of}
 use Rattle.fort_logic.specs.Truth.{Assignment, with_name, IsGroundAssignment, GivesTerms, Relates, AreJoinable, Holds}
 use Rattle.fort_logic.specs.Formulas.{Name, Argument, Var, Ground, Formula, True, False, Related, InContext, Nf, Join, Sn, Has, Com, Not, And, Or, Imp, Iff, Exists, Forall, Infinite}
 use Rattle.fort_logic.specs.FreeNames.{names_in, occurrences, free_names}
 use Rattle.fort_logic.specs.Mentions.{places_in, places, HasTermsFor}
 use Rattle.fort_logic.specs.Terminations.{terminations}
-use Rattle.fort_cores.specs.Cores as core
-use Rattle.fort_cores.specs.CoreTruth.{Places, with_number, IsMetBy}
+use Rattle.fort_theory.specs.Cores as core
+use Rattle.fort_theory.specs.CoreTruth.{Places, with_number, IsMetBy}
 use Rattle.fort_logic.specs.Translation.{number_in, related, joins, terminates, term_at, core_in, core_of}
 use Rattle.fort_logic.specs.KeepsTruth.{AreTheirPlaces, KeepsTruth}
-use Rattle.fort_cores.proofs.CorePlaces.{with_number-same, with_number-other}
+use Rattle.fort_theory.proofs.CorePlaces.{with_number-same, with_number-other}
 use Rattle.fort_logic.proofs.Binders.{Met, Met-some, Met-every, Met-infinitely_many, Met-implies}
 use Rattle.fort_logic.proofs.Abbreviations.{moved, Met-related, Met-joins}
 use Rattle.fort_logic.proofs.PropertyTruth.{Met-property}

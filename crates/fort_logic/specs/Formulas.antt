@@ -1,7 +1,7 @@
 -- To believe: the formulas that a user can write, as trees with names for variables; relations, NF, JOIN, SN and properties have the index of the rules that they are about, an expression those of its root steps.
 use Rattle.std.specs.Prelude.{ℕ, List, Option}
-use Rattle.fort_expressions.specs.Expressions.{Expression}
-use Rattle.fort_expressions.specs.Contexts.{HoleNumber, HolePlace}
+use Rattle.fort_theory.specs.Expressions.{Expression}
+use Rattle.fort_theory.specs.Contexts.{HoleNumber, HolePlace}
 
 -- a variable's name, as bytes
 abbrev pub Name : Type 0

@@ -3,14 +3,14 @@ use Rattle.std.specs.Prelude.{◌≡◌, ◌↔◌, ℕ, List, Some, slice_get, 
 use Rattle.fort_theory.specs.Trees.{Tree}
 use Rattle.fort_theory.specs.Signatures.{HasConstant, IsGround}
 use Rattle.fort_theory.specs.Sides.{System}
-use Rattle.fort_termination.specs.RightGround.{IsRightGroundAt}
-use Rattle.fort_cores.specs.Structures.{structure_of}
+use Rattle.fort_theory.specs.RightGround.{IsRightGroundAt}
+use Rattle.fort_theory.specs.Structures.{structure_of}
 use Rattle.fort_logic.specs.Truth.{Assignment, IsGroundAssignment, GivesTerms, Holds}
 use Rattle.fort_logic.specs.Formulas.{Name, Var, Formula}
 use Rattle.fort_logic.specs.FreeNames.{free_names}
 use Rattle.fort_logic.specs.Terminations.{terminations}
-use Rattle.fort_cores.specs.Cores.{Core}
-use Rattle.fort_cores.specs.CoreTruth.{Places, IsMetBy}
+use Rattle.fort_theory.specs.Cores.{Core}
+use Rattle.fort_theory.specs.CoreTruth.{Places, IsMetBy}
 
 -- each free name has its tree at its number
 abbrev pub AreTheirPlaces : Formula → Assignment → Places → Type 0

@@ -1,7 +1,7 @@
 -- To believe: which indices of rules, and which places of ground terms, a formula mentions, from left to right; whether it has an expression.
 use Rattle.std.specs.Prelude.{◌≡◌, Bool, true, false, ◌||◌, ℕ, ◌<◌, ◌≤◌, List, [], ◌∷◌, ◌++◌, length, Some, None, Contains}
 use Rattle.fort_theory.specs.Trees.{Tree}
-use Rattle.fort_expressions.specs.Expressions.{root_indices}
+use Rattle.fort_theory.specs.Expressions.{root_indices}
 use Rattle.fort_logic.specs.Formulas.{Argument, Var, Ground, Formula, True, False, Related, InContext, Nf, Join, Sn, Has, Com, Not, And, Or, Imp, Iff, Exists, Forall, Infinite}
 
 -- the indices; one that is left out counts as 1, COM as 1 and 2

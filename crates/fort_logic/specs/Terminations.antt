@@ -1,7 +1,7 @@
 -- To believe: at which indices a formula says SN, from left to right, and that a system's rules of them are right-ground.
 use Rattle.std.specs.Prelude.{◌≡◌, ℕ, List, [], ◌∷◌, ◌++◌, Contains}
 use Rattle.fort_theory.specs.Sides.{System}
-use Rattle.fort_termination.specs.RightGround.{IsRightGroundAt}
+use Rattle.fort_theory.specs.RightGround.{IsRightGroundAt}
 use Rattle.fort_logic.specs.Formulas.{Formula, True, False, Related, InContext, Nf, Join, Sn, Has, Com, Not, And, Or, Imp, Iff, Exists, Forall, Infinite}
 
 abbrev pub terminations : Formula → List ℕ

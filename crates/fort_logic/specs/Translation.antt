@@ -4,9 +4,9 @@ use Rattle.fort_theory.specs.Trees.{Tree, Node, Nil}
 use Rattle.fort_logic.specs.Formulas as surface
 use Rattle.fort_logic.specs.Formulas.{Name, Argument, Formula, SurfaceRel, Property}
 use Rattle.fort_logic.specs.FreeNames.{free_names}
-use Rattle.fort_cores.specs.Cores.{Rel, Core, True, Leaf, Related, InContext, Normal, IsTerm, Not, Binary, Exists, Infinite, Eq, Root, Below, Step, Par, Plus, Star, Conv}
+use Rattle.fort_theory.specs.Cores.{Rel, Core, True, Leaf, Related, InContext, Normal, IsTerm, Not, Binary, Exists, Infinite, Eq, Root, Below, Step, Par, Plus, Star, Conv}
 use Rattle.fort_theory.specs.Logic.{And, Or, Iff}
-use Rattle.fort_cores.specs.Parts.{is_free, IsTooWide}
+use Rattle.fort_theory.specs.Parts.{is_free, IsTooWide}
 
 -- a scope lists the names that may be used, the innermost first; the number of a name is how many stand outside its
 -- innermost place

@@ -5,10 +5,10 @@ use Rattle.fort_theory.specs.Trees.{Tree}
 use Rattle.fort_theory.specs.Signatures.{IsGround}
 use Rattle.fort_theory.specs.Sides.{System}
 use Rattle.fort_theory.specs.Rewriting.{Relation, Rewrites, RewritesBelow, RewritesAtMostOnce, Reduces, ReducesStrictly, RewritesEitherWay, Converts, RewritesInParallel, IsNormalForm}
-use Rattle.fort_expressions.specs.Expressions.{Means}
-use Rattle.fort_expressions.specs.Contexts.{HoldsInContext}
-use Rattle.fort_cores.specs.Structures.{Structure, structure_of}
-use Rattle.fort_termination.specs.Termination.{IsTerminating, AllTerminate}
+use Rattle.fort_theory.specs.Expressions.{Means}
+use Rattle.fort_theory.specs.Contexts.{HoldsInContext}
+use Rattle.fort_theory.specs.Structures.{Structure, structure_of}
+use Rattle.fort_theory.specs.Termination.{IsTerminating, AllTerminate}
 use Rattle.fort_logic.specs.Formulas.{Name, Argument, Var, Ground, SurfaceRel, Eq, Step, Star, Plus, Reflexive, Normal, Root, Below, Par, Either, Conv, Property, Cr, Wcr, Scr, Wn, Unr, Unc, Nfp, Formula, True, False, Related, InContext, Nf, Join, Sn, Has, Com, Not, And, Or, Imp, Iff, Exists, Forall, Infinite}
 
 -- a tree for each variable, and for each ground term that is written in a formula

@@ -12,10 +12,13 @@ ghost use Rattle.fort_measure.specs.Heights.{columns_for as columns_for_lem, fur
 mod sample;
 
 use crate::sample::{look_up, mixed, sample};
-use fort_explore::{ByRule, ExploreFault, LocalRule, Rows, explore};
-use fort_lockstep::{Dta, Row, Table};
+use fort_explore::{ExploreFault, explore};
+use fort_labels::{ByRule, LocalRule, Rows};
+use fort_lockstep::Dta;
 use fort_reduce::reduce;
+use fort_table::Table;
 use fort_terms::{AddFault, Memory, Signature};
+use fort_tuple_symbols::Row;
 use std::alloc::Global;
 use std::io;
 use std::process::ExitCode;

@@ -3,8 +3,10 @@ ghost use Rattle.std.specs.Prelude.{◌≡◌, ◌<◌, ◌^◌, length, Contain
 ghost use Rattle.fort_tables.specs.Entries.{Entry};
 ghost use Rattle.fort_measure.specs.Samples.{AreEntries};
 
-use fort_lockstep::{Dta, Row, Table};
+use fort_lockstep::Dta;
+use fort_table::Table;
 use fort_terms::Memory;
+use fort_tuple_symbols::Row;
 use std::alloc::Global;
 
 fn presences_of(alloc: Global, table: &Dta) -> Result<Vec<u16>, Memory>

@@ -5,12 +5,12 @@ use Rattle.std.proofs.lemmas.List.{length-map, length-take-le, get_or-map, map_m
 use Rattle.fort_tables.specs.Entries.{AreNodes, node_presences}
 use Rattle.fort_tables.specs.Tables.{Table, IsTable}
 use Rattle.fort_steps.specs.StepView.{as_step}
-use Rattle.fort_in_order.specs.Outcomes.{Verdict}
-use Rattle.fort_open_certificates.specs.OpenCertificates.{Found}
-use Rattle.fort_open_certificates.specs.OpenChecked.{OpenOutcome, Confirmed, Rejected, NoEntry}
-use Rattle.fort_open_steps.specs.OpenView.{as_node, as_open}
-use Rattle.fort_open_steps.specs.declared.open_certificate.Node.{Node}
-use Rattle.fort_open_steps.specs.declared.open_certificate.OpenCertificate.{OpenCertificate}
+use Rattle.fort_certificate_theory.specs.Outcomes.{Verdict}
+use Rattle.fort_certificate_theory.specs.OpenCertificates.{Found}
+use Rattle.fort_certificate_theory.specs.OpenChecked.{OpenOutcome, Confirmed, Rejected, NoEntry}
+use Rattle.fort_steps.specs.OpenView.{as_node, as_open}
+use Rattle.fort_steps.specs.declared.open_certificate.Node.{Node}
+use Rattle.fort_steps.specs.declared.open_certificate.OpenCertificate.{OpenCertificate}
 use Rattle.fort_open_checker.specs.NodeStates.{AreNodeStates, IsNodeEntry, HasNodeRoom, AreNodesJudged, Failing, Accepted, Refused}
 use Rattle.fort_open_checker.specs.declared.nodes.NodeRoom.{NodeRoom}
 use Rattle.fort_open_checker.proofs.NodeStateLaws.{state_count, state_within, accepts_last, last_accepted}

@@ -10,7 +10,7 @@ use Rattle.fort_tables.proofs.TupleLaws.{fold_tuple-step, root-rebuilt, kids-reb
 use Rattle.fort_tables.proofs.TableLaws.{table_state}
 use Rattle.fort_tables.proofs.EntryLaws.{tuples_after-push, length-tuples_after, entry_kids}
 use Rattle.fort_tables.proofs.NodeLaws.{presences-nodes, AreNodes-push, AreTuples-nodes}
-use Rattle.fort_open_certificates.specs.OpenChecked.{last_of, AcceptsLast}
+use Rattle.fort_certificate_theory.specs.OpenChecked.{last_of, AcceptsLast}
 use Rattle.fort_open_checker.specs.NodeStates.{AreNodeStates, IsNodeEntry, states_at, over_states}
 
 -- the states of picked tuples

@@ -5,12 +5,12 @@ use Rattle.std.proofs.lemmas.List.{length-map, length-take-le, ext_get_or, get_o
 use Rattle.fort_theory.specs.Signatures.{most_columns, Signature, IsSignature}
 use Rattle.fort_tables.specs.Tuples.{TupleSymbol, IsPresent, AreSymbols, symbol_kids}
 use Rattle.fort_tables.specs.Entries.{Entry, IsEntry, AreNodes, node_presences}
-use Rattle.fort_operations.specs.Selections.{is_present}
-use Rattle.fort_operations.proofs.SelectionLaws.{present_from_test, test_from_present}
+use Rattle.fort_tables.specs.Selections.{is_present}
+use Rattle.fort_tables.proofs.SelectionLaws.{present_from_test, test_from_present}
 use Rattle.fort_tuple_symbols.specs.Columns.{digit_of, symbol_of}
 use Rattle.fort_target_lists.proofs.ColumnLaws.{arity_small}
-use Rattle.fort_open_steps.specs.OpenView.{as_node}
-use Rattle.fort_open_steps.specs.declared.open_certificate.Node.{Node}
+use Rattle.fort_steps.specs.OpenView.{as_node}
+use Rattle.fort_steps.specs.declared.open_certificate.Node.{Node}
 use Rattle.fort_open_checker.specs.NodeTests.{IsSmallSymbol, HasKidsOver, IsRowOver}
 
 -- symbols of a signature, column by column

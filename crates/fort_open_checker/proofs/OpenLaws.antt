@@ -4,26 +4,26 @@ use Rattle.std.proofs.Common.{sym, ap, ◌∙◌, subst, arith, true≢false}
 use Rattle.std.proofs.lemmas.List.{length-map}
 use Rattle.fort_theory.specs.Patterns.{PatternSystem}
 use Rattle.fort_theory.specs.Signatures.{Signature}
-use Rattle.fort_cores.specs.Cores.{Core}
+use Rattle.fort_theory.specs.Cores.{Core}
 use Rattle.fort_tables.specs.Entries.{Entry, IsEntry, AreNodes, node_presences}
 use Rattle.fort_tables.specs.Tables.{Table}
-use Rattle.fort_operations.specs.Projections.{some_below}
-use Rattle.fort_operations.proofs.SearchLaws.{found_below, below_found}
+use Rattle.fort_tables.specs.Projections.{some_below}
+use Rattle.fort_tables.proofs.SearchLaws.{found_below, below_found}
 use Rattle.fort_parts.specs.PartColumns.{columns_of}
 use Rattle.fort_parts.specs.PartAnswers.{IsTableOver}
-use Rattle.fort_in_order.specs.Outcomes.{Due, Verdict}
-use Rattle.fort_in_order.specs.Made.{Made}
+use Rattle.fort_certificate_theory.specs.Outcomes.{Due, Verdict}
+use Rattle.fort_certificate_theory.specs.Made.{MadeSoFar}
 use Rattle.fort_steps.specs.StepView.{as_step}
-use Rattle.fort_open_certificates.specs.OpenCertificates as definitions
-use Rattle.fort_open_certificates.specs.OpenCertificates.{Claim, OpenCertificate}
-use Rattle.fort_open_certificates.specs.OpenChecked as outcomes
-use Rattle.fort_open_certificates.specs.OpenChecked.{OpenOutcome, Confirmed, AcceptsSome, MakesTable, IsOpenChecked, FailingStep, NodeOfEmpty, FailingNode, FoundLast, NotFound, NoneThere, SomeThere, HasOpenOutcome, node_form}
+use Rattle.fort_certificate_theory.specs.OpenCertificates as definitions
+use Rattle.fort_certificate_theory.specs.OpenCertificates.{Claim, OpenCertificate}
+use Rattle.fort_certificate_theory.specs.OpenChecked as outcomes
+use Rattle.fort_certificate_theory.specs.OpenChecked.{OpenOutcome, Confirmed, AcceptsSome, MakesTable, IsOpenChecked, FailingStep, NodeOfEmpty, FailingNode, FoundLast, NotFound, NoneThere, SomeThere, HasOpenOutcome, node_form}
 use Rattle.fort_target_lists.specs.LayRooms.{HasLayRoom}
 use Rattle.fort_target_lists.specs.TargetLists.{HasListRoom}
 use Rattle.fort_target_lists.specs.declared.states.LayRoom.{LayRoom}
 use Rattle.fort_target_lists.specs.declared.target_list.TargetList.{TargetList}
-use Rattle.fort_open_steps.specs.OpenView.{as_node, as_open}
-use Rattle.fort_open_steps.specs.declared.open_certificate.OpenCertificate as program
+use Rattle.fort_steps.specs.OpenView.{as_node, as_open}
+use Rattle.fort_steps.specs.declared.open_certificate.OpenCertificate as program
 use Rattle.fort_cert_checker.specs.OutcomeView.{as_reason}
 use Rattle.fort_cert_checker.specs.StepCheckers.{IsStepCheckerOf, IsStepCheckDone, HasFailure, IsWholeTable, FitsWhole}
 use Rattle.fort_cert_checker.specs.declared.rejected.Rejected.{Rejected}
@@ -61,7 +61,7 @@ checker_kept system f c old new certificate steps whole nodes h = record {
 }
 
 -- behind steps that are all fine
-pub behind_steps : (system : PatternSystem) (f : Core) (c : OpenCertificate) (old new : OpenChecker) → new.certificate ≡ old.certificate → (made : Made) → IsStepCheckDone system f c.first c.steps new.steps made
+pub behind_steps : (system : PatternSystem) (f : Core) (c : OpenCertificate) (old new : OpenChecker) → new.certificate ≡ old.certificate → (made : MadeSoFar) → IsStepCheckDone system f c.first c.steps new.steps made
     → FitsWhole new.steps new.whole.list new.whole.lay → ((n : ℕ) → HasNodeRoom n old.nodes → HasNodeRoom n new.nodes) → IsOpenCheckerOf system f c old → IsOpenCheckDone system f c new made
 behind_steps system f c old new certificate made d whole nodes h = record { checker = checker_kept system f c old new certificate d.checker whole nodes h; done = d }
 
@@ -90,10 +90,10 @@ module _ (system : PatternSystem) (f : Core) (parts : List Core) (c : OpenCertif
   none_there none empty h = NoneThere table makes none empty (λ a. true≢false (sym (below_found (length table.presences) table.accepting a.state a.within a.accepted) ∙ h))
 
 -- by the certificate that a checker has
-pub owned : (system : PatternSystem) (f : Core) (c : OpenCertificate) (a : OpenChecker) (made : Made) → IsOpenCheckDone system f c a made → IsOpenCheckDone system f (as_open a.certificate.now) a made
+pub owned : (system : PatternSystem) (f : Core) (c : OpenCertificate) (a : OpenChecker) (made : MadeSoFar) → IsOpenCheckDone system f c a made → IsOpenCheckDone system f (as_open a.certificate.now) a made
 owned system f c a made h = subst (λ d. IsOpenCheckDone system f d a made) (sym h.checker.certificate_is) h
 
-pub at_own : (system : PatternSystem) (f : Core) (c : OpenCertificate) (a : OpenChecker) (made : Made) (claim : Claim) (o : OpenOutcome) → IsOpenCheckDone system f c a made → c.claim ≡ claim
+pub at_own : (system : PatternSystem) (f : Core) (c : OpenCertificate) (a : OpenChecker) (made : MadeSoFar) (claim : Claim) (o : OpenOutcome) → IsOpenCheckDone system f c a made → c.claim ≡ claim
     → (IsOpenCheckDone system f (as_open a.certificate.now) a made → (as_open a.certificate.now).claim ≡ claim → HasOpenOutcome system f (as_open a.certificate.now) o) → HasOpenOutcome system f c o
 at_own system f c a made claim o h e tells =
     let is = h.checker.certificate_is in
@@ -103,7 +103,7 @@ pub no_nodes : {A : Type 0} (xs : List A) → length xs ≡ 0 → xs ≡ []
 no_nodes [] e = refl
 no_nodes (x ∷ xs) e = absurd (omega arith)
 
-module _ (system : PatternSystem) (f : Core) (a : OpenChecker) (made : Made) (h : IsOpenCheckDone system f (as_open a.certificate.now) a made) where
+module _ (system : PatternSystem) (f : Core) (a : OpenChecker) (made : MadeSoFar) (h : IsOpenCheckDone system f (as_open a.certificate.now) a made) where
   abbrev pub own : program.OpenCertificate
   own = a.certificate.now
 

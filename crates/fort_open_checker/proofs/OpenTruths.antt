@@ -1,13 +1,13 @@
 -- What a checker of an open formula's certificate accepts is true, since one that is in order proves its claim.
 use Rattle.std.specs.Prelude.{Result, Ok, Err, IfOk}
 use Rattle.fort_theory.specs.Patterns.{PatternSystem}
-use Rattle.fort_cores.specs.Cores.{Core}
-use Rattle.fort_open_certificates.specs.OpenCertificates.{OpenCertificate}
-use Rattle.fort_open_certificates.specs.OpenChecked.{HasOpenOutcome}
-use Rattle.fort_open_laws.specs.OpenTruth.{Proves}
-use Rattle.fort_open_laws.proofs.OpenTruthLaws.{proves}
-use Rattle.fort_open_steps.specs.OpenView.{as_claim}
-use Rattle.fort_open_steps.specs.declared.open_certificate.Claim.{Claim}
+use Rattle.fort_theory.specs.Cores.{Core}
+use Rattle.fort_certificate_theory.specs.OpenCertificates.{OpenCertificate}
+use Rattle.fort_certificate_theory.specs.OpenChecked.{HasOpenOutcome}
+use Rattle.fort_certificate_theory.specs.OpenTruth.{Proves}
+use Rattle.fort_certificate_theory.proofs.OpenTruthLaws.{proves}
+use Rattle.fort_steps.specs.OpenView.{as_claim}
+use Rattle.fort_steps.specs.declared.open_certificate.Claim.{Claim}
 use Rattle.fort_open_checker.specs.OpenCheckers.{IsOpenCheckerOf}
 use Rattle.fort_open_checker.specs.OpenOutcomeView.{as_outcome}
 use Rattle.fort_open_checker.specs.declared.checker.OpenChecker.{OpenChecker}

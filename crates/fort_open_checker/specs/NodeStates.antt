@@ -2,10 +2,10 @@
 use Rattle.std.specs.Prelude.{◌≡◌, ℕ, ◌<◌, ◌≤◌, List, map, take, length, get_or, vec_capacity}
 use Rattle.fort_tables.specs.Entries.{Entry, entry, IsEntry, AreNodes, node_presences, tuples_of}
 use Rattle.fort_tables.specs.Tables.{Table, state_of}
-use Rattle.fort_in_order.specs.Outcomes.{Verdict}
-use Rattle.fort_open_certificates.specs.OpenCertificates.{Found, OpenCertificate}
+use Rattle.fort_certificate_theory.specs.Outcomes.{Verdict}
+use Rattle.fort_certificate_theory.specs.OpenCertificates.{Found, OpenCertificate}
 use Rattle.fort_open_checker.specs.declared.nodes.NodeRoom.{NodeRoom}
-use Rattle.fort_open_certificates.specs.OpenChecked.{OpenOutcome, Confirmed, Rejected, NoEntry, node_form, AcceptsLast}
+use Rattle.fort_certificate_theory.specs.OpenChecked.{OpenOutcome, Confirmed, Rejected, NoEntry, node_form, AcceptsLast}
 
 pub record AreNodeStates (t : Table) (nodes : List Entry) (presences states : List ℕ) : Type 0 where
   pub are : AreNodes t.signature t.columns nodes

@@ -1,24 +1,25 @@
 //! The check of a certificate of an open formula.
 ghost use Rattle.std.specs.Prelude.{◌≡◌, ◌↔◌, ℕ, ◌+◌, ◌<◌, ◌^◌, length, IfOk, IsTrue};
 ghost use Rattle.fort_theory.specs.Patterns.{PatternSystem};
-ghost use Rattle.fort_cores.specs.Cores as theory;
+ghost use Rattle.fort_theory.specs.Cores as theory;
 ghost use Rattle.fort_formulas.specs.CoreView.{as_core};
 ghost use Rattle.fort_parts.specs.PartColumns.{columns_of};
 ghost use Rattle.fort_parts.specs.DecidedCores.{IsDecided};
-ghost use Rattle.fort_in_order.specs.Made.{Made};
-ghost use Rattle.fort_open_certificates.specs.OpenCertificates as definitions;
-ghost use Rattle.fort_open_certificates.specs.OpenChecked.{HasOpenOutcome};
-ghost use Rattle.fort_open_laws.specs.OpenTruth.{Proves};
-ghost use Rattle.fort_open_steps.specs.OpenView.{as_open, as_claim};
+ghost use Rattle.fort_certificate_theory.specs.Made.{MadeSoFar};
+ghost use Rattle.fort_certificate_theory.specs.OpenCertificates as definitions;
+ghost use Rattle.fort_certificate_theory.specs.OpenChecked.{HasOpenOutcome};
+ghost use Rattle.fort_certificate_theory.specs.OpenTruth.{Proves};
+ghost use Rattle.fort_steps.specs.OpenView.{as_open, as_claim};
 ghost use Rattle.fort_open_checker.specs.OpenOutcomeView.{as_outcome};
 ghost use Rattle.fort_open_checker.specs.OpenCheckers.{IsOpenCheckerOf, IsOpenCheckDone};
 
 use crate::found::{check_nodes, node_form};
 use crate::nodes::NodeRoom;
 use crate::outcome::{Unconfirmed, other_claim};
-use fort_cert_checker::{Reason, Rejected, StepChecker, WholeRoom, accepts_some};
+use fort_cert_checker::{Rejected, StepChecker, WholeRoom, accepts_some};
+use fort_check_steps::Reason;
 use fort_formulas::Core;
-use fort_open_steps::{Claim, OpenCertificate};
+use fort_steps::{Claim, OpenCertificate};
 use fort_terms::{Memory, System, has_numbers};
 use std::alloc::{AllocError, Global};
 
@@ -74,10 +75,10 @@ impl<'a> OpenChecker<'a> {
     /// Where the claim is that no terms satisfy the formula.
     fn check_empty(&self) -> Result<Claim, Unconfirmed>
         requires { (system : PatternSystem) × (f : theory.Core)
-            × (c : definitions.OpenCertificate) × (made : Made)
+            × (c : definitions.OpenCertificate) × (made : MadeSoFar)
             × IsOpenCheckDone system f c self.now made }
         ensures { (system : PatternSystem) (f : theory.Core) (c : definitions.OpenCertificate)
-            (made : Made) → IsOpenCheckDone system f c self.now made
+            (made : MadeSoFar) → IsOpenCheckDone system f c self.now made
             → c.claim ≡ definitions.Empty → HasOpenOutcome system f c (as_outcome result) }
     {
         if !self.certificate.nodes.is_empty() {
@@ -99,10 +100,10 @@ impl<'a> OpenChecker<'a> {
     /// Where the claim is that the terms of the last node satisfy it.
     fn check_found(&mut self) -> Result<Claim, Unconfirmed>
         requires { (system : PatternSystem) × (f : theory.Core)
-            × (c : definitions.OpenCertificate) × (made : Made)
+            × (c : definitions.OpenCertificate) × (made : MadeSoFar)
             × IsOpenCheckDone system f c self.old made }
         ensures outcome { (system : PatternSystem) (f : theory.Core)
-            (c : definitions.OpenCertificate) (made : Made)
+            (c : definitions.OpenCertificate) (made : MadeSoFar)
             → IsOpenCheckDone system f c self.old made
             → c.claim ≡ definitions.Found → HasOpenOutcome system f c (as_outcome result) }
         ensures again { (system : PatternSystem) (f : theory.Core)

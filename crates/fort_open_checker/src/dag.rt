@@ -2,13 +2,14 @@
 ghost use Rattle.std.specs.Prelude.{◌≡◌, ℕ, ◌≤◌, length, map, IfOk};
 ghost use Rattle.fort_theory.specs.Signatures as theory;
 ghost use Rattle.fort_tables.specs.Entries.{AreNodes};
-ghost use Rattle.fort_open_steps.specs.OpenView.{as_node};
+ghost use Rattle.fort_steps.specs.OpenView.{as_node};
 ghost use Rattle.fort_open_checker.specs.NodeTests.{IsRowOver};
 
 use crate::entry::tuple_symbol;
-use fort_lockstep::{Dag, Row};
-use fort_open_steps::Node;
+use fort_steps::Node;
+use fort_table::Dag;
 use fort_terms::Memory;
+use fort_tuple_symbols::Row;
 use std::alloc::Global;
 
 /// A node as an entry.

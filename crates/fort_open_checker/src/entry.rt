@@ -4,13 +4,13 @@ ghost use Rattle.fort_theory.specs.Signatures as theory;
 ghost use Rattle.fort_tables.specs.Tuples.{AreSymbols};
 ghost use Rattle.fort_tables.specs.Entries.{IsEntry};
 ghost use Rattle.fort_tuple_symbols.specs.Columns.{digit_of as digit_of_lem};
-ghost use Rattle.fort_open_steps.specs.OpenView.{as_node};
+ghost use Rattle.fort_steps.specs.OpenView.{as_node};
 ghost use Rattle.fort_open_checker.specs.NodeTests.{IsSmallSymbol, HasKidsOver};
 
-use fort_lockstep::TupleSym;
-use fort_open_steps::Node;
+use fort_steps::Node;
 use fort_target_lists::{is_present, kid_count, kid_presence};
 use fort_terms::Signature;
+use fort_tuple_symbols::TupleSym;
 
 /// Whether a column is absent, or has a symbol of the signature.
 fn is_column(sig: &Signature, column: Option<u32>) -> bool

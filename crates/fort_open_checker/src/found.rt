@@ -1,13 +1,13 @@
 //! The nodes of the terms that are found, held against the table of the formula.
 ghost use Rattle.std.specs.Prelude.{◌≡◌, ◌↔◌, ℕ, ◌+◌, ◌-◌, ◌<◌, ◌≤◌, ◌^◌, length, slice_index, IsTrue, true};
-ghost use Rattle.fort_open_steps.specs.OpenView.{as_open};
+ghost use Rattle.fort_steps.specs.OpenView.{as_open};
 ghost use Rattle.fort_open_checker.specs.NodeStates.{HasNodeRoom, AreNodesJudged};
 ghost use Rattle.fort_open_checker.specs.OpenOutcomeView.{as_outcome};
 
 use crate::nodes::NodeRoom;
 use crate::outcome::{Unconfirmed, other_claim};
-use fort_lockstep::Table;
-use fort_open_steps::{Claim, OpenCertificate};
+use fort_steps::{Claim, OpenCertificate};
+use fort_table::Table;
 
 /// The number of the form of node `k`.
 pub(crate) fn node_form(certificate: &OpenCertificate, k: usize) -> u32

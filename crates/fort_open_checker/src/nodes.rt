@@ -2,13 +2,14 @@
 ghost use Rattle.std.specs.Prelude.{◌≡◌, ℕ, ◌+◌, ◌<◌, ◌≤◌, ◌++◌, ◌∷◌, [], List, length, slice_index_or, IfOk, true, false};
 ghost use Rattle.fort_tables.specs.Entries.{Entry, entry};
 ghost use Rattle.fort_tables.specs.Tables.{IsTableEntry};
-ghost use Rattle.fort_open_steps.specs.OpenView.{as_node};
+ghost use Rattle.fort_steps.specs.OpenView.{as_node};
 ghost use Rattle.fort_open_checker.specs.NodeStates.{AreNodeStates, IsNodeEntry, states_at, HasNodeRoom};
 
 use crate::entry::entry_symbol;
-use fort_lockstep::{Table, TupleSym};
-use fort_open_steps::Node;
+use fort_steps::Node;
+use fort_table::Table;
 use fort_terms::Memory;
+use fort_tuple_symbols::TupleSym;
 use std::alloc::Global;
 
 /// For each node so far its presence and its state.

@@ -1,11 +1,12 @@
 //! Why a certificate of an open formula isn't in order.
 ghost use Rattle.std.specs.Prelude.{◌≡◌, Err};
-ghost use Rattle.fort_in_order.specs.Outcomes.{Verdict};
-ghost use Rattle.fort_open_certificates.specs.OpenChecked as definitions;
+ghost use Rattle.fort_certificate_theory.specs.Outcomes.{Verdict};
+ghost use Rattle.fort_certificate_theory.specs.OpenChecked as definitions;
 ghost use Rattle.fort_open_checker.specs.OpenOutcomeView.{as_outcome};
 
-use fort_cert_checker::{Reason, Rejected};
-use fort_open_steps::OpenCertificate;
+use fort_cert_checker::Rejected;
+use fort_check_steps::Reason;
+use fort_steps::OpenCertificate;
 
 /// The first form that fails.
 #[derive(Clone, Copy, Debug, PartialEq, Eq)]

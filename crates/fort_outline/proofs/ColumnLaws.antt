@@ -5,9 +5,9 @@ use Rattle.std.specs.declared.alloc.Global.{Global}
 use Rattle.std.specs.declared.vec.Vec.{Vec}
 use Rattle.std.proofs.Common.{ap, sym, ◌∙◌, subst, ⊎_elim, inl, inr}
 use Rattle.fort_theory.specs.Trees.{Tree}
-use Rattle.fort_cores.specs.Cores as core
-use Rattle.fort_cores.specs.Cores.{Core}
-use Rattle.fort_cores.proofs.ColumnLaws.{AreColumns-Normal, AreColumns-IsTerm, AreColumns-Related, AreColumns-InContext, AreColumns-two, AreColumns-bound}
+use Rattle.fort_theory.specs.Cores as core
+use Rattle.fort_theory.specs.Cores.{Core}
+use Rattle.fort_theory.proofs.ColumnLaws.{AreColumns-Normal, AreColumns-IsTerm, AreColumns-Related, AreColumns-InContext, AreColumns-two, AreColumns-bound}
 use Rattle.fort_relations.specs.declared.relation.Rel.{Rel}
 use Rattle.fort_relations.specs.declared.rex.Rex.{Rex}
 use Rattle.fort_relations.specs.declared.holes.Holes.{Holes}

@@ -1,7 +1,7 @@
 -- Both formulas that a connective joins are operands of what it makes of them.
 use Rattle.std.specs.Prelude.{refl}
 use Rattle.std.proofs.Common.{inl, inr}
-use Rattle.fort_cores.specs.Cores.{Core, Binary}
+use Rattle.fort_theory.specs.Cores.{Core, Binary}
 use Rattle.fort_theory.specs.Logic.{Connective}
 use Rattle.fort_parts.specs.DecidedCores.{IsOperandOf}
 

@@ -5,11 +5,11 @@ use Rattle.std.proofs.Common.{ap, sym, ◌∙◌, subst, arith, ⊎_elim, append
 use Rattle.std.proofs.lemmas.Bool.{cases_lt, cases_eq}
 use Rattle.std.proofs.lemmas.List.{get_or_push, get_or_append_left, get_or_default}
 use Rattle.std.proofs.lemmas.List.Elements.{Contains-get_or}
-use Rattle.fort_cores.specs.Cores as core
-use Rattle.fort_cores.specs.Cores.{Core}
-use Rattle.fort_cores.specs.EachOnce.{StandsBefore, AreEachOnce}
-use Rattle.fort_cores.specs.Parts.{postorder}
-use Rattle.fort_cores.proofs.EachOnceLaws.{AreEachOnce-nil, AreEachOnce-there, AreEachOnce-new}
+use Rattle.fort_theory.specs.Cores as core
+use Rattle.fort_theory.specs.Cores.{Core}
+use Rattle.fort_theory.specs.EachOnce.{StandsBefore, AreEachOnce}
+use Rattle.fort_theory.specs.Parts.{postorder}
+use Rattle.fort_theory.proofs.EachOnceLaws.{AreEachOnce-nil, AreEachOnce-there, AreEachOnce-new}
 use Rattle.fort_outline.specs.declared.root.Root.{Root}
 use Rattle.fort_outline.specs.declared.root.Root.TheVariants.{True}
 use Rattle.fort_outline.specs.contracts.root.RootPartialEq.TheImpl.{eq-value}

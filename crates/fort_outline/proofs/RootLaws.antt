@@ -2,9 +2,9 @@
 use Rattle.std.specs.Prelude.{◌≡◌, ℕ, Bool, true, false, zero, suc, ◌+◌, ◌<◌, ◌≤◌, List, [], ◌∷◌, ◌++◌, length, get_or, refl}
 use Rattle.std.proofs.Common.{ap, sym, ◌∙◌, arith, true≢false, append_assoc, append-nil, length-append}
 use Rattle.std.proofs.lemmas.List.{get_or_push, get_or_append_left}
-use Rattle.fort_cores.specs.Cores as core
+use Rattle.fort_theory.specs.Cores as core
 use Rattle.fort_theory.specs.Logic as logic
-use Rattle.fort_cores.specs.Cores.{Core}
+use Rattle.fort_theory.specs.Cores.{Core}
 use Rattle.fort_relations.specs.declared.relation.Rel.{Rel}
 use Rattle.fort_formulas.specs.declared.core_formula.Core.TheVariants as program_variants
 use Rattle.fort_formulas.specs.declared.core_formula.Core as program

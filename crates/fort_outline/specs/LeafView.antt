@@ -1,5 +1,5 @@
 -- To believe: which atom of the definitions an atom of the program is.
-use Rattle.fort_cores.specs.Cores as theory
+use Rattle.fort_theory.specs.Cores as theory
 use Rattle.fort_relations.specs.RelView.{as_rel}
 use Rattle.fort_relations.specs.HolesView.{as_hole_number, as_hole_place}
 use Rattle.fort_relations.specs.RexView.{as_expression}

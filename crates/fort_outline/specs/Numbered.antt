@@ -1,8 +1,8 @@
 -- Inside: the roots that are numbered so far, and what numbering one more formula gives.
 use Rattle.std.specs.Prelude.{◌≡◌, ℕ, ◌<◌, List, ◌++◌, get_or, length}
-use Rattle.fort_cores.specs.Cores as core
-use Rattle.fort_cores.specs.Cores.{Core}
-use Rattle.fort_cores.specs.EachOnce.{AreEachOnce}
+use Rattle.fort_theory.specs.Cores as core
+use Rattle.fort_theory.specs.Cores.{Core}
+use Rattle.fort_theory.specs.EachOnce.{AreEachOnce}
 use Rattle.fort_outline.specs.declared.root.Root.{Root}
 use Rattle.fort_outline.specs.Roots.{cores_of, AreInOrder}
 

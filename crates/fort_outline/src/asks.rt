@@ -1,7 +1,7 @@
 //! Whether some part of a formula asks for a closure.
 ghost use Rattle.std.specs.Prelude.{◌≡◌, List};
 ghost use Rattle.std.specs.List.{list_any};
-ghost use Rattle.fort_cores.specs.Cores as theory;
+ghost use Rattle.fort_theory.specs.Cores as theory;
 ghost use Rattle.fort_alike.specs.ListedClosures as definitions;
 ghost use Rattle.fort_relations.specs.RelView.{as_rel};
 ghost use Rattle.fort_findings.specs.FindingView.{as_which};

@@ -1,7 +1,7 @@
 //! The columns of parts.
 ghost use Rattle.std.specs.Prelude.{◌≡◌, ℕ, ◌↔◌, ◌<◌, List, ◌++◌, ◌==◌, not, filter, length, IfOk, OnOk, Contains};
 ghost use Rattle.std.specs.List.Sorted.{IsStrictlyIncreasing};
-ghost use Rattle.fort_cores.specs.Cores as theory;
+ghost use Rattle.fort_theory.specs.Cores as theory;
 ghost use Rattle.fort_parts.specs.PartColumns.{columns_of};
 ghost use Rattle.fort_outline.specs.LeafView.{as_atom};
 ghost use Rattle.fort_outline.specs.Roots.{root_core, cores_of, HasOperandsBelow, AreInOrder};

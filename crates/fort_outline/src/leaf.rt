@@ -1,7 +1,7 @@
 //! The atoms of parts.
 ghost use Rattle.std.specs.Prelude.{◌≡◌, ℕ, IfSome, IfNone};
-ghost use Rattle.fort_cores.specs.Cores as theory;
-ghost use Rattle.fort_cores.specs.Kinds.{kind_of_atom};
+ghost use Rattle.fort_theory.specs.Cores as theory;
+ghost use Rattle.fort_theory.specs.Kinds.{kind_of_atom};
 ghost use Rattle.fort_relations.specs.RelView.{as_rel};
 ghost use Rattle.fort_formulas.specs.KindView.{as_kind};
 ghost use Rattle.fort_outline.specs.LeafView.{as_atom};

@@ -1,7 +1,7 @@
 //! The numbers of parts.
 ghost use Rattle.std.specs.Prelude.{◌<◌, ◌≤◌, List, [], ◌∷◌, ◌++◌, length, IfOk, OnOk};
-ghost use Rattle.fort_cores.specs.Cores as theory;
-ghost use Rattle.fort_cores.specs.Parts.{postorder};
+ghost use Rattle.fort_theory.specs.Cores as theory;
+ghost use Rattle.fort_theory.specs.Parts.{postorder};
 ghost use Rattle.fort_formulas.specs.CoreView.{as_core};
 ghost use Rattle.fort_outline.specs.LeafView.{as_atom};
 ghost use Rattle.fort_outline.specs.Roots.{root_core, cores_of, HasOperandsBelow};

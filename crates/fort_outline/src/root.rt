@@ -1,7 +1,7 @@
 //! The roots of parts.
 ghost use Rattle.std.specs.Prelude.{◌≡◌, ℕ, List, IfSome, IfNone};
-ghost use Rattle.fort_cores.specs.Cores as theory;
-ghost use Rattle.fort_cores.specs.Kinds.{kind_of};
+ghost use Rattle.fort_theory.specs.Cores as theory;
+ghost use Rattle.fort_theory.specs.Kinds.{kind_of};
 ghost use Rattle.fort_relations.specs.RelView.{as_rel};
 ghost use Rattle.fort_formulas.specs.KindView.{as_kind};
 ghost use Rattle.fort_outline.specs.Roots.{root_core};

@@ -7,11 +7,11 @@ use Rattle.std.proofs.lemmas.Bool.{cases_eq}
 use Rattle.fort_theory.specs.Trees.{Tree}
 use Rattle.fort_theory.specs.Signatures.{Signature, IsGround}
 use Rattle.fort_theory.proofs.Members.{Contains-head, Contains-behind}
-use Rattle.fort_cores.specs.CoreTruth.{Places, with_number}
+use Rattle.fort_theory.specs.CoreTruth.{Places, with_number}
 use Rattle.fort_tables.specs.Tuples.{IsFull, AreGroundColumns}
 use Rattle.fort_tables.proofs.EqualTests.{test_from_apart}
-use Rattle.fort_atom_labels.specs.AssignedTuples.{tuple_of}
-use Rattle.fort_operations.specs.Selections.{selected}
+use Rattle.fort_alike.specs.AssignedTuples.{tuple_of}
+use Rattle.fort_tables.specs.Selections.{selected}
 use Rattle.fort_parts.specs.PartColumns.{place_in, places_in}
 use Rattle.fort_parts.specs.PartAnswers.{AreGround}
 use Rattle.fort_parts.specs.PartSteps.{AreTerms}

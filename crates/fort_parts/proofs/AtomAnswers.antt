@@ -8,21 +8,21 @@ use Rattle.fort_theory.specs.Patterns.{PatternSystem}
 use Rattle.fort_theory.specs.PatternSteps.{PatternStep, PatternStepAt}
 use Rattle.fort_theory.specs.Rewriting.{Relation}
 use Rattle.fort_theory.specs.Logic.{Surely}
-use Rattle.fort_cores.specs.Cores as core
-use Rattle.fort_cores.specs.Cores.{Rel, Core}
-use Rattle.fort_cores.specs.CoreTruth.{Places, RelatesBy, IsMetBy}
-use Rattle.fort_cores.specs.PatternStructures.{pattern_structure}
+use Rattle.fort_theory.specs.Cores as core
+use Rattle.fort_theory.specs.Cores.{Rel, Core}
+use Rattle.fort_theory.specs.CoreTruth.{Places, RelatesBy, IsMetBy}
+use Rattle.fort_theory.specs.PatternStructures.{pattern_structure}
 use Rattle.fort_tables.specs.Tuples.{Tuple, IsTuple, IsFull}
 use Rattle.fort_tables.specs.Tables.{Table}
-use Rattle.fort_alike.specs.Atoms.{OfOne, OfTwo, Says, kind_for, pairs_for, relation_atom, normal_atom, IsTrueOf}
+use Rattle.fort_alike.specs.Atoms.{OfOne, OfTwo, HoldsBy, kind_for, pairs_for, relation_atom, normal_atom, IsTrueOfTuple}
 use Rattle.fort_alike.specs.ExpressionAlike as expressions
 use Rattle.fort_alike.specs.ExpressionAlike.{expression_atom}
-use Rattle.fort_expressions.specs.Expressions.{Expression, Means}
-use Rattle.fort_expressions.specs.Contexts.{HoleNumber, HolePlace, HoldsInContext}
-use Rattle.fort_atom_labels.specs.AssignedTuples.{tuple_of}
-use Rattle.fort_atom_labels.proofs.AtomPlaces.{place_of, ArePlaces-columns}
-use Rattle.fort_atom_labels.proofs.AtomTruth.{Says-RelatesBy, get_or-tuple_of, Decides-Surely}
-use Rattle.fort_operations.specs.OperationTruth.{accepts}
+use Rattle.fort_theory.specs.Expressions.{Expression, Means}
+use Rattle.fort_theory.specs.Contexts.{HoleNumber, HolePlace, HoldsInContext}
+use Rattle.fort_alike.specs.AssignedTuples.{tuple_of}
+use Rattle.fort_alike.proofs.AtomPlaces.{place_of, ArePlaces-columns}
+use Rattle.fort_alike.proofs.AtomTruth.{Says-RelatesBy, get_or-tuple_of, Decides-Surely}
+use Rattle.fort_tables.specs.OperationTruth.{accepts}
 use Rattle.fort_parts.specs.PartColumns.{columns_of}
 use Rattle.fort_parts.specs.PartAnswers.{OfTable, said, AreGround, TellsTruth}
 use Rattle.fort_parts.proofs.PartColumnLaws.{AreColumns-columns_of, columns_of-Normal, columns_of-IsTerm}
@@ -36,12 +36,12 @@ AcceptsExactly sig columns table P = (t : Tuple) → IsTuple sig columns t → I
 module _ (system : PatternSystem) (table : Table) where
   -- the relation of an atom
   IsTrueOf-relation : (rel : Rel) (index x y : ℕ) (v : Places)
-      → IsTrueOf (relation_atom system rel index x y (columns_of (core.Leaf (core.Related rel index x y)))) (tuple_of v (columns_of (core.Leaf (core.Related rel index x y))))
+      → IsTrueOfTuple (relation_atom system rel index x y (columns_of (core.Leaf (core.Related rel index x y)))) (tuple_of v (columns_of (core.Leaf (core.Related rel index x y))))
       ↔ RelatesBy (PatternStepAt system index) rel (v x) (v y)
   IsTrueOf-relation rel index x y v =
       let columns = columns_of (core.Leaf (core.Related rel index x y)) in
       let places = ArePlaces-columns rel index x y columns (AreColumns-columns_of (core.Leaf (core.Related rel index x y))) in
-      let R : Relation = Says (PatternStep system.signature (pairs_for rel (at_index index system.rules))) (kind_for rel) in
+      let R : Relation = HoldsBy (PatternStep system.signature (pairs_for rel (at_index index system.rules))) (kind_for rel) in
       subst (λ z. OfTwo R z (get_or (tuple_of v columns) (place_of y columns) None) ↔ RelatesBy (PatternStepAt system index) rel (v x) (v y))
       (sym (get_or-tuple_of v columns (place_of x columns) x places.first_within places.first_is))
       (subst (λ z. OfTwo R (Some (v x)) z ↔ RelatesBy (PatternStepAt system index) rel (v x) (v y))
@@ -52,7 +52,7 @@ module _ (system : PatternSystem) (table : Table) where
   surely b P Q w d = Decides-Surely b ((λ e. w.0 (d.0 e)), (λ q. d.1 (w.1 q)))
 
   pub TellsTruth-Atom : (rel : Rel) (index x y : ℕ)
-      → AcceptsExactly system.signature (length (columns_of (core.Leaf (core.Related rel index x y)))) table (IsTrueOf (relation_atom system rel index x y (columns_of (core.Leaf (core.Related rel index x y)))))
+      → AcceptsExactly system.signature (length (columns_of (core.Leaf (core.Related rel index x y)))) table (IsTrueOfTuple (relation_atom system rel index x y (columns_of (core.Leaf (core.Related rel index x y)))))
       → TellsTruth (pattern_structure system) (core.Leaf (core.Related rel index x y)) (said (OfTable table))
   TellsTruth-Atom rel index x y exactly v grounded =
       let columns = columns_of (core.Leaf (core.Related rel index x y)) in
@@ -92,7 +92,7 @@ module _ (system : PatternSystem) (table : Table) where
   one_term : (x : ℕ) (v : Places) → AreGround system.signature v → IsTuple system.signature 1 (Some (v x) ∷ [])
   one_term x v grounded = record { width = refl; present = tt; grounded = (grounded x, tt) }
 
-  pub TellsTruth-Nf : (index x : ℕ) → AcceptsExactly system.signature 1 table (IsTrueOf (normal_atom system index))
+  pub TellsTruth-Nf : (index x : ℕ) → AcceptsExactly system.signature 1 table (IsTrueOfTuple (normal_atom system index))
       → TellsTruth (pattern_structure system) (core.Leaf (core.Normal index x)) (said (OfTable table))
   TellsTruth-Nf index x exactly v grounded =
       subst (λ ns. Decides (accepts table (tuple_of v ns)) (IsMetBy (pattern_structure system) (core.Leaf (core.Normal index x)) v)) (sym (columns_of-Normal index x))

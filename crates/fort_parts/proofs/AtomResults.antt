@@ -4,23 +4,23 @@ use Rattle.std.proofs.Common.{ap, sym, ◌∙◌, subst, arith}
 use Rattle.fort_theory.specs.Logic.{Surely}
 use Rattle.fort_theory.specs.Trees.{Tree}
 use Rattle.fort_theory.specs.Patterns.{PatternSystem}
-use Rattle.fort_cores.specs.Cores as core
-use Rattle.fort_cores.specs.Cores.{Rel, Core}
-use Rattle.fort_cores.specs.PatternStructures.{pattern_structure}
+use Rattle.fort_theory.specs.Cores as core
+use Rattle.fort_theory.specs.Cores.{Rel, Core}
+use Rattle.fort_theory.specs.PatternStructures.{pattern_structure}
 use Rattle.fort_tables.specs.Tuples.{Tuple, IsTuple, IsFull}
 use Rattle.fort_tables.specs.Tables.{Table}
 use Rattle.fort_tables.specs.Labels.{Labelling}
 use Rattle.fort_tables.specs.LabelRules.{IsTableBy}
-use Rattle.fort_alike.specs.Atoms.{OfOne, relation_atom, normal_atom, IsTrueOf}
+use Rattle.fort_alike.specs.Atoms.{OfOne, relation_atom, normal_atom, IsTrueOfTuple}
 use Rattle.fort_alike.specs.Alike.{Alike}
 use Rattle.fort_alike.specs.ExpressionAlike as expressions
 use Rattle.fort_alike.specs.ExpressionAlike.{expression_atom}
 use Rattle.fort_alike.specs.AlikeAtTerm.{AlikeAtTerm}
-use Rattle.fort_atom_labels.proofs.AtomPlaces.{ArePlaces-columns}
-use Rattle.fort_atom_labels.proofs.AtomTruth.{Decides-Surely}
-use Rattle.fort_expressions.specs.Expressions.{Expression}
-use Rattle.fort_expressions.specs.Contexts.{HoleNumber, HolePlace}
-use Rattle.fort_operations.specs.OperationTruth.{accepts}
+use Rattle.fort_alike.proofs.AtomPlaces.{ArePlaces-columns}
+use Rattle.fort_alike.proofs.AtomTruth.{Decides-Surely}
+use Rattle.fort_theory.specs.Expressions.{Expression}
+use Rattle.fort_theory.specs.Contexts.{HoleNumber, HolePlace}
+use Rattle.fort_tables.specs.OperationTruth.{accepts}
 use Rattle.fort_parts.specs.PartColumns.{columns_of}
 use Rattle.fort_parts.specs.PartAnswers.{OfTable, said, TellsTruth, IsAnswerTo}
 use Rattle.fort_parts.specs.PartLabels.{LabelsTellAlike}
@@ -49,7 +49,7 @@ module _ (system : PatternSystem) (label : Labelling) (accepting : List ℕ → 
   }
 
   pub IsAnswerTo-Atom : (rel : Rel) (index x y : ℕ)
-      → AcceptsLabels system (length (columns_of (core.Leaf (core.Related rel index x y)))) label accepting (IsTrueOf (relation_atom system rel index x y (columns_of (core.Leaf (core.Related rel index x y)))))
+      → AcceptsLabels system (length (columns_of (core.Leaf (core.Related rel index x y)))) label accepting (IsTrueOfTuple (relation_atom system rel index x y (columns_of (core.Leaf (core.Related rel index x y)))))
       → IsTableBy system.signature (length (columns_of (core.Leaf (core.Related rel index x y)))) label accepting table
       → IsAnswerTo (pattern_structure system) (core.Leaf (core.Related rel index x y)) (OfTable table)
   IsAnswerTo-Atom rel index x y exactly by =
@@ -81,7 +81,7 @@ module _ (system : PatternSystem) (label : Labelling) (accepting : List ℕ → 
       → IsAnswerTo (pattern_structure system) f (OfTable table)
   one f single truth by = answer f (omega arith) truth (subst (λ n. IsTableBy system.signature n label accepting table) (sym single) by)
 
-  pub IsAnswerTo-Nf : (index x : ℕ) → AcceptsLabels system 1 label accepting (IsTrueOf (normal_atom system index))
+  pub IsAnswerTo-Nf : (index x : ℕ) → AcceptsLabels system 1 label accepting (IsTrueOfTuple (normal_atom system index))
       → IsTableBy system.signature 1 label accepting table → IsAnswerTo (pattern_structure system) (core.Leaf (core.Normal index x)) (OfTable table)
   IsAnswerTo-Nf index x exactly by =
       one (core.Leaf (core.Normal index x)) (ap length (columns_of-Normal index x)) (TellsTruth-Nf system table index x (by_table 1 _ by exactly)) by

@@ -8,3 +8,9 @@ pub mod PartOrder
 pub mod PartFacts
 pub mod StepAnswers
 pub mod AtomResults
+pub mod SatisfiedTuples
+pub mod Pigeons
+pub mod MergedAnswers
+pub mod ReducedOver
+pub mod NegatedParts
+pub mod ToldLaws

@@ -10,9 +10,9 @@ use Rattle.std.proofs.lemmas.List.{get_or_default}
 use Rattle.std.proofs.lemmas.List.Kept.{IsStrictlyIncreasing-filter, AllPairs-from_increasing}
 use Rattle.fort_theory.specs.Trees.{Tree}
 use Rattle.fort_theory.proofs.Members.{Contains-head, Contains-behind, Contains-cons_cases, Contains-none, Contains-filter, Contains-from_filter}
-use Rattle.fort_cores.specs.Cores.{Atom, Related, InContext, Normal, IsTerm, Core, True, Leaf, Not, Binary, Exists, Infinite}
-use Rattle.fort_cores.specs.Parts.{stands_in, is_free, AreColumns}
-use Rattle.fort_cores.proofs.ColumnLaws.{AreColumns-one, AreColumns-bound, AreColumns-Normal, AreColumns-IsTerm}
+use Rattle.fort_theory.specs.Cores.{Atom, Related, InContext, Normal, IsTerm, Core, True, Leaf, Not, Binary, Exists, Infinite}
+use Rattle.fort_theory.specs.Parts.{stands_in, is_free, AreColumns}
+use Rattle.fort_theory.proofs.ColumnLaws.{AreColumns-one, AreColumns-bound, AreColumns-Normal, AreColumns-IsTerm}
 use Rattle.fort_tables.proofs.EqualTests.{equal_from_test, test_from_apart}
 use Rattle.fort_parts.specs.PartColumns.{numbers_in, numbers_below, columns_of, place_in}
 

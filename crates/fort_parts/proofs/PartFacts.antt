@@ -9,8 +9,8 @@ use Rattle.std.proofs.lemmas.List.Filters.{length-filter_both}
 use Rattle.fort_theory.specs.Signatures.{most_columns}
 use Rattle.fort_theory.specs.Patterns.{PatternSystem}
 use Rattle.fort_theory.proofs.Members.{Contains-cons_cases, Contains-none}
-use Rattle.fort_cores.specs.Cores.{Core, True, Leaf, Not, Binary, Exists, Infinite}
-use Rattle.fort_cores.specs.Parts.{is_free, postorder, BindsFree, IsWellFormed, HasManyColumns, HasManyRootsIn, HasManyRootsAt, IsTooWide}
+use Rattle.fort_theory.specs.Cores.{Core, True, Leaf, Not, Binary, Exists, Infinite}
+use Rattle.fort_theory.specs.Parts.{is_free, postorder, BindsFree, IsWellFormed, HasManyColumns, HasManyRootsIn, HasManyRootsAt, IsTooWide}
 use Rattle.fort_parts.specs.PartColumns.{numbers_below, columns_of}
 use Rattle.fort_parts.specs.DecidedCores.{IsOverSystem, IsOperandOf}
 use Rattle.fort_parts.proofs.PartColumnLaws.{AreColumns-columns_of, columns_of-unique}

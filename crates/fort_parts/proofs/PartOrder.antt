@@ -5,10 +5,10 @@ use Rattle.std.proofs.lemmas.Bool.{cases_eq, cases_lt}
 use Rattle.std.proofs.lemmas.List.{get_or_default}
 use Rattle.std.proofs.lemmas.List.Elements.{Contains-append_left, Contains-append_right, Contains-push, Contains-get_or}
 use Rattle.fort_theory.proofs.Members.{Contains-head}
-use Rattle.fort_cores.specs.Cores.{Core, True, Leaf, Not, Binary, Exists, Infinite}
-use Rattle.fort_cores.specs.EachOnce.{StandsBefore}
-use Rattle.fort_cores.specs.PartLists.{AreParts}
-use Rattle.fort_cores.specs.Parts.{postorder}
+use Rattle.fort_theory.specs.Cores.{Core, True, Leaf, Not, Binary, Exists, Infinite}
+use Rattle.fort_theory.specs.EachOnce.{StandsBefore}
+use Rattle.fort_theory.specs.PartLists.{AreParts}
+use Rattle.fort_theory.specs.Parts.{postorder}
 use Rattle.fort_parts.specs.DecidedCores.{IsOperandOf}
 
 -- a formula is no operand of its own

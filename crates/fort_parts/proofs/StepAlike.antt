@@ -3,22 +3,22 @@ use Rattle.std.specs.Prelude.{◌≡◌, ◌↔◌, ℕ, ◌+◌, ◌-◌, ◌<�
 use Rattle.std.proofs.Common.{ap, sym, subst, arith}
 use Rattle.fort_theory.specs.Signatures.{Signature}
 use Rattle.fort_theory.specs.Patterns.{PatternSystem}
-use Rattle.fort_cores.specs.Cores as core
-use Rattle.fort_cores.specs.Cores.{Core}
-use Rattle.fort_cores.specs.Parts.{is_free}
+use Rattle.fort_theory.specs.Cores as core
+use Rattle.fort_theory.specs.Cores.{Core}
+use Rattle.fort_theory.specs.Parts.{is_free}
 use Rattle.fort_tables.specs.Tuples.{Tuple, IsTuple}
 use Rattle.fort_tables.specs.Tables.{Table}
 use Rattle.fort_tables.specs.Labels.{Labelling, HasMoreLabels, IsTableOf}
 use Rattle.fort_tables.specs.LabelRules.{label_of}
 use Rattle.fort_alike.proofs.OverLabels.{HasMoreLabels-IsOver}
-use Rattle.fort_operations.specs.Products as products
-use Rattle.fort_operations.specs.Products.{Operand, product_rule}
-use Rattle.fort_operations.specs.Projections.{project_rule}
-use Rattle.fort_operations.specs.Agreement.{Agreement, TellsAgreement, AgreeAtBoth, AgreeAtSome}
-use Rattle.fort_operations.proofs.AgreementLaws.{TellsAtOperand, both_alike, project_alike}
-use Rattle.fort_counts.specs.ManyLabels.{TellsMany, many_rule}
-use Rattle.fort_counts.specs.ManyAgreement.{AgreeAtMany}
-use Rattle.fort_counts.proofs.ManyAgreementLaws.{many_alike}
+use Rattle.fort_tables.specs.Products as products
+use Rattle.fort_tables.specs.Products.{Operand, product_rule}
+use Rattle.fort_tables.specs.Projections.{project_rule}
+use Rattle.fort_tables.specs.Agreement.{Agreement, TellsAgreement, AgreeAtBoth, AgreeAtSome}
+use Rattle.fort_tables.proofs.AgreementLaws.{TellsAtOperand, both_alike, project_alike}
+use Rattle.fort_tables.specs.ManyLabels.{TellsMany, many_rule}
+use Rattle.fort_tables.specs.ManyAgreement.{AgreeAtMany}
+use Rattle.fort_tables.proofs.ManyAgreementLaws.{many_alike}
 use Rattle.fort_parts.specs.PartColumns.{columns_of, place_in, places_in}
 use Rattle.fort_parts.specs.AlikeParts.{IsOverBy}
 use Rattle.fort_parts.specs.PartAnswers.{Answer, OfValue, OfTable, IsTableOver, FitsColumns}

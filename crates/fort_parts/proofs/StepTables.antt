@@ -11,16 +11,16 @@ use Rattle.fort_tables.specs.Tuples.{Tuple, IsTuple}
 use Rattle.fort_tables.specs.Tables.{Table, state_of}
 use Rattle.fort_tables.specs.LabelRules.{label_of, IsTableBy}
 use Rattle.fort_tables.proofs.TableLaws.{table_state}
-use Rattle.fort_operations.specs.Selections.{selected}
-use Rattle.fort_operations.specs.Products.{IsOperand, IsLawful, connected, product_rule, product_accepts}
-use Rattle.fort_operations.specs.Projections.{some_below, project_rule, project_accepts}
-use Rattle.fort_operations.specs.OperationTruth.{accepts, said_by, complemented}
-use Rattle.fort_operations.proofs.SearchLaws.{found_below, below_found}
-use Rattle.fort_operations.proofs.SelectionLaws.{present_from_full}
-use Rattle.fort_operations.proofs.TruthLaws.{product_tests, project_decides}
-use Rattle.fort_counts.specs.ManyLabels.{TellsMany, many_rule, many_accepts, many_value}
-use Rattle.fort_counts.proofs.ManyTruth.{many_weaker, many_decides, many_value_decides}
-use Rattle.fort_operations.proofs.TableTruth.{IsTable-complemented, IsReached-complemented, complement_decides}
+use Rattle.fort_tables.specs.Selections.{selected}
+use Rattle.fort_tables.specs.Products.{IsOperand, IsLawful, connected, product_rule, product_accepts}
+use Rattle.fort_tables.specs.Projections.{some_below, project_rule, project_accepts}
+use Rattle.fort_tables.specs.OperationTruth.{accepts, said_by, complemented}
+use Rattle.fort_tables.proofs.SearchLaws.{found_below, below_found}
+use Rattle.fort_tables.proofs.SelectionLaws.{present_from_full}
+use Rattle.fort_tables.proofs.TruthLaws.{product_tests, project_decides}
+use Rattle.fort_tables.specs.ManyLabels.{TellsMany, many_rule, many_accepts, many_value}
+use Rattle.fort_tables.proofs.ManyTruth.{many_weaker, many_decides, many_value_decides}
+use Rattle.fort_tables.proofs.TableTruth.{IsTable-complemented, IsReached-complemented, complement_decides}
 use Rattle.fort_parts.specs.PartColumns.{place_in, places_in}
 use Rattle.fort_parts.specs.PartAnswers.{Answer, OfValue, OfTable, said, IsTableOver, FitsColumns}
 use Rattle.fort_parts.specs.PartSteps.{AreTerms, SaysNot, SaysBoth, SaysSome, SaysMany, operand_of}

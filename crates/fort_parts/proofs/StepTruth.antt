@@ -6,16 +6,16 @@ use Rattle.std.proofs.lemmas.Bool.{and_parts}
 use Rattle.fort_theory.specs.Trees.{Tree}
 use Rattle.fort_theory.specs.Signatures.{IsGround}
 use Rattle.fort_theory.specs.Logic.{HasSome, Connective, Connected}
-use Rattle.fort_cores.specs.Structures.{Structure}
-use Rattle.fort_cores.specs.Cores as core
-use Rattle.fort_cores.specs.Cores.{Core}
-use Rattle.fort_cores.specs.CoreTruth.{Places, IsMetBy, with_number}
-use Rattle.fort_cores.specs.Parts.{is_free}
+use Rattle.fort_theory.specs.Structures.{Structure}
+use Rattle.fort_theory.specs.Cores as core
+use Rattle.fort_theory.specs.Cores.{Core}
+use Rattle.fort_theory.specs.CoreTruth.{Places, IsMetBy, with_number}
+use Rattle.fort_theory.specs.Parts.{is_free}
 use Rattle.fort_tables.proofs.EqualTests.{apart_from_test}
-use Rattle.fort_atom_labels.specs.AssignedTuples.{tuple_of}
-use Rattle.fort_operations.specs.Products.{connected}
-use Rattle.fort_operations.proofs.TruthLaws.{not_decides, connected_decides}
-use Rattle.fort_counts.proofs.ManyTruth.{many_weaker}
+use Rattle.fort_alike.specs.AssignedTuples.{tuple_of}
+use Rattle.fort_tables.specs.Products.{connected}
+use Rattle.fort_tables.proofs.TruthLaws.{not_decides, connected_decides}
+use Rattle.fort_tables.proofs.ManyTruth.{many_weaker}
 use Rattle.fort_parts.specs.PartColumns.{columns_of, place_in, places_in}
 use Rattle.fort_parts.specs.PartAnswers.{Answer, OfValue, said, AreGround, TellsTruth}
 use Rattle.fort_parts.specs.PartSteps.{SaysNot, SaysBoth, SaysSome, SaysMany}

@@ -1,11 +1,11 @@
 -- To believe: when two optional tuples are alike at a core formula, over its columns, also by another likeness at its operands; by a likeness a part is over a cap where there are more tuples than it, no two of them alike.
 use Rattle.std.specs.Prelude.{ℕ, ◌<◌, List, length, get_or}
 use Rattle.fort_theory.specs.Patterns.{PatternSystem}
-use Rattle.fort_cores.specs.Cores.{Core, True, Leaf, Not, Binary, Exists, Infinite}
+use Rattle.fort_theory.specs.Cores.{Core, True, Leaf, Not, Binary, Exists, Infinite}
 use Rattle.fort_alike.specs.AlikeAtAtom.{AlikeAtAtom}
 use Rattle.fort_alike.specs.UnlikeTuples.{IsOver}
-use Rattle.fort_operations.specs.Agreement.{Agreement, AgreeAtBoth, AgreeAtSome}
-use Rattle.fort_counts.specs.ManyAgreement.{AgreeAtMany}
+use Rattle.fort_tables.specs.Agreement.{Agreement, AgreeAtBoth, AgreeAtSome}
+use Rattle.fort_tables.specs.ManyAgreement.{AgreeAtMany}
 use Rattle.fort_parts.specs.PartColumns.{columns_of, place_in, places_in}
 
 -- a formula without columns has no tuples

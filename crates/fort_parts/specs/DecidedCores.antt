@@ -4,9 +4,9 @@ use Rattle.fort_theory.specs.Signatures.{IsGround}
 use Rattle.fort_theory.specs.Patterns.{Pattern, Pair, PatternSystem}
 use Rattle.fort_theory.specs.PatternOrder.{AreSubpatternsInOrder}
 use Rattle.fort_theory.specs.Sides.{IsIndexOf, at_index}
-use Rattle.fort_expressions.specs.Expressions.{Expression, root_indices}
-use Rattle.fort_cores.specs.Cores.{Atom, Related, InContext, Normal, IsTerm, Core, True, Leaf, Not, Binary, Exists, Infinite}
-use Rattle.fort_cores.specs.Parts.{IsWellFormed}
+use Rattle.fort_theory.specs.Expressions.{Expression, root_indices}
+use Rattle.fort_theory.specs.Cores.{Atom, Related, InContext, Normal, IsTerm, Core, True, Leaf, Not, Binary, Exists, Infinite}
+use Rattle.fort_theory.specs.Parts.{IsWellFormed}
 
 -- these rules, and the different patterns within either of their sides, are so few that 32 times as many, one for each root step that
 -- an expression may have, have numbers of 32 bits

@@ -5,3 +5,5 @@ pub mod PartSteps
 pub mod PartLabels
 pub mod DecidedCores
 pub mod RightAnswers
+pub mod ReducedParts
+pub mod ToldParts

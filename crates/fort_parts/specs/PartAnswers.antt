@@ -1,13 +1,13 @@
 -- To believe: the answer of a part is a truth where it has no columns, else a table; it tells the part's truth where for each assignment it accepts the tuple of the columns' terms exactly where the part is true.
 use Rattle.std.specs.Prelude.{◌≡◌, ℕ, ◌<◌, List, [], length, Bool, Decides}
 use Rattle.fort_theory.specs.Signatures.{Signature, IsGround}
-use Rattle.fort_cores.specs.Structures.{Structure}
-use Rattle.fort_cores.specs.Cores.{Core}
-use Rattle.fort_cores.specs.CoreTruth.{Places, IsMetBy}
+use Rattle.fort_theory.specs.Structures.{Structure}
+use Rattle.fort_theory.specs.Cores.{Core}
+use Rattle.fort_theory.specs.CoreTruth.{Places, IsMetBy}
 use Rattle.fort_tables.specs.Tuples.{Tuple}
 use Rattle.fort_tables.specs.Tables.{Table, IsTable, IsReached}
-use Rattle.fort_atom_labels.specs.AssignedTuples.{tuple_of}
-use Rattle.fort_operations.specs.OperationTruth.{accepts}
+use Rattle.fort_alike.specs.AssignedTuples.{tuple_of}
+use Rattle.fort_tables.specs.OperationTruth.{accepts}
 use Rattle.fort_parts.specs.PartColumns.{columns_of}
 
 pub data Answer : Type 0 where

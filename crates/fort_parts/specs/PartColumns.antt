@@ -1,8 +1,8 @@
 -- To believe: the columns of a core formula are its free numbers, ascending; a number's place is its first place among them.
 use Rattle.std.specs.Prelude.{ℕ, suc, max, ◌==◌, List, map, filter}
 use Rattle.std.specs.List.{range_with_len, position_or_len}
-use Rattle.fort_cores.specs.Cores.{Atom, Related, InContext, Normal, IsTerm, Core, True, Leaf, Not, Binary, Exists, Infinite}
-use Rattle.fort_cores.specs.Parts.{is_free}
+use Rattle.fort_theory.specs.Cores.{Atom, Related, InContext, Normal, IsTerm, Core, True, Leaf, Not, Binary, Exists, Infinite}
+use Rattle.fort_theory.specs.Parts.{is_free}
 
 -- one more than the atom's greatest number
 abbrev pub numbers_in : Atom → ℕ

@@ -1,10 +1,10 @@
 -- To believe: labels tell a likeness at a formula where two tuples have one label exactly where they are alike; a table does where they have one state.
 use Rattle.std.specs.Prelude.{◌≡◌, ◌↔◌, length}
 use Rattle.fort_theory.specs.Patterns.{PatternSystem}
-use Rattle.fort_cores.specs.Cores.{Core}
+use Rattle.fort_theory.specs.Cores.{Core}
 use Rattle.fort_tables.specs.Tuples.{Tuple, IsTuple}
 use Rattle.fort_tables.specs.Labels.{Labelling}
-use Rattle.fort_operations.specs.Agreement.{Agreement, TellsAgreement}
+use Rattle.fort_tables.specs.Agreement.{Agreement, TellsAgreement}
 use Rattle.fort_parts.specs.PartColumns.{columns_of}
 use Rattle.fort_parts.specs.AlikeParts.{AlikeAt}
 use Rattle.fort_parts.specs.PartAnswers.{Answer, OfValue, OfTable}

@@ -5,9 +5,9 @@ use Rattle.fort_theory.specs.Logic.{HasInfinitelyMany, Connective}
 use Rattle.fort_theory.specs.Trees.{Tree}
 use Rattle.fort_theory.specs.Signatures.{Signature, IsGround}
 use Rattle.fort_tables.specs.Tuples.{Tuple, IsFull, AreGroundColumns}
-use Rattle.fort_operations.specs.Selections.{selected}
-use Rattle.fort_operations.specs.Products as products
-use Rattle.fort_operations.specs.Products.{Operand, OfTruth, connected}
+use Rattle.fort_tables.specs.Selections.{selected}
+use Rattle.fort_tables.specs.Products as products
+use Rattle.fort_tables.specs.Products.{Operand, OfTruth, connected}
 use Rattle.fort_parts.specs.PartAnswers.{Answer, OfValue, OfTable, said}
 
 -- so many ground terms; without columns the empty tuple

@@ -1,12 +1,12 @@
 -- To believe: an answer is right for a formula over a system by a likeness where it tells the formula's truth, and its states tell when tuples are alike; more tuples than a cap, no two of them alike, show that a formula is over it.
 use Rattle.std.specs.Prelude.{◌+◌, ℕ, List, length}
 use Rattle.fort_theory.specs.Patterns.{PatternSystem}
-use Rattle.fort_cores.specs.Cores.{Core}
-use Rattle.fort_cores.specs.PatternStructures.{pattern_structure}
+use Rattle.fort_theory.specs.Cores.{Core}
+use Rattle.fort_theory.specs.PatternStructures.{pattern_structure}
 use Rattle.fort_tables.specs.Entries.{Entry, AreNodes, tuples_of}
 use Rattle.fort_alike.specs.UnlikeTuples.{AreUnlike}
 use Rattle.fort_parts.specs.PartColumns.{columns_of}
-use Rattle.fort_operations.specs.Agreement.{Agreement}
+use Rattle.fort_tables.specs.Agreement.{Agreement}
 use Rattle.fort_parts.specs.AlikeParts.{AlikeAt}
 use Rattle.fort_parts.specs.PartAnswers.{Answer, IsAnswerTo}
 use Rattle.fort_parts.specs.PartLabels.{Tells}

@@ -1,2 +1,3 @@
-//! Definitions alone: the parts of a core formula over a system, when tuples are alike at one, and when an answer tells its truth.
+//! Definitions alone: the parts of a core formula over a system, when tuples are alike at one, when an answer tells its truth, and that
+//! merging a table's states makes no difference to an answer.
 #![tactic(auto)]

@@ -13,12 +13,12 @@ use Rattle.fort_tables.specs.Tables.{Listed, listed_table}
 use Rattle.fort_tables.proofs.LabelRuleLaws.{TellsPresence-rule}
 use Rattle.fort_tables.proofs.OrderLaws.{order_one}
 use Rattle.fort_tables.proofs.PresenceLaws.{presence_bound}
-use Rattle.fort_laid_entries.specs.Laid.{entries_from, by_symbol, all_entries}
-use Rattle.fort_laid_entries.proofs.AllEntries.{entries_unique, entry_at_cursor, all_in_order, all_there}
-use Rattle.fort_laid_entries.proofs.Counts.{length-all_entries}
-use Rattle.fort_laid_entries.proofs.BySymbol.{by_symbol_are, by_symbol_has}
-use Rattle.fort_operations.specs.Selections.{is_present}
-use Rattle.fort_operations.specs.Products.{AreOperands, signature_of}
+use Rattle.fort_tables.specs.Laid.{entries_from, by_symbol, all_entries}
+use Rattle.fort_tables.proofs.AllEntries.{entries_unique, entry_at_cursor, all_in_order, all_there}
+use Rattle.fort_tables.proofs.Counts.{length-all_entries}
+use Rattle.fort_tables.proofs.BySymbol.{by_symbol_are, by_symbol_has}
+use Rattle.fort_tables.specs.Selections.{is_present}
+use Rattle.fort_tables.specs.Products.{AreOperands, signature_of}
 use Rattle.fort_target_lists.specs.Chains.{IsFirstFrom}
 use Rattle.fort_products.specs.HeldTargets.{IsHeld, AreHeldFrom}
 use Rattle.fort_products.specs.HeldWalks.{Operands, rule_of, IsHoldingOf, HasHeld, IsHoldingAt, HasHeldTo, HasHeldBehind, IsHeldBetween}

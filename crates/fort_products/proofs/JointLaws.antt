@@ -13,10 +13,10 @@ use Rattle.fort_tables.proofs.TupleLaws.{fits_presence}
 use Rattle.fort_tuple_symbols.specs.Columns.{column_of, digit_of, symbol_of}
 use Rattle.fort_tuple_symbols.proofs.Bounds.{symbol_again}
 use Rattle.fort_tuple_symbols.proofs.SymbolNumberLaws.{digit_again}
-use Rattle.fort_operations.specs.Selections.{selected, is_present, ArePlaces}
-use Rattle.fort_operations.specs.Products.{Operand, OfTable, OfTruth, IsOperand, AreOperands, operand_word, state_at, operand_step, product_rule, signature_of}
-use Rattle.fort_operations.proofs.SelectionLaws.{AreSymbols-selected, test_from_present, FitsKid-selected, present_under}
-use Rattle.fort_operations.proofs.ProductLabels.{word_there, word_none}
+use Rattle.fort_tables.specs.Selections.{selected, is_present, ArePlaces}
+use Rattle.fort_tables.specs.Products.{Operand, OfTable, OfTruth, IsOperand, AreOperands, operand_word, state_at, operand_step, product_rule, signature_of}
+use Rattle.fort_tables.proofs.SelectionLaws.{AreSymbols-selected, test_from_present, FitsKid-selected, present_under}
+use Rattle.fort_tables.proofs.ProductLabels.{word_there, word_none}
 use Rattle.fort_target_lists.specs.LabelLists.{labels_at}
 use Rattle.fort_target_lists.specs.Places.{number_of, place_from}
 use Rattle.fort_target_lists.specs.Flats.{IsFlatOf, flat_place}

@@ -5,8 +5,8 @@ use Rattle.fort_tables.specs.Tuples.{TupleSymbol, AreSymbols, symbol_kids}
 use Rattle.fort_tables.specs.Entries.{entry}
 use Rattle.fort_tables.specs.Tables.{Table}
 use Rattle.fort_tuple_symbols.proofs.DigitNumberLaws.{pow_some}
-use Rattle.fort_operations.specs.Selections.{selected, is_present}
-use Rattle.fort_operations.specs.Products.{OfTable, operand_step, state_at}
+use Rattle.fort_tables.specs.Selections.{selected, is_present}
+use Rattle.fort_tables.specs.Products.{OfTable, operand_step, state_at}
 use Rattle.fort_target_lists.specs.Places.{number_of}
 use Rattle.fort_target_lists.specs.Flats.{IsFlatOf}
 use Rattle.fort_target_lists.specs.declared.flat.FlatTargets.{FlatTargets}

@@ -9,10 +9,10 @@ use Rattle.fort_tables.specs.Labels.{first_word, IsOverLabels, IsFullLabel}
 use Rattle.fort_tables.specs.LabelRules.{label_of}
 use Rattle.fort_tables.proofs.TupleLaws.{fits_presence}
 use Rattle.fort_tables.proofs.TableLaws.{IsTableEntry-kid_states, table_state}
-use Rattle.fort_operations.specs.Selections.{selected, is_present}
-use Rattle.fort_operations.specs.Products.{Operand, OfTable, AreOperands, state_at, product_rule}
-use Rattle.fort_operations.proofs.SelectionLaws.{present_from_test, test_from_present, AreSymbols-selected, symbol_kids-selected, FitsKid-selected, present_under, IsTuple-selected}
-use Rattle.fort_operations.proofs.ProductLabels.{word_there, product_words, product_exact, full_word}
+use Rattle.fort_tables.specs.Selections.{selected, is_present}
+use Rattle.fort_tables.specs.Products.{Operand, OfTable, AreOperands, state_at, product_rule}
+use Rattle.fort_tables.proofs.SelectionLaws.{present_from_test, test_from_present, AreSymbols-selected, symbol_kids-selected, FitsKid-selected, present_under, IsTuple-selected}
+use Rattle.fort_tables.proofs.ProductLabels.{word_there, product_words, product_exact, full_word}
 use Rattle.fort_target_lists.specs.LabelLists.{labels_at}
 use Rattle.fort_products.specs.OperandRows.{IsOverWords, IsOperandEntry, IsFullWordAt}
 

@@ -3,7 +3,7 @@ use Rattle.std.specs.Prelude.{◌≡◌, ℕ, ◌<◌, ◌≤◌, List, [], map,
 use Rattle.fort_tables.specs.Entries.{Entry}
 use Rattle.fort_tables.specs.Labels.{first_word}
 use Rattle.fort_tables.specs.LabelRules.{LabelRule, entry_label}
-use Rattle.fort_laid_entries.specs.Laid.{all_entries}
+use Rattle.fort_tables.specs.Laid.{all_entries}
 
 -- the target is a state with the entry's label
 pub record IsHeld (r : LabelRule) (labels : List (List ℕ)) (e : Entry) (target : ℕ) : Type 0 where

@@ -5,8 +5,8 @@ use Rattle.fort_tables.specs.Entries.{Entry}
 use Rattle.fort_tables.specs.Labels.{first_word, AreLabels}
 use Rattle.fort_tables.specs.LabelRules.{LabelRule, label_of}
 use Rattle.fort_tables.specs.Tables.{Table, Listed, listed_table}
-use Rattle.fort_laid_entries.specs.Laid.{entries_from}
-use Rattle.fort_operations.specs.Products.{Operand, AreOperands, signature_of, product_rule}
+use Rattle.fort_tables.specs.Laid.{entries_from}
+use Rattle.fort_tables.specs.Products.{Operand, AreOperands, signature_of, product_rule}
 use Rattle.fort_products.specs.HeldTargets.{IsHeld}
 use Rattle.fort_products.specs.Joints.{IsJointOf}
 use Rattle.fort_products.specs.Operands.{operand_of}

@@ -2,8 +2,8 @@
 use Rattle.std.specs.Prelude.{◌≡◌, ℕ, zero, suc, ◌+◌, ◌<◌, List, [], ◌∷◌, length, get_or, Option, None, Some, true}
 use Rattle.fort_tables.specs.Tuples.{TupleSymbol, presence}
 use Rattle.fort_tables.specs.Tables.{Table, IsTable}
-use Rattle.fort_operations.specs.Selections.{selected, is_present}
-use Rattle.fort_operations.specs.Products.{Operand, OfTable, OfTruth, operand_step}
+use Rattle.fort_tables.specs.Selections.{selected, is_present}
+use Rattle.fort_tables.specs.Products.{Operand, OfTable, OfTruth, operand_step}
 use Rattle.fort_target_lists.specs.LabelLists.{labels_at}
 use Rattle.fort_target_lists.specs.Places.{number_of, place_from, is_state_in}
 use Rattle.fort_target_lists.specs.Flats.{IsFlatOf}

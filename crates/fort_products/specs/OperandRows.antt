@@ -5,8 +5,8 @@ use Rattle.fort_tables.specs.Tuples.{Tuple, presence, IsTuple, IsFull, AreSymbol
 use Rattle.fort_tables.specs.Entries.{Entry, entry, IsEntry}
 use Rattle.fort_tables.specs.Tables.{Table, IsTableEntry}
 use Rattle.fort_tables.specs.Labels.{first_word}
-use Rattle.fort_operations.specs.Selections.{selected}
-use Rattle.fort_operations.specs.Products.{Operand, IsOperand, operand_word, state_at}
+use Rattle.fort_tables.specs.Selections.{selected}
+use Rattle.fort_tables.specs.Products.{Operand, IsOperand, operand_word, state_at}
 
 -- the label tells the tuple's presence, and word i of it is the operand's
 pub record IsWordOf (o : Operand) (i : ℕ) (w : List ℕ) (t : Tuple) : Type 0 where

@@ -1,6 +1,6 @@
 -- To believe: the operand that a program's operand is.
 use Rattle.fort_tables.specs.Tables.{Table}
-use Rattle.fort_operations.specs.Products as products
+use Rattle.fort_tables.specs.Products as products
 use Rattle.fort_products.specs.declared.operand.Operand.{Operand}
 use Rattle.fort_products.specs.declared.operand.Operand.TheVariants.{Auto, Truth}
 

@@ -1,6 +1,6 @@
 -- To believe: where an operand's targets aren't put into one list.
 use Rattle.std.specs.Prelude.{◌^◌, ◌≤◌}
-use Rattle.fort_operations.specs.Products.{Operand, OfTable, OfTruth}
+use Rattle.fort_tables.specs.Products.{Operand, OfTable, OfTruth}
 use Rattle.fort_target_lists.specs.Flats.{base_of, IsUnlisted}
 
 -- there is none: a truth has no table, and a table's targets are too many for one list

@@ -8,9 +8,10 @@ ghost use Rattle.fort_products.specs.HeldWalks.{Operands, operands_of, IsHolding
 
 use crate::joint::{Joint, joint_of};
 use crate::product::Both;
-use fort_explore::Rows;
-use fort_lockstep::{Table, TupleSym};
+use fort_labels::Rows;
+use fort_table::Table;
 use fort_target_lists::{Walk, is_present, kid_count, kid_presence};
+use fort_tuple_symbols::TupleSym;
 
 /// A walk over all entries of a product, which holds the target at each one's cursor against the label that the entry is to have.
 #[derive(Clone, Copy)]

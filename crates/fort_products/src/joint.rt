@@ -6,8 +6,8 @@ ghost use Rattle.fort_tables.specs.Entries.{entry};
 ghost use Rattle.fort_tables.specs.Labels.{IsOverLabels};
 ghost use Rattle.fort_tables.specs.LabelRules.{label_of, entry_label};
 ghost use Rattle.fort_tuple_symbols.specs.Columns.{as_column, symbol_of};
-ghost use Rattle.fort_operations.specs.Products as products;
-ghost use Rattle.fort_operations.specs.Selections.{selected, ArePlaces};
+ghost use Rattle.fort_tables.specs.Products as products;
+ghost use Rattle.fort_tables.specs.Selections.{selected, ArePlaces};
 ghost use Rattle.fort_products.specs.Operands.{operand_of};
 ghost use Rattle.fort_target_lists.specs.Places.{number_of};
 ghost use Rattle.fort_target_lists.specs.Flats.{IsFlatOf};
@@ -15,10 +15,11 @@ ghost use Rattle.fort_target_lists.specs.ListedOperands.{IsListOf};
 ghost use Rattle.fort_products.specs.Joints.{IsUnderOf, IsJointOf, states_under, place_under, AreStatesUnder, IsWordThere, word_under};
 
 use crate::operand::Operand;
-use fort_explore::Rows;
-use fort_lockstep::{Table, TupleSym};
+use fort_labels::Rows;
+use fort_table::Table;
 use fort_target_lists::FlatTargets;
 use fort_terms::Sym;
+use fort_tuple_symbols::TupleSym;
 
 /// What an operand's words under one tuple symbol of a product are read by.
 #[derive(Clone, Copy)]

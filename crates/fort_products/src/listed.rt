@@ -3,7 +3,7 @@ ghost use Rattle.std.specs.Prelude.{◌≡◌, ℕ, ◌<◌, [], length, slice_i
 ghost use Rattle.fort_theory.specs.Signatures as theory;
 ghost use Rattle.fort_tables.specs.Labels.{IsOverLabels};
 ghost use Rattle.fort_tables.specs.LabelRules.{label_of, entry_label};
-ghost use Rattle.fort_operations.specs.Products as products;
+ghost use Rattle.fort_tables.specs.Products as products;
 ghost use Rattle.fort_products.specs.Operands.{operand_of};
 ghost use Rattle.fort_products.specs.OperandRows.{IsOverWords};
 ghost use Rattle.fort_target_lists.specs.LabelLists.{labels_at};
@@ -12,9 +12,10 @@ ghost use Rattle.fort_target_lists.specs.ListedOperands.{IsListOf};
 use crate::joint::under_of;
 use crate::operand::Operand;
 use crate::words::operand_word;
-use fort_explore::Rows;
-use fort_lockstep::{Row, Table};
+use fort_labels::Rows;
+use fort_table::Table;
 use fort_target_lists::FlatTargets;
+use fort_tuple_symbols::Row;
 
 /// An operand's word, by its targets in one list where there is one.
 fn word_by<T: Table>(

@@ -2,7 +2,7 @@
 ghost use Rattle.std.specs.Prelude.{◌≡◌, ℕ, length};
 ghost use Rattle.fort_tables.specs.Labels.{IsOverLabels, IsFullLabel};
 ghost use Rattle.fort_tables.specs.LabelRules.{label_of, entry_label};
-ghost use Rattle.fort_operations.specs.Products.{AreOperands, signature_of, product_rule, product_accepts};
+ghost use Rattle.fort_tables.specs.Products.{AreOperands, signature_of, product_rule, product_accepts};
 ghost use Rattle.fort_connectives.specs.ConnectiveView.{connective_of};
 ghost use Rattle.fort_products.specs.Operands.{operand_of};
 
@@ -10,10 +10,12 @@ use crate::listed::write_both;
 use crate::operand::Operand;
 use crate::words::operand_accepts;
 use fort_connectives::Op;
-use fort_explore::Rows;
-use fort_lockstep::{Row, Table};
+use fort_labels::Rows;
+use fort_table::Table;
+use fort_tuple_symbols::Row;
 
 /// Writes the label of an entry of a product: the presence and the two operands' words.
+/// Promised to callers: the program itself doesn't call it.
 pub fn both_label<T: Table>(
     first: &Operand<'_, T>,
     second: &Operand<'_, T>,

@@ -1,11 +1,11 @@
 //! Operands, and their lists.
 ghost use Rattle.std.specs.Prelude.{◌≡◌, length, IfOk, OnErr, IsFalse};
-ghost use Rattle.fort_operations.specs.Products.{IsLawful, places_of};
+ghost use Rattle.fort_tables.specs.Products.{IsLawful, places_of};
 ghost use Rattle.fort_products.specs.Operands.{operand_of};
 ghost use Rattle.fort_products.specs.Unlisted.{IsNotListed, HasFewNumbers};
 ghost use Rattle.fort_target_lists.specs.TargetLists.{IsOperandList};
 
-use fort_lockstep::Table;
+use fort_table::Table;
 use fort_target_lists::TargetList;
 use fort_terms::Memory;
 use std::alloc::Global;

@@ -3,11 +3,11 @@ ghost use Rattle.std.specs.Prelude.{◌≡◌, ℕ, ◌<◌, ◌≤◌, ◌^◌,
 ghost use Rattle.fort_tables.specs.Tuples.{Tuple, IsTuple};
 ghost use Rattle.fort_tables.specs.Labels.{first_word, AreLabels};
 ghost use Rattle.fort_tables.specs.LabelRules.{label_of};
-ghost use Rattle.fort_operations.specs.Products as products;
-ghost use Rattle.fort_operations.specs.Agreement.{AgreeAtBoth, OperandAgreement};
+ghost use Rattle.fort_tables.specs.Products as products;
+ghost use Rattle.fort_tables.specs.Agreement.{AgreeAtBoth, OperandAgreement};
 ghost use Rattle.fort_theory.specs.Logic.{Connected};
-ghost use Rattle.fort_operations.specs.OperationTruth.{TestsRelation, said_by};
-ghost use Rattle.fort_operations.proofs.OperandFacts.{AreOperands-prop};
+ghost use Rattle.fort_tables.specs.OperationTruth.{TestsRelation, said_by};
+ghost use Rattle.fort_tables.proofs.OperandFacts.{AreOperands-prop};
 ghost use Rattle.fort_connectives.specs.ConnectiveView.{connective_of};
 ghost use Rattle.fort_products.specs.Operands.{operand_of};
 ghost use Rattle.fort_target_lists.specs.ListedOperands.{IsListOf, IfListOf-prop};
@@ -20,10 +20,11 @@ use crate::listed::write_both;
 use crate::local::both_accepts;
 use crate::operand::Operand;
 use fort_connectives::Op;
-use fort_explore::{LocalRule, Rows};
-use fort_lockstep::{Row, Table};
+use fort_labels::{LocalRule, Rows};
+use fort_table::Table;
 use fort_target_lists::{FlatTargets, LayRoom, TargetList, Walk, flat_of, has_entries};
 use fort_terms::Signature;
+use fort_tuple_symbols::Row;
 
 /// The labels of a product: of a tuple over its columns, the presence and the states of the two operands on their own columns.
 #[derive(Drop)]
@@ -179,7 +180,7 @@ impl<'a, T: Table> Both<'a, T> {
 
 impl<'a, T: Table> LocalRule for Both<'a, T> {
     ghost use Rattle.std.specs.Prelude.{refl};
-    ghost use Rattle.fort_operations.specs.Products.{product_rule, product_accepts};
+    ghost use Rattle.fort_tables.specs.Products.{product_rule, product_accepts};
     ghost use Rattle.fort_connectives.specs.ConnectiveView.{connective_of};
     ghost use Rattle.fort_products.specs.Operands.{operand_of};
 

@@ -1,15 +1,16 @@
 //! An operand's word in the label of a product.
 ghost use Rattle.std.specs.Prelude.{◌≡◌, ◌<◌, ◌≤◌, ◌^◌, ℕ, [], map, take, length, slice_index_or};
 ghost use Rattle.fort_theory.specs.Signatures as theory;
-ghost use Rattle.fort_operations.specs.Products as products;
+ghost use Rattle.fort_tables.specs.Products as products;
 ghost use Rattle.fort_products.specs.Operands.{operand_of};
 ghost use Rattle.fort_products.specs.OperandRows.{IsOverWords, IsFullWordAt};
 ghost use Rattle.fort_target_lists.specs.LabelLists.{labels_at};
 
 use crate::operand::Operand;
-use fort_explore::Rows;
-use fort_lockstep::{Row, Table};
+use fort_labels::Rows;
+use fort_table::Table;
 use fort_target_lists::{is_present, kid_count, selected};
+use fort_tuple_symbols::Row;
 
 /// An operand's word, which is word `at` in the labels: its state counted from 1, or 0 where none of its columns is present.
 pub(crate) fn operand_word<T: Table>(

@@ -7,9 +7,9 @@ use Rattle.fort_tables.specs.Tuples.{TupleSymbol, IsTupleSymbol, symbol_kids}
 use Rattle.fort_tables.specs.Entries.{Entry, entry}
 use Rattle.fort_tables.specs.Tables.{Table, IsTableEntry, IsTable, IsReached}
 use Rattle.fort_tables.proofs.TableLaws.{IsKidState, IsTableEntry-kid_states, table_state}
-use Rattle.fort_operations.specs.Projections.{some_below, some_choice, absent_state, has_state, is_pure}
-use Rattle.fort_operations.proofs.SearchLaws.{same_truth, found_choice, choice_found, options_from_zero, options_at_zero}
-use Rattle.fort_operations.proofs.ProjectLabels.{may_in_set, may_past, may_absent}
+use Rattle.fort_tables.specs.Projections.{some_below, some_choice, absent_state, has_state, is_pure}
+use Rattle.fort_tables.proofs.SearchLaws.{same_truth, found_choice, choice_found, options_from_zero, options_at_zero}
+use Rattle.fort_tables.proofs.ProjectLabels.{may_in_set, may_past, may_absent}
 use Rattle.fort_target_lists.specs.LabelLists.{labels_at}
 use Rattle.fort_projections.specs.Choices.{IsNext, IsNextChoice, AreNoChoices, AreChoices, may_choose, is_reachable}
 use Rattle.fort_projections.proofs.ProjectEntries.{label_at, length-labels_at, choice_state}

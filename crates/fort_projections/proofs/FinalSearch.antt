@@ -4,7 +4,7 @@ use Rattle.std.proofs.lemmas.Bool.{cases_lt}
 use Rattle.std.proofs.lemmas.List.{take_all, get_or-take}
 use Rattle.std.specs.Int.{bit_at}
 use Rattle.fort_tables.specs.BitRows.{words_for}
-use Rattle.fort_operations.specs.Projections.{some_below, has_state}
+use Rattle.fort_tables.specs.Projections.{some_below, has_state}
 
 -- as many words as the states need have the bits of the whole row
 pub front_state : (w : List ℕ) (m n q : ℕ) → m ≡ min (length w) (words_for n + 2) → q < n → has_state (take m w) q ≡ has_state w q

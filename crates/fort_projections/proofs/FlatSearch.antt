@@ -12,7 +12,7 @@ use Rattle.fort_tables.specs.Entries.{Entry, entry}
 use Rattle.fort_tables.specs.Tables.{Table, IsTableEntry, IsTable, IsReached}
 use Rattle.fort_tables.specs.BitRows.{has_bit}
 use Rattle.fort_tables.proofs.TableLaws.{IsKidState, IsTableEntry-kid_states}
-use Rattle.fort_operations.specs.Projections.{some_below, some_choice, has_state}
+use Rattle.fort_tables.specs.Projections.{some_below, some_choice, has_state}
 use Rattle.fort_projections.specs.Choices.{IsNext, AreChoices, may_choose, is_reachable}
 use Rattle.fort_target_lists.specs.Places.{number_of, place_from, AreStatesIn}
 use Rattle.fort_projections.specs.declared.marks.Stride.{Stride}

@@ -9,7 +9,7 @@ use Rattle.fort_tables.specs.Tuples.{TupleSymbol, arity}
 use Rattle.fort_tables.specs.Entries.{entry}
 use Rattle.fort_tables.specs.Tables.{Table}
 use Rattle.fort_tables.proofs.BitRowLaws.{has_bit-past}
-use Rattle.fort_operations.specs.Projections.{some_below, some_choice, has_state, absent_state, is_pure, may_stand}
+use Rattle.fort_tables.specs.Projections.{some_below, some_choice, has_state, absent_state, is_pure, may_stand}
 use Rattle.fort_projections.specs.Scopes.{takes, may_in, some_gives}
 use Rattle.fort_projections.specs.ImageFacts.{with_state, IsImage, IsKeyOf}
 use Rattle.fort_projections.specs.declared.images.Images.{Images}

@@ -12,7 +12,7 @@ use Rattle.fort_tables.specs.Tables.{Table, IsTable, IsReached}
 use Rattle.fort_tables.specs.BitRows.{AreWords, has_bit, bit_row, words_for}
 use Rattle.fort_tables.proofs.TupleLaws.{arity_from_get}
 use Rattle.fort_tables.proofs.BitRowLaws.{has_bit-drop, bit_row_is}
-use Rattle.fort_operations.specs.Projections.{absent_state, has_state, may_stand, some_choice, ArePure}
+use Rattle.fort_tables.specs.Projections.{absent_state, has_state, may_stand, some_choice, ArePure}
 use Rattle.fort_target_lists.specs.LabelLists.{labels_at}
 use Rattle.fort_projections.specs.Choices.{IsSearched, AreChoices, may_choose, is_reachable}
 use Rattle.fort_projections.specs.Scopes.{takes, may_in, gives_in}

@@ -14,10 +14,10 @@ use Rattle.fort_tables.proofs.TupleLaws.{fits_presence}
 use Rattle.fort_tables.proofs.InsertLaws.{length-all_absent, AreGroundColumns-all_absent}
 use Rattle.fort_tables.proofs.InsertSymbolLaws.{symbol_kids-insert_some, symbol_kids-insert_none, IsTupleSymbol-insert_some, IsTupleSymbol-insert_none, FitsKid-insert_some, FitsKid-insert_none, FitsKid-all_absent}
 use Rattle.fort_tables.proofs.TableLaws.{IsKidState, IsTableEntry-kid_states}
-use Rattle.fort_operations.specs.Projections.{absent_state, has_state, is_pure, IsProjected}
-use Rattle.fort_operations.proofs.CompletedTuples.{IsTuple-completed, IsTuple-absent}
-use Rattle.fort_operations.proofs.PureLaws.{gives_pure}
-use Rattle.fort_operations.proofs.ProjectLabels.{label_exact, may_in_set, may_past, may_absent}
+use Rattle.fort_tables.specs.Projections.{absent_state, has_state, is_pure, IsProjected}
+use Rattle.fort_tables.proofs.CompletedTuples.{IsTuple-completed, IsTuple-absent}
+use Rattle.fort_tables.proofs.PureLaws.{gives_pure}
+use Rattle.fort_tables.proofs.ProjectLabels.{label_exact, may_in_set, may_past, may_absent}
 use Rattle.fort_target_lists.specs.LabelLists.{labels_at}
 use Rattle.fort_projections.specs.Choices.{IsSearched, AreChoices, may_choose}
 

@@ -10,7 +10,7 @@ use Rattle.std.specs.List.Sorted.{IsBinarySearchResult}
 use Rattle.std.specs.Slice.Scan.{HoldsNowhere}
 use Rattle.fort_tables.specs.Tables.{Table}
 use Rattle.fort_tables.proofs.EqualTests.{test_from_apart}
-use Rattle.fort_operations.specs.Projections.{ArePureBelow, ArePure, is_pure}
+use Rattle.fort_tables.specs.Projections.{ArePureBelow, ArePure, is_pure}
 use Rattle.fort_projections.specs.Choices.{IsNext}
 
 by_truth : (b : Bool) (A : Type 0) → (b ≡ true → A) → (b ≡ false → A) → A

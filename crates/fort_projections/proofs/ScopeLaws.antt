@@ -7,10 +7,10 @@ use Rattle.fort_tables.specs.Tuples.{TupleSymbol, arity}
 use Rattle.fort_tables.specs.Entries.{Entry, entry}
 use Rattle.fort_tables.specs.Tables.{Table, IsTable, IsReached}
 use Rattle.fort_tables.proofs.TableLaws.{table_state}
-use Rattle.fort_operations.specs.Projections.{some_below, some_choice, absent_state, has_state, may_stand, gives_under, gives}
-use Rattle.fort_operations.proofs.SearchLaws.{both, left, right, either_left, either_right, same_truth, found_below, below_found, found_choice, choice_found, options_from_zero, options_at_zero}
-use Rattle.fort_operations.proofs.ProjectLabels.{may_in_set, may_absent}
-use Rattle.fort_operations.proofs.CompletedTuples.{IsTuple-completed}
+use Rattle.fort_tables.specs.Projections.{some_below, some_choice, absent_state, has_state, may_stand, gives_under, gives}
+use Rattle.fort_tables.proofs.SearchLaws.{both, left, right, either_left, either_right, same_truth, found_below, below_found, found_choice, choice_found, options_from_zero, options_at_zero}
+use Rattle.fort_tables.proofs.ProjectLabels.{may_in_set, may_absent}
+use Rattle.fort_tables.proofs.CompletedTuples.{IsTuple-completed}
 use Rattle.fort_target_lists.specs.LabelLists.{labels_at}
 use Rattle.fort_projections.specs.Choices.{IsNextChoice, AreNoChoices, IsSearched}
 use Rattle.fort_projections.proofs.ProjectEntries.{label_at, kid_label}

@@ -7,7 +7,7 @@ use Rattle.fort_tables.specs.Entries.{Entry, entry}
 use Rattle.fort_tables.specs.Tables.{Table}
 use Rattle.fort_tables.specs.Labels.{IsOverLabels}
 use Rattle.fort_tables.specs.LabelRules.{label_of}
-use Rattle.fort_operations.specs.Projections.{some_choice, may_stand, project_rule, ArePure}
+use Rattle.fort_tables.specs.Projections.{some_choice, may_stand, project_rule, ArePure}
 use Rattle.fort_target_lists.specs.LabelLists.{labels_at}
 
 -- the first place from `from` on where p holds

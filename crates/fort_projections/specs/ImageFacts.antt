@@ -3,7 +3,7 @@ use Rattle.std.specs.Prelude.{◌≡◌, ◌≢◌, ℕ, ◌+◌, ◌-◌, ◌<�
 use Rattle.fort_tables.specs.Tuples.{TupleSymbol}
 use Rattle.fort_tables.specs.Tables.{Table}
 use Rattle.fort_tables.specs.BitRows.{words_for}
-use Rattle.fort_operations.specs.Projections.{has_state}
+use Rattle.fort_tables.specs.Projections.{has_state}
 use Rattle.fort_projections.specs.Scopes.{some_gives}
 use Rattle.fort_projections.specs.declared.scope.Scope.{Scope}
 use Rattle.fort_projections.specs.declared.scope.Scope.TheVariants.{With}

@@ -4,7 +4,7 @@ use Rattle.std.specs.List.{insert}
 use Rattle.fort_tables.specs.Tuples.{TupleSymbol, arity}
 use Rattle.fort_tables.specs.Entries.{entry}
 use Rattle.fort_tables.specs.Tables.{Table}
-use Rattle.fort_operations.specs.Projections.{some_below, some_choice, may_stand, has_state}
+use Rattle.fort_tables.specs.Projections.{some_below, some_choice, may_stand, has_state}
 use Rattle.fort_projections.specs.declared.scope.Scope.{Scope}
 use Rattle.fort_projections.specs.declared.scope.Scope.TheVariants.{All, Without, With}
 

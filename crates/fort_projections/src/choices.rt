@@ -4,7 +4,7 @@ ghost use Rattle.fort_tables.specs.Tuples.{symbol_kids};
 ghost use Rattle.fort_tables.specs.Entries.{entry};
 ghost use Rattle.fort_tables.specs.BitRows.{words_for};
 ghost use Rattle.fort_tables.proofs.TableLaws.{IsKidState};
-ghost use Rattle.fort_operations.specs.Projections.{absent_state, has_state, some_below};
+ghost use Rattle.fort_tables.specs.Projections.{absent_state, has_state, some_below};
 ghost use Rattle.fort_projections.specs.Choices.{IsNext, IsNextChoice, AreNoChoices, AreChoices, may_choose, is_reachable, symbol_under};
 ghost use Rattle.fort_projections.specs.Strides.{IsReadable, read_at};
 ghost use Rattle.fort_target_lists.specs.LookUps.{FindsUnder};
@@ -15,10 +15,11 @@ use crate::bits::next_bit;
 use crate::marks::{Stride, mark_set};
 use crate::pure::next_pure;
 use crate::scope::Scope;
-use fort_explore::{Rows, set_bit};
-use fort_lockstep::{Row, Table};
+use fort_labels::{Rows, set_bit};
+use fort_table::Table;
 use fort_target_lists::{FlatTargets, LookUp};
 use fort_terms::Sym;
+use fort_tuple_symbols::Row;
 
 /// The state with the column absent, where it is `from` or a later one.
 pub fn next_absent(label: &[u64], from: u32) -> Option<usize>

@@ -3,7 +3,7 @@ ghost use Rattle.std.specs.Prelude.{◌≡◌, ◌<◌, ◌+◌, ◌-◌, ◌||�
 ghost use Rattle.fort_tables.specs.BitRows.{words_for};
 ghost use Rattle.fort_tables.specs.Labels.{IsOverLabels};
 ghost use Rattle.fort_tables.specs.LabelRules.{label_of, entry_label};
-ghost use Rattle.fort_operations.specs.Projections.{ArePure, has_state, project_rule, some_below};
+ghost use Rattle.fort_tables.specs.Projections.{ArePure, has_state, project_rule, some_below};
 ghost use Rattle.fort_target_lists.specs.LabelLists.{labels_at};
 ghost use Rattle.fort_projections.specs.Choices.{IsSearched};
 ghost use Rattle.fort_target_lists.specs.LookUps.{FindsAbove};
@@ -14,9 +14,10 @@ use crate::choices::next_in_set;
 use crate::images::Images;
 use crate::projection::{clear, mark, write_front};
 use crate::scope::{Chosen, Scope};
-use fort_explore::Rows;
-use fort_lockstep::{Row, Table};
+use fort_labels::Rows;
+use fort_table::Table;
 use fort_target_lists::Finder;
+use fort_tuple_symbols::Row;
 
 /// Writes the label of an entry of the projection, by the images that are kept or as `write_label` does.
 pub(crate) fn write_kept<T: Table>(

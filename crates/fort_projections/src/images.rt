@@ -5,9 +5,9 @@ ghost use Rattle.fort_tables.specs.Tables as tables;
 ghost use Rattle.fort_tables.specs.BitRows.{words_for};
 ghost use Rattle.fort_projections.specs.ImageFacts.{AreImages, IsImage, IsKeyOf};
 
-use fort_explore::Rows;
-use fort_lockstep::{Row, TupleSym};
+use fort_labels::Rows;
 use fort_terms::{Memory, Signature, Sym};
+use fort_tuple_symbols::{Row, TupleSym};
 use std::alloc::Global;
 
 /// So many words of images are kept at most, 8 MiB.

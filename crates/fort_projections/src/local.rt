@@ -2,15 +2,16 @@
 ghost use Rattle.std.specs.Prelude.{◌≡◌, ◌<◌, ◌+◌, ◌-◌, ◌^◌, length, IfSome};
 ghost use Rattle.fort_tables.specs.Labels.{IsOverLabels};
 ghost use Rattle.fort_tables.specs.LabelRules.{label_of, entry_label};
-ghost use Rattle.fort_operations.specs.Projections.{ArePure, project_rule, project_accepts as project_accepts_lem};
+ghost use Rattle.fort_tables.specs.Projections.{ArePure, project_rule, project_accepts as project_accepts_lem};
 ghost use Rattle.fort_tables.specs.BitRows.{words_for};
 ghost use Rattle.fort_target_lists.specs.TargetLists.{IsTargetListOf};
 
 use crate::choices::next_in_set;
 use crate::projection::write_label;
-use fort_explore::Rows;
-use fort_lockstep::{Row, Table};
+use fort_labels::Rows;
+use fort_table::Table;
 use fort_target_lists::{Finder, TargetList, flat_of};
+use fort_tuple_symbols::Row;
 
 /// How many words the label of a projection of a table of this many states has.
 pub fn project_width(states: usize) -> usize

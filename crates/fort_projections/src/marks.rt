@@ -1,9 +1,9 @@
 //! The states that one child's states give where each other child is in one state, by a list of the targets.
 ghost use Rattle.std.specs.Prelude.{◌≡◌, ℕ, ◌+◌, ◌-◌, ◌*◌, ◌<◌, ◌≤◌, ◌^◌, ◌&&◌, ◌||◌, ◌==◌, Bool, true, length, slice_index};
-ghost use Rattle.fort_operations.specs.Projections.{has_state, some_below};
+ghost use Rattle.fort_tables.specs.Projections.{has_state, some_below};
 ghost use Rattle.fort_projections.specs.Strides.{IsReadable, read_at};
 
-use fort_explore::set_bit;
+use fort_labels::set_bit;
 use fort_target_lists::FlatTargets;
 
 /// Where the targets stand that one child's states give, each other child being in one state.

@@ -2,20 +2,21 @@
 ghost use Rattle.std.specs.Prelude.{◌≡◌, ◌<◌, ◌-◌, ◌↔◌, IfOk, IfSome, IsTrue};
 ghost use Rattle.fort_tables.specs.Tuples.{Tuple, IsTuple};
 ghost use Rattle.fort_tables.specs.LabelRules.{label_of};
-ghost use Rattle.fort_operations.specs.Projections as projections;
-ghost use Rattle.fort_operations.proofs.OperandFacts.{ArePure-prop};
+ghost use Rattle.fort_tables.specs.Projections as projections;
+ghost use Rattle.fort_tables.proofs.OperandFacts.{ArePure-prop};
 ghost use Rattle.fort_target_lists.specs.Flats.{IsFlatOf};
 ghost use Rattle.fort_projections.specs.FlatFacts.{IfFlat-prop};
-ghost use Rattle.fort_operations.specs.Agreement.{AgreeAtSome, HaveOneState};
-ghost use Rattle.fort_operations.specs.OperationTruth.{TestsRelation, SomeCompletes, accepts as accepts_lem};
+ghost use Rattle.fort_tables.specs.Agreement.{AgreeAtSome, HaveOneState};
+ghost use Rattle.fort_tables.specs.OperationTruth.{TestsRelation, SomeCompletes, accepts as accepts_lem};
 
 use crate::local::{project_accepts, project_width};
 use crate::projection::write_label;
 use crate::pure::pure_states;
-use fort_explore::{LocalRule, Rows};
-use fort_lockstep::{Row, Table};
+use fort_labels::{LocalRule, Rows};
+use fort_table::Table;
 use fort_target_lists::{Finder, FlatTargets};
 use fort_terms::Memory;
+use fort_tuple_symbols::Row;
 use std::alloc::Global;
 
 /// The labels of a projection: of a tuple of the other columns, the presence, the body's state with the column absent, and the set of
@@ -71,8 +72,8 @@ impl<'a, T: Table> Project<'a, T> {
 impl<'a, T: Table> LocalRule for Project<'a, T> {
     ghost use Rattle.std.specs.Prelude.{◌+◌, length, refl};
     ghost use Rattle.fort_tables.specs.BitRows.{words_for};
-    ghost use Rattle.fort_operations.specs.Projections as projections;
-    ghost use Rattle.fort_operations.proofs.ProjectLabels.{length-project_rule};
+    ghost use Rattle.fort_tables.specs.Projections as projections;
+    ghost use Rattle.fort_tables.proofs.ProjectLabels.{length-project_rule};
 
     ghost rule = { λ p. projections.project_rule (T.table p.body.now) p.column };
 

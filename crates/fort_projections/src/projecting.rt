@@ -3,10 +3,11 @@ use crate::imaged::write_kept;
 use crate::images::Images;
 use crate::local::{project_accepts, project_width};
 use crate::project::Project;
-use fort_explore::{Labeller, Rows};
-use fort_lockstep::{Row, Table};
+use fort_labels::{Labeller, Rows};
+use fort_table::Table;
 use fort_target_lists::Finder;
 use fort_terms::Memory;
+use fort_tuple_symbols::Row;
 use std::alloc::Global;
 
 /// The labeller of a projection: it gives a tuple the label of the projection's rule. It keeps what entries give that differ in one
@@ -21,8 +22,8 @@ impl<'a, T: Table> Labeller for Projecting<'a, T> {
     ghost use Rattle.fort_tables.specs.BitRows.{words_for};
     ghost use Rattle.fort_tables.specs.LabelRules.{label_of};
     ghost use Rattle.fort_tables.proofs.LabelRuleLaws.{TellsPresence-rule, HasWidth-rule};
-    ghost use Rattle.fort_operations.specs.Projections.{project_rule, project_accepts as project_accepts_lem};
-    ghost use Rattle.fort_operations.proofs.ProjectLabels.{length-project_rule};
+    ghost use Rattle.fort_tables.specs.Projections.{project_rule, project_accepts as project_accepts_lem};
+    ghost use Rattle.fort_tables.proofs.ProjectLabels.{length-project_rule};
     ghost use Rattle.fort_projections.specs.ImageFacts.{AreImages};
 
     ghost serves = { λ p sig. sig ≡ (T.table p.0.now.body.now).signature };

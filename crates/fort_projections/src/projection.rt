@@ -7,7 +7,7 @@ ghost use Rattle.fort_tables.specs.Tables.{IsTableEntry};
 ghost use Rattle.fort_tables.specs.BitRows.{words_for};
 ghost use Rattle.fort_tables.specs.Labels.{IsOverLabels};
 ghost use Rattle.fort_tables.specs.LabelRules.{label_of, entry_label};
-ghost use Rattle.fort_operations.specs.Projections.{ArePure, absent_state, has_state, project_rule};
+ghost use Rattle.fort_tables.specs.Projections.{ArePure, absent_state, has_state, project_rule};
 ghost use Rattle.fort_target_lists.specs.LabelLists.{labels_at};
 ghost use Rattle.fort_projections.specs.Choices.{IsSearched};
 ghost use Rattle.fort_target_lists.specs.LookUps.{FindsUnder, FindsAbove};
@@ -15,10 +15,11 @@ ghost use Rattle.fort_projections.specs.Scopes.{FitsScope, gives_in, some_gives}
 
 use crate::choices::Choices;
 use crate::scope::Scope;
-use fort_explore::{Rows, set_bit};
-use fort_lockstep::{Row, Table};
+use fort_labels::{Rows, set_bit};
+use fort_table::Table;
 use fort_target_lists::{Finder, LookUp};
 use fort_terms::Sym;
+use fort_tuple_symbols::Row;
 
 /// Writes the label of an entry of the projection, whose targets are found so. `alone` are the body's pure states in the column.
 pub(crate) fn write_label<T: Table>(

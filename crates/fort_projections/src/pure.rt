@@ -2,10 +2,10 @@
 ghost use Rattle.std.specs.Prelude.{ℕ, ◌<◌, ◌≤◌, length, slice_index_or, IfOk, IfSome, IfNone};
 ghost use Rattle.std.specs.Slice.Scan.{HoldsNowhere};
 ghost use Rattle.fort_tables.specs.Tables as tables;
-ghost use Rattle.fort_operations.specs.Projections.{ArePure, is_pure as is_pure_lem};
+ghost use Rattle.fort_tables.specs.Projections.{ArePure, is_pure as is_pure_lem};
 ghost use Rattle.fort_projections.specs.Choices.{IsNext};
 
-use fort_lockstep::Table;
+use fort_table::Table;
 use fort_terms::Memory;
 use std::alloc::Global;
 

@@ -11,3 +11,8 @@ pub mod PatternTransducers
 pub mod PatternInstances
 pub mod PatternClosureExact
 pub mod Conversions
+pub mod ParallelSteps
+pub mod JoinedAutomata
+pub mod ComposedTransducers
+pub mod SidePatterns
+pub mod CompiledNumbersLaws

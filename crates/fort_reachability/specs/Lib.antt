@@ -5,3 +5,6 @@ pub mod ClosedTransducers
 pub mod Reachability
 pub mod PatternReachability
 pub mod PatternClosures
+pub mod TransducerParts
+pub mod Compositions
+pub mod CompiledNumbers

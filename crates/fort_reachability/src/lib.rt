@@ -1,2 +1,3 @@
-//! Definitions of tree automata, anchored ground tree transducers and their closure, with the theorem that the closure is reachability. It has no code.
+//! Definitions of tree automata and of anchored ground tree transducers: their closure, which is reachability, their compositions, and
+//! the transducer of an expression. It has no code.
 #![tactic(auto)]

@@ -11,7 +11,7 @@ use Rattle.fort_target_lists.specs.Places.{number_of, place_from, IsReadable, re
 use Rattle.fort_target_lists.specs.Flats.{IsFlatOf}
 use Rattle.fort_target_lists.specs.declared.flat.FlatTargets.{FlatTargets}
 use Rattle.fort_target_lists.proofs.PlaceLaws.{place_from-more, rank_below}
-use Rattle.fort_interchange.specs.Refinement.{leader_in}
+use Rattle.fort_tables.specs.Refinement.{leader_in}
 use Rattle.fort_reduce.specs.Finding.{IsStartIn}
 use Rattle.fort_reduce.specs.Walks.{IsWalked, AreWholeUnder}
 use Rattle.fort_reduce.proofs.WholeLaws.{taken_more}

@@ -12,11 +12,11 @@ use Rattle.fort_tables.proofs.OrderLaws.{before_irrefl, before_trans, stage_with
 use Rattle.fort_tables.proofs.NumberLaws.{listed_target}
 use Rattle.fort_tables.proofs.TupleLaws.{tuple_induction, fold_tuple-step, IsTuple-kid, length-tabulate, get_or-tabulate}
 use Rattle.fort_tables.proofs.TableLaws.{entry_of}
-use Rattle.fort_interchange.specs.Merges.{first_of, count_of, IsMerge, merged}
-use Rattle.fort_interchange.proofs.SeparationLaws.{IsTableEntry-states}
-use Rattle.fort_interchange.proofs.NumberedClasses.{first_within}
-use Rattle.fort_interchange.proofs.MergeLaws.{presence-class, class_count, IsTable-merged, IsReached-merged}
-use Rattle.fort_interchange.proofs.ClassOrderLaws.{class_given_before, IsGivenBefore}
+use Rattle.fort_tables.specs.Merges.{first_of, count_of, IsMerge, merged}
+use Rattle.fort_tables.proofs.SeparationLaws.{IsTableEntry-states}
+use Rattle.fort_tables.proofs.NumberedClasses.{first_within}
+use Rattle.fort_tables.proofs.MergeLaws.{presence-class, class_count, IsTable-merged, IsReached-merged}
+use Rattle.fort_tables.proofs.ClassOrderLaws.{class_given_before, IsGivenBefore}
 use Rattle.fort_reduce.specs.MergedTables.{IsMergedTable}
 use Rattle.fort_reduce.specs.Merging.{IsMerging}
 

@@ -4,9 +4,9 @@ use Rattle.std.proofs.lemmas.List.{length-map, get_or-map, ext_get_or}
 use Rattle.fort_tables.specs.Entries.{Entry, entry}
 use Rattle.fort_tables.specs.Tables.{Listed, listed_table, IsListed, IsTableEntry, full_presence}
 use Rattle.fort_lockstep.specs.OtherFinals.{with_finals}
-use Rattle.fort_interchange.specs.Merges.{class_of, first_of, count_of, lifted, AreNumbered, IsMerge, merged}
-use Rattle.fort_interchange.proofs.NumberedClasses.{stage-push, first_within, first_class}
-use Rattle.fort_interchange.proofs.MergeLaws.{presence-class, class_count}
+use Rattle.fort_tables.specs.Merges.{class_of, first_of, count_of, lifted, AreNumbered, IsMerge, merged}
+use Rattle.fort_tables.proofs.NumberedClasses.{stage-push, first_within, first_class}
+use Rattle.fort_tables.proofs.MergeLaws.{presence-class, class_count}
 use Rattle.fort_reduce.specs.MergedTables.{IsMergedTable}
 use Rattle.fort_reduce.proofs.FirstLists.{count_to}
 

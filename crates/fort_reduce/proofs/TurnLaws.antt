@@ -5,8 +5,8 @@ use Rattle.std.proofs.lemmas.Bool.{cases_lt}
 use Rattle.std.proofs.lemmas.Nat.{mod-mul-add, div-add-mod'}
 use Rattle.fort_tables.specs.Tuples.{TupleSymbol, IsTupleSymbol, AreSymbols}
 use Rattle.fort_tables.specs.Tables.{Table}
-use Rattle.fort_operations.specs.Selections.{is_present}
-use Rattle.fort_operations.proofs.SelectionLaws.{present_from_test}
+use Rattle.fort_tables.specs.Selections.{is_present}
+use Rattle.fort_tables.proofs.SelectionLaws.{present_from_test}
 use Rattle.fort_tuple_symbols.specs.SymbolNumbers.{columns_at}
 use Rattle.fort_tuple_symbols.proofs.DigitNumberLaws.{pow_some}
 use Rattle.fort_tuple_symbols.proofs.SymbolNumberLaws.{digit_again, length-columns_at, columns_next}

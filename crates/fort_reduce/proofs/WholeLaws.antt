@@ -5,16 +5,16 @@ use Rattle.std.proofs.lemmas.List.{append-nil, append_assoc, length-take, length
 use Rattle.fort_tables.specs.Tuples.{TupleSymbol, IsTupleSymbol, symbol_kids, kid_presence}
 use Rattle.fort_tables.specs.Entries.{Entry, entry}
 use Rattle.fort_tables.specs.Tables.{Table, Listed, listed_table, IsListed, IsTable, IsTableEntry, IsFirstWith}
-use Rattle.fort_operations.specs.Selections.{is_present}
-use Rattle.fort_operations.proofs.SelectionLaws.{test_from_present}
+use Rattle.fort_tables.specs.Selections.{is_present}
+use Rattle.fort_tables.proofs.SelectionLaws.{test_from_present}
 use Rattle.fort_tuple_symbols.specs.SymbolNumbers.{columns_at}
 use Rattle.fort_target_lists.specs.Places.{number_of}
 use Rattle.fort_target_lists.proofs.SymbolNumbers.{columns_again, number_below}
-use Rattle.fort_interchange.specs.Separation.{entry_with}
-use Rattle.fort_interchange.specs.Merges.{class_of, leader, led, IsCoarsest}
-use Rattle.fort_interchange.specs.Refinement.{leader_in, IsRefined, PassesAt, IsRenumbered}
-use Rattle.fort_interchange.proofs.NumberedClasses.{leader_within, class_of-leader}
-use Rattle.fort_interchange.proofs.RefinementLaws.{leader_stands, entry_own}
+use Rattle.fort_tables.specs.Separation.{entry_with}
+use Rattle.fort_tables.specs.Merges.{class_of, leader, led, IsCoarsest}
+use Rattle.fort_tables.specs.Refinement.{leader_in, IsRefined, PassesAt, IsRenumbered}
+use Rattle.fort_tables.proofs.NumberedClasses.{leader_within, class_of-leader}
+use Rattle.fort_tables.proofs.RefinementLaws.{leader_stands, entry_own}
 use Rattle.fort_reduce.specs.Walks.{IsWalked, led_in, IsWholeIn, AreWholeUnder, AreWholeBelow, MayBegin}
 use Rattle.fort_reduce.proofs.FirstLists.{taken_front}
 use Rattle.fort_reduce.proofs.PassLaws.{walk_on, walk_weaker, walk_kept}

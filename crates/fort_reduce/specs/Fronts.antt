@@ -1,6 +1,6 @@
 -- Inside: what is known of first children.
 use Rattle.std.specs.Prelude.{◌≡◌, ℕ, ◌<◌, List, take, length, get_or, true}
-use Rattle.fort_interchange.specs.Refinement.{leader_in}
+use Rattle.fort_tables.specs.Refinement.{leader_in}
 use Rattle.fort_reduce.specs.Finding.{place_in}
 use Rattle.fort_reduce.specs.declared.targets.Targets.{Targets}
 use Rattle.fort_reduce.specs.declared.front.Front.{Front}

@@ -2,7 +2,7 @@
 use Rattle.std.specs.Prelude.{◌≡◌, ℕ, ◌<◌, List}
 use Rattle.fort_tables.specs.Entries.{Entry}
 use Rattle.fort_tables.specs.Tables.{Table, IsTableEntry}
-use Rattle.fort_interchange.specs.Merges.{count_of, merged}
+use Rattle.fort_tables.specs.Merges.{count_of, merged}
 
 -- the signature, the columns, the states' presences, the targets of all entries and the accepting states are those of the table of the classes
 pub record IsMergedTable (old : Table) (classes : List ℕ) (new : Table) : Type 0 where

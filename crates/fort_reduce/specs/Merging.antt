@@ -2,7 +2,7 @@
 use Rattle.std.specs.Prelude.{◌≡◌, ℕ, ◌<◌, ◌≤◌, List, length, get_or}
 use Rattle.fort_tables.specs.Entries.{Entry}
 use Rattle.fort_tables.specs.Tables.{Table, Made}
-use Rattle.fort_interchange.specs.Merges.{first_of, count_of, merged}
+use Rattle.fort_tables.specs.Merges.{first_of, count_of, merged}
 
 -- the first state of each class
 pub record AreFirsts (classes leaders : List ℕ) : Type 0 where

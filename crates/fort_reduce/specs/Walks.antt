@@ -4,8 +4,8 @@ use Rattle.fort_tables.specs.Tuples.{TupleSymbol, kid_presence}
 use Rattle.fort_tables.specs.Entries.{Entry, entry}
 use Rattle.fort_tables.specs.Tables.{Table, IsTableEntry}
 use Rattle.fort_target_lists.specs.Places.{number_of}
-use Rattle.fort_interchange.specs.Merges.{class_of, count_of, AreNumbered}
-use Rattle.fort_interchange.specs.Refinement.{leader_in}
+use Rattle.fort_tables.specs.Merges.{class_of, count_of, AreNumbered}
+use Rattle.fort_tables.specs.Refinement.{leader_in}
 
 pub data IsWalked (P : Type 0) (old_of old_leaders new_of new_leaders : List ℕ) : Type 0 where
   Kept : new_of ≡ old_of → new_leaders ≡ old_leaders → P → IsWalked P old_of old_leaders new_of new_leaders

@@ -2,14 +2,14 @@
 ghost use Rattle.std.specs.Prelude.{◌≡◌, ℕ, ◌-◌, ◌<◌, ◌≤◌, take, length, slice_index_or, true};
 ghost use Rattle.fort_tables.specs.Entries.{entry};
 ghost use Rattle.fort_tables.specs.Tables.{listed_table, IsTableEntry};
-ghost use Rattle.fort_interchange.specs.Refinement.{IsRefined};
+ghost use Rattle.fort_tables.specs.Refinement.{IsRefined};
 ghost use Rattle.fort_reduce.specs.Walks.{IsWholeIn};
 ghost use Rattle.fort_reduce.specs.Fronts.{IsFront};
 
 use crate::classes::Classes;
 use crate::led::{is_led, leader_of, put_leaders};
 use crate::targets::Targets;
-use fort_lockstep::Table;
+use fort_table::Table;
 
 /// The first children of entries that differ in their last child alone: what these entries' targets are found by.
 #[derive(Drop)]

@@ -1,10 +1,10 @@
 //! Entries over the leaders of their children's classes.
 ghost use Rattle.std.specs.Prelude.{◌≡◌, ℕ, ◌<◌, ◌≤◌, set, length, slice_index_or, true, false};
 ghost use Rattle.fort_tables.specs.Entries.{entry};
-ghost use Rattle.fort_interchange.specs.Refinement.{leader_in};
+ghost use Rattle.fort_tables.specs.Refinement.{leader_in};
 
 use crate::classes::Classes;
-use fort_lockstep::Row;
+use fort_tuple_symbols::Row;
 
 /// The leader of a state's class.
 pub fn leader_of(classes: &Classes, q: u32) -> u32

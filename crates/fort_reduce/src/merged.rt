@@ -1,13 +1,15 @@
 //! The table of the classes.
 ghost use Rattle.std.specs.Prelude.{◌≡◌, ℕ, ◌<◌, ◌≤◌, ◌^◌, length, slice_index_or, IfOk, OnOk, false};
 ghost use Rattle.fort_tables.specs.Tables.{listed_table, IsComplete, IsListed, IsTableEntry};
-ghost use Rattle.fort_interchange.specs.Merges.{AreNumbered, IsMerge, IsCoarsest, merged};
+ghost use Rattle.fort_tables.specs.Merges.{AreNumbered, IsMerge, IsCoarsest, merged};
 ghost use Rattle.fort_reduce.specs.MergedTables.{IsMergedTable};
 ghost use Rattle.fort_reduce.specs.Merging.{AreFirsts, IsMerging};
 
 use crate::passes::classes_of;
-use fort_lockstep::{Dta, Maker, Row, Table};
+use fort_lockstep::{Dta, Maker};
+use fort_table::Table;
 use fort_terms::Memory;
+use fort_tuple_symbols::Row;
 use std::alloc::Global;
 
 /// The first state of each class.

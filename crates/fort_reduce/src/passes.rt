@@ -3,8 +3,8 @@ ghost use Rattle.std.specs.Prelude.{◌≡◌, ℕ, ◌+◌, ◌<◌, ◌≤◌,
 ghost use Rattle.fort_tables.specs.Tuples.{IsTupleSymbol, symbol_kids};
 ghost use Rattle.fort_tables.specs.Entries.{Entry, entry};
 ghost use Rattle.fort_tables.specs.Tables.{listed_table, IsTableEntry};
-ghost use Rattle.fort_interchange.specs.Refinement.{IsRefined, PassesAt};
-ghost use Rattle.fort_interchange.specs.Merges.{IsCoarsest};
+ghost use Rattle.fort_tables.specs.Refinement.{IsRefined, PassesAt};
+ghost use Rattle.fort_tables.specs.Merges.{IsCoarsest};
 ghost use Rattle.fort_target_lists.specs.Places.{IsNumbered};
 ghost use Rattle.fort_target_lists.specs.Flats.{IsFlatOf};
 ghost use Rattle.fort_reduce.specs.Walks.{IsWalked, IsWholeIn, AreWholeUnder, MayBegin};
@@ -17,9 +17,11 @@ use crate::split::{split, target_with};
 use crate::start::start;
 use crate::targets::Targets;
 use crate::walk::presences;
-use fort_lockstep::{Dta, Row, Table, TupleSym};
+use fort_lockstep::Dta;
+use fort_table::Table;
 use fort_target_lists::{FlatTargets, is_present, kid_count, kid_presence};
 use fort_terms::Memory;
+use fort_tuple_symbols::{Row, TupleSym};
 use std::alloc::Global;
 
 /// Splits the class of child `j`, where the entry leads elsewhere with its leader.

@@ -1,6 +1,6 @@
 //! Classes numbered by first state.
 ghost use Rattle.std.specs.Prelude.{◌≡◌, ℕ, ◌+◌, ◌<◌, ◌^◌, set, length, slice_index_or, IfOk};
-ghost use Rattle.fort_interchange.specs.Refinement.{IsRenumbered};
+ghost use Rattle.fort_tables.specs.Refinement.{IsRenumbered};
 
 use fort_terms::Memory;
 use std::alloc::Global;

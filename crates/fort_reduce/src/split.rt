@@ -2,12 +2,14 @@
 ghost use Rattle.std.specs.Prelude.{◌≡◌, ℕ, ◌<◌, ◌≤◌, length, IfOk};
 ghost use Rattle.fort_tables.specs.Entries.{entry};
 ghost use Rattle.fort_tables.specs.Tables.{listed_table, IsTable, IsTableEntry};
-ghost use Rattle.fort_interchange.specs.Separation.{entry_with};
-ghost use Rattle.fort_interchange.specs.Merges.{class_of};
-ghost use Rattle.fort_interchange.specs.Refinement.{split_one, IsSplitTo};
+ghost use Rattle.fort_tables.specs.Separation.{entry_with};
+ghost use Rattle.fort_tables.specs.Merges.{class_of};
+ghost use Rattle.fort_tables.specs.Refinement.{split_one, IsSplitTo};
 
-use fort_lockstep::{Dta, Table, TupleSym};
+use fort_lockstep::Dta;
+use fort_table::Table;
 use fort_terms::Memory;
+use fort_tuple_symbols::TupleSym;
 use std::alloc::Global;
 
 /// Where an entry leads with this state for child `j`.

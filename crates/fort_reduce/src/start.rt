@@ -1,11 +1,12 @@
 //! Classes by presence and acceptance.
 ghost use Rattle.std.specs.Prelude.{◌≡◌, ℕ, ◌<◌, ◌≤◌, length, slice_index_or, IfOk, true, false};
 ghost use Rattle.fort_tables.specs.Tables.{listed_table};
-ghost use Rattle.fort_interchange.specs.Refinement.{IsRefined};
+ghost use Rattle.fort_tables.specs.Refinement.{IsRefined};
 ghost use Rattle.fort_reduce.specs.Walks.{AreLike};
 
 use crate::classes::Classes;
-use fort_lockstep::{Dta, Table};
+use fort_lockstep::Dta;
+use fort_table::Table;
 use fort_terms::Memory;
 use std::alloc::Global;
 

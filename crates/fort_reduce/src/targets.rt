@@ -6,8 +6,10 @@ ghost use Rattle.fort_target_lists.specs.Places.{IsNumbered, number_of};
 ghost use Rattle.fort_target_lists.specs.Flats.{IsFlatOf};
 ghost use Rattle.fort_reduce.specs.Finding.{IsStartIn, IfStartIn-prop};
 
-use fort_lockstep::{Dta, Table, TupleSym};
+use fort_lockstep::Dta;
+use fort_table::Table;
 use fort_target_lists::FlatTargets;
+use fort_tuple_symbols::TupleSym;
 
 /// The targets of a table under one tuple symbol, found in the table's list where there is one, and else in the table.
 #[derive(Drop)]

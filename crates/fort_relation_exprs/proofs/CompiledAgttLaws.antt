@@ -19,11 +19,11 @@ use Rattle.fort_transducers.specs.RootSteps.{HasRootSteps}
 use Rattle.fort_transducers.specs.UnionStates.{HasBothStates}
 use Rattle.fort_transducers.proofs.RootStepsLaws.{IsPatternTransducer-rules, Transduces-rules}
 use Rattle.fort_gtt_closure.specs.ClosedStates.{HasClosedStates}
-use Rattle.fort_agtt.specs.ComposedNumbers.{IsCompositionOf}
-use Rattle.fort_expressions.specs.Expressions.{Expression, RootSteps, Inverse, Union, Composition, Closure}
-use Rattle.fort_compiled_expressions.specs.CompiledNumbers.{IsCompiledTo}
-use Rattle.fort_compiled_expressions.proofs.SidePatterns.{FitsPattern-left, FitsPattern-right}
-use Rattle.fort_compiled_expressions.proofs.CompiledNumbersLaws.{compiled_to-root, compiled_to-inverse, compiled_to-union, compiled_to-composition, compiled_to-closure}
+use Rattle.fort_composition.specs.ComposedNumbers.{IsCompositionOf}
+use Rattle.fort_theory.specs.Expressions.{Expression, RootSteps, Inverse, Union, Composition, Closure}
+use Rattle.fort_reachability.specs.CompiledNumbers.{IsCompiledTo}
+use Rattle.fort_reachability.proofs.SidePatterns.{FitsPattern-left, FitsPattern-right}
+use Rattle.fort_reachability.proofs.CompiledNumbersLaws.{compiled_to-root, compiled_to-inverse, compiled_to-union, compiled_to-composition, compiled_to-closure}
 use Rattle.fort_relation_exprs.specs.CompiledAgtt.{IsCompiledAgtt}
 
 stands-among : (ps : List Pattern) (q : ℕ) (p : Pattern) → StandsAt ps q p → Contains ps p

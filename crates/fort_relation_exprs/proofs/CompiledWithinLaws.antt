@@ -14,8 +14,8 @@ use Rattle.fort_transducers.specs.RootSteps.{HasRootSteps}
 use Rattle.fort_transducers.specs.Sizes.{SumsSizes, KeepsSizes}
 use Rattle.fort_transducers.specs.UnionStates.{HasBothStates}
 use Rattle.fort_gtt_closure.specs.ClosedStates.{HasClosedStates}
-use Rattle.fort_agtt.specs.ComposedNumbers.{IsCompositionOf}
-use Rattle.fort_expressions.specs.Expressions.{Expression, RootSteps, Inverse, Union, Composition, Closure, root_indices}
+use Rattle.fort_composition.specs.ComposedNumbers.{IsCompositionOf}
+use Rattle.fort_theory.specs.Expressions.{Expression, RootSteps, Inverse, Union, Composition, Closure, root_indices}
 use Rattle.fort_relation_exprs.specs.CompiledWithin.{CanCompile, HasFewStates, IsCompiledWithin}
 use Rattle.fort_relation_exprs.proofs.CompiledAgttLaws.{root-compiled, inverse-compiled, union-compiled, composition-compiled, closure-compiled}
 use Rattle.fort_relation_exprs.proofs.FewStatesLaws.{HasFewStates-root, HasFewStates-inverse, HasFewStates-closure, HasFewStates-both}

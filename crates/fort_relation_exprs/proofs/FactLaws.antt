@@ -2,10 +2,10 @@
 use Rattle.std.specs.Prelude.{◌≡◌, ℕ, ◌+◌, List, [], ◌∷◌, ◌++◌, map, length, Bool, ◌&&◌, refl}
 use Rattle.std.proofs.Common.{ap, ◌∙◌, arith}
 use Rattle.std.proofs.lemmas.List.{append_assoc, length-append, length-map}
-use Rattle.fort_expressions.specs.Contexts.{HoleNumber, OneHole, SomeHoles, AnyHoles, BelowTheRoot}
+use Rattle.fort_theory.specs.Contexts.{HoleNumber, OneHole, SomeHoles, AnyHoles, BelowTheRoot}
 use Rattle.fort_alike.specs.ExpressionAlike.{PairFact, Same, Anywhere, Below, facts_anywhere, facts_for}
-use Rattle.fort_atom_labels.specs.AtomRules.{all_kids, one_kid}
-use Rattle.fort_expression_labels.specs.ExpressionRules.{fact_place, kids_test}
+use Rattle.fort_alike.specs.AtomRules.{all_kids, one_kid}
+use Rattle.fort_alike.specs.ExpressionRules.{fact_place, kids_test}
 use Rattle.fort_label_bits.specs.RowBits.{bit_of}
 use Rattle.fort_relation_exprs.specs.FactRows.{fact_told, fact_test}
 

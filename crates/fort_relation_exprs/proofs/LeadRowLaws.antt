@@ -16,7 +16,7 @@ use Rattle.fort_reachability.specs.TreeAutomata.{Automaton}
 use Rattle.fort_label_bits.specs.RowBits.{bit_of}
 use Rattle.fort_label_bits.specs.BitRowLists.{row_in}
 use Rattle.fort_label_bits.proofs.BitRowListLaws.{bit_of-added}
-use Rattle.fort_expression_labels.specs.AutomatonMoves.{LeadsTo, NoMoves, MoreMoves}
+use Rattle.fort_alike.specs.AutomatonMoves.{LeadsTo, NoMoves, MoreMoves}
 use Rattle.fort_relation_exprs.specs.LeadRows.{off_row, off_rows, NameRows, AreOwn, JoinsRow, HasGathered, AreClosed, HasPassed, AreLeads}
 
 -- tests joined

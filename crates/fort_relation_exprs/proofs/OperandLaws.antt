@@ -5,7 +5,7 @@ use Rattle.std.proofs.lemmas.List.{length-append}
 use Rattle.std.proofs.lemmas.List.Elements.{Contains-append_left, Contains-append_right}
 use Rattle.fort_theory.specs.Sides.{IsIndexOf}
 use Rattle.fort_theory.specs.Patterns.{PatternSystem}
-use Rattle.fort_expressions.specs.Expressions.{Expression, RootSteps, Inverse, Union, Composition, Closure, root_indices}
+use Rattle.fort_theory.specs.Expressions.{Expression, RootSteps, Inverse, Union, Composition, Closure, root_indices}
 use Rattle.fort_relations.specs.RexView.{node_count}
 use Rattle.fort_relation_exprs.specs.CompiledWithin.{CanCompile}
 

@@ -3,21 +3,21 @@ use Rattle.std.specs.Prelude.{◌≡◌, ◌↔◌, ℕ, suc, ◌+◌, ◌<◌, 
 use Rattle.std.specs.List.{position_or_len}
 use Rattle.std.proofs.Common.{sym, ap, subst, ◌∙◌, arith}
 use Rattle.fort_theory.specs.Patterns.{PatternSystem}
-use Rattle.fort_expressions.specs.Expressions.{Expression}
-use Rattle.fort_expressions.specs.Contexts.{HoleNumber, HolePlace}
+use Rattle.fort_theory.specs.Expressions.{Expression}
+use Rattle.fort_theory.specs.Contexts.{HoleNumber, HolePlace}
 use Rattle.fort_theory.proofs.Lists.{Contains-map}
-use Rattle.fort_cores.specs.Cores.{Eq, Leaf, Related, InContext}
-use Rattle.fort_cores.specs.Parts.{AreColumns}
-use Rattle.fort_cores.proofs.ColumnLaws.{AreColumns-same}
-use Rattle.fort_compiled_expressions.specs.CompiledNumbers.{TakenTo, IsCompiledTo}
+use Rattle.fort_theory.specs.Cores.{Eq, Leaf, Related, InContext}
+use Rattle.fort_theory.specs.Parts.{AreColumns}
+use Rattle.fort_theory.proofs.ColumnLaws.{AreColumns-same}
+use Rattle.fort_reachability.specs.CompiledNumbers.{TakenTo, IsCompiledTo}
 use Rattle.fort_tables.specs.LabelRules.{label_of}
 use Rattle.fort_alike.specs.ExpressionAlike.{ExpressionAtom, expression_atom, IsTrueOf, AlikeAtExpression}
-use Rattle.fort_atom_labels.specs.ListedAtoms.{AreArguments}
-use Rattle.fort_expression_labels.specs.ConditionStates.{AreConditions}
-use Rattle.fort_expression_labels.specs.ExpressionRules.{ExpressionShape, shape_of, expression_rule, expression_accepts}
-use Rattle.fort_expression_labels.specs.AutomatonMoves.{AreMovesOf}
-use Rattle.fort_expression_labels.proofs.CompiledStates.{AreConditions-moves}
-use Rattle.fort_expression_labels.proofs.LabelMeans.{labels_alike, Decides-expression_accepts}
+use Rattle.fort_alike.specs.ListedAtoms.{AreArguments}
+use Rattle.fort_alike.specs.ConditionStates.{AreConditions}
+use Rattle.fort_alike.specs.ExpressionRules.{ExpressionShape, shape_of, expression_rule, expression_accepts}
+use Rattle.fort_alike.specs.AutomatonMoves.{AreMovesOf}
+use Rattle.fort_alike.proofs.CompiledStates.{AreConditions-moves}
+use Rattle.fort_alike.proofs.LabelMeans.{labels_alike, Decides-expression_accepts}
 use Rattle.fort_tree_automata.specs.NtaView.{automaton_of}
 use Rattle.fort_transducers.specs.declared.agtt.Agtt.{Agtt}
 use Rattle.fort_transducers.specs.AgttView.{NamesItsStates, transducer_of}

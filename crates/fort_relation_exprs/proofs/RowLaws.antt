@@ -9,11 +9,11 @@ use Rattle.fort_tables.specs.BitRows.{words_for, bit_row, AreWords}
 use Rattle.fort_tables.proofs.BitRowLaws.{bit_row_is}
 use Rattle.fort_tables.proofs.TupleLaws.{length-tabulate, get_or-tabulate}
 use Rattle.fort_alike.specs.ExpressionAlike.{PairFact, Same, Anywhere, Below}
-use Rattle.fort_atom_labels.specs.AtomRules.{same_roots}
-use Rattle.fort_atom_labels.specs.PatternNumbers.{PatternNumber, number_inside}
-use Rattle.fort_expression_labels.specs.ExpressionStates.{Truths}
-use Rattle.fort_expression_labels.specs.ExpressionRules.{left_step, right_step, some_pair, truth_at, label_row, fact_bit, fact_step}
-use Rattle.fort_expression_labels.proofs.MoveStatesLaws.{left_states-by_bits, right_states-by_bits}
+use Rattle.fort_alike.specs.AtomRules.{same_roots}
+use Rattle.fort_alike.specs.PatternNumbers.{PatternNumber, number_inside}
+use Rattle.fort_alike.specs.ExpressionStates.{Truths}
+use Rattle.fort_alike.specs.ExpressionRules.{left_step, right_step, some_pair, truth_at, label_row, fact_bit, fact_step}
+use Rattle.fort_alike.proofs.MoveStatesLaws.{left_states-by_bits, right_states-by_bits}
 use Rattle.fort_label_bits.specs.RowBits.{bit_of, HasBits, IsRow}
 use Rattle.fort_label_bits.specs.BitRowLists.{row_in}
 use Rattle.fort_label_bits.specs.RuleLefts.{some_rule}

@@ -5,11 +5,11 @@ use Rattle.std.proofs.Common.{ap, sym, ◌∙◌, arith, subst, inl, inr}
 use Rattle.std.proofs.lemmas.List.{get_or-map, get_or_default, length-map}
 use Rattle.std.proofs.lemmas.List.Elements.{Contains-get_or, Contains-append_right, Contains-append_cases}
 use Rattle.fort_theory.proofs.Members.{Contains-none, Contains-cons_cases, Contains-head, Contains-behind}
-use Rattle.fort_atom_labels.specs.PatternNumbers.{PatternNumber, number_inside}
-use Rattle.fort_atom_labels.proofs.Bits.{same_from_iff}
+use Rattle.fort_alike.specs.PatternNumbers.{PatternNumber, number_inside}
+use Rattle.fort_alike.proofs.Bits.{same_from_iff}
 use Rattle.fort_tree_automata.specs.NtaView.{MoveParts, NamesItsStates, automaton_of, moves_of}
 use Rattle.fort_tree_automata.specs.declared.nta.Nta.{Nta}
-use Rattle.fort_expression_labels.specs.AutomatonMoves.{AreMovesOf}
+use Rattle.fort_alike.specs.AutomatonMoves.{AreMovesOf}
 use Rattle.fort_label_bits.specs.RowBits.{bit_of}
 use Rattle.fort_label_bits.specs.BitRowLists.{row_in}
 use Rattle.fort_label_bits.specs.RootPlaces.{IsRooted, places_at, root_of}

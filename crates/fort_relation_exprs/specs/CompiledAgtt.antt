@@ -1,7 +1,7 @@
 -- To believe: what it is that a transducer of the program is compiled from an expression.
 use Rattle.fort_theory.specs.Patterns.{PatternSystem}
-use Rattle.fort_expressions.specs.Expressions.{Expression}
-use Rattle.fort_compiled_expressions.specs.CompiledNumbers.{IsCompiledTo}
+use Rattle.fort_theory.specs.Expressions.{Expression}
+use Rattle.fort_reachability.specs.CompiledNumbers.{IsCompiledTo}
 use Rattle.fort_transducers.specs.declared.agtt.Agtt.{Agtt}
 use Rattle.fort_transducers.specs.AgttView.{NamesItsStates, transducer_of}
 

@@ -1,7 +1,7 @@
 -- Inside: what compiling an expression asks of it, and how many states, moves and pairs the transducer has, by the number of root steps.
 use Rattle.std.specs.Prelude.{ℕ, ◌≤◌, ◌*◌, ◌^◌, length}
 use Rattle.fort_theory.specs.Patterns.{PatternSystem, IsSystem}
-use Rattle.fort_expressions.specs.Expressions.{Expression, root_indices, HasManyRoots}
+use Rattle.fort_theory.specs.Expressions.{Expression, root_indices, HasManyRoots}
 use Rattle.fort_parts.specs.DecidedCores.{IsExpressionOver}
 use Rattle.fort_transducers.specs.declared.agtt.Agtt.{Agtt}
 use Rattle.fort_relation_exprs.specs.CompiledAgtt.{IsCompiledAgtt}

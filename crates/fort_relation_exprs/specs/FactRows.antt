@@ -1,8 +1,8 @@
 -- Inside: the facts of an atom of an expression at a node, by their bits in the children's labels, whether the roots are one symbol, and whether there is a pair at the root.
 use Rattle.std.specs.Prelude.{ℕ, ◌+◌, List, Bool, ◌&&◌, ◌||◌}
-use Rattle.fort_atom_labels.specs.AtomRules.{all_kids}
+use Rattle.fort_alike.specs.AtomRules.{all_kids}
 use Rattle.fort_alike.specs.ExpressionAlike.{PairFact, Same, Anywhere, Below}
-use Rattle.fort_expression_labels.specs.ExpressionRules.{fact_place, kids_test}
+use Rattle.fort_alike.specs.ExpressionRules.{fact_place, kids_test}
 use Rattle.fort_label_bits.specs.RowBits.{bit_of}
 
 -- the facts have the bits from this one on, in their order

@@ -5,7 +5,7 @@ use Rattle.fort_tree_automata.specs.NtaView.{automaton_of}
 use Rattle.fort_tree_automata.specs.declared.nta.Nta.{Nta}
 use Rattle.fort_label_bits.specs.RowBits.{bit_of}
 use Rattle.fort_label_bits.specs.BitRowLists.{row_in}
-use Rattle.fort_expression_labels.specs.AutomatonMoves.{LeadsTo}
+use Rattle.fort_alike.specs.AutomatonMoves.{LeadsTo}
 
 -- how far the words are below 2 ^ 64, all together; it falls with each bit that is set
 abbrev pub off_row : List ℕ → ℕ

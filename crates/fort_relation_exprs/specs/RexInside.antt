@@ -1,13 +1,13 @@
 -- Inside: what the fields of the labels of an expression's atom stand for, and what they are made from.
 use Rattle.std.specs.Prelude.{◌≡◌, ℕ, ◌+◌, ◌<◌, suc, map, Contains, Bool, true, false, vec_items}
-use Rattle.fort_expressions.specs.Contexts.{HoleNumber, OneHole, SomeHoles, AnyHoles, HolePlace}
+use Rattle.fort_theory.specs.Contexts.{HoleNumber, OneHole, SomeHoles, AnyHoles, HolePlace}
 use Rattle.fort_tables.specs.BitRows.{words_for}
 use Rattle.fort_tree_automata.specs.NtaView.{automaton_of}
 use Rattle.fort_transducers.specs.declared.agtt.Agtt.{Agtt}
 use Rattle.fort_relations.specs.HolesView.{as_hole_number, as_hole_place}
-use Rattle.fort_atom_labels.specs.ListedAtoms.{AreArguments}
-use Rattle.fort_expression_labels.specs.ExpressionRules.{ExpressionShape}
-use Rattle.fort_expression_labels.specs.AutomatonMoves.{AreMovesOf}
+use Rattle.fort_alike.specs.ListedAtoms.{AreArguments}
+use Rattle.fort_alike.specs.ExpressionRules.{ExpressionShape}
+use Rattle.fort_alike.specs.AutomatonMoves.{AreMovesOf}
 use Rattle.fort_label_bits.specs.RowBits.{bit_of}
 use Rattle.fort_label_bits.specs.BitRowLists.{row_in}
 use Rattle.fort_label_bits.specs.RuleLefts.{AreUnderLefts}

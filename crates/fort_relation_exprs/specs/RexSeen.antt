@@ -2,10 +2,10 @@
 use Rattle.std.specs.Prelude.{◌≡◌, ℕ, ◌+◌, List, [], ◌∷◌, get_or, refl}
 use Rattle.std.specs.Coded.{Coded, code_by, coded×, coded_list, coded_ℕ, coded_option}
 use Rattle.fort_relations.specs.HolesCode.{hole_number_code, hole_place_code, hole_number_at, hole_place_at, hole_number_again, hole_place_again}
-use Rattle.fort_atom_labels.specs.PatternNumbers.{PatternNumber}
-use Rattle.fort_expression_labels.specs.ExpressionRules.{ExpressionShape}
-use Rattle.fort_expression_labels.specs.ExpressionStates.{ExpressionStates}
-use Rattle.fort_expression_labels.specs.MoveStates.{move_states}
+use Rattle.fort_alike.specs.PatternNumbers.{PatternNumber}
+use Rattle.fort_alike.specs.ExpressionRules.{ExpressionShape}
+use Rattle.fort_alike.specs.ExpressionStates.{ExpressionStates}
+use Rattle.fort_alike.specs.MoveStates.{move_states}
 use Rattle.fort_label_bits.specs.RowBits.{bit_of}
 use Rattle.fort_label_bits.specs.BitRowLists.{row_in}
 

@@ -2,16 +2,16 @@
 use Rattle.std.specs.Prelude.{◌≡◌, ◌↔◌, ℕ, suc, List, length, Bool, Decides}
 use Rattle.fort_theory.specs.Signatures.{Signature}
 use Rattle.fort_theory.specs.Patterns.{PatternSystem}
-use Rattle.fort_expressions.specs.Expressions.{Expression}
-use Rattle.fort_expressions.specs.Contexts.{HoleNumber, HolePlace}
-use Rattle.fort_cores.specs.Cores.{Leaf, InContext}
-use Rattle.fort_cores.specs.Parts.{AreColumns}
-use Rattle.fort_atom_labels.specs.ListedAtoms.{AreArguments}
+use Rattle.fort_theory.specs.Expressions.{Expression}
+use Rattle.fort_theory.specs.Contexts.{HoleNumber, HolePlace}
+use Rattle.fort_theory.specs.Cores.{Leaf, InContext}
+use Rattle.fort_theory.specs.Parts.{AreColumns}
+use Rattle.fort_alike.specs.ListedAtoms.{AreArguments}
 use Rattle.fort_tables.specs.BitRows.{words_for}
 use Rattle.fort_tables.specs.Tuples.{Tuple, IsTuple}
 use Rattle.fort_tables.specs.LabelRules.{LabelRule, label_of}
 use Rattle.fort_alike.specs.ExpressionAlike.{ExpressionAtom, expression_atom, IsTrueOf, AlikeAtExpression}
-use Rattle.fort_expression_labels.specs.ExpressionRules.{expression_rule, expression_accepts, bit_count}
+use Rattle.fort_alike.specs.ExpressionRules.{expression_rule, expression_accepts, bit_count}
 use Rattle.fort_relation_exprs.specs.RexSeen.{RexSeen, states_of}
 
 abbrev pub rex_rule : Signature → RexSeen → LabelRule

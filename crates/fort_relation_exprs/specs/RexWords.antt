@@ -2,8 +2,8 @@
 use Rattle.std.specs.Prelude.{◌≡◌, ℕ, List, None, get_or, length}
 use Rattle.fort_theory.specs.Signatures.{Signature}
 use Rattle.fort_tables.specs.Tuples.{TupleSymbol, presence}
-use Rattle.fort_expression_labels.specs.ExpressionRules.{facts_of, left_step, right_step}
-use Rattle.fort_expression_labels.proofs.LabelBits.{length-label_row}
+use Rattle.fort_alike.specs.ExpressionRules.{facts_of, left_step, right_step}
+use Rattle.fort_alike.proofs.LabelBits.{length-label_row}
 use Rattle.fort_relation_exprs.specs.RexSeen.{RexSeen, states_of}
 use Rattle.fort_relation_exprs.specs.RexView.{rex_rule, rex_words}
 

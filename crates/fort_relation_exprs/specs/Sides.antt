@@ -1,7 +1,7 @@
 -- Inside: one side of the labels of an expression: the moves of an automaton as patterns and targets, and for each state the row of those that it leads to.
 use Rattle.std.specs.Prelude.{◌≡◌, ℕ, ◌+◌, ◌^◌, ◌<◌, ◌≤◌, List, [], ◌∷◌, ◌++◌, map, length, get_or, Contains, Option, None, Some, Bool, true, ◌&&◌, vec_items}
 use Rattle.std.specs.List.{list_any}
-use Rattle.fort_atom_labels.specs.PatternNumbers.{PatternNumber, number_inside}
+use Rattle.fort_alike.specs.PatternNumbers.{PatternNumber, number_inside}
 use Rattle.fort_tree_automata.specs.NtaView.{MoveParts, moves_of}
 use Rattle.fort_tree_automata.specs.declared.nta.Nta.{Nta}
 use Rattle.fort_label_bits.specs.RowBits.{bit_of}

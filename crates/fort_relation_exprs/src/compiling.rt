@@ -2,8 +2,8 @@
 ghost use Rattle.std.specs.Prelude.{◌↔◌, IfOk};
 ghost use Rattle.fort_theory.specs.Trees.{Tree};
 ghost use Rattle.fort_reachability.specs.Transducers.{Transduces};
-ghost use Rattle.fort_expressions.specs.Conditions.{MeansIn};
-ghost use Rattle.fort_expressions.specs.Expressions.{HasManyRoots};
+ghost use Rattle.fort_theory.specs.Conditions.{MeansIn};
+ghost use Rattle.fort_theory.specs.Expressions.{HasManyRoots};
 ghost use Rattle.fort_parts.specs.DecidedCores.{IsExpressionOver};
 ghost use Rattle.fort_relations.specs.RexView.{as_expression};
 ghost use Rattle.fort_transducers.specs.AgttView.{NamesItsStates, transducer_of};
@@ -11,10 +11,10 @@ ghost use Rattle.fort_relation_exprs.specs.CompiledAgtt.{IsCompiledAgtt};
 ghost use Rattle.fort_relation_exprs.specs.CompiledWithin.{CanCompile, IsCompiledWithin};
 
 use crate::compiling_two::{compiled_composition, compiled_union};
-use fort_agtt::{Agtt, inverse, root_steps};
 use fort_gtt_closure::{close, closed_agtt};
 use fort_relations::Rex;
 use fort_terms::System;
+use fort_transducers::{Agtt, inverse, root_steps};
 use std::alloc::{AllocError, Global};
 
 /// The transducer that relates what the expression means over the system. Its states are the

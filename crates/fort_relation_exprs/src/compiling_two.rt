@@ -1,11 +1,12 @@
 //! The expressions with two operands, from the transducers of the operands.
 ghost use Rattle.std.specs.Prelude.{IfOk};
-ghost use Rattle.fort_agtt.specs.ComposedNumbers.{AreFew};
-ghost use Rattle.fort_expressions.specs.Expressions as expressions;
+ghost use Rattle.fort_composition.specs.ComposedNumbers.{AreFew};
+ghost use Rattle.fort_theory.specs.Expressions as expressions;
 ghost use Rattle.fort_transducers.specs.AgttView.{NamesItsStates};
 ghost use Rattle.fort_relation_exprs.specs.CompiledWithin.{IsMadeOfTwo};
 
-use fort_agtt::{Agtt, compose, union};
+use fort_composition::compose;
+use fort_transducers::{Agtt, union};
 use std::alloc::{AllocError, Global};
 
 /// The transducer of a union.

@@ -1,16 +1,16 @@
 //! The facts of an atom of an expression on its two arguments, at a node.
 ghost use Rattle.std.specs.Prelude.{◌≡◌, ℕ, ◌+◌, ◌*◌, ◌-◌, ◌<◌, ◌≤◌, ◌^◌, List, ◌++◌, map, Bool, ◌&&◌, length, slice_index_or};
 ghost use Rattle.fort_alike.specs.ExpressionAlike.{Anywhere, Below, facts_anywhere, facts_for};
-ghost use Rattle.fort_expression_labels.specs.ExpressionRules.{fact_place, kids_test};
+ghost use Rattle.fort_alike.specs.ExpressionRules.{fact_place, kids_test};
 ghost use Rattle.fort_relations.specs.HolesView.{as_hole_number, as_hole_place};
 ghost use Rattle.fort_label_bits.specs.RowBits.{HasBits, labels_at};
 ghost use Rattle.fort_relation_exprs.specs.FactRows.{fact_told, fact_test};
-ghost use Rattle.fort_expressions.specs.Contexts.{AtTheRoot, BelowTheRoot, AnyPlace};
+ghost use Rattle.fort_theory.specs.Contexts.{AtTheRoot, BelowTheRoot, AnyPlace};
 
-use fort_explore::Rows;
 use fort_label_bits::{all_under, one_under, put_mark, some_under};
-use fort_lockstep::Row;
+use fort_labels::Rows;
 use fort_relations::{Holes, Place};
+use fort_tuple_symbols::Row;
 
 /// How many facts tell of holes anywhere.
 fn count_anywhere(holes: Holes) -> usize

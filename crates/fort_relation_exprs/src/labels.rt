@@ -1,18 +1,18 @@
 //! The labels of an atom of an expression.
 ghost use Rattle.std.specs.Prelude.{◌≡◌, ◌≢◌, ◌↔◌, ℕ, ◌+◌, ◌*◌, ◌-◌, ◌<◌, ◌≤◌, ◌^◌, List, length, map, slice_index_or, IfOk, Contains};
 ghost use Rattle.fort_theory.specs.Signatures as theory;
-ghost use Rattle.fort_cores.specs.Cores as cores;
-ghost use Rattle.fort_cores.specs.Parts as parts;
+ghost use Rattle.fort_theory.specs.Cores as cores;
+ghost use Rattle.fort_theory.specs.Parts as parts;
 ghost use Rattle.fort_alike.specs.ExpressionAlike.{expression_atom};
-ghost use Rattle.fort_expressions.specs.Expressions.{HasManyRoots};
+ghost use Rattle.fort_theory.specs.Expressions.{HasManyRoots};
 ghost use Rattle.fort_parts.specs.DecidedCores.{IsExpressionOver};
 ghost use Rattle.fort_tables.specs.LabelRules.{entry_label};
 ghost use Rattle.fort_tree_automata.specs.NtaView.{automaton_of};
 ghost use Rattle.fort_transducers.specs.AgttView.{NamesItsStates};
 ghost use Rattle.fort_relations.specs.HolesView.{as_hole_number, as_hole_place};
 ghost use Rattle.fort_relations.specs.RexView.{as_expression};
-ghost use Rattle.fort_expression_labels.specs.ExpressionRules.{some_pair, left_bit, right_bit};
-ghost use Rattle.fort_atom_labels.specs.ListedAtoms.{AreArguments};
+ghost use Rattle.fort_alike.specs.ExpressionRules.{some_pair, left_bit, right_bit};
+ghost use Rattle.fort_alike.specs.ListedAtoms.{AreArguments};
 ghost use Rattle.fort_label_bits.specs.RowBits.{bit_of};
 ghost use Rattle.fort_relation_exprs.specs.RexInside.{IsOfTransducer, pair_place, is_any_number};
 ghost use Rattle.fort_relation_exprs.specs.RexView.{rex_rule, rex_accepts, rex_words, TellsAlikeInContext, AcceptsInContext};
@@ -20,15 +20,15 @@ ghost use Rattle.fort_relation_exprs.specs.RexView.{rex_rule, rex_accepts, rex_w
 use crate::compiling::compile;
 use crate::facts::{fact_count, place_anywhere, place_below, write_facts};
 use crate::side::Side;
-use fort_agtt::Agtt;
-use fort_explore::Rows;
 use fort_label_bits::{
     Arguments, RulePlaces, arguments_of, clear, has_mark, put_first, rules_under, same_roots,
     some_marked, some_rule,
 };
-use fort_lockstep::Row;
+use fort_labels::Rows;
 use fort_relations::{Holes, Place, Rex};
 use fort_terms::{Memory, System};
+use fort_transducers::Agtt;
+use fort_tuple_symbols::Row;
 use std::alloc::Global;
 use std::marker::Model;
 

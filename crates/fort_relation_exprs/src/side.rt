@@ -1,7 +1,7 @@
 //! One side of the labels of an expression: the states that a node has by the moves of an automaton.
 ghost use Rattle.std.specs.Prelude.{◌≡◌, ℕ, ◌+◌, ◌*◌, ◌-◌, ◌<◌, ◌≤◌, ◌^◌, ◌||◌, map, length, get_or, slice_index_or, Contains, IfOk, vec_items};
 ghost use Rattle.std.specs.List.{list_any};
-ghost use Rattle.fort_expression_labels.specs.AutomatonMoves.{AreMovesOf};
+ghost use Rattle.fort_alike.specs.AutomatonMoves.{AreMovesOf};
 ghost use Rattle.fort_label_bits.specs.RootPlaces.{IsRooted};
 ghost use Rattle.fort_label_bits.specs.RowBits.{bit_of, labels_at};
 ghost use Rattle.fort_relation_exprs.specs.Sides.{IsSide, adds_at, any_moves, leads_in, leads_to, move_in, move_roots, moves_in, no_move, numbered_move, numbered_moves, side_adds};
@@ -9,11 +9,11 @@ ghost use Rattle.fort_tree_automata.specs.NtaView.{NamesItsStates, as_move, auto
 ghost use Rattle.fort_tuple_symbols.specs.Columns.{as_column};
 
 use crate::leads::leads_of;
-use fort_explore::Rows;
 use fort_label_bits::{Numbered, Rooted, add_row, is_inside, row_at};
-use fort_lockstep::Row;
+use fort_labels::Rows;
 use fort_terms::{Memory, Sym};
 use fort_tree_automata::{Move, Nta};
+use fort_tuple_symbols::Row;
 use std::alloc::Global;
 
 /// A move: at a node where the pattern holds over the children's states, the target is a state.

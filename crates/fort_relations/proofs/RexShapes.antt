@@ -1,7 +1,7 @@
 -- The indices of an expression of the program that has two operands.
 use Rattle.std.proofs.Common.{◌≡◌, ◌++◌, ◌⊎◌, inl, inr, refl}
-use Rattle.fort_expressions.specs.Expressions as theory
-use Rattle.fort_expressions.specs.Expressions.{root_indices}
+use Rattle.fort_theory.specs.Expressions as theory
+use Rattle.fort_theory.specs.Expressions.{root_indices}
 use Rattle.fort_relations.specs.declared.rex.Rex.{Rex}
 use Rattle.fort_relations.specs.declared.rex.Rex.TheVariants.{Union, Comp}
 use Rattle.fort_relations.specs.RexView.{as_expression}

@@ -1,6 +1,6 @@
 -- To believe: the place of a number of holes in the list of such numbers, and of a place of holes in the list of such places.
 use Rattle.std.specs.Prelude.{◌≡◌, ℕ, [], ◌∷◌, slice_index_or, refl}
-use Rattle.fort_expressions.specs.Contexts.{HoleNumber, OneHole, SomeHoles, AnyHoles, HolePlace, AtTheRoot, BelowTheRoot, AnyPlace}
+use Rattle.fort_theory.specs.Contexts.{HoleNumber, OneHole, SomeHoles, AnyHoles, HolePlace, AtTheRoot, BelowTheRoot, AnyPlace}
 
 abbrev pub hole_number_code : HoleNumber → ℕ
 hole_number_code OneHole = 0

@@ -1,6 +1,6 @@
 -- To believe: which numbers of holes, and which places of them, of the definitions those of the program are.
 use Rattle.std.specs.Prelude.{◌≡◌, refl}
-use Rattle.fort_expressions.specs.Contexts as theory
+use Rattle.fort_theory.specs.Contexts as theory
 use Rattle.fort_relations.specs.declared.holes.Holes.{Holes}
 use Rattle.fort_relations.specs.declared.holes.Holes.TheVariants.{One, Some, Any}
 use Rattle.fort_relations.specs.declared.holes.Place.{Place}

@@ -1,5 +1,5 @@
 -- To believe: which relation of the definitions a relation of the program is.
-use Rattle.fort_cores.specs.Cores as theory
+use Rattle.fort_theory.specs.Cores as theory
 use Rattle.fort_relations.specs.declared.relation.Rel.{Rel}
 use Rattle.fort_relations.specs.declared.relation.Rel.TheVariants.{Eq, Root, Below, Step, Par, Plus, Star, Conv}
 

@@ -1,7 +1,7 @@
 -- To believe: a hasher is fed the place of an expression's node, and then its operands from left to right, or a root step's index.
 use Rattle.std.specs.Prelude.{◌++◌}
 use Rattle.std.specs.Hash as fed
-use Rattle.fort_expressions.specs.Expressions.{Expression, RootSteps, Inverse, Union, Composition, Closure}
+use Rattle.fort_theory.specs.Expressions.{Expression, RootSteps, Inverse, Union, Composition, Closure}
 
 abbrev pub expression_hash : Expression → fed.HashWrites
 expression_hash (RootSteps index) = fed.u8 0 ++ fed.u32 index

@@ -2,7 +2,7 @@
 use Rattle.std.specs.Prelude.{◌≡◌, true}
 use Rattle.std.specs.Ordering.{on}
 use Rattle.std.proofs.Common.{ap}
-use Rattle.fort_expressions.specs.Expressions as theory
+use Rattle.fort_theory.specs.Expressions as theory
 use Rattle.fort_relations.specs.declared.rex.Rex.{Rex}
 use Rattle.fort_relations.specs.ExpressionCode.{spelled}
 use Rattle.fort_relations.specs.RexView.{as_expression}

@@ -5,7 +5,7 @@ use Rattle.std.specs.Ordering.{on}
 use Rattle.std.specs.Cmp.{IsPartialEquivalence, IsEquivalence, partial_equiv_from_equiv, decided}
 use Rattle.std.proofs.Common.{ap, sym, ◌∙◌}
 use lib.Pointwise.{bytes_decides}
-use Rattle.fort_expressions.specs.Expressions as theory
+use Rattle.fort_theory.specs.Expressions as theory
 use Rattle.fort_relations.specs.declared.rex.Rex.{Rex}
 use Rattle.fort_relations.specs.declared.rex.Rex.TheVariants.{Root, Inv, Union, Comp, Clos}
 use Rattle.fort_relations.specs.ExpressionCode.{spelled, expression_of_code, read_first, expression_again}

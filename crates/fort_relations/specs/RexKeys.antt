@@ -4,7 +4,7 @@ use Rattle.std.specs.declared.cmp.Ordering.{Ordering}
 use Rattle.std.specs.Ordering.{nat_cmp}
 use Rattle.std.specs.Cmp.Lexicographic.{slice_cmp}
 use lib.Pointwise.{pointwise}
-use Rattle.fort_expressions.specs.Expressions.{Expression, RootSteps, Inverse, Union, Composition, Closure}
+use Rattle.fort_theory.specs.Expressions.{Expression, RootSteps, Inverse, Union, Composition, Closure}
 use Rattle.fort_relations.specs.declared.rex.Rex.{Rex}
 use Rattle.fort_relations.specs.ExpressionCode.{spelled}
 use Rattle.fort_relations.specs.RexView.{as_expression}

@@ -8,7 +8,7 @@ use Rattle.std.specs.Cmp.Lexicographic.{texts_ties}
 use Rattle.std.proofs.Common.{ap, sym, ◌∙◌, append-nil, arith}
 use Rattle.std.proofs.lemmas.Bool.Decides.{nat_tests}
 use Rattle.std.proofs.lemmas.Cmp.{on_total, nat_list_cmp_total}
-use Rattle.fort_expressions.specs.Expressions as theory
+use Rattle.fort_theory.specs.Expressions as theory
 use Rattle.fort_relations.specs.declared.rex.Rex.{Rex}
 use Rattle.fort_relations.specs.ExpressionCode.{spelled}
 use Rattle.fort_relations.specs.RexKeys.{rex_spelled, same_numbers, numbers_order}

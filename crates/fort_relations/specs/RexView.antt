@@ -1,6 +1,6 @@
 -- To believe: which expression of the definitions an expression of the program is.
 use Rattle.std.specs.Prelude.{ℕ, suc, ◌+◌}
-use Rattle.fort_expressions.specs.Expressions as theory
+use Rattle.fort_theory.specs.Expressions as theory
 use Rattle.fort_relations.specs.declared.rex.Rex.{Rex}
 use Rattle.fort_relations.specs.declared.rex.Rex.TheVariants.{Root, Inv, Union, Comp, Clos}
 

@@ -1,7 +1,7 @@
 //! Expressions of relations, which can be keys of maps and sets.
 
 ghost use Rattle.std.specs.Prelude.{◌≡◌, ◌+◌, ◌<◌, ◌↔◌, IfOk, IfSome, IfNone, IsTrue, length};
-ghost use Rattle.fort_expressions.specs.Expressions.{root_indices, HasManyRoots};
+ghost use Rattle.fort_theory.specs.Expressions.{root_indices, HasManyRoots};
 ghost use Rattle.fort_relations.specs.FirstAbove.{first_above};
 ghost use Rattle.fort_relations.specs.RexKeys.{node_place};
 ghost use Rattle.fort_relations.specs.RexView.{as_expression};
@@ -39,7 +39,7 @@ pub struct RexArm {
 }
 
 impl Model for RexArm {
-    ghost use Rattle.fort_expressions.specs.Expressions as theory;
+    ghost use Rattle.fort_theory.specs.Expressions as theory;
     ghost use Rattle.fort_relations.specs.ExpressionCode.{expression_code};
 
     ghost Value = { theory.Expression };

@@ -17,10 +17,10 @@ use Rattle.fort_tables.specs.LabelRules.{LabelRule, IsLabelRule, label_of, entry
 use Rattle.fort_tables.proofs.EntryLaws.{same_states-itself, states_from_same, entry_kids, IsTuple-entry}
 use Rattle.fort_tables.proofs.FoldLaws.{GivesLabel-rebuilt}
 use Rattle.fort_tables.proofs.LabelRuleLaws.{GivesLabel-rule, TellsPresence-rule}
-use Rattle.fort_laid_entries.specs.Laid.{joined_below, by_symbol}
-use Rattle.fort_laid_entries.proofs.JoinedLists.{joined_has}
-use Rattle.fort_laid_entries.proofs.BySymbol.{by_symbol_are, by_symbol_has}
-use Rattle.fort_operations.proofs.SearchLaws.{both, left, right}
+use Rattle.fort_tables.specs.Laid.{joined_below, by_symbol}
+use Rattle.fort_tables.proofs.JoinedLists.{joined_has}
+use Rattle.fort_tables.proofs.BySymbol.{by_symbol_are, by_symbol_has}
+use Rattle.fort_tables.proofs.SearchLaws.{both, left, right}
 use Rattle.fort_right_answers.proofs.Saturation.{saturation_exists}
 
 -- ---- lists of words

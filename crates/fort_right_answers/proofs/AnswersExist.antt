@@ -1,4 +1,4 @@
--- Each well-formed formula over a system, whose expressions have right answers, has one; so a part over a cap with reduced tables is over it without.
+-- A result, which no proof cites: each well-formed formula over a system, whose expressions have right answers, has one; so a part over a cap with reduced tables is over it without.
 use Rattle.std.proofs.Common.{◌≡◌, ℕ, ◌-◌, ◌<◌, ◌≤◌, List, [], map, length, Bool, true, not, refl, ap, sym, arith, subst, inl, inr, ⊎_elim}
 use Rattle.std.specs.Prelude.{Contains}
 use Rattle.std.proofs.lemmas.Bool.{cases_lt}
@@ -7,31 +7,31 @@ use Rattle.fort_theory.specs.Trees.{Tree}
 use Rattle.fort_theory.specs.Signatures.{most_columns}
 use Rattle.fort_theory.specs.Sides.{at_index}
 use Rattle.fort_theory.specs.Patterns.{Pair, PatternSystem, IsSystem}
-use Rattle.fort_cores.specs.Cores as core
-use Rattle.fort_cores.specs.Cores.{Core, Rel, Binary}
-use Rattle.fort_cores.specs.Parts.{is_free, postorder, IsWellFormed}
-use Rattle.fort_cores.specs.PatternStructures.{pattern_structure}
+use Rattle.fort_theory.specs.Cores as core
+use Rattle.fort_theory.specs.Cores.{Core, Rel, Binary}
+use Rattle.fort_theory.specs.Parts.{is_free, postorder, IsWellFormed}
+use Rattle.fort_theory.specs.PatternStructures.{pattern_structure}
 use Rattle.fort_tables.specs.Tables.{Table}
 use Rattle.fort_tables.specs.Labels.{Labelling}
 use Rattle.fort_tables.specs.LabelRules.{LabelRule, IsLabelRule, label_of, IsTableBy}
 use Rattle.fort_alike.specs.Atoms.{pairs_for, relation_atom, normal_atom}
-use Rattle.fort_atom_labels.specs.ListedAtoms.{listed}
-use Rattle.fort_atom_labels.specs.AtomRules.{atom_rule, atom_accepts}
-use Rattle.fort_atom_labels.specs.Subterms.{subterms}
-use Rattle.fort_atom_labels.specs.TermRule.{term_rule, term_accepts}
-use Rattle.fort_atom_labels.proofs.AtomMeans.{labels_alike, Decides-atom_accepts}
-use Rattle.fort_atom_labels.proofs.RuleLaws.{IsLabelRule-atom}
-use Rattle.fort_atom_labels.proofs.SubtermLaws.{ListsSubterms-subterms}
-use Rattle.fort_atom_labels.proofs.SystemAtoms.{IsListedAtom-relation, IsListedAtom-normal}
-use Rattle.fort_atom_labels.proofs.TermLabels.{IsLabelRule-term, labels-AlikeAtTerm, accepts-term}
-use Rattle.fort_operations.specs.OperationTruth.{complemented}
+use Rattle.fort_alike.specs.ListedAtoms.{listed}
+use Rattle.fort_alike.specs.AtomRules.{atom_rule, atom_accepts}
+use Rattle.fort_alike.specs.Subterms.{subterms}
+use Rattle.fort_alike.specs.TermRule.{term_rule, term_accepts}
+use Rattle.fort_alike.proofs.AtomMeans.{labels_alike, Decides-atom_accepts}
+use Rattle.fort_alike.proofs.RuleLaws.{IsLabelRule-atom}
+use Rattle.fort_alike.proofs.SubtermLaws.{ListsSubterms-subterms}
+use Rattle.fort_alike.proofs.SystemAtoms.{IsListedAtom-relation, IsListedAtom-normal}
+use Rattle.fort_alike.proofs.TermLabels.{IsLabelRule-term, labels-AlikeAtTerm, accepts-term}
+use Rattle.fort_tables.specs.OperationTruth.{complemented}
 use Rattle.fort_theory.specs.Logic.{Connective}
-use Rattle.fort_operations.specs.Products.{connected, signature_of, IsOperand, product_rule, product_accepts}
-use Rattle.fort_operations.specs.Projections.{some_below, project_rule, project_accepts}
-use Rattle.fort_counts.specs.Counts.{is_infinite}
-use Rattle.fort_counts.specs.ManyLabels.{TellsMany, many_rule, many_accepts, many_value}
-use Rattle.fort_counts.proofs.MarksExist.{marks_exist}
-use Rattle.fort_counts.proofs.TellsLaws.{TellsMany-marks}
+use Rattle.fort_tables.specs.Products.{connected, signature_of, IsOperand, product_rule, product_accepts}
+use Rattle.fort_tables.specs.Projections.{some_below, project_rule, project_accepts}
+use Rattle.fort_tables.specs.Counts.{is_infinite}
+use Rattle.fort_tables.specs.ManyLabels.{TellsMany, many_rule, many_accepts, many_value}
+use Rattle.fort_tables.proofs.MarksExist.{marks_exist}
+use Rattle.fort_tables.proofs.TellsLaws.{TellsMany-marks}
 use Rattle.fort_parts.specs.PartColumns.{columns_of, place_in, places_in}
 use Rattle.fort_parts.specs.AlikeParts.{AlikeAt, IsOverBy, IsPartOver}
 use Rattle.fort_parts.specs.PartAnswers.{Answer, OfValue, OfTable, IsAnswerTo}
@@ -44,11 +44,11 @@ use Rattle.fort_parts.proofs.PartFacts.{columns_of-few, IsOverSystem-part}
 use Rattle.fort_parts.proofs.PartOrder.{Contains-postorder}
 use Rattle.fort_parts.proofs.StepTables.{IsOperand-answer, IsLawful-answer}
 use Rattle.fort_parts.proofs.StepAnswers.{IsRightBy-value, IsRightBy-labels, IsAnswerTo-True, IsAnswerTo-Not-value, IsAnswerTo-Not-table, is_free-joined, IsAnswerTo-values, some-first, some-second, joined_label, LabelsTellAlike-joined, IsAnswerTo-joined, place_bound, count_bound, IsAnswerTo-projected, IsAnswerTo-closed, LabelsTellAlike-projected, IsAnswerTo-many, IsAnswerTo-many_closed, LabelsTellAlike-many}
-use Rattle.fort_in_order_laws.proofs.AnsweredParts.{HasAnswerIfExpression}
-use Rattle.fort_in_order_laws.proofs.JoinedTables.{joined_signature}
-use Rattle.fort_in_order_laws.proofs.SidePatterns.{patterns_in_order, side_patterns}
-use Rattle.fort_reduced_parts.specs.ReducedParts.{AlikeReduced}
-use Rattle.fort_reduced_parts.proofs.ReducedOver.{HasAnswer, OperandsAnswered, body_of, over_from_reduced}
+use Rattle.fort_certificate_theory.proofs.AnsweredParts.{HasAnswerIfExpression}
+use Rattle.fort_certificate_theory.proofs.JoinedTables.{joined_signature}
+use Rattle.fort_certificate_theory.proofs.SidePatterns.{patterns_in_order, side_patterns}
+use Rattle.fort_parts.specs.ReducedParts.{AlikeReduced}
+use Rattle.fort_parts.proofs.ReducedOver.{HasAnswer, OperandsAnswered, body_of, over_from_reduced}
 use Rattle.fort_right_answers.proofs.ClosureFound.{closure_by, IsClosure-found}
 use Rattle.fort_right_answers.proofs.LabelTables.{HasTable, table_exists}
 use Rattle.fort_right_answers.proofs.LabelBounds.{IsBounded-atom, IsBounded-term, IsBounded-product, IsBounded-project, IsBounded-many}

@@ -11,14 +11,14 @@ use Rattle.fort_theory.proofs.Members.{Contains-none, Contains-cons_cases, Conta
 use Rattle.fort_reachability.specs.PatternClosures as closures
 use Rattle.fort_reachability.specs.PatternClosures.{InPatternClosure, AllInPatternClosure, NoneIn, MoreIn}
 use Rattle.fort_reachability.proofs.PatternClosureExact.{InPatternClosure-ReachesInstance}
-use Rattle.fort_laid_entries.proofs.JoinedLists.{flat_map_has}
+use Rattle.fort_tables.proofs.JoinedLists.{flat_map_has}
 use Rattle.fort_alike.specs.Alike.{is_reaching}
-use Rattle.fort_atom_labels.specs.AtomRules.{same_pattern, any_pair}
-use Rattle.fort_atom_labels.specs.ListedAtoms.{ListedAtom, IsListedAtom}
-use Rattle.fort_atom_labels.specs.ClosureTests.{IsClosure}
-use Rattle.fort_atom_labels.proofs.Bits.{Decides-false, Decides-iff, Decides-same_pattern, SomePair, Decides-any_pair}
-use Rattle.fort_atom_labels.proofs.ClosedLists.{ArePatterns-lefts, ArePatterns-rights, lefts-has_side, rights-has_side}
-use Rattle.fort_operations.proofs.SearchLaws.{both, left, right, either_left, either_right}
+use Rattle.fort_alike.specs.AtomRules.{same_pattern, any_pair}
+use Rattle.fort_alike.specs.ListedAtoms.{ListedAtom, IsListedAtom}
+use Rattle.fort_alike.specs.ClosureTests.{IsClosure}
+use Rattle.fort_alike.proofs.Bits.{Decides-false, Decides-iff, Decides-same_pattern, SomePair, Decides-any_pair}
+use Rattle.fort_alike.proofs.ClosedLists.{ArePatterns-lefts, ArePatterns-rights, lefts-has_side, rights-has_side}
+use Rattle.fort_tables.proofs.SearchLaws.{both, left, right, either_left, either_right}
 use Rattle.fort_right_answers.proofs.Saturation.{HasSaturation, saturation_exists}
 
 -- pairs of a right pattern and a left one

@@ -12,23 +12,23 @@ use Rattle.fort_tables.proofs.BitRowLaws.{AreWords-bit_row}
 use Rattle.fort_tables.proofs.LabelRuleLaws.{label_of-step, HasWidth-rule}
 use Rattle.fort_tables.proofs.PresenceLaws.{presence_bound}
 use Rattle.fort_tables.proofs.TableLaws.{presence_root, table_state}
-use Rattle.fort_atom_labels.specs.AtomRules.{atom_rule, bit_in, mark_step, marks_of}
+use Rattle.fort_alike.specs.AtomRules.{atom_rule, bit_in, mark_step, marks_of}
 use Rattle.fort_alike.specs.Alike.{is_reaching}
-use Rattle.fort_atom_labels.specs.ListedAtoms.{ListedAtom}
-use Rattle.fort_atom_labels.specs.Subterms.{subterms}
-use Rattle.fort_atom_labels.specs.TermRule.{same_tree, one_further, number_in, number_of, term_rule}
-use Rattle.fort_atom_labels.proofs.RuleLaws.{HasWidth-atom}
-use Rattle.fort_atom_labels.proofs.SubtermLaws.{children_among}
-use Rattle.fort_atom_labels.proofs.TermLabels.{TellsNumber-tuple}
-use Rattle.fort_operations.specs.Selections.{selected, is_present}
-use Rattle.fort_operations.specs.Products.{Operand, OfTable, OfTruth, IsOperand, IsLawful, signature_of, operand_word, product_rule}
-use Rattle.fort_operations.specs.Projections.{absent_state, gives, project_rule}
-use Rattle.fort_operations.proofs.CompletedTuples.{absent_small}
-use Rattle.fort_operations.proofs.ProductLabels.{word_there, word_none, product_exact}
-use Rattle.fort_operations.proofs.ProjectLabels.{label_exact, length-project_rule}
-use Rattle.fort_operations.proofs.SelectionLaws.{IsTuple-selected, present_from_test}
-use Rattle.fort_counts.specs.ManyLabels.{many_bit, many_rule}
-use Rattle.fort_counts.proofs.ManyLabelLaws.{label_told, length-many_rule}
+use Rattle.fort_alike.specs.ListedAtoms.{ListedAtom}
+use Rattle.fort_alike.specs.Subterms.{subterms}
+use Rattle.fort_alike.specs.TermRule.{same_tree, one_further, number_in, number_of, term_rule}
+use Rattle.fort_alike.proofs.RuleLaws.{HasWidth-atom}
+use Rattle.fort_alike.proofs.SubtermLaws.{children_among}
+use Rattle.fort_alike.proofs.TermLabels.{TellsNumber-tuple}
+use Rattle.fort_tables.specs.Selections.{selected, is_present}
+use Rattle.fort_tables.specs.Products.{Operand, OfTable, OfTruth, IsOperand, IsLawful, signature_of, operand_word, product_rule}
+use Rattle.fort_tables.specs.Projections.{absent_state, gives, project_rule}
+use Rattle.fort_tables.proofs.CompletedTuples.{absent_small}
+use Rattle.fort_tables.proofs.ProductLabels.{word_there, word_none, product_exact}
+use Rattle.fort_tables.proofs.ProjectLabels.{label_exact, length-project_rule}
+use Rattle.fort_tables.proofs.SelectionLaws.{IsTuple-selected, present_from_test}
+use Rattle.fort_tables.specs.ManyLabels.{many_bit, many_rule}
+use Rattle.fort_tables.proofs.ManyLabelLaws.{label_told, length-many_rule}
 use Rattle.fort_right_answers.proofs.AllLabels.{AreBelow, IsBounded}
 
 -- above words of bits, presences of so many columns, and numbers below m

@@ -2,8 +2,8 @@
 use Rattle.std.proofs.Common.{◌≡◌, ◌⊎◌, [], ◌∷◌, ◌++◌, subst, ⊎_elim}
 use Rattle.std.specs.Prelude.{Contains}
 use Rattle.std.proofs.lemmas.List.Elements.{Contains-append_left, Contains-append_right}
-use Rattle.fort_cores.specs.Cores.{Core, True, Leaf, Not, Binary, Exists, Infinite}
-use Rattle.fort_cores.specs.Parts.{postorder, IsWellFormed}
+use Rattle.fort_theory.specs.Cores.{Core, True, Leaf, Not, Binary, Exists, Infinite}
+use Rattle.fort_theory.specs.Parts.{postorder, IsWellFormed}
 use Rattle.fort_parts.specs.DecidedCores.{IsOperandOf}
 use Rattle.fort_parts.proofs.PartFacts.{each_part, BindsFree-part}
 use Rattle.fort_parts.proofs.PartOrder.{Contains-postorder}

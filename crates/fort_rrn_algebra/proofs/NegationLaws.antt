@@ -7,7 +7,7 @@ use Rattle.std.proofs.lemmas.List.{get_or_past}
 use Rattle.fort_tables.specs.Tables.{Listed, listed_table, full_presence}
 use Rattle.fort_tables.proofs.EqualTests.{test_from_apart}
 use Rattle.fort_lockstep.specs.OtherFinals.{with_finals}
-use Rattle.fort_operations.specs.OperationTruth.{complemented}
+use Rattle.fort_tables.specs.OperationTruth.{complemented}
 use Rattle.fort_rrn_algebra.specs.Negations.{AreTurned}
 
 some_full : (n : ℕ) → 0 < n → 0 ≡ full_presence n → ⊥

@@ -4,10 +4,10 @@ use Rattle.fort_theory.specs.Signatures.{Signature}
 use Rattle.fort_tables.specs.Tables.{Table}
 use Rattle.fort_tables.specs.Labels.{IsTableOf}
 use Rattle.fort_tables.specs.LabelRules.{label_of, IsTableBy}
-use Rattle.fort_operations.specs.Selections.{ArePlaces}
+use Rattle.fort_tables.specs.Selections.{ArePlaces}
 use Rattle.fort_theory.specs.Logic.{Connective}
-use Rattle.fort_operations.specs.Products.{Operand, IsOperand, OfTable, product_rule, product_accepts}
-use Rattle.fort_operations.specs.OperationTruth.{IsOrder}
+use Rattle.fort_tables.specs.Products.{Operand, IsOperand, OfTable, product_rule, product_accepts}
+use Rattle.fort_tables.specs.OperationTruth.{IsOrder}
 
 -- the same parts
 pub record AreParts (s z : Signature) (n m : ℕ) (op or : Connective) (f x q y : Operand) : Type 0 where

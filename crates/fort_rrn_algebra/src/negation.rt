@@ -1,10 +1,11 @@
 //! Complements of tables.
 ghost use Rattle.std.specs.Prelude.{◌≡◌, IfOk, IsTrue};
 ghost use Rattle.fort_tables.specs.Tables.{IsListed, listed_table};
-ghost use Rattle.fort_operations.specs.OperationTruth.{complemented, accepts, Complement, TestsRelation};
+ghost use Rattle.fort_tables.specs.OperationTruth.{complemented, accepts, Complement, TestsRelation};
 ghost use Rattle.fort_rrn_algebra.specs.Negations.{AreTurned};
 
-use fort_lockstep::{Dta, Table};
+use fort_lockstep::Dta;
+use fort_table::Table;
 use fort_terms::Memory;
 use std::alloc::Global;
 

@@ -4,15 +4,17 @@ ghost use Rattle.fort_tables.specs.Entries.{tuples_of};
 ghost use Rattle.fort_tables.specs.Tables.{IsListed, listed_table};
 ghost use Rattle.fort_tables.specs.Labels.{IsTableOf, HaveLabels};
 ghost use Rattle.fort_tables.specs.LabelRules.{label_of};
-ghost use Rattle.fort_operations.specs.Products.{OfTable, OfTruth, IsOperand, product_rule, product_accepts};
+ghost use Rattle.fort_tables.specs.Products.{OfTable, OfTruth, IsOperand, product_rule, product_accepts};
 ghost use Rattle.fort_theory.specs.Logic as logic;
-ghost use Rattle.fort_operations.specs.OperationTruth.{TestsRelation, Cylinder, Exchange, IsOrder, accepts};
+ghost use Rattle.fort_tables.specs.OperationTruth.{TestsRelation, Cylinder, Exchange, IsOrder, accepts};
 ghost use Rattle.fort_explore.specs.Answer.{IfOver};
 
 use fort_connectives::Op;
-use fort_explore::{ByRule, ExploreFault, explore};
-use fort_lockstep::{Dta, Table};
+use fort_explore::{ExploreFault, explore};
+use fort_labels::ByRule;
+use fort_lockstep::Dta;
 use fort_products::{Both, Operand};
+use fort_table::Table;
 use std::alloc::Global;
 
 /// The table over `total` columns that accepts a tuple of terms where the old one accepts its columns at these places. It is over
@@ -64,6 +66,7 @@ fn undone(order: &[usize]) -> [usize; 16]
 }
 
 /// The table that accepts the tuples of the old one, taken in this order: column k of a tuple is column `order[k]` of the old one.
+/// Promised to callers: the program itself doesn't call it.
 pub fn permute<T: Table>(alloc: Global, old: &T, order: &[usize]) -> Result<Dta, ExploreFault>
     requires { IsOrder (T.table old.now).columns order.now }
     ensures table { (o : IsOrder (T.table old.now).columns order.now) → IfOk result (λ t. IsTableOf

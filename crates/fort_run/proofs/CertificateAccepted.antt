@@ -10,13 +10,13 @@ use Rattle.fort_logic.specs.Translation.{core_of}
 use Rattle.fort_grammar.specs.Forms.{Form}
 use Rattle.fort_grammar.specs.Declarations.{as_list, word_of, AreWords, IsListOfWords, IsHeaded}
 use Rattle.fort_grammar.specs.ProblemForms.{BeginsOtherwise, IsProblem}
-use Rattle.fort_certificate_grammar.specs.Certificates.{Certificate}
-use Rattle.fort_certificate_grammar.specs.CertificateForms.{version_for}
-use Rattle.fort_certificate_grammar.specs.CertificateAgain.{IsReadAgain}
+use Rattle.fort_certificate_theory.specs.Certificates.{Certificate}
+use Rattle.fort_certificate_theory.specs.CertificateForms.{version_for}
+use Rattle.fort_certificate_theory.specs.CertificateAgain.{IsReadAgain}
 use Rattle.fort_certificate_texts.proofs.Again.{behind_again}
-use Rattle.fort_in_order.specs.Checked.{Certified}
-use Rattle.fort_in_order.specs.Written.{IsWritten}
-use Rattle.fort_in_order.proofs.WrittenLaws.{IsInOrder-written}
+use Rattle.fort_certificate_theory.specs.Checked.{Certified}
+use Rattle.fort_certificate_theory.specs.Written.{IsWritten}
+use Rattle.fort_certificate_theory.proofs.WrittenLaws.{IsInOrder-written}
 use Rattle.fort_answers.specs.Requests.{Text, Check}
 use Rattle.fort_answers.specs.Lines.{positive}
 use Rattle.fort_answers.specs.FormulaAnswer.{IsAcceptedClosed}
@@ -26,7 +26,7 @@ use Rattle.fort_answers.specs.CertificateAnswer.{CertificateVerdict}
 use Rattle.fort_answers.specs.CheckAnswer.{certified_line}
 use Rattle.fort_answers.specs.SystemAnswer.{Says}
 use Rattle.fort_answers.specs.Answer.{owed}
-use Rattle.fort_run.proofs.LongerTexts.{problem_too}
+use Rattle.fort_answer_laws.proofs.LongerTexts.{problem_too}
 
 first_word : (bytes : List ℕ) (f : Form) (fs : List Form) (word : List ℕ) (words : List (List ℕ)) → AreWords bytes (f ∷ fs) (word ∷ words)
     → word_of bytes f ≡ Some word

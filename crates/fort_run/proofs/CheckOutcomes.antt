@@ -5,17 +5,17 @@ use Rattle.fort_theory.specs.Trees.{Tree}
 use Rattle.fort_theory.specs.Sides.{System}
 use Rattle.fort_theory.specs.Patterns.{PatternSystem, pattern_system}
 use Rattle.fort_logic.specs.Formulas.{Formula}
-use Rattle.fort_cores.specs.Cores.{Core}
+use Rattle.fort_theory.specs.Cores.{Core}
 use Rattle.fort_logic.specs.Translation.{core_of}
-use Rattle.fort_cores.specs.PatternStructures.{pattern_structure}
+use Rattle.fort_theory.specs.PatternStructures.{pattern_structure}
 use Rattle.fort_parts.specs.PartAnswers.{OfValue, IsAnswerTo}
-use Rattle.fort_certificate_grammar.specs.Certificates.{Certificate}
-use Rattle.fort_in_order.specs.Outcomes.{Reason}
-use Rattle.fort_in_order.specs.Checked.{Outcome, Certified, Rejected, HasOutcome}
+use Rattle.fort_certificate_theory.specs.Certificates.{Certificate}
+use Rattle.fort_certificate_theory.specs.Outcomes.{Reason}
+use Rattle.fort_certificate_theory.specs.Checked.{Outcome, Certified, Rejected, HasOutcome}
 use Rattle.fort_answers.specs.Lines.{positive, negative}
 use Rattle.fort_answers.specs.FormulaAnswer.{Closed}
 use Rattle.fort_answers.specs.CheckAnswer.{certified_line, rejected_line}
-use Rattle.fort_run.specs.declared.question.Question.TheVariants.{Check}
+use Rattle.fort_questions.specs.declared.question.Question.TheVariants.{Check}
 use Rattle.fort_run.specs.declared.reply.Reply.{Reply}
 use Rattle.fort_run.specs.StatusView.{code_of}
 use Rattle.fort_run.specs.Certified.{IsTruth}

@@ -6,17 +6,17 @@ use Rattle.fort_theory.specs.Sides.{System}
 use Rattle.fort_theory.specs.Patterns.{PatternSystem, pattern_system, IsSystem}
 use Rattle.fort_logic.specs.Formulas.{Formula}
 use Rattle.fort_logic.specs.FreeNames.{free_names}
-use Rattle.fort_cores.specs.Cores.{Core}
+use Rattle.fort_theory.specs.Cores.{Core}
 use Rattle.fort_logic.specs.Translation.{core_of}
-use Rattle.fort_in_order.specs.Outcomes.{Reason}
-use Rattle.fort_open_certificates.specs.OpenCertificates.{Found, Empty, OpenCertificate}
-use Rattle.fort_open_certificates.specs.OpenChecked.{OpenOutcome, Confirmed, Rejected, NoEntry, HasOpenOutcome}
+use Rattle.fort_certificate_theory.specs.Outcomes.{Reason}
+use Rattle.fort_certificate_theory.specs.OpenCertificates.{Found, Empty, OpenCertificate}
+use Rattle.fort_certificate_theory.specs.OpenChecked.{OpenOutcome, Confirmed, Rejected, NoEntry, HasOpenOutcome}
 use Rattle.fort_answers.specs.Lines.{positive, negative}
 use Rattle.fort_answers.specs.FormulaAnswer.{Open}
 use Rattle.fort_answers.specs.CheckAnswer.{rejected_line}
 use Rattle.fort_answers.specs.ConfirmAnswer.{certified_witness_line, certified_none_line, node_line, SaysFound, SaysNone, SaysRejected, SaysNoEntry}
 use Rattle.fort_answers.specs.Witnesses.{bindings}
-use Rattle.fort_run.specs.declared.question.Question.TheVariants.{Confirm}
+use Rattle.fort_questions.specs.declared.question.Question.TheVariants.{Confirm}
 use Rattle.fort_run.specs.declared.reply.Reply.{Reply}
 use Rattle.fort_run.specs.StatusView.{code_of}
 use Rattle.fort_run.specs.Confirmed as says

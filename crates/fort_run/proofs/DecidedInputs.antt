@@ -18,7 +18,7 @@ use Rattle.fort_answers.specs.FitAnswer.{FitsSystem}
 use Rattle.fort_answers.proofs.FewPatterns.{AreFewRules-with}
 use Rattle.fort_answers.proofs.OneFit.{FitsSystem-ground}
 use Rattle.fort_run.proofs.LinearRules.{IsInputWith-system}
-use Rattle.fort_run.proofs.PlacesWritten.{places_written}
+use Rattle.fort_answer_laws.proofs.PlacesWritten.{places_written}
 use Rattle.fort_run.proofs.Readiness.{AreTermsOf-count}
 use Rattle.fort_run.proofs.TranslatedCores.{IsOverSystem-core_of}
 

@@ -7,21 +7,21 @@ use Rattle.fort_theory.specs.Sides.{System, IsIndexOf}
 use Rattle.fort_theory.specs.Patterns.{PatternSystem, pattern_system, IsSystem}
 use Rattle.fort_logic.specs.Formulas.{Formula, Var, Name}
 use Rattle.fort_logic.specs.FreeNames.{free_names}
-use Rattle.fort_cores.specs.Cores.{Core}
-use Rattle.fort_cores.specs.CoreTruth.{Places, IsMetBy}
+use Rattle.fort_theory.specs.Cores.{Core}
+use Rattle.fort_theory.specs.CoreTruth.{Places, IsMetBy}
 use Rattle.fort_logic.specs.KeepsTruth.{AreTheirPlaces, SuitsTerminations}
-use Rattle.fort_termination.proofs.RightGroundTargets.{IsRightGroundAt-patterns}
-use Rattle.fort_cores.specs.Parts.{IsWellFormed}
+use Rattle.fort_theory.proofs.RightGroundTargets.{IsRightGroundAt-patterns}
+use Rattle.fort_theory.specs.Parts.{IsWellFormed}
 use Rattle.fort_logic.specs.Translation.{core_of}
-use Rattle.fort_cores.specs.Structures.{structure_of}
-use Rattle.fort_cores.specs.PatternStructures.{pattern_structure}
+use Rattle.fort_theory.specs.Structures.{structure_of}
+use Rattle.fort_theory.specs.PatternStructures.{pattern_structure}
 use Rattle.fort_logic.specs.Truth.{Assignment, IsGroundAssignment, GivesTerms, Holds}
 use Rattle.fort_formulas.specs.KindView.{as_kind}
 use Rattle.fort_parts.specs.DecidedCores.{IsOverSystem, IsDecided}
 use Rattle.fort_parts.specs.PartColumns.{columns_of}
 use Rattle.fort_parts.specs.PartAnswers.{Answer, OfValue, OfTable, IsAnswerTo}
-use Rattle.fort_run.proofs.NamedColumns.{columns_of-core_of}
-use Rattle.fort_cores.proofs.SameCoreRoots.{IsMetBy-by_patterns}
+use Rattle.fort_answer_laws.proofs.NamedColumns.{columns_of-core_of}
+use Rattle.fort_theory.proofs.SameCoreRoots.{IsMetBy-by_patterns}
 use Rattle.fort_run.proofs.TranslatedCores.{IsOverSystem-core_of}
 use Rattle.fort_answers.specs.Lines.{positive, negative, yes_line, no_line}
 use Rattle.fort_answers.specs.SystemAnswer.{PassesCap}

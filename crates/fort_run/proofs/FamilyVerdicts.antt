@@ -6,17 +6,17 @@ use Rattle.fort_theory.specs.Trees.{Tree}
 use Rattle.fort_theory.specs.Signatures.{Signature, HasConstant, arity_of}
 use Rattle.fort_theory.specs.Sides.{System, IsIndexOf}
 use Rattle.fort_theory.specs.Patterns.{PatternSystem, pattern_system}
-use Rattle.fort_termination.proofs.RightGroundTargets.{IsRightGroundAt-patterns}
+use Rattle.fort_theory.proofs.RightGroundTargets.{IsRightGroundAt-patterns}
 use Rattle.fort_logic.specs.Formulas.{Formula}
 use Rattle.fort_logic.specs.Translation.{core_of}
-use Rattle.fort_cores.specs.Cores.{Core}
+use Rattle.fort_theory.specs.Cores.{Core}
 use Rattle.fort_parts.specs.DecidedCores.{IsDecided}
 use Rattle.fort_formulas.specs.KindView.{as_kind}
-use Rattle.fort_families.specs.FamilyRules.{FamilyRule, IsFamilyRule, IsFamily, IsTooLarge, most_family_rules}
-use Rattle.fort_families.specs.FamilySystems.{any_count, IsCandidate, system_of}
-use Rattle.fort_families.proofs.FamilySizes.{any_count-within, subpatterns-few}
-use Rattle.fort_families.specs.RuleText.{rule_lines}
-use Rattle.fort_families.proofs.FamilyOrderLaws.{IsFamily-not_too_large}
+use Rattle.fort_answers.specs.FamilyRules.{FamilyRule, IsFamilyRule, IsFamily, IsTooLarge, most_family_rules}
+use Rattle.fort_answers.specs.FamilySystems.{any_count, IsCandidate, system_of}
+use Rattle.fort_answers.proofs.FamilySizes.{any_count-within, subpatterns-few}
+use Rattle.fort_answers.specs.RuleText.{rule_lines}
+use Rattle.fort_answers.proofs.FamilyOrderLaws.{IsFamily-not_too_large}
 use Rattle.fort_synth.specs.SearchAnswers.{FitsRule, IsPicked, picked_system}
 use Rattle.fort_words.specs.declared.request.Options.{Options}
 use Rattle.fort_words.specs.declared.request.Family.{Family}
@@ -31,7 +31,7 @@ use Rattle.fort_answers.proofs.FamilySystemLaws.{family_separated, family_right_
 use Rattle.fort_engine.specs.declared.answer.EngineFault.{EngineFault}
 use Rattle.fort_engine.specs.declared.answer.EngineFault.TheVariants as faults
 use Rattle.fort_engine.specs.AnswerView.{IfOver, KeepsCapAt, IsLimit}
-use Rattle.fort_run.specs.declared.question.Question.TheVariants.{Synth}
+use Rattle.fort_questions.specs.declared.question.Question.TheVariants.{Synth}
 use Rattle.fort_run.specs.declared.reply.Reply.{Reply}
 use Rattle.fort_run.specs.StatusView.{code_of}
 use Rattle.fort_run.specs.Certified.{IsTruth}

@@ -1,18 +1,12 @@
 pub mod QuestionLaws
-pub mod FormulaRefusals
-pub mod PlainFormats
-pub mod InputLines
 pub mod Told
 pub mod LineReplies
-pub mod LongerTexts
 pub mod CertificateAccepted
-pub mod PlacesWritten
 pub mod DecidedInputs
 pub mod SmallSteps
 pub mod OpenAccepted
 pub mod PrintedCertificates
 pub mod Replies
-pub mod Fitting
 pub mod LinearRules
 pub mod SomeParts
 pub mod Deciding
@@ -33,6 +27,5 @@ pub mod TermTexts
 pub mod Properties
 pub mod SampleLines
 pub mod WrittenNumbers
-pub mod NamedColumns
 pub mod TranslatedCores
 pub mod SaidClauses

@@ -12,12 +12,12 @@ use Rattle.fort_tables.specs.Tables.{Table}
 use Rattle.fort_grammar.specs.Declarations.{as_list}
 use Rattle.fort_grammar.specs.ProblemForms.{BeginsOtherwise, IsProblem}
 use Rattle.fort_certificate.proofs.OpenAgain.{open_behind_again}
-use Rattle.fort_open_certificates.specs.OpenCertificates.{Claim, Found, Empty, OpenCertificate}
-use Rattle.fort_open_certificates.specs.OpenAgain.{IsOpenReadAgain}
-use Rattle.fort_open_certificates.specs.OpenChecked.{Confirmed, last_of}
-use Rattle.fort_open_certificates.specs.OpenWritten.{IsOpenWritten, IsWrittenClaim, LeastFound, NoneFound}
-use Rattle.fort_open_certificates.proofs.LastNodes.{last_node}
-use Rattle.fort_open_laws.proofs.WrittenInOrder.{written_in_order}
+use Rattle.fort_certificate_theory.specs.OpenCertificates.{Claim, Found, Empty, OpenCertificate}
+use Rattle.fort_certificate_theory.specs.OpenAgain.{IsOpenReadAgain}
+use Rattle.fort_certificate_theory.specs.OpenChecked.{Confirmed, last_of}
+use Rattle.fort_certificate_theory.specs.OpenWritten.{IsOpenWritten, IsWrittenClaim, LeastFound, NoneFound}
+use Rattle.fort_certificate_theory.proofs.LastNodes.{last_node}
+use Rattle.fort_certificate_theory.proofs.WrittenInOrder.{written_in_order}
 use Rattle.fort_answers.specs.Requests.{Text, Confirm}
 use Rattle.fort_answers.specs.Lines.{positive}
 use Rattle.fort_answers.specs.FormulaAnswer.{Open, IsAcceptedAs}
@@ -33,7 +33,7 @@ use Rattle.fort_run.specs.Confirmed.{SaysLeast, TellsLeast, TellsClaim}
 use Rattle.fort_run.proofs.CertificateAccepted.{begins_behind}
 use Rattle.fort_run.proofs.DecidedInputs.{decided_input}
 use Rattle.fort_run.proofs.LinearRules.{IsInputWith-system}
-use Rattle.fort_run.proofs.LongerTexts.{problem_too}
+use Rattle.fort_answer_laws.proofs.LongerTexts.{problem_too}
 use Rattle.fort_run.proofs.SmallSteps.{steps_small}
 
 -- what `confirm` owes where a certificate with these nodes is in order with its claim

@@ -10,22 +10,22 @@ use Rattle.fort_theory.specs.Patterns.{PatternSystem, pattern_system, IsSystem}
 use Rattle.fort_logic.specs.Formulas.{Formula}
 use Rattle.fort_logic.specs.FreeNames.{free_names}
 use Rattle.fort_logic.specs.Truth.{IsFalseOf}
-use Rattle.fort_cores.specs.Cores.{Core}
-use Rattle.fort_cores.specs.CoreTruth.{Places}
+use Rattle.fort_theory.specs.Cores.{Core}
+use Rattle.fort_theory.specs.CoreTruth.{Places}
 use Rattle.fort_tables.specs.Entries.{Entry, AreNodes}
 use Rattle.fort_tables.specs.Tables.{Table, IsTable, state_of}
 use Rattle.fort_tables.proofs.TableLaws.{table_state}
-use Rattle.fort_operations.specs.OperationTruth.{accepts}
-use Rattle.fort_reduced_parts.specs.ReducedParts.{IsSatisfiedBy}
-use Rattle.fort_atom_labels.specs.AssignedTuples.{tuple_of}
-use Rattle.fort_order.specs.LeastTuple.{IsLeastAccepted, AcceptsNone}
+use Rattle.fort_tables.specs.OperationTruth.{accepts}
+use Rattle.fort_parts.specs.ReducedParts.{IsSatisfiedBy}
+use Rattle.fort_alike.specs.AssignedTuples.{tuple_of}
+use Rattle.fort_tables.specs.LeastTuple.{IsLeastAccepted, AcceptsNone}
 use Rattle.fort_parts.specs.PartColumns.{columns_of}
 use Rattle.fort_parts.specs.PartAnswers.{OfTable, AreGround}
-use Rattle.fort_open_certificates.specs.OpenCertificates.{Claim, Found, Empty, OpenCertificate}
-use Rattle.fort_open_certificates.specs.OpenChecked.{Confirmed, last_of, AcceptsSome, HasOpenOutcome}
-use Rattle.fort_open_certificates.specs.OpenWritten.{IsWrittenClaim, LeastFound, NoneFound}
-use Rattle.fort_open_certificates.proofs.LastNodes.{last_node}
-use Rattle.fort_open_laws.proofs.OpenTruthLaws.{IsBorneOut, claim_borne_out, proves}
+use Rattle.fort_certificate_theory.specs.OpenCertificates.{Claim, Found, Empty, OpenCertificate}
+use Rattle.fort_certificate_theory.specs.OpenChecked.{Confirmed, last_of, AcceptsSome, HasOpenOutcome}
+use Rattle.fort_certificate_theory.specs.OpenWritten.{IsWrittenClaim, LeastFound, NoneFound}
+use Rattle.fort_certificate_theory.proofs.LastNodes.{last_node}
+use Rattle.fort_certificate_theory.proofs.OpenTruthLaws.{IsBorneOut, claim_borne_out, proves}
 use Rattle.fort_answers.specs.Witnesses.{AreWitnesses}
 use Rattle.fort_answers.specs.FormulaAnswer.{Open}
 use Rattle.fort_answer_laws.proofs.TermTuples.{terms_in, terms-one}

@@ -8,18 +8,18 @@ use Rattle.fort_theory.specs.Sides.{System}
 use Rattle.fort_theory.specs.Patterns.{PatternSystem, pattern_system}
 use Rattle.fort_logic.specs.Formulas.{Formula}
 use Rattle.fort_logic.specs.FreeNames.{free_names}
-use Rattle.fort_cores.specs.Cores.{Core}
+use Rattle.fort_theory.specs.Cores.{Core}
 use Rattle.fort_logic.specs.KeepsTruth.{KeepsTruth}
-use Rattle.fort_cores.specs.Parts.{IsClosed}
-use Rattle.fort_cores.specs.PatternStructures.{pattern_structure}
+use Rattle.fort_theory.specs.Parts.{IsClosed}
+use Rattle.fort_theory.specs.PatternStructures.{pattern_structure}
 use Rattle.fort_logic.specs.Translation.{core_of}
 use Rattle.fort_logic.proofs.FreeNumbers.{core_of-free}
 use Rattle.fort_parts.specs.PartColumns.{columns_of}
 use Rattle.fort_parts.specs.PartAnswers.{Answer, OfValue, IsAnswerTo}
-use Rattle.fort_certificate_grammar.specs.CertificateForms.{Version, version_for}
-use Rattle.fort_certificate_grammar.specs.CertificateText.{certificate_text, CanBeWritten}
+use Rattle.fort_certificate_theory.specs.CertificateForms.{Version, version_for}
+use Rattle.fort_certificate_theory.specs.CertificateText.{certificate_text, CanBeWritten}
 use Rattle.fort_certificate.specs.Again.{HasSmallNumbers}
-use Rattle.fort_in_order.specs.Written.{IsWritten}
+use Rattle.fort_certificate_theory.specs.Written.{IsWritten}
 use Rattle.fort_steps.specs.StepView.{as_step}
 use Rattle.fort_trace.specs.declared.decide.Recorded.{Recorded}
 use Rattle.fort_trace.specs.RecordedView.{as_certificate}
@@ -34,19 +34,19 @@ use Rattle.fort_engine.specs.declared.answer.EngineFault.TheVariants.{Memory, Ov
 use Rattle.fort_engine.specs.declared.answer.Last.{Last}
 use Rattle.fort_engine.specs.declared.answer.Last.TheVariants.{Truth as Value}
 use Rattle.fort_engine.specs.AnswerView.{as_answer, IfOver, KeepsCapAt, IsLimit}
-use Rattle.fort_run.specs.declared.question.Question.{Question}
+use Rattle.fort_questions.specs.declared.question.Question.{Question}
 use Rattle.fort_run.specs.declared.reply.Reply.{Reply}
 use Rattle.fort_run.specs.StatusView.{code_of}
-use Rattle.fort_run.specs.declared.input.Input.{Input}
-use Rattle.fort_run.specs.Inputs.{IsInputOf}
-use Rattle.fort_run.specs.Questions.{openness_of, tail_of, options_of}
+use Rattle.fort_questions.specs.declared.input.Input.{Input}
+use Rattle.fort_questions.specs.Inputs.{IsInputOf}
+use Rattle.fort_questions.specs.Questions.{openness_of, tail_of, options_of}
 use Rattle.fort_run.specs.Certified.{IsTruth}
 use Rattle.fort_run.specs.Posed.{IsPosed, Settles, SettlesCore}
 use Rattle.fort_run.specs.Ready.{IsLawful, IsAnsweredBy, IsDecidedBy}
 use Rattle.fort_run.specs.Verdicts.{IsTrueCertificate, VerdictOn, TellsFault, IsVerdict, Limits, Says}
 use Rattle.fort_run.proofs.Deciding.{is_truth}
-use Rattle.fort_run.proofs.Fitting.{number_is}
-use Rattle.fort_run.proofs.FormulaRefusals.{no_items}
+use Rattle.fort_questions.proofs.Fitting.{number_is}
+use Rattle.fort_questions.proofs.FormulaRefusals.{no_items}
 use Rattle.fort_run.proofs.TableWitnesses.{columns-names}
 use Rattle.fort_run.proofs.WrittenNumbers.{written_numbers}
 

@@ -1,13 +1,13 @@
 -- A certificate that is owed is accepted behind the bytes of its problem, one of terms too.
 use Rattle.std.proofs.Common.{◌≡◌, ℕ, List, length, true, refl, subst, arith}
 use Rattle.std.specs.Prelude.{Some}
-use Rattle.fort_certificate_grammar.specs.CertificateForms.{version_for}
+use Rattle.fort_certificate_theory.specs.CertificateForms.{version_for}
 use Rattle.fort_answers.specs.Requests.{Text, Decide, Witness, Options}
 use Rattle.fort_answers.specs.CommandGrammar.{request_of}
 use Rattle.fort_answers.specs.Lines.{positive}
 use Rattle.fort_answers.specs.DecideAnswer.{decide_inquiry}
 use Rattle.fort_answers.specs.WitnessAnswer.{witness_inquiry}
-use Rattle.fort_answers.specs.SystemAnswer.{IsAnswerTo, FormulaRefused, InputRefused, FormulaUnfit, Limited, Says}
+use Rattle.fort_answers.specs.SystemAnswer.{IsOwedTo, FormulaRefused, InputRefused, FormulaUnfit, Limited, Says}
 use Rattle.fort_answers.specs.Answer.{owed, Answer}
 use Rattle.fort_run.proofs.CertificateAccepted.{written_accepted}
 use Rattle.fort_run.proofs.OpenAccepted.{written_lines, open_accepted}
@@ -15,7 +15,7 @@ use Rattle.fort_run.specs.Certified.{IsAcceptedBehind}
 use Rattle.fort_run.specs.Confirmed.{IsOpenAcceptedBehind}
 
 module _ (options : Options) (formula bytes text : Text) where
-  accepted : (status : ℕ) → IsAnswerTo (decide_inquiry options true formula) bytes status text → status ≡ positive → IsAcceptedBehind formula bytes text
+  accepted : (status : ℕ) → IsOwedTo (decide_inquiry options true formula) bytes status text → status ≡ positive → IsAcceptedBehind formula bytes text
   accepted status (FormulaRefused early) e = let other = early.are.same_status in absurd (omega arith)
   accepted status (InputRefused f taken line says are) e = let other = are.same_status in absurd (omega arith)
   accepted status (FormulaUnfit f taken system behind is line says are) e = let other = are.same_status in absurd (omega arith)
@@ -37,7 +37,7 @@ printed_accepted words options formula bytes text asked answer =
 -- ---- of terms
 
 module _ (options : Options) (formula bytes text : Text) where
-  accepted_terms : (status : ℕ) → IsAnswerTo (witness_inquiry options true formula) bytes status text → status ≡ positive
+  accepted_terms : (status : ℕ) → IsOwedTo (witness_inquiry options true formula) bytes status text → status ≡ positive
       → IsOpenAcceptedBehind formula bytes text
   accepted_terms status (FormulaRefused early) e = let other = early.are.same_status in absurd (omega arith)
   accepted_terms status (InputRefused f taken line says are) e = let other = are.same_status in absurd (omega arith)

@@ -7,8 +7,8 @@ use Rattle.fort_theory.specs.Signatures.{IsGround, most_columns}
 use Rattle.fort_theory.specs.Sides.{IsIndexOf}
 use Rattle.fort_theory.specs.Patterns.{PatternSystem}
 use Rattle.fort_theory.proofs.Members.{Contains-none, Contains-cons_cases}
-use Rattle.fort_termination.specs.RightGround.{HasRightGroundPairsAt}
-use Rattle.fort_cores.specs.Cores.{Atom, Related, InContext, Normal, IsTerm, Core, True, Leaf, Not, Binary, Exists, Infinite}
+use Rattle.fort_theory.specs.RightGround.{HasRightGroundPairsAt}
+use Rattle.fort_theory.specs.Cores.{Atom, Related, InContext, Normal, IsTerm, Core, True, Leaf, Not, Binary, Exists, Infinite}
 use Rattle.fort_logic.specs.Formulas.{Property, Cr, Wcr, Scr, Wn, Unr, Unc, Nfp, Has}
 use Rattle.fort_logic.specs.Translation.{core_of, IsFormulaTooWide}
 use Rattle.fort_logic.proofs.FreeNumbers.{core_of-binds_free}

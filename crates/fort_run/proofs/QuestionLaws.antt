@@ -6,12 +6,12 @@ use Rattle.fort_logic.specs.Formulas.{Formula}
 use Rattle.fort_answers.specs.Requests.{Text, Options}
 use Rattle.fort_answers.specs.FormulaAnswer.{IsAcceptedAs, IsRefusedAs}
 use Rattle.fort_answers.specs.InputAnswer.{Behind, IsInput, IsInputWith}
-use Rattle.fort_answers.specs.SystemAnswer.{IsAnswerTo}
+use Rattle.fort_answers.specs.SystemAnswer.{IsOwedTo}
 use Rattle.fort_answers.specs.Answer.{About, owing, IsOwed, ReadsInput, DecidesAbout, owed, needed, IsAbout}
 use Rattle.fort_answers.proofs.OneRequest.{accepted_as-not_refused}
-use Rattle.fort_run.specs.declared.question.Question.{Question}
-use Rattle.fort_run.specs.declared.question.Question.TheVariants.{Truth, Certificate, Terms, TermsCertificate, Check, Solutions, Confirm, Synth}
-use Rattle.fort_run.specs.Questions.{request_for, inquiry_of, openness_of, tail_of, options_of}
+use Rattle.fort_questions.specs.declared.question.Question.{Question}
+use Rattle.fort_questions.specs.declared.question.Question.TheVariants.{Truth, Certificate, Terms, TermsCertificate, Check, Solutions, Confirm, Synth}
+use Rattle.fort_questions.specs.Questions.{request_for, inquiry_of, openness_of, tail_of, options_of}
 
 owing_is : (question : Question) (text : Text) → owing (Some (request_for question text)) ≡ About (inquiry_of question text)
 owing_is (Truth options) text = refl
@@ -24,7 +24,7 @@ owing_is Confirm text = refl
 owing_is (Synth options family) text = refl
 
 module _ (question : Question) (text : Text) where
-  pub owed_to : (bytes : Text) (s : ℕ) (t : Text) → IsAnswerTo (inquiry_of question text) bytes s t → owed (Some (request_for question text)) bytes s t
+  pub owed_to : (bytes : Text) (s : ℕ) (t : Text) → IsOwedTo (inquiry_of question text) bytes s t → owed (Some (request_for question text)) bytes s t
   owed_to bytes s t answer = subst (λ o. IsOwed o bytes s t) (sym (owing_is question text)) answer
 
   pub needs : (f : Formula) → IsAcceptedAs (openness_of question) text f → needed (Some (request_for question text))

@@ -6,8 +6,8 @@ use Rattle.fort_theory.specs.Trees.{Tree}
 use Rattle.fort_theory.specs.Signatures.{Signature, IsGround}
 use Rattle.fort_theory.specs.Sides.{System}
 use Rattle.fort_theory.specs.Patterns.{PatternSystem, pattern_system}
-use Rattle.fort_termination.specs.RightGround.{IsRightGroundAt, HasRightGroundPairsAt}
-use Rattle.fort_termination.proofs.RightGroundTargets.{IsRightGroundAt-patterns}
+use Rattle.fort_theory.specs.RightGround.{IsRightGroundAt, HasRightGroundPairsAt}
+use Rattle.fort_theory.proofs.RightGroundTargets.{IsRightGroundAt-patterns}
 use Rattle.fort_logic.specs.Mentions.{HasPlacesBelow}
 use Rattle.fort_logic.specs.Terminations.{terminations, AreAll}
 use Rattle.fort_logic.proofs.TerminationMentions.{AreAll-same}
@@ -21,9 +21,9 @@ use Rattle.fort_answers.specs.FitAnswer.{FitsSystem}
 use Rattle.fort_answers.specs.Said.{AreTermsOf}
 use Rattle.fort_answers.specs.FormulaAnswer.{IsAccepted, Openness}
 use Rattle.fort_answers.proofs.OneFit.{FitsSystem-ground}
-use Rattle.fort_run.specs.Accepted.{IsRead}
+use Rattle.fort_questions.specs.Accepted.{IsRead}
 use Rattle.fort_run.specs.Ready.{IsReady, HaveFewRules}
-use Rattle.fort_run.proofs.Fitting.{number_is, signature_is}
+use Rattle.fort_questions.proofs.Fitting.{number_is, signature_is}
 
 pub AreTermsOf-count : (signature : Signature) (gs : List Ground) (ts : List Tree) → AreTermsOf signature gs ts → length gs ≡ length ts
 AreTermsOf-count signature [] [] are = refl

@@ -4,14 +4,14 @@ use Rattle.std.specs.Prelude.{Option, Some, None, IfSome}
 use Rattle.fort_theory.specs.Trees.{Tree}
 use Rattle.fort_theory.specs.Sides.{System}
 use Rattle.fort_logic.specs.Formulas.{Formula}
-use Rattle.fort_certificate_grammar.specs.Certificates as certificates
-use Rattle.fort_in_order.specs.Checked.{Outcome, Certified, Rejected}
+use Rattle.fort_certificate_theory.specs.Certificates as certificates
+use Rattle.fort_certificate_theory.specs.Checked.{Outcome, Certified, Rejected}
 use Rattle.fort_answers.specs.Requests.{Text, Request}
 use Rattle.fort_answers.specs.Requests as requests
 use Rattle.fort_answers.specs.Lines.{positive, refused, limit_line}
 use Rattle.fort_answers.specs.FormulaAnswer.{IsAcceptedAs, IsAcceptedClosed, IsRefusedAs}
-use Rattle.fort_families.specs.FamilyRules.{FamilyRule}
-use Rattle.fort_families.specs.FamilySystems.{system_of}
+use Rattle.fort_answers.specs.FamilyRules.{FamilyRule}
+use Rattle.fort_answers.specs.FamilySystems.{system_of}
 use Rattle.fort_words.specs.declared.request.Options.{Options as OwnOptions}
 use Rattle.fort_words.specs.declared.request.Family.{Family as OwnFamily}
 use Rattle.fort_words.specs.RequestView.{as_options, as_family}
@@ -24,14 +24,15 @@ use Rattle.fort_answers.specs.SystemAnswer as answers
 use Rattle.fort_answers.specs.CheckAnswer.{OwesOutcome}
 use Rattle.fort_answers.specs.Answer.{owed, needed}
 use Rattle.fort_formulas.specs.KindView.{as_kind}
-use Rattle.fort_run.specs.declared.question.Question.{Question}
-use Rattle.fort_run.specs.declared.question.Question.TheVariants.{Truth, Certificate, Terms, TermsCertificate, Check, Solutions, Confirm, Synth}
+use Rattle.fort_questions.specs.declared.question.Question.{Question}
+use Rattle.fort_questions.specs.declared.question.Question.TheVariants.{Truth, Certificate, Terms, TermsCertificate, Check, Solutions, Confirm, Synth}
 use Rattle.fort_run.specs.declared.reply.Reply.{Reply}
-use Rattle.fort_run.specs.declared.refusal.Refusal.{Refusal}
-use Rattle.fort_run.specs.declared.refusal.Refusal.TheVariants as refusals
-use Rattle.fort_run.specs.Refusals.{Refuses, IsRefusal, TellsRefusal}
+use Rattle.fort_questions.specs.declared.refusal.Refusal.{Refusal}
+use Rattle.fort_questions.specs.declared.refusal.Refusal.TheVariants as refusals
+use Rattle.fort_questions.specs.Refusals.{Refuses}
+use Rattle.fort_run.specs.RefusalReplies.{IsRefusal, TellsRefusal}
 use Rattle.fort_run.specs.StatusView.{code_of}
-use Rattle.fort_run.specs.Questions.{request_for, openness_of, tail_of, says_of}
+use Rattle.fort_questions.specs.Questions.{request_for, openness_of, tail_of, says_of}
 use Rattle.fort_run.specs.Certified.{IsTruth, IsCertified}
 use Rattle.fort_run.specs.Limits.{HasLimit, OverInput, OverFamily}
 use Rattle.fort_run.specs.Replies.{SaysFor, IsReplyTo}

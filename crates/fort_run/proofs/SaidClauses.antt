@@ -32,18 +32,20 @@ certified_said formula told old new c =
     record {
       text = c.line;
       taken = c.taken;
-      bytes = c.certified.bytes;
-      told_are = c.certified.told_are;
       said = record {
-        f = own.f;
-        is_text = own.accepted.accepted.read;
-        system = own.system;
-        begins = own.begins;
-        grounds = own.fits.grounds;
-        are_grounds = own.fits.are_grounds;
-        terms = own.terms;
-        are_terms = own.fits.are_terms;
-        holds = truth_said own.verdict own.system own.terms own.f c.line own.says own.is;
+        bytes = c.certified.bytes;
+        told_are = c.certified.told_are;
+        holds = record {
+          f = own.f;
+          is_text = own.accepted.accepted.read;
+          system = own.system;
+          begins = own.begins;
+          grounds = own.fits.grounds;
+          are_grounds = own.fits.are_grounds;
+          terms = own.terms;
+          are_terms = own.fits.are_terms;
+          holds = truth_said own.verdict own.system own.terms own.f c.line own.says own.is;
+        };
       };
     }
 
@@ -57,18 +59,20 @@ confirmed_said formula told old new c =
     record {
       text = c.text;
       taken = c.taken;
-      bytes = c.confirmed.bytes;
-      told_are = c.confirmed.told_are;
       said = record {
-        f = own.f;
-        is_text = own.accepted.accepted.read;
-        system = own.system;
-        begins = own.begins;
-        grounds = own.fits.grounds;
-        are_grounds = own.fits.are_grounds;
-        terms = own.terms;
-        are_terms = own.fits.are_terms;
-        holds = terms_said own.system own.terms own.f c.text own.says;
+        bytes = c.confirmed.bytes;
+        told_are = c.confirmed.told_are;
+        holds = record {
+          f = own.f;
+          is_text = own.accepted.accepted.read;
+          system = own.system;
+          begins = own.begins;
+          grounds = own.fits.grounds;
+          are_grounds = own.fits.are_grounds;
+          terms = own.terms;
+          are_terms = own.fits.are_terms;
+          holds = terms_said own.system own.terms own.f c.text own.says;
+        };
       };
     }
 

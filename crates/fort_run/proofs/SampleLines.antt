@@ -5,7 +5,7 @@ use Rattle.fort_theory.specs.Sides.{System}
 use Rattle.fort_theory.specs.Patterns.{PatternSystem, pattern_system}
 use Rattle.fort_logic.specs.Formulas.{Property, Has}
 use Rattle.fort_formula_grammar.specs.Tokens.{property_text}
-use Rattle.fort_cores.specs.Cores.{Core}
+use Rattle.fort_theory.specs.Cores.{Core}
 use Rattle.fort_formulas.specs.KindView.{as_kind}
 use Rattle.fort_words.specs.declared.request.Options.{Options}
 use Rattle.fort_answers.specs.Requests as theirs
@@ -18,7 +18,7 @@ use Rattle.fort_answers.specs.MadeProblem.{made_system}
 use Rattle.fort_answers.specs.SampleAnswer.{sample_cap, sample_options, sample_line, sample_properties, PropertyVerdict, Over, Yes, No, IsPropertyLine, ArePropertyLines, SampleAnswer}
 use Rattle.fort_answers.specs.PossibleRequests.{IsSampleSize}
 use Rattle.fort_answers.proofs.MadeLaws.{made_system-constant, made_system-separated}
-use Rattle.fort_run.specs.declared.question.Question.TheVariants.{Truth}
+use Rattle.fort_questions.specs.declared.question.Question.TheVariants.{Truth}
 use Rattle.fort_run.specs.declared.reply.Reply.{Reply}
 use Rattle.fort_run.specs.Posed.{IsPosed, SettlesCore}
 use Rattle.fort_run.specs.Ready.{IsLawful}

@@ -1,10 +1,10 @@
 -- Steps of a version with merges can be written exactly where their numbers are small.
 use Rattle.std.specs.Prelude.{List, [], ◌∷◌, refl}
 use Rattle.std.specs.List.{AllByRecursion}
-use Rattle.fort_certificate_grammar.specs.Certificates.{Step, Closure, Part, Merge, Counts, Value}
-use Rattle.fort_certificate_grammar.specs.CertificateText.{CanBeWritten}
+use Rattle.fort_certificate_theory.specs.Certificates.{Step, Closure, Part, Merge, Counts, Value}
+use Rattle.fort_certificate_theory.specs.CertificateText.{CanBeWritten}
 use Rattle.fort_certificate.specs.Again.{HasSmallNumbers}
-use Rattle.fort_open_certificates.specs.OpenForms.{step_version}
+use Rattle.fort_certificate_theory.specs.OpenForms.{step_version}
 
 step_small : (s : Step) → CanBeWritten step_version s → HasSmallNumbers s
 step_small (Closure which index pairs) h = (h.0.0, h.1)

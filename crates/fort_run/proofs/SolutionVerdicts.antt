@@ -10,17 +10,17 @@ use Rattle.fort_theory.specs.Sides.{System}
 use Rattle.fort_theory.specs.Patterns.{PatternSystem, pattern_system}
 use Rattle.fort_logic.specs.Formulas.{Formula}
 use Rattle.fort_logic.specs.FreeNames.{free_names}
-use Rattle.fort_cores.specs.PatternStructures.{pattern_structure}
+use Rattle.fort_theory.specs.PatternStructures.{pattern_structure}
 use Rattle.fort_logic.specs.Translation.{core_of}
 use Rattle.fort_tables.specs.Tuples.{Tuple, IsFull, AreGroundColumns, level}
 use Rattle.fort_tables.specs.Entries.{Entry, AreNodes, picked, tuples_of}
 use Rattle.fort_tables.specs.Tables.{listed_table}
 use Rattle.fort_lockstep.specs.declared.dta.Dta.{Dta}
-use Rattle.fort_order.specs.TupleOrder.{TupleBefore}
-use Rattle.fort_order.specs.LeastTuple.{Accepted}
-use Rattle.fort_order.specs.FirstInOrder.{AreFirstInOrder}
-use Rattle.fort_order.specs.Solutions.{IsSolution}
-use Rattle.fort_order.proofs.FirstLaws.{AreFirstInOrder-mapped}
+use Rattle.fort_tables.specs.TupleOrder.{TupleBefore}
+use Rattle.fort_tables.specs.LeastTuple.{Accepted}
+use Rattle.fort_tables.specs.FirstInOrder.{AreFirstInOrder}
+use Rattle.fort_tables.specs.Solutions.{IsSolution}
+use Rattle.fort_tables.proofs.FirstLaws.{AreFirstInOrder-mapped}
 use Rattle.fort_witness.specs.Answers.{AreSolutions}
 use Rattle.fort_parts.specs.PartAnswers.{OfValue, OfTable, IsAnswerTo}
 use Rattle.fort_answers.specs.Lines.{positive, negative}
@@ -32,9 +32,9 @@ use Rattle.fort_engine.specs.declared.answer.Last.TheVariants.{Truth as Value, A
 use Rattle.fort_engine.specs.AnswerView.{as_answer, HasStatesWithin}
 use Rattle.fort_run.specs.Ready.{IsLawful, IsAnsweredBy, IsDecidedBy}
 use Rattle.fort_run.specs.Witnesses.{AreTermsAt, AreAllTermsAt}
-use Rattle.fort_run.proofs.NamedColumns.{columns_of-core_of}
+use Rattle.fort_answer_laws.proofs.NamedColumns.{columns_of-core_of}
 use Rattle.fort_answer_laws.proofs.TermTuples.{full-terms, terms_in, terms-one}
-use Rattle.fort_run.proofs.FormulaRefusals.{no_items}
+use Rattle.fort_questions.proofs.FormulaRefusals.{no_items}
 use Rattle.fort_run.proofs.TableWitnesses.{table-columns, accepted, tuple, accepted-satisfy}
 use Rattle.fort_run.proofs.WitnessVerdicts.{of_table}
 

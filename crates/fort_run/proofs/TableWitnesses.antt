@@ -14,15 +14,15 @@ use Rattle.fort_logic.specs.Translation.{core_of}
 use Rattle.fort_logic.specs.Truth.{IsFalseOf}
 use Rattle.fort_tables.specs.Tuples.{IsTuple, AreGroundColumns}
 use Rattle.fort_tables.specs.Tables.{Table}
-use Rattle.fort_operations.specs.OperationTruth.{accepts}
-use Rattle.fort_order.specs.LeastTuple.{Accepted, IsLeastAccepted, AcceptsNone}
-use Rattle.fort_order.proofs.LeastLaws.{least_not_after}
+use Rattle.fort_tables.specs.OperationTruth.{accepts}
+use Rattle.fort_tables.specs.LeastTuple.{Accepted, IsLeastAccepted, AcceptsNone}
+use Rattle.fort_tables.proofs.LeastLaws.{least_not_after}
 use Rattle.fort_parts.specs.PartColumns.{columns_of}
 use Rattle.fort_parts.specs.PartAnswers.{OfTable}
 use Rattle.fort_answers.specs.Witnesses.{free_trees, AreWitnesses, AreLeastWitnesses}
 use Rattle.fort_answer_laws.proofs.TermTuples.{full-terms, IsTuple-terms, witnesses-count, witnesses-ground}
 use Rattle.fort_run.specs.Ready.{IsLawful, IsAnsweredBy}
-use Rattle.fort_run.proofs.NamedColumns.{columns_of-core_of}
+use Rattle.fort_answer_laws.proofs.NamedColumns.{columns_of-core_of}
 use Rattle.fort_run.proofs.WitnessTruth.{said-witnesses, witnesses-said}
 
 -- a column for each free name

@@ -6,7 +6,7 @@ use Rattle.fort_theory.specs.Trees.{Tree}
 use Rattle.fort_theory.specs.Signatures.{Signature}
 use Rattle.fort_logic.specs.Formulas.{Name}
 use Rattle.fort_tables.specs.Entries.{Entry}
-use Rattle.fort_order.specs.TermText.{term_text}
+use Rattle.fort_tables.specs.TermText.{term_text}
 use Rattle.fort_witness.specs.Texts.{term_at, column_text, text_at}
 use Rattle.fort_answers.specs.Lines.{line}
 use Rattle.fort_answers.specs.Requests.{Text}

@@ -4,7 +4,7 @@ use Rattle.std.specs.Prelude.{Option, Some, None, IfSome}
 use Rattle.std.specs.Io.KnownBytes.{Consumes, IsAtEnd}
 use Rattle.fort_answers.specs.Requests.{Text}
 use Rattle.fort_answers.specs.InputAnswer.{input_limit}
-use Rattle.fort_run.specs.Told.{HoldsForTold}
+use Rattle.fort_answers.specs.Told.{HoldsForTold}
 
 -- some text is longer than any number says
 longer_than : (n : ℕ) → (bytes : List ℕ) × (n < length bytes)

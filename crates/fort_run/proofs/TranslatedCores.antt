@@ -11,9 +11,9 @@ use Rattle.fort_logic.specs.Formulas as surface
 use Rattle.fort_logic.specs.Formulas.{Name, Argument, Formula, SurfaceRel, Property}
 use Rattle.fort_logic.specs.FreeNames.{free_names}
 use Rattle.fort_logic.specs.Mentions.{indices, places, places_in, has_expression}
-use Rattle.fort_cores.specs.Cores.{Core, Leaf, InContext, Normal, Binary, Not, Exists, Infinite, Star, Plus, Step, Conv}
+use Rattle.fort_theory.specs.Cores.{Core, Leaf, InContext, Normal, Binary, Not, Exists, Infinite, Star, Plus, Step, Conv}
 use Rattle.fort_theory.specs.Logic.{And}
-use Rattle.fort_cores.specs.Parts.{is_free}
+use Rattle.fort_theory.specs.Parts.{is_free}
 use Rattle.fort_logic.specs.Translation.{atom, some, every, infinitely_many, implies, equal, at_most_one_step, normalises, joins, terminates, all_terminate, related, forks, property_core, commutes, about, about_both, core_in, core_of, number_in}
 use Rattle.fort_parts.specs.DecidedCores.{IsOverSystem}
 use Rattle.fort_run.specs.Ready.{HaveFewRules}

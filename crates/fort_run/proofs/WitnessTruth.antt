@@ -12,16 +12,16 @@ use Rattle.fort_theory.specs.Sides.{System}
 use Rattle.fort_theory.specs.Patterns.{pattern_system}
 use Rattle.fort_logic.specs.Formulas.{Name, Formula, Var, Ground}
 use Rattle.fort_logic.specs.FreeNames.{free_names}
-use Rattle.fort_cores.specs.CoreTruth.{Places, IsMetBy}
+use Rattle.fort_theory.specs.CoreTruth.{Places, IsMetBy}
 use Rattle.fort_logic.specs.KeepsTruth.{AreTheirPlaces}
-use Rattle.fort_cores.specs.Structures.{structure_of}
-use Rattle.fort_cores.specs.PatternStructures.{pattern_structure}
+use Rattle.fort_theory.specs.Structures.{structure_of}
+use Rattle.fort_theory.specs.PatternStructures.{pattern_structure}
 use Rattle.fort_logic.specs.Translation.{number_in, core_of}
 use Rattle.fort_logic.specs.Truth.{Assignment, IsGroundAssignment, GivesTerms}
-use Rattle.fort_atom_labels.specs.AssignedTuples.{tuple_of}
+use Rattle.fort_alike.specs.AssignedTuples.{tuple_of}
 use Rattle.fort_parts.specs.PartColumns.{columns_of}
 use Rattle.fort_parts.specs.PartAnswers.{Answer, said, AreGround}
-use Rattle.fort_run.proofs.NamedColumns.{columns_of-core_of, number_of_name}
+use Rattle.fort_answer_laws.proofs.NamedColumns.{columns_of-core_of, number_of_name}
 use Rattle.fort_answers.specs.Witnesses.{AreWitnesses}
 use Rattle.fort_answer_laws.proofs.TermTuples.{witnesses-count, witnesses-ground}
 use Rattle.fort_run.specs.Ready.{IsLawful, IsAnsweredBy}

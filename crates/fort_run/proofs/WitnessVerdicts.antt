@@ -12,8 +12,8 @@ use Rattle.fort_logic.specs.FreeNames.{free_names}
 use Rattle.fort_tables.specs.Entries.{Entry, AreNodes}
 use Rattle.fort_tables.specs.Tables.{listed_table}
 use Rattle.fort_lockstep.specs.declared.dta.Dta.{Dta}
-use Rattle.fort_order.specs.TupleOrder.{NotAfter}
-use Rattle.fort_order.specs.LeastTuple.{IsLeastAccepted, AcceptsNone}
+use Rattle.fort_tables.specs.TupleOrder.{NotAfter}
+use Rattle.fort_tables.specs.LeastTuple.{IsLeastAccepted, AcceptsNone}
 use Rattle.fort_witness.specs.Answers.{last_tuple, IsWitness}
 use Rattle.fort_parts.specs.PartAnswers.{OfValue, OfTable}
 use Rattle.fort_answers.specs.Lines.{positive, negative, witness_line, none_line}
@@ -26,7 +26,7 @@ use Rattle.fort_engine.specs.AnswerView.{as_answer}
 use Rattle.fort_run.specs.Ready.{IsLawful, IsAnsweredBy, IsDecidedBy}
 use Rattle.fort_run.specs.Witnesses.{AreLastTerms}
 use Rattle.fort_answer_laws.proofs.TermTuples.{terms_in, witnesses-count}
-use Rattle.fort_run.proofs.FormulaRefusals.{no_items}
+use Rattle.fort_questions.proofs.FormulaRefusals.{no_items}
 use Rattle.fort_run.proofs.TableWitnesses.{columns-names, table-columns, least-satisfy, none-satisfy}
 use Rattle.fort_run.proofs.WitnessTruth.{said-witnesses, witnesses-said}
 

@@ -4,17 +4,17 @@ use Rattle.std.proofs.lemmas.Bool.{eqb-true}
 use Rattle.std.specs.Prelude.{Bool, if◌then◌else◌, ◌==◌}
 use Rattle.std.specs.List.{AllByRecursion, list_any}
 use Rattle.fort_theory.specs.Patterns.{PatternSystem}
-use Rattle.fort_cores.specs.Cores as core
-use Rattle.fort_cores.specs.Cores.{Core}
+use Rattle.fort_theory.specs.Cores as core
+use Rattle.fort_theory.specs.Cores.{Core}
 use Rattle.fort_alike.specs.ListedClosures.{Which, Star, Conv, asks}
-use Rattle.fort_certificate_grammar.specs.Certificates.{Step, Closure, Part, Merge, Counts, Value, Certificate}
-use Rattle.fort_certificate_grammar.specs.CertificateForms.{OfOne, OfSeveral, version_for, tells_index, has_merges}
-use Rattle.fort_certificate_grammar.specs.CertificateText.{CanBeWritten}
+use Rattle.fort_certificate_theory.specs.Certificates.{Step, Closure, Part, Merge, Counts, Value, Certificate}
+use Rattle.fort_certificate_theory.specs.CertificateForms.{OfOne, OfSeveral, version_for, tells_index, has_merges}
+use Rattle.fort_certificate_theory.specs.CertificateText.{CanBeWritten}
 use Rattle.fort_certificate.specs.Again.{HasSmallNumbers}
-use Rattle.fort_in_order.specs.Dues.{DueStep, OfClosure, OfPart, OfMerge, OfCounts, OfValue, due_of, has_columns, is_turned, closure_due, closures_due, counts_due, table_due, answer_due, parts_due, dues}
-use Rattle.fort_in_order.specs.Made.{Made, nothing_made}
-use Rattle.fort_in_order.specs.Checked.{AreSteps, NoSteps, MoreSteps}
-use Rattle.fort_in_order.specs.Written.{IsWrittenStep, IsWritten}
+use Rattle.fort_certificate_theory.specs.Dues.{DueStep, OfClosure, OfPart, OfMerge, OfCounts, OfValue, due_of, has_columns, is_turned, closure_due, closures_due, counts_due, table_due, answer_due, parts_due, dues}
+use Rattle.fort_certificate_theory.specs.Made.{MadeSoFar, nothing_made}
+use Rattle.fort_certificate_theory.specs.Checked.{AreSteps, NoSteps, MoreSteps}
+use Rattle.fort_certificate_theory.specs.Written.{IsWrittenStep, IsWritten}
 
 -- of a closure, the index is among n from i on; a merge is due where tables are reduced, and only there a version has merges
 abbrev IsDueOf : (reduces : Bool) (i n : ℕ) → DueStep → Type 0
@@ -102,7 +102,7 @@ can_be reduces n (Merge k classes) h small = (ap (λ b. has_merges (version_for 
 can_be reduces n (Counts k marks) h small = small
 can_be reduces n (Value k value) h small = small
 
-steps_can : (IsStep : Made → Step → Made → Type 0) (reduces : Bool) (n : ℕ) (made last : Made) (ds : List DueStep) (ss : List Step)
+steps_can : (IsStep : MadeSoFar → Step → MadeSoFar → Type 0) (reduces : Bool) (n : ℕ) (made last : MadeSoFar) (ds : List DueStep) (ss : List Step)
     → AreSteps IsStep made ds ss last → AreDuesOf reduces 1 n ds → AllByRecursion HasSmallNumbers ss
     → AllByRecursion (CanBeWritten (version_for reduces n)) ss
 steps_can IsStep reduces n made last [] [] NoSteps h small = tt

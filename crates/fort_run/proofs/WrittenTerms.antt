@@ -4,14 +4,14 @@ use Rattle.fort_theory.specs.Trees.{Tree}
 use Rattle.fort_theory.specs.Sides.{System}
 use Rattle.fort_theory.specs.Patterns.{PatternSystem, pattern_system}
 use Rattle.fort_logic.specs.Formulas.{Formula}
-use Rattle.fort_cores.specs.Cores.{Core}
-use Rattle.fort_cores.specs.PatternStructures.{pattern_structure}
+use Rattle.fort_theory.specs.Cores.{Core}
+use Rattle.fort_theory.specs.PatternStructures.{pattern_structure}
 use Rattle.fort_logic.specs.Translation.{core_of}
 use Rattle.fort_tables.specs.Tables.{Table, listed_table}
 use Rattle.fort_parts.specs.PartAnswers.{OfTable, IsAnswerTo}
-use Rattle.fort_certificate_grammar.specs.Certificates.{Step}
+use Rattle.fort_certificate_theory.specs.Certificates.{Step}
 use Rattle.fort_steps.specs.StepView.{as_step}
-use Rattle.fort_open_certificates.specs.OpenWritten.{AreWrittenFor}
+use Rattle.fort_certificate_theory.specs.OpenWritten.{AreWrittenFor}
 use Rattle.fort_trace.specs.declared.decide.OpenRecorded.{OpenRecorded}
 use Rattle.fort_answers.specs.Requests.{Text}
 use Rattle.fort_answers.specs.Lines.{positive}

@@ -5,8 +5,8 @@ use Rattle.fort_theory.specs.Trees.{Tree}
 use Rattle.fort_theory.specs.Sides.{System}
 use Rattle.fort_logic.specs.Formulas.{Formula}
 use Rattle.fort_io.specs.Devices.{Takes}
-use Rattle.fort_families.specs.FamilyRules.{FamilyRule, IsTooLarge}
-use Rattle.fort_families.specs.FamilySystems.{system_of}
+use Rattle.fort_answers.specs.FamilyRules.{FamilyRule, IsTooLarge}
+use Rattle.fort_answers.specs.FamilySystems.{system_of}
 use Rattle.fort_answers.specs.Requests.{Text, Options, Family, Synth}
 use Rattle.fort_answers.specs.CommandGrammar.{request_of}
 use Rattle.fort_answers.specs.SystemAnswer.{KeepsCap}

@@ -4,9 +4,9 @@ use Rattle.fort_theory.specs.Trees.{Tree}
 use Rattle.fort_theory.specs.Sides.{System}
 use Rattle.fort_logic.specs.Formulas.{Formula}
 use Rattle.fort_logic.specs.Truth.{IsTrueOf, IsFalseOf}
-use Rattle.fort_certificate_grammar.specs.Certificates.{Step, Certificate}
-use Rattle.fort_certificate_grammar.specs.CertificateForms.{Version, version_for}
-use Rattle.fort_certificate_grammar.specs.CertificateText.{certificate_text}
+use Rattle.fort_certificate_theory.specs.Certificates.{Step, Certificate}
+use Rattle.fort_certificate_theory.specs.CertificateForms.{Version, version_for}
+use Rattle.fort_certificate_theory.specs.CertificateText.{certificate_text}
 use Rattle.fort_io.specs.Devices.{Takes}
 use Rattle.fort_answers.specs.Requests.{Text, Check}
 use Rattle.fort_answers.specs.CommandGrammar.{request_of}
@@ -17,7 +17,7 @@ use Rattle.fort_answers.specs.Said.{BeginsWith}
 use Rattle.fort_answers.specs.FitAnswer.{FitsSystem}
 use Rattle.fort_answers.specs.CheckAnswer.{certified_line}
 use Rattle.fort_answers.specs.Answer.{owed}
-use Rattle.fort_run.specs.Told.{HoldsForTold}
+use Rattle.fort_answers.specs.Told.{HoldsForTold}
 
 -- ---- what CERTIFIED says
 

@@ -6,10 +6,10 @@ use Rattle.fort_logic.specs.Formulas.{Formula}
 use Rattle.fort_logic.specs.FreeNames.{free_names}
 use Rattle.fort_logic.specs.Truth.{IsFalseOf}
 use Rattle.fort_tables.specs.Entries.{Entry}
-use Rattle.fort_certificate_grammar.specs.Certificates.{Step}
-use Rattle.fort_open_certificates.specs.OpenCertificates.{Claim, Found, Empty, OpenCertificate}
-use Rattle.fort_open_certificates.specs.OpenText.{open_text}
-use Rattle.fort_open_certificates.specs.OpenChecked.{last_of}
+use Rattle.fort_certificate_theory.specs.Certificates.{Step}
+use Rattle.fort_certificate_theory.specs.OpenCertificates.{Claim, Found, Empty, OpenCertificate}
+use Rattle.fort_certificate_theory.specs.OpenText.{open_text}
+use Rattle.fort_certificate_theory.specs.OpenChecked.{last_of}
 use Rattle.fort_io.specs.Devices.{Takes}
 use Rattle.fort_answers.specs.Requests.{Text, Confirm}
 use Rattle.fort_answers.specs.CommandGrammar.{request_of}
@@ -20,7 +20,7 @@ use Rattle.fort_answers.specs.FitAnswer.{FitsSystem}
 use Rattle.fort_answers.specs.Witnesses.{AreWitnesses, AreLeastWitnesses, bindings}
 use Rattle.fort_answers.specs.ConfirmAnswer.{certified_witness_line, certified_none_line}
 use Rattle.fort_answers.specs.Answer.{owed}
-use Rattle.fort_run.specs.Told.{HoldsForTold}
+use Rattle.fort_answers.specs.Told.{HoldsForTold}
 use Rattle.fort_answers.specs.Said.{BeginsWith}
 
 -- ---- what `confirm` says

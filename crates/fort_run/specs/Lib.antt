@@ -1,9 +1,5 @@
 pub mod StatusView
-pub mod Told
-pub mod Questions
-pub mod Inputs
-pub mod Refusals
-pub mod Accepted
+pub mod RefusalReplies
 pub mod Limits
 pub mod Certified
 pub mod Confirmed

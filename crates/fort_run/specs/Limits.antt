@@ -7,9 +7,9 @@ use Rattle.fort_logic.specs.Formulas.{Formula}
 use Rattle.fort_logic.specs.Translation.{core_of}
 use Rattle.fort_formulas.specs.KindView.{as_kind}
 use Rattle.fort_io.specs.Devices.{Takes}
-use Rattle.fort_families.specs.FamilyRules.{FamilyRule, IsTooLarge}
-use Rattle.fort_families.specs.FamilySystems.{system_of}
-use Rattle.fort_families.specs.RuleText.{rule_lines}
+use Rattle.fort_answers.specs.FamilyRules.{FamilyRule, IsTooLarge}
+use Rattle.fort_answers.specs.FamilySystems.{system_of}
+use Rattle.fort_answers.specs.RuleText.{rule_lines}
 use Rattle.fort_answers.specs.Requests.{Text, Options, Family, Request, Synth}
 use Rattle.fort_answers.specs.Lines.{limit_line}
 use Rattle.fort_answers.specs.CommandGrammar.{request_of}
@@ -20,7 +20,7 @@ use Rattle.fort_answers.specs.SynthAnswer.{IsReached}
 use Rattle.fort_answers.specs.Answer.{IsAbout}
 use Rattle.fort_engine.specs.declared.answer.Limit.{Limit}
 use Rattle.fort_engine.specs.AnswerView.{IsLimit}
-use Rattle.fort_run.specs.Told.{HoldsForTold}
+use Rattle.fort_answers.specs.Told.{HoldsForTold}
 
 -- the line tells of this limit
 abbrev pub IsLineOf : (states : ℕ) → Limit → Text → Type 0

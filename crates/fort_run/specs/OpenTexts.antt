@@ -4,10 +4,10 @@ use Rattle.std.specs.List.{AllByRecursion}
 use Rattle.fort_tables.specs.Entries.{Entry}
 use Rattle.fort_tables.specs.Tables.{listed_table}
 use Rattle.fort_steps.specs.StepView.{as_step}
-use Rattle.fort_open_certificates.specs.OpenCertificates.{Claim}
+use Rattle.fort_certificate_theory.specs.OpenCertificates.{Claim}
 use Rattle.fort_certificate.specs.Again.{HasSmallNumbers}
-use Rattle.fort_open_certificates.specs.OpenText.{open_text, CanNodeBeWritten}
-use Rattle.fort_open_certificates.specs.OpenWritten.{IsWrittenClaim}
+use Rattle.fort_certificate_theory.specs.OpenText.{open_text, CanNodeBeWritten}
+use Rattle.fort_certificate_theory.specs.OpenWritten.{IsWrittenClaim}
 use Rattle.fort_trace.specs.declared.decide.OpenRecorded.{OpenRecorded}
 
 -- with the claim and the nodes that are written for the table; its numbers are small

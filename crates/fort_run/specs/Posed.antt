@@ -4,17 +4,17 @@ use Rattle.fort_theory.specs.Trees.{Tree}
 use Rattle.fort_theory.specs.Sides as theory
 use Rattle.fort_theory.specs.Patterns.{PatternSystem, pattern_system}
 use Rattle.fort_logic.specs.Formulas.{Formula}
-use Rattle.fort_cores.specs.Cores.{Core}
+use Rattle.fort_theory.specs.Cores.{Core}
 use Rattle.fort_logic.specs.Translation.{core_of}
 use Rattle.fort_logic.specs.KeepsTruth.{KeepsTruth}
 use Rattle.fort_parts.specs.DecidedCores.{IsDecided}
 use Rattle.fort_answers.specs.FormulaAnswer.{Openness, IsTaken}
 use Rattle.fort_answers.specs.InputAnswer.{Behind}
-use Rattle.fort_run.specs.declared.input.Input.{Input}
-use Rattle.fort_run.specs.declared.question.Question.{Question}
+use Rattle.fort_questions.specs.declared.input.Input.{Input}
+use Rattle.fort_questions.specs.declared.question.Question.{Question}
 use Rattle.fort_run.specs.declared.reply.Reply.{Reply}
-use Rattle.fort_run.specs.Inputs.{IsInputOf}
-use Rattle.fort_run.specs.Questions.{openness_of, tail_of}
+use Rattle.fort_questions.specs.Inputs.{IsInputOf}
+use Rattle.fort_questions.specs.Questions.{openness_of, tail_of}
 use Rattle.fort_run.specs.Ready.{IsLawful, IsReady}
 use Rattle.fort_run.specs.Verdicts.{IsVerdict}
 

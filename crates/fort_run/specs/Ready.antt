@@ -5,12 +5,12 @@ use Rattle.fort_theory.specs.Signatures.{IsGround, HasConstant}
 use Rattle.fort_theory.specs.Sides.{System, IsLinearSeparated, IsIndexOf, at_index}
 use Rattle.fort_theory.specs.Patterns.{PatternSystem}
 use Rattle.fort_logic.specs.Formulas.{Formula}
-use Rattle.fort_termination.specs.RightGround.{HasRightGroundPairsAt}
+use Rattle.fort_theory.specs.RightGround.{HasRightGroundPairsAt}
 use Rattle.fort_logic.specs.Mentions.{indices, HasTermsFor, has_expression}
 use Rattle.fort_logic.specs.Terminations.{terminations, AreAll}
 use Rattle.fort_logic.specs.Translation.{IsFormulaTooWide, core_of}
 use Rattle.fort_logic.specs.KeepsTruth.{KeepsTruth}
-use Rattle.fort_cores.specs.PatternStructures.{pattern_structure}
+use Rattle.fort_theory.specs.PatternStructures.{pattern_structure}
 use Rattle.fort_formulas.specs.NumbersNeeded.{numbers_needed}
 use Rattle.fort_parts.specs.DecidedCores.{AreFewRules}
 use Rattle.fort_parts.specs.PartAnswers.{Answer, IsAnswerTo}

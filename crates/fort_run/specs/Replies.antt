@@ -5,7 +5,7 @@ use Rattle.fort_answers.specs.Lines.{positive}
 use Rattle.fort_answers.specs.Answer.{owed}
 use Rattle.fort_run.specs.declared.reply.Reply.{Reply}
 use Rattle.fort_run.specs.StatusView.{code_of}
-use Rattle.fort_run.specs.Told.{HoldsForTold}
+use Rattle.fort_answers.specs.Told.{HoldsForTold}
 use Rattle.fort_run.specs.Limits.{HasLimit}
 use Rattle.fort_run.specs.Certified.{IsCertified, IsPrinted}
 use Rattle.fort_run.specs.Confirmed.{IsConfirmed, IsPrintedTerms}

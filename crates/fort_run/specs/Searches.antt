@@ -2,14 +2,14 @@
 use Rattle.std.specs.Prelude.{◌≡◌, ℕ, Bool, true, false, List, ◌++◌, Some}
 use Rattle.fort_theory.specs.Signatures.{Signature}
 use Rattle.fort_theory.specs.Patterns.{PatternSystem, pattern_system}
-use Rattle.fort_cores.specs.Cores.{Core}
-use Rattle.fort_cores.specs.PatternStructures.{pattern_structure}
+use Rattle.fort_theory.specs.Cores.{Core}
+use Rattle.fort_theory.specs.PatternStructures.{pattern_structure}
 use Rattle.fort_parts.specs.DecidedCores.{IsDecided}
 use Rattle.fort_parts.specs.PartAnswers.{OfValue, IsAnswerTo}
 use Rattle.fort_formulas.specs.KindView.{as_kind}
-use Rattle.fort_families.specs.FamilyRules.{FamilyRule}
-use Rattle.fort_families.specs.FamilySystems.{CandidateBefore, system_of}
-use Rattle.fort_families.specs.RuleText.{rule_lines}
+use Rattle.fort_answers.specs.FamilyRules.{FamilyRule}
+use Rattle.fort_answers.specs.FamilySystems.{CandidateBefore, system_of}
+use Rattle.fort_answers.specs.RuleText.{rule_lines}
 use Rattle.fort_synth.specs.SearchAnswers.{IsPicked, picked_system}
 use Rattle.fort_answers.specs.Lines as lines
 use Rattle.fort_words.specs.declared.request.Options.{Options}

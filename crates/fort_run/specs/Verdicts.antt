@@ -5,11 +5,11 @@ use Rattle.fort_theory.specs.Sides.{System}
 use Rattle.fort_theory.specs.Patterns.{pattern_system}
 use Rattle.fort_logic.specs.Formulas.{Formula}
 use Rattle.fort_logic.specs.Translation.{core_of}
-use Rattle.fort_in_order.specs.Checked.{Certified}
-use Rattle.fort_certificate_grammar.specs.Certificates as certificates
-use Rattle.fort_families.specs.FamilyRules.{FamilyRule, IsTooLarge}
-use Rattle.fort_families.specs.FamilySystems.{system_of}
-use Rattle.fort_families.specs.RuleText.{rule_lines}
+use Rattle.fort_certificate_theory.specs.Checked.{Certified}
+use Rattle.fort_certificate_theory.specs.Certificates as certificates
+use Rattle.fort_answers.specs.FamilyRules.{FamilyRule, IsTooLarge}
+use Rattle.fort_answers.specs.FamilySystems.{system_of}
+use Rattle.fort_answers.specs.RuleText.{rule_lines}
 use Rattle.fort_answers.specs.Requests.{Text, Options, Family}
 use Rattle.fort_answers.specs.Lines as status
 use Rattle.fort_answers.specs.InputAnswer.{Behind}
@@ -23,18 +23,18 @@ use Rattle.fort_answers.specs.OpenCertificateAnswer.{OpenCertificateVerdict}
 use Rattle.fort_answers.specs.ConfirmAnswer.{ConfirmVerdict}
 use Rattle.fort_answers.specs.SynthAnswer.{IsReached, SynthVerdict}
 use Rattle.fort_formulas.specs.KindView.{as_kind}
-use Rattle.fort_open_certificates.specs.OpenCertificates.{OpenCertificate}
+use Rattle.fort_certificate_theory.specs.OpenCertificates.{OpenCertificate}
 use Rattle.fort_run.specs.Confirmed.{SaysTerms, TellsLeast}
 use Rattle.fort_words.specs.RequestView.{as_options, as_bounds, as_family}
 use Rattle.fort_engine.specs.AnswerView.{IsLimit}
 use Rattle.fort_engine.specs.declared.answer.Limit.{Limit}
 use Rattle.fort_engine.specs.declared.answer.EngineFault.{EngineFault}
 use Rattle.fort_engine.specs.declared.answer.EngineFault.TheVariants.{Memory, Over}
-use Rattle.fort_run.specs.declared.question.Question.{Question}
-use Rattle.fort_run.specs.declared.question.Question.TheVariants.{Truth, Terms, TermsCertificate, Certificate, Check, Solutions, Confirm, Synth}
+use Rattle.fort_questions.specs.declared.question.Question.{Question}
+use Rattle.fort_questions.specs.declared.question.Question.TheVariants.{Truth, Terms, TermsCertificate, Certificate, Check, Solutions, Confirm, Synth}
 use Rattle.fort_run.specs.declared.reply.Reply.{Reply}
 use Rattle.fort_run.specs.StatusView.{code_of}
-use Rattle.fort_run.specs.Questions.{tail_of, options_of}
+use Rattle.fort_questions.specs.Questions.{tail_of, options_of}
 use Rattle.fort_run.specs.Certified.{IsTruth}
 use Rattle.fort_run.specs.Limits.{IsLineOf}
 

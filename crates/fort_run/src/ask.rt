@@ -5,22 +5,18 @@ ghost use Rattle.fort_io.specs.Devices.{FaultCounted};
 ghost use Rattle.fort_answers.specs.InputAnswer.{input_limit};
 ghost use Rattle.fort_answers.specs.Requests.{Text};
 ghost use Rattle.fort_answers.specs.Answer.{needed};
-ghost use Rattle.fort_run.specs.Accepted.{IsParsedAs, IsRead};
+ghost use Rattle.fort_questions.specs.Accepted.{IsParsedAs, IsRead};
 ghost use Rattle.fort_run.specs.Answered.{ReadsWhole};
-ghost use Rattle.fort_run.specs.Questions.{CanBePut, openness_of, request_for};
+ghost use Rattle.fort_questions.specs.Questions.{CanBePut, openness_of, request_for};
 ghost use Rattle.fort_run.specs.Replies.{IsReplyTo, IsReplyTold};
 
-use crate::accepted::accepted_formula;
-use crate::fit::terms_of;
-use crate::input::read_input;
-use crate::question::Question;
-use crate::refusal::text_line;
 use crate::reply::Reply;
 use crate::status::Status;
 use crate::verdict::verdict;
 use fort_formula_parser::Parsed;
 use fort_intake::{Unread, take_forms};
 use fort_io::Source;
+use fort_questions::{Question, accepted_formula, read_input, terms_of, text_line};
 use fort_sexpr::Forms;
 use std::alloc::{AllocError, Global};
 
@@ -63,11 +59,11 @@ fn reply_to_forms(
 {
     let input = match read_input(alloc, question.tail(), forms) {
         Ok(input) => input,
-        Err(refusal) => return refusal.into_reply(),
+        Err(refusal) => return Reply::of_refusal(refusal),
     };
     match terms_of(alloc, parsed, &input.system) {
         Ok(terms) => verdict(alloc, question, &input, &parsed.formula, &terms),
-        Err(refusal) => refusal.into_reply(),
+        Err(refusal) => Reply::of_refusal(refusal),
     }
 }
 
@@ -85,7 +81,7 @@ fn reply_to_formula<S: Source>(
     ensures whole { OnOk result (ReadsWhole (S.rest input.old) (S.rest input.new)) }
     ensures fault { IsErrOf result Stop.Fault →
         FaultCounted (S.faults input.old) (S.faults input.new) }
-    ensures told { S.faults input.old < S.faults input.new → IsErrOf result Stop.Fault }
+    ensures reported { S.faults input.old < S.faults input.new → IsErrOf result Stop.Fault }
     ensures never_falls { S.faults input.old ≤ S.faults input.new }
 {
     let forms = match take_forms(alloc, input, INPUT_LIMIT) {
@@ -115,7 +111,7 @@ pub fn ask<S: Source>(
         ReadsWhole (S.rest input.old) (S.rest input.new)) }
     ensures fault { IsErrOf result Stop.Fault →
         FaultCounted (S.faults input.old) (S.faults input.new) }
-    ensures told { S.faults input.old < S.faults input.new → IsErrOf result Stop.Fault }
+    ensures reported { S.faults input.old < S.faults input.new → IsErrOf result Stop.Fault }
     ensures asked { IsErrOf result Stop.Fault → needed (Some (request_for question text.now)) }
     ensures unread { (needed (Some (request_for question text.now)) → ⊥) →
         input.new ≡ input.old }
@@ -123,7 +119,7 @@ pub fn ask<S: Source>(
 {
     let parsed = match accepted_formula(alloc, question.openness(), text.as_bytes()) {
         Ok(parsed) => parsed,
-        Err(refusal) => return Ok(refusal.into_reply()?),
+        Err(refusal) => return Ok(Reply::of_refusal(refusal)?),
     };
     reply_to_formula(alloc, question, &parsed, input)
 }

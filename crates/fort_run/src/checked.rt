@@ -7,7 +7,7 @@ ghost use Rattle.fort_formulas.specs.CoreView.{as_core};
 ghost use Rattle.fort_answers.specs.CheckAnswer as lines;
 ghost use Rattle.fort_answers.specs.FormulaAnswer.{Closed};
 ghost use Rattle.fort_run.specs.Posed.{IsPosed, SettlesCore};
-ghost use Rattle.fort_run.specs.declared.question.Question.TheVariants.{Check};
+ghost use Rattle.fort_questions.specs.declared.question.Question.TheVariants.{Check};
 
 use crate::rejection::rejected_line;
 use crate::reply::Reply;

@@ -1,22 +1,22 @@
 //! What comes of a certificate of an open formula.
 ghost use Rattle.std.specs.Prelude.{◌≡◌, List, IfOk};
 ghost use Rattle.fort_theory.specs.Trees.{Tree};
-ghost use Rattle.fort_open_steps.specs.OpenView.{as_open};
+ghost use Rattle.fort_steps.specs.OpenView.{as_open};
 ghost use Rattle.fort_formulas.specs.CoreView.{as_core};
 ghost use Rattle.fort_formulas.specs.FormulaView.{as_formula};
 ghost use Rattle.fort_answers.specs.ConfirmAnswer as lines;
 ghost use Rattle.fort_answers.specs.FormulaAnswer.{Open};
 ghost use Rattle.fort_run.specs.Posed.{IsPosed, SettlesCore};
-ghost use Rattle.fort_run.specs.declared.question.Question.TheVariants.{Confirm};
+ghost use Rattle.fort_questions.specs.declared.question.Question.TheVariants.{Confirm};
 
-use crate::refusal::push_number;
 use crate::rejection::rejected_line;
 use crate::reply::Reply;
 use crate::status::Status;
 use crate::witness::witness_text;
 use fort_formulas::{Core, Formula};
 use fort_open_checker::{OpenChecker, Unconfirmed, nodes_dag};
-use fort_open_steps::{Claim, OpenCertificate};
+use fort_questions::push_number;
+use fort_steps::{Claim, OpenCertificate};
 use fort_terms::System;
 use std::alloc::{AllocError, Global};
 

@@ -1,16 +1,11 @@
 //! The top call: words and bytes in, a line and a status out.
 #![tactic(auto)]
 
-mod accepted;
 mod ask;
 mod checked;
 mod confirmed;
-mod fit;
-mod input;
 mod limit;
 mod outcome;
-mod question;
-mod refusal;
 mod rejection;
 mod reply;
 mod sample;

@@ -4,10 +4,10 @@ ghost use Rattle.fort_answers.specs.Lines as lines;
 ghost use Rattle.fort_formulas.specs.KindView.{as_kind};
 ghost use Rattle.fort_run.specs.Verdicts.{TellsFault};
 
-use crate::refusal::push_number;
 use crate::reply::Reply;
 use fort_engine::EngineFault;
 use fort_formulas::Kind;
+use fort_questions::push_number;
 use std::alloc::{AllocError, Global};
 
 /// The word for a kind of formula.

@@ -3,8 +3,9 @@ ghost use Rattle.std.specs.Prelude.{◌≡◌, IfOk};
 ghost use Rattle.fort_answers.specs.CheckAnswer as lines;
 ghost use Rattle.fort_cert_checker.specs.OutcomeView.{as_reason};
 
-use crate::refusal::push_number;
-use fort_cert_checker::{Reason, Rejected};
+use fort_cert_checker::Rejected;
+use fort_check_steps::Reason;
+use fort_questions::push_number;
 use std::alloc::{AllocError, Global};
 
 /// The word for a reason.

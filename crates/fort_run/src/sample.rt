@@ -8,11 +8,11 @@ ghost use Rattle.fort_answers.specs.PossibleRequests.{IsSampleSize};
 ghost use Rattle.fort_run.specs.Samples.{AddsLine, AddsLines};
 ghost use Rattle.fort_run.specs.StatusView.{code_of};
 
-use crate::refusal::push_number;
 use crate::reply::Reply;
 use crate::status::Status;
 use crate::verdict::{core_for, truth};
 use fort_formulas::{Formula, Macro};
+use fort_questions::push_number;
 use fort_sample::made_system;
 use fort_terms::System;
 use fort_words::Options;

@@ -17,13 +17,13 @@ ghost use Rattle.fort_run.specs.Ready.{IsLawful, IsDecidedBy};
 ghost use Rattle.fort_run.specs.StatusView.{code_of};
 ghost use Rattle.fort_run.specs.Witnesses.{AreTermsAt, AreAllTermsAt};
 
-use crate::refusal::push_number;
 use crate::reply::Reply;
 use crate::status::Status;
 use crate::witness::push_binding;
 use fort_engine::Last;
 use fort_formulas::{Formula, Name, free_names};
-use fort_lockstep::{Dag, Table};
+use fort_questions::push_number;
+use fort_table::{Dag, Table};
 use fort_terms::Signature;
 use fort_witness::Solutions;
 use fort_words::Bounds;

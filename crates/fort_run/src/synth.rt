@@ -3,10 +3,10 @@ ghost use Rattle.std.specs.Prelude.{◌≡◌, ◌<◌, ◌≤◌, [], ◌++◌,
 ghost use Rattle.fort_theory.specs.Trees.{Tree};
 ghost use Rattle.fort_theory.specs.Signatures.{HasConstant};
 ghost use Rattle.fort_logic.specs.Formulas as logic;
-ghost use Rattle.fort_cores.specs.Cores as theory;
-ghost use Rattle.fort_families.specs.FamilyRules.{Ascend, FamilyRule, IsFamily, most_family_rules};
-ghost use Rattle.fort_families.specs.FamilySystems.{any_count};
-ghost use Rattle.fort_families.specs.RuleText.{rule_lines};
+ghost use Rattle.fort_theory.specs.Cores as theory;
+ghost use Rattle.fort_answers.specs.FamilyRules.{Ascend, FamilyRule, IsFamily, most_family_rules};
+ghost use Rattle.fort_answers.specs.FamilySystems.{any_count};
+ghost use Rattle.fort_answers.specs.RuleText.{rule_lines};
 ghost use Rattle.fort_synth.specs.FamilyView.{as_family_rule};
 ghost use Rattle.fort_synth.specs.SearchAnswers.{FitsRule, IfDecide};
 ghost use Rattle.fort_formulas.specs.CoreView.{as_core};
@@ -21,7 +21,7 @@ ghost use Rattle.fort_engine.specs.Deciding.{IsPlanned};
 ghost use Rattle.fort_run.specs.Posed.{IsPosed, SettlesCore};
 ghost use Rattle.fort_run.specs.Searches.{AreAllFalse, HasValue, IsDecidedOverAll, IsFirstOver, IsFirstTrue, IsSystemOf, TellsStopFault};
 ghost use Rattle.fort_run.specs.StatusView.{code_of};
-ghost use Rattle.fort_run.specs.declared.question.Question.TheVariants.{Synth};
+ghost use Rattle.fort_questions.specs.declared.question.Question.TheVariants.{Synth};
 
 use crate::limit::limit_line;
 use crate::reply::Reply;

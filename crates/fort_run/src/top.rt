@@ -7,7 +7,7 @@ ghost use Rattle.fort_answers.specs.Requests.{Text, Options, Decide, Witness, Ch
 ghost use Rattle.fort_answers.specs.Said.{Asks, Says, SaysTrue, SaysFalse, SaysTruth};
 ghost use Rattle.fort_answers.specs.SaidTerms.{SaysLeastTerms, SaysConfirmed, SaysFirstTerms};
 ghost use Rattle.fort_answers.specs.SaidSystems.{SaysSystem, SaysNoSystem};
-ghost use Rattle.fort_answers.specs.Answer.{Answer, AsksNothing, AsksSomething, needed};
+ghost use Rattle.fort_answers.specs.Answer.{Answer, NeedsNoInput, NeedsInput, needed};
 ghost use Rattle.fort_answers.specs.Lines.{last_answer, limited, negative, positive, out_of_memory, read_failed, write_failed};
 ghost use Rattle.fort_run.specs.Answered.{Answers, CutsShort, IsDecidable, IsDecidableWithin, IsSearchable, IsSearchableWithin, OwesOnly, OwesOnlyEarly, ReadsWhole};
 ghost use Rattle.fort_run.specs.Certified.{CertifiesTruth, IsCheckable, PrintsTruth, IsAcceptedBehind};
@@ -18,12 +18,12 @@ ghost use Rattle.fort_run.specs.Replies.{IsReplyTold};
 
 use crate::ask::{Stop, ask};
 use crate::outcome::Outcome;
-use crate::question::Question;
 use crate::reply::Reply;
 use crate::sample::sample;
 use crate::status::Status;
 use crate::usage::USAGE;
 use fort_io::{Sink, Source, write_all};
+use fort_questions::Question;
 use fort_words::{Request, read_request};
 use std::alloc::{AllocError, Global};
 
@@ -40,7 +40,7 @@ fn reply_to_request<S: Source>(
         ReadsWhole (S.rest input.old) (S.rest input.new)) }
     ensures fault { IsErrOf result Stop.Fault →
         FaultCounted (S.faults input.old) (S.faults input.new) }
-    ensures told { S.faults input.old < S.faults input.new → IsErrOf result Stop.Fault }
+    ensures reported { S.faults input.old < S.faults input.new → IsErrOf result Stop.Fault }
     ensures asked { IsErrOf result Stop.Fault → needed (Some (as_request request.now)) }
     ensures unread { (needed (Some (as_request request.now)) → ⊥) →
         input.new ≡ input.old }
@@ -87,13 +87,13 @@ fn reply_to_request<S: Source>(
 fn reply_to<S: Source>(alloc: Global, words: &[String], input: &mut S) -> Result<Reply, Stop>
     ensures ok { IfOk result
         (IsReplyTold (request_of (map string_bytes words.now)) (S.rest input.old)) }
-    ensures whole { OnOk result (AsksSomething (map string_bytes words.now) →
+    ensures whole { OnOk result (NeedsInput (map string_bytes words.now) →
         ReadsWhole (S.rest input.old) (S.rest input.new)) }
     ensures fault { IsErrOf result Stop.Fault →
         FaultCounted (S.faults input.old) (S.faults input.new) }
-    ensures told { S.faults input.old < S.faults input.new → IsErrOf result Stop.Fault }
-    ensures asked { IsErrOf result Stop.Fault → AsksSomething (map string_bytes words.now) }
-    ensures unread { AsksNothing (map string_bytes words.now) → input.new ≡ input.old }
+    ensures reported { S.faults input.old < S.faults input.new → IsErrOf result Stop.Fault }
+    ensures asked { IsErrOf result Stop.Fault → NeedsInput (map string_bytes words.now) }
+    ensures unread { NeedsNoInput (map string_bytes words.now) → input.new ≡ input.old }
     ensures never_falls { S.faults input.old ≤ S.faults input.new }
 {
     match read_request(alloc, words)? {
@@ -161,7 +161,7 @@ pub fn run<S: Source, K: Sink>(
         result.status) }
     ensures early { result.status ≤ last_answer → OwesOnlyEarly (map string_bytes words.now)
         (K.taken output.old) (K.taken output.new) result.status }
-    ensures whole { result.status ≤ last_answer → AsksSomething (map string_bytes words.now) →
+    ensures whole { result.status ≤ last_answer → NeedsInput (map string_bytes words.now) →
         ReadsWhole (S.rest input.old) (S.rest input.new) }
 
     // A line that says CERTIFIED is owed to the bytes, whoever wrote the certificate; a certificate that is printed says the
@@ -194,7 +194,7 @@ pub fn run<S: Source, K: Sink>(
         → IsOpenAcceptedBehind formula bytes text }
 
     // With 4, and with no other status, there is a limit: the part that is over the cap, and the tuples that show it.
-    ensures limited { IsSome result.limit ↔ (result.status ≡ limited) }
+    ensures has_limit { IsSome result.limit ↔ (result.status ≡ limited) }
     ensures limit { IfSome result.limit
         (IsLimitOf (map string_bytes words.now) (S.rest input.old) (K.taken output.old)
         (K.taken output.new)) }
@@ -211,13 +211,13 @@ pub fn run<S: Source, K: Sink>(
         ((result.status ≡ read_failed) ⊎ (result.status ≡ write_failed))) }
     ensures read_fault { result.status ≡ read_failed →
         FaultCounted (S.faults input.old) (S.faults input.new) }
-    ensures told { S.faults input.old < S.faults input.new → result.status ≡ read_failed }
-    ensures asked { result.status ≡ read_failed → AsksSomething (map string_bytes words.now) }
+    ensures reported { S.faults input.old < S.faults input.new → result.status ≡ read_failed }
+    ensures asked { result.status ≡ read_failed → NeedsInput (map string_bytes words.now) }
     ensures write_fault { result.status ≡ write_failed →
         FaultCounted (K.faults output.old) (K.faults output.new) }
 
     // Where the words ask nothing, the source is as before.
-    ensures unread { AsksNothing (map string_bytes words.now) → input.new ≡ input.old }
+    ensures unread { NeedsNoInput (map string_bytes words.now) → input.new ≡ input.old }
 
     // Without a fault there is an answer, or want of memory; 0, 1 or 4 where the words ask to decide and the bytes are a system
     // with all that the formula speaks of, 0 or 1 where each part of it keeps the cap, and where the words ask to check or to confirm;

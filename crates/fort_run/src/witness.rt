@@ -17,7 +17,7 @@ use crate::reply::Reply;
 use crate::status::Status;
 use fort_engine::Last;
 use fort_formulas::{Formula, free_names};
-use fort_lockstep::{Dag, Table};
+use fort_table::{Dag, Table};
 use fort_terms::Signature;
 use fort_witness::{least, write_term};
 use std::alloc::{AllocError, Global};

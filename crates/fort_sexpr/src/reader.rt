@@ -112,6 +112,7 @@ impl Reader {
 }
 
 /// Reads a text that comes in these pieces into its forms, or finds its first fault.
+/// Promised to callers: the program itself doesn't call it.
 pub fn read_pieces(alloc: Global, pieces: &[&[u8]]) -> Result<Forms, SFault>
     requires few { length (flat_map (λ p. p.now) pieces.now) < 2 ^ 32 }
     ensures bytes { let bytes = flat_map (λ p. p.now) pieces.now in

@@ -1,6 +1,6 @@
 -- To believe: which certificate of the definitions a certificate of the program is.
 use Rattle.std.specs.Prelude.{map}
-use Rattle.fort_certificate_grammar.specs.Certificates as certificates
+use Rattle.fort_certificate_theory.specs.Certificates as certificates
 use Rattle.fort_steps.specs.StepView.{as_step}
 use Rattle.fort_steps.specs.declared.certificate.Certificate.{Certificate}
 

@@ -1,2 +1,3 @@
 pub mod StepView
 pub mod CertificateView
+pub mod OpenView

@@ -1,6 +1,6 @@
 -- To believe: which step of the definitions a step of the program is.
 use Rattle.std.specs.Prelude.{map}
-use Rattle.fort_certificate_grammar.specs.Certificates as certificates
+use Rattle.fort_certificate_theory.specs.Certificates as certificates
 use Rattle.fort_findings.specs.FindingView.{as_which, as_pair, as_count}
 use Rattle.fort_steps.specs.declared.step.Step.{Step}
 use Rattle.fort_steps.specs.declared.step.Step.TheVariants.{Closure, Part, Merge, Counts, Value}

@@ -10,8 +10,8 @@ use Rattle.fort_theory.specs.Signatures.{Signature, IsGround, AreGround}
 use Rattle.fort_theory.specs.Sides.{NoSide, MoreSides, side_count, FitsSide, FitsSides, variables}
 use Rattle.fort_theory.specs.Patterns.{Pattern, Patterns, Any, At, NoPattern, MorePatterns, pattern_count, FitsPattern, FitPatterns}
 use Rattle.fort_theory.proofs.Members.{Contains-none}
-use Rattle.fort_families.specs.FamilySystems.{any_count, any_counts, side_from, sides_from, ground_side, ground_sides}
-use Rattle.fort_families.proofs.FamilyVariables.{variables-side_from, variables-ground_side}
+use Rattle.fort_answers.specs.FamilySystems.{any_count, any_counts, side_from, sides_from, ground_side, ground_sides}
+use Rattle.fort_answers.proofs.FamilyVariables.{variables-side_from, variables-ground_side}
 use Rattle.fort_terms.specs.declared.pattern.Pattern as program
 use Rattle.fort_terms.specs.declared.side.Side as written
 use Rattle.fort_terms.specs.PatternView.{as_pattern, as_patterns}

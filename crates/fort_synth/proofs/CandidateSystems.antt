@@ -7,8 +7,8 @@ use Rattle.fort_theory.specs.Trees.{Tree}
 use Rattle.fort_theory.specs.Signatures.{Signature}
 use Rattle.fort_theory.specs.Sides.{Side, count_all, pushed_at}
 use Rattle.fort_theory.specs.Patterns.{Pattern, Pair, PatternSystem, pattern_of, pattern_pair}
-use Rattle.fort_families.specs.FamilyRules.{FamilyRule}
-use Rattle.fort_families.specs.FamilySystems.{rule_of, side_from, ground_side, system_of}
+use Rattle.fort_answers.specs.FamilyRules.{FamilyRule}
+use Rattle.fort_answers.specs.FamilySystems.{rule_of, side_from, ground_side, system_of}
 use Rattle.fort_terms.specs.declared.pattern.Pattern as program
 use Rattle.fort_synth.specs.CandidateRules.{no_rule, rules_at, pairs_of}
 use Rattle.fort_synth.specs.FamilyView.{as_family_rule}

@@ -7,7 +7,7 @@ use Rattle.fort_theory.specs.Patterns.{Pattern, Patterns, Any, At, NoPattern, Mo
 use Rattle.fort_theory.specs.PatternOrder.{PatternBefore, PatternsBefore}
 use Rattle.fort_theory.proofs.Lists.{none-some, some-injective}
 use Rattle.fort_theory.proofs.Members.{Contains-head, Contains-cons_cases, Contains-none}
-use Rattle.fort_families.specs.FamilyRules.{pattern_height, pattern_heights, TreeBefore, TreesBefore}
+use Rattle.fort_answers.specs.FamilyRules.{pattern_height, pattern_heights, TreeBefore, TreesBefore}
 use Rattle.fort_synth.specs.FamilyLists.{if_both, node_if, ground_term, ground_kids, list_of, ground_terms}
 use Rattle.fort_synth.proofs.FamilyListLaws.{Contains-flat_map, Contains-flat_map_from, IsAscending, IsAscending-flat_map}
 

@@ -9,7 +9,7 @@ use Rattle.fort_theory.specs.Patterns.{Pattern}
 use Rattle.fort_theory.specs.PatternOrder.{PatternBefore}
 use Rattle.fort_theory.proofs.Lists.{Contains-map, Contains-map_from}
 use Rattle.fort_theory.proofs.Members.{Contains-none}
-use Rattle.fort_families.specs.FamilyRules.{FamilyRule, TreeBefore, RuleBefore, IsFamilyRule, IsFamily, IsTooLarge, most_family_rules}
+use Rattle.fort_answers.specs.FamilyRules.{FamilyRule, TreeBefore, RuleBefore, IsFamilyRule, IsFamily, IsTooLarge, most_family_rules}
 use Rattle.fort_synth.specs.FamilyLists.{low_patterns, ground_terms, all_rules}
 use Rattle.fort_synth.proofs.FamilyListLaws.{Contains-flat_map, Contains-flat_map_from, IsAscending, IsAscending-map, IsAscending-flat_map, at_places, length-all_pairs}
 use Rattle.fort_synth.proofs.FamilyMembers.{Contains-low, low_patterns-have}

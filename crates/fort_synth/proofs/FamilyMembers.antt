@@ -9,7 +9,7 @@ use Rattle.fort_theory.specs.PatternOrder.{AllAmong}
 use Rattle.fort_theory.proofs.Constants.{lt-from_arity_of}
 use Rattle.fort_theory.proofs.Lists.{Contains-map, Contains-map_from}
 use Rattle.fort_theory.proofs.Members.{Contains-head, Contains-behind, Contains-cons_cases, Contains-none}
-use Rattle.fort_families.specs.FamilyRules.{pattern_height, pattern_heights}
+use Rattle.fort_answers.specs.FamilyRules.{pattern_height, pattern_heights}
 use Rattle.fort_synth.specs.FamilyLists.{argument_lists, applications_by, applications, applications_before, higher_patterns, low_patterns}
 use Rattle.fort_synth.proofs.FamilyListLaws.{Contains-flat_map, Contains-flat_map_from}
 

@@ -4,8 +4,8 @@ use Rattle.std.specs.Prelude.{◌⊎◌, All, Contains}
 use Rattle.std.proofs.lemmas.List.{append-nil, append_assoc}
 use Rattle.std.proofs.lemmas.List.Elements.{All-from_get_or, All-nil, All-contains, Contains-get_or}
 use Rattle.fort_theory.proofs.Members.{Contains-none, Contains-head, Contains-behind, Contains-cons_cases}
-use Rattle.fort_families.specs.FamilyRules.{FamilyRule, RuleBefore, Ascend}
-use Rattle.fort_families.specs.FamilySystems.{CandidateBefore}
+use Rattle.fort_answers.specs.FamilyRules.{FamilyRule, RuleBefore, Ascend}
+use Rattle.fort_answers.specs.FamilySystems.{CandidateBefore}
 use Rattle.fort_synth.specs.SearchAnswers.{IsPicked}
 use Rattle.fort_synth.specs.SearchSteps.{EachChoice, FirstChoice}
 use Rattle.fort_synth.proofs.SearchOrder.{RuleBefore-one_way, RuleBefore-irreflexive}

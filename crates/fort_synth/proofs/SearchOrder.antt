@@ -4,7 +4,7 @@ use Rattle.fort_theory.specs.Trees.{Tree, Trees, Node, Nil, More}
 use Rattle.fort_theory.specs.Patterns.{Pattern, Patterns, Any, At, NoPattern, MorePatterns}
 use Rattle.fort_theory.specs.PatternOrder.{PatternBefore, PatternsBefore}
 use Rattle.fort_theory.proofs.ClosedPatterns.{PatternBefore-irreflexive}
-use Rattle.fort_families.specs.FamilyRules.{FamilyRule, RuleBefore, TreeBefore, TreesBefore}
+use Rattle.fort_answers.specs.FamilyRules.{FamilyRule, RuleBefore, TreeBefore, TreesBefore}
 
 mutual
   PatternBefore-one_way : (p q : Pattern) → PatternBefore p q → PatternBefore q p → ⊥

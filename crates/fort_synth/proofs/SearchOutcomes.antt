@@ -7,7 +7,7 @@ use Rattle.std.proofs.lemmas.List.Elements.{All-push}
 use Rattle.std.proofs.Math.Seq.{take-append_seam}
 use Rattle.fort_theory.specs.Signatures.{Signature}
 use Rattle.fort_theory.specs.Patterns.{PatternSystem}
-use Rattle.fort_families.specs.FamilyRules.{FamilyRule, Ascend}
+use Rattle.fort_answers.specs.FamilyRules.{FamilyRule, Ascend}
 use Rattle.fort_synth.specs.declared.search.SynthFault.{SynthFault}
 use Rattle.fort_synth.specs.declared.search.SynthFault.TheVariants.{Memory, Decide}
 use Rattle.fort_synth.specs.CandidateRules.{no_rule, rules_at}

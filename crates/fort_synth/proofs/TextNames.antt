@@ -10,8 +10,8 @@ use Rattle.std.proofs.lemmas.Slice.Eq.{bytes_eq-Decides}
 use Rattle.fort_theory.specs.Signatures.{Signature, IsSignature, name_of, names_of}
 use Rattle.fort_theory.proofs.SignaturesLaws.{Contains-from_name_of, list_any-bytes_eq_none}
 use Rattle.fort_terms.specs.declared.sym.Sym.{Sym}
-use Rattle.fort_families.specs.RuleText.{v_name, is_undeclared, variable_names, variable_name}
-use Rattle.fort_families.proofs.VariableNames.{enough_names, most_names, name_in_range}
+use Rattle.fort_answers.specs.RuleText.{v_name, is_undeclared, variable_names, variable_name}
+use Rattle.fort_answers.proofs.VariableNames.{enough_names, most_names, name_in_range}
 
 abbrev names_before : Signature → ℕ → List (List ℕ)
 names_before sig k = filter (is_undeclared sig) (map v_name (range_with_len 0 k))

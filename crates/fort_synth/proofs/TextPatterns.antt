@@ -7,8 +7,8 @@ use Rattle.fort_theory.specs.Patterns as theory
 use Rattle.fort_theory.specs.Patterns.{FitsPattern, FitPatterns}
 use Rattle.fort_terms.specs.declared.pattern.Pattern.{Pattern}
 use Rattle.fort_terms.specs.PatternView.{as_pattern, as_patterns, node_count, node_counts}
-use Rattle.fort_families.specs.FamilySystems.{any_count, any_counts, side_from, sides_from}
-use Rattle.fort_families.specs.RuleText.{side_text, sides_text}
+use Rattle.fort_answers.specs.FamilySystems.{any_count, any_counts, side_from, sides_from}
+use Rattle.fort_answers.specs.RuleText.{side_text, sides_text}
 
 -- ---- one of them
 

@@ -11,10 +11,10 @@ use Rattle.fort_theory.proofs.IndexLaws.{All-at_index}
 use Rattle.fort_theory.proofs.Lists.{Contains-map}
 use Rattle.fort_terms.specs.declared.pattern.Pattern.{Pattern}
 use Rattle.fort_terms.specs.PatternView.{as_pair}
-use Rattle.fort_families.specs.FamilyRules.{FamilyRule}
-use Rattle.fort_families.specs.FamilySystems.{any_count, side_from, ground_side, rule_of, system_of}
-use Rattle.fort_families.specs.RuleText.{side_text, rule_text, rule_lines}
-use Rattle.fort_families.proofs.FamilySides.{pattern_of-side_from, any_count-ground, side_from-ground}
+use Rattle.fort_answers.specs.FamilyRules.{FamilyRule}
+use Rattle.fort_answers.specs.FamilySystems.{any_count, side_from, ground_side, rule_of, system_of}
+use Rattle.fort_answers.specs.RuleText.{side_text, rule_text, rule_lines}
+use Rattle.fort_answers.proofs.FamilySides.{pattern_of-side_from, any_count-ground, side_from-ground}
 use Rattle.fort_synth.specs.TextLines.{pair_line, pair_lines, HasFewPlaces}
 
 -- the pair of a rule

@@ -1,4 +1,4 @@
--- The order of terms in a family is that of the program's terms.
+-- A result, which no proof cites: the order of terms in a family is that of the program's terms.
 use Rattle.std.specs.Prelude.{◌≡◌, ◌↔◌, ◌⊎◌, ℕ, ◌<◌, refl}
 use Rattle.std.specs.declared.cmp.Ordering.{Ordering}
 use Rattle.std.specs.declared.cmp.Ordering.TheVariants.{Less, Equal, Greater}
@@ -7,7 +7,7 @@ use Rattle.std.proofs.Common.{inl, inr, arith}
 use Rattle.std.proofs.lemmas.Bool.Decides.{nat_tests}
 use Rattle.fort_theory.specs.Trees.{Tree, Trees, Node, Nil, More}
 use Rattle.fort_terms.specs.TermKeys.{tree_order, trees_order}
-use Rattle.fort_families.specs.FamilyRules.{TreeBefore, TreesBefore}
+use Rattle.fort_answers.specs.FamilyRules.{TreeBefore, TreesBefore}
 
 then_less : (o p : Ordering) → ordering_then o p ≡ Less ↔ ((o ≡ Less) ⊎ ((o ≡ Equal) × (p ≡ Less)))
 then_less Less p = (λ e. inl refl, λ h. refl)

@@ -2,8 +2,8 @@
 use Rattle.std.specs.Prelude.{ℕ, List, map, get_or}
 use Rattle.fort_theory.specs.Trees.{Node, Nil}
 use Rattle.fort_theory.specs.Patterns.{Any, Pair, pattern_pair}
-use Rattle.fort_families.specs.FamilyRules.{FamilyRule}
-use Rattle.fort_families.specs.FamilySystems.{rule_of}
+use Rattle.fort_answers.specs.FamilyRules.{FamilyRule}
+use Rattle.fort_answers.specs.FamilySystems.{rule_of}
 
 -- outside of the family any rule will do
 abbrev pub no_rule : FamilyRule

@@ -4,7 +4,7 @@ use Rattle.std.specs.List.{flat_map}
 use Rattle.fort_theory.specs.Trees.{Tree, Trees, Node, Nil, More}
 use Rattle.fort_theory.specs.Signatures.{Signature, arity_of}
 use Rattle.fort_theory.specs.Patterns.{Pattern, Patterns, Any, At, NoPattern, MorePatterns}
-use Rattle.fort_families.specs.FamilyRules.{FamilyRule}
+use Rattle.fort_answers.specs.FamilyRules.{FamilyRule}
 
 -- one of the items before one of the lists
 abbrev pub longer_lists : List Pattern → List Patterns → List Patterns

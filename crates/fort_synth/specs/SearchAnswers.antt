@@ -3,8 +3,8 @@ use Rattle.std.specs.Prelude.{◌≡◌, ◌<◌, ◌^◌, ℕ, Bool, false, Lis
 use Rattle.std.specs.Fn.{Shared, FnReturnsAt}
 use Rattle.fort_theory.specs.Signatures.{Signature, IsGround}
 use Rattle.fort_theory.specs.Patterns.{FitsPattern, PatternSystem, pattern_system}
-use Rattle.fort_families.specs.FamilyRules.{FamilyRule, Ascend}
-use Rattle.fort_families.specs.FamilySystems.{any_count, system_of, CandidateBefore}
+use Rattle.fort_answers.specs.FamilyRules.{FamilyRule, Ascend}
+use Rattle.fort_answers.specs.FamilySystems.{any_count, system_of, CandidateBefore}
 use Rattle.fort_synth.specs.declared.search.SynthFault.{SynthFault}
 use Rattle.fort_synth.specs.declared.search.SynthFault.TheVariants.{Memory, Decide}
 use denote.Ref.{Bor}

@@ -2,7 +2,7 @@
 use Rattle.std.specs.Prelude.{◌≡◌, ℕ, zero, suc, Bool, true, false, ◌⊎◌, List, [], ◌∷◌, ◌++◌, drop, Option, None, Some, Result, Ok, Err}
 use Rattle.fort_theory.specs.Signatures.{Signature}
 use Rattle.fort_theory.specs.Patterns.{PatternSystem}
-use Rattle.fort_families.specs.FamilyRules.{FamilyRule}
+use Rattle.fort_answers.specs.FamilyRules.{FamilyRule}
 use Rattle.fort_synth.specs.declared.search.SynthFault.{SynthFault}
 use Rattle.fort_synth.specs.declared.search.SynthFault.TheVariants.{Memory, Decide}
 use Rattle.fort_synth.specs.SearchAnswers.{Test, MayAsk, Answers, picked_system}

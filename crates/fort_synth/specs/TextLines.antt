@@ -2,8 +2,8 @@
 use Rattle.std.specs.Prelude.{◌≡◌, ℕ, ◌<◌, ◌^◌, List, [], ◌∷◌, ◌++◌, codes}
 use Rattle.fort_theory.specs.Signatures.{Signature}
 use Rattle.fort_theory.specs.Patterns.{Pair}
-use Rattle.fort_families.specs.FamilySystems.{any_count, side_from}
-use Rattle.fort_families.specs.RuleText.{side_text}
+use Rattle.fort_answers.specs.FamilySystems.{any_count, side_from}
+use Rattle.fort_answers.specs.RuleText.{side_text}
 
 abbrev pub pair_line : Signature → Pair → List ℕ
 pair_line sig pair = codes "(rule " ++ (side_text sig (side_from 0 pair.0) ++ (codes " " ++ (side_text sig (side_from 0 pair.1) ++ (codes ")" ++ 10 ∷ []))))

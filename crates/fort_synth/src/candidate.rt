@@ -3,8 +3,8 @@ ghost use Rattle.std.specs.Prelude.{◌≡◌, ◌<◌, ◌≤◌, ◌+◌, ◌^
 ghost use Rattle.fort_theory.specs.Signatures.{HasConstant, IsGround};
 ghost use Rattle.fort_theory.specs.Sides.{pushed_at, count_all, IsIndexOf};
 ghost use Rattle.fort_theory.specs.Patterns.{FitsPattern, pattern_pair};
-ghost use Rattle.fort_families.specs.FamilySystems as families;
-ghost use Rattle.fort_families.specs.FamilySystems.{any_count, rule_of, side_from};
+ghost use Rattle.fort_answers.specs.FamilySystems as families;
+ghost use Rattle.fort_answers.specs.FamilySystems.{any_count, rule_of, side_from};
 ghost use Rattle.fort_terms.specs.Limits.{most_system_rules};
 ghost use Rattle.fort_terms.specs.PatternView.{as_pattern};
 ghost use Rattle.fort_terms.specs.SideView.{as_side};

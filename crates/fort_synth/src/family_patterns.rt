@@ -2,7 +2,7 @@
 ghost use Rattle.std.specs.Prelude.{◌≡◌, ◌<◌, ◌≤◌, ◌++◌, map, length, IfOk, OnOk, IsErrOf};
 ghost use Rattle.fort_theory.specs.Patterns.{At, MorePatterns};
 ghost use Rattle.fort_terms.specs.PatternView.{as_pattern};
-ghost use Rattle.fort_families.specs.FamilyRules.{most_family_rules};
+ghost use Rattle.fort_answers.specs.FamilyRules.{most_family_rules};
 ghost use Rattle.fort_synth.specs.FamilyLists as lists;
 
 use crate::family_rules::{FamilyFault, MOST_RULES};

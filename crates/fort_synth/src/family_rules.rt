@@ -1,7 +1,7 @@
 //! The rules of a family: each pattern with each ground term.
 ghost use Rattle.std.specs.Prelude.{◌≡◌, ◌≤◌, ◌++◌, map, length, IfOk, OnOk, IsErrOf};
 ghost use Rattle.fort_terms.specs.PatternView.{as_pattern};
-ghost use Rattle.fort_families.specs.FamilyRules.{IsFamily, IsTooLarge, most_family_rules};
+ghost use Rattle.fort_answers.specs.FamilyRules.{IsFamily, IsTooLarge, most_family_rules};
 ghost use Rattle.fort_synth.specs.FamilyLists as lists;
 ghost use Rattle.fort_synth.specs.FamilyView.{as_family_rule};
 

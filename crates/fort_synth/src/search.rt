@@ -1,7 +1,7 @@
 //! The search through the systems of a family.
 ghost use Rattle.std.specs.Prelude.{◌≡◌, ◌<◌, ◌≤◌, ◌+◌, All, IfOk, IfErr, IfSome, IfNone, Ok, Err, [], true, length, map, drop};
 ghost use Rattle.fort_theory.specs.Signatures.{HasConstant};
-ghost use Rattle.fort_families.specs.FamilyRules.{Ascend};
+ghost use Rattle.fort_answers.specs.FamilyRules.{Ascend};
 ghost use Rattle.fort_synth.specs.CandidateRules.{rules_at};
 ghost use Rattle.fort_synth.specs.FamilyView.{as_family_rule};
 ghost use Rattle.fort_synth.specs.SearchAnswers.{AnswersNoOnAll, FitsRule, IfDecide, IsFirstAnswer, MayAskAll};

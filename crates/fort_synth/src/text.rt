@@ -3,11 +3,11 @@ ghost use Rattle.std.specs.Prelude.{◌≡◌, ℕ, ◌+◌, ◌++◌, ◌<◌, 
 ghost use Rattle.fort_theory.specs.Signatures.{IsSignature};
 ghost use Rattle.fort_theory.specs.Patterns.{FitsPair, FitsPattern, pattern_system};
 ghost use Rattle.fort_terms.specs.PatternView.{as_pair, as_pattern};
-ghost use Rattle.fort_families.specs.FamilyRules.{FamilyRule};
-ghost use Rattle.fort_families.specs.FamilySystems as families;
-ghost use Rattle.fort_families.specs.FamilySystems.{side_from, system_of};
-ghost use Rattle.fort_families.specs.RuleText as texts;
-ghost use Rattle.fort_families.specs.RuleText.{side_text, rule_lines};
+ghost use Rattle.fort_answers.specs.FamilyRules.{FamilyRule};
+ghost use Rattle.fort_answers.specs.FamilySystems as families;
+ghost use Rattle.fort_answers.specs.FamilySystems.{side_from, system_of};
+ghost use Rattle.fort_answers.specs.RuleText as texts;
+ghost use Rattle.fort_answers.specs.RuleText.{side_text, rule_lines};
 ghost use Rattle.fort_synth.specs.TextLines.{HasFewPlaces, pair_line};
 
 use fort_terms::{Pattern, Signature, System};

@@ -9,7 +9,7 @@ use Rattle.fort_theory.specs.Signatures.{Symbol, Signature, IsSignature, symbol}
 use Rattle.fort_tables.specs.Tuples.{TupleSymbol, AreSymbols, symbol_kids, kid_presence, arity}
 use Rattle.fort_terms.specs.declared.sym.Sym.{Sym}
 use Rattle.fort_tuple_symbols.specs.Columns.{as_column, as_symbol, digit_of}
-use Rattle.fort_operations.specs.Selections.{selected, is_present}
+use Rattle.fort_tables.specs.Selections.{selected, is_present}
 use Rattle.fort_target_lists.specs.Places.{number_of}
 use Rattle.fort_target_lists.proofs.SymbolNumbers.{number_of-take}
 

@@ -5,8 +5,8 @@ use Rattle.std.proofs.lemmas.List.{length-map}
 use Rattle.fort_theory.specs.Signatures.{Signature}
 use Rattle.fort_tables.specs.Tuples.{TupleSymbol, kid_presence}
 use Rattle.fort_tables.specs.Tables.{Table, Listed}
-use Rattle.fort_lockstep.specs.Ranks.{count_of}
-use Rattle.fort_laid_entries.specs.Laid.{entries_from, entries_under}
+use Rattle.fort_tables.specs.StateRanks.{count_of}
+use Rattle.fort_tables.specs.Laid.{entries_from, entries_under}
 use Rattle.fort_tuple_symbols.specs.SymbolNumbers.{columns_at}
 use Rattle.fort_target_lists.specs.Walks.{entries_of, entries_before}
 use Rattle.fort_target_lists.proofs.PlaceLaws.{room, cap_product}

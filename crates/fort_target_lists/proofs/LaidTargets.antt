@@ -5,10 +5,10 @@ use Rattle.std.proofs.lemmas.List.{length-map, map-append}
 use Rattle.fort_tables.specs.Tuples.{TupleSymbol, IsPresent, presence, symbol_kids, kid_presence}
 use Rattle.fort_tables.specs.Entries.{Entry}
 use Rattle.fort_tables.specs.Tables.{Table}
-use Rattle.fort_operations.specs.Selections.{is_present}
-use Rattle.fort_operations.proofs.SelectionLaws.{test_from_present}
-use Rattle.fort_laid_entries.specs.Laid.{joined_below, entries_from, entries_under}
-use Rattle.fort_laid_entries.proofs.KidLists.{present_from_presence, under_absent, under_present}
+use Rattle.fort_tables.specs.Selections.{is_present}
+use Rattle.fort_tables.proofs.SelectionLaws.{test_from_present}
+use Rattle.fort_tables.specs.Laid.{joined_below, entries_from, entries_under}
+use Rattle.fort_tables.proofs.KidLists.{present_from_presence, under_absent, under_present}
 use Rattle.fort_target_lists.specs.Flats.{laid}
 
 -- the targets laid over first child states are those of the entries

@@ -4,10 +4,10 @@ use Rattle.std.proofs.Math.Seq.{take-append_seam}
 use Rattle.std.proofs.lemmas.Bool.{cases_eq, cases_lt}
 use Rattle.fort_tables.specs.Entries.{Entry, stage}
 use Rattle.fort_tables.specs.Tables.{Listed, IsListed}
-use Rattle.fort_laid_entries.specs.Laid.{in_stage, joined_below, start_of}
-use Rattle.fort_laid_entries.proofs.AllEntries.{entries_unique}
-use Rattle.fort_laid_entries.proofs.Counts.{length-all_entries}
-use Rattle.fort_laid_entries.proofs.JoinedLists.{joined_long}
+use Rattle.fort_tables.specs.Laid.{in_stage, joined_below, start_of}
+use Rattle.fort_tables.proofs.AllEntries.{entries_unique}
+use Rattle.fort_tables.proofs.Counts.{length-all_entries}
+use Rattle.fort_tables.proofs.JoinedLists.{joined_long}
 use Rattle.fort_target_lists.specs.Chains.{AreChains}
 use Rattle.fort_target_lists.specs.Walks.{entries_of, IsCovered, IsWalkOf, IsTakenUp, IsBetween, AreStageCounts}
 use Rattle.fort_target_lists.specs.declared.chains.Chains.{Chains}

@@ -2,11 +2,11 @@
 use Rattle.std.proofs.Common.{◌≡◌, ℕ, suc, ◌^◌, ◌<◌, ◌≤◌, List, length, get_or, Option, None, Some, IfSome, IsTrue, ap, sym, ◌∙◌, arith, subst, true≢false}
 use Rattle.fort_theory.specs.Signatures.{Signature}
 use Rattle.fort_tables.specs.Tables.{Table, Listed, listed_table}
-use Rattle.fort_laid_entries.proofs.Counts.{symbols_few}
+use Rattle.fort_tables.proofs.Counts.{symbols_few}
 use Rattle.fort_target_lists.specs.Places.{AreSpots}
 use Rattle.fort_target_lists.specs.Flats.{AreLaid, IsFlatOf}
 use Rattle.fort_target_lists.specs.TargetLists.{IsTargetListOf, IsOperandList, IsTableWith}
-use Rattle.fort_operations.specs.Products.{Operand, OfTable, OfTruth}
+use Rattle.fort_tables.specs.Products.{Operand, OfTable, OfTruth}
 use Rattle.fort_target_lists.specs.ListedOperands.{IsListOf}
 use Rattle.fort_target_lists.specs.declared.target_list.TargetList.{TargetList}
 use Rattle.fort_target_lists.specs.declared.flat.FlatTargets.{FlatTargets}

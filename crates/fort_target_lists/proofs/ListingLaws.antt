@@ -7,13 +7,13 @@ use Rattle.fort_tables.specs.Tuples.{TupleSymbol, AreSymbols, IsTupleSymbol, sym
 use Rattle.fort_tables.specs.Entries.{Entry, entry}
 use Rattle.fort_tables.specs.Tables.{Table, IsTableEntry}
 use Rattle.fort_tables.proofs.EqualTests.{test_from_apart}
-use Rattle.fort_lockstep.specs.Ranks.{rank_in}
-use Rattle.fort_lockstep.proofs.InOrderLaws.{rank_less}
-use Rattle.fort_operations.specs.Selections.{is_present}
-use Rattle.fort_operations.proofs.SelectionLaws.{present_from_test, test_from_present}
+use Rattle.fort_tables.specs.StateRanks.{rank_in}
+use Rattle.fort_tables.proofs.StateRankLaws.{rank_less}
+use Rattle.fort_tables.specs.Selections.{is_present}
+use Rattle.fort_tables.proofs.SelectionLaws.{present_from_test, test_from_present}
 use Rattle.fort_tuple_symbols.specs.SymbolNumbers.{columns_at}
 use Rattle.fort_target_lists.specs.Places.{number_of, place_from, AreSpots}
-use Rattle.fort_laid_entries.specs.Laid.{joined_below, entries_under}
+use Rattle.fort_tables.specs.Laid.{joined_below, entries_under}
 use Rattle.fort_target_lists.specs.Flats.{entries_below, laid, IsStateFor, HasFrom, AreLaid, IsTargetAt}
 use Rattle.fort_target_lists.proofs.LaidTargets.{under_none, under_laid}
 use Rattle.fort_target_lists.proofs.PlaceLaws.{rank_none, rank_more, rank_whole, room, AreKidsFrom, kids_from_index, place_first, place_below}

@@ -4,8 +4,8 @@ use Rattle.std.proofs.Math.Nat.{mul-le-mul_right}
 use Rattle.std.proofs.lemmas.Bool.{cases_lt, cases_eq}
 use Rattle.std.proofs.lemmas.List.{take_more, get_or_append_left, get_or_push}
 use Rattle.fort_tables.proofs.EqualTests.{test_from_apart}
-use Rattle.fort_lockstep.specs.Ranks.{count_of, rank_in}
-use Rattle.fort_lockstep.proofs.InOrderLaws.{rank_less}
+use Rattle.fort_tables.specs.StateRanks.{count_of, rank_in}
+use Rattle.fort_tables.proofs.StateRankLaws.{rank_less}
 use Rattle.fort_target_lists.specs.Places.{place_from, AreSpots}
 
 -- one more child

@@ -12,9 +12,9 @@ use Rattle.fort_tables.specs.Tables.{Listed}
 use Rattle.fort_tuple_symbols.specs.Columns.{digit_of}
 use Rattle.fort_tuple_symbols.proofs.DigitNumberLaws.{pow_some}
 use Rattle.fort_tuple_symbols.proofs.SymbolNumberLaws.{digit_again, length-columns_at}
-use Rattle.fort_laid_entries.specs.Laid as laid
-use Rattle.fort_laid_entries.proofs.JoinedLists.{get_or-joined}
-use Rattle.fort_laid_entries.proofs.SymbolLists.{length-joined_alike, length-symbol_list}
+use Rattle.fort_tables.specs.Laid as laid
+use Rattle.fort_tables.proofs.JoinedLists.{get_or-joined}
+use Rattle.fort_tables.proofs.SymbolLists.{length-joined_alike, length-symbol_list}
 use Rattle.fort_tuple_symbols.specs.SymbolNumbers.{columns_at}
 use Rattle.fort_target_lists.specs.Places.{number_of}
 use Rattle.fort_target_lists.specs.Walks.{entries_of, entries_before}

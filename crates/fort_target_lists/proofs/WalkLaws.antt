@@ -9,10 +9,10 @@ use Rattle.fort_tables.specs.Tables.{Listed, listed_table}
 use Rattle.fort_tables.proofs.EqualTests.{test_from_apart}
 use Rattle.fort_tables.proofs.EntryLaws.{target_found}
 use Rattle.fort_tables.proofs.OrderLaws.{order_one}
-use Rattle.fort_laid_entries.specs.Laid.{in_stage, start_of}
-use Rattle.fort_laid_entries.proofs.AllEntries.{entries_unique, entry_at_cursor, cursor_within, entry_stage}
-use Rattle.fort_laid_entries.proofs.Counts.{length-all_entries}
-use Rattle.fort_laid_entries.proofs.BySymbol.{by_symbol_are}
+use Rattle.fort_tables.specs.Laid.{in_stage, start_of}
+use Rattle.fort_tables.proofs.AllEntries.{entries_unique, entry_at_cursor, cursor_within, entry_stage}
+use Rattle.fort_tables.proofs.Counts.{length-all_entries}
+use Rattle.fort_tables.proofs.BySymbol.{by_symbol_are}
 use Rattle.fort_target_lists.specs.Walks.{entries_of, IsCovered, HasPassed, Stop, IsStopOf, HasPassedTo}
 use Rattle.fort_target_lists.specs.declared.walk.Walk.{Walk}
 use Rattle.std.specs.Prelude.{Contains}

@@ -3,11 +3,11 @@ use Rattle.std.proofs.Common.{◌≡◌, ℕ, suc, ◌+◌, ◌^◌, ◌<◌, Li
 use Rattle.std.proofs.lemmas.List.{append-nil, length-map, map-append}
 use Rattle.fort_tables.specs.Tuples.{TupleSymbol, IsTupleSymbol, symbol_kids}
 use Rattle.fort_tables.specs.Tables.{Listed, listed_table}
-use Rattle.fort_operations.specs.Selections.{is_present}
-use Rattle.fort_laid_entries.specs.Laid.{entries_from, entries_under}
-use Rattle.fort_laid_entries.proofs.AllEntries.{entries_unique}
-use Rattle.fort_laid_entries.proofs.Counts.{length-all_entries}
-use Rattle.fort_laid_entries.proofs.KidLists.{under_absent, under_present}
+use Rattle.fort_tables.specs.Selections.{is_present}
+use Rattle.fort_tables.specs.Laid.{entries_from, entries_under}
+use Rattle.fort_tables.proofs.AllEntries.{entries_unique}
+use Rattle.fort_tables.proofs.Counts.{length-all_entries}
+use Rattle.fort_tables.proofs.KidLists.{under_absent, under_present}
 use Rattle.fort_tuple_symbols.specs.SymbolNumbers.{columns_at}
 use Rattle.fort_target_lists.specs.Flats.{laid}
 use Rattle.fort_target_lists.specs.Walks.{entries_before, IsWalkOf, AreBegins, HasPassed, Stop, IsStopOf, IsBetween}

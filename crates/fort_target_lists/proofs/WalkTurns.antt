@@ -6,7 +6,7 @@ use Rattle.fort_theory.specs.Signatures.{Signature}
 use Rattle.fort_tables.specs.Tuples.{TupleSymbol, kid_presence}
 use Rattle.fort_tables.specs.Entries.{Entry, stage}
 use Rattle.fort_tables.proofs.EqualTests.{test_from_apart}
-use Rattle.fort_laid_entries.specs.Laid.{joined_below, entries_from}
+use Rattle.fort_tables.specs.Laid.{joined_below, entries_from}
 use Rattle.fort_target_lists.specs.Chains.{IsFirstFrom}
 use Rattle.fort_target_lists.specs.Walks.{entries_of, HasPassed, Stop, IsStopOf, HasPassedTo, HasPassedBehind}
 use Rattle.fort_target_lists.specs.declared.walk.Walk.{Walk}

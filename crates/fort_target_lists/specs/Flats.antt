@@ -3,7 +3,7 @@ use Rattle.std.specs.Prelude.{◌≡◌, ℕ, zero, suc, ◌+◌, ◌^◌, ◌<�
 use Rattle.fort_tables.specs.Tuples.{TupleSymbol, IsTupleSymbol, symbol_kids, kid_presence}
 use Rattle.fort_tables.specs.Entries.{Entry, entry}
 use Rattle.fort_tables.specs.Tables.{Table, IsTableEntry}
-use Rattle.fort_laid_entries.specs.Laid.{joined_below, entries_under}
+use Rattle.fort_tables.specs.Laid.{joined_below, entries_under}
 use Rattle.fort_tuple_symbols.specs.SymbolNumbers.{columns_at}
 use Rattle.fort_target_lists.specs.Places.{number_of, place_from, AreSpots}
 use Rattle.fort_target_lists.specs.declared.flat.FlatTargets.{FlatTargets}

@@ -1,7 +1,7 @@
 -- To believe: what an operand's targets in one list are.
 use Rattle.std.specs.Prelude.{Option, None, Some, IfSome}
 use Rattle.std.proofs.Props.{props}
-use Rattle.fort_operations.specs.Products.{Operand, OfTable, OfTruth}
+use Rattle.fort_tables.specs.Products.{Operand, OfTable, OfTruth}
 use Rattle.fort_target_lists.specs.Flats.{IsFlatOf}
 use Rattle.fort_target_lists.specs.declared.flat.FlatTargets.{FlatTargets}
 

@@ -2,7 +2,7 @@
 use Rattle.std.specs.Prelude.{◌≡◌, ℕ, ◌+◌, ◌*◌, ◌^◌, ◌<◌, List, [], ◌∷◌, length, get_or}
 use Rattle.fort_tables.specs.Tuples.{TupleSymbol}
 use Rattle.fort_tuple_symbols.specs.Columns.{digit_of}
-use Rattle.fort_lockstep.specs.Ranks.{count_of, rank_in}
+use Rattle.fort_tables.specs.StateRanks.{count_of, rank_in}
 use Rattle.fort_tuple_symbols.specs.SymbolNumbers.{columns_at}
 use Rattle.fort_target_lists.specs.declared.flat.Spots.{Spots}
 use Rattle.fort_target_lists.specs.declared.flat.FlatTargets.{FlatTargets}

@@ -4,7 +4,7 @@ use Rattle.std.proofs.Props.{props}
 use Rattle.fort_theory.specs.Signatures.{Signature}
 use Rattle.fort_tables.specs.Entries.{Entry}
 use Rattle.fort_tables.specs.Tables.{Table, IsTableEntry, Listed, IsListed}
-use Rattle.fort_operations.specs.Products.{Operand, OfTable, OfTruth}
+use Rattle.fort_tables.specs.Products.{Operand, OfTable, OfTruth}
 use Rattle.fort_target_lists.specs.Flats.{IsFlatOf}
 use Rattle.fort_target_lists.specs.declared.target_list.TargetList.{TargetList}
 

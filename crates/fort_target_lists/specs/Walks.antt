@@ -5,7 +5,7 @@ use Rattle.fort_theory.specs.Signatures.{Signature, most_columns}
 use Rattle.fort_tables.specs.Tuples.{TupleSymbol, IsTupleSymbol}
 use Rattle.fort_tables.specs.Entries.{Entry, stage, AreInOrder, HasAllEntries}
 use Rattle.fort_tables.specs.Tables.{Listed, listed_table}
-use Rattle.fort_laid_entries.specs.Laid.{entries_from, entries_under, symbol_list, by_symbol, in_stage, start_of}
+use Rattle.fort_tables.specs.Laid.{entries_from, entries_under, symbol_list, by_symbol, in_stage, start_of}
 use Rattle.fort_target_lists.specs.Chains.{AreChains}
 use Rattle.fort_target_lists.specs.Flats.{base_of, AreLaid}
 use Rattle.fort_target_lists.specs.declared.states.LayRoom.{LayRoom}

@@ -2,7 +2,7 @@
 ghost use Rattle.std.specs.Prelude.{◌≡◌, ℕ, ◌<◌, ◌^◌, [], length, slice_index, OnOk};
 ghost use Rattle.fort_target_lists.specs.Chains.{AreChains};
 
-use fort_lockstep::Table;
+use fort_table::Table;
 use fort_terms::Memory;
 
 /// The states of each presence in order, each with the one that comes next; the number of states stands for none.

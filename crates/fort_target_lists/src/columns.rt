@@ -2,10 +2,10 @@
 ghost use Rattle.std.specs.Prelude.{◌≡◌, ◌<◌, ◌≤◌, ◌^◌, ◌+◌, ◌*◌, [], ◌∷◌, length, IfSome};
 ghost use Rattle.fort_tuple_symbols.specs.Columns.{as_column, digit_of};
 ghost use Rattle.fort_tables.specs.Tuples.{AreSymbols, symbol_kids, kid_presence as kid_presence_lem};
-ghost use Rattle.fort_operations.specs.Selections.{selected as selected_lem, is_present as is_present_lem, ArePlaces};
+ghost use Rattle.fort_tables.specs.Selections.{selected as selected_lem, is_present as is_present_lem, ArePlaces};
 
-use fort_lockstep::TupleSym;
 use fort_terms::{Signature, Sym};
+use fort_tuple_symbols::TupleSym;
 
 /// The columns at these places.
 pub fn selected(sym: &TupleSym, places: &[usize]) -> TupleSym

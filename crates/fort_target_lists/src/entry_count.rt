@@ -1,12 +1,12 @@
 //! How many entries a table has, by how many states each presence has.
 ghost use Rattle.std.specs.Prelude.{◌≡◌, ℕ, ◌-◌, ◌<◌, ◌≤◌, ◌^◌, min, List, [], length, slice_index, IsTrue, IsFalse, suc};
 ghost use Rattle.fort_tables.specs.Tuples.{AreSymbols, symbol_kids};
-ghost use Rattle.fort_laid_entries.specs.Laid.{entries_from, entries_under, by_symbol};
+ghost use Rattle.fort_tables.specs.Laid.{entries_from, entries_under, by_symbol};
 ghost use Rattle.fort_target_lists.specs.Places.{AreCounts};
 
 use crate::columns::{is_present, kid_count, kid_presence};
-use fort_lockstep::TupleSym;
 use fort_terms::Signature;
+use fort_tuple_symbols::TupleSym;
 
 /// How many states have each presence: the counts are zeros before.
 pub(crate) fn count_states(presences: &[u16], counts: &mut [u32])

@@ -6,8 +6,8 @@ ghost use Rattle.fort_target_lists.specs.Places.{number_of, place_from, IsReadab
 
 use crate::chains::Chains;
 use crate::columns::number_behind;
-use fort_lockstep::TupleSym;
 use fort_terms::Sym;
+use fort_tuple_symbols::TupleSym;
 
 /// Where each state stands among the states of its presence.
 #[derive(Drop)]

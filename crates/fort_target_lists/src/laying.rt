@@ -2,7 +2,7 @@
 ghost use Rattle.std.specs.Prelude.{◌≡◌, ℕ, suc, ◌<◌, ◌≤◌, ◌^◌, List, length, slice_index, vec_capacity};
 ghost use Rattle.fort_tables.specs.Entries.{Entry};
 ghost use Rattle.fort_tables.specs.Tables as tables;
-ghost use Rattle.fort_laid_entries.specs.Laid.{start_of};
+ghost use Rattle.fort_tables.specs.Laid.{start_of};
 ghost use Rattle.fort_target_lists.specs.Flats.{AreLaid};
 ghost use Rattle.fort_target_lists.specs.Walks.{AreStageCounts, AreStageBegins, IsTakenUp};
 ghost use Rattle.fort_target_lists.specs.LayRooms.{HasLayRoom};

@@ -8,8 +8,9 @@ ghost use Rattle.fort_target_lists.specs.Flats.{base_of, laid, entries_below, Is
 use crate::chains::{Chains, fill, make_room, presence_count};
 use crate::columns::{is_present, kid_count, kid_presence};
 use crate::flat::{FlatTargets, Listing, Spots};
-use fort_lockstep::{Table, TupleSym};
+use fort_table::Table;
 use fort_terms::Memory;
+use fort_tuple_symbols::TupleSym;
 use std::alloc::Global;
 
 /// So many tuple symbols are numbered at most where a list is made by look-ups.

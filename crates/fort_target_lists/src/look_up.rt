@@ -8,8 +8,9 @@ ghost use Rattle.fort_target_lists.specs.Flats.{IsFlatOf};
 ghost use Rattle.fort_target_lists.specs.LookUps.{FindsUnder, FindsAbove, IsFinderOf};
 
 use crate::flat::FlatTargets;
-use fort_lockstep::{Row, Table, TupleSym};
+use fort_table::Table;
 use fort_terms::Sym;
+use fort_tuple_symbols::{Row, TupleSym};
 
 /// How the targets under one tuple symbol are found.
 #[derive(Drop)]

@@ -2,7 +2,7 @@
 ghost use Rattle.std.specs.Prelude.{◌≡◌, ℕ, ◌<◌, ◌≤◌, ◌^◌, length, IfOk, IfSome, OnOk, OnErr, IsTrue, IsFalse};
 ghost use Rattle.fort_tables.specs.Entries.{entry};
 ghost use Rattle.fort_tables.specs.Tables as tables;
-ghost use Rattle.fort_operations.specs.Products as products;
+ghost use Rattle.fort_tables.specs.Products as products;
 ghost use Rattle.fort_target_lists.specs.LayRooms.{HasLayRoom};
 ghost use Rattle.fort_target_lists.specs.TargetLists.{IsListOfTable, IsTargetListOf, IsOperandList, HasListRoom, IsTableWith};
 ghost use Rattle.fort_target_lists.specs.ListedOperands.{IsListOf};
@@ -11,8 +11,9 @@ ghost use Rattle.fort_target_lists.specs.Flats.{base_of, IsUnlisted};
 use crate::chains::Chains;
 use crate::flat::{FlatTargets, Listing, Spots};
 use crate::states::LayRoom;
-use fort_lockstep::{Table, TupleSym};
+use fort_table::Table;
 use fort_terms::{Memory, Signature};
+use fort_tuple_symbols::TupleSym;
 use std::alloc::Global;
 
 /// A table's targets in one list, where it is made, and the room for them. Where it is laid, a table without entries has none.

@@ -8,8 +8,8 @@ ghost use Rattle.fort_target_lists.specs.Walks.{IsStopOf, HasPassedTo, HasPassed
 use crate::chains::Chains;
 use crate::columns::{is_present, kid_count, kid_presence};
 use crate::flat::Listing;
-use fort_lockstep::TupleSym;
 use fort_terms::Signature;
+use fort_tuple_symbols::TupleSym;
 
 /// A walk over all entries of a table. Each stage has a cursor, which goes on by one at each entry of the stage.
 #[derive(Clone, Copy)]

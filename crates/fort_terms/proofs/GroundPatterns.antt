@@ -5,7 +5,7 @@ use Rattle.std.proofs.lemmas.List.Elements.{All-contains, All-map}
 use Rattle.fort_theory.specs.Patterns.{Pair}
 use Rattle.fort_theory.proofs.Lists.{Contains-map}
 use Rattle.fort_theory.proofs.Members.{Contains-none}
-use Rattle.fort_termination.specs.RightGround.{IsGroundPattern, AreGroundPatterns, IsRightGroundPair}
+use Rattle.fort_theory.specs.RightGround.{IsGroundPattern, AreGroundPatterns, IsRightGroundPair}
 use Rattle.fort_terms.specs.declared.pattern.Pattern.{Pattern}
 use Rattle.fort_terms.specs.PatternView.{as_pattern, as_patterns, as_pair}
 

@@ -2,7 +2,7 @@
 ghost use Rattle.std.specs.Prelude.{◌≡◌, ◌↔◌, IfOk, IsTrue, OnOk, map};
 ghost use Rattle.fort_theory.specs.Patterns.{IsInstance};
 ghost use Rattle.fort_theory.specs.PatternOrder.{subpatterns};
-ghost use Rattle.fort_termination.specs.RightGround.{IsGroundPattern};
+ghost use Rattle.fort_theory.specs.RightGround.{IsGroundPattern};
 ghost use Rattle.fort_terms.specs.PatternView.{as_pattern, as_patterns};
 ghost use Rattle.fort_terms.specs.Subpatterns.{HasMore};
 

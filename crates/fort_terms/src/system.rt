@@ -6,7 +6,7 @@ ghost use Rattle.fort_theory.specs.Signatures.{most_indices, HasConstant};
 ghost use Rattle.fort_theory.specs.Sides.{at_index, pushed_at, empty_lists, count_all, IsIndexOf, FitsSide, IsLinear, IsLinearSeparated, variables};
 ghost use Rattle.fort_theory.specs.Patterns.{pattern_of, IsSystem};
 ghost use Rattle.fort_theory.specs.PatternOrder.{AreSubpatternsInOrder};
-ghost use Rattle.fort_termination.specs.RightGround.{HasRightGroundPairsAt};
+ghost use Rattle.fort_theory.specs.RightGround.{HasRightGroundPairsAt};
 ghost use Rattle.fort_terms.specs.BothWays.{both_ways, exchanged};
 ghost use Rattle.fort_terms.specs.Limits.{most_system_rules};
 ghost use Rattle.fort_terms.specs.PatternKeys.{pattern_order};

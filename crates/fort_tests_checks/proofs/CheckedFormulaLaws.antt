@@ -2,8 +2,8 @@
 use Rattle.std.specs.Prelude.{◌≡◌, length, Bool, true, false, not, ◌&&◌, ◌||◌, ◌==◌, refl}
 use Rattle.std.proofs.Common.{sym, subst, arith}
 use Rattle.fort_theory.specs.Patterns.{PatternSystem}
-use Rattle.fort_cores.specs.Cores.{Core}
-use Rattle.fort_cores.specs.Parts.{IsClosed}
+use Rattle.fort_theory.specs.Cores.{Core}
+use Rattle.fort_theory.specs.Parts.{IsClosed}
 use Rattle.fort_parts.specs.DecidedCores.{IsDecided}
 use Rattle.fort_parts.proofs.PartFacts.{IsWellFormed-few}
 use Rattle.fort_tests_checks.specs.CheckedFormulas.{many_reduced}

@@ -1,5 +1,5 @@
 -- Inside: the formula whose certificate is checked.
-use Rattle.fort_cores.specs.Cores.{Core, Star, Leaf, Related, Exists, Infinite}
+use Rattle.fort_theory.specs.Cores.{Core, Star, Leaf, Related, Exists, Infinite}
 
 -- infinitely many x go to some y
 abbrev pub many_reduced : Core

@@ -3,9 +3,11 @@ ghost use Rattle.std.specs.Prelude.{◌≡◌, length, IfOk};
 ghost use Rattle.fort_formulas.specs.CoreView.{as_core};
 ghost use Rattle.fort_tests_checks.specs.CheckedFormulas.{many_reduced};
 
-use fort_cert_checker::{Checker, Reason, Rejected};
+use fort_cert_checker::{Checker, Rejected};
+use fort_check_steps::Reason;
 use fort_findings::{ClosureEntry, Count, Reason as Why, Which};
-use fort_formulas::{Arm, Core, Rel};
+use fort_formulas::{Arm, Core};
+use fort_relations::Rel;
 use fort_steps::{Certificate, Step};
 use fort_terms::{Memory, Side, Sides, Signature, Sym, System};
 use std::alloc::Global;

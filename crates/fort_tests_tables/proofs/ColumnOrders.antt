@@ -1,6 +1,6 @@
 -- Two columns exchanged are an order of columns.
 use Rattle.std.proofs.Common.{◌≡◌, ℕ, zero, suc, [], ◌∷◌, refl, sym, arith, subst}
-use Rattle.fort_operations.specs.OperationTruth.{UndoesOrder, IsOrder}
+use Rattle.fort_tables.specs.OperationTruth.{UndoesOrder, IsOrder}
 
 exchanged : UndoesOrder (1 ∷ 0 ∷ []) (1 ∷ 0 ∷ [])
 exchanged zero l = (omega arith, refl)

@@ -3,9 +3,13 @@ ghost use Rattle.std.specs.Prelude.{◌≡◌, IfOk};
 
 use super::rules::IsFirst;
 use fort_connectives::Op;
-use fort_explore::{ByRule, ExploreFault, explore};
-use fort_lockstep::{Dta, Table};
-use fort_rrn_algebra::{Both, Operand, negate, permute, pure_states, widen};
+use fort_explore::{ExploreFault, explore};
+use fort_labels::ByRule;
+use fort_lockstep::Dta;
+use fort_products::{Both, Operand};
+use fort_projections::pure_states;
+use fort_rrn_algebra::{negate, permute, widen};
+use fort_table::Table;
 use fort_terms::Signature;
 use std::alloc::Global;
 use std::test::Fail;

@@ -1,8 +1,10 @@
 //! Classes of a table's states by marking pairs, for tables of at most eight states.
 
 use super::small_tables::Given;
-use fort_lockstep::{Dta, Row, Table};
+use fort_lockstep::Dta;
+use fort_table::Table;
 use fort_terms::Memory;
+use fort_tuple_symbols::Row;
 use std::alloc::Global;
 
 fn is_marked(marks: &[bool], p: u32, q: u32) -> bool {

@@ -3,9 +3,9 @@ ghost use Rattle.std.specs.Prelude.{◌≡◌, ◌<◌, ℕ, [], map, length, sl
 ghost use Rattle.fort_tuple_symbols.specs.Columns.{as_column};
 ghost use Rattle.fort_tests_tables.specs.Rules.{is_first as is_first_lem, storeys as storeys_lem};
 
-use fort_explore::{LocalRule, Rows};
-use fort_lockstep::Row;
+use fort_labels::{LocalRule, Rows};
 use fort_terms::{Signature, Sym};
+use fort_tuple_symbols::Row;
 
 /// Whether the one term is the first constant.
 #[derive(Drop)]

@@ -2,8 +2,10 @@
 ghost use Rattle.std.specs.Prelude.{◌≡◌, ℕ, ◌+◌, ◌-◌, ◌<◌, ◌≤◌, ◌^◌, ◌==◌, ◌++◌, ◌∷◌, [], length, slice_index, slice_index_or, if◌then◌else◌, IfOk, OnOk, IfSome, true, false};
 ghost use Rattle.fort_tables.specs.Tables.{full_presence};
 
-use fort_lockstep::{Dta, Maker, Row, Table};
+use fort_lockstep::{Dta, Maker};
+use fort_table::Table;
 use fort_terms::{Memory, Signature};
+use fort_tuple_symbols::Row;
 use std::alloc::Global;
 
 /// Entries of a table in their order, with their targets.

@@ -4,8 +4,10 @@ ghost use Rattle.fort_tables.specs.Tables.{listed_table};
 ghost use Rattle.fort_witness.specs.Answers.{IsWitness};
 
 use super::rules::Tower;
-use fort_explore::{ByRule, explore};
-use fort_lockstep::{Dag, Dta, Table};
+use fort_explore::explore;
+use fort_labels::ByRule;
+use fort_lockstep::Dta;
+use fort_table::{Dag, Table};
 use fort_terms::{Memory, Signature};
 use fort_witness::{least, write_term};
 use std::alloc::Global;

@@ -1,6 +1,7 @@
 //! Core formulas and expressions as keys.
 use super::keys::check_keys;
-use fort_formulas::{Arm, Core, Holes, Place, Rel, Rex, RexArm};
+use fort_formulas::{Arm, Core};
+use fort_relations::{Holes, Place, Rel, Rex, RexArm};
 use fort_terms::{Sym, Term};
 use std::alloc::Global;
 use std::test::Fail;

@@ -3,9 +3,8 @@ ghost use Rattle.std.specs.Prelude.{◌≡◌, [], IfOk};
 ghost use Rattle.fort_logic.specs.Mentions.{places, places_in};
 ghost use Rattle.fort_formulas.specs.FormulaView.{as_argument, as_formula};
 
-use fort_formulas::{
-    Arg, Core, Formula, Holes, Kind, Macro, Name, Operand, Place, Rex, kind, parts, to_core,
-};
+use fort_formulas::{Arg, Core, Formula, Kind, Macro, Name, Operand, kind, parts, to_core};
+use fort_relations::{Holes, Place, Rex};
 use std::alloc::Global;
 use std::test::Fail;
 

@@ -1,4 +1,4 @@
--- The instances of a linear side's pattern are the trees that some substitution makes of the side.
+-- A result, which no proof cites: the instances of a linear side's pattern are the trees that some substitution makes of the side.
 use Rattle.std.proofs.Common.{◌≡◌, ◌↔◌, ℕ, nat_eq, List, Contains, if◌then◌else◌, refl, sym, ap, ◌∙◌}
 use Rattle.std.specs.List.{IsDistinct}
 use Rattle.std.specs.Set.{is_member}

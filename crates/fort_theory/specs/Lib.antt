@@ -10,3 +10,16 @@ pub mod TreeCode
 pub mod SideCode
 pub mod PatternCode
 pub mod SymbolCode
+pub mod Termination
+pub mod RightGround
+pub mod Expressions
+pub mod Contexts
+pub mod Conditions
+pub mod Structures
+pub mod PatternStructures
+pub mod Cores
+pub mod CoreTruth
+pub mod EachOnce
+pub mod Parts
+pub mod PartLists
+pub mod Kinds

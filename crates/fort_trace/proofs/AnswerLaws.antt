@@ -1,14 +1,14 @@
 -- The answer of a negation: its body's, turned.
 use Rattle.std.proofs.Common.{◌≡◌, ℕ, Bool, true, false, nat_lt, List, length, get_or, Option, None, true≢false, refl, ap, sym, ◌∙◌, subst}
 use Rattle.fort_theory.specs.Patterns.{PatternSystem}
-use Rattle.fort_cores.specs.Cores as core
-use Rattle.fort_cores.specs.Cores.{Core}
+use Rattle.fort_theory.specs.Cores as core
+use Rattle.fort_theory.specs.Cores.{Core}
 use Rattle.fort_tables.specs.Tables.{listed_table}
 use Rattle.fort_parts.specs.PartAnswers.{OfValue}
 use Rattle.fort_parts.specs.RightAnswers.{IsRightBy}
-use Rattle.fort_reduced_parts.specs.ToldParts.{ToldWith}
-use Rattle.fort_in_order.specs.Dues.{has_columns, is_turned}
-use Rattle.fort_in_order.specs.Made.{Made, IsAnswerOf, Turned}
+use Rattle.fort_parts.specs.ToldParts.{ToldWith}
+use Rattle.fort_certificate_theory.specs.Dues.{has_columns, is_turned}
+use Rattle.fort_certificate_theory.specs.Made.{MadeSoFar, IsAnswerOf, Turned}
 use Rattle.fort_engine.specs.declared.answer.Last.{Last}
 use Rattle.fort_engine.specs.declared.answer.Last.TheVariants.{Truth, Auto}
 use Rattle.fort_engine.specs.AnswerView.{as_answer}
@@ -17,7 +17,7 @@ use Rattle.fort_engine.specs.Found.{IsKeptAnswer, IsTurnedOf, IsItsTurned}
 use Rattle.fort_engine.proofs.OperandLaws.{IsRight-taken}
 use Rattle.fort_trace.specs.Recording.{recorded_with, AreOperandsMade}
 
-module _ (system : PatternSystem) (cap : ℕ) (reduces : Bool) (parts : List Core) (made : Made) (kept : List (Option Last)) where
+module _ (system : PatternSystem) (cap : ℕ) (reduces : Bool) (parts : List Core) (made : MadeSoFar) (kept : List (Option Last)) where
   -- a truth is of no columns
   turned_body : (g : Core) (answer body : Last) → HasOperands system (recorded_with cap reduces) parts kept (core.Not g) → AreOperandsMade parts made kept (core.Not g) → has_columns g ≡ true
       → IsKeptAnswer parts kept g body → IsTurnedOf body answer → IsAnswerOf parts made (core.Not g) (as_answer answer)

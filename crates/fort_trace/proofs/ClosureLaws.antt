@@ -6,23 +6,23 @@ use Rattle.std.specs.List.{list_any}
 use Rattle.std.proofs.lemmas.List.{map-append, take_more}
 use Rattle.std.proofs.lemmas.Simd.{map-map}
 use Rattle.fort_theory.specs.Patterns.{PatternSystem, IsSystem}
-use Rattle.fort_cores.specs.Cores.{Core}
+use Rattle.fort_theory.specs.Cores.{Core}
 use Rattle.fort_alike.specs.Atoms.{kind_for}
 use Rattle.fort_alike.specs.Alike.{is_reaching}
-use Rattle.fort_certificate_grammar.specs.Certificates as certificates
+use Rattle.fort_certificate_theory.specs.Certificates as certificates
 use Rattle.fort_alike.specs.ListedClosures.{Which, Star, Conv, Pair as Item, relation_of, asks}
-use Rattle.fort_in_order.specs.Dues.{DueStep, OfClosure, closure_due, closures_due}
-use Rattle.fort_in_order.specs.Made.{Made, with_closure}
-use Rattle.fort_in_order.specs.Checked.{AreSteps, NoSteps, MoreSteps}
-use Rattle.fort_in_order.specs.Written.{IsWrittenClosure, IsWrittenStep}
-use Rattle.fort_in_order_laws.proofs.StepLists.{steps_append}
-use Rattle.fort_in_order_laws.proofs.WrittenSteps.{written_closure}
+use Rattle.fort_certificate_theory.specs.Dues.{DueStep, OfClosure, closure_due, closures_due}
+use Rattle.fort_certificate_theory.specs.Made.{MadeSoFar, with_closure}
+use Rattle.fort_certificate_theory.specs.Checked.{AreSteps, NoSteps, MoreSteps}
+use Rattle.fort_certificate_theory.specs.Written.{IsWrittenClosure, IsWrittenStep}
+use Rattle.fort_certificate_theory.proofs.StepLists.{steps_append}
+use Rattle.fort_certificate_theory.proofs.WrittenSteps.{written_closure}
 use Rattle.fort_findings.specs.declared.closure.ClosureEntry.{ClosureEntry}
 use Rattle.fort_steps.specs.declared.step.Step.{Step}
 use Rattle.fort_steps.specs.declared.step.Step.TheVariants.{Closure}
 use Rattle.fort_findings.specs.FindingView.{as_which, as_pair}
 use Rattle.fort_steps.specs.StepView.{as_step}
-use Rattle.fort_written_closures.proofs.PassesLaws.{closure_items}
+use Rattle.fort_trace.proofs.PassesLaws.{closure_items}
 use Rattle.fort_engine.specs.declared.closures.IndexClosure.{IndexClosure}
 use Rattle.fort_engine.specs.Closures.{name_of, closure_asked, closures_asked, ListsItsPasses, AreClosures}
 use Rattle.fort_trace.specs.Recording.{AddsSteps, IsOneMore}
@@ -73,7 +73,7 @@ pub one_more : (old new : List Step) (s : Step) → new ≡ old ++ s ∷ [] → 
 one_more old new s e = ap (map as_step) e ∙ map-append as_step old (s ∷ [])
 
 module _ (system : PatternSystem) (parts : List Core) where
-  pub AddsSteps-none : (made : Made) (due : List DueStep) (steps : List Step) → due ≡ [] → AddsSteps system parts made due steps steps
+  pub AddsSteps-none : (made : MadeSoFar) (due : List DueStep) (steps : List Step) → due ≡ [] → AddsSteps system parts made due steps steps
   AddsSteps-none made due steps e = record {
     added = [];
     last = made;
@@ -81,7 +81,7 @@ module _ (system : PatternSystem) (parts : List Core) where
     done = subst (λ (ds : List DueStep). AreSteps (IsWrittenStep system parts) made ds [] made) (sym e) NoSteps;
   }
 
-  pub AddsSteps-append : (made : Made) (ds es : List DueStep) (old mid new : List Step) → AddsSteps system parts made ds old mid → ((m : Made) → AddsSteps system parts m es mid new)
+  pub AddsSteps-append : (made : MadeSoFar) (ds es : List DueStep) (old mid new : List Step) → AddsSteps system parts made ds old mid → ((m : MadeSoFar) → AddsSteps system parts m es mid new)
       → AddsSteps system parts made (ds ++ es) old new
   AddsSteps-append made ds es old mid new h k =
       let n = k h.last in
@@ -92,7 +92,7 @@ module _ (system : PatternSystem) (parts : List Core) where
         done = steps_append (IsWrittenStep system parts) made h.last n.last ds es h.added n.added h.done n.done;
       }
 
-  AddsSteps-closure : (made : Made) (which : Which) (index : ℕ) (items : List Item) (old new : List Step) → IsWrittenClosure system which index items
+  AddsSteps-closure : (made : MadeSoFar) (which : Which) (index : ℕ) (items : List Item) (old new : List Step) → IsWrittenClosure system which index items
       → IsOneMore old (certificates.Closure which index items) new → AddsSteps system parts made (OfClosure which index ∷ []) old new
   AddsSteps-closure made which index items old new written more = record {
     added = certificates.Closure which index items ∷ [];
@@ -102,7 +102,7 @@ module _ (system : PatternSystem) (parts : List Core) where
   }
 
   -- one more closure
-  pub AddsSteps-more : IsSystem system → (made : Made) (cs : List IndexClosure) (i : ℕ) (c : IndexClosure) (copied : Vec ClosureEntry Global) (old mid new : List Step)
+  pub AddsSteps-more : IsSystem system → (made : MadeSoFar) (cs : List IndexClosure) (i : ℕ) (c : IndexClosure) (copied : Vec ClosureEntry Global) (old mid new : List Step)
       → i < length cs → c ≡ get_or cs i c → copied.items ≡ c.entries.items → new ≡ mid ++ Closure c.which c.index copied ∷ [] → AreClosures system parts cs
       → AddsSteps system parts made (map step_for (take i cs)) old mid → AddsSteps system parts made (map step_for (take (i + 1) cs)) old new
   AddsSteps-more is made cs i c copied old mid new low at same more are h =

@@ -2,10 +2,10 @@
 use Rattle.std.proofs.Common.{◌≡◌, ℕ, List, map, Option, None, Some, refl, subst}
 use Rattle.std.specs.declared.alloc.Global.{Global}
 use Rattle.std.specs.declared.vec.Vec.{Vec}
-use Rattle.fort_cores.specs.Cores as core
-use Rattle.fort_cores.specs.Cores.{Core}
+use Rattle.fort_theory.specs.Cores as core
+use Rattle.fort_theory.specs.Cores.{Core}
 use Rattle.fort_tables.specs.Tables.{listed_table}
-use Rattle.fort_in_order.specs.Made.{Made}
+use Rattle.fort_certificate_theory.specs.Made.{MadeSoFar}
 use Rattle.fort_engine.specs.declared.answer.Last.{Last}
 use Rattle.fort_engine.specs.declared.answer.Last.TheVariants.{Auto}
 use Rattle.fort_engine.specs.Found.{AreItsCounts}
@@ -18,7 +18,7 @@ pub CountsPushed-none : (k : ℕ) (own : Option (Vec Count Global)) (steps : Lis
 CountsPushed-none k None steps none = refl
 CountsPushed-none k (Some list) steps none = absurd (none list refl)
 
-module _ (parts : List Core) (made : Made) (kept : List (Option Last)) (k : ℕ) (own : Option (Vec Count Global)) (old new : List Step) where
+module _ (parts : List Core) (made : MadeSoFar) (kept : List (Option Last)) (k : ℕ) (own : Option (Vec Count Global)) (old new : List Step) where
   none_pushed : own ≡ None → CountsPushed k own old new → new ≡ old
   none_pushed none h = subst (λ o. CountsPushed k o old new) none h
 

@@ -1,3 +1,4 @@
+pub mod PassesLaws
 pub mod ClosureLaws
 pub mod CountLaws
 pub mod AnswerLaws

@@ -8,30 +8,30 @@ use Rattle.std.proofs.Math.Seq.{take-suc}
 use Rattle.std.proofs.lemmas.List.Elements.{Contains-get_or}
 use Rattle.fort_theory.specs.Signatures.{most_columns}
 use Rattle.fort_theory.specs.Patterns.{PatternSystem, IsSystem}
-use Rattle.fort_cores.specs.Cores as core
-use Rattle.fort_cores.specs.Cores.{Core}
-use Rattle.fort_cores.specs.Parts.{BindsFree, IsClosed}
-use Rattle.fort_cores.specs.PartLists.{AreParts}
-use Rattle.fort_cores.specs.PatternStructures.{pattern_structure}
+use Rattle.fort_theory.specs.Cores as core
+use Rattle.fort_theory.specs.Cores.{Core}
+use Rattle.fort_theory.specs.Parts.{BindsFree, IsClosed}
+use Rattle.fort_theory.specs.PartLists.{AreParts}
+use Rattle.fort_theory.specs.PatternStructures.{pattern_structure}
 use Rattle.fort_tables.specs.Tables.{Listed, listed_table}
 use Rattle.fort_parts.specs.PartColumns.{columns_of}
 use Rattle.fort_parts.specs.PartAnswers.{Answer, OfTable, IsAnswerTo}
 use Rattle.fort_parts.specs.DecidedCores.{IsDecided, IsOperandOf}
 use Rattle.fort_parts.specs.RightAnswers.{IsRightBy}
-use Rattle.fort_reduced_parts.specs.ToldParts.{ToldWith}
+use Rattle.fort_parts.specs.ToldParts.{ToldWith}
 use Rattle.fort_parts.proofs.PartFacts.{BindsFree-part, columns_of-few}
-use Rattle.fort_certificate_grammar.specs.Certificates as certificates
-use Rattle.fort_in_order.specs.Dues.{DueStep, has_columns, is_turned, closures_due, counts_due, answer_due, parts_due}
-use Rattle.fort_in_order.specs.Made.{Made, nothing_made, with_answer, IsPartAt, IsAnswerOf, OfStep, Turned}
-use Rattle.fort_in_order.specs.Checked.{AreSteps, last_value}
-use Rattle.fort_in_order.specs.Written.{IsWrittenStep}
-use Rattle.fort_in_order.proofs.RuleLaws.{part_one, answer_one}
-use Rattle.fort_in_order_laws.proofs.FineSteps.{HasClosures}
-use Rattle.fort_in_order_laws.proofs.CertifiedTruth.{moved_answer, asked_closures, last_part, no_columns_closed}
-use Rattle.fort_in_order_laws.proofs.StepLists.{steps_append, parts_due-push}
-use Rattle.fort_in_order_laws.proofs.AnsweredParts.{AreOperandsRight, AreCountsRight, HasLabels, answered_if_expression, labels_of, value_of}
-use Rattle.fort_in_order_laws.proofs.StepsOfParts.{last_value-push, kept_answer, AreCountsDone, IsAnswerDone, no_counts_done, counts_done, value_done, table_done, merged_done, turned_done, HasClosures-written}
-use Rattle.fort_in_order_laws.proofs.MergedTables.{listed_from_table}
+use Rattle.fort_certificate_theory.specs.Certificates as certificates
+use Rattle.fort_certificate_theory.specs.Dues.{DueStep, has_columns, is_turned, closures_due, counts_due, answer_due, parts_due}
+use Rattle.fort_certificate_theory.specs.Made.{MadeSoFar, nothing_made, with_answer, IsPartAt, IsAnswerOf, OfStep, Turned}
+use Rattle.fort_certificate_theory.specs.Checked.{AreSteps, last_value}
+use Rattle.fort_certificate_theory.specs.Written.{IsWrittenStep}
+use Rattle.fort_certificate_theory.proofs.RuleLaws.{part_one, answer_one}
+use Rattle.fort_certificate_theory.proofs.FineSteps.{HasClosures}
+use Rattle.fort_certificate_theory.proofs.CertifiedTruth.{moved_answer, asked_closures, last_part, no_columns_closed}
+use Rattle.fort_certificate_theory.proofs.StepLists.{steps_append, parts_due-push}
+use Rattle.fort_certificate_theory.proofs.AnsweredParts.{AreOperandsRight, AreCountsRight, HasLabels, answered_if_expression, labels_of, value_of}
+use Rattle.fort_certificate_theory.proofs.StepsOfParts.{last_value-push, kept_answer, AreCountsDone, IsAnswerDone, no_counts_done, counts_done, value_done, table_done, merged_done, turned_done, HasClosures-written}
+use Rattle.fort_certificate_theory.proofs.MergedTables.{listed_from_table}
 use Rattle.fort_outline.specs.declared.outline.Outline.{Outline}
 use Rattle.fort_outline.specs.Outlines.{AreLastUses, parts_in, core_at}
 use Rattle.fort_engine.specs.declared.answer.Last.{Last}
@@ -52,7 +52,7 @@ use Rattle.fort_trace.proofs.CountLaws.{counts_added}
 
 -- ---- one part
 
-operands_right : (reduces : Bool) (system : PatternSystem) (cap : ℕ) (parts : List Core) (made : Made) (kept : List (Option Last)) (f : Core) → HasOperands system (recorded_with cap reduces) parts kept f → AreOperandsMade parts made kept f
+operands_right : (reduces : Bool) (system : PatternSystem) (cap : ℕ) (parts : List Core) (made : MadeSoFar) (kept : List (Option Last)) (f : Core) → HasOperands system (recorded_with cap reduces) parts kept f → AreOperandsMade parts made kept f
     → AreOperandsRight reduces system parts made f
 operands_right reduces system cap parts made kept f operands made_are g o =
     let h = operands g o in
@@ -60,13 +60,13 @@ operands_right reduces system cap parts made kept f operands made_are g o =
     record { answer = as_answer r.answer; made_is = made_are g o h.earlier.place r.answer h.earlier.before h.earlier.is r.is; right = r.right }
 
 -- the counts of part k
-record HasCountsDone (reduces : Bool) (system : PatternSystem) (parts : List Core) (k : ℕ) (made : Made) (f : Core) (old new : List Step) : Type 0 where
+record HasCountsDone (reduces : Bool) (system : PatternSystem) (parts : List Core) (k : ℕ) (made : MadeSoFar) (f : Core) (old new : List Step) : Type 0 where
   added : List certificates.Step
-  mid : Made
+  mid : MadeSoFar
   all : map as_step new ≡ map as_step old ++ added
   done : AreCountsDone reduces system parts k made f added mid
 
-module _ (reduces : Bool) (system : PatternSystem) (root : Core) (parts : List Core) (are : AreParts root parts) (k : ℕ) (made : Made) (closures : HasClosures system parts (1 + length system.rules) made) where
+module _ (reduces : Bool) (system : PatternSystem) (root : Core) (parts : List Core) (are : AreParts root parts) (k : ℕ) (made : MadeSoFar) (closures : HasClosures system parts (1 + length system.rules) made) where
   no_counts : (f : Core) (old new : List Step) → counts_due k f ≡ [] → AreCountsRight reduces system parts made k f → new ≡ old → HasCountsDone reduces system parts k made f old new
   no_counts f old new e counts same = record {
     added = [];
@@ -102,9 +102,9 @@ turned_negation (core.Exists n f) h = refl
 turned_negation (core.Infinite n f) h = refl
 
 -- its answer
-record HasAnswerDone (reduces : Bool) (system : PatternSystem) (parts : List Core) (k : ℕ) (made : Made) (answer : Last) (old new : List Step) : Type 0 where
+record HasAnswerDone (reduces : Bool) (system : PatternSystem) (parts : List Core) (k : ℕ) (made : MadeSoFar) (answer : Last) (old new : List Step) : Type 0 where
   added : List certificates.Step
-  last : Made
+  last : MadeSoFar
   all : map as_step new ≡ map as_step old ++ added
   done : IsAnswerDone reduces system parts k made (as_answer answer) added last
   value : (v : Bool) → answer ≡ Truth v → last_value (map as_step new) ≡ Some v
@@ -123,7 +123,7 @@ module _ (reduces : Bool) (system : PatternSystem) (is : IsSystem system) (root 
   few = columns_of-few root own decided.well_formed ((are.same own).1 (Contains-get_or parts k core.True within))
 
   -- a table is made by its targets, and where tables are reduced by its classes
-  table_recorded : (cap : ℕ) (made : Made) (table : Listed) (targets classes : Option (Vec ℕ Global)) (old new : List Step) → HasClosures system parts (1 + length system.rules) made → has_columns own ≡ true
+  table_recorded : (cap : ℕ) (made : MadeSoFar) (table : Listed) (targets classes : Option (Vec ℕ Global)) (old new : List Step) → HasClosures system parts (1 + length system.rules) made → has_columns own ≡ true
       → is_turned own ≡ false → HasLabels reduces system parts made k own → IsTableMade system (recorded_with cap reduces) own table targets classes → length table.finals ≡ length table.presences
       → TablePushed k targets classes old new → HasAnswerDone reduces system parts k made (Auto table) old new
   table_recorded cap made table targets classes old new closures some plain labels m finals pushed =
@@ -155,7 +155,7 @@ module _ (reduces : Bool) (system : PatternSystem) (is : IsSystem system) (root 
             value = λ v e. absurd cc;
           }
 
-  answer_recorded : (cap : ℕ) (made : Made) (d : Decided) (answer : Last) (old new : List Step) → HasClosures system parts (1 + length system.rules) made → AreOperandsRight reduces system parts made own
+  answer_recorded : (cap : ℕ) (made : MadeSoFar) (d : Decided) (answer : Last) (old new : List Step) → HasClosures system parts (1 + length system.rules) made → AreOperandsRight reduces system parts made own
       → AreCountsRight reduces system parts made k own → IsRightBy system (ToldWith reduces system) own (as_answer answer) → (is_turned own ≡ true → IsAnswerOf parts made own (as_answer answer))
       → (is_negation own ≡ false → IsAnswerMade system (recorded_with cap reduces) own d answer) → AnswerAdded k own answer d.targets d.classes old new → HasAnswerDone reduces system parts k made answer old new
   answer_recorded cap made d (Truth b) old new closures operands counts right turned made_by h =
@@ -188,7 +188,7 @@ module _ (reduces : Bool) (system : PatternSystem) (is : IsSystem system) (root 
       ]
 
   -- Result
-  pub part_recorded : (cap : ℕ) (kept : List (Option Last)) (made : Made) (d : Decided) (answer : Last) (old mid new : List Step) → HasOperands system (recorded_with cap reduces) parts kept own → HasClosures system parts (1 + length system.rules) made
+  pub part_recorded : (cap : ℕ) (kept : List (Option Last)) (made : MadeSoFar) (d : Decided) (answer : Last) (old mid new : List Step) → HasOperands system (recorded_with cap reduces) parts kept own → HasClosures system parts (1 + length system.rules) made
       → AreOperandsMade parts made kept own → CountsAdded parts made k own old mid → IsRightBy system (ToldWith reduces system) own (as_answer answer) → (is_turned own ≡ true → IsAnswerOf parts made own (as_answer answer))
       → (is_negation own ≡ false → IsAnswerMade system (recorded_with cap reduces) own d answer) → AnswerAdded k own answer d.targets d.classes mid new → IsPartRecorded reduces system parts k made answer old new
   part_recorded cap kept made d answer old mid new operands closures made_are counts right turned made_by added =
@@ -212,7 +212,7 @@ module _ (reduces : Bool) (system : PatternSystem) (is : IsSystem system) (root 
 -- ---- part after part
 
 -- the answer of a part that has a step
-made_at : (root : Core) (parts : List Core) → AreParts root parts → (k : ℕ) (made : Made) (f : Core) (answer : Answer) → IsPartAt parts k f → is_turned f ≡ false → IsAnswerOf parts made f answer → made.answers k ≡ answer
+made_at : (root : Core) (parts : List Core) → AreParts root parts → (k : ℕ) (made : MadeSoFar) (f : Core) (answer : Answer) → IsPartAt parts k f → is_turned f ≡ false → IsAnswerOf parts made f answer → made.answers k ≡ answer
 made_at root parts are k made f answer at t (OfStep i p u a) = ap made.answers (part_one root parts are f k i at p) ∙ a
 made_at root parts are k made f answer at t (Turned body h r) = absurd (true≢false (sym h ∙ t))
 

@@ -1,6 +1,6 @@
 -- To believe: which certificate a recording is, whatever the number of its first form.
 use Rattle.std.specs.Prelude.{ℕ, map}
-use Rattle.fort_certificate_grammar.specs.Certificates.{Certificate}
+use Rattle.fort_certificate_theory.specs.Certificates.{Certificate}
 use Rattle.fort_steps.specs.StepView.{as_step}
 use Rattle.fort_trace.specs.declared.decide.Recorded.{Recorded}
 

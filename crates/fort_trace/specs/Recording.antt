@@ -4,20 +4,20 @@ use Rattle.std.specs.declared.alloc.Global.{Global}
 use Rattle.std.specs.declared.vec.Vec.{Vec}
 use Rattle.std.proofs.Common.{sym, ◌∙◌, arith}
 use Rattle.fort_theory.specs.Patterns.{PatternSystem}
-use Rattle.fort_cores.specs.Cores as core
-use Rattle.fort_cores.specs.Cores.{Core}
-use Rattle.fort_cores.specs.PartLists.{AreParts}
-use Rattle.fort_cores.specs.PatternStructures.{pattern_structure}
+use Rattle.fort_theory.specs.Cores as core
+use Rattle.fort_theory.specs.Cores.{Core}
+use Rattle.fort_theory.specs.PartLists.{AreParts}
+use Rattle.fort_theory.specs.PatternStructures.{pattern_structure}
 use Rattle.fort_tables.specs.Tables.{Table, Listed, IsListed}
-use Rattle.fort_counts.specs.Counts as counts
+use Rattle.fort_tables.specs.Counts as counts
 use Rattle.fort_parts.specs.PartAnswers.{OfTable, IsAnswerTo}
 use Rattle.fort_parts.specs.DecidedCores.{IsOperandOf}
-use Rattle.fort_certificate_grammar.specs.Certificates as certificates
-use Rattle.fort_in_order.specs.Dues.{DueStep, is_turned, counts_due, answer_due, parts_due, closures_due, dues}
-use Rattle.fort_in_order.specs.Made.{Made, nothing_made, IsAnswerOf}
-use Rattle.fort_in_order.specs.Checked.{AreSteps, last_value}
-use Rattle.fort_in_order.specs.Written.{IsWrittenStep}
-use Rattle.fort_in_order_laws.proofs.FineSteps.{HasClosures}
+use Rattle.fort_certificate_theory.specs.Certificates as certificates
+use Rattle.fort_certificate_theory.specs.Dues.{DueStep, is_turned, counts_due, answer_due, parts_due, closures_due, dues}
+use Rattle.fort_certificate_theory.specs.Made.{MadeSoFar, nothing_made, IsAnswerOf}
+use Rattle.fort_certificate_theory.specs.Checked.{AreSteps, last_value}
+use Rattle.fort_certificate_theory.specs.Written.{IsWrittenStep}
+use Rattle.fort_certificate_theory.proofs.FineSteps.{HasClosures}
 use Rattle.fort_outline.specs.declared.outline.Outline.{Outline}
 use Rattle.fort_outline.specs.Outlines.{parts_in}
 use Rattle.fort_engine.specs.declared.answer.Last.{Last}
@@ -35,9 +35,9 @@ abbrev pub recorded_with : (cap : ℕ) (reduces : Bool) → Options
 recorded_with cap reduces = record { cap = cap; reduces = reduces; lists = true }
 
 -- the steps behind the old ones are those due, each as it is written, and make the last
-pub record AddsSteps (system : PatternSystem) (parts : List Core) (made : Made) (due : List DueStep) (old new : List Step) : Type 0 where
+pub record AddsSteps (system : PatternSystem) (parts : List Core) (made : MadeSoFar) (due : List DueStep) (old new : List Step) : Type 0 where
   pub added : List certificates.Step
-  pub last : Made
+  pub last : MadeSoFar
   pub all : map as_step new ≡ map as_step old ++ added
   pub done : AreSteps (IsWrittenStep system parts) made due added last
 
@@ -46,15 +46,15 @@ abbrev pub IsOneMore : List Step → certificates.Step → List Step → Type 0
 IsOneMore old s new = map as_step new ≡ map as_step old ++ s ∷ []
 
 -- the answer to a formula that is kept is the one that the steps make
-abbrev pub IsKeptMade : List Core → Made → List (Option Last) → Core → Type 0
+abbrev pub IsKeptMade : List Core → MadeSoFar → List (Option Last) → Core → Type 0
 IsKeptMade parts made kept g =
     (j : ℕ) (a : Last) → j < length kept → get_or parts j core.True ≡ g → get_or kept j None ≡ Some a → IsAnswerOf parts made g (as_answer a)
 
-abbrev pub AreOperandsMade : List Core → Made → List (Option Last) → Core → Type 0
+abbrev pub AreOperandsMade : List Core → MadeSoFar → List (Option Last) → Core → Type 0
 AreOperandsMade parts made kept f = (g : Core) → IsOperandOf g f → IsKeptMade parts made kept g
 
 -- those of the table that the steps make for g
-pub record AreMarksMade (parts : List Core) (made : Made) (n : ℕ) (g : Core) (marks : List counts.Count) : Type 0 where
+pub record AreMarksMade (parts : List Core) (made : MadeSoFar) (n : ℕ) (g : Core) (marks : List counts.Count) : Type 0 where
   pub table : Table
   pub body : IsAnswerOf parts made g (OfTable table)
   pub are : AreMarks n g table marks
@@ -65,12 +65,12 @@ CountsPushed k None old new = new ≡ old
 CountsPushed k (Some list) old new = IsOneMore old (certificates.Counts k (map as_count list.items)) new
 
 -- the counts of part k, which is "infinitely many" of g
-pub record AreCountsAdded (parts : List Core) (made : Made) (k n : ℕ) (g : Core) (old new : List Step) : Type 0 where
+pub record AreCountsAdded (parts : List Core) (made : MadeSoFar) (k n : ℕ) (g : Core) (old new : List Step) : Type 0 where
   pub counts : List counts.Count
   pub step : IsOneMore old (certificates.Counts k counts) new
   pub made_are : AreMarksMade parts made n g counts
 
-abbrev pub CountsAdded : List Core → Made → ℕ → Core → (old new : List Step) → Type 0
+abbrev pub CountsAdded : List Core → MadeSoFar → ℕ → Core → (old new : List Step) → Type 0
 CountsAdded parts made k (core.Infinite n g) old new = AreCountsAdded parts made k n g old new
 CountsAdded parts made k other old new = new ≡ old
 
@@ -102,15 +102,15 @@ HasTargets f (Truth b) targets = Unit {0}
 HasTargets f (Auto table) targets = is_negation f ≡ false → (list : Vec ℕ Global) × (targets ≡ Some list)
 
 -- the answers of earlier parts that have a step are right
-abbrev pub HasRightSteps : PatternSystem → List Core → ℕ → Made → Type 0
+abbrev pub HasRightSteps : PatternSystem → List Core → ℕ → MadeSoFar → Type 0
 HasRightSteps system parts k made =
     (j : ℕ) → j < k → j < length parts → is_turned (get_or parts j core.True) ≡ false
     → IsAnswerTo (pattern_structure system) (get_or parts j core.True) (made.answers j)
 
 -- its steps, which make its answer and leave the others
-pub record IsPartRecorded (reduces : Bool) (system : PatternSystem) (parts : List Core) (k : ℕ) (made : Made) (answer : Last) (old new : List Step) : Type 0 where
+pub record IsPartRecorded (reduces : Bool) (system : PatternSystem) (parts : List Core) (k : ℕ) (made : MadeSoFar) (answer : Last) (old new : List Step) : Type 0 where
   pub added : List certificates.Step
-  pub last : Made
+  pub last : MadeSoFar
   pub all : map as_step new ≡ map as_step old ++ added
   pub done : AreSteps (IsWrittenStep system parts) made (counts_due k (get_or parts k core.True) ++ answer_due (λ i. reduces) k (get_or parts k core.True)) added last
   pub closures : HasClosures system parts (1 + length system.rules) last
@@ -120,7 +120,7 @@ pub record IsPartRecorded (reduces : Bool) (system : PatternSystem) (parts : Lis
 
 -- the steps of the closures and of the first k parts, which make the answers that are kept
 pub record IsRecordedTo (reduces : Bool) (system : PatternSystem) (parts : List Core) (uses : List ℕ) (k : ℕ) (kept : List (Option Last)) (steps : List Step) : Type 0 where
-  pub made : Made
+  pub made : MadeSoFar
   pub done : AreSteps (IsWrittenStep system parts) nothing_made (closures_due parts (length system.rules) 1 ++ parts_due (λ i. reduces) 0 (take k parts)) (map as_step steps) made
   pub closures : HasClosures system parts (1 + length system.rules) made
   pub right : HasRightSteps system parts k made
@@ -137,7 +137,7 @@ pub record AreRecordedTo (reduces : Bool) (system : PatternSystem) (outline : Ou
 pub record IsTraced (reduces : Bool) (system : PatternSystem) (f : Core) (answer : Last) (steps : List Step) : Type 0 where
   pub parts : List Core
   pub parts_are : AreParts f parts
-  pub made : Made
+  pub made : MadeSoFar
   pub done : AreSteps (IsWrittenStep system parts) nothing_made (dues (λ k. reduces) (length system.rules) parts) (map as_step steps) made
   pub is : IsAnswerOf parts made f (as_answer answer)
   pub value : (v : Bool) → answer ≡ Truth v → last_value (map as_step steps) ≡ Some v

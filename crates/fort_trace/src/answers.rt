@@ -1,6 +1,6 @@
 //! The answers of parts, as steps.
 ghost use Rattle.std.specs.Prelude.{◌≡◌, ◌++◌, List, map, OnOk};
-ghost use Rattle.fort_cores.specs.Cores as theory;
+ghost use Rattle.fort_theory.specs.Cores as theory;
 ghost use Rattle.fort_outline.specs.Roots.{root_core};
 ghost use Rattle.fort_engine.specs.Found as found;
 ghost use Rattle.fort_steps.specs.StepView.{as_step};

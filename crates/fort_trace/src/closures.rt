@@ -1,8 +1,8 @@
 //! The closures that the parts of a formula ask for, as steps.
 ghost use Rattle.std.specs.Prelude.{List, length, OnOk};
-ghost use Rattle.fort_cores.specs.Cores as theory;
-ghost use Rattle.fort_in_order.specs.Dues.{closures_due};
-ghost use Rattle.fort_in_order.specs.Made.{Made};
+ghost use Rattle.fort_theory.specs.Cores as theory;
+ghost use Rattle.fort_certificate_theory.specs.Dues.{closures_due};
+ghost use Rattle.fort_certificate_theory.specs.Made.{MadeSoFar};
 ghost use Rattle.fort_engine.specs.Closures.{AreClosures};
 ghost use Rattle.fort_trace.specs.Recording.{AddsSteps};
 
@@ -18,7 +18,7 @@ pub(crate) fn push_closures(
     closures: &Closures,
     steps: &mut Vec<Step>,
 ) -> Result<(), Memory>
-    ensures { OnOk result ((parts : List theory.Core) (made : Made)
+    ensures { OnOk result ((parts : List theory.Core) (made : MadeSoFar)
         → AreClosures system.now parts closures.now.list.items
         → AddsSteps system.now parts made (closures_due parts (length system.now.rules) 1)
         steps.old.items steps.new.items) }

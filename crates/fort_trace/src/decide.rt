@@ -1,14 +1,14 @@
 //! Decides a formula, each of its parts in turn, and records the steps.
 ghost use Rattle.std.specs.Prelude.{ℕ, ◌<◌, length, map, IfOk, IfErr, OnOk};
-ghost use Rattle.fort_cores.specs.Parts as logic;
-ghost use Rattle.fort_cores.specs.PatternStructures.{pattern_structure};
+ghost use Rattle.fort_theory.specs.Parts as logic;
+ghost use Rattle.fort_theory.specs.PatternStructures.{pattern_structure};
 ghost use Rattle.fort_formulas.specs.CoreView.{as_core};
 ghost use Rattle.fort_parts.specs.DecidedCores.{IsDecided};
 ghost use Rattle.fort_parts.specs.PartColumns.{columns_of};
 ghost use Rattle.fort_parts.specs.PartAnswers.{OfValue, OfTable, IsAnswerTo};
 ghost use Rattle.fort_tables.specs.Tables.{listed_table};
-ghost use Rattle.fort_in_order.specs.Written.{IsWritten};
-ghost use Rattle.fort_open_certificates.specs.OpenWritten.{AreWrittenFor};
+ghost use Rattle.fort_certificate_theory.specs.Written.{IsWritten};
+ghost use Rattle.fort_certificate_theory.specs.OpenWritten.{AreWrittenFor};
 ghost use Rattle.fort_engine.specs.AnswerView.{as_answer, IfOver, KeepsCapAt, IsLimit};
 ghost use Rattle.fort_steps.specs.StepView.{as_step};
 ghost use Rattle.fort_trace.specs.Recording.{IsTraced};

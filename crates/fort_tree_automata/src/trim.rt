@@ -10,6 +10,7 @@ use std::alloc::{AllocError, Global};
 
 impl Nta {
     /// The automaton with those moves alone that name no state without terms.
+    /// Promised to callers: the program itself doesn't call it.
     pub fn trim(&self, alloc: Global) -> Result<Nta, AllocError>
         requires { NamesItsStates self.now }
         ensures { IfOk result (IsTrimmed self.now) }

@@ -8,9 +8,9 @@ use Rattle.fort_tables.specs.Tables.{Table, IsTable, state_of}
 use Rattle.fort_tables.proofs.TupleLaws.{fold_tuple-step, root-rebuilt, kids-rebuilt, rebuilt-kids, level_kid, IsTuple-kid, AreKids-kids, IsTupleSymbol-root, kid_count_is, kid_fits, presence_fits, length-tabulate, get_or-tabulate}
 use Rattle.fort_tables.proofs.TableLaws.{table_state}
 use Rattle.fort_tables.proofs.EntryLaws.{get_or-picked, entry_kids, IsTuple-entry}
-use Rattle.fort_order.specs.TupleOrder.{TupleBefore, NotAfter}
-use Rattle.fort_order.proofs.TupleOrderLaws.{tuple_irrefl, tuple_trans, level_before}
-use Rattle.fort_order.proofs.KidOrderLaws.{AreNotAfter, replaced}
+use Rattle.fort_tables.specs.TupleOrder.{TupleBefore, NotAfter}
+use Rattle.fort_tables.proofs.TupleOrderLaws.{tuple_irrefl, tuple_trans, level_before}
+use Rattle.fort_tables.proofs.KidOrderLaws.{AreNotAfter, replaced}
 use Rattle.fort_witness.specs.Rounds.{tuple_at}
 use Rattle.fort_witness.specs.Placing.{IsAmong, HasBefore, IsPlaced, ArePlaces, ArePlacedTo, IsRowOver}
 

@@ -14,7 +14,7 @@ use Rattle.fort_tables.specs.Tuples.{Tuple}
 use Rattle.fort_tables.specs.Entries.{Entry, tuples_of}
 use Rattle.fort_tables.specs.Tables.{Table, IsTable, IsTableEntry, state_of, same_entry}
 use Rattle.fort_tables.proofs.EntryLaws.{entry_from_same, length-tuples_after}
-use Rattle.fort_order.specs.TupleOrder.{Lower}
+use Rattle.fort_tables.specs.TupleOrder.{Lower}
 use Rattle.fort_witness.specs.declared.kept.Kept.{Kept}
 use Rattle.fort_witness.specs.declared.head.Head.{Head}
 use Rattle.fort_witness.specs.Heads.{head_cmp}

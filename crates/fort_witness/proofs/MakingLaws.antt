@@ -8,9 +8,9 @@ use Rattle.fort_tables.specs.Tuples.{Tuple, level, presence, IsTuple, AreKids}
 use Rattle.fort_tables.specs.Entries.{Entry, entry, StageBefore, picked}
 use Rattle.fort_tables.specs.Tables.{Table, IsTable, state_of}
 use Rattle.fort_tables.proofs.EntryLaws.{get_or-picked, entry_kids, IsTuple-entry}
-use Rattle.fort_order.specs.TupleOrder.{TupleBefore, Lower}
-use Rattle.fort_order.proofs.TupleOrderLaws.{tuple_irrefl, tuple_trans, level_before}
-use Rattle.fort_order.proofs.KidOrderLaws.{level_rebuilt, level_of_kid, entry_before}
+use Rattle.fort_tables.specs.TupleOrder.{TupleBefore, Lower}
+use Rattle.fort_tables.proofs.TupleOrderLaws.{tuple_irrefl, tuple_trans, level_before}
+use Rattle.fort_tables.proofs.KidOrderLaws.{level_rebuilt, level_of_kid, entry_before}
 use Rattle.fort_witness.specs.declared.head.Head.{Head}
 use Rattle.fort_witness.specs.Rounds.{over_states, states_at, tuple_at}
 use Rattle.fort_witness.specs.Placing.{IsAmong, HasBefore, IsPlaced, ArePlaces, ArePlacedTo, IsRowOver}

@@ -7,8 +7,7 @@ use Rattle.std.specs.BinaryHeap.{IsHeap}
 use Rattle.std.proofs.lemmas.List.{length-map, get_or-map, ext_get_or, get_or_append_left, length-take-le, get_or-take}
 use Rattle.fort_tables.specs.Tuples.{Tuple, presence}
 use Rattle.fort_tables.specs.Entries.{Entry, StageBefore, LexBefore, ColumnBefore, tuples_of}
-use Rattle.fort_tables.specs.Tables.{Table, IsTable, state_of}
-use Rattle.fort_tables.specs.Tables.{IsTableEntry}
+use Rattle.fort_tables.specs.Tables.{Table, IsTable, state_of, IsTableEntry}
 use Rattle.fort_tables.proofs.EqualTests.{apart_from_test}
 use Rattle.fort_theory.proofs.Members.{Contains-cons_cases}
 use Rattle.std.proofs.lemmas.List.Sorted.{Contains-permutation, IsPermutation-sym}
@@ -16,7 +15,7 @@ use Rattle.std.proofs.lemmas.Map.Keys.{IsDistinct-cons, IsDistinct-IsPermutation
 use Rattle.fort_witness.specs.Placing.{ArePlaces, IsRowOver}
 use Rattle.fort_witness.proofs.MakingLaws.{row_made, row_state}
 use Rattle.fort_tables.proofs.TableLaws.{table_state}
-use Rattle.fort_order.proofs.LexLaws.{symbol_irrefl}
+use Rattle.fort_tables.proofs.LexLaws.{symbol_irrefl}
 use Rattle.fort_witness.specs.declared.head.Head.{Head}
 use Rattle.fort_witness.specs.declared.kept.Kept.{Kept}
 use Rattle.fort_witness.specs.Heads.{head_cmp}

@@ -12,7 +12,7 @@ use Rattle.fort_tables.specs.Tables.{Table, IsTable, state_of}
 use Rattle.fort_tables.proofs.EntryLaws.{tuples_after-push}
 use Rattle.fort_tables.proofs.EqualTests.{equal_from_test}
 use Rattle.fort_tables.proofs.NodeLaws.{presences-nodes, AreNodes-push}
-use Rattle.fort_operations.specs.OperationTruth.{accepts}
+use Rattle.fort_tables.specs.OperationTruth.{accepts}
 use Rattle.fort_witness.specs.declared.head.Head.{Head}
 use Rattle.fort_witness.specs.declared.kept.Kept.{Kept}
 use Rattle.fort_witness.specs.Heads.{head_cmp}

@@ -9,12 +9,12 @@ use Rattle.fort_tables.specs.Tables.{Table, IsTable, state_of}
 use Rattle.fort_tables.proofs.PresenceLaws.{full_from_presence}
 use Rattle.fort_tables.proofs.TableLaws.{table_state}
 use Rattle.fort_tables.proofs.EntryLaws.{get_or-picked}
-use Rattle.fort_operations.specs.OperationTruth.{accepts}
-use Rattle.fort_order.specs.TupleOrder.{TupleBefore}
-use Rattle.fort_order.specs.LeastTuple.{Accepted}
-use Rattle.fort_order.proofs.TupleOrderLaws.{tuple_trans, tuple_total, level_before}
-use Rattle.fort_order.specs.FirstInOrder.{ComesAfterAll}
-use Rattle.fort_order.specs.Solutions.{IsSolution, AreFirstSolutions}
+use Rattle.fort_tables.specs.OperationTruth.{accepts}
+use Rattle.fort_tables.specs.TupleOrder.{TupleBefore}
+use Rattle.fort_tables.specs.LeastTuple.{Accepted}
+use Rattle.fort_tables.proofs.TupleOrderLaws.{tuple_trans, tuple_total, level_before}
+use Rattle.fort_tables.specs.FirstInOrder.{ComesAfterAll}
+use Rattle.fort_tables.specs.Solutions.{IsSolution, AreFirstSolutions}
 use Rattle.fort_witness.specs.Placing.{IsPlaced, ArePlaces, ArePlacedTo}
 use Rattle.fort_witness.specs.Accepted.{AreAccepted}
 

@@ -15,7 +15,7 @@ use Rattle.fort_tables.specs.Entries.{Entry, StageBefore, LexBefore}
 use Rattle.fort_tables.specs.Tables.{Table, IsTable, IsTableEntry, state_of, same_entry}
 use Rattle.fort_tables.proofs.TableLaws.{table_state}
 use Rattle.fort_tables.proofs.EntryLaws.{same_entry-itself, entry_from_same}
-use Rattle.fort_order.specs.TupleOrder.{TupleBefore, Lower}
+use Rattle.fort_tables.specs.TupleOrder.{TupleBefore, Lower}
 use Rattle.fort_witness.specs.declared.head.Head.{Head}
 use Rattle.fort_witness.specs.Heads.{head_cmp}
 use Rattle.fort_witness.specs.RowOrder.{row_cmp, AreAlike}

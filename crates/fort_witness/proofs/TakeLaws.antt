@@ -5,8 +5,8 @@ use Rattle.std.proofs.lemmas.List.{length_push, length-map, length-set, length-t
 use Rattle.std.proofs.lemmas.List.Elements.{Contains-get_or, Contains-push_cases}
 use Rattle.fort_theory.specs.Signatures.{Signature}
 use Rattle.fort_theory.proofs.Lists.{Contains-map}
-use Rattle.fort_cores.specs.EachOnce.{AreEachOnce}
-use Rattle.fort_cores.proofs.EachOnceLaws.{AreEachOnce-new}
+use Rattle.fort_theory.specs.EachOnce.{AreEachOnce}
+use Rattle.fort_theory.proofs.EachOnceLaws.{AreEachOnce-new}
 use Rattle.fort_tables.specs.Tuples.{Tuple, kids, rebuilt, presence}
 use Rattle.fort_tables.specs.Entries.{Entry, IsEntry, AreNodes, node_presences, picked, tuples_of}
 use Rattle.fort_tables.proofs.TupleLaws.{rebuilt-kids}

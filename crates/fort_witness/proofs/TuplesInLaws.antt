@@ -5,11 +5,11 @@ use Rattle.std.specs.List.{flat_map}
 use Rattle.std.proofs.lemmas.List.{append-nil}
 use Rattle.std.proofs.lemmas.List.Elements.{Contains-append_left, Contains-append_right, Contains-append_cases, Contains-push, Contains-push_cases}
 use Rattle.fort_theory.proofs.Members.{Contains-head, Contains-behind, Contains-cons_cases, Contains-none}
-use Rattle.fort_cores.specs.EachOnce.{AreEachOnce}
-use Rattle.fort_cores.proofs.EachOnceLaws.{AreEachOnce-there}
+use Rattle.fort_theory.specs.EachOnce.{AreEachOnce}
+use Rattle.fort_theory.proofs.EachOnceLaws.{AreEachOnce-there}
 use Rattle.fort_tables.specs.Tuples.{Tuple, tabulate, kid_count, kid, kids, level}
 use Rattle.fort_tables.proofs.TupleLaws.{length-tabulate, get_or-tabulate, level_kid, no_kid}
-use Rattle.fort_order.specs.TupleNodes.{tuples_within, tuples_in}
+use Rattle.fort_tables.specs.TupleNodes.{tuples_within, tuples_in}
 
 flat_map_same : {A B : Type 0} (f g : A → List B) (xs : List A) → ((x : A) → Contains xs x → f x ≡ g x) → flat_map f xs ≡ flat_map g xs
 flat_map_same f g [] h = refl

@@ -12,8 +12,8 @@ use Rattle.fort_tables.specs.Entries.{Entry, picked, tuples_of}
 use Rattle.fort_tables.specs.Tables.{Table, IsTable, state_of}
 use Rattle.fort_tables.proofs.TableLaws.{table_state}
 use Rattle.fort_tables.proofs.EntryLaws.{IsTuple-entry, get_or-picked}
-use Rattle.fort_order.specs.TupleOrder.{TupleBefore}
-use Rattle.fort_order.proofs.KidOrderLaws.{level_rebuilt}
+use Rattle.fort_tables.specs.TupleOrder.{TupleBefore}
+use Rattle.fort_tables.proofs.KidOrderLaws.{level_rebuilt}
 use Rattle.std.proofs.lemmas.List.Sorted.{Contains-permutation, IsPermutation-sym}
 use Rattle.fort_witness.specs.declared.head.Head.{Head}
 use Rattle.fort_witness.specs.declared.kept.Kept.{Kept}

@@ -8,14 +8,14 @@ use Rattle.std.proofs.lemmas.List.Elements.{Contains-get_or}
 use Rattle.fort_theory.specs.Signatures.{Signature}
 use Rattle.fort_theory.proofs.Lists.{Contains-map_from}
 use Rattle.fort_theory.proofs.Members.{Contains-none, Contains-cons_cases}
-use Rattle.fort_cores.specs.EachOnce.{AreEachOnce}
-use Rattle.fort_cores.proofs.EachOnceLaws.{AreEachOnce-nil}
+use Rattle.fort_theory.specs.EachOnce.{AreEachOnce}
+use Rattle.fort_theory.proofs.EachOnceLaws.{AreEachOnce-nil}
 use Rattle.fort_tables.specs.Tuples.{Tuple, kids, presence}
 use Rattle.fort_tables.specs.Entries.{Entry, AreNodes, no_entry, picked, tuples_of}
 use Rattle.fort_tables.proofs.EntryLaws.{length-tuples_after}
 use Rattle.fort_tables.proofs.EqualTests.{if_equal}
 use Rattle.fort_tables.proofs.NodeLaws.{kids-node}
-use Rattle.fort_order.specs.TupleNodes.{tuples_in, AreNodesOf}
+use Rattle.fort_tables.specs.TupleNodes.{tuples_in, AreNodesOf}
 use Rattle.fort_witness.specs.declared.needed.Taken.{Taken}
 use Rattle.fort_witness.specs.declared.needed.Visit.{Visit}
 use Rattle.fort_witness.specs.declared.needed.Visit.TheVariants.{Whole, Itself}

@@ -2,7 +2,7 @@
 use Rattle.std.specs.Prelude.{◌≡◌, ℕ, ◌<◌, true, List, [], length, get_or}
 use Rattle.fort_tables.specs.Tuples.{Tuple}
 use Rattle.fort_tables.specs.Tables.{Table}
-use Rattle.fort_operations.specs.OperationTruth.{accepts}
+use Rattle.fort_tables.specs.OperationTruth.{accepts}
 
 -- the numbers of all tuples that are accepted, ascending
 pub record AreAccepted (t : Table) (ts : List Tuple) (numbers : List ℕ) : Type 0 where

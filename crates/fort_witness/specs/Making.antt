@@ -3,7 +3,7 @@ use Rattle.std.specs.Prelude.{◌≡◌, ℕ, suc, ◌<◌, ◌≤◌, ◌⊎◌
 use Rattle.fort_tables.specs.Tuples.{Tuple, level}
 use Rattle.fort_tables.specs.Entries.{Entry, StageBefore}
 use Rattle.fort_tables.specs.Tables.{Table, state_of}
-use Rattle.fort_order.specs.TupleOrder.{TupleBefore}
+use Rattle.fort_tables.specs.TupleOrder.{TupleBefore}
 use Rattle.fort_witness.specs.declared.head.Head.{Head}
 use Rattle.fort_witness.specs.Rounds.{over_states, tuple_at}
 use Rattle.fort_witness.specs.Choices.{HasNew}

@@ -3,7 +3,7 @@ use Rattle.std.specs.Prelude.{◌≡◌, ℕ, ◌<◌, ◌≤◌, ◌⊎◌, Lis
 use Rattle.fort_tables.specs.Tuples.{Tuple, presence, level, IsTuple}
 use Rattle.fort_tables.specs.Entries.{Entry, IsEntry}
 use Rattle.fort_tables.specs.Tables.{Table, state_of}
-use Rattle.fort_order.specs.TupleOrder.{TupleBefore}
+use Rattle.fort_tables.specs.TupleOrder.{TupleBefore}
 
 abbrev pub IsAmong : List Tuple → Tuple → Type 0
 IsAmong ts u = (k : ℕ) × (k < length ts) × (get_or ts k [] ≡ u)

@@ -1,10 +1,10 @@
 -- Inside: a visit to the nodes that the last one needs: which were taken, and what is still to be visited.
 use Rattle.std.specs.Prelude.{◌≡◌, ℕ, ◌+◌, ◌*◌, ◌-◌, ◌^◌, ◌==◌, ◌<◌, ◌⊎◌, if◌then◌else◌, List, [], ◌∷◌, ◌++◌, length, get_or, Contains}
 use Rattle.fort_theory.specs.Signatures.{Signature}
-use Rattle.fort_cores.specs.EachOnce.{AreEachOnce}
+use Rattle.fort_theory.specs.EachOnce.{AreEachOnce}
 use Rattle.fort_tables.specs.Tuples.{Tuple}
 use Rattle.fort_tables.specs.Entries.{Entry, AreNodes, tuples_of}
-use Rattle.fort_order.specs.TupleNodes.{tuples_in}
+use Rattle.fort_tables.specs.TupleNodes.{tuples_in}
 use Rattle.fort_witness.specs.declared.needed.Taken.{Taken}
 use Rattle.fort_witness.specs.declared.needed.Visit.{Visit}
 use Rattle.fort_witness.specs.declared.needed.Visit.TheVariants.{Whole, Itself}

@@ -4,7 +4,8 @@ ghost use Rattle.fort_tables.specs.Tables.{listed_table};
 ghost use Rattle.fort_witness.specs.Solving.{AreEntries};
 
 use crate::head::Head;
-use fort_lockstep::{Dta, Table};
+use fort_lockstep::Dta;
+use fort_table::Table;
 use fort_terms::Memory;
 use std::alloc::Global;
 

@@ -9,8 +9,10 @@ ghost use Rattle.fort_witness.specs.Rounds.{over_states as over_states_lem, IsCa
 ghost use Rattle.fort_witness.specs.Searching.{states_of, AreFound, Leads, IsFirstOf, IsWeighed, AreKnownNow, row_less};
 
 use crate::order::row_order;
-use fort_lockstep::{Dta, Row, Table};
+use fort_lockstep::Dta;
+use fort_table::Table;
 use fort_terms::Memory;
+use fort_tuple_symbols::Row;
 use std::alloc::Global;
 use std::cmp::Ordering;
 

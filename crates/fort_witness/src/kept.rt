@@ -7,7 +7,7 @@ ghost use Rattle.fort_witness.specs.Choices.{AreListed, HasOneMore, lists_of};
 use crate::answer::Solutions;
 use crate::head::Head;
 use crate::node_lists::NodeLists;
-use fort_lockstep::Dag;
+use fort_table::Dag;
 use fort_terms::Memory;
 use std::alloc::Global;
 

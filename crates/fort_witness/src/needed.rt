@@ -2,13 +2,13 @@
 ghost use Rattle.std.specs.Prelude.{◌≡◌, ℕ, List, [], ◌∷◌, ◌++◌, ◌<◌, ◌≤◌, ◌^◌, length, replicate, IfOk, OnOk};
 ghost use Rattle.fort_theory.specs.Signatures as theory;
 ghost use Rattle.fort_tables.specs.Entries.{AreNodes};
-ghost use Rattle.fort_order.specs.TupleNodes.{AreNodesOf};
+ghost use Rattle.fort_tables.specs.TupleNodes.{AreNodesOf};
 ghost use Rattle.fort_witness.specs.declared.needed.Visit.TheVariants.{Itself as itself_at};
 ghost use Rattle.fort_witness.specs.Answers.{last_tuple, AreApart};
 ghost use Rattle.fort_witness.specs.Visiting.{untaken, wholes_of, work_ahead, IsVisiting};
 
 use crate::found::over_states;
-use fort_lockstep::Dag;
+use fort_table::Dag;
 use fort_terms::Memory;
 use std::alloc::Global;
 

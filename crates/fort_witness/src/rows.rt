@@ -14,8 +14,8 @@ use crate::found::over_states;
 use crate::head::Head;
 use crate::kept::Kept;
 use crate::node_lists::NodeLists;
-use fort_lockstep::Row;
 use fort_terms::Memory;
+use fort_tuple_symbols::Row;
 use std::collections::BinaryHeap;
 
 /// The first row over nodes of an entry's states.

@@ -1,5 +1,5 @@
 use Rattle.std.proofs.Common.{subst}
-use Rattle.fort_cores.specs.PatternStructures.{pattern_structure}
+use Rattle.fort_theory.specs.PatternStructures.{pattern_structure}
 use Rattle.fort_tables.specs.Tables.{listed_table}
 use Rattle.fort_formulas.specs.CoreView.{as_core}
 use Rattle.fort_parts.specs.PartAnswers.{IsAnswerTo}

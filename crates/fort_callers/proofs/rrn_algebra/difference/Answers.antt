@@ -3,8 +3,8 @@ use Rattle.std.proofs.lemmas.Result.{IfOk-weaker, IfErr-weaker}
 use Rattle.fort_theory.specs.Logic.{And}
 use Rattle.fort_tables.specs.Entries.{tuples_of}
 use Rattle.fort_tables.specs.Tables.{Table, listed_table}
-use Rattle.fort_operations.specs.OperationTruth.{complemented}
-use Rattle.fort_operations.specs.Products.{OfTable}
+use Rattle.fort_tables.specs.OperationTruth.{complemented}
+use Rattle.fort_tables.specs.Products.{OfTable}
 use Rattle.fort_connectives.specs.ConnectiveView.{connective_of}
 use Rattle.fort_products.specs.Operands.{operand_of}
 use Rattle.fort_callers.proofs.DifferenceLaws.{AreParts, product_of_parts, labels_of_parts, difference_tests}

@@ -1,5 +1,5 @@
 use Rattle.std.proofs.Common.{map, length, ap, arith}
-use Rattle.fort_certificate_grammar.specs.Certificates as theory
+use Rattle.fort_certificate_theory.specs.Certificates as theory
 use Rattle.fort_steps.specs.StepView.{as_step}
 use Rattle.fort_cert_checker.proofs.FrontLaws.{only_some}
 use Rattle.fort_cert_checker.proofs.AboutLaws.{few_classes}

@@ -1,5 +1,5 @@
 use Rattle.std.proofs.Common.{◌≡◌, Bool, ℕ, map, subst, arith}
-use Rattle.fort_in_order.specs.Dues.{is_merged_in}
+use Rattle.fort_certificate_theory.specs.Dues.{is_merged_in}
 use Rattle.fort_steps.specs.StepView.{as_step}
 use Rattle.fort_cert_checker.specs.Makings.{AreMergesMade}
 use Rattle.fort_cert_checker.proofs.MakingLaws.{made_more}

@@ -1,6 +1,6 @@
 use Rattle.std.proofs.Common.{◌≡◌, ◌<◌, ℕ, map, get_or}
-use Rattle.fort_certificate_grammar.specs.Certificates as theory
-use Rattle.fort_in_order.specs.Dues as definitions
+use Rattle.fort_certificate_theory.specs.Certificates as theory
+use Rattle.fort_certificate_theory.specs.Dues as definitions
 use Rattle.fort_steps.specs.StepView.{as_step}
 use Rattle.fort_dues.specs.DueView.{as_due}
 use Rattle.fort_cert_checker.proofs.about.step_about.Given as goal

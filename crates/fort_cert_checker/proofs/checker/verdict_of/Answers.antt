@@ -2,7 +2,7 @@ use Rattle.std.proofs.Common.{List, map, Some, sym, ap, ◌∙◌}
 use Rattle.std.specs.Option.{option_copied}
 use Rattle.fort_steps.specs.StepView.{as_step}
 use Rattle.fort_steps.specs.declared.step.Step.{Step}
-use Rattle.fort_in_order.specs.Checked.{last_value}
+use Rattle.fort_certificate_theory.specs.Checked.{last_value}
 use Rattle.fort_cert_checker.proofs.CheckLaws.{last_value_in, some_last, same_verdict, other_value}
 use Rattle.fort_cert_checker.proofs.checker.verdict_of.Goals as goal
 

@@ -1,6 +1,6 @@
 use Rattle.std.proofs.Common.{sym, subst, ◌∙◌, arith}
 use Rattle.std.proofs.lemmas.List.{length-map, get_or-map}
-use Rattle.fort_in_order.specs.Dues as definitions
+use Rattle.fort_certificate_theory.specs.Dues as definitions
 use Rattle.fort_dues.specs.DueView.{as_due}
 use Rattle.fort_cert_checker.specs.Makings.{IsClosureFor}
 use Rattle.fort_cert_checker.proofs.MakingLaws.{made_more}

@@ -1,6 +1,6 @@
 use Rattle.std.proofs.Common.{◌≡◌, ◌<◌, length, map, subst, arith}
 use Rattle.std.proofs.lemmas.List.Elements.{Contains-get_or}
-use Rattle.fort_cores.specs.Cores as core
+use Rattle.fort_theory.specs.Cores as core
 use Rattle.fort_outline.specs.Outlines.{parts_in, core_at}
 use Rattle.fort_steps.specs.StepView.{as_step}
 use Rattle.fort_outline.proofs.RootLaws.{length-cores_of}

@@ -1,5 +1,5 @@
 use Rattle.std.proofs.Common.{◌≡◌, length, ap, sym, ◌∙◌, arith}
-use Rattle.fort_certificate_grammar.specs.Certificates.{Part, Merge}
+use Rattle.fort_certificate_theory.specs.Certificates.{Part, Merge}
 use Rattle.fort_steps.specs.StepView.{as_step}
 use Rattle.fort_cert_checker.proofs.numbers.has_few.Goals as goal
 

@@ -2,8 +2,8 @@ use Rattle.std.proofs.Common.{List, map, take, subst, sym, ◌∙◌, ap, refl, 
 use Rattle.std.specs.Prelude.{Contains}
 use Rattle.std.proofs.lemmas.List.{length-map, get_or-map, take_all, map_more}
 use Rattle.std.proofs.lemmas.List.Elements.{Contains-push_cases}
-use Rattle.fort_certificate_grammar.specs.Certificates as theory
-use Rattle.fort_certificate_grammar.specs.Certificates.{Part, Merge}
+use Rattle.fort_certificate_theory.specs.Certificates as theory
+use Rattle.fort_certificate_theory.specs.Certificates.{Part, Merge}
 use Rattle.fort_steps.specs.StepView.{as_step}
 use Rattle.fort_cert_checker.specs.Fronts.{HasFewTargets}
 use Rattle.fort_cert_checker.proofs.numbers.have_few.Goals as goal

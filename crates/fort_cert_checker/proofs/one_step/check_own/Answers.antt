@@ -1,5 +1,5 @@
 use Rattle.std.proofs.Common.{List, map, sym, ap, ◌∙◌, refl}
-use Rattle.fort_certificate_grammar.specs.Certificates as certificates
+use Rattle.fort_certificate_theory.specs.Certificates as certificates
 use Rattle.fort_findings.specs.FindingView.{as_count, as_pair, as_which}
 use Rattle.fort_steps.specs.StepView.{as_step}
 use Rattle.fort_findings.specs.declared.count.Count.{Count}

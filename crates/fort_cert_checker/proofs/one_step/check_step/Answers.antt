@@ -1,14 +1,14 @@
 use Rattle.std.proofs.Common.{List, set, map, get_or, sym, ap, ◌∙◌, subst, arith, ◌+◌, refl}
-use Rattle.fort_cores.specs.Cores as core
-use Rattle.fort_certificate_grammar.specs.Certificates as certificates
-use Rattle.fort_certificate_grammar.specs.Certificates.{Step}
-use Rattle.fort_in_order.specs.Made.{Made}
+use Rattle.fort_theory.specs.Cores as core
+use Rattle.fort_certificate_theory.specs.Certificates as certificates
+use Rattle.fort_certificate_theory.specs.Certificates.{Step}
+use Rattle.fort_certificate_theory.specs.Made.{MadeSoFar}
 use Rattle.fort_findings.specs.FindingView.{as_which, as_pair}
 use Rattle.fort_steps.specs.StepView.{as_step}
 use Rattle.fort_findings.specs.declared.closure.ClosureEntry.{ClosureEntry}
 use Rattle.fort_check_steps.specs.StepAnswers.{as_reason, outcome_of}
 use Rattle.fort_check_steps.specs.declared.room.PartRoom.{PartRoom}
-use Rattle.fort_in_order.specs.Checked.{IsFailing}
+use Rattle.fort_certificate_theory.specs.Checked.{IsFailing}
 use Rattle.fort_cert_checker.specs.Pasts.{IsMarkRoomFor}
 use Rattle.fort_cert_checker.specs.Fronts.{IsDueBehind, IsFineStep, IsReady, IsLoopAt}
 use Rattle.fort_cert_checker.proofs.LoopSteps as loop
@@ -49,7 +49,7 @@ returns-in-Closure-clause-ready c parts root ss made same at due = loop.closure_
 pub returns-in-Part-clause-fine : goal.returns-in-Part-clause-fine
 returns-in-Part-clause-fine c = on_ok c.check_own.result
     (λ fine parts root ss made same at due.
-    subst (λ (rs : List PartRoom). (next : Made) × IsLoopAt c.args.given.now.system.now root parts ss c.args.given.now.plans.now c.args.closures.now rs c.check_own.new.scratch (set c.args.marks.now c.in-Part.k c.check_own.new.marks) (c.args.place + 1) next) (sym (loop.set_first_behind c.args.rooms.now c.split_at_mut-front.result.0.now c.split_at_mut-front.result.1.now c.in-Part.k c.check_own.new.room c.split_at_mut-front.ensures.value c.split_at_mut-front.ensures.front_len))
+    subst (λ (rs : List PartRoom). (next : MadeSoFar) × IsLoopAt c.args.given.now.system.now root parts ss c.args.given.now.plans.now c.args.closures.now rs c.check_own.new.scratch (set c.args.marks.now c.in-Part.k c.check_own.new.marks) (c.args.place + 1) next) (sym (loop.set_first_behind c.args.rooms.now c.split_at_mut-front.result.0.now c.split_at_mut-front.result.1.now c.in-Part.k c.check_own.new.room c.split_at_mut-front.ensures.value c.split_at_mut-front.ensures.front_len))
     (loop.part_next c.args.given.now.system.now root parts ss c.args.given.now.plans.now c.args.closures.now c.args.rooms.now c.args.scratch.now c.args.marks.now c.args.place made at due (as_step (get_or c.args.given.now.steps.now c.args.place c.index-given-place.result)) (loop.step_at c.args.given.now.steps.now ss c.args.place c.index-given-place.result (as_step (get_or c.args.given.now.steps.now c.args.place c.index-given-place.result)) same due.low) c.in-Part.k (loop.named (get_or c.args.given.now.steps.now c.args.place c.index-given-place.result) c.in-Part.k c.in-Part.is).0 (loop.named (get_or c.args.given.now.steps.now c.args.place c.index-given-place.result) c.in-Part.k c.in-Part.is).1 (get_or c.args.given.now.plans.now c.in-Part.k c.index-given-part.result) (get_or c.split_at_mut-front.result.1.now 0 c.index-back-0.result) (get_or c.args.marks.now c.in-Part.k c.index-marks-part.result) (loop.element_at c.args.given.now.plans.now c.in-Part.k c.index-given-part.result (loop.plan_low c.args.given.now.system.now root parts ss c.args.given.now.plans.now c.args.closures.now c.args.rooms.now c.args.scratch.now c.args.marks.now c.args.place made at due (as_step (get_or c.args.given.now.steps.now c.args.place c.index-given-place.result)) (loop.step_at c.args.given.now.steps.now ss c.args.place c.index-given-place.result (as_step (get_or c.args.given.now.steps.now c.args.place c.index-given-place.result)) same due.low) c.in-Part.k (loop.named (get_or c.args.given.now.steps.now c.args.place c.index-given-place.result) c.in-Part.k c.in-Part.is).0 (loop.named (get_or c.args.given.now.steps.now c.args.place c.index-given-place.result) c.in-Part.k c.in-Part.is).1)) (loop.first_behind c.args.rooms.now c.split_at_mut-front.result.0.now c.split_at_mut-front.result.1.now c.in-Part.k c.index-back-0.result c.split_at_mut-front.ensures.value c.split_at_mut-front.ensures.front_len (let l = loop.room_low c.args.given.now.system.now root parts ss c.args.given.now.plans.now c.args.closures.now c.args.rooms.now c.args.scratch.now c.args.marks.now c.args.place made at due (as_step (get_or c.args.given.now.steps.now c.args.place c.index-given-place.result)) (loop.step_at c.args.given.now.steps.now ss c.args.place c.index-given-place.result (as_step (get_or c.args.given.now.steps.now c.args.place c.index-given-place.result)) same due.low) c.in-Part.k (loop.named (get_or c.args.given.now.steps.now c.args.place c.index-given-place.result) c.in-Part.k c.in-Part.is).0 (loop.named (get_or c.args.given.now.steps.now c.args.place c.index-given-place.result) c.in-Part.k c.in-Part.is).1 in let m = c.split_at_mut-front.ensures.back_len in omega (arith, l, m)) (loop.room_low c.args.given.now.system.now root parts ss c.args.given.now.plans.now c.args.closures.now c.args.rooms.now c.args.scratch.now c.args.marks.now c.args.place made at due (as_step (get_or c.args.given.now.steps.now c.args.place c.index-given-place.result)) (loop.step_at c.args.given.now.steps.now ss c.args.place c.index-given-place.result (as_step (get_or c.args.given.now.steps.now c.args.place c.index-given-place.result)) same due.low) c.in-Part.k (loop.named (get_or c.args.given.now.steps.now c.args.place c.index-given-place.result) c.in-Part.k c.in-Part.is).0 (loop.named (get_or c.args.given.now.steps.now c.args.place c.index-given-place.result) c.in-Part.k c.in-Part.is).1)) (loop.element_at c.args.marks.now c.in-Part.k c.index-marks-part.result (loop.mark_low c.args.given.now.system.now root parts ss c.args.given.now.plans.now c.args.closures.now c.args.rooms.now c.args.scratch.now c.args.marks.now c.args.place made at due (as_step (get_or c.args.given.now.steps.now c.args.place c.index-given-place.result)) (loop.step_at c.args.given.now.steps.now ss c.args.place c.index-given-place.result (as_step (get_or c.args.given.now.steps.now c.args.place c.index-given-place.result)) same due.low) c.in-Part.k (loop.named (get_or c.args.given.now.steps.now c.args.place c.index-given-place.result) c.in-Part.k c.in-Part.is).0 (loop.named (get_or c.args.given.now.steps.now c.args.place c.index-given-place.result) c.in-Part.k c.in-Part.is).1)) c.check_own.new.room c.check_own.new.scratch c.check_own.new.marks c.check_own.ensures.room c.check_own.ensures.scratch (subst (λ (ts : List Step). IsMarkRoomFor ts (get_or c.args.given.now.plans.now c.in-Part.k c.index-given-part.result).work c.check_own.new.marks) (sym same) ((c.check_own.ensures.marks parts (get_or parts c.in-Part.k core.True)) made (subst (λ (ts : List Step). IsDueBehind c.args.given.now.system.now parts ts c.args.given.now.plans.now c.split_at_mut-front.result.0.now made (get_or parts c.in-Part.k core.True) (get_or c.args.given.now.plans.now c.in-Part.k c.index-given-part.result) (as_step (get_or c.args.given.now.steps.now c.args.place c.index-given-place.result)) (get_or c.split_at_mut-front.result.1.now 0 c.index-back-0.result) c.args.scratch.now (get_or c.args.marks.now c.in-Part.k c.index-marks-part.result)) same (loop.behind c.args.given.now.system.now root parts ss c.args.given.now.plans.now c.args.closures.now c.args.rooms.now c.args.scratch.now c.args.marks.now c.args.place made at due (as_step (get_or c.args.given.now.steps.now c.args.place c.index-given-place.result)) (loop.step_at c.args.given.now.steps.now ss c.args.place c.index-given-place.result (as_step (get_or c.args.given.now.steps.now c.args.place c.index-given-place.result)) same due.low) c.in-Part.k (loop.named (get_or c.args.given.now.steps.now c.args.place c.index-given-place.result) c.in-Part.k c.in-Part.is).0 (loop.named (get_or c.args.given.now.steps.now c.args.place c.index-given-place.result) c.in-Part.k c.in-Part.is).1 (get_or c.args.given.now.plans.now c.in-Part.k c.index-given-part.result) (get_or c.split_at_mut-front.result.1.now 0 c.index-back-0.result) (get_or c.args.marks.now c.in-Part.k c.index-marks-part.result) (loop.element_at c.args.given.now.plans.now c.in-Part.k c.index-given-part.result (loop.plan_low c.args.given.now.system.now root parts ss c.args.given.now.plans.now c.args.closures.now c.args.rooms.now c.args.scratch.now c.args.marks.now c.args.place made at due (as_step (get_or c.args.given.now.steps.now c.args.place c.index-given-place.result)) (loop.step_at c.args.given.now.steps.now ss c.args.place c.index-given-place.result (as_step (get_or c.args.given.now.steps.now c.args.place c.index-given-place.result)) same due.low) c.in-Part.k (loop.named (get_or c.args.given.now.steps.now c.args.place c.index-given-place.result) c.in-Part.k c.in-Part.is).0 (loop.named (get_or c.args.given.now.steps.now c.args.place c.index-given-place.result) c.in-Part.k c.in-Part.is).1)) (loop.first_behind c.args.rooms.now c.split_at_mut-front.result.0.now c.split_at_mut-front.result.1.now c.in-Part.k c.index-back-0.result c.split_at_mut-front.ensures.value c.split_at_mut-front.ensures.front_len (let l = loop.room_low c.args.given.now.system.now root parts ss c.args.given.now.plans.now c.args.closures.now c.args.rooms.now c.args.scratch.now c.args.marks.now c.args.place made at due (as_step (get_or c.args.given.now.steps.now c.args.place c.index-given-place.result)) (loop.step_at c.args.given.now.steps.now ss c.args.place c.index-given-place.result (as_step (get_or c.args.given.now.steps.now c.args.place c.index-given-place.result)) same due.low) c.in-Part.k (loop.named (get_or c.args.given.now.steps.now c.args.place c.index-given-place.result) c.in-Part.k c.in-Part.is).0 (loop.named (get_or c.args.given.now.steps.now c.args.place c.index-given-place.result) c.in-Part.k c.in-Part.is).1 in let m = c.split_at_mut-front.ensures.back_len in omega (arith, l, m)) (loop.room_low c.args.given.now.system.now root parts ss c.args.given.now.plans.now c.args.closures.now c.args.rooms.now c.args.scratch.now c.args.marks.now c.args.place made at due (as_step (get_or c.args.given.now.steps.now c.args.place c.index-given-place.result)) (loop.step_at c.args.given.now.steps.now ss c.args.place c.index-given-place.result (as_step (get_or c.args.given.now.steps.now c.args.place c.index-given-place.result)) same due.low) c.in-Part.k (loop.named (get_or c.args.given.now.steps.now c.args.place c.index-given-place.result) c.in-Part.k c.in-Part.is).0 (loop.named (get_or c.args.given.now.steps.now c.args.place c.index-given-place.result) c.in-Part.k c.in-Part.is).1)) (loop.element_at c.args.marks.now c.in-Part.k c.index-marks-part.result (loop.mark_low c.args.given.now.system.now root parts ss c.args.given.now.plans.now c.args.closures.now c.args.rooms.now c.args.scratch.now c.args.marks.now c.args.place made at due (as_step (get_or c.args.given.now.steps.now c.args.place c.index-given-place.result)) (loop.step_at c.args.given.now.steps.now ss c.args.place c.index-given-place.result (as_step (get_or c.args.given.now.steps.now c.args.place c.index-given-place.result)) same due.low) c.in-Part.k (loop.named (get_or c.args.given.now.steps.now c.args.place c.index-given-place.result) c.in-Part.k c.in-Part.is).0 (loop.named (get_or c.args.given.now.steps.now c.args.place c.index-given-place.result) c.in-Part.k c.in-Part.is).1)) c.split_at_mut-front.result.0.now (get_or parts c.in-Part.k core.True) c.split_at_mut-front.ensures.front refl)))) (subst (λ (ts : List Step). IsFineStep c.args.given.now.system.now parts ts made (as_step (get_or c.args.given.now.steps.now c.args.place c.index-given-place.result)) c.check_own.new.room) (sym same) (fine parts (get_or parts c.in-Part.k core.True) made (subst (λ (ts : List Step). IsDueBehind c.args.given.now.system.now parts ts c.args.given.now.plans.now c.split_at_mut-front.result.0.now made (get_or parts c.in-Part.k core.True) (get_or c.args.given.now.plans.now c.in-Part.k c.index-given-part.result) (as_step (get_or c.args.given.now.steps.now c.args.place c.index-given-place.result)) (get_or c.split_at_mut-front.result.1.now 0 c.index-back-0.result) c.args.scratch.now (get_or c.args.marks.now c.in-Part.k c.index-marks-part.result)) same (loop.behind c.args.given.now.system.now root parts ss c.args.given.now.plans.now c.args.closures.now c.args.rooms.now c.args.scratch.now c.args.marks.now c.args.place made at due (as_step (get_or c.args.given.now.steps.now c.args.place c.index-given-place.result)) (loop.step_at c.args.given.now.steps.now ss c.args.place c.index-given-place.result (as_step (get_or c.args.given.now.steps.now c.args.place c.index-given-place.result)) same due.low) c.in-Part.k (loop.named (get_or c.args.given.now.steps.now c.args.place c.index-given-place.result) c.in-Part.k c.in-Part.is).0 (loop.named (get_or c.args.given.now.steps.now c.args.place c.index-given-place.result) c.in-Part.k c.in-Part.is).1 (get_or c.args.given.now.plans.now c.in-Part.k c.index-given-part.result) (get_or c.split_at_mut-front.result.1.now 0 c.index-back-0.result) (get_or c.args.marks.now c.in-Part.k c.index-marks-part.result) (loop.element_at c.args.given.now.plans.now c.in-Part.k c.index-given-part.result (loop.plan_low c.args.given.now.system.now root parts ss c.args.given.now.plans.now c.args.closures.now c.args.rooms.now c.args.scratch.now c.args.marks.now c.args.place made at due (as_step (get_or c.args.given.now.steps.now c.args.place c.index-given-place.result)) (loop.step_at c.args.given.now.steps.now ss c.args.place c.index-given-place.result (as_step (get_or c.args.given.now.steps.now c.args.place c.index-given-place.result)) same due.low) c.in-Part.k (loop.named (get_or c.args.given.now.steps.now c.args.place c.index-given-place.result) c.in-Part.k c.in-Part.is).0 (loop.named (get_or c.args.given.now.steps.now c.args.place c.index-given-place.result) c.in-Part.k c.in-Part.is).1)) (loop.first_behind c.args.rooms.now c.split_at_mut-front.result.0.now c.split_at_mut-front.result.1.now c.in-Part.k c.index-back-0.result c.split_at_mut-front.ensures.value c.split_at_mut-front.ensures.front_len (let l = loop.room_low c.args.given.now.system.now root parts ss c.args.given.now.plans.now c.args.closures.now c.args.rooms.now c.args.scratch.now c.args.marks.now c.args.place made at due (as_step (get_or c.args.given.now.steps.now c.args.place c.index-given-place.result)) (loop.step_at c.args.given.now.steps.now ss c.args.place c.index-given-place.result (as_step (get_or c.args.given.now.steps.now c.args.place c.index-given-place.result)) same due.low) c.in-Part.k (loop.named (get_or c.args.given.now.steps.now c.args.place c.index-given-place.result) c.in-Part.k c.in-Part.is).0 (loop.named (get_or c.args.given.now.steps.now c.args.place c.index-given-place.result) c.in-Part.k c.in-Part.is).1 in let m = c.split_at_mut-front.ensures.back_len in omega (arith, l, m)) (loop.room_low c.args.given.now.system.now root parts ss c.args.given.now.plans.now c.args.closures.now c.args.rooms.now c.args.scratch.now c.args.marks.now c.args.place made at due (as_step (get_or c.args.given.now.steps.now c.args.place c.index-given-place.result)) (loop.step_at c.args.given.now.steps.now ss c.args.place c.index-given-place.result (as_step (get_or c.args.given.now.steps.now c.args.place c.index-given-place.result)) same due.low) c.in-Part.k (loop.named (get_or c.args.given.now.steps.now c.args.place c.index-given-place.result) c.in-Part.k c.in-Part.is).0 (loop.named (get_or c.args.given.now.steps.now c.args.place c.index-given-place.result) c.in-Part.k c.in-Part.is).1)) (loop.element_at c.args.marks.now c.in-Part.k c.index-marks-part.result (loop.mark_low c.args.given.now.system.now root parts ss c.args.given.now.plans.now c.args.closures.now c.args.rooms.now c.args.scratch.now c.args.marks.now c.args.place made at due (as_step (get_or c.args.given.now.steps.now c.args.place c.index-given-place.result)) (loop.step_at c.args.given.now.steps.now ss c.args.place c.index-given-place.result (as_step (get_or c.args.given.now.steps.now c.args.place c.index-given-place.result)) same due.low) c.in-Part.k (loop.named (get_or c.args.given.now.steps.now c.args.place c.index-given-place.result) c.in-Part.k c.in-Part.is).0 (loop.named (get_or c.args.given.now.steps.now c.args.place c.index-given-place.result) c.in-Part.k c.in-Part.is).1)) c.split_at_mut-front.result.0.now (get_or parts c.in-Part.k core.True) c.split_at_mut-front.ensures.front refl))))))
     c.check_own.ensures.fine
 

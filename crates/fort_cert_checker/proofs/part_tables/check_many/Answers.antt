@@ -1,10 +1,10 @@
 use Rattle.std.proofs.Common.{◌≡◌, ◌<◌, ◌≤◌, ℕ, List, length, map, vec_capacity, ◌+◌, ◌*◌, sym, ap, ◌∙◌, subst, arith}
 use Rattle.fort_tables.specs.BitRows.{words_for}
 use Rattle.fort_tables.specs.Tables.{Table}
-use Rattle.fort_operations.specs.Projections.{ArePure}
-use Rattle.fort_counts.specs.Counts.{KeepRules, count_at}
-use Rattle.fort_in_order.specs.PartRules.{many_local}
-use Rattle.fort_in_order.proofs.PureLists.{pure_one}
+use Rattle.fort_tables.specs.Projections.{ArePure}
+use Rattle.fort_tables.specs.Counts.{KeepRules, count_at}
+use Rattle.fort_certificate_theory.specs.PartRules.{many_local}
+use Rattle.fort_certificate_theory.proofs.PureLists.{pure_one}
 use Rattle.fort_findings.specs.declared.count.Count.{Count}
 use Rattle.fort_findings.specs.FindingView.{as_count}
 use Rattle.fort_infinity.specs.ManyCounts.{is_many}

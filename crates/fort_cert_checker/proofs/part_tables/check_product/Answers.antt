@@ -1,5 +1,5 @@
 use Rattle.std.proofs.Common.{◌≡◌, ℕ, IfSome, sym, ap, ◌∙◌, subst, arith}
-use Rattle.fort_operations.specs.Products.{Operand, AreOperands, signature_of, product_rule, product_accepts}
+use Rattle.fort_tables.specs.Products.{Operand, AreOperands, signature_of, product_rule, product_accepts}
 use Rattle.fort_parts.specs.PartSteps as parts
 use Rattle.fort_connectives.specs.declared.connective.Op.{Op}
 use Rattle.fort_connectives.specs.ConnectiveView.{connective_of}

@@ -1,7 +1,7 @@
 use Rattle.std.proofs.Common.{◌≡◌, ◌<◌, ◌≤◌, ℕ, length, vec_capacity, ◌+◌, sym, ap, ◌∙◌, subst, arith}
 use Rattle.fort_tables.specs.BitRows.{words_for}
 use Rattle.fort_tables.specs.Tables.{Table}
-use Rattle.fort_in_order.specs.PartRules.{project_local}
+use Rattle.fort_certificate_theory.specs.PartRules.{project_local}
 use Rattle.fort_check_steps.specs.Turned.{turned_table}
 use Rattle.fort_check_steps.specs.Room.{HasLabelRoom}
 use Rattle.fort_cert_checker.specs.Pasts.{IsPartStep}

@@ -1,5 +1,5 @@
 use Rattle.std.proofs.Common.{arith, sym, length}
-use Rattle.fort_operations.proofs.SearchLaws.{below_found}
+use Rattle.fort_tables.proofs.SearchLaws.{below_found}
 use Rattle.fort_cert_checker.proofs.past.accepts_some.Goals as goal
 
 pub returns-then-is_final : goal.returns-then-is_final

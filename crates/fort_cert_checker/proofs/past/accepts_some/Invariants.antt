@@ -1,5 +1,5 @@
 use Rattle.std.proofs.Common.{◌≡◌, false}
-use Rattle.fort_operations.specs.Projections.{some_below}
+use Rattle.fort_tables.specs.Projections.{some_below}
 use Rattle.fort_cert_checker.proofs.past.accepts_some.Given as goal
 
 abbrev pub invariant-loop-q : goal.invariant-loop-q

@@ -1,6 +1,6 @@
 use Rattle.std.proofs.Common.{sym, subst}
 use Rattle.std.specs.Prelude.{Contains}
-use Rattle.fort_cores.specs.Cores.{Core}
+use Rattle.fort_theory.specs.Cores.{Core}
 use Rattle.fort_parts.specs.PartColumns.{columns_of}
 use Rattle.fort_connectives.specs.ConnectiveView.{connective_of}
 use Rattle.fort_outline.specs.Outlines.{core_at}

@@ -1,6 +1,6 @@
 use Rattle.std.proofs.Common.{map, sym, subst, refl}
 use Rattle.std.proofs.lemmas.Result.{IfOk-weaker}
-use Rattle.fort_cores.specs.Cores.{Leaf, Related}
+use Rattle.fort_theory.specs.Cores.{Leaf, Related}
 use Rattle.fort_relations.specs.RelView.{as_rel}
 use Rattle.fort_steps.specs.StepView.{as_step}
 use Rattle.fort_cert_checker.specs.Plans.{IsAtomPlan}

@@ -1,5 +1,5 @@
 use Rattle.std.proofs.Common.{◌≡◌, length, vec_len, not, ◌==◌, arith, sym, ap, ◌∙◌}
-use Rattle.fort_in_order.specs.Dues.{has_columns, is_turned}
+use Rattle.fort_certificate_theory.specs.Dues.{has_columns, is_turned}
 use Rattle.fort_outline.specs.Outlines.{parts_in, core_at}
 use Rattle.fort_dues.proofs.DueLists.{columns_there, plain_root}
 use Rattle.fort_outline.proofs.OutlineLaws.{part_root, part_is, over_is, columns_at}

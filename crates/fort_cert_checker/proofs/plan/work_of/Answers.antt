@@ -1,7 +1,7 @@
 use Rattle.std.proofs.Common.{map, sym, ap, ◌∙◌, subst, arith}
 use Rattle.std.proofs.lemmas.Result.{IfOk-weaker}
-use Rattle.fort_cores.specs.Cores.{Core}
-use Rattle.fort_cores.specs.Parts.{BindsFree, HasManyRootsAt}
+use Rattle.fort_theory.specs.Cores.{Core}
+use Rattle.fort_theory.specs.Parts.{BindsFree, HasManyRootsAt}
 use Rattle.fort_parts.specs.DecidedCores.{IsOverSystem}
 use Rattle.fort_parts.proofs.PartColumnLaws.{column-from_free}
 use Rattle.fort_outline.specs.Outlines.{core_at}

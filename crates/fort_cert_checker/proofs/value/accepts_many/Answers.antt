@@ -1,9 +1,9 @@
 use Rattle.std.proofs.Common.{◌≡◌, ◌<◌, ◌≤◌, ℕ, List, length, map, vec_capacity, sym, ap, ◌∙◌, subst, arith}
 use Rattle.fort_tables.specs.Tables.{Table}
-use Rattle.fort_operations.specs.Projections.{ArePure}
-use Rattle.fort_counts.specs.Counts.{count_at, is_infinite}
-use Rattle.fort_counts.specs.ManyLabels.{many_value}
-use Rattle.fort_in_order.proofs.PureLists.{pure_one}
+use Rattle.fort_tables.specs.Projections.{ArePure}
+use Rattle.fort_tables.specs.Counts.{count_at, is_infinite}
+use Rattle.fort_tables.specs.ManyLabels.{many_value}
+use Rattle.fort_certificate_theory.proofs.PureLists.{pure_one}
 use Rattle.fort_findings.specs.FindingView.{as_count}
 use Rattle.fort_check_steps.specs.Turned.{turned_table}
 use Rattle.fort_cert_checker.proofs.value.accepts_many.Goals as goal

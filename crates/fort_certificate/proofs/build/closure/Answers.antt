@@ -1,7 +1,7 @@
 use Rattle.std.proofs.Common.{true, false, [], ◌∷◌, Some, sym, ◌∙◌}
 use Rattle.std.proofs.lemmas.Option.{IfSome_then}
 use Rattle.std.proofs.lemmas.Result.{err_from_is_err_and}
-use Rattle.fort_certificate_grammar.specs.CertificateFaults.{AsForm, WhichSlot, NumberSlot, PairSlot, index_slots, NoWhich}
+use Rattle.fort_certificate_theory.specs.CertificateFaults.{AsForm, WhichSlot, NumberSlot, PairSlot, index_slots, NoWhich}
 use Rattle.fort_certificate.specs.VersionView.{as_version}
 use Rattle.fort_certificate.specs.ReadView.{as_kind, as_wrong}
 use Rattle.fort_certificate.proofs.BuildLaws.{closure_made, indexed_made}

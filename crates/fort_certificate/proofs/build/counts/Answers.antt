@@ -1,8 +1,8 @@
 use Rattle.std.proofs.Common.{length, refl, ap, ◌∙◌, arith}
 use Rattle.std.proofs.lemmas.Result.{err_from_is_err_and}
 use Rattle.fort_grammar.specs.Forms.{Form}
-use Rattle.fort_certificate_grammar.specs.CertificateForms.{IsCountForm}
-use Rattle.fort_certificate_grammar.specs.CertificateFaults.{CountSlot}
+use Rattle.fort_certificate_theory.specs.CertificateForms.{IsCountForm}
+use Rattle.fort_certificate_theory.specs.CertificateFaults.{CountSlot}
 use Rattle.fort_findings.specs.declared.count.Count.{Count}
 use Rattle.fort_findings.specs.FindingView.{as_count}
 use Rattle.fort_certificate.proofs.BuildLaws.{read_none, read_more, read_all, each_map}

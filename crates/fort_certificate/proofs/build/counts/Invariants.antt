@@ -1,7 +1,7 @@
 use Rattle.std.proofs.Common.{◌≡◌, ◌+◌, ◌≤◌, length, vec_len, vec_capacity}
-use Rattle.fort_certificate_grammar.specs.CertificateForms.{IsCountForm}
+use Rattle.fort_certificate_theory.specs.CertificateForms.{IsCountForm}
 use Rattle.fort_findings.specs.FindingView.{as_count}
-use Rattle.fort_certificate_grammar.specs.CertificateFaults.{CountSlot}
+use Rattle.fort_certificate_theory.specs.CertificateFaults.{CountSlot}
 use Rattle.fort_certificate.proofs.BuildLaws.{IsReadTo}
 use Rattle.fort_certificate.proofs.WrongLaws.{IsBadAlong}
 use Rattle.fort_certificate.proofs.build.counts.Given as goal

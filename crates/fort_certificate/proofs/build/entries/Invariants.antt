@@ -1,7 +1,7 @@
 use Rattle.std.proofs.Common.{◌≡◌, ◌+◌, ◌≤◌, length, vec_len, vec_capacity}
-use Rattle.fort_certificate_grammar.specs.CertificateForms.{IsPairForm}
+use Rattle.fort_certificate_theory.specs.CertificateForms.{IsPairForm}
 use Rattle.fort_findings.specs.FindingView.{as_pair}
-use Rattle.fort_certificate_grammar.specs.CertificateFaults.{PairSlot}
+use Rattle.fort_certificate_theory.specs.CertificateFaults.{PairSlot}
 use Rattle.fort_certificate.proofs.BuildLaws.{IsReadTo}
 use Rattle.fort_certificate.proofs.WrongLaws.{IsBadAlong}
 use Rattle.fort_certificate.proofs.build.entries.Given as goal

@@ -1,8 +1,8 @@
 use Rattle.std.proofs.Common.{ℕ, length, ap, ◌∙◌, arith}
 use Rattle.std.proofs.lemmas.Result.{err_from_is_err_and}
 use Rattle.fort_grammar.specs.Forms.{Form}
-use Rattle.fort_certificate_grammar.specs.CertificateForms.{IsNumberForm}
-use Rattle.fort_certificate_grammar.specs.CertificateFaults.{NumberSlot}
+use Rattle.fort_certificate_theory.specs.CertificateForms.{IsNumberForm}
+use Rattle.fort_certificate_theory.specs.CertificateFaults.{NumberSlot}
 use Rattle.fort_certificate.proofs.BuildLaws.{read_more, read_all}
 use Rattle.fort_certificate.proofs.WrongLaws.{along_more, along_bad}
 use Rattle.fort_certificate.proofs.build.numbers.Goals as goal

@@ -1,6 +1,6 @@
 use Rattle.std.proofs.Common.{◌≡◌, ◌+◌, ◌≤◌, length, vec_len, vec_capacity}
-use Rattle.fort_certificate_grammar.specs.CertificateForms.{IsNumberForm}
-use Rattle.fort_certificate_grammar.specs.CertificateFaults.{NumberSlot}
+use Rattle.fort_certificate_theory.specs.CertificateForms.{IsNumberForm}
+use Rattle.fort_certificate_theory.specs.CertificateFaults.{NumberSlot}
 use Rattle.fort_certificate.proofs.BuildLaws.{IsReadTo}
 use Rattle.fort_certificate.proofs.WrongLaws.{IsBadAlong}
 use Rattle.fort_certificate.proofs.build.numbers.Given as goal

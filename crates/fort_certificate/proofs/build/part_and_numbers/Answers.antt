@@ -1,7 +1,7 @@
 use Rattle.std.proofs.Common.{[], Some}
 use Rattle.std.proofs.lemmas.Option.{IfSome_then}
 use Rattle.std.proofs.lemmas.Result.{err_from_is_err_and}
-use Rattle.fort_certificate_grammar.specs.CertificateFaults.{NumberSlot}
+use Rattle.fort_certificate_theory.specs.CertificateFaults.{NumberSlot}
 use Rattle.fort_certificate.specs.ReadView.{as_wrong}
 use Rattle.fort_certificate.proofs.WrongLaws.{slot_absent, slot_bad, slot_fits}
 use Rattle.fort_certificate.proofs.build.part_and_numbers.Goals as goal

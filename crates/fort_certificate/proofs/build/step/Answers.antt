@@ -2,7 +2,7 @@ use Rattle.std.proofs.Common.{Some, ap, ◌∙◌}
 use Rattle.std.proofs.lemmas.Option.{IfSome_then}
 use Rattle.std.proofs.lemmas.Result.{IfErr-weaker, err_from_is_err_and}
 use Rattle.fort_certificate.specs.VersionView.{as_version}
-use Rattle.fort_certificate_grammar.specs.CertificateFaults.{NoHead}
+use Rattle.fort_certificate_theory.specs.CertificateFaults.{NoHead}
 use Rattle.fort_certificate.specs.declared.slot.Head.TheVariants.{Closure, Part, Merge, Counts, Value}
 use Rattle.fort_certificate.specs.ReadView.{as_wrong}
 use Rattle.fort_certificate.proofs.WrongLaws.{list_bad}

@@ -2,8 +2,8 @@ use Rattle.std.proofs.Common.{◌≡◌, map, Some, ap, subst, ◌∙◌, arith}
 use Rattle.std.specs.List.{AllZip}
 use Rattle.fort_grammar.specs.Forms.{Form}
 use Rattle.fort_grammar.specs.Declarations.{as_list}
-use Rattle.fort_certificate_grammar.specs.CertificateForms.{IsStepForm}
-use Rattle.fort_certificate_grammar.specs.CertificateFaults.{fault_of, IsBadStep}
+use Rattle.fort_certificate_theory.specs.CertificateForms.{IsStepForm}
+use Rattle.fort_certificate_theory.specs.CertificateFaults.{fault_of, IsBadStep}
 use Rattle.fort_certificate.specs.Checking.{between}
 use Rattle.fort_steps.specs.declared.step.Step.{Step}
 use Rattle.fort_steps.specs.StepView.{as_step}

@@ -1,7 +1,7 @@
 use Rattle.std.proofs.Common.{◌≡◌, ◌+◌, ◌-◌, ◌≤◌, vec_len, vec_capacity}
 use Rattle.std.specs.List.{AllZip}
 use Rattle.fort_grammar.specs.Declarations.{as_list}
-use Rattle.fort_certificate_grammar.specs.CertificateForms.{IsStepForm}
+use Rattle.fort_certificate_theory.specs.CertificateForms.{IsStepForm}
 use Rattle.fort_steps.specs.StepView.{as_step}
 use Rattle.fort_certificate.specs.VersionView.{as_version}
 use Rattle.fort_certificate.specs.Checking.{between}

@@ -1,6 +1,6 @@
 use Rattle.std.proofs.Common.{◌≡◌, false, true, [], ◌∷◌, None, ◌∙◌}
 use Rattle.std.proofs.lemmas.Result.{err_from_is_err_and}
-use Rattle.fort_certificate_grammar.specs.CertificateFaults.{AsForm, NumberSlot, VerdictSlot, NoVerdict}
+use Rattle.fort_certificate_theory.specs.CertificateFaults.{AsForm, NumberSlot, VerdictSlot, NoVerdict}
 use Rattle.fort_certificate.proofs.BuildLaws.{value_made}
 use Rattle.fort_certificate.proofs.WrongLaws.{slot_absent, slot_bad, slot_fits, some_extra}
 use Rattle.fort_certificate.proofs.build.value.Goals as goal

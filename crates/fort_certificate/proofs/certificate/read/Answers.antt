@@ -2,7 +2,7 @@ use Rattle.std.proofs.Common.{◌≡◌, ◌+◌, drop, map, arith}
 use Rattle.std.proofs.lemmas.Option.{IfSome_then}
 use Rattle.std.proofs.lemmas.Result.{err_from_is_err_and}
 use Rattle.fort_grammar.specs.Declarations.{as_list}
-use Rattle.fort_certificate_grammar.specs.CertificateFaults.{IsBadHeader, IsFirstCertificateFault}
+use Rattle.fort_certificate_theory.specs.CertificateFaults.{IsBadHeader, IsFirstCertificateFault}
 use Rattle.fort_steps.specs.StepView.{as_step}
 use Rattle.fort_certificate.specs.declared.fault.CertificateFault.TheVariants.{Memory}
 use Rattle.fort_certificate.specs.Faults.{as_fault}

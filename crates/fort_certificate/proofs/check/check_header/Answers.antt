@@ -1,5 +1,5 @@
 use Rattle.std.proofs.Common.{◌≡◌, false, true, refl}
-use Rattle.fort_certificate_grammar.specs.CertificateFaults.{NoHeader}
+use Rattle.fort_certificate_theory.specs.CertificateFaults.{NoHeader}
 use Rattle.fort_certificate.specs.VersionView.{as_version}
 use Rattle.fort_certificate.proofs.HeaderLaws.{other_first, no_number, other_number, other_verdict}
 use Rattle.fort_certificate.proofs.check.check_header.Goals as goal

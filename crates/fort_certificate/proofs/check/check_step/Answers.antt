@@ -1,6 +1,6 @@
 use Rattle.std.proofs.lemmas.Result.{IfOk-weaker, IfErr-weaker}
 use Rattle.fort_certificate.specs.VersionView.{as_version}
-use Rattle.fort_certificate_grammar.specs.CertificateFaults.{NoHead}
+use Rattle.fort_certificate_theory.specs.CertificateFaults.{NoHead}
 use Rattle.fort_certificate.specs.ReadView.{as_kind}
 use Rattle.fort_certificate.proofs.StepsLaws.{step_fits, step_bad}
 use Rattle.fort_certificate.proofs.check.check_step.Goals as goal

@@ -1,7 +1,7 @@
 use Rattle.std.proofs.Common.{◌≡◌, subst, arith}
 use Rattle.fort_grammar.specs.Declarations.{as_list}
-use Rattle.fort_certificate_grammar.specs.CertificateForms.{IsStepForm}
-use Rattle.fort_certificate_grammar.specs.CertificateFaults.{fault_of, IsBadStep}
+use Rattle.fort_certificate_theory.specs.CertificateForms.{IsStepForm}
+use Rattle.fort_certificate_theory.specs.CertificateFaults.{fault_of, IsBadStep}
 use Rattle.fort_certificate.specs.VersionView.{as_version}
 use Rattle.fort_certificate.specs.Checking.{HasBadStep, between}
 use Rattle.fort_certificate.specs.ReadView.{as_kind}

@@ -1,5 +1,5 @@
 use Rattle.fort_grammar.specs.Declarations.{as_list}
-use Rattle.fort_certificate_grammar.specs.CertificateForms.{IsStepForm}
+use Rattle.fort_certificate_theory.specs.CertificateForms.{IsStepForm}
 use Rattle.fort_certificate.specs.VersionView.{as_version}
 use Rattle.fort_certificate.proofs.StepsLaws.{AreSomeUpTo}
 use Rattle.fort_certificate.proofs.check.check_steps.Given as goal

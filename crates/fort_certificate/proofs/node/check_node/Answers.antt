@@ -1,9 +1,9 @@
 use Rattle.std.proofs.Common.{◌≡◌, ℕ, List, [], Some, drop, false, true, refl, ◌∙◌, subst}
 use Rattle.std.proofs.lemmas.Result.{IfOk-weaker, IfErr-weaker, err_from_is_err_and}
 use Rattle.fort_grammar.specs.Forms.{Form}
-use Rattle.fort_certificate_grammar.specs.CertificateFaults.{NumberSlot}
-use Rattle.fort_certificate_grammar.specs.FilledSlots.{FitAll}
-use Rattle.fort_open_certificates.specs.OpenFaults.{NoNode}
+use Rattle.fort_certificate_theory.specs.CertificateFaults.{NumberSlot}
+use Rattle.fort_certificate_theory.specs.FilledSlots.{FitAll}
+use Rattle.fort_certificate_theory.specs.OpenFaults.{NoNode}
 use Rattle.fort_certificate.specs.ReadView.{as_kind}
 use Rattle.fort_certificate.proofs.NodeLaws.{without_symbol, in_symbol, in_kids, some_node_of}
 use Rattle.fort_certificate.proofs.node.check_node.Goals as goal

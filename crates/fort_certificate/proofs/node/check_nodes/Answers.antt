@@ -1,8 +1,8 @@
 use Rattle.std.proofs.Common.{◌≡◌, drop, subst, arith}
 use Rattle.fort_grammar.specs.Declarations.{as_list}
-use Rattle.fort_certificate_grammar.specs.CertificateFaults.{fault_of}
-use Rattle.fort_open_certificates.specs.OpenForms.{IsNodeForm}
-use Rattle.fort_open_certificates.specs.OpenFaults.{IsBadNode}
+use Rattle.fort_certificate_theory.specs.CertificateFaults.{fault_of}
+use Rattle.fort_certificate_theory.specs.OpenForms.{IsNodeForm}
+use Rattle.fort_certificate_theory.specs.OpenFaults.{IsBadNode}
 use Rattle.fort_certificate.specs.NodeChecking.{HasBadNode}
 use Rattle.fort_certificate.specs.ReadView.{as_kind}
 use Rattle.fort_certificate.proofs.FaultLaws.{fault_is}

@@ -1,5 +1,5 @@
 use Rattle.fort_grammar.specs.Declarations.{as_list}
-use Rattle.fort_open_certificates.specs.OpenForms.{IsNodeForm}
+use Rattle.fort_certificate_theory.specs.OpenForms.{IsNodeForm}
 use Rattle.fort_certificate.proofs.StepsLaws.{AreSomeUpTo}
 use Rattle.fort_certificate.proofs.node.check_nodes.Given as goal
 

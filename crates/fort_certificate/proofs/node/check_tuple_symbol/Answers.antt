@@ -1,6 +1,6 @@
 use Rattle.std.proofs.Common.{[], ◌∷◌, ◌++◌, ◌∙◌}
 use Rattle.std.proofs.lemmas.Result.{err_from_is_err_and}
-use Rattle.fort_open_certificates.specs.OpenFaults.{NoList}
+use Rattle.fort_certificate_theory.specs.OpenFaults.{NoList}
 use Rattle.fort_certificate.specs.ReadView.{as_kind}
 use Rattle.fort_certificate.proofs.NodeLaws.{columns_none, columns_more, columns_bad, columns_all}
 use Rattle.fort_certificate.proofs.node.check_tuple_symbol.Goals as goal

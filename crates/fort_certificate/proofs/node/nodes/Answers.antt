@@ -1,9 +1,9 @@
 use Rattle.std.proofs.Common.{◌≤◌, length, drop, arith}
 use Rattle.fort_grammar.specs.Forms.{Form}
 use Rattle.fort_grammar.specs.Declarations.{as_list}
-use Rattle.fort_open_certificates.specs.OpenForms.{IsNodeForm}
-use Rattle.fort_open_steps.specs.declared.open_certificate.Node.{Node}
-use Rattle.fort_open_steps.specs.OpenView.{as_node}
+use Rattle.fort_certificate_theory.specs.OpenForms.{IsNodeForm}
+use Rattle.fort_steps.specs.declared.open_certificate.Node.{Node}
+use Rattle.fort_steps.specs.OpenView.{as_node}
 use Rattle.fort_certificate.proofs.StepsLaws.{form_at-list, form_count-list}
 use Rattle.fort_certificate.proofs.BuildLaws.{between_none, each_more, each_end, each_map}
 use Rattle.fort_certificate.proofs.NodeLaws.{some_at}

@@ -2,8 +2,8 @@ use Rattle.std.proofs.Common.{◌≡◌, ◌+◌, ◌-◌, ◌≤◌, vec_len, v
 use Rattle.std.specs.List.{AllZip}
 use Rattle.fort_sexpr.specs.FormView.{form_count}
 use Rattle.fort_grammar.specs.Declarations.{as_list}
-use Rattle.fort_open_certificates.specs.OpenForms.{IsNodeForm}
-use Rattle.fort_open_steps.specs.OpenView.{as_node}
+use Rattle.fort_certificate_theory.specs.OpenForms.{IsNodeForm}
+use Rattle.fort_steps.specs.OpenView.{as_node}
 use Rattle.fort_certificate.specs.Checking.{between}
 use Rattle.fort_certificate.proofs.node.nodes.Given as goal
 

@@ -1,5 +1,5 @@
 use Rattle.std.proofs.Common.{length, ap, ◌∙◌, arith}
-use Rattle.fort_open_certificates.proofs.NodeForms.{tuple_symbol_not_bad}
+use Rattle.fort_certificate_theory.proofs.NodeForms.{tuple_symbol_not_bad}
 use Rattle.fort_certificate.specs.ReadView.{as_kind}
 use Rattle.fort_certificate.proofs.NodeLaws.{columns_more, columns_bad}
 use Rattle.fort_certificate.proofs.node.symbols.Goals as goal

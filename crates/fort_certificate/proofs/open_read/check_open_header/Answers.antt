@@ -1,5 +1,5 @@
 use Rattle.std.proofs.Common.{◌≡◌, false, true, refl}
-use Rattle.fort_open_certificates.specs.OpenFaults.{NoHeader}
+use Rattle.fort_certificate_theory.specs.OpenFaults.{NoHeader}
 use Rattle.fort_certificate.proofs.OpenHeaderLaws.{other_first, no_number, other_number, other_claim}
 use Rattle.fort_certificate.proofs.open_read.check_open_header.Goals as goal
 

@@ -1,7 +1,7 @@
 use Rattle.std.proofs.Common.{◌≡◌, false, true, refl, Some, sym, ◌∙◌, subst}
 use Rattle.fort_grammar.specs.Forms.{Form}
 use Rattle.fort_grammar.specs.Declarations.{as_list, IsHeaded}
-use Rattle.fort_open_certificates.specs.OpenForms.{node_word}
+use Rattle.fort_certificate_theory.specs.OpenForms.{node_word}
 use Rattle.fort_certificate.proofs.NodeLaws.{all_more}
 use Rattle.fort_certificate.proofs.StepsLaws.{form_at-list, none_behind}
 use Rattle.fort_certificate.proofs.open_read.first_node.Goals as goal

@@ -1,6 +1,6 @@
 use Rattle.std.specs.List.{AllByRecursion}
 use Rattle.fort_grammar.specs.Declarations.{as_list, IsHeaded}
-use Rattle.fort_open_certificates.specs.OpenForms.{node_word}
+use Rattle.fort_certificate_theory.specs.OpenForms.{node_word}
 use Rattle.fort_certificate.specs.Checking.{between}
 use Rattle.fort_certificate.proofs.open_read.first_node.Given as goal
 

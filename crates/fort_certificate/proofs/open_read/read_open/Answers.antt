@@ -2,9 +2,9 @@ use Rattle.std.proofs.Common.{◌≡◌, ◌+◌, ◌≤◌, length, drop, map, 
 use Rattle.std.proofs.lemmas.Option.{IfSome_then}
 use Rattle.std.proofs.lemmas.Result.{err_from_is_err_and}
 use Rattle.fort_grammar.specs.Declarations.{as_list}
-use Rattle.fort_open_certificates.specs.OpenForms.{step_version}
-use Rattle.fort_open_certificates.specs.OpenFaults.{IsBadOpenHeader, IsFirstOpenFault}
-use Rattle.fort_open_steps.specs.OpenView.{as_claim, as_node}
+use Rattle.fort_certificate_theory.specs.OpenForms.{step_version}
+use Rattle.fort_certificate_theory.specs.OpenFaults.{IsBadOpenHeader, IsFirstOpenFault}
+use Rattle.fort_steps.specs.OpenView.{as_claim, as_node}
 use Rattle.fort_steps.specs.StepView.{as_step}
 use Rattle.fort_certificate.specs.declared.fault.CertificateFault.TheVariants.{Memory}
 use Rattle.fort_certificate.specs.Checking.{HasBadStep, between}

@@ -1,8 +1,8 @@
 use Rattle.std.proofs.Common.{◌++◌, [], IfSome, IfNone, map, ap, sym, subst, ◌∙◌}
 use Rattle.std.proofs.lemmas.Result.{IfOk-weaker}
 use Rattle.fort_steps.specs.StepView.{as_step}
-use Rattle.fort_open_certificates.specs.OpenCertificates.{Found, Empty}
-use Rattle.fort_open_certificates.specs.OpenText.{nodes_text}
+use Rattle.fort_certificate_theory.specs.OpenCertificates.{Found, Empty}
+use Rattle.fort_certificate_theory.specs.OpenText.{nodes_text}
 use Rattle.fort_certificate.specs.OpenWriting.{IsTextFor}
 use Rattle.fort_certificate.proofs.LineLaws.{with_nodes}
 use Rattle.fort_certificate.proofs.OpenAgain.{text_for, both_ok}

@@ -1,6 +1,6 @@
 use Rattle.std.proofs.Common.{◌++◌, ◌∷◌, [], map, decimal, ap, ◌∙◌}
-use Rattle.fort_certificate_grammar.specs.CertificateText.{spaced}
-use Rattle.fort_open_certificates.specs.OpenText.{symbol_word}
+use Rattle.fort_certificate_theory.specs.CertificateText.{spaced}
+use Rattle.fort_certificate_theory.specs.OpenText.{symbol_word}
 use Rattle.fort_certificate.specs.Lines.{tails}
 use Rattle.fort_certificate.proofs.LineLaws.{node_line}
 use Rattle.fort_certificate.proofs.open_write.push_node.Goals as goal

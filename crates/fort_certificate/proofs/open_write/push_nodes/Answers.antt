@@ -1,8 +1,8 @@
 use Rattle.std.proofs.Common.{◌++◌, ap, subst, ◌∙◌, arith}
 use Rattle.std.specs.List.{AllByRecursion}
 use Rattle.std.proofs.lemmas.List.{take_all}
-use Rattle.fort_certificate_grammar.specs.CertificateText.{line_of}
-use Rattle.fort_open_certificates.specs.OpenText.{node_elements, nodes_text, CanNodeBeWritten}
+use Rattle.fort_certificate_theory.specs.CertificateText.{line_of}
+use Rattle.fort_certificate_theory.specs.OpenText.{node_elements, nodes_text, CanNodeBeWritten}
 use Rattle.fort_certificate.proofs.SmallLaws.{all_small_more}
 use Rattle.fort_certificate.proofs.LineLaws.{nodes_more}
 use Rattle.fort_certificate.proofs.open_write.push_nodes.Goals as goal

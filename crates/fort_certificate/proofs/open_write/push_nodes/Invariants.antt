@@ -1,6 +1,6 @@
 use Rattle.std.proofs.Common.{◌≡◌, ◌++◌, take}
 use Rattle.std.specs.List.{AllByRecursion}
-use Rattle.fort_open_certificates.specs.OpenText.{nodes_text, CanNodeBeWritten}
+use Rattle.fort_certificate_theory.specs.OpenText.{nodes_text, CanNodeBeWritten}
 use Rattle.fort_certificate.proofs.open_write.push_nodes.Given as goal
 
 abbrev pub invariant-loop-node : goal.invariant-loop-node

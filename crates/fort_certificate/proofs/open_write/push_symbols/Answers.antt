@@ -2,8 +2,8 @@ use Rattle.std.proofs.Common.{◌++◌, map, length, None, ap, subst, ◌∙◌,
 use Rattle.std.specs.List.{AllByRecursion}
 use Rattle.std.proofs.lemmas.List.{take_all}
 use Rattle.std.proofs.lemmas.Option.{slice_get_within, get_or_from_slice_get}
-use Rattle.fort_certificate_grammar.specs.CertificateText.{spaced}
-use Rattle.fort_open_certificates.specs.OpenText.{symbol_word, IsSmallSymbol}
+use Rattle.fort_certificate_theory.specs.CertificateText.{spaced}
+use Rattle.fort_certificate_theory.specs.OpenText.{symbol_word, IsSmallSymbol}
 use Rattle.fort_tuple_symbols.specs.Columns.{as_column}
 use Rattle.fort_certificate.specs.Lines.{gap}
 use Rattle.fort_certificate.proofs.SmallLaws.{all_small_more}

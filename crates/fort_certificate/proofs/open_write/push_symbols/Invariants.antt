@@ -1,7 +1,7 @@
 use Rattle.std.proofs.Common.{◌≡◌, ◌++◌, map, take}
 use Rattle.std.specs.List.{AllByRecursion}
-use Rattle.fort_certificate_grammar.specs.CertificateText.{spaced}
-use Rattle.fort_open_certificates.specs.OpenText.{symbol_word, IsSmallSymbol}
+use Rattle.fort_certificate_theory.specs.CertificateText.{spaced}
+use Rattle.fort_certificate_theory.specs.OpenText.{symbol_word, IsSmallSymbol}
 use Rattle.fort_certificate.proofs.open_write.push_symbols.Given as goal
 
 abbrev pub invariant-loop-column : goal.invariant-loop-column

@@ -1,5 +1,5 @@
 use Rattle.std.proofs.Common.{sym, subst}
-use Rattle.fort_certificate_grammar.specs.CertificateFaults.{AsForm, IsBadAt, NoWhich, NoVerdict}
+use Rattle.fort_certificate_theory.specs.CertificateFaults.{AsForm, IsBadAt, NoWhich, NoVerdict}
 use Rattle.fort_certificate.specs.declared.slot.Slot.{Slot}
 use Rattle.fort_certificate.specs.ReadView.{as_slot}
 use Rattle.fort_certificate.proofs.slot.check_slot.Goals as goal

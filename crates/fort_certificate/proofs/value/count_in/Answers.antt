@@ -1,5 +1,5 @@
 use Rattle.std.proofs.Common.{refl, false, true, ◌≡◌}
-use Rattle.fort_certificate_grammar.specs.CertificateFaults.{NotTwo, NoCount}
+use Rattle.fort_certificate_theory.specs.CertificateFaults.{NotTwo, NoCount}
 use Rattle.fort_certificate.proofs.ValueLaws.{finite_form, infinite_form, finite_bad, infinite_bad}
 use Rattle.fort_certificate.proofs.value.count_in.Goals as goal
 

@@ -1,4 +1,4 @@
-use Rattle.fort_certificate_grammar.specs.CertificateFaults.{NotThree, NoPair}
+use Rattle.fort_certificate_theory.specs.CertificateFaults.{NotThree, NoPair}
 use Rattle.fort_certificate.proofs.ValueLaws.{words_of_pair}
 use Rattle.fort_certificate.proofs.value.entry_in.Goals as goal
 

@@ -1,5 +1,5 @@
 use Rattle.fort_sexpr.specs.FormView.{word_ahead}
-use Rattle.fort_certificate_grammar.specs.CertificateFaults.{NoWord, NoNumber}
+use Rattle.fort_certificate_theory.specs.CertificateFaults.{NoWord, NoNumber}
 use Rattle.fort_certificate.proofs.value.number_in.Goals as goal
 
 pub returns-in_default-clause-err : goal.returns-in_default-clause-err

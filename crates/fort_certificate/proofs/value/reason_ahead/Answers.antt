@@ -1,5 +1,5 @@
 use Rattle.std.proofs.Common.{refl}
-use Rattle.fort_certificate_grammar.specs.CertificateForms.{AnyWord, KidsWord, RuleWord}
+use Rattle.fort_certificate_theory.specs.CertificateForms.{AnyWord, KidsWord, RuleWord}
 use Rattle.fort_certificate.proofs.value.reason_ahead.Goals as goal
 
 pub returns-then-is_ahead-clause-some : goal.returns-then-is_ahead-clause-some

@@ -1,6 +1,6 @@
 use Rattle.std.proofs.Common.{◌++◌, ◌∷◌, [], map, ap, ◌∙◌}
-use Rattle.fort_certificate_grammar.specs.CertificateForms.{which_word}
-use Rattle.fort_certificate_grammar.specs.CertificateText.{element_text, pair_element, index_elements}
+use Rattle.fort_certificate_theory.specs.CertificateForms.{which_word}
+use Rattle.fort_certificate_theory.specs.CertificateText.{element_text, pair_element, index_elements}
 use Rattle.fort_findings.specs.FindingView.{as_which, as_pair}
 use Rattle.fort_certificate.specs.VersionView.{as_version}
 use Rattle.fort_certificate.specs.Lines.{tails}

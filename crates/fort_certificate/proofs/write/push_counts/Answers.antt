@@ -1,6 +1,6 @@
 use Rattle.std.proofs.Common.{◌++◌, ◌∷◌, [], map, decimal, ap, ◌∙◌}
 use Rattle.fort_certificate.specs.VersionView.{as_version}
-use Rattle.fort_certificate_grammar.specs.CertificateText.{element_text, count_element}
+use Rattle.fort_certificate_theory.specs.CertificateText.{element_text, count_element}
 use Rattle.fort_findings.specs.FindingView.{as_count}
 use Rattle.fort_certificate.specs.Lines.{tails}
 use Rattle.fort_certificate.proofs.LineLaws.{counts_line}

@@ -1,7 +1,7 @@
 use Rattle.std.proofs.Common.{◌++◌, ◌∷◌, List, ℕ, map, get_or, ap, ◌∙◌, subst, arith}
 use Rattle.std.specs.List.{AllByRecursion}
 use Rattle.std.proofs.lemmas.List.{take_all}
-use Rattle.fort_certificate_grammar.specs.CertificateText.{IsSmallCount, element_text, count_element}
+use Rattle.fort_certificate_theory.specs.CertificateText.{IsSmallCount, element_text, count_element}
 use Rattle.fort_findings.specs.declared.count.Count.{Count}
 use Rattle.fort_findings.specs.declared.count.Count.TheVariants.{Finite}
 use Rattle.fort_findings.specs.FindingView.{as_count}

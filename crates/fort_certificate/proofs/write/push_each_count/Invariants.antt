@@ -1,6 +1,6 @@
 use Rattle.std.proofs.Common.{◌≡◌, ◌++◌, map, take}
 use Rattle.std.specs.List.{AllByRecursion}
-use Rattle.fort_certificate_grammar.specs.CertificateText.{IsSmallCount, element_text, count_element}
+use Rattle.fort_certificate_theory.specs.CertificateText.{IsSmallCount, element_text, count_element}
 use Rattle.fort_findings.specs.FindingView.{as_count}
 use Rattle.fort_certificate.specs.Lines.{tails}
 use Rattle.fort_certificate.proofs.write.push_each_count.Given as goal

@@ -1,6 +1,6 @@
 use Rattle.std.proofs.Common.{◌≡◌, ◌++◌, map, take}
 use Rattle.std.specs.List.{AllByRecursion}
-use Rattle.fort_certificate_grammar.specs.CertificateText.{IsSmallPair, element_text, pair_element}
+use Rattle.fort_certificate_theory.specs.CertificateText.{IsSmallPair, element_text, pair_element}
 use Rattle.fort_findings.specs.FindingView.{as_pair}
 use Rattle.fort_certificate.specs.Lines.{tails}
 use Rattle.fort_certificate.proofs.write.push_entries.Given as goal

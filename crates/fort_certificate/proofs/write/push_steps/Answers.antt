@@ -2,7 +2,7 @@ use Rattle.std.proofs.Common.{◌++◌, ap, subst, ◌∙◌, arith, map}
 use Rattle.std.specs.List.{AllByRecursion}
 use Rattle.std.proofs.lemmas.List.{take_all}
 use Rattle.fort_certificate.specs.VersionView.{as_version}
-use Rattle.fort_certificate_grammar.specs.CertificateText.{line_of, step_elements, steps_text}
+use Rattle.fort_certificate_theory.specs.CertificateText.{line_of, step_elements, steps_text}
 use Rattle.fort_steps.specs.StepView.{as_step}
 use Rattle.fort_certificate.specs.Again.{HasSmallNumbers}
 use Rattle.fort_certificate.proofs.SmallLaws.{small_more}

@@ -1,6 +1,6 @@
 use Rattle.std.proofs.Common.{◌≡◌, ◌++◌, map, take}
 use Rattle.std.specs.List.{AllByRecursion}
-use Rattle.fort_certificate_grammar.specs.CertificateText.{steps_text}
+use Rattle.fort_certificate_theory.specs.CertificateText.{steps_text}
 use Rattle.fort_steps.specs.StepView.{as_step}
 use Rattle.fort_certificate.specs.Again.{HasSmallNumbers}
 use Rattle.fort_certificate.specs.VersionView.{as_version}

@@ -1,6 +1,6 @@
 use Rattle.std.proofs.Common.{◌≡◌, ◌++◌, ap, sym, subst, ◌∙◌, map}
 use Rattle.fort_certificate.specs.VersionView.{as_version}
-use Rattle.fort_certificate_grammar.specs.CertificateText.{line_of, header_elements, steps_text, certificate_text}
+use Rattle.fort_certificate_theory.specs.CertificateText.{line_of, header_elements, steps_text, certificate_text}
 use Rattle.fort_steps.specs.StepView.{as_step}
 use Rattle.fort_certificate_texts.proofs.Again.{behind_again}
 use Rattle.fort_certificate.specs.Again.{IsReadBehind}

@@ -1,5 +1,5 @@
 use Rattle.std.proofs.Common.{◌≡◌, ◌≤◌, true, length, refl, ap, sym, ◌∙◌, subst, arith}
-use Rattle.fort_interchange.specs.MergeOutcomes.{Merges, IsRight}
+use Rattle.fort_tables.specs.MergeOutcomes.{Merges, IsRight}
 use Rattle.fort_check_steps.specs.Room.{most_states}
 use Rattle.fort_check_steps.specs.Held.{room_table}
 use Rattle.fort_check_steps.specs.declared.room.PartRoom.{PartRoom}

@@ -1,5 +1,5 @@
 use Rattle.std.proofs.Common.{◌≡◌, ℕ, ◌<◌, vec_capacity}
-use Rattle.fort_interchange.specs.MergeOutcomes.{IsClassAt}
+use Rattle.fort_tables.specs.MergeOutcomes.{IsClassAt}
 use Rattle.fort_check_merges.specs.GivenMerges.{table_in}
 use Rattle.fort_check_merges.specs.Leaders.{AreLeadersTo}
 use Rattle.fort_check_merges.proofs.classes.check_states.Given as goal

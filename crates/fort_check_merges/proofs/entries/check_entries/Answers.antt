@@ -4,8 +4,8 @@ use Rattle.std.proofs.lemmas.List.{get_or_default}
 use Rattle.fort_tables.specs.Entries.{Entry, no_entry}
 use Rattle.fort_tables.specs.Tables.{IsTableEntry}
 use Rattle.fort_tables.proofs.NumberLaws.{listed_target}
-use Rattle.fort_interchange.specs.MergeOutcomes.{Merges, IsRight, IsWholeAt}
-use Rattle.fort_interchange.proofs.MergeOutcomeLaws.{IsMerge-tested}
+use Rattle.fort_tables.specs.MergeOutcomes.{Merges, IsRight, IsWholeAt}
+use Rattle.fort_tables.proofs.MergeOutcomeLaws.{IsMerge-tested}
 use Rattle.fort_check_merges.specs.GivenMerges.{table_in, listed_in}
 use Rattle.fort_check_merges.specs.KeptTargets.{kept_target, kept_targets}
 use Rattle.fort_check_merges.proofs.Answers.{split_entry}

@@ -1,6 +1,6 @@
 use Rattle.std.proofs.Common.{◌≡◌, ℕ, ◌<◌, ◌≤◌, take, length, get_or, vec_capacity}
 use Rattle.fort_tables.specs.Entries.{no_entry}
-use Rattle.fort_interchange.specs.MergeOutcomes.{IsWholeAt}
+use Rattle.fort_tables.specs.MergeOutcomes.{IsWholeAt}
 use Rattle.fort_check_merges.specs.GivenMerges.{table_in, listed_in}
 use Rattle.fort_check_merges.specs.KeptTargets.{kept_targets}
 use Rattle.fort_check_steps.proofs.ListedWalks.{entry_before}

@@ -6,7 +6,7 @@ use Rattle.std.proofs.lemmas.Slice.Eq.{slice_eq-Decides}
 use Rattle.fort_tables.specs.Entries.{entry}
 use Rattle.fort_tables.specs.Tables.{IsTableEntry}
 use Rattle.fort_tables.proofs.EqualTests.{equal_from_test, apart_from_test}
-use Rattle.fort_interchange.specs.Merges.{class_of, leader, led}
+use Rattle.fort_tables.specs.Merges.{class_of, leader, led}
 use Rattle.fort_check_merges.specs.GivenMerges.{table_in}
 use Rattle.fort_check_merges.proofs.LedEntries.{front_of, same_led, led_entry, led_is_entry, kept_led, kept_unled}
 use Rattle.fort_check_merges.proofs.entries.is_whole.Goals as goal

@@ -1,7 +1,7 @@
 use Rattle.std.proofs.Common.{◌<◌, set, length, get_or, ap, sym, ◌∙◌, arith, ⊎_elim}
 use Rattle.std.proofs.lemmas.Bool.{cases_eq}
 use Rattle.std.proofs.lemmas.List.{length-set, get_or-set_same, get_or-set_other}
-use Rattle.fort_interchange.specs.Merges.{leader}
+use Rattle.fort_tables.specs.Merges.{leader}
 use Rattle.fort_check_merges.proofs.LeaderLaws.{leader_at}
 use Rattle.fort_check_merges.proofs.entries.put_leaders.Goals as goal
 

@@ -1,5 +1,5 @@
 use Rattle.std.proofs.Common.{◌≡◌, ℕ, ◌<◌, length, get_or}
-use Rattle.fort_interchange.specs.Merges.{leader}
+use Rattle.fort_tables.specs.Merges.{leader}
 use Rattle.fort_check_merges.proofs.entries.put_leaders.Given as goal
 
 abbrev pub invariant-loop-j : goal.invariant-loop-j

@@ -1,6 +1,6 @@
 use Rattle.std.proofs.Common.{map, sym, subst}
 use Rattle.fort_findings.specs.FindingView.{as_pair}
-use Rattle.fort_in_order.specs.ClosureSteps.{IsClosureOutcome}
+use Rattle.fort_certificate_theory.specs.ClosureSteps.{IsClosureOutcome}
 use Rattle.fort_check_steps.specs.StepAnswers.{outcome_of}
 use Rattle.fort_check_steps.proofs.PairStepLaws.{IsClosureOutcome-closed, IsClosureOutcome-open}
 use Rattle.fort_check_steps.proofs.closure.check_closure.Goals as goal

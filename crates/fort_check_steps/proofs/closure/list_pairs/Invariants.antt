@@ -1,6 +1,6 @@
 use Rattle.std.proofs.Common.{◌≡◌, map, length}
 use Rattle.fort_findings.specs.FindingView.{as_pair}
-use Rattle.fort_in_order.specs.ClosureSteps.{ClosureRules}
+use Rattle.fort_certificate_theory.specs.ClosureSteps.{ClosureRules}
 use Rattle.fort_check_steps.specs.PairSteps.{IsPairRules, AreTaken}
 use Rattle.fort_check_steps.proofs.closure.list_pairs.Given as goal
 

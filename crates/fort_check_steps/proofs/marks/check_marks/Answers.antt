@@ -1,9 +1,9 @@
 use Rattle.std.proofs.Common.{◌≡◌, List, ℕ, map, length, vec_len, sym, ap, subst, ◌∙◌, arith}
 use Rattle.std.proofs.lemmas.List.{length-map, get_or-map}
-use Rattle.fort_counts.specs.Counts as counts
-use Rattle.fort_in_order.specs.Outcomes as outcomes
-use Rattle.fort_in_order.specs.Outcomes.{Fails}
-use Rattle.fort_in_order.specs.CountSteps.{IsCountOutcome, NotAsMany}
+use Rattle.fort_tables.specs.Counts as counts
+use Rattle.fort_certificate_theory.specs.Outcomes as outcomes
+use Rattle.fort_certificate_theory.specs.Outcomes.{Fails}
+use Rattle.fort_certificate_theory.specs.CountSteps.{IsCountOutcome, NotAsMany}
 use Rattle.fort_findings.specs.declared.count.Count.TheVariants.{Finite}
 use Rattle.fort_findings.specs.FindingView.{as_count}
 use Rattle.fort_check_steps.specs.StepAnswers.{outcome_of}

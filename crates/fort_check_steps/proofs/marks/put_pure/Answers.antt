@@ -1,6 +1,6 @@
 use Rattle.std.proofs.Common.{◌≤◌, ◌+◌, ℕ, List, Vec, Global, length, vec_capacity, sym, subst, ◌∙◌, ap, arith}
 use Rattle.std.proofs.lemmas.List.{length_push}
-use Rattle.fort_operations.specs.Projections.{ArePureBelow}
+use Rattle.fort_tables.specs.Projections.{ArePureBelow}
 use Rattle.fort_check_steps.proofs.PureStates.{pure_left, pure_push, pure_tested, impure_tested}
 use Rattle.fort_check_steps.proofs.marks.put_pure.Goals as goal
 use Rattle.fort_check_steps.proofs.marks.put_pure.Goals.{then-presence-column, else-presence-column}

@@ -1,5 +1,5 @@
 use Rattle.std.proofs.Common.{◌≡◌, ◌≤◌, length, vec_capacity}
-use Rattle.fort_operations.specs.Projections.{ArePureBelow}
+use Rattle.fort_tables.specs.Projections.{ArePureBelow}
 use Rattle.fort_check_steps.proofs.marks.put_pure.Given as goal
 
 abbrev pub invariant-loop-q : goal.invariant-loop-q

@@ -2,7 +2,7 @@ use Rattle.std.proofs.Common.{◌≡◌, ◌<◌, ◌+◌, ◌^◌, ℕ, Bool, L
 use Rattle.std.proofs.lemmas.List.{length-map}
 use Rattle.fort_tables.specs.Tuples.{presence}
 use Rattle.fort_tables.specs.Entries.{Entry, no_entry}
-use Rattle.fort_counts.specs.Counts.{count_at}
+use Rattle.fort_tables.specs.Counts.{count_at}
 use Rattle.fort_findings.specs.FindingView.{as_count}
 use Rattle.fort_check_steps.specs.Marks.{mark_in, entry_next, IsSeenTo}
 use Rattle.fort_check_steps.proofs.ListedWalks.{advanced, before_more}

@@ -1,7 +1,7 @@
 use Rattle.std.proofs.Common.{◌<◌, map, length, get_or, false, sym, ◌∙◌, arith}
 use Rattle.std.proofs.lemmas.List.{get_or-map}
-use Rattle.fort_counts.specs.Counts as counts
-use Rattle.fort_counts.specs.Counts.{count_at}
+use Rattle.fort_tables.specs.Counts as counts
+use Rattle.fort_tables.specs.Counts.{count_at}
 use Rattle.fort_findings.specs.declared.count.Count.TheVariants.{Finite}
 use Rattle.fort_findings.specs.FindingView.{as_count}
 use Rattle.fort_check_steps.specs.Marks.{held_next}

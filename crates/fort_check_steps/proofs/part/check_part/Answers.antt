@@ -1,5 +1,5 @@
 use Rattle.std.proofs.Common.{false, arith}
-use Rattle.fort_in_order.proofs.PartOutcomes.{outcome_one}
+use Rattle.fort_certificate_theory.proofs.PartOutcomes.{outcome_one}
 use Rattle.fort_check_steps.specs.declared.room.PartRoom.{PartRoom}
 use Rattle.fort_check_steps.proofs.TableLaws.{right_held, right_table}
 use Rattle.fort_check_steps.proofs.part.check_part.Goals as goal

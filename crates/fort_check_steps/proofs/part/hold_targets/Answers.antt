@@ -1,7 +1,7 @@
 use Rattle.std.proofs.Common.{ℕ, map, sym, subst, ◌∙◌, arith, rules}
 use Rattle.fort_tables.specs.Labels.{first_word}
-use Rattle.fort_laid_entries.specs.Laid.{all_entries}
-use Rattle.fort_in_order.specs.PartSteps.{IsRight}
+use Rattle.fort_tables.specs.Laid.{all_entries}
+use Rattle.fort_certificate_theory.specs.PartSteps.{IsRight}
 use Rattle.fort_check_steps.specs.StateLabelsView.{HasSpace}
 use Rattle.fort_check_steps.specs.Room.{most_states}
 use Rattle.fort_check_steps.proofs.RoomLaws.{as_spacious, has_space}

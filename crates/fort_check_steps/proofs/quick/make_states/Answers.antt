@@ -1,7 +1,7 @@
 use Rattle.std.proofs.Common.{◌<◌, ◌++◌, ◌∷◌, [], length, ap, refl, subst, sym, ◌∙◌, arith}
 use Rattle.fort_tables.specs.Entries.{Entry}
 use Rattle.fort_tables.specs.LabelRules.{IsLabelRule}
-use Rattle.fort_in_order_laws.proofs.EntryWalks.{IsNextOf}
+use Rattle.fort_certificate_theory.proofs.EntryWalks.{IsNextOf}
 use Rattle.fort_check_steps.proofs.TargetLaws.{next_of, label_rule}
 use Rattle.fort_check_steps.proofs.GuessLaws.{none_made, new_guess_room, made, made_states, made_few}
 use Rattle.fort_check_steps.proofs.RoomLaws.{as_spacious}

@@ -1,8 +1,8 @@
 use Rattle.std.proofs.Common.{◌≡◌, ◌+◌, max, take, get_or, refl, ap, arith, ⊎_elim}
 use Rattle.std.proofs.lemmas.Bool.{cases_eq}
 use Rattle.fort_tables.specs.Entries.{stage}
-use Rattle.fort_in_order.specs.PartSteps.{states_before}
-use Rattle.fort_in_order.proofs.StageLaws.{states_step}
+use Rattle.fort_certificate_theory.specs.PartSteps.{states_before}
+use Rattle.fort_certificate_theory.proofs.StageLaws.{states_step}
 use Rattle.fort_check_steps.proofs.room.states_named.Goals as goal
 
 pub loop-target-preserved : goal.loop-target-preserved

@@ -1,5 +1,5 @@
 use Rattle.std.proofs.Common.{◌≡◌, ◌+◌, ◌<◌}
-use Rattle.fort_in_order.specs.PartSteps.{states_before}
+use Rattle.fort_certificate_theory.specs.PartSteps.{states_before}
 use Rattle.fort_check_steps.proofs.room.states_named.Given as goal
 
 abbrev pub invariant-loop-target : goal.invariant-loop-target

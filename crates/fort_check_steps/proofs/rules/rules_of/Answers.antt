@@ -4,7 +4,7 @@ use Rattle.fort_theory.specs.Sides.{at_index}
 use Rattle.fort_theory.specs.Patterns.{Pattern, Pair}
 use Rattle.fort_terms.specs.PatternView.{as_pattern}
 use Rattle.fort_tree_automata.proofs.SubpatternsClosed.{IsClosedInOrder-subpatterns}
-use Rattle.fort_in_order.specs.ClosureSteps.{ClosureRules}
+use Rattle.fort_certificate_theory.specs.ClosureSteps.{ClosureRules}
 use Rattle.fort_label_bits.proofs.SidesListed.{Contains-left_side, Contains-right_side}
 use Rattle.fort_check_steps.proofs.rules.rules_of.Goals as goal
 

@@ -2,11 +2,11 @@ use Rattle.std.proofs.Common.{◌≡◌, ℕ, ◌++◌, ◌∷◌, [], map, leng
 use Rattle.fort_tables.specs.Entries.{Entry}
 use Rattle.fort_tables.specs.Labels.{first_word}
 use Rattle.fort_tables.specs.LabelRules.{IsLabelRule}
-use Rattle.fort_laid_entries.specs.Laid.{all_entries}
-use Rattle.fort_in_order.specs.Outcomes.{StepOutcome}
-use Rattle.fort_in_order.specs.PartSteps.{IsPartOutcome, IsRightPart, IsRight}
+use Rattle.fort_tables.specs.Laid.{all_entries}
+use Rattle.fort_certificate_theory.specs.Outcomes.{StepOutcome}
+use Rattle.fort_certificate_theory.specs.PartSteps.{IsPartOutcome, IsRightPart, IsRight}
 use Rattle.fort_check_steps.specs.StepAnswers.{outcome_of}
-use Rattle.fort_in_order_laws.proofs.EntryWalks.{IsNextOf}
+use Rattle.fort_certificate_theory.proofs.EntryWalks.{IsNextOf}
 use Rattle.fort_check_steps.proofs.TargetLaws.{IsAfter, after_none, next_of, last_of, new_state_room, refused, too_many, too_few, right_all, taken, few_states, few_presences, right_states, label_rule}
 use Rattle.fort_check_steps.proofs.RoomLaws.{as_spacious}
 use Rattle.fort_check_steps.proofs.targets.check_targets.Goals as goal

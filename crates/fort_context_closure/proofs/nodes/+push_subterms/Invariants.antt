@@ -1,6 +1,6 @@
 use Rattle.std.proofs.Common.{◌≡◌, ◌++◌, map, take}
 use Rattle.fort_theory.specs.Trees.{trees}
-use Rattle.fort_atom_labels.specs.Subterms.{subterms_among}
+use Rattle.fort_alike.specs.Subterms.{subterms_among}
 use Rattle.fort_context_closure.proofs.nodes.+push_subterms.Given as goal
 
 abbrev pub invariant-loop-kid : goal.invariant-loop-kid

@@ -1,6 +1,6 @@
 use Rattle.std.proofs.Common.{◌≡◌, List, take}
 use Rattle.fort_theory.specs.Trees.{Tree, trees}
-use Rattle.fort_atom_labels.specs.TermRule.{numbers}
+use Rattle.fort_alike.specs.TermRule.{numbers}
 use Rattle.fort_context_closure.specs.TermNodes.{AreNumbersIn}
 use Rattle.fort_context_closure.proofs.nodes.node_of.Given as goal
 

@@ -2,7 +2,7 @@ use Rattle.std.proofs.Common.{ap, sym, ◌∙◌, ◌++◌, map, get_or}
 use Rattle.std.proofs.lemmas.Result.{on_ok_weaker}
 use Rattle.fort_dues.specs.DueView.{as_due}
 use Rattle.std.specs.Prelude.{not}
-use Rattle.fort_cores.specs.Cores as core
+use Rattle.fort_theory.specs.Cores as core
 use Rattle.fort_outline.specs.Roots.{root_core}
 use Rattle.fort_dues.proofs.DueLists.{plain_root, columns_there, answer_value, answer_turned, answer_part, due_put, none_put}
 use Rattle.fort_dues.proofs.dues.push_answer.Goals as goal

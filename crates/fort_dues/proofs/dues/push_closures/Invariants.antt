@@ -1,5 +1,5 @@
 use Rattle.std.proofs.Common.{◌≡◌, ◌++◌, map}
-use Rattle.fort_in_order.specs.Dues.{closures_due}
+use Rattle.fort_certificate_theory.specs.Dues.{closures_due}
 use Rattle.fort_outline.specs.Roots.{cores_of}
 use Rattle.fort_dues.specs.DueView.{as_due}
 use Rattle.fort_dues.proofs.dues.push_closures.Given as goal

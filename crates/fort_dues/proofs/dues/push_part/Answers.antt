@@ -1,6 +1,6 @@
 use Rattle.std.proofs.Common.{map}
 use Rattle.std.proofs.lemmas.Result.{on_ok_weaker}
-use Rattle.fort_in_order.specs.Dues.{counts_due, answer_due}
+use Rattle.fort_certificate_theory.specs.Dues.{counts_due, answer_due}
 use Rattle.fort_outline.specs.Roots.{root_core}
 use Rattle.fort_dues.specs.DueView.{as_due}
 use Rattle.fort_dues.proofs.DueLists.{regroup}

@@ -1,8 +1,8 @@
 use Rattle.std.proofs.Common.{◌≡◌, ◌<◌, ◌++◌, ℕ, Bool, false, length, take, map, get_or, arith, ap, ◌∙◌}
 use Rattle.std.proofs.lemmas.List.{get_or_default, take_all}
-use Rattle.fort_cores.specs.Cores as core
+use Rattle.fort_theory.specs.Cores as core
 use Rattle.fort_parts.specs.PartColumns.{columns_of}
-use Rattle.fort_in_order.specs.Dues.{parts_due, counts_due, answer_due}
+use Rattle.fort_certificate_theory.specs.Dues.{parts_due, counts_due, answer_due}
 use Rattle.fort_outline.specs.Roots.{root_core}
 use Rattle.fort_outline.specs.Outlines.{parts_in}
 use Rattle.fort_dues.specs.DueView.{as_due}

@@ -1,5 +1,5 @@
 use Rattle.std.proofs.Common.{◌≡◌, ◌++◌, false, map, take, get_or}
-use Rattle.fort_in_order.specs.Dues.{parts_due}
+use Rattle.fort_certificate_theory.specs.Dues.{parts_due}
 use Rattle.fort_outline.specs.Outlines.{parts_in}
 use Rattle.fort_dues.specs.DueView.{as_due}
 use Rattle.fort_dues.proofs.dues.push_parts.Given as goal

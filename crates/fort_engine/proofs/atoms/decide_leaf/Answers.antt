@@ -1,7 +1,7 @@
 use Rattle.std.proofs.Common.{sym, subst}
 use Rattle.std.specs.Prelude.{Contains}
-use Rattle.fort_cores.specs.Cores as core
-use Rattle.fort_cores.specs.Parts.{HasManyRootsIn}
+use Rattle.fort_theory.specs.Cores as core
+use Rattle.fort_theory.specs.Parts.{HasManyRootsIn}
 use Rattle.fort_parts.specs.DecidedCores.{IsAtomOver}
 use Rattle.fort_outline.specs.LeafView.{as_atom}
 use Rattle.fort_engine.specs.Deciding.{IsDecision}

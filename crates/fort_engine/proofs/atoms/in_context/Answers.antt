@@ -1,4 +1,4 @@
-use Rattle.fort_cores.specs.Cores as core
+use Rattle.fort_theory.specs.Cores as core
 use Rattle.fort_relations.specs.HolesView.{as_hole_number, as_hole_place}
 use Rattle.fort_relations.specs.RexView.{as_expression}
 use Rattle.fort_engine.proofs.AnswerLaws.{AreLabelsFor-Expression}

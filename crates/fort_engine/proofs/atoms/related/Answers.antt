@@ -1,4 +1,4 @@
-use Rattle.fort_cores.specs.Cores as core
+use Rattle.fort_theory.specs.Cores as core
 use Rattle.fort_relations.specs.RelView.{as_rel}
 use Rattle.fort_engine.proofs.AnswerLaws.{AreLabelsFor-Atom}
 use Rattle.fort_engine.proofs.atoms.related.Goals as goal

@@ -1,4 +1,4 @@
-use Rattle.fort_cores.specs.Cores as core
+use Rattle.fort_theory.specs.Cores as core
 use Rattle.fort_engine.proofs.AnswerLaws.{AreLabelsFor-Is}
 use Rattle.fort_engine.proofs.atoms.this_term.Goals as goal
 

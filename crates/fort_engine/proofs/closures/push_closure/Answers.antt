@@ -1,6 +1,6 @@
 use Rattle.std.proofs.Common.{sym, subst}
 use Rattle.fort_theory.specs.Sides.{at_index}
-use Rattle.fort_cores.specs.Cores.{Rel}
+use Rattle.fort_theory.specs.Cores.{Rel}
 use Rattle.fort_outline.specs.Roots.{cores_of}
 use Rattle.fort_findings.specs.FindingView.{as_which}
 use Rattle.fort_context_closure.specs.ClosedAtoms.{ListsPasses}

@@ -1,8 +1,8 @@
 use Rattle.std.proofs.Common.{◌≡◌, ◌<◌, map, subst, sym, ap, ◌∙◌, arith, refl}
-use Rattle.fort_cores.specs.Cores as core
+use Rattle.fort_theory.specs.Cores as core
 use Rattle.fort_tables.specs.Tables.{listed_table}
-use Rattle.fort_counts.specs.Counts.{count_at}
-use Rattle.fort_counts.proofs.TellsLaws.{TellsMany-marks}
+use Rattle.fort_tables.specs.Counts.{count_at}
+use Rattle.fort_tables.proofs.TellsLaws.{TellsMany-marks}
 use Rattle.fort_findings.specs.FindingView.{as_count}
 use Rattle.fort_infinity.specs.ManyCounts.{is_many}
 use Rattle.fort_parts.specs.PartColumns.{columns_of}

@@ -1,5 +1,5 @@
 use Rattle.std.proofs.Common.{◌≡◌, ◌+◌, ◌<◌, ◌∷◌, ◌++◌, [], Ok, Err, Some, None, sym, ap, subst, ◌∙◌, arith, refl, length, get_or, length-append}
-use Rattle.fort_cores.specs.Kinds.{kind_of}
+use Rattle.fort_theory.specs.Kinds.{kind_of}
 use Rattle.fort_explore.specs.declared.table.ExploreFault.TheVariants.{Over}
 use Rattle.fort_outline.specs.Outlines.{parts_in, core_at}
 use Rattle.fort_outline.specs.declared.root.Root.TheVariants.{True}

@@ -1,8 +1,8 @@
 use Rattle.std.proofs.Common.{Ok, refl, subst, get_or, arith}
 use Rattle.std.specs.Prelude.{Contains}
 use Rattle.std.proofs.lemmas.List.Elements.{Contains-get_or}
-use Rattle.fort_cores.specs.Cores as core
-use Rattle.fort_cores.specs.Parts.{BindsFree, HasManyRootsAt}
+use Rattle.fort_theory.specs.Cores as core
+use Rattle.fort_theory.specs.Parts.{BindsFree, HasManyRootsAt}
 use Rattle.fort_parts.specs.DecidedCores.{IsOverSystem}
 use Rattle.fort_outline.specs.Outlines.{parts_in}
 use Rattle.fort_outline.proofs.RootLaws.{length-cores_of}

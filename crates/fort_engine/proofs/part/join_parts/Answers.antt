@@ -1,5 +1,5 @@
 use Rattle.std.proofs.Common.{◌≡◌, vec_items, ap, ◌∙◌, ◌<◌, List, length, get_or, arith}
-use Rattle.fort_cores.specs.Cores as core
+use Rattle.fort_theory.specs.Cores as core
 use Rattle.fort_parts.specs.PartColumns.{columns_of}
 use Rattle.fort_outline.specs.Outlines.{AreColumnsOf, parts_in}
 use Rattle.fort_engine.proofs.OperandLaws.{first_of_two, second_of_two, kept_below, columns_below, operand_there, AreJoined-parts}

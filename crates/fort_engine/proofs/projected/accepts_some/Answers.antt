@@ -1,6 +1,6 @@
 use Rattle.std.proofs.Common.{arith, sym, length}
 use Rattle.fort_tables.specs.Tables.{listed_table}
-use Rattle.fort_operations.proofs.SearchLaws.{below_found}
+use Rattle.fort_tables.proofs.SearchLaws.{below_found}
 use Rattle.fort_engine.proofs.projected.accepts_some.Goals as goal
 
 pub returns-then-is_final : goal.returns-then-is_final

@@ -1,6 +1,6 @@
 use Rattle.std.proofs.Common.{◌≡◌, false}
 use Rattle.fort_tables.specs.Tables.{listed_table}
-use Rattle.fort_operations.specs.Projections.{some_below}
+use Rattle.fort_tables.specs.Projections.{some_below}
 use Rattle.fort_engine.proofs.projected.accepts_some.Given as goal
 
 abbrev pub invariant-loop-q : goal.invariant-loop-q

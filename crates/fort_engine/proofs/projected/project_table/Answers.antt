@@ -1,5 +1,5 @@
 use Rattle.std.proofs.Common.{subst, sym, ◌∙◌, ◌<◌, ap}
-use Rattle.fort_cores.specs.Cores as core
+use Rattle.fort_theory.specs.Cores as core
 use Rattle.fort_tables.specs.Tables.{listed_table}
 use Rattle.fort_engine.proofs.AnswerLaws.{bound_column, bound_within, AreLabelsFor-Exists}
 use Rattle.fort_engine.proofs.projected.project_table.Goals as goal

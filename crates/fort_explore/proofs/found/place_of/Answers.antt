@@ -1,6 +1,6 @@
 use Rattle.std.proofs.Common.{ap, sym, ◌∙◌, subst, length, arith, List, ℕ, [], ◌∷◌, ◌++◌, get_or}
 use Rattle.fort_tables.specs.Entries.{Entry, AreNodes}
-use Rattle.fort_explore.specs.RowsView.{Labels}
+use Rattle.fort_labels.specs.RowsView.{Labels}
 use Rattle.fort_explore.proofs.KnownLaws.{known_labels}
 use Rattle.fort_explore.proofs.PlaceLaws.{ready_nodes, placed_old, placed_new}
 use Rattle.fort_explore.proofs.found.place_of.Goals as goal

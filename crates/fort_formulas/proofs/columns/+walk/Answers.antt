@@ -1,10 +1,10 @@
 use Rattle.std.proofs.Common.{◌≡◌, ◌↔◌, IsTrue, false, ◌++◌, ◌==◌, not, filter, rules, inl, inr, refl, ap, ◌∙◌}
 use Rattle.std.proofs.lemmas.Fn.{filter_same}
 use Rattle.std.proofs.lemmas.Result.{IfOk-weaker}
-use Rattle.fort_cores.specs.Cores as theory
-use Rattle.fort_cores.specs.Parts.{AreColumns, HasManyRootsAt}
-use Rattle.fort_cores.proofs.ColumnLaws.{AreColumns-True, AreColumns-Normal, AreColumns-IsTerm, AreColumns-Related, AreColumns-InContext, AreColumns-same, AreColumns-two, AreColumns-bound}
-use Rattle.fort_cores.proofs.TooWideLaws.{IsTooWide-same_iff, tells-leaf, tells-one, tells-two}
+use Rattle.fort_theory.specs.Cores as theory
+use Rattle.fort_theory.specs.Parts.{AreColumns, HasManyRootsAt}
+use Rattle.fort_theory.proofs.ColumnLaws.{AreColumns-True, AreColumns-Normal, AreColumns-IsTerm, AreColumns-Related, AreColumns-InContext, AreColumns-same, AreColumns-two, AreColumns-bound}
+use Rattle.fort_theory.proofs.TooWideLaws.{IsTooWide-same_iff, tells-leaf, tells-one, tells-two}
 use Rattle.fort_relations.specs.RelView.{as_rel}
 use Rattle.fort_relations.specs.HolesView.{as_hole_number, as_hole_place}
 use Rattle.fort_relations.specs.RexView.{as_expression}

@@ -1,5 +1,5 @@
 use Rattle.std.proofs.Common.{[], ◌∷◌}
-use Rattle.fort_expressions.specs.Expressions.{root_indices}
+use Rattle.fort_theory.specs.Expressions.{root_indices}
 use Rattle.fort_relations.specs.RexView.{as_expression}
 use Rattle.fort_formulas.proofs.FormulaIndices.{first_above-is, first_above-within, indices-atom, indices-one, indices-two, first-left, first-right, within-both}
 use Rattle.fort_formulas.proofs.indices.+index_above.Goals as goal

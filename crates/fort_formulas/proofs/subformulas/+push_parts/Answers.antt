@@ -1,8 +1,8 @@
 use Rattle.std.proofs.Common.{◌≡◌, List, ◌++◌, ◌∷◌, [], map, sym, ap, ◌∙◌, append_assoc, subst}
 use Rattle.std.proofs.lemmas.Result.{on_ok_weaker}
-use Rattle.fort_cores.specs.Cores as theory
-use Rattle.fort_cores.specs.EachOnce.{AreEachOnce}
-use Rattle.fort_cores.specs.Parts.{postorder}
+use Rattle.fort_theory.specs.Cores as theory
+use Rattle.fort_theory.specs.EachOnce.{AreEachOnce}
+use Rattle.fort_theory.specs.Parts.{postorder}
 use Rattle.fort_formulas.specs.CoreView.{as_core}
 use Rattle.fort_formulas.proofs.CoreShapes.{postorder-one, postorder-two}
 use Rattle.fort_formulas.proofs.subformulas.+push_parts.Goals as goal

@@ -1,6 +1,6 @@
 use Rattle.std.proofs.Common.{[]}
-use Rattle.fort_cores.specs.Cores as theory
-use Rattle.fort_cores.proofs.EachOnceLaws.{AreEachOnce-nil}
+use Rattle.fort_theory.specs.Cores as theory
+use Rattle.fort_theory.proofs.EachOnceLaws.{AreEachOnce-nil}
 use Rattle.fort_formulas.proofs.subformulas.parts.Goals as goal
 
 pub returns : goal.returns

@@ -1,7 +1,7 @@
 use Rattle.std.proofs.Common.{◌≡◌, ◌++◌, ◌∷◌, [], map, ap, ◌∙◌}
 use Rattle.std.proofs.lemmas.Bool.{both_ways}
 use Rattle.std.proofs.lemmas.List.{map-append}
-use Rattle.fort_cores.proofs.EachOnceLaws.{AreEachOnce-there, AreEachOnce-new}
+use Rattle.fort_theory.proofs.EachOnceLaws.{AreEachOnce-there, AreEachOnce-new}
 use Rattle.fort_formulas.specs.CoreView.{as_core}
 use Rattle.fort_formulas.proofs.CoreMembers.{contains-Decides}
 use Rattle.fort_formulas.proofs.subformulas.push_new.Goals as goal

@@ -1,4 +1,4 @@
-use Rattle.fort_termination.specs.RightGround.{HasRightGroundPairsAt}
+use Rattle.fort_theory.specs.RightGround.{HasRightGroundPairsAt}
 use Rattle.fort_formulas.proofs.FormulaTerminations.{terminations-two, first-left, first-right}
 use Rattle.fort_formulas.proofs.terminations.+not_right_ground.Goals as goal
 

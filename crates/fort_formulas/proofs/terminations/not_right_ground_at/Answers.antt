@@ -1,5 +1,5 @@
 use Rattle.std.proofs.Common.{◌<◌, length, arith, sym, ◌∙◌, true≢false}
-use Rattle.fort_termination.specs.RightGround.{HasRightGroundPairsAt}
+use Rattle.fort_theory.specs.RightGround.{HasRightGroundPairsAt}
 use Rattle.fort_logic.proofs.TerminationMentions.{AreAll-one, IsFirstWithout-one}
 use Rattle.fort_formulas.proofs.FormulaTerminations.{right_ground-zero, right_ground-past}
 use Rattle.fort_formulas.proofs.terminations.not_right_ground_at.Goals as goal

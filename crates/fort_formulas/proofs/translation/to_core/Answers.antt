@@ -1,8 +1,8 @@
 use Rattle.std.proofs.Common.{◌≡◌, ◌<◌, true, ℕ, length, sym, subst}
 use Rattle.std.proofs.lemmas.Bool.{both_ways}
-use Rattle.fort_cores.specs.Cores as theory
+use Rattle.fort_theory.specs.Cores as theory
 use Rattle.fort_logic.specs.FreeNames.{free_names}
-use Rattle.fort_cores.specs.Parts.{is_free, BindsFree, IsTooWide}
+use Rattle.fort_theory.specs.Parts.{is_free, BindsFree, IsTooWide}
 use Rattle.fort_logic.specs.KeepsTruth.{KeepsTruth}
 use Rattle.fort_logic.proofs.TranslationTruth.{core_of-keeps_truth}
 use Rattle.fort_logic.proofs.FreeNumbers.{core_of-binds_free, core_of-free}

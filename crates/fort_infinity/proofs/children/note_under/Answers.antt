@@ -4,7 +4,7 @@ use Rattle.std.proofs.lemmas.Result.{on_ok_weaker}
 use Rattle.fort_tables.specs.Tuples.{all_absent, symbol_kids, arity}
 use Rattle.fort_tables.proofs.TupleLaws.{arity_from_get}
 use Rattle.fort_tables.proofs.InsertSymbolLaws.{symbol_kids-alone}
-use Rattle.fort_counts.specs.PureSearch.{lone_symbol, has_number}
+use Rattle.fort_tables.specs.PureSearch.{lone_symbol, has_number}
 use Rattle.fort_infinity.specs.Children.{IsLone}
 use Rattle.fort_infinity.proofs.ChildrenLaws.{arity_small, under_made}
 use Rattle.fort_infinity.proofs.children.note_under.Goals as goal

@@ -1,6 +1,6 @@
 use Rattle.std.proofs.Common.{◌≡◌, ℕ, [], length, get_or}
-use Rattle.fort_operations.specs.Projections.{some_below}
-use Rattle.fort_counts.specs.PureSearch.{has_number, is_child_under}
+use Rattle.fort_tables.specs.Projections.{some_below}
+use Rattle.fort_tables.specs.PureSearch.{has_number, is_child_under}
 use Rattle.fort_infinity.proofs.children.pure_children.Given as goal
 
 abbrev pub invariant-loop-g : goal.invariant-loop-g

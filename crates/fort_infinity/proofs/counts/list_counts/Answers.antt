@@ -1,7 +1,7 @@
 use Rattle.std.proofs.Common.{ℕ, List, map, length, get_or, ◌∙◌, ap, arith}
 use Rattle.std.proofs.lemmas.List.{take_all}
-use Rattle.fort_counts.specs.Ranks.{count_by}
-use Rattle.fort_counts.proofs.CountLaws.{marks_by}
+use Rattle.fort_tables.specs.Ranks.{count_by}
+use Rattle.fort_tables.proofs.CountLaws.{marks_by}
 use Rattle.fort_findings.specs.FindingView.{as_count}
 use Rattle.fort_infinity.specs.LeastUnranked.{least_from, greatest_number, least_child}
 use Rattle.fort_infinity.proofs.LeastLaws.{mapped_more}

@@ -1,5 +1,5 @@
 use Rattle.std.proofs.Common.{◌≡◌, ℕ, map, take, get_or}
-use Rattle.fort_counts.proofs.CountLaws.{marks_by}
+use Rattle.fort_tables.proofs.CountLaws.{marks_by}
 use Rattle.fort_findings.specs.FindingView.{as_count}
 use Rattle.fort_infinity.specs.LeastUnranked.{least_child}
 use Rattle.fort_infinity.proofs.counts.list_counts.Given as goal

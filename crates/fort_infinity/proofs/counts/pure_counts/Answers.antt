@@ -1,7 +1,7 @@
 use Rattle.std.proofs.Common.{◌≤◌, ℕ, map, length, get_or, ◌∙◌, ap, sym, arith, subst}
 use Rattle.std.proofs.lemmas.Result.{IfOk-weaker}
-use Rattle.fort_counts.specs.Counts.{AreCounts}
-use Rattle.fort_counts.proofs.CountLaws.{marks_by, counts_by_ranks}
+use Rattle.fort_tables.specs.Counts.{AreCounts}
+use Rattle.fort_tables.proofs.CountLaws.{marks_by, counts_by_ranks}
 use Rattle.fort_infinity.specs.LeastUnranked.{least_child}
 use Rattle.fort_infinity.proofs.LeastLaws.{AreLeast-children}
 use Rattle.fort_infinity.proofs.TryLaws.{children_within}

@@ -1,7 +1,7 @@
 use Rattle.std.proofs.Common.{◌≡◌, ◌+◌, ◌&&◌, true, length, ap, sym, ◌∙◌, arith}
 use Rattle.fort_tables.specs.BitRows.{has_bit}
-use Rattle.fort_operations.proofs.SearchLaws.{below_found, both}
-use Rattle.fort_counts.specs.ManyLabels.{has_many}
+use Rattle.fort_tables.proofs.SearchLaws.{below_found, both}
+use Rattle.fort_tables.specs.ManyLabels.{has_many}
 use Rattle.fort_infinity.proofs.local.many_accepts.Goals as goal
 
 pub returns-then-is_final : goal.returns-then-is_final

@@ -1,6 +1,6 @@
 use Rattle.std.proofs.Common.{◌≡◌, ◌&&◌, false, length}
-use Rattle.fort_operations.specs.Projections.{some_below}
-use Rattle.fort_counts.specs.ManyLabels.{has_many}
+use Rattle.fort_tables.specs.Projections.{some_below}
+use Rattle.fort_tables.specs.ManyLabels.{has_many}
 use Rattle.fort_infinity.proofs.local.many_accepts.Given as goal
 
 abbrev pub invariant-loop-q : goal.invariant-loop-q

@@ -4,9 +4,9 @@ use Rattle.std.specs.List.{insert}
 use Rattle.fort_tables.specs.Tuples.{presence}
 use Rattle.fort_tables.specs.Entries.{entry}
 use Rattle.fort_tables.specs.BitRows.{words_for}
-use Rattle.fort_operations.specs.Projections.{absent_state}
-use Rattle.fort_counts.specs.ManyLabels.{many_bit}
-use Rattle.fort_counts.specs.ManyEntries.{kid_labels}
+use Rattle.fort_tables.specs.Projections.{absent_state}
+use Rattle.fort_tables.specs.ManyLabels.{many_bit}
+use Rattle.fort_tables.specs.ManyEntries.{kid_labels}
 use Rattle.fort_infinity.specs.ManyCounts.{is_many}
 use Rattle.fort_infinity.proofs.ManyMarks.{label_written, first_set, second_set, none_marked, bits_written}
 use Rattle.fort_infinity.proofs.local.many_label.Goals as goal

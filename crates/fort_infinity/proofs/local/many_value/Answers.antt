@@ -2,9 +2,9 @@ use Rattle.std.proofs.Common.{◌≡◌, map, get_or, true, false, sym, ◌∙�
 use Rattle.std.proofs.lemmas.Bool.{true≢false}
 use Rattle.std.proofs.lemmas.List.{length-map}
 use borrow.Author.Count.{below_more}
-use Rattle.fort_counts.specs.Counts.{Finite, is_infinite, count_at}
-use Rattle.fort_counts.proofs.CountPlaces.{many_value-some, many_value-none}
-use Rattle.fort_counts.proofs.ManyTruth.{many_value_by_marks}
+use Rattle.fort_tables.specs.Counts.{Finite, is_infinite, count_at}
+use Rattle.fort_tables.proofs.CountPlaces.{many_value-some, many_value-none}
+use Rattle.fort_tables.proofs.ManyTruth.{many_value_by_marks}
 use Rattle.fort_findings.specs.FindingView.{as_count}
 use Rattle.fort_infinity.proofs.ManyMarks.{infinite_listed}
 use Rattle.fort_infinity.proofs.local.many_value.Goals as goal

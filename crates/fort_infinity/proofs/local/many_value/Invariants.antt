@@ -1,5 +1,5 @@
 use Rattle.std.proofs.Common.{◌≡◌, ℕ, ◌<◌, map, get_or, true}
-use Rattle.fort_counts.specs.Counts.{Finite, is_infinite}
+use Rattle.fort_tables.specs.Counts.{Finite, is_infinite}
 use Rattle.fort_findings.specs.FindingView.{as_count}
 use Rattle.fort_infinity.proofs.local.many_value.Given as goal
 

@@ -1,5 +1,5 @@
 use Rattle.std.proofs.Common.{length, ap, arith}
-use Rattle.fort_operations.specs.Projections.{absent_state}
+use Rattle.fort_tables.specs.Projections.{absent_state}
 use Rattle.fort_infinity.proofs.ManyMarks.{states_all}
 use Rattle.fort_infinity.proofs.many_entry.absent_states.Goals as goal
 

@@ -1,5 +1,5 @@
 use Rattle.std.proofs.Common.{◌≡◌, ℕ, ◌<◌, [], get_or, length}
-use Rattle.fort_operations.specs.Projections.{absent_state}
+use Rattle.fort_tables.specs.Projections.{absent_state}
 use Rattle.fort_infinity.proofs.many_entry.absent_states.Given as goal
 
 abbrev pub invariant-loop-j : goal.invariant-loop-j

@@ -2,7 +2,7 @@ use Rattle.std.proofs.Common.{ℕ, List, None, length, take, ap, sym, ◌∙◌,
 use Rattle.std.specs.List.{insert}
 use Rattle.fort_tables.specs.Entries.{entry}
 use Rattle.fort_tables.specs.Tables.{IsTableEntry}
-use Rattle.fort_counts.proofs.ManyEntryLaws.{kid_within, absent_entry, absent_state_small}
+use Rattle.fort_tables.proofs.ManyEntryLaws.{kid_within, absent_entry, absent_state_small}
 use Rattle.fort_infinity.specs.ManyCounts.{is_many}
 use Rattle.fort_infinity.proofs.many_entry.absent_target.Goals as goal
 

@@ -1,8 +1,8 @@
 use Rattle.std.proofs.Common.{length, refl, ◌∙◌}
-use Rattle.fort_operations.specs.Projections.{has_state, gives_under}
-use Rattle.fort_counts.specs.ManyLabels.{has_many, gives_many_under}
-use Rattle.fort_counts.specs.ManyEntries.{kid_labels}
-use Rattle.fort_counts.proofs.ManySearchLaws.{below_turn}
+use Rattle.fort_tables.specs.Projections.{has_state, gives_under}
+use Rattle.fort_tables.specs.ManyLabels.{has_many, gives_many_under}
+use Rattle.fort_tables.specs.ManyEntries.{kid_labels}
+use Rattle.fort_tables.proofs.ManySearchLaws.{below_turn}
 use Rattle.fort_infinity.specs.ManyCounts.{is_many}
 use Rattle.fort_infinity.proofs.many_entry.mark.Goals as goal
 

@@ -1,8 +1,8 @@
 use Rattle.std.proofs.Common.{◌≡◌, ℕ, ◌<◌, ◌+◌, ◌*◌, ◌||◌, length, get_or}
 use Rattle.fort_tables.specs.BitRows.{words_for}
-use Rattle.fort_operations.specs.Projections.{has_state, some_below, gives_under}
-use Rattle.fort_counts.specs.ManyLabels.{has_many, gives_many_under}
-use Rattle.fort_counts.specs.ManyEntries.{kid_labels}
+use Rattle.fort_tables.specs.Projections.{has_state, some_below, gives_under}
+use Rattle.fort_tables.specs.ManyLabels.{has_many, gives_many_under}
+use Rattle.fort_tables.specs.ManyEntries.{kid_labels}
 use Rattle.fort_infinity.specs.ManyCounts.{is_many}
 use Rattle.fort_infinity.proofs.many_entry.mark.Given as goal
 

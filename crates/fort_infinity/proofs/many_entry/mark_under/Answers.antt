@@ -1,10 +1,10 @@
 use Rattle.std.proofs.Common.{◌∙◌, ◌||◌, ap, length, replicate, arith}
 use Rattle.fort_tables.proofs.TupleLaws.{arity_from_get}
-use Rattle.fort_operations.specs.Projections.{has_state}
-use Rattle.fort_counts.specs.ManyLabels.{has_many}
-use Rattle.fort_counts.specs.ManyEntries.{kid_labels}
-use Rattle.fort_counts.proofs.ManyEntryLaws.{choices_count}
-use Rattle.fort_counts.proofs.ManySearchLaws.{endless_start, under_state, under_endless}
+use Rattle.fort_tables.specs.Projections.{has_state}
+use Rattle.fort_tables.specs.ManyLabels.{has_many}
+use Rattle.fort_tables.specs.ManyEntries.{kid_labels}
+use Rattle.fort_tables.proofs.ManyEntryLaws.{choices_count}
+use Rattle.fort_tables.proofs.ManySearchLaws.{endless_start, under_state, under_endless}
 use Rattle.fort_infinity.specs.ManyCounts.{is_many}
 use Rattle.fort_infinity.proofs.ChildrenLaws.{arity_small}
 use Rattle.fort_infinity.proofs.ManyMarks.{choices_made}

@@ -1,5 +1,5 @@
 use Rattle.std.proofs.Common.{sym, arith}
-use Rattle.fort_atom_labels.proofs.AtomPlaces.{places-same, places-up, places-down}
+use Rattle.fort_alike.proofs.AtomPlaces.{places-same, places-up, places-down}
 use Rattle.fort_label_bits.proofs.arguments.arguments_of.Goals as goal
 
 pub returns-then-x-y-clause-columns : goal.returns-then-x-y-clause-columns

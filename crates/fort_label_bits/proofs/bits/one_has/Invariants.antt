@@ -1,5 +1,5 @@
 use Rattle.std.proofs.Common.{◌≡◌, drop}
-use Rattle.fort_atom_labels.specs.AtomRules.{one_kid}
+use Rattle.fort_alike.specs.AtomRules.{one_kid}
 use Rattle.fort_label_bits.specs.RowBits.{bit_of, labels_at}
 use Rattle.fort_label_bits.proofs.bits.one_has.Given as goal
 

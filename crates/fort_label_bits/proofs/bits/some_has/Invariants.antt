@@ -1,5 +1,5 @@
 use Rattle.std.proofs.Common.{◌≡◌, drop}
-use Rattle.fort_atom_labels.specs.AtomRules.{some_kid}
+use Rattle.fort_alike.specs.AtomRules.{some_kid}
 use Rattle.fort_label_bits.specs.RowBits.{bit_of, labels_at}
 use Rattle.fort_label_bits.proofs.bits.some_has.Given as goal
 

@@ -1,5 +1,5 @@
 use Rattle.std.proofs.Common.{◌≡◌, [], map, drop, get_or}
-use Rattle.fort_atom_labels.specs.PatternNumbers.{all_at}
+use Rattle.fort_alike.specs.PatternNumbers.{all_at}
 use Rattle.fort_label_bits.proofs.numbered.are_inside.Given as goal
 
 -- the places that are left decide

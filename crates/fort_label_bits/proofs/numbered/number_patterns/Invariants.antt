@@ -1,7 +1,7 @@
 use Rattle.std.proofs.Common.{◌≡◌, ℕ, ◌<◌, map, length, get_or, None}
 use Rattle.fort_theory.specs.Patterns.{Any}
 use Rattle.fort_terms.specs.PatternView.{as_pattern}
-use Rattle.fort_atom_labels.specs.PatternNumbers.{IsNumberOf}
+use Rattle.fort_alike.specs.PatternNumbers.{IsNumberOf}
 use Rattle.fort_label_bits.proofs.numbered.number_patterns.Given as goal
 
 abbrev pub invariant-loop-pattern : goal.invariant-loop-pattern

@@ -1,7 +1,7 @@
 use Rattle.std.proofs.Common.{List, ◌++◌, ℕ, Bool, map, take, subst, arith}
 use Rattle.std.proofs.lemmas.List.{take_all}
 use Rattle.fort_tuple_symbols.specs.Columns.{as_column}
-use Rattle.fort_atom_labels.specs.PatternNumbers.{PatternNumber, number_inside}
+use Rattle.fort_alike.specs.PatternNumbers.{PatternNumber, number_inside}
 use Rattle.fort_label_bits.specs.RowBits.{HasBits, labels_at}
 use Rattle.fort_label_bits.proofs.RowBitLaws.{HasBits-more, length-part}
 use Rattle.fort_label_bits.proofs.numbered.write_inside.Goals as goal

@@ -1,6 +1,6 @@
 use Rattle.std.proofs.Common.{◌≡◌, List, ◌++◌, Bool, length, map, take}
 use Rattle.fort_tuple_symbols.specs.Columns.{as_column}
-use Rattle.fort_atom_labels.specs.PatternNumbers.{number_inside}
+use Rattle.fort_alike.specs.PatternNumbers.{number_inside}
 use Rattle.fort_label_bits.specs.RowBits.{HasBits, labels_at}
 use Rattle.fort_label_bits.proofs.numbered.write_inside.Given as goal
 

@@ -4,7 +4,7 @@ use Rattle.std.proofs.Math.Bool.{or_assoc}
 use Rattle.std.proofs.lemmas.List.{get_or_default}
 use Rattle.std.proofs.lemmas.List.Elements.{Contains-get_or}
 use Rattle.fort_tuple_symbols.specs.Columns.{as_column}
-use Rattle.fort_atom_labels.specs.PatternNumbers.{PatternNumber, number_inside}
+use Rattle.fort_alike.specs.PatternNumbers.{PatternNumber, number_inside}
 use Rattle.fort_label_bits.specs.RowBits.{bit_of, labels_at}
 use Rattle.fort_label_bits.specs.RootPlaces.{writes_at}
 use Rattle.fort_label_bits.proofs.BitRowListLaws.{list_any-more}

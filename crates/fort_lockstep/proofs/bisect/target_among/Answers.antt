@@ -4,8 +4,8 @@ use Rattle.std.proofs.Math.Pow.{pow_mono}
 use Rattle.std.proofs.Math.Nat.{pow-succ', mul-le-mul_left, mul-le-mul_right}
 use Rattle.std.proofs.lemmas.List.{get_or_default}
 use Rattle.fort_lockstep.specs.Transitions.{KidsBefore}
-use Rattle.fort_lockstep.specs.Pieces.{pieces}
-use Rattle.fort_lockstep.proofs.PieceLaws.{length-pieces, piece_within, get_or-pieces}
+use Rattle.fort_tables.specs.Pieces.{pieces}
+use Rattle.fort_tables.proofs.PieceLaws.{length-pieces, piece_within, get_or-pieces}
 use Rattle.fort_lockstep.proofs.BisectionLaws.{after_middle, before_middle, length-piece}
 use Rattle.fort_lockstep.proofs.bisect.target_among.Goals as goal
 

@@ -1,5 +1,5 @@
 use Rattle.std.proofs.Common.{◌≡◌, ℕ, ◌<◌, ◌≤◌, ◌-◌, ◌*◌, ◌^◌, [], length, get_or}
-use Rattle.fort_lockstep.specs.Pieces.{pieces}
+use Rattle.fort_tables.specs.Pieces.{pieces}
 use Rattle.fort_lockstep.proofs.bisect.target_among.Given as goal
 
 abbrev pub invariant-halves : goal.invariant-halves

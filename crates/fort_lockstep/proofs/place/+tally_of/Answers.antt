@@ -1,7 +1,7 @@
 use Rattle.std.proofs.Common.{ℕ, ◌+◌, List, ◌∷◌, get_or, ap, subst, arith}
-use Rattle.fort_lockstep.specs.Ranks.{wants_at}
+use Rattle.fort_tables.specs.StateRanks.{wants_at}
 use Rattle.fort_lockstep.specs.Tallies.{AreBelow, box_to}
-use Rattle.fort_lockstep.proofs.InOrderLaws.{rank_rises, rank_less}
+use Rattle.fort_tables.proofs.StateRankLaws.{rank_rises, rank_less}
 use Rattle.fort_lockstep.proofs.TallyLaws.{parts_moved, rest_small, rest_low, rest_free, rest_held, held_next}
 use Rattle.fort_lockstep.proofs.place.+tally_of.Goals as goal
 

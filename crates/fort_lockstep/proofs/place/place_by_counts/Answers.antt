@@ -1,5 +1,5 @@
 use Rattle.std.proofs.Common.{◌≡◌, ℕ, ◌<◌, ◌≤◌, List, [], ◌∷◌, length, get_or, refl, ap, arith}
-use Rattle.fort_lockstep.specs.Ranks.{wants_at}
+use Rattle.fort_tables.specs.StateRanks.{wants_at}
 use Rattle.fort_lockstep.specs.InOrder.{place_in_order}
 use Rattle.fort_lockstep.proofs.InOrderLaws.{in_order_below, unary_place}
 use Rattle.fort_lockstep.proofs.place.place_by_counts.Goals as goal

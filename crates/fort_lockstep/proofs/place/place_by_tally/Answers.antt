@@ -1,6 +1,6 @@
 use Rattle.std.proofs.Common.{◌≡◌, suc, ◌-◌, arith}
 use Rattle.fort_tables.specs.Entries.{stage as stage_lem}
-use Rattle.fort_lockstep.specs.Ranks.{wants_at}
+use Rattle.fort_tables.specs.StateRanks.{wants_at}
 use Rattle.fort_lockstep.proofs.InOrderLaws.{stage_within, in_order_below, place_newest, stage_fits, newest_small}
 use Rattle.fort_lockstep.proofs.place.place_by_tally.Goals as goal
 

@@ -1,5 +1,5 @@
 use Rattle.std.proofs.Common.{◌≡◌, ℕ, suc, ◌+◌, ◌*◌, ◌<◌, ◌≤◌, ◌^◌, List, [], ◌∷◌, get_or, refl, ap, ◌∙◌, arith}
-use Rattle.fort_lockstep.specs.Ranks.{rank_in, space, AreOf, wants_at}
+use Rattle.fort_tables.specs.StateRanks.{rank_in, space, AreOf, wants_at}
 use Rattle.fort_lockstep.specs.InOrder.{place_in_order}
 use Rattle.fort_lockstep.proofs.InOrderLaws.{in_order_below, newest_first, newest_second}
 use Rattle.fort_lockstep.proofs.place.place_of_two.Goals as goal

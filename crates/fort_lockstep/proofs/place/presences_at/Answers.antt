@@ -1,5 +1,5 @@
 use Rattle.std.proofs.Common.{◌≡◌, suc, ◌+◌, [], ◌∷◌, ◌++◌, take, get_or, sym, ◌∙◌, ap, arith}
-use Rattle.fort_lockstep.specs.Ranks.{wants_at}
+use Rattle.fort_tables.specs.StateRanks.{wants_at}
 use Rattle.fort_lockstep.proofs.FirstListLaws.{are_within, wants_more}
 use Rattle.fort_lockstep.proofs.place.presences_at.Goals as goal
 

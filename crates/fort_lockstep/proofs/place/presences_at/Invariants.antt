@@ -1,5 +1,5 @@
 use Rattle.std.proofs.Common.{◌≡◌, take}
-use Rattle.fort_lockstep.specs.Ranks.{wants_at}
+use Rattle.fort_tables.specs.StateRanks.{wants_at}
 use Rattle.fort_lockstep.proofs.place.presences_at.Given as goal
 
 abbrev pub invariant-loop-k : goal.invariant-loop-k

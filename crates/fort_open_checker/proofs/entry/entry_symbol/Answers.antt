@@ -1,6 +1,6 @@
 use Rattle.std.proofs.Common.{refl, sym, ap, subst, length, ◌∙◌, arith}
 use Rattle.fort_tables.specs.Tuples.{AreSymbols}
-use Rattle.fort_open_steps.specs.OpenView.{as_node}
+use Rattle.fort_steps.specs.OpenView.{as_node}
 use Rattle.fort_open_checker.proofs.NodeTestLaws.{few_kids, entry_there, absent_there, kids_there}
 use Rattle.fort_open_checker.proofs.entry.entry_symbol.Goals as goal
 use Rattle.fort_open_checker.proofs.entry.entry_symbol.Goals.{else-there-via-then-there+else-are_kids, else-there-via-else-there}

@@ -1,5 +1,5 @@
 use Rattle.std.proofs.Common.{ℕ, map, take}
-use Rattle.fort_open_steps.specs.OpenView.{as_node}
+use Rattle.fort_steps.specs.OpenView.{as_node}
 use Rattle.fort_open_checker.specs.NodeStates.{AreNodeStates, HasNodeRoom}
 use Rattle.fort_open_checker.proofs.found.check_nodes.Given as goal
 

@@ -2,7 +2,7 @@ use Rattle.std.proofs.Common.{◌≡◌, ◌<◌, ◌≤◌, ◌∷◌, [], leng
 use Rattle.std.proofs.lemmas.Bool.{cases_lt}
 use Rattle.std.proofs.lemmas.List.{get_or_push, get_or_append_left, get_or_default}
 use Rattle.std.specs.Prelude.{vec_items}
-use Rattle.fort_cores.specs.Cores as core
+use Rattle.fort_theory.specs.Cores as core
 use Rattle.fort_parts.specs.PartColumns.{columns_of}
 use Rattle.fort_outline.specs.declared.root.Root.TheVariants.{True}
 use Rattle.fort_outline.specs.Roots.{root_core, cores_of, HasOperandsBelow}

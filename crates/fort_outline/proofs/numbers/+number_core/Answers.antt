@@ -1,8 +1,8 @@
 use Rattle.std.proofs.Common.{◌++◌, ◌∙◌, ap, sym, inl, inr}
 use Rattle.std.proofs.lemmas.Result.{IfOk-weaker}
-use Rattle.fort_cores.specs.Cores as theory
+use Rattle.fort_theory.specs.Cores as theory
 use Rattle.fort_theory.specs.Logic as logic
-use Rattle.fort_cores.specs.Parts.{postorder}
+use Rattle.fort_theory.specs.Parts.{postorder}
 use Rattle.fort_formulas.specs.CoreView.{as_core}
 use Rattle.fort_formulas.proofs.CoreShapes.{postorder-one, postorder-two}
 use Rattle.fort_connectives.specs.declared.connective.Op.TheVariants.{And, Or, Iff}

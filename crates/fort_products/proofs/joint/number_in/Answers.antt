@@ -1,7 +1,7 @@
 use Rattle.std.proofs.Common.{◌+◌, ◌≤◌, length, get_or, None, ap, ◌∙◌, arith}
 use Rattle.std.proofs.lemmas.List.{length-map, take_all}
 use Rattle.fort_tuple_symbols.specs.Columns.{symbol_of}
-use Rattle.fort_operations.specs.Selections.{selected}
+use Rattle.fort_tables.specs.Selections.{selected}
 use Rattle.fort_target_lists.specs.Places.{number_of}
 use Rattle.fort_target_lists.proofs.SymbolNumbers.{number_of-front}
 use Rattle.fort_products.proofs.JointLaws.{number_next}

@@ -1,6 +1,6 @@
 use Rattle.std.proofs.Common.{◌≡◌, take}
 use Rattle.fort_tuple_symbols.specs.Columns.{symbol_of}
-use Rattle.fort_operations.specs.Selections.{selected}
+use Rattle.fort_tables.specs.Selections.{selected}
 use Rattle.fort_target_lists.specs.Places.{number_of}
 use Rattle.fort_products.proofs.joint.number_in.Given as goal
 

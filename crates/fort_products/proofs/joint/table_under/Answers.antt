@@ -1,6 +1,6 @@
 use Rattle.std.proofs.Common.{◌≡◌, ◌<◌, get_or, refl, ap, sym, ◌∙◌, arith}
 use Rattle.fort_tuple_symbols.specs.Columns.{symbol_of}
-use Rattle.fort_operations.specs.Selections.{selected}
+use Rattle.fort_tables.specs.Selections.{selected}
 use Rattle.fort_target_lists.specs.Places.{number_of}
 use Rattle.fort_products.proofs.ListedLaws.{number_absent, number_present, step_absent, selected_below}
 use Rattle.fort_products.proofs.JointLaws.{columns_in_digits}

@@ -1,5 +1,5 @@
 use Rattle.std.proofs.Common.{arith}
-use Rattle.fort_operations.specs.Products.{state_at}
+use Rattle.fort_tables.specs.Products.{state_at}
 use Rattle.fort_target_lists.proofs.StateLists.{states_read}
 use Rattle.fort_products.proofs.words.states_at.Goals as goal
 

@@ -1,5 +1,5 @@
 use Rattle.std.proofs.Common.{◌≡◌, ℕ, ◌<◌, [], get_or, length}
-use Rattle.fort_operations.specs.Products.{state_at}
+use Rattle.fort_tables.specs.Products.{state_at}
 use Rattle.fort_products.proofs.words.states_at.Given as goal
 
 abbrev pub invariant-loop-j : goal.invariant-loop-j

@@ -1,7 +1,7 @@
 use Rattle.std.proofs.Common.{◌≡◌, ◌<◌, List, ℕ, [], length, get_or, true, ap, sym, ◌∙◌, arith}
 use Rattle.fort_tables.specs.Entries.{Entry}
 use Rattle.fort_tables.specs.Tables.{Table, IsTable, IsReached}
-use Rattle.fort_operations.specs.Projections.{has_state}
+use Rattle.fort_tables.specs.Projections.{has_state}
 use Rattle.fort_target_lists.specs.LabelLists.{labels_at}
 use Rattle.fort_projections.specs.Scopes.{some_gives}
 use Rattle.fort_projections.specs.Choices.{IsNext, IsSearched}

@@ -1,6 +1,6 @@
 use Rattle.std.proofs.Common.{◌≡◌, ℕ, ◌+◌, ◌-◌, ◌≤◌, ◌&&◌, ◌||◌, [], length, get_or}
 use Rattle.fort_tables.specs.BitRows.{words_for}
-use Rattle.fort_operations.specs.Projections.{has_state, some_below}
+use Rattle.fort_tables.specs.Projections.{has_state, some_below}
 use Rattle.fort_target_lists.specs.LabelLists.{labels_at}
 use Rattle.fort_projections.specs.Scopes.{some_gives}
 use Rattle.fort_projections.specs.ImageFacts.{AreImages, with_state}

@@ -1,7 +1,7 @@
 use Rattle.std.proofs.Common.{◌≡◌, ◌-◌, ◌<◌, ◌||◌, ℕ, [], length, get_or, rules, refl, ap, sym, ◌∙◌, arith, subst}
 use Rattle.std.proofs.lemmas.List.{get_or_default, with_items_is, places}
 use Rattle.fort_tables.specs.Tables.{Table}
-use Rattle.fort_operations.specs.Projections.{has_state}
+use Rattle.fort_tables.specs.Projections.{has_state}
 use Rattle.fort_target_lists.specs.LabelLists.{labels_at}
 use Rattle.fort_projections.specs.Scopes.{some_gives}
 use Rattle.fort_projections.specs.ImageFacts.{AreImages, IsSlot, with_state}

@@ -2,7 +2,7 @@ use Rattle.std.proofs.Common.{◌≡◌, ◌||◌, ◌&&◌, None, map, length, 
 use Rattle.std.specs.List.{insert}
 use Rattle.fort_tables.specs.Tuples.{presence}
 use Rattle.fort_tables.specs.Entries.{entry}
-use Rattle.fort_operations.specs.Projections.{absent_state, has_state, some_below, gives}
+use Rattle.fort_tables.specs.Projections.{absent_state, has_state, some_below, gives}
 use Rattle.fort_target_lists.specs.LabelLists.{labels_at}
 use Rattle.fort_projections.specs.Scopes.{some_gives}
 use Rattle.fort_projections.specs.ImageFacts.{with_state}

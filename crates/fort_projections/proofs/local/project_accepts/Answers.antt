@@ -1,7 +1,7 @@
 use Rattle.std.proofs.Common.{◌≡◌, ℕ, ◌+◌, ◌<◌, ◌&&◌, min, take, length, ap, sym, ◌∙◌, arith}
 use Rattle.fort_tables.specs.BitRows.{words_for}
-use Rattle.fort_operations.specs.Projections.{has_state}
-use Rattle.fort_operations.proofs.SearchLaws.{below_found, both}
+use Rattle.fort_tables.specs.Projections.{has_state}
+use Rattle.fort_tables.proofs.SearchLaws.{below_found, both}
 use Rattle.fort_projections.proofs.FinalSearch.{front_state, none_below, none_to, none_past}
 use Rattle.fort_projections.proofs.local.project_accepts.Goals as goal
 

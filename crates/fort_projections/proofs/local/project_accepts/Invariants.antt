@@ -1,5 +1,5 @@
 use Rattle.std.proofs.Common.{◌≡◌, ℕ, ◌<◌, ◌≤◌, ◌-◌, ◌&&◌, false, length}
-use Rattle.fort_operations.specs.Projections.{has_state}
+use Rattle.fort_tables.specs.Projections.{has_state}
 use Rattle.fort_projections.proofs.local.project_accepts.Given as goal
 
 abbrev pub decreases-states : goal.decreases-states

@@ -1,5 +1,5 @@
 use Rattle.std.proofs.Common.{[]}
-use Rattle.fort_operations.specs.Products.{OfTable}
+use Rattle.fort_tables.specs.Products.{OfTable}
 use Rattle.fort_target_lists.proofs.ListLaws.{table_operand}
 use Rattle.fort_projections.proofs.local.project_label.Goals as goal
 

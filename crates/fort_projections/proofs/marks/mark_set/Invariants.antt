@@ -1,5 +1,5 @@
 use Rattle.std.proofs.Common.{◌≡◌, ℕ, ◌-◌, ◌*◌, ◌&&◌, ◌||◌, ◌==◌, get_or}
-use Rattle.fort_operations.specs.Projections.{has_state, some_below}
+use Rattle.fort_tables.specs.Projections.{has_state, some_below}
 use Rattle.fort_projections.specs.Strides.{read_at}
 use Rattle.fort_projections.proofs.marks.mark_set.Given as goal
 

@@ -1,6 +1,6 @@
 use Rattle.std.proofs.Common.{◌≡◌, ◌+◌, ◌/◌, ◌^◌, w64, refl, ◌∙◌, arith}
 use Rattle.std.specs.Int.{trailing_zeros}
-use Rattle.fort_operations.specs.Projections.{has_state}
+use Rattle.fort_tables.specs.Projections.{has_state}
 use Rattle.fort_projections.specs.Strides.{read_at}
 use Rattle.fort_projections.proofs.FlatSearch.{rest_next, rest_more, word_turn, word_last}
 use Rattle.fort_projections.proofs.marks.mark_word.Goals as goal

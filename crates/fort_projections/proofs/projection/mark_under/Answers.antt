@@ -4,7 +4,7 @@ use Rattle.fort_tables.specs.Entries.{entry}
 use Rattle.fort_target_lists.specs.LabelLists.{labels_at}
 use Rattle.fort_projections.specs.Scopes.{takes}
 use Rattle.fort_tables.proofs.TupleLaws.{arity_from_get}
-use Rattle.fort_operations.specs.Projections.{absent_state, has_state}
+use Rattle.fort_tables.specs.Projections.{absent_state, has_state}
 use Rattle.fort_projections.specs.Choices.{symbol_under}
 use Rattle.fort_projections.proofs.FinderLaws.{finder_is}
 use Rattle.fort_target_lists.proofs.ColumnLaws.{arity_small}

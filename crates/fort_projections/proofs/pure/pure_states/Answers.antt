@@ -1,5 +1,5 @@
 use Rattle.std.proofs.Common.{◌+◌, ℕ, List, Vec, Global, sym, subst}
-use Rattle.fort_operations.specs.Projections.{ArePureBelow}
+use Rattle.fort_tables.specs.Projections.{ArePureBelow}
 use Rattle.fort_projections.proofs.PureSearch.{pure_left, pure_push, pure_tested, impure_tested}
 use Rattle.fort_projections.proofs.pure.pure_states.Goals as goal
 use Rattle.fort_projections.proofs.pure.pure_states.Goals.{then-presence-column+in_ok-push, else-presence-column}

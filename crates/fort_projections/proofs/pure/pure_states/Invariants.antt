@@ -1,4 +1,4 @@
-use Rattle.fort_operations.specs.Projections.{ArePureBelow}
+use Rattle.fort_tables.specs.Projections.{ArePureBelow}
 use Rattle.fort_projections.proofs.pure.pure_states.Given as goal
 
 abbrev pub invariant-loop-q : goal.invariant-loop-q

@@ -2,7 +2,7 @@ use Rattle.std.proofs.Common.{◌≡◌, ◌+◌, ◌-◌, ◌<◌, ℕ, List, t
 use Rattle.std.proofs.lemmas.List.{length-set}
 use Rattle.fort_tables.specs.Tuples.{kid_presence}
 use Rattle.fort_tables.specs.Tables.{listed_table}
-use Rattle.fort_interchange.specs.Refinement.{IsRefined}
+use Rattle.fort_tables.specs.Refinement.{IsRefined}
 use Rattle.fort_reduce.specs.Walks.{IsWalked}
 use Rattle.fort_reduce.specs.declared.classes.Classes.{Classes}
 use Rattle.fort_reduce.proofs.WholeLaws.{AreWholeTo, begun_more, taken_more, taken_length, set_front, front_less, visited_rest, whole_to_skip, whole_to_all}

@@ -1,7 +1,7 @@
 use Rattle.std.proofs.Common.{◌≡◌, ℕ, ◌+◌, [], length, replicate, None, ap, sym, ◌∙◌, subst, arith}
 use Rattle.fort_tables.specs.Tuples.{TupleSymbol, symbol_kids}
 use Rattle.fort_tables.specs.Tables.{Listed, listed_table}
-use Rattle.fort_interchange.specs.Refinement.{IsRefined}
+use Rattle.fort_tables.specs.Refinement.{IsRefined}
 use Rattle.fort_tuple_symbols.proofs.SymbolNumberLaws.{columns_first}
 use Rattle.fort_target_lists.specs.Places.{number_of, IsNumbered}
 use Rattle.fort_reduce.specs.Walks.{IsWalked, AreWholeBelow, AreWholeUnder}

@@ -1,7 +1,7 @@
 use Rattle.std.proofs.Common.{◌≡◌, ◌+◌, ◌-◌, ◌^◌, min, length}
 use Rattle.fort_tables.specs.Tables.{listed_table}
 use Rattle.fort_target_lists.specs.Places.{number_of}
-use Rattle.fort_interchange.specs.Refinement.{IsRefined}
+use Rattle.fort_tables.specs.Refinement.{IsRefined}
 use Rattle.fort_reduce.specs.Walks.{IsWalked, AreWholeBelow}
 use Rattle.fort_reduce.proofs.TurnLaws.{IsOwn}
 use Rattle.fort_reduce.proofs.passes.pass.Given as goal

@@ -3,7 +3,7 @@ use Rattle.std.proofs.lemmas.List.{length-set}
 use Rattle.fort_tables.specs.Tuples.{kid_presence}
 use Rattle.fort_tables.specs.Entries.{entry}
 use Rattle.fort_tables.specs.Tables.{listed_table}
-use Rattle.fort_interchange.specs.Refinement.{IsRefined}
+use Rattle.fort_tables.specs.Refinement.{IsRefined}
 use Rattle.fort_reduce.specs.Walks.{IsWalked, IsWholeIn}
 use Rattle.fort_reduce.specs.Fronts.{IsFront}
 use Rattle.fort_reduce.specs.declared.classes.Classes.{Classes}

@@ -1,6 +1,6 @@
 use Rattle.std.proofs.Common.{◌≡◌, take, length}
 use Rattle.fort_tables.specs.Tables.{listed_table}
-use Rattle.fort_interchange.specs.Refinement.{IsRefined}
+use Rattle.fort_tables.specs.Refinement.{IsRefined}
 use Rattle.fort_reduce.specs.Walks.{IsWalked}
 use Rattle.fort_reduce.specs.Fronts.{IsFront}
 use Rattle.fort_reduce.proofs.WholeLaws.{AreWholeTo}

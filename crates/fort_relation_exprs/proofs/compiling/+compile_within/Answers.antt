@@ -1,5 +1,5 @@
 use Rattle.std.proofs.Common.{◌≡◌, arith, ◌∙◌, sym, subst, ap, inl, inr}
-use Rattle.fort_expressions.specs.Expressions.{RootSteps, Inverse, Union, Composition, Closure}
+use Rattle.fort_theory.specs.Expressions.{RootSteps, Inverse, Union, Composition, Closure}
 use Rattle.fort_relations.specs.RexView.{as_expression}
 use Rattle.fort_relation_exprs.specs.CompiledWithin.{CanCompile, IsCompiledWithin}
 use Rattle.fort_relation_exprs.proofs.OperandLaws.{root_index, only_operand, first_operand, second_operand}

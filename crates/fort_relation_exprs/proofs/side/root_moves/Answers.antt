@@ -1,6 +1,6 @@
 use Rattle.std.proofs.Common.{◌≡◌, ℕ, List, map, get_or, sym, ap, ◌∙◌, arith}
 use Rattle.std.proofs.lemmas.List.{get_or-map, length-map}
-use Rattle.fort_atom_labels.specs.PatternNumbers.{PatternNumber}
+use Rattle.fort_alike.specs.PatternNumbers.{PatternNumber}
 use Rattle.fort_label_bits.specs.RootPlaces.{root_of}
 use Rattle.fort_label_bits.proofs.RootPlaceLaws.{rooted_next}
 use Rattle.fort_relation_exprs.specs.Sides.{move_in}

@@ -1,8 +1,8 @@
 use Rattle.std.proofs.Common.{IsTrue, ap, sym, ◌∙◌, subst}
 use Rattle.std.proofs.lemmas.Result.{IfOk-weaker}
 use Rattle.fort_tables.specs.Tables.{Table, listed_table}
-use Rattle.fort_operations.specs.OperationTruth.{TestsRelation, TupleRelation, Complement, accepts}
-use Rattle.fort_operations.proofs.TableTruth.{complement_decides}
+use Rattle.fort_tables.specs.OperationTruth.{TestsRelation, TupleRelation, Complement, accepts}
+use Rattle.fort_tables.proofs.TableTruth.{complement_decides}
 use Rattle.fort_rrn_algebra.proofs.NegationLaws.{complemented-turned}
 use Rattle.fort_rrn_algebra.proofs.negation.negate.Goals as goal
 

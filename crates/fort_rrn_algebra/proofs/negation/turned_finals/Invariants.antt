@@ -1,6 +1,6 @@
 use Rattle.std.specs.Prelude.{◌≡◌, ℕ, ◌<◌, length, get_or, false}
 use Rattle.fort_tables.specs.Tables.{listed_table}
-use Rattle.fort_operations.specs.OperationTruth.{complemented}
+use Rattle.fort_tables.specs.OperationTruth.{complemented}
 use Rattle.fort_rrn_algebra.proofs.negation.turned_finals.Given as goal
 
 abbrev pub invariant-loop-q : goal.invariant-loop-q

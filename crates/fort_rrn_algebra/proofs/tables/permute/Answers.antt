@@ -4,10 +4,10 @@ use Rattle.fort_tables.specs.Entries.{tuples_of}
 use Rattle.fort_tables.specs.Tables.{listed_table}
 use Rattle.fort_tables.specs.Labels.{IsTableOf, HaveLabels}
 use Rattle.fort_tables.specs.LabelRules.{label_of}
-use Rattle.fort_operations.specs.Products.{OfTable, OfTruth, IsOperand, product_rule, product_accepts}
+use Rattle.fort_tables.specs.Products.{OfTable, OfTruth, IsOperand, product_rule, product_accepts}
 use Rattle.fort_theory.specs.Logic as logic
-use Rattle.fort_operations.specs.OperationTruth.{TestsRelation, Cylinder, accepts}
-use Rattle.fort_operations.proofs.TableTruth.{exchange_decides}
+use Rattle.fort_tables.specs.OperationTruth.{TestsRelation, Cylinder, accepts}
+use Rattle.fort_tables.proofs.TableTruth.{exchange_decides}
 use Rattle.fort_explore.specs.Answer.{IfOver}
 use Rattle.fort_rrn_algebra.proofs.TableMade.{order_operand}
 use Rattle.fort_rrn_algebra.proofs.tables.permute.Goals as goal

@@ -2,9 +2,9 @@ use Rattle.std.proofs.Common.{IsTrue, true, ap}
 use Rattle.std.proofs.lemmas.Result.{IfOk-weaker}
 use Rattle.fort_tables.specs.Tables.{listed_table}
 use Rattle.fort_theory.specs.Logic as logic
-use Rattle.fort_operations.specs.Products as products
-use Rattle.fort_operations.specs.OperationTruth.{Cylinder, accepts}
-use Rattle.fort_operations.proofs.TableTruth.{tests_by_label, cylinder_decides}
+use Rattle.fort_tables.specs.Products as products
+use Rattle.fort_tables.specs.OperationTruth.{Cylinder, accepts}
+use Rattle.fort_tables.proofs.TableTruth.{tests_by_label, cylinder_decides}
 use Rattle.fort_connectives.specs.ConnectiveView.{connective_of}
 use Rattle.fort_products.specs.Operands.{operand_of}
 use Rattle.fort_rrn_algebra.proofs.TableMade.{AreParts, table_of_parts, table_by_parts}

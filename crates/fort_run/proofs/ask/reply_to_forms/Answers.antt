@@ -5,13 +5,13 @@ use Rattle.fort_formulas.specs.FormulaView.{as_formula}
 use Rattle.fort_answers.specs.InputAnswer.{IsInputRefused}
 use Rattle.fort_answers.specs.FitAnswer.{IsUnfit}
 use Rattle.fort_answers.proofs.FewPatterns.{AreFewRules-with}
-use Rattle.fort_run.specs.Inputs.{IsReadFrom}
+use Rattle.fort_questions.specs.Inputs.{IsReadFrom}
 use Rattle.fort_run.specs.Posed.{Settles}
-use Rattle.fort_run.specs.Questions.{openness_of, tail_of, request_for}
+use Rattle.fort_questions.specs.Questions.{openness_of, tail_of, request_for}
 use Rattle.fort_run.specs.Ready.{IsReady}
-use Rattle.fort_run.specs.Refusals.{Refuses}
-use Rattle.fort_run.proofs.Fitting.{number_is}
-use Rattle.fort_run.proofs.PlainFormats.{single_index}
+use Rattle.fort_questions.specs.Refusals.{Refuses}
+use Rattle.fort_questions.proofs.Fitting.{number_is}
+use Rattle.fort_questions.proofs.PlainFormats.{single_index}
 use Rattle.fort_run.proofs.LinearRules.{IsInputWith-lawful}
 use Rattle.fort_run.proofs.Readiness.{ready}
 use Rattle.fort_run.proofs.Replies.{input_refused, unfit, told_refusal, verdict_replies}
@@ -19,18 +19,18 @@ use Rattle.fort_run.proofs.ask.reply_to_forms.Goals as goal
 
 pub returns-in-Err : goal.returns-in-Err
 returns-in-Err c =
-    IfOk-weaker c.into_reply.result _ _ (λ r tells. λ text is.
+    IfOk-weaker c.of_refusal.result _ _ (λ r tells. λ text is.
     let question = c.args.question in
     let bytes = c.args.forms.now.bytes in
     let refusal = c.in-Err.refusal in
     told_refusal (Some (request_for question text)) bytes (IsInputRefused (tail_of question) bytes) refusal r
     (input_refused question text (as_formula c.args.parsed.now.formula) is.accepted bytes)
     (subst (λ t. Refuses (IsInputRefused t bytes) refusal) c.tail.ensures c.in-Err.ensures.refused) tells)
-    c.into_reply.ensures
+    c.of_refusal.ensures
 
 pub returns : goal.returns
 returns c =
-    IfOk-weaker c.into_reply-in-Err-terms_of.result _ _ (λ r tells. λ text is.
+    IfOk-weaker c.of_refusal-in-Err-terms_of.result _ _ (λ r tells. λ text is.
     let question = c.args.question in
     let bytes = c.args.forms.now.bytes in
     let f = as_formula c.args.parsed.now.formula in
@@ -38,7 +38,7 @@ returns c =
     told_refusal (Some (request_for question text)) bytes (IsUnfit text f read.system) c.in-Err-terms_of.refusal r
     (λ line. unfit question text f is.accepted bytes line read.system read.behind read.is)
     (c.in-Err-terms_of.ensures.refused text read.system is.grounds read.input_is.same) tells)
-    c.into_reply-in-Err-terms_of.ensures
+    c.of_refusal-in-Err-terms_of.ensures
 
 pub verdict-requires-clause-ready : goal.verdict-requires-clause-ready
 verdict-requires-clause-ready c =

@@ -4,10 +4,10 @@ use Rattle.fort_intake.specs.declared.unread.Unread.TheVariants.{TooLong}
 use Rattle.fort_answers.specs.InputAnswer.{TooLong as LongInput}
 use Rattle.fort_answers.specs.Lines.{input_too_long}
 use Rattle.fort_formulas.specs.FormulaView.{as_formula}
-use Rattle.fort_run.specs.Questions.{request_for, tail_of}
+use Rattle.fort_questions.specs.Questions.{request_for, tail_of}
 use Rattle.fort_run.specs.Replies.{IsReplyTo}
 use Rattle.fort_run.specs.StatusView.{code_of}
-use Rattle.fort_run.proofs.InputLines.{text_refused}
+use Rattle.fort_questions.proofs.InputLines.{text_refused}
 use Rattle.fort_run.proofs.Replies.{input_refused, refusal_replies}
 use Rattle.fort_run.proofs.Told.{told_read, told_long}
 use Rattle.fort_run.proofs.ask.reply_to_formula.Goals as goal

@@ -8,9 +8,9 @@ use Rattle.fort_parts.specs.PartColumns.{columns_of}
 use Rattle.fort_formulas.specs.CoreView.{as_core}
 use Rattle.fort_formulas.specs.FormulaView.{as_formula}
 use Rattle.fort_cert_checker.specs.OutcomeView.{as_reason}
-use Rattle.fort_open_certificates.specs.OpenChecked.{HasOpenOutcome}
+use Rattle.fort_certificate_theory.specs.OpenChecked.{HasOpenOutcome}
 use Rattle.fort_open_checker.specs.OpenOutcomeView.{as_outcome}
-use Rattle.fort_open_steps.specs.OpenView.{as_node, as_open}
+use Rattle.fort_steps.specs.OpenView.{as_node, as_open}
 use Rattle.fort_answers.specs.ConfirmAnswer.{certified_witness_line, certified_none_line}
 use Rattle.fort_answers.specs.Witnesses.{bindings}
 use Rattle.fort_run.specs.StatusView.{code_of}

@@ -1,5 +1,5 @@
 use Rattle.std.proofs.Common.{length, ap, subst, arith}
-use Rattle.fort_cores.specs.PatternStructures.{pattern_structure}
+use Rattle.fort_theory.specs.PatternStructures.{pattern_structure}
 use Rattle.fort_parts.specs.PartAnswers.{IsAnswerTo}
 use Rattle.fort_engine.specs.AnswerView.{as_answer}
 use Rattle.fort_run.proofs.synth.is_true_over.Goals as goal

@@ -7,8 +7,8 @@ use Rattle.fort_theory.specs.Patterns.{PatternSystem}
 use Rattle.fort_formulas.specs.CoreView.{as_core}
 use Rattle.fort_parts.specs.DecidedCores.{IsDecided}
 use Rattle.fort_parts.specs.PartColumns.{columns_of}
-use Rattle.fort_families.specs.FamilyRules.{most_family_rules}
-use Rattle.fort_families.proofs.FamilySizes.{small_arities}
+use Rattle.fort_answers.specs.FamilyRules.{most_family_rules}
+use Rattle.fort_answers.proofs.FamilySizes.{small_arities}
 use Rattle.fort_synth.specs.FamilyView.{as_family_rule}
 use Rattle.fort_synth.specs.SearchAnswers.{FitsRule, picked_system}
 use Rattle.fort_run.specs.StatusView.{code_of}

@@ -88,8 +88,8 @@ returns-in-Ok-write_all-clause-limit g c =
     c.in-Ok.reply c.in-Ok.ensures.ok c.of_reply.result.status c.deref.result.now c.of_reply.ensures.status c.deref.ensures.value c.in-Ok-write_all.ensures.all
     c.of_reply.result.limit c.of_reply.ensures.limit
 
-pub returns-in-Ok-write_all-clause-limited : goal.returns-in-Ok-write_all-clause-limited
-returns-in-Ok-write_all-clause-limited g c =
+pub returns-in-Ok-write_all-clause-has_limit : goal.returns-in-Ok-write_all-clause-has_limit
+returns-in-Ok-write_all-clause-has_limit g c =
     limit_shown c.in-Ok.reply c.of_reply.result.limit c.of_reply.result.status c.of_reply.ensures.limit c.of_reply.ensures.status
 
 pub returns-in-Ok-write_all-clause-statuses : goal.returns-in-Ok-write_all-clause-statuses

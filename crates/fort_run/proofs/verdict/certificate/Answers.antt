@@ -1,14 +1,14 @@
 use Rattle.std.proofs.Common.{map, refl, ap, subst, ◌∙◌}
 use Rattle.std.specs.List.{AllByRecursion}
 use Rattle.std.proofs.lemmas.Result.{IfOk-weaker}
-use Rattle.fort_certificate_grammar.specs.CertificateText.{certificate_text}
+use Rattle.fort_certificate_theory.specs.CertificateText.{certificate_text}
 use Rattle.fort_certificate.specs.Again.{HasSmallNumbers}
 use Rattle.fort_certificate.specs.VersionView.{as_version}
 use Rattle.fort_words.specs.RequestView.{as_options}
 use Rattle.fort_formulas.specs.CoreView.{as_core}
 use Rattle.fort_steps.specs.StepView.{as_step}
 use Rattle.fort_run.specs.StatusView.{code_of}
-use Rattle.fort_run.specs.declared.question.Question.TheVariants.{Certificate}
+use Rattle.fort_questions.specs.declared.question.Question.TheVariants.{Certificate}
 use Rattle.fort_run.proofs.PosedQuestions.{closed_core, true_certificate, verdict_settles, limit_settles}
 use Rattle.fort_run.proofs.verdict.certificate.Goals as goal
 

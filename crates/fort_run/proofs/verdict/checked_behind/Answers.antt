@@ -2,8 +2,8 @@ use Rattle.std.proofs.Common.{subst}
 use Rattle.std.proofs.lemmas.Result.{IfOk-weaker}
 use Rattle.fort_formulas.specs.CoreView.{as_core}
 use Rattle.fort_answers.specs.InputAnswer.{ACertificate}
-use Rattle.fort_run.specs.declared.question.Question.TheVariants.{Check}
-use Rattle.fort_run.specs.Inputs.{IsBehind}
+use Rattle.fort_questions.specs.declared.question.Question.TheVariants.{Check}
+use Rattle.fort_questions.specs.Inputs.{IsBehind}
 use Rattle.fort_run.specs.Posed.{SettlesCore}
 use Rattle.fort_run.proofs.verdict.checked_behind.Goals as goal
 

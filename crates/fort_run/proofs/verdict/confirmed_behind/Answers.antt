@@ -3,8 +3,8 @@ use Rattle.std.proofs.lemmas.Result.{IfOk-weaker}
 use Rattle.fort_formulas.specs.CoreView.{as_core}
 use Rattle.fort_formulas.specs.FormulaView.{as_formula}
 use Rattle.fort_answers.specs.InputAnswer.{AnOpenCertificate}
-use Rattle.fort_run.specs.declared.question.Question.TheVariants.{Confirm}
-use Rattle.fort_run.specs.Inputs.{IsBehind}
+use Rattle.fort_questions.specs.declared.question.Question.TheVariants.{Confirm}
+use Rattle.fort_questions.specs.Inputs.{IsBehind}
 use Rattle.fort_run.specs.Posed.{SettlesCore}
 use Rattle.fort_run.proofs.verdict.confirmed_behind.Goals as goal
 

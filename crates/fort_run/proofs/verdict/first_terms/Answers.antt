@@ -6,7 +6,7 @@ use Rattle.fort_answers.specs.FormulaAnswer.{Open}
 use Rattle.fort_formulas.specs.CoreView.{as_core}
 use Rattle.fort_formulas.specs.FormulaView.{as_formula}
 use Rattle.fort_run.specs.Ready.{IsDecidedBy}
-use Rattle.fort_run.specs.declared.question.Question.TheVariants.{Solutions}
+use Rattle.fort_questions.specs.declared.question.Question.TheVariants.{Solutions}
 use Rattle.fort_run.proofs.LineReplies.{verdict_is}
 use Rattle.fort_run.proofs.PosedQuestions.{decided_by, verdict_settles, limit_settles}
 use Rattle.fort_run.proofs.SolutionVerdicts.{states_within}

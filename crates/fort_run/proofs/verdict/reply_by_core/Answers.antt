@@ -1,7 +1,7 @@
 use Rattle.std.proofs.lemmas.Result.{IfOk-weaker}
 use Rattle.fort_formulas.specs.CoreView.{as_core}
 use Rattle.fort_formulas.specs.FormulaView.{as_formula}
-use Rattle.fort_run.specs.declared.question.Question.TheVariants.{Truth, Certificate, Terms, TermsCertificate, Check, Solutions, Confirm, Synth}
+use Rattle.fort_questions.specs.declared.question.Question.TheVariants.{Truth, Certificate, Terms, TermsCertificate, Check, Solutions, Confirm, Synth}
 use Rattle.fort_run.proofs.PosedQuestions.{settled}
 use Rattle.fort_run.proofs.verdict.reply_by_core.Goals as goal
 

@@ -3,7 +3,7 @@ use Rattle.std.proofs.lemmas.Result.{IfOk-weaker}
 use Rattle.fort_words.specs.RequestView.{as_options}
 use Rattle.fort_formulas.specs.CoreView.{as_core}
 use Rattle.fort_run.specs.StatusView.{code_of}
-use Rattle.fort_run.specs.declared.question.Question.TheVariants.{TermsCertificate}
+use Rattle.fort_questions.specs.declared.question.Question.TheVariants.{TermsCertificate}
 use Rattle.fort_run.proofs.PosedQuestions.{open_columns, verdict_settles, limit_settles}
 use Rattle.fort_run.proofs.WrittenTerms.{true_terms}
 use Rattle.fort_run.proofs.verdict.terms_certificate.Goals as goal

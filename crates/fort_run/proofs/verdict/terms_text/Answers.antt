@@ -5,11 +5,11 @@ use Rattle.std.proofs.lemmas.Result.{IfOk-weaker}
 use Rattle.fort_tables.specs.Tables.{listed_table}
 use Rattle.fort_steps.specs.StepView.{as_step}
 use Rattle.fort_certificate.specs.Again.{HasSmallNumbers}
-use Rattle.fort_order.specs.LeastTuple.{AcceptsNone}
+use Rattle.fort_tables.specs.LeastTuple.{AcceptsNone}
 use Rattle.fort_witness.specs.Answers.{last_tuple, IsWitness}
-use Rattle.fort_open_certificates.specs.OpenCertificates.{Found, Empty}
-use Rattle.fort_open_certificates.specs.OpenText.{open_text}
-use Rattle.fort_open_certificates.specs.OpenWritten.{LeastFound, NoneFound}
+use Rattle.fort_certificate_theory.specs.OpenCertificates.{Found, Empty}
+use Rattle.fort_certificate_theory.specs.OpenText.{open_text}
+use Rattle.fort_certificate_theory.specs.OpenWritten.{LeastFound, NoneFound}
 use Rattle.fort_run.proofs.verdict.terms_text.Goals as goal
 
 pub needed_nodes-requires-clause-nodes : goal.needed_nodes-requires-clause-nodes

@@ -4,7 +4,7 @@ use Rattle.fort_words.specs.RequestView.{as_options}
 use Rattle.fort_answers.specs.FormulaAnswer.{Closed}
 use Rattle.fort_formulas.specs.CoreView.{as_core}
 use Rattle.fort_run.specs.Ready.{IsDecidedBy}
-use Rattle.fort_run.specs.declared.question.Question.TheVariants.{Truth}
+use Rattle.fort_questions.specs.declared.question.Question.TheVariants.{Truth}
 use Rattle.fort_run.proofs.LineReplies.{verdict_is}
 use Rattle.fort_run.proofs.PosedQuestions.{decided_by, verdict_settles, limit_settles}
 use Rattle.fort_run.proofs.verdict.truth.Goals as goal

@@ -2,7 +2,7 @@ use Rattle.std.proofs.lemmas.Result.{IfOk-weaker}
 use Rattle.fort_formulas.specs.CoreView.{as_core}
 use Rattle.fort_formulas.specs.FormulaView.{as_formula}
 use Rattle.fort_run.specs.Posed.{IsPosed}
-use Rattle.fort_run.specs.Questions.{openness_of}
+use Rattle.fort_questions.specs.Questions.{openness_of}
 use Rattle.fort_run.proofs.verdict.verdict.Goals as goal
 
 pub returns : goal.returns

@@ -3,7 +3,7 @@ use Rattle.std.specs.Prelude.{IfSome, IfNone}
 use Rattle.fort_logic.specs.FreeNames.{free_names}
 use Rattle.fort_tables.specs.Tables.{listed_table}
 use Rattle.fort_formulas.specs.FormulaView.{as_formula}
-use Rattle.fort_order.specs.LeastTuple.{AcceptsNone}
+use Rattle.fort_tables.specs.LeastTuple.{AcceptsNone}
 use Rattle.fort_witness.specs.Answers.{IsWitness}
 use Rattle.fort_answers.specs.Lines.{witness_line, none_line}
 use Rattle.fort_answers.specs.Witnesses.{bindings}

@@ -1,6 +1,6 @@
 use Rattle.std.proofs.Common.{◌≡◌, take}
 use Rattle.fort_theory.specs.Trees.{trees}
-use Rattle.fort_families.specs.FamilySystems.{ground_sides}
+use Rattle.fort_answers.specs.FamilySystems.{ground_sides}
 use Rattle.fort_terms.specs.SideView.{as_sides}
 use Rattle.fort_synth.proofs.candidate.+ground_side.Given as goal
 

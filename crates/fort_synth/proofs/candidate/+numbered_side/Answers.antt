@@ -1,5 +1,5 @@
 use Rattle.std.proofs.Common.{◌≡◌, ◌∙◌, suc, ap, arith}
-use Rattle.fort_families.specs.FamilySystems.{any_count, any_counts, side_from}
+use Rattle.fort_answers.specs.FamilySystems.{any_count, any_counts, side_from}
 use Rattle.fort_terms.specs.PatternView.{as_pattern, node_count, node_counts}
 use Rattle.fort_synth.proofs.CandidateSides.{sides_from-more}
 use Rattle.fort_synth.proofs.TextPatterns.{size_at, any_counts-more, any_counts-within}

@@ -1,5 +1,5 @@
 use Rattle.std.proofs.Common.{◌≡◌, ◌+◌, take}
-use Rattle.fort_families.specs.FamilySystems.{any_counts, sides_from}
+use Rattle.fort_answers.specs.FamilySystems.{any_counts, sides_from}
 use Rattle.fort_terms.specs.PatternView.{as_pattern, as_patterns, node_count}
 use Rattle.fort_terms.specs.SideView.{as_sides}
 use Rattle.fort_synth.proofs.candidate.+numbered_side.Given as goal

@@ -1,6 +1,6 @@
 use Rattle.std.proofs.Common.{◌≡◌, ◌∙◌, ap, arith, map, sym, suc, ◌+◌, length}
 use Rattle.std.proofs.lemmas.List.{length-map}
-use Rattle.fort_families.specs.FamilyRules.{most_family_rules}
+use Rattle.fort_answers.specs.FamilyRules.{most_family_rules}
 use Rattle.fort_terms.specs.PatternView.{as_pattern}
 use Rattle.fort_synth.specs.FamilyLists.{argument_lists, longer_lists}
 use Rattle.fort_synth.proofs.FamilySizes.{too_many_lists_counted, few_lists_counted}

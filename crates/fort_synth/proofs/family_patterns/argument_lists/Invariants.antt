@@ -1,5 +1,5 @@
 use Rattle.std.proofs.Common.{◌≡◌, ◌≤◌, map, length}
-use Rattle.fort_families.specs.FamilyRules.{most_family_rules}
+use Rattle.fort_answers.specs.FamilyRules.{most_family_rules}
 use Rattle.fort_terms.specs.PatternView.{as_pattern}
 use Rattle.fort_synth.specs.FamilyLists.{argument_lists}
 use Rattle.fort_synth.proofs.family_patterns.argument_lists.Given as goal

@@ -2,7 +2,7 @@ use Rattle.std.proofs.Common.{◌≡◌, ◌∙◌, ◌+◌, ◌<◌, ◌++◌, 
 use Rattle.std.proofs.lemmas.List.{length-map}
 use Rattle.std.proofs.lemmas.Result.{err_from_is_err_and}
 use Rattle.fort_theory.specs.Patterns.{Any, At}
-use Rattle.fort_families.specs.FamilyRules.{most_family_rules}
+use Rattle.fort_answers.specs.FamilyRules.{most_family_rules}
 use Rattle.fort_terms.specs.PatternView.{as_pattern}
 use Rattle.fort_synth.specs.FamilyLists.{argument_lists, applications_before}
 use Rattle.fort_synth.specs.declared.family_rules.FamilyFault.TheVariants.{TooLarge}

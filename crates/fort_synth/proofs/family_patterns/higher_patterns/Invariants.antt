@@ -1,6 +1,6 @@
 use Rattle.std.proofs.Common.{◌≡◌, ◌≤◌, ◌∷◌, map, length}
 use Rattle.fort_theory.specs.Patterns.{Any}
-use Rattle.fort_families.specs.FamilyRules.{most_family_rules}
+use Rattle.fort_answers.specs.FamilyRules.{most_family_rules}
 use Rattle.fort_terms.specs.PatternView.{as_pattern}
 use Rattle.fort_synth.specs.FamilyLists.{applications_before}
 use Rattle.fort_synth.proofs.family_patterns.higher_patterns.Given as goal

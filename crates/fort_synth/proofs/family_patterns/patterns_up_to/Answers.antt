@@ -1,6 +1,6 @@
 use Rattle.std.proofs.Common.{◌≡◌, ◌∙◌, ◌<◌, Err, ap, arith, map, subst, sym, suc, length}
 use Rattle.std.proofs.lemmas.Result.{err_from_is_err_and}
-use Rattle.fort_families.specs.FamilyRules.{most_family_rules}
+use Rattle.fort_answers.specs.FamilyRules.{most_family_rules}
 use Rattle.fort_terms.specs.PatternView.{as_pattern}
 use Rattle.fort_synth.specs.FamilyLists.{higher_patterns}
 use Rattle.fort_synth.specs.declared.family_rules.FamilyFault.TheVariants.{TooLarge}

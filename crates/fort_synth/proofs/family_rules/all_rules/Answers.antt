@@ -1,5 +1,5 @@
 use Rattle.std.proofs.Common.{map}
-use Rattle.fort_families.specs.FamilyRules.{FamilyRule}
+use Rattle.fort_answers.specs.FamilyRules.{FamilyRule}
 use Rattle.fort_terms.specs.PatternView.{as_pattern}
 use Rattle.fort_synth.specs.FamilyView.{as_family_rule}
 use Rattle.fort_synth.proofs.FamilyListLaws.{joined_more}

@@ -1,7 +1,7 @@
 use Rattle.std.proofs.Common.{◌≡◌, ◌∙◌, ◌≤◌, Err, ap, arith, map, subst, sym, length, true≢false}
 use Rattle.std.proofs.lemmas.List.{length-map}
 use Rattle.std.proofs.lemmas.Result.{err_from_is_err_and}
-use Rattle.fort_families.specs.FamilyRules.{IsFamily, most_family_rules}
+use Rattle.fort_answers.specs.FamilyRules.{IsFamily, most_family_rules}
 use Rattle.fort_terms.specs.PatternView.{as_pattern}
 use Rattle.fort_synth.specs.FamilyLists.{low_patterns, ground_terms, all_rules}
 use Rattle.fort_synth.specs.FamilyView.{as_family_rule}

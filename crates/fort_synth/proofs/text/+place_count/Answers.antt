@@ -1,6 +1,6 @@
 use Rattle.std.proofs.Common.{ap, arith}
 use Rattle.fort_terms.specs.PatternView.{as_pattern, node_count, node_counts}
-use Rattle.fort_families.specs.FamilySystems.{any_count, any_counts}
+use Rattle.fort_answers.specs.FamilySystems.{any_count, any_counts}
 use Rattle.fort_synth.proofs.TextPatterns.{size_at, any_counts-more, any_counts-within}
 use Rattle.fort_synth.proofs.text.+place_count.Goals as goal
 

@@ -1,6 +1,6 @@
 use Rattle.std.proofs.Common.{◌≡◌, take}
 use Rattle.fort_terms.specs.PatternView.{as_pattern, as_patterns, node_count}
-use Rattle.fort_families.specs.FamilySystems.{any_counts}
+use Rattle.fort_answers.specs.FamilySystems.{any_counts}
 use Rattle.fort_synth.proofs.text.+place_count.Given as goal
 
 abbrev pub decreases-place_count : goal.decreases-place_count

@@ -2,7 +2,7 @@ use Rattle.std.proofs.Common.{◌≡◌, ◌≢◌, length, sym, ap, ◌∙◌, 
 use Rattle.std.proofs.lemmas.Bool.{eqb-true, eqb-false}
 use Rattle.fort_theory.specs.Patterns.{FitsPattern, FitPatterns}
 use Rattle.fort_terms.specs.PatternView.{as_pattern, as_patterns, node_count, node_counts}
-use Rattle.fort_families.specs.FamilySystems.{any_count, any_counts}
+use Rattle.fort_answers.specs.FamilySystems.{any_count, any_counts}
 use Rattle.fort_synth.proofs.TextPatterns.{size_at, fits_at, any_counts-more, any_counts-within, text_more, text_constant, text_closed, counted_all, symbol_there}
 use Rattle.fort_synth.proofs.text.+push_pattern.Goals as goal
 

@@ -1,7 +1,7 @@
 use Rattle.std.proofs.Common.{◌≡◌, ◌+◌, ◌++◌, take}
 use Rattle.fort_terms.specs.PatternView.{as_pattern, as_patterns, node_count}
-use Rattle.fort_families.specs.FamilySystems.{any_counts, sides_from}
-use Rattle.fort_families.specs.RuleText.{sides_text}
+use Rattle.fort_answers.specs.FamilySystems.{any_counts, sides_from}
+use Rattle.fort_answers.specs.RuleText.{sides_text}
 use Rattle.fort_synth.proofs.text.+push_pattern.Given as goal
 
 abbrev pub decreases-push_pattern : goal.decreases-push_pattern

@@ -1,5 +1,5 @@
 use Rattle.std.proofs.Common.{◌≡◌, ◌+◌, suc, drop, sym, ◌∙◌, ap, arith}
-use Rattle.fort_operations.specs.Selections.{is_present}
+use Rattle.fort_tables.specs.Selections.{is_present}
 use Rattle.fort_target_lists.proofs.ColumnLaws.{present_here, present_behind}
 use Rattle.fort_target_lists.proofs.columns.is_present.Goals as goal
 

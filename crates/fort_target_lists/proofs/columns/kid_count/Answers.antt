@@ -1,7 +1,6 @@
 use Rattle.std.proofs.Common.{◌∙◌, sym, arith}
 use Rattle.fort_tables.proofs.TupleLaws.{arity_from_get}
-use Rattle.fort_target_lists.proofs.ColumnLaws.{symbol_within, kids_some, kids_none, kids_next}
-use Rattle.fort_target_lists.proofs.ColumnLaws.{arity_small}
+use Rattle.fort_target_lists.proofs.ColumnLaws.{symbol_within, kids_some, kids_none, kids_next, arity_small}
 use Rattle.fort_target_lists.proofs.columns.kid_count.Goals as goal
 use Rattle.fort_target_lists.proofs.columns.kid_count.Goals.{in-Some+then-count-arity, in-Some+else-count-arity, in_default}
 

@@ -1,6 +1,6 @@
 use Rattle.std.proofs.Common.{length, get_or, None, ◌∙◌, arith}
 use Rattle.std.proofs.lemmas.List.{length-map, length-set}
-use Rattle.fort_operations.specs.Selections.{selected}
+use Rattle.fort_tables.specs.Selections.{selected}
 use Rattle.fort_target_lists.proofs.ColumnLaws.{columns_read, selected_more}
 use Rattle.fort_target_lists.proofs.columns.selected.Goals as goal
 

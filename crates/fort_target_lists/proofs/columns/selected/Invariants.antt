@@ -1,6 +1,6 @@
 use Rattle.std.proofs.Common.{◌≡◌, ℕ, ◌<◌, get_or, length, None}
 use Rattle.fort_tuple_symbols.specs.Columns.{as_column}
-use Rattle.fort_operations.specs.Selections.{selected}
+use Rattle.fort_tables.specs.Selections.{selected}
 use Rattle.fort_target_lists.proofs.columns.selected.Given as goal
 
 abbrev pub invariant-loop-k : goal.invariant-loop-k

@@ -1,7 +1,7 @@
 use Rattle.std.proofs.Common.{◌≡◌, suc, ◌-◌, ◌^◌, ◌<◌, min, length, refl, ap, sym, ◌∙◌, arith, subst}
 use Rattle.fort_tables.specs.Tuples.{TupleSymbol, AreSymbols}
 use Rattle.fort_tables.proofs.EqualTests.{equal_from_test, apart_from_test}
-use Rattle.fort_laid_entries.specs.Laid.{entries_under}
+use Rattle.fort_tables.specs.Laid.{entries_under}
 use Rattle.fort_tuple_symbols.specs.SymbolNumbers.{columns_at}
 use Rattle.fort_tuple_symbols.proofs.SymbolNumberLaws.{columns_first, columns_next, length-columns_at}
 use Rattle.fort_target_lists.proofs.SymbolNumbers.{symbols_at}

@@ -1,6 +1,6 @@
 use Rattle.std.proofs.Common.{◌-◌, ◌^◌, min, length, ap, sym, ◌∙◌, arith}
-use Rattle.fort_laid_entries.proofs.KidLists.{under_absent, under_present}
-use Rattle.fort_operations.proofs.SelectionLaws.{present_from_test}
+use Rattle.fort_tables.proofs.KidLists.{under_absent, under_present}
+use Rattle.fort_tables.proofs.SelectionLaws.{present_from_test}
 use Rattle.fort_target_lists.proofs.LaidTargets.{absent_presence}
 use Rattle.fort_target_lists.proofs.entry_count.symbol_entries.Goals as goal
 

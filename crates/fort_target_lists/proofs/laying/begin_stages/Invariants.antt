@@ -1,6 +1,6 @@
 use Rattle.std.proofs.Common.{◌≡◌, ℕ, ◌<◌, ◌≤◌, List, length, get_or}
 use Rattle.fort_tables.specs.Entries.{Entry}
-use Rattle.fort_laid_entries.specs.Laid.{start_of}
+use Rattle.fort_tables.specs.Laid.{start_of}
 use Rattle.fort_target_lists.specs.Walks.{AreStageCounts}
 use Rattle.fort_target_lists.proofs.laying.begin_stages.Given as goal
 

@@ -1,7 +1,7 @@
 use Rattle.std.proofs.Common.{◌≡◌, ◌+◌, ◌-◌, ◌^◌, ◌<◌, ◌++◌, [], ◌∷◌, take, set, length, ap, sym, ◌∙◌, arith}
 use Rattle.std.proofs.lemmas.List.{append-nil}
 use Rattle.fort_tables.specs.Tuples.{kid_presence}
-use Rattle.fort_laid_entries.specs.Laid.{joined_below}
+use Rattle.fort_tables.specs.Laid.{joined_below}
 use Rattle.fort_target_lists.specs.Flats.{laid}
 use Rattle.fort_target_lists.proofs.ListingLaws.{lists_behind, laid_turn, laid_end, lay_there, lay_to}
 use Rattle.fort_target_lists.proofs.listing.+lay.Goals as goal

@@ -1,6 +1,6 @@
 use Rattle.std.proofs.Common.{◌≡◌, ◌-◌, ◌<◌, ◌≤◌, ◌==◌, suc, [], ◌∷◌, ◌++◌, take, length, get_or, if◌then◌else◌}
 use Rattle.fort_tables.specs.Tuples.{kid_presence}
-use Rattle.fort_laid_entries.specs.Laid.{joined_below}
+use Rattle.fort_tables.specs.Laid.{joined_below}
 use Rattle.fort_target_lists.specs.Flats.{laid}
 use Rattle.fort_target_lists.proofs.listing.+lay.Given as goal
 

@@ -1,6 +1,6 @@
 use Rattle.std.proofs.Common.{refl, ◌≡◌, ◌+◌, ◌<◌, [], ◌∷◌, length, get_or, length-append, ap, ◌∙◌, arith}
 use Rattle.std.proofs.lemmas.List.{length-set}
-use Rattle.fort_lockstep.specs.Ranks.{rank_in}
+use Rattle.fort_tables.specs.StateRanks.{rank_in}
 use Rattle.fort_target_lists.proofs.PlaceLaws.{none_before, rank_small, rank_whole, counts_more, pushed_more}
 use Rattle.fort_target_lists.proofs.states.rank_states.Goals as goal
 

@@ -1,5 +1,5 @@
 use Rattle.std.proofs.Common.{◌≡◌, ℕ, ◌<◌, get_or, length, vec_capacity}
-use Rattle.fort_lockstep.specs.Ranks.{rank_in}
+use Rattle.fort_tables.specs.StateRanks.{rank_in}
 use Rattle.fort_target_lists.proofs.states.rank_states.Given as goal
 
 abbrev pub invariant-loop-q : goal.invariant-loop-q

@@ -1,7 +1,7 @@
 use Rattle.std.proofs.Common.{◌≡◌, ℕ, ◌<◌, ◌≤◌, ◌==◌, List, [], ◌∷◌, ◌++◌, length, if◌then◌else◌, ap, sym, ◌∙◌, arith}
 use Rattle.std.proofs.lemmas.List.{length_push}
 use Rattle.fort_tables.proofs.EqualTests.{if_equal, if_apart}
-use Rattle.fort_interchange.proofs.SeparationLaws.{by_equal}
+use Rattle.fort_tables.proofs.SeparationLaws.{by_equal}
 use Rattle.fort_tests_tables.proofs.small_tables.table_from.Goals as goal
 
 -- the presences where an entry of this presence has this target

@@ -1,6 +1,6 @@
 use Rattle.std.proofs.Common.{◌≡◌, ◌<◌, ◌≤◌, List, map, length, take, get_or, refl, ap, ◌∙◌, subst, arith}
 use Rattle.std.proofs.lemmas.List.{take_all}
-use Rattle.fort_in_order.specs.Dues.{DueStep}
+use Rattle.fort_certificate_theory.specs.Dues.{DueStep}
 use Rattle.fort_engine.specs.declared.closures.IndexClosure.{IndexClosure}
 use Rattle.fort_trace.specs.Recording.{AddsSteps}
 use Rattle.fort_trace.proofs.ClosureLaws.{step_for, closures_are_due, AddsSteps-none, AddsSteps-more}

@@ -1,8 +1,8 @@
 use Rattle.std.proofs.Common.{◌≡◌, ◌<◌, ◌^◌, List, [], None, length, get_or, refl, sym, ◌∙◌, subst, arith}
 use Rattle.std.proofs.lemmas.List.{get_or_default}
 use Rattle.fort_formulas.specs.CoreView.{as_core}
-use Rattle.fort_in_order.specs.Dues.{closures_due}
-use Rattle.fort_in_order.specs.Made.{nothing_made}
+use Rattle.fort_certificate_theory.specs.Dues.{closures_due}
+use Rattle.fort_certificate_theory.specs.Made.{nothing_made}
 use Rattle.fort_outline.specs.Outlines.{parts_in}
 use Rattle.fort_engine.specs.Deciding.{IsPlanned}
 use Rattle.fort_engine.proofs.OperandLaws.{none_taken}

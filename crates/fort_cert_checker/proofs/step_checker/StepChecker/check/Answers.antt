@@ -1,5 +1,5 @@
 use Rattle.std.proofs.Common.{◌≡◌, ◌+◌, length, refl, sym, ap, subst, ◌∙◌, arith}
-use Rattle.fort_in_order.specs.Made.{nothing_made}
+use Rattle.fort_certificate_theory.specs.Made.{nothing_made}
 use Rattle.fort_cert_checker.specs.StepCheckers.{HasFailure}
 use Rattle.fort_cert_checker.proofs.StepCheckLaws.{start, step_count, too_many, done, fits_along}
 use Rattle.fort_cert_checker.proofs.step_checker.StepChecker.check.Goals as goal

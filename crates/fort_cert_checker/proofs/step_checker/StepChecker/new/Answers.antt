@@ -3,7 +3,7 @@ use Rattle.std.specs.Prelude.{Contains}
 use Rattle.std.proofs.lemmas.List.{length-map}
 use Rattle.fort_outline.specs.Roots.{cores_of}
 use Rattle.fort_outline.proofs.RootLaws.{length-cores_of}
-use Rattle.fort_in_order.specs.Dues.{DueStep, OfClosure, dues, is_merged_in, dues_of}
+use Rattle.fort_certificate_theory.specs.Dues.{DueStep, OfClosure, dues, is_merged_in, dues_of}
 use Rattle.fort_formulas.specs.CoreView.{as_core}
 use Rattle.fort_steps.specs.StepView.{as_step}
 use Rattle.fort_dues.specs.DueView.{as_due}

@@ -1,6 +1,6 @@
 use Rattle.std.proofs.Common.{◌≡◌, ◌+◌, ◌*◌, ◌<◌, ◌≤◌, ◌++◌, ◌∷◌, [], ℕ, List, length, vec_len, ap, sym, subst, ◌∙◌, arith, length-append}
 use Rattle.fort_tables.proofs.TupleLaws.{length-tabulate}
-use Rattle.fort_lockstep.proofs.PieceLaws.{piece_within}
+use Rattle.fort_tables.proofs.PieceLaws.{piece_within}
 use Rattle.fort_check_steps.specs.SparseWords.{places_from, label_at}
 use Rattle.fort_check_steps.specs.SparseRowsView.{SparseLabels}
 use Rattle.fort_check_steps.specs.SparseRowsInside.{AreSparse, sparse_labels}

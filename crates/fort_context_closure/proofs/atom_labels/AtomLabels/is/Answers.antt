@@ -1,6 +1,6 @@
-use Rattle.fort_atom_labels.specs.Subterms.{subterms}
-use Rattle.fort_atom_labels.proofs.SubtermLaws.{ListsSubterms-subterms}
-use Rattle.fort_atom_labels.proofs.TermLabels.{labels-AlikeAtTerm, accepts-term}
+use Rattle.fort_alike.specs.Subterms.{subterms}
+use Rattle.fort_alike.proofs.SubtermLaws.{ListsSubterms-subterms}
+use Rattle.fort_alike.proofs.TermLabels.{labels-AlikeAtTerm, accepts-term}
 use Rattle.fort_context_closure.proofs.atom_labels.AtomLabels.is.Goals as goal
 
 pub returns-clause-alike : goal.returns-clause-alike

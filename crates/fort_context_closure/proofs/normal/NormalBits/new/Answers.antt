@@ -2,8 +2,8 @@ use Rattle.std.proofs.Common.{map, ◌∙◌, refl}
 use Rattle.fort_theory.specs.Sides.{at_index}
 use Rattle.fort_terms.specs.PatternView.{as_pattern}
 use Rattle.fort_tree_automata.proofs.SubpatternsClosed.{IsClosedInOrder-subpatterns}
-use Rattle.fort_atom_labels.proofs.MarkSets.{NoneTwice-ordered}
-use Rattle.fort_atom_labels.proofs.SystemAtoms.{IsListedAtom-normal}
+use Rattle.fort_alike.proofs.MarkSets.{NoneTwice-ordered}
+use Rattle.fort_alike.proofs.SystemAtoms.{IsListedAtom-normal}
 use Rattle.fort_context_closure.specs.declared.normal.NormalBits.TheInside.{Inside}
 use Rattle.fort_context_closure.specs.NormalView.{normal_seen}
 use Rattle.fort_context_closure.specs.SidePlaces.{AreSidesOf}

@@ -6,8 +6,8 @@ use Rattle.fort_theory.specs.Patterns.{Pattern}
 use Rattle.fort_tables.specs.Tuples.{TupleSymbol, presence}
 use Rattle.fort_tables.specs.BitRows.{words_for}
 use Rattle.fort_tuple_symbols.specs.Columns.{as_column}
-use Rattle.fort_atom_labels.specs.AtomRules.{marks_of}
-use Rattle.fort_atom_labels.specs.PatternNumbers.{PatternNumber, number_inside}
+use Rattle.fort_alike.specs.AtomRules.{marks_of}
+use Rattle.fort_alike.specs.PatternNumbers.{PatternNumber, number_inside}
 use Rattle.fort_label_bits.specs.RowBits.{HasBits, IsRow, labels_at}
 use Rattle.fort_context_closure.specs.SidePlaces.{side_at}
 use Rattle.fort_context_closure.specs.NormalView.{normal_seen, normal_patterns}

@@ -4,7 +4,7 @@ use Rattle.fort_relations.specs.declared.relation.Rel.{Rel}
 use Rattle.fort_alike.specs.Atoms.{EqKind, StepKind, BelowKind, ParKind, StarKind, PlusKind, kind_for}
 use Rattle.fort_alike.specs.Alike.{Same, Steps, StepsBelow, StepsInParallel, Goes, GoesStrictly}
 use Rattle.fort_label_bits.specs.RulePlaces.{pair_at}
-use Rattle.fort_atom_labels.specs.AtomRules.{accepts_by, bit_in}
+use Rattle.fort_alike.specs.AtomRules.{accepts_by, bit_in}
 use Rattle.fort_context_closure.specs.RelationView.{listed_seen, left_patterns, right_patterns}
 use Rattle.fort_context_closure.proofs.NodeRowLaws.{accepts-root, accepts-fact}
 use Rattle.fort_context_closure.proofs.relation.RelationBits.accepts.Goals as goal

@@ -5,7 +5,7 @@ use Rattle.fort_terms.specs.PatternView.{as_pair, as_pattern}
 use Rattle.fort_relations.specs.RelView.{as_rel}
 use Rattle.fort_alike.specs.Atoms.{kind_for}
 use Rattle.fort_tree_automata.proofs.SubpatternsClosed.{IsClosedInOrder-subpatterns}
-use Rattle.fort_atom_labels.proofs.MarkSets.{NoneTwice-ordered}
+use Rattle.fort_alike.proofs.MarkSets.{NoneTwice-ordered}
 use Rattle.fort_context_closure.specs.declared.relation.RelationBits.TheInside.{Inside}
 use Rattle.fort_context_closure.specs.ClosedAtoms.{numbers_of}
 use Rattle.fort_label_bits.specs.NumberedView.{AreNumbersOf}

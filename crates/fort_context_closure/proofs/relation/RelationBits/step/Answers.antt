@@ -8,7 +8,7 @@ use Rattle.fort_relations.specs.RelView.{as_rel}
 use Rattle.fort_label_bits.specs.RowBits.{HasBits, IsRow, labels_at}
 use Rattle.fort_label_bits.specs.RulePlaces.{pair_at}
 use Rattle.fort_context_closure.specs.ClosedAtoms.{test_of}
-use Rattle.fort_atom_labels.specs.AtomRules.{root_test, bit_in, marks_of, first_step, second_step}
+use Rattle.fort_alike.specs.AtomRules.{root_test, bit_in, marks_of, first_step, second_step}
 use Rattle.fort_tables.specs.BitRows.{words_for}
 use Rattle.fort_alike.specs.Atoms.{kind_for}
 use Rattle.fort_alike.specs.Alike.{facts_of, is_reaching}

@@ -5,8 +5,8 @@ use Rattle.fort_tuple_symbols.specs.Columns.{as_column}
 use Rattle.fort_tables.specs.BitRows.{words_for}
 use Rattle.fort_alike.specs.Atoms.{kind_for}
 use Rattle.fort_alike.specs.Alike.{is_reaching}
-use Rattle.fort_atom_labels.specs.AtomRules.{marks_of}
-use Rattle.fort_atom_labels.specs.PatternNumbers.{PatternNumber, number_inside}
+use Rattle.fort_alike.specs.AtomRules.{marks_of}
+use Rattle.fort_alike.specs.PatternNumbers.{PatternNumber, number_inside}
 use Rattle.fort_label_bits.specs.RowBits.{HasBits, labels_at}
 use Rattle.fort_context_closure.specs.ReachRows.{HasRows}
 use Rattle.fort_context_closure.specs.RelationView.{atom_seen, listed_seen, left_patterns, right_patterns}

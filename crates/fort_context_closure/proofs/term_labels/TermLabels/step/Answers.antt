@@ -3,7 +3,7 @@ use Rattle.std.proofs.lemmas.List.{length-map}
 use Rattle.fort_theory.specs.Trees.{Tree}
 use Rattle.fort_tables.specs.Tuples.{presence}
 use Rattle.fort_tables.specs.Labels.{first_word}
-use Rattle.fort_atom_labels.specs.Subterms.{subterms}
+use Rattle.fort_alike.specs.Subterms.{subterms}
 use Rattle.fort_context_closure.specs.TermNodes.{AreNodesOf}
 use Rattle.fort_context_closure.proofs.ListingLaws.{number_at-nodes, two_words}
 use Rattle.fort_context_closure.proofs.term_labels.TermLabels.step.Goals as goal

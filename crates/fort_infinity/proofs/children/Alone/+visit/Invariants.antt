@@ -1,6 +1,6 @@
 use Rattle.std.proofs.Common.{◌≡◌, ℕ, ◌+◌, ◌-◌, ◌||◌, [], ◌∷◌, ◌++◌, take, length, get_or}
 use Rattle.std.specs.List.{list_any}
-use Rattle.fort_counts.specs.PureSearch.{has_number, is_child_after}
+use Rattle.fort_tables.specs.PureSearch.{has_number, is_child_after}
 use Rattle.fort_infinity.proofs.children.Alone.+visit.Given as goal
 
 abbrev pub decreases-visit : goal.decreases-visit

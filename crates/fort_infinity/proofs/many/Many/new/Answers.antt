@@ -1,9 +1,9 @@
 use Rattle.std.proofs.Common.{IsTrue, map}
-use Rattle.fort_operations.specs.OperationTruth.{accepts}
-use Rattle.fort_counts.specs.Counts.{count_at}
-use Rattle.fort_counts.proofs.TellsLaws.{TellsMany-marks}
-use Rattle.fort_counts.proofs.ManyAgreementLaws.{many_by_states}
-use Rattle.fort_counts.proofs.ManyTruth.{many_decides}
+use Rattle.fort_tables.specs.OperationTruth.{accepts}
+use Rattle.fort_tables.specs.Counts.{count_at}
+use Rattle.fort_tables.proofs.TellsLaws.{TellsMany-marks}
+use Rattle.fort_tables.proofs.ManyAgreementLaws.{many_by_states}
+use Rattle.fort_tables.proofs.ManyTruth.{many_decides}
 use Rattle.fort_findings.specs.FindingView.{as_count}
 use Rattle.fort_infinity.specs.ManyCounts.{is_many}
 use Rattle.fort_infinity.proofs.many.Many.new.Goals as goal

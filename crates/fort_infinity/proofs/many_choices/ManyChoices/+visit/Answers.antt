@@ -1,11 +1,11 @@
 use Rattle.std.proofs.Common.{◌<◌, ◌==◌, ◌&&◌, ◌||◌, ◌+◌, ◌-◌, [], ◌∷◌, ◌++◌, take, set, length, ◌∙◌, refl, ap, sym, arith}
 use Rattle.fort_tables.specs.Tuples.{symbol_kids}
 use Rattle.fort_tables.specs.Entries.{entry}
-use Rattle.fort_operations.specs.Projections.{has_state}
-use Rattle.fort_counts.specs.ManyLabels.{has_many}
-use Rattle.fort_counts.specs.ManyEntries.{kid_labels, finds, may_be, gives_state, gives_endless}
-use Rattle.fort_counts.proofs.ManyEntryLaws.{choices_count, choices_symbol, choice_state}
-use Rattle.fort_counts.proofs.ManySearchLaws.{finds_turn, finds_end, finds_chosen, endless_more, endless_all}
+use Rattle.fort_tables.specs.Projections.{has_state}
+use Rattle.fort_tables.specs.ManyLabels.{has_many}
+use Rattle.fort_tables.specs.ManyEntries.{kid_labels, finds, may_be, gives_state, gives_endless}
+use Rattle.fort_tables.proofs.ManyEntryLaws.{choices_count, choices_symbol, choice_state}
+use Rattle.fort_tables.proofs.ManySearchLaws.{finds_turn, finds_end, finds_chosen, endless_more, endless_all}
 use Rattle.fort_projections.proofs.ChoiceSearch.{whole_entry, kid_state_more, turn, turn_last}
 use Rattle.fort_infinity.specs.ManyCounts.{is_many}
 use Rattle.fort_infinity.proofs.many_choices.ManyChoices.+visit.Goals as goal

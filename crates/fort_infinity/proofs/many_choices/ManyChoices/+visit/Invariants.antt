@@ -1,8 +1,8 @@
 use Rattle.std.proofs.Common.{◌≡◌, ℕ, ◌<◌, ◌≤◌, ◌+◌, ◌-◌, ◌*◌, ◌&&◌, ◌||◌, [], ◌∷◌, ◌++◌, take, length, get_or}
 use Rattle.fort_tables.specs.BitRows.{words_for}
-use Rattle.fort_operations.specs.Projections.{has_state, some_below}
-use Rattle.fort_counts.specs.ManyLabels.{has_many}
-use Rattle.fort_counts.specs.ManyEntries.{finds, may_be, gives_state, gives_endless}
+use Rattle.fort_tables.specs.Projections.{has_state, some_below}
+use Rattle.fort_tables.specs.ManyLabels.{has_many}
+use Rattle.fort_tables.specs.ManyEntries.{finds, may_be, gives_state, gives_endless}
 use Rattle.fort_infinity.specs.ManyCounts.{is_many}
 use Rattle.fort_infinity.proofs.many_choices.ManyChoices.+visit.Given as goal
 

@@ -1,8 +1,8 @@
 use Rattle.std.proofs.Common.{◌≡◌, ℕ, ◌<◌, ◌+◌, List, [], get_or, length, ap, sym, ◌∙◌, arith}
 use Rattle.fort_tables.specs.BitRows.{has_bit}
-use Rattle.fort_counts.specs.ManyEntries.{kid_labels}
-use Rattle.fort_counts.proofs.ManyEntryLaws.{kid_label_at, length-kid_labels, kid_within}
-use Rattle.fort_counts.proofs.ManySearchLaws.{has_many-above, has_many-own, has_many-past}
+use Rattle.fort_tables.specs.ManyEntries.{kid_labels}
+use Rattle.fort_tables.proofs.ManyEntryLaws.{kid_label_at, length-kid_labels, kid_within}
+use Rattle.fort_tables.proofs.ManySearchLaws.{has_many-above, has_many-own, has_many-past}
 use Rattle.fort_infinity.specs.ManyCounts.{is_many}
 use Rattle.fort_infinity.proofs.many_choices.ManyChoices.kid_has_many.Goals as goal
 

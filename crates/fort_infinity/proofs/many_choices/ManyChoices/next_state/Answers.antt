@@ -1,7 +1,7 @@
 use Rattle.std.proofs.Common.{ℕ, ◌<◌, ◌==◌, List, [], get_or, length, ap, sym, ◌∙◌, arith}
 use Rattle.std.proofs.lemmas.Option.{IfSome_then}
-use Rattle.fort_operations.specs.Projections.{absent_state, has_state, is_pure}
-use Rattle.fort_counts.proofs.ManyEntryLaws.{kid_within, kid_label, choices_count}
+use Rattle.fort_tables.specs.Projections.{absent_state, has_state, is_pure}
+use Rattle.fort_tables.proofs.ManyEntryLaws.{kid_within, kid_label, choices_count}
 use Rattle.fort_projections.proofs.ProjectEntries.{pure_small}
 use Rattle.fort_projections.proofs.ChoiceSearch.{IfNone_then, absent_same, set_same, pure_same, none_choice}
 use Rattle.fort_infinity.specs.ManyCounts.{is_many}

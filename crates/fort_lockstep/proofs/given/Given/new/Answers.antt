@@ -1,6 +1,6 @@
 use Rattle.std.proofs.Common.{ℕ, List, length, sym, ap, subst, arith}
 use Rattle.fort_lockstep.specs.Tallies.{IsBefore}
-use Rattle.fort_lockstep.specs.EntryListFacts.{entries_in}
+use Rattle.fort_table.specs.EntryListFacts.{entries_in}
 use Rattle.fort_lockstep.specs.StateFacts.{first_entries_in}
 use Rattle.fort_lockstep.specs.TargetFacts.{all_transitions}
 use Rattle.fort_lockstep.proofs.FirstEntryLaws.{firsts_none}

@@ -6,7 +6,7 @@ use Rattle.fort_tuple_symbols.specs.Columns.{digit_of}
 use Rattle.fort_tuple_symbols.specs.DigitNumbers.{AreDigits}
 use Rattle.fort_lockstep.specs.GivenView.{Parts}
 use Rattle.fort_lockstep.specs.StateFacts.{first_entries_in, IsSameStates, IsNoted, AreFirsts}
-use Rattle.fort_lockstep.specs.EntryListFacts.{entries_in}
+use Rattle.fort_table.specs.EntryListFacts.{entries_in}
 use Rattle.fort_lockstep.specs.GroupFacts.{transitions_in, IsDue}
 use Rattle.fort_lockstep.specs.TargetFacts.{constants_of, all_transitions, AreTargets}
 use Rattle.fort_lockstep.specs.GivenInside.{parts_in}

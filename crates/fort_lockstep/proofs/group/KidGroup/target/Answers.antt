@@ -1,5 +1,5 @@
 use Rattle.std.proofs.Common.{◌≡◌, List, ℕ, length, get_or, true, sym, ◌∙◌, ap, arith, subst}
-use Rattle.fort_lockstep.specs.Ranks.{space, AreOf, wants_at}
+use Rattle.fort_tables.specs.StateRanks.{space, AreOf, wants_at}
 use Rattle.fort_lockstep.specs.InOrder.{place_in_order}
 use Rattle.fort_lockstep.specs.Tallies.{AreBelow}
 use Rattle.fort_lockstep.specs.Kept.{Kept}

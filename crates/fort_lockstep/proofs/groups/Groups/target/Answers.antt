@@ -1,7 +1,7 @@
 use Rattle.std.proofs.Common.{◌≡◌, ◌<◌, [], length, get_or, sym, ◌∙◌, ap, arith, subst}
 use Rattle.std.proofs.lemmas.List.{length-map, get_or_default}
 use Rattle.fort_lockstep.specs.Transitions.{transition}
-use Rattle.fort_lockstep.specs.Ranks.{space, AreOf}
+use Rattle.fort_tables.specs.StateRanks.{space, AreOf}
 use Rattle.fort_lockstep.specs.Kept.{no_kept, kids_in, group_in, IsKept}
 use Rattle.fort_lockstep.specs.GroupFacts.{transitions_of, groups_in}
 use Rattle.fort_entry_walk.proofs.InLaws.{Contains-from_In}

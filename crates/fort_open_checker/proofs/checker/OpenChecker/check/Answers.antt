@@ -1,5 +1,5 @@
 use Rattle.std.proofs.Common.{refl, sym, ap, ◌∙◌}
-use Rattle.fort_open_steps.specs.OpenView.{as_claim}
+use Rattle.fort_steps.specs.OpenView.{as_claim}
 use Rattle.fort_open_checker.proofs.OpenLaws.{failing_step, checker_kept, behind_steps}
 use Rattle.fort_open_checker.proofs.OpenTruths.{truths}
 use Rattle.fort_open_checker.proofs.checker.OpenChecker.check.Goals as goal

@@ -1,7 +1,7 @@
 use Rattle.std.proofs.Common.{◌≡◌, ◌<◌, map, length, sym, ◌∙◌, arith}
 use Rattle.std.proofs.lemmas.Bool.Decides.{nat_tests}
 use Rattle.fort_steps.specs.StepView.{as_step}
-use Rattle.fort_open_certificates.specs.OpenCertificates.{Empty}
+use Rattle.fort_certificate_theory.specs.OpenCertificates.{Empty}
 use Rattle.fort_open_checker.proofs.OpenLaws.{owned, at_own, own_forms, no_nodes, node_of_empty, other_there, empty_there}
 use Rattle.fort_open_checker.proofs.checker.OpenChecker.check_empty.Goals as goal
 

@@ -1,8 +1,8 @@
 use Rattle.std.proofs.Common.{map, refl, subst}
 use Rattle.fort_steps.specs.StepView.{as_step}
 use Rattle.fort_check_steps.specs.Turned.{turned_table}
-use Rattle.fort_open_certificates.specs.OpenCertificates.{Found}
-use Rattle.fort_open_steps.specs.OpenView.{as_open}
+use Rattle.fort_certificate_theory.specs.OpenCertificates.{Found}
+use Rattle.fort_steps.specs.OpenView.{as_open}
 use Rattle.fort_open_checker.specs.NodeStates.{AreNodesJudged}
 use Rattle.fort_open_checker.specs.OpenOutcomeView.{as_outcome}
 use Rattle.fort_open_checker.proofs.OpenLaws.{owned, at_own, own_forms, own_room, found_there, whole_kept, checker_kept}

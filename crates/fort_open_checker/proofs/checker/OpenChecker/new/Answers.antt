@@ -3,7 +3,7 @@ use Rattle.std.proofs.lemmas.List.{length-map}
 use Rattle.fort_formulas.specs.CoreView.{as_core}
 use Rattle.fort_steps.specs.StepView.{as_step}
 use Rattle.fort_steps.specs.declared.step.Step.{Step}
-use Rattle.fort_open_steps.specs.OpenView.{as_node}
+use Rattle.fort_steps.specs.OpenView.{as_node}
 use Rattle.fort_cert_checker.specs.StepCheckers.{IsStepCheckerOf}
 use Rattle.fort_open_checker.specs.NodeStates.{HasNodeRoom}
 use Rattle.fort_open_checker.proofs.checker.OpenChecker.new.Goals as goal

@@ -1,5 +1,5 @@
 use Rattle.std.proofs.Common.{ℕ, List, ◌++◌, ◌∷◌, [], length, sym, ap, subst, ◌∙◌, arith}
-use Rattle.fort_open_steps.specs.OpenView.{as_node}
+use Rattle.fort_steps.specs.OpenView.{as_node}
 use Rattle.fort_open_checker.specs.NodeStates.{AreNodeStates}
 use Rattle.fort_open_checker.proofs.NodeStateLaws.{node_entry, presence_count, state_count, kids_inside, entry_inside, over_same, taken}
 use Rattle.fort_open_checker.proofs.nodes.NodeRoom.take.Goals as goal

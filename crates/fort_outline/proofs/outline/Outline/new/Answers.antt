@@ -1,7 +1,7 @@
 use Rattle.std.proofs.Common.{◌≡◌, ◌<◌, List, [], length, get_or, sym, ap, ◌∙◌, subst}
-use Rattle.fort_cores.specs.Cores as core
-use Rattle.fort_cores.specs.Parts.{postorder}
-use Rattle.fort_cores.specs.PartLists.{AreParts}
+use Rattle.fort_theory.specs.Cores as core
+use Rattle.fort_theory.specs.Parts.{postorder}
+use Rattle.fort_theory.specs.PartLists.{AreParts}
 use Rattle.fort_formulas.specs.CoreView.{as_core}
 use Rattle.fort_outline.specs.declared.root.Root.{Root}
 use Rattle.fort_outline.specs.Roots.{cores_of, AreInOrder}

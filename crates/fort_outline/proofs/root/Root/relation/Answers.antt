@@ -1,5 +1,5 @@
 use Rattle.std.proofs.Common.{ap, ◌∙◌}
-use Rattle.fort_cores.specs.Cores as core
+use Rattle.fort_theory.specs.Cores as core
 use Rattle.fort_outline.specs.Roots.{root_core}
 use Rattle.fort_outline.proofs.RootLaws.{no_atom, atom_is}
 use Rattle.fort_outline.proofs.root.Root.relation.Goals as goal

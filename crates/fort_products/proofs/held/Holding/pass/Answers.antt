@@ -2,7 +2,7 @@ use Rattle.std.proofs.Common.{ℕ, List, length, ap, sym, ◌∙◌, arith, subs
 use Rattle.fort_tables.specs.Entries.{entry}
 use Rattle.fort_tables.specs.Labels.{IsOverLabels}
 use Rattle.fort_tables.specs.LabelRules.{label_of, entry_label}
-use Rattle.fort_operations.specs.Products.{signature_of}
+use Rattle.fort_tables.specs.Products.{signature_of}
 use Rattle.fort_products.specs.HeldWalks.{rule_of}
 use Rattle.fort_products.proofs.HoldLaws.{over_held, operands_held, cursor_low, cursor_room, held_more}
 use Rattle.fort_products.proofs.held.Holding.pass.Goals as goal

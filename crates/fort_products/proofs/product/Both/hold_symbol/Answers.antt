@@ -1,8 +1,8 @@
 use Rattle.std.proofs.Common.{◌≡◌, ℕ, length, Option, IfSome, refl, ap, sym, ◌∙◌, arith, subst}
 use Rattle.fort_theory.specs.Signatures.{Signature}
 use Rattle.fort_tables.specs.Tuples.{AreSymbols, symbol_kids}
-use Rattle.fort_operations.specs.Selections.{is_present}
-use Rattle.fort_operations.specs.Products.{AreOperands, signature_of}
+use Rattle.fort_tables.specs.Selections.{is_present}
+use Rattle.fort_tables.specs.Products.{AreOperands, signature_of}
 use Rattle.fort_tuple_symbols.specs.SymbolNumbers.{columns_at}
 use Rattle.fort_products.specs.Joints.{IsJointOf}
 use Rattle.fort_products.specs.HeldWalks.{operands_of}

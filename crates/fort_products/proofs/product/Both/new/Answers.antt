@@ -1,8 +1,8 @@
 use Rattle.std.proofs.Common.{IsTrue}
-use Rattle.fort_operations.specs.Products.{signature_of}
-use Rattle.fort_operations.specs.OperationTruth.{said_by}
-use Rattle.fort_operations.proofs.AgreementLaws.{both_by_states}
-use Rattle.fort_operations.proofs.TruthLaws.{both_decides}
+use Rattle.fort_tables.specs.Products.{signature_of}
+use Rattle.fort_tables.specs.OperationTruth.{said_by}
+use Rattle.fort_tables.proofs.AgreementLaws.{both_by_states}
+use Rattle.fort_tables.proofs.TruthLaws.{both_decides}
 use Rattle.fort_connectives.specs.ConnectiveView.{connective_of}
 use Rattle.fort_products.specs.Operands.{operand_of}
 use Rattle.fort_products.proofs.product.Both.new.Goals as goal

@@ -4,7 +4,7 @@ use Rattle.std.proofs.lemmas.List.{length-take-le}
 use Rattle.fort_tables.proofs.TableLaws.{IsKidState}
 use Rattle.fort_tables.specs.Tuples.{symbol_kids}
 use Rattle.fort_tables.specs.Entries.{entry}
-use Rattle.fort_operations.specs.Projections.{has_state}
+use Rattle.fort_tables.specs.Projections.{has_state}
 use Rattle.fort_projections.specs.Choices.{may_choose, is_reachable, symbol_under}
 use Rattle.fort_projections.proofs.ProjectEntries.{choice_state, choices_symbol}
 use Rattle.fort_projections.proofs.ChoiceSearch.{kid_state_small, whole_entry, kid_state_more, reachable_turn, reachable_end, turn, turn_last, reach_chosen}

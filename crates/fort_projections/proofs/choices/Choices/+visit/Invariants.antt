@@ -1,6 +1,6 @@
 use Rattle.std.proofs.Common.{◌≡◌, ℕ, ◌+◌, ◌-◌, ◌≤◌, ◌&&◌, ◌||◌, [], ◌∷◌, ◌++◌, take, length, get_or}
 use Rattle.fort_tables.specs.BitRows.{words_for}
-use Rattle.fort_operations.specs.Projections.{has_state, some_below}
+use Rattle.fort_tables.specs.Projections.{has_state, some_below}
 use Rattle.fort_projections.specs.Scopes.{may_in}
 use Rattle.fort_projections.specs.Choices.{may_choose, is_reachable, symbol_under}
 use Rattle.fort_projections.proofs.choices.Choices.+visit.Given as goal

@@ -1,6 +1,6 @@
 use Rattle.std.proofs.Common.{◌≡◌, ℕ, ◌||◌, [], ◌∷◌, ◌++◌, length, true, refl, ap, ◌∙◌, arith}
 use Rattle.fort_tables.specs.Entries.{entry}
-use Rattle.fort_operations.specs.Projections.{has_state}
+use Rattle.fort_tables.specs.Projections.{has_state}
 use Rattle.fort_projections.specs.Choices.{may_choose, symbol_under}
 use Rattle.fort_projections.specs.Strides.{read_at}
 use Rattle.fort_projections.specs.declared.marks.Stride.{Stride}

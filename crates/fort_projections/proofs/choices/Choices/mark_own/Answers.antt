@@ -1,5 +1,5 @@
 use Rattle.std.proofs.Common.{ℕ, ◌-◌, ◌*◌, ◌≤◌, ◌||◌, List, [], length, get_or, ap, sym, ◌∙◌, arith}
-use Rattle.fort_operations.specs.Projections.{has_state}
+use Rattle.fort_tables.specs.Projections.{has_state}
 use Rattle.fort_projections.specs.Choices.{may_choose}
 use Rattle.fort_projections.specs.Strides.{read_at}
 use Rattle.fort_projections.proofs.ProjectEntries.{kid_within, kid_label_width}

@@ -1,6 +1,6 @@
 use Rattle.std.proofs.Common.{ℕ, ◌<◌, ◌==◌, List, [], get_or, length, ap, ◌∙◌, arith}
 use Rattle.std.proofs.lemmas.Option.{IfSome_then}
-use Rattle.fort_operations.specs.Projections.{absent_state, has_state, is_pure}
+use Rattle.fort_tables.specs.Projections.{absent_state, has_state, is_pure}
 use Rattle.fort_projections.specs.Choices.{symbol_under}
 use Rattle.fort_projections.proofs.ProjectEntries.{kid_within, choices_count, kid_label_width}
 use Rattle.fort_projections.proofs.ChoiceSearch.{IfNone_then, absent_same, set_same, pure_same, next_choice, none_choice}

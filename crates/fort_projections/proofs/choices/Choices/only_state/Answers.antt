@@ -1,7 +1,7 @@
 use Rattle.std.proofs.Common.{ℕ, ◌==◌, List, get_or, length, ap, sym, ◌∙◌, arith}
 use Rattle.std.proofs.lemmas.Bool.{eqb-true}
 use Rattle.std.proofs.lemmas.Option.{IfSome_then}
-use Rattle.fort_operations.specs.Projections.{absent_state}
+use Rattle.fort_tables.specs.Projections.{absent_state}
 use Rattle.fort_projections.specs.Choices.{may_choose, symbol_under}
 use Rattle.fort_projections.proofs.ProjectEntries.{kid_within, choices_count}
 use Rattle.fort_projections.proofs.ChoiceSearch.{absent_same}

@@ -1,7 +1,7 @@
 use Rattle.std.proofs.Common.{IsTrue}
-use Rattle.fort_operations.specs.OperationTruth.{accepts}
-use Rattle.fort_operations.proofs.AgreementLaws.{project_by_states}
-use Rattle.fort_operations.proofs.TruthLaws.{project_decides}
+use Rattle.fort_tables.specs.OperationTruth.{accepts}
+use Rattle.fort_tables.proofs.AgreementLaws.{project_by_states}
+use Rattle.fort_tables.proofs.TruthLaws.{project_decides}
 use Rattle.fort_projections.proofs.project.Project.new.Goals as goal
 
 pub returns-clause-agree : goal.returns-clause-agree

@@ -1,5 +1,5 @@
 use Rattle.fort_tables.proofs.LabelRuleLaws.{GivesLabel-rule}
-use Rattle.fort_operations.specs.Projections.{project_rule}
+use Rattle.fort_tables.specs.Projections.{project_rule}
 use Rattle.fort_projections.proofs.projecting.ProjectingLabeller.step.Goals as goal
 
 pub returns-clause-gives : goal.returns-clause-gives

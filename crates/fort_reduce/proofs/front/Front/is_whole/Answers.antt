@@ -3,7 +3,7 @@ use Rattle.std.proofs.lemmas.List.{length-set}
 use Rattle.std.proofs.lemmas.Bool.Decides.{nat_tests}
 use Rattle.fort_tables.specs.Entries.{Entry, entry}
 use Rattle.fort_tables.specs.Tables.{listed_table, IsTableEntry}
-use Rattle.fort_interchange.specs.Merges.{class_of}
+use Rattle.fort_tables.specs.Merges.{class_of}
 use Rattle.fort_reduce.specs.Walks.{led_in}
 use Rattle.fort_reduce.proofs.PassLaws.{at_zero}
 use Rattle.fort_reduce.proofs.WholeLaws.{led_is, whole_own, IsTableEntry-led_in}

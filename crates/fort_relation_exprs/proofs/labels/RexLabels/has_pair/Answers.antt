@@ -1,5 +1,5 @@
 use Rattle.std.proofs.Common.{refl, ◌∙◌}
-use Rattle.fort_expression_labels.specs.ExpressionRules.{left_bit, right_bit}
+use Rattle.fort_alike.specs.ExpressionRules.{left_bit, right_bit}
 use Rattle.fort_relation_exprs.proofs.RowLaws.{some_rule-some_pair}
 use Rattle.fort_relation_exprs.proofs.labels.RexLabels.has_pair.Goals as goal
 

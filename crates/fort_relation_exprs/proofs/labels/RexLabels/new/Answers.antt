@@ -1,6 +1,6 @@
 use Rattle.std.proofs.Common.{ap, ◌∙◌}
 use Rattle.std.proofs.lemmas.Result.{IfOk-weaker}
-use Rattle.fort_cores.specs.Cores.{Eq}
+use Rattle.fort_theory.specs.Cores.{Eq}
 use Rattle.fort_relations.specs.HolesView.{as_hole_number, as_hole_place}
 use Rattle.fort_relations.specs.RexView.{as_expression}
 use Rattle.fort_relation_exprs.proofs.RexLaws.{related_columns, tells_alike, accepts_true}

@@ -1,7 +1,7 @@
 use Rattle.std.proofs.Common.{◌≡◌, ℕ, Bool, suc, ◌+◌, map, refl, sym, ap, subst, ◌∙◌, arith}
 use Rattle.fort_tables.specs.BitRows.{words_for}
 use Rattle.fort_tree_automata.specs.NtaView.{automaton_of}
-use Rattle.fort_expression_labels.specs.AutomatonMoves.{AreMovesOf}
+use Rattle.fort_alike.specs.AutomatonMoves.{AreMovesOf}
 use Rattle.fort_label_bits.specs.RowBits.{bit_of}
 use Rattle.fort_label_bits.specs.BitRowLists.{row_in}
 use Rattle.fort_relation_exprs.specs.Sides.{IsSide, leads_in, moves_in}

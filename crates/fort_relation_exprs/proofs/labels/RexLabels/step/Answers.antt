@@ -3,8 +3,8 @@ use Rattle.std.proofs.lemmas.Option.{get_or_from_slice_get}
 use Rattle.fort_tables.specs.Tuples.{presence}
 use Rattle.fort_tuple_symbols.specs.Columns.{as_column}
 use Rattle.fort_alike.specs.ExpressionAlike.{PairFact}
-use Rattle.fort_expression_labels.specs.ExpressionStates.{Truths}
-use Rattle.fort_expression_labels.specs.ExpressionRules.{facts_of, fact_bit, fact_step, left_step, right_step, some_pair}
+use Rattle.fort_alike.specs.ExpressionStates.{Truths}
+use Rattle.fort_alike.specs.ExpressionRules.{facts_of, fact_bit, fact_step, left_step, right_step, some_pair}
 use Rattle.fort_label_bits.specs.RowBits.{HasBits, IsRow, labels_at}
 use Rattle.fort_relation_exprs.specs.FactRows.{fact_told, fact_test}
 use Rattle.fort_relation_exprs.specs.RexSeen.{RexSeen, states_of}

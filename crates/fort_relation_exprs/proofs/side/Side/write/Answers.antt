@@ -3,7 +3,7 @@ use Rattle.std.specs.List.{list_any}
 use Rattle.std.proofs.Math.Bool.{or_assoc}
 use Rattle.std.proofs.lemmas.List.{length-map}
 use Rattle.fort_tuple_symbols.specs.Columns.{as_column}
-use Rattle.fort_atom_labels.specs.PatternNumbers.{PatternNumber}
+use Rattle.fort_alike.specs.PatternNumbers.{PatternNumber}
 use Rattle.fort_label_bits.specs.RowBits.{bit_of, labels_at}
 use Rattle.fort_label_bits.specs.RootPlaces.{places_at, root_of}
 use Rattle.fort_relation_exprs.specs.Sides.{adds_at, leads_in, moves_in, side_adds}

@@ -1,5 +1,5 @@
 use Rattle.std.proofs.Common.{◌≡◌, sym, ◌∙◌, ap}
-use Rattle.fort_expressions.specs.Expressions.{root_indices}
+use Rattle.fort_theory.specs.Expressions.{root_indices}
 use Rattle.fort_relations.specs.FirstAbove.{first_above}
 use Rattle.fort_relations.proofs.FirstAboveLaws.{first_above-none, first_above-some}
 use Rattle.fort_relations.proofs.RexShapes.{root_indices-two}

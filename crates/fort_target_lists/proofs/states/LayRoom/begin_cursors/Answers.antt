@@ -1,5 +1,5 @@
 use Rattle.std.proofs.Common.{◌≡◌, ◌<◌, ◌^◌, drop, length, vec_len, refl, ap, sym, ◌∙◌, arith, subst}
-use Rattle.fort_laid_entries.specs.Laid.{start_of}
+use Rattle.fort_tables.specs.Laid.{start_of}
 use Rattle.fort_target_lists.specs.Walks.{entries_of, AreStageBegins}
 use Rattle.fort_target_lists.proofs.LayLaws.{counting_first, counted_all, all_targets, whole_slice}
 use Rattle.fort_target_lists.proofs.states.LayRoom.begin_cursors.Goals as goal

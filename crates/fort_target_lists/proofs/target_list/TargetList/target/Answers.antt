@@ -2,8 +2,7 @@ use Rattle.std.proofs.Common.{◌≡◌, ◌+◌, get_or, ap, ◌∙◌, arith}
 use Rattle.fort_tables.specs.Entries.{entry}
 use Rattle.fort_target_lists.specs.Places.{place_from}
 use Rattle.fort_target_lists.specs.Flats.{flat_place}
-use Rattle.fort_target_lists.proofs.LookUpLaws.{states_in}
-use Rattle.fort_target_lists.proofs.LookUpLaws.{symbol_below}
+use Rattle.fort_target_lists.proofs.LookUpLaws.{states_in, symbol_below}
 use Rattle.fort_target_lists.proofs.target_list.TargetList.target.Goals as goal
 
 pub number-requires : goal.number-requires

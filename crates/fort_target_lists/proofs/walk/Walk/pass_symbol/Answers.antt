@@ -1,7 +1,7 @@
 use Rattle.std.proofs.Common.{◌≡◌, ℕ, ◌+◌, Vec, Global, vec_capacity, ap, sym, ◌∙◌, arith, subst}
 use Rattle.fort_theory.specs.Signatures.{Signature}
 use Rattle.fort_tables.specs.Tuples.{AreSymbols, symbol_kids}
-use Rattle.fort_operations.specs.Selections.{is_present}
+use Rattle.fort_tables.specs.Selections.{is_present}
 use Rattle.fort_tuple_symbols.specs.SymbolNumbers.{columns_at}
 use Rattle.fort_target_lists.specs.Walks.{entries_before, HasPassed, IsBetween}
 use Rattle.fort_target_lists.proofs.SymbolNumbers.{symbols_at}

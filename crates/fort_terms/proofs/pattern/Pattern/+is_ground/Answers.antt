@@ -1,7 +1,7 @@
 use Rattle.std.proofs.Common.{◌≡◌, take, refl, sym}
 use Rattle.std.proofs.lemmas.Bool.{both_ways}
 use Rattle.std.proofs.lemmas.List.{take_more, take_all}
-use Rattle.fort_termination.specs.RightGround.{AreGroundPatterns}
+use Rattle.fort_theory.specs.RightGround.{AreGroundPatterns}
 use Rattle.fort_terms.specs.PatternView.{as_patterns}
 use Rattle.fort_terms.proofs.GroundPatterns.{AreGroundPatterns-push, AreGroundPatterns-at}
 use Rattle.fort_terms.proofs.Instances.{answer_no}

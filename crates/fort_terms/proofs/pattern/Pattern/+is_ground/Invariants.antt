@@ -1,5 +1,5 @@
 use Rattle.std.proofs.Common.{take}
-use Rattle.fort_termination.specs.RightGround.{AreGroundPatterns}
+use Rattle.fort_theory.specs.RightGround.{AreGroundPatterns}
 use Rattle.fort_terms.specs.PatternView.{as_patterns}
 use Rattle.fort_terms.proofs.pattern.Pattern.+is_ground.Given as goal
 

@@ -1,7 +1,0 @@
-//! Anchored ground tree transducers: the root steps of a system, the inverse, the union and the composition.
-#![tactic(auto)]
-
-mod composing;
-
-pub use composing::compose;
-pub use fort_transducers::{Agtt, inverse, root_steps, union};

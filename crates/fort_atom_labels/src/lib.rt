@@ -1,2 +1,0 @@
-//! Definitions: the labels of atoms as local rules, with the lemmas that they are what they mean. It has no code.
-#![tactic(auto)]

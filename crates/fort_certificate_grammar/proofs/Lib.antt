@@ -1,6 +1,0 @@
-pub mod NumberWords
-pub mod OneCertificate
-pub mod Slots
-pub mod StepSlots
-pub mod OneFault
-pub mod Spelled

@@ -1,6 +1,0 @@
-pub mod Certificates
-pub mod CertificateForms
-pub mod CertificateFaults
-pub mod CertificateText
-pub mod CertificateAgain
-pub mod FilledSlots

@@ -1,2 +1,0 @@
-pub mod SidePatterns
-pub mod CompiledNumbersLaws

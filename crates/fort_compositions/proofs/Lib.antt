@@ -1,3 +1,0 @@
-pub mod ParallelSteps
-pub mod JoinedAutomata
-pub mod ComposedTransducers

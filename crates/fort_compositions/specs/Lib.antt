@@ -1,2 +1,0 @@
-pub mod TransducerParts
-pub mod Compositions

@@ -1,7 +1,0 @@
-use Rattle.std.proofs.Common.{ap, sym, ◌∙◌, length}
-use Rattle.fort_explore.specs.RowsView.{Labels}
-use Rattle.fort_lockstep.proofs.PieceLaws.{length-pieces}
-use Rattle.fort_explore.proofs.rows.Rows.len.Goals as goal
-
-pub returns : goal.returns
-returns c = sym (length-pieces c.self.inside.width c.self.inside.count c.self.inside.words.items) ∙ ap (λ (r : Labels). length r.labels) c.self.view_is

@@ -1,6 +1,0 @@
-pub mod KidContexts
-pub mod LabelBits
-pub mod NodeFacts
-pub mod LabelMeans
-pub mod CompiledStates
-pub mod MoveStatesLaws

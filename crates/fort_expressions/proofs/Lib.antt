@@ -1,2 +1,0 @@
-pub mod ContextLaws
-pub mod MeaningLaws

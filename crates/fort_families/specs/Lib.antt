@@ -1,3 +1,0 @@
-pub mod FamilyRules
-pub mod FamilySystems
-pub mod RuleText

@@ -1,0 +1,2 @@
+pub mod RowsView
+pub mod RowsInside

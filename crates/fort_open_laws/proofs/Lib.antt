@@ -1,3 +1,0 @@
-pub mod RightSteps
-pub mod OpenTruthLaws
-pub mod WrittenInOrder

@@ -1,5 +1,0 @@
-pub mod Selections
-pub mod Products
-pub mod Projections
-pub mod Agreement
-pub mod OperationTruth

@@ -1,5 +1,0 @@
-pub mod LexLaws
-pub mod TupleOrderLaws
-pub mod KidOrderLaws
-pub mod LeastLaws
-pub mod FirstLaws

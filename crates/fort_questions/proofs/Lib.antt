@@ -1,0 +1,4 @@
+pub mod FormulaRefusals
+pub mod Fitting
+pub mod PlainFormats
+pub mod InputLines

@@ -1,0 +1,4 @@
+pub mod Questions
+pub mod Refusals
+pub mod Accepted
+pub mod Inputs

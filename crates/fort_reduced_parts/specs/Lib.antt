@@ -1,2 +1,0 @@
-pub mod ReducedParts
-pub mod ToldParts
