@@ -21,7 +21,7 @@ ghost use Rattle.fort_cert_checker.specs.Pasts.{steps_of, IsAnswerAt, IsTableAt,
 use crate::past::{Past, factor, laid_list, lay};
 use crate::plan::{OperandPlan, Plan, Source, Work};
 use fort_check_steps::{
-    ByEntry, Failure, LabelRoom, MarkRoom, PartRoom, Projected, check_part, put_pure,
+    Failure, LabelRoom, MarkRoom, PartRoom, Projected, check_part, check_part_by_entry, put_pure,
 };
 use fort_connectives::Op;
 use fort_context_closure::{AtomLabels, SignedAtom};
@@ -48,8 +48,8 @@ fn check_atom(
 {
     let signature = system.signature();
     let atom = SignedAtom { signature, labels };
-    check_part(
-        &ByEntry(&atom),
+    check_part_by_entry(
+        &atom,
         signature,
         targets,
         room,
@@ -188,8 +188,8 @@ fn check_many(
     body.lay(&mut scratch.lists.first, &mut scratch.lists.lay);
     let listed = body.listed(&scratch.lists.first);
     let rule = Many::new(&listed, column, &marks.states, counts);
-    check_part(
-        &ByEntry(&rule),
+    check_part_by_entry(
+        &rule,
         past.signature,
         targets,
         room,

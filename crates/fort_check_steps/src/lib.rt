@@ -18,12 +18,11 @@ mod state_labels;
 mod table;
 mod targets;
 
-pub use by_entry::ByEntry;
 pub use closure::check_closure;
 pub use failure::{Failure, Reason, failed};
 pub use marks::{MarkRoom, check_marks, put_pure};
 pub use pairs::PairRules;
-pub use part::check_part;
+pub use part::{check_part, check_part_by_entry};
 pub use part_rule::PartRule;
 pub use projected::Projected;
 pub use room::{LabelNeeds, LabelRoom, ListNeeds, ListRoom, PartRoom, most_states};

@@ -11,6 +11,7 @@ ghost use Rattle.fort_check_steps.specs.Room.{HasRoom, HasMergeRoom, most_states
 ghost use Rattle.fort_check_steps.specs.StateLabelsView.{HasSpace, IsAsSpacious};
 ghost use Rattle.fort_check_steps.specs.StepAnswers.{outcome_of};
 
+use crate::by_entry::ByEntry;
 use crate::failure::Failure;
 use crate::finals::put_finals;
 use crate::part_rule::PartRule;
@@ -18,6 +19,7 @@ use crate::quick::are_quickly_right;
 use crate::room::PartRoom;
 use crate::state_labels::{StateLabels, put_zeros};
 use crate::targets::check_targets;
+use fort_labels::LocalRule;
 use fort_target_lists::LayRoom;
 use fort_terms::Signature;
 
@@ -106,4 +108,38 @@ pub fn check_part<R: PartRule>(
         }
         Err(failure) => Err(failure),
     }
+}
+
+/// The same of a local rule without means of its own to hold targets: they are held entry by entry alone.
+pub fn check_part_by_entry<R: LocalRule>(
+    rule: &R,
+    sig: &Signature,
+    targets: &[u32],
+    room: &mut PartRoom,
+    rows: &mut StateLabels,
+    out: &mut Vec<u64>,
+    lay: &mut LayRoom,
+) -> Result<(), Failure>
+    requires signature { (R.rule rule.now).signature ≡ sig.now }
+    requires few { length targets.now < 2 ^ 32 }
+    requires room { HasRoom targets.now room.old }
+    requires space { HasSpace (R.word_count rule.now) (most_states targets.now) rows.old.spaces }
+    requires out { R.word_count rule.now ≤ vec_capacity out.old }
+    requires lay { HasLayRoom (most_states targets.now) lay.old }
+    ensures outcome { IsPartOutcome (R.rule rule.now) targets.now (outcome_of result) }
+    ensures only { (o : StepOutcome) → IsPartOutcome (R.rule rule.now) targets.now o
+        → o ≡ outcome_of result }
+    ensures held { OnOk result (HoldsPart (R.rule rule.now) (R.accepting rule.now) targets.now
+        room.new) }
+    ensures table { OnOk result (IsTableBy (R.rule rule.now).signature (R.rule rule.now).columns
+        (label_of (R.rule rule.now)) (R.accepting rule.now) (listed_table (held_table
+        (R.rule rule.now) targets.now room.new))) }
+    ensures not_merged { IsFalse room.new.is_merged }
+    ensures room { HasRoom targets.now room.new }
+    ensures merge_room { HasMergeRoom targets.now room.old → HasMergeRoom targets.now room.new }
+    ensures space { IsAsSpacious rows.old.spaces rows.new.spaces }
+    ensures out { vec_capacity out.old ≤ vec_capacity out.new }
+    ensures lay { (n : ℕ) → HasLayRoom n lay.old → HasLayRoom n lay.new }
+{
+    check_part(&ByEntry(rule), sig, targets, room, rows, out, lay)
 }

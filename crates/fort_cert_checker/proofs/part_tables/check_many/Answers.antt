@@ -33,19 +33,19 @@ new-rule-requires-clause-another c =
     let b = c.requires.body in
     subst (λ (t : Table). 1 < t.columns) (sym (ap turned_table c.listed-listed.ensures ∙ c.table-body.ensures.is b.0 b.1)) b.4
 
-pub check_part-requires-clause-signature : goal.check_part-requires-clause-signature
-check_part-requires-clause-signature c =
+pub check_part_by_entry-requires-clause-signature : goal.check_part_by_entry-requires-clause-signature
+check_part_by_entry-requires-clause-signature c =
     let b = c.requires.body in
     ap (λ (t : Table). t.signature) (ap turned_table c.new-rule.ensures.body ∙ (ap turned_table c.listed-listed.ensures ∙ c.table-body.ensures.is b.0 b.1)) ∙ b.2
 
-pub check_part-requires-clause-space : goal.check_part-requires-clause-space
-check_part-requires-clause-space c =
+pub check_part_by_entry-requires-clause-space : goal.check_part_by_entry-requires-clause-space
+check_part_by_entry-requires-clause-space c =
     let b = c.requires.body in
     (subst (λ (t : Table). HasLabelRoom (words_for (2 * length t.presences) + 2) c.args.targets.now c.args.scratch.now)
     (sym (ap turned_table c.new-rule.ensures.body ∙ (ap turned_table c.listed-listed.ensures ∙ c.table-body.ensures.is b.0 b.1))) b.5).rows
 
-pub check_part-requires-clause-out : goal.check_part-requires-clause-out
-check_part-requires-clause-out c =
+pub check_part_by_entry-requires-clause-out : goal.check_part_by_entry-requires-clause-out
+check_part_by_entry-requires-clause-out c =
     let b = c.requires.body in
     (subst (λ (t : Table). HasLabelRoom (words_for (2 * length t.presences) + 2) c.args.targets.now c.args.scratch.now)
     (sym (ap turned_table c.new-rule.ensures.body ∙ (ap turned_table c.listed-listed.ensures ∙ c.table-body.ensures.is b.0 b.1))) b.5).out
@@ -60,16 +60,16 @@ lay-requires-clause-room c =
     let b = c.requires.body in
     (c.table-body.ensures.room b.0 b.1 c.args.scratch.now.lists.first c.args.scratch.now.lists.lay c.requires.list).lay_room
 
-pub check_part-requires-clause-lay : goal.check_part-requires-clause-lay
-check_part-requires-clause-lay c =
+pub check_part_by_entry-requires-clause-lay : goal.check_part_by_entry-requires-clause-lay
+check_part_by_entry-requires-clause-lay c =
     let b = c.requires.body in
     c.lay.ensures.room _ b.5.lay
 
 pub returns-clause-scratch : goal.returns-clause-scratch
 returns-clause-scratch c = record {
-  rows = c.check_part.ensures.space;
-  out = c.check_part.ensures.out;
-  lists = record { first = c.lay.ensures.list_room; second = λ n k h. h; lay = λ n h. c.check_part.ensures.lay n (c.lay.ensures.room n h) };
+  rows = c.check_part_by_entry.ensures.space;
+  out = c.check_part_by_entry.ensures.out;
+  lists = record { first = c.lay.ensures.list_room; second = λ n k h. h; lay = λ n h. c.check_part_by_entry.ensures.lay n (c.lay.ensures.room n h) };
   leaders = omega arith;
 }
 
@@ -94,9 +94,9 @@ returns-clause-step c table states at pure =
     pure_one table c.args.column c.put_pure.new.states.items states (subst (λ (t : Table). ArePure t c.args.column c.put_pure.new.states.items) made c.put_pure.ensures.pure) pure in
     let given : c.new-rule.result.alone.now ≡ states = c.new-rule.ensures.alone ∙ (c.deref.ensures.value ∙ alone) in
     let Step : Table → ℕ → List ℕ → List Count → Type 0 =
-    λ t n xs ns. IsPartStep (many_local t n (is_many xs ns)) c.args.targets.now c.check_part.new.room c.check_part.result in
+    λ t n xs ns. IsPartStep (many_local t n (is_many xs ns)) c.args.targets.now c.check_part_by_entry.new.room c.check_part_by_entry.result in
     subst (λ (ns : List Count). Step table c.args.column states ns) c.new-rule.ensures.counts
     (subst (λ (xs : List ℕ). Step table c.args.column xs c.new-rule.result.counts.now) given
     (subst (λ (n : ℕ). Step table n c.new-rule.result.alone.now c.new-rule.result.counts.now) c.new-rule.ensures.column
     (subst (λ (t : Table). Step t c.new-rule.result.column c.new-rule.result.alone.now c.new-rule.result.counts.now) own
-    (record { outcome = c.check_part.ensures.outcome; plain = c.check_part.ensures.not_merged; held = c.check_part.ensures.held }))))
+    (record { outcome = c.check_part_by_entry.ensures.outcome; plain = c.check_part_by_entry.ensures.not_merged; held = c.check_part_by_entry.ensures.held }))))
