@@ -10,6 +10,7 @@ ghost use Rattle.fort_run.specs.Answered.{ReadsWhole};
 ghost use Rattle.fort_questions.specs.Questions.{CanBePut, openness_of, request_for};
 ghost use Rattle.fort_run.specs.Replies.{IsReplyTo, IsReplyTold};
 
+use crate::refused::refused_reply;
 use crate::reply::Reply;
 use crate::status::Status;
 use crate::verdict::verdict;
@@ -59,11 +60,11 @@ fn reply_to_forms(
 {
     let input = match read_input(alloc, question.tail(), forms) {
         Ok(input) => input,
-        Err(refusal) => return Reply::of_refusal(refusal),
+        Err(refusal) => return refused_reply(refusal),
     };
     match terms_of(alloc, parsed, &input.system) {
         Ok(terms) => verdict(alloc, question, &input, &parsed.formula, &terms),
-        Err(refusal) => Reply::of_refusal(refusal),
+        Err(refusal) => refused_reply(refusal),
     }
 }
 
@@ -119,7 +120,7 @@ pub fn ask<S: Source>(
 {
     let parsed = match accepted_formula(alloc, question.openness(), text.as_bytes()) {
         Ok(parsed) => parsed,
-        Err(refusal) => return Ok(Reply::of_refusal(refusal)?),
+        Err(refusal) => return Ok(refused_reply(refusal)?),
     };
     reply_to_formula(alloc, question, &parsed, input)
 }

@@ -6,6 +6,7 @@ mod checked;
 mod confirmed;
 mod limit;
 mod outcome;
+mod refused;
 mod rejection;
 mod reply;
 mod sample;

@@ -1,12 +1,10 @@
 //! Answers: a status, a text, and a limit where one withholds a verdict.
 ghost use Rattle.std.specs.Prelude.{◌≡◌, ◌<◌, ◌≤◌, ◌↔◌, None, Some, IfOk, IsSome};
 ghost use Rattle.fort_answers.specs.Lines.{last_answer, limited, refused};
-ghost use Rattle.fort_run.specs.RefusalReplies.{TellsRefusal};
 ghost use Rattle.fort_run.specs.StatusView.{code_of};
 
 use crate::status::Status;
 use fort_engine::Limit;
-use fort_questions::Refusal;
 use std::alloc::{AllocError, Global};
 
 /// What the program answers where neither memory nor a device withholds the answer.
@@ -53,16 +51,6 @@ impl Reply {
         ensures limit { result.limit ≡ None }
     {
         Reply::of(Status::Refused, line)
-    }
-
-    /// The line of a refusal.
-    pub fn of_refusal(refusal: Refusal) -> Result<Reply, AllocError>
-        ensures { IfOk result (TellsRefusal refusal) }
-    {
-        match refusal {
-            Refusal::Memory => Err(AllocError),
-            Refusal::Line(line) => Ok(Reply::refused(line)),
-        }
     }
 
     /// A part of the formula is over the cap; the line tells which.

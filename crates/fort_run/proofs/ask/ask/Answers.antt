@@ -13,19 +13,19 @@ pub returns-in-Err-clause-ok : goal.returns-in-Err-clause-ok
 returns-in-Err-clause-ok g c =
     let question = c.args.question in
     let text = c.args.text.now in
-    let reply = c.in_ok-of_refusal-in-Err.field-0 in
+    let reply = c.in_ok-refused_reply-in-Err.field-0 in
     let refused = refused_there (as_openness c.openness.result) (openness_of question) c.as_bytes.result.now text c.in-Err.refusal c.openness.ensures
     c.as_bytes.ensures.value c.in-Err.ensures.refused in
     told_any (λ bytes. IsReplyTo (Some (request_for question text)) bytes reply) _ (λ bytes.
     told_refusal (Some (request_for question text)) bytes (IsRefusedAs (openness_of question) text) c.in-Err.refusal reply (formula_refused question text bytes)
-    refused c.in_ok-of_refusal-in-Err.ensures)
+    refused c.in_ok-refused_reply-in-Err.ensures)
 
 pub returns-in-Err-clause-whole : goal.returns-in-Err-clause-whole
 returns-in-Err-clause-whole g c = λ needed.
     let question = c.args.question in
     let refused = refused_there (as_openness c.openness.result) (openness_of question) c.as_bytes.result.now c.args.text.now c.in-Err.refusal c.openness.ensures
     c.as_bytes.ensures.value c.in-Err.ensures.refused in
-    absurd (refusal_needs_nothing question c.args.text.now c.in-Err.refusal c.in_ok-of_refusal-in-Err.field-0 refused c.in_ok-of_refusal-in-Err.ensures needed)
+    absurd (refusal_needs_nothing question c.args.text.now c.in-Err.refusal c.in_ok-refused_reply-in-Err.field-0 refused c.in_ok-refused_reply-in-Err.ensures needed)
 
 pub returns-clause-asked : goal.returns-clause-asked
 returns-clause-asked g c = λ fault.

@@ -19,18 +19,18 @@ use Rattle.fort_run.proofs.ask.reply_to_forms.Goals as goal
 
 pub returns-in-Err : goal.returns-in-Err
 returns-in-Err c =
-    IfOk-weaker c.of_refusal.result _ _ (λ r tells. λ text is.
+    IfOk-weaker c.refused_reply.result _ _ (λ r tells. λ text is.
     let question = c.args.question in
     let bytes = c.args.forms.now.bytes in
     let refusal = c.in-Err.refusal in
     told_refusal (Some (request_for question text)) bytes (IsInputRefused (tail_of question) bytes) refusal r
     (input_refused question text (as_formula c.args.parsed.now.formula) is.accepted bytes)
     (subst (λ t. Refuses (IsInputRefused t bytes) refusal) c.tail.ensures c.in-Err.ensures.refused) tells)
-    c.of_refusal.ensures
+    c.refused_reply.ensures
 
 pub returns : goal.returns
 returns c =
-    IfOk-weaker c.of_refusal-in-Err-terms_of.result _ _ (λ r tells. λ text is.
+    IfOk-weaker c.refused_reply-in-Err-terms_of.result _ _ (λ r tells. λ text is.
     let question = c.args.question in
     let bytes = c.args.forms.now.bytes in
     let f = as_formula c.args.parsed.now.formula in
@@ -38,7 +38,7 @@ returns c =
     told_refusal (Some (request_for question text)) bytes (IsUnfit text f read.system) c.in-Err-terms_of.refusal r
     (λ line. unfit question text f is.accepted bytes line read.system read.behind read.is)
     (c.in-Err-terms_of.ensures.refused text read.system is.grounds read.input_is.same) tells)
-    c.of_refusal-in-Err-terms_of.ensures
+    c.refused_reply-in-Err-terms_of.ensures
 
 pub verdict-requires-clause-ready : goal.verdict-requires-clause-ready
 verdict-requires-clause-ready c =
