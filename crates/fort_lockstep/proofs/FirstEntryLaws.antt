@@ -1,20 +1,12 @@
 -- First entries of states, and one more entry.
 use Rattle.std.proofs.Common.{◌≡◌, ℕ, ◌<◌, List, [], ◌∷◌, ◌++◌, length, get_or, Bool, true, false, if◌then◌else◌, refl, ap, sym, ◌∙◌, arith, subst, ⊎_elim}
 use Rattle.std.proofs.lemmas.Bool.{cases_lt}
-use Rattle.std.proofs.lemmas.List.{length-map, length_push, get_or_push, get_or_append_left}
+use Rattle.std.proofs.lemmas.List.{length_push, get_or_push, get_or_append_left}
 use Rattle.fort_tables.specs.Entries.{Entry}
-use Rattle.fort_lockstep.specs.Transitions.{Transition, in_order, entries_of, targets_of}
 use Rattle.fort_lockstep.specs.StateFacts.{AreFirsts}
-use Rattle.fort_lockstep.proofs.OrderedLaws.{length-in_order}
 
-pub length-entries : (ws : List Transition) → length (entries_of (in_order ws)) ≡ length ws
-length-entries ws = length-map (in_order ws) (λ (a : Transition). a.entry) ∙ length-in_order ws
-
-pub length-targets : (ws : List Transition) → length (targets_of (in_order ws)) ≡ length ws
-length-targets ws = length-map (in_order ws) (λ (a : Transition). a.target) ∙ length-in_order ws
-
-pub firsts_none : (ws : List Transition) (fs : List ℕ) (frs : List Entry) → fs ≡ [] → frs ≡ [] → AreFirsts (entries_of (in_order ws)) fs frs
-firsts_none ws fs frs f e = record {
+pub firsts_none : (entries : List Entry) (fs : List ℕ) (frs : List Entry) → fs ≡ [] → frs ≡ [] → AreFirsts entries fs frs
+firsts_none entries fs frs f e = record {
   count = omega (arith, ap length f, ap length e);
   within = λ q l. absurd (omega (arith, l, ap length f));
   entries_are = λ q d l. absurd (omega (arith, l, ap length f));

@@ -8,9 +8,16 @@ use Rattle.fort_tables.specs.Tables.{Made, IsMadeDue, IsAllowed, IsGiven}
 use Rattle.fort_tables.proofs.EqualTests.{equal_from_test}
 use Rattle.fort_tables.proofs.OrderLaws.{due_one}
 use Rattle.fort_entry_walk.specs.WalkPlaces.{Place, entry_at, IsStep}
-use Rattle.fort_lockstep.specs.Making.{made_of, IsPushed, IsMaking, IsStanding, IsUpTo, Stands}
+use Rattle.fort_lockstep.specs.Making.{Parts, made_of, IsPushed, IsMaking, IsStanding, IsUpTo, Stands}
+use Rattle.fort_lockstep.specs.Fronts.{front_of}
+use Rattle.fort_table.specs.EntryListFacts.{entries_in}
+use Rattle.fort_table.specs.declared.entry_list.Span.{Span}
+use Rattle.fort_lockstep.specs.StateFacts.{AreFirsts, IsSameStates, IsNoted, first_entries_in}
+use Rattle.fort_lockstep.specs.MakerInside.{parts_with}
+use Rattle.fort_lockstep.specs.declared.states.States.{States}
+use Rattle.fort_lockstep.proofs.FrontLaws.{front_up_to}
+use Rattle.fort_lockstep.proofs.FirstEntryLaws.{firsts_noted}
 use Rattle.fort_lockstep.proofs.MakingLaws.{stands_next, stands_last, standing_due, making_none, up_to_none, Grown, grown}
-use Rattle.fort_lockstep.specs.GivenView.{Parts}
 
 -- where an entry is due, the walk stands at it
 pub record AtDue (m : Made) (last e : Entry) : Type 0 where
@@ -38,6 +45,49 @@ given_is sig n g g' row e q is h = record {
   targets = h.targets;
   presences = h.presences ∙ ap (λ (x : Entry). if q == length g.presences then g.presences ++ presence x.symbol ∷ [] else g.presences) is;
 }
+
+-- what is so once the entry at which the walk stands has its target
+pub record IsGivenOn (sig : Signature) (n : ℕ) (old : Parts) (row last : Entry) (q : ℕ) (new : Parts) (first_entries : List Entry) : Type 0 where
+  pub pushed : IsPushed old row q new
+  pub firsts : AreFirsts new.entries new.firsts first_entries
+  pub grown : Grown sig n new.presences new.firsts new.entries new.targets last
+
+pub given_on : (sig : Signature) (n : ℕ) (g : Parts) (row last e : Entry) (b : Bool) (q place : ℕ) (ps' firsts' qs' : List ℕ) (frs frs' : List Entry)
+    → IsMaking sig n g.presences g.firsts g.entries g.targets → Stands (made_of sig n g) last b → IsAllowed (made_of sig n g) e q → row ≡ last → AreFirsts g.entries g.firsts frs
+    → ps' ≡ (if q == length g.presences then g.presences ++ presence row.symbol ∷ [] else g.presences)
+    → firsts' ≡ (if q == length g.presences then g.firsts ++ place ∷ [] else g.firsts)
+    → frs' ≡ (if q == length g.presences then frs ++ row ∷ [] else frs)
+    → qs' ≡ g.targets ++ q ∷ [] → place ≡ length g.targets
+    → IsGivenOn sig n g row last q (record { presences = ps'; firsts = firsts'; entries = front_of sig n ps' (length qs'); targets = qs' }) frs'
+given_on sig n g row last e b q place ps' firsts' qs' frs frs' m s ok is a pe f fr t at =
+    let place_is : place ≡ length g.entries = at ∙ m.count in
+    let fe : firsts' ≡ (if q == length g.presences then g.firsts ++ length g.entries ∷ [] else g.firsts) = f ∙ ap (λ k. if q == length g.presences then g.firsts ++ k ∷ [] else g.firsts) place_is in
+    let es : List Entry = g.entries ++ row ∷ [] in
+    let g' : Parts = record { presences = ps'; firsts = firsts'; entries = es; targets = qs' } in
+    let pushed : IsPushed g row q g' = record { presences = pe; firsts = fe; entries = refl; targets = t } in
+    let r : Grown sig n ps' firsts' es qs' last = given_grown sig n g g' row last e b q m s ok is pushed in
+    let front : es ≡ front_of sig n ps' (length qs') = front_up_to sig n ps' es last r.making.order r.up_to ∙ ap (λ k. front_of sig n ps' k) (sym r.making.count) in
+    let P : List Entry → Type 0 = λ xs. IsGivenOn sig n g row last q (record { presences = ps'; firsts = firsts'; entries = xs; targets = qs' }) frs' in
+    subst P front (record { pushed = pushed; firsts = firsts_noted g.entries g.firsts firsts' frs frs' row (q == length g.presences) a fe fr; grown = r })
+
+-- the same by the states that were noted, in the room that was made for them
+pub noted_on : (sig : Signature) (n : ℕ) (a s t : States) (qs qs' : List ℕ) (row last e : Entry) (b : Bool) (q place : ℕ)
+    → IsMaking sig n a.presences.items a.firsts.items (parts_with sig n a qs).entries qs → Stands (made_of sig n (parts_with sig n a qs)) last b
+    → IsAllowed (made_of sig n (parts_with sig n a qs)) e q → row ≡ last → AreFirsts (parts_with sig n a qs).entries a.firsts.items (first_entries_in a)
+    → IsSameStates a s → IsNoted s row q place t → qs' ≡ qs ++ q ∷ [] → place ≡ length qs
+    → IsGivenOn sig n (parts_with sig n a qs) row last q (parts_with sig n t qs') (first_entries_in t)
+noted_on sig n a s t qs qs' row last e b q place m h ok is f same noted grown at =
+    let p = presence row.symbol in
+    let own = same.presences in
+    let rows : first_entries_in s ≡ first_entries_in a =
+    ap (λ (xs : List ℕ). entries_in xs s.first_entries.spans.items) same.numbers ∙ ap (λ (xs : List Span). entries_in a.first_entries.numbers.items xs) same.spans in
+    given_on sig n (parts_with sig n a qs) row last e b q place t.presences.items t.firsts.items qs' (first_entries_in a) (first_entries_in t) m h ok is f
+    (noted.presences ∙ ap (λ (ps : List ℕ). if q == length ps then ps ++ p ∷ [] else ps) own)
+    (noted.firsts ∙ (ap (λ (ps : List ℕ). if q == length ps then s.firsts.items ++ place ∷ [] else s.firsts.items) own
+    ∙ ap (λ (fs : List ℕ). if q == length a.presences.items then fs ++ place ∷ [] else fs) same.firsts))
+    (noted.first_entries ∙ (ap (λ (ps : List ℕ). if q == length ps then first_entries_in s ++ row ∷ [] else first_entries_in s) own
+    ∙ ap (λ (es : List Entry). if q == length a.presences.items then es ++ row ∷ [] else es) rows))
+    grown at
 
 pub stands_after : (m : Made) (old new : Place) (b : Bool) → IsUpTo m.signature m.columns m.presences m.entries (entry_at old) → length old.digits ≡ m.columns → IsStep m.signature m.presences old new b → Stands m (entry_at new) b
 stands_after m old new true u w s = stands_next m (entry_at old) (entry_at new) u (subst (λ (n : ℕ). IsNextEntry m.signature n m.presences (entry_at old) (entry_at new)) w s)

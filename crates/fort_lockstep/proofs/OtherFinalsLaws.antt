@@ -1,6 +1,8 @@
--- A table with other accepting states, each of full presence, is one too.
+-- A table with other accepting states, each of full presence, is one too, with the same list of targets.
 use Rattle.std.specs.Prelude.{◌≡◌, ℕ, ◌<◌, List, Bool, true, false, length, get_or}
-use Rattle.fort_tables.specs.Tables.{Listed, IsListed, full_presence}
+use Rattle.fort_tables.specs.Tables.{Listed, listed_table, IsListed, full_presence}
+use Rattle.fort_target_lists.specs.TargetLists.{IsTargetListOf}
+use Rattle.fort_target_lists.specs.declared.target_list.TargetList.{TargetList}
 use Rattle.fort_lockstep.specs.OtherFinals.{with_finals}
 
 pub IsListed-with_finals : (t : Listed) (finals : List Bool) → IsListed t
@@ -18,4 +20,19 @@ IsListed-with_finals t finals is full = record {
   };
   reached = is.reached;
   numbered = is.numbered;
+}
+
+-- both have one list of targets
+pub IsTargetListOf-with_finals : (t : Listed) (finals : List Bool) (l : TargetList) → IsTargetListOf (listed_table t) l → IsTargetListOf (listed_table (with_finals t finals)) l
+IsTargetListOf-with_finals t finals l is = record {
+  list_is = λ made.
+      let flat = is.list_is made in
+      record {
+        base_is = flat.base_is;
+        starts_all = flat.starts_all;
+        few = flat.few;
+        spots = flat.spots;
+        entries = flat.entries;
+      };
+  made = is.made;
 }

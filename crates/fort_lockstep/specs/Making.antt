@@ -4,14 +4,18 @@ use Rattle.fort_theory.specs.Signatures.{Signature}
 use Rattle.fort_tables.specs.Tuples.{presence}
 use Rattle.fort_tables.specs.Entries.{Entry, IsEntry, ComesBefore, AreInOrder}
 use Rattle.fort_tables.specs.Tables.{Made, IsComplete}
-use Rattle.fort_lockstep.specs.GivenView.{Parts}
+
+-- states with the places of their first entries, and entries with their targets
+pub record Parts : Type 0 where
+  pub presences : List ℕ
+  pub firsts : List ℕ
+  pub entries : List Entry
+  pub targets : List ℕ
 
 abbrev pub made_of : Signature → ℕ → Parts → Made
 made_of sig columns g = record { signature = sig; columns = columns; presences = g.presences; entries = g.entries; targets = g.targets }
 
 pub record IsPushed (old : Parts) (e : Entry) (target : ℕ) (new : Parts) : Type 0 where
-  pub base : new.base ≡ old.base
-  pub columns : new.columns ≡ old.columns
   pub presences : new.presences ≡ (if target == length old.presences then old.presences ++ presence e.symbol ∷ [] else old.presences)
   pub firsts : new.firsts ≡ (if target == length old.presences then old.firsts ++ length old.entries ∷ [] else old.firsts)
   pub entries : new.entries ≡ old.entries ++ e ∷ []

@@ -4,12 +4,12 @@ ghost use Rattle.fort_tables.specs.Entries.{Entry, entry, no_entry};
 ghost use Rattle.fort_lockstep.specs.SymbolCounts.{count_with};
 ghost use Rattle.fort_tables.specs.Tables.{IsTableEntry, IsListed, IsFirstWith, full_presence, listed_table, target_in};
 ghost use Rattle.fort_lockstep.specs.OtherFinals.{with_finals};
+ghost use Rattle.fort_target_lists.specs.TargetLists.{IsTargetListOf};
 
-use crate::bisect::Uncounted;
-use crate::given::Given;
 use crate::steps::Steps;
 use fort_entry_walk::Entries;
-use fort_table::Table;
+use fort_table::{EntryList, Table};
+use fort_target_lists::TargetList;
 use fort_terms::{Memory, Signature};
 use fort_tuple_symbols::{Row, TupleSym};
 use std::marker::Model;
@@ -21,7 +21,11 @@ use std::sync::ledger::Ledger;
 pub struct Shared {
     pub signature: Signature,
     pub columns: usize,
-    pub given: Given,
+    pub presences: Vec<u16>,
+    /// The first entry of each state.
+    pub first_entries: EntryList,
+    /// The targets of all entries, each at its place by the ranks of its children's states.
+    pub list: TargetList,
 }
 
 /// A table as the list of its entries, with their targets.
@@ -61,10 +65,17 @@ impl Dta {
         requires { q < length self.now.presences }
         ensures { IsFirstWith self.now.entries self.now.targets q result }
     {
-        self.shared.as_ref().given.first(q)
+        self.shared.as_ref().first_entries.get(q as usize)
     }
 
-    /// The state of an entry; each comparison of two lists of child states is one step.
+    /// The targets of all entries in one list, as the table keeps them.
+    pub fn list(&self) -> &TargetList
+        ensures { IsTargetListOf (listed_table self.now) result.now }
+    {
+        &self.shared.as_ref().list
+    }
+
+    /// The state of an entry; each comparison of two lists of child states is one step. There are none: the target is read at its place.
     /// Promised to callers: the program itself doesn't call it.
     pub fn target_counted<L: Ledger>(
         &self,
@@ -77,7 +88,8 @@ impl Dta {
         ensures grows { steps.old ≤ steps.new }
         ensures cost { 2 ^ (steps.new - steps.old) ≤ 2 * count_with sym.now self.now.entries + 1 }
     {
-        self.shared.as_ref().given.target(sym, kids, steps)
+        let _none = steps;
+        self.shared.as_ref().list.target(sym, kids)
     }
 
     /// The same table with these accepting states. Both share their entries, so that it takes room for the states alone.
@@ -108,11 +120,11 @@ impl Table for Dta {
     }
 
     fn states(&self) -> u32 {
-        self.shared.as_ref().given.presences().len() as u32
+        self.shared.as_ref().presences.len() as u32
     }
 
     fn presence(&self, q: u32) -> u16 {
-        self.shared.as_ref().given.presences()[q as usize]
+        self.shared.as_ref().presences[q as usize]
     }
 
     fn is_final(&self, q: u32) -> bool {
@@ -120,6 +132,6 @@ impl Table for Dta {
     }
 
     fn target(&self, sym: &TupleSym, kids: &[u32]) -> u32 {
-        self.shared.as_ref().given.target(sym, kids, &mut Uncounted)
+        self.shared.as_ref().list.target(sym, kids)
     }
 }

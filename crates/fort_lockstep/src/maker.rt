@@ -4,8 +4,9 @@ ghost use Rattle.fort_tables.specs.Entries.{Entry};
 ghost use Rattle.fort_tables.specs.Tables.{IsMadeDue, IsComplete, IsAllowed, IsGiven, AreFinals, IsListed, finished};
 
 use crate::dta::{Dta, Shared};
-use crate::given::Given;
+use crate::states::States;
 use fort_entry_walk::Walk;
+use fort_target_lists::TargetList;
 use fort_terms::{Memory, Signature};
 use fort_tuple_symbols::Row;
 use std::alloc::Global;
@@ -17,7 +18,9 @@ use std::rc::Rc;
 pub struct Maker {
     signature: Signature,
     columns: usize,
-    given: Given,
+    states: States,
+    /// The targets of the entries so far, in their order.
+    targets: Vec<u32>,
     walk: Walk,
     /// The entry at which the walk stands.
     row: Row,
@@ -36,11 +39,6 @@ impl Model for Maker {
     ghost invariant = { IsMaker };
 }
 
-/// The presences that are counted are those below this: all, where there are few columns.
-fn counted(columns: usize) -> usize {
-    if columns <= 5 { 1 << columns } else { 0 }
-}
-
 impl Maker {
     /// No states yet; the signature is copied.
     pub fn new(alloc: Global, sig: &Signature, columns: usize) -> Result<Maker, Memory>
@@ -53,15 +51,16 @@ impl Maker {
         ensures targets { IfOk result (λ m. m.targets ≡ []) }
     {
         let signature = sig.copy(alloc)?;
-        let base = signature.len() as u32 + 1;
-        let given = Given::new(alloc, counted(columns), base, columns)?;
+        // its clause says that the signature is lawful
+        let _symbols = signature.len();
         let mut walk = Walk::new(&signature, columns);
         let mut row = walk.row();
         let is_due = walk.advance_row(&signature, &[], &mut row);
         Ok(Maker {
             signature,
             columns,
-            given,
+            states: States::new(alloc),
+            targets: Vec::new(alloc),
             walk,
             row,
             is_due,
@@ -86,8 +85,8 @@ impl Maker {
         ensures none { IfNone result (IsComplete self.now) }
         ensures counted { length self.now.targets < 2 ^ 64 }
     {
-        // its clause says that it counts the targets
-        let _count = self.given.len();
+        // its clause bounds the length
+        let _count = self.targets.len();
         if self.is_due { Some(&self.row) } else { None }
     }
 
@@ -101,10 +100,14 @@ impl Maker {
     {
         // its clause says that the signature is lawful
         let _symbols = self.signature.len();
-        self.given.push(&self.row, target)?;
+        let place = self.targets.len();
+        self.states.make_room(target)?;
+        self.targets.push(target)?;
+        self.states.note(&self.row, target, place);
+        let presences = self.states.presences.as_slice();
         self.is_due = self
             .walk
-            .advance_row(&self.signature, self.given.presences(), &mut self.row);
+            .advance_row(&self.signature, presences, &mut self.row);
         Ok(())
     }
 
@@ -116,10 +119,31 @@ impl Maker {
         ensures lawful { IfOk result IsListed }
     {
         let alloc = *finals.allocator();
+        let Maker {
+            signature,
+            columns,
+            states,
+            targets,
+            ..
+        } = self;
+        let list = TargetList::laid(
+            alloc,
+            &signature,
+            columns,
+            states.presences.as_slice(),
+            targets.as_slice(),
+        )?;
+        let States {
+            presences,
+            first_entries,
+            ..
+        } = states;
         let own = Shared {
-            signature: self.signature,
-            columns: self.columns,
-            given: self.given,
+            signature,
+            columns,
+            presences,
+            first_entries,
+            list,
         };
         let shared = Rc::new(alloc, own)?;
         Ok(Dta { shared, finals })

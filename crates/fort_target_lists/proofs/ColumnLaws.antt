@@ -3,7 +3,7 @@ use Rattle.std.proofs.Common.{◌≡◌, ℕ, zero, suc, ◌+◌, ◌*◌, ◌<�
 use Rattle.std.proofs.lemmas.List.{ext_get_or, length-map, get_or-map, length-take-le, get_or-take}
 use Rattle.std.proofs.lemmas.Bool.{cases_lt}
 use Rattle.std.proofs.lemmas.List.Elements.{All-get_or}
-use Rattle.std.proofs.lemmas.Option.{get_or_from_slice_get, slice_get-get_or}
+use Rattle.std.proofs.lemmas.Option.{get_or_from_slice_get}
 use Rattle.std.specs.Option.{is_some}
 use Rattle.fort_theory.specs.Signatures.{Symbol, Signature, IsSignature, symbol}
 use Rattle.fort_tables.specs.Tuples.{TupleSymbol, AreSymbols, symbol_kids, kid_presence, arity}
@@ -101,11 +101,6 @@ arity_small sig g is l =
     omega (arith, get_or-map (λ (s : Symbol). s.arity) sig g d 0 l, All-get_or (λ (s : Symbol). s.arity ≤ 8) sig g d l is.small)
 
 -- one of the columns
-pub selected_at : (f : TupleSymbol) (places : List ℕ) (k : ℕ) (x : Option ℕ) → k < length places → slice_get f (get_or places k 0) ≡ Some x → slice_get (selected places f) k ≡ Some x
-selected_at f places k x l e =
-    slice_get-get_or (selected places f) k None (omega (arith, l, length-map places (λ p. get_or f p None)))
-    ∙ ap Some (get_or-map (λ p. get_or f p None) places k 0 None l ∙ get_or_from_slice_get f (get_or places k 0) x None e)
-
 pub selected_is : (f : TupleSymbol) (places : List ℕ) (k : ℕ) (x : Option ℕ) → k < length places → slice_get f (get_or places k 0) ≡ Some x → get_or (selected places f) k None ≡ x
 selected_is f places k x l e = get_or-map (λ p. get_or f p None) places k 0 None l ∙ get_or_from_slice_get f (get_or places k 0) x None e
 

@@ -1,14 +1,14 @@
--- The targets laid over child states are those of the entries over them, and a tuple symbol has as many of both.
+-- The targets laid over child states are those of the entries over them.
 use Rattle.std.proofs.Common.{◌≡◌, ℕ, zero, suc, List, [], ◌∷◌, ◌++◌, map, length, get_or, Bool, true, false, ◌==◌, if◌then◌else◌, refl, ap, sym, ◌∙◌, ⊎_elim, true≢false}
 use Rattle.std.proofs.lemmas.Bool.{cases_eq}
-use Rattle.std.proofs.lemmas.List.{length-map, map-append}
-use Rattle.fort_tables.specs.Tuples.{TupleSymbol, IsPresent, presence, symbol_kids, kid_presence}
+use Rattle.std.proofs.lemmas.List.{map-append}
+use Rattle.fort_tables.specs.Tuples.{TupleSymbol, presence, kid_presence}
 use Rattle.fort_tables.specs.Entries.{Entry}
 use Rattle.fort_tables.specs.Tables.{Table}
 use Rattle.fort_tables.specs.Selections.{is_present}
 use Rattle.fort_tables.proofs.SelectionLaws.{test_from_present}
-use Rattle.fort_tables.specs.Laid.{joined_below, entries_from, entries_under}
-use Rattle.fort_tables.proofs.KidLists.{present_from_presence, under_absent, under_present}
+use Rattle.fort_tables.specs.Laid.{joined_below, entries_from}
+use Rattle.fort_tables.proofs.KidLists.{present_from_presence}
 use Rattle.fort_target_lists.specs.Flats.{laid}
 
 -- the targets laid over first child states are those of the entries
@@ -37,13 +37,3 @@ laid_targets body f ks j (suc n) =
 -- without a present column a tuple symbol has no entries
 pub absent_presence : (f : TupleSymbol) → is_present f ≡ false → presence f ≡ 0
 absent_presence f e = ⊎_elim (λ z. z) (λ z. absurd (true≢false (sym (test_from_present f (present_from_presence f z)) ∙ e))) (cases_eq (presence f) 0)
-
-pub under_none : (body : Table) (f : TupleSymbol) → is_present f ≡ false → length (entries_under body.signature body.presences f) ≡ 0
-under_none body f absent = ap length (under_absent body.signature body.presences f (absent_presence f absent))
-
--- with one it has as many as targets are laid for it
-pub under_laid : (body : Table) (f : TupleSymbol) → IsPresent f → length (entries_under body.signature body.presences f) ≡ length (laid body f [] 0 (symbol_kids body.signature f))
-under_laid body f there =
-    let entries = entries_from body.signature body.presences f [] 0 (symbol_kids body.signature f) in
-    ap length (under_present body.signature body.presences f there)
-    ∙ (sym (length-map entries body.target) ∙ ap length (sym (laid_targets body f [] 0 (symbol_kids body.signature f))))

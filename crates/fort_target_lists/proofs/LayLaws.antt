@@ -17,7 +17,7 @@ use Rattle.fort_target_lists.proofs.WalkLaws.{stage_keeps, stage_skips}
 use Rattle.fort_target_lists.proofs.SymbolPlaces.{entries_all}
 
 -- a listed table
-pub covered_listed : (t : Listed) → IsListed t → length t.targets < 2 ^ 32 → IsCovered t
+pub covered_listed : (t : Listed) → IsListed t → length t.targets < 2 ^ 64 → IsCovered t
 covered_listed t h few = record { narrow = h.table.narrow; order = h.order; all = h.all; count = h.count; few = few }
 
 -- a walk by the chains of the room goes over the table that is taken up
@@ -105,7 +105,7 @@ laid_first t walk begins h size own =
         cursor = λ s l. let z : get_or begins s 0 ≡ get_or begins s 0 + 0 = omega arith in z;
         laid_are = λ b. refl;
       };
-      laid_are = λ b. record { count = refl; size = refl; laid_at = λ f s l. absurd (omega (arith, l)) };
+      laid_are = λ b. record { count = refl; laid_at = λ f s l. absurd (omega (arith, l)) };
     }
 
 pub laid_begun : (t : Listed) (walk : Walk) (begins starts laid : List ℕ) → IsWalkOf t walk → length begins ≡ suc (length t.presences)

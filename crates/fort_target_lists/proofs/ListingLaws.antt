@@ -1,21 +1,19 @@
 -- The targets of tuple symbols, one after another: where each entry's stands.
-use Rattle.std.proofs.Common.{◌≡◌, ℕ, zero, suc, ◌+◌, ◌-◌, ◌*◌, ◌^◌, ◌<◌, ◌≤◌, List, [], ◌∷◌, ◌++◌, take, set, length, get_or, Bool, true, false, ◌==◌, if◌then◌else◌, refl, ap, sym, ◌∙◌, arith, subst, ⊎_elim, append_assoc, length-append, eq-eqb, true≢false, get_or-set_same, get_or-set_other}
+use Rattle.std.proofs.Common.{◌≡◌, ℕ, zero, suc, ◌+◌, ◌*◌, ◌^◌, ◌<◌, ◌≤◌, List, [], ◌∷◌, ◌++◌, length, get_or, Bool, true, false, ◌==◌, if◌then◌else◌, refl, ap, sym, ◌∙◌, arith, subst, ⊎_elim, append_assoc, length-append, eq-eqb, true≢false}
 use Rattle.std.proofs.Math.Nat.{mul-le-mul_right}
 use Rattle.std.proofs.lemmas.Bool.{cases_lt}
-use Rattle.std.proofs.lemmas.List.{append-nil, get_or_append_left, get_or-append-add, take_more_set, length-take-le, get_or-take}
+use Rattle.std.proofs.lemmas.List.{append-nil, get_or_append_left, get_or-append-add}
 use Rattle.fort_tables.specs.Tuples.{TupleSymbol, AreSymbols, IsTupleSymbol, symbol_kids, kid_presence}
 use Rattle.fort_tables.specs.Entries.{Entry, entry}
 use Rattle.fort_tables.specs.Tables.{Table, IsTableEntry}
-use Rattle.fort_tables.proofs.EqualTests.{test_from_apart}
 use Rattle.fort_tables.specs.StateRanks.{rank_in}
 use Rattle.fort_tables.proofs.StateRankLaws.{rank_less}
 use Rattle.fort_tables.specs.Selections.{is_present}
 use Rattle.fort_tables.proofs.SelectionLaws.{present_from_test, test_from_present}
 use Rattle.fort_tuple_symbols.specs.SymbolNumbers.{columns_at}
 use Rattle.fort_target_lists.specs.Places.{number_of, place_from, AreSpots}
-use Rattle.fort_tables.specs.Laid.{joined_below, entries_under}
-use Rattle.fort_target_lists.specs.Flats.{entries_below, laid, IsStateFor, HasFrom, AreLaid, IsTargetAt}
-use Rattle.fort_target_lists.proofs.LaidTargets.{under_none, under_laid}
+use Rattle.fort_tables.specs.Laid.{joined_below}
+use Rattle.fort_target_lists.specs.Flats.{laid, HasFrom, AreLaid, IsTargetAt}
 use Rattle.fort_target_lists.proofs.PlaceLaws.{rank_none, rank_more, rank_whole, room, AreKidsFrom, kids_from_index, place_first, place_below}
 use Rattle.fort_tuple_symbols.proofs.SymbolNumberLaws.{length-columns_at}
 use Rattle.fort_target_lists.proofs.SymbolNumbers.{number_below, columns_again, symbols_at}
@@ -125,14 +123,10 @@ has_from-end xs ys = record {
 
 -- the tuple symbol with the next number is this one, or no tuple symbol has the number
 pub laid_more : (body : Table) (base n : ℕ) (starts targets more : List ℕ) → AreLaid body base n starts targets
-    → length more ≡ length (entries_under body.signature body.presences (columns_at base body.columns n))
     → ((f : TupleSymbol) → IsTupleSymbol body.signature body.columns f → number_of base f ≡ n → more ≡ laid body f [] 0 (symbol_kids body.signature f))
     → AreLaid body base (n + 1) (starts ++ length targets ∷ []) (targets ++ more)
-laid_more body base n starts targets more h size own = record {
+laid_more body base n starts targets more h own = record {
   count = omega (arith, length-append starts (length targets ∷ []), h.count);
-  size =
-      let next : suc n ≡ n + 1 = omega arith in
-      length-append targets more ∙ (ap (λ k. k + length more) h.size ∙ (ap (λ k. entries_below body base n + k) size ∙ ap (entries_below body base) next));
   laid_at = λ f s l.
       let m = number_of base f in
       let ys = laid body f [] 0 (symbol_kids body.signature f) in
@@ -148,32 +142,6 @@ laid_more body base n starts targets more h size own = record {
       (cases_lt m n);
 }
 
--- one more child state
-abbrev pub lists_behind : Table → TupleSymbol → List ℕ → ℕ → ℕ → ℕ → List ℕ
-lists_behind body f before j n k = if get_or body.presences k 0 == kid_presence body.signature f j then laid body f (before ++ k ∷ []) (suc j) n else []
-
-pub laid_turn : (body : Table) (f : TupleSymbol) (before : List ℕ) (j n : ℕ) → (n ≡ 0 → ⊥) → laid body f before j n ≡ joined_below (length body.presences) (lists_behind body f before j (n - 1))
-laid_turn body f before j zero h = absurd (h refl)
-laid_turn body f before j (suc n) h = let e : n ≡ suc n - 1 = omega arith in ap (λ m. joined_below (length body.presences) (lists_behind body f before j m)) e
-
-pub laid_end : (body : Table) (f : TupleSymbol) (before : List ℕ) (j n : ℕ) → n ≡ 0 → laid body f before j n ≡ body.target (entry f before) ∷ []
-laid_end body f before j n e = ap (laid body f before j) e
-
-pub joined_more : {A : Type 0} (q : ℕ) (g : ℕ → List A) → joined_below (q + 1) g ≡ joined_below q g ++ g q
-joined_more q g = let e : q + 1 ≡ suc q = omega arith in ap (λ n. joined_below n g) e
-
-pub lay_there : (body : Table) (f : TupleSymbol) (chosen : List ℕ) (j q n : ℕ) (old mid new : List ℕ) → j < length chosen → get_or body.presences q 0 ≡ kid_presence body.signature f j → mid ≡ old ++ joined_below q (lists_behind body f (take j chosen) j n)
-    → new ≡ mid ++ laid body f (take (j + 1) (set chosen j q)) (j + 1) n → new ≡ old ++ joined_below (q + 1) (lists_behind body f (take j chosen) j n)
-lay_there body f chosen j q n old mid new l e h m =
-    let g = lists_behind body f (take j chosen) j n in
-    let s : j + 1 ≡ suc j = omega arith in
-    let here : g q ≡ laid body f (take (j + 1) (set chosen j q)) (j + 1) n =
-    block_there (get_or body.presences q 0 == kid_presence body.signature f j) (laid body f (take j chosen ++ q ∷ []) (suc j) n) (eq-eqb (get_or body.presences q 0) (kid_presence body.signature f j) e)
-    ∙ sym (ap (λ xs. laid body f xs (j + 1) n) (take_more_set chosen j q l) ∙ ap (λ m. laid body f (take j chosen ++ q ∷ []) m n) s) in
-    m ∙ (ap (λ xs. xs ++ laid body f (take (j + 1) (set chosen j q)) (j + 1) n) h
-    ∙ (append_assoc old (joined_below q g) (laid body f (take (j + 1) (set chosen j q)) (j + 1) n)
-    ∙ ap (λ xs. old ++ xs) (ap (λ xs. joined_below q g ++ xs) (sym here) ∙ sym (joined_more q g))))
-
 -- lists between two numbers that are all empty
 pub joined_over : {A : Type 0} (g : ℕ → List A) (m d : ℕ) → ((k : ℕ) → m ≤ k → k < m + d → g k ≡ []) → joined_below (m + d) g ≡ joined_below m g
 joined_over g m zero h = let z : m + 0 ≡ m = omega arith in ap (λ n. joined_below n g) z
@@ -182,38 +150,6 @@ joined_over g m (suc d) h =
     ap (λ n. joined_below n g) s
     ∙ (ap (λ xs. joined_below (m + d) g ++ xs) (h (m + d) (omega arith) (omega arith))
     ∙ (append-nil (joined_below (m + d) g) ∙ joined_over g m d (λ k a b. h k a (omega (arith, b)))))
-
--- states of other presences add nothing
-pub lay_to : (body : Table) (f : TupleSymbol) (before : List ℕ) (j n m q : ℕ) (old mid : List ℕ) → m ≤ q → ((k : ℕ) → m ≤ k → k < q → get_or body.presences k 0 ≡ kid_presence body.signature f j → ⊥)
-    → mid ≡ old ++ joined_below m (lists_behind body f before j n) → mid ≡ old ++ joined_below q (lists_behind body f before j n)
-lay_to body f before j n m q old mid le none h =
-    let g = lists_behind body f before j n in
-    let d : m + (q - m) ≡ q = omega (arith, le) in
-    let over = joined_over g m (q - m) (λ k a b. block_not (get_or body.presences k 0 == kid_presence body.signature f j) (laid body f (before ++ k ∷ []) (suc j) n)
-    (test_from_apart (get_or body.presences k 0) (kid_presence body.signature f j) (none k a (omega (arith, b, d))))) in
-    h ∙ ap (λ xs. old ++ xs) (sym over ∙ ap (λ z. joined_below z g) d)
-
--- the entry of a whole choice of child states
-pub states_entry : (body : Table) (f : TupleSymbol) (chosen : List ℕ) (j : ℕ) → IsTupleSymbol body.signature body.columns f → j ≡ symbol_kids body.signature f → j ≤ length chosen → ((i : ℕ) → i < j → IsStateFor body f i (get_or chosen i 0)) → IsTableEntry body (entry f (take j chosen))
-states_entry body f chosen j s count l h =
-    let w = length-take-le j chosen l in
-    record {
-      symbol = s;
-      count = w ∙ count;
-      within = λ i a. let m : i < j = omega (arith, w) in subst (λ (k : ℕ). k < length body.presences) (sym (get_or-take j chosen i 0 m)) (h i m).0;
-      presence = λ i a. let m : i < j = omega (arith, w) in ap (λ k. get_or body.presences k 0) (get_or-take j chosen i 0 m) ∙ (h i m).1;
-    }
-
--- the entry of a tuple symbol without children
-pub entry_alone : (body : Table) (f : TupleSymbol) → IsTupleSymbol body.signature body.columns f → symbol_kids body.signature f ≡ 0 → IsTableEntry body (entry f [])
-entry_alone body f s e = states_entry body f [] 0 s (sym e) (omega arith) (λ i l. absurd (omega (arith, l)))
-
--- one more child has its state
-pub state_more : (body : Table) (f : TupleSymbol) (chosen : List ℕ) (j k : ℕ) → j < length chosen → ((i : ℕ) → i < j → IsStateFor body f i (get_or chosen i 0)) → IsStateFor body f j k → (i : ℕ) → i < j + 1 → IsStateFor body f i (get_or (set chosen j k) i 0)
-state_more body f chosen j k l h s i b = ⊎_elim
-    (λ (a : i < j). let ne : i ≡ j → ⊥ = λ e. omega arith in subst (IsStateFor body f i) (sym (get_or-set_other chosen j i k 0 ne)) (h i a))
-    (λ (a : j ≤ i). let e : j ≡ i = omega arith in subst (λ (x : ℕ). IsStateFor body f x (get_or (set chosen j k) x 0)) e (subst (IsStateFor body f j) (sym (get_or-set_same chosen j k 0 l)) s))
-    (cases_lt i j)
 
 -- a tuple symbol has the columns of its number
 symbol_is : (body : Table) (base n : ℕ) (f : TupleSymbol) → base ≡ suc (length body.signature) → IsTupleSymbol body.signature body.columns f → number_of base f ≡ n → f ≡ columns_at base body.columns n
@@ -233,7 +169,7 @@ pub laid_none : (body : Table) (base n : ℕ) (f : TupleSymbol) (starts targets 
 laid_none body base n f starts targets new b is h absent e =
     subst (λ (xs : List ℕ). AreLaid body base (n + 1) xs targets) (sym e)
     (subst (λ (xs : List ℕ). AreLaid body base (n + 1) (starts ++ length targets ∷ []) xs) (append-nil targets)
-    (laid_more body base n starts targets [] h (sym (under_none body (columns_at base body.columns n) (ap is_present (sym is) ∙ absent)))
+    (laid_more body base n starts targets [] h
     (λ g s o. absurd (true≢false (sym (test_from_present g s.present) ∙ (ap is_present (symbol_is body base n g b s o ∙ sym is) ∙ absent))))))
 
 -- a number with one
@@ -243,5 +179,4 @@ laid_one body base n f starts targets new laid_new b is present h e m =
     subst (λ (xs : List ℕ). AreLaid body base (n + 1) xs laid_new) (sym e)
     (subst (λ (xs : List ℕ). AreLaid body base (n + 1) (starts ++ length targets ∷ []) xs) (sym m)
     (laid_more body base n starts targets (laid body f [] 0 (symbol_kids body.signature f)) h
-    (sym (under_laid body f (present_from_test f present)) ∙ ap (λ x. length (entries_under body.signature body.presences x)) is)
     (λ g s o. ap (λ x. laid body x [] 0 (symbol_kids body.signature x)) (is ∙ sym (symbol_is body base n g b s o)))))

@@ -1,12 +1,10 @@
 -- A walk over all entries, tuple symbol by tuple symbol: the stop at which one begins, and one more passed.
-use Rattle.std.proofs.Common.{◌≡◌, ℕ, suc, ◌+◌, ◌^◌, ◌<◌, List, [], ◌∷◌, ◌++◌, map, length, true, false, IsTrue, refl, ap, sym, ◌∙◌, arith, subst, length-append}
-use Rattle.std.proofs.lemmas.List.{append-nil, length-map, map-append}
+use Rattle.std.proofs.Common.{◌≡◌, ℕ, suc, ◌+◌, ◌^◌, ◌<◌, List, [], ◌∷◌, ◌++◌, map, length, true, false, IsTrue, refl, ap, sym, ◌∙◌, arith, subst}
+use Rattle.std.proofs.lemmas.List.{append-nil, map-append}
 use Rattle.fort_tables.specs.Tuples.{TupleSymbol, IsTupleSymbol, symbol_kids}
 use Rattle.fort_tables.specs.Tables.{Listed, listed_table}
 use Rattle.fort_tables.specs.Selections.{is_present}
 use Rattle.fort_tables.specs.Laid.{entries_from, entries_under}
-use Rattle.fort_tables.proofs.AllEntries.{entries_unique}
-use Rattle.fort_tables.proofs.Counts.{length-all_entries}
 use Rattle.fort_tables.proofs.KidLists.{under_absent, under_present}
 use Rattle.fort_tuple_symbols.specs.SymbolNumbers.{columns_at}
 use Rattle.fort_target_lists.specs.Flats.{laid}
@@ -50,24 +48,6 @@ first_stop_of t begins walk n goes begin l present f is count e =
 pub stop_first : (t : Listed) (begins : List ℕ) (walk : Walk) (n : ℕ) (cursors starts targets : List ℕ) → IsBetween t begins walk n cursors starts targets → n < walk.base ^ walk.columns
     → is_present (symbol_with t walk n) ≡ true → (f : TupleSymbol) → f ≡ symbol_with t walk n → (count : ℕ) → count ≡ symbol_kids t.signature f → IsStopOf (first_stop t begins n) walk f 0 0 count
 stop_first t begins walk n cursors starts targets h = first_stop_of t begins walk n h.goes h.begin
-
--- the targets laid before it are no more than all
-pub between_few : (t : Listed) (begins : List ℕ) (walk : Walk) (n : ℕ) (cursors starts targets : List ℕ) → IsBetween t begins walk n cursors starts targets → n < walk.base ^ walk.columns
-    → IsTrue walk.lays → length targets < 2 ^ 32
-between_few t begins walk n cursors starts targets h l b =
-    let own = entries_unique t.signature t.columns t.presences t.entries h.goes.listed.order h.goes.listed.all in
-    let rest = entries_under t.signature t.presences (columns_at (suc (length t.signature)) t.columns n) ++ entries_behind t n in
-    omega (
-      arith,
-      ap length (h.passed.laid_are b),
-      length-map (entries_before t n) (listed_table t).target,
-      ap length (entries_split t n (low_base t walk n h.goes l)),
-      length-append (entries_before t n) rest,
-      length-all_entries t.signature t.columns t.presences,
-      ap length own,
-      h.goes.listed.count,
-      h.goes.listed.few,
-    )
 
 -- without a present column it has no entries
 pub before_absent : (t : Listed) (walk : Walk) (n : ℕ) → IsWalkOf t walk → n < walk.base ^ walk.columns → is_present (symbol_with t walk n) ≡ false → entries_before t (n + 1) ≡ entries_before t n

@@ -1,10 +1,9 @@
 -- To believe: the targets of a table in one list, each tuple symbol's where they start.
-use Rattle.std.specs.Prelude.{◌≡◌, ℕ, zero, suc, ◌+◌, ◌^◌, ◌<◌, ◌≤◌, ◌⊎◌, List, [], ◌∷◌, ◌++◌, length, get_or, ◌==◌, if◌then◌else◌}
+use Rattle.std.specs.Prelude.{◌≡◌, ℕ, zero, suc, ◌+◌, ◌^◌, ◌<◌, ◌≤◌, List, [], ◌∷◌, ◌++◌, length, get_or, ◌==◌, if◌then◌else◌}
 use Rattle.fort_tables.specs.Tuples.{TupleSymbol, IsTupleSymbol, symbol_kids, kid_presence}
 use Rattle.fort_tables.specs.Entries.{Entry, entry}
 use Rattle.fort_tables.specs.Tables.{Table, IsTableEntry}
-use Rattle.fort_tables.specs.Laid.{joined_below, entries_under}
-use Rattle.fort_tuple_symbols.specs.SymbolNumbers.{columns_at}
+use Rattle.fort_tables.specs.Laid.{joined_below}
 use Rattle.fort_target_lists.specs.Places.{number_of, place_from, AreSpots}
 use Rattle.fort_target_lists.specs.declared.flat.FlatTargets.{FlatTargets}
 
@@ -17,24 +16,14 @@ abbrev pub laid : Table → TupleSymbol → List ℕ → ℕ → ℕ → List �
 laid body f before j zero = body.target (entry f before) ∷ []
 laid body f before j (suc n) = joined_below (length body.presences) (λ k. if get_or body.presences k 0 == kid_presence body.signature f j then laid body f (before ++ k ∷ []) (suc j) n else [])
 
--- a state of the presence that child i has
-abbrev pub IsStateFor : Table → TupleSymbol → ℕ → ℕ → Type 0
-IsStateFor body f i k = (k < length body.presences) × (get_or body.presences k 0 ≡ kid_presence body.signature f i)
-
 -- the second list stands in the first one from a place on
 pub record HasFrom (xs : List ℕ) (start : ℕ) (ys : List ℕ) : Type 0 where
   pub within : start + length ys ≤ length xs
   pub same : (r : ℕ) → r < length ys → get_or xs (start + r) 0 ≡ get_or ys r 0
 
--- how many entries the tuple symbols with the first n numbers have
-abbrev pub entries_below : Table → ℕ → ℕ → ℕ
-entries_below body base zero = 0
-entries_below body base (suc n) = entries_below body base n + length (entries_under body.signature body.presences (columns_at base body.columns n))
-
--- the targets of the tuple symbols with the first n numbers stand where they start, and there are no more than entries
+-- the targets of the tuple symbols with the first n numbers stand where they start
 pub record AreLaid (body : Table) (base n : ℕ) (starts targets : List ℕ) : Type 0 where
   pub count : length starts ≡ n
-  pub size : length targets ≡ entries_below body base n
   pub laid_at : (f : TupleSymbol) → IsTupleSymbol body.signature body.columns f → number_of base f < n → HasFrom targets (get_or starts (number_of base f) 0) (laid body f [] 0 (symbol_kids body.signature f))
 
 pub record IsTargetAt (targets : List ℕ) (place target : ℕ) : Type 0 where
@@ -52,7 +41,3 @@ pub record IsFlatOf (body : Table) (flat : FlatTargets) : Type 0 where
   pub few : flat.base ^ body.columns < 2 ^ 64
   pub spots : AreSpots body.presences flat.spots.ranks.items flat.spots.alike.items
   pub entries : (e : Entry) → IsTableEntry body e → IsTargetAt flat.listing.targets.items (flat_place flat e) (body.target e)
-
--- a table whose targets aren't put into one list by look-ups: its tuple symbols have too many numbers, or the targets of one would start at a place of more than 32 bits
-abbrev pub IsUnlisted : Table → Type 0
-IsUnlisted body = (4194304 < base_of body ^ body.columns) ⊎ ((n : ℕ) × (n < base_of body ^ body.columns) × (2 ^ 32 ≤ entries_below body (base_of body) n))

@@ -25,7 +25,7 @@ pub record IsCovered (t : Listed) : Type 0 where
   pub order : AreInOrder t.signature t.columns t.presences t.entries
   pub all : HasAllEntries t.signature t.columns t.presences t.entries
   pub count : length t.targets ≡ length t.entries
-  pub few : length t.targets < 2 ^ 32
+  pub few : length t.targets < 2 ^ 64
 
 -- it goes over a table's entries by the chains of its states, beside its targets
 pub record IsWalkOf (t : Listed) (walk : Walk) : Type 0 where

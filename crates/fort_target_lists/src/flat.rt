@@ -4,10 +4,10 @@ ghost use Rattle.std.specs.List.{insert};
 ghost use Rattle.fort_tuple_symbols.specs.Columns.{as_column};
 ghost use Rattle.fort_target_lists.specs.Places.{number_of, place_from, IsReadable, read_at, AreStatesIn};
 
-use crate::chains::Chains;
 use crate::columns::number_behind;
 use fort_terms::Sym;
 use fort_tuple_symbols::TupleSym;
+use std::alloc::Global;
 
 /// Where each state stands among the states of its presence.
 #[derive(Drop)]
@@ -22,7 +22,7 @@ pub struct Spots {
 #[derive(Drop)]
 pub struct Listing {
     /// Where the targets of a tuple symbol start, by its number.
-    pub starts: Vec<u32>,
+    pub starts: Vec<usize>,
     pub targets: Vec<u32>,
 }
 
@@ -33,9 +33,6 @@ pub struct FlatTargets {
     pub base: usize,
     pub spots: Spots,
     pub listing: Listing,
-    /// What the list is made by: how many states each presence has, and the states of each; empty in a list that is laid.
-    pub(crate) counts: Vec<u32>,
-    pub(crate) chains: Chains,
 }
 
 impl Spots {
@@ -67,12 +64,27 @@ impl Spots {
 }
 
 impl FlatTargets {
+    /// No list.
+    pub(crate) fn new(alloc: Global) -> FlatTargets {
+        FlatTargets {
+            base: 0,
+            spots: Spots {
+                ranks: Vec::new(alloc),
+                alike: Vec::new(alloc),
+            },
+            listing: Listing {
+                starts: Vec::new(alloc),
+                targets: Vec::new(alloc),
+            },
+        }
+    }
+
     /// Where the targets of the tuple symbol with this number start.
     pub fn start(&self, number: usize) -> usize
         requires { number < length self.now.listing.starts.items }
         ensures { result ≡ slice_index self.now.listing.starts.items number }
     {
-        self.listing.starts[number] as usize
+        self.listing.starts[number]
     }
 
     /// The target of the entry over these child states, where its tuple symbol's targets start there.
@@ -100,7 +112,7 @@ impl FlatTargets {
     }
 
     /// The number of a tuple symbol.
-    pub(crate) fn number(&self, symbol: &TupleSym) -> usize
+    pub fn number(&self, symbol: &TupleSym) -> usize
         requires some { 0 < self.now.base }
         requires small { number_of self.now.base symbol.now < 2 ^ 64 }
         ensures { result ≡ number_of self.now.base symbol.now }

@@ -3,19 +3,20 @@ ghost use Rattle.std.specs.Prelude.{◌≡◌, ℕ, suc, ◌<◌, ◌≤◌, ◌
 ghost use Rattle.fort_tables.specs.Entries.{Entry};
 ghost use Rattle.fort_tables.specs.Tables as tables;
 ghost use Rattle.fort_tables.specs.Laid.{start_of};
-ghost use Rattle.fort_target_lists.specs.Flats.{AreLaid};
+ghost use Rattle.fort_target_lists.specs.Flats.{AreLaid, IsFlatOf};
 ghost use Rattle.fort_target_lists.specs.Walks.{AreStageCounts, AreStageBegins, IsTakenUp};
-ghost use Rattle.fort_target_lists.specs.LayRooms.{HasLayRoom};
+ghost use Rattle.fort_target_lists.specs.LayRooms.{HasLayRoomBelow, HasLayRoom, HasFlatRoom};
+ghost use Rattle.fort_target_lists.specs.TargetLists.{IsTableWith};
 
-use crate::flat::Listing;
+use crate::flat::{FlatTargets, Listing};
 use crate::states::{LayRoom, fill_given};
 use crate::walk::Walk;
 use fort_terms::Signature;
 
 /// Turns how many entries each stage has into where it begins.
-fn begin_stages(cursors: &mut [u32])
+fn begin_stages(cursors: &mut [usize])
     requires { (es : List Entry) × AreStageCounts es cursors.old
-        × (start_of es (length cursors.old) < 2 ^ 32) }
+        × (start_of es (length cursors.old) < 2 ^ 64) }
     ensures size { length cursors.new ≡ length cursors.old }
     ensures begins { (es : List Entry) → AreStageCounts es cursors.old
         → (s : ℕ) → s < length cursors.old → slice_index cursors.new s ≡ start_of es s }
@@ -100,5 +101,41 @@ impl LayRoom {
             lays: true,
         };
         laying.pass_all(count, self.cursors.as_mut_slice(), listing);
+    }
+}
+
+impl FlatTargets {
+    /// Makes this the list of the table with this signature, these presences and these targets, which stand in the order of its
+    /// entries. It takes no memory.
+    pub(crate) fn lay(
+        &mut self,
+        room: &mut LayRoom,
+        signature: &Signature,
+        columns: usize,
+        presences: &[u16],
+        targets: &[u32],
+    )
+        requires few { length presences.now < 2 ^ 32 }
+        requires table { (t : tables.Listed) × IsTableWith t signature.now columns presences.now
+            targets.now }
+        requires room { HasLayRoomBelow (2 ^ columns) (length presences.now) room.old }
+        requires list_room { HasFlatRoom (length presences.now)
+            (suc (length signature.now) ^ columns) (length targets.now) self.old }
+        ensures list { (t : tables.Listed) → IsTableWith t signature.now columns presences.now
+            targets.now → IsFlatOf (tables.listed_table t) self.new }
+        ensures room { (n : ℕ) → HasLayRoom n room.old → HasLayRoom n room.new }
+        ensures list_room { (n s k : ℕ) → HasFlatRoom n s k self.old → HasFlatRoom n s k self.new }
+    {
+        self.base = signature.len() + 1;
+        let count = self.base.pow(columns as u32);
+        room.take_up(columns, presences, &mut self.spots);
+        room.lay_targets(
+            signature,
+            columns,
+            self.base,
+            count,
+            targets,
+            &mut self.listing,
+        );
     }
 }

@@ -1,4 +1,4 @@
-//! A table's targets in one list: made by look-ups, laid in the order of the entries, and looked up.
+//! A table's targets in one list: laid from the targets in the order of the entries, and looked up.
 #![tactic(auto)]
 
 mod chains;
@@ -6,7 +6,6 @@ mod columns;
 mod entry_count;
 mod flat;
 mod laying;
-mod listing;
 mod look_up;
 mod states;
 mod target_list;

@@ -1,101 +1,94 @@
-//! Ways to find a table's targets.
-ghost use Rattle.std.specs.Prelude.{◌≡◌, ◌<◌, ◌-◌, length, IfSome, Some, None};
+//! The targets under one tuple symbol, found in a table's list.
+ghost use Rattle.std.specs.Prelude.{◌≡◌, ℕ, ◌<◌, ◌-◌, length, Some, None};
 ghost use Rattle.std.specs.List.{insert};
 ghost use Rattle.fort_tables.specs.Tuples.{TupleSymbol, IsTupleSymbol};
-ghost use Rattle.fort_tables.specs.Entries.{entry};
+ghost use Rattle.fort_tables.specs.Entries.{Entry, entry};
 ghost use Rattle.fort_tables.specs.Tables as tables;
-ghost use Rattle.fort_target_lists.specs.Flats.{IsFlatOf};
-ghost use Rattle.fort_target_lists.specs.LookUps.{FindsUnder, FindsAbove, IsFinderOf};
+ghost use Rattle.fort_target_lists.specs.TargetLists.{IsTargetListOf};
+ghost use Rattle.fort_target_lists.specs.LookUps.{FindsUnder, FindsAbove};
 
 use crate::flat::FlatTargets;
+use crate::target_list::TargetList;
 use fort_table::Table;
 use fort_terms::Sym;
-use fort_tuple_symbols::{Row, TupleSym};
+use fort_tuple_symbols::Row;
 
-/// How the targets under one tuple symbol are found.
+/// The targets under one tuple symbol.
 #[derive(Drop)]
-pub enum LookUp<'a> {
-    /// In the table.
-    Searched(TupleSym),
-    /// In one list, where they start at this place.
-    Flat(&'a FlatTargets, usize),
+pub struct LookUp<'a> {
+    pub flat: &'a FlatTargets,
+    /// Where they start.
+    pub start: usize,
 }
 
-/// How the targets under tuple symbols with one more column are found.
+/// The targets under tuple symbols with one more column.
 #[derive(Drop)]
-pub enum Finder<'a> {
-    InTable,
-    /// In one list: the tuple symbol's number with the column absent, and what each next symbol there adds.
-    InList(&'a FlatTargets, usize, usize),
+pub struct Finder<'a> {
+    pub flat: &'a FlatTargets,
+    /// The tuple symbol's number with the column absent.
+    pub number: usize,
+    /// What each next symbol there adds to it.
+    pub step: usize,
 }
 
 impl<'a> LookUp<'a> {
     /// The target over these child states.
-    pub fn target<T: Table>(&self, body: &T, states: &[u32]) -> u32
-        requires { (f : TupleSymbol) × FindsUnder (T.table body.now) f self.now
-            × tables.IsTableEntry (T.table body.now) (entry f states.now) }
-        ensures { (f : TupleSymbol) → FindsUnder (T.table body.now) f self.now
-            → tables.IsTableEntry (T.table body.now) (entry f states.now)
-            → result ≡ (T.table body.now).target (entry f states.now) }
+    pub fn target(&self, states: &[u32]) -> u32
+        requires { (body : tables.Table) × (f : TupleSymbol) × FindsUnder body f self.now
+            × tables.IsTableEntry body (entry f states.now) }
+        ensures { (body : tables.Table) (f : TupleSymbol) → FindsUnder body f self.now
+            → tables.IsTableEntry body (entry f states.now)
+            → result ≡ body.target (entry f states.now) }
     {
-        match self {
-            LookUp::Searched(symbol) => body.target(symbol, states),
-            LookUp::Flat(flat, start) => flat.target(*start, states),
-        }
+        self.flat.target(self.start, states)
     }
 }
 
 impl<'a> Finder<'a> {
-    /// In the flat form, where there is one.
-    pub fn of<T: Table>(
-        body: &T,
-        flat: Option<&'a FlatTargets>,
-        row: &Row,
-        column: usize,
-    ) -> Finder<'a>
-        requires flat { IfSome flat (λ f. IsFlatOf (T.table body.now) f.now) }
+    /// In the list of a table that has an entry.
+    pub fn of<T: Table>(body: &T, list: &'a TargetList, row: &Row, column: usize) -> Finder<'a>
+        requires list { IsTargetListOf (T.table body.now) list.now }
+        requires some { (e : Entry) × tables.IsTableEntry (T.table body.now) e }
         requires column { column < (T.table body.now).columns }
         requires symbol { IsTupleSymbol (T.table body.now).signature
             ((T.table body.now).columns - 1) row.now.symbol }
         ensures { FindsAbove (T.table body.now) row.now.symbol column result }
     {
+        let flat = &list.list;
         let later = body.columns() - 1 - column;
-        match flat {
-            None => Finder::InTable,
-            Some(flat) => Finder::InList(
-                flat,
-                flat.number_with_absent(&row.sym(), column),
-                flat.base.pow(later as u32),
-            ),
+        Finder {
+            flat,
+            number: flat.number_with_absent(&row.sym(), column),
+            step: flat.base.pow(later as u32),
         }
     }
 
     /// The targets with the column absent.
-    pub fn absent(&self, row: &Row, column: usize) -> LookUp<'a>
-        requires { (body : tables.Table) × IsFinderOf body row.now.symbol column self.now }
-        ensures { (body : tables.Table) → IsFinderOf body row.now.symbol column self.now
-            → FindsUnder body (insert row.now.symbol column None) result }
+    pub fn absent(&self) -> LookUp<'a>
+        requires { (body : tables.Table) × (f : TupleSymbol) × (column : ℕ)
+            × FindsAbove body f column self.now }
+        ensures { (body : tables.Table) (f : TupleSymbol) (column : ℕ)
+            → FindsAbove body f column self.now
+            → FindsUnder body (insert f column None) result }
     {
-        match self {
-            Finder::InTable => LookUp::Searched(row.sym().with_column(column, None)),
-            Finder::InList(flat, number, _) => LookUp::Flat(*flat, flat.start(*number)),
+        LookUp {
+            flat: self.flat,
+            start: self.flat.start(self.number),
         }
     }
 
     /// The targets with this symbol in the column.
-    pub fn under(&self, row: &Row, column: usize, symbol: Sym) -> LookUp<'a>
-        requires { (body : tables.Table) × IsFinderOf body row.now.symbol column self.now
-            × (symbol.0 < length body.signature) }
-        ensures { (body : tables.Table) → IsFinderOf body row.now.symbol column self.now
-            → symbol.0 < length body.signature
-            → FindsUnder body (insert row.now.symbol column (Some symbol.0)) result }
+    pub fn under(&self, symbol: Sym) -> LookUp<'a>
+        requires { (body : tables.Table) × (f : TupleSymbol) × (column : ℕ)
+            × FindsAbove body f column self.now × (symbol.0 < length body.signature) }
+        ensures { (body : tables.Table) (f : TupleSymbol) (column : ℕ)
+            → FindsAbove body f column self.now → symbol.0 < length body.signature
+            → FindsUnder body (insert f column (Some symbol.0)) result }
     {
-        match self {
-            Finder::InTable => LookUp::Searched(row.sym().with_column(column, Some(symbol))),
-            Finder::InList(flat, number, step) => {
-                let place = *number + (symbol.0 as usize + 1) * *step;
-                LookUp::Flat(*flat, flat.start(place))
-            }
+        let place = self.number + (symbol.0 as usize + 1) * self.step;
+        LookUp {
+            flat: self.flat,
+            start: self.flat.start(place),
         }
     }
 }

@@ -1,8 +1,8 @@
 //! The states of a table by their presences, in room that was taken before.
-ghost use Rattle.std.specs.Prelude.{◌≡◌, ℕ, ◌<◌, ◌≤◌, ◌^◌, [], length, slice_index, vec_capacity, IfOk};
+ghost use Rattle.std.specs.Prelude.{◌≡◌, ℕ, ◌<◌, ◌≤◌, ◌^◌, [], length, slice_index, slice_index_or, vec_capacity, IfOk};
 ghost use Rattle.fort_target_lists.specs.Places.{AreRanks, AreAlike, AreCounts, AreSpots};
 ghost use Rattle.fort_target_lists.specs.Chains.{AreChains};
-ghost use Rattle.fort_target_lists.specs.LayRooms.{HasLayRoom, HasSpotRoom};
+ghost use Rattle.fort_target_lists.specs.LayRooms.{HasLayRoomBelow, HasLayRoom, HasSpotRoom};
 
 use crate::chains::Chains;
 use crate::entry_count::count_states;
@@ -21,20 +21,20 @@ pub struct LayRoom {
     /// The states of each presence.
     pub chains: Chains,
     /// For each stage where its next target stands.
-    pub cursors: Vec<u32>,
+    pub cursors: Vec<usize>,
     /// A list that stays as it is, for walks that only count.
     pub(crate) blank: Listing,
 }
 
-/// Makes these so many equal numbers.
-pub(crate) fn fill_given(numbers: &mut Vec<u32>, number: u32, count: usize)
-    requires { count ≤ vec_capacity numbers.old }
-    ensures size { length numbers.new.items ≡ count }
-    ensures equal { (w : ℕ) → w < count → slice_index numbers.new.items w ≡ number }
-    ensures room { vec_capacity numbers.old ≤ vec_capacity numbers.new }
+/// Makes these so many equal elements.
+pub(crate) fn fill_given<T: Copy>(elements: &mut Vec<T>, element: T, count: usize)
+    requires { count ≤ vec_capacity elements.old }
+    ensures size { length elements.new.items ≡ count }
+    ensures equal { (w : ℕ) → w < count → (x : T) → slice_index_or elements.new.items w x ≡ element }
+    ensures room { vec_capacity elements.old ≤ vec_capacity elements.new }
 {
-    numbers.clear();
-    match numbers.resize(count, number) {
+    elements.clear();
+    match elements.resize(count, element) {
         Ok(()) => {}
         Err(_) => unreachable!(),
     }
@@ -99,10 +99,17 @@ impl LayRoom {
     pub fn new(alloc: Global, states: usize) -> Result<LayRoom, Memory>
         ensures { IfOk result (HasLayRoom states) }
     {
+        LayRoom::below(alloc, MOST_PRESENCES, states)
+    }
+
+    /// The room for tables of at most so many states, whose presences are below a bound.
+    pub(crate) fn below(alloc: Global, bound: usize, states: usize) -> Result<LayRoom, Memory>
+        ensures { IfOk result (HasLayRoomBelow bound states) }
+    {
         Ok(LayRoom {
-            counts: Vec::with_capacity(alloc, MOST_PRESENCES)?,
+            counts: Vec::with_capacity(alloc, bound)?,
             chains: Chains {
-                firsts: Vec::with_capacity(alloc, MOST_PRESENCES)?,
+                firsts: Vec::with_capacity(alloc, bound)?,
                 nexts: Vec::with_capacity(alloc, states)?,
             },
             cursors: Vec::with_capacity(alloc, states.saturating_add(1))?,
@@ -115,15 +122,14 @@ impl LayRoom {
 
     /// Makes the chains of states of so many presences.
     fn chain_all(&mut self, count: usize, presences: &[u16])
-        requires count { count ≤ 2 ^ 16 }
         requires few { length presences.now < 2 ^ 32 }
         requires within { (q : ℕ) → q < length presences.now
             → slice_index presences.now q < count }
-        requires room { HasLayRoom (length presences.now) self.old }
+        requires room { HasLayRoomBelow count (length presences.now) self.old }
         ensures chains { (columns : ℕ) → count ≡ 2 ^ columns → AreChains columns presences.now
             self.new.chains.firsts.items self.new.chains.nexts.items }
         ensures counts { self.new.counts ≡ self.old.counts }
-        ensures room { (n : ℕ) → HasLayRoom n self.old → HasLayRoom n self.new }
+        ensures room { (b n : ℕ) → HasLayRoomBelow b n self.old → HasLayRoomBelow b n self.new }
     {
         let states = presences.len();
         fill_given(&mut self.chains.firsts, states as u32, count);
@@ -160,12 +166,12 @@ impl LayRoom {
         requires few { length presences.now < 2 ^ 32 }
         requires within { (q : ℕ) → q < length presences.now
             → slice_index presences.now q < 2 ^ columns }
-        requires room { HasLayRoom (length presences.now) self.old }
+        requires room { HasLayRoomBelow (2 ^ columns) (length presences.now) self.old }
         requires spot_room { HasSpotRoom (length presences.now) spots.old }
         ensures chains { AreChains columns presences.now self.new.chains.firsts.items
             self.new.chains.nexts.items }
         ensures spots { AreSpots presences.now spots.new.ranks.items spots.new.alike.items }
-        ensures room { (n : ℕ) → HasLayRoom n self.old → HasLayRoom n self.new }
+        ensures room { (b n : ℕ) → HasLayRoomBelow b n self.old → HasLayRoomBelow b n self.new }
         ensures spot_room { (n : ℕ) → HasSpotRoom n spots.old → HasSpotRoom n spots.new }
     {
         let count = 2usize.pow(columns as u32);

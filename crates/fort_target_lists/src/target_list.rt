@@ -1,22 +1,19 @@
-//! A table's targets in one list: made by look-ups, or laid from the targets in the order of the table's entries.
-ghost use Rattle.std.specs.Prelude.{◌≡◌, ℕ, ◌<◌, ◌≤◌, ◌^◌, length, IfOk, IfSome, OnOk, OnErr, IsTrue, IsFalse};
+//! A table's targets in one list, laid from the targets in the order of the table's entries.
+ghost use Rattle.std.specs.Prelude.{◌≡◌, ℕ, ◌<◌, ◌≤◌, ◌^◌, length, IfOk, IfSome, IfNone, IsTrue, IsFalse};
 ghost use Rattle.fort_tables.specs.Entries.{entry};
 ghost use Rattle.fort_tables.specs.Tables as tables;
 ghost use Rattle.fort_tables.specs.Products as products;
 ghost use Rattle.fort_target_lists.specs.LayRooms.{HasLayRoom};
-ghost use Rattle.fort_target_lists.specs.TargetLists.{IsListOfTable, IsTargetListOf, IsOperandList, HasListRoom, IsTableWith};
+ghost use Rattle.fort_target_lists.specs.TargetLists.{IsTargetListOf, IsOperandList, HasListRoom, IsTableWith};
 ghost use Rattle.fort_target_lists.specs.ListedOperands.{IsListOf};
-ghost use Rattle.fort_target_lists.specs.Flats.{base_of, IsUnlisted};
 
-use crate::chains::Chains;
 use crate::flat::{FlatTargets, Listing, Spots};
 use crate::states::LayRoom;
-use fort_table::Table;
 use fort_terms::{Memory, Signature};
 use fort_tuple_symbols::TupleSym;
 use std::alloc::Global;
 
-/// A table's targets in one list, where it is made, and the room for them. Where it is laid, a table without entries has none.
+/// A table's targets in one list, where it is made, and the room for them. For a table without entries none is made.
 #[derive(Drop)]
 pub struct TargetList {
     pub(crate) is_made: bool,
@@ -32,20 +29,6 @@ impl TargetList {
             is_made: false,
             list: FlatTargets::new(alloc),
         }
-    }
-
-    /// Makes this the list of a table by look-ups: four bytes for each entry and each tuple symbol, and twelve for each state. There is
-    /// none where its tuple symbols have too many numbers, or where the targets of one would start at a place of more than 32 bits.
-    /// It takes memory only where the numbers are few.
-    pub fn make<T: Table>(&mut self, table: &T) -> Result<(), Memory>
-        ensures list { OnOk result (IsListOfTable (T.table table.now) self.new) }
-        ensures not_made { OnOk result (IsFalse self.new.is_made
-            → IsUnlisted (T.table table.now)) }
-        ensures memory { OnErr result (base_of (T.table table.now) ^ (T.table table.now).columns
-            ≤ 4194304) }
-    {
-        self.is_made = self.list.make(table)?;
-        Ok(())
     }
 
     /// No list, and the room for that of a table of at most so many states and entries.
@@ -65,11 +48,6 @@ impl TargetList {
                     starts: Vec::with_capacity(alloc, entries + 1)?,
                     targets: Vec::with_capacity(alloc, entries)?,
                 },
-                counts: Vec::new(alloc),
-                chains: Chains {
-                    firsts: Vec::new(alloc),
-                    nexts: Vec::new(alloc),
-                },
             },
         })
     }
@@ -85,7 +63,6 @@ impl TargetList {
         targets: &[u32],
     )
         requires few { length presences.now < 2 ^ 32 }
-        requires few_targets { length targets.now < 2 ^ 32 }
         requires table { (t : tables.Listed) × IsTableWith t signature.now columns presences.now
             targets.now }
         requires room { HasLayRoom (length presences.now) room.old }
@@ -100,23 +77,53 @@ impl TargetList {
         if targets.is_empty() {
             return;
         }
-        let base = signature.len() + 1;
-        let count = base.pow(columns as u32);
-        self.list.base = base;
-        room.take_up(columns, presences, &mut self.list.spots);
-        room.lay_targets(
-            signature,
-            columns,
-            base,
-            count,
-            targets,
-            &mut self.list.listing,
-        );
+        self.list.lay(room, signature, columns, presences, targets);
+    }
+
+    /// The list of the table with this signature, these presences and these targets, which stand in the order of its entries.
+    pub fn laid(
+        alloc: Global,
+        signature: &Signature,
+        columns: usize,
+        presences: &[u16],
+        targets: &[u32],
+    ) -> Result<TargetList, Memory>
+        requires few { length presences.now < 2 ^ 32 }
+        requires table { (t : tables.Listed) × IsTableWith t signature.now columns presences.now
+            targets.now }
+        ensures list { IfOk result (λ l. (t : tables.Listed) → IsTableWith t signature.now columns
+            presences.now targets.now → IsTargetListOf (tables.listed_table t) l) }
+    {
+        if targets.is_empty() {
+            return Ok(TargetList::new(alloc));
+        }
+        // where there is memory for the targets, there are no more tuple symbols than a word counts
+        let laid = Vec::with_capacity(alloc, targets.len())?;
+        let symbols = (signature.len() + 1).pow(columns as u32);
+        let states = presences.len();
+        let mut list = FlatTargets {
+            base: 0,
+            spots: Spots {
+                ranks: Vec::with_capacity(alloc, states)?,
+                alike: Vec::with_capacity(alloc, states)?,
+            },
+            listing: Listing {
+                starts: Vec::with_capacity(alloc, symbols)?,
+                targets: laid,
+            },
+        };
+        let mut room = LayRoom::below(alloc, 2usize.pow(columns as u32), states)?;
+        list.lay(&mut room, signature, columns, presences, targets);
+        Ok(TargetList {
+            is_made: true,
+            list,
+        })
     }
 
     /// The list, where it is made.
-    fn list(&self) -> Option<&FlatTargets>
-        ensures { IfSome result (λ l. IsTrue self.now.is_made × (l.now ≡ self.now.list)) }
+    pub fn flat(&self) -> Option<&FlatTargets>
+        ensures made { IfSome result (λ l. IsTrue self.now.is_made × (l.now ≡ self.now.list)) }
+        ensures not_made { IfNone result (IsFalse self.now.is_made) }
     {
         if self.is_made { Some(&self.list) } else { None }
     }
@@ -140,7 +147,7 @@ pub fn flat_of<'a>(list: Option<&'a TargetList>) -> Option<&'a FlatTargets>
         → IfSome result (λ l. IsListOf o l.now) }
 {
     match list {
-        Some(list) => list.list(),
+        Some(list) => list.flat(),
         None => None,
     }
 }

@@ -28,7 +28,7 @@ pub struct Walk<'a> {
 
 impl<'a> Walk<'a> {
     /// Passes an entry of this stage.
-    fn pass(&self, stage: usize, cursors: &mut [u32], laid: &mut Vec<u32>)
+    fn pass(&self, stage: usize, cursors: &mut [usize], laid: &mut Vec<u32>)
         requires at { (f : TupleSymbol) × (p : Stop) × IsStopOf p self.now f stage 0 0
             × HasPassedTo p self.now.lays cursors.old laid.old.items }
         requires room { IsTrue self.now.lays → length self.now.targets.now ≤ vec_capacity laid.old }
@@ -39,7 +39,7 @@ impl<'a> Walk<'a> {
     {
         let cursor = cursors[stage];
         if self.lays {
-            laid.push_reserved(self.targets[cursor as usize]);
+            laid.push_reserved(self.targets[cursor]);
         }
         cursors[stage] = cursor + 1;
     }
@@ -51,7 +51,7 @@ impl<'a> Walk<'a> {
         latest: usize,
         j: usize,
         rest: usize,
-        cursors: &mut [u32],
+        cursors: &mut [usize],
         laid: &mut Vec<u32>,
     )
         requires some { 0 < rest }
@@ -79,7 +79,6 @@ impl<'a> Walk<'a> {
 
     /// Notes where the targets of the next tuple symbol start.
     fn begin(&self, listing: &mut Listing)
-        requires few { IsTrue self.now.lays → length listing.old.targets.items < 2 ^ 32 }
         requires room { IsTrue self.now.lays
             → length listing.old.starts.items < vec_capacity listing.old.starts }
         ensures starts { IsTrue self.now.lays → listing.new.starts.items
@@ -88,12 +87,12 @@ impl<'a> Walk<'a> {
         ensures room { vec_capacity listing.new.starts ≡ vec_capacity listing.old.starts }
     {
         if self.lays {
-            listing.starts.push_reserved(listing.targets.len() as u32);
+            listing.starts.push_reserved(listing.targets.len());
         }
     }
 
     /// Passes the entries of a tuple symbol, all of those with lesser numbers being passed.
-    fn pass_symbol(&self, symbol: &TupleSym, cursors: &mut [u32], listing: &mut Listing)
+    fn pass_symbol(&self, symbol: &TupleSym, cursors: &mut [usize], listing: &mut Listing)
         requires between { (n : ℕ) × (t : tables.Listed) × (begins : List ℕ)
             × IsNumbered self.now.base self.now.columns n symbol.now
             × IsBetween t begins self.now n cursors.old listing.old.starts.items
@@ -124,7 +123,7 @@ impl<'a> Walk<'a> {
     }
 
     /// Passes all entries, where there are so many tuple symbols.
-    pub(crate) fn pass_all(&self, count: usize, cursors: &mut [u32], listing: &mut Listing)
+    pub(crate) fn pass_all(&self, count: usize, cursors: &mut [usize], listing: &mut Listing)
         requires count { count ≡ self.now.base ^ self.now.columns }
         requires between { (t : tables.Listed) × (begins : List ℕ) × IsBetween t begins self.now 0
             cursors.old listing.old.starts.items listing.old.targets.items }

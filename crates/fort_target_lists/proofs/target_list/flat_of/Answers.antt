@@ -5,4 +5,4 @@ use Rattle.fort_target_lists.proofs.target_list.flat_of.Goals as goal
 
 pub returns-in-Some : goal.returns-in-Some
 returns-in-Some c = λ o h.
-    operand_list o c.in-Some.list.now c.list.result (λ l. l.now) c.list.ensures (subst (λ x. IfSome x (λ l. IsOperandList o l.now)) c.in-Some.is h)
+    operand_list o c.in-Some.list.now c.flat.result (λ l. l.now) c.flat.ensures.made (subst (λ x. IfSome x (λ l. IsOperandList o l.now)) c.in-Some.is h)

@@ -1,20 +1,13 @@
-use Rattle.std.proofs.Common.{get_or, ap, ◌∙◌, arith, subst}
-use Rattle.fort_target_lists.specs.LookUps.{FindsAbove}
+use Rattle.std.proofs.Common.{get_or, ap, ◌∙◌, arith}
 use Rattle.fort_target_lists.proofs.LookUpLaws.{absent_below}
 use Rattle.fort_target_lists.proofs.look_up.Finder.absent.Goals as goal
 
 pub start-requires : goal.start-requires
 start-requires c =
-    let body = c.requires.0 in
-    let finder = c.requires.1 in
-    let f = c.args.row.now.symbol in
-    let h = subst (FindsAbove body f c.args.column) c.in-InList.is finder.finds in
-    let b = absent_below body c.in-InList.flat.now f c.args.column h.0 finder.column finder.symbol in
-    omega (arith, b, h.1, h.0.starts_all)
+    let h = c.requires.3 in
+    omega (arith, absent_below c.requires.0 c.args.self.now.flat.now c.requires.1 c.requires.2 h.flat h.column h.symbol, h.number, h.flat.starts_all)
 
-pub returns-in-InList : goal.returns-in-InList
-returns-in-InList c = λ body finder.
-    let f = c.args.row.now.symbol in
-    let flat = c.in-InList.flat.now in
-    let h = subst (FindsAbove body f c.args.column) c.in-InList.is finder.finds in
-    (h.0, c.start.ensures ∙ ap (λ n. get_or flat.listing.starts.items n 0) h.1)
+pub returns : goal.returns
+returns c = λ body f column h.
+    let flat = c.args.self.now.flat.now in
+    record { flat = h.flat; start = c.start.ensures ∙ ap (λ n. get_or flat.listing.starts.items n 0) h.number }

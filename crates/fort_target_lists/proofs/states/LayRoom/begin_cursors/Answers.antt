@@ -10,8 +10,8 @@ pass_all-requires-clause-between c =
     let h = c.requires.table.1 in
     let blank = c.args.self.now.blank in
     let zeros = c.as_mut_slice-cursors.result.now in
-    let first = counting_first t _ c.args.self.now c.len.result c.fill_given.new.numbers.items zeros blank.starts.items blank.targets.items h refl refl c.len.ensures
-    c.as_mut_slice-cursors.ensures.value c.fill_given.ensures.size c.fill_given.ensures.equal in
+    let first = counting_first t _ c.args.self.now c.len.result c.fill_given.new.elements.items zeros blank.starts.items blank.targets.items h refl refl c.len.ensures
+    c.as_mut_slice-cursors.ensures.value c.fill_given.ensures.size (λ w l. c.fill_given.ensures.equal w l 0) in
     (t, zeros, first.1)
 
 pub begin_stages-requires : goal.begin_stages-requires
@@ -21,11 +21,11 @@ begin_stages-requires c =
     let blank = c.args.self.now.blank in
     let passed = c.pass_all.new.listing in
     let zeros = c.as_mut_slice-cursors.result.now in
-    let first = counting_first t _ c.args.self.now c.len.result c.fill_given.new.numbers.items zeros blank.starts.items blank.targets.items h refl refl c.len.ensures
-    c.as_mut_slice-cursors.ensures.value c.fill_given.ensures.size c.fill_given.ensures.equal in
+    let first = counting_first t _ c.args.self.now c.len.result c.fill_given.new.elements.items zeros blank.starts.items blank.targets.items h refl refl c.len.ensures
+    c.as_mut_slice-cursors.ensures.value c.fill_given.ensures.size (λ w l. c.fill_given.ensures.equal w l 0) in
     let done = c.pass_all.ensures.between t zeros first.1 in
     let counts = counted_all t _ zeros c.pass_all.new.cursors passed.starts.items passed.targets.items c.args.count first.0 c.requires.count done in
-    let short : length t.targets < 2 ^ 32 = h.listed.few in
+    let short : length t.targets < 2 ^ 64 = h.listed.few in
     (entries_of t, counts, omega (arith, ap (start_of (entries_of t)) done.passed.size, all_targets t h.listed, ap length h.targets_are, short))
 
 pub returns-clause-begins : goal.returns-clause-begins
@@ -33,12 +33,12 @@ returns-clause-begins c = λ t h.
     let blank = c.args.self.now.blank in
     let passed = c.pass_all.new.listing in
     let zeros = c.as_mut_slice-cursors.result.now in
-    let first = counting_first t _ c.args.self.now c.len.result c.fill_given.new.numbers.items zeros blank.starts.items blank.targets.items h refl refl c.len.ensures
-    c.as_mut_slice-cursors.ensures.value c.fill_given.ensures.size c.fill_given.ensures.equal in
+    let first = counting_first t _ c.args.self.now c.len.result c.fill_given.new.elements.items zeros blank.starts.items blank.targets.items h refl refl c.len.ensures
+    c.as_mut_slice-cursors.ensures.value c.fill_given.ensures.size (λ w l. c.fill_given.ensures.equal w l 0) in
     let done = c.pass_all.ensures.between t zeros first.1 in
     let counts = counted_all t _ zeros c.pass_all.new.cursors passed.starts.items passed.targets.items c.args.count first.0 c.requires.count done in
     let new = c.begin_stages.new.cursors in
-    let numbers = c.fill_given.new.numbers in
+    let numbers = c.fill_given.new.elements in
     let begun : AreStageBegins t new = record {
       size = c.begin_stages.ensures.size ∙ done.passed.size;
       begin = λ s l. c.begin_stages.ensures.begins (entries_of t) counts s (omega (arith, l, c.begin_stages.ensures.size));

@@ -5,17 +5,8 @@ use Rattle.fort_tables.specs.Selections.{is_present}
 use Rattle.fort_tuple_symbols.specs.SymbolNumbers.{columns_at}
 use Rattle.fort_target_lists.specs.Walks.{entries_before, HasPassed, IsBetween}
 use Rattle.fort_target_lists.proofs.SymbolNumbers.{symbols_at}
-use Rattle.fort_target_lists.proofs.WalkSymbols.{symbol_with, first_stop, stop_first, between_few, between_absent, between_present}
+use Rattle.fort_target_lists.proofs.WalkSymbols.{symbol_with, first_stop, stop_first, between_absent, between_present}
 use Rattle.fort_target_lists.proofs.walk.Walk.pass_symbol.Goals as goal
-
-pub begin-requires : goal.begin-requires
-begin-requires c =
-    let r = c.requires.between in
-    let listing = c.args.listing.now in
-    record {
-      few = between_few r.1 r.2 c.args.self.now r.0 c.args.cursors.now listing.starts.items listing.targets.items r.4 r.3.low;
-      room = c.requires.starts;
-    }
 
 pub kid_count-count-requires : goal.kid_count-count-requires
 kid_count-count-requires c =
