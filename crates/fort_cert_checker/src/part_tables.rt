@@ -138,7 +138,7 @@ fn check_projection(
     marks.states.clear();
     put_pure(&body, column, &mut marks.states);
     body.lay(&mut scratch.lists.first, &mut scratch.lists.lay);
-    let rule = Projected::new(&body, column, &marks.states).listed(&scratch.lists.first);
+    let rule = Projected::new(&body, column, &marks.states, &scratch.lists.first);
     check_part(
         &rule,
         past.signature,

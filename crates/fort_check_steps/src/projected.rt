@@ -1,8 +1,8 @@
 //! The rule of a projection, over pure states that are handed in.
-ghost use Rattle.std.specs.Prelude.{◌≡◌, ◌<◌, IfSome};
+ghost use Rattle.std.specs.Prelude.{◌≡◌, ◌<◌};
 ghost use Rattle.fort_tables.specs.Projections as projections;
 ghost use Rattle.fort_tables.proofs.OperandFacts.{ArePure-prop};
-ghost use Rattle.fort_target_lists.specs.TargetLists.{IsTargetListOf, IfTargetList-prop};
+ghost use Rattle.fort_target_lists.specs.TargetLists.{IsTargetListOf};
 
 use crate::part_rule::PartRule;
 use fort_labels::{LocalRule, Rows};
@@ -19,20 +19,26 @@ pub struct Projected<'a, T: Table> {
     column: usize,
     /// The body's states with this column alone present.
     alone: &'a [u32],
-    /// The body's targets in a list, where they are.
-    list: Option<&'a TargetList>,
+    /// The body's targets in one list.
+    list: &'a TargetList,
     ghost within: { column < (T.table body.now).columns },
     ghost another: { 1 < (T.table body.now).columns },
     ghost pure: { projections.ArePure (T.table body.now) column alone.now } by { ArePure-prop (T.table body.now) column alone.now },
-    ghost listed: { IfSome list (λ l. IsTargetListOf (T.table body.now) l.now) } by { IfTargetList-prop (T.table body.now) list (λ l. l.now) },
+    ghost listed: { IsTargetListOf (T.table body.now) list.now },
 }
 
 impl<'a, T: Table> Projected<'a, T> {
-    /// The projection of a body that has another column. It takes no memory.
-    pub fn new(body: &'a T, column: usize, alone: &'a [u32]) -> Projected<'a, T>
+    /// The projection of a body that has another column, by the list of the body's targets. It takes no memory.
+    pub fn new(
+        body: &'a T,
+        column: usize,
+        alone: &'a [u32],
+        list: &'a TargetList,
+    ) -> Projected<'a, T>
         requires column { column < (T.table body.now).columns }
         requires another { 1 < (T.table body.now).columns }
         requires pure { projections.ArePure (T.table body.now) column alone.now }
+        requires list { IsTargetListOf (T.table body.now) list.now }
         ensures body { result.body.now ≡ body.now }
         ensures column { result.column ≡ column }
     {
@@ -40,21 +46,7 @@ impl<'a, T: Table> Projected<'a, T> {
             body,
             column,
             alone,
-            list: None,
-        }
-    }
-
-    /// The same projection by a list of the body's targets. Look-ups are quicker then.
-    pub fn listed(self, list: &'a TargetList) -> Projected<'a, T>
-        requires { IsTargetListOf (T.table self.body.now) list.now }
-        ensures body { result.body.now ≡ self.entry.body.now }
-        ensures column { result.column ≡ self.entry.column }
-    {
-        Projected {
-            body: self.body,
-            column: self.column,
-            alone: self.alone,
-            list: Some(list),
+            list,
         }
     }
 }

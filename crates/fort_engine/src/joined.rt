@@ -1,10 +1,11 @@
 //! Connectives of answers.
-ghost use Rattle.std.specs.Prelude.{◌≡◌, ◌<◌, length};
+ghost use Rattle.std.specs.Prelude.{◌≡◌, ℕ, ◌<◌, List, length, IfSome};
 ghost use Rattle.fort_theory.specs.Cores as theory;
 ghost use Rattle.fort_tables.specs.Tables.{listed_table};
 ghost use Rattle.fort_products.specs.Operands as algebra;
 ghost use Rattle.fort_connectives.specs.ConnectiveView.{connective_of};
 ghost use Rattle.fort_parts.specs.PartSteps.{operand_of};
+ghost use Rattle.fort_target_lists.specs.TargetLists.{IsOperandList};
 ghost use Rattle.fort_engine.specs.AnswerView.{as_answer};
 ghost use Rattle.fort_engine.specs.Deciding.{AreJoined, IsDecision, IsJoining};
 
@@ -18,6 +19,7 @@ use fort_labels::ByRule;
 use fort_lockstep::Dta;
 use fort_outline::places_among;
 use fort_products::{Both, Operand};
+use fort_target_lists::TargetList;
 use fort_terms::System;
 use std::alloc::Global;
 
@@ -29,6 +31,17 @@ fn operand<'a>(answer: &'a Last, places: &'a [usize]) -> Operand<'a, Dta>
     match answer {
         Last::Auto(table) => Operand::Auto(table, places),
         Last::Truth(truth) => Operand::Truth(*truth),
+    }
+}
+
+/// The list of an answer's targets; a truth has none.
+fn list_of(answer: &Last) -> Option<&TargetList>
+    ensures { (places : List ℕ) → IfSome result (λ l. IsOperandList
+        (operand_of (as_answer answer.now) places) l.now) }
+{
+    match answer {
+        Last::Auto(table) => Some(table.list()),
+        Last::Truth(_) => None,
     }
 }
 
@@ -51,9 +64,7 @@ fn product_table<'a>(
         → IsDecision system.now options.now h result }
 {
     let (one, other) = (operand(first, places), operand(second, others));
-    let first_list = one.list(alloc)?;
-    let second_list = other.list(alloc)?;
-    let product = Both::new(op, one, other, columns).listed(Some(&first_list), Some(&second_list));
+    let product = Both::new(op, one, other, columns).listed(list_of(first), list_of(second));
     explored(alloc, system, &ByRule(&product), options)
 }
 

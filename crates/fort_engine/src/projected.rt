@@ -47,7 +47,7 @@ fn project_table(
         (OfTable (listed_table table.now))
         → IsDecision system.now options.now (theory.Exists number f) result }
 {
-    let projection = Project::new(alloc, table, column_of(columns, number))?;
+    let projection = Project::new(alloc, table, table.list(), column_of(columns, number))?;
     explored(alloc, system, &Projecting(&projection), options)
 }
 

@@ -210,7 +210,7 @@ held_covered sig columns ps targets narrow few count = record {
   order = all_in_order sig columns ps;
   all = all_there sig columns ps;
   count = sym count ∙ sym (length-all_entries sig columns ps);
-  few = few;
+  few = omega (arith, few);
 }
 
 -- before the first tuple symbol

@@ -3,4 +3,3 @@ pub mod HeldWalks
 pub mod Joints
 pub mod OperandRows
 pub mod Operands
-pub mod Unlisted

@@ -25,7 +25,7 @@ pub(crate) struct Holding<'a, 'b> {
 
 impl<'a, 'b> Holding<'a, 'b> {
     /// Passes an entry of this stage; whether its target is right, or is passed unseen.
-    fn pass(&self, joint: &Joint<'_>, stage: usize, kids: &[u32], cursors: &mut [u32]) -> bool
+    fn pass(&self, joint: &Joint<'_>, stage: usize, kids: &[u32], cursors: &mut [usize]) -> bool
         requires { (o : Operands) × (f : TupleSymbol) × (p : Stop)
             × IsHoldingAt o p self.now f joint.now stage 0 0 × (kids.now ≡ p.kids)
             × HasHeldTo o p self.now cursors.old }
@@ -36,10 +36,10 @@ impl<'a, 'b> Holding<'a, 'b> {
     {
         let cursor = cursors[stage];
         cursors[stage] = cursor + 1;
-        if (cursor as usize) < self.from {
+        if cursor < self.from {
             return true;
         }
-        let target = self.walk.targets[cursor as usize];
+        let target = self.walk.targets[cursor];
         (target as usize) < self.rows.len()
             && joint.is_label(self.rows, kids, self.rows.label(target))
     }
@@ -54,7 +54,7 @@ impl<'a, 'b> Holding<'a, 'b> {
         chosen: [u32; 8],
         j: usize,
         rest: usize,
-        cursors: &mut [u32],
+        cursors: &mut [usize],
     ) -> bool
         requires some { 0 < rest }
         requires few { j + rest ≤ 8 }
@@ -96,7 +96,7 @@ impl<'a, 'b> Holding<'a, 'b> {
         symbol: &TupleSym,
         joint: &Joint<'_>,
         count: usize,
-        cursors: &mut [u32],
+        cursors: &mut [usize],
     ) -> bool
         requires few { count ≤ 8 }
         requires at { (o : Operands) × (p : Stop)
@@ -117,7 +117,12 @@ impl<'a, 'b> Holding<'a, 'b> {
 
 impl<'a, T: Table> Both<'a, T> {
     /// Passes the entries of a tuple symbol, all of those with lesser numbers being passed; whether their targets are right.
-    fn hold_symbol(&self, holding: &Holding<'_, '_>, symbol: &TupleSym, cursors: &mut [u32]) -> bool
+    fn hold_symbol(
+        &self,
+        holding: &Holding<'_, '_>,
+        symbol: &TupleSym,
+        cursors: &mut [usize],
+    ) -> bool
         requires between { (n : ℕ) × (t : tables.Listed) × (begins : List ℕ)
             × IsNumbered holding.now.walk.base holding.now.walk.columns n symbol.now
             × IsHeldBetween
@@ -137,7 +142,7 @@ impl<'a, T: Table> Both<'a, T> {
         }
         let count = kid_count(walk.signature, symbol);
         // many tuple symbols have no children, and what these are read by would be found in vain
-        if count == 0 && (cursors[0] as usize) < holding.from {
+        if count == 0 && cursors[0] < holding.from {
             cursors[0] += 1;
             return true;
         }
@@ -159,7 +164,7 @@ impl<'a, T: Table> Both<'a, T> {
         &self,
         holding: &Holding<'_, '_>,
         count: usize,
-        cursors: &mut [u32],
+        cursors: &mut [usize],
     ) -> bool
         requires count { count ≡ holding.now.walk.base ^ holding.now.walk.columns }
         requires between { (t : tables.Listed) × (begins : List ℕ) × IsHeldBetween

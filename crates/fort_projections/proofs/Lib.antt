@@ -1,7 +1,6 @@
 mod BitSearch
 pub mod ChoiceSearch
 mod FinalSearch
-mod FinderLaws
 mod FlatSearch
 mod ImageLaws
 mod ImagesKept

@@ -17,7 +17,7 @@ use crate::pure::next_pure;
 use crate::scope::Scope;
 use fort_labels::{Rows, set_bit};
 use fort_table::Table;
-use fort_target_lists::{FlatTargets, LookUp};
+use fort_target_lists::LookUp;
 use fort_terms::Sym;
 use fort_tuple_symbols::Row;
 
@@ -190,13 +190,12 @@ impl<'a, T: Table> Choices<'a, T> {
     }
 
     /// Marks the states that the states of an own child's set give as the last child, behind these.
-    fn mark_last(&self, flat: &FlatTargets, start: usize, before: &[u32], out: &mut [u64])
+    fn mark_last(&self, look_up: &LookUp<'_>, before: &[u32], out: &mut [u64])
         requires choices { AreChoices (T.table self.now.body.now) self.now.column
             self.now.alone.now self.now.rows.now.labels self.now.row.now self.now.sym.0
             (symbol_under self.now.row.now self.now.column self.now.sym.0) self.now.arity }
-        requires flat { FindsUnder (T.table self.now.body.now)
-            (symbol_under self.now.row.now self.now.column self.now.sym.0)
-            (LookUp.Flat flat start) }
+        requires look_up { FindsUnder (T.table self.now.body.now)
+            (symbol_under self.now.row.now self.now.column self.now.sym.0) look_up.now }
         requires count { length before.now + 1 ≡ symbol_kids (T.table self.now.body.now).signature
             (symbol_under self.now.row.now self.now.column self.now.sym.0) }
         requires in_set { length before.now < self.now.arity }
@@ -216,11 +215,12 @@ impl<'a, T: Table> Choices<'a, T> {
     {
         // its clause says that the table is lawful
         let _states = self.body.states();
+        let flat = look_up.flat;
         let _count = flat.listing.targets.len();
         let place = flat.spots.place_of(before);
         let stride = Stride {
             flat,
-            start,
+            start: look_up.start,
             place,
             times: 1,
             plus: 0,
@@ -229,20 +229,12 @@ impl<'a, T: Table> Choices<'a, T> {
     }
 
     /// The same as the last child but one, where the last one has this state.
-    fn mark_before(
-        &self,
-        flat: &FlatTargets,
-        start: usize,
-        before: &[u32],
-        last: usize,
-        out: &mut [u64],
-    )
+    fn mark_before(&self, look_up: &LookUp<'_>, before: &[u32], last: usize, out: &mut [u64])
         requires choices { AreChoices (T.table self.now.body.now) self.now.column
             self.now.alone.now self.now.rows.now.labels self.now.row.now self.now.sym.0
             (symbol_under self.now.row.now self.now.column self.now.sym.0) self.now.arity }
-        requires flat { FindsUnder (T.table self.now.body.now)
-            (symbol_under self.now.row.now self.now.column self.now.sym.0)
-            (LookUp.Flat flat start) }
+        requires look_up { FindsUnder (T.table self.now.body.now)
+            (symbol_under self.now.row.now self.now.column self.now.sym.0) look_up.now }
         requires count { length before.now + 2 ≡ symbol_kids (T.table self.now.body.now).signature
             (symbol_under self.now.row.now self.now.column self.now.sym.0) }
         requires in_set { length before.now < self.now.arity }
@@ -266,11 +258,12 @@ impl<'a, T: Table> Choices<'a, T> {
     {
         // its clause says that the table is lawful
         let _states = self.body.states();
+        let flat = look_up.flat;
         let _count = flat.listing.targets.len();
         let place = flat.spots.place_of(before);
         let stride = Stride {
             flat,
-            start,
+            start: look_up.start,
             place,
             times: flat.spots.alike[last] as usize,
             plus: flat.spots.ranks[last] as usize,
@@ -314,22 +307,18 @@ impl<'a, T: Table> Choices<'a, T> {
         // its clause says that the table is lawful
         let _states = self.body.states();
         if rest == 0 {
-            let state = look_up.target(self.body, &chosen[..j]);
+            let state = look_up.target(&chosen[..j]);
             set_bit(out, 128 + state as usize);
             return;
         }
         if rest == 1 && self.is_in_set(j) {
-            if let LookUp::Flat(flat, start) = look_up {
-                self.mark_last(*flat, *start, &chosen[..j], out);
-                return;
-            }
+            self.mark_last(look_up, &chosen[..j], out);
+            return;
         }
         if rest == 2 && self.is_in_set(j) {
-            if let LookUp::Flat(flat, start) = look_up {
-                if let Some(last) = self.only_state(j + 1) {
-                    self.mark_before(*flat, *start, &chosen[..j], last, out);
-                    return;
-                }
+            if let Some(last) = self.only_state(j + 1) {
+                self.mark_before(look_up, &chosen[..j], last, out);
+                return;
             }
         }
         let mut from = 0;

@@ -1,5 +1,5 @@
 //! The labels of projections, entry by entry. It takes no memory.
-ghost use Rattle.std.specs.Prelude.{◌≡◌, ◌<◌, ◌+◌, ◌-◌, ◌^◌, length, IfSome};
+ghost use Rattle.std.specs.Prelude.{◌≡◌, ◌<◌, ◌+◌, ◌-◌, ◌^◌, length};
 ghost use Rattle.fort_tables.specs.Labels.{IsOverLabels};
 ghost use Rattle.fort_tables.specs.LabelRules.{label_of, entry_label};
 ghost use Rattle.fort_tables.specs.Projections.{ArePure, project_rule, project_accepts as project_accepts_lem};
@@ -10,7 +10,7 @@ use crate::choices::next_in_set;
 use crate::projection::write_label;
 use fort_labels::Rows;
 use fort_table::Table;
-use fort_target_lists::{Finder, TargetList, flat_of};
+use fort_target_lists::{Finder, TargetList};
 use fort_tuple_symbols::Row;
 
 /// How many words the label of a projection of a table of this many states has.
@@ -22,27 +22,28 @@ pub fn project_width(states: usize) -> usize
 }
 
 /// Writes the label of an entry of the projection: the presence, the body's state with the column absent, and a bit for each state
-/// that some term in the column gives. `alone` are the body's pure states in that column; with a list of the body's targets it is
-/// quicker.
+/// that some term in the column gives. `alone` are the body's pure states in that column.
 pub fn project_label<T: Table>(
     body: &T,
     column: usize,
     alone: &[u32],
-    list: Option<&TargetList>,
+    list: &TargetList,
     row: &Row,
     rows: &Rows,
     out: &mut [u64],
 )
     requires column { column < (T.table body.now).columns }
     requires alone { ArePure (T.table body.now) column alone.now }
-    requires list { IfSome list (λ l. IsTargetListOf (T.table body.now) l.now) }
+    requires list { IsTargetListOf (T.table body.now) list.now }
     requires over { IsOverLabels (T.table body.now).signature ((T.table body.now).columns - 1)
         (label_of (project_rule (T.table body.now) column)) rows.now.labels row.now }
     requires room { length out.old ≡ words_for (length (T.table body.now).presences) + 2 }
     ensures { out.new ≡ entry_label (project_rule (T.table body.now) column) rows.now.labels
         row.now }
 {
-    let finder = Finder::of(body, flat_of(list), row, column);
+    // its clause says that the table is lawful
+    let _states = body.states();
+    let finder = Finder::of(body, list, row, column);
     write_label(body, &finder, column, alone, row, rows, out);
 }
 

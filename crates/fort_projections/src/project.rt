@@ -1,20 +1,18 @@
 //! Projections: some term in one column.
-ghost use Rattle.std.specs.Prelude.{◌≡◌, ◌<◌, ◌-◌, ◌↔◌, IfOk, IfSome, IsTrue};
+ghost use Rattle.std.specs.Prelude.{◌≡◌, ◌<◌, ◌-◌, ◌↔◌, IfOk, IsTrue};
 ghost use Rattle.fort_tables.specs.Tuples.{Tuple, IsTuple};
 ghost use Rattle.fort_tables.specs.LabelRules.{label_of};
 ghost use Rattle.fort_tables.specs.Projections as projections;
 ghost use Rattle.fort_tables.proofs.OperandFacts.{ArePure-prop};
-ghost use Rattle.fort_target_lists.specs.Flats.{IsFlatOf};
-ghost use Rattle.fort_projections.specs.FlatFacts.{IfFlat-prop};
+ghost use Rattle.fort_target_lists.specs.TargetLists.{IsTargetListOf};
 ghost use Rattle.fort_tables.specs.Agreement.{AgreeAtSome, HaveOneState};
 ghost use Rattle.fort_tables.specs.OperationTruth.{TestsRelation, SomeCompletes, accepts as accepts_lem};
 
-use crate::local::{project_accepts, project_width};
-use crate::projection::write_label;
+use crate::local::{project_accepts, project_label, project_width};
 use crate::pure::pure_states;
 use fort_labels::{LocalRule, Rows};
 use fort_table::Table;
-use fort_target_lists::{Finder, FlatTargets};
+use fort_target_lists::TargetList;
 use fort_terms::Memory;
 use fort_tuple_symbols::Row;
 use std::alloc::Global;
@@ -27,17 +25,23 @@ pub struct Project<'a, T: Table> {
     pub(crate) column: usize,
     /// The body's states with this column alone present.
     pub(crate) alone: Vec<u32>,
-    /// The body's targets in one list, where they are put into one.
-    pub(crate) flat: Option<FlatTargets>,
+    /// The body's targets in one list.
+    pub(crate) list: &'a TargetList,
     ghost within: { column < (T.table body.now).columns },
     ghost another: { 1 < (T.table body.now).columns },
-    ghost finds: { IfSome flat (IsFlatOf (T.table body.now)) } by { IfFlat-prop (T.table body.now) flat },
+    ghost finds: { IsTargetListOf (T.table body.now) list.now },
     ghost pure: { projections.ArePure (T.table body.now) column alone.items } by { ArePure-prop (T.table body.now) column alone.items },
 }
 
 impl<'a, T: Table> Project<'a, T> {
-    /// The projection of a body that has another column.
-    pub fn new(alloc: Global, body: &'a T, column: usize) -> Result<Project<'a, T>, Memory>
+    /// The projection of a body that has another column, by the list of the body's targets.
+    pub fn new(
+        alloc: Global,
+        body: &'a T,
+        list: &'a TargetList,
+        column: usize,
+    ) -> Result<Project<'a, T>, Memory>
+        requires list { IsTargetListOf (T.table body.now) list.now }
         requires column { column < (T.table body.now).columns }
         requires another { 1 < (T.table body.now).columns }
         ensures body { IfOk result (λ p. p.body.now ≡ body.now) }
@@ -59,12 +63,11 @@ impl<'a, T: Table> Project<'a, T> {
         // its clause says that the table is lawful
         let _states = body.states();
         let alone = pure_states(alloc, body, column)?;
-        let flat = FlatTargets::of(alloc, body)?;
         Ok(Project {
             body,
             column,
             alone,
-            flat,
+            list,
         })
     }
 }
@@ -94,8 +97,15 @@ impl<'a, T: Table> LocalRule for Project<'a, T> {
     }
 
     fn step(&self, row: &Row, rows: &Rows, out: &mut [u64]) {
-        let finder = Finder::of(self.body, self.flat.as_ref(), row, self.column);
-        write_label(self.body, &finder, self.column, &self.alone, row, rows, out)
+        project_label(
+            self.body,
+            self.column,
+            &self.alone,
+            self.list,
+            row,
+            rows,
+            out,
+        )
     }
 
     fn accepts(&self, words: &[u64]) -> bool {

@@ -66,7 +66,9 @@ impl<'a, T: Table> Labeller for Projecting<'a, T> {
 
     fn step(&self, row: &Row, rows: &Rows, images: &mut Images, out: &mut [u64]) {
         let project = self.0;
-        let finder = Finder::of(project.body, project.flat.as_ref(), row, project.column);
+        // its clause says that the table is lawful
+        let _states = project.body.states();
+        let finder = Finder::of(project.body, project.list, row, project.column);
         write_kept(
             project.body,
             &finder,

@@ -92,7 +92,7 @@ fn absent_target<T: Table>(
     // its clause says that the table is lawful
     let _states = body.states();
     let _columns = body.columns();
-    let look_up = finder.absent(row, column);
+    let look_up = finder.absent();
     target_over_absent(body, &look_up, row, rows)
 }
 
@@ -112,7 +112,7 @@ fn target_over_absent<T: Table>(body: &T, look_up: &LookUp<'_>, row: &Row, rows:
     // its clause says that the table is lawful
     let _states = body.states();
     let states = absent_states(row, rows);
-    look_up.target(body, &states[..row.kids().len()])
+    look_up.target(&states[..row.kids().len()])
 }
 
 /// The children's states with the column absent.
@@ -204,7 +204,7 @@ fn mark_under<T: Table>(
     if !scope.takes(arity) {
         return;
     }
-    let look_up = finder.under(row, column, sym);
+    let look_up = finder.under(sym);
     if arity == 0 {
         // no child has the column: there is one choice of states
         let state = target_over_absent(body, &look_up, row, rows);

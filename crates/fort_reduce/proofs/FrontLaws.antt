@@ -1,14 +1,12 @@
 -- Targets in a list behind first children, and what one more child does to what is known of these.
-use Rattle.std.proofs.Common.{◌≡◌, ℕ, Bor, Option, None, Some, IfSome, zero, suc, ◌+◌, ◌-◌, ◌*◌, ◌^◌, ◌<◌, ◌≤◌, min, List, [], ◌∷◌, ◌++◌, take, set, length, get_or, get_or-set_same, get_or-set_other, refl, ap, sym, ◌∙◌, arith, subst, ⊎_elim}
+use Rattle.std.proofs.Common.{◌≡◌, ℕ, zero, suc, ◌+◌, ◌-◌, ◌*◌, ◌^◌, ◌<◌, ◌≤◌, min, List, [], ◌∷◌, ◌++◌, take, set, length, get_or, get_or-set_same, get_or-set_other, refl, ap, sym, ◌∙◌, arith, subst, ⊎_elim}
 use Rattle.std.proofs.lemmas.Bool.{cases_lt}
 use Rattle.std.proofs.lemmas.List.{take_more, take_all, get_or-take, length-take, length-append}
 use Rattle.std.proofs.Math.Seq.{take-append_seam}
-use Rattle.std.specs.Option.{option_copied}
 use Rattle.fort_tables.specs.Tuples.{TupleSymbol, symbol_kids}
 use Rattle.fort_tables.specs.Entries.{entry}
 use Rattle.fort_tables.specs.Tables.{Table, Listed, listed_table, IsTableEntry}
 use Rattle.fort_target_lists.specs.Places.{number_of, place_from, IsReadable, read_at}
-use Rattle.fort_target_lists.specs.Flats.{IsFlatOf}
 use Rattle.fort_target_lists.specs.declared.flat.FlatTargets.{FlatTargets}
 use Rattle.fort_target_lists.proofs.PlaceLaws.{place_from-more, rank_below}
 use Rattle.fort_tables.specs.Refinement.{leader_in}
@@ -85,11 +83,6 @@ front_of_push xs q =
 pub front_again : (ks0 ks : List ℕ) (j q : ℕ) → take j ks ≡ take j ks0 → j < length ks → take (length (take (j + 1) (set ks j q)) - 1) (take (j + 1) (set ks j q)) ≡ take j ks0
 front_again ks0 ks j q kept low =
     ap (λ (xs : List ℕ). take (length xs - 1) xs) (taken_more ks0 ks j q kept low) ∙ front_of_push (take j ks0) q
-
--- a list that is lent
-pub lent_list : (t : Table) (r : Option (Bor FlatTargets)) (x : Option FlatTargets) → option_copied r ≡ x → IfSome x (IsFlatOf t) → IfSome r (λ l. IsFlatOf t l.now)
-lent_list t None x e h = tt
-lent_list t (Some l) x e h = subst (λ o. IfSome o (IsFlatOf t)) (sym e) h
 
 -- a walk in the words of another name for the table and the tuple symbol
 pub walked_under : (t s : Listed) (f g : TupleSymbol) (o l o2 l2 : List ℕ) → t ≡ s → f ≡ g → IsWalked (AreWholeUnder (listed_table t) o l f [] (symbol_kids t.signature f)) o l o2 l2

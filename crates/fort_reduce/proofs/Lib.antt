@@ -6,5 +6,4 @@ pub mod MergingLaws
 pub mod FirstLists
 pub mod WholeLaws
 pub mod SameTable
-pub mod TurnLaws
 pub mod FrontLaws

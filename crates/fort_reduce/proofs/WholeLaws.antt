@@ -1,5 +1,5 @@
 -- Entries that lead to the class to which they lead with their children's leaders: what one visit, all entries of a tuple symbol and a pass show.
-use Rattle.std.proofs.Common.{◌≡◌, ℕ, zero, suc, ◌+◌, ◌^◌, ◌<◌, ◌≤◌, List, [], ◌∷◌, ◌++◌, map, set, take, length, get_or, false, refl, ap, sym, ◌∙◌, arith, subst, ⊎_elim, true≢false}
+use Rattle.std.proofs.Common.{◌≡◌, ℕ, zero, suc, ◌+◌, ◌^◌, ◌<◌, ◌≤◌, List, [], ◌∷◌, ◌++◌, map, set, take, length, get_or, false, IsFalse, refl, ap, sym, ◌∙◌, arith, subst, ⊎_elim, true≢false}
 use Rattle.std.proofs.lemmas.Bool.{cases_lt}
 use Rattle.std.proofs.lemmas.List.{append-nil, append_assoc, length-take, length-map, get_or-map, ext_get_or, length-set, get_or-set_same, get_or-set_other, length_push, get_or_push, get_or_append_left}
 use Rattle.fort_tables.specs.Tuples.{TupleSymbol, IsTupleSymbol, symbol_kids, kid_presence}
@@ -9,6 +9,8 @@ use Rattle.fort_tables.specs.Selections.{is_present}
 use Rattle.fort_tables.proofs.SelectionLaws.{test_from_present}
 use Rattle.fort_tuple_symbols.specs.SymbolNumbers.{columns_at}
 use Rattle.fort_target_lists.specs.Places.{number_of}
+use Rattle.fort_target_lists.specs.TargetLists.{IsTargetListOf}
+use Rattle.fort_target_lists.specs.declared.target_list.TargetList.{TargetList}
 use Rattle.fort_target_lists.proofs.SymbolNumbers.{columns_again, number_below}
 use Rattle.fort_tables.specs.Separation.{entry_with}
 use Rattle.fort_tables.specs.Merges.{class_of, leader, led, IsCoarsest}
@@ -243,6 +245,31 @@ whole_below_all table o l o1 l1 base n b m =
 pub first_is_entry : (t : Listed) → IsListed t → (q : ℕ) (e : Entry) → IsFirstWith t.entries t.targets q e → IsTableEntry (listed_table t) e
 first_is_entry t is q e f = subst (IsTableEntry (listed_table t)) (f.is e) (is.order.are f.place e (omega (arith, f.within, is.count)))
 
+-- a table whose list isn't made has no states
+no_states : (t : Listed) (l : TargetList) → IsListed t → IsTargetListOf (listed_table t) l → IsFalse l.is_made → length t.presences ≡ 0
+no_states t l is h none =
+    ⊎_elim
+    (λ (some : 0 < length t.presences).
+    let first = is.numbered 0 some in
+    absurd (true≢false (sym (h.made first.0 (first_is_entry t is 0 first.0 first.1)) ∙ none)))
+    (λ (few : length t.presences ≤ 0). omega arith)
+    (cases_lt 0 (length t.presences))
+
+-- Result: no classes are the coarsest then
+pub coarsest_none : (t : Listed) (l : TargetList) → IsListed t → IsTargetListOf (listed_table t) l → IsFalse l.is_made → IsCoarsest (listed_table t) []
+coarsest_none t l is h none =
+    let empty = no_states t l is h none in
+    record {
+      merge = record {
+        count = sym empty;
+        numbered = λ q b. absurd (omega arith);
+        columns = λ q b. absurd (omega arith);
+        acceptance = λ q b. absurd (omega arith);
+        whole = λ e b. absurd (omega (arith, empty, is.table.within e b));
+      };
+      apart = λ p q b. absurd (omega arith);
+    }
+
 -- ---- a buffer of children
 set_taken_suc : (xs : List ℕ) (j q : ℕ) → j < length xs → take (suc j) (set xs j q) ≡ take j xs ++ q ∷ []
 set_taken_suc [] j q l = absurd (omega arith)
@@ -295,6 +322,13 @@ begun_more table f ks0 ks j q kept low room before there fits =
 
 pub taken_more : (ks0 ks : List ℕ) (j q : ℕ) → take j ks ≡ take j ks0 → j < length ks → take (j + 1) (set ks j q) ≡ take j ks0 ++ q ∷ []
 taken_more ks0 ks j q kept low = set_taken ks j q low ∙ ap (λ (xs : List ℕ). xs ++ q ∷ []) kept
+
+-- an entry of these first children and one more
+pub entry_last : (table : Table) (f : TupleSymbol) (ks0 ks : List ℕ) (j q : ℕ) → IsTupleSymbol table.signature table.columns f → symbol_kids table.signature f ≡ j + 1 → take j ks ≡ take j ks0 → j < length ks → j ≤ length ks0
+    → MayBegin table f (take j ks0) → q < length table.presences → get_or table.presences q 0 ≡ kid_presence table.signature f j → IsTableEntry table (entry f (take (j + 1) (set ks j q)))
+entry_last table f ks0 ks j q symbol count kept low room before there fits =
+    let size : length (take (j + 1) (set ks j q)) ≡ symbol_kids table.signature f = omega (arith, count, length-take (j + 1) (set ks j q), length-set ks j q) in
+    entry_begun table f (take (j + 1) (set ks j q)) symbol size (begun_more table f ks0 ks j q kept low room before there fits)
 
 pub taken_length : (ks : List ℕ) (j : ℕ) → j ≤ length ks → length (take j ks) ≡ j
 taken_length ks j l = omega (arith, length-take j ks)

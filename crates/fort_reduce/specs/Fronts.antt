@@ -5,14 +5,10 @@ use Rattle.fort_reduce.specs.Finding.{place_in}
 use Rattle.fort_reduce.specs.declared.targets.Targets.{Targets}
 use Rattle.fort_reduce.specs.declared.front.Front.{Front}
 
--- the place of first child states in the list by which these targets are found, where there is one
-abbrev pub place_under : Targets → List ℕ → ℕ
-place_under targets ks = place_in targets.list (λ l. l.now) ks
-
 -- the children's place, their classes' leaders and the place of these
 pub record IsFront (targets : Targets) (classes leaders kids : List ℕ) (front : Front) : Type 0 where
-  pub place_is : front.place ≡ place_under targets kids
+  pub place_is : front.place ≡ place_in targets.list.now kids
   pub room : length front.leaders ≡ 8
   pub leaders_are : (i : ℕ) → i < length kids → get_or front.leaders i 0 ≡ leader_in classes leaders (get_or kids i 0)
-  pub led_place_is : front.led_place ≡ place_under targets (take (length kids) front.leaders)
+  pub led_place_is : front.led_place ≡ place_in targets.list.now (take (length kids) front.leaders)
   pub led : front.is_led ≡ true → (i : ℕ) → i < length kids → leader_in classes leaders (get_or kids i 0) ≡ get_or kids i 0

@@ -1,11 +1,10 @@
 //! Passes over the entries of a table, which split classes until each entry leads where it leads with its children's leaders.
-ghost use Rattle.std.specs.Prelude.{◌≡◌, ℕ, ◌+◌, ◌<◌, ◌≤◌, ◌^◌, [], take, length, IfSome, OnOk, IfOk};
-ghost use Rattle.fort_tables.specs.Tuples.{IsTupleSymbol, symbol_kids};
+ghost use Rattle.std.specs.Prelude.{◌≡◌, ℕ, ◌+◌, ◌<◌, ◌≤◌, ◌^◌, [], take, length, OnOk, IfOk};
+ghost use Rattle.fort_tables.specs.Tuples.{IsTupleSymbol, AreSymbols, symbol_kids};
 ghost use Rattle.fort_tables.specs.Entries.{Entry, entry};
 ghost use Rattle.fort_tables.specs.Tables.{listed_table, IsTableEntry};
 ghost use Rattle.fort_tables.specs.Refinement.{IsRefined, PassesAt};
 ghost use Rattle.fort_tables.specs.Merges.{IsCoarsest};
-ghost use Rattle.fort_target_lists.specs.Places.{IsNumbered};
 ghost use Rattle.fort_target_lists.specs.Flats.{IsFlatOf};
 ghost use Rattle.fort_reduce.specs.Walks.{IsWalked, IsWholeIn, AreWholeUnder, MayBegin};
 
@@ -239,8 +238,8 @@ fn visit_symbol(
     classes: &mut Classes,
 ) -> Result<(), Memory>
     requires presences { presences.now ≡ targets.now.table.now.presences }
-    requires symbol { (n : ℕ) × IsNumbered (length targets.now.table.now.signature + 1)
-        targets.now.table.now.columns n targets.now.symbol }
+    requires symbols { AreSymbols targets.now.table.now.signature targets.now.symbol }
+    requires width { length targets.now.symbol ≡ targets.now.table.now.columns }
     requires few { length targets.now.table.now.presences < 2 ^ 32 }
     requires refined { IsRefined (listed_table targets.now.table.now) classes.old.of.items
         classes.old.leaders.items }
@@ -268,11 +267,11 @@ fn visit_symbol(
 fn pass(
     alloc: Global,
     table: &Dta,
-    list: Option<&FlatTargets>,
+    list: &FlatTargets,
     presences: &[u16],
     classes: &mut Classes,
 ) -> Result<(), Memory>
-    requires list { IfSome list (λ l. IsFlatOf (listed_table table.now) l.now) }
+    requires list { IsFlatOf (listed_table table.now) list.now }
     requires presences { presences.now ≡ table.now.presences }
     requires few { length table.now.presences < 2 ^ 32 }
     requires refined { IsRefined (listed_table table.now) classes.old.of.items
@@ -285,24 +284,24 @@ fn pass(
         classes.old.of.items classes.old.leaders.items classes.new.of.items
         classes.new.leaders.items) }
 {
-    let columns = table.columns();
     let base = table.signature().len() + 1;
-    let mut symbol = TupleSym::absent(columns);
-    let mut number = 0usize;
-    'symbols: loop {
-        let targets = Targets::of(table, list, number, &symbol);
+    let mut symbol = TupleSym::absent(table.columns());
+    'symbols: for _ in 0..list.listing.starts.len() {
+        let targets = Targets::of(table, list, &symbol);
         visit_symbol(alloc, &targets, presences, classes)?;
         symbol.to_next(base);
-        if !is_present(&symbol) {
-            return Ok(());
-        }
-        // without a list there may be more tuple symbols than a word counts
-        number = number.saturating_add(1);
     }
+    Ok(())
 }
 
 /// Visits the first entry of each state, the last state first: most of what separates states stands at later ones.
-fn sweep(alloc: Global, table: &Dta, classes: &mut Classes) -> Result<(), Memory>
+fn sweep(
+    alloc: Global,
+    table: &Dta,
+    list: &FlatTargets,
+    classes: &mut Classes,
+) -> Result<(), Memory>
+    requires list { IsFlatOf (listed_table table.now) list.now }
     requires few { length table.now.presences < 2 ^ 32 }
     requires refined { IsRefined (listed_table table.now) classes.old.of.items
         classes.old.leaders.items }
@@ -315,29 +314,26 @@ fn sweep(alloc: Global, table: &Dta, classes: &mut Classes) -> Result<(), Memory
     let states = table.states();
     for i in 0..states {
         let row = table.first(states - 1 - i);
-        let targets = Targets {
-            table,
-            symbol: row.sym(),
-            list: None,
-            start: 0,
-        };
+        let targets = Targets::of(table, list, &row.sym());
         visit(alloc, &targets, row.kids(), classes)?;
     }
     Ok(())
 }
 
 /// The class of each state, numbered by first state: two tuples of states have one class exactly where they are interchangeable.
-/// Meanwhile the targets stand in one list, where one is made of them: four bytes for each entry and each tuple symbol.
 pub fn classes_of(alloc: Global, table: &Dta) -> Result<Vec<u32>, Memory>
     ensures { IfOk result (λ new. IsCoarsest (listed_table table.now) new.items) }
 {
-    let _lawful = table.states();
+    // its clause says that the table is lawful
+    let _listed = table.entries();
+    let Some(list) = table.list().flat() else {
+        // a table without entries has no states
+        return Ok(Vec::new(alloc));
+    };
     let presences = presences(alloc, table)?;
-    let made = FlatTargets::of(alloc, table)?;
-    let list = made.as_ref();
     let mut classes = start(alloc, table)?;
     'passes: loop {
-        sweep(alloc, table, &mut classes)?;
+        sweep(alloc, table, list, &mut classes)?;
         let count = classes.leaders.len();
         pass(alloc, table, list, presences.as_slice(), &mut classes)?;
         if classes.leaders.len() == count {

@@ -28,9 +28,7 @@ fn joined(alloc: Global, signature: &Signature) -> Result<Dta, ExploreFault>
 {
     let first = first_table(alloc, signature)?;
     let (one, other) = (Operand::Auto(&first, &[0]), Operand::Auto(&first, &[1]));
-    let first_list = one.list(alloc)?;
-    let second_list = other.list(alloc)?;
-    let listed = Both::new(Op::Iff, one, other, 2).listed(Some(&first_list), Some(&second_list));
+    let listed = Both::new(Op::Iff, one, other, 2).listed(Some(first.list()), Some(first.list()));
     explore(alloc, first.signature(), &ByRule(&listed), 3)
 }
 

@@ -17,32 +17,32 @@ put_pure-requires-clause-spare c =
     let b = c.requires.body in
     subst (λ (t : Table). length t.presences ≤ vec_capacity c.clear.new.self) (sym (c.table-body.ensures.is b.0 b.1)) (omega (arith, b.6.pure, c.clear.ensures.capacity))
 
-pub new-requires-clause-column : goal.new-requires-clause-column
-new-requires-clause-column c =
+pub new-rule-requires-clause-column : goal.new-rule-requires-clause-column
+new-rule-requires-clause-column c =
     let b = c.requires.body in
     subst (λ (t : Table). c.args.column < t.columns) (sym (c.table-body.ensures.is b.0 b.1)) b.3
 
-pub new-requires-clause-another : goal.new-requires-clause-another
-new-requires-clause-another c =
+pub new-rule-requires-clause-another : goal.new-rule-requires-clause-another
+new-rule-requires-clause-another c =
     let b = c.requires.body in
     subst (λ (t : Table). 1 < t.columns) (sym (c.table-body.ensures.is b.0 b.1)) b.4
 
 pub check_part-requires-clause-signature : goal.check_part-requires-clause-signature
 check_part-requires-clause-signature c =
     let b = c.requires.body in
-    ap (λ (t : Table). t.signature) (ap turned_table (c.listed-rule.ensures.body ∙ c.new.ensures.body) ∙ c.table-body.ensures.is b.0 b.1) ∙ b.2
+    ap (λ (t : Table). t.signature) (ap turned_table c.new-rule.ensures.body ∙ c.table-body.ensures.is b.0 b.1) ∙ b.2
 
 pub check_part-requires-clause-space : goal.check_part-requires-clause-space
 check_part-requires-clause-space c =
     let b = c.requires.body in
     (subst (λ (t : Table). HasLabelRoom (words_for (length t.presences) + 2) c.args.targets.now c.args.scratch.now)
-    (sym (ap turned_table (c.listed-rule.ensures.body ∙ c.new.ensures.body) ∙ c.table-body.ensures.is b.0 b.1)) b.5).rows
+    (sym (ap turned_table c.new-rule.ensures.body ∙ c.table-body.ensures.is b.0 b.1)) b.5).rows
 
 pub check_part-requires-clause-out : goal.check_part-requires-clause-out
 check_part-requires-clause-out c =
     let b = c.requires.body in
     (subst (λ (t : Table). HasLabelRoom (words_for (length t.presences) + 2) c.args.targets.now c.args.scratch.now)
-    (sym (ap turned_table (c.listed-rule.ensures.body ∙ c.new.ensures.body) ∙ c.table-body.ensures.is b.0 b.1)) b.5).out
+    (sym (ap turned_table c.new-rule.ensures.body ∙ c.table-body.ensures.is b.0 b.1)) b.5).out
 
 pub lay-requires-clause-list : goal.lay-requires-clause-list
 lay-requires-clause-list c =
@@ -69,8 +69,8 @@ returns-clause-scratch c = record {
 
 pub returns-clause-step : goal.returns-clause-step
 returns-clause-step c table at =
-    let own : turned_table c.listed-rule.result.body.now ≡ table = ap turned_table (c.listed-rule.ensures.body ∙ c.new.ensures.body) ∙ c.table-body.ensures.is table at in
+    let own : turned_table c.new-rule.result.body.now ≡ table = ap turned_table c.new-rule.ensures.body ∙ c.table-body.ensures.is table at in
     subst (λ (n : ℕ). IsPartStep (project_local table n) c.args.targets.now c.check_part.new.room c.check_part.result)
-    (c.listed-rule.ensures.column ∙ c.new.ensures.column)
-    (subst (λ (t : Table). IsPartStep (project_local t c.listed-rule.result.column) c.args.targets.now c.check_part.new.room c.check_part.result) own
+    c.new-rule.ensures.column
+    (subst (λ (t : Table). IsPartStep (project_local t c.new-rule.result.column) c.args.targets.now c.check_part.new.room c.check_part.result) own
     (record { outcome = c.check_part.ensures.outcome; plain = c.check_part.ensures.not_merged; held = c.check_part.ensures.held }))

@@ -1,4 +1,6 @@
-use Rattle.std.proofs.Common.{sym, ap, ◌∙◌}
+use Rattle.std.proofs.Common.{IfSome, sym, ap, ◌∙◌, subst}
+use Rattle.fort_tables.specs.Products.{Operand}
+use Rattle.fort_target_lists.specs.TargetLists.{IsOperandList}
 use Rattle.fort_tables.specs.Tables.{listed_table}
 use Rattle.fort_products.specs.Operands as algebra
 use Rattle.fort_connectives.specs.ConnectiveView.{connective_of}
@@ -12,6 +14,16 @@ new-requires-clause-operands c =
     AreOperands-product a.system.now a.options.now (connective_of a.op) c.requires.0 c.requires.1 c.requires.2 (as_answer a.first.now) a.places.now (as_answer a.second.now)
     a.others.now a.columns c.requires.3 (algebra.operand_of listed_table c.operand-one.result) (algebra.operand_of listed_table c.operand-other.result) c.operand-one.ensures
     c.operand-other.ensures
+
+pub listed-product-requires-clause-first : goal.listed-product-requires-clause-first
+listed-product-requires-clause-first c =
+    subst (λ (o : Operand). IfSome c.list_of.result (λ l. IsOperandList o l.now)) (sym (ap (algebra.operand_of listed_table) c.new.ensures.first ∙ c.operand-one.ensures))
+    (c.list_of.ensures c.args.places.now)
+
+pub listed-product-requires-clause-second : goal.listed-product-requires-clause-second
+listed-product-requires-clause-second c =
+    subst (λ (o : Operand). IfSome c.list_of-2.result (λ l. IsOperandList o l.now)) (sym (ap (algebra.operand_of listed_table) c.new.ensures.second ∙ c.operand-other.ensures))
+    (c.list_of-2.ensures c.args.others.now)
 
 pub explored-requires : goal.explored-requires
 explored-requires c =

@@ -1,9 +1,7 @@
-use Rattle.std.proofs.Common.{[]}
-use Rattle.fort_tables.specs.Products.{OfTable}
-use Rattle.fort_target_lists.proofs.ListLaws.{table_operand}
+use Rattle.fort_projections.proofs.ProjectEntries.{absent_entry}
 use Rattle.fort_projections.proofs.local.project_label.Goals as goal
 
-pub of-finder-requires-clause-flat : goal.of-finder-requires-clause-flat
-of-finder-requires-clause-flat g c =
+pub of-finder-requires-clause-some : goal.of-finder-requires-clause-some
+of-finder-requires-clause-some g c =
     let body = g.T.Table.table c.args.body.now in
-    c.flat_of.ensures (OfTable body []) (table_operand body [] c.args.list (λ l. l.now) c.requires.list)
+    (_, absent_entry body c.args.column c.args.rows.now.labels c.args.row.now c.states-states.ensures.lawful c.states-states.ensures.reached (record { column = c.requires.column; over = c.requires.over }))

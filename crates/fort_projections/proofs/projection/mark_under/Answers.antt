@@ -6,7 +6,6 @@ use Rattle.fort_projections.specs.Scopes.{takes}
 use Rattle.fort_tables.proofs.TupleLaws.{arity_from_get}
 use Rattle.fort_tables.specs.Projections.{absent_state, has_state}
 use Rattle.fort_projections.specs.Choices.{symbol_under}
-use Rattle.fort_projections.proofs.FinderLaws.{finder_is}
 use Rattle.fort_target_lists.proofs.ColumnLaws.{arity_small}
 use Rattle.fort_projections.proofs.ProjectEntries.{choices_count, entry_under_constant}
 use Rattle.fort_projections.proofs.LabelWritten.{choices_made, under_reachable, constant_gives, none_taken}
@@ -16,12 +15,12 @@ use Rattle.fort_projections.proofs.projection.mark_under.Goals as goal
 pub under-look_up-requires : goal.under-look_up-requires
 under-look_up-requires g c =
     let body = g.T.Table.table c.args.body.now in
-    (body, finder_is body c.args.column c.args.rows.now.labels c.args.row.now c.args.finder.now c.states-states.ensures.lawful c.requires.searched c.requires.finder, c.requires.symbol)
+    (body, c.args.row.now.symbol, c.args.column, c.requires.finder, c.requires.symbol)
 
 pub visit-requires-clause-look_up : goal.visit-requires-clause-look_up
 visit-requires-clause-look_up g c =
     let body = g.T.Table.table c.args.body.now in
-    c.under-look_up.ensures body (finder_is body c.args.column c.args.rows.now.labels c.args.row.now c.args.finder.now c.states-states.ensures.lawful c.requires.searched c.requires.finder) c.requires.symbol
+    c.under-look_up.ensures body c.args.row.now.symbol c.args.column c.requires.finder c.requires.symbol
 
 pub visit-requires-clause-choices : goal.visit-requires-clause-choices
 visit-requires-clause-choices g c =
@@ -56,7 +55,7 @@ target_over_absent-state-requires-clause-found g c =
     let body = g.T.Table.table c.args.body.now in
     let f = symbol_under c.args.row.now c.args.column c.args.sym.0 in
     let h = choices_made body c.args.column c.args.alone.now c.args.rows.now.labels c.args.row.now c.signature-sig.result.now c.args.sym.0 c.args.row.now.symbol f c.arity-arity.result c.requires.searched c.requires.alone c.signature-sig.ensures c.requires.symbol refl refl c.arity-arity.ensures in
-    let finds = c.under-look_up.ensures body (finder_is body c.args.column c.args.rows.now.labels c.args.row.now c.args.finder.now c.states-states.ensures.lawful c.requires.searched c.requires.finder) c.requires.symbol in
+    let finds = c.under-look_up.ensures body c.args.row.now.symbol c.args.column c.requires.finder c.requires.symbol in
     (f, finds, entry_under_constant body c.args.column c.args.alone.now c.args.rows.now.labels c.args.row.now c.args.sym.0 f c.arity-arity.result c.states-states.ensures.lawful c.states-states.ensures.reached h (omega arith))
 
 pub set_bit-requires : goal.set_bit-requires
@@ -65,7 +64,7 @@ set_bit-requires g c =
     let f = symbol_under c.args.row.now c.args.column c.args.sym.0 in
     let ks = map absent_state (labels_at c.args.rows.now.labels c.args.row.now.kids) in
     let h = choices_made body c.args.column c.args.alone.now c.args.rows.now.labels c.args.row.now c.signature-sig.result.now c.args.sym.0 c.args.row.now.symbol f c.arity-arity.result c.requires.searched c.requires.alone c.signature-sig.ensures c.requires.symbol refl refl c.arity-arity.ensures in
-    let finds = c.under-look_up.ensures body (finder_is body c.args.column c.args.rows.now.labels c.args.row.now c.args.finder.now c.states-states.ensures.lawful c.requires.searched c.requires.finder) c.requires.symbol in
+    let finds = c.under-look_up.ensures body c.args.row.now.symbol c.args.column c.requires.finder c.requires.symbol in
     let whole = entry_under_constant body c.args.column c.args.alone.now c.args.rows.now.labels c.args.row.now c.args.sym.0 f c.arity-arity.result c.states-states.ensures.lawful c.states-states.ensures.reached h (omega arith) in
     omega (arith, c.states-states.ensures.lawful.within (entry f ks) whole, c.target_over_absent-state.ensures f finds whole, c.requires.room)
 
@@ -74,7 +73,7 @@ returns-then-arity-eq0-clause-marked g c = λ q.
     let body = g.T.Table.table c.args.body.now in
     let f = symbol_under c.args.row.now c.args.column c.args.sym.0 in
     let h = choices_made body c.args.column c.args.alone.now c.args.rows.now.labels c.args.row.now c.signature-sig.result.now c.args.sym.0 c.args.row.now.symbol f c.arity-arity.result c.requires.searched c.requires.alone c.signature-sig.ensures c.requires.symbol refl refl c.arity-arity.ensures in
-    let finds = c.under-look_up.ensures body (finder_is body c.args.column c.args.rows.now.labels c.args.row.now c.args.finder.now c.states-states.ensures.lawful c.requires.searched c.requires.finder) c.requires.symbol in
+    let finds = c.under-look_up.ensures body c.args.row.now.symbol c.args.column c.requires.finder c.requires.symbol in
     let whole = entry_under_constant body c.args.column c.args.alone.now c.args.rows.now.labels c.args.row.now c.args.sym.0 f c.arity-arity.result c.states-states.ensures.lawful c.states-states.ensures.reached h (omega arith) in
     let state = c.target_over_absent-state.result in
     let given = constant_gives body c.args.column c.args.alone.now c.args.rows.now.labels c.args.row.now c.args.scope c.args.sym.0 f c.arity-arity.result q c.states-states.ensures.lawful c.states-states.ensures.reached h (sym c.takes.ensures ∙ c.if-not-takes.false) (omega arith) in

@@ -15,10 +15,10 @@ target-requires g c =
     let body = g.T.Table.table c.args.body.now in
     let r = c.requires.found in
     let q = sym (ap (λ (ks : List ℕ). take (length ks) c.absent_states-states.result) c.kids.ensures.states ∙ c.absent_states-states.ensures) in
-    (r.0, r.1, subst (λ (ks : List ℕ). IsTableEntry body (entry r.0 ks)) q r.2)
+    (body, r.0, r.1, subst (λ (ks : List ℕ). IsTableEntry body (entry r.0 ks)) q r.2)
 
 pub returns : goal.returns
 returns g c = λ f finds whole.
     let body = g.T.Table.table c.args.body.now in
     let q = sym (ap (λ (ks : List ℕ). take (length ks) c.absent_states-states.result) c.kids.ensures.states ∙ c.absent_states-states.ensures) in
-    c.target.ensures f finds (subst (λ (ks : List ℕ). IsTableEntry body (entry f ks)) q whole) ∙ ap (λ (ks : List ℕ). body.target (entry f ks)) (sym q)
+    c.target.ensures body f finds (subst (λ (ks : List ℕ). IsTableEntry body (entry f ks)) q whole) ∙ ap (λ (ks : List ℕ). body.target (entry f ks)) (sym q)

@@ -1,5 +1,4 @@
 use Rattle.std.proofs.Common.{◌≡◌, ◌+◌, ◌<◌, ℕ, List, take, set, length, get_or, refl, ap, sym, ◌∙◌, subst, arith}
-use Rattle.std.proofs.lemmas.List.{length-set}
 use Rattle.fort_tables.specs.Tuples.{kid_presence}
 use Rattle.fort_tables.specs.Entries.{entry}
 use Rattle.fort_tables.specs.Tables.{listed_table}
@@ -9,7 +8,7 @@ use Rattle.fort_reduce.specs.Fronts.{IsFront}
 use Rattle.fort_reduce.specs.declared.classes.Classes.{Classes}
 use Rattle.fort_reduce.specs.declared.front.Front.{Front}
 use Rattle.fort_reduce.proofs.PassLaws.{walk_kept}
-use Rattle.fort_reduce.proofs.WholeLaws.{AreWholeTo, begun_more, entry_begun, taken_more, taken_length, set_front, visited_one, whole_to_skip, whole_to_all}
+use Rattle.fort_reduce.proofs.WholeLaws.{AreWholeTo, entry_last, taken_more, taken_length, set_front, visited_one, whole_to_skip, whole_to_all}
 use Rattle.fort_reduce.proofs.FrontLaws.{front_again}
 use Rattle.fort_reduce.proofs.passes.visit_last.Goals as goal
 use Rattle.fort_reduce.proofs.passes.visit_last.Goals.{then-presences-q+then-not-is_whole+in_ok-chain, then-presences-q+else-not-is_whole, else-presences-q}
@@ -23,11 +22,20 @@ is_whole-requires-clause-entry c =
     let v = c.loop-q.invariant in
     let want : c.kid_presence-want.result ≡ kid_presence table.signature f j = c.kid_presence-want.ensures.value ∙ ap (λ s. kid_presence s f j) c.signature.ensures in
     let fits : get_or table.presences q 0 ≡ kid_presence table.signature f j = ap (λ (ps : List ℕ). get_or ps q 0) (sym c.requires.presences) ∙ (c.if-presences-q.true ∙ want) in
-    let low : j < length c.loop-q.kids = omega (arith, v.room, c.requires.few_kids) in
-    let ks = take (j + 1) (set c.loop-q.kids j q) in
-    entry_begun table f ks c.requires.symbol (omega (arith, c.requires.count, taken_length (set c.loop-q.kids j q) (j + 1) (omega (arith, length-set c.loop-q.kids j q, low))))
-    (begun_more table f c.args.kids.now c.loop-q.kids j q v.kept low (omega (arith, c.requires.room, c.requires.few_kids)) c.requires.before
-    (omega (arith, ap (λ (ps : List ℕ). length ps) c.requires.presences)) fits)
+    entry_last table f c.args.kids.now c.loop-q.kids j q c.requires.symbol c.requires.count v.kept (omega (arith, v.room, c.requires.few_kids)) (omega (arith, c.requires.room, c.requires.few_kids)) c.requires.before
+    (omega (arith, ap (λ (ps : List ℕ). length ps) c.requires.presences)) fits
+
+pub chain-requires-clause-entry : goal.chain-requires-clause-entry
+chain-requires-clause-entry c =
+    let table = listed_table c.args.targets.now.table.now in
+    let f = c.args.targets.now.symbol in
+    let j = c.args.j in
+    let q = c.loop-q.q in
+    let v = c.loop-q.invariant in
+    let want : c.kid_presence-want.result ≡ kid_presence table.signature f j = c.kid_presence-want.ensures.value ∙ ap (λ s. kid_presence s f j) c.signature.ensures in
+    let fits : get_or table.presences q 0 ≡ kid_presence table.signature f j = ap (λ (ps : List ℕ). get_or ps q 0) (sym c.requires.presences) ∙ (c.if-presences-q.true ∙ want) in
+    entry_last table f c.args.kids.now c.loop-q.kids j q c.requires.symbol c.requires.count v.kept (omega (arith, v.room, c.requires.few_kids)) (omega (arith, c.requires.room, c.requires.few_kids)) c.requires.before
+    (omega (arith, ap (λ (ps : List ℕ). length ps) c.requires.presences)) fits
 
 pub is_whole-requires-clause-refined : goal.is_whole-requires-clause-refined
 is_whole-requires-clause-refined c = c.loop-q.invariant.refined

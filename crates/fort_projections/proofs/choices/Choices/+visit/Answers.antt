@@ -20,7 +20,7 @@ target-state-requires g t c =
     let f = symbol_under s.row.now s.column s.sym.0 in
     let body = g.T.Table.table s.body.now in
     let symbol = choices_symbol body s.column s.alone.now s.rows.now.labels s.row.now s.sym.0 f s.arity c.requires.choices in
-    (f, c.requires.look_up, whole_entry body f c.args.chosen.now c.args.j c.states-states.ensures.lawful symbol (omega (arith, c.requires.count, c.if-rest-eq0.true)) (omega (arith, c.requires.few)) c.requires.before)
+    (body, f, c.requires.look_up, whole_entry body f c.args.chosen.now c.args.j c.states-states.ensures.lawful symbol (omega (arith, c.requires.count, c.if-rest-eq0.true)) (omega (arith, c.requires.few)) c.requires.before)
 
 pub set_bit-requires : goal.set_bit-requires
 set_bit-requires g t c =
@@ -29,7 +29,7 @@ set_bit-requires g t c =
     let body = g.T.Table.table s.body.now in
     let symbol = choices_symbol body s.column s.alone.now s.rows.now.labels s.row.now s.sym.0 f s.arity c.requires.choices in
     let e = whole_entry body f c.args.chosen.now c.args.j c.states-states.ensures.lawful symbol (omega (arith, c.requires.count, c.if-rest-eq0.true)) (omega (arith, c.requires.few)) c.requires.before in
-    omega (arith, c.states-states.ensures.lawful.within (entry f (take c.args.j c.args.chosen.now)) e, c.target-state.ensures f c.requires.look_up e, c.requires.room)
+    omega (arith, c.states-states.ensures.lawful.within (entry f (take c.args.j c.args.chosen.now)) e, c.target-state.ensures body f c.requires.look_up e, c.requires.room)
 
 pub returns-then-rest-eq0-clause-marked : goal.returns-then-rest-eq0-clause-marked
 returns-then-rest-eq0-clause-marked g t c = λ q.
@@ -43,10 +43,10 @@ returns-then-rest-eq0-clause-marked g t c = λ q.
     let state = c.target-state.result in
     c.set_bit.ensures.bits (128 + q)
     ∙ ap (λ b. b || has_state c.args.out.now q)
-    (shift_test state q ∙ (ap (λ x. x == q) (c.target-state.ensures f c.requires.look_up whole) ∙ sym (reachable_end body may f before c.args.j c.args.rest q c.if-rest-eq0.true)))
+    (shift_test state q ∙ (ap (λ x. x == q) (c.target-state.ensures body f c.requires.look_up whole) ∙ sym (reachable_end body may f before c.args.j c.args.rest q c.if-rest-eq0.true)))
 
-pub returns-in-Flat-clause-marked : goal.returns-in-Flat-clause-marked
-returns-in-Flat-clause-marked g t c = λ q.
+pub returns-then-is_in_set-clause-marked : goal.returns-then-is_in_set-clause-marked
+returns-then-is_in_set-clause-marked g t c = λ q.
     let s = c.args.self.now in
     let body = g.T.Table.table s.body.now in
     let f = symbol_under s.row.now s.column s.sym.0 in
