@@ -1,0 +1,200 @@
+"""What lies behind a refusal of a formula, told by its text and by the problem, where that can be read again."""
+import os
+import re
+
+from hint_call import Call, is_file_name, of_file_name
+from hint_problem import Problem, forms_of
+from hint_text import marked, plain
+
+PROPERTIES = "CR WCR SCR WN UNR UNC NFP COM SN".split()
+BINDERS = ("exists", "forall", "infinite")
+RESERVED = {*PROPERTIES, *BINDERS, *"true false NF JOIN".split()}
+# What is meant perhaps by a name, and by a byte with which no token begins.
+INSTEAD = {
+    "not": "~", "and": "&", "or": "|", "implies": "=>", "iff": "<=>", "all": "forall", "some": "exists", "ex": "exists",
+    "T": "true", "F": "false", "top": "true", "bottom": "false", "nf": "NF", "join": "JOIN",
+}
+NO_TOKEN = {
+    "!": "not is `~`, and `x != y` is `~(x = y)`",
+    "-": "not is `~`",
+    "{": "a `{` has its `}`, and holds no `;`",
+    ".": "after a quantifier stands its formula in parentheses: `forall x (..)`",
+    "<": "the tokens that begin with `<` are <=> <-> <->* <<, and `x <- y` is `y -> x`",
+    ">": "a `>` stands in the tokens -> ->* ->+ ->= ->! ->^ ->_ -||-> <-> <->* => <=> >> alone",
+    "/": "and is `&`, or is `|`",
+    "\\": "and is `&`, or is `|`",
+    "_": "a name begins with a letter",
+}
+
+TOKEN = re.compile(rb"([A-Za-z][A-Za-z0-9_]*|\{[ \t\r\n!-:<-|~]*\}|\[[1-9]\]"
+                   rb"|-\|\|->|<->\*?|<=>|->[*+=!^_]?|=>|<<|>>|[(),~&|=])|[ \t\r\n]+")
+RELATION = re.compile(r"=|<?-.*|>>|\[.\]")
+BRACES = re.compile(r"[{]\s*([^\s(){}]+)\s*\(\s*(.*)")
+
+
+# ---- tokens
+
+def tokens_of(formula: bytes) -> list:
+    return [found[1].decode("latin-1") for found in TOKEN.finditer(formula) if found[1]]
+
+
+def is_variable(token: str) -> bool:
+    return re.fullmatch("[A-Za-z][A-Za-z0-9_]*", token) is not None and token not in RESERVED
+
+
+def is_relation(token: str) -> bool:
+    return RELATION.fullmatch(token) is not None
+
+
+def names_of(formula: bytes) -> list:
+    """The variables of a formula, each once."""
+    return [it for it in dict.fromkeys(tokens_of(formula)) if is_variable(it)]
+
+
+def ends_with_binder(tokens: list) -> bool:
+    """Whether the last tokens are `exists`, `forall` or `infinite` and some variables, with `,` between them."""
+    rest = list(tokens)
+    while len(rest) > 1 and is_variable(rest[-1]) and rest[-2] == ",":
+        rest = rest[:-2]
+    return len(rest) > 1 and is_variable(rest[-1]) and rest[-2] in BINDERS
+
+
+# ---- syntax
+
+def of_word(word: str) -> list:
+    """What is said of a name that stands where a formula may."""
+    instead = INSTEAD.get(word) or INSTEAD.get(word.lower()) or next((it for it in PROPERTIES if it == word.upper()), "")
+    if instead:
+        return [f"`{word}` is a variable, `{instead}` is meant perhaps"]
+    if word[0] == "G" and word[1:] in PROPERTIES:
+        return [f"`{word}` is an unknown word; all properties are of ground terms here: `{word[1:]}`"]
+    said = [f"`{word}` is a variable, after which a relation wants to stand, as in `{word} -> y`"]
+    if word.isupper():
+        said = [f"`{word}` is an unknown word, read as a variable"]
+    return [*said, f"the properties are {' '.join(PROPERTIES)}"]
+
+
+def of_term_syntax(last: str, token: str) -> list:
+    """The cause where a term stands without braces."""
+    if token == "(" and is_relation(last):
+        return ["a term in a formula stands in braces: `{(f a)}`"]
+    if token == "(" and is_variable(last):
+        return [f"`{last}` is a variable; a term of the problem stands in braces: `{{({last} ..)}}`", *of_word(last)[1:]]
+    return []
+
+
+def of_relation_syntax(last_but_one: str, last: str, token: str) -> list:
+    """The cause where a relation or a connective doesn't go on."""
+    if is_relation(token) and is_relation(last_but_one):
+        return ["a relation has two arguments; a chain is written with `&`: `x -> y & y -> z`"]
+    if is_relation(token) and last == "=":
+        return ["equality is `=`"]
+    if token == last and token in ("&", "|"):
+        return [f"`{token}` stands once between two formulas"]
+    return []
+
+
+def of_end(before: list, token: str) -> list:
+    """The cause where the formula ends too early, or where none of the others is seen."""
+    is_open = before.count("(") > before.count(")")
+    if not token:
+        return ["the formula breaks off here" + (": a `(` lacks its `)`" if is_open else "")]
+    if token == ")" and not is_open:
+        return ["this `)` has no `(`"]
+    return ["with this token no formula goes on (docs/FORMULAS.md has the grammar)"]
+
+
+def of_syntax(before: list, token: str) -> list:
+    """The commonest cause of a token with which no formula goes on, by the tokens before it."""
+    last_but_one, last = ("", "", *before)[-2:]
+    if not before and not token:
+        return ["the formula is empty"]
+    if of_term_syntax(last, token):
+        return of_term_syntax(last, token)
+    if ends_with_binder(before):
+        return ["after a quantifier's variables, with `,` between, stands its formula in parentheses: `forall x, y (..)`"]
+    if token == "<=>" and "<=>" in before:
+        return ["`<=>` stands once, other ones in parentheses: `(F <=> G) <=> H`"]
+    if last in BINDERS:
+        return [f"after `{last}` stands a variable" + (f"; `{token}` is a reserved word" if token in RESERVED else "")]
+    if is_variable(last) and not is_relation(last_but_one):
+        return of_word(last)
+    if last in ("NF", "JOIN") or last in PROPERTIES and (is_variable(token) or token.startswith("{")):
+        return ["arguments stand in parentheses: `NF(x)`, `JOIN(x, y)`, `SN(x)`"]
+    return of_relation_syntax(last_but_one, last, token) or of_end(before, token)
+
+
+# ---- bytes and braces
+
+def of_bad_byte(formula: bytes, at: int) -> list:
+    byte, name = formula[at:at + 1].decode("latin-1"), os.fsdecode(formula)
+    if is_file_name(name):
+        return [of_file_name(plain(formula))]
+    if byte == "[":
+        return ["indices are [1] to [9], without blanks"]
+    if byte > "~":
+        return ["formulas are written in ASCII: ~ & | => <=> exists forall"]
+    return [NO_TOKEN.get(byte, "no token begins so: constants and terms stand in braces, `{0}`")]
+
+
+def of_braces(text: bytes, problem: Problem) -> list:
+    """The cause by which what stands in braces is no ground term of the problem."""
+    inside = text.partition(b"}")[0] + b"}"
+    shape = BRACES.match(inside.decode("latin-1"))
+    if shape:
+        arguments = shape[2].partition(")")[0].replace(",", " ")
+        return [f"a term is written `{{({shape[1]} {arguments})}}`, with its symbol in the parentheses"]
+    forms = forms_of(inside[1:-1])
+    if len(forms) != 1:
+        return ["in braces stands one term: `{a}`, `{(f a)}`"]
+    if not problem.forms:
+        return ["a symbol isn't declared, has another number of arguments, or a constant in parentheses: `{a}`, `{(f a)}`"]
+    return problem.term_faults(forms[0], True) or ["in braces stands a constant or `(f t1 .. tn)`, of declared symbols"]
+
+
+# ---- refusals
+
+def of_open(name: str, call: Call, problem: Problem) -> list:
+    constants = [it for it in names_of(call.formula) if problem.arities.get(it) == 0]
+    said = [f"`{name}` is a variable that no quantifier binds: `forall {name} (..)` or `exists {name} (..)`"]
+    if call.command in ("decide", ""):
+        said.append("`witness` prints the least terms for free variables")
+    if constants:
+        return [*said, *(f"`{it}` is a variable here; the problem's constant is written `{{{it}}}`" for it in constants)]
+    return [*said, "a name is a variable; a constant of the problem wants braces: `{a}`"]
+
+
+def of_place(kind: str, formula: bytes, at: int, problem: Problem) -> list:
+    """What is said of a fault at an offset of the formula."""
+    if kind == "bad byte at":
+        return of_bad_byte(formula, at)
+    if kind == "too deep at":
+        return ["at most 200 parentheses are open at once"]
+    if kind == "term at":
+        return of_braces(formula[at:], problem)
+    return of_syntax(tokens_of(formula[:at]), (tokens_of(formula[at:]) or [""])[0])
+
+
+def of_formula(fault: str, call: Call, problem: Problem) -> list:
+    """What is said of a line `REFUSED formula FAULT`."""
+    kind, _, value = fault.rpartition(" ")
+    if kind.endswith(" at"):
+        mark = marked(call.formula.replace(b"\n", b" "), int(value))
+        return ["the formula, with a mark at the fault:", *mark, *of_place(kind, call.formula, int(value), problem)]
+    if kind == "open":
+        return of_open(value, call, problem)
+    if kind == "index":
+        return [f"the formula speaks of the rules of index {value}, and the problem has {problem.systems_shown()}"]
+    if kind == "sn":
+        return problem.of_right_variable(int(value))
+    return [{
+        "closed": "`solutions`, `confirm` and `witness --certificate` want a free variable; without one ask `decide`",
+        "too long": "a formula has at most 1,000 tokens",
+        "too wide": "a part of the formula has more than 16 free variables, or an expression more than 32 words `root`",
+    }[fault]]
+
+
+def of_meant(formula: bytes, problem: Problem) -> list:
+    """Variables of the formula that are named as constants of the problem."""
+    meant = [it for it in names_of(formula) if problem.arities.get(it) == 0]
+    return [f"`{it}` is a variable of the formula; the problem's constant is written `{{{it}}}`" for it in meant]
