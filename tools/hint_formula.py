@@ -14,6 +14,7 @@ INSTEAD = {
     "not": "~", "and": "&", "or": "|", "implies": "=>", "iff": "<=>", "all": "forall", "some": "exists", "ex": "exists",
     "T": "true", "F": "false", "top": "true", "bottom": "false", "nf": "NF", "join": "JOIN",
 }
+CONNECTIVES = ("not", "and", "or", "implies", "iff")
 NO_TOKEN = {
     "!": "not is `~`, and `x != y` is `~(x = y)`",
     "-": "not is `~`",
@@ -79,7 +80,8 @@ def of_term_syntax(last: str, token: str) -> list:
     if token == "(" and is_relation(last):
         return ["a term in a formula stands in braces: `{(f a)}`"]
     if token == "(" and is_variable(last):
-        return [f"`{last}` is a variable; a term of the problem stands in braces: `{{({last} ..)}}`", *of_word(last)[1:]]
+        said = [f"`{last}` is a variable; a term of the problem stands in braces: `{{({last} ..)}}`"]
+        return [*said, *of_word(last)[1:]] if last.isupper() else said
     return []
 
 
@@ -113,6 +115,8 @@ def of_syntax(before: list, token: str) -> list:
         return of_term_syntax(last, token)
     if ends_with_binder(before):
         return ["after a quantifier's variables, with `,` between, stands its formula in parentheses: `forall x, y (..)`"]
+    if token.lower() in CONNECTIVES:
+        return of_word(token)
     if token == "<=>" and "<=>" in before:
         return ["`<=>` stands once, other ones in parentheses: `(F <=> G) <=> H`"]
     if last in BINDERS:
