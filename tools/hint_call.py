@@ -115,7 +115,8 @@ class Call:
         files = [it for it in self.texts if is_file_name(it)]
         if files:
             return of_file_name(files[0])
-        tells = "a formula is one argument, in quotes" if "FORMULA" in wanted else f"{self.command} {' '.join(wanted)}"
+        tells = "a formula is one argument, in quotes, and the problem comes by `< FILE`"
+        tells = tells if "FORMULA" in wanted else f"{self.command} {' '.join(wanted)}"
         return f"`{self.texts[len(wanted)]}` is one argument too many: {tells}"
 
     @property
