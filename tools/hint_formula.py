@@ -9,27 +9,35 @@ from hint_text import marked, plain
 PROPERTIES = "CR WCR SCR WN UNR UNC NFP COM SN".split()
 BINDERS = ("exists", "forall", "infinite")
 RESERVED = {*PROPERTIES, *BINDERS, *"true false NF JOIN".split()}
+CONNECTIVES = ("not", "and", "or", "implies", "iff")
+HAVE_ARGUMENTS = ("NF", "JOIN", "SN")
 # What is meant perhaps by a name, and by a byte with which no token begins.
 INSTEAD = {
     "not": "~", "and": "&", "or": "|", "implies": "=>", "iff": "<=>", "all": "forall", "some": "exists", "ex": "exists",
     "T": "true", "F": "false", "top": "true", "bottom": "false", "nf": "NF", "join": "JOIN",
+    "confluence": "CR", "confluent": "CR", "termination": "SN", "terminating": "SN", "commutation": "COM",
 }
-CONNECTIVES = ("not", "and", "or", "implies", "iff")
 NO_TOKEN = {
     "!": "not is `~`, and `x != y` is `~(x = y)`",
-    "-": "not is `~`",
+    "-": "not is `~`, a step is `->`",
     "{": "a `{` has its `}`, and holds no `;`",
     ".": "after a quantifier stands its formula in parentheses: `forall x (..)`",
+    ":": "after a quantifier stands its formula in parentheses: `forall x (..)`",
+    ";": "between two formulas stands `&`, `|`, `=>` or `<=>`",
     "<": "the tokens that begin with `<` are <=> <-> <->* <<, and `x <- y` is `y -> x`",
     ">": "a `>` stands in the tokens -> ->* ->+ ->= ->! ->^ ->_ -||-> <-> <->* => <=> >> alone",
+    "*": "a `*` stands in the tokens ->* and <->* alone",
     "/": "and is `&`, or is `|`",
     "\\": "and is `&`, or is `|`",
     "_": "a name begins with a letter",
+    "'": "no quotes stand in a formula",
+    '"': "no quotes stand in a formula",
 }
 
 TOKEN = re.compile(rb"([A-Za-z][A-Za-z0-9_]*|\{[ \t\r\n!-:<-|~]*\}|\[[1-9]\]"
                    rb"|-\|\|->|<->\*?|<=>|->[*+=!^_]?|=>|<<|>>|[(),~&|=])|[ \t\r\n]+")
-RELATION = re.compile(r"=|<?-.*|>>|\[.\]")
+RELATION = re.compile(r"=|<?-.*|>>")
+INDEX = re.compile(r"\[.\]")
 BRACES = re.compile(r"[{]\s*([^\s(){}]+)\s*\(\s*(.*)")
 
 
@@ -47,6 +55,16 @@ def is_relation(token: str) -> bool:
     return RELATION.fullmatch(token) is not None
 
 
+def is_argument(token: str) -> bool:
+    return is_variable(token) or token.startswith("{")
+
+
+def ends_with_relation(tokens: list) -> bool:
+    """Whether the last token is a relation, or an index after one."""
+    rest = tokens[:-1] if tokens and INDEX.fullmatch(tokens[-1]) else tokens
+    return bool(rest) and is_relation(rest[-1])
+
+
 def names_of(formula: bytes) -> list:
     """The variables of a formula, each once."""
     return [it for it in dict.fromkeys(tokens_of(formula)) if is_variable(it)]
@@ -60,7 +78,7 @@ def ends_with_binder(tokens: list) -> bool:
     return len(rest) > 1 and is_variable(rest[-1]) and rest[-2] in BINDERS
 
 
-# ---- syntax
+# ---- syntax: the commonest cause of a token with which no formula goes on, by the tokens before it
 
 def of_word(word: str) -> list:
     """What is said of a name that stands where a formula may."""
@@ -72,22 +90,67 @@ def of_word(word: str) -> list:
     said = [f"`{word}` is a variable, after which a relation wants to stand, as in `{word} -> y`"]
     if word.isupper():
         said = [f"`{word}` is an unknown word, read as a variable"]
-    return [*said, f"the properties are {' '.join(PROPERTIES)}"]
+    return [*said, f"the properties are {' '.join(PROPERTIES)}"] if len(word) > 1 else said
 
 
-def of_term_syntax(last: str, token: str) -> list:
+def of_expression(before: list, token: str) -> list:
+    """The cause within `<<` and `>>`."""
+    if before.count("<<") == before.count(">>"):
+        return []
+    return ["between `<<` and `>>` stand an expression and two words: `<<root, one, all>>`, with one, some or any and then"
+            " root, below or all"]
+
+
+def of_arguments(before: list, token: str) -> list:
+    """The cause at the arguments of a word, or where it has none."""
+    last, front = before[-1] if before else "", before[-3:]
+    if last in ("NF", "JOIN") or last == "SN" and (is_variable(token) or token.startswith("{")):
+        return ["arguments stand in parentheses: `NF(x)`, `JOIN(x, y)`, `SN(x)`"]
+    if any(it in HAVE_ARGUMENTS for it in front) and "(" in front and ")" not in front and is_argument(last or "("):
+        return ["arguments stand in parentheses, with `,` between, each a variable or a term in braces: `JOIN(x, {a})`"]
+    word = last if last in PROPERTIES else before[-2] if INDEX.fullmatch(last) and len(before) > 1 else ""
+    if word in PROPERTIES and (token == "(" or is_variable(token) and word != "SN" and token not in CONNECTIVES):
+        return [f"`{word}` has no arguments: it is about all terms"]
+    return []
+
+
+def of_terms(before: list, token: str) -> list:
     """The cause where a term stands without braces."""
-    if token == "(" and is_relation(last):
+    last = before[-1] if before else ""
+    if token == "(" and ends_with_relation(before):
         return ["a term in a formula stands in braces: `{(f a)}`"]
-    if token == "(" and is_variable(last):
+    if token == "(" and is_variable(last) and not ends_with_binder(before):
         said = [f"`{last}` is a variable; a term of the problem stands in braces: `{{({last} ..)}}`"]
         return [*said, *of_word(last)[1:]] if last.isupper() else said
     return []
 
 
-def of_relation_syntax(last_but_one: str, last: str, token: str) -> list:
+def of_binders(before: list, token: str) -> list:
+    """The cause at a quantifier."""
+    last = before[-1] if before else ""
+    if last in BINDERS or last == "," and ends_with_binder(before[:-1]):
+        return [f"after `{last}` stands a variable" + (f"; `{token}` is a reserved word" if token in RESERVED else "")]
+    if token == "," and before[-2:-1] == ["infinite"]:
+        return ["`infinite` has one variable"]
+    if ends_with_binder(before):
+        return ["after a quantifier's variables, with `,` between, stands its formula in parentheses: `forall x, y (..)`"]
+    return []
+
+
+def of_names(before: list, token: str) -> list:
+    """The cause where a name is none that is known."""
+    last = before[-1] if before else ""
+    if token.lower() in CONNECTIVES:
+        return of_word(token)
+    return of_word(last) if is_variable(last) and not ends_with_relation(before[:-1]) else []
+
+
+def of_relations(before: list, token: str) -> list:
     """The cause where a relation or a connective doesn't go on."""
-    if is_relation(token) and is_relation(last_but_one):
+    last = before[-1] if before else ""
+    if token == "<=>" and "<=>" in before:
+        return ["`<=>` stands once, other ones in parentheses: `(F <=> G) <=> H`"]
+    if is_relation(token) and ends_with_relation(before[:-1]):
         return ["a relation has two arguments; a chain is written with `&`: `x -> y & y -> z`"]
     if is_relation(token) and last == "=":
         return ["equality is `=`"]
@@ -97,35 +160,21 @@ def of_relation_syntax(last_but_one: str, last: str, token: str) -> list:
 
 
 def of_end(before: list, token: str) -> list:
-    """The cause where the formula ends too early, or where none of the others is seen."""
-    is_open = before.count("(") > before.count(")")
+    """The cause where the formula ends too early or too late, or where none of the others is seen."""
+    is_open, last = before.count("(") > before.count(")"), before[-1] if before else ""
     if not token:
-        return ["the formula breaks off here" + (": a `(` lacks its `)`" if is_open else "")]
+        said = "the formula breaks off here" if before else "the formula is empty"
+        return [said + (": a `(` lacks its `)`" if is_open else "")]
     if token == ")" and not is_open:
         return ["this `)` has no `(`"]
+    if last == ")" or last in ("true", "false", *PROPERTIES) or INDEX.fullmatch(last) or is_argument(last):
+        return ["between two formulas stands `&`, `|`, `=>` or `<=>`"]
     return ["with this token no formula goes on (docs/FORMULAS.md has the grammar)"]
 
 
 def of_syntax(before: list, token: str) -> list:
-    """The commonest cause of a token with which no formula goes on, by the tokens before it."""
-    last_but_one, last = ("", "", *before)[-2:]
-    if not before and not token:
-        return ["the formula is empty"]
-    if of_term_syntax(last, token):
-        return of_term_syntax(last, token)
-    if ends_with_binder(before):
-        return ["after a quantifier's variables, with `,` between, stands its formula in parentheses: `forall x, y (..)`"]
-    if token.lower() in CONNECTIVES:
-        return of_word(token)
-    if token == "<=>" and "<=>" in before:
-        return ["`<=>` stands once, other ones in parentheses: `(F <=> G) <=> H`"]
-    if last in BINDERS:
-        return [f"after `{last}` stands a variable" + (f"; `{token}` is a reserved word" if token in RESERVED else "")]
-    if is_variable(last) and not is_relation(last_but_one):
-        return of_word(last)
-    if last in ("NF", "JOIN") or last in PROPERTIES and (is_variable(token) or token.startswith("{")):
-        return ["arguments stand in parentheses: `NF(x)`, `JOIN(x, y)`, `SN(x)`"]
-    return of_relation_syntax(last_but_one, last, token) or of_end(before, token)
+    causes = (of_expression, of_arguments, of_terms, of_binders, of_names, of_relations, of_end)
+    return next(said for said in (cause(before, token) for cause in causes) if said)
 
 
 # ---- bytes and braces
@@ -138,7 +187,7 @@ def of_bad_byte(formula: bytes, at: int) -> list:
         return ["indices are [1] to [9], without blanks"]
     if byte > "~":
         return ["formulas are written in ASCII: ~ & | => <=> exists forall"]
-    return [NO_TOKEN.get(byte, "no token begins so: constants and terms stand in braces, `{0}`")]
+    return [NO_TOKEN.get(byte, "no token begins so; constants and terms of the problem stand in braces: `{0}`")]
 
 
 def of_braces(text: bytes, problem: Problem) -> list:

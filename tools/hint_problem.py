@@ -117,6 +117,7 @@ class Problem:
         if term.items:
             declaration = f"(fun {name} {len(term.items) - 1})"
             return [f"`{name}` has arguments, and no `{declaration}` before the rules declares it{near}"]
+        near = near or ", and no variable stands in braces"
         return [f"`{name}` isn't declared by a `fun`{near}"] if is_ground else []
 
     def term_faults(self, term: Form, is_ground: bool) -> list:
