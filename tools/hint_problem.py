@@ -182,6 +182,8 @@ def of_no_format(call: Call, problem: Problem) -> list:
                 "    (format TRS) (fun f 1) (fun a 0) (rule (f x) a)"]
     if first.head == "format" and call.command != "synth":
         return [*said, "the format is `(format TRS)` or, for 1 to 9 systems, `(format TRS :number W)`"]
+    if re.match("[#%/]", first.word):
+        return [*said, "a comment begins with `;`"]
     return [*said, begins + "; this form stands before it" * any(it.head == "format" for it in problem.forms[1:])]
 
 
@@ -250,15 +252,17 @@ def of_bad_rule(form: Form, problem: Problem) -> list:
     return [f"a rule is two terms, `(rule LEFT RIGHT)`; here stand{'s' if len(sides) == 1 else ''} {len(sides)}"]
 
 
-def of_certificate(fault: str, problem: Problem) -> list:
+def of_certificate(fault: str, call: Call, problem: Problem) -> list:
+    """What is said of a line `REFUSED certificate form I FAULT`."""
     _, number, kind = fault.split(" ", 2)
+    writer = "witness" if call.command == "confirm" else "decide"
     if problem.forms and int(number) >= len(problem.forms):
         return ["here the input ends, and the certificate after the problem is missing or breaks off:",
-                "    (cat FILE; ./fort decide --certificate FORMULA < FILE) | ./fort check FORMULA"]
+                f"    (cat FILE; ./fort {writer} --certificate FORMULA < FILE) | ./fort {call.command} FORMULA"]
     said = {
         "bad form": "this is no form of a certificate (docs/CERTIFICATES.md)",
         "bad number": "here a number is wanted",
-        "version": "this version of certificates isn't one for such a problem",
+        "version": f"`{call.command}` reads what `{writer} --certificate` writes of such a problem, and this is another version",
     }[kind]
     return [*problem.line_of(int(number)), said]
 
