@@ -42,8 +42,8 @@ function reckon_chains(   crate, count, dep, i, is_new) {
     } while (is_new)
 }
 
-# What is left by the table behind these crates.
-function left_behind(crates,   count, word, i, gone, crate, work, longest) {
+# What is left by the table after these crates.
+function left_after(crates,   count, word, i, gone, crate, work, longest) {
     count = split(crates, word, " ")
     for (i = 1; i <= count; i++)
         gone[word[i]] = 1
@@ -60,8 +60,8 @@ BEGIN {
     read_table()
     read_list()
     reckon_chains()
-    left = left_behind(checked)
-    done = left_behind(kept) - left
+    left = left_after(checked)
+    done = left_after(kept) - left
     # At first the table is believed, by and by the clock.
     printf "%d\n", left * (seconds / 60 + 5) / (done + 5) + 0.5
 }

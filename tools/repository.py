@@ -53,7 +53,7 @@ def has_code(crate: str) -> bool:
 
 
 def in_order(items, below) -> list:
-    """The items and all that is below them, each behind what is below it, and else as they come."""
+    """The items and all that is below them, each after what is below it, and else as they come."""
     order = {}
 
     def visit(item):

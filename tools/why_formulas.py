@@ -82,7 +82,7 @@ class Parser:
     def whole(self) -> Node:
         node = self.formula()
         if self.sees():
-            raise Wrong(f"the formula can't be read: {self.sees()!r} stands behind it")
+            raise Wrong(f"the formula can't be read: {self.sees()!r} stands after it")
         return node
 
     def formula(self) -> Node:

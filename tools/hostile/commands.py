@@ -19,6 +19,7 @@ FORK = "(format TRS) (fun a 0) (fun b 0) (fun g 2) (rule a b)\n"
 RING = "(format TRS) (fun a 0) (fun b 0) (fun c 0) (fun d 0) (rule b a) (rule b c) (rule c b) (rule c d)\n"
 FIVE = ("(format TRS) (fun a 0) (fun b 0) (fun c 0) (fun f 2) (fun g 1) "
         "(rule (f a a) b) (rule a c) (rule (f c x) (g b)) (rule (g b) a) (rule b c)\n")
+WIDE_FAMILY = "(format TRS) (fun a 0) (fun b 0) (fun f 3)\n"
 TWO = "(format TRS :number 2) (fun a 0) (fun b 0) (fun f 1) (rule a b) (rule (f x) b :index 2)\n"
 
 # ---- formulas
@@ -44,9 +45,9 @@ class Command:
     problem: str
     status: int
     first_line: str
-    edit: tuple = ()  # `old, new`: the program's own certificate stands behind the problem, with old replaced by new
+    edit: tuple = ()  # `old, new`: the program's own certificate stands after the problem, with old replaced by new
     flags: tuple = ()  # with which that certificate is written
-    length: int = 0  # blanks stand behind all, up to so many bytes
+    length: int = 0  # blanks stand after all, up to so many bytes
     pieces: tuple = BY_BYTES
 
     def input(self, certificate: bytes) -> bytes:
@@ -55,6 +56,11 @@ class Command:
             old, new = (part.encode() for part in self.edit)
             certificate = certificate.replace(old, new, 1)
         return (self.problem.encode() + certificate).ljust(self.length)
+
+    def writer(self) -> tuple:
+        """The words with which the certificate is written that this command checks."""
+        command = "witness" if self.words[0] == "confirm" else "decide"
+        return (command, "--certificate", *self.flags, *self.words[1:])
 
     def shown(self) -> str:
         """The words as a shell takes them; one that is no text as Python writes it."""
@@ -91,6 +97,15 @@ def checked_merges(status: int, first_line: str, problem: str, formula: str, old
     return checked(status, first_line, problem, formula, old, new, flags=("--reduce",))
 
 
+def written_open(first_line: str, problem: str, *words: str) -> Command:
+    return Command("witness --certificate", ("witness", "--certificate", *words), problem, 0, first_line)
+
+
+def confirmed(status: int, first_line: str, problem: str, formula: str, old: str = "", new: str = "", flags: tuple = ()) -> Command:
+    """The certificate is the one that the program writes for the open formula, with `old` replaced by `new`."""
+    return Command("confirm", ("confirm", formula), problem, status, first_line, edit=(old, new), flags=flags)
+
+
 def asks_nothing(*words: str | bytes) -> Command:
     return Command("no request", words, "", 2, "usage: fort ")
 
@@ -107,8 +122,8 @@ def problem_refused(fault: str, problem: str) -> Command:
     return Command("problem refused", ("decide", "CR"), problem, 3, f"REFUSED problem {fault}")
 
 
-def certificate_refused(fault: str, forms: str) -> Command:
-    return Command("certificate refused", ("check", "CR"), ONE + forms, 3, f"REFUSED certificate {fault}")
+def certificate_refused(fault: str, forms: str, *words: str) -> Command:
+    return Command("certificate refused", words or ("check", "CR"), ONE + forms, 3, f"REFUSED certificate {fault}")
 
 
 def too_long(text: str, *words: str) -> Command:
@@ -169,6 +184,23 @@ ANSWERS = [
     checked(1, "REJECTED form 5 place 0 due", GROWS, MANY, "closure star", "closure conv"),
     checked(1, "REJECTED form 6 place 15 short", GROWS, MANY, " 7 8)", " 7)"),
     checked(1, "REJECTED form 6 place 1 label", GROWS, MANY, "(part 0 0 1 ", "(part 0 0 0 "),
+    written_open("(certificate 4 found)", FALLS, "~NF(x)"),
+    written_open("(certificate 4 found)", FORK, "x -||-> y & ~(x ->= y)"),
+    written_open("(certificate 4 found)", FORK, STABLE),
+    written_open("(certificate 4 found)", RING, "~SN(x)"),
+    written_open("(certificate 4 found)", FIVE, "--reduce", TWICE),
+    written_open("(certificate 4 empty)", FALLS, "x -> y & y -> x"),
+    written_open("(certificate 4 empty)", ONE, "--reduce", "~NF(x)"),
+    confirmed(0, "CERTIFIED WITNESS", FALLS, "~NF(x)"),
+    confirmed(0, "CERTIFIED WITNESS", FORK, "x -||-> y & ~(x ->= y)"),
+    confirmed(0, "CERTIFIED WITNESS", FORK, STABLE),
+    confirmed(0, "CERTIFIED WITNESS", RING, "~SN(x)"),
+    confirmed(0, "CERTIFIED WITNESS", FIVE, TWICE, flags=("--reduce",)),
+    confirmed(0, "CERTIFIED NONE", FALLS, "x -> y & y -> x"),
+    confirmed(0, "CERTIFIED NONE", ONE, "~NF(x)", flags=("--reduce",)),
+    confirmed(1, "REJECTED form 7 place 0 node", FALLS, "~NF(x)", "node (1) 0", "node (1) 1"),
+    confirmed(1, "REJECTED form 6 place 0 due", FALLS, "~NF(x)", "found", "empty"),
+    confirmed(1, "REJECTED form 5 place 2 label", FALLS, "~NF(x)", " 0 1 1)", " 0 1 0)"),
     Command("sample", ("sample", "3"), "", 0, "sample 3"),
 ]
 
@@ -220,8 +252,13 @@ REFUSALS = [
     certificate_refused("form 2 bad form", "(certificate 1)"),
     certificate_refused("form 3 bad number", "(certificate 1 yes) (part 0 00)"),
     certificate_refused("form 2 version", "(certificate 9 yes)"),
+    certificate_refused("form 2 version", "(certificate 1 found)", "confirm", "NF(x)"),
+    certificate_refused("form 3 bad form", "(certificate 4 found) (node 0)", "confirm", "NF(x)"),
+    certificate_refused("form 3 bad number", "(certificate 4 found) (node (0) 00)", "confirm", "NF(x)"),
+    Command("family refused", ("synth", "1", "2", "CR"), WIDE_FAMILY, 3, "REFUSED family too large"),
     too_long("", "decide", "CR"),
     too_long("\x01", "check", "CR"),
+    too_long("", "confirm", "NF(x)"),
 ]
 
 COMMANDS = ANSWERS + REFUSALS

@@ -7,7 +7,7 @@
 //   HOSTILE_ERROR=E        errno of a call that fails; 0: it moves nothing, and is no error
 //   HOSTILE_TALLY=FILE     a file as long as `struct tally`, into which the calls are counted as they come
 //
-// Only what the program does is counted and refused, not what the loader and the C library do before and behind it: the C
+// Only what the program does is counted and refused, not what the loader and the C library do before and after it: the C
 // library starts a program by __libc_start_main, which is handed the program's main. It is handed ours in its place, so all
 // counts begin with the first call of main, and end when main returns. For glibc, and for programs of one thread.
 #define _GNU_SOURCE
