@@ -12,23 +12,25 @@ ghost use Rattle.fort_certificate_theory.specs.PartRules.{project_local, many_lo
 ghost use Rattle.fort_context_closure.specs.AtomLabelsView.{word_count};
 ghost use Rattle.fort_check_steps.specs.Room.{HasRoom, HasMergeRoom, HasLabelRoom, IsAsRoomy};
 ghost use Rattle.fort_check_steps.specs.Marks.{HasMarkRoom};
+ghost use Rattle.fort_check_steps.specs.Turned.{turned_table};
 ghost use Rattle.fort_certificate_theory.specs.Made.{MadeSoFar};
 ghost use Rattle.fort_cert_checker.specs.AtomPlans.{atom_local};
 ghost use Rattle.fort_cert_checker.specs.Joins.{AreJoined, joined_local};
-ghost use Rattle.fort_cert_checker.specs.OperandLists.{FitsList};
+ghost use Rattle.fort_cert_checker.specs.OperandLists.{FitsList, HasTableRoom};
 ghost use Rattle.fort_cert_checker.specs.Pasts.{steps_of, IsAnswerAt, IsTableAt, IsPartStep, IsTableDue, IsTableStep};
 
 use crate::past::{Past, factor, laid_list, lay};
 use crate::plan::{OperandPlan, Plan, Source, Work};
 use fort_check_steps::{
-    Failure, LabelRoom, MarkRoom, PartRoom, Projected, check_part, check_part_by_entry, put_pure,
+    Failure, LabelRoom, MarkRoom, PartRoom, PartTable, Projected, check_part, check_part_by_entry,
+    put_pure,
 };
 use fort_connectives::Op;
 use fort_context_closure::{AtomLabels, SignedAtom};
 use fort_findings::Count;
 use fort_infinity::Many;
 use fort_products::Both;
-use fort_terms::System;
+use fort_terms::{Signature, System};
 
 /// Holds the targets of an atom.
 fn check_atom(
@@ -108,6 +110,44 @@ fn check_product(
     )
 }
 
+/// Holds the targets of the projection of a body whose pure states in the column are these.
+fn hold_projection(
+    body: &PartTable<'_>,
+    column: usize,
+    states: &[u32],
+    signature: &Signature,
+    targets: &[u32],
+    room: &mut PartRoom,
+    scratch: &mut LabelRoom,
+) -> Result<(), Failure>
+    requires column { column < (turned_table body.now).columns }
+    requires another { 1 < (turned_table body.now).columns }
+    requires pure { ArePure (turned_table body.now) column states.now }
+    requires signature { (turned_table body.now).signature ≡ signature.now }
+    requires list { HasTableRoom body.now scratch.old.lists.first scratch.old.lists.lay }
+    requires few { length targets.now < 2 ^ 32 }
+    requires room { HasRoom targets.now room.old }
+    requires scratch { HasLabelRoom (words_for (length (turned_table body.now).presences) + 2)
+        targets.now scratch.old }
+    ensures step { IsPartStep (project_local (turned_table body.now) column) targets.now room.new
+        result }
+    ensures room { HasRoom targets.now room.new }
+    ensures merge_room { HasMergeRoom targets.now room.old → HasMergeRoom targets.now room.new }
+    ensures scratch { IsAsRoomy scratch.old scratch.new }
+{
+    body.lay(&mut scratch.lists.first, &mut scratch.lists.lay);
+    let rule = Projected::new(body, column, states, &scratch.lists.first);
+    check_part(
+        &rule,
+        signature,
+        targets,
+        room,
+        &mut scratch.rows,
+        &mut scratch.out,
+        &mut scratch.lists.lay,
+    )
+}
+
 /// Holds the targets of a projection.
 fn check_projection(
     past: &Past<'_>,
@@ -137,16 +177,14 @@ fn check_projection(
     let body = past.table(source);
     marks.states.clear();
     put_pure(&body, column, &mut marks.states);
-    body.lay(&mut scratch.lists.first, &mut scratch.lists.lay);
-    let rule = Projected::new(&body, column, &marks.states, &scratch.lists.first);
-    check_part(
-        &rule,
+    hold_projection(
+        &body,
+        column,
+        &marks.states,
         past.signature,
         targets,
         room,
-        &mut scratch.rows,
-        &mut scratch.out,
-        &mut scratch.lists.lay,
+        scratch,
     )
 }
 
