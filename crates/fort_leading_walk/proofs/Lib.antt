@@ -1,0 +1,3 @@
+pub mod NewestLaws
+pub mod ChoiceLaws
+pub mod LeadingChoices
