@@ -12,7 +12,7 @@ over_cond true q ks rest = refl
 over_cond false q ks rest = refl
 
 -- of the lists that begin with a leader those are left whose other states lead
-front_leads : (lead : Leaders) (f : TupleSymbol) (j q : ℕ) (xs : List (List ℕ)) → opens_class lead f j q ≡ true → filter (all_lead lead f j) (map (λ ks. q ∷ ks) xs) ≡ map (λ ks. q ∷ ks) (filter (all_lead lead f (suc j)) xs)
+pub front_leads : (lead : Leaders) (f : TupleSymbol) (j q : ℕ) (xs : List (List ℕ)) → opens_class lead f j q ≡ true → filter (all_lead lead f j) (map (λ ks. q ∷ ks) xs) ≡ map (λ ks. q ∷ ks) (filter (all_lead lead f (suc j)) xs)
 front_leads lead f j q [] e = refl
 front_leads lead f j q (ks ∷ xs) e =
     let others = all_lead lead f (suc j) ks in
@@ -27,7 +27,7 @@ front_none lead f j q (ks ∷ xs) e =
     ap (λ b. cond (b && all_lead lead f (suc j) ks) ((q ∷ ks) ∷ rest) rest) e ∙ front_none lead f j q xs e
 
 -- by the states for the first place
-by_first : (lead : Leaders) (f : TupleSymbol) (ps : List ℕ) (m j : ℕ) (wants : List ℕ) (has_newest : Bool) → ((b : Bool) → choices m (leader_states lead f ps m (suc j) wants) b ≡ filter (all_lead lead f (suc j)) (kid_lists ps m wants b)) → (qs : List ℕ) → choices_from m (leader_states lead f ps m (suc j) wants) has_newest (filter (opens_class lead f j) qs) ≡ filter (all_lead lead f j) (kid_lists_from ps m wants has_newest qs)
+pub by_first : (lead : Leaders) (f : TupleSymbol) (ps : List ℕ) (m j : ℕ) (wants : List ℕ) (has_newest : Bool) → ((b : Bool) → choices m (leader_states lead f ps m (suc j) wants) b ≡ filter (all_lead lead f (suc j)) (kid_lists ps m wants b)) → (qs : List ℕ) → choices_from m (leader_states lead f ps m (suc j) wants) has_newest (filter (opens_class lead f j) qs) ≡ filter (all_lead lead f j) (kid_lists_from ps m wants has_newest qs)
 by_first lead f ps m j wants has_newest h [] = refl
 by_first lead f ps m j wants has_newest h (q ∷ qs) =
     let rest = leader_states lead f ps m (suc j) wants in
