@@ -12,8 +12,8 @@ ghost use Rattle.fort_cert_checker.specs.OutcomeView.{as_outcome};
 use fort_cert_checker::{Checker, Rejected};
 use fort_formulas::Core;
 use fort_steps::Certificate;
-use fort_terms::{Memory, System};
-use std::alloc::Global;
+use fort_terms::System;
+use std::alloc::{AllocError, Global};
 
 /// The verdict of a certificate of a closed core formula, or the first form that fails.
 pub fn verdict(
@@ -21,7 +21,7 @@ pub fn verdict(
     system: &System,
     core: &Core,
     certificate: &Certificate,
-) -> Result<Result<bool, Rejected>, Memory>
+) -> Result<Result<bool, Rejected>, AllocError>
     requires decided { IsDecided system.now (as_core core.now) }
     requires closed { IsClosed (as_core core.now) }
     ensures outcome { IfOk result (λ r. HasOutcome system.now (as_core core.now)

@@ -6,12 +6,11 @@ ghost use Rattle.fort_callers.specs.NodeStates.{over_states};
 
 use fort_lockstep::Dta;
 use fort_table::{Dag, Table};
-use fort_terms::Memory;
 use fort_tuple_symbols::Row;
-use std::alloc::Global;
+use std::alloc::{AllocError, Global};
 
 /// The state of a node's tuple, where the nodes before it have these states.
-fn state_over(alloc: Global, table: &Dta, node: &Row, states: &[u32]) -> Result<u32, Memory>
+fn state_over(alloc: Global, table: &Dta, node: &Row, states: &[u32]) -> Result<u32, AllocError>
     requires before { (j : ℕ) → j < length node.now.kids
         → slice_index_or node.now.kids j 0 < length states.now }
     requires entry { IsTableEntry (listed_table table.now) (over_states states.now node.now) }
@@ -26,7 +25,7 @@ fn state_over(alloc: Global, table: &Dta, node: &Row, states: &[u32]) -> Result<
 }
 
 /// The state of each tuple of a dag.
-pub fn states_of(alloc: Global, table: &Dta, dag: &Dag) -> Result<Vec<u32>, Memory>
+pub fn states_of(alloc: Global, table: &Dta, dag: &Dag) -> Result<Vec<u32>, AllocError>
     requires nodes { AreNodes table.now.signature table.now.columns dag.now }
     requires few { length dag.now < 2 ^ 32 }
     ensures { IfOk result (λ states. states.items

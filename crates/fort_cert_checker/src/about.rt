@@ -17,8 +17,7 @@ ghost use Rattle.fort_cert_checker.specs.SameDue.{same_due};
 use fort_dues::DueStep;
 use fort_findings::{ClosureEntry, Count, Which};
 use fort_steps::Step;
-use fort_terms::Memory;
-use std::alloc::Global;
+use std::alloc::{AllocError, Global};
 
 fn is_which(which: Which, other: Which) -> bool
     ensures { result ≡ same_which (as_which which) (as_which other) }
@@ -147,7 +146,11 @@ pub(crate) fn is_merged(steps: &[Step], k: u32) -> bool
 }
 
 /// For each part whether it is merged.
-pub(crate) fn merged_parts(alloc: Global, steps: &[Step], parts: usize) -> Result<Vec<bool>, Memory>
+pub(crate) fn merged_parts(
+    alloc: Global,
+    steps: &[Step],
+    parts: usize,
+) -> Result<Vec<bool>, AllocError>
     requires { parts < 2 ^ 32 }
     ensures { IfOk result (λ merges. AreMergesMade (map as_step steps.now) parts merges.items) }
 {

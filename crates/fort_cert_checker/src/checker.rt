@@ -22,8 +22,8 @@ use crate::step_checker::StepChecker;
 use fort_check_steps::Reason;
 use fort_formulas::Core;
 use fort_steps::Certificate;
-use fort_terms::{Memory, System};
-use std::alloc::Global;
+use fort_terms::System;
+use std::alloc::{AllocError, Global};
 
 /// Checks a certificate of a closed formula, in room that is taken before.
 #[derive(Drop)]
@@ -64,7 +64,7 @@ impl<'a> Checker<'a> {
         system: &'a System,
         core: &'a Core,
         certificate: &'a Certificate,
-    ) -> Result<Checker<'a>, Memory>
+    ) -> Result<Checker<'a>, AllocError>
         requires decided { IsDecided system.now (as_core core.now) }
         requires closed { logic.IsClosed (as_core core.now) }
         ensures { IfOk result (IsCheckerOf system.now (as_core core.now)

@@ -30,7 +30,7 @@ use fort_infinity::local::many_width;
 use fort_outline::Outline;
 use fort_projections::local::project_width;
 use fort_steps::Step;
-use fort_terms::{Memory, System};
+use fort_terms::System;
 use std::alloc::{AllocError, Global};
 
 /// What a closure is checked by, with a bit for each of its pairs.
@@ -45,7 +45,7 @@ fn closure_plan(
     system: &System,
     which: Which,
     index: u32,
-) -> Result<ClosurePlan, Memory>
+) -> Result<ClosurePlan, AllocError>
     requires { IsIndexOf system.now.rules index }
     ensures { IfOk result (IsClosurePlan system.now (as_which which) index) }
 {
@@ -55,7 +55,7 @@ fn closure_plan(
     Ok(ClosurePlan { rules, listed })
 }
 
-fn plan_for(alloc: Global, system: &System, due: DueStep) -> Result<Option<ClosurePlan>, Memory>
+fn plan_for(alloc: Global, system: &System, due: DueStep) -> Result<Option<ClosurePlan>, AllocError>
     requires { (which : listed_closures.Which) (index : ℕ)
         → as_due due ≡ definitions.OfClosure which index → IsIndexOf system.now.rules index }
     ensures { IfOk result (IsClosureFor system.now (as_due due)) }
@@ -74,7 +74,7 @@ pub(crate) fn closure_plans(
     alloc: Global,
     system: &System,
     dues: &[DueStep],
-) -> Result<Vec<Option<ClosurePlan>>, Memory>
+) -> Result<Vec<Option<ClosurePlan>>, AllocError>
     requires { (which : listed_closures.Which) (index : ℕ)
         → Contains (map as_due dues.now) (definitions.OfClosure which index)
         → IsIndexOf system.now.rules index }
@@ -94,7 +94,7 @@ pub(crate) fn plans_of(
     system: &System,
     steps: &[Step],
     outline: &Outline,
-) -> Result<Vec<Plan>, Memory>
+) -> Result<Vec<Plan>, AllocError>
     requires outline { (f : theory.Core) × IsOutlineOf f outline.now }
     requires few { length outline.now.roots.items < 2 ^ 32 }
     requires fit { (f : theory.Core) → Contains (parts_in outline.now) f
@@ -138,7 +138,11 @@ fn width_of(steps: &[Step], plan: &Plan) -> usize
 }
 
 /// The room of each part.
-pub(crate) fn rooms_of(alloc: Global, steps: &[Step], parts: usize) -> Result<Vec<PartRoom>, Memory>
+pub(crate) fn rooms_of(
+    alloc: Global,
+    steps: &[Step],
+    parts: usize,
+) -> Result<Vec<PartRoom>, AllocError>
     requires { parts < 2 ^ 32 }
     ensures { IfOk result (λ rooms. AreRoomsMade (map as_step steps.now) parts rooms.items) }
 {
@@ -221,7 +225,7 @@ pub(crate) fn scratch_for(
     alloc: Global,
     steps: &[Step],
     plans: &[Plan],
-) -> Result<LabelRoom, Memory>
+) -> Result<LabelRoom, AllocError>
     requires few { length plans.now < 2 ^ 32 }
     requires few_targets { HasFewTargets (map as_step steps.now) }
     ensures { IfOk result (IsScratchMade (map as_step steps.now) plans.now (length plans.now)) }
@@ -236,7 +240,7 @@ pub(crate) fn scratch_for(
     LabelRoom::new(alloc, needs)
 }
 
-fn mark_room(alloc: Global, states: usize, marks: usize) -> Result<MarkRoom, Memory>
+fn mark_room(alloc: Global, states: usize, marks: usize) -> Result<MarkRoom, AllocError>
     ensures { IfOk result (HasMarkRoom states marks) }
 {
     Ok(MarkRoom {
@@ -245,7 +249,7 @@ fn mark_room(alloc: Global, states: usize, marks: usize) -> Result<MarkRoom, Mem
     })
 }
 
-fn marks_for(alloc: Global, steps: &[Step], plan: &Plan) -> Result<MarkRoom, Memory>
+fn marks_for(alloc: Global, steps: &[Step], plan: &Plan) -> Result<MarkRoom, AllocError>
     requires { HasFewTargets (map as_step steps.now) }
     ensures { IfOk result (IsMarkRoomFor (map as_step steps.now) plan.now.work) }
 {
@@ -261,7 +265,7 @@ pub(crate) fn mark_rooms(
     alloc: Global,
     steps: &[Step],
     plans: &[Plan],
-) -> Result<Vec<MarkRoom>, Memory>
+) -> Result<Vec<MarkRoom>, AllocError>
     requires { HasFewTargets (map as_step steps.now) }
     ensures { IfOk result (λ rooms. AreMarksMade (map as_step steps.now) plans.now
         (length plans.now) rooms.items) }

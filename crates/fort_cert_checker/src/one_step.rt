@@ -31,7 +31,7 @@ use fort_terms::System;
 
 /// What a check reads.
 #[derive(Clone, Copy)]
-pub(crate) struct Given<'a> {
+pub(crate) struct CheckSources<'a> {
     pub system: &'a System,
     pub steps: &'a [Step],
     pub plans: &'a [Plan],
@@ -54,7 +54,7 @@ fn check_pairs(plan: &mut Option<ClosurePlan>, entries: &[ClosureEntry]) -> Resu
 
 /// A step that names a part.
 fn check_own(
-    given: &Given<'_>,
+    given: &CheckSources<'_>,
     plan: &Plan,
     step: &Step,
     front: &[PartRoom],
@@ -112,7 +112,7 @@ fn check_own(
 
 /// Checks the step at a place, which is the one that is due there.
 pub(crate) fn check_step(
-    given: &Given<'_>,
+    given: &CheckSources<'_>,
     place: usize,
     closures: &mut [Option<ClosurePlan>],
     rooms: &mut [PartRoom],

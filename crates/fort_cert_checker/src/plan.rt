@@ -24,8 +24,8 @@ use fort_findings::{ClosureEntry, Count, Which};
 use fort_outline::{Leaf, Outline, Root, column_of, places_among};
 use fort_relations::Rel;
 use fort_steps::Step;
-use fort_terms::{Memory, System};
-use std::alloc::Global;
+use fort_terms::System;
+use std::alloc::{AllocError, Global};
 
 /// Where the answer to a formula is: that of a part's step, under so many negations.
 #[derive(Clone, Copy)]
@@ -113,7 +113,12 @@ fn bound_column(outline: &Outline, n: u32, f: usize) -> usize
 }
 
 /// Operand `f` of part `k`, which has all its columns.
-fn operand_plan(alloc: Global, outline: &Outline, k: usize, f: usize) -> Result<OperandPlan, Memory>
+fn operand_plan(
+    alloc: Global,
+    outline: &Outline,
+    k: usize,
+    f: usize,
+) -> Result<OperandPlan, AllocError>
     requires outline { (g : theory.Core) × IsOutlineOf g outline.now }
     requires few { length outline.now.roots.items < 2 ^ 32 }
     requires whole { k < length outline.now.roots.items }
@@ -138,7 +143,7 @@ fn product_work(
     op: Op,
     first: usize,
     second: usize,
-) -> Result<Work, Memory>
+) -> Result<Work, AllocError>
     requires outline { (g : theory.Core) × IsOutlineOf g outline.now }
     requires few { length outline.now.roots.items < 2 ^ 32 }
     requires within { k < length outline.now.roots.items }
@@ -173,7 +178,7 @@ fn relation_labels(
     index: u32,
     x: u32,
     y: u32,
-) -> Result<AtomLabels, Memory>
+) -> Result<AtomLabels, AllocError>
     requires { IsIndexOf system.now.rules index }
     ensures { IfOk result (IsAtomPlan system.now (map as_step steps.now)
         (theory.Leaf (theory.Related (as_rel rel) index x y))) }
@@ -188,7 +193,7 @@ fn atom_labels(
     system: &System,
     steps: &[Step],
     leaf: &Leaf,
-) -> Result<AtomLabels, Memory>
+) -> Result<AtomLabels, AllocError>
     requires over { IsAtomOver system.now (as_atom leaf.now) }
     requires narrow { HasManyRootsIn (as_atom leaf.now) → ⊥ }
     ensures { IfOk result (IsAtomPlan system.now (map as_step steps.now)
@@ -213,7 +218,7 @@ fn work_of(
     steps: &[Step],
     outline: &Outline,
     k: usize,
-) -> Result<Work, Memory>
+) -> Result<Work, AllocError>
     requires outline { (g : theory.Core) × IsOutlineOf g outline.now }
     requires few { length outline.now.roots.items < 2 ^ 32 }
     requires within { k < length outline.now.roots.items }
@@ -246,7 +251,7 @@ impl Plan {
         steps: &[Step],
         outline: &Outline,
         k: usize,
-    ) -> Result<Plan, Memory>
+    ) -> Result<Plan, AllocError>
         requires outline { (g : theory.Core) × IsOutlineOf g outline.now }
         requires few { length outline.now.roots.items < 2 ^ 32 }
         requires within { k < length outline.now.roots.items }

@@ -20,7 +20,7 @@ use crate::making::{
     ClosurePlan, closure_plans, list_of, mark_rooms, plans_of, rooms_of, scratch_for,
 };
 use crate::numbers::has_all_numbers;
-use crate::one_step::{Given, check_step};
+use crate::one_step::{CheckSources, check_step};
 use crate::past::Past;
 use crate::plan::{Plan, Source, source_of};
 use crate::rejected::{Rejected, rejected_at};
@@ -30,7 +30,7 @@ use fort_formulas::Core;
 use fort_outline::Outline;
 use fort_steps::Step;
 use fort_target_lists::{LayRoom, TargetList};
-use fort_terms::{Memory, System};
+use fort_terms::System;
 use std::alloc::{AllocError, Global};
 
 /// Checks the steps of a certificate, in room that is taken before.
@@ -68,7 +68,7 @@ impl<'a> StepChecker<'a> {
         core: &Core,
         first: u32,
         steps: &'a [Step],
-    ) -> Result<StepChecker<'a>, Memory>
+    ) -> Result<StepChecker<'a>, AllocError>
         requires { IsDecided system.now (as_core core.now) }
         ensures { IfOk result (IsStepCheckerOf system.now (as_core core.now) first
             (map as_step steps.now)) }
@@ -127,7 +127,7 @@ impl<'a> StepChecker<'a> {
         if !is_about(step, self.dues[place]) {
             return failed(0, Reason::Due);
         }
-        let given = Given {
+        let given = CheckSources {
             system: self.system,
             steps: self.steps,
             plans: &self.plans,
@@ -196,7 +196,7 @@ impl<'a> StepChecker<'a> {
     }
 
     /// Room for the list of the formula's table.
-    pub fn whole_room(&self, alloc: Global) -> Result<WholeRoom, Memory>
+    pub fn whole_room(&self, alloc: Global) -> Result<WholeRoom, AllocError>
         requires { (system : PatternSystem) × (f : theory.Core) × (first : ℕ)
             × (ss : List certificates.Step) × IsStepCheckerOf system f first ss self.now }
         ensures { IfOk result (λ room. FitsWhole self.now room.list room.lay) }

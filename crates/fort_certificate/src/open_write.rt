@@ -17,7 +17,7 @@ use crate::words::push_digits;
 use crate::write::{push_numbers, push_steps};
 use fort_steps::{Claim, Step};
 use fort_table::Dag;
-use fort_terms::{Memory, Sym};
+use fort_terms::Sym;
 use fort_tuple_symbols::Row;
 use std::alloc::{AllocError, Global};
 
@@ -102,7 +102,7 @@ fn front(alloc: Global, claim: Claim, steps: &[Step]) -> Result<Vec<u8>, AllocEr
 }
 
 /// The text of a certificate of an open formula, with the nodes that are found, or that there are none.
-pub fn open_text(alloc: Global, steps: &[Step], found: Option<&Dag>) -> Result<Vec<u8>, Memory>
+pub fn open_text(alloc: Global, steps: &[Step], found: Option<&Dag>) -> Result<Vec<u8>, AllocError>
     requires few { IfSome found (λ dag. length dag.now < 2 ^ 32) }
     ensures found { IfOk result (λ text. IfSome found.entry (λ dag.
         IsTextFor certificates.Found (map as_step steps.now) dag.now text.items)) }

@@ -14,14 +14,14 @@ ghost use Rattle.fort_check_merges.specs.KeptTargets.{kept_targets};
 
 use crate::classes::check_classes;
 use crate::entries::check_entries;
-use crate::given::Given;
+use crate::given::GivenTable;
 use crate::kept::keep;
 use fort_check_steps::{Failure, LabelRoom, PartRoom};
 use fort_terms::Signature;
 
 /// Checks the targets of all entries, by a list of them. What is right leaves the targets of the entries over classes.
 fn check_targets(
-    given: &Given<'_>,
+    given: &GivenTable<'_>,
     scratch: &mut LabelRoom,
     merged: &mut Vec<u32>,
 ) -> Result<(), Failure>
@@ -83,7 +83,7 @@ pub fn check_merge(
     ensures merge_room { (qs : List ℕ) → HasMergeRoom qs room.old → HasMergeRoom qs room.new }
     ensures scratch { IsAsRoomy scratch.old scratch.new }
 {
-    let given = Given {
+    let given = GivenTable {
         signature,
         columns,
         presences: room.presences.as_slice(),

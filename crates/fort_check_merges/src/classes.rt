@@ -5,11 +5,11 @@ ghost use Rattle.fort_check_merges.specs.GivenMerges.{table_in, HasTable, HasSta
 ghost use Rattle.fort_check_merges.specs.MergeAnswers.{IsAnswer};
 ghost use Rattle.fort_check_merges.specs.Leaders.{AreLeadersTo, AreClassed};
 
-use crate::given::Given;
+use crate::given::GivenTable;
 use fort_check_steps::{Failure, Reason, failed};
 
 /// Whether a state has a right class, where those before it have. The first state of a new class goes behind those of the others.
-fn has_right_class(given: &Given<'_>, q: usize, leaders: &mut Vec<u32>) -> bool
+fn has_right_class(given: &GivenTable<'_>, q: usize, leaders: &mut Vec<u32>) -> bool
     requires states { HasStates given.now }
     requires state { q < length given.now.classes.now }
     requires leaders { AreLeadersTo given.now.classes.now q leaders.old.items }
@@ -34,7 +34,7 @@ fn has_right_class(given: &Given<'_>, q: usize, leaders: &mut Vec<u32>) -> bool
 }
 
 /// Puts the first state of each class of as many classes as states, or finds the first state that has no right class.
-fn check_states(given: &Given<'_>, leaders: &mut Vec<u32>) -> Result<(), Failure>
+fn check_states(given: &GivenTable<'_>, leaders: &mut Vec<u32>) -> Result<(), Failure>
     requires states { HasStates given.now }
     requires empty { leaders.old.items ≡ [] }
     requires room { length given.now.classes.now ≤ vec_capacity leaders.old }
@@ -54,7 +54,7 @@ fn check_states(given: &Given<'_>, leaders: &mut Vec<u32>) -> Result<(), Failure
 }
 
 /// Puts the first state of each class, or finds that there are not as many classes as states, or the first state that has no right class.
-pub fn check_classes(given: &Given<'_>, leaders: &mut Vec<u32>) -> Result<(), Failure>
+pub fn check_classes(given: &GivenTable<'_>, leaders: &mut Vec<u32>) -> Result<(), Failure>
     requires table { HasTable given.now }
     requires room { length given.now.presences.now ≤ vec_capacity leaders.old }
     ensures classes { OnOk result (AreClassed (table_in given.now) given.now.classes.now

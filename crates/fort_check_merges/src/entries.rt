@@ -9,7 +9,7 @@ ghost use Rattle.fort_check_merges.specs.MergeAnswers.{IsAnswer};
 ghost use Rattle.fort_check_merges.specs.Leaders.{AreClassed, AreLeadersTo};
 ghost use Rattle.fort_check_merges.specs.KeptTargets.{kept_target, kept_targets};
 
-use crate::given::Given;
+use crate::given::GivenTable;
 use fort_check_steps::{Failure, Reason, failed};
 use fort_entry_walk::Entries;
 use fort_target_lists::TargetList;
@@ -32,7 +32,7 @@ fn put_leaders(kids: &[u32], classes: &[u32], leaders: &[u32], states: &mut [u32
 /// Whether an entry's target has the class of that of the entry over its children's first states. Where it is that entry, the class is
 /// the target of an entry over classes, and goes behind those before it.
 fn is_whole(
-    given: &Given<'_>,
+    given: &GivenTable<'_>,
     leaders: &[u32],
     list: &TargetList,
     row: &Row,
@@ -69,7 +69,7 @@ fn is_whole(
 /// Puts the targets of the entries over classes, or finds the first entry that leads to another class than the entry over its
 /// children's first states.
 pub fn check_entries(
-    given: &Given<'_>,
+    given: &GivenTable<'_>,
     leaders: &[u32],
     list: &TargetList,
     merged: &mut Vec<u32>,

@@ -3,7 +3,7 @@ use fort_terms::Signature;
 
 /// A table by its targets in the order of its entries, and a class for each of its states.
 #[derive(Clone, Copy)]
-pub struct Given<'a> {
+pub struct GivenTable<'a> {
     pub signature: &'a Signature,
     pub columns: usize,
     pub presences: &'a [u16],

@@ -32,7 +32,7 @@ pub record AreSparseRows (a : Inside) : Type 0 where
   pub sparse : AreSparse a.width a.ends.items a.places.items a.words.items
   pub within : length a.ends.items ≤ a.room
   pub fits : a.room * a.width ≤ a.space
-  pub limited : a.room ≤ a.most
+  pub within_most : a.room ≤ a.most
   pub ends_room : a.most ≤ vec_capacity a.ends
   pub places_room : a.space ≤ vec_capacity a.places
   pub words_room : a.space ≤ vec_capacity a.words

@@ -6,7 +6,6 @@ ghost use Rattle.fort_check_steps.specs.Room.{HasRoom, HasMergeRoom, IsAsLong, I
 
 use crate::state_labels::{NARROW, StateLabels};
 use fort_target_lists::{LayRoom, TargetList};
-use fort_terms::Memory;
 use std::alloc::{AllocError, Global};
 
 /// A list has no more targets than these, so that there is a number for each start.
@@ -94,7 +93,7 @@ pub fn most_states(targets: &[u32]) -> usize
 
 impl PartRoom {
     /// Room for all that is kept of these targets, and for those over classes where they are merged.
-    pub fn new(alloc: Global, targets: &[u32], merges: bool) -> Result<PartRoom, Memory>
+    pub fn new(alloc: Global, targets: &[u32], merges: bool) -> Result<PartRoom, AllocError>
         ensures room { IfOk result (HasRoom targets.now) }
         ensures merge_room { IfOk result (λ r. IsTrue merges → HasMergeRoom targets.now r) }
         ensures not_merged { IfOk result (λ r. IsFalse r.is_merged) }
@@ -131,7 +130,7 @@ fn has_starts(targets: usize) -> bool
 }
 
 /// The room for a list. More targets than there are numbers for are want of memory.
-fn list_for(alloc: Global, needs: ListNeeds) -> Result<TargetList, Memory>
+fn list_for(alloc: Global, needs: ListNeeds) -> Result<TargetList, AllocError>
     ensures { IfOk result (HasListRoom needs.states needs.targets) }
 {
     if !has_starts(needs.targets) {
@@ -236,7 +235,7 @@ impl LabelNeeds {
 
 impl LabelRoom {
     /// Room for what labels need.
-    pub fn new(alloc: Global, needs: LabelNeeds) -> Result<LabelRoom, Memory>
+    pub fn new(alloc: Global, needs: LabelNeeds) -> Result<LabelRoom, AllocError>
         ensures { IfOk result (HasNeeds needs) }
     {
         let lists = needs.first.states.max(needs.second.states);

@@ -8,7 +8,7 @@ ghost use Rattle.fort_check_steps.specs.PairSteps.{HasPairRules, HasClosureRules
 use crate::pairs::PairRules;
 use fort_findings::Which;
 use fort_label_bits::{number_patterns, places_of_rules};
-use fort_terms::{Memory, System};
+use fort_terms::System;
 use std::alloc::{AllocError, Global};
 
 /// The most rules that have a system of each of them both ways.
@@ -16,7 +16,7 @@ const MOST_RULES: usize = 4096;
 
 /// The rules of an index, and the patterns of their sides. Lists of 2^32 patterns or more, for which there are no numbers, are want of
 /// memory.
-fn rules_of(alloc: Global, system: &System, index: u32) -> Result<PairRules, Memory>
+fn rules_of(alloc: Global, system: &System, index: u32) -> Result<PairRules, AllocError>
     requires { IsIndexOf system.now.rules index }
     ensures { IfOk result (HasPairRules (at_index index system.now.rules)) }
 {
@@ -41,7 +41,7 @@ fn has_too_many(rules: usize) -> bool
 
 /// A system whose only index has the rules of this one, and then each from right to left. More rules than a system has are want of
 /// memory.
-fn both_ways(alloc: Global, system: &System, index: u32) -> Result<System, Memory>
+fn both_ways(alloc: Global, system: &System, index: u32) -> Result<System, AllocError>
     requires { IsIndexOf system.now.rules index }
     ensures { IfOk result (λ s. s ≡ both_ways_lem system.now index) }
 {
@@ -57,7 +57,7 @@ pub fn closure_rules(
     system: &System,
     which: Which,
     index: u32,
-) -> Result<PairRules, Memory>
+) -> Result<PairRules, AllocError>
     requires { IsIndexOf system.now.rules index }
     ensures { IfOk result (HasClosureRules system.now (as_which which) index) }
 {

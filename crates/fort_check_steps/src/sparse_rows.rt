@@ -2,8 +2,7 @@
 ghost use Rattle.std.specs.Prelude.{◌≡◌, ℕ, ◌+◌, ◌*◌, ◌<◌, ◌≤◌, [], ◌∷◌, ◌++◌, length, slice_index_or, vec_len, vec_capacity, IfOk, IsTrue, ◌↔◌};
 ghost use Rattle.fort_check_steps.specs.SparseWords.{places_from, words_of, scattered, start_of, HasWords};
 
-use fort_terms::Memory;
-use std::alloc::Global;
+use std::alloc::{AllocError, Global};
 use std::marker::Model;
 
 /// A list of labels of one width. Of each label there are its words that aren't zero, with their places in it, so that a list of
@@ -91,7 +90,12 @@ fn start(ends: &[usize], index: usize) -> usize
 
 impl SparseRows {
     /// No labels, and room for so many of so many words together.
-    pub fn new(alloc: Global, width: usize, most: usize, space: usize) -> Result<SparseRows, Memory>
+    pub fn new(
+        alloc: Global,
+        width: usize,
+        most: usize,
+        space: usize,
+    ) -> Result<SparseRows, AllocError>
         requires { 0 < width }
         ensures width { IfOk result (λ r. r.width ≡ width) }
         ensures most { IfOk result (λ r. r.most ≡ most) }

@@ -7,9 +7,8 @@ ghost use Rattle.fort_check_steps.specs.WideKidsInside.{AreWideKids};
 
 use crate::sparse_rows::SparseRows;
 use fort_labels::{LocalRule, Rows};
-use fort_terms::Memory;
 use fort_tuple_symbols::Row;
-use std::alloc::Global;
+use std::alloc::{AllocError, Global};
 use std::marker::Model;
 
 /// Labels of more words than these are wide.
@@ -166,7 +165,7 @@ impl StateLabels {
         wide: usize,
         most: usize,
         widest: usize,
-    ) -> Result<StateLabels, Memory>
+    ) -> Result<StateLabels, AllocError>
         ensures narrow { IfOk result (λ r. narrow ≤ r.spaces.narrow) }
         ensures wide { IfOk result (λ r. wide ≤ r.spaces.wide) }
         ensures most { IfOk result (λ r. most ≤ r.spaces.most) }

@@ -25,8 +25,8 @@ use crate::term_labels::TermLabels;
 use fort_findings::ClosureEntry;
 use fort_relation_exprs::RexLabels;
 use fort_relations::{Holes, Place, Rel, Rex};
-use fort_terms::{Memory, System, Term};
-use std::alloc::Global;
+use fort_terms::{System, Term};
+use std::alloc::{AllocError, Global};
 
 /// The labels of an atom. They read nothing of a signature.
 #[derive(Drop)]
@@ -54,7 +54,7 @@ impl AtomLabels {
         x: u32,
         y: u32,
         closure: &[ClosureEntry],
-    ) -> Result<AtomLabels, Memory>
+    ) -> Result<AtomLabels, AllocError>
         requires index { IsIndexOf system.now.rules index }
         requires passes { ListsPasses (as_rel rel) (at_index index system.now.rules) closure.now }
         ensures columns { IfOk result (λ l. (columns : List ℕ)
@@ -90,7 +90,7 @@ impl AtomLabels {
         x: u32,
         y: u32,
         pairs: &[ClosureEntry],
-    ) -> Result<AtomLabels, Memory>
+    ) -> Result<AtomLabels, AllocError>
         requires { IsIndexOf system.now.rules index }
         ensures { IfOk result (λ l. (c : ClosedAtom) × (l ≡ AtomLabels.Relation c)
             × IsByPairs system.now (as_rel rel) index x y pairs.now c) }
@@ -109,7 +109,7 @@ impl AtomLabels {
         place: Place,
         x: u32,
         y: u32,
-    ) -> Result<AtomLabels, Memory>
+    ) -> Result<AtomLabels, AllocError>
         requires over { IsExpressionOver system.now (as_expression rex.now) }
         requires narrow { HasManyRoots (as_expression rex.now) → ⊥ }
         ensures columns { IfOk result (λ l. (columns : List ℕ)
@@ -135,7 +135,7 @@ impl AtomLabels {
     }
 
     /// The labels of "the variable is a normal form", of one column.
-    pub fn nf(alloc: Global, system: &System, index: u32) -> Result<AtomLabels, Memory>
+    pub fn nf(alloc: Global, system: &System, index: u32) -> Result<AtomLabels, AllocError>
         requires { IsIndexOf system.now.rules index }
         ensures columns { IfOk result (λ l. column_count l ≡ 1) }
         ensures alike { IfOk result (TellsAlike system.now.signature
@@ -153,7 +153,7 @@ impl AtomLabels {
     }
 
     /// The labels of "the variable is this term", of one column.
-    pub fn is(alloc: Global, term: &Term) -> Result<AtomLabels, Memory>
+    pub fn is(alloc: Global, term: &Term) -> Result<AtomLabels, AllocError>
         ensures columns { IfOk result (λ l. column_count l ≡ 1) }
         ensures alike { IfOk result (λ l. (sig : theory.Signature)
             → TellsAlikeAtTerm sig term.now l) }

@@ -19,7 +19,7 @@ use crate::rule_list::{RuleList, rules_of};
 use fort_findings::{ClosureEntry, Reason};
 use fort_gtt_closure::{Entry, Why, close};
 use fort_relations::Rel;
-use fort_terms::{Memory, Pattern, System, has_numbers};
+use fort_terms::{Pattern, System, has_numbers};
 use fort_transducers::Agtt;
 use fort_tree_automata::{pattern_automaton, place};
 use std::alloc::{AllocError, Global};
@@ -30,7 +30,7 @@ pub fn closure(
     system: &System,
     index: u32,
     rel: Rel,
-) -> Result<Vec<ClosureEntry>, Memory>
+) -> Result<Vec<ClosureEntry>, AllocError>
     requires { IsIndexOf system.now.rules index }
     ensures passes { IfOk result (λ list. ListsPasses (as_rel rel)
         (at_index index system.now.rules) list.items) }
@@ -44,7 +44,7 @@ pub fn closure(
 }
 
 /// The closure of the transducer whose states are the patterns.
-fn closure_of(alloc: Global, list: &RuleList) -> Result<Vec<ClosureEntry>, Memory>
+fn closure_of(alloc: Global, list: &RuleList) -> Result<Vec<ClosureEntry>, AllocError>
     requires { ListsRules (map as_pair list.now.rules.items) list.now }
     ensures { IfOk result (λ entries. IsClosureOf list.now entries.items) }
 {
@@ -55,7 +55,7 @@ fn closure_of(alloc: Global, list: &RuleList) -> Result<Vec<ClosureEntry>, Memor
 }
 
 /// The pairs of states as pairs of patterns.
-fn listed(alloc: Global, entries: &[Entry]) -> Result<Vec<ClosureEntry>, Memory>
+fn listed(alloc: Global, entries: &[Entry]) -> Result<Vec<ClosureEntry>, AllocError>
     ensures { IfOk result (λ list. map findings.as_pair list.items ≡ as_items entries.now) }
 {
     let mut list = Vec::with_capacity(alloc, entries.len())?;
@@ -81,7 +81,7 @@ fn reason(why: Why) -> Reason
 }
 
 /// The transducer of the rules' root steps. Lists of 2^32 rules or patterns or more, for which there are no numbers, are want of memory.
-fn transducer(alloc: Global, list: &RuleList) -> Result<Agtt, Memory>
+fn transducer(alloc: Global, list: &RuleList) -> Result<Agtt, AllocError>
     requires { ListsRules (map as_pair list.now.rules.items) list.now }
     ensures states { IfOk result (IsTransducerOf list.now) }
     ensures named { IfOk result NamesItsStates }
@@ -110,7 +110,7 @@ fn places(
     rules: &[(Pattern, Pattern)],
     lefts: &[Pattern],
     rights: &[Pattern],
-) -> Result<Vec<(u32, u32)>, Memory>
+) -> Result<Vec<(u32, u32)>, AllocError>
     requires left_closed { IsClosedInOrder (map as_pattern lefts.now) }
     requires right_closed { IsClosedInOrder (map as_pattern rights.now) }
     requires left_few { length lefts.now < 2 ^ 32 }

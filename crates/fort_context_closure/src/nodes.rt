@@ -5,20 +5,20 @@ ghost use Rattle.fort_alike.specs.TermRule.{number_in};
 ghost use Rattle.fort_context_closure.specs.TermNodes.{AreNumbersIn, AreNodesOf, node_for};
 ghost use Rattle.fort_alike.specs.Subterms.{subterms};
 
-use fort_terms::{Memory, Sym, Term};
+use fort_terms::{Sym, Term};
 use indexmap::IndexMap;
-use std::alloc::Global;
+use std::alloc::{AllocError, Global};
 use std::marker::Model;
 
 /// A subterm: its number, its symbol, and the numbers of its children. A subterm's number is one more than its first place.
 #[derive(Drop)]
-pub(crate) struct Node {
+pub(crate) struct Subterm {
     pub number: u64,
     pub sym: Sym,
     pub kids: Vec<u64>,
 }
 
-impl Model for Node {
+impl Model for Subterm {
     ghost use Rattle.fort_context_closure.specs.TermNodes.{TermNode};
 
     ghost Value = { TermNode };
@@ -27,7 +27,7 @@ impl Model for Node {
 }
 
 /// Lists the subterms of a term, each as often as it stands there, a term before those of its children.
-fn push_subterms<'a>(term: &'a Term, listed: &mut Vec<&'a Term>) -> Result<(), Memory>
+fn push_subterms<'a>(term: &'a Term, listed: &mut Vec<&'a Term>) -> Result<(), AllocError>
     ensures { OnOk result (map (λ t. t.now) listed.new.items
         ≡ map (λ t. t.now) listed.old.items ++ subterms term.now) }
 {
@@ -47,7 +47,7 @@ fn number_of(term: &Term, numbers: &IndexMap<Term, u64>) -> u64
 }
 
 /// The numbers of the terms of a list.
-fn numbers_in(alloc: Global, listed: &[&Term]) -> Result<IndexMap<Term, u64>, Memory>
+fn numbers_in(alloc: Global, listed: &[&Term]) -> Result<IndexMap<Term, u64>, AllocError>
     ensures { IfOk result (λ numbers. AreNumbersIn (map (λ t. t.now) listed.now)
         numbers.entries) }
 {
@@ -60,7 +60,7 @@ fn numbers_in(alloc: Global, listed: &[&Term]) -> Result<IndexMap<Term, u64>, Me
     Ok(numbers)
 }
 
-fn node_of(alloc: Global, term: &Term, numbers: &IndexMap<Term, u64>) -> Result<Node, Memory>
+fn node_of(alloc: Global, term: &Term, numbers: &IndexMap<Term, u64>) -> Result<Subterm, AllocError>
     ensures { IfOk result (λ node. (listed : List Tree) → AreNumbersIn listed numbers.now.entries
         → node ≡ node_for listed term.now) }
 {
@@ -68,7 +68,7 @@ fn node_of(alloc: Global, term: &Term, numbers: &IndexMap<Term, u64>) -> Result<
     for kid in &term.kids {
         kids.push(number_of(kid, numbers))?;
     }
-    Ok(Node {
+    Ok(Subterm {
         number: number_of(term, numbers),
         sym: term.sym,
         kids,
@@ -80,7 +80,7 @@ fn first_nodes(
     alloc: Global,
     listed: &[&Term],
     numbers: &IndexMap<Term, u64>,
-) -> Result<Vec<Node>, Memory>
+) -> Result<Vec<Subterm>, AllocError>
     requires { AreNumbersIn (map (λ t. t.now) listed.now) numbers.now.entries }
     ensures { IfOk result (λ nodes. AreNodesOf (map (λ t. t.now) listed.now) nodes.items) }
 {
@@ -94,7 +94,7 @@ fn first_nodes(
 }
 
 /// The subterms of a term as nodes, each once.
-pub(crate) fn nodes_of(alloc: Global, term: &Term) -> Result<Vec<Node>, Memory>
+pub(crate) fn nodes_of(alloc: Global, term: &Term) -> Result<Vec<Subterm>, AllocError>
     ensures { IfOk result (λ nodes. AreNodesOf (subterms term.now) nodes.items) }
 {
     let mut listed = Vec::new(alloc);

@@ -12,9 +12,9 @@ use fort_label_bits::{
     write_inside,
 };
 use fort_labels::Rows;
-use fort_terms::{Memory, Pattern, System};
+use fort_terms::{Pattern, System};
 use fort_tuple_symbols::Row;
-use std::alloc::Global;
+use std::alloc::{AllocError, Global};
 use std::marker::Model;
 
 /// The bits of the labels of normal forms. It is seen as the atom, without its signature and its rules' right sides, which no
@@ -43,7 +43,7 @@ impl Model for NormalBits {
 }
 
 impl NormalBits {
-    pub fn new(alloc: Global, system: &System, index: u32) -> Result<NormalBits, Memory>
+    pub fn new(alloc: Global, system: &System, index: u32) -> Result<NormalBits, AllocError>
         requires { IsIndexOf system.now.rules index }
         ensures { IfOk result (IsNormalAtomOf system.now index) }
     {

@@ -7,8 +7,7 @@ ghost use Rattle.fort_label_bits.specs.BitRowLists.{AreClear, SetsBit, row_in};
 
 use fort_findings::ClosureEntry;
 use fort_label_bits::{clear_rows, mark};
-use fort_terms::Memory;
-use std::alloc::Global;
+use std::alloc::{AllocError, Global};
 
 /// For each right pattern the left patterns that it reaches, and for each left pattern the right patterns that reach it: rows with the
 /// bits that these have in a label.
@@ -24,7 +23,7 @@ pub(crate) fn reach_of(
     lefts: usize,
     rights: usize,
     entries: &[ClosureEntry],
-) -> Result<Reach, Memory>
+) -> Result<Reach, AllocError>
     requires left { lefts < 2 ^ 32 }
     requires right { rights < 2 ^ 32 }
     ensures { IfOk result (IsReach lefts rights (numbers_of entries.now)) }

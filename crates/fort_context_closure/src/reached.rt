@@ -14,13 +14,13 @@ use fort_label_bits::{
     Numbered, Rooted, RulePlaces, add_row, is_inside, pattern_at, row_at, rule_at,
 };
 use fort_labels::Rows;
-use fort_terms::{Memory, Sym};
+use fort_terms::Sym;
 use fort_tuple_symbols::Row;
-use std::alloc::Global;
+use std::alloc::{AllocError, Global};
 
 /// The roots of the two arguments.
 #[derive(Clone, Copy)]
-pub(crate) struct Node {
+pub(crate) struct RootPair {
     pub first: Option<Sym>,
     pub second: Option<Sym>,
 }
@@ -38,7 +38,7 @@ pub(crate) fn root_rules(
     rules: &[RulePlaces],
     lefts: &[Numbered],
     rights: &[Numbered],
-) -> Result<RuleRoots, Memory>
+) -> Result<RuleRoots, AllocError>
     requires { (r : places.RulePlaces) → Contains rules.now r
         → (r.left < length lefts.now) × (r.right < length rights.now) }
     ensures { IfOk result (AreRuleRoots lefts.now rights.now rules.now) }
@@ -65,7 +65,7 @@ pub(crate) fn add_reached(
     reach: &Reach,
     rules: &[RulePlaces],
     roots: &RuleRoots,
-    node: Node,
+    node: RootPair,
     row: &Row,
     rows: &Rows,
     out: &mut [u64],
@@ -93,7 +93,7 @@ fn add_firsts(
     reach: &Reach,
     rules: &[RulePlaces],
     roots: &RuleRoots,
-    node: Node,
+    node: RootPair,
     row: &Row,
     rows: &Rows,
     out: &mut [u64],
@@ -127,7 +127,7 @@ fn add_seconds(
     reach: &Reach,
     rules: &[RulePlaces],
     roots: &RuleRoots,
-    node: Node,
+    node: RootPair,
     row: &Row,
     rows: &Rows,
     out: &mut [u64],
@@ -162,7 +162,7 @@ fn add_starts(
     rights: &[Numbered],
     reach: &Reach,
     rules: &[RulePlaces],
-    node: Node,
+    node: RootPair,
     row: &Row,
     rows: &Rows,
     out: &mut [u64],
@@ -199,7 +199,7 @@ fn add_ends(
     rights: &[Numbered],
     reach: &Reach,
     rules: &[RulePlaces],
-    node: Node,
+    node: RootPair,
     row: &Row,
     rows: &Rows,
     out: &mut [u64],

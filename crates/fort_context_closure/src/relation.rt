@@ -17,7 +17,7 @@ ghost use Rattle.fort_terms.specs.PatternView.{as_pair, as_pattern};
 
 use crate::facts::{fact_count, write_facts};
 use crate::reach::{Reach, reach_of};
-use crate::reached::{Node, RuleRoots, add_reached, root_rules};
+use crate::reached::{RootPair, RuleRoots, add_reached, root_rules};
 use crate::rule_list::{RuleList, rules_of};
 use fort_findings::{ClosureEntry, Which};
 use fort_label_bits::{
@@ -27,9 +27,9 @@ use fort_label_bits::{
 };
 use fort_labels::Rows;
 use fort_relations::Rel;
-use fort_terms::{Memory, Pattern, Sym, System};
+use fort_terms::{Pattern, Sym, System};
 use fort_tuple_symbols::Row;
-use std::alloc::Global;
+use std::alloc::{AllocError, Global};
 use std::marker::Model;
 
 /// The bits of the labels of an atom that relates two terms. It is seen as the atom, without its signature, which no label reads, and
@@ -80,7 +80,7 @@ impl RelationBits {
         x: u32,
         y: u32,
         pairs: &[ClosureEntry],
-    ) -> Result<RelationBits, Memory>
+    ) -> Result<RelationBits, AllocError>
         requires { IsIndexOf system.now.rules index }
         ensures { IfOk result (IsByPairs system.now (as_rel rel) index x y pairs.now) }
     {
@@ -97,7 +97,7 @@ impl RelationBits {
         y: u32,
         list: RuleList,
         entries: Vec<ClosureEntry>,
-    ) -> Result<RelationBits, Memory>
+    ) -> Result<RelationBits, AllocError>
         requires { ListsRules (map as_pair list.rules.items) list }
         ensures { IfOk result (λ c. IsOfRules (as_rel rel) x y (map as_pair list.rules.items)
             (map as_pattern list.lefts.items) (map as_pattern list.rights.items) c.atom
@@ -201,7 +201,7 @@ impl RelationBits {
         if !is_reduction(self.rel) {
             return;
         }
-        let node = Node { first, second };
+        let node = RootPair { first, second };
         add_reached(
             &self.lefts,
             &self.rights,
@@ -244,7 +244,7 @@ fn reach_for(
     lefts: usize,
     rights: usize,
     entries: &[ClosureEntry],
-) -> Result<Reach, Memory>
+) -> Result<Reach, AllocError>
     requires left { lefts < 2 ^ 32 }
     requires right { rights < 2 ^ 32 }
     ensures { IfOk result (λ reach. is_reaching (kind_for (as_rel rel)) ≡ true

@@ -13,8 +13,8 @@ ghost use Rattle.fort_alike.specs.Atoms.{both_ways as both_ways_lem, pairs_for};
 ghost use Rattle.fort_context_closure.specs.RuleLists.{ListsRules};
 
 use fort_relations::Rel;
-use fort_terms::{Memory, Pattern, System};
-use std::alloc::Global;
+use fort_terms::{Pattern, System};
+use std::alloc::{AllocError, Global};
 use std::collections::BTreeSet;
 
 /// Rules, the patterns that stand within their left sides, and those within their right ones.
@@ -32,7 +32,7 @@ pub(crate) fn rules_of(
     system: &System,
     index: u32,
     rel: Rel,
-) -> Result<RuleList, Memory>
+) -> Result<RuleList, AllocError>
     requires { IsIndexOf system.now.rules index }
     ensures { IfOk result
         (ListsRules (pairs_for (as_rel rel) (at_index index system.now.rules))) }
@@ -48,7 +48,7 @@ pub(crate) fn rules_of(
     }
 }
 
-fn one_way(alloc: Global, system: &System, index: u32) -> Result<RuleList, Memory>
+fn one_way(alloc: Global, system: &System, index: u32) -> Result<RuleList, AllocError>
     requires { IsIndexOf system.now.rules index }
     ensures { IfOk result (ListsRules (at_index index system.now.rules)) }
 {
@@ -62,7 +62,7 @@ fn one_way(alloc: Global, system: &System, index: u32) -> Result<RuleList, Memor
 }
 
 /// The patterns of both sides are those of either side then.
-fn both_ways(alloc: Global, system: &System, index: u32) -> Result<RuleList, Memory>
+fn both_ways(alloc: Global, system: &System, index: u32) -> Result<RuleList, AllocError>
     requires { IsIndexOf system.now.rules index }
     ensures { IfOk result (ListsRules (both_ways_lem (at_index index system.now.rules))) }
 {
@@ -80,7 +80,7 @@ fn push_copies(
     alloc: Global,
     rules: &[(Pattern, Pattern)],
     all: &mut Vec<(Pattern, Pattern)>,
-) -> Result<(), Memory>
+) -> Result<(), AllocError>
     ensures { OnOk result (map as_pair all.new.items ≡
         map as_pair all.old.items ++ map as_pair rules.now) }
 {
@@ -94,7 +94,7 @@ fn push_exchanged(
     alloc: Global,
     rules: &[(Pattern, Pattern)],
     all: &mut Vec<(Pattern, Pattern)>,
-) -> Result<(), Memory>
+) -> Result<(), AllocError>
     ensures { OnOk result (map as_pair all.new.items ≡
         map as_pair all.old.items ++ map exchanged (map as_pair rules.now)) }
 {
@@ -105,7 +105,7 @@ fn push_exchanged(
 }
 
 /// The patterns within the left and the right sides of an index's rules, each once and in order.
-fn all_patterns(alloc: Global, system: &System, index: u32) -> Result<Vec<Pattern>, Memory>
+fn all_patterns(alloc: Global, system: &System, index: u32) -> Result<Vec<Pattern>, AllocError>
     requires { IsIndexOf system.now.rules index }
     ensures left { IfOk result (λ ps. AreSubpatternsInOrder (map (λ pair. pair.0)
         (both_ways_lem (at_index index system.now.rules))) (map as_pattern ps.items)) }
@@ -118,7 +118,7 @@ fn all_patterns(alloc: Global, system: &System, index: u32) -> Result<Vec<Patter
     in_order(alloc, found)
 }
 
-fn insert_all(patterns: Vec<Pattern>, found: &mut BTreeSet<Pattern>) -> Result<(), Memory>
+fn insert_all(patterns: Vec<Pattern>, found: &mut BTreeSet<Pattern>) -> Result<(), AllocError>
     ensures { OnOk result (HasMore (map as_pattern patterns.items)
         (map as_pattern found.old.keys) (map as_pattern found.new.keys)) }
 {
@@ -129,7 +129,7 @@ fn insert_all(patterns: Vec<Pattern>, found: &mut BTreeSet<Pattern>) -> Result<(
 }
 
 /// The patterns of a set as a list.
-fn in_order(alloc: Global, found: BTreeSet<Pattern>) -> Result<Vec<Pattern>, Memory>
+fn in_order(alloc: Global, found: BTreeSet<Pattern>) -> Result<Vec<Pattern>, AllocError>
     ensures patterns { IfOk result (λ ps. ps.items ≡ found.keys) }
     ensures ordered { IsStrictlySortedBy (on as_pattern pattern_order) found.keys }
 {

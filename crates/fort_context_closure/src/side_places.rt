@@ -6,15 +6,15 @@ ghost use Rattle.fort_tree_automata.specs.PatternMoves.{IsClosedInOrder};
 ghost use Rattle.fort_context_closure.specs.SidePlaces.{AreSidesOf, some_side as some_side_lem};
 
 use fort_label_bits::{has_mark, place_of};
-use fort_terms::{Memory, Pattern};
-use std::alloc::Global;
+use fort_terms::Pattern;
+use std::alloc::{AllocError, Global};
 
 /// The places of the left sides, in the order of the rules.
 pub(crate) fn places_of_sides(
     alloc: Global,
     rules: &[(Pattern, Pattern)],
     lefts: &[Pattern],
-) -> Result<Vec<u32>, Memory>
+) -> Result<Vec<u32>, AllocError>
     requires few { length lefts.now < 2 ^ 32 }
     requires closed { IsClosedInOrder (map as_pattern lefts.now) }
     requires among { (pair : theory.Pair) → Contains (map as_pair rules.now) pair →

@@ -7,11 +7,11 @@ ghost use Rattle.fort_alike.specs.Subterms.{subterms};
 ghost use Rattle.fort_alike.specs.TermRule.{term_rule, term_accepts, number_word as number_word_lem};
 ghost use Rattle.fort_context_closure.specs.TermNodes.{IsNode, IsNumberOver, IsNodeNumber, numbers_told};
 
-use crate::nodes::{Node, nodes_of};
+use crate::nodes::{Subterm, nodes_of};
 use fort_labels::Rows;
-use fort_terms::{Memory, Sym, Term};
+use fort_terms::{Sym, Term};
 use fort_tuple_symbols::Row;
-use std::alloc::Global;
+use std::alloc::{AllocError, Global};
 use std::marker::Model;
 
 /// The labels of one column about which an atom says that it is a given term. It is seen as the term. A label is the presence and the
@@ -21,7 +21,7 @@ use std::marker::Model;
 pub struct TermLabels {
     term: Term,
     /// The different subterms.
-    nodes: Vec<Node>,
+    nodes: Vec<Subterm>,
 }
 
 impl Model for TermLabels {
@@ -41,7 +41,7 @@ impl Model for TermLabels {
 }
 
 impl TermLabels {
-    pub fn new(alloc: Global, term: &Term) -> Result<TermLabels, Memory>
+    pub fn new(alloc: Global, term: &Term) -> Result<TermLabels, AllocError>
         ensures { IfOk result (λ l. l ≡ term.now) }
     {
         Ok(TermLabels {
@@ -71,7 +71,7 @@ impl TermLabels {
 }
 
 /// The number of the subterm with this symbol over the numbers of the row's children, or 0.
-fn number_over(nodes: &[Node], sym: Sym, row: &Row, rows: &Rows) -> u64
+fn number_over(nodes: &[Subterm], sym: Sym, row: &Row, rows: &Rows) -> u64
     requires within { (j : ℕ) → j < length row.now.kids
         → slice_index_or row.now.kids j 0 < length rows.now.labels }
     ensures { IsNumberOver nodes.now sym.0 (numbers_told rows.now.labels row.now.kids) result }
@@ -85,7 +85,7 @@ fn number_over(nodes: &[Node], sym: Sym, row: &Row, rows: &Rows) -> u64
 }
 
 /// The number of the subterm that the row makes of its children, or 0.
-fn number(nodes: &[Node], row: &Row, rows: &Rows) -> u64
+fn number(nodes: &[Subterm], row: &Row, rows: &Rows) -> u64
     requires columns { length row.now.symbol ≡ 1 }
     requires within { (j : ℕ) → j < length row.now.kids
         → slice_index_or row.now.kids j 0 < length rows.now.labels }
@@ -99,7 +99,7 @@ fn number(nodes: &[Node], row: &Row, rows: &Rows) -> u64
 }
 
 /// Whether it is the node of this symbol over the numbers of the row's children.
-fn is_node(node: &Node, sym: Sym, row: &Row, rows: &Rows) -> bool
+fn is_node(node: &Subterm, sym: Sym, row: &Row, rows: &Rows) -> bool
     requires within { (j : ℕ) → j < length row.now.kids
         → slice_index_or row.now.kids j 0 < length rows.now.labels }
     ensures { IsTrue result
@@ -109,7 +109,7 @@ fn is_node(node: &Node, sym: Sym, row: &Row, rows: &Rows) -> bool
 }
 
 /// Whether the row's children have the numbers of the node's.
-fn has_kids(node: &Node, row: &Row, rows: &Rows) -> bool
+fn has_kids(node: &Subterm, row: &Row, rows: &Rows) -> bool
     requires within { (j : ℕ) → j < length row.now.kids
         → slice_index_or row.now.kids j 0 < length rows.now.labels }
     ensures { IsTrue result ↔ (node.now.kids ≡ numbers_told rows.now.labels row.now.kids) }

@@ -11,8 +11,7 @@ ghost use Rattle.fort_dues.specs.DueView.{as_due};
 
 use fort_findings::Which;
 use fort_outline::{Outline, Root, is_closure_asked};
-use fort_terms::Memory;
-use std::alloc::Global;
+use std::alloc::{AllocError, Global};
 
 /// What a step is about: a closure of an index, or a part by its number.
 #[derive(Clone, Copy)]
@@ -29,7 +28,7 @@ fn push_closure(
     index: u32,
     roots: &[Root],
     dues: &mut Vec<DueStep>,
-) -> Result<(), Memory>
+) -> Result<(), AllocError>
     ensures { OnOk result (map as_due dues.new.items ≡ map as_due dues.old.items
         ++ closure_due (cores_of roots.now) index (as_which which)) }
 {
@@ -40,7 +39,7 @@ fn push_closure(
 }
 
 /// The closures of all indices.
-fn push_closures(indices: u32, roots: &[Root], dues: &mut Vec<DueStep>) -> Result<(), Memory>
+fn push_closures(indices: u32, roots: &[Root], dues: &mut Vec<DueStep>) -> Result<(), AllocError>
     requires { indices < 2 ^ 31 }
     ensures { OnOk result (map as_due dues.new.items ≡ map as_due dues.old.items
         ++ closures_due (cores_of roots.now) indices 1) }
@@ -52,7 +51,7 @@ fn push_closures(indices: u32, roots: &[Root], dues: &mut Vec<DueStep>) -> Resul
     Ok(())
 }
 
-fn push_counts(number: u32, root: &Root, dues: &mut Vec<DueStep>) -> Result<(), Memory>
+fn push_counts(number: u32, root: &Root, dues: &mut Vec<DueStep>) -> Result<(), AllocError>
     ensures { OnOk result ((parts : List theory.Core)
         → map as_due dues.new.items ≡ map as_due dues.old.items
         ++ counts_due number (root_core parts root.now)) }
@@ -67,7 +66,7 @@ fn push_counts(number: u32, root: &Root, dues: &mut Vec<DueStep>) -> Result<(), 
 }
 
 /// The table of a part, and where it is merged its classes.
-fn push_table(number: u32, is_merged: bool, dues: &mut Vec<DueStep>) -> Result<(), Memory>
+fn push_table(number: u32, is_merged: bool, dues: &mut Vec<DueStep>) -> Result<(), AllocError>
     ensures { OnOk result (map as_due dues.new.items ≡ map as_due dues.old.items
         ++ table_due (λ k. is_merged) number) }
 {
@@ -85,7 +84,7 @@ fn push_answer(
     columns: &[u32],
     is_merged: bool,
     dues: &mut Vec<DueStep>,
-) -> Result<(), Memory>
+) -> Result<(), AllocError>
     ensures { OnOk result ((parts : List theory.Core)
         → columns.now ≡ columns_of (root_core parts root.now)
         → map as_due dues.new.items ≡ map as_due dues.old.items
@@ -108,7 +107,7 @@ fn push_part(
     columns: &[u32],
     is_merged: bool,
     dues: &mut Vec<DueStep>,
-) -> Result<(), Memory>
+) -> Result<(), AllocError>
     ensures { OnOk result ((parts : List theory.Core)
         → columns.now ≡ columns_of (root_core parts root.now)
         → map as_due dues.new.items ≡ map as_due dues.old.items
@@ -120,7 +119,7 @@ fn push_part(
 }
 
 /// The steps of all parts.
-fn push_parts(outline: &Outline, merges: &[bool], dues: &mut Vec<DueStep>) -> Result<(), Memory>
+fn push_parts(outline: &Outline, merges: &[bool], dues: &mut Vec<DueStep>) -> Result<(), AllocError>
     requires outline { (f : theory.Core) × IsOutlineOf f outline.now }
     requires few { length outline.now.roots.items < 2 ^ 32 }
     requires merges { length merges.now ≡ length outline.now.roots.items }
@@ -145,7 +144,7 @@ pub fn steps_due(
     indices: u32,
     outline: &Outline,
     merges: &[bool],
-) -> Result<Vec<DueStep>, Memory>
+) -> Result<Vec<DueStep>, AllocError>
     requires indices { indices < 2 ^ 31 }
     requires outline { (f : theory.Core) × IsOutlineOf f outline.now }
     requires parts { length outline.now.roots.items < 2 ^ 32 }

@@ -16,8 +16,8 @@ use fort_context_closure::closure;
 use fort_findings::{ClosureEntry, Which};
 use fort_outline::{Root, is_closure_asked};
 use fort_relations::Rel;
-use fort_terms::{Memory, System};
-use std::alloc::Global;
+use fort_terms::System;
+use std::alloc::{AllocError, Global};
 
 /// A closure of an index.
 #[derive(Drop)]
@@ -51,7 +51,7 @@ fn push_closure(
     which: Which,
     index: u32,
     list: &mut Vec<IndexClosure>,
-) -> Result<(), Memory>
+) -> Result<(), AllocError>
     requires { IsIndexOf system.now.rules index }
     ensures { OnOk result ((names : List (definitions.Which × ℕ))
         → AreClosuresOf system.now names list.old.items
@@ -77,7 +77,7 @@ fn push_both(
     roots: &[Root],
     index: u32,
     list: &mut Vec<IndexClosure>,
-) -> Result<(), Memory>
+) -> Result<(), AllocError>
     requires { IsIndexOf system.now.rules index }
     ensures { OnOk result ((names : List (definitions.Which × ℕ))
         → AreClosuresOf system.now names list.old.items
@@ -100,7 +100,7 @@ impl IndexClosure {
 
 impl Closures {
     /// The closures that the parts with these roots ask for.
-    pub fn new(alloc: Global, system: &System, roots: &[Root]) -> Result<Closures, Memory>
+    pub fn new(alloc: Global, system: &System, roots: &[Root]) -> Result<Closures, AllocError>
         ensures { IfOk result (λ c. AreClosures system.now (cores_of roots.now) c.list.items) }
     {
         let mut list = Vec::new(alloc);

@@ -16,15 +16,15 @@ use fort_explore::{ExploreFault, Explored, explore_listed};
 use fort_labels::Labeller;
 use fort_lockstep::Dta;
 use fort_reduce::reduce;
-use fort_terms::{Memory, System};
-use std::alloc::Global;
+use fort_terms::System;
+use std::alloc::{AllocError, Global};
 
 /// A table as it is kept, and where it is reduced the class of each of its states.
 fn kept_table(
     alloc: Global,
     options: &Options,
     table: Dta,
-) -> Result<(Dta, Option<Vec<u32>>), Memory>
+) -> Result<(Dta, Option<Vec<u32>>), AllocError>
     requires { IsListed table }
     ensures right { IfOk result (λ k. (system : PatternSystem) (f : theory.Core)
         → IsRightBy system (AlikeWith options.now.reduces system) f (OfTable (listed_table table))

@@ -11,8 +11,8 @@ ghost use Rattle.fort_engine.specs.Found.{IsFound};
 use crate::answer::{Decided, Last};
 use crate::options::Options;
 use fort_outline::Outline;
-use fort_terms::{Memory, System};
-use std::alloc::Global;
+use fort_terms::System;
+use std::alloc::{AllocError, Global};
 
 /// Is told of each part of a formula once it is decided.
 pub trait Recorder {
@@ -34,7 +34,7 @@ pub trait Recorder {
         k: usize,
         kept: &[Option<Last>],
         decided: Decided,
-    ) -> Result<Last, Memory>
+    ) -> Result<Last, AllocError>
         requires taken { takes options.now }
         requires next { IsNextPart system.now options.now outline.now k kept.now }
         requires found { IsFound system.now options.now (parts_in outline.now) kept.now
@@ -70,7 +70,7 @@ impl Recorder for () {
         _k: usize,
         _kept: &[Option<Last>],
         decided: Decided,
-    ) -> Result<Last, Memory> {
+    ) -> Result<Last, AllocError> {
         Ok(decided.answer)
     }
 }

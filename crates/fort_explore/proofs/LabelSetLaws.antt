@@ -3,8 +3,8 @@ use Rattle.std.proofs.Common.{◌≡◌, ℕ, zero, suc, ◌<◌, ◌≤◌, Lis
 use Rattle.std.proofs.lemmas.List.{length-map, get_or-map, map-append}
 use Rattle.fort_explore.specs.ShortLabels.{padded}
 use Rattle.fort_explore.specs.LabelsInside.{labels_in, ArePadded, AreOfWidth, AreLabelsIn}
-use Rattle.fort_explore.specs.declared.labels.Form.{Form}
-use Rattle.fort_explore.specs.declared.labels.Form.TheVariants.{Short}
+use Rattle.fort_explore.specs.declared.labels.Storage.{Storage}
+use Rattle.fort_explore.specs.declared.labels.Storage.TheVariants.{Short}
 
 pub take_padded : (width : ℕ) (label : List ℕ) → length label ≡ width → width ≤ 4 → take width (padded label) ≡ label
 take_padded zero [] e h = refl
@@ -69,8 +69,8 @@ pub short_after : {A E : Type 0} (r : Result A E) (wss new : List (List ℕ)) (l
 short_after (Ok x) wss new label ws e fit ok err =
     let n = length label in
     subst (λ (kss : List (List ℕ)). AreLabelsIn n (Short kss)) (ap (λ (ks : List ℕ). wss ++ ks ∷ []) (sym e) ∙ sym ok) (record {
-      widths = subst (AreOfWidth n) (sym (labels_pushed n wss label refl fit.form.narrow)) (of_width_pushed n (map (take n) wss) label fit.widths refl);
-      form = padded_pushed n wss label fit.form refl;
+      widths = subst (AreOfWidth n) (sym (labels_pushed n wss label refl fit.storage.narrow)) (of_width_pushed n (map (take n) wss) label fit.widths refl);
+      storage = padded_pushed n wss label fit.storage refl;
     })
 short_after (Err x) wss new label ws e fit ok err = subst (λ (kss : List (List ℕ)). AreLabelsIn (length label) (Short kss)) (sym err) fit
 
@@ -80,6 +80,6 @@ no_labels width other [] w h differ = refl
 no_labels width other (ws ∷ labels) w h differ = absurd (differ (sym (h zero (omega arith)) ∙ w.width_is zero (omega arith)))
 
 -- it has these labels, and takes more of this width
-pub record IsReadyFor (width : ℕ) (all : List (List ℕ)) (own : ℕ) (f : Form) : Type 0 where
+pub record IsReadyFor (width : ℕ) (all : List (List ℕ)) (own : ℕ) (f : Storage) : Type 0 where
   pub width_is : own ≡ width
   pub labels : labels_in width f ≡ all

@@ -1,10 +1,10 @@
 -- Inside: what the fields of a set of labels stand for.
 use Rattle.std.specs.Prelude.{◌≡◌, ℕ, ◌<◌, ◌≤◌, List, [], map, take, length, get_or}
 use Rattle.fort_explore.specs.ShortLabels.{padded}
-use Rattle.fort_explore.specs.declared.labels.Form.{Form}
-use Rattle.fort_explore.specs.declared.labels.Form.TheVariants.{Short, Long}
+use Rattle.fort_explore.specs.declared.labels.Storage.{Storage}
+use Rattle.fort_explore.specs.declared.labels.Storage.TheVariants.{Short, Long}
 
-abbrev pub labels_in : ℕ → Form → List (List ℕ)
+abbrev pub labels_in : ℕ → Storage → List (List ℕ)
 labels_in width (Short wss) = map (take width) wss
 labels_in width (Long labels) = labels
 
@@ -16,10 +16,10 @@ pub record ArePadded (width : ℕ) (wss : List (List ℕ)) : Type 0 where
 pub record AreOfWidth (width : ℕ) (labels : List (List ℕ)) : Type 0 where
   pub width_is : (q : ℕ) → q < length labels → length (get_or labels q []) ≡ width
 
-abbrev pub IsForm : ℕ → Form → Type 0
-IsForm width (Short wss) = ArePadded width wss
-IsForm width (Long labels) = Unit {0}
+abbrev pub IsStorage : ℕ → Storage → Type 0
+IsStorage width (Short wss) = ArePadded width wss
+IsStorage width (Long labels) = Unit {0}
 
-pub record AreLabelsIn (width : ℕ) (f : Form) : Type 0 where
+pub record AreLabelsIn (width : ℕ) (f : Storage) : Type 0 where
   pub widths : AreOfWidth width (labels_in width f)
-  pub form : IsForm width f
+  pub storage : IsStorage width f

@@ -8,9 +8,8 @@ use crate::labels::LabelSet;
 use fort_labels::{Labeller, Rows};
 use fort_lockstep::Steps;
 use fort_table::Dag;
-use fort_terms::Memory;
 use fort_tuple_symbols::Row;
-use std::alloc::Global;
+use std::alloc::{AllocError, Global};
 use std::sync::ledger::Ledger;
 
 /// Room for so many words of labels at first, 8 MiB of addresses: what isn't written takes no memory,
@@ -41,7 +40,7 @@ impl Drop for Found {
 
 impl Found {
     /// No labels, of so many words.
-    pub fn new(alloc: Global, width: usize) -> Result<Found, Memory>
+    pub fn new(alloc: Global, width: usize) -> Result<Found, AllocError>
         requires { 0 < width }
         ensures labels { IfOk result (λ f. f.labels.labels ≡ []) }
         ensures width { IfOk result (λ f. f.labels.width ≡ width) }
@@ -57,7 +56,7 @@ impl Found {
     }
 
     /// Notes a new label, with the entry that gives it.
-    fn note(&mut self, alloc: Global, row: &Row, label: &[u64]) -> Result<(), Memory>
+    fn note(&mut self, alloc: Global, row: &Row, label: &[u64]) -> Result<(), AllocError>
         requires width { length label.now ≡ self.old.labels.width }
         requires same { self.old.numbers ≡ self.old.labels.labels }
         requires absent { (q : ℕ) → q < length self.old.numbers → slice_index_or self.old.numbers q
@@ -116,7 +115,7 @@ pub fn place_of<G: Ledger, L: Labeller>(
     memo: &mut L::Memo,
     out: &mut [u64],
     steps: &mut Steps<G>,
-) -> Result<usize, Memory>
+) -> Result<usize, AllocError>
     requires ready { (sig : theory.Signature) × L.serves labeller.now sig
         × IsReady sig (L.column_count labeller.now) (L.label labeller.now)
         found.old.firsts found.old.labels.labels row.now }

@@ -4,13 +4,12 @@ ghost use Rattle.fort_explore.specs.LabelsInside.{labels_in, AreLabelsIn};
 
 use crate::long_labels::LongLabels;
 use crate::short_labels::{ShortLabels, Words};
-use fort_terms::Memory;
-use std::alloc::Global;
+use std::alloc::{AllocError, Global};
 use std::marker::Model;
 
 /// Labels of one width, the short ones, of up to four words, where they are compared and hashed without a look elsewhere.
 #[derive(Drop)]
-pub enum Form {
+pub enum Storage {
     Short(ShortLabels),
     Long(LongLabels),
 }
@@ -19,7 +18,7 @@ pub enum Form {
 #[derive(Drop)]
 pub struct LabelSet {
     width: usize,
-    form: Form,
+    storage: Storage,
 }
 
 impl Model for LabelSet {
@@ -29,26 +28,26 @@ impl Model for LabelSet {
 
     ghost use Rattle.fort_explore.specs.LabelsInside.{labels_in, AreLabelsIn};
 
-    ghost view = { λ r. labels_in r.width r.form };
+    ghost view = { λ r. labels_in r.width r.storage };
 
-    ghost invariant = { λ r. AreLabelsIn r.width r.form };
+    ghost invariant = { λ r. AreLabelsIn r.width r.storage };
 }
 
-impl Form {
+impl Storage {
     /// No labels, of this width.
-    fn new(alloc: Global, width: usize) -> Form
+    fn new(alloc: Global, width: usize) -> Storage
         ensures fit { AreLabelsIn width result }
         ensures none { labels_in width result ≡ [] }
     {
         if width <= 4 {
-            Form::Short(ShortLabels::new(alloc))
+            Storage::Short(ShortLabels::new(alloc))
         } else {
-            Form::Long(LongLabels::new(alloc))
+            Storage::Long(LongLabels::new(alloc))
         }
     }
 
     /// Appends a label that isn't there yet.
-    fn push(&mut self, alloc: Global, label: &[u64]) -> Result<(), Memory>
+    fn push(&mut self, alloc: Global, label: &[u64]) -> Result<(), AllocError>
         requires fit { AreLabelsIn (length label.now) self.old }
         requires absent { (q : ℕ) → q < length (labels_in (length label.now) self.old)
             → slice_index_or (labels_in (length label.now) self.old) q [] ≡ label.now → ⊥ }
@@ -59,8 +58,8 @@ impl Form {
             ≡ labels_in (length label.now) self.old) }
     {
         match self {
-            Form::Short(set) => set.push(Words::new(label)),
-            Form::Long(set) => set.push(Vec::from_slice(alloc, label)?),
+            Storage::Short(set) => set.push(Words::new(label)),
+            Storage::Long(set) => set.push(Vec::from_slice(alloc, label)?),
         }
     }
 }
@@ -71,12 +70,12 @@ impl LabelSet {
     {
         LabelSet {
             width: 0,
-            form: Form::new(alloc, 0),
+            storage: Storage::new(alloc, 0),
         }
     }
 
     /// Appends a label that isn't there yet, and is as wide as those that are.
-    pub fn push(&mut self, alloc: Global, label: &[u64]) -> Result<(), Memory>
+    pub fn push(&mut self, alloc: Global, label: &[u64]) -> Result<(), AllocError>
         requires width { (q : ℕ) → q < length self.old
             → length (slice_index_or self.old q []) ≡ length label.now }
         requires absent { (q : ℕ) → q < length self.old → slice_index_or self.old q []
@@ -87,9 +86,9 @@ impl LabelSet {
         // The first label tells the width.
         if label.len() != self.width {
             self.width = label.len();
-            self.form = Form::new(alloc, label.len());
+            self.storage = Storage::new(alloc, label.len());
         }
-        self.form.push(alloc, label)
+        self.storage.push(alloc, label)
     }
 
     /// The number of a label.
@@ -101,9 +100,9 @@ impl LabelSet {
         if label.len() != self.width {
             return None;
         }
-        match &self.form {
-            Form::Short(set) => set.find(&Words::new(label)),
-            Form::Long(set) => set.find(label),
+        match &self.storage {
+            Storage::Short(set) => set.find(&Words::new(label)),
+            Storage::Long(set) => set.find(label),
         }
     }
 }

@@ -1,9 +1,8 @@
 //! Sets of labels of any width.
 ghost use Rattle.std.specs.Prelude.{◌≡◌, ℕ, ◌<◌, [], ◌∷◌, ◌++◌, length, slice_index_or, OnOk, OnErr, MatchOption};
 
-use fort_terms::Memory;
 use indexmap::IndexSet;
-use std::alloc::Global;
+use std::alloc::{AllocError, Global};
 use std::marker::Model;
 
 /// Labels, numbered as they came.
@@ -30,7 +29,7 @@ impl LongLabels {
     }
 
     /// Appends a label that isn't there yet.
-    pub fn push(&mut self, label: Vec<u64>) -> Result<(), Memory>
+    pub fn push(&mut self, label: Vec<u64>) -> Result<(), AllocError>
         requires { (q : ℕ) → q < length self.old → slice_index_or self.old q []
             ≡ label.items → ⊥ }
         ensures ok { OnOk result (self.new ≡ self.old ++ label.items ∷ []) }

@@ -2,9 +2,8 @@
 ghost use Rattle.std.specs.Prelude.{◌≡◌, ℕ, ◌<◌, [], ◌∷◌, ◌++◌, length, slice_index, slice_index_or, OnOk, OnErr, MatchOption};
 ghost use Rattle.fort_explore.specs.ShortLabels.{four_words, padded};
 
-use fort_terms::Memory;
 use indexmap::IndexSet;
-use std::alloc::Global;
+use std::alloc::{AllocError, Global};
 use std::marker::Model;
 
 /// Four words, kept where they stand: no allocation, and they are compared at once.
@@ -61,7 +60,7 @@ impl ShortLabels {
     }
 
     /// Appends a label that isn't there yet.
-    pub fn push(&mut self, label: Words) -> Result<(), Memory>
+    pub fn push(&mut self, label: Words) -> Result<(), AllocError>
         requires { (q : ℕ) → q < length self.old → slice_index_or self.old q []
             ≡ four_words label → ⊥ }
         ensures ok { OnOk result (self.new ≡ self.old ++ four_words label ∷ []) }

@@ -13,7 +13,7 @@ use crate::found::{Found, place_of};
 use fort_labels::{Labeller, Rows};
 use fort_lockstep::{Dta, Maker, Steps};
 use fort_table::Dag;
-use fort_terms::{Memory, Signature};
+use fort_terms::Signature;
 use std::alloc::{AllocError, Global};
 use std::marker::Brand;
 use std::sync::ledger::{Blank, Ledger};
@@ -77,7 +77,11 @@ fn is_final<L: Labeller>(labeller: &L, label: &[u64]) -> bool
     labeller.accepts(label)
 }
 
-fn finals_of<L: Labeller>(alloc: Global, labeller: &L, labels: &Rows) -> Result<Vec<bool>, Memory>
+fn finals_of<L: Labeller>(
+    alloc: Global,
+    labeller: &L,
+    labels: &Rows,
+) -> Result<Vec<bool>, AllocError>
     requires labels { (sig : theory.Signature) × L.serves labeller.now sig
         × AreLabels sig (L.column_count labeller.now) (L.label labeller.now) labels.now.labels }
     requires few { length labels.now.labels < 2 ^ 32 }
@@ -175,7 +179,7 @@ fn list_for(alloc: Global, lists: bool) -> Option<Vec<u32>>
 }
 
 /// Puts one more target into the list, where there is one.
-fn list_target(targets: &mut Option<Vec<u32>>, target: u32) -> Result<(), Memory>
+fn list_target(targets: &mut Option<Vec<u32>>, target: u32) -> Result<(), AllocError>
     ensures list { OnOk result ((ts : List ℕ) → IfSome targets.old (λ l. l.items ≡ ts)
         → IfSome targets.new (λ l. l.items ≡ ts ++ target ∷ [])) }
     ensures there { OnOk result (is_some targets.new ≡ is_some targets.old) }
@@ -201,7 +205,7 @@ fn give_targets<G: Ledger, L: Labeller>(
     memo: &mut L::Memo,
     out: &mut [u64],
     steps: &mut Steps<G>,
-) -> Result<bool, Memory>
+) -> Result<bool, AllocError>
     requires exploring { (sig : theory.Signature) × L.serves labeller.now sig
         × IsExploring sig (L.column_count labeller.now) (L.label labeller.now) maker.old
         found.old.firsts found.old.labels.labels }
@@ -245,7 +249,7 @@ impl Exploration {
         labeller: &L,
         cap: u32,
         steps: &mut Steps<G>,
-    ) -> Result<bool, Memory>
+    ) -> Result<bool, AllocError>
         requires served { L.serves labeller.now self.old.maker.signature }
         requires exploring { IsExploring self.old.maker.signature (L.column_count labeller.now)
             (L.label labeller.now) self.old.maker self.old.found.firsts
@@ -283,7 +287,7 @@ impl Exploration {
     }
 
     /// The table, where each entry has its target.
-    fn finish<L: Labeller>(self, alloc: Global, labeller: &L) -> Result<Explored, Memory>
+    fn finish<L: Labeller>(self, alloc: Global, labeller: &L) -> Result<Explored, AllocError>
         requires exploring { (sig : theory.Signature) × L.serves labeller.now sig
             × IsExploring sig (L.column_count labeller.now) (L.label labeller.now) self.maker
             self.found.firsts self.found.labels.labels }

@@ -6,7 +6,7 @@ use Rattle.fort_gtt_closure.specs.declared.agenda.Agenda.{Agenda}
 use Rattle.fort_gtt_closure.specs.declared.entry.Entry.{Entry}
 use Rattle.fort_gtt_closure.specs.declared.links.Links.{Links}
 use Rattle.fort_gtt_closure.specs.declared.marks.Shape.{Shape}
-use Rattle.fort_gtt_closure.specs.declared.passes.Listing.{Listing}
+use Rattle.fort_gtt_closure.specs.declared.passes.PairListing.{PairListing}
 use Rattle.fort_gtt_closure.specs.declared.reasons.Inhabited.{Inhabited}
 use Rattle.fort_gtt_closure.specs.Grids.{is_listed}
 use Rattle.fort_gtt_closure.specs.Groups.{group}
@@ -39,7 +39,7 @@ pub record IsAwake (agtt : Agtt) (es : List Entry) (agenda : Agenda) : Type 0 wh
   pub due : (p q : ℕ) → IsDue agtt es p q → Waits agenda p q
   pub through : (p b : ℕ) → p < agtt.right.states → b < agtt.right.states → LeadsThrough agenda p b ↔ GoesThrough agtt es p b
 
-pub record IsReady (agtt : Agtt) (listing : Listing) : Type 0 where
+pub record IsReady (agtt : Agtt) (listing : PairListing) : Type 0 where
   pub height : listing.grid.height ≡ agtt.right.states
   pub width : listing.grid.width ≡ agtt.left.states
   pub awake : IsAwake agtt listing.grid.entries.items listing.agenda

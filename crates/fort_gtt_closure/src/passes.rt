@@ -21,7 +21,7 @@ use std::alloc::{AllocError, Global};
 
 /// The pairs listed so far, and those that wait for their visit.
 #[derive(Drop)]
-struct Listing {
+struct PairListing {
     grid: Grid,
     agenda: Agenda,
 }
@@ -44,7 +44,7 @@ pub fn close(alloc: Global, agtt: &Agtt) -> Result<Closed, AllocError>
         right: agtt.right.inhabited(alloc)?,
     };
     let links = Links::new(alloc, agtt)?;
-    let mut listing = Listing {
+    let mut listing = PairListing {
         grid: Grid::new(alloc, agtt.right.states, agtt.left.states)?,
         agenda: Agenda::new(alloc, agtt)?,
     };
@@ -63,7 +63,7 @@ fn pass(
     agtt: &Agtt,
     inhabited: &Inhabited,
     links: &Links,
-    listing: &mut Listing,
+    listing: &mut PairListing,
 ) -> Result<(), AllocError>
     requires given { IsGiven agtt.now inhabited.now links.now }
     requires ready { IsReady agtt.now listing.old }
@@ -82,7 +82,7 @@ fn row(
     agtt: &Agtt,
     inhabited: &Inhabited,
     links: &Links,
-    listing: &mut Listing,
+    listing: &mut PairListing,
     p: u32,
 ) -> Result<(), AllocError>
     requires given { IsGiven agtt.now inhabited.now links.now }
@@ -104,7 +104,7 @@ fn visit(
     agtt: &Agtt,
     inhabited: &Inhabited,
     links: &Links,
-    listing: &mut Listing,
+    listing: &mut PairListing,
     p: u32,
     q: u32,
 ) -> Result<(), AllocError>
@@ -127,7 +127,7 @@ fn look(
     agtt: &Agtt,
     inhabited: &Inhabited,
     links: &Links,
-    listing: &mut Listing,
+    listing: &mut PairListing,
     p: u32,
     q: u32,
 ) -> Result<(), AllocError>

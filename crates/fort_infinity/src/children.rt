@@ -8,9 +8,9 @@ ghost use Rattle.fort_infinity.specs.Children.{AreChildren, IsPureColumn, IsLone
 
 use crate::lists::StateLists;
 use fort_table::Table;
-use fort_terms::{Memory, Sym};
+use fort_terms::Sym;
 use fort_tuple_symbols::TupleSym;
-use std::alloc::Global;
+use std::alloc::{AllocError, Global};
 
 /// The entries with one symbol, alone in its column.
 #[derive(Drop)]
@@ -31,7 +31,7 @@ impl<'a, T: Table> Alone<'a, T> {
         j: usize,
         rest: usize,
         children: &mut StateLists,
-    ) -> Result<(), Memory>
+    ) -> Result<(), AllocError>
         requires pure { IsPureColumn (T.table self.now.body.now) self.now.column
             self.now.states.now }
         requires lone { IsLone (T.table self.now.body.now) self.now.column self.now.sym.0
@@ -79,7 +79,7 @@ fn note_under<T: Table>(
     states: &[u32],
     sym: Sym,
     children: &mut StateLists,
-) -> Result<(), Memory>
+) -> Result<(), AllocError>
     requires pure { IsPureColumn (T.table body.now) column states.now }
     requires symbol { sym.0 < length (T.table body.now).signature }
     requires room { length children.old ≡ length (T.table body.now).presences }
@@ -110,7 +110,7 @@ pub(crate) fn pure_children<T: Table>(
     body: &T,
     column: usize,
     states: &[u32],
-) -> Result<StateLists, Memory>
+) -> Result<StateLists, AllocError>
     requires { IsPureColumn (T.table body.now) column states.now }
     ensures { IfOk result (AreChildren (T.table body.now) column) }
 {

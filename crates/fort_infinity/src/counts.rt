@@ -12,8 +12,7 @@ use crate::lists::StateLists;
 use crate::ranks::settled_ranks;
 use fort_findings::Count;
 use fort_table::Table;
-use fort_terms::Memory;
-use std::alloc::Global;
+use std::alloc::{AllocError, Global};
 
 /// The least child without a rank.
 fn least_unranked(children: &[u32], ranks: &[u32]) -> u32
@@ -51,7 +50,7 @@ fn list_counts(
     alone: &[u32],
     children: &StateLists,
     ranks: &[u32],
-) -> Result<Vec<Count>, Memory>
+) -> Result<Vec<Count>, AllocError>
     requires states { (i : ℕ) → i < length alone.now
         → slice_index_or alone.now i 0 < length children.now }
     requires children { (k i : ℕ) → i < length (slice_index_or children.now k [])
@@ -77,7 +76,7 @@ pub fn pure_counts<T: Table>(
     body: &T,
     column: usize,
     alone: &[u32],
-) -> Result<Vec<Count>, Memory>
+) -> Result<Vec<Count>, AllocError>
     requires column { column < (T.table body.now).columns }
     requires alone { ArePure (T.table body.now) column alone.now }
     ensures { IfOk result (λ counts. AreCounts (T.table body.now) column alone.now

@@ -1,8 +1,7 @@
 //! A list of states for each state.
 ghost use Rattle.std.specs.Prelude.{◌≡◌, ℕ, ◌<◌, ◌^◌, ◌==◌, List, [], ◌++◌, length, slice_index_or, if◌then◌else◌, replicate, IfOk, OnOk};
 
-use fort_terms::Memory;
-use std::alloc::Global;
+use std::alloc::{AllocError, Global};
 use std::marker::Model;
 
 /// A list of states for each state.
@@ -22,7 +21,7 @@ impl Model for StateLists {
 
 impl StateLists {
     /// Nothing in the list of any state.
-    pub(crate) fn new(alloc: Global, states: u32) -> Result<StateLists, Memory>
+    pub(crate) fn new(alloc: Global, states: u32) -> Result<StateLists, AllocError>
         ensures { IfOk result (λ s. s ≡ replicate states []) }
     {
         let mut lists = Vec::new(alloc);
@@ -49,7 +48,7 @@ impl StateLists {
     }
 
     /// Appends states to the list of a state.
-    pub(crate) fn append(&mut self, q: u32, states: &[u32]) -> Result<(), Memory>
+    pub(crate) fn append(&mut self, q: u32, states: &[u32]) -> Result<(), AllocError>
         requires { q < length self.old }
         ensures count { length self.new ≡ length self.old }
         ensures appended { OnOk result ((k : ℕ) → slice_index_or self.new k []

@@ -6,8 +6,7 @@ ghost use Rattle.fort_infinity.specs.Children.{AreChildren, IsPureColumn};
 ghost use Rattle.fort_infinity.specs.RankTests.{IsEarlier, IsOpen};
 
 use crate::lists::StateLists;
-use fort_terms::Memory;
-use std::alloc::Global;
+use std::alloc::{AllocError, Global};
 
 /// Ranks in the making. A state without one waits for a child without one.
 #[derive(Drop)]
@@ -46,7 +45,7 @@ impl Ranking {
     ghost use Rattle.fort_infinity.specs.Rankings.{rank_of, passed_of, waiting_of, HasRoom, IsAdvanced, AreTried, AreReady, AreSomeReady, AreWoken, HasUnranked};
 
     /// Nothing is known yet.
-    fn new(alloc: Global, states: u32) -> Result<Ranking, Memory>
+    fn new(alloc: Global, states: u32) -> Result<Ranking, AllocError>
         ensures room { IfOk result (λ s. HasRoom s states) }
         ensures ranks { IfOk result (λ s. (q : ℕ) → rank_of s q ≡ 0) }
         ensures passed { IfOk result (λ s. (q : ℕ) → passed_of s q ≡ 0) }
@@ -66,7 +65,7 @@ impl Ranking {
         q: u32,
         round: u32,
         ranked: &mut Vec<u32>,
-    ) -> Result<(), Memory>
+    ) -> Result<(), AllocError>
         requires room { HasRoom self.old (length children.now) }
         requires state { q < length children.now }
         requires children { (k i : ℕ) → i < length (slice_index_or children.now k [])
@@ -99,7 +98,7 @@ impl Ranking {
         children: &StateLists,
         tried: &[u32],
         round: u32,
-    ) -> Result<Vec<u32>, Memory>
+    ) -> Result<Vec<u32>, AllocError>
         requires ready { AreSomeReady children.now round self.old tried.now }
         requires early { round < length children.now }
         requires small { length children.now < 2 ^ 32 }
@@ -120,7 +119,7 @@ impl Ranking {
     }
 
     /// The states that waited for these.
-    fn woken(&self, alloc: Global, ranked: &[u32]) -> Result<Vec<u32>, Memory>
+    fn woken(&self, alloc: Global, ranked: &[u32]) -> Result<Vec<u32>, AllocError>
         requires { (i : ℕ) → i < length ranked.now
             → slice_index_or ranked.now i 0 < length self.now.waiting }
         ensures woken { IfOk result (λ woken. AreWoken self.now ranked.now woken.items) }
@@ -140,7 +139,7 @@ impl Ranking {
         alloc: Global,
         children: &StateLists,
         alone: Vec<u32>,
-    ) -> Result<(), Memory>
+    ) -> Result<(), AllocError>
         requires ready { AreSomeReady children.now 0 self.old alone.items }
         requires small { length children.now < 2 ^ 32 }
         ensures room { OnOk result (HasRoom self.new (length children.now)) }
@@ -170,7 +169,7 @@ pub(crate) fn settled_ranks(
     alloc: Global,
     children: &StateLists,
     alone: &[u32],
-) -> Result<Vec<u32>, Memory>
+) -> Result<Vec<u32>, AllocError>
     requires ready { (body : tables.Table) × (c : ℕ) × IsPureColumn body c alone.now
         × AreChildren body c children.now }
     requires small { length children.now < 2 ^ 32 }

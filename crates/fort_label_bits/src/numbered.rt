@@ -14,7 +14,7 @@ ghost use Rattle.std.specs.List.{list_any};
 use crate::bits::{add_mark, has_mark, put_mark};
 use crate::rooted::Rooted;
 use fort_labels::Rows;
-use fort_terms::{Memory, Pattern, Sym, has_numbers};
+use fort_terms::{Pattern, Sym, has_numbers};
 use fort_tree_automata::place;
 use fort_tuple_symbols::Row;
 use std::alloc::{AllocError, Global};
@@ -47,7 +47,7 @@ impl Numbered {
 }
 
 /// Each pattern by numbers, in the list's order. A list of 2^32 patterns or more, for which there are no numbers, is want of memory.
-pub fn number_patterns(alloc: Global, patterns: &[Pattern]) -> Result<Vec<Numbered>, Memory>
+pub fn number_patterns(alloc: Global, patterns: &[Pattern]) -> Result<Vec<Numbered>, AllocError>
     requires { IsClosedInOrder (map as_pattern patterns.now) }
     ensures few { OnOk result (length patterns.now < 2 ^ 32) }
     ensures numbers { IfOk result (λ rows.
@@ -63,7 +63,7 @@ pub fn number_patterns(alloc: Global, patterns: &[Pattern]) -> Result<Vec<Number
     Ok(rows)
 }
 
-fn number_of(alloc: Global, pattern: &Pattern, patterns: &[Pattern]) -> Result<Numbered, Memory>
+fn number_of(alloc: Global, pattern: &Pattern, patterns: &[Pattern]) -> Result<Numbered, AllocError>
     requires few { length patterns.now < 2 ^ 32 }
     requires closed { IsClosedInOrder (map as_pattern patterns.now) }
     requires listed { Contains (map as_pattern patterns.now) (as_pattern pattern.now) }
@@ -83,7 +83,7 @@ fn number_of(alloc: Global, pattern: &Pattern, patterns: &[Pattern]) -> Result<N
 }
 
 /// The places of some arguments, all of which are in the list.
-fn places_of(alloc: Global, args: &[Pattern], patterns: &[Pattern]) -> Result<Vec<u32>, Memory>
+fn places_of(alloc: Global, args: &[Pattern], patterns: &[Pattern]) -> Result<Vec<u32>, AllocError>
     requires few { length patterns.now < 2 ^ 32 }
     requires closed { IsClosedInOrder (map as_pattern patterns.now) }
     requires among { AllAmong (map as_pattern patterns.now) (as_patterns args.now) }
@@ -232,7 +232,7 @@ pub fn write_rooted(
 }
 
 /// The patterns under their roots.
-pub fn root_patterns(alloc: Global, patterns: &[Numbered]) -> Result<Rooted, Memory>
+pub fn root_patterns(alloc: Global, patterns: &[Numbered]) -> Result<Rooted, AllocError>
     ensures { IfOk result (IsRooted (map root_of patterns.now)) }
 {
     let mut rooted = Rooted::new(alloc);

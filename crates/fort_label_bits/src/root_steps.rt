@@ -8,15 +8,14 @@ ghost use Rattle.fort_label_bits.specs.declared.rule_places.RulePlaces as places
 use crate::bits::{has_mark, skip_off};
 use crate::rooted::{grow, push_in};
 use crate::rule_places::{RulePlaces, rule_at};
-use fort_terms::Memory;
-use std::alloc::Global;
+use std::alloc::{AllocError, Global};
 
 /// For each of so many left patterns, the places of the rules whose left side it is.
 pub fn rules_under(
     alloc: Global,
     rules: &[RulePlaces],
     lefts: usize,
-) -> Result<Vec<Vec<usize>>, Memory>
+) -> Result<Vec<Vec<usize>>, AllocError>
     requires { (r : places.RulePlaces) → Contains rules.now r → r.left < lefts }
     ensures { IfOk result (λ under. AreUnderLefts rules.now (map vec_items under.items)) }
 {

@@ -3,8 +3,8 @@ ghost use Rattle.std.specs.Prelude.{◌≡◌, ℕ, ◌+◌, ◌<◌, ◌≤◌,
 ghost use Rattle.fort_tuple_symbols.specs.Columns.{as_column};
 ghost use Rattle.fort_label_bits.specs.RootPlaces.{IsRooted, HasMoreRoots, list_at, places_at};
 
-use fort_terms::{Memory, Sym};
-use std::alloc::Global;
+use fort_terms::Sym;
+use std::alloc::{AllocError, Global};
 
 /// For each symbol, by its number, the places where it is the root; and those where any symbol is.
 #[derive(Drop)]
@@ -14,7 +14,7 @@ pub struct Rooted {
 }
 
 /// Makes lists until there are so many.
-pub fn grow(alloc: Global, lists: &mut Vec<Vec<usize>>, count: usize) -> Result<(), Memory>
+pub fn grow(alloc: Global, lists: &mut Vec<Vec<usize>>, count: usize) -> Result<(), AllocError>
     ensures same { (g : ℕ) → list_at (map vec_items lists.new.items) g
         ≡ list_at (map vec_items lists.old.items) g }
     ensures room { OnOk result (count ≤ length lists.new.items) }
@@ -26,7 +26,7 @@ pub fn grow(alloc: Global, lists: &mut Vec<Vec<usize>>, count: usize) -> Result<
 }
 
 /// One more place in one of the lists.
-pub fn push_in(lists: &mut Vec<Vec<usize>>, at: usize, place: usize) -> Result<(), Memory>
+pub fn push_in(lists: &mut Vec<Vec<usize>>, at: usize, place: usize) -> Result<(), AllocError>
     requires { at < length lists.old.items }
     ensures { OnOk result (map vec_items lists.new.items ≡ set (map vec_items lists.old.items) at
         (list_at (map vec_items lists.old.items) at ++ place ∷ [])) }
@@ -34,7 +34,7 @@ pub fn push_in(lists: &mut Vec<Vec<usize>>, at: usize, place: usize) -> Result<(
     push_one(&mut lists[at], place)
 }
 
-fn push_one(list: &mut Vec<usize>, place: usize) -> Result<(), Memory>
+fn push_one(list: &mut Vec<usize>, place: usize) -> Result<(), AllocError>
     ensures { OnOk result (list.new.items ≡ list.old.items ++ place ∷ []) }
 {
     list.push(place)?;
@@ -52,7 +52,7 @@ impl Rooted {
     }
 
     /// One more place, with this root, or with any.
-    pub fn push(&mut self, alloc: Global, root: Option<Sym>, place: usize) -> Result<(), Memory>
+    pub fn push(&mut self, alloc: Global, root: Option<Sym>, place: usize) -> Result<(), AllocError>
         ensures { OnOk result (HasMoreRoots self.old (as_column root) place self.new) }
     {
         match root {

@@ -5,11 +5,10 @@ ghost use Rattle.fort_label_bits.specs.RowBits.{bit_of};
 ghost use Rattle.fort_label_bits.specs.BitRowLists.{AreClear, SetsBit, row_in};
 
 use fort_labels::set_bit;
-use fort_terms::Memory;
-use std::alloc::Global;
+use std::alloc::{AllocError, Global};
 
 /// So many rows of this width, with no bit on.
-pub fn clear_rows(alloc: Global, count: usize, width: usize) -> Result<Vec<Vec<u64>>, Memory>
+pub fn clear_rows(alloc: Global, count: usize, width: usize) -> Result<Vec<Vec<u64>>, AllocError>
     ensures { IfOk result (λ rows. AreClear count width (map vec_items rows.items)) }
 {
     let mut rows = Vec::with_capacity(alloc, count)?;

@@ -8,8 +8,8 @@ ghost use Rattle.fort_label_bits.specs.RuleLefts.{some_rule as some_rule_lem};
 
 use crate::bits::has_mark;
 use crate::numbered::place_of;
-use fort_terms::{Memory, Pattern};
-use std::alloc::Global;
+use fort_terms::Pattern;
+use std::alloc::{AllocError, Global};
 
 /// The places of a rule's sides, in the list of the left and in that of the right patterns.
 #[derive(Clone, Copy)]
@@ -24,7 +24,7 @@ pub fn places_of_rules(
     rules: &[(Pattern, Pattern)],
     lefts: &[Pattern],
     rights: &[Pattern],
-) -> Result<Vec<RulePlaces>, Memory>
+) -> Result<Vec<RulePlaces>, AllocError>
     requires left_closed { IsClosedInOrder (map as_pattern lefts.now) }
     requires right_closed { IsClosedInOrder (map as_pattern rights.now) }
     requires left_few { length lefts.now < 2 ^ 32 }

@@ -2,9 +2,8 @@
 use crate::labeller::Labeller;
 use crate::rows::Rows;
 use crate::rule::LocalRule;
-use fort_terms::Memory;
 use fort_tuple_symbols::Row;
-use std::alloc::Global;
+use std::alloc::{AllocError, Global};
 
 /// The labeller of a local rule: it gives a tuple the label of the rule.
 #[derive(Drop)]
@@ -42,7 +41,7 @@ impl<'a, R: LocalRule> Labeller for ByRule<'a, R> {
         self.0.width()
     }
 
-    fn memo(&self, _alloc: Global) -> Result<(), Memory> {
+    fn memo(&self, _alloc: Global) -> Result<(), AllocError> {
         Ok(())
     }
 

@@ -4,9 +4,8 @@ ghost use Rattle.fort_theory.specs.Signatures as theory;
 ghost use Rattle.fort_tables.specs.Labels.{Labelling, TellsPresence, HasWidth, IsFullLabel, IsOverLabels, GivesLabel};
 
 use crate::rows::Rows;
-use fort_terms::Memory;
 use fort_tuple_symbols::Row;
-use std::alloc::Global;
+use std::alloc::{AllocError, Global};
 
 /// Gives each optional tuple over the signatures that it serves a label, by its root and its children's labels.
 pub trait Labeller {
@@ -39,7 +38,7 @@ pub trait Labeller {
         ensures some { 0 < result };
 
     /// What is kept before the first entry.
-    fn memo(&self, alloc: Global) -> Result<Self::Memo, Memory>
+    fn memo(&self, alloc: Global) -> Result<Self::Memo, AllocError>
         ensures { IfOk result (fits self.now) };
 
     /// The label of a tuple from its root and the labels of its children.

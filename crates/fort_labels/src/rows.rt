@@ -1,8 +1,7 @@
 //! Lists of labels of one width.
 ghost use Rattle.std.specs.Prelude.{◌≡◌, ℕ, ◌+◌, ◌*◌, ◌<◌, ◌≤◌, List, [], ◌∷◌, ◌++◌, length, slice_index_or, IfOk, OnOk, OnErr};
 
-use fort_terms::Memory;
-use std::alloc::Global;
+use std::alloc::{AllocError, Global};
 use std::marker::Model;
 
 /// A list of labels of one width, in one piece: label q stands at number q, as that of state q.
@@ -28,7 +27,7 @@ impl Model for Rows {
 
 impl Rows {
     /// No labels, and room for `room` of them.
-    pub fn new(alloc: Global, width: usize, room: usize) -> Result<Rows, Memory>
+    pub fn new(alloc: Global, width: usize, room: usize) -> Result<Rows, AllocError>
         requires { 0 < width }
         ensures width { IfOk result (λ r. r.width ≡ width) }
         ensures room { IfOk result (λ r. r.room ≡ room) }
@@ -99,7 +98,7 @@ impl Rows {
     }
 
     /// Makes room for one more.
-    pub fn make_room(&mut self) -> Result<(), Memory>
+    pub fn make_room(&mut self) -> Result<(), AllocError>
         ensures labels { self.new.labels ≡ self.old.labels }
         ensures width { self.new.width ≡ self.old.width }
         ensures room { OnOk result (length self.new.labels < self.new.room) }

@@ -11,7 +11,7 @@ use Rattle.fort_entry_walk.specs.WalkPlaces.{Place, entry_at, IsStep}
 use Rattle.fort_lockstep.specs.Making.{Parts, made_of, IsPushed, IsMaking, IsStanding, IsUpTo, Stands}
 use Rattle.fort_lockstep.specs.Fronts.{front_of}
 use Rattle.fort_table.specs.EntryListFacts.{entries_in}
-use Rattle.fort_table.specs.declared.entry_list.Span.{Span}
+use Rattle.fort_table.specs.declared.entry_list.EntrySpan.{EntrySpan}
 use Rattle.fort_lockstep.specs.StateFacts.{AreFirsts, IsSameStates, IsNoted, first_entries_in}
 use Rattle.fort_lockstep.specs.MakerInside.{parts_with}
 use Rattle.fort_lockstep.specs.declared.states.States.{States}
@@ -80,7 +80,7 @@ noted_on sig n a s t qs qs' row last e b q place m h ok is f same noted grown at
     let p = presence row.symbol in
     let own = same.presences in
     let rows : first_entries_in s ≡ first_entries_in a =
-    ap (λ (xs : List ℕ). entries_in xs s.first_entries.spans.items) same.numbers ∙ ap (λ (xs : List Span). entries_in a.first_entries.numbers.items xs) same.spans in
+    ap (λ (xs : List ℕ). entries_in xs s.first_entries.spans.items) same.numbers ∙ ap (λ (xs : List EntrySpan). entries_in a.first_entries.numbers.items xs) same.spans in
     given_on sig n (parts_with sig n a qs) row last e b q place t.presences.items t.firsts.items qs' (first_entries_in a) (first_entries_in t) m h ok is f
     (noted.presences ∙ ap (λ (ps : List ℕ). if q == length ps then ps ++ p ∷ [] else ps) own)
     (noted.firsts ∙ (ap (λ (ps : List ℕ). if q == length ps then s.firsts.items ++ place ∷ [] else s.firsts.items) own

@@ -10,8 +10,9 @@ use crate::steps::Steps;
 use fort_entry_walk::Entries;
 use fort_table::{EntryList, Table};
 use fort_target_lists::TargetList;
-use fort_terms::{Memory, Signature};
+use fort_terms::Signature;
 use fort_tuple_symbols::{Row, TupleSym};
+use std::alloc::AllocError;
 use std::marker::Model;
 use std::rc::Rc;
 use std::sync::ledger::Ledger;
@@ -93,7 +94,7 @@ impl Dta {
     }
 
     /// The same table with these accepting states. Both share their entries, so that it takes room for the states alone.
-    pub fn with_finals(&self, finals: Vec<bool>) -> Result<Dta, Memory>
+    pub fn with_finals(&self, finals: Vec<bool>) -> Result<Dta, AllocError>
         requires count { length finals.items ≡ length self.now.presences }
         requires full { (q : ℕ) → q < length self.now.presences
             → slice_index_or finals.items q false ≡ true

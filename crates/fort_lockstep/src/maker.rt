@@ -7,9 +7,9 @@ use crate::dta::{Dta, Shared};
 use crate::states::States;
 use fort_entry_walk::Walk;
 use fort_target_lists::TargetList;
-use fort_terms::{Memory, Signature};
+use fort_terms::Signature;
 use fort_tuple_symbols::Row;
-use std::alloc::Global;
+use std::alloc::{AllocError, Global};
 use std::marker::Model;
 use std::rc::Rc;
 
@@ -41,7 +41,7 @@ impl Model for Maker {
 
 impl Maker {
     /// No states yet; the signature is copied.
-    pub fn new(alloc: Global, sig: &Signature, columns: usize) -> Result<Maker, Memory>
+    pub fn new(alloc: Global, sig: &Signature, columns: usize) -> Result<Maker, AllocError>
         requires some { 0 < columns }
         requires narrow { columns ≤ 16 }
         ensures signature { IfOk result (λ m. m.signature ≡ sig.now) }
@@ -91,7 +91,7 @@ impl Maker {
     }
 
     /// Gives the due entry its target, an earlier state or the next new one.
-    pub fn give(&mut self, target: u32) -> Result<(), Memory>
+    pub fn give(&mut self, target: u32) -> Result<(), AllocError>
         requires allowed { (e : Entry) × IsAllowed self.old e target }
         requires few { target + 1 < 2 ^ 32 }
         ensures given { OnOk result ((e : Entry) → IsMadeDue self.old e → IsGiven self.old e
@@ -112,7 +112,7 @@ impl Maker {
     }
 
     /// The table, whose accepting states are those with a true final.
-    pub fn finish(self, finals: Vec<bool>) -> Result<Dta, Memory>
+    pub fn finish(self, finals: Vec<bool>) -> Result<Dta, AllocError>
         requires complete { IsComplete self }
         requires finals { AreFinals self finals.items }
         ensures table { IfOk result (λ t. t ≡ finished self finals.items) }

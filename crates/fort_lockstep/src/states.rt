@@ -4,9 +4,8 @@ ghost use Rattle.fort_lockstep.specs.StateFacts.{IsSameStates, HasRoom, IsNoted}
 ghost use Rattle.fort_table.specs.EntryListFacts.{AreSpans};
 
 use fort_table::EntryList;
-use fort_terms::Memory;
 use fort_tuple_symbols::Row;
-use std::alloc::Global;
+use std::alloc::{AllocError, Global};
 
 /// The presences of the states so far, and for each its first entry, with its place among all entries.
 #[derive(Drop)]
@@ -31,7 +30,7 @@ impl States {
     }
 
     /// Room for the target of an entry, where it is the next new state.
-    pub fn make_room(&mut self, target: u32) -> Result<(), Memory>
+    pub fn make_room(&mut self, target: u32) -> Result<(), AllocError>
         ensures same { IsSameStates self.old self.new }
         ensures room { OnOk result (target ≡ length self.new.presences.items
             → HasRoom self.new) }

@@ -17,9 +17,9 @@ use fort_labels::{ByRule, LocalRule, Rows};
 use fort_lockstep::Dta;
 use fort_reduce::reduce;
 use fort_table::Table;
-use fort_terms::{AddFault, Memory, Signature};
+use fort_terms::{AddFault, Signature};
 use fort_tuple_symbols::Row;
-use std::alloc::Global;
+use std::alloc::{AllocError, Global};
 use std::io;
 use std::process::ExitCode;
 
@@ -148,7 +148,7 @@ struct Plan {
 }
 
 /// How many entries were kept, and the sum of the targets that were looked up.
-fn look_ups(alloc: Global, table: &Dta, plan: &Plan) -> Result<(usize, u64), Memory> {
+fn look_ups(alloc: Global, table: &Dta, plan: &Plan) -> Result<(usize, u64), AllocError> {
     let kept = sample(alloc, table, plan.every)?;
     let rows = mixed(alloc, kept.as_slice(), plan.multiplier)?;
     let mut sum = 0u64;
@@ -159,7 +159,7 @@ fn look_ups(alloc: Global, table: &Dta, plan: &Plan) -> Result<(usize, u64), Mem
 }
 
 /// How many states there are when the table has been reduced so often, each time anew, and the sum of the classes' counts.
-fn reductions(alloc: Global, table: &Dta, rounds: u64) -> Result<(usize, u64), Memory> {
+fn reductions(alloc: Global, table: &Dta, rounds: u64) -> Result<(usize, u64), AllocError> {
     let mut count = 0usize;
     let mut sum = 0u64;
     for _ in 0..rounds {

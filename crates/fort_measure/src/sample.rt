@@ -5,11 +5,10 @@ ghost use Rattle.fort_measure.specs.Samples.{AreEntries};
 
 use fort_lockstep::Dta;
 use fort_table::Table;
-use fort_terms::Memory;
 use fort_tuple_symbols::Row;
-use std::alloc::Global;
+use std::alloc::{AllocError, Global};
 
-fn presences_of(alloc: Global, table: &Dta) -> Result<Vec<u16>, Memory>
+fn presences_of(alloc: Global, table: &Dta) -> Result<Vec<u16>, AllocError>
     ensures all { IfOk result (λ v. v.items ≡ table.now.presences) }
     ensures few { length table.now.presences < 2 ^ 32 }
 {
@@ -21,7 +20,7 @@ fn presences_of(alloc: Global, table: &Dta) -> Result<Vec<u16>, Memory>
 }
 
 /// Each `every`-th entry.
-pub fn sample(alloc: Global, table: &Dta, every: u64) -> Result<Vec<Row>, Memory>
+pub fn sample(alloc: Global, table: &Dta, every: u64) -> Result<Vec<Row>, AllocError>
     ensures { IfOk result (λ v. AreEntries table.now v.items) }
 {
     let presences = presences_of(alloc, table)?;
@@ -52,7 +51,7 @@ fn row_at(rows: &[Row], place: u64) -> Row
 }
 
 /// The same in another order.
-pub fn mixed(alloc: Global, rows: &[Row], multiplier: u64) -> Result<Vec<Row>, Memory>
+pub fn mixed(alloc: Global, rows: &[Row], multiplier: u64) -> Result<Vec<Row>, AllocError>
     ensures { IfOk result (λ v. (e : Entry) → Contains v.items e → Contains rows.now e) }
 {
     let mut mixed = Vec::new(alloc);

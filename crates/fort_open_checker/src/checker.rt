@@ -20,7 +20,7 @@ use fort_cert_checker::{Rejected, StepChecker, WholeRoom, accepts_some};
 use fort_check_steps::Reason;
 use fort_formulas::Core;
 use fort_steps::{Claim, OpenCertificate};
-use fort_terms::{Memory, System, has_numbers};
+use fort_terms::{System, has_numbers};
 use std::alloc::{AllocError, Global};
 
 /// Checks a certificate of an open formula, in room that is taken before.
@@ -51,7 +51,7 @@ impl<'a> OpenChecker<'a> {
         system: &'a System,
         core: &'a Core,
         certificate: &'a OpenCertificate,
-    ) -> Result<OpenChecker<'a>, Memory>
+    ) -> Result<OpenChecker<'a>, AllocError>
         requires decided { IsDecided system.now (as_core core.now) }
         requires open { 0 < length (columns_of (as_core core.now)) }
         ensures { IfOk result (IsOpenCheckerOf system.now (as_core core.now)

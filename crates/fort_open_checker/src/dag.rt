@@ -8,9 +8,8 @@ ghost use Rattle.fort_open_checker.specs.NodeTests.{IsRowOver};
 use crate::entry::tuple_symbol;
 use fort_steps::Node;
 use fort_table::Dag;
-use fort_terms::Memory;
 use fort_tuple_symbols::Row;
-use std::alloc::Global;
+use std::alloc::{AllocError, Global};
 
 /// A node as an entry.
 fn row_of(node: &Node) -> Row
@@ -21,7 +20,7 @@ fn row_of(node: &Node) -> Row
 }
 
 /// The same nodes as a list of tuples.
-pub fn nodes_dag(alloc: Global, nodes: &[Node]) -> Result<Dag, Memory>
+pub fn nodes_dag(alloc: Global, nodes: &[Node]) -> Result<Dag, AllocError>
     requires { (sig : theory.Signature) × (columns : ℕ) × theory.IsSignature sig
         × (columns ≤ theory.most_columns) × AreNodes sig columns (map as_node nodes.now) }
     ensures { IfOk result (λ dag. dag ≡ map as_node nodes.now) }

@@ -8,9 +8,8 @@ ghost use Rattle.fort_open_checker.specs.NodeStates.{AreNodeStates, IsNodeEntry,
 use crate::entry::entry_symbol;
 use fort_steps::Node;
 use fort_table::Table;
-use fort_terms::Memory;
 use fort_tuple_symbols::TupleSym;
-use std::alloc::Global;
+use std::alloc::{AllocError, Global};
 
 /// For each node so far its presence and its state.
 #[derive(Drop)]
@@ -38,7 +37,7 @@ fn state_over<T: Table>(table: &T, symbol: &TupleSym, states: &[u32], kids: &[u3
 
 impl NodeRoom {
     /// For so many nodes.
-    pub(crate) fn new(alloc: Global, nodes: usize) -> Result<NodeRoom, Memory>
+    pub(crate) fn new(alloc: Global, nodes: usize) -> Result<NodeRoom, AllocError>
         ensures { IfOk result (HasNodeRoom nodes) }
     {
         Ok(NodeRoom {

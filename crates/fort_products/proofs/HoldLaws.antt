@@ -26,7 +26,7 @@ use Rattle.fort_products.specs.Joints.{IsJointOf}
 use Rattle.fort_target_lists.specs.Walks.{entries_before, IsCovered, IsWalkOf, AreStageBegins, Stop, IsStopOf, HasPassedTo}
 use Rattle.fort_products.specs.declared.held.Holding.{Holding}
 use Rattle.fort_products.specs.declared.joint.Joint.{Joint}
-use Rattle.fort_target_lists.specs.declared.walk.Walk.{Walk}
+use Rattle.fort_target_lists.specs.declared.walk.LayingWalk.{LayingWalk}
 use Rattle.fort_target_lists.proofs.LayLaws.{laid_first}
 use Rattle.fort_target_lists.proofs.SymbolPlaces.{entries_all}
 use Rattle.fort_target_lists.proofs.WalkLaws.{entry_at, stop_low, stop_room, stop_place, passed_more}
@@ -34,7 +34,7 @@ use Rattle.fort_target_lists.proofs.WalkSymbols.{symbol_with, first_stop, first_
 use Rattle.fort_target_lists.proofs.WalkTurns.{passed_below, below_first, below_next, below_last, next_stop, stop_at, stop_end}
 
 -- the entry at a stop
-stop_entry : (p : Stop) (walk : Walk) (f : TupleSymbol) (latest : ℕ) → IsStopOf p walk f latest 0 0 → IsEntry p.table.signature p.table.columns p.table.presences (entry_at p f)
+stop_entry : (p : Stop) (walk : LayingWalk) (f : TupleSymbol) (latest : ℕ) → IsStopOf p walk f latest 0 0 → IsEntry p.table.signature p.table.columns p.table.presences (entry_at p f)
 stop_entry p walk f latest h =
     let t = p.table in
     let e = entry_at p f in
@@ -59,13 +59,13 @@ pub operands_held : (o : Operands) (p : Stop) (h : Holding) (f : TupleSymbol) (j
 operands_held o p h f joint latest j n a = subst (λ (c : ℕ). AreOperands (signature_of o.first o.second) c o.first o.second) (sym a.stop.symbol.width) a.is_of.operands
 
 -- its target stands at the cursor
-record IsAtCursor (t : Listed) (walk : Walk) (e : Entry) (cursor : ℕ) : Type 0 where
+record IsAtCursor (t : Listed) (walk : LayingWalk) (e : Entry) (cursor : ℕ) : Type 0 where
   within : cursor < length t.targets
   there : cursor < length t.entries
   is : (d : Entry) → get_or t.entries cursor d ≡ e
   target : get_or walk.targets.now cursor 0 ≡ get_or t.targets cursor 0
 
-at_cursor : (p : Stop) (walk : Walk) (f : TupleSymbol) (latest : ℕ) (cursors laid : List ℕ) → IsTrue walk.lays → IsStopOf p walk f latest 0 0 → HasPassedTo p walk.lays cursors laid
+at_cursor : (p : Stop) (walk : LayingWalk) (f : TupleSymbol) (latest : ℕ) (cursors laid : List ℕ) → IsTrue walk.lays → IsStopOf p walk f latest 0 0 → HasPassedTo p walk.lays cursors laid
     → IsAtCursor p.table walk (entry_at p f) (get_or cursors latest 0)
 at_cursor p walk f latest cursors laid b h v =
     let t = p.table in

@@ -10,13 +10,13 @@ use crate::joint::{Joint, joint_of};
 use crate::product::Both;
 use fort_labels::Rows;
 use fort_table::Table;
-use fort_target_lists::{Walk, is_present, kid_count, kid_presence};
+use fort_target_lists::{LayingWalk, is_present, kid_count, kid_presence};
 use fort_tuple_symbols::TupleSym;
 
 /// A walk over all entries of a product, which holds the target at each one's cursor against the label that the entry is to have.
 #[derive(Clone, Copy)]
 pub(crate) struct Holding<'a, 'b> {
-    pub(crate) walk: Walk<'a>,
+    pub(crate) walk: LayingWalk<'a>,
     /// The labels of the states.
     pub(crate) rows: &'b Rows,
     /// Targets before this place are passed unseen.

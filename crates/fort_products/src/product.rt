@@ -22,7 +22,7 @@ use crate::operand::Operand;
 use fort_connectives::Op;
 use fort_labels::{LocalRule, Rows};
 use fort_table::Table;
-use fort_target_lists::{FlatTargets, LayRoom, TargetList, Walk, flat_of, has_entries};
+use fort_target_lists::{FlatTargets, LayRoom, LayingWalk, TargetList, flat_of, has_entries};
 use fort_terms::Signature;
 use fort_tuple_symbols::Row;
 
@@ -165,7 +165,7 @@ impl<'a, T: Table> Both<'a, T> {
             return false;
         }
         room.begin_cursors(signature, self.columns, base, count, targets);
-        let walk = Walk {
+        let walk = LayingWalk {
             signature,
             columns: self.columns,
             base,

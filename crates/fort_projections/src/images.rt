@@ -6,9 +6,9 @@ ghost use Rattle.fort_tables.specs.BitRows.{words_for};
 ghost use Rattle.fort_projections.specs.ImageFacts.{AreImages, IsImage, IsKeyOf};
 
 use fort_labels::Rows;
-use fort_terms::{Memory, Signature, Sym};
+use fort_terms::{Signature, Sym};
 use fort_tuple_symbols::{Row, TupleSym};
-use std::alloc::Global;
+use std::alloc::{AllocError, Global};
 
 /// So many words of images are kept at most, 8 MiB.
 const MOST_WORDS: usize = 1048576;
@@ -90,7 +90,7 @@ impl Images {
         sig: &Signature,
         states: usize,
         width: usize,
-    ) -> Result<Images, Memory>
+    ) -> Result<Images, AllocError>
         requires few { states < 2 ^ 32 }
         requires width { 2 ≤ width }
         ensures { (body : tables.Table) (c : ℕ) → states ≡ length body.presences

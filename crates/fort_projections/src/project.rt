@@ -13,9 +13,8 @@ use crate::pure::pure_states;
 use fort_labels::{LocalRule, Rows};
 use fort_table::Table;
 use fort_target_lists::TargetList;
-use fort_terms::Memory;
 use fort_tuple_symbols::Row;
-use std::alloc::Global;
+use std::alloc::{AllocError, Global};
 
 /// The labels of a projection: of a tuple of the other columns, the presence, the body's state with the column absent, and the set of
 /// states that the terms of the column give.
@@ -40,7 +39,7 @@ impl<'a, T: Table> Project<'a, T> {
         body: &'a T,
         list: &'a TargetList,
         column: usize,
-    ) -> Result<Project<'a, T>, Memory>
+    ) -> Result<Project<'a, T>, AllocError>
         requires list { IsTargetListOf (T.table body.now) list.now }
         requires column { column < (T.table body.now).columns }
         requires another { 1 < (T.table body.now).columns }

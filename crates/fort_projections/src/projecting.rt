@@ -6,9 +6,8 @@ use crate::project::Project;
 use fort_labels::{Labeller, Rows};
 use fort_table::Table;
 use fort_target_lists::Finder;
-use fort_terms::Memory;
 use fort_tuple_symbols::Row;
-use std::alloc::Global;
+use std::alloc::{AllocError, Global};
 
 /// The labeller of a projection: it gives a tuple the label of the projection's rule. It keeps what entries give that differ in one
 /// child alone.
@@ -54,7 +53,7 @@ impl<'a, T: Table> Labeller for Projecting<'a, T> {
         project_width(self.0.body.states() as usize)
     }
 
-    fn memo(&self, alloc: Global) -> Result<Images, Memory> {
+    fn memo(&self, alloc: Global) -> Result<Images, AllocError> {
         let states = self.0.body.states() as usize;
         Images::new(
             alloc,

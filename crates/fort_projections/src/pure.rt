@@ -6,11 +6,14 @@ ghost use Rattle.fort_tables.specs.Projections.{ArePure, is_pure as is_pure_lem}
 ghost use Rattle.fort_projections.specs.Choices.{IsNext};
 
 use fort_table::Table;
-use fort_terms::Memory;
-use std::alloc::Global;
+use std::alloc::{AllocError, Global};
 
 /// The states of tuples in which this column alone is present, ascending.
-pub fn pure_states<T: Table>(alloc: Global, table: &T, column: usize) -> Result<Vec<u32>, Memory>
+pub fn pure_states<T: Table>(
+    alloc: Global,
+    table: &T,
+    column: usize,
+) -> Result<Vec<u32>, AllocError>
     requires { column < (T.table table.now).columns }
     ensures { IfOk result (λ states. ArePure (T.table table.now) column states.items) }
 {

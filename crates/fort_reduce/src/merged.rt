@@ -8,12 +8,11 @@ ghost use Rattle.fort_reduce.specs.Merging.{AreFirsts, IsMerging};
 use crate::passes::classes_of;
 use fort_lockstep::{Dta, Maker};
 use fort_table::Table;
-use fort_terms::Memory;
 use fort_tuple_symbols::Row;
-use std::alloc::Global;
+use std::alloc::{AllocError, Global};
 
 /// The first state of each class.
-fn firsts_of(alloc: Global, classes: &[u32]) -> Result<Vec<u32>, Memory>
+fn firsts_of(alloc: Global, classes: &[u32]) -> Result<Vec<u32>, AllocError>
     requires numbered { AreNumbered classes.now }
     requires few { length classes.now < 2 ^ 32 }
     ensures { IfOk result (λ v. AreFirsts classes.now v.items) }
@@ -61,7 +60,7 @@ fn give_classes(
     classes: &[u32],
     firsts: &[u32],
     maker: &mut Maker,
-) -> Result<(), Memory>
+) -> Result<(), AllocError>
     requires listed { IsListed table.now }
     requires merge { IsMerge (listed_table table.now) classes.now }
     requires few { length classes.now < 2 ^ 32 }
@@ -78,7 +77,7 @@ fn give_classes(
 }
 
 /// Whether the first states are accepted.
-fn finals_of(alloc: Global, table: &Dta, firsts: &[u32]) -> Result<Vec<bool>, Memory>
+fn finals_of(alloc: Global, table: &Dta, firsts: &[u32]) -> Result<Vec<bool>, AllocError>
     requires within { (c : ℕ) → c < length firsts.now
         → slice_index_or firsts.now c 0 < length table.now.presences }
     ensures count { IfOk result (λ v. length v.items ≡ length firsts.now) }
@@ -94,7 +93,7 @@ fn finals_of(alloc: Global, table: &Dta, firsts: &[u32]) -> Result<Vec<bool>, Me
 }
 
 /// The table of these classes.
-fn table_of(alloc: Global, table: &Dta, classes: &[u32]) -> Result<Dta, Memory>
+fn table_of(alloc: Global, table: &Dta, classes: &[u32]) -> Result<Dta, AllocError>
     requires merge { IsMerge (listed_table table.now) classes.now }
     ensures merged { IfOk result (λ t. IsMergedTable (listed_table table.now) classes.now
         (listed_table t)) }
@@ -114,7 +113,7 @@ fn table_of(alloc: Global, table: &Dta, classes: &[u32]) -> Result<Dta, Memory>
 }
 
 /// The table with interchangeable tuples at one state, and the class of each state: classes are numbered by their first states.
-pub fn reduce(alloc: Global, table: &Dta) -> Result<(Dta, Vec<u32>), Memory>
+pub fn reduce(alloc: Global, table: &Dta) -> Result<(Dta, Vec<u32>), AllocError>
     ensures classes { IfOk result (λ r. IsCoarsest (listed_table table.now) r.1.items) }
     ensures merged { IfOk result (λ r. IsMergedTable (listed_table table.now) r.1.items
         (listed_table r.0)) }

@@ -19,9 +19,8 @@ use crate::walk::presences;
 use fort_lockstep::Dta;
 use fort_table::Table;
 use fort_target_lists::{FlatTargets, is_present, kid_count, kid_presence};
-use fort_terms::Memory;
 use fort_tuple_symbols::{Row, TupleSym};
-use std::alloc::Global;
+use std::alloc::{AllocError, Global};
 
 /// Splits the class of child `j`, where the entry leads elsewhere with its leader.
 fn test(
@@ -31,7 +30,7 @@ fn test(
     target: u32,
     j: usize,
     classes: &mut Classes,
-) -> Result<(), Memory>
+) -> Result<(), AllocError>
     requires entry { IsTableEntry (listed_table table.now) row.now }
     requires target { target ≡ (listed_table table.now).target row.now }
     requires child { j < length row.now.kids }
@@ -82,7 +81,7 @@ fn chain(
     targets: &Targets,
     kids: &[u32],
     classes: &mut Classes,
-) -> Result<(), Memory>
+) -> Result<(), AllocError>
     requires entry { IsTableEntry (listed_table targets.now.table.now) (entry targets.now.symbol
         kids.now) }
     requires few_kids { length kids.now ≤ 8 }
@@ -117,7 +116,7 @@ fn visit(
     targets: &Targets,
     kids: &[u32],
     classes: &mut Classes,
-) -> Result<(), Memory>
+) -> Result<(), AllocError>
     requires entry { IsTableEntry (listed_table targets.now.table.now) (entry targets.now.symbol
         kids.now) }
     requires few_kids { length kids.now ≤ 8 }
@@ -153,7 +152,7 @@ fn visit_last(
     kids: &mut [u32],
     j: usize,
     classes: &mut Classes,
-) -> Result<(), Memory>
+) -> Result<(), AllocError>
     requires presences { presences.now ≡ targets.now.table.now.presences }
     requires symbol { IsTupleSymbol targets.now.table.now.signature targets.now.table.now.columns
         targets.now.symbol }
@@ -196,7 +195,7 @@ fn visit_kids(
     j: usize,
     rest: usize,
     classes: &mut Classes,
-) -> Result<(), Memory>
+) -> Result<(), AllocError>
     requires presences { presences.now ≡ targets.now.table.now.presences }
     requires symbol { IsTupleSymbol targets.now.table.now.signature targets.now.table.now.columns
         targets.now.symbol }
@@ -236,7 +235,7 @@ fn visit_symbol(
     targets: &Targets,
     presences: &[u16],
     classes: &mut Classes,
-) -> Result<(), Memory>
+) -> Result<(), AllocError>
     requires presences { presences.now ≡ targets.now.table.now.presences }
     requires symbols { AreSymbols targets.now.table.now.signature targets.now.symbol }
     requires width { length targets.now.symbol ≡ targets.now.table.now.columns }
@@ -270,7 +269,7 @@ fn pass(
     list: &FlatTargets,
     presences: &[u16],
     classes: &mut Classes,
-) -> Result<(), Memory>
+) -> Result<(), AllocError>
     requires list { IsFlatOf (listed_table table.now) list.now }
     requires presences { presences.now ≡ table.now.presences }
     requires few { length table.now.presences < 2 ^ 32 }
@@ -300,7 +299,7 @@ fn sweep(
     table: &Dta,
     list: &FlatTargets,
     classes: &mut Classes,
-) -> Result<(), Memory>
+) -> Result<(), AllocError>
     requires list { IsFlatOf (listed_table table.now) list.now }
     requires few { length table.now.presences < 2 ^ 32 }
     requires refined { IsRefined (listed_table table.now) classes.old.of.items
@@ -321,7 +320,7 @@ fn sweep(
 }
 
 /// The class of each state, numbered by first state: two tuples of states have one class exactly where they are interchangeable.
-pub fn classes_of(alloc: Global, table: &Dta) -> Result<Vec<u32>, Memory>
+pub fn classes_of(alloc: Global, table: &Dta) -> Result<Vec<u32>, AllocError>
     ensures { IfOk result (λ new. IsCoarsest (listed_table table.now) new.items) }
 {
     // its clause says that the table is lawful

@@ -2,11 +2,10 @@
 ghost use Rattle.std.specs.Prelude.{◌≡◌, ℕ, ◌+◌, ◌<◌, ◌^◌, set, length, slice_index_or, IfOk};
 ghost use Rattle.fort_tables.specs.Refinement.{IsRenumbered};
 
-use fort_terms::Memory;
-use std::alloc::Global;
+use std::alloc::{AllocError, Global};
 
 /// So many unnamed classes.
-fn unnamed(alloc: Global, count: usize) -> Result<Vec<u32>, Memory>
+fn unnamed(alloc: Global, count: usize) -> Result<Vec<u32>, AllocError>
     ensures count { IfOk result (λ v. length v.items ≡ count) }
     ensures unnamed { IfOk result (λ v. (c : ℕ) → c < count → slice_index_or v.items c 0
         ≡ 4294967295) }
@@ -35,7 +34,7 @@ fn name(names: &mut Vec<u32>, class: usize, next: u32) -> u32
 }
 
 /// The same classes, numbered by first state.
-pub fn renumber(alloc: Global, of: &[u32], count: usize) -> Result<Vec<u32>, Memory>
+pub fn renumber(alloc: Global, of: &[u32], count: usize) -> Result<Vec<u32>, AllocError>
     requires few { length of.now < 2 ^ 32 }
     requires within { (q : ℕ) → q < length of.now → slice_index_or of.now q 0 < count }
     ensures { IfOk result (λ new. IsRenumbered of.now new.items) }

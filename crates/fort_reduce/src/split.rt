@@ -8,9 +8,8 @@ ghost use Rattle.fort_tables.specs.Refinement.{split_one, IsSplitTo};
 
 use fort_lockstep::Dta;
 use fort_table::Table;
-use fort_terms::Memory;
 use fort_tuple_symbols::TupleSym;
-use std::alloc::Global;
+use std::alloc::{AllocError, Global};
 
 /// Where an entry leads with this state for child `j`.
 pub fn target_with(table: &Dta, sym: &TupleSym, kids: &[u32], j: usize, q: u32) -> u32
@@ -71,7 +70,7 @@ pub fn split(
     class: u32,
     stays: u32,
     fresh: u32,
-) -> Result<Vec<u32>, Memory>
+) -> Result<Vec<u32>, AllocError>
     requires count { length of.now ≡ length table.now.presences }
     requires child { j < length kids.now }
     requires few { length kids.now ≤ 8 }

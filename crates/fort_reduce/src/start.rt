@@ -7,8 +7,7 @@ ghost use Rattle.fort_reduce.specs.Walks.{AreLike};
 use crate::classes::Classes;
 use fort_lockstep::Dta;
 use fort_table::Table;
-use fort_terms::Memory;
-use std::alloc::Global;
+use std::alloc::{AllocError, Global};
 
 /// Whether two states have one presence and one acceptance.
 fn are_like(table: &Dta, p: u32, q: u32) -> bool
@@ -40,7 +39,7 @@ fn place_of(table: &Dta, leaders: &[u32], q: u32) -> usize
 }
 
 /// The states in classes by presence and acceptance.
-pub fn start(alloc: Global, table: &Dta) -> Result<Classes, Memory>
+pub fn start(alloc: Global, table: &Dta) -> Result<Classes, AllocError>
     ensures { IfOk result (λ c. IsRefined (listed_table table.now) c.of.items c.leaders.items) }
 {
     let mut of = Vec::new(alloc);

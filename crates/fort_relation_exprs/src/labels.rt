@@ -26,10 +26,10 @@ use fort_label_bits::{
 };
 use fort_labels::Rows;
 use fort_relations::{Holes, Place, Rex};
-use fort_terms::{Memory, System};
+use fort_terms::System;
 use fort_transducers::Agtt;
 use fort_tuple_symbols::Row;
-use std::alloc::Global;
+use std::alloc::{AllocError, Global};
 use std::marker::Model;
 
 /// The labels of an atom "x and y are one context with pairs of an expression's relation in its
@@ -71,7 +71,7 @@ impl RexLabels {
         place: Place,
         x: u32,
         y: u32,
-    ) -> Result<RexLabels, Memory>
+    ) -> Result<RexLabels, AllocError>
         requires over { IsExpressionOver system.now (as_expression rex.now) }
         requires narrow { HasManyRoots (as_expression rex.now) → ⊥ }
         ensures columns { IfOk result (λ l. (columns : List ℕ)
@@ -102,7 +102,7 @@ impl RexLabels {
         holes: Holes,
         place: Place,
         arguments: Arguments,
-    ) -> Result<RexLabels, Memory>
+    ) -> Result<RexLabels, AllocError>
         requires named { NamesItsStates agtt.now }
         requires arguments { AreArguments arguments.columns arguments.first arguments.second }
         ensures { IfOk result (IsOfTransducer agtt.now (as_hole_number holes)
@@ -209,7 +209,7 @@ fn is_any(holes: Holes) -> bool
 }
 
 /// The pairs of states, as places on either side.
-fn places_of_pairs(alloc: Global, pairs: &[(u32, u32)]) -> Result<Vec<RulePlaces>, Memory>
+fn places_of_pairs(alloc: Global, pairs: &[(u32, u32)]) -> Result<Vec<RulePlaces>, AllocError>
     ensures { IfOk result (λ places. places.items ≡ map pair_place pairs.now) }
 {
     let mut places = Vec::with_capacity(alloc, pairs.len())?;

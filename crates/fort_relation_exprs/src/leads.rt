@@ -6,9 +6,8 @@ ghost use Rattle.fort_relation_exprs.specs.LeadRows.{AreClosed, AreEven, AreLead
 ghost use Rattle.fort_tree_automata.specs.NtaView.{NamesItsStates};
 
 use fort_label_bits::{clear_rows, mark};
-use fort_terms::Memory;
 use fort_tree_automata::Nta;
-use std::alloc::Global;
+use std::alloc::{AllocError, Global};
 use std::mem;
 
 /// For each state the row of those that it leads to, itself included. The states have the bits from `base` on.
@@ -17,7 +16,7 @@ pub(crate) fn leads_of(
     nta: &Nta,
     base: usize,
     width: usize,
-) -> Result<Vec<Vec<u64>>, Memory>
+) -> Result<Vec<Vec<u64>>, AllocError>
     requires named { NamesItsStates nta.now }
     requires base { base < 2 ^ 33 }
     requires room { base + nta.now.states ≤ 64 * (width - 1) }
@@ -29,7 +28,12 @@ pub(crate) fn leads_of(
 }
 
 /// For each state a row with its own bit alone.
-fn own_rows(alloc: Global, count: usize, base: usize, width: usize) -> Result<Vec<Vec<u64>>, Memory>
+fn own_rows(
+    alloc: Global,
+    count: usize,
+    base: usize,
+    width: usize,
+) -> Result<Vec<Vec<u64>>, AllocError>
     requires few { count < 2 ^ 32 }
     requires base { base < 2 ^ 33 }
     requires room { base + count ≤ 64 * (width - 1) }

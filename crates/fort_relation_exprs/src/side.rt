@@ -11,10 +11,10 @@ ghost use Rattle.fort_tuple_symbols.specs.Columns.{as_column};
 use crate::leads::leads_of;
 use fort_label_bits::{Numbered, Rooted, add_row, is_inside, row_at};
 use fort_labels::Rows;
-use fort_terms::{Memory, Sym};
+use fort_terms::Sym;
 use fort_tree_automata::{Move, Nta};
 use fort_tuple_symbols::Row;
-use std::alloc::Global;
+use std::alloc::{AllocError, Global};
 
 /// A move: at a node where the pattern holds over the children's states, the target is a state.
 #[derive(Drop)]
@@ -38,7 +38,12 @@ pub(crate) struct Side {
 
 impl Side {
     /// Of an automaton; the states have the bits from `base` on, in rows of `width` words.
-    pub(crate) fn new(alloc: Global, nta: &Nta, base: usize, width: usize) -> Result<Side, Memory>
+    pub(crate) fn new(
+        alloc: Global,
+        nta: &Nta,
+        base: usize,
+        width: usize,
+    ) -> Result<Side, AllocError>
         requires named { NamesItsStates nta.now }
         requires base { base < 2 ^ 33 }
         requires room { base + nta.now.states ≤ 64 * (width - 1) }
@@ -121,7 +126,7 @@ fn move_at(moves: &[SideMove], place: usize) -> &SideMove
 }
 
 /// The moves of an automaton, the state that takes every term first.
-fn side_moves(alloc: Global, nta: &Nta) -> Result<Vec<SideMove>, Memory>
+fn side_moves(alloc: Global, nta: &Nta) -> Result<Vec<SideMove>, AllocError>
     ensures { IfOk result (λ moves. map move_in moves.items ≡ numbered_moves nta.now) }
 {
     let mut moves = first_moves(alloc, nta.any)?;
@@ -132,7 +137,7 @@ fn side_moves(alloc: Global, nta: &Nta) -> Result<Vec<SideMove>, Memory>
 }
 
 /// A move for the state that takes every term, if there is one.
-fn first_moves(alloc: Global, any: Option<u32>) -> Result<Vec<SideMove>, Memory>
+fn first_moves(alloc: Global, any: Option<u32>) -> Result<Vec<SideMove>, AllocError>
     ensures { IfOk result (λ moves. map move_in moves.items ≡ any_moves any) }
 {
     let mut moves = Vec::new(alloc);
@@ -152,7 +157,7 @@ fn first_moves(alloc: Global, any: Option<u32>) -> Result<Vec<SideMove>, Memory>
     }
 }
 
-fn move_of(alloc: Global, step: &Move) -> Result<SideMove, Memory>
+fn move_of(alloc: Global, step: &Move) -> Result<SideMove, AllocError>
     ensures { IfOk result (λ made. move_in made ≡ numbered_move (as_move step.now)) }
 {
     let pattern = Numbered {
@@ -166,7 +171,7 @@ fn move_of(alloc: Global, step: &Move) -> Result<SideMove, Memory>
 }
 
 /// The moves under the roots of their patterns.
-fn root_moves(alloc: Global, moves: &[SideMove]) -> Result<Rooted, Memory>
+fn root_moves(alloc: Global, moves: &[SideMove]) -> Result<Rooted, AllocError>
     ensures { IfOk result (IsRooted (move_roots (map move_in moves.now))) }
 {
     let mut roots = Rooted::new(alloc);

@@ -6,11 +6,10 @@ ghost use Rattle.fort_rrn_algebra.specs.Negations.{AreTurned};
 
 use fort_lockstep::Dta;
 use fort_table::Table;
-use fort_terms::Memory;
-use std::alloc::Global;
+use std::alloc::{AllocError, Global};
 
 /// For each state whether its tuples have every column and the table doesn't accept them.
-fn turned_finals(alloc: Global, table: &Dta) -> Result<Vec<bool>, Memory>
+fn turned_finals(alloc: Global, table: &Dta) -> Result<Vec<bool>, AllocError>
     ensures { IfOk result (λ finals. AreTurned (listed_table table.now) finals.items) }
 {
     let full = (1u32 << table.columns()) - 1;
@@ -23,7 +22,7 @@ fn turned_finals(alloc: Global, table: &Dta) -> Result<Vec<bool>, Memory>
 
 /// The complement: the table that accepts the tuples of terms that this one doesn't. Both share their entries, so that it costs
 /// the states alone.
-pub fn negate(alloc: Global, table: &Dta) -> Result<Dta, Memory>
+pub fn negate(alloc: Global, table: &Dta) -> Result<Dta, AllocError>
     ensures complement { IfOk result (λ t. listed_table t ≡ complemented (listed_table table.now)) }
     ensures accepted { IfOk result (λ t. TestsRelation table.now.signature table.now.columns
         (accepts (listed_table t))

@@ -3,28 +3,28 @@ use Rattle.std.specs.Prelude.{ℕ, ◌+◌, ◌<◌, ◌≤◌, List, map, take,
 use Rattle.std.specs.List.{All}
 use Rattle.fort_tables.specs.Entries.{Entry, entry}
 use Rattle.fort_tuple_symbols.specs.Columns.{symbol_of}
-use Rattle.fort_table.specs.declared.entry_list.Span.{Span}
+use Rattle.fort_table.specs.declared.entry_list.EntrySpan.{EntrySpan}
 use Rattle.fort_table.specs.declared.entry_list.EntryList.{EntryList}
 
-abbrev pub digits_in : List ℕ → Span → List ℕ
+abbrev pub digits_in : List ℕ → EntrySpan → List ℕ
 digits_in numbers s = take s.digits (drop s.start numbers)
 
-abbrev pub kids_in : List ℕ → Span → List ℕ
+abbrev pub kids_in : List ℕ → EntrySpan → List ℕ
 kids_in numbers s = take s.kids (drop (s.start + s.digits) numbers)
 
-abbrev pub entry_in : List ℕ → Span → Entry
+abbrev pub entry_in : List ℕ → EntrySpan → Entry
 entry_in numbers s = entry (symbol_of (digits_in numbers s)) (kids_in numbers s)
 
-abbrev pub entries_in : List ℕ → List Span → List Entry
+abbrev pub entries_in : List ℕ → List EntrySpan → List Entry
 entries_in numbers spans = map (entry_in numbers) spans
 
-pub record IsSpan (numbers : List ℕ) (s : Span) : Type 0 where
+pub record IsSpan (numbers : List ℕ) (s : EntrySpan) : Type 0 where
   pub within : s.start + s.digits + s.kids ≤ length numbers
   pub few_digits : s.digits ≤ 16
   pub few_kids : s.kids ≤ 8
   pub small : (k : ℕ) → get_or (digits_in numbers s) k 0 ≤ 65536
 
-abbrev pub AreSpans : List ℕ → List Span → Type 0
+abbrev pub AreSpans : List ℕ → List EntrySpan → Type 0
 AreSpans numbers spans = All (IsSpan numbers) spans
 
 -- room for one more entry

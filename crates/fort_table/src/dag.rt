@@ -5,9 +5,8 @@ ghost use Rattle.fort_tables.specs.Tuples.{rebuilt};
 ghost use Rattle.fort_tables.specs.Entries.{AreNodes, picked, tuples_of};
 
 use crate::entry_list::EntryList;
-use fort_terms::Memory;
 use fort_tuple_symbols::Row;
-use std::alloc::Global;
+use std::alloc::{AllocError, Global};
 use std::marker::Model;
 
 /// A list of optional tuples, each a tuple symbol over earlier ones.
@@ -39,7 +38,7 @@ impl Dag {
     }
 
     /// Appends the tuple of a tuple symbol and of earlier nodes.
-    pub fn push(&mut self, row: Row) -> Result<(), Memory>
+    pub fn push(&mut self, row: Row) -> Result<(), AllocError>
         requires { (sig : theory.Signature) × (columns : ℕ) × AreNodes sig columns (self.old ++
             row ∷ []) }
         ensures ok { OnOk result (self.new ≡ self.old ++ row ∷ []) }

@@ -3,13 +3,12 @@ ghost use Rattle.std.specs.Prelude.{◌≡◌, ℕ, ◌+◌, ◌<◌, ◌≤◌,
 ghost use Rattle.fort_tables.specs.Entries.{Entry};
 ghost use Rattle.fort_table.specs.EntryListFacts.{entries_in, AreSpans, HasPlace};
 
-use fort_terms::Memory;
 use fort_tuple_symbols::{Row, TupleSym};
-use std::alloc::Global;
+use std::alloc::{AllocError, Global};
 
 /// Where the digits of an entry begin, how many they are, and how many child states follow them.
 #[derive(Clone, Copy)]
-pub struct Span {
+pub struct EntrySpan {
     pub start: usize,
     pub digits: u8,
     pub kids: u8,
@@ -18,7 +17,7 @@ pub struct Span {
 /// A list of entries: the digits and child states of one behind those of another.
 #[derive(Drop)]
 pub struct EntryList {
-    pub spans: Vec<Span>,
+    pub spans: Vec<EntrySpan>,
     pub numbers: Vec<u32>,
 }
 
@@ -44,7 +43,7 @@ impl EntryList {
     }
 
     /// Room for one more entry.
-    pub fn make_room(&mut self) -> Result<(), Memory>
+    pub fn make_room(&mut self) -> Result<(), AllocError>
         ensures spans { self.new.spans.items ≡ self.old.spans.items }
         ensures numbers { self.new.numbers.items ≡ self.old.numbers.items }
         ensures room { OnOk result (HasPlace self.new) }
@@ -62,7 +61,7 @@ impl EntryList {
     {
         let digits = row.digits();
         let kids = row.kids();
-        let span = Span {
+        let span = EntrySpan {
             start: self.numbers.len(),
             digits: digits.len() as u8,
             kids: kids.len() as u8,

@@ -6,5 +6,5 @@ mod entry_list;
 mod table;
 
 pub use dag::Dag;
-pub use entry_list::{EntryList, Span};
+pub use entry_list::{EntryList, EntrySpan};
 pub use table::Table;

@@ -12,7 +12,7 @@ use Rattle.fort_target_lists.specs.Chains.{AreChains}
 use Rattle.fort_target_lists.specs.Walks.{entries_of, IsCovered, IsWalkOf, IsTakenUp, IsBetween, AreStageCounts}
 use Rattle.fort_target_lists.specs.declared.chains.Chains.{Chains}
 use Rattle.fort_target_lists.specs.declared.states.LayRoom.{LayRoom}
-use Rattle.fort_target_lists.specs.declared.walk.Walk.{Walk}
+use Rattle.fort_target_lists.specs.declared.walk.LayingWalk.{LayingWalk}
 use Rattle.fort_target_lists.proofs.WalkLaws.{stage_keeps, stage_skips}
 use Rattle.fort_target_lists.proofs.SymbolPlaces.{entries_all}
 
@@ -21,7 +21,7 @@ pub covered_listed : (t : Listed) → IsListed t → length t.targets < 2 ^ 64 �
 covered_listed t h few = record { narrow = h.table.narrow; order = h.order; all = h.all; count = h.count; few = few }
 
 -- a walk by the chains of the room goes over the table that is taken up
-pub walk_taken : (t : Listed) (walk : Walk) (room : LayRoom) → IsTakenUp t walk.signature.now walk.columns walk.base walk.targets.now room → walk.chains.now ≡ room.chains → IsWalkOf t walk
+pub walk_taken : (t : Listed) (walk : LayingWalk) (room : LayRoom) → IsTakenUp t walk.signature.now walk.columns walk.base walk.targets.now room → walk.chains.now ≡ room.chains → IsWalkOf t walk
 walk_taken t walk room h e = record {
   listed = h.listed;
   signature = h.signature;
@@ -56,7 +56,7 @@ pub all_targets : (t : Listed) → IsCovered t → start_of (entries_of t) (suc 
 all_targets t h = ap length (sym (entries_unique t.signature t.columns t.presences t.entries h.order h.all)) ∙ sym h.count
 
 -- entries are counted from 0 on
-counted_first : (t : Listed) (walk : Walk) (zeros starts laid : List ℕ) → IsWalkOf t walk → walk.lays ≡ false → AreZeros t zeros
+counted_first : (t : Listed) (walk : LayingWalk) (zeros starts laid : List ℕ) → IsWalkOf t walk → walk.lays ≡ false → AreZeros t zeros
     → IsBetween t zeros walk 0 zeros starts laid
 counted_first t walk zeros starts laid h counts z = record {
   goes = h;
@@ -73,7 +73,7 @@ counted_first t walk zeros starts laid h counts z = record {
 }
 
 -- the zeros that the room's cursors are
-pub counting_first : (t : Listed) (walk : Walk) (room : LayRoom) (states : ℕ) (numbers zeros starts laid : List ℕ) → IsTakenUp t walk.signature.now walk.columns walk.base walk.targets.now room
+pub counting_first : (t : Listed) (walk : LayingWalk) (room : LayRoom) (states : ℕ) (numbers zeros starts laid : List ℕ) → IsTakenUp t walk.signature.now walk.columns walk.base walk.targets.now room
     → walk.chains.now ≡ room.chains → walk.lays ≡ false → states ≡ vec_len room.chains.nexts → zeros ≡ numbers → length numbers ≡ states + 1
     → ((s : ℕ) → s < states + 1 → get_or numbers s 0 ≡ 0) → AreZeros t zeros × IsBetween t zeros walk 0 zeros starts laid
 counting_first t walk room states numbers zeros starts laid h e counts all is size none =
@@ -82,7 +82,7 @@ counting_first t walk room states numbers zeros starts laid h e counts all is si
     (z, counted_first t walk zeros starts laid (walk_taken t walk room h e) counts z)
 
 -- all are counted
-pub counted_all : (t : Listed) (walk : Walk) (zeros cursors starts laid : List ℕ) (count : ℕ) → AreZeros t zeros → count ≡ walk.base ^ walk.columns
+pub counted_all : (t : Listed) (walk : LayingWalk) (zeros cursors starts laid : List ℕ) (count : ℕ) → AreZeros t zeros → count ≡ walk.base ^ walk.columns
     → IsBetween t zeros walk count cursors starts laid → AreStageCounts (entries_of t) cursors
 counted_all t walk zeros cursors starts laid count z all h = λ s l.
     let low : s ≤ length t.presences = omega (arith, l, h.passed.size) in
@@ -90,7 +90,7 @@ counted_all t walk zeros cursors starts laid count z all h = λ s l.
     omega (arith, h.passed.cursor s low, z.none s (omega arith), ap (λ es. length (in_stage s es)) (entries_all t count whole))
 
 -- targets are laid from where the stages begin
-pub laid_first : (t : Listed) (walk : Walk) (begins : List ℕ) → IsWalkOf t walk → length begins ≡ suc (length t.presences)
+pub laid_first : (t : Listed) (walk : LayingWalk) (begins : List ℕ) → IsWalkOf t walk → length begins ≡ suc (length t.presences)
     → ((s : ℕ) → s < length begins → get_or begins s 0 ≡ start_of (entries_of t) s) → IsBetween t begins walk 0 begins [] []
 laid_first t walk begins h size own =
     let es = entries_of t in
@@ -108,7 +108,7 @@ laid_first t walk begins h size own =
       laid_are = λ b. record { count = refl; laid_at = λ f s l. absurd (omega (arith, l)) };
     }
 
-pub laid_begun : (t : Listed) (walk : Walk) (begins starts laid : List ℕ) → IsWalkOf t walk → length begins ≡ suc (length t.presences)
+pub laid_begun : (t : Listed) (walk : LayingWalk) (begins starts laid : List ℕ) → IsWalkOf t walk → length begins ≡ suc (length t.presences)
     → ((s : ℕ) → s < length begins → get_or begins s 0 ≡ start_of (entries_of t) s) → starts ≡ [] → laid ≡ [] → IsBetween t begins walk 0 begins starts laid
 laid_begun t walk begins starts laid h size own a b =
     subst (λ xs. IsBetween t begins walk 0 begins xs laid) (sym a) (subst (λ xs. IsBetween t begins walk 0 begins [] xs) (sym b) (laid_first t walk begins h size own))

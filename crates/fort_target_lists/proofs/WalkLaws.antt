@@ -14,7 +14,7 @@ use Rattle.fort_tables.proofs.AllEntries.{entries_unique, entry_at_cursor, curso
 use Rattle.fort_tables.proofs.Counts.{length-all_entries}
 use Rattle.fort_tables.proofs.BySymbol.{by_symbol_are}
 use Rattle.fort_target_lists.specs.Walks.{entries_of, IsCovered, HasPassed, Stop, IsStopOf, HasPassedTo}
-use Rattle.fort_target_lists.specs.declared.walk.Walk.{Walk}
+use Rattle.fort_target_lists.specs.declared.walk.LayingWalk.{LayingWalk}
 use Rattle.std.specs.Prelude.{Contains}
 use Rattle.std.proofs.lemmas.List.Elements.{Contains-append_right}
 use Rattle.fort_theory.proofs.Members.{Contains-head}
@@ -66,14 +66,14 @@ passed_more t lays begins xs e cursors laid more s is low here h = record {
 abbrev pub entry_at : Stop → TupleSymbol → Entry
 entry_at p f = entry f p.kids
 
-pub stop_low : (p : Stop) (walk : Walk) (f : TupleSymbol) (latest : ℕ) → IsStopOf p walk f latest 0 0 → latest ≤ length p.table.presences
+pub stop_low : (p : Stop) (walk : LayingWalk) (f : TupleSymbol) (latest : ℕ) → IsStopOf p walk f latest 0 0 → latest ≤ length p.table.presences
 stop_low p walk f latest h =
     let t = p.table in
     let e = entry_at p f in
     let there : Contains (entries_of t) e = subst (λ es. Contains es e) (sym h.whole) (Contains-append_right p.passed (e ∷ p.left) e (Contains-head e p.left)) in
     omega (arith, h.stage_is, entry_stage t.signature t.columns t.presences e (by_symbol_are t.signature t.columns t.presences e there))
 
-pub stop_room : (p : Stop) (walk : Walk) (f : TupleSymbol) (latest : ℕ) (cursors laid : List ℕ) → IsStopOf p walk f latest 0 0 → HasPassedTo p walk.lays cursors laid
+pub stop_room : (p : Stop) (walk : LayingWalk) (f : TupleSymbol) (latest : ℕ) (cursors laid : List ℕ) → IsStopOf p walk f latest 0 0 → HasPassedTo p walk.lays cursors laid
     → get_or cursors latest 0 < length walk.targets.now
 stop_room p walk f latest cursors laid h v =
     let low = stop_low p walk f latest h in
@@ -87,7 +87,7 @@ stop_room p walk f latest cursors laid h v =
     )
 
 -- the targets laid are fewer than all
-pub stop_laid : (p : Stop) (walk : Walk) (f : TupleSymbol) (latest : ℕ) (cursors laid : List ℕ) → IsTrue walk.lays → IsStopOf p walk f latest 0 0 → HasPassedTo p walk.lays cursors laid
+pub stop_laid : (p : Stop) (walk : LayingWalk) (f : TupleSymbol) (latest : ℕ) (cursors laid : List ℕ) → IsTrue walk.lays → IsStopOf p walk f latest 0 0 → HasPassedTo p walk.lays cursors laid
     → length laid < length walk.targets.now
 stop_laid p walk f latest cursors laid b h v =
     let t = p.table in
@@ -114,7 +114,7 @@ covered_target t k h l =
     let same : f.place ≡ k = order_one t.signature t.columns t.presences t.entries f.place k e h.order f.within within (f.is ∙ sym is) in
     f.target ∙ ap (λ i. get_or t.targets i 0) same
 
-pub stop_place : (p : Stop) (walk : Walk) (f : TupleSymbol) (latest : ℕ) (cursors laid : List ℕ) → IsTrue walk.lays → IsStopOf p walk f latest 0 0 → HasPassedTo p walk.lays cursors laid
+pub stop_place : (p : Stop) (walk : LayingWalk) (f : TupleSymbol) (latest : ℕ) (cursors laid : List ℕ) → IsTrue walk.lays → IsStopOf p walk f latest 0 0 → HasPassedTo p walk.lays cursors laid
     → get_or cursors latest 0 ≡ start_of (entries_of p.table) (stage p.kids) + length (in_stage (stage p.kids) p.passed)
 stop_place p walk f latest cursors laid b h v =
     let low = stop_low p walk f latest h in
@@ -122,7 +122,7 @@ stop_place p walk f latest cursors laid b h v =
     ∙ (ap (λ n. n + length (in_stage latest p.passed)) (h.begin.own b latest low)
     ∙ ap (λ r. start_of (entries_of p.table) r + length (in_stage r p.passed)) h.stage_is)
 
-pub stop_target : (p : Stop) (walk : Walk) (f : TupleSymbol) (latest : ℕ) (cursors laid : List ℕ) → IsTrue walk.lays → IsStopOf p walk f latest 0 0 → HasPassedTo p walk.lays cursors laid
+pub stop_target : (p : Stop) (walk : LayingWalk) (f : TupleSymbol) (latest : ℕ) (cursors laid : List ℕ) → IsTrue walk.lays → IsStopOf p walk f latest 0 0 → HasPassedTo p walk.lays cursors laid
     → get_or walk.targets.now (get_or cursors latest 0) 0 ≡ (listed_table p.table).target (entry_at p f)
 stop_target p walk f latest cursors laid b h v =
     let t = p.table in

@@ -9,7 +9,7 @@ use Rattle.fort_tables.proofs.EqualTests.{test_from_apart}
 use Rattle.fort_tables.specs.Laid.{joined_below, entries_from}
 use Rattle.fort_target_lists.specs.Chains.{IsFirstFrom}
 use Rattle.fort_target_lists.specs.Walks.{entries_of, HasPassed, Stop, IsStopOf, HasPassedTo, HasPassedBehind}
-use Rattle.fort_target_lists.specs.declared.walk.Walk.{Walk}
+use Rattle.fort_target_lists.specs.declared.walk.LayingWalk.{LayingWalk}
 use Rattle.fort_target_lists.proofs.ListingLaws.{joined_over, block_not, block_there}
 
 -- the entries over one more child state
@@ -21,7 +21,7 @@ abbrev pub passed_below : Stop → TupleSymbol → ℕ → ℕ → ℕ → List 
 passed_below p f j n q = p.passed ++ joined_below q (behind p.table.signature p.table.presences f p.kids j n)
 
 -- the states below q have had their turn
-pub record IsTurn (p : Stop) (walk : Walk) (f : TupleSymbol) (j n q : ℕ) (cursors laid : List ℕ) : Type 0 where
+pub record IsTurn (p : Stop) (walk : LayingWalk) (f : TupleSymbol) (j n q : ℕ) (cursors laid : List ℕ) : Type 0 where
   pub passed : HasPassed p.table walk.lays p.begins (passed_below p f j n q) cursors laid
   pub high : q ≤ length p.table.presences
   pub has : q < length p.table.presences → get_or p.table.presences q 0 ≡ kid_presence p.table.signature f j
@@ -41,7 +41,7 @@ skipped p f j n m q le none =
 pub below_first : (p : Stop) (f : TupleSymbol) (j n w q : ℕ) → w ≡ kid_presence p.table.signature f j → IsFirstFrom p.table.presences 0 w q → p.passed ≡ passed_below p f j n q
 below_first p f j n w q e first = sym (append-nil p.passed) ∙ skipped p f j n 0 q (omega arith) (λ k a b s. first.none k a b (s ∙ sym e))
 
-pub turn_first : (p : Stop) (walk : Walk) (f : TupleSymbol) (j n w q : ℕ) (cursors laid : List ℕ) → w ≡ kid_presence p.table.signature f j → IsFirstFrom p.table.presences 0 w q
+pub turn_first : (p : Stop) (walk : LayingWalk) (f : TupleSymbol) (j n w q : ℕ) (cursors laid : List ℕ) → w ≡ kid_presence p.table.signature f j → IsFirstFrom p.table.presences 0 w q
     → HasPassedTo p walk.lays cursors laid → IsTurn p walk f j n q cursors laid
 turn_first p walk f j n w q cursors laid e first h = record {
   passed = subst (λ es. HasPassed p.table walk.lays p.begins es cursors laid) (below_first p f j n w q e first) h;
@@ -63,7 +63,7 @@ below_next p f j n q next l has first =
     ap (λ (m : ℕ). passed_below p f j n q ++ entries_from t.signature t.presences f (p.kids ++ q ∷ []) m n) s
     ∙ (all ∙ skipped p f j n (suc q) next first.low (λ k a b s. first.none k a b (s ∙ sym has)))
 
-pub turn_next : (p : Stop) (walk : Walk) (f : TupleSymbol) (j n q next : ℕ) (cursors laid more_cursors more : List ℕ) → q < length p.table.presences → IsTurn p walk f j n q cursors laid
+pub turn_next : (p : Stop) (walk : LayingWalk) (f : TupleSymbol) (j n q next : ℕ) (cursors laid more_cursors more : List ℕ) → q < length p.table.presences → IsTurn p walk f j n q cursors laid
     → IsFirstFrom p.table.presences (suc q) (get_or p.table.presences q 0) next
     → HasPassed p.table walk.lays p.begins (passed_below p f j n q ++ entries_from p.table.signature p.table.presences f (p.kids ++ q ∷ []) (j + 1) n) more_cursors more
     → IsTurn p walk f j n next more_cursors more
@@ -85,7 +85,7 @@ below_last p f j rest q some l high =
     let e : q ≡ length t.presences = omega (arith, high) in
     ap (passed_below p f j (rest - 1)) e ∙ ap (λ es. p.passed ++ es) (sym (entries_turn t.signature t.presences f p.kids j rest some))
 
-pub turn_last : (p : Stop) (walk : Walk) (f : TupleSymbol) (j rest q : ℕ) (cursors laid : List ℕ) → 0 < rest → length p.table.presences ≤ q → IsTurn p walk f j (rest - 1) q cursors laid
+pub turn_last : (p : Stop) (walk : LayingWalk) (f : TupleSymbol) (j rest q : ℕ) (cursors laid : List ℕ) → 0 < rest → length p.table.presences ≤ q → IsTurn p walk f j (rest - 1) q cursors laid
     → HasPassedBehind p walk.lays f j rest cursors laid
 turn_last p walk f j rest q cursors laid some l v = subst (λ es. HasPassed p.table walk.lays p.begins es cursors laid) (below_last p f j rest q some l v.high) v.passed
 
@@ -116,7 +116,7 @@ next_stop p f j n q tail = record {
   left = tail ++ p.left;
 }
 
-pub stop_at : (p : Stop) (walk : Walk) (f : TupleSymbol) (latest j rest q next : ℕ) → 0 < rest → next ≡ max latest (q + 1) → q < length p.table.presences
+pub stop_at : (p : Stop) (walk : LayingWalk) (f : TupleSymbol) (latest j rest q next : ℕ) → 0 < rest → next ≡ max latest (q + 1) → q < length p.table.presences
     → IsStopOf p walk f latest j rest → get_or p.table.presences q 0 ≡ kid_presence p.table.signature f j
     → (tail : List Entry) × IsStopOf (next_stop p f j (rest - 1) q tail) walk f next (j + 1) (rest - 1)
 stop_at p walk f latest j rest q next some e l h has =
@@ -138,13 +138,13 @@ stop_at p walk f latest j rest q next some e l h has =
     let stop : IsStopOf (next_stop p f j n q r.0) walk f next (suc j) n = record { goes = h.goes; begin = h.begin; symbol = h.symbol; stage_is = at; whole = whole } in
     (r.0, subst (λ (m : ℕ). IsStopOf (next_stop p f j n q r.0) walk f next m n) s stop)
 
-pub stop_next : (p : Stop) (walk : Walk) (f : TupleSymbol) (latest j rest q next : ℕ) (cursors laid : List ℕ) → 0 < rest → next ≡ max latest (q + 1) → q < length p.table.presences
+pub stop_next : (p : Stop) (walk : LayingWalk) (f : TupleSymbol) (latest j rest q next : ℕ) (cursors laid : List ℕ) → 0 < rest → next ≡ max latest (q + 1) → q < length p.table.presences
     → IsStopOf p walk f latest j rest → IsTurn p walk f j (rest - 1) q cursors laid
     → (tail : List Entry) × IsStopOf (next_stop p f j (rest - 1) q tail) walk f next (j + 1) (rest - 1)
 stop_next p walk f latest j rest q next cursors laid some e l h v = stop_at p walk f latest j rest q next some e l h (v.has l)
 
 -- no other child is left
-pub stop_end : (p : Stop) (walk : Walk) (f : TupleSymbol) (latest j n : ℕ) → n ≡ 0 → IsStopOf p walk f latest j n → IsStopOf p walk f latest 0 0
+pub stop_end : (p : Stop) (walk : LayingWalk) (f : TupleSymbol) (latest j n : ℕ) → n ≡ 0 → IsStopOf p walk f latest j n → IsStopOf p walk f latest 0 0
 stop_end p walk f latest j n e h =
     let z : IsStopOf p walk f latest j 0 = subst (λ (m : ℕ). IsStopOf p walk f latest j m) e h in
     record { goes = z.goes; begin = z.begin; symbol = z.symbol; stage_is = z.stage_is; whole = z.whole }

@@ -9,7 +9,7 @@ use Rattle.fort_tables.specs.Laid.{entries_from, entries_under, symbol_list, by_
 use Rattle.fort_target_lists.specs.Chains.{AreChains}
 use Rattle.fort_target_lists.specs.Flats.{base_of, AreLaid}
 use Rattle.fort_target_lists.specs.declared.states.LayRoom.{LayRoom}
-use Rattle.fort_target_lists.specs.declared.walk.Walk.{Walk}
+use Rattle.fort_target_lists.specs.declared.walk.LayingWalk.{LayingWalk}
 
 -- the entries of a table, tuple symbol by tuple symbol
 abbrev pub entries_of : Listed → List Entry
@@ -28,7 +28,7 @@ pub record IsCovered (t : Listed) : Type 0 where
   pub few : length t.targets < 2 ^ 64
 
 -- it goes over a table's entries by the chains of its states, beside its targets
-pub record IsWalkOf (t : Listed) (walk : Walk) : Type 0 where
+pub record IsWalkOf (t : Listed) (walk : LayingWalk) : Type 0 where
   pub listed : IsCovered t
   pub signature : walk.signature.now ≡ t.signature
   pub columns_are : walk.columns ≡ t.columns
@@ -74,7 +74,7 @@ pub record Stop : Type 0 where
   pub left : List Entry
 
 -- a walk is there, before the entries over the first child states and n others, child j being the next
-pub record IsStopOf (p : Stop) (walk : Walk) (f : TupleSymbol) (latest j n : ℕ) : Type 0 where
+pub record IsStopOf (p : Stop) (walk : LayingWalk) (f : TupleSymbol) (latest j n : ℕ) : Type 0 where
   pub goes : IsWalkOf p.table walk
   pub begin : AreBegins p.table walk.lays p.begins
   pub symbol : IsTupleSymbol p.table.signature p.table.columns f
@@ -90,7 +90,7 @@ HasPassedBehind p lays f j n cursors laid =
     HasPassed p.table lays p.begins (p.passed ++ entries_from p.table.signature p.table.presences f p.kids j n) cursors laid
 
 -- a walk between two tuple symbols: the first n are passed
-pub record IsBetween (t : Listed) (begins : List ℕ) (walk : Walk) (n : ℕ) (cursors starts laid : List ℕ) : Type 0 where
+pub record IsBetween (t : Listed) (begins : List ℕ) (walk : LayingWalk) (n : ℕ) (cursors starts laid : List ℕ) : Type 0 where
   pub goes : IsWalkOf t walk
   pub begin : AreBegins t walk.lays begins
   pub passed : HasPassed t walk.lays begins (entries_before t n) cursors laid

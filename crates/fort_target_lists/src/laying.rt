@@ -10,7 +10,7 @@ ghost use Rattle.fort_target_lists.specs.TargetLists.{IsTableWith};
 
 use crate::flat::{FlatTargets, Listing};
 use crate::states::{LayRoom, fill_given};
-use crate::walk::Walk;
+use crate::walk::LayingWalk;
 use fort_terms::Signature;
 
 /// Turns how many entries each stage has into where it begins.
@@ -52,7 +52,7 @@ impl LayRoom {
     {
         fill_given(&mut self.cursors, 0, self.chains.nexts.len() + 1);
         let cursors = self.cursors.as_mut_slice();
-        let counting = Walk {
+        let counting = LayingWalk {
             signature,
             columns,
             base,
@@ -92,7 +92,7 @@ impl LayRoom {
         self.begin_cursors(signature, columns, base, count, targets);
         listing.starts.clear();
         listing.targets.clear();
-        let laying = Walk {
+        let laying = LayingWalk {
             signature,
             columns,
             base,

@@ -18,4 +18,4 @@ pub use flat::{FlatTargets, Listing, Spots};
 pub use look_up::{Finder, LookUp};
 pub use states::LayRoom;
 pub use target_list::{TargetList, flat_of};
-pub use walk::Walk;
+pub use walk::LayingWalk;

@@ -7,8 +7,7 @@ ghost use Rattle.fort_target_lists.specs.LayRooms.{HasLayRoomBelow, HasLayRoom, 
 use crate::chains::Chains;
 use crate::entry_count::count_states;
 use crate::flat::{Listing, Spots};
-use fort_terms::Memory;
-use std::alloc::Global;
+use std::alloc::{AllocError, Global};
 
 /// One more than the greatest presence, that of all sixteen columns.
 const MOST_PRESENCES: usize = 65536;
@@ -96,14 +95,14 @@ fn chain_states(presences: &[u16], firsts: &mut [u32], nexts: &mut [u32])
 
 impl LayRoom {
     /// The room for tables of at most so many states.
-    pub fn new(alloc: Global, states: usize) -> Result<LayRoom, Memory>
+    pub fn new(alloc: Global, states: usize) -> Result<LayRoom, AllocError>
         ensures { IfOk result (HasLayRoom states) }
     {
         LayRoom::below(alloc, MOST_PRESENCES, states)
     }
 
     /// The room for tables of at most so many states, whose presences are below a bound.
-    pub(crate) fn below(alloc: Global, bound: usize, states: usize) -> Result<LayRoom, Memory>
+    pub(crate) fn below(alloc: Global, bound: usize, states: usize) -> Result<LayRoom, AllocError>
         ensures { IfOk result (HasLayRoomBelow bound states) }
     {
         Ok(LayRoom {

@@ -9,9 +9,9 @@ ghost use Rattle.fort_target_lists.specs.ListedOperands.{IsListOf};
 
 use crate::flat::{FlatTargets, Listing, Spots};
 use crate::states::LayRoom;
-use fort_terms::{Memory, Signature};
+use fort_terms::Signature;
 use fort_tuple_symbols::TupleSym;
-use std::alloc::Global;
+use std::alloc::{AllocError, Global};
 
 /// A table's targets in one list, where it is made, and the room for them. For a table without entries none is made.
 #[derive(Drop)]
@@ -32,7 +32,7 @@ impl TargetList {
     }
 
     /// No list, and the room for that of a table of at most so many states and entries.
-    pub fn with_room(alloc: Global, states: usize, entries: usize) -> Result<TargetList, Memory>
+    pub fn with_room(alloc: Global, states: usize, entries: usize) -> Result<TargetList, AllocError>
         requires { entries < 2 ^ 63 }
         ensures { IfOk result (HasListRoom states entries) }
     {
@@ -87,7 +87,7 @@ impl TargetList {
         columns: usize,
         presences: &[u16],
         targets: &[u32],
-    ) -> Result<TargetList, Memory>
+    ) -> Result<TargetList, AllocError>
         requires few { length presences.now < 2 ^ 32 }
         requires table { (t : tables.Listed) × IsTableWith t signature.now columns presences.now
             targets.now }

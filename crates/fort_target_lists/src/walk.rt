@@ -13,7 +13,7 @@ use fort_tuple_symbols::TupleSym;
 
 /// A walk over all entries of a table. Each stage has a cursor, which goes on by one at each entry of the stage.
 #[derive(Clone, Copy)]
-pub struct Walk<'a> {
+pub struct LayingWalk<'a> {
     pub signature: &'a Signature,
     pub columns: usize,
     /// One more than there are symbols.
@@ -26,7 +26,7 @@ pub struct Walk<'a> {
     pub lays: bool,
 }
 
-impl<'a> Walk<'a> {
+impl<'a> LayingWalk<'a> {
     /// Passes an entry of this stage.
     fn pass(&self, stage: usize, cursors: &mut [usize], laid: &mut Vec<u32>)
         requires at { (f : TupleSymbol) × (p : Stop) × IsStopOf p self.now f stage 0 0

@@ -17,6 +17,3 @@ pub use signature::{AddFault, Signature};
 pub use sym::Sym;
 pub use system::{RuleFault, System};
 pub use term::Term;
-
-/// Want of memory.
-pub type Memory = std::alloc::AllocError;

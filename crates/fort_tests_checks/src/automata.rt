@@ -5,7 +5,7 @@ ghost use Rattle.fort_transducers.specs.AgttView.{NamesItsStates};
 ghost use Rattle.fort_gtt_closure.specs.Reasons.{IsNumbered};
 
 use fort_gtt_closure::{Why, close, closed_agtt};
-use fort_terms::{AddFault, Memory, Side, Sides, Signature, Sym, System, Term};
+use fort_terms::{AddFault, Side, Sides, Signature, Sym, System, Term};
 use fort_transducers::{Agtt, inverse, root_steps, union};
 use std::alloc::{AllocError, Global};
 use std::process::Abort;
@@ -75,7 +75,7 @@ fn transducer(alloc: Global, which: usize) -> Result<Agtt, Fail>
 }
 
 /// The terms a, b, g(a, b), g(b, b), g(b, a).
-fn terms(alloc: Global) -> Result<Vec<Term>, Memory> {
+fn terms(alloc: Global) -> Result<Vec<Term>, AllocError> {
     let mut terms = Vec::new(alloc);
     for (sym, kids) in [
         (0, [].as_slice()),
@@ -90,7 +90,7 @@ fn terms(alloc: Global) -> Result<Vec<Term>, Memory> {
 }
 
 /// A symbol over constants.
-fn term(alloc: Global, sym: u16, constants: &[u16]) -> Result<Term, Memory> {
+fn term(alloc: Global, sym: u16, constants: &[u16]) -> Result<Term, AllocError> {
     let mut kids = Vec::new(alloc);
     for constant in constants {
         kids.push(Term {

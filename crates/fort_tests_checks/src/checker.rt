@@ -9,8 +9,8 @@ use fort_findings::{ClosureEntry, Count, Reason as Why, Which};
 use fort_formulas::{Arm, Core};
 use fort_relations::Rel;
 use fort_steps::{Certificate, Step};
-use fort_terms::{Memory, Side, Sides, Signature, Sym, System};
-use std::alloc::Global;
+use fort_terms::{Side, Sides, Signature, Sym, System};
+use std::alloc::{AllocError, Global};
 use std::test::Fail;
 
 /// The rule f(x) -> a, under index 1.
@@ -27,7 +27,7 @@ fn system_of(alloc: Global) -> Result<System, Fail>
     Ok(system)
 }
 
-fn many_reduced(alloc: Global) -> Result<Core, Memory>
+fn many_reduced(alloc: Global) -> Result<Core, AllocError>
     ensures { IfOk result (λ c. as_core c ≡ many_reduced) }
 {
     let some = Core::Exists(1, Arm::new(alloc, Core::Atom(Rel::Star, 1, 0, 1))?);
@@ -35,7 +35,7 @@ fn many_reduced(alloc: Global) -> Result<Core, Memory>
 }
 
 /// A certificate whose second mark names this child.
-fn certificate_of(alloc: Global, child: u32) -> Result<Certificate, Memory> {
+fn certificate_of(alloc: Global, child: u32) -> Result<Certificate, AllocError> {
     let pair = ClosureEntry {
         p: 0,
         q: 0,
@@ -57,7 +57,7 @@ fn certificate_of(alloc: Global, child: u32) -> Result<Certificate, Memory> {
 }
 
 /// A certificate in which the states of "some term is reached" are joined: the second is of this class.
-fn certificate_with_merge(alloc: Global, class: u32) -> Result<Certificate, Memory> {
+fn certificate_with_merge(alloc: Global, class: u32) -> Result<Certificate, AllocError> {
     let pair = ClosureEntry {
         p: 0,
         q: 0,

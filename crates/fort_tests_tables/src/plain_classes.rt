@@ -3,9 +3,8 @@
 use super::small_tables::Given;
 use fort_lockstep::Dta;
 use fort_table::Table;
-use fort_terms::Memory;
 use fort_tuple_symbols::Row;
-use std::alloc::Global;
+use std::alloc::{AllocError, Global};
 
 fn is_marked(marks: &[bool], p: u32, q: u32) -> bool {
     marks
@@ -63,7 +62,7 @@ fn add_exchanges(
     target: u32,
     given: &Given,
     exchanges: &mut Vec<Exchange>,
-) -> Result<(), Memory> {
+) -> Result<(), AllocError> {
     for (other, there) in given.rows.iter().zip(given.targets.iter()) {
         if let Some(kids) = other_child(row, other) {
             exchanges.push(Exchange {
@@ -76,7 +75,7 @@ fn add_exchanges(
 }
 
 /// The exchanges of one child of an entry.
-pub fn exchanges_of(alloc: Global, given: &Given) -> Result<Vec<Exchange>, Memory> {
+pub fn exchanges_of(alloc: Global, given: &Given) -> Result<Vec<Exchange>, AllocError> {
     let mut exchanges = Vec::new(alloc);
     for (row, target) in given.rows.iter().zip(given.targets.iter()) {
         add_exchanges(row, *target, given, &mut exchanges)?;
@@ -127,7 +126,7 @@ pub fn plain_classes(
     alloc: Global,
     table: &Dta,
     exchanges: &[Exchange],
-) -> Result<Vec<u32>, Memory> {
+) -> Result<Vec<u32>, AllocError> {
     let mut marks = [false; 64];
     mark_all(table, exchanges, marks.as_mut_slice());
     let mut classes = Vec::new(alloc);

@@ -6,8 +6,8 @@ use super::plain_classes::{Exchange, exchanges_of, plain_classes};
 use super::small_tables::{Given, finals_from, table_from};
 use fort_lockstep::Dta;
 use fort_reduce::reduce;
-use fort_terms::{AddFault, Memory, Signature};
-use std::alloc::Global;
+use fort_terms::{AddFault, Signature};
+use std::alloc::{AllocError, Global};
 use std::test::Fail;
 
 /// The arities of two symbols beside a constant, the second of which may be missing; columns; the presence of all of them; how many
@@ -31,14 +31,18 @@ fn signature(alloc: Global, f: u8, g: Option<u8>) -> Result<Signature, AddFault>
     Ok(signature)
 }
 
-fn has_plain_classes(alloc: Global, table: &Dta, exchanges: &[Exchange]) -> Result<bool, Memory> {
+fn has_plain_classes(
+    alloc: Global,
+    table: &Dta,
+    exchanges: &[Exchange],
+) -> Result<bool, AllocError> {
     let (_merged, classes) = reduce(alloc, table)?;
     let plain = plain_classes(alloc, table, exchanges)?;
     Ok(classes.as_slice() == plain.as_slice())
 }
 
 /// How many tables differ in acceptance alone, or none where one of them has other classes.
-fn compared(alloc: Global, table: &Dta, full: u16, given: &Given) -> Result<Option<u32>, Memory>
+fn compared(alloc: Global, table: &Dta, full: u16, given: &Given) -> Result<Option<u32>, AllocError>
     requires { full ≡ full_presence table.now.columns }
 {
     let exchanges = exchanges_of(alloc, given)?;
@@ -63,7 +67,7 @@ fn all_compared(
     columns: usize,
     full: u16,
     most: usize,
-) -> Result<Option<u32>, Memory>
+) -> Result<Option<u32>, AllocError>
     requires some { 0 < columns }
     requires narrow { columns ≤ 16 }
     requires small { most ≤ 8 }

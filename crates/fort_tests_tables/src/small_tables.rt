@@ -4,9 +4,9 @@ ghost use Rattle.fort_tables.specs.Tables.{full_presence};
 
 use fort_lockstep::{Dta, Maker};
 use fort_table::Table;
-use fort_terms::{Memory, Signature};
+use fort_terms::Signature;
 use fort_tuple_symbols::Row;
-use std::alloc::Global;
+use std::alloc::{AllocError, Global};
 
 /// Entries of a table in their order, with their targets.
 #[derive(Drop)]
@@ -23,14 +23,14 @@ impl Given {
         }
     }
 
-    fn push(&mut self, row: Row, target: u32) -> Result<(), Memory> {
+    fn push(&mut self, row: Row, target: u32) -> Result<(), AllocError> {
         self.rows.push(row)?;
         self.targets.push(target)?;
         Ok(())
     }
 
     /// These targets, the last one more: the next table has them or greater ones.
-    pub fn next_targets(&self, alloc: Global) -> Result<Vec<u32>, Memory> {
+    pub fn next_targets(&self, alloc: Global) -> Result<Vec<u32>, AllocError> {
         let mut next = self.targets.as_slice().to_vec(alloc)?;
         if let Some(last) = next.pop() {
             next.push(last.saturating_add(1))?;
@@ -61,7 +61,7 @@ fn target_from(presences: &[u16], presence: u16, from: u32, most: usize) -> Opti
 }
 
 /// The presences where an entry of this presence has this target.
-fn give_presence(presences: &mut Vec<u16>, presence: u16, target: u32) -> Result<(), Memory>
+fn give_presence(presences: &mut Vec<u16>, presence: u16, target: u32) -> Result<(), AllocError>
     ensures { OnOk result (presences.new.items ≡ (if target == length presences.old.items
         then presences.old.items ++ presence ∷ [] else presences.old.items)) }
 {
@@ -72,7 +72,7 @@ fn give_presence(presences: &mut Vec<u16>, presence: u16, target: u32) -> Result
 }
 
 /// No state accepts.
-fn no_finals(alloc: Global, count: usize) -> Result<Vec<bool>, Memory>
+fn no_finals(alloc: Global, count: usize) -> Result<Vec<bool>, AllocError>
     ensures count { IfOk result (λ v. length v.items ≡ count) }
     ensures none { IfOk result (λ v. (q : ℕ) → slice_index_or v.items q false ≡ false) }
 {
@@ -91,7 +91,7 @@ pub fn table_from(
     most: usize,
     from: &[u32],
     given: &mut Given,
-) -> Result<Option<Dta>, Memory>
+) -> Result<Option<Dta>, AllocError>
     requires some { 0 < columns }
     requires narrow { columns ≤ 16 }
     requires small { most ≤ 8 }
@@ -131,7 +131,7 @@ pub fn finals_from(
     table: &Dta,
     full: u16,
     bits: u32,
-) -> Result<Option<Vec<bool>>, Memory>
+) -> Result<Option<Vec<bool>>, AllocError>
     requires { full ≡ full_presence table.now.columns }
     ensures count { IfOk result (λ v. IfSome v (λ v. length v.items
         ≡ length table.now.presences)) }

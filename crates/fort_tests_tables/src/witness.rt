@@ -8,13 +8,13 @@ use fort_explore::explore;
 use fort_labels::ByRule;
 use fort_lockstep::Dta;
 use fort_table::{Dag, Table};
-use fort_terms::{Memory, Signature};
+use fort_terms::Signature;
 use fort_witness::{least, write_term};
-use std::alloc::Global;
+use std::alloc::{AllocError, Global};
 use std::test::Fail;
 
 /// The term in the first column of a least tuple.
-fn text_of(alloc: Global, table: &Dta, dag: &Dag) -> Result<Vec<u8>, Memory>
+fn text_of(alloc: Global, table: &Dta, dag: &Dag) -> Result<Vec<u8>, AllocError>
     requires witness { IsWitness (listed_table table.now) dag.now }
     requires column { 0 < table.now.columns }
 {

@@ -9,7 +9,7 @@ ghost use Rattle.fort_trace.specs.Recording.{merge_of, HasTargets, AnswerAdded};
 use fort_engine::Last;
 use fort_outline::Root;
 use fort_steps::Step;
-use fort_terms::Memory;
+use std::alloc::AllocError;
 
 fn is_negation(root: &Root) -> bool
     ensures { (parts : List theory.Core)
@@ -19,7 +19,7 @@ fn is_negation(root: &Root) -> bool
 }
 
 /// The step of the classes of the table of part k, where it was reduced.
-fn push_merge(k: u32, classes: Option<Vec<u32>>, steps: &mut Vec<Step>) -> Result<(), Memory>
+fn push_merge(k: u32, classes: Option<Vec<u32>>, steps: &mut Vec<Step>) -> Result<(), AllocError>
     ensures { OnOk result (map as_step steps.new.items
         ≡ map as_step steps.old.items ++ merge_of k classes) }
 {
@@ -38,7 +38,7 @@ pub(crate) fn push_answer(
     targets: Option<Vec<u32>>,
     classes: Option<Vec<u32>>,
     steps: &mut Vec<Step>,
-) -> Result<(), Memory>
+) -> Result<(), AllocError>
     requires { (parts : List theory.Core)
         × HasTargets (root_core parts root.now) answer.now targets }
     ensures { OnOk result ((parts : List theory.Core)

@@ -8,8 +8,8 @@ ghost use Rattle.fort_trace.specs.Recording.{AddsSteps};
 
 use fort_engine::Closures;
 use fort_steps::Step;
-use fort_terms::{Memory, System};
-use std::alloc::Global;
+use fort_terms::System;
+use std::alloc::{AllocError, Global};
 
 /// The steps of all closures, in their order.
 pub(crate) fn push_closures(
@@ -17,7 +17,7 @@ pub(crate) fn push_closures(
     system: &System,
     closures: &Closures,
     steps: &mut Vec<Step>,
-) -> Result<(), Memory>
+) -> Result<(), AllocError>
     ensures { OnOk result ((parts : List theory.Core) (made : MadeSoFar)
         → AreClosures system.now parts closures.now.list.items
         → AddsSteps system.now parts made (closures_due parts (length system.now.rules) 1)

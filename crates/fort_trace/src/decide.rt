@@ -15,7 +15,7 @@ ghost use Rattle.fort_trace.specs.Recording.{IsTraced};
 ghost use Rattle.fort_trace.specs.RecordedView.{as_certificate};
 
 use crate::closures::push_closures;
-use crate::recorder::Steps;
+use crate::recorder::RecordedSteps;
 use fort_engine::{Closures, EngineFault, Last, Options, decide_parts};
 use fort_formulas::Core;
 use fort_lockstep::Dta;
@@ -69,7 +69,7 @@ fn decide_traced(
     let closures = Closures::new(alloc, system, &outline.roots)?;
     let mut list = Vec::new(alloc);
     push_closures(alloc, system, &closures, &mut list)?;
-    let mut recorder = Steps { list };
+    let mut recorder = RecordedSteps { list };
     let options = Options {
         cap,
         reduces,

@@ -4,16 +4,16 @@ use crate::counts::push_counts;
 use fort_engine::{Decided, Last, Options, Recorder};
 use fort_outline::Outline;
 use fort_steps::Step;
-use fort_terms::{Memory, System};
-use std::alloc::Global;
+use fort_terms::System;
+use std::alloc::{AllocError, Global};
 
 /// The steps so far.
 #[derive(Drop)]
-pub(crate) struct Steps {
+pub(crate) struct RecordedSteps {
     pub(crate) list: Vec<Step>,
 }
 
-impl Recorder for Steps {
+impl Recorder for RecordedSteps {
     ghost use Rattle.std.specs.Prelude.{◌≡◌};
     ghost use Rattle.fort_trace.specs.Recording.{recorded_with, AreRecordedTo, AreRecordedTo-less};
 
@@ -34,7 +34,7 @@ impl Recorder for Steps {
         k: usize,
         _kept: &[Option<Last>],
         decided: Decided,
-    ) -> Result<Last, Memory> {
+    ) -> Result<Last, AllocError> {
         // A system keeps to the law of systems.
         let _lawful = system.signature();
         let number = k as u32;

@@ -1,9 +1,8 @@
 //! Sets of lists of digits, by their hashes.
 ghost use Rattle.std.specs.Prelude.{◌≡◌, ℕ, ◌<◌, [], ◌∷◌, ◌++◌, length, slice_index_or, OnOk, OnErr, MatchOption};
 
-use fort_terms::Memory;
 use indexmap::IndexSet;
-use std::alloc::Global;
+use std::alloc::{AllocError, Global};
 use std::marker::Model;
 
 /// Lists of digits in the order in which they came.
@@ -30,7 +29,7 @@ impl DigitSet {
     }
 
     /// Appends digits that aren't there yet.
-    pub fn push(&mut self, digits: Vec<u32>) -> Result<(), Memory>
+    pub fn push(&mut self, digits: Vec<u32>) -> Result<(), AllocError>
         requires { (q : ℕ) → q < length self.old → slice_index_or self.old q []
             ≡ digits.items → ⊥ }
         ensures ok { OnOk result (self.new ≡ self.old ++ digits.items ∷ []) }

@@ -2,8 +2,7 @@
 ghost use Rattle.std.specs.Prelude.{◌≡◌, ℕ, ◌<◌, ◌^◌, [], ◌∷◌, ◌++◌, length, slice_index, OnOk, OnErr, MatchOption};
 ghost use Rattle.fort_tuple_symbols.specs.WiderPlaces.{IsWider};
 
-use fort_terms::Memory;
-use std::alloc::Global;
+use std::alloc::{AllocError, Global};
 use std::marker::Model;
 
 /// Numbers in the order in which they came.
@@ -27,7 +26,7 @@ impl Model for NumberSet {
 }
 
 /// Makes the list long enough for this number, and for some more so that few calls write any: zeros behind what is there.
-pub fn reach(places: &mut Vec<u32>, number: usize) -> Result<(), Memory>
+pub fn reach(places: &mut Vec<u32>, number: usize) -> Result<(), AllocError>
     requires { number < 2 ^ 26 }
     ensures ok { OnOk result (IsWider number places.old.items places.new.items) }
     ensures err { OnErr result (places.new.items ≡ places.old.items) }
@@ -49,7 +48,7 @@ impl NumberSet {
     }
 
     /// Appends a number that isn't there yet; takes room for numbers up to it, and for some more.
-    pub fn push(&mut self, number: u32) -> Result<(), Memory>
+    pub fn push(&mut self, number: u32) -> Result<(), AllocError>
         requires small { number < 2 ^ 26 }
         requires absent { (q : ℕ) → q < length self.old → slice_index self.old q ≡ number → ⊥ }
         ensures ok { OnOk result (self.new ≡ self.old ++ number ∷ []) }

@@ -5,13 +5,12 @@ ghost use Rattle.fort_tuple_symbols.specs.DigitNumbers.{AreDigits};
 
 use crate::digit_set::DigitSet;
 use crate::number_set::NumberSet;
-use fort_terms::Memory;
-use std::alloc::Global;
+use std::alloc::{AllocError, Global};
 use std::marker::Model;
 
 /// Digits by their number in the base, where there are few such numbers, else by their hash.
 #[derive(Drop)]
-pub enum Form {
+pub enum Storage {
     Numbered(NumberSet),
     Hashed(DigitSet),
 }
@@ -21,7 +20,7 @@ pub enum Form {
 pub struct SymbolSet {
     base: u32,
     columns: usize,
-    form: Form,
+    storage: Storage,
 }
 
 impl Model for SymbolSet {
@@ -71,20 +70,20 @@ impl SymbolSet {
         ensures columns { result.columns ≡ columns }
         ensures none { result.digits ≡ [] }
     {
-        let form = if are_few(base, columns) {
-            Form::Numbered(NumberSet::new(alloc))
+        let storage = if are_few(base, columns) {
+            Storage::Numbered(NumberSet::new(alloc))
         } else {
-            Form::Hashed(DigitSet::new(alloc))
+            Storage::Hashed(DigitSet::new(alloc))
         };
         SymbolSet {
             base,
             columns,
-            form,
+            storage,
         }
     }
 
     /// Appends digits that aren't there yet.
-    pub fn push(&mut self, alloc: Global, digits: &[u32]) -> Result<(), Memory>
+    pub fn push(&mut self, alloc: Global, digits: &[u32]) -> Result<(), AllocError>
         requires fit { AreDigits self.old.base self.old.columns digits.now }
         requires absent { (q : ℕ) → q < length self.old.digits
             → slice_index_or self.old.digits q [] ≡ digits.now → ⊥ }
@@ -93,12 +92,12 @@ impl SymbolSet {
         ensures ok { OnOk result (self.new.digits ≡ self.old.digits ++ digits.now ∷ []) }
         ensures err { OnErr result (self.new.digits ≡ self.old.digits) }
     {
-        match &mut self.form {
-            Form::Numbered(set) => match number_of(self.base, digits) {
+        match &mut self.storage {
+            Storage::Numbered(set) => match number_of(self.base, digits) {
                 Some(number) => set.push(number),
                 None => unreachable!(),
             },
-            Form::Hashed(set) => set.push(Vec::from_slice(alloc, digits)?),
+            Storage::Hashed(set) => set.push(Vec::from_slice(alloc, digits)?),
         }
     }
 
@@ -110,8 +109,8 @@ impl SymbolSet {
             (λ q. (q < length self.now.digits)
             × (slice_index_or self.now.digits q [] ≡ digits.now)) }
     {
-        match &self.form {
-            Form::Numbered(set) => {
+        match &self.storage {
+            Storage::Numbered(set) => {
                 if digits.len() != self.columns {
                     return None;
                 }
@@ -120,7 +119,7 @@ impl SymbolSet {
                     None => None,
                 }
             }
-            Form::Hashed(set) => set.find(digits),
+            Storage::Hashed(set) => set.find(digits),
         }
     }
 }

@@ -6,13 +6,13 @@ use crate::node_lists::NodeLists;
 
 /// The nodes below the end; those from low on are new.
 #[derive(Clone, Copy)]
-pub struct Span {
+pub struct NodeSpan {
     pub low: u32,
     pub end: u32,
 }
 
 /// Whether one of these states has a new node.
-fn has_new(lists: &NodeLists, span: Span, states: &[u32]) -> bool
+fn has_new(lists: &NodeLists, span: NodeSpan, states: &[u32]) -> bool
     requires { Knows (lists_of lists.now) states.now }
     ensures some { result ≡ true → (qs : List ℕ) → AreListed (length (lists_of lists.now)) qs
         (lists_of lists.now) → HasNewOf qs span.low span.end states.now }
@@ -35,7 +35,7 @@ fn still_needs(need: bool, node: u32, low: u32) -> bool
 }
 
 /// From which node on the first of a list may stand, where the others are of these states.
-fn start_of(lists: &NodeLists, span: Span, rest: &[u32], need: bool, from: u32) -> u32
+fn start_of(lists: &NodeLists, span: NodeSpan, rest: &[u32], need: bool, from: u32) -> u32
     requires { Knows (lists_of lists.now) rest.now }
     ensures from { from ≤ result }
     ensures free { (qs : List ℕ) → AreListed (length (lists_of lists.now)) qs (lists_of lists.now)
@@ -55,7 +55,7 @@ fn start_of(lists: &NodeLists, span: Span, rest: &[u32], need: bool, from: u32) 
 /// first of them is this number or a greater one. Whether there are any.
 pub fn first_kids(
     lists: &NodeLists,
-    span: Span,
+    span: NodeSpan,
     states: &[u32],
     need: bool,
     from: u32,
@@ -89,7 +89,7 @@ pub fn first_kids(
 /// The next nodes of these states after the ones given; whether there are any.
 pub fn next_kids(
     lists: &NodeLists,
-    span: Span,
+    span: NodeSpan,
     states: &[u32],
     need: bool,
     kids: &mut [u32],

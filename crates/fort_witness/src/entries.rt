@@ -6,11 +6,10 @@ ghost use Rattle.fort_witness.specs.Solving.{AreEntries};
 use crate::head::Head;
 use fort_lockstep::Dta;
 use fort_table::Table;
-use fort_terms::Memory;
-use std::alloc::Global;
+use std::alloc::{AllocError, Global};
 
 /// The presences of all states.
-fn presences_of(alloc: Global, table: &Dta) -> Result<Vec<u16>, Memory>
+fn presences_of(alloc: Global, table: &Dta) -> Result<Vec<u16>, AllocError>
     ensures { IfOk result (λ v. v.items ≡ table.now.presences) }
 {
     let mut presences = Vec::new(alloc);
@@ -21,7 +20,7 @@ fn presences_of(alloc: Global, table: &Dta) -> Result<Vec<u16>, Memory>
 }
 
 /// All entries with their states.
-pub fn entries_of(alloc: Global, table: &Dta) -> Result<Vec<Head>, Memory>
+pub fn entries_of(alloc: Global, table: &Dta) -> Result<Vec<Head>, AllocError>
     ensures { IfOk result (λ v. AreEntries (listed_table table.now) v.items) }
 {
     let presences = presences_of(alloc, table)?;

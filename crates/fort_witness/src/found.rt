@@ -11,9 +11,8 @@ ghost use Rattle.fort_witness.specs.Searching.{states_of, AreFound, Leads, IsFir
 use crate::order::row_order;
 use fort_lockstep::Dta;
 use fort_table::Table;
-use fort_terms::Memory;
 use fort_tuple_symbols::Row;
-use std::alloc::Global;
+use std::alloc::{AllocError, Global};
 use std::cmp::Ordering;
 
 /// A state with the first row over nodes that gives it.
@@ -72,7 +71,7 @@ fn first_of(old: &Candidate, row: &Row) -> Candidate
 
 impl Search {
     /// No candidates, and no state seen.
-    pub fn new(alloc: Global, states: u32) -> Result<Search, Memory>
+    pub fn new(alloc: Global, states: u32) -> Result<Search, AllocError>
         ensures marks { IfOk result (λ f. f.marks.items ≡ replicate states Unseen) }
         ensures candidates { IfOk result (λ f. f.candidates.items ≡ []) }
     {
@@ -87,7 +86,7 @@ impl Search {
     }
 
     /// Keeps the row where it is the first that gives its state.
-    pub fn weigh(&mut self, table: &Dta, states: &[u32], row: &Row) -> Result<(), Memory>
+    pub fn weigh(&mut self, table: &Dta, states: &[u32], row: &Row) -> Result<(), AllocError>
         requires found { AreFound (listed_table table.now) states.now self.old.marks.items
             self.old.candidates.items }
         requires candidate { let t = listed_table table.now in
@@ -117,7 +116,7 @@ impl Search {
     }
 
     /// One more candidate.
-    fn add(&mut self, state: u32, row: &Row) -> Result<(), Memory>
+    fn add(&mut self, state: u32, row: &Row) -> Result<(), AllocError>
         requires { state < length self.old.marks.items }
         ensures candidates { OnOk result (self.new.candidates.items ≡ self.old.candidates.items
             ++ record { state = state; row = row.now } ∷ []) }

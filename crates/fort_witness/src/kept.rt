@@ -8,8 +8,7 @@ use crate::answer::Solutions;
 use crate::head::Head;
 use crate::node_lists::NodeLists;
 use fort_table::Dag;
-use fort_terms::Memory;
-use std::alloc::Global;
+use std::alloc::{AllocError, Global};
 
 /// The nodes so far, in the order of their tuples, with their states; those that are accepted.
 #[derive(Drop)]
@@ -22,7 +21,7 @@ pub struct Kept {
 
 impl Kept {
     /// No nodes.
-    pub fn new(alloc: Global, states: u32) -> Result<Kept, Memory>
+    pub fn new(alloc: Global, states: u32) -> Result<Kept, AllocError>
         ensures dag { IfOk result (λ f. f.dag ≡ []) }
         ensures states { IfOk result (λ f. f.states.items ≡ []) }
         ensures lists { IfOk result (λ f. AreListed states [] (lists_of f.lists)) }
@@ -50,7 +49,7 @@ impl Kept {
     }
 
     /// One more node.
-    pub fn push(&mut self, head: &Head, accepted: bool) -> Result<(), Memory>
+    pub fn push(&mut self, head: &Head, accepted: bool) -> Result<(), AllocError>
         requires few { length self.old.dag < 2 ^ 32 }
         requires nodes { (sig : theory.Signature) × (columns : ℕ) × AreNodes sig columns
             (self.old.dag ++ head.now.row ∷ []) }

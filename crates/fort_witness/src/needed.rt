@@ -9,8 +9,7 @@ ghost use Rattle.fort_witness.specs.Visiting.{untaken, wholes_of, work_ahead, Is
 
 use crate::found::over_states;
 use fort_table::Dag;
-use fort_terms::Memory;
-use std::alloc::Global;
+use std::alloc::{AllocError, Global};
 
 /// In place of the number of a node that wasn't taken.
 const UNTAKEN: u32 = u32::MAX;
@@ -33,7 +32,7 @@ pub struct Taken {
 
 impl Taken {
     /// None, out of so many.
-    fn new(alloc: Global, count: usize) -> Result<Taken, Memory>
+    fn new(alloc: Global, count: usize) -> Result<Taken, AllocError>
         ensures dag { IfOk result (λ r. r.dag ≡ []) }
         ensures numbers { IfOk result (λ r. r.numbers.items ≡ replicate count untaken) }
     {
@@ -48,7 +47,7 @@ impl Taken {
     }
 
     /// Takes a node, unless it was taken before.
-    fn take(&mut self, dag: &Dag, node: u32) -> Result<(), Memory>
+    fn take(&mut self, dag: &Dag, node: u32) -> Result<(), AllocError>
         requires nodes { (sig : theory.Signature) × (columns : ℕ) × AreNodes sig columns dag.now }
         requires apart { AreApart dag.now }
         requires few { length dag.now < 2 ^ 32 }
@@ -69,7 +68,7 @@ impl Taken {
 }
 
 /// Visits to these nodes, the first one on top.
-fn push_wholes(nodes: &[u32], visits: &mut Vec<Visit>) -> Result<(), Memory>
+fn push_wholes(nodes: &[u32], visits: &mut Vec<Visit>) -> Result<(), AllocError>
     ensures { OnOk result (visits.new.items ≡ visits.old.items ++ wholes_of nodes.now) }
 {
     for j in 0..nodes.len() {
@@ -79,7 +78,12 @@ fn push_wholes(nodes: &[u32], visits: &mut Vec<Visit>) -> Result<(), Memory>
 }
 
 /// Takes a node, or leaves it to be visited behind its children.
-fn make(dag: &Dag, visit: Visit, taken: &mut Taken, visits: &mut Vec<Visit>) -> Result<(), Memory>
+fn make(
+    dag: &Dag,
+    visit: Visit,
+    taken: &mut Taken,
+    visits: &mut Vec<Visit>,
+) -> Result<(), AllocError>
     requires nodes { (sig : theory.Signature) × (columns : ℕ) × AreNodes sig columns dag.now }
     requires apart { AreApart dag.now }
     requires few { length dag.now < 2 ^ 32 }
@@ -106,7 +110,7 @@ fn make(dag: &Dag, visit: Visit, taken: &mut Taken, visits: &mut Vec<Visit>) -> 
 }
 
 /// The nodes that the last one needs, in the order of their first places in its tuple.
-pub fn needed_nodes(alloc: Global, dag: &Dag) -> Result<Dag, Memory>
+pub fn needed_nodes(alloc: Global, dag: &Dag) -> Result<Dag, AllocError>
     requires nodes { (sig : theory.Signature) × (columns : ℕ) × AreNodes sig columns dag.now }
     requires some { 0 < length dag.now }
     requires few { length dag.now < 2 ^ 32 }

@@ -2,8 +2,7 @@
 ghost use Rattle.std.specs.Prelude.{◌≡◌, ℕ, List, ◌<◌, ◌++◌, ◌∷◌, [], length, OnOk, IfOk};
 ghost use Rattle.fort_witness.specs.Choices.{AreListed, HasOneMore, lists_of, numbers_from, IsFirstAt};
 
-use fort_terms::Memory;
-use std::alloc::Global;
+use std::alloc::{AllocError, Global};
 
 /// For each state the numbers of its nodes, ascending.
 #[derive(Drop)]
@@ -13,7 +12,7 @@ pub struct NodeLists {
 
 impl NodeLists {
     /// No nodes.
-    pub fn new(alloc: Global, states: u32) -> Result<NodeLists, Memory>
+    pub fn new(alloc: Global, states: u32) -> Result<NodeLists, AllocError>
         ensures { IfOk result (λ r. AreListed states [] (lists_of r)) }
     {
         let mut lists = Vec::new(alloc);
@@ -24,7 +23,7 @@ impl NodeLists {
     }
 
     /// One more node, with this state.
-    pub fn push(&mut self, state: u32, node: u32) -> Result<(), Memory>
+    pub fn push(&mut self, state: u32, node: u32) -> Result<(), AllocError>
         requires { state < length (lists_of self.old) }
         ensures counts { OnOk result (HasOneMore state (lists_of self.old) (lists_of self.new)) }
         ensures listed { OnOk result ((n : ℕ) (qs : List ℕ)

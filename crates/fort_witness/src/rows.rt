@@ -9,17 +9,17 @@ ghost use Rattle.fort_witness.specs.Making.{AreOld};
 ghost use Rattle.fort_witness.specs.Rounds.{states_at};
 ghost use Rattle.fort_witness.specs.Solving.{AreEntries, AreKeptNodes, AreFirstRows};
 
-use crate::choices::{Span, first_kids, next_kids};
+use crate::choices::{NodeSpan, first_kids, next_kids};
 use crate::found::over_states;
 use crate::head::Head;
 use crate::kept::Kept;
 use crate::node_lists::NodeLists;
-use fort_terms::Memory;
 use fort_tuple_symbols::Row;
+use std::alloc::AllocError;
 use std::collections::BinaryHeap;
 
 /// The first row over nodes of an entry's states.
-fn first_row(lists: &NodeLists, span: Span, entry: &Row) -> Option<Row>
+fn first_row(lists: &NodeLists, span: NodeSpan, entry: &Row) -> Option<Row>
     requires known { Knows (lists_of lists.now) entry.now.kids }
     ensures symbol { IfSome result (λ r. r.symbol ≡ entry.now.symbol) }
     ensures some { IfSome result (λ r. (qs : List ℕ) → AreListed (length (lists_of lists.now)) qs
@@ -40,7 +40,7 @@ fn first_row(lists: &NodeLists, span: Span, entry: &Row) -> Option<Row>
 }
 
 /// The next row over nodes of the same states.
-pub fn next_row(lists: &NodeLists, states: &[u32], span: Span, row: &Row) -> Option<Row>
+pub fn next_row(lists: &NodeLists, states: &[u32], span: NodeSpan, row: &Row) -> Option<Row>
     requires within { (j : ℕ) → j < length row.now.kids → slice_index_or row.now.kids j 0
         < length states.now }
     requires known { Knows (lists_of lists.now) (states_at states.now row.now.kids) }
@@ -70,11 +70,11 @@ pub fn next_row(lists: &NodeLists, states: &[u32], span: Span, row: &Row) -> Opt
 /// The first row of each entry that may still give its state a node.
 pub fn first_rows(
     entries: &[Head],
-    span: Span,
+    span: NodeSpan,
     most: usize,
     kept: &Kept,
     heads: &mut BinaryHeap<Head>,
-) -> Result<(), Memory>
+) -> Result<(), AllocError>
     requires entries { (t : tables.Table) × tables.IsTable t × AreEntries t entries.now
         × AreKeptNodes t (suc most) kept.now }
     requires end { span.end ≡ length kept.now.dag }

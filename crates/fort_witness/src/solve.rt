@@ -6,15 +6,14 @@ ghost use Rattle.fort_witness.specs.Answers.{AreSolutions};
 ghost use Rattle.fort_witness.specs.Solving.{IsMaking, IsTakenOut, work_left};
 
 use crate::answer::Solutions;
-use crate::choices::Span;
+use crate::choices::NodeSpan;
 use crate::entries::entries_of;
 use crate::head::Head;
 use crate::kept::Kept;
 use crate::rows::{first_rows, next_row};
 use fort_lockstep::Dta;
 use fort_table::Table;
-use fort_terms::Memory;
-use std::alloc::Global;
+use std::alloc::{AllocError, Global};
 use std::collections::BinaryHeap;
 
 /// Whether this accepted tuple is one more than most.
@@ -28,12 +27,12 @@ fn is_over(accepted: bool, count: usize, most: usize) -> bool
 /// row's state is full. Whether it is accepted where the most nodes are already.
 fn make_node(
     table: &Dta,
-    span: Span,
+    span: NodeSpan,
     most: usize,
     head: &Head,
     kept: &mut Kept,
     heads: &mut BinaryHeap<Head>,
-) -> Result<bool, Memory>
+) -> Result<bool, AllocError>
     requires few { length table.now.presences ≤ 1000000 }
     requires most { most ≤ 1000 }
     requires taken { (h : ℕ) × IsTakenOut (listed_table table.now) most h span.low span.end kept.old
@@ -74,11 +73,11 @@ fn make_node(
 /// most of them are accepted.
 fn make_nodes(
     table: &Dta,
-    span: Span,
+    span: NodeSpan,
     most: usize,
     kept: &mut Kept,
     heads: &mut BinaryHeap<Head>,
-) -> Result<bool, Memory>
+) -> Result<bool, AllocError>
     requires few { length table.now.presences ≤ 1000000 }
     requires most { most ≤ 1000 }
     requires making { (h : ℕ) × IsMaking (listed_table table.now) most h span.low span.end kept.old
@@ -102,7 +101,12 @@ fn make_nodes(
 
 /// The first tuples of terms up to this height that the table accepts; there may be nodes that
 /// they don't need.
-pub fn solutions(alloc: Global, table: &Dta, height: u32, most: usize) -> Result<Solutions, Memory>
+pub fn solutions(
+    alloc: Global,
+    table: &Dta,
+    height: u32,
+    most: usize,
+) -> Result<Solutions, AllocError>
     requires some { 0 < most }
     requires few { most ≤ 1000 }
     requires states { length table.now.presences ≤ 1000000 }
@@ -118,7 +122,7 @@ pub fn solutions(alloc: Global, table: &Dta, height: u32, most: usize) -> Result
     let mut level = 0u32;
     'heights: loop {
         let end = kept.dag.len() as u32;
-        let span = Span { low, end };
+        let span = NodeSpan { low, end };
         first_rows(&entries, span, most, &kept, &mut heads)?;
         if heads.is_empty() {
             return Ok(kept.answer(false));

@@ -36,7 +36,7 @@ push_reserved-requires c =
     let a = c.self.inside in
     let i = c.self.invariant in
     let count = count_of a.width a.room a.most a.space a.ends.items a.places.items a.words.items c.args.self.now c.self.view_is in
-    omega (arith, count, c.requires.room, ap (λ (r : SparseLabels). r.room) c.self.view_is, i.limited, i.ends_room, a.ends.ok.0)
+    omega (arith, count, c.requires.room, ap (λ (r : SparseLabels). r.room) c.self.view_is, i.within_most, i.ends_room, a.ends.ok.0)
 
 pub invariant_of-self : goal.invariant_of-self
 invariant_of-self c =
@@ -58,7 +58,7 @@ invariant_of-self c =
           (sparse_more a.width a.ends.items a.places.items a.words.items c.len.result label i.sparse width end)));
       within = omega (arith, ap length es, length-append a.ends.items (c.len.result ∷ []), count, c.requires.room, ap (λ (r : SparseLabels). r.room) c.self.view_is);
       fits = i.fits;
-      limited = i.limited;
+      within_most = i.within_most;
       ends_room = omega (arith, i.ends_room, c.push_reserved.ensures.capacity);
       places_room = omega (arith, i.places_room, c.put_words.ensures.places_room);
       words_room = omega (arith, i.words_room, c.put_words.ensures.words_room);

@@ -12,11 +12,11 @@ returns-clause-ok c =
     let old = c.args.self.now in
     let a = c.self.inside in
     let of_width : AreOfWidth a.width old = subst (AreOfWidth a.width) c.self.view_is c.self.invariant.widths in
-    let F : Inside → Type 0 = λ i. IsReadyFor n old i.width i.form in
+    let F : Inside → Type 0 = λ i. IsReadyFor n old i.width i.storage in
     let j : F c.if-label-self.self-inside = elim c.if-label-self.branch [
       | then-label-self+in-Short-1 w ↦ subst F (sym w.self-inside-is) (record { width_is = refl; labels = w.new.ensures.none ∙ sym (no_labels a.width n old of_width c.requires.width w.if-label-self.true) })
       | then-label-self+in-Long-1 w ↦ subst F (sym w.self-inside-is) (record { width_is = refl; labels = w.new.ensures.none ∙ sym (no_labels a.width n old of_width c.requires.width w.if-label-self.true) })
-      | else-label-self w ↦ subst F (sym w.self-inside-is) (record { width_is = sym w.if-label-self.false; labels = ap (λ k. labels_in k a.form) w.if-label-self.false ∙ c.self.view_is })
+      | else-label-self w ↦ subst F (sym w.self-inside-is) (record { width_is = sym w.if-label-self.false; labels = ap (λ k. labels_in k a.storage) w.if-label-self.false ∙ c.self.view_is })
     ] in
     subst (λ (k : ℕ). OnOk c.push.result (labels_in k c.push.new.self ≡ old ++ label ∷ [])) (sym j.width_is)
     (subst (λ (ls : List (List ℕ)). OnOk c.push.result (labels_in n c.push.new.self ≡ ls ++ label ∷ [])) j.labels c.push.ensures.ok)
@@ -28,11 +28,11 @@ returns-clause-err c =
     let old = c.args.self.now in
     let a = c.self.inside in
     let of_width : AreOfWidth a.width old = subst (AreOfWidth a.width) c.self.view_is c.self.invariant.widths in
-    let F : Inside → Type 0 = λ i. IsReadyFor n old i.width i.form in
+    let F : Inside → Type 0 = λ i. IsReadyFor n old i.width i.storage in
     let j : F c.if-label-self.self-inside = elim c.if-label-self.branch [
       | then-label-self+in-Short-1 w ↦ subst F (sym w.self-inside-is) (record { width_is = refl; labels = w.new.ensures.none ∙ sym (no_labels a.width n old of_width c.requires.width w.if-label-self.true) })
       | then-label-self+in-Long-1 w ↦ subst F (sym w.self-inside-is) (record { width_is = refl; labels = w.new.ensures.none ∙ sym (no_labels a.width n old of_width c.requires.width w.if-label-self.true) })
-      | else-label-self w ↦ subst F (sym w.self-inside-is) (record { width_is = sym w.if-label-self.false; labels = ap (λ k. labels_in k a.form) w.if-label-self.false ∙ c.self.view_is })
+      | else-label-self w ↦ subst F (sym w.self-inside-is) (record { width_is = sym w.if-label-self.false; labels = ap (λ k. labels_in k a.storage) w.if-label-self.false ∙ c.self.view_is })
     ] in
     subst (λ (k : ℕ). OnErr c.push.result (labels_in k c.push.new.self ≡ old)) (sym j.width_is)
     (subst (λ (ls : List (List ℕ)). OnErr c.push.result (labels_in n c.push.new.self ≡ ls)) j.labels c.push.ensures.err)

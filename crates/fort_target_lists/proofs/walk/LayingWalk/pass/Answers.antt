@@ -1,8 +1,8 @@
 use Rattle.std.proofs.Common.{◌≡◌, [], ◌∷◌, ◌++◌, IsTrue, arith, ap, true≢false, sym, ◌∙◌}
 use Rattle.fort_tables.specs.Tables.{listed_table}
 use Rattle.fort_target_lists.proofs.WalkLaws.{entry_at, stop_low, stop_room, stop_laid, stop_target, passed_more}
-use Rattle.fort_target_lists.proofs.walk.Walk.pass.Goals as goal
-use Rattle.fort_target_lists.proofs.walk.Walk.pass.Goals.{then-self, else-self}
+use Rattle.fort_target_lists.proofs.walk.LayingWalk.pass.Goals as goal
+use Rattle.fort_target_lists.proofs.walk.LayingWalk.pass.Goals.{then-self, else-self}
 
 pub bounds-cursors-stage : goal.bounds-cursors-stage
 bounds-cursors-stage c =

@@ -2,7 +2,7 @@ use Rattle.std.proofs.Common.{◌≡◌, ℕ, List, vec_capacity}
 use Rattle.fort_tables.specs.Tables.{Listed}
 use Rattle.fort_tuple_symbols.specs.SymbolNumbers.{columns_at}
 use Rattle.fort_target_lists.specs.Walks.{IsBetween}
-use Rattle.fort_target_lists.proofs.walk.Walk.pass_all.Given as goal
+use Rattle.fort_target_lists.proofs.walk.LayingWalk.pass_all.Given as goal
 
 abbrev pub invariant-loop : goal.invariant-loop
 invariant-loop l = record {

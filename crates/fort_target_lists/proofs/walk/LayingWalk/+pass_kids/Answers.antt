@@ -4,8 +4,8 @@ use Rattle.fort_tables.specs.Tuples.{AreSymbols, kid_presence}
 use Rattle.fort_target_lists.specs.Chains.{IsFirstFrom}
 use Rattle.fort_target_lists.specs.Walks.{HasPassedBehind}
 use Rattle.fort_target_lists.proofs.WalkTurns.{next_stop, turn_first, turn_next, turn_last, stop_next, stop_end, passed_end}
-use Rattle.fort_target_lists.proofs.walk.Walk.+pass_kids.Goals as goal
-use Rattle.fort_target_lists.proofs.walk.Walk.+pass_kids.Goals.{then-rest-eq1, else-rest-eq1}
+use Rattle.fort_target_lists.proofs.walk.LayingWalk.+pass_kids.Goals as goal
+use Rattle.fort_target_lists.proofs.walk.LayingWalk.+pass_kids.Goals.{then-rest-eq1, else-rest-eq1}
 
 pub kid_presence-requires : goal.kid_presence-requires
 kid_presence-requires t c =

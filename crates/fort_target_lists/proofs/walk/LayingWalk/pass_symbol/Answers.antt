@@ -6,7 +6,7 @@ use Rattle.fort_tuple_symbols.specs.SymbolNumbers.{columns_at}
 use Rattle.fort_target_lists.specs.Walks.{entries_before, HasPassed, IsBetween}
 use Rattle.fort_target_lists.proofs.SymbolNumbers.{symbols_at}
 use Rattle.fort_target_lists.proofs.WalkSymbols.{symbol_with, first_stop, stop_first, between_absent, between_present}
-use Rattle.fort_target_lists.proofs.walk.Walk.pass_symbol.Goals as goal
+use Rattle.fort_target_lists.proofs.walk.LayingWalk.pass_symbol.Goals as goal
 
 pub kid_count-count-requires : goal.kid_count-count-requires
 kid_count-count-requires c =

@@ -1,7 +1,7 @@
 use Rattle.std.proofs.Common.{length, ap, refl, sym, ◌∙◌, arith}
 use Rattle.fort_tuple_symbols.proofs.SymbolNumberLaws.{columns_first, columns_next}
 use Rattle.fort_target_lists.specs.Places.{IsNumbered}
-use Rattle.fort_target_lists.proofs.walk.Walk.pass_all.Goals as goal
+use Rattle.fort_target_lists.proofs.walk.LayingWalk.pass_all.Goals as goal
 
 pub absent-symbol-requires : goal.absent-symbol-requires
 absent-symbol-requires c = let h = c.requires.between.2 in omega (arith, h.goes.columns_are, h.goes.listed.narrow)

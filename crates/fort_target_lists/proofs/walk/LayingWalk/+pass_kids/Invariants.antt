@@ -1,7 +1,7 @@
 use Rattle.std.proofs.Common.{◌≡◌, ◌-◌, length, vec_capacity}
 use Rattle.fort_target_lists.specs.Walks.{Stop, IsStopOf, HasPassedTo}
 use Rattle.fort_target_lists.proofs.WalkTurns.{IsTurn}
-use Rattle.fort_target_lists.proofs.walk.Walk.+pass_kids.Given as goal
+use Rattle.fort_target_lists.proofs.walk.LayingWalk.+pass_kids.Given as goal
 
 abbrev pub decreases-pass_kids : goal.decreases-pass_kids
 decreases-pass_kids l = l.rest
