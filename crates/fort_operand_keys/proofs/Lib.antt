@@ -1,0 +1,2 @@
+pub mod ClassStates
+pub mod ProductKeyLaws

@@ -1,0 +1,2 @@
+pub mod TableLeaders
+pub mod ProductKeys
