@@ -1,2 +1,3 @@
 pub mod TableLeaders
 pub mod ProductKeys
+pub mod ProjectionKeys
