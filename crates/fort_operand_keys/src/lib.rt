@@ -1,3 +1,4 @@
-//! Definitions of what the labels of products and projections ask of a child's label, the classes
-//! of their operands' states there, with the laws about them. It has no code.
+//! Definitions of what the labels of products, of projections and of "infinitely many" ask of a
+//! child's label: the classes of their operands' states there; with the laws about them. It has no
+//! code.
 #![tactic(auto)]
