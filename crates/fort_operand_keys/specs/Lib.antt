@@ -1,0 +1,4 @@
+pub mod TableLeaders
+pub mod ProductKeys
+pub mod ProjectionKeys
+pub mod ManyKeys
