@@ -1,5 +1,5 @@
--- A view stays right where the next state is taken up, and where a label is added.
-use Rattle.std.proofs.Common.{◌≡◌, ℕ, zero, suc, ◌+◌, ◌<◌, ◌≤◌, List, [], ◌∷◌, ◌++◌, map, filter, cond, length, get_or, Bool, true, false, ◌==◌, refl, ap, sym, ◌∙◌, arith, subst, ⊎_elim, eq-eqb}
+-- A view stays right where the next state is taken up.
+use Rattle.std.proofs.Common.{◌≡◌, ◌↔◌, ℕ, zero, suc, ◌+◌, ◌<◌, ◌≤◌, if◌then◌else◌, List, [], ◌∷◌, ◌++◌, map, filter, cond, length, get_or, Bool, true, false, IsTrue, true≢false, ◌==◌, refl, ap, sym, ◌∙◌, arith, subst, ⊎_elim, eq-eqb}
 use Rattle.std.specs.Prelude.{Contains}
 use Rattle.std.proofs.lemmas.Bool.{cases_lt}
 use Rattle.std.proofs.lemmas.List.{length-map, get_or-map, get_or_push, get_or_append_left, get_or_default, length_push, map-append, append-nil}
@@ -8,18 +8,18 @@ use Rattle.fort_theory.proofs.Members.{Contains-filter, Contains-from_filter}
 use Rattle.fort_tables.specs.Labels.{first_word}
 use Rattle.fort_tables.proofs.EqualTests.{equal_from_test, test_from_apart}
 use Rattle.fort_classes.specs.Keys.{Keys}
-use Rattle.fort_classes.proofs.KeyLaws.{AreOfClass, by_least, by_below, by_class, by_itself, KeepsLeaders-push}
-use Rattle.fort_entry_walk.proofs.InLaws.{Contains-from_In, In-from_Contains, In-at}
+use Rattle.fort_classes.proofs.KeyLaws.{AreOfClass, by_least, by_below, by_class, by_itself}
+use Rattle.fort_entry_walk.specs.Walks.{states_with}
+use Rattle.fort_entry_walk.proofs.InLaws.{Contains-from_In, In-from_Contains}
 use Rattle.fort_entry_walk.proofs.KidMembers.{In-states, from_states}
-use Rattle.fort_views.specs.Views.{leader_in, leads_in, view_states, view_leaders, IsClassOf, HaveClasses, AreClasses}
-use Rattle.fort_views.proofs.StateLaws.{states_more, states_same, states_agree, filter_agree, map_agree}
+use Rattle.fort_views.specs.Views.{leader_in, leads_in, view_states, view_leaders, IsClassOf, HaveClasses, AreClasses, IsViewOf, HasSameSight, GivesClass}
+use Rattle.fort_views.specs.declared.view.View.{View}
+use Rattle.fort_views.specs.ViewsStay.{word_at}
+use Rattle.fort_views.proofs.StateLaws.{states_more, states_same}
 
 -- the keys at a place that asks this
 abbrev keys_in : (List ℕ → List ℕ → List ℕ) → List ℕ → Keys
 keys_in key words = λ f j label. key words label
-
-word_at : (labels : List (List ℕ)) (q : ℕ) → q < length labels → get_or (map first_word labels) q 0 ≡ first_word (get_or labels q [])
-word_at labels q l = get_or-map first_word labels q [] 0 l
 
 -- one more state with its class, where leaders may have come
 HaveClasses-push : (leaders more : List ℕ) (lead : ℕ → ℕ) (states classes : List ℕ) (q c : ℕ) → HaveClasses leaders lead states classes → ((k : ℕ) → k < length leaders → get_or more k 0 ≡ get_or leaders k 0) → length leaders ≤ length more → IsClassOf more (lead q) c → HaveClasses more lead (states ++ q ∷ []) (classes ++ c ∷ [])
@@ -159,29 +159,46 @@ module _ (key : List ℕ → List ℕ → List ℕ) (words : List ℕ) (labels :
           (record { within = omega (arith, length_push leaders n); leads = get_or_push leaders n 0 (length leaders) refl ∙ sym lead }));
         }
 
-    -- Result: a label that is added
-    pub classes_stay : (w : List ℕ) → AreClasses key words (labels ++ w ∷ []) presence n keys leaders classes
-    classes_stay w =
-        let labels' = labels ++ w ∷ [] in
-        let ps = map first_word labels in
-        let ps' = map first_word labels' in
-        let lead = leader_in key words labels in
-        let lead' = leader_in key words labels' in
-        let states = view_states labels presence n in
-        let at : (k : ℕ) → k < length labels → get_or labels' k [] ≡ get_or labels k [] = λ k l. get_or_append_left labels (w ∷ []) [] k l in
-        let keeps : (q : ℕ) → q < length labels → lead' q ≡ lead q = λ q l. KeepsLeaders-push (keys_in key words) labels w [] 0 q l in
-        let words_same : (k : ℕ) → k < 0 + n → get_or ps k 0 ≡ get_or ps' k 0 = λ k l.
-        let low : k < length labels = omega (arith, is.within) in
-        word_at labels k low ∙ (ap first_word (sym (at k low)) ∙ sym (word_at labels' k (omega (arith, length_push labels w)))) in
-        let same : states ≡ view_states labels' presence n = states_agree ps ps' presence 0 n words_same in
-        let low_at : (i : ℕ) → i < length states → get_or states i 0 < length labels = λ i l.
-        let s = from_states ps presence 0 n (get_or states i 0) (In-at states i 0 l) in omega (arith, s.1, is.within) in
-        record {
-          within = omega (arith, is.within, length_push labels w);
-          leaders_are = is.leaders_are ∙ (filter_agree (leads_in key words labels) (leads_in key words labels') states (λ i l. ap (λ r. r == get_or states i 0) (sym (keeps (get_or states i 0) (low_at i l)))) ∙ ap (filter (leads_in key words labels')) same);
-          keys_are = is.keys_are ∙ map_agree (λ q. key words (get_or labels q [])) (λ q. key words (get_or labels' q [])) leaders (λ i l. ap (key words) (sym (at (get_or leaders i 0) (omega (arith, (leader_before i l).before, is.within)))));
-          have = subst (λ (xs : List ℕ). HaveClasses leaders lead' xs classes) same (record {
-            count = is.have.count;
-            each = λ i l. let old = is.have.each i l in record { within = old.within; leads = old.leads ∙ sym (keeps (get_or states i 0) (low_at i l)) };
-          });
-        }
+few_states : (p : ℕ → Bool) (ps : List ℕ) (want a n : ℕ) → length (filter p (states_with ps want a n)) ≤ n
+few_states p ps want a zero = omega arith
+few_states p ps want a (suc n) =
+    let later = states_with ps want (a + 1) n in
+    let few = few_states p ps want (a + 1) n in
+    let one : (b : Bool) → length (cond b (a ∷ filter p later) (filter p later)) ≤ suc n = λ b. elim b as (λ b. length (cond b (a ∷ filter p later) (filter p later)) ≤ suc n) [ true ↦ omega arith | false ↦ omega arith ] in
+    let both : (b : Bool) → length (filter p (if b then a ∷ later else later)) ≤ suc n = λ b. elim b as (λ b. length (filter p (if b then a ∷ later else later)) ≤ suc n) [ true ↦ one (p a) | false ↦ omega arith ] in
+    both (get_or ps a 0 == want)
+
+-- a view has no more classes than states before the one that it tells
+pub few_leaders : (key : List ℕ → List ℕ → List ℕ) (words : List ℕ) (labels : List (List ℕ)) (presence n : ℕ) (keys : List (List ℕ)) (leaders classes : List ℕ) → AreClasses key words labels presence n keys leaders classes → length leaders ≤ n
+few_leaders key words labels presence n keys leaders classes is = omega (arith, ap length is.leaders_are, few_states (leads_in key words labels) (map first_word labels) presence 0 n)
+
+-- Result: a view whose next state has another presence
+pub known_past : (key : List ℕ → List ℕ → List ℕ) (words : List ℕ) (labels : List (List ℕ)) (presence n : ℕ) (keys : List (List ℕ)) (leaders classes label : List ℕ) (has : Bool) → AreClasses key words labels presence n keys leaders classes → n < length labels → label ≡ get_or labels n [] → IsTrue has ↔ (first_word label ≡ presence) → has ≡ false → AreClasses key words labels presence (n + 1) keys leaders classes
+known_past key words labels presence n keys leaders classes label has is within at test other =
+    classes_past key words labels presence n keys leaders classes is within
+    (λ e. let one : first_word label ≡ presence = ap first_word at ∙ (sym (word_at labels n within) ∙ e) in
+    let there : has ≡ true = test.1 one in
+    absurd (true≢false (sym there ∙ other)))
+
+-- Result: a view with the class of its next state
+pub known_after : (key : List ℕ → List ℕ → List ℕ) (labels : List (List ℕ)) (old new : View) (classes label k : List ℕ) (has : Bool) (class : ℕ) → IsViewOf key labels old → old.until < length labels → label ≡ get_or labels old.until [] → IsTrue has ↔ (first_word label ≡ old.presence) → has ≡ true
+    → k ≡ key old.words.items label → GivesClass old new k old.until class → HasSameSight old new → new.classes.items ≡ old.classes.items → classes ≡ new.classes.items ++ class ∷ [] → AreClasses key new.words.items labels new.presence (old.until + 1) new.keys new.leaders.items classes
+known_after key labels old new classes label k has class is within at test same key_is gives sight stay push =
+    let n = old.until in
+    let words = old.words.items in
+    let P : List (List ℕ) → List ℕ → List ℕ → Type 0 = λ ks ls cs. AreClasses key words labels old.presence (n + 1) ks ls cs in
+    let one : get_or (map first_word labels) n 0 ≡ old.presence = word_at labels n within ∙ (ap first_word (sym at) ∙ test.0 same) in
+    let key_here : k ≡ key words (get_or labels n []) = key_is ∙ ap (key words) at in
+    let classes_are : old.classes.items ++ class ∷ [] ≡ classes = sym (push ∙ ap (λ v. v ++ class ∷ []) stay) in
+    let here : P new.keys new.leaders.items classes = ⊎_elim
+    (λ o.
+    let r = classes_old key words labels old.presence n old.keys old.leaders.items old.classes.items is class within one o.within (o.has ∙ key_here) in
+    subst (λ cs. P new.keys new.leaders.items cs) classes_are (subst (λ ls. P new.keys ls (old.classes.items ++ class ∷ [])) (sym o.leaders) (subst (λ ks. P ks old.leaders.items (old.classes.items ++ class ∷ [])) (sym o.keys) r)))
+    (λ o.
+    let r = classes_new key words labels old.presence n old.keys old.leaders.items old.classes.items is within one (λ i l e. o.absent i l (e ∙ sym key_here)) in
+    let ks_are : old.keys ++ key words (get_or labels n []) ∷ [] ≡ new.keys = sym (o.keys ∙ ap (λ x. old.keys ++ x ∷ []) key_here) in
+    let cs_are : old.classes.items ++ length old.leaders.items ∷ [] ≡ classes = ap (λ x. old.classes.items ++ x ∷ []) (sym o.last) ∙ classes_are in
+    subst (λ cs. P new.keys new.leaders.items cs) cs_are (subst (λ ls. P new.keys ls (old.classes.items ++ length old.leaders.items ∷ [])) (sym o.leaders) (subst (λ ks. P ks (old.leaders.items ++ n ∷ []) (old.classes.items ++ length old.leaders.items ∷ [])) ks_are r)))
+    gives in
+    subst (λ ws. AreClasses key ws labels new.presence (n + 1) new.keys new.leaders.items classes) (sym sight.words)
+    (subst (λ p. AreClasses key words labels p (n + 1) new.keys new.leaders.items classes) (sym sight.presence) here)

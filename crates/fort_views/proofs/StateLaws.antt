@@ -1,5 +1,5 @@
--- The states with a presence before the next one, and where more states are added.
-use Rattle.std.proofs.Common.{◌≡◌, ℕ, zero, suc, ◌+◌, ◌<◌, if◌then◌else◌, List, [], ◌∷◌, ◌++◌, map, filter, cond, length, get_or, Bool, true, false, ◌==◌, refl, ap, sym, ◌∙◌, arith}
+-- The states with a presence before the next one.
+use Rattle.std.proofs.Common.{◌≡◌, ℕ, zero, suc, ◌+◌, if◌then◌else◌, List, [], ◌∷◌, ◌++◌, get_or, Bool, true, false, ◌==◌, ap, ◌∙◌, arith}
 use Rattle.std.proofs.lemmas.List.{append-nil}
 use Rattle.fort_tables.proofs.EqualTests.{if_equal, if_apart}
 use Rattle.fort_entry_walk.specs.Walks.{states_with}
@@ -35,24 +35,3 @@ states_same ps want n h =
     let e : n + 1 ≡ suc n = omega arith in
     let z : 0 + n ≡ n = omega arith in
     ap (states_with ps want 0) e ∙ (states_split ps want 0 n ∙ (ap (λ i. states_with ps want 0 n ++ one_if ps want i) z ∙ (ap (λ r. states_with ps want 0 n ++ r) (if_apart (get_or ps n 0) want (n ∷ []) [] h) ∙ append-nil (states_with ps want 0 n))))
-
--- states whose presences agree
-pub states_agree : (ps ps' : List ℕ) (want a n : ℕ) → ((k : ℕ) → k < a + n → get_or ps k 0 ≡ get_or ps' k 0) → states_with ps want a n ≡ states_with ps' want a n
-states_agree ps ps' want a zero h = refl
-states_agree ps ps' want a (suc n) h =
-    let later = states_with ps want (a + 1) n in
-    let later' = states_with ps' want (a + 1) n in
-    let same : later ≡ later' = states_agree ps ps' want (a + 1) n (λ k l. h k (omega arith)) in
-    ap (λ p. if p == want then a ∷ later else later) (h a (omega arith)) ∙ ap (λ r. if get_or ps' a 0 == want then a ∷ r else r) same
-
--- tests that agree at each element
-pub filter_agree : (p p' : ℕ → Bool) (xs : List ℕ) → ((i : ℕ) → i < length xs → p (get_or xs i 0) ≡ p' (get_or xs i 0)) → filter p xs ≡ filter p' xs
-filter_agree p p' [] h = refl
-filter_agree p p' (x ∷ xs) h =
-    ap (λ b. cond b (x ∷ filter p xs) (filter p xs)) (h 0 (omega arith))
-    ∙ ap (λ r. cond (p' x) (x ∷ r) r) (filter_agree p p' xs (λ i l. h (suc i) (omega arith)))
-
--- functions that agree at each element
-pub map_agree : {A : Type 0} (f g : ℕ → A) (xs : List ℕ) → ((i : ℕ) → i < length xs → f (get_or xs i 0) ≡ g (get_or xs i 0)) → map f xs ≡ map g xs
-map_agree f g [] h = refl
-map_agree f g (x ∷ xs) h = ap (λ y. y ∷ map f xs) (h 0 (omega arith)) ∙ ap (λ r. g x ∷ r) (map_agree f g xs (λ i l. h (suc i) (omega arith)))

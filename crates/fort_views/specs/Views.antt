@@ -48,7 +48,7 @@ IsViewOf key labels v = AreClasses key v.words.items labels v.presence v.until v
 -- of the same presence, and by what the same words ask
 pub record HasSameSight (old new : View) : Type 0 where
   pub presence : new.presence ≡ old.presence
-  pub words : new.words ≡ old.words
+  pub words : new.words.items ≡ old.words.items
 
 -- the class that has the key
 pub record IsOldClass (old new : View) (key : List ℕ) (class : ℕ) : Type 0 where

@@ -29,6 +29,11 @@ impl KeySet {
         }
     }
 
+    /// The allocator that the words' lists come from.
+    pub fn allocator(&self) -> Global {
+        *self.set.allocator()
+    }
+
     /// Appends words that aren't there yet.
     pub fn push(&mut self, words: Vec<u64>) -> Result<(), Memory>
         requires { (q : ℕ) → q < length self.old → slice_index_or self.old q []

@@ -2,8 +2,10 @@
 #![tactic(auto)]
 
 mod key_set;
+mod keyed_views;
 mod place_views;
 mod view;
+mod views;
 
-pub use place_views::PlaceViews;
+pub use keyed_views::KeyedViews;
 pub use view::View;

@@ -60,7 +60,7 @@ impl View {
         ensures gives { IfOk result (GivesClass self.old self.new key.now.items state) }
         ensures sight { HasSameSight self.old self.new }
         ensures until { self.new.until ≡ self.old.until }
-        ensures classes { self.new.classes ≡ self.old.classes }
+        ensures classes { self.new.classes.items ≡ self.old.classes.items }
     {
         match self.keys.find(key.as_slice()) {
             Some(class) => Ok(class as u32),
@@ -81,8 +81,7 @@ impl View {
         key: &mut Vec<u64>,
     ) -> Result<(), Memory>
         requires asked { IsAsked (K.view keys.now) self.old }
-        requires widths { (q : ℕ) → q < length rows.now.labels
-            → length (slice_index_or rows.now.labels q []) ≡ K.word_count keys.now }
+        requires width { rows.now.width ≡ K.word_count keys.now }
         requires numbers { length rows.now.labels < 2 ^ 32 }
         requires within { self.old.until < length rows.now.labels }
         requires known { IsViewOf (K.key keys.now) rows.now.labels self.old }
@@ -90,6 +89,8 @@ impl View {
         ensures until { OnOk result (self.new.until ≡ self.old.until + 1) }
         ensures sight { HasSameSight self.old self.new }
     {
+        // its clause says that each label has this width
+        let _width = rows.width();
         let state = self.until;
         let label = rows.label(state);
         if !has_presence(label, self.presence) {
@@ -113,8 +114,7 @@ impl View {
         key: &mut Vec<u64>,
     ) -> Result<(), Memory>
         requires asked { IsAsked (K.view keys.now) self.old }
-        requires widths { (q : ℕ) → q < length rows.now.labels
-            → length (slice_index_or rows.now.labels q []) ≡ K.word_count keys.now }
+        requires width { rows.now.width ≡ K.word_count keys.now }
         requires numbers { length rows.now.labels < 2 ^ 32 }
         requires within { until ≤ length rows.now.labels }
         requires later { self.old.until ≤ until }
