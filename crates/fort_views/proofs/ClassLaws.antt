@@ -132,7 +132,7 @@ module _ (key : List ℕ → List ℕ → List ℕ) (words : List ℕ) (labels :
           leaders_are = is.leaders_are ∙ sym left;
           keys_are = is.keys_are;
           have = subst (λ (xs : List ℕ). HaveClasses leaders (leader_in key words labels) xs (classes ++ c ∷ [])) (sym more)
-          (HaveClasses-push leaders leaders (leader_in key words labels) states classes n c is.have (λ k l. refl) (omega arith) (record { within = low; leads = sym lead }));
+              (HaveClasses-push leaders leaders (leader_in key words labels) states classes n c is.have (λ k l. refl) (omega arith) (record { within = low; leads = sym lead }));
         }
 
     -- Result: a state whose key is new
@@ -155,8 +155,8 @@ module _ (key : List ℕ → List ℕ → List ℕ) (words : List ℕ) (labels :
           leaders_are = sym left;
           keys_are = ap (λ ks. ks ++ at n ∷ []) is.keys_are ∙ sym (map-append at leaders (n ∷ []));
           have = subst (λ (xs : List ℕ). HaveClasses (leaders ++ n ∷ []) (leader_in key words labels) xs (classes ++ length leaders ∷ [])) (sym more)
-          (HaveClasses-push leaders (leaders ++ n ∷ []) (leader_in key words labels) states classes n (length leaders) is.have (λ k l. get_or_append_left leaders (n ∷ []) 0 k l) (omega (arith, length_push leaders n))
-          (record { within = omega (arith, length_push leaders n); leads = get_or_push leaders n 0 (length leaders) refl ∙ sym lead }));
+              (HaveClasses-push leaders (leaders ++ n ∷ []) (leader_in key words labels) states classes n (length leaders) is.have (λ k l. get_or_append_left leaders (n ∷ []) 0 k l) (omega (arith, length_push leaders n))
+              (record { within = omega (arith, length_push leaders n); leads = get_or_push leaders n 0 (length leaders) refl ∙ sym lead }));
         }
 
 few_states : (p : ℕ → Bool) (ps : List ℕ) (want a n : ℕ) → length (filter p (states_with ps want a n)) ≤ n

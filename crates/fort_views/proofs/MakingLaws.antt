@@ -1,10 +1,13 @@
 -- Views and numbers that are made for a tuple symbol leave those that are there.
 use Rattle.std.proofs.Common.{◌≡◌, ℕ, zero, suc, ◌+◌, ◌-◌, ◌<◌, ◌≤◌, List, [], ◌∷◌, ◌++◌, map, length, take, drop, get_or, refl, ap, sym, ◌∙◌, arith, subst, ⊎_elim, append_assoc, length-append}
 use Rattle.std.proofs.lemmas.Bool.{cases_lt}
-use Rattle.std.proofs.lemmas.List.{length-map, get_or_push, get_or_append_left, get_or-append_right, get_or-append-add, get_or-take, get_or-drop, length-take-le, length-drop, length_push, map-append, append-nil}
+use Rattle.std.proofs.lemmas.List.{get_or_push, get_or_append_left, get_or-append_right, get_or-append-add, get_or-take, get_or-drop, length-take-le, length-drop, length_push, map-append, append-nil, take_more}
 use Rattle.fort_theory.specs.Signatures.{Signature}
 use Rattle.fort_tables.specs.Tuples.{TupleSymbol}
-use Rattle.fort_tuple_symbols.specs.Columns.{symbol_of}
+use Rattle.fort_tuple_symbols.specs.Columns.{symbol_of, digits_again}
+use Rattle.fort_tuple_symbols.specs.DigitNumbers.{AreDigits}
+use Rattle.fort_tuple_symbols.specs.SymbolSetView.{Symbols}
+use Rattle.fort_tuple_symbols.proofs.Bounds.{symbol_digits}
 use Rattle.fort_entry_walk.specs.WalkPlaces.{wants}
 use Rattle.fort_views.specs.SymbolViews.{sight, AreSights, HasSightsAt, AreSymbolRows, MayFind, AreFresh, IsFresh, HasMoreViews, HasPlaces}
 use Rattle.fort_views.specs.declared.view.View.{View}
@@ -153,3 +156,19 @@ row_found view sig columns digits wanted s k start h l e st =
     let here : F digits = subst F e (h.rows.rows k l) in
     subst (λ i. HasSightsAt view (symbol_of digits) wanted s.sights s.numbers.items i) (sym st)
     (subst (λ ws. HasSightsAt view (symbol_of digits) ws s.sights s.numbers.items (get_or s.starts.items k 0)) (sym h.wanted_are) here)
+
+-- Result: the numbers of one more place
+pub places_step : (view : TupleSymbol → ℕ → List ℕ) (f : TupleSymbol) (wanted : List ℕ) (place n : ℕ) (start old mid new : Views) → HasPlaces view f (take place wanted) start old → HasMoreViews view old mid → mid.numbers.items ≡ old.numbers.items → new.sights ≡ mid.sights → new.numbers.items ≡ mid.numbers.items ++ n ∷ []
+    → place < length wanted → n < length mid.sights → get_or mid.sights n [] ≡ get_or wanted place 0 ∷ view f place → HasPlaces view f (take (place + 1) wanted) start new
+places_step view f wanted place n start old mid new h more same sights push low there is =
+    let count : place ≡ length (take place wanted) = sym (length-take-le place wanted (omega arith)) in
+    subst (λ ws. HasPlaces view f ws start new) (sym (take_more wanted place 0 low))
+    (places_more view f (take place wanted) (get_or wanted place 0) n start old mid new h more same sights push there (is ∙ ap (λ k. get_or wanted place 0 ∷ view f k) count))
+
+-- Result: the digits of a tuple symbol are as the set asks
+pub digits_fit : (view : TupleSymbol → ℕ → List ℕ) (sig : Signature) (columns : ℕ) (digits wanted : List ℕ) (s : Views) (symbols : Symbols) → MayFind view sig columns digits wanted s → symbols ≡ s.symbols → AreDigits symbols.base symbols.columns digits
+digits_fit view sig columns digits wanted s symbols h e =
+    let fits : AreDigits (length sig + 1) columns digits = subst (AreDigits (length sig + 1) columns) (digits_again digits) (symbol_digits sig columns (symbol_of digits) h.symbol) in
+    let base : length sig + 1 ≡ symbols.base = sym (ap (λ (x : Symbols). x.base) e ∙ h.rows.base) in
+    let cols : columns ≡ symbols.columns = sym (ap (λ (x : Symbols). x.columns) e ∙ h.rows.columns_are) in
+    subst (λ b. AreDigits b symbols.columns digits) base (subst (λ c. AreDigits (length sig + 1) c digits) cols fits)

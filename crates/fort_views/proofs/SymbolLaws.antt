@@ -1,16 +1,16 @@
 -- Views of tuple symbols stay right where views are made and where states are taken up.
-use Rattle.std.proofs.Common.{◌≡◌, ℕ, zero, suc, ◌+◌, ◌-◌, ◌<◌, ◌≤◌, List, [], ◌∷◌, ◌++◌, map, filter, set, drop, length, get_or, refl, ap, sym, ◌∙◌, arith, subst, ⊎_elim}
+use Rattle.std.proofs.Common.{◌≡◌, ℕ, zero, suc, ◌+◌, ◌-◌, ◌<◌, ◌≤◌, List, [], ◌∷◌, ◌++◌, map, filter, set, drop, length, get_or, refl, ap, sym, ◌∙◌, arith, subst, ⊎_elim, length-append}
 use Rattle.std.proofs.lemmas.Bool.{cases_lt, cases_eq}
-use Rattle.std.proofs.lemmas.List.{length-map, get_or-map, get_or_push, get_or_append_left, get_or-append_right, get_or_default, length_push, map-append, append-nil, get_or-set_same, get_or-set_other, length-set, length-append}
-use Rattle.fort_theory.specs.Signatures.{Signature}
+use Rattle.std.proofs.lemmas.List.{length-map, get_or-map, get_or_append_left, get_or-append_right, get_or-set_same, get_or-set_other, length-set, map-set}
+use Rattle.std.proofs.Math.Seq.{map-set_same}
 use Rattle.fort_tables.specs.Tuples.{TupleSymbol}
 use Rattle.fort_tables.specs.Labels.{first_word}
 use Rattle.fort_classes.specs.Keys.{leaders_by}
 use Rattle.fort_entry_walk.specs.Walks.{states_with}
 use Rattle.fort_leading_walk.specs.LeaderStates.{leader_states, opens_class}
 use Rattle.fort_label_keys.specs.ViewKeys.{keys_by}
-use Rattle.fort_views.specs.Views.{IsAsked, IsViewOf, HasSameSight, AreClasses, view_leaders}
-use Rattle.fort_views.specs.SymbolViews.{sight, view_leaders_of, AreSights, HasSightsAt, IsViewUpTo, AreViewsUpTo, AreSymbolRows, AreViewsOf, AreFresh, IsFresh, HaveTaken, leaders_at}
+use Rattle.fort_views.specs.Views.{IsViewOf, HasSameSight, AreClasses, view_leaders}
+use Rattle.fort_views.specs.SymbolViews.{sight, view_leaders_of, AreSights, IsViewUpTo, AreViewsUpTo, AreFresh, IsFresh, HaveTaken, HasSameSights, leaders_at}
 use Rattle.fort_views.specs.declared.view.View.{View}
 use Rattle.fort_views.specs.declared.views.Views.{Views}
 
@@ -28,7 +28,7 @@ fresh_is view key labels until v f =
     record {
       asked = f.asked;
       is = subst (λ n. P n v.keys v.leaders.items v.classes.items) (sym f.until) (subst (λ ks. P 0 ks v.leaders.items v.classes.items) (sym f.keys)
-      (subst (λ ls. P 0 [] ls v.classes.items) (sym f.leaders) (subst (λ cs. P 0 [] [] cs) (sym f.classes) none)));
+          (subst (λ ls. P 0 [] ls v.classes.items) (sym f.leaders) (subst (λ cs. P 0 [] [] cs) (sym f.classes) none)));
       taken = omega (arith, f.until);
     }
 
@@ -85,3 +85,45 @@ leaders_turned view key labels newest f vs (w ∷ ws) (n ∷ ns) j count within 
     (λ i l. let e : j + suc i ≡ suc j + i = omega arith in are (suc i) (omega arith) ∙ ap (λ k. get_or ws i 0 ∷ view f k) e)
     (λ i l. taken (suc i) (omega arith)) each in
     ap (λ x. x ∷ leaders_at vs ns) first ∙ ap (λ xs. filter (opens_class (leaders_by (keys_by view key) labels) f j) (states_with (map first_word labels) w 0 (newest + 1)) ∷ xs) rest
+
+-- the view at a number, after it took up states
+module _ (view : TupleSymbol → ℕ → List ℕ) (key : List ℕ → List ℕ → List ℕ) (labels : List (List ℕ)) (until : ℕ) (vs : List View) (n : ℕ) (old new : View) (low : n < length vs) (there : old ≡ get_or vs n old) (same : HasSameSight old new) where
+  pub known_set : AreViewsUpTo view key labels until vs → IsViewOf key labels new → new.until ≡ until → AreViewsUpTo view key labels until (set vs n new)
+  known_set h is taken =
+      let asked = (h n old low there).asked in
+      AreViewsUpTo-set view key labels until vs n new h (record { asked = (asked.0, asked.1, same.words ∙ asked.2); is = is; taken = omega (arith, taken) })
+
+  sight_same : sight new ≡ sight (get_or vs n old)
+  sight_same = ap (λ p. p ∷ new.words.items) same.presence ∙ (ap (λ ws. old.presence ∷ ws) same.words ∙ ap sight there)
+
+  pub sights_set : map sight (set vs n new) ≡ map sight vs
+  sights_set = map-set_same sight vs n new old sight_same
+
+  pub taken_set : (numbers : List ℕ) (index : ℕ) → new.until ≡ until → n ≡ get_or numbers index 0 → ((j : ℕ) → j < index → get_or (map (λ (v : View). v.until) vs) (get_or numbers j 0) 0 ≡ until) → (j : ℕ) → j < index + 1 → get_or (map (λ (v : View). v.until) (set vs n new)) (get_or numbers j 0) 0 ≡ until
+  taken_set numbers index taken here before j l =
+      let of : View → ℕ = λ v. v.until in
+      let k = get_or numbers j 0 in
+      ap (λ xs. get_or xs k 0) (map-set of vs n new)
+      ∙ ⊎_elim
+      (λ e. ap (λ i. get_or (set (map of vs) n new.until) i 0) e ∙ (get_or-set_same (map of vs) n new.until 0 (omega (arith, length-map vs of)) ∙ taken))
+      (λ ne. get_or-set_other (map of vs) n k new.until 0 ne ∙ ⊎_elim
+      (λ b. before j b)
+      (λ b. let e : j ≡ index = omega arith in absurd (ne (ap (λ i. get_or numbers i 0) e ∙ sym here)))
+      (cases_lt j index))
+      (cases_eq k n)
+
+-- Result: the lists of what turned to a tuple symbol
+pub lists_turned : (view : TupleSymbol → ℕ → List ℕ) (key : List ℕ → List ℕ → List ℕ) (labels : List (List ℕ)) (newest : ℕ) (f : TupleSymbol) (mid new : Views) (wanted numbers given : List ℕ) → AreSights view f wanted mid.sights numbers → mid.sights ≡ map sight mid.views.items → map sight new.views.items ≡ map sight mid.views.items
+    → given ≡ numbers → HaveTaken (newest + 1) new.views.items given → AreViewsUpTo view key labels (newest + 1) new.views.items → leaders_at new.views.items numbers ≡ leader_states (leaders_by (keys_by view key) labels) f (map first_word labels) newest 0 wanted
+lists_turned view key labels newest f mid new wanted numbers given are sights same e taken each =
+    let vs = new.views.items in
+    let all : mid.sights ≡ map sight vs = sights ∙ sym same in
+    let count : length mid.sights ≡ length vs = ap length all ∙ length-map vs sight in
+    leaders_turned view key labels newest f vs wanted numbers 0 are.count
+    (λ i l. omega (arith, are.within i l))
+    (λ i l. let s : i ≡ 0 + i = omega arith in ap (λ xs. get_or xs (get_or numbers i 0) []) (sym all) ∙ (are.is i l ∙ ap (λ k. get_or wanted i 0 ∷ view f k) s))
+    (subst (λ (ns : List ℕ). HaveTaken (newest + 1) vs ns) e taken) each
+
+-- a number of a view stays one
+pub sights_bound : (old new : Views) (n : ℕ) → HasSameSights old new → n < length old.views.items → n < length new.views.items
+sights_bound old new n h l = omega (arith, ap length h.views, length-map old.views.items sight, length-map new.views.items sight)

@@ -24,12 +24,7 @@ pub struct KeyedViews<'a, K: LabelKeys> {
 
 impl<'a, K: LabelKeys> KeyedViews<'a, K> {
     /// No state is taken up.
-    pub fn new(
-        alloc: Global,
-        sig: &Signature,
-        columns: usize,
-        keys: &'a K,
-    ) -> KeyedViews<'a, K>
+    pub fn new(alloc: Global, sig: &Signature, columns: usize, keys: &'a K) -> KeyedViews<'a, K>
         requires { columns ≤ 16 }
         ensures keys { result.keys.now ≡ keys.now }
         ensures views { (labels : List (List ℕ)) → AreViewsOf (K.view keys.now) (K.key keys.now)
@@ -83,13 +78,7 @@ impl<'a, K: LabelKeys> SymbolLeaders for KeyedViews<'a, K> {
         newest: u32,
     ) -> Result<(), Memory> {
         let places = self.views.places(self.keys, digits, wanted)?;
-        self.views.take_up(
-            self.keys,
-            rows,
-            places.numbers(),
-            newest + 1,
-            &mut self.key,
-        )?;
+        self.views.take_up(self.keys, rows, places.numbers(), newest + 1, &mut self.key)?;
         self.places = places;
         Ok(())
     }

@@ -1,4 +1,4 @@
-use Rattle.std.proofs.Common.{ap, sym, ◌∙◌, arith}
+use Rattle.std.proofs.Common.{ap, ◌∙◌}
 use Rattle.fort_views.proofs.ClassLaws.{known_past, known_after, few_leaders}
 use Rattle.fort_views.proofs.view.View.take_up_next.Goals as goal
 

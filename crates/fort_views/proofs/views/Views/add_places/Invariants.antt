@@ -7,5 +7,5 @@ invariant-loop-place g l = record {
   more : HasMoreViews (g.K.LabelKeys.view l.keys) l.initial.self l.self;
   places : HasPlaces (g.K.LabelKeys.view l.keys) l.symbol (take l.place l.wanted) l.initial.self l.self;
   symbols : l.self.symbols ≡ l.initial.self.symbols;
-  starts : l.self.starts.items ≡ l.initial.self.starts.items
+  starts : l.self.starts.items ≡ l.initial.self.starts.items;
 }
