@@ -1,3 +1,4 @@
 pub mod Picked
 pub mod Choices
 pub mod LeaderStates
+pub mod Turns

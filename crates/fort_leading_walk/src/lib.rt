@@ -4,6 +4,8 @@
 mod choices;
 mod leader_lists;
 mod picks;
+mod symbol_leaders;
 
 pub use choices::{Choice, first};
 pub use leader_lists::LeaderLists;
+pub use symbol_leaders::SymbolLeaders;
