@@ -1,12 +1,12 @@
 -- The list of the leading entries after a place, by the choices of leaders.
-use Rattle.std.proofs.Common.{◌≡◌, ℕ, zero, suc, ◌+◌, ◌-◌, ◌<◌, List, [], ◌∷◌, ◌++◌, map, filter, cond, Bool, true, false, refl, ap, sym, ◌∙◌, arith, subst}
+use Rattle.std.proofs.Common.{◌≡◌, ℕ, zero, suc, ◌-◌, ◌<◌, List, [], ◌∷◌, ◌++◌, map, filter, cond, Bool, true, false, refl, ap, sym, ◌∙◌, arith, subst}
 use Rattle.std.proofs.lemmas.List.Elements.{filter-append}
 use Rattle.fort_theory.specs.Signatures.{Signature}
 use Rattle.fort_tables.specs.Tuples.{TupleSymbol}
-use Rattle.fort_tables.specs.Entries.{Entry, entry}
+use Rattle.fort_tables.specs.Entries.{entry}
 use Rattle.fort_tuple_symbols.specs.Columns.{symbol_of}
 use Rattle.fort_classes.specs.Leaders.{Leaders}
-use Rattle.fort_entry_walk.specs.WalkPlaces.{Place, wants, entry_at, IsPlace}
+use Rattle.fort_entry_walk.specs.WalkPlaces.{Place, wants}
 use Rattle.fort_entry_walk.specs.Walks.{stage_kids, stage_kids_after, kids_after, entries_after}
 use Rattle.fort_entry_walk.specs.WalkFacts.{IsFound, later_entries}
 use Rattle.fort_entry_walk.proofs.EntryMembers.{no_kids}

@@ -16,7 +16,7 @@ use Rattle.fort_leading_walk.specs.Choices.{choices, choices_after, chosen, IsLa
 use Rattle.fort_leading_walk.specs.LeaderStates.{all_lead}
 use Rattle.fort_leading_walk.specs.Turns.{MayTurn}
 use Rattle.fort_leading_walk.specs.LeadingPlaces.{leading_place, leading_entry, leaders_at, IsChosen, IsAmongLeaders, StandsAt, IsLeadingStep}
-use Rattle.fort_leading_walk.specs.LeadingFacts.{leads, leading_after, later_leading, IsFirstLeading, IsStepAmong, IsSearching}
+use Rattle.fort_leading_walk.specs.LeadingFacts.{leading_after, later_leading, IsFirstLeading, IsStepAmong, IsSearching}
 use Rattle.fort_leading_walk.specs.declared.choices.Choice.{Choice}
 use Rattle.fort_leading_walk.specs.declared.leading.LeadingWalk.{LeadingWalk}
 use Rattle.fort_leading_walk.proofs.LeadingChoices.{last_in_each}

@@ -1,4 +1,4 @@
-use Rattle.std.proofs.Common.{◌-◌, map, rules, subst, sym}
+use Rattle.std.proofs.Common.{◌-◌, map, subst, sym}
 use Rattle.fort_tables.specs.Labels.{first_word}
 use Rattle.fort_tuple_symbols.specs.Columns.{symbol_of}
 use Rattle.fort_classes.specs.Keys.{leaders_by}

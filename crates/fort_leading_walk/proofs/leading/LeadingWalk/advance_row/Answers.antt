@@ -1,4 +1,4 @@
-use Rattle.std.proofs.Common.{length, refl, ap, sym, ◌∙◌, subst, arith}
+use Rattle.std.proofs.Common.{length, refl, sym, ◌∙◌, subst, arith}
 use Rattle.fort_tuple_symbols.proofs.Bounds.{bound-up_to}
 use Rattle.fort_classes.specs.Keys.{Keys, leaders_by}
 use Rattle.fort_entry_walk.specs.WalkPlaces.{place, IsPlace}

@@ -1,10 +1,8 @@
-use Rattle.std.proofs.Common.{◌≡◌, ℕ, ◌-◌, ◌<◌, ◌≤◌, length, map, ap, sym, ◌∙◌, subst, arith}
+use Rattle.std.proofs.Common.{◌<◌, ◌≤◌, length, map, ap, sym, ◌∙◌, subst, arith}
 use Rattle.fort_tables.specs.Labels.{first_word}
-use Rattle.fort_tuple_symbols.specs.Columns.{symbol_of}
 use Rattle.fort_tuple_symbols.proofs.Bounds.{bound-up_to}
 use Rattle.fort_classes.specs.Keys.{leaders_by}
 use Rattle.fort_entry_walk.specs.WalkPlaces.{AreArities, place}
-use Rattle.fort_leading_walk.specs.Turns.{MayTurn}
 use Rattle.fort_leading_walk.specs.LeadingPlaces.{leaders_at}
 use Rattle.fort_leading_walk.proofs.WalkSteps.{chosen_walk, stage_found, may_turn_found, search_goes_on, choice_found, leads_first}
 use Rattle.fort_leading_walk.proofs.leading.LeadingWalk.advance_symbol.Goals as goal
