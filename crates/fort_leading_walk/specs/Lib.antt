@@ -2,3 +2,5 @@ pub mod Picked
 pub mod Choices
 pub mod LeaderStates
 pub mod Turns
+pub mod LeadingPlaces
+pub mod LeadingFacts
