@@ -9,8 +9,8 @@ use Rattle.fort_classes.specs.Keys.{leaders_by}
 use Rattle.fort_entry_walk.specs.Walks.{states_with}
 use Rattle.fort_leading_walk.specs.LeaderStates.{leader_states, opens_class}
 use Rattle.fort_label_keys.specs.ViewKeys.{keys_by}
-use Rattle.fort_views.specs.Views.{IsViewOf, HasSameSight, AreClasses, view_leaders}
-use Rattle.fort_views.specs.SymbolViews.{sight, view_leaders_of, AreSights, IsViewUpTo, AreViewsUpTo, AreFresh, IsFresh, HaveTaken, HasSameSights, leaders_at}
+use Rattle.fort_views.specs.Views.{IsViewOf, HasSameSight, AreClasses, HaveClasses, leader_in, view_states, view_leaders}
+use Rattle.fort_views.specs.SymbolViews.{sight, view_leaders_of, view_classes_of, IsTurnedTo, AreSights, IsViewUpTo, AreViewsUpTo, AreFresh, IsFresh, HaveTaken, HasSameSights, leaders_at}
 use Rattle.fort_views.specs.declared.view.View.{View}
 use Rattle.fort_views.specs.declared.views.Views.{Views}
 
@@ -59,32 +59,70 @@ view_there [] n l = absurd (omega arith)
 view_there (v ∷ vs) zero l = (v, refl)
 view_there (v ∷ vs) (suc n) l = view_there vs n (omega arith)
 
--- Result: the lists at a tuple symbol whose views have taken up all states
-pub leaders_turned : (view : TupleSymbol → ℕ → List ℕ) (key : List ℕ → List ℕ → List ℕ) (labels : List (List ℕ)) (newest : ℕ) (f : TupleSymbol) (vs : List View) (wanted numbers : List ℕ) (j : ℕ) → length numbers ≡ length wanted → ((i : ℕ) → i < length wanted → get_or numbers i 0 < length vs) → ((i : ℕ) → i < length wanted → get_or (map sight vs) (get_or numbers i 0) [] ≡ get_or wanted i 0 ∷ view f (j + i)) → HaveTaken (newest + 1) vs numbers
-    → AreViewsUpTo view key labels (newest + 1) vs → leaders_at vs numbers ≡ leader_states (leaders_by (keys_by view key) labels) f (map first_word labels) newest j wanted
-leaders_turned view key labels newest f vs [] [] j count within are taken each = refl
-leaders_turned view key labels newest f vs [] (n ∷ ns) j count within are taken each = absurd (omega arith)
-leaders_turned view key labels newest f vs (w ∷ ws) [] j count within are taken each = absurd (omega arith)
-leaders_turned view key labels newest f vs (w ∷ ws) (n ∷ ns) j count within are taken each =
-    let low : n < length vs = within 0 (omega arith) in
+-- a view by its number, which has taken up all states of a presence
+pub record IsPlaceView (key : List ℕ → List ℕ → List ℕ) (labels : List (List ℕ)) (until : ℕ) (vs : List View) (n want : ℕ) (words : List ℕ) : Type 0 where
+  pub v : View
+  pub there : v ≡ get_or vs n v
+  pub leaders : v.leaders.items ≡ view_leaders key words labels want until
+  pub have : HaveClasses v.leaders.items (leader_in key words labels) (view_states labels want until) v.classes.items
+
+place_view : (view : TupleSymbol → ℕ → List ℕ) (key : List ℕ → List ℕ → List ℕ) (labels : List (List ℕ)) (until : ℕ) (vs : List View) (n want : ℕ) (words : List ℕ) → n < length vs → get_or (map sight vs) n [] ≡ want ∷ words → get_or (map (λ (v : View). v.until) vs) n 0 ≡ until → AreViewsUpTo view key labels until vs → IsPlaceView key labels until vs n want words
+place_view view key labels until vs n want words low are taken each =
     let there = view_there vs n low in
     let v = there.0 in
     let is : v ≡ get_or vs n v = there.1 in
-    let r = each n v low is in
+    let r = (each n v low is).is in
     let until_of : View → ℕ = λ v. v.until in
-    let until : v.until ≡ newest + 1 = ap until_of is ∙ (sym (get_or-map until_of vs n v 0 low) ∙ taken 0 (omega arith)) in
-    let seen : sight v ≡ w ∷ view f (j + 0) = ap sight is ∙ (sym (get_or-map sight vs n v [] low) ∙ are 0 (omega arith)) in
-    let presence : v.presence ≡ w = ap (λ xs. get_or xs 0 0) seen in
-    let here : j + 0 ≡ j = omega arith in
-    let words : v.words.items ≡ view f j = ap (λ xs. drop 1 xs) seen ∙ ap (view f) here in
+    let all : v.until ≡ until = ap until_of is ∙ (sym (get_or-map until_of vs n v 0 low) ∙ taken) in
+    let seen : sight v ≡ want ∷ words = ap sight is ∙ (sym (get_or-map sight vs n v [] low) ∙ are) in
+    let presence : v.presence ≡ want = ap (λ xs. get_or xs 0 0) seen in
+    let asked : v.words.items ≡ words = ap (λ xs. drop 1 xs) seen in
     let P : List ℕ → ℕ → ℕ → Type 0 = λ ws p n. v.leaders.items ≡ view_leaders key ws labels p n in
-    let leads : P (view f j) w (newest + 1) = subst (λ n. P (view f j) w n) until (subst (λ p. P (view f j) p v.until) presence (subst (λ ws. P ws v.presence v.until) words r.is.leaders_are)) in
+    let Q : List ℕ → ℕ → ℕ → Type 0 = λ ws p n. HaveClasses v.leaders.items (leader_in key ws labels) (view_states labels p n) v.classes.items in
+    record {
+      v = v;
+      there = is;
+      leaders = subst (λ n. P words want n) all (subst (λ p. P words p v.until) presence (subst (λ ws. P ws v.presence v.until) asked r.leaders_are));
+      have = subst (λ n. Q words want n) all (subst (λ p. Q words p v.until) presence (subst (λ ws. Q ws v.presence v.until) asked r.have));
+    }
+
+lists_from : (view : TupleSymbol → ℕ → List ℕ) (key : List ℕ → List ℕ → List ℕ) (labels : List (List ℕ)) (newest : ℕ) (f : TupleSymbol) (vs : List View) (wanted numbers : List ℕ) (j : ℕ) → length numbers ≡ length wanted → ((i : ℕ) → i < length wanted → get_or numbers i 0 < length vs) → ((i : ℕ) → i < length wanted → get_or (map sight vs) (get_or numbers i 0) [] ≡ get_or wanted i 0 ∷ view f (j + i)) → HaveTaken (newest + 1) vs numbers
+    → AreViewsUpTo view key labels (newest + 1) vs → leaders_at vs numbers ≡ leader_states (leaders_by (keys_by view key) labels) f (map first_word labels) newest j wanted
+lists_from view key labels newest f vs [] [] j count within are taken each = refl
+lists_from view key labels newest f vs [] (n ∷ ns) j count within are taken each = absurd (omega arith)
+lists_from view key labels newest f vs (w ∷ ws) [] j count within are taken each = absurd (omega arith)
+lists_from view key labels newest f vs (w ∷ ws) (n ∷ ns) j count within are taken each =
+    let low : n < length vs = within 0 (omega arith) in
+    let here : j + 0 ≡ j = omega arith in
+    let p : IsPlaceView key labels (newest + 1) vs n w (view f j) = place_view view key labels (newest + 1) vs n w (view f j) low (are 0 (omega arith) ∙ ap (λ k. w ∷ view f k) here) (taken 0 (omega arith)) each in
     let first : get_or (map view_leaders_of vs) n [] ≡ filter (opens_class (leaders_by (keys_by view key) labels) f j) (states_with (map first_word labels) w 0 (newest + 1)) =
-    get_or-map view_leaders_of vs n v [] low ∙ (ap view_leaders_of (sym is) ∙ leads) in
-    let rest = leaders_turned view key labels newest f vs ws ns (suc j) (omega arith) (λ i l. within (suc i) (omega arith))
+    get_or-map view_leaders_of vs n p.v [] low ∙ (ap view_leaders_of (sym p.there) ∙ p.leaders) in
+    let rest = lists_from view key labels newest f vs ws ns (suc j) (omega arith) (λ i l. within (suc i) (omega arith))
     (λ i l. let e : j + suc i ≡ suc j + i = omega arith in are (suc i) (omega arith) ∙ ap (λ k. get_or ws i 0 ∷ view f k) e)
     (λ i l. taken (suc i) (omega arith)) each in
     ap (λ x. x ∷ leaders_at vs ns) first ∙ ap (λ xs. filter (opens_class (leaders_by (keys_by view key) labels) f j) (states_with (map first_word labels) w 0 (newest + 1)) ∷ xs) rest
+
+module _ (view : TupleSymbol → ℕ → List ℕ) (key : List ℕ → List ℕ → List ℕ) (labels : List (List ℕ)) (newest : ℕ) (f : TupleSymbol) (wanted : List ℕ) (vs : List View) (numbers : List ℕ) (is : IsTurnedTo view key labels newest f wanted vs numbers) where
+  -- the numbers are those of views
+  pub number_low : (j : ℕ) → j < length wanted → get_or numbers j 0 < length vs
+  number_low j l = omega (arith, is.are.within j l, length-map vs sight)
+
+  -- Result: the lists of what is turned to a tuple symbol
+  pub lists_turned : leaders_at vs numbers ≡ leader_states (leaders_by (keys_by view key) labels) f (map first_word labels) newest 0 wanted
+  lists_turned = lists_from view key labels newest f vs wanted numbers 0 is.are.count number_low
+      (λ i l. let s : i ≡ 0 + i = omega arith in is.are.is i l ∙ ap (λ k. get_or wanted i 0 ∷ view f k) s)
+      is.taken is.each
+
+  -- Result: the classes at a place
+  pub classes_turned : (j : ℕ) → j < length wanted → HaveClasses (get_or (leaders_at vs numbers) j []) (leaders_by (keys_by view key) labels f j) (states_with (map first_word labels) (get_or wanted j 0) 0 (newest + 1)) (get_or (map view_classes_of vs) (get_or numbers j 0) [])
+  classes_turned j l =
+      let n = get_or numbers j 0 in
+      let low = number_low j l in
+      let p : IsPlaceView key labels (newest + 1) vs n (get_or wanted j 0) (view f j) = place_view view key labels (newest + 1) vs n (get_or wanted j 0) (view f j) low (is.are.is j l) (is.taken j (omega (arith, is.are.count))) is.each in
+      let F : List ℕ → List ℕ → Type 0 = λ ls cs. HaveClasses ls (leaders_by (keys_by view key) labels f j) (states_with (map first_word labels) (get_or wanted j 0) 0 (newest + 1)) cs in
+      let ls : p.v.leaders.items ≡ get_or (leaders_at vs numbers) j [] = ap view_leaders_of p.there ∙ (sym (get_or-map view_leaders_of vs n p.v [] low) ∙ sym (get_or-map (λ n. get_or (map view_leaders_of vs) n []) numbers j 0 [] (omega (arith, is.are.count)))) in
+      let cs : p.v.classes.items ≡ get_or (map view_classes_of vs) n [] = ap view_classes_of p.there ∙ sym (get_or-map view_classes_of vs n p.v [] low) in
+      subst (λ ls. F ls (get_or (map view_classes_of vs) n [])) ls (subst (λ cs. F p.v.leaders.items cs) cs p.have)
 
 -- the view at a number, after it took up states
 module _ (view : TupleSymbol → ℕ → List ℕ) (key : List ℕ → List ℕ → List ℕ) (labels : List (List ℕ)) (until : ℕ) (vs : List View) (n : ℕ) (old new : View) (low : n < length vs) (there : old ≡ get_or vs n old) (same : HasSameSight old new) where
@@ -112,17 +150,14 @@ module _ (view : TupleSymbol → ℕ → List ℕ) (key : List ℕ → List ℕ 
       (cases_lt j index))
       (cases_eq k n)
 
--- Result: the lists of what turned to a tuple symbol
-pub lists_turned : (view : TupleSymbol → ℕ → List ℕ) (key : List ℕ → List ℕ → List ℕ) (labels : List (List ℕ)) (newest : ℕ) (f : TupleSymbol) (mid new : Views) (wanted numbers given : List ℕ) → AreSights view f wanted mid.sights numbers → mid.sights ≡ map sight mid.views.items → map sight new.views.items ≡ map sight mid.views.items
-    → given ≡ numbers → HaveTaken (newest + 1) new.views.items given → AreViewsUpTo view key labels (newest + 1) new.views.items → leaders_at new.views.items numbers ≡ leader_states (leaders_by (keys_by view key) labels) f (map first_word labels) newest 0 wanted
-lists_turned view key labels newest f mid new wanted numbers given are sights same e taken each =
-    let vs = new.views.items in
-    let all : mid.sights ≡ map sight vs = sights ∙ sym same in
-    let count : length mid.sights ≡ length vs = ap length all ∙ length-map vs sight in
-    leaders_turned view key labels newest f vs wanted numbers 0 are.count
-    (λ i l. omega (arith, are.within i l))
-    (λ i l. let s : i ≡ 0 + i = omega arith in ap (λ xs. get_or xs (get_or numbers i 0) []) (sym all) ∙ (are.is i l ∙ ap (λ k. get_or wanted i 0 ∷ view f k) s))
-    (subst (λ (ns : List ℕ). HaveTaken (newest + 1) vs ns) e taken) each
+-- Result: turned to a tuple symbol, where the views of its places have taken up all states
+pub is_turned : (view : TupleSymbol → ℕ → List ℕ) (key : List ℕ → List ℕ → List ℕ) (labels : List (List ℕ)) (newest : ℕ) (f : TupleSymbol) (mid new : Views) (wanted numbers given : List ℕ) → AreSights view f wanted mid.sights numbers → mid.sights ≡ map sight mid.views.items → map sight new.views.items ≡ map sight mid.views.items
+    → given ≡ numbers → HaveTaken (newest + 1) new.views.items given → AreViewsUpTo view key labels (newest + 1) new.views.items → IsTurnedTo view key labels newest f wanted new.views.items numbers
+is_turned view key labels newest f mid new wanted numbers given are sights same e taken each = record {
+  are = subst (λ ss. AreSights view f wanted ss numbers) (sights ∙ sym same) are;
+  taken = subst (λ (ns : List ℕ). HaveTaken (newest + 1) new.views.items ns) e taken;
+  each = each;
+}
 
 -- a number of a view stays one
 pub sights_bound : (old new : Views) (n : ℕ) → HasSameSights old new → n < length old.views.items → n < length new.views.items

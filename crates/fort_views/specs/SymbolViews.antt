@@ -89,6 +89,9 @@ pub record HasSameSights (old new : Views) : Type 0 where
 abbrev pub HaveTaken : ℕ → List View → List ℕ → Type 0
 HaveTaken until vs numbers = (j : ℕ) → j < length numbers → get_or (map (λ (v : View). v.until) vs) (get_or numbers j 0) 0 ≡ until
 
+abbrev pub view_classes_of : View → List ℕ
+view_classes_of v = v.classes.items
+
 -- the leaders of the views with these numbers
 abbrev pub leaders_at : List View → List ℕ → List (List ℕ)
 leaders_at vs numbers = map (λ n. get_or (map view_leaders_of vs) n []) numbers
@@ -97,3 +100,9 @@ leaders_at vs numbers = map (λ n. get_or (map view_leaders_of vs) n []) numbers
 pub record AreViewsOf (view : TupleSymbol → ℕ → List ℕ) (key : List ℕ → List ℕ → List ℕ) (sig : Signature) (columns : ℕ) (labels : List (List ℕ)) (until : ℕ) (s : Views) : Type 0 where
   pub rows : AreSymbolRows view sig columns s
   pub each : AreViewsUpTo view key labels until s.views.items
+
+-- turned to a tuple symbol, up to the newest state: these are the numbers of the views of its places, which have taken up all states
+pub record IsTurnedTo (view : TupleSymbol → ℕ → List ℕ) (key : List ℕ → List ℕ → List ℕ) (labels : List (List ℕ)) (newest : ℕ) (f : TupleSymbol) (wanted : List ℕ) (vs : List View) (numbers : List ℕ) : Type 0 where
+  pub are : AreSights view f wanted (map sight vs) numbers
+  pub taken : HaveTaken (newest + 1) vs numbers
+  pub each : AreViewsUpTo view key labels (newest + 1) vs

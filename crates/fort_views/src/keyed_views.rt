@@ -1,7 +1,16 @@
 //! Leaders by keys: the least states of each presence and key.
-ghost use Rattle.std.specs.Prelude.{◌≡◌, ℕ, ◌<◌, ◌≤◌, List, [], length, slice_index, slice_index_or};
+ghost use Rattle.std.specs.Prelude.{◌≡◌, ℕ, ◌+◌, ◌^◌, ◌<◌, ◌≤◌, List, [], map, length, slice_index, slice_index_or, OnOk};
+ghost use Rattle.fort_theory.specs.Signatures as theory;
 ghost use Rattle.fort_tables.specs.Tuples.{TupleSymbol};
-ghost use Rattle.fort_views.specs.SymbolViews.{AreViewsOf, leaders_at};
+ghost use Rattle.fort_tables.specs.Labels.{first_word};
+ghost use Rattle.fort_classes.specs.Keys.{leaders_by};
+ghost use Rattle.fort_tuple_symbols.specs.Columns.{symbol_of};
+ghost use Rattle.fort_label_keys.specs.ViewKeys.{keys_by};
+ghost use Rattle.fort_entry_walk.specs.Walks.{states_with};
+ghost use Rattle.fort_leading_walk.specs.LeaderStates.{leader_states};
+ghost use Rattle.fort_leading_walk.specs.Turns.{MayTurn};
+ghost use Rattle.fort_views.specs.Views.{IsClassOf};
+ghost use Rattle.fort_views.specs.SymbolViews.{AreViewsOf, IsTurnedTo, leaders_at};
 
 use crate::place_views::PlaceViews;
 use crate::views::Views;
@@ -37,6 +46,80 @@ impl<'a, K: LabelKeys> KeyedViews<'a, K> {
             places: PlaceViews::none(),
             key: Vec::new(alloc),
         }
+    }
+
+    /// Turns to a tuple symbol: to the views of its places, which take up the states up to the newest one.
+    pub fn turn(
+        &mut self,
+        rows: &Rows,
+        digits: &[u32],
+        wanted: &[u32],
+        newest: u32,
+    ) -> Result<(), Memory>
+        requires known { (sig : theory.Signature) × (columns : ℕ) × (until : ℕ)
+            × MayTurn (λ sig columns labels until. AreViewsOf (K.view self.old.keys.now)
+            (K.key self.old.keys.now) sig columns labels until self.old.views) sig columns
+            rows.now.labels until (symbol_of digits.now) wanted.now newest }
+        requires width { rows.now.width ≡ K.word_count self.old.keys.now }
+        requires within { newest < length rows.now.labels }
+        requires numbers { length rows.now.labels < 2 ^ 32 }
+        requires columns { length digits.now ≤ 16 }
+        requires small { (k : ℕ) → slice_index_or digits.now k 0 ≤ 65536 }
+        requires places { length wanted.now ≤ 8 }
+        ensures keys { self.new.keys ≡ self.old.keys }
+        ensures known { OnOk result ((sig : theory.Signature) (columns until : ℕ)
+            → MayTurn (λ sig columns labels until. AreViewsOf (K.view self.old.keys.now)
+            (K.key self.old.keys.now) sig columns labels until self.old.views) sig columns
+            rows.now.labels until (symbol_of digits.now) wanted.now newest
+            → AreViewsOf (K.view self.new.keys.now) (K.key self.new.keys.now) sig columns
+            rows.now.labels (newest + 1) self.new.views) }
+        ensures turned { OnOk result (IsTurnedTo (K.view self.old.keys.now)
+            (K.key self.old.keys.now) rows.now.labels newest (symbol_of digits.now) wanted.now
+            self.new.views.views.items self.new.places) }
+    {
+        let places = self.views.places(self.keys, digits, wanted)?;
+        self.views.take_up(
+            self.keys,
+            rows,
+            places.numbers(),
+            newest + 1,
+            &mut self.key,
+        )?;
+        self.places = places;
+        Ok(())
+    }
+
+    /// How many classes there are at a place: as many as leaders.
+    pub fn class_count(&self, place: usize) -> usize
+        requires { place < length self.now.places }
+        ensures { result ≡ length (slice_index_or (leaders_at self.now.views.views.items
+            self.now.places) place []) }
+    {
+        let numbers = self.places.numbers();
+        self.views.leaders(numbers[place]).len()
+    }
+
+    /// The class of a state at a place, by its rank among the states of the presence there; the number of a class is the place of its
+    /// leader among the leaders.
+    pub fn class_of(&self, place: usize, rank: usize) -> u32
+        requires { (labels : List (List ℕ)) × (newest : ℕ) × (f : TupleSymbol) × (wanted : List ℕ)
+            × IsTurnedTo (K.view self.now.keys.now) (K.key self.now.keys.now) labels newest f wanted
+            self.now.views.views.items self.now.places × (place < length wanted)
+            × (rank < length (states_with (map first_word labels) (slice_index wanted place) 0
+            (newest + 1))) }
+        ensures { (labels : List (List ℕ)) (newest : ℕ) (f : TupleSymbol) (wanted : List ℕ)
+            → IsTurnedTo (K.view self.now.keys.now) (K.key self.now.keys.now) labels newest f wanted
+            self.now.views.views.items self.now.places → place < length wanted
+            → rank < length (states_with (map first_word labels) (slice_index wanted place) 0
+            (newest + 1)) → IsClassOf (slice_index_or (leader_states (leaders_by
+            (keys_by (K.view self.now.keys.now) (K.key self.now.keys.now)) labels) f
+            (map first_word labels) newest 0 wanted) place []) (leaders_by
+            (keys_by (K.view self.now.keys.now) (K.key self.now.keys.now)) labels f place
+            (slice_index (states_with (map first_word labels) (slice_index wanted place) 0
+            (newest + 1)) rank)) result }
+    {
+        let numbers = self.places.numbers();
+        self.views.class_of(numbers[place], rank)
     }
 }
 
@@ -77,9 +160,6 @@ impl<'a, K: LabelKeys> SymbolLeaders for KeyedViews<'a, K> {
         wanted: &[u32],
         newest: u32,
     ) -> Result<(), Memory> {
-        let places = self.views.places(self.keys, digits, wanted)?;
-        self.views.take_up(self.keys, rows, places.numbers(), newest + 1, &mut self.key)?;
-        self.places = places;
-        Ok(())
+        self.turn(rows, digits, wanted, newest)
     }
 }

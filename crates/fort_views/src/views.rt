@@ -3,7 +3,7 @@ ghost use Rattle.std.specs.Prelude.{◌≡◌, ℕ, ◌+◌, ◌<◌, ◌≤◌,
 ghost use Rattle.fort_theory.specs.Signatures as theory;
 ghost use Rattle.fort_tuple_symbols.specs.Columns.{symbol_of};
 ghost use Rattle.fort_tuple_symbols.specs.DigitNumbers.{AreDigits};
-ghost use Rattle.fort_views.specs.SymbolViews.{sight, AreSights, HasSightsAt, AreViewsUpTo, AreSymbolRows, MayFind, HasMoreViews, HasPlaces, HasSameSights, KeepsSymbols, HaveTaken, view_leaders_of};
+ghost use Rattle.fort_views.specs.SymbolViews.{sight, AreSights, HasSightsAt, AreViewsUpTo, AreSymbolRows, MayFind, HasMoreViews, HasPlaces, HasSameSights, KeepsSymbols, HaveTaken, view_leaders_of, view_classes_of};
 
 use crate::key_set::KeySet;
 use crate::place_views::PlaceViews;
@@ -224,5 +224,16 @@ impl Views {
             Some(view) => view.leaders.as_slice(),
             None => &[],
         }
+    }
+
+    /// The class of a state in a view, by its rank among the states of the presence.
+    pub fn class_of(&self, number: usize, rank: usize) -> u32
+        requires view { number < length self.now.views.items }
+        requires rank { rank < length (slice_index_or (map view_classes_of self.now.views.items)
+            number []) }
+        ensures { result ≡ slice_index (slice_index_or (map view_classes_of self.now.views.items)
+            number []) rank }
+    {
+        self.views[number].class_of(rank)
     }
 }
