@@ -5,10 +5,12 @@ use Rattle.std.proofs.lemmas.Bool.{cases_lt}
 use Rattle.std.proofs.lemmas.List.{length-map, get_or-map, get_or_push, get_or_append_left, get_or_default, length_push, map-append, append-nil}
 use Rattle.std.proofs.lemmas.List.Elements.{filter-append}
 use Rattle.fort_theory.proofs.Members.{Contains-filter, Contains-from_filter}
+use Rattle.fort_tables.specs.Tuples.{TupleSymbol}
 use Rattle.fort_tables.specs.Labels.{first_word}
 use Rattle.fort_tables.proofs.EqualTests.{equal_from_test, test_from_apart}
-use Rattle.fort_classes.specs.Keys.{Keys}
+use Rattle.fort_classes.specs.Keys.{Keys, leaders_by}
 use Rattle.fort_classes.proofs.KeyLaws.{AreOfClass, by_least, by_below, by_class, by_itself}
+use Rattle.fort_label_keys.specs.ViewKeys.{keys_by}
 use Rattle.fort_entry_walk.specs.Walks.{states_with}
 use Rattle.fort_entry_walk.proofs.InLaws.{Contains-from_In, In-from_Contains}
 use Rattle.fort_entry_walk.proofs.KidMembers.{In-states, from_states}
@@ -20,6 +22,10 @@ use Rattle.fort_views.proofs.StateLaws.{states_more, states_same}
 -- the keys at a place that asks this
 abbrev keys_in : (List ℕ → List ℕ → List ℕ) → List ℕ → Keys
 keys_in key words = λ f j label. key words label
+
+-- Result: the leader in a view is the one at each place that asks this
+pub leader_in-place : (view : TupleSymbol → ℕ → List ℕ) (key : List ℕ → List ℕ → List ℕ) (labels : List (List ℕ)) (f : TupleSymbol) (j q : ℕ) → leader_in key (view f j) labels q ≡ leaders_by (keys_by view key) labels f j q
+leader_in-place view key labels f j q = refl
 
 -- one more state with its class, where leaders may have come
 HaveClasses-push : (leaders more : List ℕ) (lead : ℕ → ℕ) (states classes : List ℕ) (q c : ℕ) → HaveClasses leaders lead states classes → ((k : ℕ) → k < length leaders → get_or more k 0 ≡ get_or leaders k 0) → length leaders ≤ length more → IsClassOf more (lead q) c → HaveClasses more lead (states ++ q ∷ []) (classes ++ c ∷ [])

@@ -1,7 +1,7 @@
 -- Views and numbers that are made for a tuple symbol leave those that are there.
-use Rattle.std.proofs.Common.{◌≡◌, ℕ, zero, suc, ◌+◌, ◌-◌, ◌<◌, ◌≤◌, List, [], ◌∷◌, ◌++◌, map, length, take, drop, get_or, refl, ap, sym, ◌∙◌, arith, subst, ⊎_elim, append_assoc, length-append}
+use Rattle.std.proofs.Common.{◌≡◌, ℕ, ◌+◌, ◌-◌, ◌<◌, ◌≤◌, List, [], ◌∷◌, ◌++◌, map, length, take, get_or, refl, ap, sym, ◌∙◌, arith, subst, ⊎_elim, append_assoc, length-append}
 use Rattle.std.proofs.lemmas.Bool.{cases_lt}
-use Rattle.std.proofs.lemmas.List.{get_or_push, get_or_append_left, get_or-append_right, get_or-append-add, get_or-take, get_or-drop, length-take-le, length-drop, length_push, map-append, append-nil, take_more}
+use Rattle.std.proofs.lemmas.List.{get_or_push, get_or_append_left, get_or-append_right, get_or-append-add, length-take-le, length_push, map-append, take_more}
 use Rattle.fort_theory.specs.Signatures.{Signature}
 use Rattle.fort_tables.specs.Tuples.{TupleSymbol}
 use Rattle.fort_tuple_symbols.specs.Columns.{symbol_of, digits_again}
@@ -9,30 +9,9 @@ use Rattle.fort_tuple_symbols.specs.DigitNumbers.{AreDigits}
 use Rattle.fort_tuple_symbols.specs.SymbolSetView.{Symbols}
 use Rattle.fort_tuple_symbols.proofs.Bounds.{symbol_digits}
 use Rattle.fort_entry_walk.specs.WalkPlaces.{wants}
-use Rattle.fort_views.specs.SymbolViews.{sight, AreSights, HasSightsAt, AreSymbolRows, MayFind, AreFresh, IsFresh, HasMoreViews, HasPlaces}
+use Rattle.fort_views.specs.SymbolViews.{sight, AreSights, HasSightsAt, AreSymbolRows, MayFind, AreFresh, HasMoreViews, HasPlaces}
 use Rattle.fort_views.specs.declared.view.View.{View}
 use Rattle.fort_views.specs.declared.views.Views.{Views}
-
--- no view was made
-pub more_none : (view : TupleSymbol → ℕ → List ℕ) (old new : Views) → new.views.items ≡ old.views.items → new.sights ≡ old.sights → HasMoreViews view old new
-more_none view old new vs ss = record {
-  more = [];
-  views = vs ∙ sym (append-nil old.views.items);
-  sights = ss ∙ sym (append-nil old.sights);
-  fresh = λ q v l. absurd (omega arith);
-}
-
--- one view was made
-pub more_one : (view : TupleSymbol → ℕ → List ℕ) (old new : Views) (v : View) → new.views.items ≡ old.views.items ++ v ∷ [] → new.sights ≡ old.sights ++ sight v ∷ [] → IsFresh view v → HasMoreViews view old new
-more_one view old new v vs ss fresh = record {
-  more = v ∷ [];
-  views = vs;
-  sights = ss;
-  fresh = λ q. elim q as (λ q. (w : View) → q < length (v ∷ []) → w ≡ get_or (v ∷ []) q w → IsFresh view w) [
-    | zero ↦ (λ w l e. subst (IsFresh view) (sym e) fresh)
-    | suc k ↦ (λ w l e. absurd (omega arith))
-  ];
-}
 
 AreFresh-append : (view : TupleSymbol → ℕ → List ℕ) (xs ys : List View) → AreFresh view xs → AreFresh view ys → AreFresh view (xs ++ ys)
 AreFresh-append view xs ys h g = λ q v l e. ⊎_elim
@@ -104,16 +83,6 @@ HasSightsAt-last view f ws sights numbers added h =
       is = λ j l. ap (λ k. get_or sights k []) (same j) ∙ h.is j l;
     }
 
--- the numbers that stand there
-pub AreSights-at : (view : TupleSymbol → ℕ → List ℕ) (f : TupleSymbol) (ws : List ℕ) (sights : List (List ℕ)) (numbers : List ℕ) (start n : ℕ) → n ≡ length ws → HasSightsAt view f ws sights numbers start → AreSights view f ws sights (take n (drop start numbers))
-AreSights-at view f ws sights numbers start n e h =
-    let same : (j : ℕ) → j < length ws → get_or (take n (drop start numbers)) j 0 ≡ get_or numbers (start + j) 0 = λ j l. get_or-take n (drop start numbers) j 0 (omega arith) ∙ get_or-drop start numbers j 0 in
-    record {
-      count = length-take-le n (drop start numbers) (omega (arith, h.there, length-drop start numbers)) ∙ e;
-      within = λ j l. omega (arith, same j l, h.within j l);
-      is = λ j l. ap (λ k. get_or sights k []) (same j l) ∙ h.is j l;
-    }
-
 -- Result: the symbols that were met, with one more
 pub rows_added : (view : TupleSymbol → ℕ → List ℕ) (sig : Signature) (columns : ℕ) (digits wanted : List ℕ) (old new : Views) → MayFind view sig columns digits wanted old → HasMoreViews view old new → HasPlaces view (symbol_of digits) wanted old new
     → new.symbols.base ≡ old.symbols.base → new.symbols.columns ≡ old.symbols.columns → new.symbols.digits ≡ old.symbols.digits ++ digits ∷ [] → new.starts.items ≡ old.starts.items ++ length old.numbers.items ∷ [] → AreSymbolRows view sig columns new
@@ -148,14 +117,6 @@ rows_added view sig columns digits wanted old new h more places base cols dss st
           subst (λ d. F d (get_or new.starts.items k 0)) d_is (subst (λ s. F digits s) s_is here))
           (cases_lt k (length ds));
     }
-
--- Result: the views of a symbol that was met
-pub row_found : (view : TupleSymbol → ℕ → List ℕ) (sig : Signature) (columns : ℕ) (digits wanted : List ℕ) (s : Views) (k start : ℕ) → MayFind view sig columns digits wanted s → k < length s.symbols.digits → get_or s.symbols.digits k [] ≡ digits → start ≡ get_or s.starts.items k 0 → HasSightsAt view (symbol_of digits) wanted s.sights s.numbers.items start
-row_found view sig columns digits wanted s k start h l e st =
-    let F : List ℕ → Type 0 = λ d. HasSightsAt view (symbol_of d) (wants sig (symbol_of d)) s.sights s.numbers.items (get_or s.starts.items k 0) in
-    let here : F digits = subst F e (h.rows.rows k l) in
-    subst (λ i. HasSightsAt view (symbol_of digits) wanted s.sights s.numbers.items i) (sym st)
-    (subst (λ ws. HasSightsAt view (symbol_of digits) ws s.sights s.numbers.items (get_or s.starts.items k 0)) (sym h.wanted_are) here)
 
 -- Result: the numbers of one more place
 pub places_step : (view : TupleSymbol → ℕ → List ℕ) (f : TupleSymbol) (wanted : List ℕ) (place n : ℕ) (start old mid new : Views) → HasPlaces view f (take place wanted) start old → HasMoreViews view old mid → mid.numbers.items ≡ old.numbers.items → new.sights ≡ mid.sights → new.numbers.items ≡ mid.numbers.items ++ n ∷ []

@@ -11,6 +11,7 @@ use Rattle.fort_leading_walk.specs.LeaderStates.{leader_states, opens_class}
 use Rattle.fort_label_keys.specs.ViewKeys.{keys_by}
 use Rattle.fort_views.specs.Views.{IsViewOf, HasSameSight, AreClasses, HaveClasses, leader_in, view_states, view_leaders}
 use Rattle.fort_views.specs.SymbolViews.{sight, view_leaders_of, view_classes_of, IsTurnedTo, AreSights, IsViewUpTo, AreViewsUpTo, AreFresh, IsFresh, HaveTaken, HasSameSights, leaders_at}
+use Rattle.fort_views.specs.ViewsStay.{AreViewsUpTo-stay}
 use Rattle.fort_views.specs.declared.view.View.{View}
 use Rattle.fort_views.specs.declared.views.Views.{Views}
 
@@ -123,6 +124,10 @@ module _ (view : TupleSymbol → ℕ → List ℕ) (key : List ℕ → List ℕ 
       let ls : p.v.leaders.items ≡ get_or (leaders_at vs numbers) j [] = ap view_leaders_of p.there ∙ (sym (get_or-map view_leaders_of vs n p.v [] low) ∙ sym (get_or-map (λ n. get_or (map view_leaders_of vs) n []) numbers j 0 [] (omega (arith, is.are.count)))) in
       let cs : p.v.classes.items ≡ get_or (map view_classes_of vs) n [] = ap view_classes_of p.there ∙ sym (get_or-map view_classes_of vs n p.v [] low) in
       subst (λ ls. F ls (get_or (map view_classes_of vs) n [])) ls (subst (λ cs. F p.v.leaders.items cs) cs p.have)
+
+-- Result: what is turned to a tuple symbol stays so where a label is added
+pub IsTurnedTo-stay : (view : TupleSymbol → ℕ → List ℕ) (key : List ℕ → List ℕ → List ℕ) (labels : List (List ℕ)) (w : List ℕ) (newest : ℕ) (f : TupleSymbol) (wanted : List ℕ) (vs : List View) (numbers : List ℕ) → IsTurnedTo view key labels newest f wanted vs numbers → IsTurnedTo view key (labels ++ w ∷ []) newest f wanted vs numbers
+IsTurnedTo-stay view key labels w newest f wanted vs numbers is = record { are = is.are; taken = is.taken; each = AreViewsUpTo-stay view key labels w (newest + 1) vs is.each }
 
 -- the view at a number, after it took up states
 module _ (view : TupleSymbol → ℕ → List ℕ) (key : List ℕ → List ℕ → List ℕ) (labels : List (List ℕ)) (until : ℕ) (vs : List View) (n : ℕ) (old new : View) (low : n < length vs) (there : old ≡ get_or vs n old) (same : HasSameSight old new) where

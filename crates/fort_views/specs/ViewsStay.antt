@@ -11,7 +11,8 @@ use Rattle.fort_entry_walk.specs.Walks.{states_with}
 use Rattle.fort_entry_walk.proofs.InLaws.{In-from_Contains, In-at}
 use Rattle.fort_entry_walk.proofs.KidMembers.{from_states}
 use Rattle.fort_views.specs.Views.{leader_in, leads_in, view_states, HaveClasses, AreClasses}
-use Rattle.fort_views.specs.SymbolViews.{AreViewsOf}
+use Rattle.fort_views.specs.SymbolViews.{AreViewsUpTo, AreViewsOf}
+use Rattle.fort_views.specs.declared.view.View.{View}
 use Rattle.fort_views.specs.declared.views.Views.{Views}
 
 -- the presence of a state
@@ -70,11 +71,11 @@ classes_stay key words labels presence n keys leaders classes w is =
       });
     }
 
+pub AreViewsUpTo-stay : (view : TupleSymbol → ℕ → List ℕ) (key : List ℕ → List ℕ → List ℕ) (labels : List (List ℕ)) (w : List ℕ) (until : ℕ) (vs : List View) → AreViewsUpTo view key labels until vs → AreViewsUpTo view key (labels ++ w ∷ []) until vs
+AreViewsUpTo-stay view key labels w until vs h q v l e =
+    let r = h q v l e in
+    record { asked = r.asked; is = classes_stay key v.words.items labels v.presence v.until v.keys v.leaders.items v.classes.items w r.is; taken = r.taken }
+
 -- Result: what is known of views stays
 pub AreViewsOf-stay : (view : TupleSymbol → ℕ → List ℕ) (key : List ℕ → List ℕ → List ℕ) (sig : Signature) (columns : ℕ) (labels : List (List ℕ)) (w : List ℕ) (until : ℕ) (s : Views) → AreViewsOf view key sig columns labels until s → AreViewsOf view key sig columns (labels ++ w ∷ []) until s
-AreViewsOf-stay view key sig columns labels w until s h = record {
-  rows = h.rows;
-  each = λ q v l e.
-      let r = h.each q v l e in
-      record { asked = r.asked; is = classes_stay key v.words.items labels v.presence v.until v.keys v.leaders.items v.classes.items w r.is; taken = r.taken };
-}
+AreViewsOf-stay view key sig columns labels w until s h = record { rows = h.rows; each = AreViewsUpTo-stay view key labels w until s.views.items h.each }

@@ -2,6 +2,15 @@ use Rattle.std.proofs.Common.{◌∙◌, ◌≡◌, ◌<◌, length, get_or, ari
 use Rattle.fort_views.proofs.SymbolLaws.{known_set, sights_set, taken_set, sights_bound}
 use Rattle.fort_views.proofs.views.Views.take_up.Goals as goal
 
+pub take_up-requires-clause-known : goal.take_up-requires-clause-known
+take_up-requires-clause-known g c =
+    let vs = c.loop-number.self.views.items in
+    let n = get_or c.args.numbers.now c.loop-number.number-index 0 in
+    let old = c.index_mut-view.result.now in
+    let inv = c.loop-number.invariant in
+    let low : n < length vs = sights_bound c.args.self.now c.loop-number.self n inv.sights (c.requires.numbers c.loop-number.number-index (omega arith)) in
+    (inv.known n old low c.index_mut-view.ensures.value).is
+
 pub loop-number-preserved : goal.loop-number-preserved
 loop-number-preserved g c =
     let view = g.K.LabelKeys.view c.args.keys.now in
