@@ -4,7 +4,7 @@ use Rattle.fort_theory.specs.Signatures.{Signature}
 use Rattle.fort_tables.specs.Tuples.{TupleSymbol, IsTupleSymbol}
 use Rattle.fort_tuple_symbols.specs.Columns.{symbol_of}
 use Rattle.fort_entry_walk.specs.WalkPlaces.{wants}
-use Rattle.fort_views.specs.Views.{IsAsked, IsViewOf}
+use Rattle.fort_views.specs.Views.{IsAsked, IsViewOf, view_states}
 use Rattle.fort_views.specs.declared.view.View.{View}
 use Rattle.fort_views.specs.declared.views.Views.{Views}
 
@@ -106,3 +106,12 @@ pub record IsTurnedTo (view : TupleSymbol → ℕ → List ℕ) (key : List ℕ 
   pub are : AreSights view f wanted (map sight vs) numbers
   pub taken : HaveTaken (newest + 1) vs numbers
   pub each : AreViewsUpTo view key labels (newest + 1) vs
+
+-- the states up to the newest one of the presence at a place
+abbrev pub place_states : List (List ℕ) → ℕ → List ℕ → ℕ → List ℕ
+place_states labels newest wanted place = view_states labels (get_or wanted place 0) (newest + 1)
+
+-- there is a state of this rank among them
+pub record IsRankedAt (labels : List (List ℕ)) (newest : ℕ) (wanted : List ℕ) (place rank : ℕ) : Type 0 where
+  pub there : place < length wanted
+  pub within : rank < length (place_states labels newest wanted place)

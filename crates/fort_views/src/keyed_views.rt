@@ -1,16 +1,13 @@
 //! Leaders by keys: the least states of each presence and key.
-ghost use Rattle.std.specs.Prelude.{◌≡◌, ℕ, ◌+◌, ◌^◌, ◌<◌, ◌≤◌, List, [], map, length, slice_index, slice_index_or, OnOk};
+ghost use Rattle.std.specs.Prelude.{◌≡◌, ℕ, ◌+◌, ◌^◌, ◌<◌, ◌≤◌, List, [], length, slice_index, slice_index_or, OnOk};
 ghost use Rattle.fort_theory.specs.Signatures as theory;
 ghost use Rattle.fort_tables.specs.Tuples.{TupleSymbol};
-ghost use Rattle.fort_tables.specs.Labels.{first_word};
 ghost use Rattle.fort_classes.specs.Keys.{leaders_by};
 ghost use Rattle.fort_tuple_symbols.specs.Columns.{symbol_of};
 ghost use Rattle.fort_label_keys.specs.ViewKeys.{keys_by};
-ghost use Rattle.fort_entry_walk.specs.Walks.{states_with};
-ghost use Rattle.fort_leading_walk.specs.LeaderStates.{leader_states};
 ghost use Rattle.fort_leading_walk.specs.Turns.{MayTurn};
 ghost use Rattle.fort_views.specs.Views.{IsClassOf};
-ghost use Rattle.fort_views.specs.SymbolViews.{AreViewsOf, IsTurnedTo, leaders_at};
+ghost use Rattle.fort_views.specs.SymbolViews.{AreViewsOf, IsTurnedTo, IsRankedAt, place_states, leaders_at};
 
 use crate::place_views::PlaceViews;
 use crate::views::Views;
@@ -78,13 +75,7 @@ impl<'a, K: LabelKeys> KeyedViews<'a, K> {
             self.new.views.views.items self.new.places) }
     {
         let places = self.views.places(self.keys, digits, wanted)?;
-        self.views.take_up(
-            self.keys,
-            rows,
-            places.numbers(),
-            newest + 1,
-            &mut self.key,
-        )?;
+        self.views.take_up(self.keys, rows, places.numbers(), newest + 1, &mut self.key)?;
         self.places = places;
         Ok(())
     }
@@ -99,24 +90,20 @@ impl<'a, K: LabelKeys> KeyedViews<'a, K> {
         self.views.leaders(numbers[place]).len()
     }
 
-    /// The class of a state at a place, by its rank among the states of the presence there; the number of a class is the place of its
-    /// leader among the leaders.
+    /// The class of a state at a place, by its rank among the states of the presence there: the place of its leader among the
+    /// leaders.
     pub fn class_of(&self, place: usize, rank: usize) -> u32
         requires { (labels : List (List ℕ)) × (newest : ℕ) × (f : TupleSymbol) × (wanted : List ℕ)
             × IsTurnedTo (K.view self.now.keys.now) (K.key self.now.keys.now) labels newest f wanted
-            self.now.views.views.items self.now.places × (place < length wanted)
-            × (rank < length (states_with (map first_word labels) (slice_index wanted place) 0
-            (newest + 1))) }
+            self.now.views.views.items self.now.places
+            × IsRankedAt labels newest wanted place rank }
         ensures { (labels : List (List ℕ)) (newest : ℕ) (f : TupleSymbol) (wanted : List ℕ)
             → IsTurnedTo (K.view self.now.keys.now) (K.key self.now.keys.now) labels newest f wanted
-            self.now.views.views.items self.now.places → place < length wanted
-            → rank < length (states_with (map first_word labels) (slice_index wanted place) 0
-            (newest + 1)) → IsClassOf (slice_index_or (leader_states (leaders_by
-            (keys_by (K.view self.now.keys.now) (K.key self.now.keys.now)) labels) f
-            (map first_word labels) newest 0 wanted) place []) (leaders_by
-            (keys_by (K.view self.now.keys.now) (K.key self.now.keys.now)) labels f place
-            (slice_index (states_with (map first_word labels) (slice_index wanted place) 0
-            (newest + 1)) rank)) result }
+            self.now.views.views.items self.now.places
+            → IsRankedAt labels newest wanted place rank
+            → IsClassOf (slice_index_or (leaders_at self.now.views.views.items self.now.places)
+            place []) (leaders_by (keys_by (K.view self.now.keys.now) (K.key self.now.keys.now))
+            labels f place (slice_index (place_states labels newest wanted place) rank)) result }
     {
         let numbers = self.places.numbers();
         self.views.class_of(numbers[place], rank)

@@ -129,13 +129,6 @@ impl View {
         Ok(())
     }
 
-    /// How many classes there are.
-    pub fn class_count(&self) -> usize
-        ensures { result ≡ length self.now.leaders.items }
-    {
-        self.leaders.len()
-    }
-
     /// The class of a state, by its rank among the states of the presence; the leader of the class is the state's.
     pub fn class_of(&self, rank: usize) -> u32
         requires { rank < length self.now.classes.items }
