@@ -1,5 +1,5 @@
 -- What a walk through the leading entries comes to by a step.
-use Rattle.std.proofs.Common.{◌≡◌, ℕ, ◌-◌, ◌<◌, ◌≤◌, List, [], ◌∷◌, ◌++◌, map, filter, length, Bool, true, false, None, Some, refl, ap, sym, ◌∙◌, arith, subst, inl, ⊎_elim}
+use Rattle.std.proofs.Common.{◌≡◌, ℕ, ◌-◌, ◌<◌, ◌≤◌, List, [], ◌∷◌, ◌++◌, map, filter, length, Bool, true, false, None, Some, refl, ap, sym, ◌∙◌, arith, subst, inl, ⊎_elim, true≢false}
 use Rattle.std.proofs.lemmas.List.{length-append}
 use Rattle.fort_theory.specs.Signatures.{Signature}
 use Rattle.fort_tables.specs.Tuples.{IsTupleSymbol}
@@ -212,6 +212,11 @@ may_turn_found knows sig lead ps labels until from old new h f k l = record {
 pub stepped_symbol : (sig : Signature) (lead : Leaders) (ps : List ℕ) (lists : List (List ℕ)) (among : List Entry) (old new : LeadingWalk) (went : Bool) → IsPlace sig (place old.walk) → IsStepAmong sig lead ps lists among new went → (went ≡ false → new ≡ old) → IsPlace sig (place new.walk)
 stepped_symbol sig lead ps lists among old new true p f stays = f.stands.symbol
 stepped_symbol sig lead ps lists among old new false p f stays = subst (λ (w : LeadingWalk). IsPlace sig (place w.walk)) (sym (stays refl)) p
+
+-- and it stands where it went
+pub stepped_stands : (sig : Signature) (lead : Leaders) (ps : List ℕ) (lists : List (List ℕ)) (among : List Entry) (new : LeadingWalk) (went : Bool) → IsStepAmong sig lead ps lists among new went → went ≡ true → StandsAt sig lead ps lists new
+stepped_stands sig lead ps lists among new true f h = f.stands
+stepped_stands sig lead ps lists among new false f h = absurd (true≢false (sym h))
 
 -- Result: a step among what leads behind the symbol, after the symbol's last choice
 pub leading_step : (sig : Signature) (lead : Leaders) (ps : List ℕ) (lists others : List (List ℕ)) (old new : LeadingWalk) (went : Bool) → StandsAt sig lead ps lists old → leading_after sig ps lead (leading_place old) ≡ later_leading sig ps lead old.walk.stage old.walk.digits

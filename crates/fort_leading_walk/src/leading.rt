@@ -175,7 +175,7 @@ impl LeadingWalk {
     }
 
     /// Goes to the next leading entry, where there is one, and else stays; the row becomes that of the entry. Where there is none,
-    /// the leaders have turned past its symbol, and no state that is added later brings it on.
+    /// the leaders have turned to later symbols, and the walk cannot go on from there.
     pub fn advance_row<L: SymbolLeaders>(
         &mut self,
         sig: &Signature,

@@ -22,7 +22,8 @@ pub trait SymbolLeaders: LeaderLists {
     /// It serves entries of this signature over so many columns; of the states with these labels it has taken up those before this one.
     ghost knows: { Self → Signature → ℕ → List (List ℕ) → ℕ → Type 0 };
 
-    /// Turns to a tuple symbol: the lists become those of its places, of the states up to the newest one.
+    /// Turns to a tuple symbol: the lists become those of its places, of the states up to the newest one. After an error it cannot be
+    /// asked again.
     fn turn_to(
         &mut self,
         rows: &Rows,

@@ -6,7 +6,7 @@ use Rattle.fort_leading_walk.specs.LeadingPlaces.{leading_place, StandsAt}
 use Rattle.fort_leading_walk.specs.LeadingFacts.{later_leading, IsStepAmong}
 use Rattle.fort_leading_walk.specs.declared.leading.LeadingWalk.{LeadingWalk}
 use Rattle.fort_leading_walk.proofs.NextLeading.{next_leading}
-use Rattle.fort_leading_walk.proofs.WalkSteps.{stepped_symbol, leading_step}
+use Rattle.fort_leading_walk.proofs.WalkSteps.{stepped_symbol, stepped_stands, leading_step}
 use Rattle.fort_leading_walk.proofs.leading.LeadingWalk.advance_row.Goals as goal
 
 pub returns-then-advance_choice-clause-stands : goal.returns-then-advance_choice-clause-stands
@@ -34,9 +34,15 @@ put-requires-clause-small g c =
 
 pub returns-clause-stands : goal.returns-clause-stands
 returns-clause-stands g c = λ went.
-    let first = rw went at c.in_ok-is_next.ensures.next in
-    let F : Keys → Type 0 = λ k. StandsAt c.args.sig.now (leaders_by k c.args.rows.now.labels) c.args.presences.now (g.L.LeaderLists.lists c.advance_symbol.new.leaders) c.advance_symbol.new.self in
-    subst F (sym c.in_ok-is_next.ensures.asked) first.stands
+    let sig = c.args.sig.now in
+    let ps = c.args.presences.now in
+    let labels = c.args.rows.now.labels in
+    let lead = leaders_by (g.L.SymbolLeaders.keys c.args.leaders.now) labels in
+    let lists = g.L.LeaderLists.lists c.advance_symbol.new.leaders in
+    let old = c.advance_choice.new.self in
+    let among = later_leading sig ps lead old.walk.stage old.walk.digits in
+    let F : Keys → Type 0 = λ k. StandsAt sig (leaders_by k labels) ps lists c.advance_symbol.new.self in
+    subst F (sym c.in_ok-is_next.ensures.asked) (stepped_stands sig lead ps lists among c.advance_symbol.new.self c.in_ok-is_next.is_next c.in_ok-is_next.ensures.next went)
 
 pub returns-clause-next : goal.returns-clause-next
 returns-clause-next g c =
