@@ -187,7 +187,7 @@ kids_of_fit sig f ps ks m l h =
     record { count = r.count; within = λ i k. omega (arith, r.within i k); presence = λ i k. let z : 0 + i ≡ i = omega arith in r.presence i k ∙ ap (kid_presence sig f) z }
 
 -- lists of a stage
-In-stage_kids : (sig : Signature) (f : TupleSymbol) (ps ks : List ℕ) (s : ℕ) → Kids sig f ps ks → stage ks ≡ s → In ks (stage_kids ps s (wants sig f))
+pub In-stage_kids : (sig : Signature) (f : TupleSymbol) (ps ks : List ℕ) (s : ℕ) → Kids sig f ps ks → stage ks ≡ s → In ks (stage_kids ps s (wants sig f))
 In-stage_kids sig f ps [] zero h e = subst (λ (n : ℕ). In [] (stage_kids ps 0 (wants_from sig f 0 n))) h.count (inl refl)
 In-stage_kids sig f ps (k ∷ ks) zero h e = absurd (omega arith)
 In-stage_kids sig f ps ks (suc m) h e = In-kid_lists ps m (wants sig f) ks false (fit_kids sig f ps ks m h e) (sees_greatest m false ks e)
@@ -196,7 +196,7 @@ pub record AtStage (sig : Signature) (f : TupleSymbol) (ps ks : List ℕ) (s : �
   pub kids : Kids sig f ps ks
   pub stage_is : stage ks ≡ s
 
-from_stage_kids : (sig : Signature) (f : TupleSymbol) (ps ks : List ℕ) (s : ℕ) → s ≤ length ps → In ks (stage_kids ps s (wants sig f)) → AtStage sig f ps ks s
+pub from_stage_kids : (sig : Signature) (f : TupleSymbol) (ps ks : List ℕ) (s : ℕ) → s ≤ length ps → In ks (stage_kids ps s (wants sig f)) → AtStage sig f ps ks s
 from_stage_kids sig f ps ks zero l h = none (wants sig f) (length-wants_from sig f 0 (symbol_kids sig f)) h
   where
     none : (ws : List ℕ) → length ws ≡ symbol_kids sig f → In ks (stage_kids ps 0 ws) → AtStage sig f ps ks 0
@@ -209,7 +209,7 @@ from_stage_kids sig f ps ks (suc m) l h =
     let r = from_kid_lists ps m (wants sig f) ks false h in
     record { kids = kids_of_fit sig f ps ks m (omega arith) r.0; stage_is = stage_seen ps m (wants sig f) ks r.0 r.1 }
 
-no_kids : (ks : List ℕ) → stage ks ≡ 0 → ks ≡ []
+pub no_kids : (ks : List ℕ) → stage ks ≡ 0 → ks ≡ []
 no_kids [] e = refl
 no_kids (k ∷ ks) e = absurd (omega arith)
 
@@ -217,7 +217,7 @@ In-stage_kids_after : (sig : Signature) (f : TupleSymbol) (ps from ks : List ℕ
 In-stage_kids_after sig f ps from ks zero h e b = absurd (omega (arith, some_kid_after from ks b, ap length (no_kids ks e)))
 In-stage_kids_after sig f ps from ks (suc m) h e b = In-kids_after ps m (wants sig f) from ks false (fit_kids sig f ps ks m h e) (sees_greatest m false ks e) b
 
-from_stage_kids_after : (sig : Signature) (f : TupleSymbol) (ps from ks : List ℕ) (s : ℕ) → s ≤ length ps → AreUpTo (s - 1) from → In ks (stage_kids_after ps s (wants sig f) from) → AtStage sig f ps ks s × LexBefore ◌<◌ from ks
+pub from_stage_kids_after : (sig : Signature) (f : TupleSymbol) (ps from ks : List ℕ) (s : ℕ) → s ≤ length ps → AreUpTo (s - 1) from → In ks (stage_kids_after ps s (wants sig f) from) → AtStage sig f ps ks s × LexBefore ◌<◌ from ks
 from_stage_kids_after sig f ps from ks zero l u h = absurd h
 from_stage_kids_after sig f ps from ks (suc m) l u h =
     let same : suc m - 1 ≡ m = omega arith in

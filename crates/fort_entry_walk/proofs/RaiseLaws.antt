@@ -74,6 +74,7 @@ raised_found sig ps pl ds d next ks p within old new l z z' u s first =
       placed = placed;
       at_stage = refl;
       width = width;
+      first = first;
       next = ap (stage_entries sig ps pl.stage) lists ∙ ap (λ ls. map (entry (symbol_of next)) ls ++ stage_entries sig ps pl.stage (digits_after (length sig) next)) there;
     })
 

@@ -1,13 +1,13 @@
 -- The next entry, from the list of the entries after a place.
-use Rattle.std.proofs.Common.{◌≡◌, ℕ, ◌-◌, ◌<◌, ◌≤◌, List, [], ◌∷◌, ◌++◌, map, length, refl, ap, sym, ◌∙◌, arith, subst, inl, inr, ⊎_elim}
+use Rattle.std.proofs.Common.{◌≡◌, ℕ, Bool, true, false, ◌-◌, ◌<◌, ◌≤◌, List, [], ◌∷◌, ◌++◌, map, length, refl, ap, sym, ◌∙◌, arith, subst, inl, inr, ⊎_elim}
 use Rattle.fort_theory.specs.Signatures.{Signature}
 use Rattle.fort_tables.specs.Entries.{Entry, entry, stage, IsNextEntry, IsLastEntry}
 use Rattle.fort_tables.proofs.OrderLaws.{stage_within}
 use Rattle.fort_tuple_symbols.specs.Columns.{symbol_of}
 use Rattle.fort_tuple_symbols.specs.DigitNumbers.{AreUpTo}
-use Rattle.fort_entry_walk.specs.WalkPlaces.{wants, Place, place, entry_at, IsPlace}
-use Rattle.fort_entry_walk.specs.Walks.{stage_kids_after, entries_after}
-use Rattle.fort_entry_walk.specs.WalkFacts.{IsFound, IsSameButDigits, IsNextKids, later_entries}
+use Rattle.fort_entry_walk.specs.WalkPlaces.{wants, Place, place, entry_at, IsPlace, IsStep}
+use Rattle.fort_entry_walk.specs.Walks.{stage_kids_after, entries_after, some_if}
+use Rattle.fort_entry_walk.specs.WalkFacts.{IsFound, IsFirstAfter, IsSameButDigits, IsNextKids, later_entries}
 use Rattle.fort_entry_walk.specs.declared.walk.Walk.{Walk}
 use Rattle.fort_entry_walk.proofs.InLaws.{In}
 use Rattle.fort_entry_walk.proofs.EntryMembers.{In-after, from_after}
@@ -56,6 +56,11 @@ pub next_none : (sig : Signature) (ps : List ℕ) (pl : Place) → IsPlace sig p
 next_none sig ps pl p none rest =
     nothing_there sig ps pl p (ap (λ ls. map (entry (symbol_of pl.digits)) ls ++ later_entries sig ps pl.stage pl.digits) none ∙ rest)
 
--- a walk that got its digits back stands where it stood
-pub same_place : (old new : Walk) (ds : List ℕ) → IsSameButDigits old new → ds ≡ old.digits → place record { stage = new.stage; digits = ds; kids = new.kids; wanted = new.wanted; arities = new.arities } ≡ place old
-same_place old new ds s d = rw (d, s.stage, s.kids, s.wanted) refl
+-- the step to the next symbol, where the symbol has no other child states
+pub symbol_step : (sig : Signature) (ps : List ℕ) (old new : Walk) (went : Bool) → IsPlace sig (place old) → old.stage ≤ length ps → stage_kids_after ps old.stage (wants sig (symbol_of old.digits)) old.kids ≡ [] → IsFirstAfter sig ps old.stage old.digits (some_if went new) → (went ≡ false → new ≡ old) → IsStep sig ps (place old) (place new) went
+symbol_step sig ps old new true p l none f stays = next_found sig ps (place old) (place new) p l none f
+symbol_step sig ps old new false p l none f stays = (next_none sig ps (place old) p none f, ap place (stays refl))
+
+-- a walk that got its digits back is as it was
+pub same_walk : (old new : Walk) (ds : List ℕ) → IsSameButDigits old new → ds ≡ old.digits → new.arities ≡ old.arities → record { stage = new.stage; digits = ds; kids = new.kids; wanted = new.wanted; arities = new.arities } ≡ old
+same_walk old new ds s d a = rw (d, s.stage, s.kids, s.wanted, a) refl

@@ -51,5 +51,6 @@ found_there sig ps s first ds from p l width same h =
       placed = h.placed;
       within = omega (arith, h.at_stage);
       width = h.width ∙ width;
+      first = h.first;
       next = sym same ∙ subst (λ (k : ℕ). later_entries sig ps k ds ≡ entry_at p ∷ entries_after sig ps p) h.at_stage (found_here sig ps ds p h.width next);
     }

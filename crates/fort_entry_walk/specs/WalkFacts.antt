@@ -12,11 +12,12 @@ use Rattle.fort_entry_walk.specs.declared.walk.Walk.{Walk}
 abbrev pub in_stage_after : Signature → List ℕ → ℕ → List ℕ → List ℕ → List Entry
 in_stage_after sig ps s ds ks = map (entry (symbol_of ds)) (stage_kids_after ps s (wants sig (symbol_of ds)) ks) ++ stage_entries sig ps s (digits_after (length sig) ds)
 
--- a walk's place with the first entry of the stage after these digits
+-- a walk's place with the first entry of the stage after these digits, the first one of its symbol
 pub record IsInStage (sig : Signature) (ps : List ℕ) (s : ℕ) (from : List ℕ) (p : Place) : Type 0 where
   pub placed : IsPlace sig p
   pub at_stage : p.stage ≡ s
   pub width : length p.digits ≡ length from
+  pub first : stage_kids ps p.stage p.wanted ≡ p.kids ∷ stage_kids_after ps p.stage p.wanted p.kids
   pub next : stage_entries sig ps s (digits_after (length sig) from) ≡ entry_at p ∷ in_stage_after sig ps s p.digits p.kids
 
 -- a walk that didn't go on, but for its digits
@@ -65,10 +66,12 @@ IsNextInStage sig ps s from (Some w) = IsInStage sig ps s from (place w)
 abbrev pub later_entries : Signature → List ℕ → ℕ → List ℕ → List Entry
 later_entries sig ps s ds = stage_entries sig ps s (digits_after (length sig) ds) ++ stages sig (length ds) ps (s + 1) (length ps - s)
 
+-- a place with the first of these later entries, the first one of its symbol
 pub record IsFound (sig : Signature) (ps : List ℕ) (s : ℕ) (ds : List ℕ) (p : Place) : Type 0 where
   pub placed : IsPlace sig p
   pub within : p.stage ≤ length ps
   pub width : length p.digits ≡ length ds
+  pub first : stage_kids ps p.stage p.wanted ≡ p.kids ∷ stage_kids_after ps p.stage p.wanted p.kids
   pub next : later_entries sig ps s ds ≡ entry_at p ∷ entries_after sig ps p
 
 abbrev pub IsFirstAfter : Signature → List ℕ → ℕ → List ℕ → Option Walk → Type 0

@@ -108,6 +108,18 @@ impl Walk {
         }
     }
 
+    pub fn copy(&self) -> Walk
+        ensures { result ≡ self.now }
+    {
+        Walk {
+            stage: self.stage,
+            digits: self.digits.copy(),
+            kids: self.kids.copy(),
+            wanted: self.wanted.copy(),
+            arities: self.arities,
+        }
+    }
+
     /// The entry at which the walk stands.
     pub fn row(&self) -> Row
         requires few { length self.now.digits ≤ 16 }
@@ -278,9 +290,35 @@ impl Walk {
         }
     }
 
-    /// Goes to the next entry with a later symbol or at a later stage, where there is one, and else stays.
+    /// Goes to the first entry with a later symbol of its stage, or of a later stage, where there is one, and else stays.
     // its frame is large, and most entries don't need it
     #[inline(never)]
+    pub fn to_next_symbol(&mut self, sig: &Signature, presences: &[u16]) -> bool
+        requires place { IsPlace sig.now (place self.old) }
+        requires arities { AreArities sig.now self.old.arities }
+        requires few { length self.old.digits ≤ 16 }
+        requires within { self.old.stage ≤ length presences.now }
+        requires numbers { length presences.now < 2 ^ 32 }
+        ensures place { IsPlace sig.now (place self.new) }
+        ensures width { length self.new.digits ≡ length self.old.digits }
+        ensures arities { self.new.arities ≡ self.old.arities }
+        ensures next { IsFirstAfter sig.now presences.now self.old.stage self.old.digits
+            (some_if result self.new) }
+        ensures stays { result ≡ false → self.new ≡ self.old }
+    {
+        if self.raise_last(sig, presences) {
+            return true;
+        }
+        let digits = self.digits.copy();
+        if self.find_after(sig, presences) {
+            true
+        } else {
+            self.digits = digits;
+            false
+        }
+    }
+
+    /// Goes to the next entry with a later symbol or at a later stage, where there is one, and else stays.
     fn advance(&mut self, sig: &Signature, presences: &[u16]) -> bool
         requires place { IsPlace sig.now (place self.old) }
         requires arities { AreArities sig.now self.old.arities }
@@ -295,16 +333,7 @@ impl Walk {
         if self.stage as usize > presences.len() {
             return false;
         }
-        if self.raise_last(sig, presences) {
-            return true;
-        }
-        let digits = self.digits.copy();
-        if self.find_after(sig, presences) {
-            true
-        } else {
-            self.digits = digits;
-            false
-        }
+        self.to_next_symbol(sig, presences)
     }
 
     /// Writes the child states over those of a row.

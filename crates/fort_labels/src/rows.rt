@@ -72,6 +72,15 @@ impl Rows {
         self.count
     }
 
+    /// How many words each label has.
+    pub fn width(&self) -> usize
+        ensures count { result ≡ self.now.width }
+        ensures each { (q : ℕ) → q < length self.now.labels
+            → length (slice_index_or self.now.labels q []) ≡ self.now.width }
+    {
+        self.width
+    }
+
     /// Takes all labels out; the room stays.
     pub fn clear(&mut self)
         ensures labels { self.new.labels ≡ [] }

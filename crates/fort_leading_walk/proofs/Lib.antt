@@ -3,3 +3,9 @@ pub mod ChoiceLaws
 pub mod LeadingChoices
 pub mod LeadingAfter
 pub mod LeadTests
+pub mod LeadingEntries
+pub mod LeadingLists
+pub mod NextLeading
+pub mod ListsStay
+pub mod WalkSteps
+pub mod WalkStays

@@ -12,6 +12,7 @@ returns-in-Some-clause-next c =
       placed = record { stage = c.in-Some.ensures.stage_is; digits = step.digits; kids = c.in-Some.ensures.states; wanted = wanted };
       at_stage = refl;
       width = step.width ∙ i.width;
+      first = rw c.states.ensures.states at c.in-Some.ensures.next;
       next = sym i.same ∙ first_there c.args.sig.now c.args.presences.now c.args.stage c.stage_range-range.result c.symbols.self.digits c.to_next_candidate.new.row c.in-Some.kids (c.stage_range-range.ensures c.args.sig.now c.requires.arities.at_most) i.digits step.digits step.next first;
     }
 

@@ -1,0 +1,4 @@
+pub mod StateLaws
+pub mod ClassLaws
+pub mod SymbolLaws
+pub mod MakingLaws

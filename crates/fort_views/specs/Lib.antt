@@ -1,0 +1,4 @@
+pub mod Views
+pub mod SymbolViews
+pub mod PlaceNumbers
+pub mod ViewsStay
