@@ -26,7 +26,7 @@ place_before sig n ps entries i j d o l m b = ⊎_elim
     (cases_lt i j)
 
 module _ (lead : Leaders) (m : Made) (is : IsLeadingMade lead m) (all : IsLeadingComplete lead m) where
-  led_found : (e : Entry) → IsEntry m.signature m.columns m.presences e → Found m.entries m.targets (led lead e)
+  pub led_found : (e : Entry) → IsEntry m.signature m.columns m.presences e → Found m.entries m.targets (led lead e)
   led_found e h = let c = all (led lead e) (IsLeading-led m.signature m.columns m.presences lead is.leaders e h) in target_found m.entries m.targets (led lead e) c.0 c.1 c.2 (omega (arith, is.count))
 
   count_whole : length (whole lead m).targets ≡ length (whole lead m).entries
@@ -44,17 +44,17 @@ module _ (lead : Leaders) (m : Made) (is : IsLeadingMade lead m) (all : IsLeadin
       f.target ∙ (target_at f.place e f.within ∙ ap (led_target lead m) f.is)
 
   -- the place of a first entry, found by a look-up
-  first_target : (q : ℕ) (e : Entry) → IsFirstWith m.entries m.targets q e → target_in m.entries m.targets e ≡ q
+  pub first_target : (q : ℕ) (e : Entry) → IsFirstWith m.entries m.targets q e → target_in m.entries m.targets e ≡ q
   first_target q e f =
       let within : f.place < length m.entries = omega (arith, f.within, is.count) in
       let at = target_found m.entries m.targets e f.place within (f.is e) (omega (arith, is.count)) in
       let same : at.place ≡ f.place = order_one m.signature m.columns m.presences m.entries at.place f.place e is.order at.within within (at.is ∙ sym (f.is e)) in
       at.target ∙ (ap (λ i. get_or m.targets i 0) same ∙ f.target)
 
-  first_is_entry : (q : ℕ) (e : Entry) → IsFirstWith m.entries m.targets q e → IsEntry m.signature m.columns m.presences e
+  pub first_is_entry : (q : ℕ) (e : Entry) → IsFirstWith m.entries m.targets q e → IsEntry m.signature m.columns m.presences e
   first_is_entry q e f = subst (IsEntry m.signature m.columns m.presences) (f.is e) (is.order.are f.place e (omega (arith, f.within, is.count)))
 
-  first_is_leading : (q : ℕ) (e : Entry) → IsFirstWith m.entries m.targets q e → Leads lead e
+  pub first_is_leading : (q : ℕ) (e : Entry) → IsFirstWith m.entries m.targets q e → Leads lead e
   first_is_leading q e f = subst (Leads lead) (f.is e) (is.lead_each f.place e (omega (arith, f.within, is.count)))
 
   -- Result: the first leading entry with a target is the first of all entries with it

@@ -8,22 +8,30 @@ ghost use Rattle.fort_theory.specs.PartLists.{AreParts};
 ghost use Rattle.fort_formulas.specs.CoreView.{as_core};
 
 use crate::core_formula::Core;
+use indexmap::IndexSet;
 use std::alloc::{AllocError, Global};
 
 /// The different subformulas, operands before their formula, in the order of their first places.
-/// It fails for want of memory alone.
+/// It fails for want of memory alone. They are told apart by their keys: the time is that of all subformulas' lengths.
 pub fn parts(alloc: Global, core: &Core) -> Result<Vec<Core>, AllocError>
     ensures { IfOk result (λ ps. AreParts (as_core core.now) (map as_core ps.items)) }
 {
-    let mut found = Vec::new(alloc);
+    let mut found = IndexSet::new(alloc);
     push_parts(alloc, core, &mut found)?;
-    Ok(found)
+    listed(alloc, found)
 }
 
-fn push_parts(alloc: Global, core: &Core, found: &mut Vec<Core>) -> Result<(), AllocError>
+/// The formulas in their order.
+fn listed(alloc: Global, found: IndexSet<Core>) -> Result<Vec<Core>, AllocError>
+    ensures { IfOk result (λ formulas. formulas.items ≡ found.keys) }
+{
+    found.into_iter().collect(alloc)
+}
+
+fn push_parts(alloc: Global, core: &Core, found: &mut IndexSet<Core>) -> Result<(), AllocError>
     ensures { OnOk result ((before : List theory.Core)
-        → AreEachOnce before (map as_core found.old.items)
-        → AreEachOnce (before ++ postorder (as_core core.now)) (map as_core found.new.items)) }
+        → AreEachOnce before (map as_core found.old.keys)
+        → AreEachOnce (before ++ postorder (as_core core.now)) (map as_core found.new.keys)) }
 {
     match core {
         Core::True
@@ -44,13 +52,13 @@ fn push_parts(alloc: Global, core: &Core, found: &mut Vec<Core>) -> Result<(), A
 }
 
 /// Puts a copy of the formula behind the others, unless it is among them.
-fn push_new(alloc: Global, core: &Core, found: &mut Vec<Core>) -> Result<(), AllocError>
+fn push_new(alloc: Global, core: &Core, found: &mut IndexSet<Core>) -> Result<(), AllocError>
     ensures { OnOk result ((before : List theory.Core)
-        → AreEachOnce before (map as_core found.old.items)
-        → AreEachOnce (before ++ as_core core.now ∷ []) (map as_core found.new.items)) }
+        → AreEachOnce before (map as_core found.old.keys)
+        → AreEachOnce (before ++ as_core core.now ∷ []) (map as_core found.new.keys)) }
 {
     if !found.contains(core) {
-        found.push(core.copy(alloc)?)?;
+        let _added = found.insert(core.copy(alloc)?)?;
     }
     Ok(())
 }

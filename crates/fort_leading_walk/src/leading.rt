@@ -17,8 +17,9 @@ use crate::leader_lists::LeaderLists;
 use crate::symbol_leaders::SymbolLeaders;
 use fort_entry_walk::Walk;
 use fort_labels::Rows;
-use fort_terms::{Memory, Signature};
+use fort_terms::Signature;
 use fort_tuple_symbols::Row;
+use std::alloc::AllocError;
 
 /// A walk through the leading entries in their order.
 #[derive(Drop)]
@@ -34,7 +35,7 @@ fn first_choice<L: SymbolLeaders>(
     walk: &Walk,
     leaders: &mut L,
     rows: &Rows,
-) -> Result<Option<Choice>, Memory>
+) -> Result<Option<Choice>, AllocError>
     requires some { 0 < walk.now.stage }
     requires within { walk.now.stage ≤ length rows.now.labels }
     requires numbers { length rows.now.labels < 2 ^ 32 }
@@ -130,7 +131,7 @@ impl LeadingWalk {
         presences: &[u16],
         leaders: &mut L,
         rows: &Rows,
-    ) -> Result<bool, Memory>
+    ) -> Result<bool, AllocError>
         requires stands { StandsAt sig.now (leaders_by (L.keys leaders.old) rows.now.labels)
             presences.now (L.lists leaders.old) self.old }
         requires known { (until : ℕ) × L.knows leaders.old sig.now (length self.old.walk.digits)
@@ -183,7 +184,7 @@ impl LeadingWalk {
         leaders: &mut L,
         rows: &Rows,
         row: &mut Row,
-    ) -> Result<bool, Memory>
+    ) -> Result<bool, AllocError>
         requires stands { StandsAt sig.now (leaders_by (L.keys leaders.old) rows.now.labels)
             presences.now (L.lists leaders.old) self.old }
         requires known { (until : ℕ) × L.knows leaders.old sig.now (length self.old.walk.digits)

@@ -9,7 +9,7 @@ ghost use Rattle.fort_leading_walk.specs.Turns.{MayTurn};
 
 use crate::leader_lists::LeaderLists;
 use fort_labels::Rows;
-use fort_terms::Memory;
+use std::alloc::AllocError;
 
 /// The leaders at the places under one tuple symbol after another, of states that go by the keys of their labels.
 pub trait SymbolLeaders: LeaderLists {
@@ -30,7 +30,7 @@ pub trait SymbolLeaders: LeaderLists {
         digits: &[u32],
         wanted: &[u32],
         newest: u32,
-    ) -> Result<(), Memory>
+    ) -> Result<(), AllocError>
         requires known { (sig : Signature) × (columns : ℕ) × (until : ℕ)
             × MayTurn (knows self.old) sig columns rows.now.labels until (symbol_of digits.now)
             wanted.now newest }

@@ -8,6 +8,7 @@ mod row;
 mod symbol;
 mod symbol_set;
 
+pub use digit_set::DigitSet;
 pub use digits::{column_arity, digit_arity, most_kids, presence_at};
 pub use number_set::reach;
 pub use row::Row;

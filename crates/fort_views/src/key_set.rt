@@ -1,9 +1,8 @@
 //! Sets of lists of words.
 ghost use Rattle.std.specs.Prelude.{◌≡◌, ℕ, ◌<◌, [], ◌∷◌, ◌++◌, length, slice_index_or, OnOk, OnErr, MatchOption};
 
-use fort_terms::Memory;
 use indexmap::IndexSet;
-use std::alloc::Global;
+use std::alloc::{AllocError, Global};
 use std::marker::Model;
 
 /// Lists of words, numbered as they came.
@@ -35,7 +34,7 @@ impl KeySet {
     }
 
     /// Appends words that aren't there yet.
-    pub fn push(&mut self, words: Vec<u64>) -> Result<(), Memory>
+    pub fn push(&mut self, words: Vec<u64>) -> Result<(), AllocError>
         requires { (q : ℕ) → q < length self.old → slice_index_or self.old q []
             ≡ words.items → ⊥ }
         ensures ok { OnOk result (self.new ≡ self.old ++ words.items ∷ []) }

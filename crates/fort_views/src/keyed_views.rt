@@ -14,8 +14,8 @@ use crate::views::Views;
 use fort_label_keys::LabelKeys;
 use fort_labels::Rows;
 use fort_leading_walk::{LeaderLists, SymbolLeaders};
-use fort_terms::{Memory, Signature};
-use std::alloc::Global;
+use fort_terms::Signature;
+use std::alloc::{AllocError, Global};
 
 /// Keys, and the views by them.
 #[derive(Drop)]
@@ -52,7 +52,7 @@ impl<'a, K: LabelKeys> KeyedViews<'a, K> {
         digits: &[u32],
         wanted: &[u32],
         newest: u32,
-    ) -> Result<(), Memory>
+    ) -> Result<(), AllocError>
         requires known { (sig : theory.Signature) × (columns : ℕ) × (until : ℕ)
             × MayTurn (λ sig columns labels until. AreViewsOf (K.view self.old.keys.now)
             (K.key self.old.keys.now) sig columns labels until self.old.views) sig columns
@@ -146,7 +146,7 @@ impl<'a, K: LabelKeys> SymbolLeaders for KeyedViews<'a, K> {
         digits: &[u32],
         wanted: &[u32],
         newest: u32,
-    ) -> Result<(), Memory> {
+    ) -> Result<(), AllocError> {
         self.turn(rows, digits, wanted, newest)
     }
 }

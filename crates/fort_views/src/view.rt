@@ -7,8 +7,7 @@ ghost use Rattle.fort_views.specs.Views.{IsAsked, IsViewOf, HasSameSight, GivesC
 use crate::key_set::KeySet;
 use fort_label_keys::LabelKeys;
 use fort_labels::Rows;
-use fort_terms::Memory;
-use std::alloc::Global;
+use std::alloc::{AllocError, Global};
 
 /// Of the states before one, those of a presence, in classes by their key: a class has the number of its key.
 #[derive(Drop)]
@@ -54,7 +53,7 @@ impl View {
     }
 
     /// The class with this key; where there is none, the state opens one.
-    fn class_with(&mut self, key: &Vec<u64>, state: u32) -> Result<u32, Memory>
+    fn class_with(&mut self, key: &Vec<u64>, state: u32) -> Result<u32, AllocError>
         requires one { length self.old.keys ≡ length self.old.leaders.items }
         requires few { length self.old.leaders.items ≤ state }
         ensures gives { IfOk result (GivesClass self.old self.new key.now.items state) }
@@ -79,7 +78,7 @@ impl View {
         keys: &K,
         rows: &Rows,
         key: &mut Vec<u64>,
-    ) -> Result<(), Memory>
+    ) -> Result<(), AllocError>
         requires asked { IsAsked (K.view keys.now) self.old }
         requires width { rows.now.width ≡ K.word_count keys.now }
         requires numbers { length rows.now.labels < 2 ^ 32 }
@@ -112,7 +111,7 @@ impl View {
         rows: &Rows,
         until: u32,
         key: &mut Vec<u64>,
-    ) -> Result<(), Memory>
+    ) -> Result<(), AllocError>
         requires asked { IsAsked (K.view keys.now) self.old }
         requires width { rows.now.width ≡ K.word_count keys.now }
         requires numbers { length rows.now.labels < 2 ^ 32 }

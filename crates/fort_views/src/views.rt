@@ -10,9 +10,9 @@ use crate::place_views::PlaceViews;
 use crate::view::View;
 use fort_label_keys::LabelKeys;
 use fort_labels::Rows;
-use fort_terms::{Memory, Signature};
+use fort_terms::Signature;
 use fort_tuple_symbols::{SymbolSet, TupleSym};
-use std::alloc::Global;
+use std::alloc::{AllocError, Global};
 
 /// Views, and those of the places under each tuple symbol that was met.
 #[derive(Drop)]
@@ -27,7 +27,7 @@ pub struct Views {
 }
 
 /// A presence and words as one list.
-fn sight_of(alloc: Global, presence: u32, words: &[u64]) -> Result<Vec<u64>, Memory>
+fn sight_of(alloc: Global, presence: u32, words: &[u64]) -> Result<Vec<u64>, AllocError>
     ensures { IfOk result (λ s. s.items ≡ presence ∷ words.now) }
 {
     let mut sight = Vec::new(alloc);
@@ -64,7 +64,7 @@ impl Views {
         symbol: &TupleSym,
         place: usize,
         presence: u32,
-    ) -> Result<usize, Memory>
+    ) -> Result<usize, AllocError>
         requires place { place < 8 }
         requires sights { self.old.sights ≡ map sight self.old.views.items }
         ensures number { IfOk result (λ n. n < length self.new.sights) }
@@ -94,7 +94,7 @@ impl Views {
         keys: &K,
         symbol: &TupleSym,
         wanted: &[u32],
-    ) -> Result<(), Memory>
+    ) -> Result<(), AllocError>
         requires places { length wanted.now ≤ 8 }
         requires sights { self.old.sights ≡ map sight self.old.views.items }
         ensures more { OnOk result (HasMoreViews (K.view keys.now) self.old self.new) }
@@ -116,7 +116,7 @@ impl Views {
         keys: &K,
         digits: &[u32],
         wanted: &[u32],
-    ) -> Result<usize, Memory>
+    ) -> Result<usize, AllocError>
         requires short { length digits.now ≤ 16 }
         requires small { (k : ℕ) → slice_index_or digits.now k 0 ≤ 65536 }
         requires places { length wanted.now ≤ 8 }
@@ -144,7 +144,7 @@ impl Views {
         keys: &K,
         digits: &[u32],
         wanted: &[u32],
-    ) -> Result<usize, Memory>
+    ) -> Result<usize, AllocError>
         requires short { length digits.now ≤ 16 }
         requires small { (k : ℕ) → slice_index_or digits.now k 0 ≤ 65536 }
         requires places { length wanted.now ≤ 8 }
@@ -169,7 +169,7 @@ impl Views {
         keys: &K,
         digits: &[u32],
         wanted: &[u32],
-    ) -> Result<PlaceViews, Memory>
+    ) -> Result<PlaceViews, AllocError>
         requires short { length digits.now ≤ 16 }
         requires small { (k : ℕ) → slice_index_or digits.now k 0 ≤ 65536 }
         requires places { length wanted.now ≤ 8 }
@@ -195,7 +195,7 @@ impl Views {
         numbers: &[usize],
         until: u32,
         key: &mut Vec<u64>,
-    ) -> Result<(), Memory>
+    ) -> Result<(), AllocError>
         requires numbers { (j : ℕ) → j < length numbers.now
             → slice_index numbers.now j < length self.old.views.items }
         requires width { rows.now.width ≡ K.word_count keys.now }

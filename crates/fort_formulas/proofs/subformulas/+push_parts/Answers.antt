@@ -17,7 +17,7 @@ returns-in_ok-push_parts-in-Not t c =
     ∙ ap (λ fs. before ++ fs) (sym (postorder-one c.args.core.now arm.f arm.is)) in
     on_ok_weaker c.push_new-in-Not.result
     (λ last before once.
-    subst (λ fs. AreEachOnce fs (map as_core c.push_new-in-Not.new.found.items)) (all before)
+    subst (λ fs. AreEachOnce fs (map as_core c.push_new-in-Not.new.found.keys)) (all before)
     (last (before ++ postorder arm.f) (operand before once)))
     c.push_new-in-Not.ensures
 
@@ -33,6 +33,6 @@ returns-in_ok-push_parts-in-And-2 t c =
     ∙ ap (λ fs. before ++ fs) (sym (postorder-two c.args.core.now arm.f arm.g arm.is))) in
     on_ok_weaker c.push_new-in-And.result
     (λ last before once.
-    subst (λ fs. AreEachOnce fs (map as_core c.push_new-in-And.new.found.items)) (all before)
+    subst (λ fs. AreEachOnce fs (map as_core c.push_new-in-And.new.found.keys)) (all before)
     (last ((before ++ postorder arm.f) ++ postorder arm.g) (second (before ++ postorder arm.f) (first before once))))
     c.push_new-in-And.ensures

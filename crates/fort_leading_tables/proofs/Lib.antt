@@ -1,0 +1,3 @@
+pub mod TargetLaws
+pub mod MakerLaws
+pub mod ReplayLaws

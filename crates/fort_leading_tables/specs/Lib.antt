@@ -1,0 +1,3 @@
+pub mod EntryNumbers
+pub mod LeadingMaking
+pub mod Replays
