@@ -58,6 +58,7 @@ module _ (key : List ℕ → List ℕ → List ℕ) (words : List ℕ) (labels :
     has : get_or (map first_word labels) r 0 ≡ presence
     leads : leader_in key words labels r ≡ r
 
+  -- what stands among the leaders is one
   leader_there : (r : ℕ) → Contains (view_leaders key words labels presence n) r → IsLeaderBefore r
   leader_there r h =
       let states = view_states labels presence n in
@@ -65,6 +66,7 @@ module _ (key : List ℕ → List ℕ → List ℕ) (words : List ℕ) (labels :
       let s = from_states (map first_word labels) presence 0 n r (In-from_Contains r states p.0) in
       record { before = omega (arith, s.1); has = s.2; leads = equal_from_test (leader_in key words labels r) r p.1 }
 
+  -- and each leader stands among them
   leader_found : (r : ℕ) → IsLeaderBefore r → Contains (view_leaders key words labels presence n) r
   leader_found r h =
       let states = view_states labels presence n in
@@ -101,9 +103,11 @@ module _ (key : List ℕ → List ℕ → List ℕ) (words : List ℕ) (labels :
       (cases_lt r n)
 
   module _ (keys : List (List ℕ)) (leaders classes : List ℕ) (is : AreClasses key words labels presence n keys leaders classes) where
+    -- a class has its leader's key
     key_at : (c : ℕ) → c < length leaders → get_or keys c [] ≡ key words (get_or labels (get_or leaders c 0) [])
     key_at c l = ap (λ ks. get_or ks c []) is.keys_are ∙ get_or-map (λ q. key words (get_or labels q [])) leaders c 0 [] l
 
+    -- a class's leader was taken up
     leader_before : (c : ℕ) → c < length leaders → IsLeaderBefore (get_or leaders c 0)
     leader_before c l =
         let r = get_or leaders c 0 in
@@ -165,6 +169,7 @@ module _ (key : List ℕ → List ℕ → List ℕ) (words : List ℕ) (labels :
               (record { within = omega (arith, length_push leaders n); leads = get_or_push leaders n 0 (length leaders) refl ∙ sym lead }));
         }
 
+-- no more states pass a test than there are
 few_states : (p : ℕ → Bool) (ps : List ℕ) (want a n : ℕ) → length (filter p (states_with ps want a n)) ≤ n
 few_states p ps want a zero = omega arith
 few_states p ps want a (suc n) =

@@ -13,6 +13,7 @@ use Rattle.fort_views.specs.SymbolViews.{sight, AreSights, HasSightsAt, AreSymbo
 use Rattle.fort_views.specs.declared.view.View.{View}
 use Rattle.fort_views.specs.declared.views.Views.{Views}
 
+-- fresh views and then fresh ones
 AreFresh-append : (view : TupleSymbol → ℕ → List ℕ) (xs ys : List View) → AreFresh view xs → AreFresh view ys → AreFresh view (xs ++ ys)
 AreFresh-append view xs ys h g = λ q v l e. ⊎_elim
     (λ b. h q v b (e ∙ get_or_append_left xs ys v q b))

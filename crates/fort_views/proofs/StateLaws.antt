@@ -4,9 +4,11 @@ use Rattle.std.proofs.lemmas.List.{append-nil}
 use Rattle.fort_tables.proofs.EqualTests.{if_equal, if_apart}
 use Rattle.fort_entry_walk.specs.Walks.{states_with}
 
+-- the state, where it has the presence
 one_if : List ℕ → ℕ → ℕ → List ℕ
 one_if ps want q = if get_or ps q 0 == want then q ∷ [] else []
 
+-- the last state comes last
 states_split : (ps : List ℕ) (want a n : ℕ) → states_with ps want a (suc n) ≡ states_with ps want a n ++ one_if ps want (a + n)
 unfolding one_if
 states_split ps want a zero = let e : a ≡ a + 0 = omega arith in ap (one_if ps want) e

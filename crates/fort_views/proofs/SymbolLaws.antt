@@ -67,6 +67,7 @@ pub record IsPlaceView (key : List ℕ → List ℕ → List ℕ) (labels : List
   pub leaders : v.leaders.items ≡ view_leaders key words labels want until
   pub have : HaveClasses v.leaders.items (leader_in key words labels) (view_states labels want until) v.classes.items
 
+-- the view at a place by its sight
 place_view : (view : TupleSymbol → ℕ → List ℕ) (key : List ℕ → List ℕ → List ℕ) (labels : List (List ℕ)) (until : ℕ) (vs : List View) (n want : ℕ) (words : List ℕ) → n < length vs → get_or (map sight vs) n [] ≡ want ∷ words → get_or (map (λ (v : View). v.until) vs) n 0 ≡ until → AreViewsUpTo view key labels until vs → IsPlaceView key labels until vs n want words
 place_view view key labels until vs n want words low are taken each =
     let there = view_there vs n low in
@@ -87,6 +88,7 @@ place_view view key labels until vs n want words low are taken each =
       have = subst (λ n. Q words want n) all (subst (λ p. Q words p v.until) presence (subst (λ ws. Q ws v.presence v.until) asked r.have));
     }
 
+-- the lists from a place on
 lists_from : (view : TupleSymbol → ℕ → List ℕ) (key : List ℕ → List ℕ → List ℕ) (labels : List (List ℕ)) (newest : ℕ) (f : TupleSymbol) (vs : List View) (wanted numbers : List ℕ) (j : ℕ) → length numbers ≡ length wanted → ((i : ℕ) → i < length wanted → get_or numbers i 0 < length vs) → ((i : ℕ) → i < length wanted → get_or (map sight vs) (get_or numbers i 0) [] ≡ get_or wanted i 0 ∷ view f (j + i)) → HaveTaken (newest + 1) vs numbers
     → AreViewsUpTo view key labels (newest + 1) vs → leaders_at vs numbers ≡ leader_states (leaders_by (keys_by view key) labels) f (map first_word labels) newest j wanted
 lists_from view key labels newest f vs [] [] j count within are taken each = refl
@@ -131,17 +133,21 @@ IsTurnedTo-stay view key labels w newest f wanted vs numbers is = record { are =
 
 -- the view at a number, after it took up states
 module _ (view : TupleSymbol → ℕ → List ℕ) (key : List ℕ → List ℕ → List ℕ) (labels : List (List ℕ)) (until : ℕ) (vs : List View) (n : ℕ) (old new : View) (low : n < length vs) (there : old ≡ get_or vs n old) (same : HasSameSight old new) where
+  -- it is right, as the others are
   pub known_set : AreViewsUpTo view key labels until vs → IsViewOf key labels new → new.until ≡ until → AreViewsUpTo view key labels until (set vs n new)
   known_set h is taken =
       let asked = (h n old low there).asked in
       AreViewsUpTo-set view key labels until vs n new h (record { asked = (asked.0, asked.1, same.words ∙ asked.2); is = is; taken = omega (arith, taken) })
 
+  -- it is of the same sight
   sight_same : sight new ≡ sight (get_or vs n old)
   sight_same = ap (λ p. p ∷ new.words.items) same.presence ∙ (ap (λ ws. old.presence ∷ ws) same.words ∙ ap sight there)
 
+  -- so all sights stay
   pub sights_set : map sight (set vs n new) ≡ map sight vs
   sights_set = map-set_same sight vs n new old sight_same
 
+  -- one more of the views with these numbers has taken up the states
   pub taken_set : (numbers : List ℕ) (index : ℕ) → new.until ≡ until → n ≡ get_or numbers index 0 → ((j : ℕ) → j < index → get_or (map (λ (v : View). v.until) vs) (get_or numbers j 0) 0 ≡ until) → (j : ℕ) → j < index + 1 → get_or (map (λ (v : View). v.until) (set vs n new)) (get_or numbers j 0) 0 ≡ until
   taken_set numbers index taken here before j l =
       let of : View → ℕ = λ v. v.until in

@@ -40,6 +40,7 @@ map_agree : {A : Type 0} (f g : ℕ → A) (xs : List ℕ) → ((i : ℕ) → i 
 map_agree f g [] h = refl
 map_agree f g (x ∷ xs) h = ap (λ y. y ∷ map f xs) (h 0 (omega arith)) ∙ ap (λ r. g x ∷ r) (map_agree f g xs (λ i l. h (suc i) (omega arith)))
 
+-- the classes of a view: no state that it has taken up gets another leader, presence or key
 pub classes_stay : (key : List ℕ → List ℕ → List ℕ) (words : List ℕ) (labels : List (List ℕ)) (presence n : ℕ) (keys : List (List ℕ)) (leaders classes : List ℕ) (w : List ℕ) → AreClasses key words labels presence n keys leaders classes → AreClasses key words (labels ++ w ∷ []) presence n keys leaders classes
 classes_stay key words labels presence n keys leaders classes w is =
     let labels' = labels ++ w ∷ [] in
@@ -71,6 +72,7 @@ classes_stay key words labels presence n keys leaders classes w is =
       });
     }
 
+-- the same of each view
 pub AreViewsUpTo-stay : (view : TupleSymbol → ℕ → List ℕ) (key : List ℕ → List ℕ → List ℕ) (labels : List (List ℕ)) (w : List ℕ) (until : ℕ) (vs : List View) → AreViewsUpTo view key labels until vs → AreViewsUpTo view key (labels ++ w ∷ []) until vs
 AreViewsUpTo-stay view key labels w until vs h q v l e =
     let r = h q v l e in

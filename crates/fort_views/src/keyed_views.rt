@@ -45,7 +45,8 @@ impl<'a, K: LabelKeys> KeyedViews<'a, K> {
         }
     }
 
-    /// Turns to a tuple symbol: to the views of its places, which take up the states up to the newest one.
+    /// Turns to a tuple symbol: to the views of its places, which take up the states up to the newest one. After an error it cannot be
+    /// asked again.
     pub fn turn(
         &mut self,
         rows: &Rows,
