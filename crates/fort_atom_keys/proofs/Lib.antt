@@ -1,0 +1,5 @@
+pub mod MaskLaws
+pub mod MarkLaws
+pub mod StepLaws
+pub mod ThereLaws
+pub mod AtomKeyLaws

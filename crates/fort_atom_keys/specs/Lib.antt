@@ -1,0 +1,2 @@
+pub mod MaskedWords
+pub mod AskedMarks

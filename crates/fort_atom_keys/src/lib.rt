@@ -1,0 +1,2 @@
+//! What the label of an atom asks of the labels of its children.
+#![tactic(auto)]
