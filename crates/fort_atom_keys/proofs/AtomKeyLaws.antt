@@ -27,7 +27,7 @@ or-true true c e = refl
 or-true false c e = e
 
 -- a member that passes
-some-passes : {A : Type 0} (test : A → Bool) (xs : List A) (x : A) → Contains xs x → test x ≡ true → list_any test xs ≡ true
+pub some-passes : {A : Type 0} (test : A → Bool) (xs : List A) (x : A) → Contains xs x → test x ≡ true → list_any test xs ≡ true
 some-passes test [] x c e = absurd (Contains-none x c)
 some-passes test (y ∷ ys) x c e = elim (Contains-cons_cases y ys x c) [
   | inl i ↦ ap (λ b. b || list_any test ys) (ap test i ∙ e)

@@ -3,3 +3,4 @@ pub mod MarkLaws
 pub mod StepLaws
 pub mod ThereLaws
 pub mod AtomKeyLaws
+pub mod TermKeyLaws

@@ -1,2 +1,3 @@
 pub mod MaskedWords
 pub mod AskedMarks
+pub mod AskedTerms
