@@ -1,3 +1,1 @@
-pub mod MaskedWords
-pub mod AskedMarks
-pub mod AskedTerms
+pub mod AtomKeys

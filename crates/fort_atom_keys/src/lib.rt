@@ -1,2 +1,2 @@
-//! What the label of an atom asks of the labels of its children.
+//! What the labels of an atom ask of the labels of the children.
 #![tactic(auto)]

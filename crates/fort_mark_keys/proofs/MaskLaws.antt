@@ -1,10 +1,10 @@
 -- A bit of a label under a mask is on where it is on in both; so labels that are equal under a mask have equal bits where the mask's are on.
-use Rattle.std.proofs.Common.{◌≡◌, ℕ, zero, suc, ◌+◌, ◌/◌, ◌%◌, ◌<◌, min, List, [], ◌∷◌, length, drop, get_or, bit_and, Bool, true, false, ◌&&◌, ◌==◌, refl, ap, sym, ◌∙◌, arith}
+use Rattle.std.proofs.Common.{◌≡◌, ℕ, zero, suc, ◌+◌, ◌/◌, ◌%◌, ◌<◌, min, List, [], ◌∷◌, ◌++◌, length, take, drop, get_or, bit_and, Bool, true, false, ◌&&◌, ◌==◌, refl, ap, sym, ◌∙◌, arith}
 use Rattle.std.specs.Int.{bit_at}
 use Rattle.std.specs.Int.Bits.{and_zero_l, and_zero_r}
 use Rattle.std.proofs.lemmas.Nat.Bits.{bit_at_and, bit_at-lt}
 use Rattle.fort_tables.specs.BitRows.{has_bit}
-use Rattle.fort_atom_keys.specs.MaskedWords.{masked}
+use Rattle.fort_mark_keys.specs.MaskedWords.{masked}
 
 -- the words of the two, and 0 behind the shorter one
 word-masked : (v w : List ℕ) (i : ℕ) → get_or (masked v w) i 0 ≡ bit_and (get_or v i 0) (get_or w i 0)
@@ -12,6 +12,18 @@ word-masked [] w i = sym (and_zero_l (get_or w i 0))
 word-masked (a ∷ v) [] i = sym (and_zero_r (get_or (a ∷ v) i 0))
 word-masked (a ∷ v) (b ∷ w) zero = refl
 word-masked (a ∷ v) (b ∷ w) (suc i) = word-masked v w i
+
+-- word after word
+masked-next : (v w : List ℕ) (k : ℕ) → k < length v → k < length w
+    → masked (take (suc k) v) (take (suc k) w) ≡ masked (take k v) (take k w) ++ bit_and (get_or v k 0) (get_or w k 0) ∷ []
+masked-next [] w k l m = absurd (omega arith)
+masked-next (a ∷ v) [] k l m = absurd (omega arith)
+masked-next (a ∷ v) (b ∷ w) zero l m = refl
+masked-next (a ∷ v) (b ∷ w) (suc k) l m = ap (λ xs. bit_and a b ∷ xs) (masked-next v w k (omega arith) (omega arith))
+
+pub masked-more : (v w : List ℕ) (k : ℕ) → k < length v → k < length w
+    → masked (take (k + 1) v) (take (k + 1) w) ≡ masked (take k v) (take k w) ++ bit_and (get_or v k 0) (get_or w k 0) ∷ []
+masked-more v w k l m = let e : k + 1 ≡ suc k = omega arith in ap (λ n. masked (take n v) (take n w)) e ∙ masked-next v w k l m
 
 -- of two bits
 both-one : (x y : ℕ) → x < 2 → y < 2 → (min x y == 1) ≡ ((x == 1) && (y == 1))

@@ -16,11 +16,11 @@ use Rattle.fort_alike.specs.Alike.{Fact, is_reaching}
 use Rattle.fort_alike.specs.ListedAtoms.{Mark, OfFirst, OfSecond, OfBoth, ListedAtom}
 use Rattle.fort_alike.specs.AtomRules.{marks_of, bit_in, is_there, mark_step, atom_rule}
 use Rattle.fort_alike.proofs.Bits.{row_of-same}
-use Rattle.fort_atom_keys.specs.MaskedWords.{masked}
-use Rattle.fort_atom_keys.specs.AskedMarks.{asks, asked_mask, stands_under, HasSides}
-use Rattle.fort_atom_keys.proofs.MarkLaws.{bit-same, asked-bit}
-use Rattle.fort_atom_keys.proofs.StepLaws.{ReadsSame, mark-same}
-use Rattle.fort_atom_keys.proofs.ThereLaws.{there-same, first-any, second-any}
+use Rattle.fort_mark_keys.specs.MaskedWords.{masked}
+use Rattle.fort_mark_keys.specs.AskedMarks.{asks, asked_mask, stands_under, HasSides}
+use Rattle.fort_mark_keys.proofs.MarkLaws.{bit-same, asked-bit}
+use Rattle.fort_mark_keys.proofs.StepLaws.{ReadsSame, mark-same}
+use Rattle.fort_mark_keys.proofs.ThereLaws.{there-same, first-any, second-any}
 
 or-true : (b c : Bool) → c ≡ true → (b || c) ≡ true
 or-true true c e = refl

@@ -16,8 +16,8 @@ use Rattle.fort_tables.proofs.LabelRuleLaws.{label_of-step}
 use Rattle.fort_classes.specs.Keys.{DifferAt, GoesByEachKey}
 use Rattle.fort_alike.specs.TermRule.{same_tree, number_in, numbered, put_first, all_numbered, number_over, number_at, number_word, term_rule}
 use Rattle.fort_alike.proofs.SubtermLaws.{Decides-same_tree, Contains-number_in}
-use Rattle.fort_atom_keys.specs.AskedTerms.{is_child, stands_below, asks_tree, asks_number, asked_numbers, number_seen}
-use Rattle.fort_atom_keys.proofs.AtomKeyLaws.{some-passes, kid-label, count-labels, count-same}
+use Rattle.fort_mark_keys.specs.AskedTerms.{is_child, stands_below, asks_tree, asks_number, asked_numbers, number_seen}
+use Rattle.fort_mark_keys.proofs.AtomKeyLaws.{some-passes, kid-label, count-labels, count-same}
 
 -- trees by numbers have the tree of each number in its place
 record IsChildOf (found : Option Tree) (j : ℕ) (ss : Trees) : Type 0 where

@@ -9,7 +9,7 @@ use Rattle.fort_alike.specs.ListedAtoms.{Mark, OfFirst, OfSecond, OfBoth, Listed
 use Rattle.fort_alike.specs.AtomRules.{marks_of, bit_in, any_pair, all_inside, inside, all_kids, one_kid, some_kid, is_there, same_roots, first_step, second_step, root_test, fact_step, mark_step}
 use Rattle.fort_alike.proofs.Bits.{Decides-same_pattern}
 use Rattle.fort_alike.proofs.AtomMarks.{marks_of-each}
-use Rattle.fort_atom_keys.specs.AskedMarks.{is_argument, stands_under, asks_fact, HasSides}
+use Rattle.fort_mark_keys.specs.AskedMarks.{is_argument, stands_under, asks_fact, HasSides}
 
 -- tests that agree where they are read
 and-same : (b l r : Bool) → (b ≡ true → l ≡ r) → (b && l) ≡ (b && r)

@@ -10,9 +10,9 @@ use Rattle.fort_tables.proofs.BitRowLaws.{has_bit-bit_row, has_bit-bit_row_past}
 use Rattle.fort_alike.specs.ListedAtoms.{Mark, ListedAtom}
 use Rattle.fort_alike.specs.AtomRules.{marks_of, same_mark, place, row_of, has, bit_in}
 use Rattle.fort_alike.proofs.Bits.{Decides-same_mark, has-row_of}
-use Rattle.fort_atom_keys.specs.MaskedWords.{masked}
-use Rattle.fort_atom_keys.specs.AskedMarks.{asks, asked_mask}
-use Rattle.fort_atom_keys.proofs.MaskLaws.{bit-seen}
+use Rattle.fort_mark_keys.specs.MaskedWords.{masked}
+use Rattle.fort_mark_keys.specs.AskedMarks.{asks, asked_mask}
+use Rattle.fort_mark_keys.proofs.MaskLaws.{bit-seen}
 
 -- a mark is in a list, or its place is behind it
 abbrev IsPlaced : List Mark → Mark → ℕ → Type 0
