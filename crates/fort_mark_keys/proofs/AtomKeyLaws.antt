@@ -1,11 +1,9 @@
 -- An atom's label goes by the child's label under the mask, at each place.
 use Rattle.std.proofs.Common.{◌≡◌, ℕ, zero, suc, ◌<◌, List, [], ◌∷◌, map, length, get_or, Contains, Option, None, Some, Bool, true, false, ◌||◌, refl, sym, ap, subst, ◌∙◌, arith, inl, inr, ⊎_elim}
-use Rattle.std.specs.List.{list_any}
 use Rattle.std.proofs.lemmas.Bool.{cases_eq}
 use Rattle.std.proofs.lemmas.List.{length-map, get_or-map}
 use Rattle.fort_theory.specs.Signatures.{Signature}
 use Rattle.fort_theory.specs.Patterns.{Pattern, Any, At}
-use Rattle.fort_theory.proofs.Members.{Contains-none, Contains-cons_cases}
 use Rattle.fort_tables.specs.Tuples.{Tuple, TupleSymbol, root, kid, kids, kid_count, presence, symbol_kids, tabulate, IsTuple, FitsKid}
 use Rattle.fort_tables.specs.Labels.{Labelling}
 use Rattle.fort_tables.specs.LabelRules.{label_of}
@@ -16,23 +14,12 @@ use Rattle.fort_alike.specs.Alike.{Fact, is_reaching}
 use Rattle.fort_alike.specs.ListedAtoms.{Mark, OfFirst, OfSecond, OfBoth, ListedAtom}
 use Rattle.fort_alike.specs.AtomRules.{marks_of, bit_in, is_there, mark_step, atom_rule}
 use Rattle.fort_alike.proofs.Bits.{row_of-same}
+use Rattle.fort_label_bits.proofs.RootPlaceLaws.{any_true}
 use Rattle.fort_mark_keys.specs.MaskedWords.{masked}
 use Rattle.fort_mark_keys.specs.AskedMarks.{asks, asked_mask, stands_under, HasSides}
 use Rattle.fort_mark_keys.proofs.MarkLaws.{bit-same, asked-bit}
 use Rattle.fort_mark_keys.proofs.StepLaws.{ReadsSame, mark-same}
 use Rattle.fort_mark_keys.proofs.ThereLaws.{there-same, first-any, second-any}
-
-or-true : (b c : Bool) → c ≡ true → (b || c) ≡ true
-or-true true c e = refl
-or-true false c e = e
-
--- a member that passes
-pub some-passes : {A : Type 0} (test : A → Bool) (xs : List A) (x : A) → Contains xs x → test x ≡ true → list_any test xs ≡ true
-some-passes test [] x c e = absurd (Contains-none x c)
-some-passes test (y ∷ ys) x c e = elim (Contains-cons_cases y ys x c) [
-  | inl i ↦ ap (λ b. b || list_any test ys) (ap test i ∙ e)
-  | inr r ↦ or-true (test y) (list_any test ys) (some-passes test ys x r e)
-]
 
 -- the label of a child among those of all
 pub kid-label : (label : Labelling) (t : Tuple) (j : ℕ) → j < kid_count t → get_or (map label (kids t)) j [] ≡ label (kid t j)
@@ -90,7 +77,7 @@ module _ (sig : Signature) (n : ℕ) (a : ListedAtom) (closure : Pattern → Pat
       (first-any (bit_in a) a.atom.pairs closure (map label (kids (kid t j))) (is_reaching a.atom.kind) (get_or (root (kid t j)) a.atom.first None)
       ∙ (column-same j a.atom.first
       ∙ sym (first-any (bit_in a) a.atom.pairs closure (map label (kids (kid u j))) (is_reaching a.atom.kind) (get_or (root (kid u j)) a.atom.first None))))
-  first-read j q (At g ps) c l s = asked-same j (OfFirst (At g ps)) l (some-passes (stands_under (get_or (root t) a.atom.first None) j (At g ps)) a.lefts q c s)
+  first-read j q (At g ps) c l s = asked-same j (OfFirst (At g ps)) l (any_true (stands_under (get_or (root t) a.atom.first None) j (At g ps)) a.lefts q c s)
 
   second-read : (j : ℕ) (q p : Pattern) → Contains a.rights q → j < kid_count t → stands_under (get_or (root t) a.atom.second None) j p q ≡ true
       → bit_in a (OfSecond p) (label (kid t j)) ≡ bit_in a (OfSecond p) (label (kid u j))
@@ -99,7 +86,7 @@ module _ (sig : Signature) (n : ℕ) (a : ListedAtom) (closure : Pattern → Pat
       (second-any (bit_in a) a.atom.pairs closure (map label (kids (kid t j))) (is_reaching a.atom.kind) (get_or (root (kid t j)) a.atom.second None)
       ∙ (column-same j a.atom.second
       ∙ sym (second-any (bit_in a) a.atom.pairs closure (map label (kids (kid u j))) (is_reaching a.atom.kind) (get_or (root (kid u j)) a.atom.second None))))
-  second-read j q (At g ps) c l s = asked-same j (OfSecond (At g ps)) l (some-passes (stands_under (get_or (root t) a.atom.second None) j (At g ps)) a.rights q c s)
+  second-read j q (At g ps) c l s = asked-same j (OfSecond (At g ps)) l (any_true (stands_under (get_or (root t) a.atom.second None) j (At g ps)) a.rights q c s)
 
   reads-same : ReadsSame a (get_or (root t) a.atom.first None) (get_or (root t) a.atom.second None) (map label (kids t)) (map label (kids u))
   reads-same =

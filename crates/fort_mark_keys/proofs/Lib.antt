@@ -6,3 +6,5 @@ pub mod AtomKeyLaws
 pub mod TermKeyLaws
 pub mod PlaceBitLaws
 pub mod MarkMaskLaws
+pub mod SubtermListLaws
+pub mod MaskKeyLaws

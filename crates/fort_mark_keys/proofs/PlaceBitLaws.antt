@@ -7,6 +7,7 @@ use Rattle.std.proofs.lemmas.Bool.Decides.{Decides-eqb}
 use Rattle.std.proofs.lemmas.List.{get_or-map, length-map, get_or_past, get_or_append_left, get_or-append-add}
 use Rattle.fort_theory.specs.Patterns.{Pattern, Patterns, Any, At, NoPattern, MorePatterns}
 use Rattle.fort_theory.specs.PatternOrder.{PatternBefore}
+use Rattle.fort_theory.proofs.Lists.{none-some, some-injective}
 use Rattle.fort_theory.proofs.ClosedPatterns.{PatternBefore-irreflexive}
 use Rattle.fort_theory.proofs.Members.{Contains-none, Contains-cons_cases}
 use Rattle.fort_tables.proofs.EqualTests.{test_from_apart}
@@ -20,17 +21,11 @@ use Rattle.fort_label_bits.proofs.RootPlaceLaws.{any_false}
 use Rattle.fort_mark_keys.specs.AskedMarks.{is_argument, stands_under, asks_pattern}
 use Rattle.fort_mark_keys.specs.AskedPlaces.{argument, is_bit_at, adds_bit, HaveArgumentsWithin, NoneListedTwice}
 
-none-some : {k : ℕ} → None ≡ Some k → ⊥
-none-some h = cc
-
-some-one : {m k : ℕ} → Some m ≡ Some k → m ≡ k
-some-one h = cc
-
 -- places of arguments are those of listed patterns
 place-within : (listed : List Pattern) (ks : List ℕ) (ps : Patterns) (j k : ℕ) → AreAt listed ks ps → slice_get ks j ≡ Some k → k < length listed
 place-within listed [] ps j k h e = absurd (none-some e)
 place-within listed (m ∷ ks) NoPattern j k h e = absurd h
-place-within listed (m ∷ ks) (MorePatterns p ps) zero k h e = subst (λ i. i < length listed) (some-one e) h.0
+place-within listed (m ∷ ks) (MorePatterns p ps) zero k h e = subst (λ i. i < length listed) (some-injective e) h.0
 place-within listed (m ∷ ks) (MorePatterns p ps) (suc j) k h e = place-within listed ks ps j k h.2 e
 
 at-within : (listed : List Pattern) (ks : List ℕ) (ps : Patterns) (j k : ℕ) (b : Bool) → AreAt listed ks ps → (if b then slice_get ks j else None) ≡ Some k → k < length listed

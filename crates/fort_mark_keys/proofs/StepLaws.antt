@@ -12,7 +12,7 @@ use Rattle.fort_alike.proofs.AtomMarks.{marks_of-each}
 use Rattle.fort_mark_keys.specs.AskedMarks.{is_argument, stands_under, asks_fact, HasSides}
 
 -- tests that agree where they are read
-and-same : (b l r : Bool) → (b ≡ true → l ≡ r) → (b && l) ≡ (b && r)
+pub and-same : (b l r : Bool) → (b ≡ true → l ≡ r) → (b && l) ≡ (b && r)
 and-same true l r h = h refl
 and-same false l r h = refl
 
@@ -24,10 +24,10 @@ any_pair-same test other (r ∷ rs) h =
     λ i. here i || rest i
 
 -- a test passes the same children of two rows
-abbrev KidsSame : (List ℕ → Bool) → List (List ℕ) → List (List ℕ) → Type 0
+abbrev pub KidsSame : (List ℕ → Bool) → List (List ℕ) → List (List ℕ) → Type 0
 KidsSame test ws vs = (j : ℕ) → j < length ws → test (get_or ws j []) ≡ test (get_or vs j [])
 
-all_kids-same : (test : List ℕ → Bool) (ws vs : List (List ℕ)) → length ws ≡ length vs → KidsSame test ws vs → all_kids test ws ≡ all_kids test vs
+pub all_kids-same : (test : List ℕ → Bool) (ws vs : List (List ℕ)) → length ws ≡ length vs → KidsSame test ws vs → all_kids test ws ≡ all_kids test vs
 all_kids-same test [] [] e h = refl
 all_kids-same test [] (v ∷ vs) e h = absurd (omega arith)
 all_kids-same test (w ∷ ws) [] e h = absurd (omega arith)
@@ -36,7 +36,7 @@ all_kids-same test (w ∷ ws) (v ∷ vs) e h =
     let rest = all_kids-same test ws vs (omega arith) (λ j l. h (suc j) (omega arith)) in
     λ i. here i && rest i
 
-some_kid-same : (test : List ℕ → Bool) (ws vs : List (List ℕ)) → length ws ≡ length vs → KidsSame test ws vs → some_kid test ws ≡ some_kid test vs
+pub some_kid-same : (test : List ℕ → Bool) (ws vs : List (List ℕ)) → length ws ≡ length vs → KidsSame test ws vs → some_kid test ws ≡ some_kid test vs
 some_kid-same test [] [] e h = refl
 some_kid-same test [] (v ∷ vs) e h = absurd (omega arith)
 some_kid-same test (w ∷ ws) [] e h = absurd (omega arith)
@@ -45,7 +45,7 @@ some_kid-same test (w ∷ ws) (v ∷ vs) e h =
     let rest = some_kid-same test ws vs (omega arith) (λ j l. h (suc j) (omega arith)) in
     λ i. here i || rest i
 
-one_kid-same : (test other : List ℕ → Bool) (ws vs : List (List ℕ)) → length ws ≡ length vs → KidsSame test ws vs → KidsSame other ws vs
+pub one_kid-same : (test other : List ℕ → Bool) (ws vs : List (List ℕ)) → length ws ≡ length vs → KidsSame test ws vs → KidsSame other ws vs
     → one_kid test other ws ≡ one_kid test other vs
 one_kid-same test other [] [] e h k = refl
 one_kid-same test other [] (v ∷ vs) e h k = absurd (omega arith)

@@ -16,8 +16,9 @@ use Rattle.fort_tables.proofs.LabelRuleLaws.{label_of-step}
 use Rattle.fort_classes.specs.Keys.{DifferAt, GoesByEachKey}
 use Rattle.fort_alike.specs.TermRule.{same_tree, number_in, numbered, put_first, all_numbered, number_over, number_at, number_word, term_rule}
 use Rattle.fort_alike.proofs.SubtermLaws.{Decides-same_tree, Contains-number_in}
+use Rattle.fort_label_bits.proofs.RootPlaceLaws.{any_true}
 use Rattle.fort_mark_keys.specs.AskedTerms.{is_child, stands_below, asks_tree, asks_number, asked_numbers, number_seen}
-use Rattle.fort_mark_keys.proofs.AtomKeyLaws.{some-passes, kid-label, count-labels, count-same}
+use Rattle.fort_mark_keys.proofs.AtomKeyLaws.{kid-label, count-labels, count-same}
 
 -- trees by numbers have the tree of each number in its place
 record IsChildOf (found : Option Tree) (j : ℕ) (ss : Trees) : Type 0 where
@@ -51,7 +52,7 @@ module _ (listed : List Tree) (f : ℕ) (ns : List ℕ) (j : ℕ) (l : j < lengt
       let w = child-numbered listed ns j ss e l in
       let same : (f == f) ≡ true = (Decides-eqb f f).1 refl in
       let stands : stands_below (Some f) j w.tree (Node f ss) ≡ true = ap (λ b. b && is_child w.tree j ss) same ∙ w.child in
-      true≢false (sym (some-passes (stands_below (Some f) j w.tree) listed (Node f ss) c stands) ∙ (ap (asks_tree listed (Some f) j) (sym w.is) ∙ off))
+      true≢false (sym (any_true (stands_below (Some f) j w.tree) listed (Node f ss) c stands) ∙ (ap (asks_tree listed (Some f) j) (sym w.is) ∙ off))
 
   no-number : (ss : Trees) (k : ℕ) → all_numbered listed ns ≡ Some ss → number_in listed (Node f ss) ≡ k → number_in listed (Node f ss) ≡ 0
   no-number ss zero e is = is
@@ -65,7 +66,7 @@ module _ (listed : List Tree) (f : ℕ) (ns : List ℕ) (j : ℕ) (l : j < lengt
   unasked-none = no-number-over (all_numbered listed ns) refl
 
 -- the bits tell which numbers are asked
-past-none : (listed : List Tree) (x : Option ℕ) (j n : ℕ) → length listed < n → asks_number listed x j n ≡ false
+pub past-none : (listed : List Tree) (x : Option ℕ) (j n : ℕ) → length listed < n → asks_number listed x j n ≡ false
 past-none listed x j zero l = absurd (omega arith)
 past-none listed x j (suc i) l = ap (asks_tree listed x j) (get_or_past (map Some listed) i None (omega (arith, length-map listed Some)))
 

@@ -5,3 +5,4 @@ pub mod AskedPlaces
 pub mod AskedFacts
 pub mod SideView
 pub mod MarkKeysView
+pub mod TermKeysView

@@ -6,6 +6,8 @@ use Rattle.fort_tables.specs.BitRows.{words_for}
 use Rattle.fort_alike.specs.Atoms.{AtomKind}
 use Rattle.fort_alike.specs.ListedAtoms.{ListedAtom, listed}
 use Rattle.fort_alike.specs.AtomRules.{marks_of}
+use Rattle.fort_tables.specs.Tuples.{TupleSymbol}
+use Rattle.fort_mark_keys.specs.AskedMarks.{asked_mask}
 use Rattle.fort_mark_keys.specs.AskedFacts.{kind_seen}
 use Rattle.fort_mark_keys.specs.declared.mark_keys.MarkKeys.{MarkKeys}
 
@@ -29,3 +31,8 @@ pub record IsOfSides (kind : AtomKind) (first second : ℕ) (lefts rights : List
   pub second_is : a.atom.second ≡ second
   pub left_order : AreSubpatternsInOrder lefts a.lefts
   pub right_order : AreSubpatternsInOrder rights a.rights
+
+-- they have the same masks, of one width
+pub record AsksAs (k a : ListedAtom) : Type 0 where
+  pub masks : (f : TupleSymbol) (j : ℕ) → asked_mask k f j ≡ asked_mask a f j
+  pub words : mark_words k ≡ mark_words a

@@ -6,5 +6,10 @@ mod asked_facts;
 mod mark_keys;
 mod masked;
 mod side;
+mod subterms;
+mod term_keys;
+mod whole_keys;
 
 pub use mark_keys::MarkKeys;
+pub use term_keys::TermKeys;
+pub use whole_keys::WholeKeys;

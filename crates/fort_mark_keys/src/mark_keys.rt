@@ -23,7 +23,8 @@ use fort_terms::{Memory, Pattern, Sym, System};
 use fort_tuple_symbols::TupleSym;
 use std::alloc::Global;
 
-/// The keys of the labels of an atom that relates two terms, or of normal forms: the label under a mask of the marks that are asked.
+/// The keys of the labels of an atom that relates two terms, or of normal forms: the label under a
+/// mask of the marks that are asked.
 #[derive(Drop)]
 pub struct MarkKeys {
     /// None for normal forms.
@@ -34,7 +35,7 @@ pub struct MarkKeys {
 }
 
 /// The symbol in a column, and none behind the last one.
-fn column(symbol: &TupleSym, at: usize) -> Option<Sym>
+pub(crate) fn column(symbol: &TupleSym, at: usize) -> Option<Sym>
     ensures { as_column result ≡ get_or symbol.now at None }
 {
     if at < symbol.len() {
@@ -63,7 +64,8 @@ impl MarkKeys {
         })
     }
 
-    /// Those of an atom that relates two terms, by the patterns that stand within the left and the right sides of its rules.
+    /// Those of an atom that relates two terms, by the patterns that stand within the left and the
+    /// right sides of its rules.
     pub fn related(
         alloc: Global,
         rel: Rel,

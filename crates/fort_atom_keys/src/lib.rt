@@ -1,2 +1,0 @@
-//! What the labels of an atom ask of the labels of the children.
-#![tactic(auto)]
