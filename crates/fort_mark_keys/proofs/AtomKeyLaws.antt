@@ -1,16 +1,16 @@
 -- An atom's label goes by the child's label under the mask, at each place.
-use Rattle.std.proofs.Common.{◌≡◌, ℕ, zero, suc, ◌<◌, List, [], ◌∷◌, map, length, get_or, Contains, Option, None, Some, Bool, true, false, ◌||◌, refl, sym, ap, subst, ◌∙◌, arith, inl, inr, ⊎_elim}
+use Rattle.std.proofs.Common.{◌≡◌, ℕ, ◌<◌, [], map, length, get_or, Contains, None, Bool, true, refl, sym, ap, subst, ◌∙◌, arith, ⊎_elim}
 use Rattle.std.proofs.lemmas.Bool.{cases_eq}
 use Rattle.std.proofs.lemmas.List.{length-map, get_or-map}
 use Rattle.fort_theory.specs.Signatures.{Signature}
 use Rattle.fort_theory.specs.Patterns.{Pattern, Any, At}
-use Rattle.fort_tables.specs.Tuples.{Tuple, TupleSymbol, root, kid, kids, kid_count, presence, symbol_kids, tabulate, IsTuple, FitsKid}
+use Rattle.fort_tables.specs.Tuples.{Tuple, TupleSymbol, root, kid, kids, kid_count, presence, symbol_kids, IsTuple, FitsKid}
 use Rattle.fort_tables.specs.Labels.{Labelling}
 use Rattle.fort_tables.specs.LabelRules.{label_of}
 use Rattle.fort_tables.proofs.TupleLaws.{length-tabulate, get_or-tabulate, kid_fits, kid_count_is}
 use Rattle.fort_tables.proofs.LabelRuleLaws.{label_of-step}
 use Rattle.fort_classes.specs.Keys.{DifferAt, GoesByEachKey}
-use Rattle.fort_alike.specs.Alike.{Fact, is_reaching}
+use Rattle.fort_alike.specs.Alike.{is_reaching}
 use Rattle.fort_alike.specs.ListedAtoms.{Mark, OfFirst, OfSecond, OfBoth, ListedAtom}
 use Rattle.fort_alike.specs.AtomRules.{marks_of, bit_in, is_there, mark_step, atom_rule}
 use Rattle.fort_alike.proofs.Bits.{row_of-same}

@@ -1,11 +1,11 @@
 -- A mark that an atom's labels have no bit for is off in each label; so labels that are equal under the mask have equal bits of the marks that are asked.
-use Rattle.std.specs.Prelude.{◌≡◌, ◌⊎◌, ℕ, suc, ◌+◌, ◌*◌, ◌<◌, ◌≤◌, List, [], ◌∷◌, map, length, drop, get_or, Contains, Bool, true, false, if◌then◌else◌, refl}
+use Rattle.std.specs.Prelude.{◌≡◌, ◌⊎◌, ℕ, suc, ◌*◌, ◌<◌, ◌≤◌, List, [], ◌∷◌, map, length, drop, get_or, Contains, Bool, true, false, if◌then◌else◌, refl}
 use Rattle.std.proofs.Common.{sym, ap, subst, ◌∙◌, arith, inl, inr, ⊎_elim}
 use Rattle.std.proofs.lemmas.Bool.{cases_lt}
 use Rattle.std.proofs.lemmas.List.{length-map, get_or_past}
 use Rattle.fort_theory.proofs.Members.{Contains-head, Contains-behind}
 use Rattle.fort_tables.specs.Tuples.{TupleSymbol}
-use Rattle.fort_tables.specs.BitRows.{has_bit, bit_row, words_for}
+use Rattle.fort_tables.specs.BitRows.{has_bit, words_for}
 use Rattle.fort_tables.proofs.BitRowLaws.{has_bit-bit_row, has_bit-bit_row_past}
 use Rattle.fort_alike.specs.ListedAtoms.{Mark, ListedAtom}
 use Rattle.fort_alike.specs.AtomRules.{marks_of, same_mark, place, row_of, has, bit_in}
@@ -30,7 +30,7 @@ placed (x ∷ xs) m = placed-behind x xs m (same_mark x m) refl (placed xs m)
 bit-behind : (marks : List Mark) (n : ℕ) (b : Mark → Bool) → has_bit (drop 1 (row_of marks n b)) (length marks) ≡ false
 bit-behind marks n b = ⊎_elim
     (λ (l : length marks < 64 * words_for (length marks)). has_bit-bit_row (length marks) (λ k. get_or (map b marks) k false) (length marks) l
-        ∙ get_or_past (map b marks) (length marks) false (omega (arith, length-map marks b)))
+    ∙ get_or_past (map b marks) (length marks) false (omega (arith, length-map marks b)))
     (λ (l : 64 * words_for (length marks) ≤ length marks). has_bit-bit_row_past (length marks) (λ k. get_or (map b marks) k false) (length marks) l)
     (cases_lt (length marks) (64 * words_for (length marks)))
 
@@ -39,7 +39,7 @@ pub bit-same : (marks : List Mark) (n k : ℕ) (b c : Mark → Bool) (m : Mark) 
 bit-same marks n k b c m e = elim (placed marks m) [
   | inl here ↦ has-row_of marks n b m here ∙ (e ∙ sym (has-row_of marks k c m here))
   | inr past ↦ ap (λ i. has_bit (drop 1 (row_of marks n b)) i) past
-    ∙ (bit-behind marks n b ∙ (sym (bit-behind marks k c) ∙ ap (λ i. has_bit (drop 1 (row_of marks k c)) i) (sym past)))
+      ∙ (bit-behind marks n b ∙ (sym (bit-behind marks k c) ∙ ap (λ i. has_bit (drop 1 (row_of marks k c)) i) (sym past)))
 ]
 
 -- Result: labels that are equal under the mask have equal bits of each mark that is asked
@@ -50,5 +50,5 @@ asked-bit a f j n k b c m e on =
     elim (placed (marks_of a) m) [
       | inl here ↦ bit-seen (asked_mask a f j) (row_of (marks_of a) n b) (row_of (marks_of a) k c) (place (marks_of a) m) e (has-row_of (marks_of a) 0 (asks a f j) m here ∙ on)
       | inr past ↦ ap (λ i. has_bit (drop 1 (row_of (marks_of a) n b)) i) past
-        ∙ (bit-behind (marks_of a) n b ∙ (sym (bit-behind (marks_of a) k c) ∙ ap (λ i. has_bit (drop 1 (row_of (marks_of a) k c)) i) (sym past)))
+          ∙ (bit-behind (marks_of a) n b ∙ (sym (bit-behind (marks_of a) k c) ∙ ap (λ i. has_bit (drop 1 (row_of (marks_of a) k c)) i) (sym past)))
     ]

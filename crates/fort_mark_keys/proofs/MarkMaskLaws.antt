@@ -1,9 +1,8 @@
 -- The bits that are put for patterns and facts are those of the mask.
-use Rattle.std.specs.Prelude.{◌≡◌, ℕ, suc, ◌+◌, ◌-◌, ◌*◌, ◌≤◌, List, [], ◌∷◌, ◌++◌, map, length, replicate, get_or, Option, None, Some, Bool, true, false, refl}
+use Rattle.std.specs.Prelude.{◌≡◌, ℕ, ◌+◌, ◌-◌, ◌*◌, ◌≤◌, List, [], ◌∷◌, ◌++◌, map, length, replicate, get_or, Option, None, Some, Bool, false, refl}
 use Rattle.std.proofs.Common.{sym, ap, subst, ◌∙◌, append_assoc, arith}
 use Rattle.std.proofs.lemmas.List.{length-append, length-map}
 use Rattle.fort_tables.specs.Tuples.{TupleSymbol}
-use Rattle.fort_tables.specs.BitRows.{words_for}
 use Rattle.fort_theory.specs.Patterns.{Pattern}
 use Rattle.fort_theory.specs.PatternOrder.{AreSubpatternsInOrder}
 use Rattle.fort_theory.proofs.Members.{Contains-none}
@@ -11,9 +10,8 @@ use Rattle.fort_relations.specs.declared.relation.Rel.{Rel}
 use Rattle.fort_relations.specs.declared.relation.Rel.TheVariants.{Eq, Root, Below, Step, Par, Plus, Star, Conv}
 use Rattle.fort_alike.specs.Atoms.{AtomKind, EqKind, RootKind, StepKind, BelowKind, ParKind, NfKind, StarKind, PlusKind}
 use Rattle.fort_alike.specs.Alike.{Fact, facts_of}
-use Rattle.fort_alike.specs.ListedAtoms.{Mark, OfFirst, OfSecond, OfBoth, ListedAtom, listed}
-use Rattle.fort_alike.specs.AtomRules.{marks_of, row_of, is_there, same_roots}
-use Rattle.fort_alike.proofs.Bits.{row_of-same}
+use Rattle.fort_alike.specs.ListedAtoms.{Mark, OfFirst, OfSecond, OfBoth, ListedAtom}
+use Rattle.fort_alike.specs.AtomRules.{marks_of, same_roots}
 use Rattle.fort_alike.proofs.RuleLaws.{row_is}
 use Rattle.fort_label_bits.specs.RowBits.{HasBits, IsRow}
 use Rattle.fort_label_bits.proofs.RowBitLaws.{HasBits-off}
@@ -62,7 +60,6 @@ pub mask-is : (a : ListedAtom) (f : TupleSymbol) (j : ℕ) (out : List ℕ) → 
 mask-is a f j out l h =
     row_is out (marks_of a) 0 (asks a f j) l h.words h.first_is
     (λ q m. h.bits_are q ∙ ap (λ bs. get_or bs q false) (sym (map-marks (asks a f j) a.lefts a.rights (facts_of a.atom.kind))))
-
 
 -- the same, where the roots have names
 pub mask-by : (a : ListedAtom) (f : TupleSymbol) (j : ℕ) (x y : Option ℕ) (out : List ℕ) → x ≡ get_or f a.atom.first None → y ≡ get_or f a.atom.second None

@@ -1,5 +1,5 @@
 -- Keys that ask as an atom's labels do are keys of these; those by the sides of its rules do; and any label goes by whole labels.
-use Rattle.std.proofs.Common.{◌≡◌, ℕ, suc, ◌<◌, List, [], ◌++◌, Bool, map, length, get_or, Contains, refl, sym, ap, subst, ◌∙◌, arith, ⊎_elim}
+use Rattle.std.proofs.Common.{◌≡◌, ℕ, suc, ◌<◌, List, [], ◌++◌, Bool, map, length, Contains, refl, sym, ap, subst, ◌∙◌, arith, ⊎_elim}
 use Rattle.std.proofs.lemmas.Bool.{cases_eq}
 use Rattle.std.proofs.lemmas.List.{ext_get_or}
 use Rattle.fort_theory.specs.Signatures.{Signature}
@@ -7,12 +7,12 @@ use Rattle.fort_theory.specs.Patterns.{Pattern, Pair}
 use Rattle.fort_theory.specs.PatternOrder.{AreSubpatternsInOrder}
 use Rattle.fort_theory.proofs.ClosedPatterns.{subpatterns-self}
 use Rattle.fort_theory.proofs.Lists.{Contains-map}
-use Rattle.fort_tables.specs.Tuples.{Tuple, TupleSymbol, root, kid, kids, kid_count}
+use Rattle.fort_tables.specs.Tuples.{TupleSymbol, root, kid, kids, kid_count}
 use Rattle.fort_tables.specs.BitRows.{words_for}
 use Rattle.fort_tables.specs.Labels.{Labelling}
 use Rattle.fort_tables.specs.LabelRules.{LabelRule, label_of}
 use Rattle.fort_tables.proofs.LabelRuleLaws.{label_of-step}
-use Rattle.fort_classes.specs.Keys.{Keys, DifferAt, GoesByEachKey}
+use Rattle.fort_classes.specs.Keys.{GoesByEachKey}
 use Rattle.fort_label_keys.specs.ViewKeys.{keys_by}
 use Rattle.fort_alike.specs.Atoms.{AtomKind, NfKind}
 use Rattle.fort_alike.specs.Alike.{facts_of}

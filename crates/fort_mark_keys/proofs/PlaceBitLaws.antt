@@ -1,7 +1,7 @@
 -- The bits of the arguments of patterns by numbers are those of the patterns that are asked.
-use Rattle.std.specs.Prelude.{◌≡◌, ℕ, zero, suc, ◌+◌, ◌-◌, ◌<◌, ◌≤◌, List, [], ◌∷◌, ◌++◌, map, length, Contains, Option, None, Some, get_or, slice_get, Bool, true, false, ◌&&◌, ◌||◌, ◌==◌, if◌then◌else◌, refl}
+use Rattle.std.specs.Prelude.{◌≡◌, ℕ, zero, suc, ◌+◌, ◌-◌, ◌<◌, ◌≤◌, List, [], ◌∷◌, ◌++◌, map, length, Option, None, Some, get_or, slice_get, Bool, true, false, ◌&&◌, ◌||◌, ◌==◌, if◌then◌else◌, refl}
 use Rattle.std.specs.List.{list_any}
-use Rattle.std.proofs.Common.{sym, ap, subst, ◌∙◌, arith, eq-eqb, inl, inr, ⊎_elim}
+use Rattle.std.proofs.Common.{sym, ap, subst, ◌∙◌, arith, eq-eqb, ⊎_elim}
 use Rattle.std.proofs.lemmas.Bool.{cases_eq, cases_lt}
 use Rattle.std.proofs.lemmas.Bool.Decides.{Decides-eqb}
 use Rattle.std.proofs.lemmas.List.{get_or-map, length-map, get_or_past, get_or_append_left, get_or-append-add}
@@ -9,7 +9,6 @@ use Rattle.fort_theory.specs.Patterns.{Pattern, Patterns, Any, At, NoPattern, Mo
 use Rattle.fort_theory.specs.PatternOrder.{PatternBefore}
 use Rattle.fort_theory.proofs.Lists.{none-some, some-injective}
 use Rattle.fort_theory.proofs.ClosedPatterns.{PatternBefore-irreflexive}
-use Rattle.fort_theory.proofs.Members.{Contains-none, Contains-cons_cases}
 use Rattle.fort_tables.proofs.EqualTests.{test_from_apart}
 use Rattle.fort_alike.specs.AtomRules.{same_pattern, is_there}
 use Rattle.fort_alike.specs.PatternNumbers.{PatternNumber, AreAt, IsNumberOf}

@@ -1,5 +1,5 @@
 -- A mark's bit at a node depends on the bits alone that the node asks of its children.
-use Rattle.std.specs.Prelude.{◌≡◌, ℕ, zero, suc, ◌<◌, List, [], ◌∷◌, length, Contains, Option, None, Some, get_or, Bool, true, false, ◌&&◌, ◌||◌, ◌==◌, not, refl}
+use Rattle.std.specs.Prelude.{◌≡◌, ℕ, suc, ◌<◌, List, [], ◌∷◌, length, Contains, Option, None, Some, get_or, Bool, true, false, ◌&&◌, ◌||◌, ◌==◌, not, refl}
 use Rattle.std.proofs.Common.{sym, ap, subst, ◌∙◌, arith, inl, inr, true≢false}
 use Rattle.fort_theory.specs.Patterns.{Pattern, Patterns, Any, At, NoPattern, MorePatterns, Pair}
 use Rattle.fort_theory.proofs.Members.{Contains-none, Contains-cons_cases, Contains-head, Contains-behind}

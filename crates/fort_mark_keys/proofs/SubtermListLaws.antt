@@ -1,11 +1,11 @@
 -- A term's subterms as a list that grows child by child; the numbers that are asked, one after another.
-use Rattle.std.specs.Prelude.{◌≡◌, ℕ, zero, suc, ◌+◌, ◌*◌, ◌<◌, ◌≤◌, List, [], ◌∷◌, ◌++◌, map, length, drop, get_or, Option, None, Some, Bool, true, false, ◌&&◌, ◌||◌, ◌==◌, nat_le, refl}
+use Rattle.std.specs.Prelude.{◌≡◌, ℕ, zero, suc, ◌+◌, ◌<◌, ◌≤◌, List, [], ◌∷◌, ◌++◌, map, length, drop, get_or, Option, None, Some, Bool, true, false, ◌&&◌, ◌||◌, ◌==◌, nat_le, refl}
 use Rattle.std.specs.List.{list_any}
 use Rattle.std.proofs.Common.{sym, ap, ◌∙◌, arith, append_assoc, append-nil, eq-eqb, ⊎_elim}
 use Rattle.std.proofs.lemmas.Bool.{cases_eq, cases_lt}
 use Rattle.std.proofs.lemmas.Bool.Decides.{nat_tests}
 use Rattle.std.proofs.lemmas.List.{map-append, get_or-map, length-map, drop_more, drop_all}
-use Rattle.fort_theory.specs.Trees.{Tree, Trees, Nil, More, trees}
+use Rattle.fort_theory.specs.Trees.{Tree, trees}
 use Rattle.fort_terms.specs.TermKeys.{tree_eq}
 use Rattle.fort_terms.specs.TermKeyLaws.{Decides-tree_eq}
 use Rattle.fort_tables.specs.BitRows.{AreWords, words_for, bit_row, has_bit}

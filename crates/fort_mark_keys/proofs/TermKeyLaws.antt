@@ -1,20 +1,19 @@
 -- The label of "the variable is this term" goes by the child's number where it is asked, at each place.
 use Rattle.std.proofs.Common.{◌≡◌, ◌⊎◌, ℕ, zero, suc, ◌*◌, ◌<◌, ◌≤◌, List, [], ◌∷◌, map, length, get_or, Contains, Option, None, Some, Bool, true, false, ◌&&◌, ◌==◌, if◌then◌else◌, refl, sym, ap, subst, ◌∙◌, arith, inl, inr, ⊎_elim, true≢false}
-use Rattle.std.specs.List.{list_any}
 use Rattle.std.proofs.lemmas.Bool.{cases_eq, cases_lt}
-use Rattle.std.proofs.lemmas.Bool.Decides.{Decides-eqb, Decides-and}
+use Rattle.std.proofs.lemmas.Bool.Decides.{Decides-eqb}
 use Rattle.std.proofs.lemmas.List.{length-map, get_or-map, get_or_past, ext_get_or}
 use Rattle.fort_theory.specs.Signatures.{Signature}
-use Rattle.fort_theory.specs.Trees.{Tree, Trees, Node, Nil, More}
+use Rattle.fort_theory.specs.Trees.{Tree, Trees, Node}
 use Rattle.fort_theory.proofs.Lists.{none-some, some-injective}
-use Rattle.fort_tables.specs.Tuples.{Tuple, TupleSymbol, root, kid, kids, kid_count, presence, IsTuple}
+use Rattle.fort_tables.specs.Tuples.{TupleSymbol, root, kid, kids, kid_count, presence}
 use Rattle.fort_tables.specs.Labels.{Labelling}
 use Rattle.fort_tables.specs.LabelRules.{label_of}
 use Rattle.fort_tables.specs.BitRows.{has_bit, words_for}
 use Rattle.fort_tables.proofs.BitRowLaws.{has_bit-bit_row, has_bit-bit_row_past}
 use Rattle.fort_tables.proofs.LabelRuleLaws.{label_of-step}
-use Rattle.fort_classes.specs.Keys.{DifferAt, GoesByEachKey}
-use Rattle.fort_alike.specs.TermRule.{same_tree, number_in, numbered, put_first, all_numbered, number_over, number_at, number_word, term_rule}
+use Rattle.fort_classes.specs.Keys.{GoesByEachKey}
+use Rattle.fort_alike.specs.TermRule.{number_in, numbered, put_first, all_numbered, number_over, number_at, number_word, term_rule}
 use Rattle.fort_alike.proofs.SubtermLaws.{Decides-same_tree, Contains-number_in}
 use Rattle.fort_label_bits.proofs.RootPlaceLaws.{any_true}
 use Rattle.fort_mark_keys.specs.AskedTerms.{is_child, stands_below, asks_tree, asks_number, asked_numbers, number_seen}
@@ -74,7 +73,7 @@ asked-number : (listed : List Tree) (f : TupleSymbol) (j n : ℕ) → has_bit (a
 asked-number listed f j n = ⊎_elim
     (λ l. has_bit-bit_row (suc (length listed)) (asks_number listed (get_or f 0 None) j) n l)
     (λ (l : 64 * words_for (suc (length listed)) ≤ n). has_bit-bit_row_past (suc (length listed)) (asks_number listed (get_or f 0 None) j) n l
-        ∙ sym (past-none listed (get_or f 0 None) j n (omega arith)))
+    ∙ sym (past-none listed (get_or f 0 None) j n (omega arith)))
     (cases_lt n (64 * words_for (suc (length listed))))
 
 -- what is seen of two numbers is one: they are one, or neither is asked

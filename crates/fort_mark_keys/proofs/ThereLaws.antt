@@ -1,7 +1,7 @@
 -- Tuples that may be one child under a tuple symbol have the same columns; Any holds of each column that is there.
-use Rattle.std.specs.Prelude.{◌≡◌, ℕ, zero, suc, ◌<◌, ◌≤◌, List, [], ◌∷◌, Option, None, Some, get_or, Bool, true, false, ◌&&◌, ◌||◌, refl}
+use Rattle.std.specs.Prelude.{◌≡◌, ℕ, zero, suc, List, [], ◌∷◌, Option, None, Some, get_or, Bool, true, false, ◌&&◌, ◌||◌, refl}
 use Rattle.std.proofs.Common.{arith}
-use Rattle.fort_theory.specs.Trees.{Tree, Trees, Node}
+use Rattle.fort_theory.specs.Trees.{Node}
 use Rattle.fort_theory.specs.Signatures.{Signature}
 use Rattle.fort_theory.specs.Patterns.{Pattern, Any, Pair}
 use Rattle.fort_tables.specs.Tuples.{Tuple, TupleSymbol, root, FitsKid}

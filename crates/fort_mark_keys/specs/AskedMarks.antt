@@ -1,5 +1,5 @@
 -- To believe: which marks the label of a node asks of child j: a pattern where it stands as argument j of a listed pattern with the root's symbol, a fact where the node's facts read it; as a mask of the children's labels.
-use Rattle.std.specs.Prelude.{◌≡◌, ℕ, zero, suc, List, Contains, Option, None, Some, get_or, Bool, true, false, ◌&&◌, ◌==◌}
+use Rattle.std.specs.Prelude.{◌≡◌, ℕ, zero, suc, List, Contains, Option, None, Some, get_or, Bool, false, ◌&&◌, ◌==◌}
 use Rattle.std.specs.List.{list_any}
 use Rattle.fort_theory.specs.Patterns.{Pattern, Patterns, Any, At, NoPattern, MorePatterns, Pair}
 use Rattle.fort_tables.specs.Tuples.{TupleSymbol}

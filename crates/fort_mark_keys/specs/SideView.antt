@@ -1,7 +1,7 @@
 -- Inside: what the fields of the patterns for one argument stand for.
-use Rattle.std.specs.Prelude.{◌≡◌, ℕ, ◌<◌, ◌^◌, List, map, length, get_or}
+use Rattle.std.specs.Prelude.{◌<◌, ◌^◌, List, map, length}
 use Rattle.std.specs.Coded.{Coded, coded_list}
-use Rattle.fort_theory.specs.Patterns.{Pattern, Any}
+use Rattle.fort_theory.specs.Patterns.{Pattern}
 use Rattle.fort_theory.specs.PatternCode.{pattern_code}
 use Rattle.fort_terms.specs.PatternView.{as_pattern}
 use Rattle.fort_label_bits.specs.NumberedView.{AreNumbersOf}

@@ -1,4 +1,4 @@
-use Rattle.std.proofs.Common.{List, Bool, ◌++◌, [], ◌∷◌, replicate, subst, ap, ◌∙◌, append_assoc, append-nil, sym, arith}
+use Rattle.std.proofs.Common.{◌++◌, [], ◌∷◌, replicate, subst, ap, ◌∙◌, append_assoc, append-nil, sym, arith}
 use Rattle.std.proofs.lemmas.List.{replicate_more, length-append, length-replicate}
 use Rattle.fort_label_bits.specs.RowBits.{HasBits}
 use Rattle.fort_mark_keys.proofs.asked_facts.put_marks.Goals as goal

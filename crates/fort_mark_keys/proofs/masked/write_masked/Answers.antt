@@ -10,4 +10,3 @@ loop-k-preserved c =
     c.in_ok-push.ensures.items
     ∙ (ap (λ xs. xs ++ bit_and (get_or mask k 0) (get_or label k 0) ∷ []) c.loop-k.invariant
     ∙ sym (masked-more mask label k (omega (arith, c.loop-k-test.true, c.loop-k.auto.k-end)) (omega (arith, c.loop-k-test.true, c.loop-k.auto.k-end, c.requires.width))))
-

@@ -1,6 +1,4 @@
-use Rattle.std.proofs.Common.{◌≡◌, get_or, sym, ap, ◌∙◌}
-use Rattle.fort_theory.specs.Trees.{Tree}
-use Rattle.fort_alike.specs.TermRule.{same_tree}
+use Rattle.std.proofs.Common.{sym, ◌∙◌}
 use Rattle.fort_mark_keys.proofs.SubtermListLaws.{tree_eq-same, child-past, child-found}
 use Rattle.fort_mark_keys.proofs.term_keys.is_kid.Goals as goal
 

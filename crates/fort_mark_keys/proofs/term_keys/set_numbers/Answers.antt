@@ -1,5 +1,4 @@
-use Rattle.std.proofs.Common.{◌≡◌, ℕ, ◌+◌, ◌<◌, Bool, ◌&&◌, ◌||◌, ◌==◌, map, length, refl, sym, ap, subst, ◌∙◌, arith}
-use Rattle.fort_tables.specs.BitRows.{has_bit}
+use Rattle.std.proofs.Common.{◌≡◌, ℕ, ◌+◌, Bool, ◌&&◌, ◌||◌, ◌==◌, map, length, refl, sym, ap, ◌∙◌, arith}
 use Rattle.fort_tuple_symbols.specs.Columns.{as_column}
 use Rattle.fort_mark_keys.specs.AskedTerms.{asks_number, stands_below}
 use Rattle.std.specs.List.{list_any}

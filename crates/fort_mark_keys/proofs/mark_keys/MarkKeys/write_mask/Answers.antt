@@ -6,7 +6,7 @@ use Rattle.fort_label_bits.specs.RowBits.{HasBits}
 use Rattle.fort_mark_keys.specs.AskedMarks.{asks_pattern}
 use Rattle.fort_mark_keys.specs.AskedFacts.{kind_seen, asked_count, are_asked}
 use Rattle.fort_mark_keys.specs.MarkKeysView.{keys_seen, mark_words}
-use Rattle.fort_mark_keys.proofs.MarkMaskLaws.{HasBits-facts, mask-by, room-marks, asked-few}
+use Rattle.fort_mark_keys.proofs.MarkMaskLaws.{HasBits-facts, mask-by}
 use Rattle.fort_mark_keys.proofs.mark_keys.MarkKeys.write_mask.Goals as goal
 
 pub returns : goal.returns

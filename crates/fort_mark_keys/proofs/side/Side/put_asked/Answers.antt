@@ -1,4 +1,3 @@
-use Rattle.std.proofs.Common.{map, arith}
 use Rattle.fort_tuple_symbols.specs.Columns.{as_column}
 use Rattle.fort_mark_keys.specs.SideView.{patterns_seen}
 use Rattle.fort_mark_keys.proofs.PlaceBitLaws.{HasBits-arguments, HaveArgumentsWithin-numbers}
