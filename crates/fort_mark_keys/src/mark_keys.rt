@@ -19,9 +19,9 @@ use crate::side::Side;
 use fort_label_bits::{Arguments, arguments_of, clear, put_first};
 use fort_label_keys::LabelKeys;
 use fort_relations::Rel;
-use fort_terms::{Memory, Pattern, Sym, System};
+use fort_terms::{Pattern, Sym, System};
 use fort_tuple_symbols::TupleSym;
-use std::alloc::Global;
+use std::alloc::{AllocError, Global};
 
 /// The keys of the labels of an atom that relates two terms, or of normal forms: the label under a
 /// mask of the marks that are asked.
@@ -47,7 +47,7 @@ pub(crate) fn column(symbol: &TupleSym, at: usize) -> Option<Sym>
 
 impl MarkKeys {
     /// Those of normal forms.
-    pub fn normal(alloc: Global, system: &System, index: u32) -> Result<MarkKeys, Memory>
+    pub fn normal(alloc: Global, system: &System, index: u32) -> Result<MarkKeys, AllocError>
         requires { IsIndexOf system.now.rules index }
         ensures { IfOk result (λ k. IsOfSides NfKind 0 0
             (map (λ pair. pair.0) (at_index index system.now.rules)) [] (keys_seen k)) }
@@ -73,7 +73,7 @@ impl MarkKeys {
         y: u32,
         lefts: Vec<Pattern>,
         rights: Vec<Pattern>,
-    ) -> Result<MarkKeys, Memory>
+    ) -> Result<MarkKeys, AllocError>
         requires left { (tops : List theory.Pattern)
             × AreSubpatternsInOrder tops (map as_pattern lefts.items) }
         requires right { (tops : List theory.Pattern)
@@ -134,13 +134,18 @@ impl LabelKeys for MarkKeys {
         symbol: &TupleSym,
         place: usize,
         words: &mut Vec<u64>,
-    ) -> Result<(), Memory> {
+    ) -> Result<(), AllocError> {
         words.resize(self.width(), 0)?;
         self.write_mask(symbol, place, words.as_mut_slice());
         Ok(())
     }
 
-    fn write_key(&self, seen: &[u64], label: &[u64], words: &mut Vec<u64>) -> Result<(), Memory> {
+    fn write_key(
+        &self,
+        seen: &[u64],
+        label: &[u64],
+        words: &mut Vec<u64>,
+    ) -> Result<(), AllocError> {
         write_masked(seen, label, words)
     }
 }

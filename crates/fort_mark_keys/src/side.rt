@@ -9,8 +9,8 @@ ghost use Rattle.fort_mark_keys.specs.AskedMarks.{asks_pattern};
 
 use crate::arguments::add_arguments;
 use fort_label_bits::{Numbered, number_patterns};
-use fort_terms::{Memory, Pattern, Sym};
-use std::alloc::Global;
+use fort_terms::{Pattern, Sym};
+use std::alloc::{AllocError, Global};
 use std::marker::Model;
 
 /// Patterns, and each of them by numbers. It is seen as the list of the patterns.
@@ -37,7 +37,7 @@ impl Model for Side {
 
 impl Side {
     /// Of the patterns that stand within some.
-    pub(crate) fn new(alloc: Global, patterns: Vec<Pattern>) -> Result<Side, Memory>
+    pub(crate) fn new(alloc: Global, patterns: Vec<Pattern>) -> Result<Side, AllocError>
         requires { (tops : List theory.Pattern)
             × AreSubpatternsInOrder tops (map as_pattern patterns.items) }
         ensures { IfOk result (λ s. s ≡ map as_pattern patterns.items) }

@@ -13,9 +13,9 @@ use crate::mark_keys::column;
 use crate::subterms::push_subterms;
 use fort_label_keys::LabelKeys;
 use fort_labels::{has_bit, set_bit};
-use fort_terms::{Memory, Sym, Term};
+use fort_terms::{Sym, Term};
 use fort_tuple_symbols::TupleSym;
-use std::alloc::Global;
+use std::alloc::{AllocError, Global};
 
 /// The keys of the labels of "the variable is this term": the number of a subterm where it is
 /// asked.
@@ -26,7 +26,7 @@ pub struct TermKeys<'a> {
 }
 
 impl<'a> TermKeys<'a> {
-    pub fn new(alloc: Global, term: &'a Term) -> Result<TermKeys<'a>, Memory>
+    pub fn new(alloc: Global, term: &'a Term) -> Result<TermKeys<'a>, AllocError>
         ensures { IfOk result (λ k. listed_seen k ≡ subterms term.now) }
     {
         let mut listed = Vec::new(alloc);
@@ -135,14 +135,19 @@ impl<'a> LabelKeys for TermKeys<'a> {
         symbol: &TupleSym,
         place: usize,
         words: &mut Vec<u64>,
-    ) -> Result<(), Memory> {
+    ) -> Result<(), AllocError> {
         words.resize((self.listed.len() + 64) / 64, 0)?;
         let root = column(symbol, 0);
         write_numbers(&self.listed, root, place, words.as_mut_slice());
         Ok(())
     }
 
-    fn write_key(&self, seen: &[u64], label: &[u64], words: &mut Vec<u64>) -> Result<(), Memory> {
+    fn write_key(
+        &self,
+        seen: &[u64],
+        label: &[u64],
+        words: &mut Vec<u64>,
+    ) -> Result<(), AllocError> {
         words.push(number_in(seen, number_word(label)))?;
         Ok(())
     }

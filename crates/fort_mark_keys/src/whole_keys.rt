@@ -1,7 +1,7 @@
 //! The keys of labels that are their own keys.
 use fort_label_keys::LabelKeys;
-use fort_terms::Memory;
 use fort_tuple_symbols::TupleSym;
+use std::alloc::AllocError;
 
 /// Keys by which no two labels are one.
 #[derive(Clone, Copy)]
@@ -24,11 +24,16 @@ impl LabelKeys for WholeKeys {
         symbol: &TupleSym,
         place: usize,
         words: &mut Vec<u64>,
-    ) -> Result<(), Memory> {
+    ) -> Result<(), AllocError> {
         Ok(())
     }
 
-    fn write_key(&self, seen: &[u64], label: &[u64], words: &mut Vec<u64>) -> Result<(), Memory> {
+    fn write_key(
+        &self,
+        seen: &[u64],
+        label: &[u64],
+        words: &mut Vec<u64>,
+    ) -> Result<(), AllocError> {
         words.extend_from_slice(label)
     }
 }
