@@ -29,7 +29,7 @@ impl KeySet {
     }
 
     /// The allocator that the words' lists come from.
-    pub fn allocator(&self) -> Global {
+    pub(crate) fn allocator(&self) -> Global {
         *self.set.allocator()
     }
 
