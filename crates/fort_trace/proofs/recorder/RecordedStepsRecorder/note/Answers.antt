@@ -5,7 +5,7 @@ use Rattle.fort_engine.specs.Deciding.{IsNextPart}
 use Rattle.fort_engine.specs.Found.{IsFound}
 use Rattle.fort_trace.specs.Recording.{recorded_with, HasTargets, AnswerAdded, CountsPushed}
 use Rattle.fort_trace.proofs.RecordLaws.{targets_there, AreRecordedTo-more}
-use Rattle.fort_trace.proofs.recorder.StepsRecorder.note.Goals as goal
+use Rattle.fort_trace.proofs.recorder.RecordedStepsRecorder.note.Goals as goal
 
 pub push_answer-requires : goal.push_answer-requires
 push_answer-requires c =
