@@ -128,13 +128,13 @@ blocks_full ts ss h = λ b l.
     subst (λ (x : Block). length x.cells ≡ product x.counts) (sym e) (length-take-le (size_of s) (drop s.start ts) (omega (arith, w.high, length-drop s.start ts)))
 
 -- a combination's cell: it stands in the list, its target is read there, and one that is written there is the combination's
-pub record IsCell (ts : List ℕ) (ss : List Shape) (bs : List Block) (b : ℕ) (s : Shape) (ns cs : List ℕ) : Type 0 where
+pub record IsCell (ts : List ℕ) (ss : List Shape) (bs : List Block) (b : ℕ) (s : Shape) (cs : List ℕ) : Type 0 where
   pub shape : IsShape s
-  pub are : AreClasses ns cs
-  pub few : product ns ≤ length ts
-  pub within : s.start + cell_of ns cs < length ts
-  pub target : get_or ts (s.start + cell_of ns cs) 0 ≡ target_of bs b cs
-  pub written : (v : ℕ) → map (block_in (set ts (s.start + cell_of ns cs) v)) ss ≡ with_target bs b cs v
+  pub are : AreClasses (counts_in s) cs
+  pub high : s.start + product (counts_in s) ≤ length ts
+  pub within : s.start + cell_of (counts_in s) cs < length ts
+  pub target : get_or ts (s.start + cell_of (counts_in s) cs) 0 ≡ target_of bs b cs
+  pub written : (v : ℕ) → map (block_in (set ts (s.start + cell_of (counts_in s) cs) v)) ss ≡ with_target bs b cs v
 
 target_read : (ts : List ℕ) (ss : List Shape) (b : ℕ) (s : Shape) (cs : List ℕ) → AreBetween 0 ss (length ts) → IsShapeAt ss b s → AreClasses (counts_in s) cs
     → get_or ts (s.start + cell_of (counts_in s) cs) 0 ≡ target_of (map (block_in ts) ss) b cs
@@ -155,22 +155,21 @@ target_written ts ss b s cs v h there are =
     ∙ ap (λ (x : Block). set (map (block_in ts) ss) b (with_cell x (cell_of x.counts cs) v)) (sym p.block)
 
 -- block b has a shape, and its cells are so
-pub cell_found : (ts : List ℕ) (ss : List Shape) (bs : List Block) (b : ℕ) (s : Shape) (ns cs : List ℕ) → AreBetween 0 ss (length ts) → map (block_in ts) ss ≡ bs
-    → b < length bs → s ≡ get_or ss b s → ns ≡ counts_in s → AreClasses (counts_at bs b) cs → IsCell ts ss bs b s ns cs
-cell_found ts ss bs b s ns cs h view low is counts_are are =
+pub cell_found : (ts : List ℕ) (ss : List Shape) (bs : List Block) (b : ℕ) (s : Shape) (cs : List ℕ) → AreBetween 0 ss (length ts) → map (block_in ts) ss ≡ bs
+    → b < length bs → s ≡ get_or ss b s → AreClasses (counts_at bs b) cs → IsCell ts ss bs b s cs
+cell_found ts ss bs b s cs h view low is are =
     let there : IsShapeAt ss b s = record { within = omega (arith, low, ap length view, length-map ss (block_in ts)); is = is } in
     let p = placed ts ss b s h there in
     let own : AreClasses (counts_in s) cs = subst (λ (x : Block). AreClasses x.counts cs) p.block (subst (λ (xs : List Block). AreClasses (counts_at xs b) cs) (sym view) are) in
-    subst (λ (xs : List Block). IsCell ts ss xs b s ns cs) view
-    (subst (λ (xs : List ℕ). IsCell ts ss (map (block_in ts) ss) b s xs cs) (sym counts_are)
+    subst (λ (xs : List Block). IsCell ts ss xs b s cs) view
     (record {
       shape = p.shape;
       are = own;
-      few = omega (arith, p.high);
+      high = p.high;
       within = omega (arith, p.high, cell_below (counts_in s) cs own);
       target = target_read ts ss b s cs h there own;
       written = λ v. target_written ts ss b s cs v h there own;
-    }))
+    })
 
 -- the shape of block b
 pub shape_found : (ts : List ℕ) (ss : List Shape) (bs : List Block) (b : ℕ) (s : Shape) → AreBetween 0 ss (length ts) → map (block_in ts) ss ≡ bs

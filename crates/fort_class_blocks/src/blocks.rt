@@ -73,8 +73,7 @@ impl Blocks {
             → AreClasses (counts_at self.old b) cs → (b ≡ block → cs ≡ classes.now → ⊥)
             → target_of self.new b cs ≡ target_of self.old b cs }
     {
-        let shape = &self.shapes[block];
-        let place = shape.start + number(shape.counts(), classes);
+        let place = self.shapes[block].place(classes);
         self.targets[place] = target;
     }
 
@@ -84,8 +83,7 @@ impl Blocks {
         requires classes { AreClasses (counts_at self.now block) classes.now }
         ensures { result ≡ target_of self.now block classes.now }
     {
-        let shape = &self.shapes[block];
-        self.targets[shape.start + number(shape.counts(), classes)]
+        self.targets[self.shapes[block].place(classes)]
     }
 
     /// The targets over these classes of all places but the last one, by the class there.
@@ -101,6 +99,7 @@ impl Blocks {
         let counts = shape.counts();
         let count = counts[classes.len()] as usize;
         let targets = self.targets.as_slice();
+        // without a class there, the number of the others may pass a word's range
         if count == 0 {
             return &targets[..0];
         }

@@ -35,6 +35,16 @@ impl Shape {
         let counts = &self.counts;
         &counts[..self.places]
     }
+
+    /// Where the target of a combination of classes stands.
+    pub(crate) fn place(&self, classes: &[u32]) -> usize
+        requires shape { IsShape self.now }
+        requires classes { AreClasses (counts_in self.now) classes.now }
+        requires few { self.now.start + product (counts_in self.now) < 2 ^ 64 }
+        ensures { result ≡ self.now.start + cell_of (counts_in self.now) classes.now }
+    {
+        self.start + number(self.counts(), classes)
+    }
 }
 
 /// How many combinations of classes there are; at most `usize::MAX` is told.
