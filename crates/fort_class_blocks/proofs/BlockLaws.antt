@@ -14,6 +14,7 @@ pub record IsWithin (s : Shape) (from to : ℕ) : Type 0 where
   pub low : from ≤ s.start
   pub high : s.start + size_of s ≤ to
 
+-- blocks end no earlier than they start
 between_le : (ss : List Shape) (from to : ℕ) → AreBetween from ss to → from ≤ to
 between_le [] from to h = omega (arith, h)
 between_le (s ∷ ss) from to h = omega (arith, between_le ss (from + size_of s) to h.2)
@@ -31,6 +32,7 @@ pub between_push : (ss : List Shape) (from to : ℕ) (s : Shape) → AreBetween 
 between_push [] from to s h is e = (is, e ∙ sym h, ap (λ n. n + size_of s) h)
 between_push (x ∷ ss) from to s h is e = (h.0, h.1, between_push ss (from + size_of x) to s h.2 is e)
 
+-- a block of a shape's counts, for equations of blocks cell list by cell list
 abbrev with_cells : Shape → List ℕ → Block
 with_cells s cells = record { counts = counts_in s; cells = cells }
 
@@ -48,6 +50,7 @@ piece_before ts v a n p h =
     subst (λ (q : ℕ). take n (drop a (set ts q v)) ≡ take n (drop a ts)) e
     (ap (λ xs. take n xs) (drop-set-add a ts j v) ∙ take-set-le n (drop a ts) j v (omega arith))
 
+-- a write commutes with a cut
 take_set : (n : ℕ) (xs : List ℕ) (j v : ℕ) → take n (set xs j v) ≡ set (take n xs) j v
 take_set zero xs j v = refl
 take_set (suc n) [] j v = refl
@@ -136,6 +139,7 @@ pub record IsCell (ts : List ℕ) (ss : List Shape) (bs : List Block) (b : ℕ) 
   pub target : get_or ts (s.start + cell_of (counts_in s) cs) 0 ≡ target_of bs b cs
   pub written : (v : ℕ) → map (block_in (set ts (s.start + cell_of (counts_in s) cs) v)) ss ≡ with_target bs b cs v
 
+-- a target is read where it stands
 target_read : (ts : List ℕ) (ss : List Shape) (b : ℕ) (s : Shape) (cs : List ℕ) → AreBetween 0 ss (length ts) → IsShapeAt ss b s → AreClasses (counts_in s) cs
     → get_or ts (s.start + cell_of (counts_in s) cs) 0 ≡ target_of (map (block_in ts) ss) b cs
 target_read ts ss b s cs h there are =
@@ -145,6 +149,7 @@ target_read ts ss b s cs h there are =
     let read : get_or (take (size_of s) (drop s.start ts)) k 0 ≡ get_or ts (s.start + k) 0 = get_or-take (size_of s) (drop s.start ts) k 0 low ∙ get_or-drop s.start ts k 0 in
     sym (ap (λ (x : Block). target_in x cs) p.block ∙ read)
 
+-- a target that is written there is the combination's, and no other is changed
 target_written : (ts : List ℕ) (ss : List Shape) (b : ℕ) (s : Shape) (cs : List ℕ) (v : ℕ) → AreBetween 0 ss (length ts) → IsShapeAt ss b s → AreClasses (counts_in s) cs
     → map (block_in (set ts (s.start + cell_of (counts_in s) cs) v)) ss ≡ with_target (map (block_in ts) ss) b cs v
 target_written ts ss b s cs v h there are =
@@ -204,6 +209,7 @@ pub record IsRow (ts : List ℕ) (bs : List Block) (b : ℕ) (s : Shape) (ns cs 
   pub within : row_start s ns cs + last_count ns cs ≤ length ts
   pub row : take (last_count ns cs) (drop (row_start s ns cs) ts) ≡ row_of (block_at bs b) cs
 
+-- block b has such a row
 pub row_found : (ts : List ℕ) (ss : List Shape) (bs : List Block) (b : ℕ) (s : Shape) (ns cs : List ℕ) → AreBetween 0 ss (length ts) → map (block_in ts) ss ≡ bs
     → b < length bs → s ≡ get_or ss b s → ns ≡ counts_in s → AreFirstClasses (counts_at bs b) cs → IsRow ts bs b s ns cs
 row_found ts ss bs b s ns cs h view low is counts_are are =

@@ -48,10 +48,11 @@ pub record IsNext (ns cs : List ℕ) (i n : ℕ) : Type 0 where
   pub few : n * get_or ns i 0 + get_or cs i 0 ≤ cell_of ns cs
   pub read : HasRead ns cs (i + 1) (n * get_or ns i 0 + get_or cs i 0)
 
+-- where the number starts
 pub none_read : (ns cs : List ℕ) → AreClasses ns cs → HasRead ns cs 0 0
 none_read ns cs h = record { rest = h; whole = omega arith }
 
--- one more class
+-- one more class, of lists that are split there
 next_of : (m c : ℕ) (ns cs : List ℕ) (n all : ℕ) → AreClasses (m ∷ ns) (c ∷ cs) → n * product (m ∷ ns) + cell_of (m ∷ ns) (c ∷ cs) ≡ all
     → (n * m + c ≤ all) × ((n * m + c) * product ns + cell_of ns cs ≡ all)
 next_of m c ns cs n all h e =
@@ -59,6 +60,7 @@ next_of m c ns cs n all h e =
     let some : 0 < product ns = omega (arith, cell_below ns cs h.1) in
     (omega (arith, le-mul_of_pos_right (n * m + c) some, whole), whole)
 
+-- one more class is read
 pub one_read : (ns cs : List ℕ) (i n : ℕ) → i < length cs → HasRead ns cs i n → IsNext ns cs i n
 one_read ns cs i n l h =
     let place : i < length ns = omega (arith, classes_count (drop i ns) (drop i cs) h.rest, length-drop i ns, length-drop i cs) in
