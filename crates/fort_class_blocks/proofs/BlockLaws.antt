@@ -112,6 +112,7 @@ pub record IsPlaced (ts : List ℕ) (ss : List Shape) (b : ℕ) (s : Shape) : Ty
   pub high : s.start + size_of s ≤ length ts
   pub block : block_at (map (block_in ts) ss) b ≡ block_in ts s
 
+-- each block of the list is placed
 pub placed : (ts : List ℕ) (ss : List Shape) (b : ℕ) (s : Shape) → AreBetween 0 ss (length ts) → IsShapeAt ss b s → IsPlaced ts ss b s
 placed ts ss b s h there = subst (λ (x : Shape). IsPlaced ts ss b x) (sym there.is) (by (get_or ss b s) refl)
   where

@@ -88,6 +88,7 @@ pub record IsBehind (ns cs : List ℕ) (c : ℕ) : Type 0 where
   pub count : product ns ≡ product (take (length cs) ns) * last_count ns cs
   pub cell : cell_of ns (cs ++ c ∷ []) ≡ cell_of (take (length cs) ns) cs * last_count ns cs + c
 
+-- it is so of all such classes
 pub behind : (ns cs : List ℕ) (c : ℕ) → AreFirstClasses ns cs → IsBehind ns cs c
 behind ns cs c h = by ns cs h.places
   where
