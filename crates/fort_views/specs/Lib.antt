@@ -2,3 +2,4 @@ pub mod Views
 pub mod SymbolViews
 pub mod PlaceNumbers
 pub mod ViewsStay
+pub mod Ranks

@@ -2,6 +2,7 @@
 use Rattle.std.specs.Prelude.{◌≡◌, ℕ, ◌+◌, ◌<◌, ◌≤◌, List, [], ◌∷◌, ◌++◌, map, length, get_or}
 use Rattle.fort_theory.specs.Signatures.{Signature}
 use Rattle.fort_tables.specs.Tuples.{TupleSymbol, IsTupleSymbol}
+use Rattle.fort_tables.specs.Labels.{first_word}
 use Rattle.fort_tuple_symbols.specs.Columns.{symbol_of}
 use Rattle.fort_entry_walk.specs.WalkPlaces.{wants}
 use Rattle.fort_views.specs.Views.{IsAsked, IsViewOf, view_states}
@@ -115,3 +116,10 @@ place_states labels newest wanted place = view_states labels (get_or wanted plac
 pub record IsRankedAt (labels : List (List ℕ)) (newest : ℕ) (wanted : List ℕ) (place rank : ℕ) : Type 0 where
   pub there : place < length wanted
   pub within : rank < length (place_states labels newest wanted place)
+
+-- a state up to the newest one that has the presence at a place
+pub record IsStateAt (labels : List (List ℕ)) (newest : ℕ) (wanted : List ℕ) (place state : ℕ) : Type 0 where
+  pub there : place < length wanted
+  pub within : state < length labels
+  pub taken : state ≤ newest
+  pub presence : get_or (map first_word labels) state 0 ≡ get_or wanted place 0

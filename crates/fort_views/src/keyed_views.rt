@@ -1,13 +1,15 @@
 //! Leaders by keys: the least states of each presence and key.
-ghost use Rattle.std.specs.Prelude.{◌≡◌, ℕ, ◌+◌, ◌^◌, ◌<◌, ◌≤◌, List, [], length, slice_index, slice_index_or, OnOk};
+ghost use Rattle.std.specs.Prelude.{◌≡◌, ℕ, ◌+◌, ◌^◌, ◌<◌, ◌≤◌, List, [], map, length, slice_index, slice_index_or, OnOk};
 ghost use Rattle.fort_theory.specs.Signatures as theory;
 ghost use Rattle.fort_tables.specs.Tuples.{TupleSymbol};
+ghost use Rattle.fort_tables.specs.Labels.{first_word};
 ghost use Rattle.fort_classes.specs.Keys.{leaders_by};
 ghost use Rattle.fort_tuple_symbols.specs.Columns.{symbol_of};
 ghost use Rattle.fort_label_keys.specs.ViewKeys.{keys_by};
 ghost use Rattle.fort_leading_walk.specs.Turns.{MayTurn};
 ghost use Rattle.fort_views.specs.Views.{IsClassOf};
-ghost use Rattle.fort_views.specs.SymbolViews.{AreViewsOf, IsTurnedTo, IsRankedAt, place_states, leaders_at};
+ghost use Rattle.fort_views.specs.SymbolViews.{AreViewsOf, IsTurnedTo, IsRankedAt, IsStateAt, place_states, leaders_at};
+ghost use Rattle.fort_views.specs.Ranks.{AreRanks};
 
 use crate::place_views::PlaceViews;
 use crate::views::Views;
@@ -108,6 +110,25 @@ impl<'a, K: LabelKeys> KeyedViews<'a, K> {
     {
         let numbers = self.places.numbers();
         self.views.class_of(numbers[place], rank)
+    }
+
+    /// The leader of a state at a place; `ranks` are those of all states.
+    pub fn leader_of(&self, place: usize, state: u32, ranks: &[u32]) -> u32
+        requires { (labels : List (List ℕ)) × (newest : ℕ) × (f : TupleSymbol) × (wanted : List ℕ)
+            × IsTurnedTo (K.view self.now.keys.now) (K.key self.now.keys.now) labels newest f wanted
+            self.now.views.views.items self.now.places
+            × IsStateAt labels newest wanted place state
+            × AreRanks (map first_word labels) ranks.now }
+        ensures { (labels : List (List ℕ)) (newest : ℕ) (f : TupleSymbol) (wanted : List ℕ)
+            → IsTurnedTo (K.view self.now.keys.now) (K.key self.now.keys.now) labels newest f wanted
+            self.now.views.views.items self.now.places
+            → IsStateAt labels newest wanted place state
+            → AreRanks (map first_word labels) ranks.now
+            → result ≡ leaders_by (keys_by (K.view self.now.keys.now) (K.key self.now.keys.now))
+            labels f place state }
+    {
+        let class = self.class_of(place, ranks[state as usize] as usize);
+        self.leaders(place)[class as usize]
     }
 }
 

@@ -4,8 +4,10 @@
 mod key_set;
 mod keyed_views;
 mod place_views;
+mod ranks;
 mod view;
 mod views;
 
 pub use keyed_views::KeyedViews;
+pub use ranks::ranks_of;
 pub use view::View;
