@@ -5,7 +5,7 @@ ghost use Rattle.fort_grammar.specs.ProblemForms.{BeginsOtherwise};
 ghost use Rattle.fort_ari.specs.Parts.{BeginsHeaded};
 ghost use Rattle.fort_ari.specs.Numbers.{BeginsAsFormat, IsNumberNamed};
 
-use crate::word::number_of;
+use crate::word::parse_number;
 use fort_sexpr::{Form, FormList, Forms};
 
 /// Whether there is a form of this number, and it is a list that begins with a word.
@@ -51,7 +51,7 @@ pub(crate) fn number_named(key: &Form, value: &Form, name: &[u8]) -> Option<u32>
     if !key.is_word(name) {
         return None;
     }
-    number_of(value.word()?)
+    parse_number(value.word()?)
 }
 
 /// Whether the forms of a list begin with `format TRS`.

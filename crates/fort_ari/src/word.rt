@@ -34,7 +34,7 @@ pub(crate) fn arity_of(word: &[u8]) -> Option<u8>
 }
 
 /// The number from 1 to 9 that a word is.
-pub(crate) fn number_of(word: &[u8]) -> Option<u32>
+pub(crate) fn parse_number(word: &[u8]) -> Option<u32>
     ensures some { IfSome result (λ n. IsNumber word.now n) }
     ensures none { IfNone result ((n : ℕ) → IsNumber word.now n → ⊥) }
 {

@@ -19,7 +19,7 @@ use crate::fault::CertificateFault;
 use crate::slot::{Head, head_of};
 use crate::value::{Wrong, count_in, entry_in, number_in, verdict_in, which_in};
 use crate::version::Version;
-use crate::word::number_of;
+use crate::word::parse_number;
 use fort_findings::{ClosureEntry, Count};
 use fort_sexpr::{Form, FormList, Forms};
 use fort_steps::Step;
@@ -61,7 +61,7 @@ fn split_number<'a>(list: &FormList<'a>) -> Result<Option<(u32, FormList<'a>)>, 
 {
     // nearly all that a certificate has are numbers, which are read in one go
     if let Some((digits, behind)) = list.split_digits() {
-        if let Some(number) = number_of(digits) {
+        if let Some(number) = parse_number(digits) {
             return Ok(Some((number, behind)));
         }
     }

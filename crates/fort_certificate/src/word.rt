@@ -7,7 +7,7 @@ ghost use Rattle.fort_sexpr.specs.FormView.{word_ahead, IsWritten};
 use fort_sexpr::{Digits, digits_ahead};
 
 /// The number that these digits are, with no zero in front of others.
-pub(crate) fn number_of(digits: Digits<'_>) -> Option<u32>
+pub(crate) fn parse_number(digits: Digits<'_>) -> Option<u32>
     requires { IsWritten digits }
     ensures some { IfSome result (λ n. IsNumberWord digits.entry.text.now n) }
     ensures none { IfNone result (IsNoNumber digits.entry.text.now) }
@@ -27,5 +27,5 @@ pub(crate) fn number_ahead(bytes: &[u8]) -> Option<u32>
     ensures some { IfSome result (λ n. IsNumberWord (word_ahead bytes.now) n) }
     ensures none { IfNone result (IsNoNumber (word_ahead bytes.now)) }
 {
-    number_of(digits_ahead(bytes)?)
+    parse_number(digits_ahead(bytes)?)
 }

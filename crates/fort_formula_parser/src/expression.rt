@@ -11,7 +11,7 @@ ghost use Rattle.fort_formula_parser.specs.Parsing.{rest_of, IsTokenAt, IsStuckA
 ghost use Rattle.fort_formula_parser.specs.ExpressionParsing.{as_one, as_two, IsRexMade, IsExpressionAt, IsEnclosedAt};
 
 use crate::cursor::{Indexed, Mark, index_at, is_next, variable_at};
-use crate::expression_word::{Head, OneOperand, TwoOperands, head_of, holes_of, place_of};
+use crate::expression_word::{Head, OneOperand, TwoOperands, head_of, holes_of, parse_place};
 use crate::stuck::Stuck;
 use crate::token::Lexeme;
 use fort_relations::{Holes, Place, Rex, RexArm};
@@ -171,7 +171,7 @@ fn place_at(lexemes: &[Lexeme], at: usize) -> Option<Place>
         (λ p. IsTokenAt lexemes.now at (grammar.Variable (place_word (as_hole_place p)))) }
 {
     let word = variable_at(lexemes, at)?;
-    place_of(word)
+    parse_place(word)
 }
 
 /// `<< e , n , p >>`, at whose first token it is.

@@ -58,7 +58,7 @@ pub(crate) fn holes_of(word: &[u8]) -> Option<Holes>
 }
 
 /// Where this word says that the holes are, if anywhere.
-pub(crate) fn place_of(word: &[u8]) -> Option<Place>
+pub(crate) fn parse_place(word: &[u8]) -> Option<Place>
     ensures { MatchOption result (Contains place_words word.now → ⊥)
         (λ place. word.now ≡ place_word (as_hole_place place)) }
 {

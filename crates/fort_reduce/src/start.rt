@@ -20,7 +20,7 @@ fn are_like(table: &Dta, p: u32, q: u32) -> bool
 }
 
 /// The first leader that is like the state; as many as leaders where there is none.
-fn place_of(table: &Dta, leaders: &[u32], q: u32) -> usize
+fn place_among(table: &Dta, leaders: &[u32], q: u32) -> usize
     requires state { q < length table.now.presences }
     requires leaders { (c : ℕ) → c < length leaders.now
         → slice_index_or leaders.now c 0 < length table.now.presences }
@@ -45,7 +45,7 @@ pub fn start(alloc: Global, table: &Dta) -> Result<Classes, AllocError>
     let mut of = Vec::new(alloc);
     let mut leaders = Vec::new(alloc);
     for q in 0..table.states() {
-        let place = place_of(table, leaders.as_slice(), q);
+        let place = place_among(table, leaders.as_slice(), q);
         if place == leaders.len() {
             leaders.push(q)?;
         }

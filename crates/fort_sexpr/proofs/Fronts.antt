@@ -5,7 +5,7 @@ use Rattle.std.proofs.lemmas.Bool.{true≢false, eq-eqb, ne_eqb, cases_lt}
 use Rattle.std.proofs.lemmas.List.{get_or_append_left, take-append-le}
 use Rattle.fort_theory.specs.Signatures.{is_word_byte}
 use Rattle.fort_grammar.specs.Text.{is_blank, IsFaultlessBelow}
-use Rattle.fort_sexpr.specs.declared.arena.Node.{Node}
+use Rattle.fort_sexpr.specs.declared.arena.FormNode.{FormNode}
 use Rattle.fort_sexpr.specs.declared.arena.ListNode.{ListNode}
 use Rattle.fort_sexpr.specs.declared.fault.SFault.{SFault}
 use Rattle.fort_sexpr.specs.declared.fault.SFault.TheVariants as faults
@@ -119,7 +119,7 @@ module _ (bytes : List ℕ) where
       ended = λ h. absurd (omega arith);
     }
 
-  module _ (os : List Node) (lists : List ListNode) (count : ℕ) (i : ℕ) (r : (more : List ℕ) → IsReading (bytes ++ more) os lists count i) where
+  module _ (os : List FormNode) (lists : List ListNode) (count : ℕ) (i : ℕ) (r : (more : List ℕ) → IsReading (bytes ++ more) os lists count i) where
     pub front_few : length lists ≤ i
     front_few = reading_few (bytes ++ []) os lists count i (r [])
 

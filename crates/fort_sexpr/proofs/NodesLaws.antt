@@ -13,7 +13,7 @@ use Rattle.fort_sexpr.specs.FormView.{is_list, span_of, form_count, form_at, wor
 use Rattle.fort_sexpr.specs.Progress.{comment_before, IsNextToken}
 use Rattle.fort_sexpr.specs.Found.{word_end, run_from, form_made, form_from, IsListAt, StandsIn}
 use Rattle.fort_sexpr.specs.Nodes.{opens_before, list_at, AreListed, nodes_of, Stands, forms_on, StandOn}
-use Rattle.fort_sexpr.specs.declared.arena.Node.{Node}
+use Rattle.fort_sexpr.specs.declared.arena.FormNode.{FormNode}
 use Rattle.fort_sexpr.specs.declared.arena.ListNode.{ListNode}
 use Rattle.fort_sexpr.proofs.Depths.{count_before-yes, count_before-no}
 use Rattle.fort_sexpr.proofs.FormLists.{node_counts-AreForms}
@@ -276,7 +276,7 @@ module _ (bytes : List ℕ) where
       omega (arith, a.number, opens_apart from (length bytes) h.within h.opens)
 
   -- the entry that a node's number leads to
-  pub has_entry : (lists : List ListNode) (n : Node) (l : ListNode) → AreListed bytes lists → Stands bytes n
+  pub has_entry : (lists : List ListNode) (n : FormNode) (l : ListNode) → AreListed bytes lists → Stands bytes n
       → is_list (form_from bytes n.from) ≡ true → l ≡ get_or lists n.list l → HasList n.from l
   has_entry lists n l a s is found =
       let inside = list_within lists n.from a s.form is in
@@ -289,11 +289,11 @@ module _ (bytes : List ℕ) where
   length-nodes_of NoForm = refl
   length-nodes_of (MoreForms f fs) = ap suc (length-nodes_of fs)
 
-  pub record IsNodeAt (fs : Forms) (k : ℕ) (n : Node) : Type 0 where
+  pub record IsNodeAt (fs : Forms) (k : ℕ) (n : FormNode) : Type 0 where
     pub form : form_at fs k ≡ Some (form_from bytes n.from)
     pub stands : Stands bytes n
 
-  pub node_at : (fs : Forms) (i j k : ℕ) (n : Node) → AreForms bytes i j fs → k < form_count fs → n ≡ get_or (nodes_of bytes fs) k n
+  pub node_at : (fs : Forms) (i j k : ℕ) (n : FormNode) → AreForms bytes i j fs → k < form_count fs → n ≡ get_or (nodes_of bytes fs) k n
       → IsNodeAt fs k n
   node_at fs i j k n d l is = by fs k (λ f. each_stands bytes k f d) l is
     where
@@ -302,13 +302,13 @@ module _ (bytes : List ℕ) where
       by NoForm m s l is = absurd (omega arith)
       by (MoreForms f gs) zero s l is =
           let stands = s f refl in
-          let from : n.from ≡ (span_of f).from = ap (λ (x : Node). x.from) is in
+          let from : n.from ≡ (span_of f).from = ap (λ (x : FormNode). x.from) is in
           let same : f ≡ form_from bytes n.from = form_from_is bytes f stands ∙ ap (form_from bytes) (sym from) in
           record {
             form = ap Some same;
             stands = record {
               form = subst (StandsIn bytes) same stands;
-              number = ap (λ (x : Node). x.list) is ∙ ap (opens_before bytes) (sym from);
+              number = ap (λ (x : FormNode). x.list) is ∙ ap (opens_before bytes) (sym from);
             };
           }
       by (MoreForms f gs) (suc m) s l is =

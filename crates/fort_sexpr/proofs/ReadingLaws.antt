@@ -8,7 +8,7 @@ use Rattle.fort_grammar.specs.Forms.{Form, Forms, NoForm, MoreForms, Word, ListF
 use Rattle.fort_grammar.proofs.Bytes.{IsPlain-from_word_byte, stands_at-from, stands_at-other}
 use Rattle.fort_sexpr.specs.FormView.{form_count}
 use Rattle.fort_sexpr.specs.Found.{run_from}
-use Rattle.fort_sexpr.specs.declared.arena.Node.{Node}
+use Rattle.fort_sexpr.specs.declared.arena.FormNode.{FormNode}
 use Rattle.fort_sexpr.specs.declared.arena.ListNode.{ListNode}
 use Rattle.fort_sexpr.specs.declared.token.Token.{Token}
 use Rattle.fort_sexpr.specs.declared.token.Token.TheVariants as tokens
@@ -28,14 +28,14 @@ nowhere = record { to = 0; count = 0; behind = 0 }
 
 module _ (bytes : List ℕ) where
   -- as many lists are open as there are levels
-  pub length-levels : (lists : List ListNode) (count : ℕ) (limit : ℕ) (os : List Node) (ls : List Level) (fs : Forms)
+  pub length-levels : (lists : List ListNode) (count : ℕ) (limit : ℕ) (os : List FormNode) (ls : List Level) (fs : Forms)
       → AreOpen bytes lists count limit os ls fs → length ls ≡ length os
   length-levels lists count limit [] [] fs h = refl
   length-levels lists count limit [] (l ∷ ls) fs h = absurd h
   length-levels lists count limit (o ∷ os) [] fs h = absurd h
   length-levels lists count limit (o ∷ os) (l ∷ ls) fs h = ap suc (length-levels lists count o.list os ls l.before h.4)
 
-  open_limit : (lists : List ListNode) (count : ℕ) (limit more : ℕ) (os : List Node) (ls : List Level) (fs : Forms) → limit ≤ more
+  open_limit : (lists : List ListNode) (count : ℕ) (limit more : ℕ) (os : List FormNode) (ls : List Level) (fs : Forms) → limit ≤ more
       → AreOpen bytes lists count limit os ls fs → AreOpen bytes lists count more os ls fs
   open_limit lists count limit more [] [] fs l h = h
   open_limit lists count limit more [] (x ∷ ls) fs l h = h
@@ -43,7 +43,7 @@ module _ (bytes : List ℕ) where
   open_limit lists count limit more (o ∷ os) (x ∷ ls) fs l h = (h.0, h.1, omega (arith, h.2), h.3, h.4)
 
   -- what becomes of other entries of the table is nothing to them
-  open_kept : (lists ds : List ListNode) (count : ℕ) (limit : ℕ) (os : List Node) (ls : List Level) (fs : Forms)
+  open_kept : (lists ds : List ListNode) (count : ℕ) (limit : ℕ) (os : List FormNode) (ls : List Level) (fs : Forms)
       → ((k : ℕ) → k < limit → list_at ds k ≡ list_at lists k)
       → AreOpen bytes lists count limit os ls fs → AreOpen bytes ds count limit os ls fs
   open_kept lists ds count limit [] [] fs e h = h
@@ -61,7 +61,7 @@ module _ (bytes : List ℕ) where
   set_below lists i n limit l k m = get_or-set_other lists i k n nowhere (λ e. absurd (omega arith))
 
   -- one more form of the innermost list
-  open_added : (lists : List ListNode) (count : ℕ) (limit : ℕ) (os : List Node) (ls : List Level) (fs : Forms) (f : Form)
+  open_added : (lists : List ListNode) (count : ℕ) (limit : ℕ) (os : List FormNode) (ls : List Level) (fs : Forms) (f : Form)
       → limit ≤ length lists → AreOpen bytes lists count limit os ls fs
       → AreOpen bytes (lists_with os lists) (count_with os count) limit os ls (joined fs (MoreForms f NoForm))
   open_added lists count limit [] [] fs f l h = ap (λ n. n + 1) h ∙ sym (form_count-joined fs f)
@@ -91,7 +91,7 @@ module _ (bytes : List ℕ) where
       ]
 
   -- the entry of an open list may change
-  set_apart : (lists : List ListNode) (n : ListNode) (o : Node) (from : ℕ) → o.list ≡ opens_before bytes o.from → stands_at 40 bytes o.from ≡ true
+  set_apart : (lists : List ListNode) (n : ListNode) (o : FormNode) (from : ℕ) → o.list ≡ opens_before bytes o.from → stands_at 40 bytes o.from ≡ true
       → stands_at 40 bytes from ≡ true → (o.from ≡ from → ⊥) → IsListed bytes lists from → IsListed bytes (set lists o.list n) from
   set_apart lists n o from number opens h apart listed =
       listed_kept lists (set lists o.list n) from
@@ -99,10 +99,10 @@ module _ (bytes : List ℕ) where
       (λ e. numbers_apart o.from from opens h apart (sym number ∙ sym e)))
       listed
 
-  opens_at : (o : Node) (from : ℕ) → o.from ≡ from → stands_at 40 bytes from ≡ true → stands_at 40 bytes o.from ≡ true
+  opens_at : (o : FormNode) (from : ℕ) → o.from ≡ from → stands_at 40 bytes from ≡ true → stands_at 40 bytes o.from ≡ true
   opens_at o from e h = ap (stands_at 40 bytes) e ∙ h
 
-  each_added : (lists : List ListNode) (count : ℕ) (limit i : ℕ) (os : List Node) (ls : List Level) (fs : Forms) (from : ℕ)
+  each_added : (lists : List ListNode) (count : ℕ) (limit i : ℕ) (os : List FormNode) (ls : List Level) (fs : Forms) (from : ℕ)
       → AreOpen bytes lists count limit os ls fs → StandUpTo bytes ls fs i → stands_at 40 bytes from ≡ true
       → IsOpenAt os from ⊎ IsListed bytes lists from → IsOpenAt os from ⊎ IsListed bytes (lists_with os lists) from
   each_added lists count limit i [] ls fs from h s a (inl b) = inl b
@@ -116,12 +116,12 @@ module _ (bytes : List ℕ) where
             (opens_at o l.from h.0 s.1.opens) a n b)
       ]
 
-  pub length-lists_with : (os : List Node) (lists : List ListNode) → length (lists_with os lists) ≡ length lists
+  pub length-lists_with : (os : List FormNode) (lists : List ListNode) → length (lists_with os lists) ≡ length lists
   length-lists_with [] lists = refl
   length-lists_with (o ∷ os) lists = length-set lists o.list (one_more (list_at lists o.list))
 
   -- the count of an open list is far below what its type holds
-  pub counts_more : (lists : List ListNode) (count : ℕ) (limit i : ℕ) (os : List Node) (ls : List Level) (fs : Forms)
+  pub counts_more : (lists : List ListNode) (count : ℕ) (limit i : ℕ) (os : List FormNode) (ls : List Level) (fs : Forms)
       → AreOpen bytes lists count limit os ls fs → StandUpTo bytes ls fs i → i + 1 < 2 ^ 32 → limit ≤ length lists → CountsMore os lists count
   counts_more lists count limit i [] [] fs h s few l = omega (arith, h, node_counts-AreForms s, form_count-least fs)
   counts_more lists count limit i [] (x ∷ ls) fs h s few l = absurd h
@@ -139,13 +139,13 @@ module _ (bytes : List ℕ) where
     each = λ from l h. absurd (omega arith);
   }
 
-  pub reading_begun : (os : List Node) (lists : List ListNode) → os ≡ [] → lists ≡ [] → IsReading bytes (reverse os) lists 0 0
+  pub reading_begun : (os : List FormNode) (lists : List ListNode) → os ≡ [] → lists ≡ [] → IsReading bytes (reverse os) lists 0 0
   reading_begun os lists o l =
       subst (λ xs. IsReading bytes (reverse xs) lists 0 0) (sym o)
       (subst (λ xs. IsReading bytes [] xs 0 0) (sym l) reading_nothing)
 
   -- up to an offset behind which no list opens before the next one
-  each_on : (os : List Node) (lists : List ListNode) (i j : ℕ) → ((k : ℕ) → i ≤ k → k < j → stands_at 40 bytes k ≡ false)
+  each_on : (os : List FormNode) (lists : List ListNode) (i j : ℕ) → ((k : ℕ) → i ≤ k → k < j → stands_at 40 bytes k ≡ false)
       → ((from : ℕ) → from < i → stands_at 40 bytes from ≡ true → IsOpenAt os from ⊎ IsListed bytes lists from)
       → (from : ℕ) → from < j → stands_at 40 bytes from ≡ true → IsOpenAt os from ⊎ IsListed bytes lists from
   each_on os lists i j none each from l h =
@@ -154,7 +154,7 @@ module _ (bytes : List ℕ) where
         | inr ge ↦ absurd (true≢false (sym h ∙ none from ge l))
       ]
 
-  module _ (os : List Node) (lists : List ListNode) (count : ℕ) where
+  module _ (os : List FormNode) (lists : List ListNode) (count : ℕ) where
     -- over what is no form
     reading_on : (i j : ℕ) (r : IsReading bytes os lists count i) → i ≤ j → ((k : ℕ) → i ≤ k → k < j → stands_at 40 bytes k ≡ false)
         → IsReadUpTo bytes r.levels r.forms j → IsReading bytes os lists count j
@@ -205,7 +205,7 @@ module _ (bytes : List ℕ) where
         reading_added i j r.levels r.forms (Word i j) r.open_lists r.read.stand
         (read_word bytes r.levels r.forms i j r.read l w e) number (each_on os lists i j none r.each)
 
-    pub reading_open : (i : ℕ) (o : Node) (n : ListNode) → IsReading bytes os lists count i → i < length bytes → get_or bytes i 0 ≡ 40
+    pub reading_open : (i : ℕ) (o : FormNode) (n : ListNode) → IsReading bytes os lists count i → i < length bytes → get_or bytes i 0 ≡ 40
         → length os < deepest → o ≡ record { from = i; list = length lists } → n ≡ record { to = 0; count = 0; behind = 0 }
         → IsReading bytes (o ∷ os) (lists ++ n ∷ []) count (i + 1)
     reading_open i o n r l h few is zeros =
@@ -214,8 +214,8 @@ module _ (bytes : List ℕ) where
         let opens = stands_at-from 40 bytes i h outside in
         let more = count_before-yes 40 bytes i opens in
         let longer = length_push lists n in
-        let from : o.from ≡ i = ap (λ (x : Node). x.from) is in
-        let number : o.list ≡ length lists = ap (λ (x : Node). x.list) is in
+        let from : o.from ≡ i = ap (λ (x : FormNode). x.from) is in
+        let number : o.list ≡ length lists = ap (λ (x : FormNode). x.list) is in
         let none : (list_at ds o.list).count ≡ 0 = ap (λ (x : ListNode). x.count) (get_or_push lists n nowhere o.list (sym number) ∙ zeros) in
         let kept = λ (k : ℕ) (m : k < length lists). get_or_append_left lists (n ∷ []) nowhere k m in
         record {
@@ -242,7 +242,7 @@ module _ (bytes : List ℕ) where
         }
 
     -- the list that opens at the offset of the innermost level is closed
-    closed_here : (i : ℕ) (o : Node) (n : ListNode) (l : Level) (fs : Forms) → AreForms bytes (suc l.from) i fs → stands_at 41 bytes i ≡ true
+    closed_here : (i : ℕ) (o : FormNode) (n : ListNode) (l : Level) (fs : Forms) → AreForms bytes (suc l.from) i fs → stands_at 41 bytes i ≡ true
         → o.list ≡ opens_before bytes l.from → o.list < length lists
         → n ≡ record { to = i + 1; count = (list_at lists o.list).count; behind = length lists }
         → (list_at lists o.list).count ≡ form_count fs → length lists ≡ opens_before bytes (i + 1) → IsListed bytes (set lists o.list n) l.from
@@ -262,7 +262,7 @@ module _ (bytes : List ℕ) where
         }
 
     -- what a reader has whose innermost list ends here
-    pub record IsClosing (i : ℕ) (o : Node) (ds : List ListNode) : Type 0 where
+    pub record IsClosing (i : ℕ) (o : FormNode) (ds : List ListNode) : Type 0 where
       pub levels : List Level
       pub before : Forms
       pub form : Form
@@ -274,7 +274,7 @@ module _ (bytes : List ℕ) where
       pub number : length ds ≡ opens_before bytes (i + 1)
       pub each : (from : ℕ) → from < i + 1 → stands_at 40 bytes from ≡ true → IsOpenAt os from ⊎ IsListed bytes ds from
 
-    pub reading_closes : (i : ℕ) (o : Node) (n : ListNode) → IsReading bytes (o ∷ os) lists count i → i < length bytes → get_or bytes i 0 ≡ 41
+    pub reading_closes : (i : ℕ) (o : FormNode) (n : ListNode) → IsReading bytes (o ∷ os) lists count i → i < length bytes → get_or bytes i 0 ≡ 41
         → n ≡ record { to = i + 1; count = (list_at lists o.list).count; behind = length lists } → IsClosing i o (set lists o.list n)
     reading_closes i o n r l h is = by r.levels r.read r.open_lists
       where
@@ -316,7 +316,7 @@ module _ (bytes : List ℕ) where
                   ]);
             }
 
-  module _ (os : List Node) (lists ds : List ListNode) (count : ℕ) (i : ℕ) (o : Node) where
+  module _ (os : List FormNode) (lists ds : List ListNode) (count : ℕ) (i : ℕ) (o : FormNode) where
     pub reading_close : IsClosing os lists count i o ds → IsReading bytes os (lists_with os ds) (count_with os count) (i + 1)
     reading_close h =
         reading_added os ds count h.begins.from (i + 1) h.levels h.before h.form h.open_lists h.stand h.read h.number h.each
@@ -354,7 +354,7 @@ module _ (bytes : List ℕ) where
           }
 
   -- or in the innermost list that is open there
-  pub reading_unclosed : (o : Node) (os : List Node) (lists : List ListNode) (count : ℕ)
+  pub reading_unclosed : (o : FormNode) (os : List FormNode) (lists : List ListNode) (count : ℕ)
       → IsReading bytes (o ∷ os) lists count (length bytes) → IsFirstFault bytes (Unclosed o.from)
   reading_unclosed o os lists count r = by r.levels r.read r.open_lists
     where
@@ -363,20 +363,20 @@ module _ (bytes : List ℕ) where
       by [] read a = absurd a
       by (x ∷ ls) read a = subst (λ k. IsFirstFault bytes (Unclosed k)) (sym a.0) (Unclosed-read bytes x ls r.forms read)
 
-  pub reading_levels : (os : List Node) (lists : List ListNode) (count : ℕ) (i : ℕ) (r : IsReading bytes os lists count i)
+  pub reading_levels : (os : List FormNode) (lists : List ListNode) (count : ℕ) (i : ℕ) (r : IsReading bytes os lists count i)
       → length r.levels ≡ length os
   reading_levels os lists count i r = length-levels lists count (length lists) os r.levels r.forms r.open_lists
 
-  pub reading_few : (os : List Node) (lists : List ListNode) (count : ℕ) (i : ℕ) → IsReading bytes os lists count i → length lists ≤ i
+  pub reading_few : (os : List FormNode) (lists : List ListNode) (count : ℕ) (i : ℕ) → IsReading bytes os lists count i → length lists ≤ i
   reading_few os lists count i r = omega (arith, r.number, opens_within bytes i)
 
-  pub reading_counts : (os : List Node) (lists : List ListNode) (count : ℕ) (i : ℕ) → IsReading bytes os lists count i → i + 1 < 2 ^ 32
+  pub reading_counts : (os : List FormNode) (lists : List ListNode) (count : ℕ) (i : ℕ) → IsReading bytes os lists count i → i + 1 < 2 ^ 32
       → CountsMore os lists count
   reading_counts os lists count i r few =
       counts_more lists count (length lists) i os r.levels r.forms r.open_lists r.read.stand few (omega arith)
 
   -- the innermost list as the table has it
-  pub reading_within : (o : Node) (os : List Node) (lists : List ListNode) (count : ℕ) (i : ℕ) → IsReading bytes (o ∷ os) lists count i
+  pub reading_within : (o : FormNode) (os : List FormNode) (lists : List ListNode) (count : ℕ) (i : ℕ) → IsReading bytes (o ∷ os) lists count i
       → o.list < length lists
   reading_within o os lists count i r = by r.levels r.open_lists
     where
@@ -384,7 +384,7 @@ module _ (bytes : List ℕ) where
       by [] a = absurd a
       by (x ∷ ls) a = a.2
 
-  pub reading_ends : (o : Node) (os : List Node) (lists : List ListNode) (count : ℕ) (i behind : ℕ) (n : ListNode)
+  pub reading_ends : (o : FormNode) (os : List FormNode) (lists : List ListNode) (count : ℕ) (i behind : ℕ) (n : ListNode)
       → IsReading bytes (o ∷ os) lists count i → i < length bytes → get_or bytes i 0 ≡ 41 → n ≡ get_or lists o.list n → behind ≡ length lists
       → IsClosing os lists count i o (set lists o.list (record { to = i + 1; count = n.count; behind = behind }))
   reading_ends o os lists count i behind n r l h is last =
@@ -393,7 +393,7 @@ module _ (bytes : List ℕ) where
       reading_closes os lists count i o _ r l h (ap (λ (x : ListNode). made x.count behind) same ∙ ap (made (list_at lists o.list).count) last)
 
   -- where one of these begins nothing is at fault
-  pub faultless_token : (os : List Node) (lists : List ListNode) (count : ℕ) (i : ℕ) → IsReading bytes os lists count i → i < length bytes
+  pub faultless_token : (os : List FormNode) (lists : List ListNode) (count : ℕ) (i : ℕ) → IsReading bytes os lists count i → i < length bytes
       → (token : Token) → IsToken (get_or bytes i 0) (length os) token → IsFaultlessBelow bytes (i + 1)
   faultless_token os lists count i r l tokens.Blank h = (read_blank bytes _ _ i r.read l h).faultless
   faultless_token os lists count i r l tokens.Comment h = faultless_mark bytes _ _ i r.read l h

@@ -5,14 +5,14 @@ use Rattle.fort_sexpr.specs.FormView.{span_of, form_count}
 use Rattle.fort_sexpr.specs.Found.{run_from, form_from, StandsIn}
 use Rattle.fort_sexpr.specs.Progress.{comment_before, IsNextToken}
 use Rattle.fort_sexpr.specs.Nodes.{opens_before, nodes_of, node_of, text_forms, Stands}
-use Rattle.fort_sexpr.specs.declared.arena.Node.{Node}
+use Rattle.fort_sexpr.specs.declared.arena.FormNode.{FormNode}
 use Rattle.fort_sexpr.proofs.FormLists.{node_counts-AreForms}
 use Rattle.fort_sexpr.proofs.FoundLaws.{found, form_from_is}
 use Rattle.fort_sexpr.proofs.NodesLaws.{first_form, outside_behind, opens_between, skipped_opens}
 
 module _ (bytes : List ℕ) where
   -- these nodes are the first ones of the text's forms; from the offset on stand so many more, and so many lists open before it
-  pub record AreTop (top : List Node) (at list left : ℕ) : Type 0 where
+  pub record AreTop (top : List FormNode) (at list left : ℕ) : Type 0 where
     pub nodes : nodes_of bytes (text_forms bytes) ≡ top ++ nodes_of bytes (run_from bytes at).0
     pub forms : AreForms bytes at (length bytes) (run_from bytes at).0
     pub many : left ≡ form_count (run_from bytes at).0
@@ -22,12 +22,12 @@ module _ (bytes : List ℕ) where
   pub top_begun : (count : ℕ) → AreFormsOf bytes (text_forms bytes) → count ≡ form_count (text_forms bytes) → AreTop [] 0 0 count
   top_begun count are e = record { nodes = refl; forms = are.stand; many = e; outside = refl; number = refl }
 
-  pub record IsTopStep (top : List Node) (p list left : ℕ) : Type 0 where
+  pub record IsTopStep (top : List FormNode) (p list left : ℕ) : Type 0 where
     pub first : Stands bytes (record { from = p; list = list })
     pub rest : AreTop (top ++ record { from = p; list = list } ∷ []) (span_of (form_from bytes p)).to
         (opens_before bytes (span_of (form_from bytes p)).to) (left - 1)
 
-  pub top_step : (top : List Node) (at list left p : ℕ) → AreTop top at list left → 0 < left → IsNextToken bytes at p → IsTopStep top p list left
+  pub top_step : (top : List FormNode) (at list left p : ℕ) → AreTop top at list left → 0 < left → IsNextToken bytes at p → IsTopStep top p list left
   top_step top at list left p t some token = by (run_from bytes at).0 refl
     where
       by : (fs : Forms) → (run_from bytes at).0 ≡ fs → IsTopStep top p list left
@@ -58,15 +58,15 @@ module _ (bytes : List ℕ) where
           }
         where
           node_is : (g : Form) → (span_of g).from ≡ p → list ≡ opens_before bytes p → node_of bytes g ≡ record { from = p; list = list }
-          node_is g b n = let made : ℕ → ℕ → Node = λ i k. record { from = i; list = k } in
+          node_is g b n = let made : ℕ → ℕ → FormNode = λ i k. record { from = i; list = k } in
               ap (λ i. made i (opens_before bytes i)) b ∙ ap (made p) (sym n)
 
-  pub top_ended : (top : List Node) (at list left : ℕ) → AreTop top at list left → left ≡ 0 → top ≡ nodes_of bytes (text_forms bytes)
+  pub top_ended : (top : List FormNode) (at list left : ℕ) → AreTop top at list left → left ≡ 0 → top ≡ nodes_of bytes (text_forms bytes)
   top_ended top at list left t none = sym (t.nodes ∙ by (run_from bytes at).0 (sym none ∙ t.many))
     where
       by : (fs : Forms) → 0 ≡ form_count fs → top ++ nodes_of bytes fs ≡ top
       by NoForm e = append-nil top
       by (MoreForms f fs) e = absurd (omega arith)
 
-  pub top_within : (top : List Node) (at list left : ℕ) → AreTop top at list left → at ≤ length bytes
+  pub top_within : (top : List FormNode) (at list left : ℕ) → AreTop top at list left → at ≤ length bytes
   top_within top at list left t = omega (arith, node_counts-AreForms t.forms)

@@ -6,7 +6,7 @@ use Rattle.fort_grammar.specs.Declarations.{as_list}
 use Rattle.fort_sexpr.specs.FormView.{span_of, form_count}
 use Rattle.fort_sexpr.specs.Progress.{comment_before}
 use Rattle.fort_sexpr.specs.Found.{run_from, form_from, IsListAt, StandsIn, IsRest}
-use Rattle.fort_sexpr.specs.declared.arena.Node.{Node}
+use Rattle.fort_sexpr.specs.declared.arena.FormNode.{FormNode}
 use Rattle.fort_sexpr.specs.declared.arena.ListNode.{ListNode}
 
 -- how many lists open before the offset
@@ -35,15 +35,15 @@ pub record AreListed (bytes : List ℕ) (lists : List ListNode) : Type 0 where
   pub each : (from : ℕ) → stands_at 40 bytes from ≡ true → IsListed bytes lists from
 
 -- the node of a form in this text
-abbrev pub node_of : List ℕ → Form → Node
+abbrev pub node_of : List ℕ → Form → FormNode
 node_of bytes f = record { from = (span_of f).from; list = opens_before bytes (span_of f).from }
 
-abbrev pub nodes_of : List ℕ → Forms → List Node
+abbrev pub nodes_of : List ℕ → Forms → List FormNode
 nodes_of bytes NoForm = []
 nodes_of bytes (MoreForms f fs) = node_of bytes f ∷ nodes_of bytes fs
 
 -- a form of the text begins at the node, and so many lists open before it
-pub record Stands (bytes : List ℕ) (n : Node) : Type 0 where
+pub record Stands (bytes : List ℕ) (n : FormNode) : Type 0 where
   pub form : StandsIn bytes (form_from bytes n.from)
   pub number : n.list ≡ opens_before bytes n.from
 
@@ -61,6 +61,6 @@ abbrev pub text_forms : List ℕ → Forms
 text_forms bytes = (run_from bytes 0).0
 
 -- these nodes are the forms of the text
-pub record AreTextForms (bytes : List ℕ) (top : List Node) : Type 0 where
+pub record AreTextForms (bytes : List ℕ) (top : List FormNode) : Type 0 where
   pub forms : AreFormsOf bytes (text_forms bytes)
   pub nodes : top ≡ nodes_of bytes (text_forms bytes)

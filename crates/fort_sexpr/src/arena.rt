@@ -6,7 +6,7 @@ ghost use Rattle.fort_sexpr.specs.Nodes.{AreListed};
 /// It is a list where a parenthesis stands at its beginning, and the number is then its own. A word
 /// ends where its bytes do.
 #[derive(Clone, Copy)]
-pub(crate) struct Node {
+pub(crate) struct FormNode {
     pub from: u32,
     pub list: u32,
 }

@@ -5,7 +5,7 @@ ghost use Rattle.fort_grammar.specs.Declarations.{word_of, elements_of, IsHeaded
 ghost use Rattle.fort_sexpr.specs.FormView.{is_list, span_of, word_ahead, IsFirstWord, IsDigitWord, IsWritten};
 ghost use Rattle.fort_sexpr.specs.Nodes.{opens_before};
 
-use crate::arena::{Arena, Node};
+use crate::arena::{Arena, FormNode};
 use crate::digits::{Digits, digits_ahead};
 use crate::scan::{end_of_word, is_ahead, next_token};
 use std::marker::Model;
@@ -21,7 +21,7 @@ pub struct Span {
 #[derive(Drop)]
 pub struct Form<'a> {
     pub(crate) arena: &'a Arena,
-    pub(crate) node: Node,
+    pub(crate) node: FormNode,
 }
 
 impl<'a> Model for Form<'a> {
@@ -98,7 +98,7 @@ impl<'a> FormList<'a> {
         let from = next_token(arena.bytes.as_slice(), self.at as usize);
         let form = Form {
             arena,
-            node: Node {
+            node: FormNode {
                 from: from as u32,
                 list: self.list,
             },

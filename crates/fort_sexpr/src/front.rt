@@ -13,7 +13,7 @@ use crate::ahead::{Tally, look_over};
 use crate::fault::SFault;
 use crate::text::Forms;
 use crate::token::DEEPEST;
-use crate::walk::Walk;
+use crate::walk::TextWalk;
 use std::alloc::{AllocError, Global};
 
 /// The most bytes of a piece that isn't looked over before it is taken.
@@ -23,7 +23,7 @@ const SHORT: usize = 4_096;
 #[derive(Drop)]
 pub(crate) struct Front {
     pub bytes: Vec<u8>,
-    pub walk: Walk,
+    pub walk: TextWalk,
     /// What begins here goes on at the end of the bytes.
     pub at: usize,
 }
@@ -36,7 +36,7 @@ impl Front {
     {
         Front {
             bytes: Vec::new(alloc),
-            walk: Walk::new(alloc),
+            walk: TextWalk::new(alloc),
             at: 0,
         }
     }

@@ -8,7 +8,7 @@ ghost use Rattle.fort_sexpr.specs.Faults.{IsFirstFaultUnlessMemory, IsFaultOfFro
 use crate::fault::SFault;
 use crate::front::Front;
 use crate::text::Forms;
-use crate::walk::Walk;
+use crate::walk::TextWalk;
 use std::alloc::Global;
 use std::marker::Model;
 
@@ -20,7 +20,7 @@ pub fn read(alloc: Global, bytes: Vec<u8>) -> Result<Forms, SFault>
     ensures fault { IfErr result (λ fault. IsFirstFaultUnlessMemory bytes.items fault) }
     ensures memory { IsErrOf result Memory → IsFaultlessSoFar bytes.items }
 {
-    let mut walk = Walk::new(alloc);
+    let mut walk = TextWalk::new(alloc);
     let at = walk.go_on(bytes.as_slice(), 0, 0)?;
     walk.finish(alloc, bytes, at)
 }

@@ -4,7 +4,7 @@ ghost use Rattle.fort_grammar.specs.Forms.{AreFormsOf};
 ghost use Rattle.fort_sexpr.specs.FormView.{form_at, form_count};
 ghost use Rattle.fort_sexpr.specs.Nodes.{nodes_of, text_forms};
 
-use crate::arena::{Arena, Node};
+use crate::arena::{Arena, FormNode};
 use crate::form::Form;
 use crate::scan::next_token;
 use std::alloc::{AllocError, Global};
@@ -14,7 +14,7 @@ use std::marker::Model;
 #[derive(Drop)]
 pub struct Forms {
     pub(crate) arena: Arena,
-    pub(crate) top: Vec<Node>,
+    pub(crate) top: Vec<FormNode>,
 }
 
 impl Model for Forms {
@@ -76,7 +76,7 @@ impl Forms {
 }
 
 /// The nodes of the forms of a text that are in no list, of which there are so many.
-fn nodes(alloc: Global, arena: &Arena, count: u32) -> Result<Vec<Node>, AllocError>
+fn nodes(alloc: Global, arena: &Arena, count: u32) -> Result<Vec<FormNode>, AllocError>
     requires forms { AreFormsOf arena.now.bytes.items (text_forms arena.now.bytes.items) }
     requires count { count ≡ form_count (text_forms arena.now.bytes.items) }
     ensures nodes { let bytes = arena.now.bytes.items in
@@ -88,7 +88,7 @@ fn nodes(alloc: Global, arena: &Arena, count: u32) -> Result<Vec<Node>, AllocErr
     let mut list = 0u32;
     for _ in 0..count {
         let from = next_token(arena.bytes.as_slice(), at as usize) as u32;
-        let node = Node { from, list };
+        let node = FormNode { from, list };
         top.push_reserved(node);
         (at, list) = Form { arena, node }.behind();
     }

@@ -7,7 +7,7 @@ ghost use Rattle.fort_sexpr.specs.Faults.{IsFirstFaultUnlessMemory, IsFaultOfFro
 ghost use Rattle.fort_sexpr.specs.Progress.{GoesOn};
 ghost use Rattle.fort_sexpr.specs.Reading.{HasRead, HasReadFront, HasRoom, KeepsRoom, IsSameWalk, CountsMore, IsAdded};
 
-use crate::arena::{Arena, ListNode, Node};
+use crate::arena::{Arena, ListNode, FormNode};
 use crate::fault::SFault;
 use crate::scan::{behind_line, end_of_word, is_word_byte};
 use crate::text::Forms;
@@ -16,21 +16,21 @@ use std::alloc::{AllocError, Global};
 
 /// What has been read of a text so far.
 #[derive(Drop)]
-pub(crate) struct Walk {
+pub(crate) struct TextWalk {
     /// The lists that are open, the outermost first.
-    pub open: Vec<Node>,
+    pub open: Vec<FormNode>,
     /// All lists, in the order in which they open; where an open one ends isn't known yet.
     pub lists: Vec<ListNode>,
     /// How many forms are in no list, but for one that is open.
     pub count: u32,
 }
 
-impl Walk {
+impl TextWalk {
     /// Nothing of a text is read.
-    pub(crate) fn new(alloc: Global) -> Walk
+    pub(crate) fn new(alloc: Global) -> TextWalk
         ensures { (bytes : List ℕ) → HasRead bytes result 0 }
     {
-        Walk {
+        TextWalk {
             open: Vec::new(alloc),
             lists: Vec::new(alloc),
             count: 0,
@@ -133,7 +133,7 @@ impl Walk {
         ensures full { OnErr result (HasRoom bytes.now self.old → ⊥) }
         ensures room { KeepsRoom self.old self.new }
     {
-        self.open.push(Node {
+        self.open.push(FormNode {
             from: at as u32,
             list: self.lists.len() as u32,
         })?;

@@ -1,6 +1,6 @@
 //! Classes of a table's states by marking pairs, for tables of at most eight states.
 
-use super::small_tables::Given;
+use super::small_tables::PlainTable;
 use fort_lockstep::Dta;
 use fort_table::Table;
 use fort_tuple_symbols::Row;
@@ -60,7 +60,7 @@ fn other_child(one: &Row, other: &Row) -> Option<(u32, u32)> {
 fn add_exchanges(
     row: &Row,
     target: u32,
-    given: &Given,
+    given: &PlainTable,
     exchanges: &mut Vec<Exchange>,
 ) -> Result<(), AllocError> {
     for (other, there) in given.rows.iter().zip(given.targets.iter()) {
@@ -75,7 +75,7 @@ fn add_exchanges(
 }
 
 /// The exchanges of one child of an entry.
-pub fn exchanges_of(alloc: Global, given: &Given) -> Result<Vec<Exchange>, AllocError> {
+pub fn exchanges_of(alloc: Global, given: &PlainTable) -> Result<Vec<Exchange>, AllocError> {
     let mut exchanges = Vec::new(alloc);
     for (row, target) in given.rows.iter().zip(given.targets.iter()) {
         add_exchanges(row, *target, given, &mut exchanges)?;

@@ -3,7 +3,7 @@ ghost use Rattle.std.specs.Prelude.{◌≡◌, ◌<◌, ◌≤◌, ◌-◌, ◌^
 ghost use Rattle.fort_tables.specs.Tables.{full_presence};
 
 use super::plain_classes::{Exchange, exchanges_of, plain_classes};
-use super::small_tables::{Given, finals_from, table_from};
+use super::small_tables::{PlainTable, finals_from, table_from};
 use fort_lockstep::Dta;
 use fort_reduce::reduce;
 use fort_terms::{AddFault, Signature};
@@ -42,7 +42,7 @@ fn has_plain_classes(
 }
 
 /// How many tables differ in acceptance alone, or none where one of them has other classes.
-fn compared(alloc: Global, table: &Dta, full: u16, given: &Given) -> Result<Option<u32>, AllocError>
+fn compared(alloc: Global, table: &Dta, full: u16, given: &PlainTable) -> Result<Option<u32>, AllocError>
     requires { full ≡ full_presence table.now.columns }
 {
     let exchanges = exchanges_of(alloc, given)?;
@@ -76,7 +76,7 @@ fn all_compared(
     let mut from = Vec::new(alloc);
     let mut count = 0u32;
     for _ in 0..u32::MAX {
-        let mut given = Given::none(alloc);
+        let mut given = PlainTable::none(alloc);
         match table_from(alloc, signature, columns, most, from.as_slice(), &mut given)? {
             None => {}
             Some(table) => match compared(alloc, &table, full, &given)? {

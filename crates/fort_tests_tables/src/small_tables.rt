@@ -10,14 +10,14 @@ use std::alloc::{AllocError, Global};
 
 /// Entries of a table in their order, with their targets.
 #[derive(Drop)]
-pub struct Given {
+pub struct PlainTable {
     pub rows: Vec<Row>,
     pub targets: Vec<u32>,
 }
 
-impl Given {
-    pub fn none(alloc: Global) -> Given {
-        Given {
+impl PlainTable {
+    pub fn none(alloc: Global) -> PlainTable {
+        PlainTable {
             rows: Vec::new(alloc),
             targets: Vec::new(alloc),
         }
@@ -90,7 +90,7 @@ pub fn table_from(
     columns: usize,
     most: usize,
     from: &[u32],
-    given: &mut Given,
+    given: &mut PlainTable,
 ) -> Result<Option<Dta>, AllocError>
     requires some { 0 < columns }
     requires narrow { columns ≤ 16 }

@@ -5,7 +5,7 @@ ghost use Rattle.fort_answers.specs.Requests.{number_in};
 use itoa::Buffer;
 
 /// The number from `low` to `high` that the text writes in decimal digits, with no needless zero.
-pub fn number_of(text: &str, low: u32, high: u32) -> Option<u32>
+pub fn parse_number(text: &str, low: u32, high: u32) -> Option<u32>
     ensures { result ≡ number_in low high text.now }
 {
     let n = match text.parse::<u32>() {

@@ -8,7 +8,7 @@ ghost use Rattle.fort_words.specs.RequestView.{as_bounds, as_family, as_options,
 ghost use Rattle.fort_words.specs.RowView.{as_number};
 
 use crate::command::fort_command;
-use crate::number::number_of;
+use crate::number::parse_number;
 use crate::row::{
     CERTIFICATE, CHECK, CONFIRM, COUNT, DECIDE, FORMULA, HEIGHT, MOST, Number, REDUCE, RULE_COUNT,
     SAMPLE, SIDE_HEIGHT, SOLUTIONS, STATES, SYNTH, WITNESS,
@@ -95,7 +95,7 @@ fn value_of<'a>(matches: &ArgMatches<'a>, id: &str) -> Option<&'a str>
 fn number_given(matches: &ArgMatches<'_>, number: Number) -> Option<u32>
     ensures { result ≡ number_given (as_number number) (given_of matches.now) }
 {
-    number_of(value_of(matches, number.name)?, number.low, number.high)
+    parse_number(value_of(matches, number.name)?, number.low, number.high)
 }
 
 fn is_set(matches: &ArgMatches<'_>, id: &str) -> bool

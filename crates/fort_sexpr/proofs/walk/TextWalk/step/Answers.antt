@@ -4,7 +4,7 @@ use Rattle.std.proofs.lemmas.List.{length-reverse}
 use Rattle.fort_sexpr.specs.declared.token.Token.TheVariants as tokens
 use Rattle.fort_sexpr.proofs.ReadingLaws.{reading_blank, reading_word, reading_counts}
 use Rattle.fort_sexpr.proofs.Fronts.{front_below, front_blank, front_word, front_fault, front_faultless, front_comment, fault_unless_memory, word_ends}
-use Rattle.fort_sexpr.proofs.walk.Walk.step.Goals as goal
+use Rattle.fort_sexpr.proofs.walk.TextWalk.step.Goals as goal
 
 pub returns-in_err-token_of-clause-fault : goal.returns-in_err-token_of-clause-fault
 returns-in_err-token_of-clause-fault c =

@@ -2,8 +2,8 @@ use Rattle.std.proofs.Common.{◌≡◌, ◌<◌, false, get_or, length, reverse
 use Rattle.fort_theory.specs.Signatures.{is_word_byte}
 use Rattle.fort_sexpr.proofs.ReadingLaws.{reading_word, reading_counts}
 use Rattle.fort_sexpr.proofs.Fronts.{front_reading, word_to_end, end_no_word}
-use Rattle.fort_sexpr.proofs.walk.Walk.end.Goals as goal
-use Rattle.fort_sexpr.proofs.walk.Walk.end.Goals.{else-at-bytes-via-then-at-bytes+else-is_word_byte, else-at-bytes-via-else-at-bytes}
+use Rattle.fort_sexpr.proofs.walk.TextWalk.end.Goals as goal
+use Rattle.fort_sexpr.proofs.walk.TextWalk.end.Goals.{else-at-bytes-via-then-at-bytes+else-is_word_byte, else-at-bytes-via-else-at-bytes}
 
 pub add_form-requires : goal.add_form-requires
 add_form-requires c =

@@ -1,7 +1,7 @@
 use Rattle.std.proofs.Common.{arith}
 use Rattle.fort_ari.proofs.Words.{IsNumber-at, length-IsNumber, low_from_IsNumber, high_from_IsNumber}
-use Rattle.fort_ari.proofs.word.number_of.Goals as goal
-use Rattle.fort_ari.proofs.word.number_of.Goals.{then-digit-lt49-via-then-digit-lt49, then-digit-lt49-via-else-digit-lt49+then-digit-gt57}
+use Rattle.fort_ari.proofs.word.parse_number.Goals as goal
+use Rattle.fort_ari.proofs.word.parse_number.Goals.{then-digit-lt49-via-then-digit-lt49, then-digit-lt49-via-else-digit-lt49+then-digit-gt57}
 
 pub returns-in_default-clause-none : goal.returns-in_default-clause-none
 returns-in_default-clause-none c = λ n h. let one = length-IsNumber c.args.word.now n h in absurd (omega arith)

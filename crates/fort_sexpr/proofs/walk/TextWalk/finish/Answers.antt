@@ -1,7 +1,7 @@
 use Rattle.std.proofs.Common.{◌≡◌, [], arith}
 use Rattle.std.proofs.lemmas.List.{reverse-append, nil_from_length}
 use Rattle.fort_sexpr.proofs.ReadingLaws.{reading_ended, reading_unclosed}
-use Rattle.fort_sexpr.proofs.walk.Walk.finish.Goals as goal
+use Rattle.fort_sexpr.proofs.walk.TextWalk.finish.Goals as goal
 
 pub returns-in-Some-clause-fault : goal.returns-in-Some-clause-fault
 returns-in-Some-clause-fault c =

@@ -2,7 +2,7 @@ use Rattle.std.proofs.Common.{◌++◌, reverse, ◌∙◌, arith}
 use Rattle.std.proofs.lemmas.List.{reverse-append}
 use Rattle.fort_sexpr.proofs.ReadingLaws.{reading_ends, reading_close, reading_within, closing_counts}
 use Rattle.fort_sexpr.proofs.Fronts.{front_few, front_reading, front_below, front_byte}
-use Rattle.fort_sexpr.proofs.walk.Walk.close_list.Goals as goal
+use Rattle.fort_sexpr.proofs.walk.TextWalk.close_list.Goals as goal
 
 pub overflow_cast-behind : goal.overflow_cast-behind
 overflow_cast-behind c =

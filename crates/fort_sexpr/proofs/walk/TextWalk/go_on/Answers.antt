@@ -1,6 +1,6 @@
 use Rattle.std.proofs.Common.{reverse, arith}
 use Rattle.fort_sexpr.proofs.Fronts.{front_reading, goes_nowhere}
-use Rattle.fort_sexpr.proofs.walk.Walk.go_on.Goals as goal
+use Rattle.fort_sexpr.proofs.walk.TextWalk.go_on.Goals as goal
 
 pub loop-at-preserved : goal.loop-at-preserved
 loop-at-preserved c =

@@ -1,8 +1,8 @@
 use Rattle.std.proofs.Common.{◌∙◌, Some, None, sym, arith, rules, true≢false}
 use Rattle.std.proofs.lemmas.Slice.Eq.{bytes_eq-Decides}
 use Rattle.fort_words.proofs.NumberTexts.{number_is, read_as_none, read_as_other}
-use Rattle.fort_words.proofs.number.number_of.Goals.{else-low-n-via-then-low-n+then-n-high+else-eq, else-low-n-via-then-low-n+else-n-high, else-low-n-via-else-low-n}
-use Rattle.fort_words.proofs.number.number_of.Goals as goal
+use Rattle.fort_words.proofs.number.parse_number.Goals.{else-low-n-via-then-low-n+then-n-high+else-eq, else-low-n-via-then-low-n+else-n-high, else-low-n-via-else-low-n}
+use Rattle.fort_words.proofs.number.parse_number.Goals as goal
 
 pub returns-then-eq : goal.returns-then-eq
 returns-then-eq c =

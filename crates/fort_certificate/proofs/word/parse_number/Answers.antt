@@ -1,8 +1,8 @@
 use Rattle.std.proofs.Common.{◌≡◌, ◌<◌, length, get_or, sym, ◌∙◌, arith}
 use Rattle.std.proofs.lemmas.Bool.{eqb-true, eqb-false}
 use Rattle.fort_certificate.proofs.NumberWords.{word_of_value, word_begins}
-use Rattle.fort_certificate.proofs.word.number_of.Goals as goal
-use Rattle.fort_certificate.proofs.word.number_of.Goals.{else-text-gt1-via-then-text-gt1+else-text-eq48, else-text-gt1-via-else-text-gt1}
+use Rattle.fort_certificate.proofs.word.parse_number.Goals as goal
+use Rattle.fort_certificate.proofs.word.parse_number.Goals.{else-text-gt1-via-then-text-gt1+else-text-eq48, else-text-gt1-via-else-text-gt1}
 
 pub returns-then-is_empty-clause-none : goal.returns-then-is_empty-clause-none
 returns-then-is_empty-clause-none c n is =

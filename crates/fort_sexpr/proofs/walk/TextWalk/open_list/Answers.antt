@@ -1,10 +1,10 @@
 use Rattle.std.proofs.Common.{◌≡◌, ℕ, ◌++◌, length, reverse, refl, ap, ◌∙◌, arith}
 use Rattle.std.proofs.lemmas.List.{reverse-append, length-reverse}
 use Rattle.std.proofs.lemmas.Result.{err_from_is_err_and}
-use Rattle.fort_sexpr.specs.declared.arena.Node.{Node}
+use Rattle.fort_sexpr.specs.declared.arena.FormNode.{FormNode}
 use Rattle.fort_sexpr.proofs.ReadingLaws.{reading_open}
 use Rattle.fort_sexpr.proofs.Fronts.{front_few, front_below, front_byte, front_opens}
-use Rattle.fort_sexpr.proofs.walk.Walk.open_list.Goals as goal
+use Rattle.fort_sexpr.proofs.walk.TextWalk.open_list.Goals as goal
 
 pub overflow_cast-len : goal.overflow_cast-len
 overflow_cast-len c =
@@ -30,7 +30,7 @@ pub returns-clause-read : goal.returns-clause-read
 returns-clause-read c = λ more.
     let walk = c.args.self.now in
     let bytes = c.args.bytes.now in
-    let made : ℕ → Node = λ n. record { from = c.args.at; list = n } in
+    let made : ℕ → FormNode = λ n. record { from = c.args.at; list = n } in
     let number : c.len.result ≡ length walk.lists.items = c.len.ensures ∙ walk.lists.ok.0 in
     rw (c.in_ok-push.ensures.items, c.in_ok-push-2.ensures.items, reverse-append)
     (reading_open (bytes ++ more) (reverse walk.open.items) walk.lists.items walk.count c.args.at _ _ (c.requires.read more)

@@ -1,7 +1,7 @@
 use Rattle.std.proofs.Common.{length, ◌-◌}
 use Rattle.fort_sexpr.specs.Progress.{GoesOn}
 use Rattle.fort_sexpr.specs.Reading.{HasReadFront, KeepsRoom}
-use Rattle.fort_sexpr.proofs.walk.Walk.go_on.Given as goal
+use Rattle.fort_sexpr.proofs.walk.TextWalk.go_on.Given as goal
 
 abbrev pub invariant-loop-at : goal.invariant-loop-at
 invariant-loop-at l = record {
