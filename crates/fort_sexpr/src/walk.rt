@@ -7,7 +7,7 @@ ghost use Rattle.fort_sexpr.specs.Faults.{IsFirstFaultUnlessMemory, IsFaultOfFro
 ghost use Rattle.fort_sexpr.specs.Progress.{GoesOn};
 ghost use Rattle.fort_sexpr.specs.Reading.{HasRead, HasReadFront, HasRoom, KeepsRoom, IsSameWalk, CountsMore, IsAdded};
 
-use crate::arena::{Arena, ListNode, FormNode};
+use crate::arena::{Arena, FormNode, ListNode};
 use crate::fault::SFault;
 use crate::scan::{behind_line, end_of_word, is_word_byte};
 use crate::text::Forms;

@@ -4,6 +4,8 @@ ghost use Rattle.std.specs.Prelude.{◌≡◌, IfOk};
 use super::rules::IsFirst;
 use fort_connectives::Op;
 use fort_explore::{ExploreFault, explore};
+use fort_findings::Count;
+use fort_infinity::pure_counts;
 use fort_labels::ByRule;
 use fort_lockstep::Dta;
 use fort_products::{Both, Operand};
@@ -83,6 +85,19 @@ fn complement_and_pure_states(rt: HostRuntime) -> Result<(), Fail> {
         pure_states(rt.alloc(), &table, 1)?.as_slice(),
         [0].as_slice()
     );
+    Ok(())
+}
+
+#[test]
+fn counts_of_pure_states(rt: HostRuntime) -> Result<(), Fail> {
+    // The one term in either column is the constant, of height 0.
+    let table = equality_table(rt.alloc())?;
+    let first = pure_states(rt.alloc(), &table, 0)?;
+    let counts = pure_counts(rt.alloc(), &table, 0, &first)?;
+    assert_eq!(rt; counts.as_slice(), [Count::Finite(0)].as_slice());
+    let second = pure_states(rt.alloc(), &table, 1)?;
+    let counts = pure_counts(rt.alloc(), &table, 1, &second)?;
+    assert_eq!(rt; counts.as_slice(), [Count::Finite(0)].as_slice());
     Ok(())
 }
 

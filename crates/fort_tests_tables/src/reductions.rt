@@ -42,7 +42,12 @@ fn has_plain_classes(
 }
 
 /// How many tables differ in acceptance alone, or none where one of them has other classes.
-fn compared(alloc: Global, table: &Dta, full: u16, given: &PlainTable) -> Result<Option<u32>, AllocError>
+fn compared(
+    alloc: Global,
+    table: &Dta,
+    full: u16,
+    given: &PlainTable,
+) -> Result<Option<u32>, AllocError>
     requires { full ≡ full_presence table.now.columns }
 {
     let exchanges = exchanges_of(alloc, given)?;
