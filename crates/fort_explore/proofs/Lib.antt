@@ -10,3 +10,4 @@ pub mod LeadingLaws
 pub mod LeadingLoopLaws
 pub mod LedTargetLaws
 pub mod WholeTableLaws
+pub mod ToldTableLaws

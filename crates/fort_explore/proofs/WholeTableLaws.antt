@@ -44,6 +44,7 @@ leading_table sig n label t labels firsts a cap x = record {
   narrow = x.maker.narrow;
   presences_are = x.maker.presences_are;
   targets_are = x.maker.targets_are;
+  first_entries = x.maker.firsts;
   is = x.maker.made;
   whole = x.whole;
 }

@@ -1,6 +1,6 @@
 //! The exploration of all labels, where keys tell which children give one label.
-ghost use Rattle.std.specs.Prelude.{◌≡◌, ℕ, ◌+◌, ◌≤◌, List, [], length, IfSome, IfNone, IfOk, IfErr, OnOk};
-ghost use Rattle.fort_tables.specs.Entries.{AreNodes, tuples_of};
+ghost use Rattle.std.specs.Prelude.{◌≡◌, ℕ, ◌+◌, ◌<◌, ◌≤◌, ◌^◌, List, [], length, IfSome, IfNone, IfOk, IfErr, OnOk};
+ghost use Rattle.fort_tables.specs.Entries.{Entry, AreNodes, tuples_of};
 ghost use Rattle.fort_tables.specs.Tables.{IsListed, listed_table};
 ghost use Rattle.fort_tables.specs.Labels.{HaveLabels, HasMoreLabels, IsTableOf};
 ghost use Rattle.fort_tables.specs.LabelRules.{IsTableBy};
@@ -14,9 +14,10 @@ ghost use Rattle.fort_explore.specs.ListedTargets.{AreListedTargets};
 use crate::found::Found;
 use crate::leading::give_leading;
 use crate::table::{ExploreFault, Explored};
+use crate::told::told_table;
 use crate::whole::whole_table;
 use fort_label_keys::LabelKeys;
-use fort_labels::Labeller;
+use fort_labels::{Labeller, Rows};
 use fort_leading_tables::LeadingMaker;
 use fort_leading_walk::SymbolLeaders;
 use fort_lockstep::Steps;
@@ -86,9 +87,41 @@ fn explore_leading<G: Ledger, L: Labeller, K: LabelKeys>(
     match made {
         None => Err(ExploreFault::Over(found.take_firsts(alloc))),
         Some(maker) => {
-            let explored = whole_table(alloc, sig, labeller, keys, maker, &found.labels, lists)?;
+            let explored = table_of(alloc, sig, labeller, keys, maker, &found.labels, lists)?;
             Ok(explored)
         }
+    }
+}
+
+/// The whole table, where each leading entry has its target; its targets are listed where that is asked for.
+fn table_of<L: Labeller, K: LabelKeys>(
+    alloc: Global,
+    sig: &Signature,
+    labeller: &L,
+    keys: &K,
+    maker: LeadingMaker,
+    rows: &Rows,
+    lists: bool,
+) -> Result<Explored, AllocError>
+    requires served { L.serves labeller.now sig.now }
+    requires goes { GoesByEachKey sig.now (L.column_count labeller.now) (L.label labeller.now)
+        (keys_by (K.view keys.now) (K.key keys.now)) }
+    requires width { rows.now.width ≡ K.word_count keys.now }
+    requires few { length rows.now.labels < 2 ^ 32 }
+    requires table { (firsts : List Entry) × (cap : ℕ) × IsLeadingTable sig.now
+        (L.column_count labeller.now) (L.label labeller.now)
+        (keys_by (K.view keys.now) (K.key keys.now)) rows.now.labels firsts maker cap }
+    ensures found { IfOk result (λ x. (firsts : List Entry) (cap : ℕ) → IsLeadingTable sig.now
+        (L.column_count labeller.now) (L.label labeller.now)
+        (keys_by (K.view keys.now) (K.key keys.now)) rows.now.labels firsts maker cap
+        → IsFound sig.now (L.column_count labeller.now) (L.label labeller.now)
+        (L.accepting labeller.now) cap x.table) }
+    ensures targets { IfOk result (AreListedTargets lists) }
+{
+    if lists {
+        whole_table(alloc, sig, labeller, keys, maker, rows, lists)
+    } else {
+        told_table(alloc, sig, labeller, keys, maker, rows)
     }
 }
 

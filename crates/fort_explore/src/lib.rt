@@ -8,6 +8,7 @@ mod leading;
 mod long_labels;
 mod short_labels;
 mod table;
+mod told;
 mod whole;
 
 pub use by_keys::explore_by_keys;

@@ -24,8 +24,8 @@ turn-requires-clause-known g c =
     let are = front_same room kids row.kids (λ j k. get_or presences k 0) is same in
     let some = eqb-false (length kids) 0 (sym c.is_empty.ensures ∙ c.if-is_empty.false) in
     let states = some_states _ _ _ r.0 _ _ _ _ r.2 row r.1 (omega (arith, some, ap length is)) in
-    let all : c.len-newest.result - 1 + 1 ≡ length c.args.rows.now.labels = omega (arith, c.len-newest.ensures, states) in
-    (r.0.signature, r.0.columns, r.2.until, kids_may_turn _ _ _ r.0 _ _ _ _ r.2 row r.1 c.digits.result.now c.digits.ensures.digits (take (length kids) room) count are (c.len-newest.result - 1) all)
+    let all : c.len.result - 1 + 1 ≡ length c.args.rows.now.labels = omega (arith, c.len.ensures, states) in
+    (r.0.signature, r.0.columns, r.2.until, kids_may_turn _ _ _ r.0 _ _ _ _ r.2 row r.1 c.digits.result.now c.digits.ensures.digits (take (length kids) room) count are (c.len.result - 1) all)
 
 pub kid_leaders-requires-clause-turned : goal.kid_leaders-requires-clause-turned
 kid_leaders-requires-clause-turned g c =
@@ -41,8 +41,8 @@ kid_leaders-requires-clause-turned g c =
     let are = front_same room kids row.kids (λ j k. get_or presences k 0) is same in
     let some = eqb-false (length kids) 0 (sym c.is_empty.ensures ∙ c.if-is_empty.false) in
     let states = some_states _ _ _ r.0 _ _ _ _ r.2 row r.1 (omega (arith, some, ap length is)) in
-    let newest = c.len-newest.result - 1 in
-    let all : newest + 1 ≡ length c.args.rows.now.labels = omega (arith, c.len-newest.ensures, states) in
+    let newest = c.len.result - 1 in
+    let all : newest + 1 ≡ length c.args.rows.now.labels = omega (arith, c.len.ensures, states) in
     let ds = c.digits.result.now in
     let digits = c.digits.ensures.digits in
     let ws = take (length kids) room in
@@ -63,8 +63,8 @@ returns-clause-known g c = λ m h a.
     let are = front_same room kids row.kids (λ j k. get_or presences k 0) is same in
     let some = eqb-false (length kids) 0 (sym c.is_empty.ensures ∙ c.if-is_empty.false) in
     let states = some_states _ _ _ m _ _ _ _ a row h (omega (arith, some, ap length is)) in
-    let newest = c.len-newest.result - 1 in
-    let all : newest + 1 ≡ length c.args.rows.now.labels = omega (arith, c.len-newest.ensures, states) in
+    let newest = c.len.result - 1 in
+    let all : newest + 1 ≡ length c.args.rows.now.labels = omega (arith, c.len.ensures, states) in
     let ds = c.digits.result.now in
     let digits = c.digits.ensures.digits in
     let ws = take (length kids) room in
@@ -87,8 +87,8 @@ returns-clause-leaders g c = λ m h a j l.
     let are = front_same room kids row.kids (λ j k. get_or presences k 0) is same in
     let some = eqb-false (length kids) 0 (sym c.is_empty.ensures ∙ c.if-is_empty.false) in
     let states = some_states _ _ _ m _ _ _ _ a row h (omega (arith, some, ap length is)) in
-    let newest = c.len-newest.result - 1 in
-    let all : newest + 1 ≡ length c.args.rows.now.labels = omega (arith, c.len-newest.ensures, states) in
+    let newest = c.len.result - 1 in
+    let all : newest + 1 ≡ length c.args.rows.now.labels = omega (arith, c.len.ensures, states) in
     let ds = c.digits.result.now in
     let digits = c.digits.ensures.digits in
     let ws = take (length kids) room in
