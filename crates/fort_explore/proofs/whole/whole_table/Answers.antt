@@ -1,4 +1,4 @@
-use Rattle.std.proofs.Common.{◌≡◌, ℕ, ◌<◌, ◌≤◌, ◌^◌, length, get_or, IfSome, sym, ◌∙◌, arith, subst}
+use Rattle.std.proofs.Common.{◌≡◌, ℕ, ◌<◌, ◌≤◌, ◌^◌, List, length, get_or, IfSome, sym, ◌∙◌, arith, subst}
 use Rattle.fort_tables.specs.Tables.{Listed}
 use Rattle.fort_classes.specs.Keys.{leaders_by}
 use Rattle.fort_label_keys.specs.ViewKeys.{keys_by}
@@ -14,16 +14,19 @@ finals_of-requires-clause-labels g c =
     let x = c.requires.table in
     (c.args.sig.now, c.requires.served, known_labels c.args.sig.now _ (g.L.Labeller.label c.args.labeller.now) x.0 c.args.rows.now.labels x.2.whole.exploring.exploring.known)
 
-pub new-led-requires-clause-few : goal.new-led-requires-clause-few
-new-led-requires-clause-few g c =
+pub new-requires-2-clause-few : goal.new-requires-2-clause-few
+new-requires-2-clause-few g c =
     let x = c.requires.table in
     omega (arith, table_count _ _ _ (g.K.LabelKeys.view c.args.keys.now) (g.K.LabelKeys.key c.args.keys.now) _ x.0 c.args.maker x.1 x.2, c.requires.few)
 
-pub new-led-requires-clause-within : goal.new-led-requires-clause-within
-new-led-requires-clause-within g c =
+pub new-requires-2-clause-within : goal.new-requires-2-clause-within
+new-requires-2-clause-within g c =
     let x = c.requires.table in
     subst (λ (n : ℕ). (q : ℕ) → q < length c.args.maker.presences.items → get_or c.args.maker.presences.items q 0 < 2 ^ n) (sym c.columns-2.ensures.count)
     (table_presence _ _ _ (g.K.LabelKeys.view c.args.keys.now) (g.K.LabelKeys.key c.args.keys.now) _ x.0 c.args.maker x.1 x.2)
+
+pub give_whole-requires-clause-listed : goal.give_whole-requires-clause-listed
+give_whole-requires-clause-listed g c = subst (λ (ts : List ℕ). IfSome c.list_for-targets.result (λ l. l.items ≡ ts)) (sym c.in_ok-whole.ensures.targets) c.list_for-targets.ensures.empty
 
 pub give_whole-requires-clause-known : goal.give_whole-requires-clause-known
 give_whole-requires-clause-known g c =

@@ -11,8 +11,8 @@ target-requires-clause-there g c =
     let r = c.requires.known in
     let m = r.0 in
     let row = c.args.row.now in
-    let kids = c.kids.result.now in
-    let is = c.kids.ensures.states in
+    let kids = c.kids-count.result.now in
+    let is = c.kids-count.ensures.states in
     let keys = c.args.self.now.views.keys.now in
     let lead = leaders_by (keys_by (g.K.LabelKeys.view keys) (g.K.LabelKeys.key keys)) c.args.rows.now.labels row.symbol in
     let found = c.in_ok-leaders.leaders in
@@ -20,7 +20,7 @@ target-requires-clause-there g c =
     let same : (j : ℕ) → j < length kids → get_or found j 0 ≡ lead j (get_or kids j 0) =
     λ j l. told j (omega (arith, l, ap length is)) ∙ ap (λ (ks : List ℕ). lead j (get_or ks j 0)) (sym is) in
     let ks = take (length kids) found in
-    let count = front_count found kids row.kids is (omega (arith, c.kids.ensures.few)) in
+    let count = front_count found kids row.kids is (omega (arith, c.kids-count.ensures.few)) in
     let are = front_same found kids row.kids lead is same in
     let targets = subst (λ (t : LeadingTargets). AreTargetsOf m.columns m.entries m.targets t) (sym c.leaders.ensures.targets) r.2.targets_are in
     (m.columns, m.entries, m.targets, targets, digits_width _ _ _ m _ _ _ _ r.2 row r.1 c.digits.result.now c.digits.ensures.digits, led_there _ _ _ m _ _ _ _ r.2 row r.1 c.digits.result.now c.digits.ensures.digits ks count are)
@@ -28,8 +28,8 @@ target-requires-clause-there g c =
 pub returns-clause-target : goal.returns-clause-target
 returns-clause-target g c = λ m h a.
     let row = c.args.row.now in
-    let kids = c.kids.result.now in
-    let is = c.kids.ensures.states in
+    let kids = c.kids-count.result.now in
+    let is = c.kids-count.ensures.states in
     let keys = c.args.self.now.views.keys.now in
     let lead = leaders_by (keys_by (g.K.LabelKeys.view keys) (g.K.LabelKeys.key keys)) c.args.rows.now.labels row.symbol in
     let found = c.in_ok-leaders.leaders in
@@ -37,7 +37,7 @@ returns-clause-target g c = λ m h a.
     let same : (j : ℕ) → j < length kids → get_or found j 0 ≡ lead j (get_or kids j 0) =
     λ j l. told j (omega (arith, l, ap length is)) ∙ ap (λ (ks : List ℕ). lead j (get_or ks j 0)) (sym is) in
     let ks = take (length kids) found in
-    let count = front_count found kids row.kids is (omega (arith, c.kids.ensures.few)) in
+    let count = front_count found kids row.kids is (omega (arith, c.kids-count.ensures.few)) in
     let are = front_same found kids row.kids lead is same in
     let targets = subst (λ (t : LeadingTargets). AreTargetsOf m.columns m.entries m.targets t) (sym c.leaders.ensures.targets) a.targets_are in
     let ds = c.digits.result.now in
