@@ -1,5 +1,5 @@
 -- The target of an entry, read off the classes of its children and the targets of the leading entries.
-use Rattle.std.proofs.Common.{◌≡◌, ℕ, zero, suc, ◌+◌, ◌<◌, ◌≤◌, List, [], map, set, take, length, get_or, get_or-set_same, get_or-set_other, refl, ap, sym, ◌∙◌, arith, subst, ⊎_elim}
+use Rattle.std.proofs.Common.{◌≡◌, ℕ, zero, suc, ◌+◌, ◌<◌, ◌≤◌, List, map, set, take, length, get_or, get_or-set_same, get_or-set_other, ap, sym, ◌∙◌, arith, subst, ⊎_elim}
 use Rattle.std.specs.Prelude.{Contains}
 use Rattle.std.proofs.lemmas.Bool.{cases_eq}
 use Rattle.std.proofs.lemmas.List.{length-map, length-take-le, get_or-take, ext_get_or}
@@ -20,7 +20,7 @@ use Rattle.fort_entry_walk.specs.WalkPlaces.{wants_from, wants}
 use Rattle.fort_entry_walk.proofs.WalkLaws.{length-wants_from}
 use Rattle.fort_leading_walk.specs.Turns.{MayTurn}
 use Rattle.fort_views.specs.Ranks.{AreRanks}
-use Rattle.fort_views.specs.SymbolViews.{AreViewsOf, IsTurnedTo, IsStateAt}
+use Rattle.fort_views.specs.SymbolViews.{AreViewsOf, IsTurnedTo}
 use Rattle.fort_views.specs.declared.view.View.{View}
 use Rattle.fort_views.specs.declared.views.Views.{Views}
 use Rattle.fort_leading_tables.specs.declared.leading_targets.LeadingTargets.{LeadingTargets}

@@ -1,5 +1,5 @@
 -- What is made by leading entries alone, from its beginning to the whole table.
-use Rattle.std.proofs.Common.{◌≡◌, ℕ, ◌<◌, ◌≤◌, ◌^◌, List, [], map, length, get_or, Bool, refl, ap, sym, ◌∙◌, arith, subst}
+use Rattle.std.proofs.Common.{◌≡◌, ℕ, ◌<◌, ◌≤◌, ◌^◌, List, [], length, get_or, Bool, refl, ap, sym, ◌∙◌, arith, subst}
 use Rattle.std.proofs.lemmas.List.{length-map}
 use Rattle.fort_theory.specs.Signatures.{Signature}
 use Rattle.fort_tables.specs.Tuples.{TupleSymbol, presence}
@@ -7,9 +7,9 @@ use Rattle.fort_tables.specs.Entries.{Entry, IsEntry}
 use Rattle.fort_tables.specs.Tables.{Made, Listed, IsComplete, AreFinals, IsListed, finished, full_presence}
 use Rattle.fort_tables.specs.Labels.{Labelling, first_word, TellsPresence}
 use Rattle.fort_tables.proofs.PresenceLaws.{presence_bound}
-use Rattle.fort_classes.specs.Keys.{Keys, GoesByEachKey, leaders_by}
+use Rattle.fort_classes.specs.Keys.{GoesByEachKey, leaders_by}
 use Rattle.fort_classes.specs.Leaders.{Leaders}
-use Rattle.fort_classes.specs.LedTables.{IsLeadingMade, IsLeadingComplete, whole}
+use Rattle.fort_classes.specs.LedTables.{whole}
 use Rattle.fort_classes.proofs.LabelKeyLaws.{GoesByKeys-each}
 use Rattle.fort_label_keys.specs.ViewKeys.{keys_by}
 use Rattle.fort_views.specs.Ranks.{AreRanks}

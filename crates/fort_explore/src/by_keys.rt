@@ -83,7 +83,9 @@ fn explore_leading<G: Ledger, L: Labeller, K: LabelKeys>(
     let mut steps = Steps::<G>::new(blank);
     let mut found = Found::new(alloc, labeller.width())?;
     let mut views = KeyedViews::new(alloc, sig, labeller.columns(), keys);
-    let made = make_leading(alloc, sig, labeller, cap, &mut views, &mut found, &mut steps)?;
+    let made = make_leading(
+        alloc, sig, labeller, cap, &mut views, &mut found, &mut steps,
+    )?;
     match made {
         None => Err(ExploreFault::Over(found.take_firsts(alloc))),
         Some(maker) => {

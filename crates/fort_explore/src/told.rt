@@ -52,7 +52,15 @@ pub(crate) fn told_table<L: Labeller, K: LabelKeys>(
     let read = presences.as_slice();
     let mut told = ClassTargets::new(alloc, sig, columns, rows, keys, read, targets)?;
     let own = sig.copy(alloc)?;
-    let table = Dta::laid_by(alloc, own, columns, presences, first_entries, finals, &mut told)?;
+    let table = Dta::laid_by(
+        alloc,
+        own,
+        columns,
+        presences,
+        first_entries,
+        finals,
+        &mut told,
+    )?;
     Ok(Explored {
         table,
         targets: None,

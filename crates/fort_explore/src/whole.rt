@@ -51,11 +51,7 @@ fn kid_presences(presences: &[u16], kids: &[u32]) -> [u32; 8]
 }
 
 /// The leader of each child, at its place under the symbol to which the views are turned.
-fn kid_leaders<'a, K: LabelKeys>(
-    views: &KeyedViews<'a, K>,
-    ranks: &[u32],
-    kids: &[u32],
-) -> [u32; 8]
+fn kid_leaders<'a, K: LabelKeys>(views: &KeyedViews<'a, K>, ranks: &[u32], kids: &[u32]) -> [u32; 8]
     requires few { length kids.now ≤ 8 }
     requires turned { (labels : List (List ℕ)) × (f : TupleSymbol)
         × AreTurnedKids (K.view views.now.keys.now) (K.key views.now.keys.now) labels f
@@ -95,7 +91,9 @@ impl<'a, K: LabelKeys> LedTargets<'a, K> {
         ensures targets { IfOk result (λ led. led.targets ≡ maker.targets) }
     {
         let LeadingMaker {
-            presences, targets, ..
+            presences,
+            targets,
+            ..
         } = maker;
         let ranks = ranks_of(alloc, columns, presences.as_slice())?;
         Ok(LedTargets {

@@ -1,4 +1,4 @@
-use Rattle.std.proofs.Common.{ℕ, List, [], IfSome, sym, subst}
+use Rattle.std.proofs.Common.{ℕ, [], IfSome, sym, subst}
 use Rattle.fort_label_keys.specs.ViewKeys.{keys_by}
 use Rattle.fort_views.specs.SymbolViews.{AreViewsOf}
 use Rattle.fort_explore.specs.LeadingLoops.{IsLeadingTable}

@@ -1,4 +1,4 @@
-use Rattle.std.proofs.Common.{◌≡◌, ℕ, List, [], ap, sym, ◌∙◌, subst}
+use Rattle.std.proofs.Common.{ℕ, [], sym, ◌∙◌, subst}
 use Rattle.fort_classes.specs.Keys.{Keys}
 use Rattle.fort_leading_tables.specs.LeadingMaking.{turned, IsMakerOf, none_made}
 use Rattle.fort_explore.specs.LeadingLoops.{IsLeadingTable}

@@ -1,4 +1,4 @@
-use Rattle.std.proofs.Common.{◌≡◌, ℕ, ◌<◌, ◌≤◌, ◌^◌, List, length, get_or, ap, sym, ◌∙◌, arith, subst}
+use Rattle.std.proofs.Common.{ℕ, ◌<◌, ◌≤◌, ◌^◌, List, length, get_or, sym, subst}
 use Rattle.fort_theory.specs.Signatures.{Signature}
 use Rattle.fort_tables.specs.Tables.{listed_table}
 use Rattle.fort_classes.specs.Keys.{leaders_by}
@@ -7,7 +7,7 @@ use Rattle.fort_lockstep.specs.ToldParts.{IsMadeOf}
 use Rattle.fort_class_targets.specs.LedBodies.{IsLedBody}
 use Rattle.fort_explore.proofs.KnownLaws.{known_labels}
 use Rattle.fort_explore.proofs.WholeTableLaws.{table_presence}
-use Rattle.fort_explore.proofs.ToldTableLaws.{told_presences, told_whole, told_body, told_parts, told_found}
+use Rattle.fort_explore.proofs.ToldTableLaws.{told_whole, told_body, told_parts, told_found}
 use Rattle.fort_explore.proofs.told.told_table.Goals as goal
 
 pub finals_of-requires-clause-labels : goal.finals_of-requires-clause-labels

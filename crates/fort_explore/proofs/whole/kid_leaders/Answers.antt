@@ -1,4 +1,4 @@
-use Rattle.std.proofs.Common.{◌≡◌, ℕ, ◌+◌, ◌<◌, List, get_or, length, ◌∙◌, arith}
+use Rattle.std.proofs.Common.{◌<◌, get_or, length, ◌∙◌, arith}
 use Rattle.std.proofs.lemmas.List.{length-set}
 use Rattle.fort_classes.specs.Keys.{leaders_by}
 use Rattle.fort_label_keys.specs.ViewKeys.{keys_by}

@@ -42,10 +42,11 @@ give_whole-requires-clause-known g c =
     let made = c.in_ok-whole.ensures in
     let known : AreViewsOf view key sig n labels 0 led.views.views = subst (λ (k : ℕ). AreViewsOf view key sig k labels 0 led.views.views) c.columns-2.ensures.count (told.views labels) in
     let a = led_targets_of sig n label view key labels x.0 c.args.maker x.1 x.2 led.views.views led.presences.items led.ranks.items led.targets known told.presences told.ranks told.targets in
-    let none = table_none sig n label view key labels x.0 c.args.maker x.1 x.2 c.in_ok-whole.whole made.signature (made.columns ∙ c.columns.ensures.count) made.presences made.entries made.targets in
-    (x.2.made,
+    let none = table_none sig n label view key labels x.0 c.args.maker x.1 x.2 c.in_ok-whole.whole made.signature (made.columns ∙ c.columns.ensures.count) made.presences made.entries made.targets in (
+      x.2.made,
       subst (λ k. AreLedTargets (g.K.LabelKeys.view k) (g.K.LabelKeys.key k) labels x.2.made led.views.views led.presences.items led.ranks.items led.targets) (sym told.keys) a,
-      subst (λ k. IsReplaying (leaders_by (keys_by (g.K.LabelKeys.view k) (g.K.LabelKeys.key k)) labels) x.2.made c.in_ok-whole.whole) (sym told.keys) none)
+      subst (λ k. IsReplaying (leaders_by (keys_by (g.K.LabelKeys.view k) (g.K.LabelKeys.key k)) labels) x.2.made c.in_ok-whole.whole) (sym told.keys) none,
+    )
 
 pub finish-requires-clause-finals : goal.finish-requires-clause-finals
 finish-requires-clause-finals g c =

@@ -1,7 +1,6 @@
 use Rattle.std.proofs.Common.{◌≡◌, ℕ, ◌+◌, ◌-◌, ◌<◌, List, take, length, get_or, ap, sym, ◌∙◌, arith, subst}
 use Rattle.std.proofs.lemmas.Bool.{eqb-false}
 use Rattle.fort_views.specs.SymbolViews.{AreViewsOf}
-use Rattle.fort_explore.specs.LedTargets.{AreLedTargets, AreTurnedKids}
 use Rattle.fort_explore.proofs.LedTargetLaws.{front_count, front_same, some_states, kid_low, kids_may_turn, kids_turned, led_targets_after}
 use Rattle.fort_explore.proofs.whole.LedTargets.leaders.Goals as goal
 
