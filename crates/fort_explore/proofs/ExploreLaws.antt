@@ -32,13 +32,13 @@ exploring_none sig n label m fs labels s c ps es ts f ls =
     } in
     subst (λ (xs : List Entry). IsExploring sig n label m xs labels) (sym f) none
 
-due_entry : (sig : Signature) (n : ℕ) (label : Labelling) (m : Made) (fs : List Entry) (labels : List (List ℕ)) (e : Entry) → IsExploring sig n label m fs labels → IsMadeDue m e → IsEntry sig n (map first_word labels) e
+due_entry : (sig : Signature) (n : ℕ) (label : Labelling) (m : Made) (fs : List Entry) (labels : List (List ℕ)) (e : Entry) → IsExploring sig n label m fs labels → IsEntry m.signature m.columns m.presences e → IsEntry sig n (map first_word labels) e
 due_entry sig n label m fs labels e x d =
     subst (λ (s : Signature). IsEntry s n (map first_word labels) e) x.signature
     (subst (λ (c : ℕ). IsEntry m.signature c (map first_word labels) e) x.columns_are
-    (subst (λ (ps : List ℕ). IsEntry m.signature m.columns ps e) x.presences d.is_entry))
+    (subst (λ (ps : List ℕ). IsEntry m.signature m.columns ps e) x.presences d))
 
-pub exploring_ready : (sig : Signature) (n : ℕ) (label : Labelling) (m : Made) (fs : List Entry) (labels : List (List ℕ)) (e : Entry) → IsExploring sig n label m fs labels → IsMadeDue m e → IsReady sig n label fs labels e
+pub exploring_ready : (sig : Signature) (n : ℕ) (label : Labelling) (m : Made) (fs : List Entry) (labels : List (List ℕ)) (e : Entry) → IsExploring sig n label m fs labels → IsEntry m.signature m.columns m.presences e → IsReady sig n label fs labels e
 exploring_ready sig n label m fs labels e x d = record { known = x.known; nodes = x.nodes; entry = due_entry sig n label m fs labels e x d }
 
 length_labels : (sig : Signature) (n : ℕ) (label : Labelling) (m : Made) (fs : List Entry) (labels : List (List ℕ)) → IsExploring sig n label m fs labels → length m.presences ≡ length labels
@@ -115,7 +115,7 @@ old_presences : (q p : ℕ) (ps : List ℕ) → q < length ps → (if q == lengt
 old_presences q p ps l = if_apart q (length ps) (ps ++ p ∷ []) ps (λ e. omega arith)
 
 -- after the entry got its target
-pub exploring_give : (sig : Signature) (n : ℕ) (label : Labelling) (m m' : Made) (fs fs' : List Entry) (labels labels' : List (List ℕ)) (e : Entry) (q : ℕ) → IsExploring sig n label m fs labels → IsMadeDue m e → IsPlaced sig n label labels labels' fs fs' e q → IsGiven m e q m' → IsExploring sig n label m' fs' labels'
+pub exploring_give : (sig : Signature) (n : ℕ) (label : Labelling) (m m' : Made) (fs fs' : List Entry) (labels labels' : List (List ℕ)) (e : Entry) (q : ℕ) → IsExploring sig n label m fs labels → IsEntry m.signature m.columns m.presences e → IsPlaced sig n label labels labels' fs fs' e q → IsGiven m e q m' → IsExploring sig n label m' fs' labels'
 exploring_give sig n label m m' fs fs' labels labels' e q x d p g =
     let len = length_labels sig n label m fs labels x in
     let grows = grown_labels sig n label fs fs' labels labels' e q p in

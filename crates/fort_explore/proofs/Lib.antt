@@ -6,3 +6,8 @@ pub mod PlaceLaws
 pub mod ExploreLaws
 pub mod ShortLabelLaws
 pub mod LabelSetLaws
+pub mod LeadingLaws
+pub mod LeadingLoopLaws
+pub mod LedTargetLaws
+pub mod WholeTableLaws
+pub mod ToldTableLaws

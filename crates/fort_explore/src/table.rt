@@ -77,7 +77,8 @@ fn is_final<L: Labeller>(labeller: &L, label: &[u64]) -> bool
     labeller.accepts(label)
 }
 
-fn finals_of<L: Labeller>(
+/// Which states are accepting.
+pub(crate) fn finals_of<L: Labeller>(
     alloc: Global,
     labeller: &L,
     labels: &Rows,
@@ -171,7 +172,7 @@ fn explore_by<G: Ledger, L: Labeller>(
 }
 
 /// An empty list, where one is asked for.
-fn list_for(alloc: Global, lists: bool) -> Option<Vec<u32>>
+pub(crate) fn list_for(alloc: Global, lists: bool) -> Option<Vec<u32>>
     ensures there { is_some result ≡ lists }
     ensures empty { IfSome result (λ l. l.items ≡ []) }
 {
@@ -179,7 +180,7 @@ fn list_for(alloc: Global, lists: bool) -> Option<Vec<u32>>
 }
 
 /// Puts one more target into the list, where there is one.
-fn list_target(targets: &mut Option<Vec<u32>>, target: u32) -> Result<(), AllocError>
+pub(crate) fn list_target(targets: &mut Option<Vec<u32>>, target: u32) -> Result<(), AllocError>
     ensures list { OnOk result ((ts : List ℕ) → IfSome targets.old (λ l. l.items ≡ ts)
         → IfSome targets.new (λ l. l.items ≡ ts ++ target ∷ [])) }
     ensures there { OnOk result (is_some targets.new ≡ is_some targets.old) }

@@ -1,3 +1,4 @@
 pub mod TargetLaws
+pub mod FirstEntryLaws
 pub mod MakerLaws
 pub mod ReplayLaws

@@ -19,6 +19,7 @@ use Rattle.fort_leading_walk.specs.LeadingPlaces.{leading_entry, StandsAt, IsLea
 use Rattle.fort_leading_walk.specs.declared.leading.LeadingWalk.{LeadingWalk}
 use Rattle.fort_leading_walk.proofs.WalkStays.{stands_stay}
 use Rattle.fort_leading_tables.specs.EntryNumbers.{AreTargetsOf}
+use Rattle.fort_leading_tables.specs.FirstEntries.{AreFirstEntries}
 use Rattle.fort_leading_tables.specs.LeadingMaking.{Turned, IsDueAt, IsDueIn, IsMakerOf, IsTargetOf, none_made, given}
 use Rattle.fort_leading_tables.specs.declared.leading_maker.LeadingMaker.{LeadingMaker}
 
@@ -55,12 +56,13 @@ due_next t labels m a last true up row h = record {
 due_next t labels m a last false up row h = none_left m.signature m.columns m.presences (leaders_by t.keys labels) m.entries last up h.step.0
 
 -- Result: a maker without states
-pub maker_none : (t : Turned) (sig : Signature) (columns : ℕ) (a : LeadingMaker) → columns ≤ 16 → a.presences.items ≡ [] → AreTargetsOf columns [] [] a.targets → a.row ≡ leading_entry a.walk → length a.walk.walk.digits ≡ columns
+pub maker_none : (t : Turned) (sig : Signature) (columns : ℕ) (a : LeadingMaker) → columns ≤ 16 → a.presences.items ≡ [] → AreTargetsOf columns [] [] a.targets → AreFirstEntries [] [] 0 a.first_entries → a.row ≡ leading_entry a.walk → length a.walk.walk.digits ≡ columns
     → HasWalked t [] sig columns [] (no_entry columns) a.walk a.is_due → IsMakerOf t [] (none_made sig columns) a
-maker_none t sig columns a narrow none targets row width walked = record {
+maker_none t sig columns a narrow none targets firsts row width walked = record {
   narrow = narrow;
   presences_are = sym none;
   targets_are = targets;
+  firsts = firsts;
   by_labels = refl;
   made = record {
     leaders = AreLeaders-by sig columns t.keys [];
@@ -149,12 +151,13 @@ module _ (labels new : List (List ℕ)) (m : Made) (e : Entry) (q : ℕ) (words 
         (λ w _. stays w (omega (arith, due.forward, due.stands.within, same_count)) due.known)
 
     -- Result: after the walk's next step it is a maker of the grown table
-    pub maker_given : (t' : Turned) (b : LeadingMaker) → t'.keys ≡ t.keys → m.columns ≤ 16 → (given m e q).presences ≡ b.presences.items → AreTargetsOf m.columns (m.entries ++ e ∷ []) (m.targets ++ q ∷ []) b.targets
+    pub maker_given : (t' : Turned) (b : LeadingMaker) → t'.keys ≡ t.keys → m.columns ≤ 16 → (given m e q).presences ≡ b.presences.items → AreTargetsOf m.columns (m.entries ++ e ∷ []) (m.targets ++ q ∷ []) b.targets → AreFirstEntries (m.entries ++ e ∷ []) (m.targets ++ q ∷ []) (length (given m e q).presences) b.first_entries
         → b.row ≡ leading_entry b.walk → length b.walk.walk.digits ≡ m.columns → HasWalked t' new m.signature m.columns (given m e q).presences e b.walk b.is_due → IsMakerOf t' new (given m e q) b
-    maker_given t' b asked narrow presences targets brow width walked = record {
+    maker_given t' b asked narrow presences targets firsts brow width walked = record {
       narrow = narrow;
       presences_are = presences;
       targets_are = targets;
+      firsts = firsts;
       by_labels = given_words;
       made = subst (λ (k : Keys). IsLeadingMade (leaders_by k new) (given m e q)) (sym asked) given_made;
       row = brow;

@@ -10,6 +10,7 @@ use Rattle.fort_classes.specs.Keys.{Keys, leaders_by}
 use Rattle.fort_classes.specs.LedTables.{IsLeadingMade, IsLeadingComplete}
 use Rattle.fort_leading_walk.specs.LeadingPlaces.{leading_entry, StandsAt}
 use Rattle.fort_leading_tables.specs.EntryNumbers.{AreTargetsOf}
+use Rattle.fort_leading_tables.specs.FirstEntries.{AreFirstEntries}
 use Rattle.fort_leading_tables.specs.declared.leading_maker.LeadingMaker.{LeadingMaker}
 
 -- no states and no entries
@@ -55,6 +56,7 @@ pub record IsMakerOf (t : Turned) (labels : List (List ℕ)) (m : Made) (a : Lea
   pub narrow : m.columns ≤ 16
   pub presences_are : m.presences ≡ a.presences.items
   pub targets_are : AreTargetsOf m.columns m.entries m.targets a.targets
+  pub firsts : AreFirstEntries m.entries m.targets (length m.presences) a.first_entries
   pub by_labels : m.presences ≡ map first_word labels
   pub made : IsLeadingMade (leaders_by t.keys labels) m
   pub row : a.row ≡ leading_entry a.walk

@@ -1,3 +1,4 @@
 pub mod EntryNumbers
+pub mod FirstEntries
 pub mod LeadingMaking
 pub mod Replays

@@ -2,11 +2,13 @@
 ghost use Rattle.std.specs.Prelude.{◌≡◌, ◌==◌, ℕ, ◌^◌, ◌<◌, ◌≤◌, if◌then◌else◌, List, [], ◌∷◌, ◌++◌, length, IsTrue, IsFalse, IfOk, OnOk, IfSome, IfNone};
 ghost use Rattle.fort_tables.specs.Tuples.{presence};
 ghost use Rattle.fort_tables.specs.Tables.{Made};
+ghost use Rattle.fort_table.specs.EntryListFacts.{entries_in, AreSpans};
 ghost use Rattle.fort_leading_tables.specs.LeadingMaking.{IsMakerOf, IsTargetOf, none_made, given, turned};
 
 use crate::leading_targets::LeadingTargets;
 use fort_labels::Rows;
 use fort_leading_walk::{LeadingWalk, SymbolLeaders};
+use fort_table::EntryList;
 use fort_terms::Signature;
 use fort_tuple_symbols::{Row, TupleSym};
 use std::alloc::{AllocError, Global};
@@ -16,6 +18,8 @@ use std::alloc::{AllocError, Global};
 pub struct LeadingMaker {
     /// The presences of the states so far.
     pub presences: Vec<u16>,
+    /// The first entry of each state so far.
+    pub first_entries: EntryList,
     /// The targets of the leading entries so far.
     pub targets: LeadingTargets,
     pub walk: LeadingWalk,
@@ -24,13 +28,29 @@ pub struct LeadingMaker {
     pub is_due: bool,
 }
 
-/// A new state has the presence of its entry.
-fn note_presence(presences: &mut Vec<u16>, row: &Row, target: u32) -> Result<(), AllocError>
-    ensures { OnOk result (presences.new.items ≡ (if target == length presences.old.items
+/// A new state has the presence of its entry, which is its first one.
+fn note_state(
+    presences: &mut Vec<u16>,
+    first_entries: &mut EntryList,
+    row: &Row,
+    target: u32,
+) -> Result<(), AllocError>
+    requires { AreSpans first_entries.old.numbers.items first_entries.old.spans.items }
+    ensures presences { OnOk result (presences.new.items
+        ≡ (if target == length presences.old.items
         then presences.old.items ++ presence row.now.symbol ∷ [] else presences.old.items)) }
+    ensures spans { OnOk result (AreSpans first_entries.new.numbers.items
+        first_entries.new.spans.items) }
+    ensures firsts { OnOk result (entries_in first_entries.new.numbers.items
+        first_entries.new.spans.items ≡ (if target == length presences.old.items
+        then entries_in first_entries.old.numbers.items first_entries.old.spans.items
+        ++ row.now ∷ []
+        else entries_in first_entries.old.numbers.items first_entries.old.spans.items)) }
 {
     if target as usize == presences.len() {
         presences.push(row.presence())?;
+        first_entries.make_room()?;
+        first_entries.push(row);
     }
     Ok(())
 }
@@ -60,6 +80,7 @@ impl LeadingMaker {
         let is_due = walk.advance_row(sig, &[], leaders, rows, &mut row)?;
         Ok(LeadingMaker {
             presences: Vec::new(alloc),
+            first_entries: EntryList::new(alloc),
             targets: LeadingTargets::new(alloc),
             walk,
             row,
@@ -98,7 +119,12 @@ impl LeadingMaker {
             → IsMakerOf (turned (L.keys leaders.new) (L.lists leaders.new) (L.knows leaders.new))
             rows.now.labels (given m self.old.row target) self.new) }
     {
-        note_presence(&mut self.presences, &self.row, target)?;
+        note_state(
+            &mut self.presences,
+            &mut self.first_entries,
+            &self.row,
+            target,
+        )?;
         self.targets.push(alloc, &self.row, target)?;
         let presences = self.presences.as_slice();
         self.is_due = self

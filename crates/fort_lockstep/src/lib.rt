@@ -5,6 +5,7 @@ mod dta;
 mod maker;
 mod states;
 mod steps;
+mod told;
 
 pub use dta::Dta;
 pub use maker::Maker;

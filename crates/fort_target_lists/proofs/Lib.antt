@@ -10,6 +10,7 @@ pub mod PlaceLaws
 pub mod StateLists
 pub mod SymbolNumbers
 pub mod SymbolPlaces
+pub mod ToldLaws
 pub mod WalkLaws
 pub mod WalkSymbols
 pub mod WalkTurns

@@ -6,4 +6,6 @@ pub mod ListedOperands
 pub mod LookUps
 pub mod Places
 pub mod TargetLists
+pub mod ToldTables
+pub mod ToldWalks
 pub mod Walks

@@ -83,3 +83,29 @@ pub fn has_entries(
     }
     sum == number
 }
+
+/// How many entries a table over states with these counts of presences has; at most `usize::MAX` is told.
+pub(crate) fn count_entries(
+    signature: &Signature,
+    columns: usize,
+    base: usize,
+    count: usize,
+    counts: &[u32],
+) -> usize
+    requires count { count ≡ base ^ columns }
+    requires base { base ≡ suc (length signature.now) }
+    requires narrow { columns ≤ 16 }
+    requires size { 2 ^ columns ≤ length counts.now }
+    ensures { (ps : List ℕ) → AreCounts ps counts.now → result
+        ≡ min (length (by_symbol signature.now columns ps)) (2 ^ 64 - 1) }
+{
+    // its clause says that the signature is lawful
+    let _symbols = signature.len();
+    let mut symbol = TupleSym::absent(columns);
+    let mut sum = 0usize;
+    for _ in 0..count {
+        sum = sum.saturating_add(symbol_entries(signature, &symbol, counts));
+        symbol.to_next(base);
+    }
+    sum
+}

@@ -1,19 +1,23 @@
-//! A table's targets in one list: laid from the targets in the order of the entries, and looked up.
+//! A table's targets in one list: laid from the targets in the order of the entries, or as they are told, and looked up.
 #![tactic(auto)]
 
 mod chains;
 mod columns;
 mod entry_count;
+mod entry_targets;
 mod flat;
 mod laying;
 mod look_up;
 mod states;
 mod target_list;
+mod told_list;
+mod told_walk;
 mod walk;
 
 pub use chains::Chains;
 pub use columns::{is_present, kid_count, kid_presence, selected};
 pub use entry_count::has_entries;
+pub use entry_targets::EntryTargets;
 pub use flat::{FlatTargets, Listing, Spots};
 pub use look_up::{Finder, LookUp};
 pub use states::LayRoom;

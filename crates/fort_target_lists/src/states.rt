@@ -29,7 +29,8 @@ pub struct LayRoom {
 pub(crate) fn fill_given<T: Copy>(elements: &mut Vec<T>, element: T, count: usize)
     requires { count ≤ vec_capacity elements.old }
     ensures size { length elements.new.items ≡ count }
-    ensures equal { (w : ℕ) → w < count → (x : T) → slice_index_or elements.new.items w x ≡ element }
+    ensures equal { (w : ℕ) → w < count → (x : T)
+        → slice_index_or elements.new.items w x ≡ element }
     ensures room { vec_capacity elements.old ≤ vec_capacity elements.new }
 {
     elements.clear();
@@ -167,6 +168,8 @@ impl LayRoom {
             → slice_index presences.now q < 2 ^ columns }
         requires room { HasLayRoomBelow (2 ^ columns) (length presences.now) self.old }
         requires spot_room { HasSpotRoom (length presences.now) spots.old }
+        ensures size { length self.new.counts.items ≡ 2 ^ columns }
+        ensures counts { AreCounts presences.now self.new.counts.items }
         ensures chains { AreChains columns presences.now self.new.chains.firsts.items
             self.new.chains.nexts.items }
         ensures spots { AreSpots presences.now spots.new.ranks.items spots.new.alike.items }

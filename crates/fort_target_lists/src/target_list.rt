@@ -13,7 +13,7 @@ use fort_terms::Signature;
 use fort_tuple_symbols::TupleSym;
 use std::alloc::{AllocError, Global};
 
-/// A table's targets in one list, where it is made, and the room for them. For a table without entries none is made.
+/// A table's targets in one list, where it is made, and the room for them. For a table without entries there may be none.
 #[derive(Drop)]
 pub struct TargetList {
     pub(crate) is_made: bool,

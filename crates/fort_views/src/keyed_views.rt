@@ -7,7 +7,7 @@ ghost use Rattle.fort_classes.specs.Keys.{leaders_by};
 ghost use Rattle.fort_tuple_symbols.specs.Columns.{symbol_of};
 ghost use Rattle.fort_label_keys.specs.ViewKeys.{keys_by};
 ghost use Rattle.fort_leading_walk.specs.Turns.{MayTurn};
-ghost use Rattle.fort_views.specs.Views.{IsClassOf};
+ghost use Rattle.fort_views.specs.Views.{IsClassOf, HaveClasses};
 ghost use Rattle.fort_views.specs.SymbolViews.{AreViewsOf, IsTurnedTo, IsRankedAt, IsStateAt, place_states, leaders_at};
 ghost use Rattle.fort_views.specs.Ranks.{AreRanks};
 
@@ -110,6 +110,20 @@ impl<'a, K: LabelKeys> KeyedViews<'a, K> {
     {
         let numbers = self.places.numbers();
         self.views.class_of(numbers[place], rank)
+    }
+
+    /// The classes of the states at a place that have the presence there, by their ranks.
+    pub fn classes(&self, place: usize) -> &[u32]
+        requires { place < length self.now.places }
+        ensures { (labels : List (List ℕ)) (newest : ℕ) (f : TupleSymbol) (wanted : List ℕ)
+            → IsTurnedTo (K.view self.now.keys.now) (K.key self.now.keys.now) labels newest f wanted
+            self.now.views.views.items self.now.places
+            → HaveClasses (slice_index_or (leaders_at self.now.views.views.items self.now.places)
+            place []) (leaders_by (keys_by (K.view self.now.keys.now) (K.key self.now.keys.now))
+            labels f place) (place_states labels newest wanted place) result.now }
+    {
+        let numbers = self.places.numbers();
+        self.views.classes(numbers[place])
     }
 
     /// The leader of a state at a place; `ranks` are those of all states.

@@ -226,6 +226,16 @@ impl Views {
         }
     }
 
+    /// The classes of the states of a view, by their ranks.
+    pub fn classes(&self, number: usize) -> &[u32]
+        ensures { result.now ≡ slice_index_or (map view_classes_of self.now.views.items) number [] }
+    {
+        match self.views.get(number) {
+            Some(view) => view.classes.as_slice(),
+            None => &[],
+        }
+    }
+
     /// The class of a state in a view, by its rank among the states of the presence.
     pub fn class_of(&self, number: usize, rank: usize) -> u32
         requires view { number < length self.now.views.items }

@@ -1,4 +1,3 @@
-use Rattle.std.proofs.Common.{List}
 use Rattle.std.proofs.lemmas.Result.{IfOk-weaker, IfErr-weaker}
 use Rattle.fort_tables.proofs.LabelRuleLaws.{IsTableBy-labels}
 use Rattle.fort_explore.proofs.ExploreLaws.{if_over}

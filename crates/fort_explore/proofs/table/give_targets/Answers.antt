@@ -9,14 +9,14 @@ pub place_of-requires-clause-ready : goal.place_of-requires-clause-ready
 place_of-requires-clause-ready g c =
     let f = c.entries.found in
     let r = c.requires.exploring in
-    (r.0, r.1, exploring_ready r.0 _ (g.L.Labeller.label c.args.labeller.now) c.entries.maker f.firsts f.labels.labels c.in-Some.row.now (c.entries.invariant.exploring r.0 r.1 r.2) c.in-Some.ensures.some)
+    (r.0, r.1, exploring_ready r.0 _ (g.L.Labeller.label c.args.labeller.now) c.entries.maker f.firsts f.labels.labels c.in-Some.row.now (c.entries.invariant.exploring r.0 r.1 r.2) c.in-Some.ensures.some.is_entry)
 
 pub returns-then-len-cap-clause-over : goal.returns-then-len-cap-clause-over
 returns-then-len-cap-clause-over g c = λ sig s old _.
     let f = c.entries.found in
     let n = g.L.Labeller.column_count c.args.labeller.now in
     let label = g.L.Labeller.label c.args.labeller.now in
-    let ready = exploring_ready sig n label c.entries.maker f.firsts f.labels.labels c.in-Some.row.now (c.entries.invariant.exploring sig s old) c.in-Some.ensures.some in
+    let ready = exploring_ready sig n label c.entries.maker f.firsts f.labels.labels c.in-Some.row.now (c.entries.invariant.exploring sig s old) c.in-Some.ensures.some.is_entry in
     let p = c.in_ok-q.ensures.placed sig s ready in
     let over = placed_over sig n label f.firsts c.place_of.new.found.firsts f.labels.labels c.place_of.new.found.labels.labels c.in-Some.row.now c.in_ok-q.q c.args.cap p c.entries.invariant.few (omega (arith, c.len.ensures)) in
     record { tuples = over.0; nodes = over.1 }
@@ -28,7 +28,7 @@ give-requires-clause-allowed g c =
     let n = g.L.Labeller.column_count c.args.labeller.now in
     let label = g.L.Labeller.label c.args.labeller.now in
     let x = c.entries.invariant.exploring r.0 r.1 r.2 in
-    let ready = exploring_ready r.0 n label c.entries.maker f.firsts f.labels.labels c.in-Some.row.now x c.in-Some.ensures.some in
+    let ready = exploring_ready r.0 n label c.entries.maker f.firsts f.labels.labels c.in-Some.row.now x c.in-Some.ensures.some.is_entry in
     let p = c.in_ok-q.ensures.placed r.0 r.1 ready in
     (c.in-Some.row.now, exploring_allowed r.0 n label c.entries.maker f.firsts c.place_of.new.found.firsts f.labels.labels c.place_of.new.found.labels.labels c.in-Some.row.now c.in_ok-q.q x c.in-Some.ensures.some p)
 
@@ -37,7 +37,7 @@ give-requires-clause-few g c =
     let f = c.entries.found in
     let r = c.requires.exploring in
     let x = c.entries.invariant.exploring r.0 r.1 r.2 in
-    let ready = exploring_ready r.0 _ (g.L.Labeller.label c.args.labeller.now) c.entries.maker f.firsts f.labels.labels c.in-Some.row.now x c.in-Some.ensures.some in
+    let ready = exploring_ready r.0 _ (g.L.Labeller.label c.args.labeller.now) c.entries.maker f.firsts f.labels.labels c.in-Some.row.now x c.in-Some.ensures.some.is_entry in
     let p = c.in_ok-q.ensures.placed r.0 r.1 ready in
     omega (arith, p.within, c.len.ensures, c.if-len-cap.false, c.ranges.cap.fits)
 
@@ -46,7 +46,7 @@ overflow_cast-q g c =
     let f = c.entries.found in
     let r = c.requires.exploring in
     let x = c.entries.invariant.exploring r.0 r.1 r.2 in
-    let ready = exploring_ready r.0 _ (g.L.Labeller.label c.args.labeller.now) c.entries.maker f.firsts f.labels.labels c.in-Some.row.now x c.in-Some.ensures.some in
+    let ready = exploring_ready r.0 _ (g.L.Labeller.label c.args.labeller.now) c.entries.maker f.firsts f.labels.labels c.in-Some.row.now x c.in-Some.ensures.some.is_entry in
     let p = c.in_ok-q.ensures.placed r.0 r.1 ready in
     omega (arith, p.within, c.len.ensures, c.if-len-cap.false, c.ranges.cap.fits)
 
@@ -60,9 +60,9 @@ entries-preserved g c =
     record {
       exploring = λ sig s old.
           let x = c.entries.invariant.exploring sig s old in
-          let ready = exploring_ready sig n label c.entries.maker f.firsts f.labels.labels c.in-Some.row.now x due in
+          let ready = exploring_ready sig n label c.entries.maker f.firsts f.labels.labels c.in-Some.row.now x due.is_entry in
           let p = c.in_ok-q.ensures.placed sig s ready in
-          exploring_give sig n label c.entries.maker c.give.new.self f.firsts c.place_of.new.found.firsts f.labels.labels c.place_of.new.found.labels.labels c.in-Some.row.now c.in_ok-q.q x due p given;
+          exploring_give sig n label c.entries.maker c.give.new.self f.firsts c.place_of.new.found.firsts f.labels.labels c.place_of.new.found.labels.labels c.in-Some.row.now c.in_ok-q.q x due.is_entry p given;
       listed = subst (λ (ts : List ℕ). IfSome c.list_target.new.targets (λ v. v.items ≡ ts)) (sym given.targets) (c.in_ok-list_target.ensures.list c.entries.maker.targets c.entries.invariant.listed);
       there = c.in_ok-list_target.ensures.there ∙ c.entries.invariant.there;
       same = c.in_ok-q.ensures.same;

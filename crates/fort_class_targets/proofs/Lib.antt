@@ -1,0 +1,5 @@
+pub mod ListLaws
+pub mod RowLaws
+pub mod TellingLaws
+pub mod TurnedLaws
+pub mod LedBodyLaws

@@ -1,0 +1,4 @@
+pub mod TurnedKids
+pub mod LedBodies
+pub mod ClassRows
+pub mod Telling
