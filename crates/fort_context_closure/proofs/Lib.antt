@@ -3,6 +3,7 @@ pub mod ListingLaws
 pub mod FactLaws
 pub mod NodeRowLaws
 pub mod RelationLaws
+pub mod LentPatterns
 pub mod SidePlaceLaws
 pub mod NormalLaws
 pub mod MakerLaws

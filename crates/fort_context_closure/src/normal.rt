@@ -1,10 +1,15 @@
 //! The labels of "the variable is a normal form", by bits.
-ghost use Rattle.std.specs.Prelude.{◌≡◌, ℕ, ◌<◌, ◌≤◌, ◌^◌, suc, length, slice_index_or, IfOk};
+ghost use Rattle.std.specs.Prelude.{◌≡◌, ℕ, ◌<◌, ◌≤◌, ◌^◌, suc, [], map, length, slice_index_or, Contains, IfOk};
+ghost use Rattle.fort_theory.specs.Patterns as theory;
 ghost use Rattle.fort_theory.specs.Sides.{IsIndexOf};
+ghost use Rattle.fort_terms.specs.PatternView.{as_pattern};
+ghost use Rattle.fort_alike.specs.Atoms.{NfKind};
 ghost use Rattle.fort_tables.specs.BitRows.{words_for};
 ghost use Rattle.fort_tables.specs.LabelRules.{entry_label};
 ghost use Rattle.fort_alike.specs.AtomRules.{marks_of, atom_rule, atom_accepts};
+ghost use Rattle.fort_label_bits.specs.NumberedView.{AreNumbersOf};
 ghost use Rattle.fort_context_closure.specs.PlainAtoms.{no_closure, IsNormalAtomOf};
+ghost use Rattle.fort_context_closure.specs.ReachRows.{NoPatternTwice};
 
 use crate::side_places::{places_of_sides, some_side};
 use fort_label_bits::{
@@ -71,6 +76,27 @@ impl NormalBits {
         ensures { result ≡ suc (words_for (length (marks_of self.now))) }
     {
         1 + (self.lefts.len() + 1 + 63) / 64
+    }
+
+    /// The patterns that count, in the order of their bits. The atom has one argument.
+    pub fn patterns(&self) -> &[Pattern]
+        ensures patterns { map as_pattern result.now ≡ self.now.lefts }
+        ensures few { length result.now < 2 ^ 32 }
+        ensures once { NoPatternTwice self.now.lefts }
+        ensures sides { (r : theory.Pair) → Contains self.now.atom.pairs r
+            → Contains self.now.lefts r.0 }
+        ensures kind { self.now.atom.kind ≡ NfKind }
+        ensures arguments { (self.now.atom.first ≡ 0) × (self.now.atom.second ≡ 0) }
+        ensures one_side { self.now.rights ≡ [] }
+    {
+        &self.patterns
+    }
+
+    /// The patterns by numbers.
+    pub fn lefts(&self) -> &[Numbered]
+        ensures { AreNumbersOf self.now.lefts result.now }
+    {
+        &self.lefts
     }
 
     /// The label of an entry over states with these labels.

@@ -1,5 +1,6 @@
 //! The labels of an atom that relates two terms, by bits.
-ghost use Rattle.std.specs.Prelude.{◌≡◌, ℕ, ◌+◌, ◌-◌, ◌<◌, ◌≤◌, ◌^◌, suc, map, true, length, slice_index_or, IfOk};
+ghost use Rattle.std.specs.Prelude.{◌≡◌, ℕ, ◌+◌, ◌-◌, ◌<◌, ◌≤◌, ◌^◌, suc, map, true, length, slice_index_or, Contains, IfOk};
+ghost use Rattle.fort_theory.specs.Patterns as theory;
 ghost use Rattle.fort_theory.specs.Sides.{IsIndexOf, at_index};
 ghost use Rattle.fort_relations.specs.RelView.{as_rel};
 ghost use Rattle.fort_tables.specs.BitRows.{words_for};
@@ -8,10 +9,11 @@ ghost use Rattle.fort_tuple_symbols.specs.Columns.{as_column};
 ghost use Rattle.fort_alike.specs.Atoms.{kind_for};
 ghost use Rattle.fort_alike.specs.Alike.{is_reaching};
 ghost use Rattle.fort_alike.specs.AtomRules.{marks_of, atom_rule, atom_accepts};
+ghost use Rattle.fort_label_bits.specs.NumberedView.{AreNumbersOf};
 ghost use Rattle.fort_label_bits.specs.RowBits.{HasBits, labels_at};
 ghost use Rattle.fort_context_closure.specs.PlainAtoms.{IsOfRules, IsByPairs};
 ghost use Rattle.fort_context_closure.specs.ClosedAtoms.{numbers_of, pattern_bits, test_of};
-ghost use Rattle.fort_context_closure.specs.ReachRows.{IsReach};
+ghost use Rattle.fort_context_closure.specs.ReachRows.{IsReach, NoPatternTwice};
 ghost use Rattle.fort_context_closure.specs.RuleLists.{ListsRules};
 ghost use Rattle.fort_terms.specs.PatternView.{as_pair, as_pattern};
 
@@ -149,6 +151,55 @@ impl RelationBits {
         ensures { result ≡ suc (words_for (length (marks_of self.now.atom))) }
     {
         1 + (self.mark_count() + 63) / 64
+    }
+
+    pub fn rel(&self) -> Rel
+        ensures { kind_for (as_rel result) ≡ self.now.atom.atom.kind }
+    {
+        self.rel
+    }
+
+    pub fn arguments(&self) -> Arguments
+        ensures first { result.first ≡ self.now.atom.atom.first }
+        ensures second { result.second ≡ self.now.atom.atom.second }
+    {
+        self.arguments
+    }
+
+    /// The patterns that count for the first argument, in the order of their bits.
+    pub fn left_patterns(&self) -> &[Pattern]
+        ensures patterns { map as_pattern result.now ≡ self.now.atom.lefts }
+        ensures few { length result.now < 2 ^ 32 }
+        ensures once { NoPatternTwice self.now.atom.lefts }
+        ensures sides { (r : theory.Pair) → Contains self.now.atom.atom.pairs r
+            → Contains self.now.atom.lefts r.0 }
+    {
+        &self.left_patterns
+    }
+
+    /// Those for the second argument.
+    pub fn right_patterns(&self) -> &[Pattern]
+        ensures patterns { map as_pattern result.now ≡ self.now.atom.rights }
+        ensures few { length result.now < 2 ^ 32 }
+        ensures once { NoPatternTwice self.now.atom.rights }
+        ensures sides { (r : theory.Pair) → Contains self.now.atom.atom.pairs r
+            → Contains self.now.atom.rights r.1 }
+    {
+        &self.right_patterns
+    }
+
+    /// The left patterns by numbers.
+    pub fn lefts(&self) -> &[Numbered]
+        ensures { AreNumbersOf self.now.atom.lefts result.now }
+    {
+        &self.lefts
+    }
+
+    /// The right patterns by numbers.
+    pub fn rights(&self) -> &[Numbered]
+        ensures { AreNumbersOf self.now.atom.rights result.now }
+    {
+        &self.rights
     }
 
     /// The label of an entry over states with these labels.

@@ -50,6 +50,12 @@ impl TermLabels {
         })
     }
 
+    pub fn term(&self) -> &Term
+        ensures { result.now ≡ self.now }
+    {
+        &self.term
+    }
+
     /// The label of an entry over states with these labels.
     pub fn step(&self, row: &Row, rows: &Rows, out: &mut [u64])
         requires over { (sig : theory.Signature) × IsOverLabels sig 1

@@ -4,8 +4,6 @@ use Rattle.std.proofs.Common.{sym, ap, subst, ◌∙◌, append_assoc, arith}
 use Rattle.std.proofs.lemmas.List.{length-append, length-map}
 use Rattle.fort_tables.specs.Tuples.{TupleSymbol}
 use Rattle.fort_theory.specs.Patterns.{Pattern}
-use Rattle.fort_theory.specs.PatternOrder.{AreSubpatternsInOrder}
-use Rattle.fort_theory.proofs.Members.{Contains-none}
 use Rattle.fort_relations.specs.declared.relation.Rel.{Rel}
 use Rattle.fort_relations.specs.declared.relation.Rel.TheVariants.{Eq, Root, Below, Step, Par, Plus, Star, Conv}
 use Rattle.fort_alike.specs.Atoms.{AtomKind, EqKind, RootKind, StepKind, BelowKind, ParKind, NfKind, StarKind, PlusKind}
@@ -95,10 +93,3 @@ asked-few ParKind = (omega arith, omega arith, omega arith)
 asked-few NfKind = (omega arith, omega arith, omega arith)
 asked-few StarKind = (omega arith, omega arith, omega arith)
 asked-few PlusKind = (omega arith, omega arith, omega arith)
-
--- no pattern stands within none
-pub AreSubpatternsInOrder-none : AreSubpatternsInOrder [] []
-AreSubpatternsInOrder-none = record {
-  same = λ p. ((λ c. absurd (Contains-none p c)), (λ w. absurd (Contains-none w.0 w.1)));
-  ordered = λ i j l m. absurd (omega arith);
-}

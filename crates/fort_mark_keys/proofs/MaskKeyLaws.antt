@@ -1,12 +1,9 @@
--- Keys that ask as an atom's labels do are keys of these; those by the sides of its rules do; and any label goes by whole labels.
-use Rattle.std.proofs.Common.{◌≡◌, ℕ, suc, ◌<◌, List, [], ◌++◌, Bool, map, length, Contains, refl, sym, ap, subst, ◌∙◌, arith, ⊎_elim}
+-- Keys that ask as an atom's labels do are keys of these, and those of its kind, arguments and patterns ask so; any label goes by whole labels.
+use Rattle.std.proofs.Common.{◌≡◌, ℕ, suc, ◌<◌, List, [], ◌++◌, Bool, map, length, refl, sym, ap, subst, ◌∙◌, arith, ⊎_elim}
 use Rattle.std.proofs.lemmas.Bool.{cases_eq}
 use Rattle.std.proofs.lemmas.List.{ext_get_or}
 use Rattle.fort_theory.specs.Signatures.{Signature}
-use Rattle.fort_theory.specs.Patterns.{Pattern, Pair}
-use Rattle.fort_theory.specs.PatternOrder.{AreSubpatternsInOrder}
-use Rattle.fort_theory.proofs.ClosedPatterns.{subpatterns-self}
-use Rattle.fort_theory.proofs.Lists.{Contains-map}
+use Rattle.fort_theory.specs.Patterns.{Pattern}
 use Rattle.fort_tables.specs.Tuples.{TupleSymbol, root, kid, kids, kid_count}
 use Rattle.fort_tables.specs.BitRows.{words_for}
 use Rattle.fort_tables.specs.Labels.{Labelling}
@@ -14,15 +11,14 @@ use Rattle.fort_tables.specs.LabelRules.{LabelRule, label_of}
 use Rattle.fort_tables.proofs.LabelRuleLaws.{label_of-step}
 use Rattle.fort_classes.specs.Keys.{GoesByEachKey}
 use Rattle.fort_label_keys.specs.ViewKeys.{keys_by}
-use Rattle.fort_alike.specs.Atoms.{AtomKind, NfKind}
+use Rattle.fort_alike.specs.Atoms.{AtomKind}
 use Rattle.fort_alike.specs.Alike.{facts_of}
 use Rattle.fort_alike.specs.ListedAtoms.{Mark, OfFirst, OfSecond, OfBoth, ListedAtom, listed}
 use Rattle.fort_alike.specs.AtomRules.{marks_of, atom_rule}
 use Rattle.fort_alike.proofs.Bits.{row_of-same}
-use Rattle.fort_alike.proofs.OneInOrder.{subpatterns_one}
 use Rattle.fort_mark_keys.specs.MaskedWords.{masked}
 use Rattle.fort_mark_keys.specs.AskedMarks.{asks, asked_mask, HasSides}
-use Rattle.fort_mark_keys.specs.MarkKeysView.{IsOfSides, AsksAs}
+use Rattle.fort_mark_keys.specs.MarkKeysView.{IsOfPatterns, AsksAs}
 use Rattle.fort_mark_keys.proofs.AtomKeyLaws.{kid-label, count-labels, count-same, GoesByEachKey-atom}
 
 -- Result: any label goes by whole labels
@@ -66,21 +62,6 @@ AsksAs-same k a first second kind lefts rights = record {
   words = λ i. suc (words_for (length (map OfFirst (lefts i) ++ (map OfSecond (rights i) ++ map OfBoth (facts_of (kind i))))));
 }
 
--- Result: so do two by the sides of the same rules
-pub AsksAs-sides : (kind : AtomKind) (first second : ℕ) (lefts rights : List Pattern) (k a : ListedAtom)
-    → IsOfSides kind first second lefts rights k → IsOfSides kind first second lefts rights a → AsksAs k a
-AsksAs-sides kind first second lefts rights k a h is =
-    AsksAs-same k a (h.first_is ∙ sym is.first_is) (h.second_is ∙ sym is.second_is) (h.kind_is ∙ sym is.kind_is)
-    (subpatterns_one lefts k.lefts a.lefts h.left_order is.left_order) (subpatterns_one rights k.rights a.rights h.right_order is.right_order)
-
--- a pattern stands within itself
-top-listed : (tops ps : List Pattern) → AreSubpatternsInOrder tops ps → (p : Pattern) → Contains tops p → Contains ps p
-top-listed tops ps h p c = (h.same p).1 (p, c, subpatterns-self p)
-
--- Result: patterns within the sides of the atom's own rules have these sides; those of normal forms need no right ones
-pub HasSides-order : (a : ListedAtom) → AreSubpatternsInOrder (map (λ (pair : Pair). pair.0) a.atom.pairs) a.lefts
-    → ((a.atom.kind ≡ NfKind → ⊥) → AreSubpatternsInOrder (map (λ (pair : Pair). pair.1) a.atom.pairs) a.rights) → HasSides a
-HasSides-order a left right = record {
-  lefts = λ r m. top-listed (map (λ (pair : Pair). pair.0) a.atom.pairs) a.lefts left r.0 (Contains-map (λ (pair : Pair). pair.0) a.atom.pairs r m);
-  rights = λ r apart m. top-listed (map (λ (pair : Pair). pair.1) a.atom.pairs) a.rights (right apart) r.1 (Contains-map (λ (pair : Pair). pair.1) a.atom.pairs r m);
-}
+-- Result: so do keys of its kind, its arguments and its patterns
+pub AsksAs-patterns : (k a : ListedAtom) → IsOfPatterns a.atom.kind a.atom.first a.atom.second a.lefts a.rights k → AsksAs k a
+AsksAs-patterns k a is = AsksAs-same k a is.first_is is.second_is is.kind_is is.lefts_are is.rights_are

@@ -6,9 +6,7 @@ use Rattle.std.proofs.lemmas.Bool.{cases_eq, cases_lt}
 use Rattle.std.proofs.lemmas.Bool.Decides.{Decides-eqb}
 use Rattle.std.proofs.lemmas.List.{get_or-map, length-map, get_or_past, get_or_append_left, get_or-append-add}
 use Rattle.fort_theory.specs.Patterns.{Pattern, Patterns, Any, At, NoPattern, MorePatterns}
-use Rattle.fort_theory.specs.PatternOrder.{PatternBefore}
 use Rattle.fort_theory.proofs.Lists.{none-some, some-injective}
-use Rattle.fort_theory.proofs.ClosedPatterns.{PatternBefore-irreflexive}
 use Rattle.fort_tables.proofs.EqualTests.{test_from_apart}
 use Rattle.fort_alike.specs.AtomRules.{same_pattern, is_there}
 use Rattle.fort_alike.specs.PatternNumbers.{PatternNumber, AreAt, IsNumberOf}
@@ -175,8 +173,3 @@ module _ (listed : List Pattern) (rows : List PatternNumber) (are : AreNumbersOf
       (cases_lt (q - base) (length listed))
       ∙ sym own)))
       (cases_lt q base)
-
--- a list in order has none twice
-pub NoneListedTwice-ordered : (ps : List Pattern) → ((i j : ℕ) → i < j → j < length ps → PatternBefore (get_or ps i Any) (get_or ps j Any)) → NoneListedTwice ps
-NoneListedTwice-ordered ps ordered i j l m e =
-    PatternBefore-irreflexive (get_or ps j Any) (subst (λ p. PatternBefore p (get_or ps j Any)) e (ordered i j l m))

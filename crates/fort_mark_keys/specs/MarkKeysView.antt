@@ -1,7 +1,6 @@
--- To believe: the atom whose masks the keys of marks write, without its signature and its rules, which no mask reads; of which kind, arguments and sides of rules it is.
+-- To believe: the atom whose masks the keys of marks write, without its signature and its rules, which no mask reads; of which kind, arguments and patterns it is.
 use Rattle.std.specs.Prelude.{◌≡◌, ℕ, suc, List, [], length}
 use Rattle.fort_theory.specs.Patterns.{Pattern}
-use Rattle.fort_theory.specs.PatternOrder.{AreSubpatternsInOrder}
 use Rattle.fort_tables.specs.BitRows.{words_for}
 use Rattle.fort_alike.specs.Atoms.{AtomKind}
 use Rattle.fort_alike.specs.ListedAtoms.{ListedAtom, listed}
@@ -24,13 +23,13 @@ keys_seen k = listed (record {
 abbrev pub mark_words : ListedAtom → ℕ
 mark_words a = suc (words_for (length (marks_of a)))
 
--- its patterns are those within the sides of rules
-pub record IsOfSides (kind : AtomKind) (first second : ℕ) (lefts rights : List Pattern) (a : ListedAtom) : Type 0 where
+-- its kind, its arguments and its patterns are these
+pub record IsOfPatterns (kind : AtomKind) (first second : ℕ) (lefts rights : List Pattern) (a : ListedAtom) : Type 0 where
   pub kind_is : a.atom.kind ≡ kind
   pub first_is : a.atom.first ≡ first
   pub second_is : a.atom.second ≡ second
-  pub left_order : AreSubpatternsInOrder lefts a.lefts
-  pub right_order : AreSubpatternsInOrder rights a.rights
+  pub lefts_are : a.lefts ≡ lefts
+  pub rights_are : a.rights ≡ rights
 
 -- they have the same masks, of one width
 pub record AsksAs (k a : ListedAtom) : Type 0 where

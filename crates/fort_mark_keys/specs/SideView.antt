@@ -12,9 +12,9 @@ abbrev pub patterns_code : Coded (List Pattern)
 patterns_code = coded_list pattern_code
 
 abbrev pub patterns_seen : Inside → List Pattern
-patterns_seen s = map as_pattern s.patterns.items
+patterns_seen s = map as_pattern s.patterns.now
 
 pub record IsSide (s : Inside) : Type 0 where
-  pub numbers : AreNumbersOf (patterns_seen s) s.numbers.items
-  pub few : length s.patterns.items < 2 ^ 32
+  pub numbers : AreNumbersOf (patterns_seen s) s.numbers.now
+  pub few : length s.patterns.now < 2 ^ 32
   pub once : NoneListedTwice (patterns_seen s)

@@ -11,5 +11,6 @@ mod term_keys;
 mod whole_keys;
 
 pub use mark_keys::MarkKeys;
+pub use side::Side;
 pub use term_keys::TermKeys;
 pub use whole_keys::WholeKeys;

@@ -1,37 +1,30 @@
 //! The keys of labels that have a bit for each mark.
-ghost use Rattle.std.specs.Prelude.{◌≡◌, ◌==◌, ℕ, ◌<◌, List, [], None, map, length, get_or, IfOk};
-ghost use Rattle.fort_theory.specs.Sides.{IsIndexOf, at_index};
+ghost use Rattle.std.specs.Prelude.{◌≡◌, [], None, length, get_or};
 ghost use Rattle.fort_tuple_symbols.specs.Columns.{as_column};
-ghost use Rattle.std.specs.List.{position_or_len};
-ghost use Rattle.fort_theory.specs.Patterns as theory;
-ghost use Rattle.fort_theory.specs.PatternOrder.{AreSubpatternsInOrder};
-ghost use Rattle.fort_theory.specs.Cores.{Leaf, Related};
-ghost use Rattle.fort_theory.specs.Parts.{AreColumns};
-ghost use Rattle.fort_terms.specs.PatternView.{as_pattern};
 ghost use Rattle.fort_relations.specs.RelView.{as_rel};
 ghost use Rattle.fort_alike.specs.Atoms.{NfKind, kind_for};
 ghost use Rattle.fort_mark_keys.specs.AskedMarks.{asked_mask};
-ghost use Rattle.fort_mark_keys.specs.MarkKeysView.{keys_seen, mark_words, IsOfSides};
+ghost use Rattle.fort_mark_keys.specs.MarkKeysView.{keys_seen, mark_words, IsOfPatterns};
 
 use crate::asked_facts::{are_asked, asked_count, fact_count, put_marks};
 use crate::masked::write_masked;
 use crate::side::Side;
-use fort_label_bits::{Arguments, arguments_of, clear, put_first};
+use fort_label_bits::{Arguments, clear, put_first};
 use fort_label_keys::LabelKeys;
 use fort_relations::Rel;
-use fort_terms::{Pattern, Sym, System};
+use fort_terms::Sym;
 use fort_tuple_symbols::TupleSym;
-use std::alloc::{AllocError, Global};
+use std::alloc::AllocError;
 
 /// The keys of the labels of an atom that relates two terms, or of normal forms: the label under a
 /// mask of the marks that are asked.
 #[derive(Drop)]
-pub struct MarkKeys {
+pub struct MarkKeys<'a> {
     /// None for normal forms.
     rel: Option<Rel>,
     arguments: Arguments,
-    left: Side,
-    right: Side,
+    left: Side<'a>,
+    right: Side<'a>,
 }
 
 /// The symbol in a column, and none behind the last one.
@@ -45,52 +38,39 @@ pub(crate) fn column(symbol: &TupleSym, at: usize) -> Option<Sym>
     }
 }
 
-impl MarkKeys {
+impl<'a> MarkKeys<'a> {
     /// Those of normal forms.
-    pub fn normal(alloc: Global, system: &System, index: u32) -> Result<MarkKeys, AllocError>
-        requires { IsIndexOf system.now.rules index }
-        ensures { IfOk result (λ k. IsOfSides NfKind 0 0
-            (map (λ pair. pair.0) (at_index index system.now.rules)) [] (keys_seen k)) }
+    pub fn normal(left: Side<'a>) -> MarkKeys<'a>
+        ensures { IsOfPatterns NfKind 0 0 left.entry [] (keys_seen result) }
     {
-        Ok(MarkKeys {
+        MarkKeys {
             rel: None,
             arguments: Arguments {
                 columns: 1,
                 first: 0,
                 second: 0,
             },
-            left: Side::new(alloc, system.left_patterns(alloc, index)?)?,
-            right: Side::new(alloc, Vec::new(alloc))?,
-        })
+            left,
+            right: Side::new(&[], &[]),
+        }
     }
 
-    /// Those of an atom that relates two terms, by the patterns that stand within the left and the
-    /// right sides of its rules.
+    /// Those of an atom that relates two terms.
     pub fn related(
-        alloc: Global,
         rel: Rel,
-        x: u32,
-        y: u32,
-        lefts: Vec<Pattern>,
-        rights: Vec<Pattern>,
-    ) -> Result<MarkKeys, AllocError>
-        requires left { (tops : List theory.Pattern)
-            × AreSubpatternsInOrder tops (map as_pattern lefts.items) }
-        requires right { (tops : List theory.Pattern)
-            × AreSubpatternsInOrder tops (map as_pattern rights.items) }
-        ensures { IfOk result (λ k. (ls rs : List theory.Pattern) (index : ℕ) (columns : List ℕ)
-            → AreSubpatternsInOrder ls (map as_pattern lefts.items)
-            → AreSubpatternsInOrder rs (map as_pattern rights.items)
-            → AreColumns (Leaf (Related (as_rel rel) index x y)) columns
-            → IsOfSides (kind_for (as_rel rel)) (position_or_len (λ n. n == x) columns)
-            (position_or_len (λ n. n == y) columns) ls rs (keys_seen k)) }
+        arguments: Arguments,
+        left: Side<'a>,
+        right: Side<'a>,
+    ) -> MarkKeys<'a>
+        ensures { IsOfPatterns (kind_for (as_rel rel)) arguments.first arguments.second
+            left.entry right.entry (keys_seen result) }
     {
-        Ok(MarkKeys {
+        MarkKeys {
             rel: Some(rel),
-            arguments: arguments_of(x, y),
-            left: Side::new(alloc, lefts)?,
-            right: Side::new(alloc, rights)?,
-        })
+            arguments,
+            left,
+            right,
+        }
     }
 
     /// The number of words of a label, and of a mask.
@@ -118,7 +98,7 @@ impl MarkKeys {
     }
 }
 
-impl LabelKeys for MarkKeys {
+impl<'a> LabelKeys for MarkKeys<'a> {
     ghost use Rattle.fort_mark_keys.specs.MaskedWords.{masked};
     ghost use Rattle.fort_mark_keys.specs.AskedMarks.{asked_mask as asked_mask_lem};
     ghost use Rattle.fort_mark_keys.specs.MarkKeysView.{keys_seen as keys_seen_lem, mark_words as mark_words_lem};

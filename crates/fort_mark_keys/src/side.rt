@@ -1,26 +1,25 @@
 //! The patterns for one argument of an atom.
-ghost use Rattle.std.specs.Prelude.{◌≡◌, ℕ, ◌+◌, ◌*◌, ◌-◌, ◌<◌, ◌≤◌, ◌^◌, List, ◌++◌, Bool, map, length, IfOk};
-ghost use Rattle.fort_theory.specs.Patterns as theory;
-ghost use Rattle.fort_theory.specs.PatternOrder.{AreSubpatternsInOrder};
+ghost use Rattle.std.specs.Prelude.{◌≡◌, ℕ, ◌+◌, ◌*◌, ◌-◌, ◌<◌, ◌≤◌, ◌^◌, List, ◌++◌, Bool, map, length};
 ghost use Rattle.fort_terms.specs.PatternView.{as_pattern};
 ghost use Rattle.fort_tuple_symbols.specs.Columns.{as_column};
+ghost use Rattle.fort_label_bits.specs.NumberedView.{AreNumbersOf};
 ghost use Rattle.fort_label_bits.specs.RowBits.{HasBits};
 ghost use Rattle.fort_mark_keys.specs.AskedMarks.{asks_pattern};
+ghost use Rattle.fort_mark_keys.specs.AskedPlaces.{NoneListedTwice};
 
 use crate::arguments::add_arguments;
-use fort_label_bits::{Numbered, number_patterns};
+use fort_label_bits::Numbered;
 use fort_terms::{Pattern, Sym};
-use std::alloc::{AllocError, Global};
 use std::marker::Model;
 
-/// Patterns, and each of them by numbers. It is seen as the list of the patterns.
+/// Patterns, and each of them by numbers, which others own. It is seen as the list of the patterns.
 #[derive(Drop)]
-pub(crate) struct Side {
-    patterns: Vec<Pattern>,
-    numbers: Vec<Numbered>,
+pub struct Side<'a> {
+    patterns: &'a [Pattern],
+    numbers: &'a [Numbered],
 }
 
-impl Model for Side {
+impl<'a> Model for Side<'a> {
     ghost use Rattle.std.specs.Prelude.{List};
     ghost use Rattle.fort_theory.specs.Patterns.{Pattern};
 
@@ -35,15 +34,15 @@ impl Model for Side {
     ghost invariant = { IsSide };
 }
 
-impl Side {
-    /// Of the patterns that stand within some.
-    pub(crate) fn new(alloc: Global, patterns: Vec<Pattern>) -> Result<Side, AllocError>
-        requires { (tops : List theory.Pattern)
-            × AreSubpatternsInOrder tops (map as_pattern patterns.items) }
-        ensures { IfOk result (λ s. s ≡ map as_pattern patterns.items) }
+impl<'a> Side<'a> {
+    /// The numbers are places in the list of the patterns.
+    pub fn new(patterns: &'a [Pattern], numbers: &'a [Numbered]) -> Side<'a>
+        requires numbers { AreNumbersOf (map as_pattern patterns.now) numbers.now }
+        requires few { length patterns.now < 2 ^ 32 }
+        requires once { NoneListedTwice (map as_pattern patterns.now) }
+        ensures { result ≡ map as_pattern patterns.now }
     {
-        let numbers = number_patterns(alloc, &patterns)?;
-        Ok(Side { patterns, numbers })
+        Side { patterns, numbers }
     }
 
     pub(crate) fn len(&self) -> usize
@@ -61,6 +60,6 @@ impl Side {
             → HasBits (bits ++ map (asks_pattern self.now (as_column root) place) self.now)
             out.new }
     {
-        add_arguments(&self.numbers, base, root, place, out);
+        add_arguments(self.numbers, base, root, place, out);
     }
 }

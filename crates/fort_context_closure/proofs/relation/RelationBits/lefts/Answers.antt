@@ -1,0 +1,4 @@
+use Rattle.fort_context_closure.proofs.relation.RelationBits.lefts.Goals as goal
+
+pub returns : goal.returns
+returns c = rw (← c.self.view_is, c.deref.ensures.value) c.self.invariant.left_numbers
