@@ -7,8 +7,10 @@ use Rattle.fort_tables.specs.Selections.{selected}
 use Rattle.fort_tables.specs.Products.{OfTable}
 use Rattle.fort_tables.proofs.SelectionLaws.{AreSymbols-selected}
 use Rattle.fort_table_classes.specs.ClassViews.{IsPlaceUnder, IsSeenIn}
-use Rattle.fort_product_keys.specs.ProductViews.{are_symbols, has_kid_at, IsSomeView}
-use Rattle.fort_product_keys.proofs.SymbolTests.{symbols_from_test, test_from_kid, place_from_test}
+use Rattle.fort_table_classes.specs.KnownSymbols.{are_symbols}
+use Rattle.fort_table_classes.proofs.SymbolTests.{symbols_from_test}
+use Rattle.fort_product_keys.specs.ProductViews.{has_kid_at, IsSomeView}
+use Rattle.fort_product_keys.proofs.SymbolTests.{test_from_kid, place_from_test}
 use Rattle.fort_product_keys.proofs.WordLaws.{view_there, view_none, presence_there}
 
 module _ (table : Table) (places : List ℕ) (columns : ℕ) (f : TupleSymbol) (j : ℕ) where

@@ -1,16 +1,11 @@
 -- To believe: what a place asks of the label of a product's child: for each operand one more than the number of its view there, and the presence of its states there, or twice 0 where the operand has no such child or is a truth; and the key by this: for each operand one more than the leader, in the view, of the state that the label tells, or 0.
-use Rattle.std.specs.Prelude.{◌≡◌, ℕ, suc, ◌-◌, List, [], ◌∷◌, length, get_or, None, Some, Bool, true, ◌&&◌, ◌==◌, nat_lt, if◌then◌else◌}
+use Rattle.std.specs.Prelude.{◌≡◌, ℕ, suc, ◌-◌, List, [], ◌∷◌, length, get_or, Bool, ◌&&◌, ◌==◌, nat_lt, if◌then◌else◌}
 use Rattle.fort_theory.specs.Signatures.{Signature}
 use Rattle.fort_tables.specs.Tuples.{TupleSymbol, symbol_kids, kid_presence}
 use Rattle.fort_tables.specs.Tables.{Table}
 use Rattle.fort_tables.specs.Selections.{selected}
 use Rattle.fort_tables.specs.Products.{Operand, OfTable, OfTruth, IsOperand}
-
--- whether each column that is present has a symbol of the signature
-abbrev pub are_symbols : Signature → TupleSymbol → Bool
-are_symbols sig [] = true
-are_symbols sig (None ∷ f) = are_symbols sig f
-are_symbols sig (Some g ∷ f) = nat_lt g (length sig) && are_symbols sig f
+use Rattle.fort_table_classes.specs.KnownSymbols.{are_symbols}
 
 -- whether the symbol has so many columns, and the table's own ones have such a child
 abbrev pub has_kid_at : Table → List ℕ → ℕ → TupleSymbol → ℕ → Bool

@@ -3,6 +3,5 @@
 
 mod operand_keys;
 mod product_keys;
-mod symbols;
 
 pub use product_keys::ProductKeys;

@@ -6,9 +6,8 @@ ghost use Rattle.fort_products.specs.Operands.{operand_of};
 ghost use Rattle.fort_product_keys.specs.ProductViews.{view_word, presence_word, key_word, IsSomeView};
 ghost use Rattle.fort_product_keys.specs.ProgramViews.{numbers_of, leaders_of};
 
-use crate::symbols::are_symbols;
 use fort_products::Operand;
-use fort_table_classes::TableClasses;
+use fort_table_classes::{TableClasses, are_symbols};
 use fort_target_lists::{kid_count, kid_presence, selected};
 use fort_tuple_symbols::TupleSym;
 

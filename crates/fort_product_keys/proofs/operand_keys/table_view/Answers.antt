@@ -3,7 +3,7 @@ use Rattle.fort_theory.specs.Signatures.{Signature}
 use Rattle.fort_tables.specs.Tuples.{TupleSymbol, AreSymbols, symbol_kids}
 use Rattle.fort_tables.specs.Selections.{selected}
 use Rattle.fort_table_classes.specs.ClassViews.{IsPlaceUnder}
-use Rattle.fort_product_keys.specs.ProductViews.{are_symbols}
+use Rattle.fort_table_classes.specs.KnownSymbols.{are_symbols}
 use Rattle.fort_product_keys.proofs.SymbolTests.{place_from_test}
 use Rattle.fort_product_keys.proofs.ViewedStates.{own_symbols, there_by_place}
 use Rattle.fort_product_keys.proofs.operand_keys.table_view.Goals as goal

@@ -1,7 +1,7 @@
 use Rattle.std.proofs.Common.{◌≡◌, ◌+◌, suc, true, false, drop, sym, ◌∙◌, ap, arith}
-use Rattle.fort_product_keys.specs.ProductViews.{are_symbols}
-use Rattle.fort_product_keys.proofs.SymbolTests.{column_then}
-use Rattle.fort_product_keys.proofs.symbols.are_symbols.Goals as goal
+use Rattle.fort_table_classes.specs.KnownSymbols.{are_symbols}
+use Rattle.fort_table_classes.proofs.SymbolTests.{column_then}
+use Rattle.fort_table_classes.proofs.symbols.are_symbols.Goals as goal
 
 pub returns-then-not-is_column : goal.returns-then-not-is_column
 returns-then-not-is_column c =
