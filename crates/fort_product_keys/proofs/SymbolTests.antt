@@ -1,8 +1,7 @@
 -- The tests by which a place has a view say what they are to say.
-use Rattle.std.proofs.Common.{◌≡◌, ℕ, zero, suc, ◌<◌, List, [], ◌∷◌, drop, length, get_or, slice_get, Option, None, Some, Bool, true, false, ◌&&◌, ◌==◌, nat_lt, refl, ap, sym, ◌∙◌, arith, eq-eqb}
-use Rattle.std.proofs.lemmas.Bool.{and_from, and_parts, lt-ltb, ltb-true}
+use Rattle.std.proofs.Common.{◌≡◌, ℕ, ◌<◌, List, [], ◌∷◌, length, get_or, None, Some, true, ◌&&◌, ◌==◌, nat_lt, ap, ◌∙◌, arith, eq-eqb}
+use Rattle.std.proofs.lemmas.Bool.{and_parts, ltb-true}
 use Rattle.std.proofs.lemmas.List.{length-map}
-use Rattle.fort_theory.specs.Signatures.{Signature}
 use Rattle.fort_tables.specs.Tuples.{Tuple, TupleSymbol, kid_count, IsPresent, AreSymbols, symbol_kids}
 use Rattle.fort_tables.specs.Tables.{Table}
 use Rattle.fort_tables.specs.Selections.{selected}
