@@ -125,6 +125,24 @@ impl<'a, T: Table> Both<'a, T> {
         }
     }
 
+    pub fn first(&self) -> &Operand<'a, T>
+        ensures lent { result.now ≡ self.now.first }
+        ensures operand { products.IsOperand (products.signature_of
+            (operand_of T.table self.now.first) (operand_of T.table self.now.second))
+            self.now.columns (operand_of T.table self.now.first) }
+    {
+        &self.first
+    }
+
+    pub fn second(&self) -> &Operand<'a, T>
+        ensures lent { result.now ≡ self.now.second }
+        ensures operand { products.IsOperand (products.signature_of
+            (operand_of T.table self.now.first) (operand_of T.table self.now.second))
+            self.now.columns (operand_of T.table self.now.second) }
+    {
+        &self.second
+    }
+
     /// Whether the targets are those of the product's entries from a place on, where the states have these labels. It may be false of
     /// right ones too: where the list of an operand that is a table isn't there. It takes no memory.
     pub fn are_targets(

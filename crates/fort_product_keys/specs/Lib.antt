@@ -1,0 +1,2 @@
+pub mod ProductViews
+pub mod ProgramViews

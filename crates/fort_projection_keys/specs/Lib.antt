@@ -1,0 +1,2 @@
+pub mod ProjectionViews
+pub mod ViewedPlaces

@@ -1,0 +1,2 @@
+pub mod KnownSymbols
+pub mod ClassViews
