@@ -1,22 +1,12 @@
 -- Rows of bits for a closure: rows with no bit on, one more bit, one more entry; and the bits of one row added to another.
-use Rattle.std.specs.Prelude.{◌≡◌, ◌≢◌, ◌⊎◌, ℕ, zero, suc, ◌+◌, ◌*◌, ◌/◌, ◌%◌, ◌<◌, ◌≤◌, List, [], ◌∷◌, ◌++◌, length, take, set, get_or, Contains, Bool, true, false, Decides, nat_lt, ◌&&◌, ◌||◌, ◌==◌, refl}
-use Prim.Native.Nat.{max}
-use Rattle.std.specs.List.{list_any}
-use Rattle.std.proofs.Math.Bool.{or_assoc}
-use Rattle.std.specs.Int.{bit_at}
-use Rattle.std.proofs.Common.{sym, ap, subst, ◌∙◌, arith, inl, inr, eq-eqb, ⊎_elim}
-use Rattle.std.specs.Int.Bits.{bit_or}
-use Rattle.std.proofs.lemmas.Bool.{cases_eq, cases_lt}
-use Rattle.std.proofs.lemmas.Nat.Bits.{bit_at_or, bit_at-lt}
+use Rattle.std.specs.Prelude.{◌≡◌, ◌⊎◌, ℕ, suc, ◌+◌, ◌<◌, List, [], ◌∷◌, ◌++◌, length, take, get_or, Contains, true, false, Decides, nat_lt, ◌&&◌, ◌||◌, ◌==◌, refl}
+use Rattle.std.proofs.Common.{sym, ap, subst, ◌∙◌, arith, inl, inr}
 use Rattle.std.proofs.lemmas.Bool.Decides.{Decides-eqb, Decides-ltb, Decides-like, Decides-and, Decides-or}
-use Rattle.std.proofs.lemmas.List.{get_or-set_same, get_or-set_other, length-set, take_more, map-append, length-append, get_or_append_left, get_or_push, get_or_past}
+use Rattle.std.proofs.lemmas.List.{take_more, map-append}
 use Rattle.std.proofs.lemmas.List.Elements.{Contains-append_left, Contains-append_right, Contains-append_cases}
 use Rattle.fort_theory.proofs.Members.{Contains-none, Contains-cons_cases, Contains-head}
-use Rattle.fort_tables.specs.BitRows.{has_bit, words_for}
-use Rattle.fort_tables.proofs.BitRowLaws.{has_bit-drop, has_bit-past}
-use Rattle.fort_tables.proofs.EqualTests.{test_from_apart}
-use Rattle.fort_alike.proofs.Bits.{Decides-false, same_from_iff}
-use Rattle.fort_label_bits.proofs.RowBitLaws.{HasBits-none}
+use Rattle.fort_tables.specs.BitRows.{words_for}
+use Rattle.fort_alike.proofs.Bits.{Decides-false}
 use Rattle.fort_findings.specs.declared.closure.ClosureEntry.{ClosureEntry}
 use Rattle.fort_label_bits.specs.RowBits.{bit_of}
 use Rattle.fort_context_closure.specs.ClosedAtoms.{numbers_of}

@@ -1,5 +1,5 @@
 -- Inside: a closure in rows of bits, and what such rows add to a label.
-use Rattle.std.specs.Prelude.{◌≡◌, ℕ, ◌+◌, ◌<◌, suc, List, [], map, length, get_or, Contains, Option, None, Bool, false, Decides, nat_lt, ◌&&◌, ◌||◌, ◌==◌, vec_items}
+use Rattle.std.specs.Prelude.{◌≡◌, ℕ, ◌+◌, ◌<◌, suc, List, map, length, get_or, Contains, Option, None, Bool, Decides, nat_lt, ◌&&◌, ◌||◌, ◌==◌, vec_items}
 use Rattle.fort_theory.specs.Patterns.{Pattern, Any}
 use Rattle.fort_tables.specs.BitRows.{words_for}
 use Rattle.fort_alike.specs.PatternNumbers.{PatternNumber, number_inside}

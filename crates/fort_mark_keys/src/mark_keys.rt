@@ -56,12 +56,7 @@ impl<'a> MarkKeys<'a> {
     }
 
     /// Those of an atom that relates two terms.
-    pub fn related(
-        rel: Rel,
-        arguments: Arguments,
-        left: Side<'a>,
-        right: Side<'a>,
-    ) -> MarkKeys<'a>
+    pub fn related(rel: Rel, arguments: Arguments, left: Side<'a>, right: Side<'a>) -> MarkKeys<'a>
         ensures { IsOfPatterns (kind_for (as_rel rel)) arguments.first arguments.second
             left.entry right.entry (keys_seen result) }
     {

@@ -1,7 +1,7 @@
-use Rattle.std.proofs.Common.{[], map, refl}
+use Rattle.std.proofs.Common.{map, refl}
 use Rattle.fort_alike.specs.Alike.{facts_of}
 use Rattle.fort_alike.specs.Atoms.{NfKind}
-use Rattle.fort_alike.specs.ListedAtoms.{OfSecond, OfBoth}
+use Rattle.fort_alike.specs.ListedAtoms.{OfBoth}
 use Rattle.fort_context_closure.specs.NormalView.{normal_patterns}
 use Rattle.fort_context_closure.proofs.LentPatterns.{side-listed, NoPatternTwice-marks}
 use Rattle.fort_context_closure.proofs.normal.NormalBits.patterns.Goals as goal
