@@ -1,0 +1,113 @@
+//! Finished tables with the classes of their states.
+ghost use Rattle.std.specs.Prelude.{◌≡◌, IfOk};
+ghost use Rattle.fort_tables.specs.Tables.{listed_table};
+ghost use Rattle.fort_target_lists.specs.TargetLists.{IsTargetListOf};
+ghost use Rattle.fort_classed_tables.specs.TableViews.{AreTableViews, AreTableViews-prop};
+
+use crate::counted::{Counted, count_states};
+use crate::place_views::{PlaceViews, views_of};
+use fort_lockstep::Dta;
+use fort_table::Table;
+use fort_table_classes::TableClasses;
+use fort_target_lists::TargetList;
+use fort_terms::Signature;
+use fort_tuple_symbols::TupleSym;
+use std::alloc::{AllocError, Global};
+
+/// A table, and at each place under a tuple symbol its states in classes: those of one class have the same targets under that tuple
+/// symbol, whatever the other children are.
+#[derive(Drop)]
+pub struct ClassedTable<'a> {
+    table: &'a Dta,
+    list: &'a TargetList,
+    views: PlaceViews,
+    ghost views_are: { AreTableViews (listed_table table.now) list.now views.views views.starts.items views.numbers.items } by { AreTableViews-prop (listed_table table.now) list.now views.views views.starts.items views.numbers.items },
+}
+
+impl<'a> ClassedTable<'a> {
+    /// Finds the classes, by some reads of each target for each child.
+    pub fn new(alloc: Global, table: &'a Dta) -> Result<ClassedTable<'a>, AllocError>
+        ensures { IfOk result (λ c. c.table.now ≡ table.now) }
+    {
+        let list = table.list();
+        let Some(flat) = list.flat() else {
+            // a table without entries has no states
+            let views = PlaceViews::new(alloc)?;
+            return Ok(ClassedTable { table, list, views });
+        };
+        let counts = count_states(alloc, table)?;
+        let counted = Counted {
+            table,
+            flat,
+            counts: counts.as_slice(),
+        };
+        let views = views_of(alloc, &counted)?;
+        Ok(ClassedTable { table, list, views })
+    }
+
+    /// The targets of all entries in one list.
+    pub fn list(&self) -> &TargetList
+        ensures { IsTargetListOf (listed_table self.now.table.now) result.now }
+    {
+        self.list
+    }
+}
+
+impl<'a> Table for ClassedTable<'a> {
+    ghost table = { λ c. listed_table c.table.now };
+
+    fn signature(&self) -> &Signature {
+        self.table.signature()
+    }
+
+    fn columns(&self) -> usize {
+        self.table.columns()
+    }
+
+    fn states(&self) -> u32 {
+        self.table.states()
+    }
+
+    fn presence(&self, q: u32) -> u16 {
+        self.table.presence(q)
+    }
+
+    fn is_final(&self, q: u32) -> bool {
+        self.table.is_final(q)
+    }
+
+    fn target(&self, sym: &TupleSym, kids: &[u32]) -> u32 {
+        self.table.target(sym, kids)
+    }
+}
+
+impl<'a> TableClasses for ClassedTable<'a> {
+    ghost use Rattle.fort_classed_tables.specs.PlaceLeaders.{leader_at, place_view, lead_in};
+    ghost use Rattle.std.specs.Prelude.{refl};
+    ghost use Rattle.fort_tables.specs.Tables.{listed_table};
+
+    ghost lead = { λ c. lead_in (listed_table c.table.now) c.views.views c.views.starts.items
+        c.views.numbers.items };
+
+    ghost view_number = { λ c. place_view (listed_table c.table.now) c.views.starts.items
+        c.views.numbers.items };
+
+    ghost leader_in = { λ c. leader_at c.views.views };
+
+    ghost few = { λ c f j _. c.views_are.few _ };
+
+    ghost leads = { λ c f j q _. refl };
+
+    ghost is_led = { λ c. c.views_are.led };
+
+    fn view(&self, symbol: &TupleSym, place: usize) -> u32 {
+        match self.list.flat() {
+            Some(flat) => self.views.view(flat.number(symbol), place),
+            None => 0,
+        }
+    }
+
+    fn leader(&self, view: u32, state: u32) -> u32 {
+        self.views.leader(view, state)
+    }
+}
