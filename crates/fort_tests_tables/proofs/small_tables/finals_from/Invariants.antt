@@ -1,6 +1,6 @@
 use Rattle.std.proofs.Common.{◌≡◌, ℕ, ◌<◌, length, get_or, true, false}
 use Rattle.fort_tables.specs.Tables.{full_presence}
-use Rattle.fort_tests_tables.proofs.small_tables.finals_from.PlainTable as goal
+use Rattle.fort_tests_tables.proofs.small_tables.finals_from.Given as goal
 
 abbrev pub invariant-loop-q : goal.invariant-loop-q
 invariant-loop-q l = record {

@@ -1,5 +1,5 @@
 use Rattle.std.proofs.Common.{◌≡◌, ℕ, length, get_or, false}
-use Rattle.fort_tests_tables.proofs.small_tables.no_finals.PlainTable as goal
+use Rattle.fort_tests_tables.proofs.small_tables.no_finals.Given as goal
 
 abbrev pub invariant-loop-k : goal.invariant-loop-k
 invariant-loop-k l = record {

@@ -1,5 +1,5 @@
 use Rattle.std.proofs.Common.{◌≡◌, ◌≤◌, ◌-◌, ◌^◌, length}
-use Rattle.fort_tests_tables.proofs.small_tables.table_from.PlainTable as goal
+use Rattle.fort_tests_tables.proofs.small_tables.table_from.Given as goal
 
 abbrev pub invariant-entries : goal.invariant-entries
 invariant-entries l = record {
