@@ -157,37 +157,6 @@ fn nothing_to_be_trimmed(rt: HostRuntime) -> Result<(), Fail> {
 }
 
 #[test]
-fn states_of_a_term(rt: HostRuntime) -> Result<(), Fail> {
-    let alloc = rt.alloc();
-    // The patterns Any, b and g(Any, b) are states 0, 1 and 2.
-    let agtt = steps(alloc, 1)?;
-    let wanted: [&[u32]; 5] = [&[0], &[0, 1], &[0, 2], &[0, 2], &[0]];
-    for (term, states) in terms(alloc)?.iter().zip(wanted) {
-        let mut found = Vec::new(alloc);
-        for state in &agtt.left.states_of(alloc, term)? {
-            found.push(*state)?;
-        }
-        assert_eq!(rt; found.as_slice(), states);
-    }
-    Ok(())
-}
-
-#[test]
-fn rules_both_ways(rt: HostRuntime) -> Result<(), Fail> {
-    let alloc = rt.alloc();
-    let given = system(alloc)?;
-    let rules = given.rules(1);
-    assert_eq!(rt; rules.len(), 1);
-    let (left, right) = &rules[0];
-    let both = given.both_ways(alloc, 1)?;
-    let found = both.rules(1);
-    assert_eq!(rt; found.len(), 2);
-    assert!(rt; &found[0].0 == left && &found[0].1 == right);
-    assert!(rt; &found[1].0 == right && &found[1].1 == left);
-    Ok(())
-}
-
-#[test]
 fn growing_term(rt: HostRuntime) -> Result<(), Fail> {
     let alloc = rt.alloc();
     let agtt = steps(alloc, 3)?;

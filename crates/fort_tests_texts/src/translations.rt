@@ -3,9 +3,7 @@ ghost use Rattle.std.specs.Prelude.{◌≡◌, [], IfOk};
 ghost use Rattle.fort_logic.specs.Mentions.{places, places_in};
 ghost use Rattle.fort_formulas.specs.FormulaView.{as_argument, as_formula};
 
-use fort_formulas::{
-    Arg, Core, CoreFault, Formula, Kind, Macro, Name, Operand, kind, parts, to_core,
-};
+use fort_formulas::{Arg, Core, Formula, Kind, Macro, Name, Operand, kind, parts, to_core};
 use fort_relations::{Holes, Place, Rex};
 use std::alloc::Global;
 use std::test::Fail;
@@ -69,28 +67,6 @@ fn a_root_step_in_any_context(rt: HostRuntime) -> Result<(), Fail> {
     let formula = Formula::Rex(Rex::Root(1), Holes::One, Place::All, x, y);
     let core = core_of(alloc, &formula)?;
     assert!(rt; core == Core::Rel(Rex::Root(1), Holes::One, Place::All, 0, 1));
-    Ok(())
-}
-
-/// Normal forms of so many variables, joined by "and".
-fn normal_forms(alloc: Global, count: u8) -> Result<Formula, Fail>
-    requires { count ≤ 20 }
-    ensures { IfOk result (λ f. places (as_formula f) ≡ []) }
-{
-    let last = Formula::Nf(variable(alloc, b'a' + count)?, 1);
-    if count == 0 {
-        return Ok(last);
-    }
-    let others = Operand::new(alloc, normal_forms(alloc, count - 1)?)?;
-    Ok(Formula::And(others, Operand::new(alloc, last)?))
-}
-
-#[test]
-fn sixteen_variables_and_one_more(rt: HostRuntime) -> Result<(), Fail> {
-    let alloc = rt.alloc();
-    assert!(rt; to_core(alloc, &normal_forms(alloc, 15)?, &[]).is_ok());
-    let wide = to_core(alloc, &normal_forms(alloc, 16)?, &[]);
-    assert!(rt; matches!(wide, Err(CoreFault::TooWide)));
     Ok(())
 }
 
