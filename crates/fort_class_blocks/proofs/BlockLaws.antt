@@ -131,6 +131,12 @@ blocks_full ts ss h = λ b l.
     let e : block_at (map (block_in ts) ss) b ≡ block_in ts s = get_or-map (block_in ts) ss b none no_block low in
     subst (λ (x : Block). length x.cells ≡ product x.counts) (sym e) (length-take-le (size_of s) (drop s.start ts) (omega (arith, w.high, length-drop s.start ts)))
 
+-- a block has few places
+pub few_places : (ts : List ℕ) (ss : List Shape) (from to b : ℕ) → AreBetween from ss to → length (counts_at (map (block_in ts) ss) b) ≤ 8
+few_places ts [] from to b h = omega arith
+few_places ts (s ∷ ss) from to zero h = omega (arith, length-take-le s.places s.counts (omega (arith, h.0.few, h.0.size)), h.0.few)
+few_places ts (s ∷ ss) from to (suc b) h = few_places ts ss (from + size_of s) to b h.2
+
 -- a combination's cell: it stands in the list, its target is read there, and one that is written there is the combination's
 pub record IsCell (ts : List ℕ) (ss : List Shape) (bs : List Block) (b : ℕ) (s : Shape) (cs : List ℕ) : Type 0 where
   pub shape : IsShape s

@@ -1,3 +1,4 @@
 pub mod Blocks
 pub mod Shapes
 pub mod BlocksInside
+pub mod KeptBlocks

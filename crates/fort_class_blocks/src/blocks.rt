@@ -58,6 +58,7 @@ impl Blocks {
     pub fn len(&self) -> usize
         ensures count { result ≡ length self.now }
         ensures full { AreFull self.now }
+        ensures places { (b : ℕ) → length (counts_at self.now b) ≤ 8 }
     {
         self.shapes.len()
     }

@@ -2,6 +2,8 @@
 #![tactic(auto)]
 
 mod blocks;
+mod combinations;
 mod shape;
 
 pub use blocks::Blocks;
+pub use combinations::{first_classes, next_classes};

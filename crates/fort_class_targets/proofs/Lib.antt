@@ -1,5 +1,9 @@
 pub mod ListLaws
-pub mod RowLaws
-pub mod TellingLaws
-pub mod TurnedLaws
 pub mod LedBodyLaws
+pub mod FillLaws
+pub mod NumberLaws
+pub mod SymbolBlockLaws
+pub mod ClassFacts
+pub mod RankFacts
+pub mod PlaceFacts
+pub mod ClassListLaws

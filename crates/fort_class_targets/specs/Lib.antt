@@ -1,4 +1,5 @@
-pub mod TurnedKids
 pub mod LedBodies
-pub mod ClassRows
-pub mod Telling
+pub mod FilledBlocks
+pub mod NumberedViews
+pub mod TakenViews
+pub mod SymbolBlocks

@@ -1,8 +1,11 @@
-//! The targets of all entries of a table, read off the classes of the children's states and the targets of the leading entries.
+//! A table's targets by the classes of its states, from the targets of its leading entries.
 #![tactic(auto)]
 
-mod class_targets;
 mod kids;
+mod listing;
+mod place_leaders;
+mod symbols;
+mod taken;
+mod view_numbers;
 
-pub use class_targets::ClassTargets;
-pub use kids::kid_leaders;
+pub use listing::class_list;

@@ -17,7 +17,7 @@ use Rattle.fort_target_lists.proofs.LookUpLaws.{symbol_below}
 use Rattle.fort_classed_tables.specs.declared.place_views.PlaceViews.{PlaceViews}
 use Rattle.fort_classed_tables.specs.PlaceLeaders.{IsLedPlace, leader_in, lead_in}
 use Rattle.fort_classed_tables.specs.MakingViews.{AreViews, AreLedTo}
-use Rattle.fort_classed_tables.specs.TableViews.{AreTableViews}
+use Rattle.fort_classed_tables.specs.TableViews.{AreFoundViews}
 use Rattle.fort_classed_tables.proofs.KidLaws.{child_of, entry_with}
 use Rattle.fort_classed_tables.proofs.PlaceLaws.{led_own}
 
@@ -88,7 +88,7 @@ numbers_few numbers views v known k = ⊎_elim
 
 -- Result: the views of all places
 pub table_views : (table : Table) (list : TargetList) (v : PlaceViews) (n : ℕ) → IsTargetListOf table list → IsTrue list.is_made → n ≡ length list.list.listing.starts.items
-    → AreLedTo table n v → AreTableViews table list v.views v.starts.items v.numbers.items
+    → AreLedTo table n v → AreFoundViews table list v.views v.starts.items v.numbers.items
 table_views table list v n is made all h =
     let flat = is.list_is made in
     let low : (f : TupleSymbol) (j : ℕ) → IsPlaceUnder table f j → number_of (base_of table) f < n = λ f j under.
@@ -106,7 +106,7 @@ table_views table list v n is made all h =
 
 -- Result: of a table without entries
 pub no_views : (table : Table) (list : TargetList) (v : PlaceViews) → IsTargetListOf table list → IsFalse list.is_made → AreViews v.views → v.numbers.items ≡ []
-    → AreTableViews table list v.views v.starts.items v.numbers.items
+    → AreFoundViews table list v.views v.starts.items v.numbers.items
 no_views table list v is not_made views none =
     let never : IsTrue list.is_made → ⊥ = λ made. false≢true (sym not_made ∙ made) in
     let low : (k : ℕ) → k < length v.numbers.items → get_or v.numbers.items k 0 < length v.views = λ k l. absurd (omega (arith, l, ap length none)) in

@@ -6,6 +6,7 @@ ghost use Rattle.fort_classed_tables.specs.TableViews.{AreTableViews, AreTableVi
 
 use crate::counted::{Counted, count_states};
 use crate::place_views::{PlaceViews, views_of};
+use crate::table_views::TableViews;
 use fort_lockstep::Dta;
 use fort_table::Table;
 use fort_table_classes::TableClasses;
@@ -20,19 +21,24 @@ use std::alloc::{AllocError, Global};
 pub struct ClassedTable<'a> {
     table: &'a Dta,
     list: &'a TargetList,
-    views: PlaceViews,
-    ghost views_are: { AreTableViews (listed_table table.now) list.now views.views views.starts.items views.numbers.items } by { AreTableViews-prop (listed_table table.now) list.now views.views views.starts.items views.numbers.items },
+    views: TableViews<'a>,
+    ghost views_are: { AreTableViews (listed_table table.now) list.now views } by { AreTableViews-prop (listed_table table.now) list.now views },
 }
 
 impl<'a> ClassedTable<'a> {
-    /// Finds the classes, by some reads of each target for each child.
+    /// By the classes that the table keeps; where it keeps none they are found, by some reads of each target for each child.
     pub fn new(alloc: Global, table: &'a Dta) -> Result<ClassedTable<'a>, AllocError>
         ensures { IfOk result (λ c. c.table.now ≡ table.now) }
     {
         let list = table.list();
+        if let Some(kept) = list.by_classes() {
+            let views = TableViews::Kept(kept);
+            return Ok(ClassedTable { table, list, views });
+        }
         let Some(flat) = list.flat() else {
             // a table without entries has no states
-            let views = PlaceViews::new(alloc)?;
+            let none = PlaceViews::new(alloc)?;
+            let views = TableViews::Found(none);
             return Ok(ClassedTable { table, list, views });
         };
         let counts = count_states(alloc, table)?;
@@ -41,7 +47,8 @@ impl<'a> ClassedTable<'a> {
             flat,
             counts: counts.as_slice(),
         };
-        let views = views_of(alloc, &counted)?;
+        let found = views_of(alloc, &counted)?;
+        let views = TableViews::Found(found);
         Ok(ClassedTable { table, list, views })
     }
 
@@ -82,32 +89,37 @@ impl<'a> Table for ClassedTable<'a> {
 }
 
 impl<'a> TableClasses for ClassedTable<'a> {
-    ghost use Rattle.fort_classed_tables.specs.PlaceLeaders.{leader_at, place_view, lead_in};
+    ghost use Rattle.fort_classed_tables.specs.TableViews.{number_in, leader_by, lead_by, few_views, led_by_views};
     ghost use Rattle.std.specs.Prelude.{refl};
     ghost use Rattle.fort_tables.specs.Tables.{listed_table};
 
-    ghost lead = { λ c. lead_in (listed_table c.table.now) c.views.views c.views.starts.items
-        c.views.numbers.items };
+    ghost lead = { λ c. lead_by (listed_table c.table.now) c.views };
 
-    ghost view_number = { λ c. place_view (listed_table c.table.now) c.views.starts.items
-        c.views.numbers.items };
+    ghost view_number = { λ c. number_in (listed_table c.table.now) c.views };
 
-    ghost leader_in = { λ c. leader_at c.views.views };
+    ghost leader_in = { λ c. leader_by c.views };
 
-    ghost few = { λ c f j _. c.views_are.few _ };
+    ghost few = { λ c f j under. few_views (listed_table c.table.now) c.list.now c.views
+        c.views_are f j under };
 
     ghost leads = { λ c f j q _. refl };
 
-    ghost is_led = { λ c. c.views_are.led };
+    ghost is_led = { λ c. led_by_views (listed_table c.table.now) c.list.now c.views c.views_are };
 
     fn view(&self, symbol: &TupleSym, place: usize) -> u32 {
-        match self.list.flat() {
-            Some(flat) => self.views.view(flat.number(symbol), place),
-            None => 0,
+        match &self.views {
+            TableViews::Kept(list) => list.view(list.number(symbol), place),
+            TableViews::Found(views) => match self.list.flat() {
+                Some(flat) => views.view(flat.number(symbol), place),
+                None => 0,
+            },
         }
     }
 
     fn leader(&self, view: u32, state: u32) -> u32 {
-        self.views.leader(view, state)
+        match &self.views {
+            TableViews::Kept(list) => list.leader(view, state),
+            TableViews::Found(views) => views.leader(view, state),
+        }
     }
 }

@@ -7,5 +7,6 @@ mod counted;
 mod leaders;
 mod list_set;
 mod place_views;
+mod table_views;
 
 pub use classed_table::ClassedTable;

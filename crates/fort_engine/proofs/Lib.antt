@@ -6,3 +6,4 @@ pub mod DecideLaws
 pub mod ClosureLaws
 pub mod ReducedTables
 pub mod StateLaws
+pub mod KeyedLaws

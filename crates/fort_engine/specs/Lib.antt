@@ -3,3 +3,4 @@ pub mod Kept
 pub mod Deciding
 pub mod Found
 pub mod Closures
+pub mod ClassedView

@@ -15,9 +15,11 @@ ghost use Rattle.fort_engine.specs.Closures.{AreClosures};
 ghost use Rattle.fort_engine.specs.Deciding.{IsDecision, AreLabelsFor};
 
 use crate::answer::Decided;
+use crate::by_keys::{explored_by_keys, is_branching};
 use crate::closures::Closures;
 use crate::explored::explored;
 use crate::options::Options;
+use fort_atom_keys::AtomKeys;
 use fort_context_closure::{AtomLabels, SignedAtom};
 use fort_explore::ExploreFault;
 use fort_findings::ClosureEntry;
@@ -41,7 +43,11 @@ fn by_labels(
 {
     let signature = system.signature();
     let atom = SignedAtom { signature, labels };
-    explored(alloc, system, &ByRule(&atom), options)
+    if !is_branching(signature) {
+        return explored(alloc, system, &ByRule(&atom), options);
+    }
+    let keys = AtomKeys::of(alloc, labels)?;
+    explored_by_keys(alloc, system, &ByRule(&atom), &keys, options)
 }
 
 /// Decides whether two variables are related; a reduction or a conversion by the closure of the index.

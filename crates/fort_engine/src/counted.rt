@@ -1,5 +1,5 @@
 //! "Infinitely many" of answers.
-ghost use Rattle.std.specs.Prelude.{◌≡◌, ℕ, map};
+ghost use Rattle.std.specs.Prelude.{◌≡◌, ◌<◌, ℕ, map};
 ghost use Rattle.fort_theory.specs.Cores as theory;
 ghost use Rattle.fort_tables.specs.Tables.{listed_table};
 ghost use Rattle.fort_findings.specs.FindingView.{as_count};
@@ -9,9 +9,11 @@ ghost use Rattle.fort_engine.specs.Deciding.{IsBody, IsDecision};
 ghost use Rattle.fort_engine.specs.Found.{counted_with, IsCounted, IsDecidedBy, IsMany, IsManyOf};
 
 use crate::answer::{Decided, Last};
+use crate::by_keys::{explored_by_keys, is_branching};
 use crate::explored::explored;
 use crate::operands::Answered;
 use crate::options::Options;
+use fort_classed_tables::ClassedTable;
 use fort_explore::ExploreFault;
 use fort_findings::Count;
 use fort_infinity::local::many_value;
@@ -19,6 +21,7 @@ use fort_infinity::{Many, pure_counts};
 use fort_labels::ByRule;
 use fort_lockstep::Dta;
 use fort_outline::column_of;
+use fort_projection_keys::ManyKeys;
 use fort_projections::pure_states;
 use fort_table::Table;
 use fort_terms::System;
@@ -50,7 +53,52 @@ fn with_counts(
     }
 }
 
-/// Decides "for infinitely many values of a variable" of a formula with this table, by the counts of the states that have the variable alone.
+/// Decides "for infinitely many values of a variable" of a formula with other columns and this table, by the counts of the states that
+/// have the variable alone.
+fn many_by_entries(
+    alloc: Global,
+    system: &System,
+    table: &Dta,
+    column: usize,
+    alone: &[u32],
+    counts: &[Count],
+    options: &Options,
+) -> Result<Decided, ExploreFault>
+    requires counted { (n : ℕ) × (f : theory.Core) × IsCounted system.now options.now n f
+        (listed_table table.now) column alone.now (map as_count counts.now) }
+    requires others { 1 < table.now.columns }
+    ensures { (n : ℕ) (f : theory.Core) → IsCounted system.now options.now n f
+        (listed_table table.now) column alone.now (map as_count counts.now)
+        → IsDecision system.now options.now (theory.Infinite n f) result }
+{
+    let many = Many::new(table, column, alone, counts);
+    explored(alloc, system, &ByRule(&many), options)
+}
+
+/// The same by the classes of the table's states.
+fn many_by_classes<'b>(
+    alloc: Global,
+    system: &System,
+    table: &Dta,
+    column: usize,
+    alone: &'b [u32],
+    counts: &'b [Count],
+    options: &Options,
+) -> Result<Decided, ExploreFault>
+    requires counted { (n : ℕ) × (f : theory.Core) × IsCounted system.now options.now n f
+        (listed_table table.now) column alone.now (map as_count counts.now) }
+    requires others { 1 < table.now.columns }
+    ensures { (n : ℕ) (f : theory.Core) → IsCounted system.now options.now n f
+        (listed_table table.now) column alone.now (map as_count counts.now)
+        → IsDecision system.now options.now (theory.Infinite n f) result }
+{
+    let classed = ClassedTable::new(alloc, table)?;
+    let many = Many::new(&classed, column, alone, counts);
+    let keys = ManyKeys::new(&classed, column);
+    explored_by_keys(alloc, system, &ByRule(&many), &keys, options)
+}
+
+/// The same of a formula that may have no other column, by classes where they save most entries.
 fn by_counts(
     alloc: Global,
     system: &System,
@@ -69,8 +117,11 @@ fn by_counts(
     if table.columns() == 1 {
         return Ok(Decided::truth(many_value(table, column, alone, counts)));
     }
-    let many = Many::new(table, column, alone, counts);
-    explored(alloc, system, &ByRule(&many), options)
+    if is_branching(system.signature()) {
+        many_by_classes(alloc, system, table, column, alone, counts, options)
+    } else {
+        many_by_entries(alloc, system, table, column, alone, counts, options)
+    }
 }
 
 /// Decides "for infinitely many values of this variable" of a formula with this table.

@@ -20,7 +20,7 @@ use fort_terms::System;
 use std::alloc::{AllocError, Global};
 
 /// A table as it is kept, and where it is reduced the class of each of its states.
-fn kept_table(
+pub(crate) fn kept_table(
     alloc: Global,
     options: &Options,
     table: Dta,

@@ -3,6 +3,8 @@
 
 mod answer;
 mod atoms;
+mod by_keys;
+mod classed;
 mod closures;
 mod counted;
 mod decide;

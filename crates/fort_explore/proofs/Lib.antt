@@ -10,4 +10,4 @@ pub mod LeadingLaws
 pub mod LeadingLoopLaws
 pub mod LedTargetLaws
 pub mod WholeTableLaws
-pub mod ToldTableLaws
+pub mod ClassedTableLaws

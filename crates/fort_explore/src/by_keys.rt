@@ -11,10 +11,10 @@ ghost use Rattle.fort_explore.specs.LeadingLoops.{IsLeadingTable};
 ghost use Rattle.fort_explore.specs.Answer.{IfOver};
 ghost use Rattle.fort_explore.specs.ListedTargets.{AreListedTargets};
 
+use crate::classed::{are_few_places, classed_table};
 use crate::found::Found;
 use crate::leading::give_leading;
 use crate::table::{ExploreFault, Explored};
-use crate::told::told_table;
 use crate::whole::whole_table;
 use fort_label_keys::LabelKeys;
 use fort_labels::{Labeller, Rows};
@@ -122,8 +122,10 @@ fn table_of<L: Labeller, K: LabelKeys>(
 {
     if lists {
         whole_table(alloc, sig, labeller, keys, maker, rows, lists)
+    } else if are_few_places(sig, labeller.columns()) {
+        classed_table(alloc, sig, labeller, keys, maker, rows)
     } else {
-        told_table(alloc, sig, labeller, keys, maker, rows)
+        whole_table(alloc, sig, labeller, keys, maker, rows, lists)
     }
 }
 

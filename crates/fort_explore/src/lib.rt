@@ -2,13 +2,13 @@
 #![tactic(auto)]
 
 mod by_keys;
+mod classed;
 mod found;
 mod labels;
 mod leading;
 mod long_labels;
 mod short_labels;
 mod table;
-mod told;
 mod whole;
 
 pub use by_keys::explore_by_keys;

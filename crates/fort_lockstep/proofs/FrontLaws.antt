@@ -13,10 +13,11 @@ use Rattle.fort_tables.proofs.AllEntries.{all_in_order, all_there, entries_uniqu
 use Rattle.fort_tables.proofs.EntryLaws.{target_found}
 use Rattle.fort_tables.proofs.OrderLaws.{before_irrefl, before_trans, order_one}
 use Rattle.fort_tables.proofs.OrderedLists.{AllPairs-head, AllPairs-tail}
-use Rattle.fort_target_lists.specs.TargetLists.{IsTargetListOf}
+use Rattle.fort_target_lists.specs.TargetLists.{IsTargetListOf, target_read}
+use Rattle.fort_target_lists.proofs.LookUpLaws.{target_read_is}
 use Rattle.fort_target_lists.specs.declared.target_list.TargetList.{TargetList}
 use Rattle.fort_lockstep.specs.Making.{IsUpTo}
-use Rattle.fort_lockstep.specs.Fronts.{whole_of, front_of, read_in, targets_in}
+use Rattle.fort_lockstep.specs.Fronts.{whole_of, front_of, targets_in}
 
 module _ {A : Type 0} (R : A → A → Type 0) (irrefl : (x : A) → R x x → ⊥) (trans : (x y z : A) → R x y → R y z → R x z) where
   -- an element of a strictly ordered list that is not its first one
@@ -83,10 +84,10 @@ whole_from sig n ps es o h = entries_unique sig n ps es o h
 
 -- what a table's list has for its entries
 pub targets_read : (body : Table) (es : List Entry) (qs : List ℕ) (l : TargetList) → AreInOrder body.signature body.columns body.presences es → length qs ≡ length es
-    → ((e : Entry) → body.target e ≡ target_in es qs e) → IsTargetListOf body l → qs ≡ targets_in l.list es
+    → ((e : Entry) → body.target e ≡ target_in es qs e) → IsTargetListOf body l → qs ≡ targets_in l es
 unfolding targets_in
 targets_read body es qs l o count is h =
-    ext_get_or 0 qs (map (read_in l.list) es) (count ∙ sym (length-map es (read_in l.list)))
+    ext_get_or 0 qs (map (target_read l) es) (count ∙ sym (length-map es (target_read l)))
     (λ k low.
     let d = no_entry 0 in
     let within : k < length es = omega arith in
@@ -95,5 +96,4 @@ targets_read body es qs l o count is h =
     let there : IsTableEntry body e = o.are k d within in
     let f = target_found es qs e k within own (omega (arith, count)) in
     let same : f.place ≡ k = order_one body.signature body.columns body.presences es f.place k e o f.within within (f.is ∙ sym own) in
-    let flat = h.list_is (h.made e there) in
-    sym (get_or-map (read_in l.list) es k d 0 within ∙ ((flat.entries e there).is ∙ (is e ∙ (f.target ∙ ap (λ i. get_or qs i 0) same)))))
+    sym (get_or-map (target_read l) es k d 0 within ∙ (target_read_is body l e h there ∙ (is e ∙ (f.target ∙ ap (λ i. get_or qs i 0) same)))))

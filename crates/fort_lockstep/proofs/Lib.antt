@@ -4,4 +4,4 @@ pub mod FinishLaws
 pub mod FirstEntryLaws
 pub mod GiveLaws
 pub mod OtherFinalsLaws
-mod ToldLaws
+mod PartLaws

@@ -2,6 +2,7 @@
 use Rattle.std.specs.Prelude.{◌≡◌, ℕ, ◌<◌, List, Bool, true, false, length, get_or}
 use Rattle.fort_tables.specs.Tables.{Listed, listed_table, IsListed, full_presence}
 use Rattle.fort_target_lists.specs.TargetLists.{IsTargetListOf}
+use Rattle.fort_target_lists.proofs.ListLaws.{list_accepting}
 use Rattle.fort_target_lists.specs.declared.target_list.TargetList.{TargetList}
 use Rattle.fort_lockstep.specs.OtherFinals.{with_finals}
 
@@ -24,15 +25,4 @@ IsListed-with_finals t finals is full = record {
 
 -- both have one list of targets
 pub IsTargetListOf-with_finals : (t : Listed) (finals : List Bool) (l : TargetList) → IsTargetListOf (listed_table t) l → IsTargetListOf (listed_table (with_finals t finals)) l
-IsTargetListOf-with_finals t finals l is = record {
-  list_is = λ made.
-      let flat = is.list_is made in
-      record {
-        base_is = flat.base_is;
-        starts_all = flat.starts_all;
-        few = flat.few;
-        spots = flat.spots;
-        entries = flat.entries;
-      };
-  made = is.made;
-}
+IsTargetListOf-with_finals t finals l is = list_accepting (listed_table t) (λ q. get_or finals q false) l is

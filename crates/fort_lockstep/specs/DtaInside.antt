@@ -15,7 +15,7 @@ listed_in a = record {
   columns = a.shared.value.columns;
   presences = a.shared.value.presences.items;
   entries = whole_of a.shared.value.signature a.shared.value.columns a.shared.value.presences.items;
-  targets = targets_in a.shared.value.list.list (whole_of a.shared.value.signature a.shared.value.columns a.shared.value.presences.items);
+  targets = targets_in a.shared.value.list (whole_of a.shared.value.signature a.shared.value.columns a.shared.value.presences.items);
   finals = a.finals.items;
 }
 

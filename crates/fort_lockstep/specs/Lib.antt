@@ -5,4 +5,4 @@ pub mod Making
 pub mod MakerInside
 pub mod DtaInside
 pub mod OtherFinals
-pub mod ToldParts
+pub mod TableParts

@@ -1,11 +1,11 @@
 //! Tables by the targets of their entries.
 #![tactic(auto)]
 
+mod classed;
 mod dta;
 mod maker;
 mod states;
 mod steps;
-mod told;
 
 pub use dta::Dta;
 pub use maker::Maker;

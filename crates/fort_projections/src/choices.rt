@@ -7,6 +7,8 @@ ghost use Rattle.fort_tables.proofs.TableLaws.{IsKidState};
 ghost use Rattle.fort_tables.specs.Projections.{absent_state, has_state, some_below};
 ghost use Rattle.fort_projections.specs.Choices.{IsNext, IsNextChoice, AreNoChoices, AreChoices, may_choose, is_reachable, symbol_under};
 ghost use Rattle.fort_projections.specs.Strides.{IsReadable, read_at};
+ghost use Rattle.fort_target_lists.specs.Places.{number_of};
+ghost use Rattle.fort_target_lists.specs.Flats.{IsFlatOf};
 ghost use Rattle.fort_target_lists.specs.LookUps.{FindsUnder};
 ghost use Rattle.fort_target_lists.specs.LabelLists.{labels_at};
 ghost use Rattle.fort_projections.specs.Scopes.{may_in, IsScoped};
@@ -17,7 +19,7 @@ use crate::pure::next_pure;
 use crate::scope::Scope;
 use fort_labels::{Rows, set_bit};
 use fort_table::Table;
-use fort_target_lists::LookUp;
+use fort_target_lists::{FlatTargets, LookUp};
 use fort_terms::Sym;
 use fort_tuple_symbols::Row;
 
@@ -190,12 +192,13 @@ impl<'a, T: Table> Choices<'a, T> {
     }
 
     /// Marks the states that the states of an own child's set give as the last child, behind these.
-    fn mark_last(&self, look_up: &LookUp<'_>, before: &[u32], out: &mut [u64])
+    fn mark_last(&self, flat: &FlatTargets, start: usize, before: &[u32], out: &mut [u64])
         requires choices { AreChoices (T.table self.now.body.now) self.now.column
             self.now.alone.now self.now.rows.now.labels self.now.row.now self.now.sym.0
             (symbol_under self.now.row.now self.now.column self.now.sym.0) self.now.arity }
-        requires look_up { FindsUnder (T.table self.now.body.now)
-            (symbol_under self.now.row.now self.now.column self.now.sym.0) look_up.now }
+        requires flat { IsFlatOf (T.table self.now.body.now) flat.now }
+        requires start { start ≡ slice_index flat.now.listing.starts.items (number_of flat.now.base
+            (symbol_under self.now.row.now self.now.column self.now.sym.0)) }
         requires count { length before.now + 1 ≡ symbol_kids (T.table self.now.body.now).signature
             (symbol_under self.now.row.now self.now.column self.now.sym.0) }
         requires in_set { length before.now < self.now.arity }
@@ -215,12 +218,11 @@ impl<'a, T: Table> Choices<'a, T> {
     {
         // its clause says that the table is lawful
         let _states = self.body.states();
-        let flat = look_up.flat;
         let _count = flat.listing.targets.len();
         let place = flat.spots.place_of(before);
         let stride = Stride {
             flat,
-            start: look_up.start,
+            start,
             place,
             times: 1,
             plus: 0,
@@ -229,12 +231,20 @@ impl<'a, T: Table> Choices<'a, T> {
     }
 
     /// The same as the last child but one, where the last one has this state.
-    fn mark_before(&self, look_up: &LookUp<'_>, before: &[u32], last: usize, out: &mut [u64])
+    fn mark_before(
+        &self,
+        flat: &FlatTargets,
+        start: usize,
+        before: &[u32],
+        last: usize,
+        out: &mut [u64],
+    )
         requires choices { AreChoices (T.table self.now.body.now) self.now.column
             self.now.alone.now self.now.rows.now.labels self.now.row.now self.now.sym.0
             (symbol_under self.now.row.now self.now.column self.now.sym.0) self.now.arity }
-        requires look_up { FindsUnder (T.table self.now.body.now)
-            (symbol_under self.now.row.now self.now.column self.now.sym.0) look_up.now }
+        requires flat { IsFlatOf (T.table self.now.body.now) flat.now }
+        requires start { start ≡ slice_index flat.now.listing.starts.items (number_of flat.now.base
+            (symbol_under self.now.row.now self.now.column self.now.sym.0)) }
         requires count { length before.now + 2 ≡ symbol_kids (T.table self.now.body.now).signature
             (symbol_under self.now.row.now self.now.column self.now.sym.0) }
         requires in_set { length before.now < self.now.arity }
@@ -258,12 +268,11 @@ impl<'a, T: Table> Choices<'a, T> {
     {
         // its clause says that the table is lawful
         let _states = self.body.states();
-        let flat = look_up.flat;
         let _count = flat.listing.targets.len();
         let place = flat.spots.place_of(before);
         let stride = Stride {
             flat,
-            start: look_up.start,
+            start,
             place,
             times: flat.spots.alike[last] as usize,
             plus: flat.spots.ranks[last] as usize,
@@ -311,14 +320,16 @@ impl<'a, T: Table> Choices<'a, T> {
             set_bit(out, 128 + state as usize);
             return;
         }
-        if rest == 1 && self.is_in_set(j) {
-            self.mark_last(look_up, &chosen[..j], out);
-            return;
-        }
-        if rest == 2 && self.is_in_set(j) {
-            if let Some(last) = self.only_state(j + 1) {
-                self.mark_before(look_up, &chosen[..j], last, out);
+        if let Some(flat) = look_up.flat() {
+            if rest == 1 && self.is_in_set(j) {
+                self.mark_last(flat, look_up.start, &chosen[..j], out);
                 return;
+            }
+            if rest == 2 && self.is_in_set(j) {
+                if let Some(last) = self.only_state(j + 1) {
+                    self.mark_before(flat, look_up.start, &chosen[..j], last, out);
+                    return;
+                }
             }
         }
         let mut from = 0;

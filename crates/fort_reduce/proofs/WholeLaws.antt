@@ -1,5 +1,5 @@
 -- Entries that lead to the class to which they lead with their children's leaders: what one visit, all entries of a tuple symbol and a pass show.
-use Rattle.std.proofs.Common.{◌≡◌, ℕ, zero, suc, ◌+◌, ◌^◌, ◌<◌, ◌≤◌, List, [], ◌∷◌, ◌++◌, map, set, take, length, get_or, false, IsFalse, refl, ap, sym, ◌∙◌, arith, subst, ⊎_elim, true≢false}
+use Rattle.std.proofs.Common.{◌≡◌, ℕ, zero, suc, ◌+◌, ◌^◌, ◌<◌, ◌≤◌, List, [], ◌∷◌, ◌++◌, map, set, take, length, get_or, None, false, IsFalse, refl, ap, sym, ◌∙◌, arith, subst, ⊎_elim, true≢false}
 use Rattle.std.proofs.lemmas.Bool.{cases_lt}
 use Rattle.std.proofs.lemmas.List.{append-nil, append_assoc, length-take, length-map, get_or-map, ext_get_or, length-set, get_or-set_same, get_or-set_other, length_push, get_or_push, get_or_append_left}
 use Rattle.fort_tables.specs.Tuples.{TupleSymbol, IsTupleSymbol, symbol_kids, kid_presence}
@@ -11,6 +11,7 @@ use Rattle.fort_tuple_symbols.specs.SymbolNumbers.{columns_at}
 use Rattle.fort_target_lists.specs.Places.{number_of}
 use Rattle.fort_target_lists.specs.TargetLists.{IsTargetListOf}
 use Rattle.fort_target_lists.specs.declared.target_list.TargetList.{TargetList}
+use Rattle.fort_target_lists.proofs.LookUpLaws.{made_without}
 use Rattle.fort_target_lists.proofs.SymbolNumbers.{columns_again, number_below}
 use Rattle.fort_tables.specs.Separation.{entry_with}
 use Rattle.fort_tables.specs.Merges.{class_of, leader, led, IsCoarsest}
@@ -246,19 +247,19 @@ pub first_is_entry : (t : Listed) → IsListed t → (q : ℕ) (e : Entry) → I
 first_is_entry t is q e f = subst (IsTableEntry (listed_table t)) (f.is e) (is.order.are f.place e (omega (arith, f.within, is.count)))
 
 -- a table whose list isn't made has no states
-no_states : (t : Listed) (l : TargetList) → IsListed t → IsTargetListOf (listed_table t) l → IsFalse l.is_made → length t.presences ≡ 0
-no_states t l is h none =
+no_states : (t : Listed) (l : TargetList) → IsListed t → IsTargetListOf (listed_table t) l → l.by_classes ≡ None → IsFalse l.is_made → length t.presences ≡ 0
+no_states t l is h all none =
     ⊎_elim
     (λ (some : 0 < length t.presences).
     let first = is.numbered 0 some in
-    absurd (true≢false (sym (h.made first.0 (first_is_entry t is 0 first.0 first.1)) ∙ none)))
+    absurd (true≢false (sym (made_without (listed_table t) l first.0 h (first_is_entry t is 0 first.0 first.1) all) ∙ none)))
     (λ (few : length t.presences ≤ 0). omega arith)
     (cases_lt 0 (length t.presences))
 
 -- Result: no classes are the coarsest then
-pub coarsest_none : (t : Listed) (l : TargetList) → IsListed t → IsTargetListOf (listed_table t) l → IsFalse l.is_made → IsCoarsest (listed_table t) []
-coarsest_none t l is h none =
-    let empty = no_states t l is h none in
+pub coarsest_none : (t : Listed) (l : TargetList) → IsListed t → IsTargetListOf (listed_table t) l → l.by_classes ≡ None → IsFalse l.is_made → IsCoarsest (listed_table t) []
+coarsest_none t l is h all none =
+    let empty = no_states t l is h all none in
     record {
       merge = record {
         count = sym empty;

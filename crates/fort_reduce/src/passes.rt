@@ -1,11 +1,13 @@
 //! Passes over the entries of a table, which split classes until each entry leads where it leads with its children's leaders.
-ghost use Rattle.std.specs.Prelude.{◌≡◌, ℕ, ◌+◌, ◌<◌, ◌≤◌, ◌^◌, [], take, length, OnOk, IfOk};
+ghost use Rattle.std.specs.Prelude.{◌≡◌, ℕ, ◌+◌, ◌<◌, ◌≤◌, ◌^◌, [], take, length, None, OnOk, IfOk};
 ghost use Rattle.fort_tables.specs.Tuples.{IsTupleSymbol, AreSymbols, symbol_kids};
 ghost use Rattle.fort_tables.specs.Entries.{Entry, entry};
 ghost use Rattle.fort_tables.specs.Tables.{listed_table, IsTableEntry};
 ghost use Rattle.fort_tables.specs.Refinement.{IsRefined, PassesAt};
 ghost use Rattle.fort_tables.specs.Merges.{IsCoarsest};
+ghost use Rattle.fort_target_lists.specs.ClassLists.{IsClassListOf};
 ghost use Rattle.fort_target_lists.specs.Flats.{IsFlatOf};
+ghost use Rattle.fort_target_lists.specs.TargetLists.{IsTargetListOf};
 ghost use Rattle.fort_reduce.specs.Walks.{IsWalked, IsWholeIn, AreWholeUnder, MayBegin};
 
 use crate::classes::Classes;
@@ -18,7 +20,9 @@ use crate::targets::Targets;
 use crate::walk::presences;
 use fort_lockstep::Dta;
 use fort_table::Table;
-use fort_target_lists::{FlatTargets, is_present, kid_count, kid_presence};
+use fort_target_lists::{
+    ClassList, ClassReader, FlatTargets, TargetList, is_present, kid_count, kid_presence,
+};
 use fort_tuple_symbols::{Row, TupleSym};
 use std::alloc::{AllocError, Global};
 
@@ -319,13 +323,15 @@ fn sweep(
     Ok(())
 }
 
-/// The class of each state, numbered by first state: two tuples of states have one class exactly where they are interchangeable.
-pub fn classes_of(alloc: Global, table: &Dta) -> Result<Vec<u32>, AllocError>
+/// `classes_of` by the list of all targets.
+fn classes_by(alloc: Global, table: &Dta, list: &TargetList) -> Result<Vec<u32>, AllocError>
+    requires list { IsTargetListOf (listed_table table.now) list.now }
+    requires all { list.now.by_classes ≡ None }
     ensures { IfOk result (λ new. IsCoarsest (listed_table table.now) new.items) }
 {
     // its clause says that the table is lawful
     let _listed = table.entries();
-    let Some(list) = table.list().flat() else {
+    let Some(list) = list.flat() else {
         // a table without entries has no states
         return Ok(Vec::new(alloc));
     };
@@ -337,6 +343,34 @@ pub fn classes_of(alloc: Global, table: &Dta) -> Result<Vec<u32>, AllocError>
         pass(alloc, table, list, presences.as_slice(), &mut classes)?;
         if classes.leaders.len() == count {
             return renumber(alloc, classes.of.as_slice(), count);
+        }
+    }
+}
+
+/// The list of all targets of a table that keeps them by classes.
+fn laid_list(alloc: Global, table: &Dta, kept: &ClassList) -> Result<TargetList, AllocError>
+    requires { IsClassListOf (listed_table table.now) kept.now }
+    ensures list { IfOk result (IsTargetListOf (listed_table table.now)) }
+    ensures all { IfOk result (λ l. l.by_classes ≡ None) }
+{
+    // its clause says that the table is lawful
+    let _listed = table.entries();
+    let presences = presences(alloc, table)?;
+    let mut reader = ClassReader::new(kept);
+    let read = presences.as_slice();
+    TargetList::laid_by(alloc, table.signature(), table.columns(), read, &mut reader)
+}
+
+/// The class of each state, numbered by first state: two tuples of states have one class exactly where they are interchangeable.
+pub fn classes_of(alloc: Global, table: &Dta) -> Result<Vec<u32>, AllocError>
+    ensures { IfOk result (λ new. IsCoarsest (listed_table table.now) new.items) }
+{
+    let list = table.list();
+    match list.by_classes() {
+        None => classes_by(alloc, table, list),
+        Some(kept) => {
+            let laid = laid_list(alloc, table, kept)?;
+            classes_by(alloc, table, &laid)
         }
     }
 }

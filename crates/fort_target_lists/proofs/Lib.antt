@@ -1,4 +1,6 @@
 mod ChainLaws
+pub mod ClassListLaws
+pub mod ClassRowLaws
 pub mod ColumnLaws
 mod EntryCounts
 mod LaidTargets

@@ -1,10 +1,13 @@
 -- A table's list that was laid: there is room for it, and it is the table's own. An operand's list.
-use Rattle.std.proofs.Common.{◌≡◌, ℕ, suc, ◌^◌, ◌<◌, ◌≤◌, List, length, get_or, Option, None, Some, IfSome, IsTrue, ap, sym, ◌∙◌, arith, subst, true≢false}
+use Rattle.std.proofs.Common.{◌≡◌, ℕ, suc, ◌^◌, ◌<◌, ◌≤◌, List, length, get_or, Bool, Option, None, Some, IfSome, IsTrue, IsFalse, ap, sym, ◌∙◌, arith, subst, true≢false}
+use Rattle.std.proofs.lemmas.Option.{none-some}
 use Rattle.fort_theory.specs.Signatures.{Signature}
 use Rattle.fort_tables.specs.Tables.{Table, Listed, listed_table}
 use Rattle.fort_tables.proofs.Counts.{symbols_few}
 use Rattle.fort_target_lists.specs.Places.{AreSpots}
 use Rattle.fort_target_lists.specs.Flats.{AreLaid, IsFlatOf}
+use Rattle.fort_target_lists.specs.ClassLists.{IsClassListOf}
+use Rattle.fort_target_lists.specs.declared.class_list.ClassList.{ClassList}
 use Rattle.fort_target_lists.specs.TargetLists.{IsTargetListOf, IsOperandList, IsTableWith}
 use Rattle.fort_tables.specs.Products.{Operand, OfTable, OfTruth}
 use Rattle.fort_target_lists.specs.ListedOperands.{IsListOf}
@@ -52,6 +55,53 @@ list_of_laid t sig columns presences targets flat count h base all few spots lai
       spots = own;
       entries = laid_entries (listed_table t) flat.base count flat.listing.starts.items flat.listing.targets.items flat.spots.ranks.items flat.spots.alike.items b n own laid;
     }
+
+-- Result: without entries there need be no list
+pub no_list : (t : Listed) (sig : Signature) (columns : ℕ) (presences targets : List ℕ) (l : TargetList) → IsTableWith t sig columns presences targets → length targets ≡ 0 → IsFalse l.is_made → l.by_classes ≡ None → IsTargetListOf (listed_table t) l
+no_list t sig columns presences targets l h none not_made no_classes =
+    let empty : length t.entries ≡ 0 = omega (arith, none, ap length h.targets_are, h.listed.count) in
+    record {
+      list_is = λ made. absurd (true≢false (sym made ∙ not_made));
+      classes_are = λ c some. absurd (none-some c (sym no_classes ∙ some));
+      made = λ e is. let at = h.listed.all e is in absurd (omega (arith, at.1, empty));
+    }
+
+-- the same table with other accepting states
+abbrev pub with_accepting : Table → (ℕ → Bool) → Table
+with_accepting t accepting = record { signature = t.signature; columns = t.columns; presences = t.presences; target = t.target; accepting = accepting }
+
+classes_accepting : (t : Table) (accepting : ℕ → Bool) (c : ClassList) → IsClassListOf t c → IsClassListOf (with_accepting t accepting) c
+classes_accepting t accepting c is = record {
+  base_is = is.base_is;
+  few = is.few;
+  starts_all = is.starts_all;
+  blocks_all = is.blocks_all;
+  ranks_are = is.ranks_are;
+  few_views = is.few_views;
+  views_are = is.views_are;
+  classes_all = is.classes_all;
+  counts_are = is.counts_are;
+  classed = is.classed;
+  presence_is = is.presence_is;
+  targets_are = is.targets_are;
+}
+
+flat_accepting : (t : Table) (accepting : ℕ → Bool) (flat : FlatTargets) → IsFlatOf t flat → IsFlatOf (with_accepting t accepting) flat
+flat_accepting t accepting flat is = record {
+  base_is = is.base_is;
+  starts_all = is.starts_all;
+  few = is.few;
+  spots = is.spots;
+  entries = is.entries;
+}
+
+-- Result: it has the same list of targets
+pub list_accepting : (t : Table) (accepting : ℕ → Bool) (l : TargetList) → IsTargetListOf t l → IsTargetListOf (with_accepting t accepting) l
+list_accepting t accepting l is = record {
+  list_is = λ made. flat_accepting t accepting l.list (is.list_is made);
+  classes_are = λ c some. classes_accepting t accepting c (is.classes_are c some);
+  made = is.made;
+}
 
 -- a table's list is that of any operand of the table
 pub table_operand : {A : Type 0} (t : Table) (places : List ℕ) (list : Option A) (now : A → TargetList) → IfSome list (λ l. IsTargetListOf t (now l)) → IfSome list (λ l. IsOperandList (OfTable t places) (now l))

@@ -1,4 +1,6 @@
 pub mod Chains
+pub mod ClassLists
+pub mod ClassLeaders
 pub mod Flats
 pub mod LabelLists
 pub mod LayRooms

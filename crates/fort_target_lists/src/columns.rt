@@ -1,6 +1,6 @@
 //! Columns of tuple symbols.
-ghost use Rattle.std.specs.Prelude.{◌≡◌, ◌<◌, ◌≤◌, ◌^◌, ◌+◌, ◌*◌, [], ◌∷◌, length, IfSome};
-ghost use Rattle.fort_tuple_symbols.specs.Columns.{as_column, digit_of};
+ghost use Rattle.std.specs.Prelude.{◌≡◌, ◌<◌, ◌≤◌, ◌^◌, [], ◌∷◌, length, IfSome};
+ghost use Rattle.fort_tuple_symbols.specs.Columns.{as_column};
 ghost use Rattle.fort_tables.specs.Tuples.{AreSymbols, symbol_kids, kid_presence as kid_presence_lem};
 ghost use Rattle.fort_tables.specs.Selections.{selected as selected_lem, is_present as is_present_lem, ArePlaces};
 
@@ -18,17 +18,6 @@ pub fn selected(sym: &TupleSym, places: &[usize]) -> TupleSym
         columns[k] = sym.symbol(places[k]);
     }
     TupleSym::new(&columns[..places.len()])
-}
-
-/// The number of a tuple symbol with one more column behind it.
-pub(crate) fn number_behind(column: Option<Sym>, base: usize, number: usize) -> usize
-    requires { number * base + digit_of (as_column column) < 2 ^ 64 }
-    ensures { result ≡ number * base + digit_of (as_column column) }
-{
-    match column {
-        None => number * base,
-        Some(symbol) => number * base + symbol.0 as usize + 1,
-    }
 }
 
 /// Whether the tuple symbol has some column.

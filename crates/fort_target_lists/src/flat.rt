@@ -1,11 +1,8 @@
 //! The targets of a table in one list.
-ghost use Rattle.std.specs.Prelude.{◌≡◌, ◌+◌, ◌-◌, ◌*◌, ◌<◌, ◌≤◌, ◌^◌, min, length, slice_index, slice_index_or, None};
-ghost use Rattle.std.specs.List.{insert};
-ghost use Rattle.fort_tuple_symbols.specs.Columns.{as_column};
+ghost use Rattle.std.specs.Prelude.{◌≡◌, ◌+◌, ◌-◌, ◌*◌, ◌<◌, ◌^◌, min, length, slice_index};
 ghost use Rattle.fort_target_lists.specs.Places.{number_of, place_from, IsReadable, read_at, AreStatesIn};
 
-use crate::columns::number_behind;
-use fort_terms::Sym;
+use crate::numbers::symbol_number;
 use fort_tuple_symbols::TupleSym;
 use std::alloc::Global;
 
@@ -117,39 +114,6 @@ impl FlatTargets {
         requires small { number_of self.now.base symbol.now < 2 ^ 64 }
         ensures { result ≡ number_of self.now.base symbol.now }
     {
-        let mut number = 0;
-        for k in 0..symbol.len() {
-            number = number_behind(symbol.symbol(k), self.base, number);
-        }
-        number
-    }
-
-    /// The number of a tuple symbol with one more column, which is absent.
-    pub(crate) fn number_with_absent(&self, symbol: &TupleSym, column: usize) -> usize
-        requires column { column ≤ length symbol.now }
-        requires some { 0 < self.now.base }
-        requires small { number_of self.now.base (insert symbol.now column None) < 2 ^ 64 }
-        ensures { result ≡ number_of self.now.base (insert symbol.now column None) }
-    {
-        let mut number = 0;
-        for k in 0..symbol.len() + 1 {
-            number = number_behind(column_with_absent(symbol, column, k), self.base, number);
-        }
-        number
-    }
-}
-
-/// Column `k` of the tuple symbol with one more column, which is absent.
-fn column_with_absent(symbol: &TupleSym, column: usize, k: usize) -> Option<Sym>
-    requires within { column ≤ length symbol.now }
-    requires index { k ≤ length symbol.now }
-    ensures { as_column result ≡ slice_index_or (insert symbol.now column None) k None }
-{
-    if k < column {
-        symbol.symbol(k)
-    } else if k == column {
-        None
-    } else {
-        symbol.symbol(k - 1)
+        symbol_number(symbol, self.base)
     }
 }

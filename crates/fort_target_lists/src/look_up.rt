@@ -1,13 +1,16 @@
 //! The targets under one tuple symbol, found in a table's list.
-ghost use Rattle.std.specs.Prelude.{◌≡◌, ℕ, ◌<◌, ◌-◌, length, Some, None};
+ghost use Rattle.std.specs.Prelude.{◌≡◌, ℕ, ◌<◌, ◌-◌, length, slice_index, Some, None, IfSome};
 ghost use Rattle.std.specs.List.{insert};
 ghost use Rattle.fort_tables.specs.Tuples.{TupleSymbol, IsTupleSymbol};
 ghost use Rattle.fort_tables.specs.Entries.{Entry, entry};
 ghost use Rattle.fort_tables.specs.Tables as tables;
 ghost use Rattle.fort_target_lists.specs.TargetLists.{IsTargetListOf};
 ghost use Rattle.fort_target_lists.specs.LookUps.{FindsUnder, FindsAbove};
+ghost use Rattle.fort_target_lists.specs.Places.{number_of};
+ghost use Rattle.fort_target_lists.specs.Flats.{IsFlatOf, base_of};
 
 use crate::flat::FlatTargets;
+use crate::numbers::number_with_absent;
 use crate::target_list::TargetList;
 use fort_table::Table;
 use fort_terms::Sym;
@@ -16,15 +19,17 @@ use fort_tuple_symbols::Row;
 /// The targets under one tuple symbol.
 #[derive(Drop)]
 pub struct LookUp<'a> {
-    pub flat: &'a FlatTargets,
-    /// Where they start.
+    pub list: &'a TargetList,
+    /// The tuple symbol's number.
+    pub number: usize,
+    /// Where they start in the list of all targets, where it is made.
     pub start: usize,
 }
 
 /// The targets under tuple symbols with one more column.
 #[derive(Drop)]
 pub struct Finder<'a> {
-    pub flat: &'a FlatTargets,
+    pub list: &'a TargetList,
     /// The tuple symbol's number with the column absent.
     pub number: usize,
     /// What each next symbol there adds to it.
@@ -40,7 +45,40 @@ impl<'a> LookUp<'a> {
             → tables.IsTableEntry body (entry f states.now)
             → result ≡ body.target (entry f states.now) }
     {
-        self.flat.target(self.start, states)
+        match self.list.by_classes() {
+            Some(list) => list.target(self.number, states),
+            None => self.list.list.target(self.start, states),
+        }
+    }
+
+    /// The list of all targets, where it is made: there they start.
+    pub fn flat(&self) -> Option<&'a FlatTargets>
+        ensures { (body : tables.Table) (f : TupleSymbol) → FindsUnder body f self.now
+            → IfSome result (λ l. IsFlatOf body l.now × (self.now.start
+            ≡ slice_index l.now.listing.starts.items (number_of l.now.base f))) }
+    {
+        self.list.flat()
+    }
+}
+
+impl TargetList {
+    /// The targets under the tuple symbol of this number.
+    pub(crate) fn look_up(&self, number: usize) -> LookUp<'_>
+        requires { (body : tables.Table) × (f : TupleSymbol) × IsTargetListOf body self.now
+            × IsTupleSymbol body.signature body.columns f × (number ≡ number_of (base_of body) f) }
+        ensures { (body : tables.Table) (f : TupleSymbol) → IsTargetListOf body self.now
+            → number ≡ number_of (base_of body) f → FindsUnder body f result }
+    {
+        let start = if self.is_made {
+            self.list.start(number)
+        } else {
+            0
+        };
+        LookUp {
+            list: self,
+            number,
+            start,
+        }
     }
 }
 
@@ -54,12 +92,12 @@ impl<'a> Finder<'a> {
             ((T.table body.now).columns - 1) row.now.symbol }
         ensures { FindsAbove (T.table body.now) row.now.symbol column result }
     {
-        let flat = &list.list;
+        let base = body.signature().len() + 1;
         let later = body.columns() - 1 - column;
         Finder {
-            flat,
-            number: flat.number_with_absent(&row.sym(), column),
-            step: flat.base.pow(later as u32),
+            list,
+            number: number_with_absent(&row.sym(), column, base),
+            step: base.pow(later as u32),
         }
     }
 
@@ -71,10 +109,7 @@ impl<'a> Finder<'a> {
             → FindsAbove body f column self.now
             → FindsUnder body (insert f column None) result }
     {
-        LookUp {
-            flat: self.flat,
-            start: self.flat.start(self.number),
-        }
+        self.list.look_up(self.number)
     }
 
     /// The targets with this symbol in the column.
@@ -86,9 +121,6 @@ impl<'a> Finder<'a> {
             → FindsUnder body (insert f column (Some symbol.0)) result }
     {
         let place = self.number + (symbol.0 as usize + 1) * self.step;
-        LookUp {
-            flat: self.flat,
-            start: self.flat.start(place),
-        }
+        self.list.look_up(place)
     }
 }

@@ -1,33 +1,52 @@
 //! A table's targets in one list, laid from the targets in the order of the table's entries.
-ghost use Rattle.std.specs.Prelude.{◌≡◌, ℕ, ◌<◌, ◌≤◌, ◌^◌, length, IfOk, IfSome, IfNone, IsTrue, IsFalse};
-ghost use Rattle.fort_tables.specs.Entries.{entry};
+ghost use Rattle.std.specs.Prelude.{◌≡◌, ℕ, ◌<◌, ◌≤◌, ◌^◌, length, Some, None, IfOk, IfSome, IfNone, IsTrue, IsFalse};
+ghost use Rattle.fort_tables.specs.Entries.{Entry, entry};
 ghost use Rattle.fort_tables.specs.Tables as tables;
 ghost use Rattle.fort_tables.specs.Products as products;
+ghost use Rattle.fort_target_lists.specs.Flats.{base_of};
+ghost use Rattle.fort_target_lists.specs.ClassLists.{IsClassListOf};
 ghost use Rattle.fort_target_lists.specs.LayRooms.{HasLayRoom};
 ghost use Rattle.fort_target_lists.specs.TargetLists.{IsTargetListOf, IsOperandList, HasListRoom, IsTableWith};
 ghost use Rattle.fort_target_lists.specs.ListedOperands.{IsListOf};
 
+use crate::class_list::ClassList;
 use crate::flat::{FlatTargets, Listing, Spots};
+use crate::numbers::symbol_number;
 use crate::states::LayRoom;
 use fort_terms::Signature;
 use fort_tuple_symbols::TupleSym;
 use std::alloc::{AllocError, Global};
 
-/// A table's targets in one list, where it is made, and the room for them. For a table without entries there may be none.
+/// A table's targets in one list, where it is made, and the room for them, or by the classes of its states. For a table without entries
+/// there may be neither.
 #[derive(Drop)]
 pub struct TargetList {
     pub(crate) is_made: bool,
     pub(crate) list: FlatTargets,
+    pub(crate) by_classes: Option<ClassList>,
 }
 
 impl TargetList {
     /// No list.
     pub fn new(alloc: Global) -> TargetList
-        ensures { IsFalse result.is_made }
+        ensures made { IsFalse result.is_made }
+        ensures by_classes { result.by_classes ≡ None }
     {
         TargetList {
             is_made: false,
             list: FlatTargets::new(alloc),
+            by_classes: None,
+        }
+    }
+
+    /// A table's targets by the classes of its states.
+    pub fn of_classes(alloc: Global, list: ClassList) -> TargetList
+        ensures { (body : tables.Table) → IsClassListOf body list → IsTargetListOf body result }
+    {
+        TargetList {
+            is_made: false,
+            list: FlatTargets::new(alloc),
+            by_classes: Some(list),
         }
     }
 
@@ -49,6 +68,7 @@ impl TargetList {
                     targets: Vec::with_capacity(alloc, entries)?,
                 },
             },
+            by_classes: None,
         })
     }
 
@@ -73,6 +93,7 @@ impl TargetList {
         ensures room { (n : ℕ) → HasLayRoom n room.old → HasLayRoom n room.new }
         ensures list_room { (n k : ℕ) → HasListRoom n k self.old → HasListRoom n k self.new }
     {
+        self.by_classes = None;
         self.is_made = !targets.is_empty();
         if targets.is_empty() {
             return;
@@ -117,6 +138,7 @@ impl TargetList {
         Ok(TargetList {
             is_made: true,
             list,
+            by_classes: None,
         })
     }
 
@@ -128,6 +150,25 @@ impl TargetList {
         if self.is_made { Some(&self.list) } else { None }
     }
 
+    /// The targets by classes, where they are kept so.
+    pub fn by_classes(&self) -> Option<&ClassList>
+        ensures some { IfSome result (λ c. self.now.by_classes ≡ Some c.now) }
+        ensures none { IfNone result (self.now.by_classes ≡ None) }
+    {
+        self.by_classes.as_ref()
+    }
+
+    /// One more than there are symbols.
+    fn base(&self) -> usize
+        ensures { (body : tables.Table) (e : Entry) → IsTargetListOf body self.now
+            → tables.IsTableEntry body e → result ≡ base_of body }
+    {
+        match &self.by_classes {
+            Some(list) => list.base,
+            None => self.list.base,
+        }
+    }
+
     /// The target of an entry of the list's table.
     pub fn target(&self, symbol: &TupleSym, kids: &[u32]) -> u32
         requires { (body : tables.Table) × IsTargetListOf body self.now
@@ -136,8 +177,8 @@ impl TargetList {
             → tables.IsTableEntry body (entry symbol.now kids.now)
             → result ≡ body.target (entry symbol.now kids.now) }
     {
-        let start = self.list.start(self.list.number(symbol));
-        self.list.target(start, kids)
+        self.look_up(symbol_number(symbol, self.base()))
+            .target(kids)
     }
 }
 

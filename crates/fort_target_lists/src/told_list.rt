@@ -1,5 +1,5 @@
 //! A table's targets in one list, laid as they are told.
-ghost use Rattle.std.specs.Prelude.{ℕ, ◌<◌, ◌≤◌, ◌^◌, length, slice_index, IfOk};
+ghost use Rattle.std.specs.Prelude.{◌≡◌, ℕ, ◌<◌, ◌≤◌, ◌^◌, length, slice_index, IfOk, None};
 ghost use Rattle.fort_tables.specs.Tables as tables;
 ghost use Rattle.fort_target_lists.specs.TargetLists.{IsTargetListOf};
 ghost use Rattle.fort_target_lists.specs.ToldTables.{IsTableOver};
@@ -28,9 +28,10 @@ impl TargetList {
             → slice_index presences.now q < 2 ^ columns }
         requires told { (body : tables.Table)
             × IsTableOver body signature.now columns presences.now × T.tells targets.old body }
-        ensures { IfOk result (λ l. (body : tables.Table)
+        ensures list { IfOk result (λ l. (body : tables.Table)
             → IsTableOver body signature.now columns presences.now → T.tells targets.old body
             → IsTargetListOf body l) }
+        ensures made { IfOk result (λ l. l.by_classes ≡ None) }
     {
         let states = presences.len();
         let mut spots = Spots {
@@ -54,6 +55,7 @@ impl TargetList {
                 spots,
                 listing,
             },
+            by_classes: None,
         })
     }
 }

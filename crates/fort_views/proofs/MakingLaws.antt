@@ -14,7 +14,7 @@ use Rattle.fort_views.specs.declared.view.View.{View}
 use Rattle.fort_views.specs.declared.views.Views.{Views}
 
 -- fresh views and then fresh ones
-AreFresh-append : (view : TupleSymbol → ℕ → List ℕ) (xs ys : List View) → AreFresh view xs → AreFresh view ys → AreFresh view (xs ++ ys)
+pub AreFresh-append : (view : TupleSymbol → ℕ → List ℕ) (xs ys : List View) → AreFresh view xs → AreFresh view ys → AreFresh view (xs ++ ys)
 AreFresh-append view xs ys h g = λ q v l e. ⊎_elim
     (λ b. h q v b (e ∙ get_or_append_left xs ys v q b))
     (λ b. g (q - length xs) v (omega (arith, length-append xs ys)) (e ∙ get_or-append_right xs ys (length xs) q v refl b))
@@ -65,7 +65,7 @@ places_more view f ws w n start old mid new h more same sights push low is =
     }
 
 -- numbers at a place where more are made
-HasSightsAt-more : (view : TupleSymbol → ℕ → List ℕ) (f : TupleSymbol) (ws : List ℕ) (sights ss : List (List ℕ)) (numbers ns : List ℕ) (start : ℕ) → HasSightsAt view f ws sights numbers start → HasSightsAt view f ws (sights ++ ss) (numbers ++ ns) start
+pub HasSightsAt-more : (view : TupleSymbol → ℕ → List ℕ) (f : TupleSymbol) (ws : List ℕ) (sights ss : List (List ℕ)) (numbers ns : List ℕ) (start : ℕ) → HasSightsAt view f ws sights numbers start → HasSightsAt view f ws (sights ++ ss) (numbers ++ ns) start
 HasSightsAt-more view f ws sights ss numbers ns start h =
     let same : (j : ℕ) → j < length ws → get_or (numbers ++ ns) (start + j) 0 ≡ get_or numbers (start + j) 0 = λ j l. get_or_append_left numbers ns 0 (start + j) (omega (arith, h.there)) in
     record {

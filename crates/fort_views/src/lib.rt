@@ -11,3 +11,4 @@ mod views;
 pub use keyed_views::KeyedViews;
 pub use ranks::ranks_of;
 pub use view::View;
+pub use views::Views;

@@ -71,6 +71,8 @@ impl Views {
         ensures is { IfOk result (λ n. slice_index_or self.new.sights n []
             ≡ presence ∷ K.view keys.now symbol.now place) }
         ensures more { OnOk result (HasMoreViews (K.view keys.now) self.old self.new) }
+        ensures few { OnOk result (length self.new.views.items
+            ≤ length self.old.views.items + 1) }
         ensures others { KeepsSymbols self.old self.new }
     {
         let alloc = self.sights.allocator();
@@ -100,6 +102,8 @@ impl Views {
         ensures more { OnOk result (HasMoreViews (K.view keys.now) self.old self.new) }
         ensures places { OnOk result (HasPlaces (K.view keys.now) symbol.now wanted.now self.old
             self.new) }
+        ensures few { OnOk result (length self.new.views.items
+            ≤ length self.old.views.items + length wanted.now) }
         ensures symbols { self.new.symbols ≡ self.old.symbols }
         ensures starts { self.new.starts.items ≡ self.old.starts.items }
     {
@@ -130,6 +134,8 @@ impl Views {
         ensures more { OnOk result (HasMoreViews (K.view keys.now) self.old self.new) }
         ensures start { IfOk result (HasSightsAt (K.view keys.now) (symbol_of digits.now) wanted.now
             self.new.sights self.new.numbers.items) }
+        ensures few { OnOk result (length self.new.views.items
+            ≤ length self.old.views.items + length wanted.now) }
     {
         let start = self.numbers.len();
         self.add_places(keys, &TupleSym::from_digits(digits), wanted)?;
@@ -156,6 +162,8 @@ impl Views {
         ensures more { OnOk result (HasMoreViews (K.view keys.now) self.old self.new) }
         ensures start { IfOk result (HasSightsAt (K.view keys.now) (symbol_of digits.now) wanted.now
             self.new.sights self.new.numbers.items) }
+        ensures few { OnOk result (length self.new.views.items
+            ≤ length self.old.views.items + length wanted.now) }
     {
         match self.symbols.find(digits) {
             Some(number) => Ok(self.starts[number]),
@@ -181,6 +189,8 @@ impl Views {
         ensures more { OnOk result (HasMoreViews (K.view keys.now) self.old self.new) }
         ensures places { IfOk result (AreSights (K.view keys.now) (symbol_of digits.now) wanted.now
             self.new.sights) }
+        ensures few { OnOk result (length self.new.views.items
+            ≤ length self.old.views.items + length wanted.now) }
     {
         let start = self.start_of(keys, digits, wanted)?;
         let numbers = self.numbers.as_slice();

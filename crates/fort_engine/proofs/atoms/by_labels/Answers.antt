@@ -11,5 +11,5 @@ explored-requires c = sym (signature_by c.signature-signature.result.now c.args.
 pub returns : goal.returns
 returns c f are =
     let l = c.args.labels.now in
-    c.explored.ensures f
+    c.explored_by_keys.ensures f
     (subst (λ (s : Signature). AreLabelsFor c.args.system.now c.args.options.now.reduces f (rule_by s l).columns (label_by s l) (accepted_by s l)) (sym c.signature-signature.ensures.same) are)

@@ -67,13 +67,13 @@ mark_before-requires-clause-last g t c =
     let j = c.args.j in
     let before = take j c.args.chosen.now in
     let count : length before ≡ j = length-take-le j c.args.chosen.now (omega (arith, c.requires.few)) in
-    let state = choice_state body s.column s.alone.now s.rows.now.labels s.row.now s.sym.0 f s.arity c.states-states.ensures.lawful c.states-states.ensures.reached c.requires.choices (j + 1) c.in-Some.last (omega (arith, c.requires.count, c.if-rest-eq2.true))
-    (may_from_scope body s.column s.arity (labels_at s.rows.now.labels s.row.now.kids) s.scope (j + 1) c.in-Some.last c.requires.scope (c.in-Some.ensures c.in-Some.last ∙ eq-eqb c.in-Some.last c.in-Some.last refl)) in
+    let state = choice_state body s.column s.alone.now s.rows.now.labels s.row.now s.sym.0 f s.arity c.states-states.ensures.lawful c.states-states.ensures.reached c.requires.choices (j + 1) c.in-Some-only_state.last (omega (arith, c.requires.count, c.if-rest-eq2.true))
+    (may_from_scope body s.column s.arity (labels_at s.rows.now.labels s.row.now.kids) s.scope (j + 1) c.in-Some-only_state.last c.requires.scope (c.in-Some-only_state.ensures c.in-Some-only_state.last ∙ eq-eqb c.in-Some-only_state.last c.in-Some-only_state.last refl)) in
     let e : j + 1 ≡ length before + 1 = omega (arith, count) in
-    subst (λ (n : ℕ). IsKidState body f n c.in-Some.last) e state
+    subst (λ (n : ℕ). IsKidState body f n c.in-Some-only_state.last) e state
 
-pub returns-in-Some-clause-marked : goal.returns-in-Some-clause-marked
-returns-in-Some-clause-marked g t c = λ q.
+pub returns-in-Some-only_state-clause-marked : goal.returns-in-Some-only_state-clause-marked
+returns-in-Some-only_state-clause-marked g t c = λ q.
     let s = c.args.self.now in
     let body = g.T.Table.table s.body.now in
     let f = symbol_under s.row.now s.column s.sym.0 in
@@ -81,12 +81,12 @@ returns-in-Some-clause-marked g t c = λ q.
     let own = may_choose body s.column s.rows.now.labels s.row.now s.arity in
     let before = take j c.args.chosen.now in
     let count : length before ≡ j = length-take-le j c.args.chosen.now (omega (arith, c.requires.few)) in
-    let state = choice_state body s.column s.alone.now s.rows.now.labels s.row.now s.sym.0 f s.arity c.states-states.ensures.lawful c.states-states.ensures.reached c.requires.choices (j + 1) c.in-Some.last (omega (arith, c.requires.count, c.if-rest-eq2.true))
-    (may_from_scope body s.column s.arity (labels_at s.rows.now.labels s.row.now.kids) s.scope (j + 1) c.in-Some.last c.requires.scope (c.in-Some.ensures c.in-Some.last ∙ eq-eqb c.in-Some.last c.in-Some.last refl)) in
+    let state = choice_state body s.column s.alone.now s.rows.now.labels s.row.now s.sym.0 f s.arity c.states-states.ensures.lawful c.states-states.ensures.reached c.requires.choices (j + 1) c.in-Some-only_state.last (omega (arith, c.requires.count, c.if-rest-eq2.true))
+    (may_from_scope body s.column s.arity (labels_at s.rows.now.labels s.row.now.kids) s.scope (j + 1) c.in-Some-only_state.last c.requires.scope (c.in-Some-only_state.ensures c.in-Some-only_state.last ∙ eq-eqb c.in-Some-only_state.last c.in-Some-only_state.last refl)) in
     c.mark_before.ensures.marked q
     ∙ ap (λ b. b || has_state c.args.out.now q)
-    (sym (reachable_before body (may_in s.scope own) (own (length before)) f before j c.args.rest c.in-Some.last q c.if-rest-eq2.true (kid_state_small body f (j + 1) c.in-Some.last c.states-states.ensures.lawful state)
-    (λ k. c.if-is_in_set-2.ensures.all refl own k ∙ ap (λ a. own a k) (sym count)) c.in-Some.ensures))
+    (sym (reachable_before body (may_in s.scope own) (own (length before)) f before j c.args.rest c.in-Some-only_state.last q c.if-rest-eq2.true (kid_state_small body f (j + 1) c.in-Some-only_state.last c.states-states.ensures.lawful state)
+    (λ k. c.if-is_in_set-2.ensures.all refl own k ∙ ap (λ a. own a k) (sym count)) c.in-Some-only_state.ensures))
 
 pub visit-requires : goal.visit-requires
 visit-requires g t c κs within =

@@ -14,19 +14,19 @@ place_of-place-requires g c =
     let s = c.args.self.now in
     let f = symbol_under s.row.now s.column s.sym.0 in
     let body = g.T.Table.table s.body.now in
-    states_in body f c.args.look_up.now.flat.now c.args.before.now c.states-states.ensures.lawful c.requires.look_up.flat c.requires.before
+    states_in body f c.args.flat.now c.args.before.now c.states-states.ensures.lawful c.requires.flat c.requires.before
 
 pub index-requires : goal.index-requires
 index-requires g c =
     let s = c.args.self.now in
     let body = g.T.Table.table s.body.now in
-    omega (arith, kid_state_small body (symbol_under s.row.now s.column s.sym.0) (length c.args.before.now + 1) c.args.last c.states-states.ensures.lawful c.requires.last, c.requires.look_up.flat.spots.alike_are.size)
+    omega (arith, kid_state_small body (symbol_under s.row.now s.column s.sym.0) (length c.args.before.now + 1) c.args.last c.states-states.ensures.lawful c.requires.last, c.requires.flat.spots.alike_are.size)
 
 pub index-requires-2 : goal.index-requires-2
 index-requires-2 g c =
     let s = c.args.self.now in
     let body = g.T.Table.table s.body.now in
-    omega (arith, kid_state_small body (symbol_under s.row.now s.column s.sym.0) (length c.args.before.now + 1) c.args.last c.states-states.ensures.lawful c.requires.last, c.requires.look_up.flat.spots.ranks_are.size)
+    omega (arith, kid_state_small body (symbol_under s.row.now s.column s.sym.0) (length c.args.before.now + 1) c.args.last c.states-states.ensures.lawful c.requires.last, c.requires.flat.spots.ranks_are.size)
 
 pub mark_own-requires-clause-readable : goal.mark_own-requires-clause-readable
 mark_own-requires-clause-readable g c = λ k o.
@@ -34,9 +34,9 @@ mark_own-requires-clause-readable g c = λ k o.
     let f = symbol_under s.row.now s.column s.sym.0 in
     let body = g.T.Table.table s.body.now in
     let small = kid_state_small body f (length c.args.before.now + 1) c.args.last c.states-states.ensures.lawful c.requires.last in
-    let stride : Stride = record { flat = c.args.look_up.now.flat; start = c.args.look_up.now.start; place = c.place_of-place.result; times = c.index.result.now; plus = c.index-2.result.now } in
+    let stride : Stride = record { flat = c.args.flat; start = c.args.start; place = c.place_of-place.result; times = c.index.result.now; plus = c.index-2.result.now } in
     (child_before body s.column s.alone.now s.rows.now.labels s.row.now s.sym.0 f s.arity c.states-states.ensures.lawful c.states-states.ensures.reached c.requires.choices
-    stride c.args.before.now c.args.last c.requires.look_up.flat c.requires.look_up.start c.requires.count c.requires.before c.requires.last c.place_of-place.ensures (get_or_read_under c.args.look_up.now.flat.now.spots.alike.items c.args.last (length c.args.look_up.now.flat.now.spots.alike.items) c.index.result.now 0 c.index.ensures (omega (arith, small, c.requires.look_up.flat.spots.alike_are.size)) refl) (get_or_read_under c.args.look_up.now.flat.now.spots.ranks.items c.args.last (length c.args.look_up.now.flat.now.spots.ranks.items) c.index-2.result.now 0 c.index-2.ensures (omega (arith, small, c.requires.look_up.flat.spots.ranks_are.size)) refl) (omega (arith, c.len-count.ensures)) k o).readable
+    stride c.args.before.now c.args.last c.requires.flat c.requires.start c.requires.count c.requires.before c.requires.last c.place_of-place.ensures (get_or_read_under c.args.flat.now.spots.alike.items c.args.last (length c.args.flat.now.spots.alike.items) c.index.result.now 0 c.index.ensures (omega (arith, small, c.requires.flat.spots.alike_are.size)) refl) (get_or_read_under c.args.flat.now.spots.ranks.items c.args.last (length c.args.flat.now.spots.ranks.items) c.index-2.result.now 0 c.index-2.ensures (omega (arith, small, c.requires.flat.spots.ranks_are.size)) refl) (omega (arith, c.len-count.ensures)) k o).readable
 
 pub mark_own-requires-clause-small : goal.mark_own-requires-clause-small
 mark_own-requires-clause-small g c = λ k o.
@@ -44,9 +44,9 @@ mark_own-requires-clause-small g c = λ k o.
     let f = symbol_under s.row.now s.column s.sym.0 in
     let body = g.T.Table.table s.body.now in
     let small = kid_state_small body f (length c.args.before.now + 1) c.args.last c.states-states.ensures.lawful c.requires.last in
-    let stride : Stride = record { flat = c.args.look_up.now.flat; start = c.args.look_up.now.start; place = c.place_of-place.result; times = c.index.result.now; plus = c.index-2.result.now } in
+    let stride : Stride = record { flat = c.args.flat; start = c.args.start; place = c.place_of-place.result; times = c.index.result.now; plus = c.index-2.result.now } in
     (child_before body s.column s.alone.now s.rows.now.labels s.row.now s.sym.0 f s.arity c.states-states.ensures.lawful c.states-states.ensures.reached c.requires.choices
-    stride c.args.before.now c.args.last c.requires.look_up.flat c.requires.look_up.start c.requires.count c.requires.before c.requires.last c.place_of-place.ensures (get_or_read_under c.args.look_up.now.flat.now.spots.alike.items c.args.last (length c.args.look_up.now.flat.now.spots.alike.items) c.index.result.now 0 c.index.ensures (omega (arith, small, c.requires.look_up.flat.spots.alike_are.size)) refl) (get_or_read_under c.args.look_up.now.flat.now.spots.ranks.items c.args.last (length c.args.look_up.now.flat.now.spots.ranks.items) c.index-2.result.now 0 c.index-2.ensures (omega (arith, small, c.requires.look_up.flat.spots.ranks_are.size)) refl) (omega (arith, c.len-count.ensures)) k o).within
+    stride c.args.before.now c.args.last c.requires.flat c.requires.start c.requires.count c.requires.before c.requires.last c.place_of-place.ensures (get_or_read_under c.args.flat.now.spots.alike.items c.args.last (length c.args.flat.now.spots.alike.items) c.index.result.now 0 c.index.ensures (omega (arith, small, c.requires.flat.spots.alike_are.size)) refl) (get_or_read_under c.args.flat.now.spots.ranks.items c.args.last (length c.args.flat.now.spots.ranks.items) c.index-2.result.now 0 c.index-2.ensures (omega (arith, small, c.requires.flat.spots.ranks_are.size)) refl) (omega (arith, c.len-count.ensures)) k o).within
 
 pub mark_own-requires-clause-kid : goal.mark_own-requires-clause-kid
 mark_own-requires-clause-kid g c = λ k o.
@@ -54,9 +54,9 @@ mark_own-requires-clause-kid g c = λ k o.
     let f = symbol_under s.row.now s.column s.sym.0 in
     let body = g.T.Table.table s.body.now in
     let small = kid_state_small body f (length c.args.before.now + 1) c.args.last c.states-states.ensures.lawful c.requires.last in
-    let stride : Stride = record { flat = c.args.look_up.now.flat; start = c.args.look_up.now.start; place = c.place_of-place.result; times = c.index.result.now; plus = c.index-2.result.now } in
+    let stride : Stride = record { flat = c.args.flat; start = c.args.start; place = c.place_of-place.result; times = c.index.result.now; plus = c.index-2.result.now } in
     (child_before body s.column s.alone.now s.rows.now.labels s.row.now s.sym.0 f s.arity c.states-states.ensures.lawful c.states-states.ensures.reached c.requires.choices
-    stride c.args.before.now c.args.last c.requires.look_up.flat c.requires.look_up.start c.requires.count c.requires.before c.requires.last c.place_of-place.ensures (get_or_read_under c.args.look_up.now.flat.now.spots.alike.items c.args.last (length c.args.look_up.now.flat.now.spots.alike.items) c.index.result.now 0 c.index.ensures (omega (arith, small, c.requires.look_up.flat.spots.alike_are.size)) refl) (get_or_read_under c.args.look_up.now.flat.now.spots.ranks.items c.args.last (length c.args.look_up.now.flat.now.spots.ranks.items) c.index-2.result.now 0 c.index-2.ensures (omega (arith, small, c.requires.look_up.flat.spots.ranks_are.size)) refl) (omega (arith, c.len-count.ensures)) k o).small
+    stride c.args.before.now c.args.last c.requires.flat c.requires.start c.requires.count c.requires.before c.requires.last c.place_of-place.ensures (get_or_read_under c.args.flat.now.spots.alike.items c.args.last (length c.args.flat.now.spots.alike.items) c.index.result.now 0 c.index.ensures (omega (arith, small, c.requires.flat.spots.alike_are.size)) refl) (get_or_read_under c.args.flat.now.spots.ranks.items c.args.last (length c.args.flat.now.spots.ranks.items) c.index-2.result.now 0 c.index-2.ensures (omega (arith, small, c.requires.flat.spots.ranks_are.size)) refl) (omega (arith, c.len-count.ensures)) k o).small
 
 pub returns-clause-marked : goal.returns-clause-marked
 returns-clause-marked g c = λ q.
@@ -64,10 +64,10 @@ returns-clause-marked g c = λ q.
     let f = symbol_under s.row.now s.column s.sym.0 in
     let body = g.T.Table.table s.body.now in
     let small = kid_state_small body f (length c.args.before.now + 1) c.args.last c.states-states.ensures.lawful c.requires.last in
-    let stride : Stride = record { flat = c.args.look_up.now.flat; start = c.args.look_up.now.start; place = c.place_of-place.result; times = c.index.result.now; plus = c.index-2.result.now } in
+    let stride : Stride = record { flat = c.args.flat; start = c.args.start; place = c.place_of-place.result; times = c.index.result.now; plus = c.index-2.result.now } in
     let may = may_choose body s.column s.rows.now.labels s.row.now s.arity (length c.args.before.now) in
     let one : (k : ℕ) → may k ≡ true → IsInStride body f stride (c.args.before.now ++ k ∷ c.args.last ∷ []) k =
     child_before body s.column s.alone.now s.rows.now.labels s.row.now s.sym.0 f s.arity c.states-states.ensures.lawful c.states-states.ensures.reached c.requires.choices
-    stride c.args.before.now c.args.last c.requires.look_up.flat c.requires.look_up.start c.requires.count c.requires.before c.requires.last c.place_of-place.ensures (get_or_read_under c.args.look_up.now.flat.now.spots.alike.items c.args.last (length c.args.look_up.now.flat.now.spots.alike.items) c.index.result.now 0 c.index.ensures (omega (arith, small, c.requires.look_up.flat.spots.alike_are.size)) refl) (get_or_read_under c.args.look_up.now.flat.now.spots.ranks.items c.args.last (length c.args.look_up.now.flat.now.spots.ranks.items) c.index-2.result.now 0 c.index-2.ensures (omega (arith, small, c.requires.look_up.flat.spots.ranks_are.size)) refl) (omega (arith, c.len-count.ensures)) in
+    stride c.args.before.now c.args.last c.requires.flat c.requires.start c.requires.count c.requires.before c.requires.last c.place_of-place.ensures (get_or_read_under c.args.flat.now.spots.alike.items c.args.last (length c.args.flat.now.spots.alike.items) c.index.result.now 0 c.index.ensures (omega (arith, small, c.requires.flat.spots.alike_are.size)) refl) (get_or_read_under c.args.flat.now.spots.ranks.items c.args.last (length c.args.flat.now.spots.ranks.items) c.index-2.result.now 0 c.index-2.ensures (omega (arith, small, c.requires.flat.spots.ranks_are.size)) refl) (omega (arith, c.len-count.ensures)) in
     c.mark_own.ensures.marked q
     ∙ ap (λ b. b || has_state c.args.out.now q) (same_below may (read_at stride) (λ k. body.target (entry f (c.args.before.now ++ k ∷ c.args.last ∷ []))) (length body.presences) q (λ k o. (one k o).target))

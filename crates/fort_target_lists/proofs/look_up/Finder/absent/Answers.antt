@@ -1,13 +1,10 @@
-use Rattle.std.proofs.Common.{get_or, ap, ◌∙◌, arith}
-use Rattle.fort_target_lists.proofs.LookUpLaws.{absent_below}
+use Rattle.std.proofs.Common.{None}
+use Rattle.std.specs.List.{insert}
+use Rattle.fort_target_lists.proofs.LookUpLaws.{absent_symbol}
 use Rattle.fort_target_lists.proofs.look_up.Finder.absent.Goals as goal
 
-pub start-requires : goal.start-requires
-start-requires c =
-    let h = c.requires.3 in
-    omega (arith, absent_below c.requires.0 c.args.self.now.flat.now c.requires.1 c.requires.2 h.flat h.column h.symbol, h.number, h.flat.starts_all)
-
-pub returns : goal.returns
-returns c = λ body f column h.
-    let flat = c.args.self.now.flat.now in
-    record { flat = h.flat; start = c.start.ensures ∙ ap (λ n. get_or flat.listing.starts.items n 0) h.number }
+pub look_up-requires : goal.look_up-requires
+look_up-requires c =
+    let r = c.requires in
+    let h = r.3 in
+    (r.0, insert r.1 r.2 None, h.list, absent_symbol r.0 r.1 r.2 h.column h.symbol, h.number)

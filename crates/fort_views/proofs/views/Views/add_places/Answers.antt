@@ -16,6 +16,7 @@ loop-place-preserved g c =
     record {
       more = record { more = m.more; views = m.views; sights = m.sights; fresh = m.fresh };
       places = places_step view c.args.symbol.now c.args.wanted.now c.loop-place.place c.in_ok-number.number c.args.self.now old mid new inv.places r.more others.numbers refl c.in_ok-push.ensures.items (omega arith) r.number r.is;
+      few = omega (arith, inv.few, r.few);
       symbols = others.symbols ∙ inv.symbols;
       starts = others.starts ∙ inv.starts;
     }

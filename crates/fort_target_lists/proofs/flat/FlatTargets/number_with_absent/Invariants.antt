@@ -1,7 +1,0 @@
-use Rattle.std.proofs.Common.{◌≡◌, take, None}
-use Rattle.std.specs.List.{insert}
-use Rattle.fort_target_lists.specs.Places.{number_of}
-use Rattle.fort_target_lists.proofs.flat.FlatTargets.number_with_absent.Given as goal
-
-abbrev pub invariant-loop-k : goal.invariant-loop-k
-invariant-loop-k l = l.number ≡ number_of l.self.base (take l.k (insert l.symbol l.column None))

@@ -1,0 +1,22 @@
+use Rattle.std.proofs.Common.{◌+◌, ◌*◌, ◌<◌, length, None, ap, arith}
+use Rattle.std.proofs.lemmas.List.Edits.{length-insert}
+use Rattle.std.specs.List.{insert}
+use Rattle.fort_tuple_symbols.specs.Columns.{digit_of}
+use Rattle.fort_target_lists.proofs.SymbolNumbers.{number_of-take, number_of-front}
+use Rattle.fort_target_lists.proofs.numbers.number_with_absent.Goals as goal
+
+pub number_behind-number-requires : goal.number_behind-number-requires
+number_behind-number-requires c =
+    let f = insert c.args.symbol.now c.args.column None in
+    let base = c.args.base in
+    let k = c.loop-k.k in
+    let within : k < length f = omega (arith, length-insert c.args.symbol.now c.args.column None c.requires.column, c.loop-k-test.true, c.len-k-end.ensures.count) in
+    omega (arith, number_of-take base f k within, number_of-front base f (k + 1) c.requires.some, c.requires.small, ap (λ n. n * base) c.loop-k.invariant, ap digit_of c.column_with_absent.ensures)
+
+pub loop-k-preserved : goal.loop-k-preserved
+loop-k-preserved c =
+    let f = insert c.args.symbol.now c.args.column None in
+    let base = c.args.base in
+    let k = c.loop-k.k in
+    let within : k < length f = omega (arith, length-insert c.args.symbol.now c.args.column None c.requires.column, c.loop-k-test.true, c.len-k-end.ensures.count) in
+    omega (arith, number_of-take base f k within, ap (λ n. n * base) c.loop-k.invariant, c.number_behind-number.ensures, ap digit_of c.column_with_absent.ensures)

@@ -1,0 +1,6 @@
+pub mod Slices
+pub mod Picks
+pub mod TightViews
+pub mod TightPlaces
+pub mod TightSymbols
+pub mod TightLists
